@@ -1,3 +1,5 @@
 pub mod Family
 pub mod Address
 pub mod OriginValidation
+pub mod Spans
+pub mod Parts

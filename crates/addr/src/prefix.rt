@@ -1,7 +1,7 @@
 ghost use Rattle.std.specs.Prelude.{◌≡◌, ℕ, ◌+◌, ◌-◌, ◌*◌, ◌/◌, ◌%◌, ◌^◌, ◌<◌, ◌≤◌, ◌↔◌, IsTrue, IsSome, IfSome};
 ghost use Rattle.addr.specs.Family.{width};
 
-use crate::Family;
+use crate::{Family, Span};
 
 /// All addresses of a family that share their first `length` bits (RFC 4291 section 2.3).
 ///
@@ -48,6 +48,17 @@ impl Prefix {
         match 1u128.checked_shl(u32::from(host_bits)) {
             Some(size) => self.first + (size - 1),
             None => self.first + u128::MAX,
+        }
+    }
+
+    /// The prefix as a run of addresses.
+    pub fn span(&self) -> Span
+        ensures { (result.family ≡ self.now.family) × (result.lo ≡ self.now.first) × (result.hi ≡ last_of self.now) }
+    {
+        Span {
+            family: self.family,
+            lo: self.first,
+            hi: self.last(),
         }
     }
 
