@@ -1,6 +1,8 @@
-//! other crate speaks of, each valid by its type.
+//! The values that each other crate of the desk speaks of, each valid by its type.
 #![tactic(auto)]
 
 mod family;
+mod name;
 
 pub use family::Family;
+pub use name::Name;
