@@ -1,4 +1,4 @@
-use Rattle.std.proofs.Common.{rules, ◌≡◌, IsTrue, nat_eq, Some, refl, ℕ, length, Bool, true, false}
+use Rattle.std.proofs.Common.{rules, IsTrue, length}
 use Rattle.std.proofs.lemmas.List.{drop-replicate}
 use Rattle.addr.specs.Name.{is_name}
 use Rattle.addr.proofs.NameLemmas.{padded}
