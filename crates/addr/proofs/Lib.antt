@@ -1,3 +1,5 @@
 pub mod AddressLemmas
 pub mod SpanLemmas
 pub mod SpanSteps
+mod DayLemmas
+mod NameLemmas

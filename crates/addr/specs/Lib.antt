@@ -3,3 +3,5 @@ pub mod Address
 pub mod OriginValidation
 pub mod Spans
 pub mod Parts
+pub mod Name
+pub mod Day

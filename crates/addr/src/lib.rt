@@ -3,16 +3,20 @@
 #![tactic(auto)]
 
 mod asn;
+mod day;
 mod family;
 mod holdings;
+mod name;
 mod prefix;
 mod route;
 mod span;
 mod vrp;
 
 pub use asn::Asn;
+pub use day::Day;
 pub use family::Family;
 pub use holdings::Holdings;
+pub use name::Name;
 pub use prefix::Prefix;
 pub use route::{Origin, Route};
 pub use span::Span;
