@@ -1,0 +1,3 @@
+pub mod LineSplits
+pub mod StreamLemmas
+mod TrailSteps

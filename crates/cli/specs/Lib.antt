@@ -1,0 +1,6 @@
+pub mod Devices
+pub mod LineSplitting
+pub mod Script
+pub mod ScriptLines
+pub mod Streams
+pub mod Trail

@@ -1,0 +1,6 @@
+//! The program `roadesk`, a hosted route origin authorization desk.
+#![tactic(auto)]
+
+pub mod web;
+
+fn main() {}

@@ -1,0 +1,5 @@
+//! Bytes in and bytes out: streams, lines and scripts.
+pub mod device;
+pub mod lines;
+pub mod stream;
+mod trail;
