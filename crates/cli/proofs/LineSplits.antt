@@ -1,9 +1,9 @@
 -- The lines that come out of bytes read one after the other are the lines of the script.
-use Rattle.std.proofs.Common.{◌≡◌, ℕ, List, [], ◌∷◌, ◌++◌, ◌+◌, ◌-◌, Bool, true, false, cond, ◌==◌, nat_eq, length, take, refl, sym, ◌∙◌, ap, append_assoc, length-append, arith}
-use Rattle.std.proofs.lemmas.List.{append-nil}
+use Rattle.std.proofs.Common.{◌≡◌, ℕ, List, [], ◌∷◌, ◌++◌, ◌+◌, ◌-◌, Bool, true, false, cond, Some, None, nat_eq, nat_le, length, take, drop, refl, sym, ◌∙◌, ap, append_assoc, length-append, arith}
+use Rattle.std.proofs.lemmas.List.{append-nil, take-append-drop}
 use Rattle.std.proofs.Math.Seq.{take-append_seam}
 use Rattle.std.specs.List.{slice_split, onto_first}
-use Rattle.cli.specs.ScriptLines.{pieces, whole_lines, script_lines, unless_empty, without_empty_last}
+use Rattle.cli.specs.ScriptLines.{pieces, whole_lines, script_lines, unless_empty, without_empty_last, within_limit}
 use Rattle.cli.specs.LineSplitting.{completed_lines, unfinished_line}
 
 -- the pieces with these bytes before the first one
@@ -92,3 +92,25 @@ unfinished_line-append unfinished (byte ∷ xs) ys =
         ≡ unfinished_line (cond b (unfinished_line [] xs) (unfinished_line (unfinished ++ byte ∷ []) xs)) ys)
     [ true ↦ unfinished_line-append [] xs ys
     | false ↦ unfinished_line-append (unfinished ++ byte ∷ []) xs ys ]
+
+-- the bytes up to a place, and those from there on
+pub completed_lines-take : (unfinished text : List ℕ) (n : ℕ)
+    → completed_lines unfinished text
+    ≡ completed_lines unfinished (take n text)
+    ++ completed_lines (unfinished_line unfinished (take n text)) (drop n text)
+completed_lines-take unfinished text n =
+    ap (completed_lines unfinished) (sym (take-append-drop n text))
+    ∙ completed_lines-append unfinished (take n text) (drop n text)
+
+-- an empty line is known from how it is held
+pub within_limit-nil : (line : List ℕ) → within_limit line ≡ within_limit [] → line ≡ []
+unfolding within_limit
+within_limit-nil [] = λ e. refl
+within_limit-nil (byte ∷ bytes) =
+    elim (nat_le (length (byte ∷ bytes)) 1048576) as (λ (b : Bool).
+        cond b (Some (byte ∷ bytes)) None ≡ Some [] → byte ∷ bytes ≡ [])
+    [ true ↦ λ e. cc | false ↦ λ e. cc ]
+
+pub unless_empty-lem : (line : List ℕ) → (line ≡ [] → ⊥) → unless_empty line ≡ line ∷ []
+unless_empty-lem [] is_not = absurd (is_not refl)
+unless_empty-lem (byte ∷ bytes) is_not = refl
