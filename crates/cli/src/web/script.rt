@@ -178,3 +178,6 @@ pub fn run_lines<S: Source, D: Drain, E: AnswerLines>(
     };
     Ok(())
 }
+
+#[cfg(test)]
+mod tests;
