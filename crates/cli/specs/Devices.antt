@@ -2,6 +2,10 @@
 use Rattle.std.specs.Prelude.{ℕ, Bool, List, ◌-◌, ◌^◌}
 use Rattle.cli.specs.declared.web.device.Device.{Device}
 
+-- the reader or writer
+abbrev pub device_inner : {T : Type 0} → Device T → T
+device_inner device = device.inner
+
 -- the bytes that have passed
 abbrev pub device_bytes : {T : Type 0} → Device T → List ℕ
 device_bytes device = device.trail.bytes

@@ -1,6 +1,8 @@
 //! Readers and writers of std as sources and drains.
-ghost use Rattle.std.specs.Prelude.{◌≡◌, ◌++◌, ◌-◌, ◌^◌, ◌<◌, ◌≤◌, [], true, false, length, take, is_err, IsErr, IfOk, OnErr};
-ghost use Rattle.cli.specs.Devices.{device_bytes, device_has_ended, device_has_failed, device_calls_left};
+ghost use Rattle.std.specs.Prelude.{◌≡◌, ◌++◌, ◌-◌, ◌^◌, ◌<◌, ◌≤◌, ◌&&◌, ◌==◌, nat_lt, [], true, false, length, take, is_err, IsErr, IfOk, OnOk, OnErr};
+ghost use Rattle.std.specs.Io.KnownBytes.{Appends, Keeps, ReadConsumes};
+ghost use Rattle.cli.specs.Devices.{device_inner, device_bytes, device_has_ended, device_has_failed, device_calls_left};
+ghost use Rattle.cli.specs.Streams.{AppendsBeginning};
 
 use super::stream::{Drain, Failed, Source};
 use super::trail::{Piece, Trail};
@@ -20,7 +22,9 @@ pub struct Device<T> {
 
 impl<T> Device<T> {
     pub fn new(inner: T) -> Device<T>
+        ensures inner { device_inner result ≡ inner }
         ensures bytes { device_bytes result ≡ [] }
+        ensures calls { device_calls_left result ≡ 2 ^ 64 - 1 }
         ensures ended { device_has_ended result ≡ false }
         ensures failed { device_has_failed result ≡ false }
     {
@@ -43,7 +47,24 @@ impl<T: Read> Source for Device<T> {
 
     ghost reads_left = { λ device. device_calls_left device };
 
-    fn read(&mut self, buffer: &mut [u8]) -> Result<usize, Failed> {
+    fn read(&mut self, buffer: &mut [u8]) -> Result<usize, Failed>
+        ensures bound { IfOk result (λ n. n ≤ length buffer.new) }
+        ensures bytes { IfOk result (λ n.
+            device_bytes self.new ≡ device_bytes self.old ++ take n buffer.new) }
+        ensures end { IfOk result (λ n.
+            device_has_ended self.new ≡ (n == 0 && nat_lt 0 (length buffer.new))) }
+        ensures err { OnErr result (device_bytes self.new ≡ device_bytes self.old) }
+
+        ensures failed { device_has_failed self.new ≡ is_err result }
+        ensures stays_failed { device_has_failed self.old ≡ true → IsErr result }
+
+        ensures counted { OnOk result (device_calls_left self.new < device_calls_left self.old) }
+        ensures few { device_calls_left self.old < 2 ^ 64 }
+
+        // The bytes are the reader's, where those are known.
+        ensures reads { ReadConsumes (T.remaining (device_inner self.old))
+            (T.remaining (device_inner self.new)) result buffer.new }
+    {
         while !self.has_failed && self.calls < u64::MAX {
             self.calls += 1;
             match self.inner.read(buffer) {
@@ -67,7 +88,21 @@ impl<T: Write> Drain for Device<T> {
 
     ghost has_failed = { λ device. device_has_failed device };
 
-    fn write(&mut self, bytes: &[u8]) -> Result<usize, Failed> {
+    fn write(&mut self, bytes: &[u8]) -> Result<usize, Failed>
+        ensures bound { IfOk result (λ n. n ≤ length bytes.now) }
+        ensures some { IfOk result (λ n. 0 < length bytes.now → 0 < n) }
+        ensures bytes { IfOk result (λ n.
+            device_bytes self.new ≡ device_bytes self.old ++ take n bytes.now) }
+        ensures err { OnErr result
+            (AppendsBeginning (device_bytes self.old) (device_bytes self.new) bytes.now) }
+
+        ensures failed { device_has_failed self.new ≡ is_err result }
+        ensures stays_failed { device_has_failed self.old ≡ true → IsErr result }
+
+        // The writer has the bytes, where what it has is known.
+        ensures writes { IfOk result (λ n. Appends (T.contents (device_inner self.old))
+            (T.contents (device_inner self.new)) (take n bytes.now)) }
+    {
         let Ok(count) = self.write_some(bytes) else {
             return Err(Failed);
         };
@@ -88,6 +123,8 @@ impl<T: Write> Device<T> {
         ensures err { OnErr result (device_bytes self.new ≡ device_bytes self.old) }
         ensures failed { device_has_failed self.new ≡ is_err result }
         ensures stays_failed { device_has_failed self.old ≡ true → IsErr result }
+        ensures writes { IfOk result (λ n. Appends (T.contents (device_inner self.old))
+            (T.contents (device_inner self.new)) (take n bytes.now)) }
     {
         while !self.has_failed && self.calls < u64::MAX {
             self.calls += 1;
@@ -108,6 +145,7 @@ impl<T: Write> Device<T> {
 
     fn flush(&mut self) -> Result<(), Failed>
         ensures bytes { device_bytes self.new ≡ device_bytes self.old }
+        ensures kept { Keeps (T.contents (device_inner self.old)) (T.contents (device_inner self.new)) }
         ensures failed { device_has_failed self.new ≡ is_err result }
         ensures stays_failed { device_has_failed self.old ≡ true → IsErr result }
     {
