@@ -8,3 +8,4 @@ pub mod Unregistered
 pub mod CarrySpace
 pub mod CarryGrants
 pub mod CarryTerms
+pub mod PoolLemmas
