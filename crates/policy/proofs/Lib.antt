@@ -9,3 +9,4 @@ pub mod CarrySpace
 pub mod CarryGrants
 pub mod CarryTerms
 pub mod PoolLemmas
+pub mod RowsLemmas

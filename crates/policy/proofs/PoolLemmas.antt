@@ -1,7 +1,7 @@
 -- A prefix is in the pool where a walk along the pool's prefixes reaches its end.
 use Rattle.std.proofs.Common.{◌≡◌, ℕ, ◌+◌, ◌<◌, ◌≤◌, Bool, true, false, not, ◌||◌, ◌&&◌, cond, List, [], ◌∷◌, ◌⊎◌, inl, inr, Option, Some, None, refl, sym, ap, ◌∙◌, subst, arith}
 use Rattle.std.specs.List.{list_any, find}
-use Rattle.std.proofs.lemmas.Bool.{cases_Bool, false≢true}
+use Rattle.std.proofs.lemmas.Bool.{cases_Bool, cases_lt, false≢true}
 use Rattle.std.proofs.lemmas.Bool.Decides.{nat_tests}
 use Rattle.addr.specs.Family.{family_eq}
 use Rattle.addr.specs.Address.{Address, is_between, has_address, last_of}
@@ -79,3 +79,31 @@ pool-some pool family m p is n from to =
     let has = find_some (λ p. has_address p (record { family = family; number = m })) pool p is in
     found_has (λ p. has_address p (record { family = family; number = m })) (λ p. has_address p (record { family = family; number = n })) pool p is
       (between_more p.family family p.first (last_of p) m n has from to)
+
+between_parts : (f g : Family) (low high n : ℕ) → is_between f low high (record { family = g; number = n }) ≡ true → (f ≡ g) × (low ≤ n) × (n ≤ high)
+between_parts V4 V4 low high n is = (refl, grind (arith, nat_tests), grind (arith, nat_tests))
+between_parts V6 V6 low high n is = (refl, grind (arith, nat_tests), grind (arith, nat_tests))
+between_parts V4 V6 low high n is = absurd (false≢true is)
+between_parts V6 V4 low high n is = absurd (false≢true is)
+
+-- the walk has passed every address below next, and the pool has the others up to the end
+pub pool-whole : (pool : List Prefix) (p : Prefix) (next end : ℕ) → last_of p ≤ end
+    → ((n : ℕ) → p.first ≤ n → n < next → pool_has pool (record { family = p.family; number = n }) ≡ true)
+    → HasFromTo pool p.family next end → IsInPool pool p
+pool-whole pool p next end reached passed rest a has =
+    let parts = between_parts p.family a.family p.first (last_of p) a.number has in
+    let above : p.first ≤ a.number = parts.1 in
+    let below : a.number ≤ last_of p = parts.2 in
+    let there : pool_has pool (record { family = p.family; number = a.number }) ≡ true =
+        elim (cases_lt a.number next) [ inl before ↦ passed a.number above before | inr after ↦ rest a.number after (omega arith) ] in
+    subst (λ (f : Family). pool_has pool (record { family = f; number = a.number }) ≡ true) parts.0 there
+
+between_here : (f : Family) (low high n : ℕ) → low ≤ n → n ≤ high → is_between f low high (record { family = f; number = n }) ≡ true
+between_here V4 low high n from to = grind (arith, nat_tests)
+between_here V6 low high n from to = grind (arith, nat_tests)
+
+-- an address of the prefix is in no prefix of the pool
+pub pool-hole : (pool : List Prefix) (p : Prefix) (next : ℕ) → p.first ≤ next → next ≤ last_of p
+    → pool_has pool (record { family = p.family; number = next }) ≡ false → IsInPool pool p → ⊥
+pool-hole pool p next from to hole whole =
+    false≢true (sym hole ∙ whole (record { family = p.family; number = next }) (between_here p.family p.first (last_of p) next from to))

@@ -1,4 +1,4 @@
-ghost use Rattle.std.specs.Prelude.{◌≡◌, ℕ, ◌≤◌, ◌↔◌, true, false, IsTrue, IfNone, IfSome, option_copied, find, ◌<◌, ◌^◌};
+ghost use Rattle.std.specs.Prelude.{◌≡◌, ℕ, ◌≤◌, ◌↔◌, true, false, IsTrue, IfNone, IfSome, option_copied, find};
 ghost use Rattle.addr.specs.Address.{has_address};
 ghost use Rattle.policy.specs.Pool.{pool_has, IsInPool, HasFromTo};
 
@@ -58,7 +58,7 @@ fn prefix_in_pool(pool: &[Prefix], family: Family, number: u128) -> Option<&Pref
 /// The last address of a prefix of the pool that has the address.
 fn end_in_pool(pool: &[Prefix], family: Family, number: u128) -> Option<u128>
     ensures none { IfNone result (pool_has pool.now (record { family = family; number = number }) ≡ false) }
-    ensures some { IfSome result (λ end. (number ≤ end) × (end < 2 ^ 128) × HasFromTo pool.now family number end) }
+    ensures some { IfSome result (λ end. (number ≤ end) × HasFromTo pool.now family number end) }
 {
     match prefix_in_pool(pool, family, number) {
         Some(prefix) => Some(prefix.last()),
