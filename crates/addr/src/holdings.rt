@@ -44,6 +44,15 @@ impl Holdings {
         }
     }
 
+    /// Another set of the same addresses.
+    pub fn copy(&self, alloc: Global) -> Result<Holdings, AllocError>
+        ensures { IfOk result (λ other. other ≡ self.now) }
+    {
+        Ok(Holdings {
+            spans: Vec::from_slice(alloc, &self.spans)?,
+        })
+    }
+
     /// The maximal runs of neighbouring addresses of the set, rising.
     pub fn spans(&self) -> &[Span]
         ensures items { result.now ≡ self.now }

@@ -6,6 +6,7 @@ mod authorization;
 mod change;
 mod charter;
 mod command;
+mod decision;
 mod grant;
 mod rows;
 mod rule;
