@@ -2,3 +2,5 @@ pub mod LineSplits
 pub mod ScriptLemmas
 pub mod StreamLemmas
 mod TrailSteps
+pub mod RecordLemmas
+pub mod VrpLemmas

@@ -5,3 +5,4 @@ pub mod ScriptFault
 pub mod ScriptLines
 pub mod Streams
 pub mod Trail
+pub mod DeskRows
