@@ -1,2 +1,3 @@
 mod DayLemmas
+mod DayTextLemmas
 mod NameLemmas
