@@ -1,5 +1,5 @@
-ghost use Rattle.std.specs.Prelude.{◌≡◌};
-ghost use Rattle.addr.specs.Family.{width};
+ghost use Rattle.std.specs.Prelude.{◌≡◌, ◌-◌, ◌^◌, ◌≤◌};
+ghost use Rattle.addr.specs.Family.{width, family_eq};
 
 /// An address family. IPv4 comes before IPv6 wherever things are sorted.
 #[derive(Clone, Copy, Debug, PartialEq, Eq, PartialOrd, Ord)]
@@ -17,5 +17,25 @@ impl Family {
             Family::V4 => 32,
             Family::V6 => 128,
         }
+    }
+
+    /// The last address of the family, as a number.
+    pub fn last_address(self) -> u128
+        ensures { result ≡ 2 ^ width self - 1 }
+    {
+        match self {
+            Family::V4 => u128::from(u32::MAX),
+            Family::V6 => u128::MAX,
+        }
+    }
+
+    /// Whether the two are one family: `==` with the answer as a definition.
+    pub(crate) fn is(self, other: Family) -> bool
+        ensures { result ≡ family_eq self other }
+    {
+        matches!(
+            (self, other),
+            (Family::V4, Family::V4) | (Family::V6, Family::V6)
+        )
     }
 }

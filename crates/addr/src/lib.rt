@@ -1,10 +1,23 @@
-//! The values that each other crate of the desk speaks of, each valid by its type.
+//! Addresses, prefixes, AS numbers, names, days and validated ROA payloads: the values that every
+//! other crate speaks of, each valid by its type.
 #![tactic(auto)]
 
+mod asn;
 mod day;
 mod family;
+mod holdings;
 mod name;
+mod prefix;
+mod route;
+mod span;
+mod vrp;
 
+pub use asn::Asn;
 pub use day::Day;
 pub use family::Family;
+pub use holdings::Holdings;
 pub use name::Name;
+pub use prefix::Prefix;
+pub use route::{Origin, Route};
+pub use span::Span;
+pub use vrp::Vrp;

@@ -1,0 +1,264 @@
+-- One more run looked at, while a run is added to a set of addresses or taken out of it.
+use Rattle.std.proofs.Common.{◌≡◌, ℕ, ◌+◌, ◌≤◌, ◌<◌, Bool, true, false, ◌&&◌, ◌||◌, not, nat_le, nat_lt, refl, sym, ap, ◌∙◌, arith, List, [], ◌∷◌, ◌++◌, Option, Some, None, IfSome, take, drop, get_or, length, suc, add-one, take_all}
+use Rattle.std.specs.List.{list_any, list_all}
+use Rattle.std.specs.Option.{option_to_list}
+use Rattle.std.proofs.lemmas.Bool.{cases_Bool, and_parts, and_from, false≢true, true≢false}
+use Rattle.std.proofs.lemmas.Bool.Decides.{nat_tests}
+use Rattle.std.proofs.lemmas.List.{take_more}
+use Rattle.std.proofs.Math.Seq.{drop-cons}
+use Rattle.std.proofs.lemmas.List.Folds.{list_all-append, list_any-append}
+use Rattle.addr.specs.Family.{family_eq}
+use Rattle.addr.specs.Address.{Address, is_between}
+use Rattle.addr.specs.declared.family.Family.{Family}
+use Rattle.addr.specs.declared.family.Family.TheVariants.{V4, V6}
+use Rattle.addr.specs.Spans.{span_has, spans_have, is_apart_below, AreMaximal}
+use Rattle.addr.specs.Parts.{IsWithin, AreParts, part_has, is_after}
+use Rattle.addr.proofs.SpanLemmas.{is_gap, all_below, all_above, AllApart, maximal_append, all_above_trans, apart_trans, apart_to_part, apart_from_part}
+use Rattle.addr.specs.declared.span.Span.{Span}
+
+-- the runs kept, then the pending one, then those still to come; together what was had and what is added
+pub record Adding (done rest : List Span) (added : Span) (kept : List Span) (pending : Span) : Type 0 where
+  pub maximal : AreMaximal kept
+  pub before : all_below kept pending ≡ true
+  pub apart : AllApart kept rest
+  pub left : AreMaximal rest
+  pub same : (a : Address) → (spans_have kept a || span_has pending a) ≡ (spans_have done a || span_has added a)
+
+pub all_true : {X : Type 0} (p : X → Bool) (xs : List X) → list_all p xs ≡ true → (x : X) → p x ≡ true → list_all p (xs ++ x ∷ []) ≡ true
+all_true p xs all x one = rw (list_all-append p xs (x ∷ [])) (and_from (list_all p xs) (p x && true) all (and_from (p x) true one refl))
+
+pub have_more : (xs : List Span) (s : Span) (a : Address) → spans_have (xs ++ s ∷ []) a ≡ (spans_have xs a || span_has s a)
+have_more xs s a = list_any-append (λ t. span_has t a) xs (s ∷ []) ∙ ap (λ b. spans_have xs a || b) (or-false (span_has s a))
+  where
+    or-false : (b : Bool) → (b || false) ≡ b
+    or-false true = refl
+    or-false false = refl
+
+-- each is apart below the next one and all that follow
+pub apart_head : (kept : List Span) (s : Span) (rest : List Span) → AllApart kept (s ∷ rest) → (all_below kept s ≡ true) × AllApart kept rest
+apart_head [] s rest apart = (refl, refl)
+apart_head (k ∷ kept) s rest apart =
+    let both = and_parts (all_above k (s ∷ rest)) (list_all (λ x. all_above x (s ∷ rest)) kept) apart in
+    let first = and_parts (is_apart_below k s) (all_above k rest) both.0 in
+    let others = apart_head kept s rest both.1 in
+    (and_from _ _ first.0 others.0, and_from _ _ first.1 others.1)
+
+pub below_apart : (kept : List Span) (s : Span) → all_below kept s ≡ true → AllApart kept (s ∷ [])
+below_apart [] s below = refl
+below_apart (k ∷ kept) s below =
+    let both = and_parts (is_apart_below k s) (all_below kept s) below in
+    and_from _ _ (and_from _ _ both.0 refl) (below_apart kept s both.1)
+
+pub maximal_more : (kept : List Span) (s : Span) → AreMaximal kept → all_below kept s ≡ true → AreMaximal (kept ++ s ∷ [])
+maximal_more kept s maximal below = maximal_append kept (s ∷ []) maximal (refl, tt) (below_apart kept s below)
+
+swap_last : (w x y z n : Bool) → (x || y) ≡ (z || n) → ((x || w) || y) ≡ ((z || w) || n)
+swap_last true true y true n e = refl
+swap_last true false y true n e = refl
+swap_last true true y false n e = refl
+swap_last true false y false n e = refl
+swap_last false true y z n e = e ∙ ap (λ b. b || n) (sym (or-false z))
+  where
+    or-false : (b : Bool) → (b || false) ≡ b
+    or-false true = refl
+    or-false false = refl
+swap_last false false y z n e = e ∙ ap (λ b. b || n) (sym (or-false z))
+  where
+    or-false : (b : Bool) → (b || false) ≡ b
+    or-false true = refl
+    or-false false = refl
+
+add_last : (w x y z n : Bool) → (x || y) ≡ (z || n) → ((x || y) || w) ≡ ((z || w) || n)
+add_last w x y z n e = ap (λ b. b || w) e ∙ turned z n w
+  where
+    turned : (z n w : Bool) → ((z || n) || w) ≡ ((z || w) || n)
+    turned true n w = refl
+    turned false true true = refl
+    turned false true false = refl
+    turned false false true = refl
+    turned false false false = refl
+
+join_last : (w x y z n j : Bool) → j ≡ (y || w) → (x || y) ≡ (z || n) → (x || j) ≡ ((z || w) || n)
+join_last w x y z n j is e = ap (λ b. x || b) is ∙ grouped x y w ∙ add_last w x y z n e
+  where
+    grouped : (x y w : Bool) → (x || (y || w)) ≡ ((x || y) || w)
+    grouped true y w = refl
+    grouped false y w = refl
+
+pub add_below : (done : List Span) (s : Span) (rest : List Span) (added : Span) (kept : List Span) (pending : Span) → is_apart_below s pending ≡ true → Adding done (s ∷ rest) added kept pending → Adding (done ++ s ∷ []) rest added (kept ++ s ∷ []) pending
+add_below done s rest added kept pending gap now =
+    let head = apart_head kept s rest now.apart in
+    record {
+      maximal = maximal_more kept s now.maximal head.0;
+      before = all_true (λ k. is_apart_below k pending) kept now.before s gap;
+      apart = all_true (λ k. all_above k rest) kept head.1 s now.left.0;
+      left = now.left.1;
+      same = λ a. rw (have_more kept s a, have_more done s a) (swap_last (span_has s a) (spans_have kept a) (span_has pending a) (spans_have done a) (span_has added a) (now.same a));
+    }
+
+pub add_above : (done : List Span) (s : Span) (rest : List Span) (added : Span) (kept : List Span) (pending : Span) → is_apart_below pending s ≡ true → Adding done (s ∷ rest) added kept pending → Adding (done ++ s ∷ []) rest added (kept ++ pending ∷ []) s
+add_above done s rest added kept pending gap now =
+    let head = apart_head kept s rest now.apart in
+    record {
+      maximal = maximal_more kept pending now.maximal now.before;
+      before = all_true (λ k. is_apart_below k s) kept head.0 pending gap;
+      apart = all_true (λ k. all_above k rest) kept head.1 pending (all_above_trans pending s rest gap now.left.0);
+      left = now.left.1;
+      same = λ a. rw (have_more kept pending a, have_more done s a) (add_last (span_has s a) (spans_have kept a) (span_has pending a) (spans_have done a) (span_has added a) (now.same a));
+    }
+
+below_both : (kept : List Span) (one other joined : Span) → ((s : Span) → is_apart_below s one ≡ true → is_apart_below s other ≡ true → is_apart_below s joined ≡ true) → all_below kept one ≡ true → all_below kept other ≡ true → all_below kept joined ≡ true
+below_both [] one other joined first a b = refl
+below_both (k ∷ kept) one other joined first a b =
+    let left = and_parts (is_apart_below k one) (all_below kept one) a in
+    let right = and_parts (is_apart_below k other) (all_below kept other) b in
+    and_from _ _ (first k left.0 right.0) (below_both kept one other joined first left.1 right.1)
+
+pub add_join : (done : List Span) (s : Span) (rest : List Span) (added : Span) (kept : List Span) (pending joined : Span) → ((a : Address) → span_has joined a ≡ (span_has pending a || span_has s a)) → ((t : Span) → is_apart_below t pending ≡ true → is_apart_below t s ≡ true → is_apart_below t joined ≡ true) → Adding done (s ∷ rest) added kept pending → Adding (done ++ s ∷ []) rest added kept joined
+add_join done s rest added kept pending joined has first now =
+    let head = apart_head kept s rest now.apart in
+    record {
+      maximal = now.maximal;
+      before = below_both kept pending s joined first now.before head.0;
+      apart = head.1;
+      left = now.left.1;
+      same = λ a. rw (have_more done s a) (join_last (span_has s a) (spans_have kept a) (span_has pending a) (spans_have done a) (span_has added a) (span_has joined a) (has a) (now.same a));
+    }
+
+-- the runs kept, then those still to come; of those done what the other has not
+pub record Cutting (done rest : List Span) (gone : Span) (kept : List Span) : Type 0 where
+  pub maximal : AreMaximal kept
+  pub apart : AllApart kept rest
+  pub left : AreMaximal rest
+  pub same : (a : Address) → spans_have kept a ≡ (spans_have done a && not (span_has gone a))
+
+each_above : (kept parts : List Span) (s : Span) → ((t : Span) → is_apart_below t s ≡ true → all_above t parts ≡ true) → all_below kept s ≡ true → AllApart kept parts
+each_above [] parts s above below = refl
+each_above (k ∷ kept) parts s above below =
+    let both = and_parts (is_apart_below k s) (all_below kept s) below in
+    and_from _ _ (above k both.0) (each_above kept parts s above both.1)
+
+each_below : (parts : List Span) (s : Span) (rest : List Span) → ((t : Span) → is_apart_below s t ≡ true → all_below parts t ≡ true) → all_above s rest ≡ true → AllApart parts rest
+each_below parts s [] below above = all_nil parts
+  where
+    all_nil : (xs : List Span) → AllApart xs []
+    all_nil [] = refl
+    all_nil (x ∷ xs) = all_nil xs
+each_below parts s (t ∷ rest) below above =
+    let both = and_parts (is_apart_below s t) (all_above s rest) above in
+    both_apart parts t rest (below t both.0) (each_below parts s rest below both.1)
+  where
+    both_apart : (xs : List Span) (t : Span) (rest : List Span) → all_below xs t ≡ true → AllApart xs rest → AllApart xs (t ∷ rest)
+    both_apart [] t rest one others = refl
+    both_apart (x ∷ xs) t rest one others =
+        let first = and_parts (is_apart_below x t) (all_below xs t) one in
+        let second = and_parts (all_above x rest) (list_all (λ y. all_above y rest) xs) others in
+        and_from _ _ (and_from _ _ first.0 second.0) (both_apart xs t rest first.1 second.1)
+
+pub cut_more : (done : List Span) (s : Span) (rest : List Span) (gone : Span) (kept parts : List Span) → AreParts s gone parts → Cutting done (s ∷ rest) gone kept → Cutting (done ++ s ∷ []) rest gone (kept ++ parts)
+cut_more done s rest gone kept parts are now =
+    let head = apart_head kept s rest now.apart in
+    record {
+      maximal = maximal_append kept parts now.maximal are.maximal (each_above kept parts s are.above head.0);
+      apart = rw (list_all-append (λ k. all_above k rest) kept parts) (and_from _ _ head.1 (each_below parts s rest are.below now.left.0));
+      left = now.left.1;
+      same = λ a. rw (list_any-append (λ t. span_has t a) kept parts, have_more done s a, now.same a, are.same a) (spread (spans_have done a) (span_has s a) (not (span_has gone a)));
+    }
+  where
+    spread : (x y z : Bool) → ((x && z) || (y && z)) ≡ ((x || y) && z)
+    spread true true true = refl
+    spread true true false = refl
+    spread true false true = refl
+    spread true false false = refl
+    spread false y z = refl
+
+or_last : (b : Bool) → (b || false) ≡ b
+or_last true = refl
+or_last false = refl
+
+-- what lies after a run does not lie in it
+after_not_in : (f g : Family) (low high n : ℕ) → family_eq g f && nat_lt high n ≡ true → is_between f low high (record { family = g; number = n }) ≡ false
+after_not_in V4 V4 low high n past = grind (arith, nat_tests)
+after_not_in V6 V6 low high n past = grind (arith, nat_tests)
+after_not_in V4 V6 low high n past = absurd (false≢true past)
+after_not_in V6 V4 low high n past = absurd (false≢true past)
+
+joined : (whole other : Span) (a : Address) (x y : Bool) → x ≡ (span_has whole a && (not (span_has other a) && not (is_after a other))) → y ≡ (span_has whole a && is_after a other) → (x || y) ≡ (span_has whole a && not (span_has other a))
+joined whole other a x y first second = rw (first, second) (apart (span_has whole a) (span_has other a) (is_after a other) (after_not_in other.family a.family other.lo other.hi a.number))
+  where
+    apart : (w o p : Bool) → (p ≡ true → o ≡ false) → ((w && (not o && not p)) || (w && p)) ≡ (w && not o)
+    apart false o p none = refl
+    apart true true true none = absurd (true≢false (none refl))
+    apart true true false none = refl
+    apart true false true none = refl
+    apart true false false none = refl
+
+gap_same : (f : Family) (high low : ℕ) → high + 1 < low → is_gap f high f low ≡ true
+gap_same V4 high low lt = grind (arith, nat_tests)
+gap_same V6 high low lt = grind (arith, nat_tests)
+
+apart_ends : (end low high start : ℕ) → end < low → low ≤ high → high < start → end + 1 < start
+apart_ends end low high start a b c = omega arith
+
+-- the parts before and after are what is left of a run
+pub parts_of : (whole other : Span) (before after : Option Span) →
+    IfSome before (λ part. IsWithin part whole × (family_eq whole.family other.family ≡ true → part.hi < other.lo)) →
+    ((a : Address) → part_has before a ≡ (span_has whole a && (not (span_has other a) && not (is_after a other)))) →
+    IfSome after (λ part. IsWithin part whole × (family_eq whole.family other.family ≡ true) × (other.hi < part.lo)) →
+    ((a : Address) → part_has after a ≡ (span_has whole a && is_after a other)) →
+    AreParts whole other (option_to_list before ++ option_to_list after)
+parts_of whole other None None in_before has_before in_after has_after = record {
+  above = λ s gap. refl;
+  below = λ s gap. refl;
+  maximal = tt;
+  same = λ a. joined whole other a false false (has_before a) (has_after a);
+}
+parts_of whole other None (Some y) in_before has_before in_after has_after = record {
+  above = λ s gap. and_from _ _ (apart_to_part s whole y in_after.0 gap) refl;
+  below = λ s gap. and_from _ _ (apart_from_part s whole y in_after.0 gap) refl;
+  maximal = (refl, tt);
+  same = λ a. or_last (span_has y a) ∙ joined whole other a false (span_has y a) (has_before a) (has_after a);
+}
+parts_of whole other (Some x) None in_before has_before in_after has_after = record {
+  above = λ s gap. and_from _ _ (apart_to_part s whole x in_before.0 gap) refl;
+  below = λ s gap. and_from _ _ (apart_from_part s whole x in_before.0 gap) refl;
+  maximal = (refl, tt);
+  same = λ a. joined whole other a (span_has x a) false (has_before a) (has_after a);
+}
+parts_of whole other (Some x) (Some y) in_before has_before in_after has_after = record {
+  above = λ s gap. and_from _ _ (apart_to_part s whole x in_before.0 gap) (and_from _ _ (apart_to_part s whole y in_after.0 gap) refl);
+  below = λ s gap. and_from _ _ (apart_from_part s whole x in_before.0 gap) (and_from _ _ (apart_from_part s whole y in_after.0 gap) refl);
+  maximal = (and_from _ _ (rw (in_before.0.family, in_after.0.family) (gap_same whole.family x.hi y.lo (apart_ends x.hi other.lo other.hi y.lo (in_before.1 in_after.1) other.ordered in_after.2))) refl, (refl, tt));
+  same = λ a. ap (λ b. span_has x a || b) (or_last (span_has y a)) ∙ joined whole other a (span_has x a) (span_has y a) (has_before a) (has_after a);
+}
+
+-- nothing looked at yet
+pub adding_first : (spans : List Span) (added : Span) → AreMaximal spans → Adding [] spans added [] added
+adding_first spans added maximal = record { maximal = tt; before = refl; apart = refl; left = maximal; same = λ a. refl }
+
+pub cutting_first : (spans : List Span) (gone : Span) → AreMaximal spans → Cutting [] spans gone []
+cutting_first spans gone maximal = record { maximal = tt; apart = refl; left = maximal; same = λ a. refl }
+
+-- one more element of a list looked at
+pub one_more : (xs : List Span) (i : ℕ) (s : Span) → i < length xs → s ≡ get_or xs i s → (take (i + 1) xs ≡ take i xs ++ s ∷ []) × (drop i xs ≡ s ∷ drop (i + 1) xs)
+one_more xs i s below is = (
+  take_more xs i s below ∙ ap (λ x. take i xs ++ x ∷ []) (sym is),
+  drop-cons xs i s below ∙ ap (λ x. x ∷ drop (suc i) xs) (sym is) ∙ ap (λ n. s ∷ drop n xs) (sym (add-one i)),
+)
+
+pub cutting_step : (xs : List Span) (i : ℕ) (s : Span) (gone : Span) (kept parts after : List Span) → i < length xs → s ≡ get_or xs i s → AreParts s gone parts → after ≡ kept ++ parts → Cutting (take i xs) (drop i xs) gone kept → Cutting (take (i + 1) xs) (drop (i + 1) xs) gone after
+cutting_step xs i s gone kept parts after below is are grown now =
+    let more = one_more xs i s below is in
+    rw (grown, more.0) (cut_more (take i xs) s (drop (i + 1) xs) gone kept parts are (rw more.1 at now))
+
+pub adding_end : (xs : List Span) (added : Span) (kept : List Span) (pending : Span) (i : ℕ) (after : List Span) → length xs ≤ i → after ≡ kept ++ pending ∷ [] → Adding (take i xs) (drop i xs) added kept pending → AreMaximal after × ((a : Address) → spans_have after a ≡ (spans_have xs a || span_has added a))
+adding_end xs added kept pending i after ended grown now = (
+  rw grown (maximal_more kept pending now.maximal now.before),
+  λ a. rw (grown, have_more kept pending a) (now.same a ∙ ap (λ ys. spans_have ys a || span_has added a) (take_all i xs ended)),
+)
+
+pub cutting_end : (xs : List Span) (gone : Span) (kept : List Span) (i : ℕ) → length xs ≤ i → Cutting (take i xs) (drop i xs) gone kept → (a : Address) → spans_have kept a ≡ (spans_have xs a && not (span_has gone a))
+cutting_end xs gone kept i ended now a = now.same a ∙ ap (λ ys. spans_have ys a && not (span_has gone a)) (take_all i xs ended)
+
+pub adding_at : (done rest : List Span) (added : Span) (kept after : List Span) (pending next : Span) → after ≡ kept → next ≡ pending → Adding done rest added kept pending → Adding done rest added after next
+adding_at done rest added kept after pending next same_kept same_pending now = rw (same_kept, same_pending) now

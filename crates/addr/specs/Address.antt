@@ -1,0 +1,53 @@
+-- Addresses and prefixes. An address is a number below two to the width of its family. A prefix of
+-- length n is the set of all addresses of a family that share their first n bits: the closed
+-- interval of 2 ^ (width - n) addresses whose first is a multiple of that size (RFC 4291 section
+-- 2.3, RFC 4632 section 3.1).
+use Rattle.std.specs.Prelude.{◌≡◌, ℕ, ◌+◌, ◌-◌, ◌^◌, ◌/◌, ◌%◌, ◌<◌, ◌≤◌, Bool, true, ◌&&◌, ◌==◌, nat_le}
+use Rattle.addr.specs.Family.{width, family_eq}
+use Rattle.addr.specs.declared.family.Family.{Family}
+use Rattle.addr.specs.declared.prefix.Prefix.{Prefix}
+
+pub record Address : Type 0 where
+  pub family : Family
+  pub number : ℕ
+
+-- the last address of the prefix, as a number
+abbrev pub last_of : Prefix → ℕ
+last_of p = p.first + 2 ^ (width p.family - p.length) - 1
+
+-- the first address and the length are those of a prefix of the family
+abbrev pub IsPrefix : Family → ℕ → ℕ → Type 0
+IsPrefix family first length =
+    (length ≤ width family) × (first < 2 ^ width family) × (first % 2 ^ (width family - length) ≡ 0)
+
+-- bit i of the prefix, counted from 0 at the most significant one
+abbrev pub bit_of : Prefix → ℕ → ℕ
+bit_of p i = p.first / 2 ^ (width p.family - 1 - i) % 2
+
+-- the address lies in the closed interval of the family
+abbrev pub is_between : Family → ℕ → ℕ → Address → Bool
+is_between family low high a = family_eq family a.family && (nat_le low a.number && nat_le a.number high)
+
+-- the address lies in the prefix
+abbrev pub has_address : Prefix → Address → Bool
+has_address p a = is_between p.family p.first (last_of p) a
+
+-- the interval of q lies in that of p
+abbrev pub contains : Prefix → Prefix → Bool
+contains p q = family_eq p.family q.family && (nat_le p.first q.first && nat_le (last_of q) (last_of p))
+
+-- the intervals of p and q share an address
+abbrev pub overlaps : Prefix → Prefix → Bool
+overlaps p q = family_eq p.family q.family && (nat_le p.first (last_of q) && nat_le q.first (last_of p))
+
+-- one family, one first address, one length
+abbrev pub prefix_eq : Prefix → Prefix → Bool
+prefix_eq p q = family_eq p.family q.family && ((p.first == q.first) && (p.length == q.length))
+
+-- p contains q: each address of q is one of p
+abbrev pub Contains : Prefix → Prefix → Type 0
+Contains p q = (a : Address) → has_address q a ≡ true → has_address p a ≡ true
+
+-- p and q share an address
+abbrev pub Overlaps : Prefix → Prefix → Type 0
+Overlaps p q = (a : Address) × (has_address p a ≡ true) × (has_address q a ≡ true)

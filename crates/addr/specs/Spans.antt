@@ -1,0 +1,49 @@
+-- Address space as closed runs of addresses. A list of runs is seen as the set of its addresses; it is
+-- maximal where the runs rise and at least one address that is not in the set lies between any two.
+use Rattle.std.specs.Prelude.{◌≡◌, ℕ, ◌+◌, Bool, true, false, ◌&&◌, ◌||◌, nat_le, nat_lt, List, [], ◌∷◌}
+use Rattle.std.specs.List.{list_any, list_all}
+use Rattle.addr.specs.Family.{family_eq}
+use Rattle.addr.specs.Address.{Address, is_between, has_address, last_of}
+use Rattle.addr.specs.declared.family.Family.{Family}
+use Rattle.addr.specs.declared.family.Family.TheVariants.{V4, V6}
+use Rattle.addr.specs.declared.prefix.Prefix.{Prefix}
+use Rattle.addr.specs.declared.span.Span.{Span}
+
+-- the address lies in the run
+abbrev pub span_has : Span → Address → Bool
+span_has s a = is_between s.family s.lo s.hi a
+
+-- the address lies in one of the runs
+abbrev pub spans_have : List Span → Address → Bool
+spans_have spans a = list_any (λ s. span_has s a) spans
+
+-- IPv4 comes before IPv6
+abbrev pub family_lt : Family → Family → Bool
+family_lt V4 V6 = true
+family_lt V4 V4 = false
+family_lt V6 f = false
+
+-- s ends before t starts, and an address lies between them; or the family of s comes first
+abbrev pub is_apart_below : Span → Span → Bool
+is_apart_below s t = family_lt s.family t.family || (family_eq s.family t.family && nat_lt (s.hi + 1) t.lo)
+
+-- each run is apart below every later one
+abbrev pub AreMaximal : List Span → Type 0
+AreMaximal [] = Unit {0}
+AreMaximal (s ∷ rest) = (list_all (λ t. is_apart_below s t) rest ≡ true) × AreMaximal rest
+
+-- the prefix lies in the run
+abbrev pub span_covers : Span → Prefix → Bool
+span_covers s p = family_eq s.family p.family && (nat_le s.lo p.first && nat_le (last_of p) s.hi)
+
+-- the prefix shares an address with the run
+abbrev pub span_meets : Span → Prefix → Bool
+span_meets s p = family_eq s.family p.family && (nat_le s.lo (last_of p) && nat_le p.first s.hi)
+
+-- every address of the prefix lies in one of the runs
+abbrev pub HaveAll : List Span → Prefix → Type 0
+HaveAll spans p = (a : Address) → has_address p a ≡ true → spans_have spans a ≡ true
+
+-- some address of the prefix lies in one of the runs
+abbrev pub HaveSome : List Span → Prefix → Type 0
+HaveSome spans p = (a : Address) × (has_address p a ≡ true) × (spans_have spans a ≡ true)

@@ -1,0 +1,3 @@
+/// The number of an autonomous system (RFC 6793).
+#[derive(Clone, Copy, Debug, PartialEq, Eq, PartialOrd, Ord)]
+pub struct Asn(pub u32);

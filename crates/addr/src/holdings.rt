@@ -1,0 +1,144 @@
+ghost use Rattle.std.specs.Prelude.{◌≡◌, ℕ, ◌+◌, ◌<◌, ◌≤◌, ◌↔◌, Bool, true, ◌&&◌, ◌||◌, not, List, [], ◌∷◌, ◌++◌, IsTrue, OnOk, OnErr, IfOk};
+ghost use Rattle.std.specs.List.{list_any};
+ghost use Rattle.std.specs.Option.{option_to_list};
+ghost use Rattle.addr.specs.Address.{Address, has_address};
+ghost use Rattle.addr.specs.Spans.{span_has, spans_have, span_covers, span_meets, AreMaximal, HaveAll, HaveSome};
+ghost use Rattle.addr.specs.Parts.{AreParts};
+ghost use Rattle.addr.specs.declared.span.Span.{Span};
+
+use crate::{Prefix, Span};
+use std::alloc::{AllocError, Global};
+use std::marker::Model;
+
+/// A set of addresses of both families, kept as maximal runs.
+#[derive(Debug, Drop)]
+pub struct Holdings {
+    spans: Vec<Span>,
+}
+
+impl Model for Holdings {
+    ghost Value = { List Span };
+
+    ghost view = { λ h. h.spans.items };
+
+    ghost invariant = { λ h. AreMaximal h.spans.items };
+}
+
+impl Holdings {
+    /// The empty set, which takes no memory.
+    pub fn new(alloc: Global) -> Self
+        ensures { result ≡ [] }
+    {
+        Holdings {
+            spans: Vec::new(alloc),
+        }
+    }
+
+    /// The maximal runs of neighbouring addresses of the set, rising.
+    pub fn spans(&self) -> &[Span]
+        ensures items { result.now ≡ self.now }
+        ensures maximal { AreMaximal self.now }
+    {
+        &self.spans
+    }
+
+    /// Whether every address of the prefix is in the set.
+    pub fn holds(&self, prefix: &Prefix) -> bool
+        ensures by_span { result ≡ list_any (λ s. span_covers s prefix.now) self.now }
+        ensures each { IsTrue result ↔ HaveAll self.now prefix.now }
+    {
+        is_covered(&self.spans, prefix)
+    }
+
+    /// Whether some address of the prefix is in the set.
+    pub fn touches(&self, prefix: &Prefix) -> bool
+        ensures by_span { result ≡ list_any (λ s. span_meets s prefix.now) self.now }
+        ensures some { IsTrue result ↔ HaveSome self.now prefix.now }
+    {
+        is_met(&self.spans, prefix)
+    }
+
+    /// Puts every address of the prefix into the set. On an error the set stays as it was.
+    pub fn add(&mut self, prefix: &Prefix) -> Result<(), AllocError>
+        ensures ok { OnOk result ((a : Address) → spans_have self.new a ≡ (spans_have self.old a || has_address prefix.now a)) }
+        ensures err { OnErr result (self.new ≡ self.old) }
+    {
+        self.spans = with_span(*self.spans.allocator(), &self.spans, prefix.span())?;
+        Ok(())
+    }
+
+    /// Takes every address of the prefix out of the set. On an error the set stays as it was.
+    pub fn take(&mut self, prefix: &Prefix) -> Result<(), AllocError>
+        ensures ok { OnOk result ((a : Address) → spans_have self.new a ≡ (spans_have self.old a && not (has_address prefix.now a))) }
+        ensures err { OnErr result (self.new ≡ self.old) }
+    {
+        self.spans = without_span(*self.spans.allocator(), &self.spans, prefix.span())?;
+        Ok(())
+    }
+}
+
+fn is_covered(spans: &[Span], prefix: &Prefix) -> bool
+    ensures { result ≡ list_any (λ s. span_covers s prefix.now) spans.now }
+{
+    spans.iter().any(|span| span.covers(prefix))
+}
+
+fn is_met(spans: &[Span], prefix: &Prefix) -> bool
+    ensures { result ≡ list_any (λ s. span_meets s prefix.now) spans.now }
+{
+    spans.iter().any(|span| span.meets(prefix))
+}
+
+/// The maximal runs of the addresses of `spans` and those of `added`.
+fn with_span(alloc: Global, spans: &[Span], added: Span) -> Result<Vec<Span>, AllocError>
+    requires { AreMaximal spans.now }
+    ensures maximal { IfOk result (λ v. AreMaximal v.items) }
+    ensures same { IfOk result (λ v. (a : Address) → spans_have v.items a ≡ (spans_have spans.now a || span_has added a)) }
+{
+    let mut kept = Vec::with_capacity(alloc, spans.len() + 1)?;
+    // The run that may still grow: those kept end before it, those to come do not start before it.
+    let mut pending = added;
+    for span in spans {
+        if span.is_apart_below(&pending) {
+            kept.push(*span)?;
+        } else if pending.is_apart_below(span) {
+            kept.push(pending)?;
+            pending = *span;
+        } else {
+            pending = pending.joined(span);
+        }
+    }
+    kept.push(pending)?;
+    Ok(kept)
+}
+
+/// The maximal runs of the addresses of `spans` that `gone` has not.
+fn without_span(alloc: Global, spans: &[Span], gone: Span) -> Result<Vec<Span>, AllocError>
+    requires { AreMaximal spans.now }
+    ensures maximal { IfOk result (λ v. AreMaximal v.items) }
+    ensures same { IfOk result (λ v. (a : Address) → spans_have v.items a ≡ (spans_have spans.now a && not (span_has gone a))) }
+{
+    let mut kept = Vec::with_capacity(alloc, spans.len() + 1)?;
+    for span in spans {
+        push_parts(&mut kept, span, &gone)?;
+    }
+    Ok(kept)
+}
+
+/// Appends the parts of `span` before and after `gone`.
+fn push_parts(kept: &mut Vec<Span>, span: &Span, gone: &Span) -> Result<(), AllocError>
+    ensures { OnOk result ((parts : List Span) × (kept.new.items ≡ kept.old.items ++ parts) × AreParts span.now gone.now parts) }
+{
+    push_part(kept, span.before(gone))?;
+    push_part(kept, span.after(gone))?;
+    Ok(())
+}
+
+fn push_part(kept: &mut Vec<Span>, part: Option<Span>) -> Result<(), AllocError>
+    ensures { OnOk result (kept.new.items ≡ kept.old.items ++ option_to_list part) }
+{
+    if let Some(part) = part {
+        kept.push(part)?;
+    }
+    Ok(())
+}
