@@ -3,4 +3,5 @@ pub mod SpanLemmas
 pub mod SpanSteps
 mod DayLemmas
 mod DayTextLemmas
+pub mod DigitsLemmas
 mod NameLemmas
