@@ -1,4 +1,5 @@
-use Rattle.std.proofs.Common.{◌≡◌, ℕ, ◌^◌, ◌<◌, List, true, Bool, Some, None, Option, ap, subst, ◌∙◌, sym, refl, inl, inr, cond, nat_eq, false, true≢false}
+use Rattle.std.proofs.lemmas.List.{take_all}
+use Rattle.std.proofs.Common.{◌≡◌, ℕ, ◌-◌, ◌^◌, ◌<◌, ◌≤◌, ◌∷◌, length, take, drop, arith, List, true, Some, None, Option, ap, subst, ◌∙◌, sym, refl, inl, inr, cond, nat_eq, false, true≢false}
 use Rattle.std.specs.Fmt.{decimal}
 use Rattle.std.specs.Str.{IsUtf8}
 use Rattle.std.specs.Str.Parse.{digits_value}
@@ -74,3 +75,10 @@ number_in-rewritten text written read number reads some digits differs =
             (bytes_decides written text).1 (digits ∙ ap decimal same ∙ sym e)
             in
         true≢false (sym equal ∙ differs))
+
+-- the slice behind the two letters
+pub behind_letters :
+    (text rest : List ℕ) (a b : ℕ) → text ≡ a ∷ b ∷ rest → take (length text - 2) (drop 2 text) ≡ rest
+behind_letters text rest a b e =
+    let all : length rest ≤ length (a ∷ b ∷ rest) - 2 = omega arith in
+    ap (λ t. take (length t - 2) (drop 2 t)) e ∙ take_all _ rest all
