@@ -34,3 +34,6 @@ impl fmt::Display for Asn {
         write!(f, "AS{number}")
     }
 }
+
+#[cfg(test)]
+mod tests;
