@@ -24,6 +24,16 @@ impl Model for Holdings {
     ghost invariant = { λ h. AreMaximal h.spans.items };
 }
 
+impl Clone for Holdings {
+    ghost is_clone = { λ holdings copy. copy ≡ holdings };
+
+    fn clone(&self) -> Result<Self, AllocError> {
+        Ok(Holdings {
+            spans: self.spans.clone()?,
+        })
+    }
+}
+
 impl Holdings {
     /// The empty set, which takes no memory.
     pub fn new(alloc: Global) -> Self

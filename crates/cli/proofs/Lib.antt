@@ -1,0 +1,4 @@
+pub mod LineSplits
+pub mod ScriptLemmas
+pub mod StreamLemmas
+mod TrailSteps

@@ -1,0 +1,7 @@
+pub mod Devices
+pub mod LineSplitting
+pub mod Script
+pub mod ScriptFault
+pub mod ScriptLines
+pub mod Streams
+pub mod Trail

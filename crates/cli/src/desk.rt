@@ -1,0 +1,6 @@
+//! The desk: what is asked of it, and what it replies.
+mod asked;
+mod reply;
+
+pub use asked::{Asked, Request};
+pub use reply::{Reply, Validity};
