@@ -2,4 +2,6 @@ pub mod AddressLemmas
 pub mod SpanLemmas
 pub mod SpanSteps
 mod DayLemmas
+mod DayTextLemmas
+pub mod DigitsLemmas
 mod NameLemmas
