@@ -5,3 +5,7 @@ mod DayLemmas
 mod DayTextLemmas
 pub mod DigitsLemmas
 mod NameLemmas
+pub mod PrefixTextLemmas
+pub mod PrefixGroupsLemmas
+pub mod PrefixSpellingLemmas
+mod PrefixTextSamples

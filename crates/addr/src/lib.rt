@@ -7,10 +7,12 @@ mod day;
 mod decimal;
 mod family;
 mod holdings;
+pub mod laws;
 mod name;
 mod prefix;
 mod route;
 mod span;
+mod text;
 mod vrp;
 
 pub use asn::Asn;
@@ -22,4 +24,5 @@ pub use name::Name;
 pub use prefix::Prefix;
 pub use route::{Origin, Route};
 pub use span::Span;
+pub use text::PrefixFault;
 pub use vrp::Vrp;
