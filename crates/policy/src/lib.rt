@@ -2,6 +2,7 @@
 //! or the change of the rows. Nothing here reads or writes a store.
 #![tactic(auto)]
 
+mod admission;
 mod authorization;
 mod change;
 mod charter;
