@@ -8,6 +8,7 @@ mod change;
 mod charter;
 mod command;
 mod decision;
+mod edit;
 mod grant;
 mod rows;
 mod rule;
