@@ -35,3 +35,7 @@ holds-to history h rows p are all a has = is_held_by-true h (resource_holder his
 
 pub holds-from : (history : History) (h : List ℕ) (rows : Rows) (p : Prefix) → RowsOf history h rows → HoldsPrefix history h p → HaveAll rows.holdings p
 holds-from history h rows p are holds a has = are.holdings a ∙ ap (is_held_by h) (holds a has) ∙ held_by_itself h
+
+pub not_true : (b : Bool) → not b ≡ true → b ≡ false
+not_true true is = sym is
+not_true false is = refl
