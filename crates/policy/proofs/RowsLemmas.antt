@@ -12,6 +12,7 @@ use Rattle.policy.specs.History.{Entry, History, is_registered}
 use Rattle.policy.specs.Rows.{Rows, RowsOf, RowsIfAny, rows_of, rows_if_any, grants_if_any, Carries}
 use Rattle.policy.specs.Resources.{HoldsPrefix, resource_holder, is_held_by}
 use Rattle.policy.specs.declared.authorization.Auth.{Auth}
+use Rattle.policy.specs.declared.grant.Granted.{Granted}
 use Rattle.policy.specs.Terms.{grant_terms, authorization_terms, HeldSinceMade, OfActive}
 use Rattle.policy.specs.Verdict.{IsLegal, numbered, OfNumber}
 use Rattle.policy.proofs.Kept.{Keeps-unique}
@@ -66,3 +67,11 @@ pub number-none : (history : History) (h : List ℕ) (rows : Rows) (n : ℕ) (P 
 number-none history h rows n P are missing of =
     subst (λ (o : Option Auth). IsSomeAnd o P) missing (active-from history h rows (λ active. IsSomeAnd (numbered n active) P) are of)
 
+
+-- a holder with a grant is registered
+pub registered-by_grant : (charter : Charter) (history : History) (h : List ℕ) (rows : Option (Bor HolderRows)) (test : Granted → Bool)
+    → IsLegal charter history → RowsIfAny history h (rows_if_any (option_copied rows)) → list_any test (grant_terms history h) ≡ true
+    → is_registered history h ≡ true
+registered-by_grant charter history h None test legal are has =
+    absurd (false≢true (ap (list_any test) (sym (has_nothing charter history h legal are).grants) ∙ has))
+registered-by_grant charter history h (Some r) test legal are has = are.0

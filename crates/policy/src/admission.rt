@@ -111,9 +111,17 @@ pub fn are_dates(today: Day, from: Day, until: Day) -> bool
 
 /// Whether some grant of the rows has the number.
 pub fn has_grant(rows: Option<&HolderRows>, number: u32) -> bool
-    ensures { result ≡ list_any (λ g. g.number == number) (grants_if_any (option_copied rows.entry)) }
+    ensures { (charter : CharterValue) (history : History) (h : List ℕ) → IsLegal charter history
+        → RowsIfAny history h (rows_if_any (option_copied rows.entry))
+        → result ≡ list_any (λ g. g.number == number) (grant_terms history h) }
 {
-    grants_of(rows).iter().any(|grant| grant.number == number)
+    is_among(grants_of(rows), number)
+}
+
+fn is_among(grants: &[Granted], number: u32) -> bool
+    ensures { result ≡ list_any (λ g. g.number == number) grants.now }
+{
+    grants.iter().any(|grant| grant.number == number)
 }
 
 /// Whether the caller may alter an authorization of this prefix.
