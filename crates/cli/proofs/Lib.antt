@@ -1,4 +1,5 @@
 pub mod LineSplits
+pub mod ScriptAlong
 pub mod ScriptLemmas
 pub mod StreamLemmas
 mod TrailSteps
