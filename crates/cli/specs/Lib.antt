@@ -6,3 +6,4 @@ pub mod ScriptLines
 pub mod Streams
 pub mod Trail
 pub mod DeskRows
+pub mod Answer
