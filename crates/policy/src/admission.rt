@@ -69,10 +69,10 @@ pub fn holds(rows: &HolderRows, prefix: &Prefix) -> bool
 }
 
 /// Whether some one grant gives the caller the access to all prefixes of the terms.
-fn may_reach(rows: &HolderRows, day: Day, caller: &Name, access: Access, auth: &Auth) -> bool
-    ensures { result ≡ is_permitted_terms rows.now.grants.items day caller.now access auth.now }
+pub fn may_reach(grants: &[Granted], day: Day, caller: &Name, access: Access, auth: &Auth) -> bool
+    ensures { result ≡ is_permitted_terms grants.now day caller.now access auth.now }
 {
-    is_permitted(&rows.grants, day, caller, access, &auth.prefix)
+    is_permitted(grants, day, caller, access, &auth.prefix)
 }
 
 fn numbered(auths: &[Auth], number: u32) -> Option<&Auth>
@@ -92,7 +92,7 @@ pub fn permitted<'a>(rows: &'a HolderRows, day: Day, caller: &Name, access: Acce
 {
     match numbered(&rows.auths, number) {
         Some(auth) => {
-            if may_reach(rows, day, caller, access, auth) {
+            if may_reach(&rows.grants, day, caller, access, auth) {
                 Ok(auth)
             } else {
                 Err(Rule::Number)

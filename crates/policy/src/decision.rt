@@ -7,7 +7,7 @@ ghost use Rattle.policy.specs.Resources.{IsFree};
 ghost use Rattle.policy.specs.Terms.{terms_overlap};
 ghost use Rattle.policy.specs.Verdict.{IsLegal};
 ghost use Rattle.policy.specs.Rows.{rows_if_any, RowsIfAny};
-ghost use Rattle.policy.specs.Answer.{Answers, IsAnswer};
+ghost use Rattle.policy.specs.Answer.{Answers, IsAnswer, IsViewOf, is_transfer, holder_of, taker_of};
 
 use std::alloc::{AllocError, Global};
 
@@ -15,7 +15,7 @@ use addr::{Day, Holdings, Name, Prefix};
 
 use crate::admission::{are_dates, has_grant, has_room_for_authorization, holds, is_new, is_steward, may_alter, permitted, registered, require, rows_with_access, shares_with_other};
 use crate::authorization::fits_length;
-use crate::{Access, Auth, Change, Charter, Command, Edit, Granted, HolderChange, HolderRows, Refusal, Role, Rule, Scope};
+use crate::{Access, Auth, Change, Charter, Command, Edit, Granted, HolderChange, HolderRows, Refusal, Rule, View};
 
 fn change_of(holder: &Name, edit: Edit) -> Change
     ensures { result ≡ record { first = record { holder = holder.now; edit = edit }; second = None } }
@@ -178,4 +178,48 @@ fn decide_transfer(alloc: Global, charter: &Charter, giver_rows: Option<&HolderR
             edit: Edit::Hold { holdings: more, ended: Vec::new(alloc) },
         }),
     })
+}
+
+/// What a command of the caller on the day does, or the first rule of its line that does not hold.
+///
+/// Of a history whose rows the view has it gives that history's answer; of other rows it gives
+/// some answer.
+pub fn decide(alloc: Global, charter: &Charter, view: &View, day: Day, caller: &Name, command: &Command) -> Result<Change, Refusal>
+    requires { is_transfer command.now ≡ false }
+    ensures { (history : History) → IsLegal charter.now history → IsViewOf history command.now view.now
+        → IsAnswer charter.now history day caller.now command.now result }
+{
+    let rows = view.holder.as_ref();
+    match command {
+        Command::Register { holder } => decide_register(charter, rows, day, caller, holder),
+        Command::Delegate { holder, prefix } => decide_delegate(alloc, charter, rows, view.taken, day, caller, holder, prefix),
+        Command::Transfer { .. } => unreachable!(),
+        Command::Reclaim { holder, prefix } => decide_reclaim(alloc, charter, rows, day, caller, holder, prefix),
+        Command::Grant { holder, name, role, scope, until } => {
+            let terms = Granted { number: 0, caller: *name, role: *role, scope: *scope, until: *until };
+            decide_grant(charter, rows, day, caller, holder, terms)
+        }
+        Command::Revoke { holder, number } => decide_revoke(charter, rows, day, caller, holder, *number),
+        Command::Create { holder, asn, prefix, max, from, until } => {
+            let terms = Auth { number: 0, asn: *asn, prefix: *prefix, max: *max, from: *from, until: *until };
+            decide_create(rows, day, caller, holder, terms)
+        }
+        Command::Amend { holder, number, max, until } => decide_amend(rows, day, caller, holder, *number, *max, *until),
+        Command::Withdraw { holder, number } => decide_withdraw(rows, day, caller, holder, *number),
+    }
+}
+
+/// What a transfer does, or the first rule of its line that does not hold: the rows of the giver and
+/// of the taker are those handed in, of equal names the same rows twice.
+pub fn decide_two(alloc: Global, charter: &Charter, giver: Option<&HolderRows>, taker: Option<&HolderRows>, caller: &Name, command: &Command) -> Result<Change, Refusal>
+    requires { is_transfer command.now ≡ true }
+    ensures { (history : History) (day : ℕ) → IsLegal charter.now history
+        → RowsIfAny history (holder_of command.now) (rows_if_any (option_copied giver.entry))
+        → RowsIfAny history (taker_of command.now) (rows_if_any (option_copied taker.entry))
+        → IsAnswer charter.now history day caller.now command.now result }
+{
+    match command {
+        Command::Transfer { prefix, giver: from, taker: to } => decide_transfer(alloc, charter, giver, taker, caller, prefix, from, to),
+        _ => unreachable!(),
+    }
 }

@@ -15,7 +15,7 @@ returns-else-may_reach c history h are =
     (λ of.
         let reached = number-from history h (rows_of a.rows.now) a.number x
             (λ y. is_permitted_terms (grant_terms history h) a.day a.caller.now a.access y ≡ true) are found of in
-        let same = ap (λ gs. is_permitted_terms gs a.day a.caller.now a.access x) are.grants in
+        let same = ap (λ gs. is_permitted_terms gs a.day a.caller.now a.access x) (c.deref-in-Some.ensures.value ∙ are.grants) in
         false≢true (sym c.if-may_reach.false ∙ c.may_reach.ensures ∙ same ∙ reached),
      refl)
 
