@@ -5,3 +5,4 @@ pub mod StreamLemmas
 mod TrailMade
 pub mod RecordLemmas
 pub mod VrpLemmas
+pub mod DeskLemmas

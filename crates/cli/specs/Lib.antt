@@ -7,3 +7,4 @@ pub mod Streams
 pub mod Trail
 pub mod DeskRows
 pub mod Answer
+pub mod Desk

@@ -60,3 +60,25 @@ pub enum Query {
     Payloads,
     Validity { routes: Vec<Route> },
 }
+
+impl Command {
+    ghost use Rattle.std.specs.Prelude.{◌≡◌};
+    ghost use Rattle.policy.specs.Answer.{holder_of};
+
+    /// The resource holder that the command names; of a transfer the giver.
+    pub fn holder(&self) -> &Name
+        ensures { result.now ≡ holder_of self.now }
+    {
+        match self {
+            Command::Register { holder }
+            | Command::Delegate { holder, .. }
+            | Command::Reclaim { holder, .. }
+            | Command::Grant { holder, .. }
+            | Command::Revoke { holder, .. }
+            | Command::Create { holder, .. }
+            | Command::Amend { holder, .. }
+            | Command::Withdraw { holder, .. } => holder,
+            Command::Transfer { giver, .. } => giver,
+        }
+    }
+}
