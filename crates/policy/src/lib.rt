@@ -16,7 +16,7 @@ mod sight;
 
 pub use authorization::Auth;
 pub use change::{Change, Edit, HolderChange};
-pub use charter::Charter;
+pub use charter::{Charter, CharterFault};
 pub use decision::{decide, decide_two};
 pub use command::{Command, Query};
 pub use grant::{Access, Granted, Role, Scope};
