@@ -24,7 +24,7 @@ repeat_step same [] others x long is tail none = absurd (omega arith)
 repeat_step {T} same (y ∷ ys) others x long is tail none =
     let same_tail : others ≡ ys = tail ∙ rest_of y ys in
     let first : list_any (λ z. same y z) ys ≡ false =
-        ap (λ (zs : List T). list_any (λ z. same y z) zs) (sym same_tail) ∙ ap (λ (a : T). list_any (λ z. same a z) others) (sym is) ∙ none in
+    ap (λ (zs : List T). list_any (λ z. same y z) zs) (sym same_tail) ∙ ap (λ (a : T). list_any (λ z. same a z) others) (sym is) ∙ none in
     ap (has_repeat same) same_tail ∙ sym (ap (λ b. b || has_repeat same ys) first)
 
 none_to : {T : Type 0} (test : T → Bool) (xs : List T) → list_any test xs ≡ false → AllByRecursion (λ y. test y ≡ false) xs

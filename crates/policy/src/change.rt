@@ -1,6 +1,5 @@
-use addr::{Holdings, Name};
-
 use crate::{Auth, Granted};
+use addr::{Holdings, Name};
 
 /// What an accepted command does to the rows of one resource holder.
 #[derive(Drop)]
@@ -47,7 +46,11 @@ impl Change {
         match &self.first.edit {
             Edit::Grant(grant) => Some(grant.number),
             Edit::Create(auth) => Some(auth.number),
-            Edit::Register | Edit::Hold { .. } | Edit::Revoke(_) | Edit::Amend(_) | Edit::Withdraw(_) => None,
+            Edit::Register
+            | Edit::Hold { .. }
+            | Edit::Revoke(_)
+            | Edit::Amend(_)
+            | Edit::Withdraw(_) => None,
         }
     }
 }

@@ -6,9 +6,8 @@ ghost use Rattle.addr.specs.Address.{has_address, prefix_eq};
 ghost use Rattle.policy.specs.Repeats.{has_repeat};
 ghost use Rattle.policy.specs.Pool.{pool_has, IsInPool, HasFromTo};
 
-use addr::{Family, Name, Prefix};
-
 use crate::authorization::is_same_prefix;
+use addr::{Family, Name, Prefix};
 
 /// Why two lists make no charter.
 #[derive(Clone, Copy, Debug, PartialEq, Eq)]
@@ -136,7 +135,8 @@ fn has_number(prefix: &Prefix, family: Family, number: u128) -> bool
 fn prefix_in_pool(pool: &[Prefix], family: Family, number: u128) -> Option<&Prefix>
     ensures { option_copied result ≡ find (λ p. has_address p (record { family = family; number = number })) pool.now }
 {
-    pool.iter().find(|prefix| has_number(prefix, family, number))
+    pool.iter()
+        .find(|prefix| has_number(prefix, family, number))
 }
 
 /// The last address of a prefix of the pool that has the address.

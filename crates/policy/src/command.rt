@@ -1,8 +1,7 @@
 ghost use Rattle.std.specs.Prelude.{◌≡◌};
 
-use addr::{Asn, Day, Name, Prefix, Route};
-
 use crate::{Role, Scope};
+use addr::{Asn, Day, Name, Prefix, Route};
 
 /// A request that enters the history where it is accepted.
 #[derive(Clone, Copy, Debug, PartialEq, Eq)]

@@ -11,14 +11,14 @@ pub invariant_of-result : goal.invariant_of-result
 invariant_of-result c =
     let number = c.are_in_number.ensures.0 c.if-not-are_in_number.false in
     let operators : length c.sort_unstable.new.self.items ≡ length c.deref.result.now =
-        length_permutation c.args.operators.items c.sort_unstable.new.self.items c.sort_unstable.ensures.permutation ∙ ap length (sym c.deref.ensures.value) in
+    length_permutation c.args.operators.items c.sort_unstable.new.self.items c.sort_unstable.ensures.permutation ∙ ap length (sym c.deref.ensures.value) in
     let pool : length c.sort_unstable-2.new.self.items ≡ length c.deref-2.result.now =
-        length_permutation c.args.pool.items c.sort_unstable-2.new.self.items c.sort_unstable-2.ensures.permutation ∙ ap length (sym c.deref-2.ensures.value) in
+    length_permutation c.args.pool.items c.sort_unstable-2.new.self.items c.sort_unstable-2.ensures.permutation ∙ ap length (sym c.deref-2.ensures.value) in
     record {
-    operators_counted = subst (λ (k : ℕ). (1 ≤ k) × (k ≤ 16)) (sym operators) (number.0, number.1);
-    pool_counted = subst (λ (k : ℕ). (1 ≤ k) × (k ≤ 64)) (sym pool) (number.2, number.3);
-    operators_once = has_repeat-moved (pointwise nat_eq) nat_list_eq_equiv.symm c.args.operators.items c.sort_unstable.new.self.items c.sort_unstable.ensures.permutation
-      (ap (has_repeat (pointwise nat_eq)) (sym c.deref-3.ensures.value) ∙ sym c.has_operator_twice.ensures ∙ c.if-has_operator_twice.false);
-    pool_once = has_repeat-moved prefix_eq prefix_eq-flips c.args.pool.items c.sort_unstable-2.new.self.items c.sort_unstable-2.ensures.permutation
-      (ap (has_repeat prefix_eq) (sym c.deref-else-has_operator_twice.ensures.value) ∙ sym c.has_prefix_twice.ensures ∙ c.if-has_prefix_twice.false);
-  }
+      operators_counted = subst (λ (k : ℕ). (1 ≤ k) × (k ≤ 16)) (sym operators) (number.0, number.1);
+      pool_counted = subst (λ (k : ℕ). (1 ≤ k) × (k ≤ 64)) (sym pool) (number.2, number.3);
+      operators_once = has_repeat-moved (pointwise nat_eq) nat_list_eq_equiv.symm c.args.operators.items c.sort_unstable.new.self.items c.sort_unstable.ensures.permutation
+          (ap (has_repeat (pointwise nat_eq)) (sym c.deref-3.ensures.value) ∙ sym c.has_operator_twice.ensures ∙ c.if-has_operator_twice.false);
+      pool_once = has_repeat-moved prefix_eq prefix_eq-flips c.args.pool.items c.sort_unstable-2.new.self.items c.sort_unstable-2.ensures.permutation
+          (ap (has_repeat prefix_eq) (sym c.deref-else-has_operator_twice.ensures.value) ∙ sym c.has_prefix_twice.ensures ∙ c.if-has_prefix_twice.false);
+    }
