@@ -11,3 +11,4 @@ pub mod CarryTerms
 pub mod PoolLemmas
 pub mod RowsLemmas
 pub mod AmendLemmas
+pub mod Repeats

@@ -1,3 +1,4 @@
+pub mod Repeats
 pub mod Pool
 pub mod Charter
 pub mod History

@@ -16,10 +16,10 @@ mod sight;
 
 pub use authorization::Auth;
 pub use change::{Change, Edit, HolderChange};
-pub use charter::Charter;
-pub use decision::{decide, decide_two};
+pub use charter::{Charter, CharterFault};
 pub use command::{Command, Query};
+pub use decision::{decide, decide_two};
 pub use grant::{Access, Granted, Role, Scope};
 pub use rows::{HolderRows, View};
-pub use sight::{see, see_all};
 pub use rule::{Refusal, Rule};
+pub use sight::{see, see_all};
