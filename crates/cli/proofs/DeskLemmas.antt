@@ -1,12 +1,17 @@
 -- What the rows of a legal history say of it.
-use Rattle.std.proofs.Common.{◌≡◌, ℕ, Bool, true, false, ◌↔◌, IsTrue, List, Option, Some, None, refl, sym, ap, ◌∙◌, subst, MatchBool}
+use Rattle.std.proofs.Common.{◌≡◌, ℕ, Bool, true, false, ◌↔◌, IsTrue, List, Option, Some, None, refl, sym, ap, ◌∙◌, subst, MatchBool, ◌∷◌, Result, Ok}
 use Rattle.std.proofs.lemmas.Bool.{cases_Bool, false≢true, true≢false}
 use Rattle.addr.specs.Address.{Address, has_address}
 use Rattle.addr.specs.Spans.{spans_have, HaveSome}
 use Rattle.addr.specs.declared.prefix.Prefix.{Prefix}
 use Rattle.policy.specs.History.{History, is_registered}
 use Rattle.policy.specs.Resources.{resource_holder, is_held_by, IsFree}
-use Rattle.policy.specs.Rows.{Rows, RowsOf, RowsIfAny, rows_if_any}
+use Rattle.policy.specs.Rows.{Rows, RowsOf, RowsIfAny, rows_if_any, changed}
+use Rattle.policy.specs.Answer.{IsAnswer, number_made}
+use Rattle.policy.specs.declared.change.Change.{Change}
+use Rattle.cli.specs.Answer.{IsAnswered}
+use Rattle.cli.specs.declared.desk.asked.Request.TheVariants.{Command as CommandRequest}
+use Rattle.cli.specs.declared.desk.reply.Reply.TheVariants.{Done}
 use Rattle.policy.specs.declared.command.Command.{Command}
 use Rattle.policy.specs.declared.rows.HolderRows.{HolderRows}
 use Rattle.policy.specs.Verdict.{IsLegal}
@@ -53,9 +58,21 @@ pub tells_taken : (charter : Charter) (rows : List ℕ → Option Rows) (history
 tells_taken charter rows history legal has p true tells = taken_not_free rows history has p (tells.0 refl)
 tells_taken charter rows history legal has p false tells = untaken_free charter rows history legal has p (λ taken. false≢true (tells.1 taken))
 
+-- rows that were loaded and lent
+pub lent_rows : (history : History) (h : List ℕ) (rows : List ℕ → Option Rows) (found lent : Option HolderRows) → lent ≡ found → rows_if_any found ≡ rows h → HasRows rows history → RowsIfAny history h (rows_if_any lent)
+lent_rows history h rows found lent same loaded has = subst (RowsIfAny history h) (sym (ap rows_if_any same ∙ loaded)) (has h)
+
 -- rows that were loaded under a name that the command gives
 pub loaded_rows : (history : History) (name : Command → List ℕ) (command known : Command) (rows : List ℕ → Option Rows) (found lent : Option HolderRows) → command ≡ known → lent ≡ found → rows_if_any found ≡ rows (name known) → HasRows rows history → RowsIfAny history (name command) (rows_if_any lent)
 loaded_rows history name command known rows found lent is same loaded has =
-    let at : RowsIfAny history (name known) (rows_if_any lent) = subst (RowsIfAny history (name known)) (sym (ap rows_if_any same ∙ loaded)) (has (name known)) in
     let P : Command → Type 0 = λ k. RowsIfAny history (name k) (rows_if_any lent) in
-    subst P (sym is) at
+    subst P (sym is) (lent_rows history (name known) rows found lent same loaded has)
+
+-- a command that was accepted, whose change was applied
+pub done_answered : (charter : Charter) (history : History) (day : ℕ) (caller : List ℕ) (command : Command) (change : Change) (number : Option ℕ) (old new : List ℕ → Option Rows) → IsLegal charter history → HasRows old history → IsAnswer charter history day caller command (Ok change) → number ≡ number_made change.first.edit → ((h : List ℕ) → new h ≡ changed change h (old h)) → IsAnswered charter history day caller (CommandRequest command) (Done number) new
+done_answered charter history day caller command change number old new legal has answer made applied = record {
+    after = record { day = day; caller = caller; command = command } ∷ history;
+    legal = (answer.0, legal);
+    answers = (answer.0, made ∙ answer.1, refl);
+    rows_after = λ h. subst (RowsIfAny (record { day = day; caller = caller; command = command } ∷ history) h) (sym (applied h)) (answer.2 h (old h) (has h));
+  }

@@ -2,7 +2,7 @@
 -- accepted exactly where its rules hold on the commands accepted before it, else it changes nothing
 -- and is answered with the first rule that fails; what is shown, exported and judged is what the
 -- history defines. Where no memory is found the reply is Unavailable and nothing has changed.
-use Rattle.std.specs.Prelude.{◌≡◌, ℕ, List, [], ◌∷◌, Option, Some, None, ◌↔◌, Contains}
+use Rattle.std.specs.Prelude.{◌≡◌, ℕ, Bool, true, false, List, [], ◌∷◌, Option, Some, None, ◌↔◌, Contains}
 use Rattle.addr.specs.OriginValidation.{HasState}
 use Rattle.addr.specs.declared.route.Route.{Route}
 use Rattle.addr.specs.declared.vrp.Vrp.{Vrp}
@@ -35,6 +35,16 @@ AreStatesOn history day [] (s ∷ states) = ⊥
 AreStatesOn history day (r ∷ routes) [] = ⊥
 AreStatesOn history day (r ∷ routes) (s ∷ states) =
     HasState (IsVrpOn history day) r (state_of s) × AreStatesOn history day routes states
+
+-- the reply says that a command was accepted
+abbrev pub is_done : Reply → Bool
+is_done (Done number) = true
+is_done (Shown x) = false
+is_done (Listed xs) = false
+is_done (Payloads vrps) = false
+is_done (Validities states) = false
+is_done (Denied rule row) = false
+is_done Unavailable = false
 
 -- the reply to a command, and the history after it
 abbrev pub AnswersCommand : Charter → History → ℕ → List ℕ → Command → Reply → History → Type 0

@@ -1,10 +1,10 @@
-ghost use Rattle.std.specs.Prelude.{◌≡◌, ℕ, List, None, IfOk, OnErr, option_map};
+ghost use Rattle.std.specs.Prelude.{◌≡◌, ℕ, List, false, None, IfOk, OnErr, option_map};
 ghost use Rattle.addr.specs.declared.vrp.Vrp.{Vrp};
 ghost use Rattle.policy.specs.Answer.{is_transfer, holder_of, IsViewOf, IsAnswer, TellsTaken, number_made};
 ghost use Rattle.policy.specs.History.{History};
 ghost use Rattle.policy.specs.Verdict.{IsLegal};
 ghost use Rattle.policy.specs.declared.charter.Charter.{Charter as CharterValue};
-ghost use Rattle.cli.specs.Answer.{AnswersCommand, AnswersQuery, AnswersShow, AnswersList, AnswersPayloads, AnswersValidity, IsAnswered};
+ghost use Rattle.cli.specs.Answer.{is_done, AnswersCommand, AnswersQuery, AnswersShow, AnswersList, AnswersPayloads, AnswersValidity, IsAnswered};
 ghost use Rattle.cli.specs.DeskRows.{rows_at, HasRows};
 ghost use Rattle.cli.specs.Desk.{charter_of, desk_rows, IsKept};
 
@@ -34,6 +34,79 @@ impl Desk {
             charter,
             records: Records::new(alloc),
         })
+    }
+
+    /// Replies to a request of the caller on the day. Only a reply of `Done` changes anything.
+    pub fn handle(&mut self, day: Day, caller: &Name, request: &Request) -> Reply
+        ensures answered { (history : History) → IsLegal (charter_of self.old) history → HasRows (desk_rows self.old) history
+            → IsAnswered (charter_of self.old) history day caller.now request.now result (desk_rows self.new) }
+        ensures charter { charter_of self.new ≡ charter_of self.old }
+        ensures kept { is_done result ≡ false → IsKept self.old self.new }
+    {
+        match request {
+            Request::Command(command) => self.carry_out(day, caller, command),
+            Request::Query(query) => self.answer(day, caller, query),
+        }
+    }
+
+    fn carry_out(&mut self, day: Day, caller: &Name, command: &Command) -> Reply
+        ensures answered { (history : History) → IsLegal (charter_of self.old) history → HasRows (desk_rows self.old) history
+            → IsAnswered (charter_of self.old) history day caller.now (Request.Command command.now) result (desk_rows self.new) }
+        ensures charter { charter_of self.new ≡ charter_of self.old }
+        ensures kept { is_done result ≡ false → IsKept self.old self.new }
+    {
+        let change = match self.decide(day, caller, command) {
+            Ok(change) => change,
+            Err(Refusal::Denied(rule, row)) => return Reply::Denied(rule, row),
+            Err(Refusal::Memory) => return Reply::Unavailable,
+        };
+        let number = change.number();
+        match self.records.apply(self.alloc, change) {
+            Ok(()) => Reply::Done(number),
+            Err(_) => Reply::Unavailable,
+        }
+    }
+
+    fn answer(&self, day: Day, caller: &Name, query: &Query) -> Reply
+        ensures answered { (history : History) → IsLegal (charter_of self.now) history → HasRows (desk_rows self.now) history
+            → AnswersQuery history day caller.now query.now result }
+        ensures never_done { is_done result ≡ false }
+    {
+        match query {
+            Query::Show { holder, number } => self.show(holder, day, caller, *number),
+            Query::List { holder } => self.list(holder, day, caller),
+            Query::Payloads => Reply::Unavailable,
+            Query::Validity { .. } => Reply::Unavailable,
+        }
+    }
+
+    fn show(&self, holder: &Name, day: Day, caller: &Name, number: u32) -> Reply
+        ensures answered { (history : History) → IsLegal (charter_of self.now) history → HasRows (desk_rows self.now) history
+            → AnswersShow history holder.now day caller.now number result }
+        ensures never_done { is_done result ≡ false }
+    {
+        let Ok(rows) = self.records.load(holder) else {
+            return Reply::Unavailable;
+        };
+        match policy::see(rows.as_ref(), day, caller, number) {
+            Ok(auth) => Reply::Shown(*auth),
+            Err(rule) => Reply::Denied(rule, None),
+        }
+    }
+
+    fn list(&self, holder: &Name, day: Day, caller: &Name) -> Reply
+        ensures answered { (history : History) → IsLegal (charter_of self.now) history → HasRows (desk_rows self.now) history
+            → AnswersList history holder.now day caller.now result }
+        ensures never_done { is_done result ≡ false }
+    {
+        let Ok(rows) = self.records.load(holder) else {
+            return Reply::Unavailable;
+        };
+        match policy::see_all(self.alloc, rows.as_ref(), day, caller) {
+            Ok(auths) => Reply::Listed(auths),
+            Err(Refusal::Denied(rule, row)) => Reply::Denied(rule, row),
+            Err(Refusal::Memory) => Reply::Unavailable,
+        }
     }
 
     /// What the command does, or why it is refused.
