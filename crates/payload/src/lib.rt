@@ -4,6 +4,7 @@
 mod index;
 mod list;
 mod search;
+mod shortest;
 mod sink;
 mod validity;
 
