@@ -138,5 +138,5 @@ rising-keys (e ∷ es) sorted i zero d less within = absurd (omega arith)
 rising-keys (e ∷ es) sorted zero (suc j) d less within = below-at e.0 es (both _ _ sorted).0 j d (omega arith)
 rising-keys (e ∷ es) sorted (suc i) (suc j) d less within = rising-keys es (both _ _ sorted).1 i j d (omega arith) (omega arith)
 
-pub items-rise : (s : set.VrpSet) → AreRising (set.items s)
-items-rise s = rising-keys (maps.entries s) (maps.entries_sorted s)
+pub items_rise : (s : set.VrpSet) → AreRising (set.items s)
+items_rise s = rising-keys (maps.entries s) (maps.entries_sorted s)

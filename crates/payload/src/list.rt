@@ -95,6 +95,7 @@ impl PayloadIndex for ListIndex {
         search::validity(&self.vrps, self.shortest, route)
     }
 
+    #[tactic(auto, using(crate::proofs::Sets::items_rise))]
     fn visit<S: Sink>(&self, sink: &mut S) -> Result<(), Stop> {
         for vrp in &self.vrps {
             sink.take(vrp)?;

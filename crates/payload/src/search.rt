@@ -86,12 +86,7 @@ fn up_to_from_end<'a>(vrps: &'a [Vrp], prefix: &Prefix) -> &'a [Vrp]
 }
 
 /// Some VRPs at the front, among them all that contain both prefixes.
-fn enclosing_both<'a>(
-    vrps: &'a [Vrp],
-    shortest: Shortest,
-    low: &Prefix,
-    high: &Prefix,
-) -> &'a [Vrp]
+fn enclosing_both<'a>(vrps: &'a [Vrp], shortest: Shortest, low: &Prefix, high: &Prefix) -> &'a [Vrp]
     requires rising { AreRising vrps.now }
     requires no_shorter { AreNoShorter shortest vrps.now }
     requires before { All (λ v. is_at_most v.prefix low.now ≡ true) vrps.now }

@@ -17,11 +17,13 @@ fn vrp(rt: &impl Abort, asn: u32, text: &str, max: u8) -> Vrp {
 }
 
 /// The VRPs of one AS for a /22 and of another for a /24 in it, the first twice.
-fn nested_vrps(rt: &HostRuntime) -> Result<Vec<Vrp>, AllocError> {
-    vec![in rt.alloc();
+fn nested_vrps(rt: &impl Abort, alloc: Global) -> Result<Vec<Vrp>, AllocError> {
+    let vrps = vec![in alloc;
         vrp(rt, 64497, "198.51.100.0/24", 24),
         vrp(rt, 64496, "198.51.100.0/22", 24),
-        vrp(rt, 64496, "198.51.100.0/22", 24)]
+        vrp(rt, 64496, "198.51.100.0/22", 24),
+    ]?;
+    Ok(vrps)
 }
 
 /// A set by one call for each VRP, of which the last is taken out and put in again.
@@ -65,7 +67,10 @@ impl Sink for FirstVrps {
 #[test]
 fn allocating_calls_succeed_in_ample_memory(rt: HostRuntime) -> Result<(), Fail> {
     let mut index = ListIndex::new(rt.alloc());
-    assert_eq!(rt; fill(&mut index, nested_vrps(&rt)?.as_slice())?, 2);
+    assert_eq!(rt;
+        fill(&mut index, nested_vrps(&rt, rt.alloc())?.as_slice())?,
+        2
+    );
     let again = index.insert(vrp(&rt, 64496, "198.51.100.0/22", 24))?;
     assert!(rt; !again);
     Ok(())
@@ -73,12 +78,13 @@ fn allocating_calls_succeed_in_ample_memory(rt: HostRuntime) -> Result<(), Fail>
 
 #[test]
 fn states_of_routes(rt: HostRuntime) -> Result<(), Fail> {
-    let nested = ListIndex::from(nested_vrps(&rt)?);
+    let nested = ListIndex::from(nested_vrps(&rt, rt.alloc())?);
     let zero = ListIndex::from(vec![in rt.alloc(); vrp(&rt, 0, "0.0.0.0/0", 32)]?);
     let mixed = ListIndex::from(vec![in rt.alloc();
         vrp(&rt, 64497, "2001:db8::/32", 48),
         vrp(&rt, 64496, "::/0", 128),
-        vrp(&rt, 64496, "0.0.0.0/0", 0)]?);
+        vrp(&rt, 64496, "0.0.0.0/0", 0),
+    ]?);
     let empty = ListIndex::new(rt.alloc());
     for (index, text, origin, state) in [
         (&nested, "198.51.100.0/24", Some(64496), "Valid"),
@@ -87,7 +93,7 @@ fn states_of_routes(rt: HostRuntime) -> Result<(), Fail> {
         (&nested, "198.51.100.0/24", None, "Invalid"),
         (&nested, "198.51.103.0/24", Some(64497), "Invalid"),
         (&nested, "198.51.104.0/24", Some(64496), "NotFound"),
-        (&nested, "198.51.100.0/21", Some(64496), "NotFound"),
+        (&nested, "198.51.96.0/21", Some(64496), "NotFound"),
         (&nested, "c633:6400::/24", Some(64496), "NotFound"),
         (&zero, "255.255.255.255/32", Some(0), "Invalid"),
         (&mixed, "2001:db8:1::/48", Some(64496), "Valid"),
@@ -107,7 +113,7 @@ fn states_of_routes(rt: HostRuntime) -> Result<(), Fail> {
 
 #[test]
 fn visits_rise_and_stop(rt: HostRuntime) -> Result<(), Fail> {
-    let index = ListIndex::from(nested_vrps(&rt)?);
+    let index = ListIndex::from(nested_vrps(&rt, rt.alloc())?);
     for (most, kept, outcome) in [(2, 2, Ok(())), (1, 1, Err(Stop)), (0, 0, Err(Stop))] {
         let mut first = FirstVrps {
             vrps: Vec::new(rt.alloc()),
@@ -116,7 +122,14 @@ fn visits_rise_and_stop(rt: HostRuntime) -> Result<(), Fail> {
         };
         assert_eq!(rt; index.visit(&mut first), outcome);
         assert_eq!(rt; first.vrps.len(), kept);
-        assert_eq!(rt; first.vrps.first().copied(), if kept > 0 { Some(vrp(&rt, 64496, "198.51.100.0/22", 24)) } else { None });
+        assert_eq!(rt;
+            first.vrps.first().copied(),
+            if kept > 0 {
+                Some(vrp(&rt, 64496, "198.51.100.0/22", 24))
+            } else {
+                None
+            }
+        );
     }
     Ok(())
 }

@@ -1,5 +1,4 @@
-use Rattle.std.proofs.Common.{◌≡◌, ◌-◌, ◌<◌, ◌≤◌, true, ap, not, rules, sym, subst, arith}
-use Rattle.std.proofs.lemmas.Bool.{not-true, not-false}
+use Rattle.std.proofs.Common.{◌≡◌, true, rules, sym, subst, arith}
 use Rattle.std.proofs.lemmas.List.Sorted.{IsPartitionPoint-from_clause}
 use Rattle.payload.proofs.Fronts.{after-onwards, upto-before, range-partitioned, front-in_range}
 use Rattle.std.specs.List.{AllWithin}
@@ -19,9 +18,9 @@ returns c =
     let parted = range-partitioned c.args.prefix.now _ _ _ c.loop-step.invariant.within c.requires in
     let point = IsPartitionPoint-from_clause (λ v. is_at_most v.prefix c.args.prefix.now) _ _ c.partition_point-more.ensures.partitioned parted (λ a r q k. search rules) in
     let before : AllWithin (λ v. is_at_most v.prefix c.args.prefix.now ≡ true) c.args.vrps.now 0 c.saturating_sub-start.result =
-        subst (λ n. AllWithin (λ v. is_at_most v.prefix c.args.prefix.now ≡ true) c.args.vrps.now 0 n) (sym c.saturating_sub-start.ensures)
-        (elim c.loop-step-test.branch [
-          | then-loop-step-test+else-not-is_up_to w ↦ upto-before c.args.prefix.now _ _ w.index-vrps-end.result c.requires (omega arith) w.index-vrps-end.is (sym w.if-not-is_up_to.ensures)
-          | else-loop-step-test w ↦ λ k d low high. absurd (omega arith)
-        ]) in
+    subst (λ n. AllWithin (λ v. is_at_most v.prefix c.args.prefix.now ≡ true) c.args.vrps.now 0 n) (sym c.saturating_sub-start.ensures)
+    (elim c.loop-step-test.branch [
+      | then-loop-step-test+else-not-is_up_to w ↦ upto-before c.args.prefix.now _ _ w.index-vrps-end.result c.requires (omega arith) w.index-vrps-end.is (sym w.if-not-is_up_to.ensures)
+      | else-loop-step-test w ↦ λ k d low high. absurd (omega arith)
+    ]) in
     front-in_range c.args.prefix.now c.args.vrps.now c.saturating_sub-start.result c.loop-step.end _ c.loop-step.invariant.within (omega (arith, c.saturating_sub-start.ensures)) before c.loop-step.invariant.after c.partition_point-more.ensures.bound point

@@ -1,5 +1,4 @@
 use Rattle.payload.proofs.Places.{listed}
-use Rattle.payload.proofs.Sets.{items-rise}
 use Rattle.payload.proofs.Visits.{given-all, given-beginning, on-err}
 use Rattle.payload.proofs.list.ListIndexPayloadIndex.visit.Goals as goal
 
@@ -12,9 +11,3 @@ pub returns-clause-all : goal.returns-clause-all
 returns-clause-all g c = λ fresh.
     let all = listed c.args.self.now _ _ c.deref-vrp-items.ensures.value c.self.view_is c.self.invariant.0 in
     given-all _ _ _ _ _ all (c.loop-vrp.invariant.taken fresh) c.loop-vrp-test.false
-
-pub returns-in_err-take-clause-rising : goal.returns-in_err-take-clause-rising
-returns-in_err-take-clause-rising g c = items-rise c.args.self.now
-
-pub returns-clause-rising : goal.returns-clause-rising
-returns-clause-rising g c = items-rise c.args.self.now
