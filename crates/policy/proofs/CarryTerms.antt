@@ -99,7 +99,7 @@ carries-withdraw before day caller holder n registered =
       created = refl;
     })
 
-some_same : {x y : Auth} → Some x ≡ Some y → x ≡ y
+pub some_same : {x y : Auth} → Some x ≡ Some y → x ≡ y
 some_same {x} {y} is = cc
 
 -- what is found has the number

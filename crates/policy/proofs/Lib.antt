@@ -12,3 +12,4 @@ pub mod PoolLemmas
 pub mod RowsLemmas
 pub mod AmendLemmas
 pub mod Repeats
+pub mod SharedVrps

@@ -59,7 +59,7 @@ family_eq-flips V4 V6 = refl
 family_eq-flips V6 V4 = refl
 family_eq-flips V6 V6 = refl
 
-eqb-flips : (m n : ℕ) → eqb m n ≡ eqb n m
+pub eqb-flips : (m n : ℕ) → eqb m n ≡ eqb n m
 eqb-flips m n = grind (arith, nat_tests)
 
 pub prefix_eq-flips : (p q : Prefix) → prefix_eq p q ≡ prefix_eq q p

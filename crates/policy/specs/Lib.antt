@@ -9,3 +9,4 @@ pub mod Verdict
 pub mod Rows
 pub mod Answer
 pub mod DailyVrps
+pub mod SharedVrps

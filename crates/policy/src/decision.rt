@@ -385,3 +385,6 @@ pub fn decide_two(
         _ => unreachable!(),
     }
 }
+
+#[cfg(test)]
+mod tests;

@@ -10,6 +10,7 @@ mod command;
 mod decision;
 mod edit;
 mod grant;
+pub mod laws;
 mod rows;
 mod rule;
 mod sight;
