@@ -6,3 +6,5 @@ mod TrailMade
 pub mod RecordLemmas
 pub mod VrpLemmas
 pub mod DeskLemmas
+pub mod DailyLemmas
+pub mod ExportLemmas

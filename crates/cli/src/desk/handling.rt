@@ -1,17 +1,20 @@
-ghost use Rattle.std.specs.Prelude.{◌≡◌, ℕ, List, false, None, IfOk, OnErr, option_map};
+ghost use Rattle.std.specs.Prelude.{◌≡◌, ℕ, List, false, None, IfOk, IsTrue, ◌↔◌};
 ghost use Rattle.addr.specs.declared.vrp.Vrp.{Vrp};
 ghost use Rattle.policy.specs.Answer.{is_transfer, holder_of, IsViewOf, IsAnswer, TellsTaken, number_made};
 ghost use Rattle.policy.specs.History.{History};
 ghost use Rattle.policy.specs.Verdict.{IsLegal};
 ghost use Rattle.policy.specs.declared.charter.Charter.{Charter as CharterValue};
 ghost use Rattle.cli.specs.Answer.{is_done, AnswersCommand, AnswersQuery, AnswersShow, AnswersList, AnswersPayloads, AnswersValidity, IsAnswered};
-ghost use Rattle.cli.specs.DeskRows.{rows_at, HasRows};
+ghost use Rattle.cli.specs.DeskRows.{rows_at, HasRows, IsGivenOn};
+ghost use Rattle.payload.specs.VrpSet as set;
 ghost use Rattle.cli.specs.Desk.{charter_of, desk_rows, IsKept};
 
-use addr::{Day, Name};
+use addr::{Day, Name, Route};
+use payload::ListIndex;
 use policy::{Change, Charter, Command, Query, Refusal, View};
 use std::alloc::{AllocError, Global};
 
+use crate::desk::gathering::{gather, judge};
 use crate::desk::records::Records;
 use crate::desk::{Reply, Request};
 
@@ -75,8 +78,8 @@ impl Desk {
         match query {
             Query::Show { holder, number } => self.show(holder, day, caller, *number),
             Query::List { holder } => self.list(holder, day, caller),
-            Query::Payloads => Reply::Unavailable,
-            Query::Validity { .. } => Reply::Unavailable,
+            Query::Payloads => self.payloads(day),
+            Query::Validity { routes } => self.validity(day, routes),
         }
     }
 
@@ -107,6 +110,42 @@ impl Desk {
             Err(Refusal::Denied(rule, row)) => Reply::Denied(rule, row),
             Err(Refusal::Memory) => Reply::Unavailable,
         }
+    }
+
+    fn payloads(&self, day: Day) -> Reply
+        ensures answered { (history : History) → IsLegal (charter_of self.now) history → HasRows (desk_rows self.now) history
+            → AnswersPayloads history day result }
+        ensures never_done { is_done result ≡ false }
+    {
+        let Ok(index) = self.index_on(day) else {
+            return Reply::Unavailable;
+        };
+        let Ok(vrps) = gather(self.alloc, &index) else {
+            return Reply::Unavailable;
+        };
+        Reply::Payloads(vrps)
+    }
+
+    fn validity(&self, day: Day, routes: &[Route]) -> Reply
+        ensures answered { (history : History) → IsLegal (charter_of self.now) history → HasRows (desk_rows self.now) history
+            → AnswersValidity history day routes.now result }
+        ensures never_done { is_done result ≡ false }
+    {
+        let Ok(index) = self.index_on(day) else {
+            return Reply::Unavailable;
+        };
+        let Ok(states) = judge(self.alloc, &index, routes) else {
+            return Reply::Unavailable;
+        };
+        Reply::Answers(states)
+    }
+
+    /// The VRPs of the day.
+    fn index_on(&self, day: Day) -> Result<ListIndex, AllocError>
+        ensures { IfOk result (λ index. (v : Vrp) → IsTrue (set.contains index v) ↔ IsGivenOn (desk_rows self.now) day v) }
+    {
+        let vrps = self.records.vrps_in_force(self.alloc, day)?;
+        Ok(ListIndex::from(vrps))
     }
 
     /// What the command does, or why it is refused.
