@@ -6,4 +6,5 @@ pub mod Lengths
 pub mod Places
 pub mod Prefixes
 pub mod Sets
+pub mod States
 pub mod Visits

@@ -11,7 +11,7 @@ use std::alloc::{AllocError, Global};
 use std::marker::Model;
 
 /// A set of VRPs in a sorted vector, seen as the set.
-#[derive(Drop)]
+#[derive(Debug, Drop)]
 pub struct ListIndex {
     vrps: Vec<Vrp>,
     shortest: Shortest,

@@ -15,9 +15,9 @@ use addr::{Family, Origin, Prefix, Route, Vrp};
 
 /// The state of the route over VRPs that rise.
 ///
-/// A VRP that covers the route sorts at or before it. So the search goes back from the route's place;
-/// and from a VRP that does not cover the route, past all that do not reach from that VRP to the
-/// route.
+/// A VRP that covers the route sorts at or before it. So the search goes back from the route's place,
+/// over each VRP that covers the route; and from one that does not cover it, past all that do not
+/// reach from that one to the route. It ends where no prefix is short enough for that.
 pub fn validity(vrps: &[Vrp], shortest: Shortest, route: &Route) -> Validity
     requires rising { AreRising vrps.now }
     requires no_shorter { AreNoShorter shortest vrps.now }
@@ -97,11 +97,11 @@ fn enclosing_both<'a>(vrps: &'a [Vrp], shortest: Shortest, low: &Prefix, high: &
     if !is_one_family(low.family, high.family) {
         return &vrps[..0];
     }
-    let last = last_round_both(low, high);
-    if last.length < shortest.in_family(low.family) {
+    let bound = common_bound(low, high);
+    if bound.length < shortest.in_family(low.family) {
         return &vrps[..0];
     }
-    up_to_from_end(vrps, &last)
+    up_to_from_end(vrps, &bound)
 }
 
 fn is_one_family(one: Family, other: Family) -> bool
@@ -113,8 +113,8 @@ fn is_one_family(one: Family, other: Family) -> bool
     )
 }
 
-/// A prefix at or before which each prefix sorts that contains both, and which is no shorter.
-fn last_round_both(low: &Prefix, high: &Prefix) -> Prefix
+/// A prefix at or before which each prefix that contains both sorts, and which is as long at least.
+fn common_bound(low: &Prefix, high: &Prefix) -> Prefix
     requires family { low.now.family ≡ high.now.family }
     requires order { low.now.first < high.now.first }
     ensures order { (p : Prefix) → contains p low.now ≡ true → contains p high.now ≡ true → is_at_most p result ≡ true }
@@ -124,13 +124,13 @@ fn last_round_both(low: &Prefix, high: &Prefix) -> Prefix
     let host_bits = (high.first - low.first).ilog2() as u8 + 1;
     Prefix {
         family: low.family,
-        first: with_zeros(low.first, host_bits),
+        first: without_low_bits(low.first, host_bits),
         length: low.family.width() - host_bits,
     }
 }
 
 /// The number with its lowest bits cleared.
-fn with_zeros(number: u128, bits: u8) -> u128
+fn without_low_bits(number: u128, bits: u8) -> u128
     ensures { result ≡ number - number % 2 ^ bits }
 {
     match 1u128.checked_shl(u32::from(bits)) {

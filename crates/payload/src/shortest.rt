@@ -1,7 +1,7 @@
 use addr::{Family, Prefix, Vrp};
 
 /// For each family a number of bits that no prefix of a list is shorter than.
-#[derive(Clone, Copy)]
+#[derive(Clone, Copy, Debug)]
 pub(crate) struct Shortest {
     v4: u8,
     v6: u8,
