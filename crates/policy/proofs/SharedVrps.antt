@@ -66,7 +66,8 @@ two_holders history g h x y differ holds_x holds_y =
           let a = shared_address x.prefix y.prefix same in
           let one : g ≡ h = some_name (sym (holds_x x.prefix refl a.0 a.1) ∙ holds_y y.prefix refl a.0 a.2) in
           absurd (false≢true (sym differ ∙ ap (same_name g) (sym one) ∙ same_name-same g))
-      | inr f ↦ f ]
+      | inr f ↦ f
+    ]
   where
     some_name : {k l : List ℕ} → Some k ≡ Some l → k ≡ l
     some_name {k} {l} is = cc
@@ -163,7 +164,7 @@ PairsApart-filter P keep [] pairs = tt
 PairsApart-filter P keep (x ∷ xs) pairs =
     let rest = PairsApart-filter P keep xs pairs.1 in
     elim (keep x) as (λ b. PairsApart P (cond b (x ∷ filter keep xs) (filter keep xs)))
-      [ true ↦ (λ p. Each-filter (λ y. P y → share_vrp x y ≡ false) keep xs (pairs.0 p), rest) | false ↦ rest ]
+    [ true ↦ (λ p. Each-filter (λ y. P y → share_vrp x y ≡ false) keep xs (pairs.0 p), rest) | false ↦ rest ]
 
 Each-append : (P : Auth → Type 0) (xs : List Auth) (z : Auth) → P z → Each P xs → Each P (xs ++ z ∷ [])
 Each-append P [] z is each = (is, tt)
@@ -209,18 +210,21 @@ found_one P n low (x ∷ xs) (y ∷ ys) high z numbers (inl k) found =
           let number_x : x.number ≡ y.number = ap (λ a. a.number) (sym k.1) in
           let bound : n ≤ x.number = grind (arith, nat_tests) in
           (λ p is. sym k.1 ∙ same, numbered_later n x.number xs high P z bound numbers.1)
-      | inr f ↦
-          (λ p is. absurd (false≢true (sym f ∙ ap (λ a. eqb a.number n) k.1 ∙ is)),
-           found_one P n x.number xs ys high z numbers.1 k.2 (sym (ap (λ b. cond b (Some y) (numbered n ys)) f) ∙ found)) ]
+      | inr f ↦ (
+        λ p is. absurd (false≢true (sym f ∙ ap (λ a. eqb a.number n) k.1 ∙ is)),
+        found_one P n x.number xs ys high z numbers.1 k.2 (sym (ap (λ b. cond b (Some y) (numbered n ys)) f) ∙ found),
+      )
+    ]
 found_one P n low (x ∷ xs) (y ∷ ys) high z numbers (inr k) found =
     (λ p. absurd (k.0 p), found_one P n x.number xs (y ∷ ys) high z numbers.1 k.1 found)
 
 both-amends : (P : Auth → Type 0) (n max until : ℕ) (z : Auth) (xs : List Auth) → Each (λ x. P x → eqb x.number n ≡ true → x ≡ z) xs
     → Each (λ x. P x → (not (eqb x.number n) && share_vrp (with_terms z max until) x) ≡ false) xs → Each (Amends P n max until z) xs
 both-amends P n max until z [] founds aparts = tt
-both-amends P n max until z (x ∷ xs) founds aparts =
-    (record { found = founds.0; apart = λ p differ. sym (ap (λ b. not b && share_vrp (with_terms z max until) x) differ) ∙ aparts.0 p },
-     both-amends P n max until z xs founds.1 aparts.1)
+both-amends P n max until z (x ∷ xs) founds aparts = (
+  record { found = founds.0; apart = λ p differ. sym (ap (λ b. not b && share_vrp (with_terms z max until) x) differ) ∙ aparts.0 p },
+  both-amends P n max until z xs founds.1 aparts.1,
+)
 
 -- one and a later one, after an amend
 amended_pair : (P : Auth → Type 0) (n max until : ℕ) (z x y : Auth) → x.number < y.number → Amends P n max until z x → Amends P n max until z y
@@ -228,33 +232,38 @@ amended_pair : (P : Auth → Type 0) (n max until : ℕ) (z x y : Auth) → x.nu
 amended_pair P n max until z x y less at_x at_y p q apart =
     elim (cases_Bool (eqb x.number n)) [
       | inl tx ↦ elim (cases_Bool (eqb y.number n)) [
-          | inl ty ↦ absurd (grind (arith, nat_tests))
-          | inr fy ↦
-              ap (λ a. share_vrp a (amended n max until y)) (amended-it n max until x z tx (at_x.found p tx))
-              ∙ ap (share_vrp (with_terms z max until)) (amended-other n max until y fy) ∙ at_y.apart q fy ]
+        | inl ty ↦ absurd (grind (arith, nat_tests))
+        | inr fy ↦
+            ap (λ a. share_vrp a (amended n max until y)) (amended-it n max until x z tx (at_x.found p tx))
+            ∙ ap (share_vrp (with_terms z max until)) (amended-other n max until y fy) ∙ at_y.apart q fy
+      ]
       | inr fx ↦ elim (cases_Bool (eqb y.number n)) [
-          | inl ty ↦
-              ap (λ a. share_vrp a (amended n max until y)) (amended-other n max until x fx)
-              ∙ ap (share_vrp x) (amended-it n max until y z ty (at_y.found q ty)) ∙ share_vrp-flips x (with_terms z max until) ∙ at_x.apart p fx
-          | inr fy ↦
-              ap (λ a. share_vrp a (amended n max until y)) (amended-other n max until x fx)
-              ∙ ap (share_vrp x) (amended-other n max until y fy) ∙ apart ] ]
+        | inl ty ↦
+            ap (λ a. share_vrp a (amended n max until y)) (amended-other n max until x fx)
+            ∙ ap (share_vrp x) (amended-it n max until y z ty (at_y.found q ty)) ∙ share_vrp-flips x (with_terms z max until) ∙ at_x.apart p fx
+        | inr fy ↦
+            ap (λ a. share_vrp a (amended n max until y)) (amended-other n max until x fx)
+            ∙ ap (share_vrp x) (amended-other n max until y fy) ∙ apart
+      ]
+    ]
 
 amended_each : (P Q : Auth → Type 0) (n max until : ℕ) (z x : Auth) (low : ℕ) (xs : List Auth) (high : ℕ) → ((y : Auth) → Q (amended n max until y) → P y)
     → x.number ≤ low → Numbered low xs high → Amends P n max until z x → P x → Each (Amends P n max until z) xs → Each (λ y. P y → share_vrp x y ≡ false) xs
     → Each (λ y. Q y → share_vrp (amended n max until x) y ≡ false) (map (amended n max until) xs)
 amended_each P Q n max until z x low [] high to below numbers at_x p amends each = tt
 amended_each P Q n max until z x low (y ∷ ys) high to below numbers at_x p amends each =
-    let first : low < y.number = numbers.0 in
-    (λ q. amended_pair P n max until z x y (omega arith) at_x amends.0 p (to y q) (each.0 (to y q)),
-     amended_each P Q n max until z x y.number ys high to (omega arith) numbers.1 at_x p amends.1 each.1)
+    let first : low < y.number = numbers.0 in (
+      λ q. amended_pair P n max until z x y (omega arith) at_x amends.0 p (to y q) (each.0 (to y q)),
+      amended_each P Q n max until z x y.number ys high to (omega arith) numbers.1 at_x p amends.1 each.1,
+    )
 
 PairsApart-amended : (P Q : Auth → Type 0) (n max until : ℕ) (z : Auth) (low : ℕ) (xs : List Auth) (high : ℕ) → ((y : Auth) → Q (amended n max until y) → P y)
     → Numbered low xs high → Each (Amends P n max until z) xs → PairsApart P xs → PairsApart Q (map (amended n max until) xs)
 PairsApart-amended P Q n max until z low [] high to numbers amends pairs = tt
-PairsApart-amended P Q n max until z low (x ∷ xs) high to numbers amends pairs =
-    (λ q. amended_each P Q n max until z x x.number xs high to (omega arith) numbers.1 amends.0 (to x q) amends.1 (pairs.0 (to x q)),
-     PairsApart-amended P Q n max until z x.number xs high to numbers.1 amends.1 pairs.1)
+PairsApart-amended P Q n max until z low (x ∷ xs) high to numbers amends pairs = (
+  λ q. amended_each P Q n max until z x x.number xs high to (omega arith) numbers.1 amends.0 (to x q) amends.1 (pairs.0 (to x q)),
+  PairsApart-amended P Q n max until z x.number xs high to numbers.1 amends.1 pairs.1,
+)
 
 -- the one that an accepted amend finds
 amended_found : (before : History) (h : List ℕ) (n max until : ℕ) (active : List Auth) → AreActive before h active
@@ -266,15 +275,18 @@ amended_found before h n max until active are found = by_case (numbered n active
         → IsSomeAnd o (λ z. list_any (λ y. not (eqb y.number n) && share_vrp (with_terms z max until) y) active ≡ false)
         → (z : Auth) × Each (Amends (HeldSinceMade before h) n max until z) (authorization_terms before h)
     by_case None is none = absurd none
-    by_case (Some z) is alone = (z, both-amends (HeldSinceMade before h) n max until z (authorization_terms before h)
-        (found_one (HeldSinceMade before h) n 0 (authorization_terms before h) active (authorizations_made before h) z (authorization_terms-numbered before h) are is)
-        (each_of_kept (HeldSinceMade before h) (λ y. not (eqb y.number n) && share_vrp (with_terms z max until) y) (authorization_terms before h) active are alone))
+    by_case (Some z) is alone = (
+      z,
+      both-amends (HeldSinceMade before h) n max until z (authorization_terms before h)
+          (found_one (HeldSinceMade before h) n 0 (authorization_terms before h) active (authorizations_made before h) z (authorization_terms-numbered before h) are is)
+          (each_of_kept (HeldSinceMade before h) (λ y. not (eqb y.number n) && share_vrp (with_terms z max until) y) (authorization_terms before h) active are alone),
+    )
 
 -- after a command that was accepted
 apart-after : (charter : Charter) (before : History) (day : ℕ) (caller : List ℕ) (c : Command) (h : List ℕ) → Verdict charter before day caller c None
     → PairsApart (HeldSinceMade before h) (authorization_terms before h)
     → PairsApart (HeldSinceMade (record { day = day; caller = caller; command = c } ∷ before) h)
-        (authorization_terms (record { day = day; caller = caller; command = c } ∷ before) h)
+    (authorization_terms (record { day = day; caller = caller; command = c } ∷ before) h)
 apart-after charter before day caller (Register holder) h accepted pairs =
     PairsApart-weaker _ _ (authorization_terms before h) (λ x since. since.1) pairs
 apart-after charter before day caller (Delegate holder p) h accepted pairs =
@@ -292,7 +304,7 @@ apart-after charter before day caller (Withdraw holder n) h accepted pairs =
     let keep = λ (x : Auth). not (eqb x.number n) in
     let same = PairsApart-weaker (HeldSinceMade before h) (HeldSinceMade (e ∷ before) h) (authorization_terms before h) (λ x since. since.1) pairs in
     elim (same_name holder h) as (λ b. PairsApart (HeldSinceMade (e ∷ before) h) (cond b (filter keep (authorization_terms before h)) (authorization_terms before h)))
-      [ true ↦ PairsApart-filter (HeldSinceMade (e ∷ before) h) keep (authorization_terms before h) same | false ↦ same ]
+    [ true ↦ PairsApart-filter (HeldSinceMade (e ∷ before) h) keep (authorization_terms before h) same | false ↦ same ]
 apart-after charter before day caller (Create holder asn p max from until) h accepted pairs =
     let e : Entry = record { day = day; caller = caller; command = Create holder asn p max from until } in
     let x : Auth = record { number = authorizations_made before h + 1; asn = asn; prefix = p; max = max; from = from; until = until } in
@@ -306,7 +318,8 @@ apart-after charter before day caller (Create holder asn p max from until) h acc
           let none = subst Q (same_name-true holder h t) at_holder in
           let later_on = Each-weaker (HeldSinceMade before h) (HeldSinceMade (e ∷ before) h) (λ y. gives_vrp y asn p max) (authorization_terms before h) (λ y since. since.1) none in
           subst G (sym t) (PairsApart-append (HeldSinceMade (e ∷ before) h) (authorization_terms before h) x later_on old)
-      | inr f ↦ subst G (sym f) old ]
+      | inr f ↦ subst G (sym f) old
+    ]
 apart-after charter before day caller (Amend holder n max until) h accepted pairs =
     let e : Entry = record { day = day; caller = caller; command = Amend holder n max until } in
     let f = amended n max until in
@@ -320,8 +333,9 @@ apart-after charter before day caller (Amend holder n max until) h accepted pair
           let Q : List ℕ → Type 0 = λ g. (z : Auth) × Each (Amends (HeldSinceMade before g) n max until z) (authorization_terms before g) in
           let here = subst Q (same_name-true holder h t) found in
           subst G (sym t) (PairsApart-amended (HeldSinceMade before h) (HeldSinceMade (e ∷ before) h) n max until here.0 0 (authorization_terms before h) (authorizations_made before h)
-            back (authorization_terms-numbered before h) here.1 pairs)
-      | inr f ↦ subst G (sym f) old ]
+          back (authorization_terms-numbered before h) here.1 pairs)
+      | inr f ↦ subst G (sym f) old
+    ]
 
 pub pairs-apart : (charter : Charter) (history : History) (h : List ℕ) → IsLegal charter history → PairsApart (HeldSinceMade history h) (authorization_terms history h)
 pairs-apart charter [] h legal = tt
@@ -330,5 +344,6 @@ pairs-apart charter (e ∷ before) h legal =
 
 pub no_shared_vrp : NoSharedVrp
 no_shared_vrp charter history legal = (
-    λ h xs are. kept-apart (HeldSinceMade history h) (authorization_terms history h) xs are (pairs-apart charter history h legal),
-    λ g h xs ys differ are_xs are_ys. two-share_none history g h xs ys differ are_xs are_ys)
+  λ h xs are. kept-apart (HeldSinceMade history h) (authorization_terms history h) xs are (pairs-apart charter history h legal),
+  λ g h xs ys differ are_xs are_ys. two-share_none history g h xs ys differ are_xs are_ys,
+)

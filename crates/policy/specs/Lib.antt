@@ -1,5 +1,6 @@
 pub mod Repeats
 pub mod Pool
+pub mod CharterSets
 pub mod Charter
 pub mod History
 pub mod Resources

@@ -18,4 +18,4 @@ NoSharedVrp =
     (charter : Charter) (history : History) → IsLegal charter history
     → ((h : List ℕ) (xs : List Auth) → AreActive history h xs → has_repeat share_vrp xs ≡ false)
     × ((g h : List ℕ) (xs ys : List Auth) → same_name g h ≡ false → AreActive history g xs → AreActive history h ys
-        → share_none xs ys ≡ true)
+    → share_none xs ys ≡ true)

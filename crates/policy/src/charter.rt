@@ -4,10 +4,12 @@ ghost use Rattle.std.specs.Ordering.{nat_cmp};
 ghost use Rattle.std.specs.Cmp.Lexicographic.{pointwise, slice_cmp};
 ghost use Rattle.addr.specs.Address.{has_address, prefix_eq};
 ghost use Rattle.policy.specs.Repeats.{has_repeat};
+ghost use Rattle.policy.specs.CharterSets.{AreInNumber, IsCharter};
 ghost use Rattle.policy.specs.Pool.{pool_has, IsInPool, HasFromTo};
 
 use crate::authorization::is_same_prefix;
 use addr::{Family, Name, Prefix};
+use std::marker::Model;
 
 /// Why two lists make no charter.
 #[derive(Clone, Copy, Debug, PartialEq, Eq)]
@@ -24,14 +26,20 @@ pub enum CharterFault {
 pub struct Charter {
     operators: Vec<Name>,
     pool: Vec<Prefix>,
-    ghost operators_counted: { (1 ≤ length operators.items) × (length operators.items ≤ 16) },
-    ghost pool_counted: { (1 ≤ length pool.items) × (length pool.items ≤ 64) },
-    ghost operators_once: { has_repeat (pointwise nat_eq) operators.items ≡ false },
-    ghost pool_once: { has_repeat prefix_eq pool.items ≡ false },
+}
+
+impl Model for Charter {
+    ghost use Rattle.policy.specs.CharterSets.{CharterSets, IsCharter};
+
+    ghost Value = { CharterSets };
+
+    ghost view = { λ c. record { operators = c.operators.items; pool = c.pool.items } };
+
+    ghost invariant = { λ c. IsCharter (record { operators = c.operators.items; pool = c.pool.items }) };
 }
 
 fn are_in_number(operators: &[Name], pool: &[Prefix]) -> bool
-    ensures { IsTrue result ↔ ((1 ≤ length operators.now) × (length operators.now ≤ 16) × (1 ≤ length pool.now) × (length pool.now ≤ 64)) }
+    ensures { IsTrue result ↔ AreInNumber operators.now pool.now }
 {
     1 <= operators.len() && operators.len() <= 16 && 1 <= pool.len() && pool.len() <= 64
 }
@@ -75,7 +83,7 @@ fn has_prefix_twice(pool: &[Prefix]) -> bool
 }
 
 impl Charter {
-    ghost use Rattle.policy.specs.Charter.{is_operator, operators_of, pool_of, AreInNumber};
+    ghost use Rattle.policy.specs.Charter.{is_operator, operators_of, pool_of};
 
     /// The charter of these operators and this pool, both in rising order. It takes no memory.
     pub fn make(mut operators: Vec<Name>, mut pool: Vec<Prefix>) -> Result<Charter, CharterFault>
@@ -99,18 +107,21 @@ impl Charter {
 
     /// The operators, rising.
     pub fn operators(&self) -> &[Name]
-        ensures { result.now ≡ operators_of self.now }
+        ensures operators { result.now ≡ operators_of self.now }
+        ensures valid { IsCharter self.now }
     {
         &self.operators
     }
 
     /// The pool, rising.
     pub fn pool(&self) -> &[Prefix]
-        ensures { result.now ≡ pool_of self.now }
+        ensures pool { result.now ≡ pool_of self.now }
+        ensures valid { IsCharter self.now }
     {
         &self.pool
     }
 
+    /// Whether the caller is one of the operators.
     pub fn is_operator(&self, caller: &Name) -> bool
         ensures { result ≡ is_operator self.now caller.now }
     {

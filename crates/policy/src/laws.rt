@@ -7,5 +7,4 @@ ghost use Rattle.policy.specs.SharedVrps.{NoSharedVrp};
 #[tactic(auto, using(crate::proofs::SharedVrps::no_shared_vrp))]
 pub fn no_shared_vrp()
     ensures { NoSharedVrp }
-{
-}
+{}

@@ -15,8 +15,11 @@ invariant_of-result c =
     let pool : length c.sort_unstable-2.new.self.items ≡ length c.deref-2.result.now =
     length_permutation c.args.pool.items c.sort_unstable-2.new.self.items c.sort_unstable-2.ensures.permutation ∙ ap length (sym c.deref-2.ensures.value) in
     record {
-      operators_counted = subst (λ (k : ℕ). (1 ≤ k) × (k ≤ 16)) (sym operators) (number.0, number.1);
-      pool_counted = subst (λ (k : ℕ). (1 ≤ k) × (k ≤ 64)) (sym pool) (number.2, number.3);
+      number = (
+        subst (λ (k : ℕ). 1 ≤ k) (sym operators) number.0,
+        subst (λ (k : ℕ). k ≤ 16) (sym operators) number.1,
+        subst (λ (k : ℕ). 1 ≤ k) (sym pool) number.2,
+        subst (λ (k : ℕ). k ≤ 64) (sym pool) number.3);
       operators_once = has_repeat-moved (pointwise nat_eq) nat_list_eq_equiv.symm c.args.operators.items c.sort_unstable.new.self.items c.sort_unstable.ensures.permutation
           (ap (has_repeat (pointwise nat_eq)) (sym c.deref-3.ensures.value) ∙ sym c.has_operator_twice.ensures ∙ c.if-has_operator_twice.false);
       pool_once = has_repeat-moved prefix_eq prefix_eq-flips c.args.pool.items c.sort_unstable-2.new.self.items c.sort_unstable-2.ensures.permutation
