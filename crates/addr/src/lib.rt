@@ -10,6 +10,7 @@ mod name;
 mod prefix;
 mod route;
 mod span;
+mod text;
 mod vrp;
 
 pub use asn::Asn;
@@ -20,4 +21,5 @@ pub use name::Name;
 pub use prefix::Prefix;
 pub use route::{Origin, Route};
 pub use span::Span;
+pub use text::PrefixFault;
 pub use vrp::Vrp;
