@@ -17,7 +17,11 @@ use Rattle.addr.specs.Family.{width}
 use Rattle.addr.specs.declared.family.Family.{Family}
 use Rattle.addr.specs.declared.family.Family.TheVariants.{V4, V6}
 use Rattle.addr.specs.declared.text.PrefixParts.{PrefixParts}
-use Rattle.addr.specs.PrefixText.{digits_in, octets_of, groups_of, address_text, spelling, cut_at, short_number, octet, dotted_address, loose_address, address_or, loose_groups, loose, fault_of, is_aligned, prefix_text_fault, IsPrefix, IsSpelled, SpelledPrefix, PrefixTextLaw}
+use Rattle.addr.specs.declared.text.PrefixFault.{PrefixFault}
+use Rattle.addr.specs.declared.text.PrefixFault.TheVariants.{Shape, Spelling, Length, HostBits}
+use Rattle.addr.specs.declared.prefix.Prefix.{Prefix}
+use Rattle.addr.specs.Address.{IsPrefix}
+use Rattle.addr.specs.PrefixText.{digits_in, octets_of, groups_of, address_text, spelling, cut_at, short_number, octet, dotted_address, loose_address, address_or, loose_groups, loose, fault_of, is_aligned, prefix_text_fault, Spells, IsZeroRun, IsFirstLongestRun, PrefixTextLaw}
 use Rattle.addr.proofs.PrefixTextLemmas.{IsShortNumber, short_number_from, Lacks, Lacks-append, Lacks-digits, cut_at_here, cut_at_none, dotted_parts, length_digits_in, below-digits_in, number-digits_in, at_below, option_cases}
 use Rattle.addr.proofs.PrefixGroupsLemmas.{loose_groups_from}
 
@@ -104,3 +108,28 @@ pub loose-spelling : (family : Family) (address len : ℕ) → address < 2 ^ wid
 unfolding loose spelling
 loose-spelling family address len fits below =
     rw (cut_at_here 47 (address_text family address) (decimal len) (address_lacks_slash family address), address_back family address fits, short_number-decimal len below)
+
+-- ---- faults
+
+-- no fault: the text was read as parts that are a prefix's, and spells them
+record IsFaultless (text : List ℕ) (parts : PrefixParts) : Type 0 where
+  pub spelled : spelling parts.family parts.address parts.length ≡ text
+  pub length_fits : parts.length ≤ width parts.family
+  pub aligned : parts.address % 2 ^ (width parts.family - parts.length) ≡ 0
+
+faultless_parts : (text : List ℕ) (parts : PrefixParts) → fault_of text (Some parts) ≡ None → IsFaultless text parts
+faultless_parts text parts e =
+    let same = bytes_eq (spelling parts.family parts.address parts.length) text in
+    let over = nat_lt (width parts.family) parts.length in
+    let (is_same, rest) = cond_is_none (not same) Spelling _ e in
+    let (is_within, others) = cond_is_none over Length _ rest in
+    let (has_no_bits, end) = cond_is_none (not (is_aligned parts)) HostBits _ others in
+    record {
+      spelled = (bytes_eq-Decides (spelling parts.family parts.address parts.length) text).0 (not-false same is_same);
+      length_fits = ltb-false (width parts.family) parts.length is_within;
+      aligned = eqb-true (parts.address % 2 ^ (width parts.family - parts.length)) 0 (not-false (is_aligned parts) has_no_bits);
+    }
+  where
+    cond_is_none : (b : Bool) (fault : PrefixFault) (rest : Option PrefixFault) → cond b (Some fault) rest ≡ None → (b ≡ false) × (rest ≡ None)
+    cond_is_none true fault rest e = absurd (none-some fault (sym e))
+    cond_is_none false fault rest e = (refl, e)

@@ -1,14 +1,15 @@
 -- The text of a prefix: the text of its address, `/` and its length (RFC 4632 section 3.1, RFC 4291 section 2.3).
-use Rattle.std.specs.Prelude.{ℕ, zero, suc, ◌+◌, ◌-◌, ◌/◌, ◌%◌, ◌^◌, ◌≡◌, ◌<◌, ◌≤◌, Bool, true, false, not, ◌&&◌, List, [], ◌∷◌, ◌++◌, length, drop, replicate, slice_index, decimal, nat_le, nat_lt, ◌==◌, if◌then◌else◌, Option, Some, None, is_some, option_map, option_and_then}
+use Rattle.std.specs.Prelude.{ℕ, zero, suc, ◌+◌, ◌-◌, ◌/◌, ◌%◌, ◌^◌, ◌≡◌, ◌<◌, ◌≤◌, ◌↔◌, Bool, true, false, not, ◌&&◌, List, [], ◌∷◌, ◌++◌, length, take, drop, replicate, slice_index, decimal, nat_le, nat_lt, ◌==◌, if◌then◌else◌, Option, Some, None, is_some, option_map, option_and_then}
 use Rattle.std.specs.Char.{is_digit}
 use Rattle.std.specs.List.{list_all, slice_split}
 use Rattle.std.specs.Str.{bytes_eq}
 use Rattle.std.specs.Str.Parse.{digits_value}
 use Rattle.std.specs.Int.Digits.{number_from_digits}
-use Rattle.std.specs.Net.Text.{ipv4_text, hex_groups_text}
+use Rattle.std.specs.Net.Text.{ipv4_text, hex_groups_text, longest_zero_run}
 use Rattle.addr.specs.Family.{width}
 use Rattle.addr.specs.declared.family.Family.{Family}
 use Rattle.addr.specs.declared.family.Family.TheVariants.{V4, V6}
+use Rattle.addr.specs.declared.prefix.Prefix.{Prefix}
 use Rattle.addr.specs.declared.text.PrefixParts.{PrefixParts}
 use Rattle.addr.specs.declared.text.PrefixFault.{PrefixFault}
 use Rattle.addr.specs.declared.text.PrefixFault.TheVariants.{Shape, Spelling, Length, HostBits}
@@ -175,35 +176,28 @@ fault_number Spelling = 2
 fault_number Length = 3
 fault_number HostBits = 4
 
--- the family, first address and length of a prefix: an address of the family with no bit past the length set
-pub record IsPrefix (family : Family) (address len : ℕ) : Type 0 where
-  pub length_fits : len ≤ width family
-  pub address_fits : address < 2 ^ width family
-  pub aligned : address % 2 ^ (width family - len) ≡ 0
-
--- the text has no fault and is the one spelling of the parts, which are those of a prefix
-pub record IsSpelled (text : List ℕ) (parts : PrefixParts) : Type 0 where
-  pub no_fault : prefix_text_fault text ≡ None
-  pub spelled : text ≡ spelling parts.family parts.address parts.length
-  pub prefix : IsPrefix parts.family parts.address parts.length
+-- the text is the one spelling of the prefix
+abbrev pub Spells : Prefix → List ℕ → Type 0
+Spells prefix text = text ≡ spelling prefix.family prefix.first prefix.length
 
 -- ---- the law of prefix texts
 
--- a text with no fault is the spelling of a prefix
-pub record SpelledPrefix (text : List ℕ) : Type 0 where
-  pub family : Family
-  pub address : ℕ
-  pub len : ℕ
-  pub prefix : IsPrefix family address len
-  pub spelled : text ≡ spelling family address len
+-- a run of `len` zero groups begins at `start`
+pub record IsZeroRun (groups : List ℕ) (start len : ℕ) : Type 0 where
+  pub within : start + len ≤ length groups
+  pub zeros : take len (drop start groups) ≡ replicate len 0
 
--- Each spelling is read back as what it was made of; the texts without a fault are the spellings of the prefixes; and
--- no two prefixes share a spelling.
+-- `::` stands in place of a run of zero groups that is longest, and of equally long ones the first (RFC 5952 section 4.2)
+pub record IsFirstLongestRun (groups : List ℕ) (start len : ℕ) : Type 0 where
+  pub run : IsZeroRun groups start len
+  pub longest : (from count : ℕ) → IsZeroRun groups from count → count ≤ len
+  pub first : (from : ℕ) → IsZeroRun groups from len → start ≤ from
+
+-- A spelling is read back as what it was made of; the texts with no fault are those that spell a prefix, and a text
+-- spells one prefix only.
 pub record PrefixTextLaw : Type 0 where
   pub read_back : (family : Family) (address len : ℕ) → address < 2 ^ width family → len < 1000
       → loose (spelling family address len) ≡ Some (record { family = family; address = address; length = len })
-  pub spelled : (text : List ℕ) → prefix_text_fault text ≡ None → SpelledPrefix text
-  pub accepted : (family : Family) (address len : ℕ) → IsPrefix family address len
-      → prefix_text_fault (spelling family address len) ≡ None
-  pub unique : (f g : Family) (m n k l : ℕ) → IsPrefix f m k → IsPrefix g n l → spelling f m k ≡ spelling g n l
-      → (f ≡ g) × (m ≡ n) × (k ≡ l)
+  pub faultless : (text : List ℕ) → (prefix_text_fault text ≡ None) ↔ ((prefix : Prefix) × Spells prefix text)
+  pub unique : (p q : Prefix) (text : List ℕ) → Spells p text → Spells q text → p ≡ q
+  pub elided : (groups : List ℕ) → IsFirstLongestRun groups (longest_zero_run groups).0 (longest_zero_run groups).1

@@ -6,6 +6,7 @@ mod asn;
 mod day;
 mod family;
 mod holdings;
+pub mod laws;
 mod name;
 mod prefix;
 mod route;

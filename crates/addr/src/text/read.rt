@@ -1,13 +1,13 @@
 // Reading: loosely first, and then by comparing with the one spelling.
-ghost use Rattle.std.specs.Prelude.{◌≡◌, ◌==◌, ◌%◌, ◌<◌, ◌≤◌, ◌^◌, ℕ, List, Some, length, option_map, MatchResult, IfSome};
+ghost use Rattle.std.specs.Prelude.{◌≡◌, ◌==◌, ◌%◌, ◌<◌, ◌≤◌, ◌^◌, None, Some, length, option_map, MatchResult, IfSome};
 ghost use Rattle.std.specs.List.{position};
 ghost use Rattle.std.specs.Int.Digits.{number_from_digits};
 ghost use Rattle.addr.specs.Family.{width};
-ghost use Rattle.addr.specs.PrefixText.{cut_at, dotted_address, IsSpelled, loose, loose_address, loose_groups, octet, prefix_text_fault, short_number};
+ghost use Rattle.addr.specs.PrefixText.{cut_at, dotted_address, loose, loose_address, loose_groups, octet, prefix_text_fault, short_number, Spells};
 
 use super::write::write_spelling;
 use super::{PrefixFault, PrefixParts};
-use crate::Family;
+use crate::{Family, Prefix};
 use arrayvec::ArrayString;
 use std::net::Ipv6Addr;
 
@@ -116,20 +116,11 @@ fn read_loosely(text: &[u8]) -> Option<PrefixParts>
     })
 }
 
-fn is_aligned(address: u128, host_bits: u8) -> bool
-    requires { host_bits ≤ 128 }
-    ensures { result ≡ (address % 2 ^ host_bits == 0) }
-{
-    match 1u128.checked_shl(u32::from(host_bits)) {
-        Some(size) => address % size == 0,
-        None => address == 0,
-    }
-}
-
-// The parts of the prefix that the text spells, or the first fault of the text.
+// The prefix that the text spells, or the first fault of the text.
 #[tactic(auto, unfolding(crate::specs::PrefixText::prefix_text_fault))]
-pub(crate) fn read_parts(text: &[u8]) -> Result<PrefixParts, PrefixFault>
-    ensures { MatchResult result (λ parts. IsSpelled text.now parts)
+pub(super) fn read_prefix(text: &[u8]) -> Result<Prefix, PrefixFault>
+    ensures { MatchResult result
+        (λ prefix. (prefix_text_fault text.now ≡ None) × Spells prefix text.now)
         (λ fault. prefix_text_fault text.now ≡ Some fault) }
 {
     let parts = read_loosely(text).ok_or(PrefixFault::Shape)?;
@@ -138,12 +129,9 @@ pub(crate) fn read_parts(text: &[u8]) -> Result<PrefixParts, PrefixFault>
     if spelling.as_str().as_bytes() != text {
         return Err(PrefixFault::Spelling);
     }
-    let width = u16::from(parts.family.width());
-    if parts.length > width {
+    if parts.length > u16::from(parts.family.width()) {
         return Err(PrefixFault::Length);
     }
-    if !is_aligned(parts.address, (width - parts.length) as u8) {
-        return Err(PrefixFault::HostBits);
-    }
-    Ok(parts)
+    let length = parts.length as u8;
+    Prefix::from_parts(parts.family, parts.address, length).ok_or(PrefixFault::HostBits)
 }

@@ -147,7 +147,7 @@ fn push_hex_groups(text: &mut Buffer, address: u128)
 
 // Puts the one spelling in place of what `text` held.
 #[tactic(auto, unfolding(crate::specs::PrefixText::spelling))]
-pub(crate) fn write_spelling(text: &mut Buffer, family: Family, address: u128, length: u16)
+pub(super) fn write_spelling(text: &mut Buffer, family: Family, address: u128, length: u16)
     requires { length < 1000 }
     ensures { text.new.bytes ≡ spelling family address length }
 {
