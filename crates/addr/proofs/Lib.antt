@@ -3,3 +3,6 @@ pub mod SpanLemmas
 pub mod SpanSteps
 mod DayLemmas
 mod NameLemmas
+pub mod PrefixTextLemmas
+pub mod PrefixGroupsLemmas
+pub mod PrefixSpellingLemmas

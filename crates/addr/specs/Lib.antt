@@ -5,3 +5,4 @@ pub mod Spans
 pub mod Parts
 pub mod Name
 pub mod Day
+pub mod PrefixText

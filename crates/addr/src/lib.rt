@@ -6,10 +6,12 @@ mod asn;
 mod day;
 mod family;
 mod holdings;
+pub mod laws;
 mod name;
 mod prefix;
 mod route;
 mod span;
+mod text;
 mod vrp;
 
 pub use asn::Asn;
@@ -20,4 +22,5 @@ pub use name::Name;
 pub use prefix::Prefix;
 pub use route::{Origin, Route};
 pub use span::Span;
+pub use text::PrefixFault;
 pub use vrp::Vrp;
