@@ -6,3 +6,4 @@ pub mod Parts
 pub mod Name
 pub mod Day
 pub mod PrefixText
+pub mod Digits

@@ -1,9 +1,11 @@
-ghost use Rattle.std.specs.Prelude.{◌≡◌, ◌≤◌, IfSome, nat_le, if◌then◌else◌, pos, Some, None};
+ghost use Rattle.std.specs.Prelude.{◌≡◌, ◌+◌, ◌<◌, ◌≤◌, [], ◌∷◌, ◌++◌, IfSome, nat_le, if◌then◌else◌, pos, Some, None};
+ghost use Rattle.arrayvec.specs.ArrayString.{array_string_len};
 ghost use Rattle.jiff.specs.Words.{epoch_day};
-ghost use Rattle.addr.specs.Day.{day_in, day_number, digit, two_digits, four_digits, from_1970};
+ghost use Rattle.addr.specs.Day.{day_in, day_text, date_text, in_two_digits, day_number, digit, two_digits, four_digits, from_1970};
 
-use jiff::civil;
+use arrayvec::ArrayString;
 use jiff::civil::Date;
+use jiff::{ToSpan, civil};
 use std::marker::Model;
 
 /// The number of 9999-12-31.
@@ -62,6 +64,30 @@ impl Day {
         self.number
     }
 
+    /// Writes the day as `YYYY-MM-DD` in place of what `text` held.
+    pub fn write_to(&self, text: &mut ArrayString<10>)
+        ensures written { text.new.bytes ≡ day_text self.now }
+        ensures reads_back { day_in text.new.bytes ≡ Some self.now }
+        ensures len { array_string_len text.new ≡ 10 }
+    {
+        let date = self.date();
+        write_date(
+            text,
+            date.year() as u16,
+            date.month() as u8,
+            date.day() as u8,
+        );
+    }
+
+    fn date(&self) -> Date
+        ensures { epoch_day result ≡ pos self.now }
+    {
+        match epoch().checked_add(i64::from(self.number).days()) {
+            Ok(date) => date,
+            Err(_) => unreachable!(),
+        }
+    }
+
     fn on(year: u16, month: u8, day: u8) -> Option<Day>
         requires year { year ≤ 9999 }
         requires month { month ≤ 99 }
@@ -92,6 +118,40 @@ fn epoch() -> Date
     ensures { epoch_day result ≡ pos 0 }
 {
     civil::date(1970, 1, 1)
+}
+
+fn write_date(text: &mut ArrayString<10>, year: u16, month: u8, day: u8)
+    requires year { year ≤ 9999 }
+    requires month { month ≤ 99 }
+    requires day { day ≤ 99 }
+    ensures { text.new.bytes ≡ date_text year month day }
+{
+    text.clear();
+    push_two_digits(text, (year / 100) as u8);
+    push_two_digits(text, (year % 100) as u8);
+    push_ascii(text, b'-');
+    push_two_digits(text, month);
+    push_ascii(text, b'-');
+    push_two_digits(text, day);
+}
+
+fn push_two_digits(text: &mut ArrayString<10>, number: u8)
+    requires small { number ≤ 99 }
+    requires room { array_string_len text.old ≤ 8 }
+    ensures bytes { text.new.bytes ≡ text.old.bytes ++ in_two_digits number }
+    ensures len { array_string_len text.new ≡ array_string_len text.old + 2 }
+{
+    push_ascii(text, b'0' + number / 10);
+    push_ascii(text, b'0' + number % 10);
+}
+
+fn push_ascii(text: &mut ArrayString<10>, byte: u8)
+    requires ascii { byte < 128 }
+    requires room { array_string_len text.old < 10 }
+    ensures bytes { text.new.bytes ≡ text.old.bytes ++ byte ∷ [] }
+    ensures len { array_string_len text.new ≡ array_string_len text.old + 1 }
+{
+    text.push(byte as char);
 }
 
 fn digit(byte: u8) -> Option<u8>

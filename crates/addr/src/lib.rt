@@ -4,6 +4,7 @@
 
 mod asn;
 mod day;
+mod decimal;
 mod family;
 mod holdings;
 pub mod laws;
@@ -16,6 +17,7 @@ mod vrp;
 
 pub use asn::Asn;
 pub use day::Day;
+pub use decimal::{digits, number_from_text};
 pub use family::Family;
 pub use holdings::Holdings;
 pub use name::Name;

@@ -11,7 +11,7 @@ numbered c =
     let fits : FitsSigned w64 c.as_hours-hours.result = omega (arith, signed_arith) in
     let ok = c.in-Ok.ensures in
     number_by_hours (epoch_day c.args.date) _ c.in-Ok.hours
-        (to_z-of_z _ _ fits ∙ hours_between _ _ _ _ c.epoch.ensures c.duration_since.ensures c.as_hours-hours.ensures) ok.0 ok.1
+    (to_z-of_z _ _ fits ∙ hours_between _ _ _ _ c.epoch.ensures c.duration_since.ensures c.as_hours-hours.ensures) ok.0 ok.1
 
 pub overflow_cast-result : goal.overflow_cast-result
 overflow_cast-result c =
