@@ -1,11 +1,15 @@
 -- The texts of IPv6 addresses: `Ipv6Addr` reads the loose groups where there is no dot, and nothing else.
-use Rattle.std.proofs.Common.{◌≡◌, ◌⊎◌, ℕ, suc, ◌+◌, ◌-◌, ◌<◌, ◌≤◌, Bool, true, false, ◌&&◌, ◌==◌, nat_lt, List, [], ◌∷◌, ◌++◌, length, replicate, drop, slice_index, option_map, Option, Some, None, Result, Ok, Err, All, decimal, refl, sym, ap, ◌∙◌, subst, inl, inr, append_assoc, append-nil, arith, lit≤, lt-ltb, eq-eqb}
+use Rattle.std.proofs.Common.{◌≡◌, ◌⊎◌, ℕ, zero, suc, ◌+◌, ◌-◌, ◌^◌, ◌<◌, ◌≤◌, Bool, true, false, ◌&&◌, ◌==◌, nat_lt, List, [], ◌∷◌, ◌++◌, length, replicate, drop, slice_index, option_map, Option, Some, None, Result, Ok, Err, All, decimal, refl, sym, ap, ◌∙◌, subst, inl, inr, append_assoc, append-nil, arith, lit≤, lit<, length-append, lt-ltb, eq-eqb}
 use Rattle.std.proofs.lemmas.Bool.{cases_Bool, or_parts, or_from, and_parts, ltb-true, eqb-true, false≢true}
 use Rattle.std.proofs.lemmas.Option.{cond_some, option_and_then_some, some_pair_parts, none-some, same_Some}
 use Rattle.std.proofs.lemmas.List.Elements.{All-nil, All-cons}
 use Rattle.std.proofs.lemmas.List.Splits.{slice_split_none, slice_split_at, join_with_byte-slice_split, length-slice_split}
 use Rattle.std.proofs.NetLemmas.Options.{map_some}
+use Rattle.std.proofs.Math.Nat.{pow-le-pow_right}
+use Rattle.std.proofs.lemmas.Int.Digits.{digits_value-lt, number_lt}
+use Rattle.std.proofs.lemmas.List.{length-replicate}
 use Rattle.std.specs.Char.{digit_value}
+use Rattle.std.specs.Int.Digits.{number_from_digits, AllBelowBase}
 use Rattle.std.specs.List.{list_any, slice_split, join_with_byte}
 use Rattle.std.specs.Str.Parse.{AllDigits, digits_value}
 use Rattle.std.specs.Result.{result_ok}
@@ -312,3 +316,55 @@ module _ {E : Type 0} where
       let same = same_Some address read e in
       rw same (loose_groups_from text read.segments h lacks)
   read_some text (Err error) address h e lacks = absurd (none-some address (sym e))
+
+-- ---- eight groups of 16 bits
+
+group_below : (text : List ℕ) (s : ℕ) → group text ≡ Some s → s < 0x10000
+group_below text s e =
+    let h = short_number_is 16 4 text s e in
+    let below = digits_value-lt 16 text h.digits in
+    let most : 16 ^ length text ≤ 16 ^ 4 = pow-le-pow_right (lit≤ tt) {i = length text} {j = 4} h.few in
+    let value = h.value in
+    omega arith
+
+all_groups_below : (parts : List (List ℕ)) (segments : List ℕ) → all_groups parts ≡ Some segments → AllBelowBase 0x10000 segments
+all_groups_below [] segments e = subst (AllBelowBase 0x10000) (same_Some _ _ e) tt
+all_groups_below (part ∷ parts) segments e =
+    option_and_then_some _ (group part) _ e λ s here kept.
+    option_and_then_some _ (all_groups parts) _ kept λ others more same.
+    subst (AllBelowBase 0x10000) (same_Some _ _ same) (group_below part s here, all_groups_below parts others more)
+
+colon_groups_below : (text segments : List ℕ) → colon_groups text ≡ Some segments → AllBelowBase 0x10000 segments
+unfolding colon_groups
+colon_groups_below [] segments e = subst (AllBelowBase 0x10000) (same_Some _ _ e) tt
+colon_groups_below (c ∷ rest) segments e = all_groups_below (slice_split (λ b. b == 58) (c ∷ rest)) segments e
+
+below_append : (xs ys : List ℕ) → AllBelowBase 0x10000 xs → AllBelowBase 0x10000 ys → AllBelowBase 0x10000 (xs ++ ys)
+below_append [] ys hx hy = hy
+below_append (x ∷ xs) ys hx hy = (hx.0, below_append xs ys hx.1 hy)
+
+below_zeros : (count : ℕ) → AllBelowBase 0x10000 (replicate count 0)
+below_zeros zero = tt
+below_zeros (suc count) = (lit< tt, below_zeros count)
+
+number_fits : (groups : List ℕ) → length groups ≡ 8 → AllBelowBase 0x10000 groups → number_from_digits 0x10000 groups < 2 ^ 128
+number_fits groups eight below = let all = number_lt 0x10000 groups below in rw eight at all
+
+pub loose_groups_fit : (text segments : List ℕ) → loose_groups text ≡ Some segments → number_from_digits 0x10000 segments < 2 ^ 128
+unfolding loose_groups
+loose_groups_fit text segments e =
+    elim (option_cases (cut_at_gap text)) [
+      | inl none ↦
+          option_and_then_some _ (colon_groups text) _ (rw none at e) λ groups read kept.
+          let (test, same) = cond_some _ _ _ kept in
+          rw (← same) (number_fits groups (eqb-true (length groups) 8 test) (colon_groups_below text groups read))
+      | inr cut ↦
+          option_and_then_some _ (colon_groups cut.0.0) _ (rw cut.1 at e) λ front read kept.
+          option_and_then_some _ (colon_groups cut.0.1) _ kept λ back read_back rest.
+          let (test, same) = cond_some _ _ _ rest in
+          let room = ltb-true (length front + length back) 8 test in
+          let zeros = replicate (8 - length front - length back) 0 in
+          let begins = below_append front zeros (colon_groups_below cut.0.0 front read) (below_zeros (8 - length front - length back)) in
+          let eight : length (front ++ zeros ++ back) ≡ 8 = omega (arith, length-append (front ++ zeros) back, length-append front zeros, length-replicate {A = ℕ} (8 - length front - length back) 0) in
+          rw (← same) (number_fits (front ++ zeros ++ back) eight (below_append (front ++ zeros) back begins (colon_groups_below cut.0.1 back read_back)))
+    ]
