@@ -1,4 +1,5 @@
 pub mod LineSplits
+pub mod ReplyLemmas
 pub mod ScriptLemmas
 pub mod StreamLemmas
 mod TrailSteps

@@ -1,5 +1,7 @@
 pub mod Devices
 pub mod LineSplitting
+pub mod ReplyItems
+pub mod ReplyText
 pub mod Script
 pub mod ScriptFault
 pub mod ScriptLines
