@@ -1,4 +1,4 @@
-use Rattle.std.proofs.Common.{◌≡◌, ℕ, ◌+◌, ◌*◌, ◌/◌, ◌≤◌, ℤ, pos, negsuc, ◌-ℤ◌, ◌*ℤ◌, ◌≤ℤ◌, Some, None, ap, subst, ◌∙◌, sym, refl, arith}
+use Rattle.std.proofs.Common.{◌≡◌, ℕ, ◌+◌, ◌*◌, ◌/◌, ◌≤◌, ℤ, pos, negsuc, ◌-ℤ◌, ◌*ℤ◌, ◌≤ℤ◌, Some, ap, subst, ◌∙◌, arith}
 use Rattle.std.specs.Prelude.{int_div, unsigned_abs}
 use Rattle.std.specs.Int.{FitsUnsignedBits}
 use Rattle.jiff_core.specs.declared.civil.date.Date.{Date}
@@ -48,14 +48,6 @@ number_by_hours (pos n) hours h e fits k =
     let same : n ≡ h / 24 = omega arith in
     ap Some same
 number_by_hours (negsuc n) hours h e fits k = absurd (subst (FitsUnsignedBits 64) e fits)
-
-pub none_by_hours :
-    (day hours : ℤ) → hours ≡ hours_to day → ¬ (FitsUnsignedBits 64 hours) → day ≤ℤ pos 2_932_896
-    → from_1970 day ≡ None
-none_by_hours (pos n) hours e unfit last =
-    let fits : FitsUnsignedBits 64 (pos (24 * n)) = omega (arith, signed_arith) in
-    absurd (unfit (subst (FitsUnsignedBits 64) (sym e) fits))
-none_by_hours (negsuc n) hours e unfit last = refl
 
 -- no number is past that of 9999-12-31
 pub number_within : (d : Date) (k : ℕ) → from_1970 (epoch_day d) ≡ Some k → k ≤ 2_932_896

@@ -1,4 +1,5 @@
-use Rattle.std.proofs.Common.{◌≡◌, ℕ, ◌^◌, ◌<◌, List, true, Bool, Some, None, Option, ap, subst, ◌∙◌, sym, refl, inl, inr, cond, nat_eq, false, true≢false}
+use Rattle.std.proofs.lemmas.List.{take_all}
+use Rattle.std.proofs.Common.{◌≡◌, ℕ, ◌-◌, ◌^◌, ◌<◌, ◌≤◌, ◌∷◌, length, take, drop, arith, List, true, Some, None, Option, ap, subst, ◌∙◌, sym, refl, inl, inr, cond, nat_eq, false, true≢false}
 use Rattle.std.specs.Fmt.{decimal}
 use Rattle.std.specs.Str.{IsUtf8}
 use Rattle.std.specs.Str.Parse.{digits_value}
@@ -22,8 +23,8 @@ unfolding number_in
 number_in-decimal n h =
     let P : ℕ → Type 0 = λ k. cond (writes k (decimal n)) (Some k) None ≡ Some n in
     let itself : writes n (decimal n) ≡ true =
-        and_from _ _ (lt-ltb n (2 ^ 64) h) ((bytes_decides (decimal n) (decimal n)).1 refl)
-        in
+    and_from _ _ (lt-ltb n (2 ^ 64) h) ((bytes_decides (decimal n) (decimal n)).1 refl)
+    in
     subst P (sym (decimal_is_IsNumeral n h).1) (ap (λ b. cond b (Some n) None) itself)
 
 pub number_in-none : (text : List ℕ) → ((n : ℕ) → n < 2 ^ 64 → ¬ (text ≡ decimal n)) → number_in text ≡ None
@@ -39,15 +40,15 @@ unfolding number_in
 number_in-some text n e =
     elim (cases_Bool (writes (digits_value 10 text) text)) [
       | inl t ↦
-        let some : Some (digits_value 10 text) ≡ Some n =
-            sym (ap (λ b. cond b (Some (digits_value 10 text)) None) t) ∙ e
-            in
-        let same : digits_value 10 text ≡ n = cc in
-        let P : ℕ → Type 0 = λ k. (k < 2 ^ 64) × (text ≡ decimal k) in
-        subst P same (written (digits_value 10 text) text t)
+          let some : Some (digits_value 10 text) ≡ Some n =
+          sym (ap (λ b. cond b (Some (digits_value 10 text)) None) t) ∙ e
+          in
+          let same : digits_value 10 text ≡ n = cc in
+          let P : ℕ → Type 0 = λ k. (k < 2 ^ 64) × (text ≡ decimal k) in
+          subst P same (written (digits_value 10 text) text t)
       | inr f ↦
-        let none : None ≡ Some n = sym (ap (λ b. cond b (Some (digits_value 10 text)) None) f) ∙ e in
-        cc
+          let none : None ≡ Some n = sym (ap (λ b. cond b (Some (digits_value 10 text)) None) f) ∙ e in
+          cc
     ]
 
 -- a reading that finds each number below 2^64 by its digits, and maybe reads other texts too
@@ -69,8 +70,15 @@ pub number_in-rewritten :
     → written ≡ decimal number → pointwise nat_eq written text ≡ false → number_in text ≡ None
 number_in-rewritten text written read number reads some digits differs =
     number_in-none text (λ n h e.
-        let same : number ≡ n = some_is number n (sym some ∙ reads n h e) in
-        let equal : pointwise nat_eq written text ≡ true =
-            (bytes_decides written text).1 (digits ∙ ap decimal same ∙ sym e)
-            in
-        true≢false (sym equal ∙ differs))
+    let same : number ≡ n = some_is number n (sym some ∙ reads n h e) in
+    let equal : pointwise nat_eq written text ≡ true =
+    (bytes_decides written text).1 (digits ∙ ap decimal same ∙ sym e)
+    in
+    true≢false (sym equal ∙ differs))
+
+-- the slice behind the two letters
+pub behind_letters :
+    (text rest : List ℕ) (a b : ℕ) → text ≡ a ∷ b ∷ rest → take (length text - 2) (drop 2 text) ≡ rest
+behind_letters text rest a b e =
+    let all : length rest ≤ length (a ∷ b ∷ rest) - 2 = omega arith in
+    ap (λ t. take (length t - 2) (drop 2 t)) e ∙ take_all _ rest all

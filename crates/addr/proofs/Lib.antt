@@ -8,3 +8,4 @@ mod NameLemmas
 pub mod PrefixTextLemmas
 pub mod PrefixGroupsLemmas
 pub mod PrefixSpellingLemmas
+mod PrefixTextSamples

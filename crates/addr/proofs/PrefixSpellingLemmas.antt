@@ -1,6 +1,6 @@
 -- The law of prefix texts: each spelling is read back, so it has no fault where its parts are a prefix's.
-use Rattle.std.proofs.Common.{◌≡◌, ◌↔◌, ◌≢◌, ◌⊎◌, ℕ, suc, ◌+◌, ◌-◌, ◌*◌, ◌%◌, ◌^◌, ◌<◌, ◌≤◌, sub-le, Bool, true, false, not, ◌==◌, nat_lt, cond, List, [], ◌∷◌, ◌++◌, length, get_or, Option, Some, None, Result, Ok, Err, All, decimal, refl, sym, ap, ◌∙◌, subst, inl, inr, append_assoc, arith, lit≤, lit<, lt-ltb, le-ltb, le-leb, eq-eqb, ne_eqb}
-use Rattle.std.proofs.lemmas.Bool.{leb-true, cases_Bool, cond_both, or_from, ltb-false, eqb-true, not-false, not-true, false≢true}
+use Rattle.std.proofs.Common.{◌≡◌, ◌↔◌, ℕ, ◌+◌, ◌-◌, ◌%◌, ◌^◌, ◌<◌, ◌≤◌, sub-le, Bool, true, false, not, nat_lt, cond, List, [], ◌∷◌, ◌++◌, get_or, Option, Some, None, Result, Ok, Err, All, decimal, refl, sym, ap, ◌∙◌, subst, inl, inr, arith, lit≤, lit<, le-ltb, le-leb, ne_eqb}
+use Rattle.std.proofs.lemmas.Bool.{leb-true, or_from, ltb-false, eqb-true, not-false}
 use Rattle.std.proofs.lemmas.Option.{none-some, same_Some, option_and_then_some, cond_some}
 use Rattle.std.proofs.NetLemmas.Options.{map_some}
 use Rattle.std.proofs.lemmas.Slice.Eq.{bytes_eq-Decides}
@@ -14,7 +14,6 @@ use Rattle.std.specs.Result.{MatchResult}
 use Rattle.std.proofs.NetLemmas.Texts.{IsZeroRun-longest_zero_run, longest_zero_run_first, AllSegments, IsColonHex-hex_groups_text}
 use Rattle.std.proofs.NetLemmas.Alphabet.{IsHexOrColon, All-hex_groups_text}
 use Rattle.std.specs.Char.{digit_value}
-use Rattle.std.specs.List.{list_any}
 use Rattle.std.specs.Str.{bytes_eq}
 use Rattle.std.specs.Int.Digits.{number_from_digits}
 use Rattle.std.specs.Net.Text.{ipv4_text, hex_groups_text, dotted_text, longest_zero_run}
@@ -25,9 +24,8 @@ use Rattle.addr.specs.declared.text.PrefixParts.{PrefixParts}
 use Rattle.addr.specs.declared.text.PrefixFault.{PrefixFault}
 use Rattle.addr.specs.declared.text.PrefixFault.TheVariants.{Shape, Spelling, Length, HostBits}
 use Rattle.addr.specs.declared.prefix.Prefix.{Prefix}
-use Rattle.addr.specs.Address.{IsPrefix}
-use Rattle.addr.specs.PrefixText.{digits_in, octets_of, groups_of, address_text, spelling, cut_at, short_number, octet, dotted_address, loose_address, address_or, loose_groups, loose, fault_of, is_aligned, prefix_text_fault, Spells, IsZeroRun, IsFirstLongestRun, PrefixTextLaw}
-use Rattle.addr.proofs.PrefixTextLemmas.{IsShortNumber, short_number_from, Lacks, Lacks-append, Lacks-digits, cut_at_here, cut_at_none, dotted_parts, length_digits_in, below-digits_in, number-digits_in, at_below, option_cases}
+use Rattle.addr.specs.PrefixText.{octets_of, groups_of, address_text, spelling, cut_at, short_number, octet, dotted_address, loose_address, loose_groups, loose, fault_of, is_aligned, prefix_text_fault, Spells, IsFirstLongestRun, PrefixTextLaw}
+use Rattle.addr.proofs.PrefixTextLemmas.{short_number_from, Lacks, Lacks-append, Lacks-digits, cut_at_here, cut_at_none, dotted_parts, length_digits_in, below-digits_in, number-digits_in, at_below, option_cases}
 use Rattle.addr.proofs.AddressLemmas.{multiple-fits}
 use Rattle.addr.proofs.PrefixGroupsLemmas.{loose_groups_from, loose_groups_fit}
 

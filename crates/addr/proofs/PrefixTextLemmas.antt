@@ -1,12 +1,10 @@
 -- The digits of a number in a base, texts that are cut at a byte, and short numbers.
-use Rattle.std.proofs.Common.{◌≡◌, ◌≢◌, ◌⊎◌, ℕ, zero, suc, ◌+◌, ◌-◌, ◌*◌, ◌/◌, ◌%◌, ◌^◌, ◌<◌, ◌≤◌, Bool, true, false, ◌&&◌, ◌==◌, cond, List, [], ◌∷◌, ◌++◌, length, get_or, take, drop, set, Option, Some, None, All, decimal, lit≤, lit<, refl, sym, ap, ap₂, ◌∙◌, subst, inl, inr, arith, add-one, one-add, append_assoc, append-nil, ne_eqb, eq-eqb, le-leb, lt-ltb, option_map}
+use Rattle.std.proofs.Common.{◌≡◌, ◌⊎◌, ℕ, zero, suc, ◌+◌, ◌*◌, ◌/◌, ◌%◌, ◌^◌, ◌<◌, ◌≤◌, true, false, ◌==◌, List, [], ◌∷◌, ◌++◌, length, get_or, take, drop, set, Option, Some, None, decimal, lit≤, lit<, refl, ap, inl, inr, arith, add-one, one-add, append_assoc, ne_eqb, eq-eqb, le-leb, lt-ltb, option_map}
 use Rattle.std.proofs.Math.Nat.{pow-zero, pow-suc, pow-le-pow_right, div-lt_iff_lt-mul}
-use Rattle.std.proofs.lemmas.Bool.{cases_Bool, cases_lt, or_parts, or_from, le-ltb, cases_eq, and_parts, lt-leb, leb-true, ltb-true, and_right}
+use Rattle.std.proofs.lemmas.Bool.{cases_Bool, cases_lt, or_parts, or_from, le-ltb, and_parts, leb-true, ltb-true}
 use Rattle.std.proofs.lemmas.Option.{cond_some}
-use Rattle.std.proofs.lemmas.Bool.Decides.{nat_tests}
 use Rattle.std.proofs.lemmas.Int.Digits.{number_push, digits_value-lt}
 use Rattle.std.proofs.lemmas.List.{length_push, drop-set}
-use Rattle.std.proofs.lemmas.List.Elements.{All-nil, All-cons, All-head, All-tail}
 use Rattle.std.proofs.lemmas.Fmt.{decimal_digit, decimal_step}
 use Rattle.std.specs.Char.{digit_value, is_digit}
 use Rattle.std.specs.List.{list_all, list_any, position, position_or_len}
@@ -187,7 +185,6 @@ short_number_none base most text never =
       | inl none ↦ none
       | inr some ↦ absurd (never some.0 (short_number_is base most text some.0 some.1))
     ]
-
 
 pub digit_of_all : (base : ℕ) (text : List ℕ) (i : ℕ) → AllDigits base text → i < length text → digit_value (get_or text i 0) < base
 digit_of_all base [] i all within = absurd (omega arith)

@@ -5,5 +5,5 @@ pub mod Spans
 pub mod Parts
 pub mod Name
 pub mod Day
-pub mod PrefixText
 pub mod Digits
+pub mod PrefixText

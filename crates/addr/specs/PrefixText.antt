@@ -1,5 +1,5 @@
 -- The text of a prefix: the text of its address, `/` and its length (RFC 4632 section 3.1, RFC 4291 section 2.3).
-use Rattle.std.specs.Prelude.{ℕ, zero, suc, ◌+◌, ◌-◌, ◌/◌, ◌%◌, ◌^◌, ◌≡◌, ◌<◌, ◌≤◌, ◌↔◌, Bool, true, false, not, ◌&&◌, List, [], ◌∷◌, ◌++◌, length, take, drop, replicate, slice_index, decimal, nat_le, nat_lt, ◌==◌, if◌then◌else◌, Option, Some, None, is_some, option_map, option_and_then}
+use Rattle.std.specs.Prelude.{ℕ, zero, suc, ◌+◌, ◌-◌, ◌/◌, ◌%◌, ◌^◌, ◌≡◌, ◌<◌, ◌≤◌, ◌↔◌, Bool, not, ◌&&◌, List, [], ◌∷◌, ◌++◌, length, take, drop, replicate, slice_index, decimal, nat_le, nat_lt, ◌==◌, if◌then◌else◌, Option, Some, None, is_some, option_map, option_and_then}
 use Rattle.std.specs.Char.{is_digit}
 use Rattle.std.specs.List.{list_all, slice_split}
 use Rattle.std.specs.Str.{bytes_eq}
@@ -123,7 +123,7 @@ gapped_groups before after = do
   front ← colon_groups before
   back ← colon_groups after
   if nat_lt (length front + length back) 8
-    then Some (front ++ replicate (8 - length front - length back) 0 ++ back) else None
+      then Some (front ++ replicate (8 - length front - length back) 0 ++ back) else None
 
 -- the eight groups of an IPv6 address (RFC 4291 section 2.2, forms 1 and 2)
 abbrev pub groups_at : List ℕ → Option (List ℕ × List ℕ) → Option (List ℕ)

@@ -53,3 +53,6 @@ fn parse(text: &[u8]) -> Option<u64>
     };
     text.parse().ok()
 }
+
+#[cfg(test)]
+mod tests;

@@ -6,5 +6,4 @@ ghost use Rattle.addr.specs.PrefixText.{PrefixTextLaw};
 /// the prefixes, and each spells one prefix.
 pub fn prefix_texts()
     ensures { PrefixTextLaw }
-{
-}
+{}

@@ -8,10 +8,9 @@ use arrayvec::ArrayString;
 use thiserror::Error;
 
 mod read;
-mod write;
-
 #[cfg(test)]
 mod tests;
+mod write;
 
 use read::read_prefix;
 use write::write_spelling;

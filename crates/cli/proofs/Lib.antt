@@ -3,3 +3,5 @@ pub mod ReplyLemmas
 pub mod ScriptLemmas
 pub mod StreamLemmas
 mod TrailSteps
+pub mod RecordLemmas
+pub mod VrpLemmas

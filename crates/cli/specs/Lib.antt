@@ -7,3 +7,4 @@ pub mod ScriptFault
 pub mod ScriptLines
 pub mod Streams
 pub mod Trail
+pub mod DeskRows

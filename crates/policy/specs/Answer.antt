@@ -108,3 +108,9 @@ IsListed history h day caller (Err Memory) = Unit {0}
 IsListed history h day caller (Ok listed) =
     ListVerdict history h day caller None
     × OfActive history h (λ active. listed ≡ filter (λ x. is_permitted_terms (grant_terms history h) day caller Look x) active)
+
+-- what is answered is that of every legal history with these rows of the holder
+abbrev pub Answers : Charter → Option Rows → ℕ → List ℕ → Command → Result Change Refusal → Type 0
+Answers charter rows day caller command result =
+    (history : History) → IsLegal charter history → RowsIfAny history (holder_of command) rows
+    → IsAnswer charter history day caller command result

@@ -1,3 +1,4 @@
+pub mod Pool
 pub mod Charter
 pub mod History
 pub mod Resources

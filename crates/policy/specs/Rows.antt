@@ -30,6 +30,11 @@ abbrev pub rows_if_any : Option HolderRows → Option Rows
 rows_if_any None = None
 rows_if_any (Some r) = Some (rows_of r)
 
+-- the grants of the rows; none where there are no rows
+abbrev pub grants_if_any : Option HolderRows → List Granted
+grants_if_any None = []
+grants_if_any (Some r) = r.grants.items
+
 -- the rows are those of the holder: the maximal spans of the addresses that it holds, its grants that
 -- are not revoked, its active authorizations, and how many of each were made
 pub record RowsOf (history : History) (h : List ℕ) (rows : Rows) : Type 0 where

@@ -12,7 +12,8 @@ use Rattle.policy.specs.declared.command.Command.TheVariants.{Register, Delegate
 use Rattle.policy.specs.declared.grant.Access.TheVariants.{Manage, Alter, Look}
 use Rattle.policy.specs.declared.rule.Rule.{Rule}
 use Rattle.policy.specs.declared.rule.Rule.TheVariants.{Operator, Steward, Grant as GrantRule, Holder, Fresh, Number, Scope, Dates, Length, Pool, Free, Distinct, Held, Same, Room}
-use Rattle.policy.specs.Charter.{is_operator, pool_of, IsInPool}
+use Rattle.policy.specs.Charter.{is_operator, pool_of}
+use Rattle.policy.specs.Pool.{IsInPool}
 use Rattle.policy.specs.History.{Entry, History, same_name, is_registered}
 use Rattle.policy.specs.Resources.{HoldsPrefix, IsFree}
 use Rattle.policy.specs.Terms.{gives_vrp, share_vrp, grant_terms, grants_made, authorizations_made, OfActive}

@@ -2,10 +2,12 @@
 //! or the change of the rows. Nothing here reads or writes a store.
 #![tactic(auto)]
 
+mod admission;
 mod authorization;
 mod change;
 mod charter;
 mod command;
+mod decision;
 mod grant;
 mod rows;
 mod rule;

@@ -6,7 +6,7 @@ use crate::{Auth, Granted};
 ///
 /// The type itself promises nothing of them beyond each row: they are those of a history only
 /// where whoever keeps them says so.
-#[derive(Drop)]
+#[derive(Clone, Drop)]
 pub struct HolderRows {
     /// The address space that the holder holds.
     pub holdings: Holdings,

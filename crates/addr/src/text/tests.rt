@@ -83,18 +83,30 @@ const IPV6_ADDRESSES: [(u128, &str); 25] = [
     (0x20010db8000000010000000000000000, "2001:db8:0:1::/128"),
     (0x20010000000000010000000000000001, "2001:0:0:1::1/128"),
     (0x20010db8000000000001000000000001, "2001:db8::1:0:0:1/128"),
-    (0x20010db8000000010001000100010001, "2001:db8:0:1:1:1:1:1/128"),
+    (
+        0x20010db8000000010001000100010001,
+        "2001:db8:0:1:1:1:1:1/128",
+    ),
     (0x1000200030004000500060007, "0:1:2:3:4:5:6:7/128"),
     (0x10002000300040005000600070000, "1:2:3:4:5:6:7:0/128"),
     (0x10000000200000003000000040000, "1:0:2:0:3:0:4:0/128"),
     (0x100000000000000010001, "0:0:1::1:1/128"),
     (0x10000000000000001, "::1:0:0:0:1/128"),
     (0x10000000000020000000000000003, "1:0:0:2::3/128"),
-    (0xfe8000000000000002005aeefeaa20a2, "fe80::200:5aee:feaa:20a2/128"),
+    (
+        0xfe8000000000000002005aeefeaa20a2,
+        "fe80::200:5aee:feaa:20a2/128",
+    ),
     (0xff0200000000000000000001ff000000, "ff02::1:ff00:0/128"),
-    (0xffffffffffffffffffffffffffffffff, "ffff:ffff:ffff:ffff:ffff:ffff:ffff:ffff/128"),
+    (
+        0xffffffffffffffffffffffffffffffff,
+        "ffff:ffff:ffff:ffff:ffff:ffff:ffff:ffff/128",
+    ),
     (0xa000b000c000d000e000f00100100, "a:b:c:d:e:f:10:100/128"),
-    (0x10000f000010000100000000abcd00ef, "1000:f00:10:1::abcd:ef/128"),
+    (
+        0x10000f000010000100000000abcd00ef,
+        "1000:f00:10:1::abcd:ef/128",
+    ),
     (0x100000000000000000000, "0:0:1::/128"),
     (0x10001000100010001000100000000, "1:1:1:1:1:1::/128"),
     (0x64ff9b000000000000000000000000, "64:ff9b::/128"),
@@ -141,8 +153,14 @@ fn spells_addresses_as_another_program_does(rt: HostRuntime) -> Result<(), Fail>
 fn prints_faults(rt: HostRuntime) -> Result<(), Fail> {
     let faults = [
         (PrefixFault::Shape, "not an address, a slash and a length"),
-        (PrefixFault::Spelling, "the address or the length is not in its one spelling"),
-        (PrefixFault::Length, "the length is greater than the addresses have bits"),
+        (
+            PrefixFault::Spelling,
+            "the address or the length is not in its one spelling",
+        ),
+        (
+            PrefixFault::Length,
+            "the length is greater than the addresses have bits",
+        ),
         (PrefixFault::HostBits, "a bit past the length is set"),
     ];
     for (fault, text) in faults {

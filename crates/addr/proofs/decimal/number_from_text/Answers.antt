@@ -1,4 +1,4 @@
-use Rattle.std.proofs.Common.{◌≡◌, ◌^◌, ◌<◌, ℕ, true, false, Some, None, sym, ◌∙◌, ap, arith}
+use Rattle.std.proofs.Common.{◌≡◌, true, sym, ◌∙◌, ap, arith}
 use Rattle.std.specs.Fmt.{decimal}
 use Rattle.std.specs.Cmp.Lexicographic.{bytes_decides}
 use Rattle.addr.specs.Digits.{number_in}
@@ -14,11 +14,11 @@ returns-then-eq-clause-value c =
     let equal : c.eq.result ≡ true = c.if-eq.true in
     let same = (bytes_decides c.as_bytes.result.now c.args.text.now).0 (sym c.eq.ensures ∙ equal) in
     let text : decimal c.in-Some.number ≡ c.args.text.now =
-        sym c.digits.ensures.text ∙ sym c.as_str.ensures.value ∙ sym c.as_bytes.ensures.value ∙ same
-        in
+    sym c.digits.ensures.text ∙ sym c.as_str.ensures.value ∙ sym c.as_bytes.ensures.value ∙ same
+    in
     sym (sym (ap number_in text) ∙ number_in-decimal c.in-Some.number (omega arith))
 
 pub returns-else-eq-clause-value : goal.returns-else-eq-clause-value
 returns-else-eq-clause-value c =
     sym (number_in-rewritten c.args.text.now c.as_bytes.result.now c.parse.result c.in-Some.number c.parse.ensures
-        c.in-Some.is (c.as_bytes.ensures.value ∙ c.as_str.ensures.value ∙ c.digits.ensures.text) (sym c.eq.ensures ∙ c.if-eq.false))
+    c.in-Some.is (c.as_bytes.ensures.value ∙ c.as_str.ensures.value ∙ c.digits.ensures.text) (sym c.eq.ensures ∙ c.if-eq.false))

@@ -1,5 +1,4 @@
-use Rattle.std.proofs.Common.{◌≡◌, ◌^◌, ℕ, Some, ◌∙◌, ap}
-use Rattle.std.specs.Fmt.{decimal}
+use Rattle.std.proofs.Common.{◌∙◌, ap}
 use Rattle.std.specs.Result.{result_ok}
 use Rattle.std.proofs.lemmas.Fmt.{parse-decimal}
 use Rattle.addr.proofs.DigitsLemmas.{utf8_decimal}
@@ -12,6 +11,6 @@ returns-in_default c =
 pub returns : goal.returns
 returns c =
     λ n h e.
-        let ok = c.in-Ok.ensures in
-        c.ok.ensures.value
-        ∙ ap result_ok (parse-decimal 64 n c.in-Ok.text.now c.parse.result h h (ok.cases.0 ∙ e) c.parse.ensures.value.0)
+    let ok = c.in-Ok.ensures in
+    c.ok.ensures.value
+    ∙ ap result_ok (parse-decimal 64 n c.in-Ok.text.now c.parse.result h h (ok.cases.0 ∙ e) c.parse.ensures.value.0)

@@ -3,7 +3,7 @@ use Rattle.std.proofs.lemmas.Bool.Decides.{nat_tests}
 use Rattle.std.proofs.lemmas.Bool.{eqb-true, eq-eqb, false≢true}
 use Rattle.std.proofs.lemmas.Int.Digits.{digits_more, digits_value_more}
 use Rattle.std.specs.Char.{digit_value}
-use Rattle.addr.proofs.PrefixTextLemmas.{IsShortNumber, short_number_none, short_number_from, digit_of_all}
+use Rattle.addr.proofs.PrefixTextLemmas.{short_number_none, short_number_from, digit_of_all}
 use Rattle.addr.proofs.text.read.read_decimal.Goals as goal
 
 pub returns-then-is_empty : goal.returns-then-is_empty
@@ -23,9 +23,10 @@ returns-then-not-is_ascii_digit c =
 pub loop-digit-preserved : goal.loop-digit-preserved
 loop-digit-preserved c =
     let value : digit_value (get_or c.args.digits.now c.loop-digit.digit-index 0) ≡ c.from.result = grind (arith, nat_tests) in
-    let digit : digit_value (get_or c.args.digits.now c.loop-digit.digit-index 0) < 10 = grind (arith, nat_tests) in
-    (digits_more 10 c.args.digits.now c.loop-digit.digit-index (omega arith) c.loop-digit.invariant.0 digit,
-     omega (arith, digits_value_more 10 c.args.digits.now c.loop-digit.digit-index (omega arith)))
+    let digit : digit_value (get_or c.args.digits.now c.loop-digit.digit-index 0) < 10 = grind (arith, nat_tests) in (
+      digits_more 10 c.args.digits.now c.loop-digit.digit-index (omega arith) c.loop-digit.invariant.0 digit,
+      omega (arith, digits_value_more 10 c.args.digits.now c.loop-digit.digit-index (omega arith)),
+    )
 
 pub returns : goal.returns
 returns c =

@@ -1,4 +1,4 @@
-use Rattle.std.proofs.Common.{◌≡◌, append_assoc, arith}
+use Rattle.std.proofs.Common.{append_assoc, arith}
 use Rattle.addr.proofs.PrefixTextLemmas.{decimal_one, decimal_two, decimal_three}
 use Rattle.addr.proofs.text.write.push_decimal.Goals as goal
 use Rattle.addr.proofs.text.write.push_decimal.Goals.{then-number-ge100, else-number-ge100, then-number-ge10, else-number-ge10}
