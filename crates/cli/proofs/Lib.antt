@@ -5,3 +5,4 @@ pub mod StreamLemmas
 mod TrailSteps
 pub mod RecordLemmas
 pub mod VrpLemmas
+pub mod RequestLemmas

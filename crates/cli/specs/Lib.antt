@@ -8,3 +8,7 @@ pub mod ScriptLines
 pub mod Streams
 pub mod Trail
 pub mod DeskRows
+pub mod RequestFault
+pub mod RequestParts
+pub mod RequestRoutes
+pub mod RequestText

@@ -5,6 +5,7 @@ mod fakes;
 pub mod lines;
 pub mod malformed;
 pub mod reply;
+pub mod request;
 pub mod script;
 pub mod stream;
 mod trail;
