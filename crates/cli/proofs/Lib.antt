@@ -1,8 +1,9 @@
 pub mod LineSplits
 pub mod ReplyLemmas
+pub mod ScriptAlong
 pub mod ScriptLemmas
 pub mod StreamLemmas
-mod TrailSteps
+mod TrailMade
 pub mod RecordLemmas
 pub mod VrpLemmas
 pub mod RequestLemmas

@@ -1,8 +1,8 @@
 -- The lines that come out of bytes read one after the other are the lines of the script.
-use Rattle.std.proofs.Common.{◌≡◌, ℕ, List, [], ◌∷◌, ◌++◌, ◌+◌, ◌-◌, Bool, true, false, cond, Some, None, nat_eq, nat_le, length, take, drop, refl, sym, ◌∙◌, ap, append_assoc, length-append, arith}
+use Rattle.std.proofs.Common.{◌≡◌, ℕ, List, [], ◌∷◌, ◌++◌, ◌-◌, Bool, true, false, cond, Some, None, nat_eq, nat_le, length, take, drop, refl, sym, ◌∙◌, ap, append_assoc, length-append, arith}
 use Rattle.std.proofs.lemmas.List.{append-nil, take-append-drop}
 use Rattle.std.proofs.Math.Seq.{take-append_seam}
-use Rattle.std.specs.List.{slice_split, onto_first}
+use Rattle.std.specs.List.{onto_first}
 use Rattle.cli.specs.ScriptLines.{pieces, whole_lines, script_lines, unless_empty, without_empty_last, within_limit}
 use Rattle.cli.specs.LineSplitting.{completed_lines, unfinished_line}
 
@@ -21,10 +21,11 @@ with_front-nil : (text : List ℕ) → with_front [] (pieces text) ≡ pieces te
 with_front-nil [] = refl
 with_front-nil (byte ∷ bytes) =
     elim (nat_eq byte 10) as (λ (b : Bool).
-        with_front [] (cond b ([] ∷ pieces bytes) (onto_first byte (pieces bytes)))
-        ≡ cond b ([] ∷ pieces bytes) (onto_first byte (pieces bytes)))
-    [ true ↦ refl
-    | false ↦ onto_first-front byte (pieces bytes) ]
+    with_front [] (cond b ([] ∷ pieces bytes) (onto_first byte (pieces bytes)))
+    ≡ cond b ([] ∷ pieces bytes) (onto_first byte (pieces bytes))) [
+      | true ↦ refl
+      | false ↦ onto_first-front byte (pieces bytes)
+    ]
   where
     onto_first-front : (byte : ℕ) (parts : List (List ℕ)) → with_front [] (onto_first byte parts) ≡ onto_first byte parts
     onto_first-front byte [] = refl
@@ -37,12 +38,13 @@ pub pieces-split : (unfinished text : List ℕ)
 pieces-split unfinished [] = ap (λ p. p ∷ []) (append-nil unfinished)
 pieces-split unfinished (byte ∷ bytes) =
     elim (nat_eq byte 10) as (λ (b : Bool).
-        with_front unfinished (cond b ([] ∷ pieces bytes) (onto_first byte (pieces bytes)))
-        ≡ cond b (unfinished ∷ completed_lines [] bytes) (completed_lines (unfinished ++ byte ∷ []) bytes)
-        ++ cond b (unfinished_line [] bytes) (unfinished_line (unfinished ++ byte ∷ []) bytes) ∷ [])
-    [ true ↦ ap (λ p. p ∷ pieces bytes) (append-nil unfinished)
-        ∙ ap (λ ps. unfinished ∷ ps) (sym (with_front-nil bytes) ∙ pieces-split [] bytes)
-    | false ↦ with_front-onto_first unfinished byte (pieces bytes) ∙ pieces-split (unfinished ++ byte ∷ []) bytes ]
+    with_front unfinished (cond b ([] ∷ pieces bytes) (onto_first byte (pieces bytes)))
+    ≡ cond b (unfinished ∷ completed_lines [] bytes) (completed_lines (unfinished ++ byte ∷ []) bytes)
+    ++ cond b (unfinished_line [] bytes) (unfinished_line (unfinished ++ byte ∷ []) bytes) ∷ []) [
+      | true ↦ ap (λ p. p ∷ pieces bytes) (append-nil unfinished)
+          ∙ ap (λ ps. unfinished ∷ ps) (sym (with_front-nil bytes) ∙ pieces-split [] bytes)
+      | false ↦ with_front-onto_first unfinished byte (pieces bytes) ∙ pieces-split (unfinished ++ byte ∷ []) bytes
+    ]
 
 pub pieces-lem : (text : List ℕ) → pieces text ≡ completed_lines [] text ++ unfinished_line [] text ∷ []
 pieces-lem text = sym (with_front-nil text) ∙ pieces-split [] text
@@ -77,21 +79,23 @@ pub completed_lines-append : (unfinished xs ys : List ℕ)
 completed_lines-append unfinished [] ys = refl
 completed_lines-append unfinished (byte ∷ xs) ys =
     elim (nat_eq byte 10) as (λ (b : Bool).
-        cond b (unfinished ∷ completed_lines [] (xs ++ ys)) (completed_lines (unfinished ++ byte ∷ []) (xs ++ ys))
-        ≡ cond b (unfinished ∷ completed_lines [] xs) (completed_lines (unfinished ++ byte ∷ []) xs)
-        ++ completed_lines (cond b (unfinished_line [] xs) (unfinished_line (unfinished ++ byte ∷ []) xs)) ys)
-    [ true ↦ ap (λ ls. unfinished ∷ ls) (completed_lines-append [] xs ys)
-    | false ↦ completed_lines-append (unfinished ++ byte ∷ []) xs ys ]
+    cond b (unfinished ∷ completed_lines [] (xs ++ ys)) (completed_lines (unfinished ++ byte ∷ []) (xs ++ ys))
+    ≡ cond b (unfinished ∷ completed_lines [] xs) (completed_lines (unfinished ++ byte ∷ []) xs)
+    ++ completed_lines (cond b (unfinished_line [] xs) (unfinished_line (unfinished ++ byte ∷ []) xs)) ys) [
+      | true ↦ ap (λ ls. unfinished ∷ ls) (completed_lines-append [] xs ys)
+      | false ↦ completed_lines-append (unfinished ++ byte ∷ []) xs ys
+    ]
 
 pub unfinished_line-append : (unfinished xs ys : List ℕ)
     → unfinished_line unfinished (xs ++ ys) ≡ unfinished_line (unfinished_line unfinished xs) ys
 unfinished_line-append unfinished [] ys = refl
 unfinished_line-append unfinished (byte ∷ xs) ys =
     elim (nat_eq byte 10) as (λ (b : Bool).
-        cond b (unfinished_line [] (xs ++ ys)) (unfinished_line (unfinished ++ byte ∷ []) (xs ++ ys))
-        ≡ unfinished_line (cond b (unfinished_line [] xs) (unfinished_line (unfinished ++ byte ∷ []) xs)) ys)
-    [ true ↦ unfinished_line-append [] xs ys
-    | false ↦ unfinished_line-append (unfinished ++ byte ∷ []) xs ys ]
+    cond b (unfinished_line [] (xs ++ ys)) (unfinished_line (unfinished ++ byte ∷ []) (xs ++ ys))
+    ≡ unfinished_line (cond b (unfinished_line [] xs) (unfinished_line (unfinished ++ byte ∷ []) xs)) ys) [
+      | true ↦ unfinished_line-append [] xs ys
+      | false ↦ unfinished_line-append (unfinished ++ byte ∷ []) xs ys
+    ]
 
 -- the bytes up to a place, and those from there on
 pub completed_lines-take : (unfinished text : List ℕ) (n : ℕ)
@@ -108,7 +112,7 @@ unfolding within_limit
 within_limit-nil [] = λ e. refl
 within_limit-nil (byte ∷ bytes) =
     elim (nat_le (length (byte ∷ bytes)) 1048576) as (λ (b : Bool).
-        cond b (Some (byte ∷ bytes)) None ≡ Some [] → byte ∷ bytes ≡ [])
+    cond b (Some (byte ∷ bytes)) None ≡ Some [] → byte ∷ bytes ≡ [])
     [ true ↦ λ e. cc | false ↦ λ e. cc ]
 
 pub unless_empty-lem : (line : List ℕ) → (line ≡ [] → ⊥) → unless_empty line ≡ line ∷ []

@@ -12,3 +12,4 @@ pub mod RequestFault
 pub mod RequestParts
 pub mod RequestRoutes
 pub mod RequestText
+pub mod Answer

@@ -12,8 +12,8 @@ use Rattle.policy.specs.declared.rule.Rule.{Rule}
 use Rattle.policy.specs.declared.rule.Rule.TheVariants.{Operator, Steward, Grant, Holder, Fresh, Number, Scope, Dates, Length, Pool, Free, Distinct, Held, Same, Room}
 use Rattle.cli.specs.declared.desk.reply.Reply.{Reply}
 use Rattle.cli.specs.declared.desk.reply.Reply.TheVariants.{Done, Shown, Listed, Payloads, Answers, Denied, Unavailable}
-use Rattle.cli.specs.declared.desk.reply.Validity.{Validity}
-use Rattle.cli.specs.declared.desk.reply.Validity.TheVariants.{Valid, Invalid, NotFound}
+use Rattle.payload.specs.declared.validity.Validity.{Validity}
+use Rattle.payload.specs.declared.validity.Validity.TheVariants.{Valid, Invalid, NotFound}
 use Rattle.cli.specs.declared.web.malformed.Malformed.{Malformed}
 
 -- ---- parts

@@ -4,4 +4,4 @@ mod records;
 mod reply;
 
 pub use asked::{Asked, Request};
-pub use reply::{Reply, Validity};
+pub use reply::Reply;

@@ -10,3 +10,4 @@ pub mod CarryGrants
 pub mod CarryTerms
 pub mod PoolLemmas
 pub mod RowsLemmas
+pub mod AmendLemmas

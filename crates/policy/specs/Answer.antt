@@ -44,6 +44,18 @@ holder_of (Create holder asn p max from until) = holder
 holder_of (Amend holder n max until) = holder
 holder_of (Withdraw holder n) = holder
 
+-- the taker of a transfer; of another command its holder
+abbrev pub taker_of : Command → List ℕ
+taker_of (Register holder) = holder
+taker_of (Delegate holder p) = holder
+taker_of (Transfer p giver taker) = taker
+taker_of (Reclaim holder p) = holder
+taker_of (Grant holder name role scope until) = holder
+taker_of (Revoke holder n) = holder
+taker_of (Create holder asn p max from until) = holder
+taker_of (Amend holder n max until) = holder
+taker_of (Withdraw holder n) = holder
+
 -- the number that the new grant or authorization gets; other commands answer none
 abbrev pub number_given : History → Command → Option ℕ
 number_given history (Register holder) = None
@@ -96,18 +108,20 @@ IsAnswer charter history day caller command (Ok change) =
     × Carries change history (record { day = day; caller = caller; command = command } ∷ history)
 
 -- what is shown is the active authorization of that number
-abbrev pub IsShown : History → List ℕ → ℕ → List ℕ → ℕ → Result Auth Rule → Type 0
-IsShown history h day caller n (Err rule) = ShowVerdict history h day caller n (Some rule)
-IsShown history h day caller n (Ok x) =
+abbrev pub IsShown : History → List ℕ → ℕ → List ℕ → ℕ → Auth → Type 0
+IsShown history h day caller n x =
     ShowVerdict history h day caller n None × OfActive history h (λ active. numbered n active ≡ Some x)
 
 -- what is listed are the active authorizations that the caller may see, by rising number
-abbrev pub IsListed : History → List ℕ → ℕ → List ℕ → Result (List Auth) Refusal → Type 0
-IsListed history h day caller (Err (Denied rule row)) = ListVerdict history h day caller (Some rule) × (row ≡ None)
-IsListed history h day caller (Err Memory) = Unit {0}
-IsListed history h day caller (Ok listed) =
+abbrev pub IsListed : History → List ℕ → ℕ → List ℕ → List Auth → Type 0
+IsListed history h day caller listed =
     ListVerdict history h day caller None
     × OfActive history h (λ active. listed ≡ filter (λ x. is_permitted_terms (grant_terms history h) day caller Look x) active)
+
+-- a list is denied exactly by the verdict
+abbrev pub IsListRefusal : History → List ℕ → ℕ → List ℕ → Refusal → Type 0
+IsListRefusal history h day caller (Denied rule row) = ListVerdict history h day caller (Some rule) × (row ≡ None)
+IsListRefusal history h day caller Memory = Unit {0}
 
 -- what is answered is that of every legal history with these rows of the holder
 abbrev pub Answers : Charter → Option Rows → ℕ → List ℕ → Command → Result Change Refusal → Type 0

@@ -8,14 +8,18 @@ mod change;
 mod charter;
 mod command;
 mod decision;
+mod edit;
 mod grant;
 mod rows;
 mod rule;
+mod sight;
 
 pub use authorization::Auth;
 pub use change::{Change, Edit, HolderChange};
 pub use charter::Charter;
+pub use decision::{decide, decide_two};
 pub use command::{Command, Query};
 pub use grant::{Access, Granted, Role, Scope};
 pub use rows::{HolderRows, View};
+pub use sight::{see, see_all};
 pub use rule::{Refusal, Rule};

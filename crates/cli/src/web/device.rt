@@ -98,6 +98,8 @@ impl<T: Write> Drain for Device<T> {
 
         ensures failed { device_has_failed self.new ≡ is_err result }
         ensures stays_failed { device_has_failed self.old ≡ true → IsErr result }
+        ensures ended { device_has_ended self.new ≡ device_has_ended self.old }
+        ensures calls { device_calls_left self.new ≤ device_calls_left self.old }
 
         // The writer has the bytes, where what it has is known.
         ensures writes { IfOk result (λ n. Appends (T.contents (device_inner self.old))
@@ -123,6 +125,8 @@ impl<T: Write> Device<T> {
         ensures err { OnErr result (device_bytes self.new ≡ device_bytes self.old) }
         ensures failed { device_has_failed self.new ≡ is_err result }
         ensures stays_failed { device_has_failed self.old ≡ true → IsErr result }
+        ensures ended { device_has_ended self.new ≡ device_has_ended self.old }
+        ensures calls { device_calls_left self.new ≤ device_calls_left self.old }
         ensures writes { IfOk result (λ n. Appends (T.contents (device_inner self.old))
             (T.contents (device_inner self.new)) (take n bytes.now)) }
     {
@@ -148,6 +152,8 @@ impl<T: Write> Device<T> {
         ensures kept { Keeps (T.contents (device_inner self.old)) (T.contents (device_inner self.new)) }
         ensures failed { device_has_failed self.new ≡ is_err result }
         ensures stays_failed { device_has_failed self.old ≡ true → IsErr result }
+        ensures ended { device_has_ended self.new ≡ device_has_ended self.old }
+        ensures calls { device_calls_left self.new ≤ device_calls_left self.old }
     {
         while !self.has_failed && self.calls < u64::MAX {
             self.calls += 1;

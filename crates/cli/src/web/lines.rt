@@ -10,7 +10,7 @@ use std::marker::Model;
 /// The longest line that is judged, in bytes without its line feed: 1 MiB.
 pub const LINE_LENGTH_LIMIT: usize = 1_048_576;
 
-/// Holds the bytes of one line. Of a line that is too long it holds nothing more than that. Its room
+/// The bytes of one line. Of a line that is too long nothing but that is known. The room for a line
 /// is taken once, when it is made.
 #[derive(Drop)]
 pub struct LineBuffer {

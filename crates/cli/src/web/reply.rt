@@ -117,3 +117,6 @@ fn rule_name(rule: Rule) -> &'static str
         Rule::Room => "room",
     }
 }
+
+#[cfg(test)]
+mod tests;

@@ -138,3 +138,6 @@ fn commanded(command: Result<Command, Fault>) -> Result<Request, Fault>
 {
     Ok(Request::Command(command?))
 }
+
+#[cfg(test)]
+mod tests;

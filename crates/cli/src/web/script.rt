@@ -62,10 +62,10 @@ fn answer_at<D: Drain, E: AnswerLines>(
         → OnOk result (buffer.new ≡ within_limit (unfinished_line unfinished (byte ∷ []))) }
     ensures ok { (unfinished : List ℕ) → buffer.old ≡ within_limit unfinished
         → OnOk result (AnswersEach E.answers engine.old engine.new
-            (completed_lines unfinished (byte ∷ [])) (D.written drain.old) (D.written drain.new)) }
+        (completed_lines unfinished (byte ∷ [])) (D.written drain.old) (D.written drain.new)) }
     ensures err { (unfinished : List ℕ) → buffer.old ≡ within_limit unfinished
         → OnErr result (BreaksOff E.answers engine.old engine.new
-            (completed_lines unfinished (byte ∷ [])) (D.written drain.old) (D.written drain.new)) }
+        (completed_lines unfinished (byte ∷ [])) (D.written drain.old) (D.written drain.new)) }
     ensures failed { OnErr result (D.has_failed drain.new ≡ true) }
 {
     if byte != b'\n' {
@@ -90,10 +90,10 @@ fn answer_completed<D: Drain, E: AnswerLines>(
         → OnOk result (buffer.new ≡ within_limit (unfinished_line unfinished bytes.now)) }
     ensures ok { (unfinished : List ℕ) → buffer.old ≡ within_limit unfinished
         → OnOk result (AnswersEach E.answers engine.old engine.new
-            (completed_lines unfinished bytes.now) (D.written drain.old) (D.written drain.new)) }
+        (completed_lines unfinished bytes.now) (D.written drain.old) (D.written drain.new)) }
     ensures err { (unfinished : List ℕ) → buffer.old ≡ within_limit unfinished
         → OnErr result (BreaksOff E.answers engine.old engine.new
-            (completed_lines unfinished bytes.now) (D.written drain.old) (D.written drain.new)) }
+        (completed_lines unfinished bytes.now) (D.written drain.old) (D.written drain.new)) }
     ensures failed { OnErr result (D.has_failed drain.new ≡ true) }
 {
     for byte in bytes {
@@ -112,10 +112,10 @@ fn answer_last<D: Drain, E: AnswerLines>(
 ) -> Result<(), Failed>
     ensures ok { (unfinished : List ℕ) → buffer.now ≡ within_limit unfinished
         → OnOk result (AnswersEach E.answers engine.old engine.new
-            (unless_empty unfinished) (D.written drain.old) (D.written drain.new)) }
+        (unless_empty unfinished) (D.written drain.old) (D.written drain.new)) }
     ensures err { (unfinished : List ℕ) → buffer.now ≡ within_limit unfinished
         → OnErr result (BreaksOff E.answers engine.old engine.new
-            (unless_empty unfinished) (D.written drain.old) (D.written drain.new)) }
+        (unless_empty unfinished) (D.written drain.old) (D.written drain.new)) }
     ensures failed { OnErr result (D.has_failed drain.new ≡ true) }
 {
     if buffer.is_empty() {
@@ -140,20 +140,20 @@ pub fn run_lines<S: Source, D: Drain, E: AnswerLines>(
         × (S.handed_out source.new ≡ S.handed_out source.old ++ input)
         × (S.has_ended source.new ≡ true)
         × AnswersEach E.answers engine.old engine.new
-            (script_lines input) (D.written drain.old) (D.written drain.new)) }
+        (script_lines input) (D.written drain.old) (D.written drain.new)) }
 
     // What came after the last line feed is dropped.
     ensures read { result ≡ Err ScriptFault.Read → (input : List ℕ)
         × (S.handed_out source.new ≡ S.handed_out source.old ++ input)
         × (S.has_failed source.new ≡ true)
         × AnswersEach E.answers engine.old engine.new
-            (whole_lines input) (D.written drain.old) (D.written drain.new) }
+        (whole_lines input) (D.written drain.old) (D.written drain.new) }
 
     ensures write { result ≡ Err ScriptFault.Write → (input : List ℕ)
         × (S.handed_out source.new ≡ S.handed_out source.old ++ input)
         × (D.has_failed drain.new ≡ true)
         × BreaksOff E.answers engine.old engine.new
-            (script_lines input) (D.written drain.old) (D.written drain.new) }
+        (script_lines input) (D.written drain.old) (D.written drain.new) }
 
     ensures memory { result ≡ Err ScriptFault.Memory
         → (source.new ≡ source.old) × (drain.new ≡ drain.old) × (engine.new ≡ engine.old) }

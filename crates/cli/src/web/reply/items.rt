@@ -4,9 +4,9 @@ ghost use Rattle.addr.specs.Day.{day_text};
 ghost use Rattle.addr.specs.PrefixText.{spelling};
 ghost use Rattle.cli.specs.ReplyText.{auth_text, terms_text, validity_text, vrp_text};
 
-use crate::desk::Validity;
 use addr::{Asn, Day, Prefix, Vrp, digits};
 use arrayvec::ArrayString;
+use payload::Validity;
 use policy::Auth;
 
 pub(super) trait ItemText {

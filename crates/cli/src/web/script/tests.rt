@@ -84,7 +84,11 @@ fn answers_each_line(rt: HostRuntime) {
         for piece in [1, 2, 10_000] {
             let outcome = run(rt.alloc(), input.as_bytes(), fails, piece, usize::MAX);
             assert_eq!(rt; outcome.result, result, "of {input:?}");
-            assert_eq!(rt; outcome.written.as_slice(), replies.as_bytes(), "of {input:?}");
+            assert_eq!(rt;
+                outcome.written.as_slice(),
+                replies.as_bytes(),
+                "of {input:?}"
+            );
         }
     }
 }
@@ -94,8 +98,16 @@ fn write_that_fails_cuts_the_replies_short(rt: HostRuntime) {
     let replies = b"1: 1\n2: 2\n3: 3\n";
     for room in 0..replies.len() {
         let outcome = run(rt.alloc(), b"a\nbb\nccc", false, 10_000, room);
-        assert_eq!(rt; outcome.result, Err(ScriptFault::Write), "after {room} bytes");
-        assert_eq!(rt; outcome.written.as_slice(), &replies[..room], "after {room} bytes");
+        assert_eq!(rt;
+            outcome.result,
+            Err(ScriptFault::Write),
+            "after {room} bytes"
+        );
+        assert_eq!(rt;
+            outcome.written.as_slice(),
+            &replies[..room],
+            "after {room} bytes"
+        );
         assert_eq!(rt; outcome.answered, room / 5 + 1, "after {room} bytes");
     }
 }

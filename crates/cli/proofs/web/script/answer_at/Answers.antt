@@ -1,5 +1,4 @@
-use Rattle.std.proofs.Common.{◌≡◌, ◌∷◌, [], ◌∙◌, refl}
-use Rattle.cli.specs.LineSplitting.{completed_lines}
+use Rattle.std.proofs.Common.{◌∙◌}
 use Rattle.cli.proofs.ScriptLemmas.{BreaksOff-one}
 use Rattle.cli.proofs.web.script.answer_at.Goals as goal
 

@@ -19,11 +19,11 @@ loop-byte-preserved g c =
       answered = λ unfinished holds.
           rw (one_more, completed_lines-append unfinished before (byte ∷ []))
           (AnswersEach-append g.E.AnswerLines.answers c.args.engine.now c.loop-byte.engine c.answer_at.new.engine
-              (completed_lines unfinished before)
-              (completed_lines (unfinished_line unfinished before) (byte ∷ []))
-              (g.D.Drain.written c.args.drain.now) (g.D.Drain.written c.loop-byte.drain) (g.D.Drain.written c.answer_at.new.drain)
-              (c.loop-byte.invariant.answered unfinished holds)
-              (c.in-Ok.ensures.ok _ (c.loop-byte.invariant.rest unfinished holds)))
+          (completed_lines unfinished before)
+          (completed_lines (unfinished_line unfinished before) (byte ∷ []))
+          (g.D.Drain.written c.args.drain.now) (g.D.Drain.written c.loop-byte.drain) (g.D.Drain.written c.answer_at.new.drain)
+          (c.loop-byte.invariant.answered unfinished holds)
+          (c.in-Ok.ensures.ok _ (c.loop-byte.invariant.rest unfinished holds)));
     }
 
 pub returns-in_default-clause-err : goal.returns-in_default-clause-err
@@ -35,13 +35,13 @@ returns-in_default-clause-err g c = λ unfinished holds.
     let one_more : take (i + 1) bytes ≡ before ++ byte ∷ [] = take_more bytes i 0 c.loop-byte-test.true in
     rw (completed_lines-take unfinished bytes (i + 1))
     (BreaksOff-before g.E.AnswerLines.answers c.args.engine.now c.answer_at.new.engine
-        (completed_lines unfinished (take (i + 1) bytes))
-        (completed_lines (unfinished_line unfinished (take (i + 1) bytes)) (drop (i + 1) bytes))
-        (g.D.Drain.written c.args.drain.now) (g.D.Drain.written c.answer_at.new.drain)
-        (rw (one_more, completed_lines-append unfinished before (byte ∷ []))
-        (BreaksOff-after g.E.AnswerLines.answers c.args.engine.now c.loop-byte.engine c.answer_at.new.engine
-            (completed_lines unfinished before)
-            (completed_lines (unfinished_line unfinished before) (byte ∷ []))
-            (g.D.Drain.written c.args.drain.now) (g.D.Drain.written c.loop-byte.drain) (g.D.Drain.written c.answer_at.new.drain)
-            (c.loop-byte.invariant.answered unfinished holds)
-            (c.in_default.ensures.err _ (c.loop-byte.invariant.rest unfinished holds)))))
+    (completed_lines unfinished (take (i + 1) bytes))
+    (completed_lines (unfinished_line unfinished (take (i + 1) bytes)) (drop (i + 1) bytes))
+    (g.D.Drain.written c.args.drain.now) (g.D.Drain.written c.answer_at.new.drain)
+    (rw (one_more, completed_lines-append unfinished before (byte ∷ []))
+    (BreaksOff-after g.E.AnswerLines.answers c.args.engine.now c.loop-byte.engine c.answer_at.new.engine
+    (completed_lines unfinished before)
+    (completed_lines (unfinished_line unfinished before) (byte ∷ []))
+    (g.D.Drain.written c.args.drain.now) (g.D.Drain.written c.loop-byte.drain) (g.D.Drain.written c.answer_at.new.drain)
+    (c.loop-byte.invariant.answered unfinished holds)
+    (c.in_default.ensures.err _ (c.loop-byte.invariant.rest unfinished holds)))))

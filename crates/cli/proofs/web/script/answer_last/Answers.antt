@@ -1,5 +1,5 @@
-use Rattle.std.proofs.Common.{◌≡◌, List, ℕ, ◌∷◌, [], ◌∙◌, ap, sym, refl, true, false}
-use Rattle.cli.specs.ScriptLines.{unless_empty, within_limit}
+use Rattle.std.proofs.Common.{◌≡◌, [], ◌∙◌, ap, sym, refl, true, false}
+use Rattle.cli.specs.ScriptLines.{within_limit}
 use Rattle.cli.proofs.LineSplits.{unless_empty-lem, within_limit-nil}
 use Rattle.cli.proofs.ScriptLemmas.{AnswersEach-nil, BreaksOff-one}
 use Rattle.cli.proofs.web.script.answer_last.Goals as goal
@@ -14,5 +14,5 @@ returns-in_default-clause-err g c = λ unfinished holds.
     let (reply, acted, written) = c.in_default.ensures.err in
     rw (unless_empty-lem unfinished (λ is_nil. let no : false ≡ true = c.if-is_empty.ensures.1 (holds ∙ ap within_limit is_nil) in cc))
     (BreaksOff-one g.E.AnswerLines.answers c.args.engine.now c.answer.new.self unfinished reply
-        (g.D.Drain.written c.args.drain.now) (g.D.Drain.written c.answer.new.drain)
-        (rw (c.line.ensures ∙ holds) at acted) written)
+    (g.D.Drain.written c.args.drain.now) (g.D.Drain.written c.answer.new.drain)
+    (rw (c.line.ensures ∙ holds) at acted) written)

@@ -9,7 +9,7 @@ invariant-loop-count g l = (input : List ℕ)
     × (g.S.Source.handed_out l.source ≡ g.S.Source.handed_out l.initial.source ++ input)
     × (l.buffer ≡ within_limit (unfinished_line [] input))
     × AnswersEach g.E.AnswerLines.answers l.initial.engine l.engine (completed_lines [] input)
-        (g.D.Drain.written l.initial.drain) (g.D.Drain.written l.drain)
+    (g.D.Drain.written l.initial.drain) (g.D.Drain.written l.drain)
     × (length l.piece ≡ 4096)
 
 abbrev pub decreases-loop-count : goal.decreases-loop-count
