@@ -251,22 +251,12 @@ fn length_is_tested_before_anything_else(rt: HostRuntime) -> Result<(), Fail> {
     Ok(())
 }
 
-fn command(alloc: Global, line: &str) -> Result<Command, Fail> {
-    match read_line_request(alloc, line.as_bytes()) {
-        Ok(Asked {
-            request: Request::Command(command),
-            ..
-        }) => Ok(command),
-        _ => Err("no command".into()),
-    }
-}
-
 #[test]
 fn reads_a_command(rt: HostRuntime) -> Result<(), Fail> {
-    let asked = command(
-        rt.alloc(),
-        r#"{"day":"2026-03-01","caller":"ann","do":"grant","holder":"alpha","name":"ann","role":"clerk","scope":"192.0.2.0/24","until":"2026-12-31"}"#,
-    )?;
+    let line = br#"{"day":"2026-03-01","caller":"reg","do":"grant","holder":"alpha","name":"ann","role":"clerk","scope":"192.0.2.0/24","until":"2026-12-31"}"#;
+    let Ok(asked) = read_line_request(rt.alloc(), line) else {
+        return Err("no request".into());
+    };
     let prefix = match Prefix::read(b"192.0.2.0/24") {
         Ok(prefix) => prefix,
         Err(_) => return Err("no prefix".into()),
@@ -278,7 +268,9 @@ fn reads_a_command(rt: HostRuntime) -> Result<(), Fail> {
         scope: Scope::Only(prefix),
         until: Day::read(b"2026-12-31").ok_or("no day")?,
     };
-    assert!(rt; asked == granted);
+    assert_eq!(rt; asked.day.number(), 20_513);
+    assert_eq!(rt; asked.caller.as_str(), "reg");
+    assert!(rt; matches!(&asked.request, Request::Command(command) if *command == granted));
     Ok(())
 }
 
