@@ -1,5 +1,5 @@
 -- Lemmas on the parts of requests: the lowest fault, and lists that are read from their front.
-use Rattle.std.proofs.Common.{◌≡◌, ℕ, ◌+◌, ◌<◌, ◌≤◌, ◌⊎◌, inl, inr, nat_le, length, take, get_or, map, Bool, true, false, ◌&&◌, ◌||◌, List, [], ◌∷◌, ◌++◌, Option, Some, None, Result, Ok, Err, String, string_bytes, Bor, if◌then◌else◌, refl, ap, sym, ◌∙◌, arith}
+use Rattle.std.proofs.Common.{◌≡◌, ℕ, ◌+◌, ◌<◌, ◌≤◌, inl, inr, length, take, get_or, map, Bool, ◌||◌, List, [], ◌∷◌, ◌++◌, Some, None, Result, Ok, Err, String, string_bytes, Bor, if◌then◌else◌, refl, ap, sym, ◌∙◌, arith}
 use Rattle.std.proofs.lemmas.Bool.{cases_Bool}
 use Rattle.std.proofs.lemmas.Bool.Decides.{leb_tells, nat_tests}
 use Rattle.std.proofs.lemmas.List.{map-append, take_more}
@@ -34,12 +34,15 @@ lower-second one other below = grind (arith, nat_tests)
 pub lower_assoc : (a b c : Fault) → lower (lower a b) c ≡ lower a (lower b c)
 lower_assoc a b c =
     elim (leb_tells (fault_number a) (fault_number b)) [
-      inl ab ↦ elim (leb_tells (fault_number b) (fault_number c)) [
-          inl bc ↦ rw (lower-first a b ab.1, lower-first b c bc.1, lower-first a b ab.1) (lower-first a c (omega arith))
-        | inr bc ↦ rw (lower-first a b ab.1, lower-second b c bc.1) refl ]
-    | inr ab ↦ elim (leb_tells (fault_number b) (fault_number c)) [
-          inl bc ↦ rw (lower-second a b ab.1, lower-first b c bc.1, lower-second a b ab.1) refl
-        | inr bc ↦ rw (lower-second a b ab.1, lower-second b c bc.1) (sym (lower-second a c (omega arith))) ] ]
+      | inl ab ↦ elim (leb_tells (fault_number b) (fault_number c)) [
+        | inl bc ↦ rw (lower-first a b ab.1, lower-first b c bc.1, lower-first a b ab.1) (lower-first a c (omega arith))
+        | inr bc ↦ rw (lower-first a b ab.1, lower-second b c bc.1) refl
+      ]
+      | inr ab ↦ elim (leb_tells (fault_number b) (fault_number c)) [
+        | inl bc ↦ rw (lower-second a b ab.1, lower-first b c bc.1, lower-second a b ab.1) refl
+        | inr bc ↦ rw (lower-second a b ab.1, lower-second b c bc.1) (sym (lower-second a c (omega arith)))
+      ]
+    ]
 
 pub mapped-unless : {A B C : Type 0} (f : A → C) (value : Result A Fault) (other : Result B Fault)
     → mapped f (unless value other) ≡ unless (mapped f value) other
@@ -51,7 +54,7 @@ mapped-unless f (Err m) (Err n) = refl
 -- what is asked, from its parts
 pub asked_terms-parts : (day : Result ℕ Fault) (caller : Result (List ℕ) Fault) (request : Result Request Fault) (known : Result (Unit {0}) Fault)
     → mapped asked_terms (unless (mapped (λ (p : ℕ × (List ℕ × Request)). let asked : Asked = record { day = p.0; caller = p.1.0; request = p.1.1 } in asked)
-        (both day (both caller request))) known)
+    (both day (both caller request))) known)
     ≡ unless (mapped asked_with (both day (both caller (mapped request_terms request)))) known
 asked_terms-parts (Ok day) (Ok caller) (Ok request) (Ok known) = refl
 asked_terms-parts (Ok day) (Ok caller) (Ok request) (Err q) = refl
@@ -105,9 +108,15 @@ pub each-next : {A : Type 0} (reading : Data → Result A Fault) (values : List 
     → after ≡ each reading (map view (take (index + 1) values))
 each-next reading values index value before after entry below here so_far read added =
     let grown : take (index + 1) values ≡ take index values ++ value ∷ [] =
-        take_more values index value below ∙ ap (λ v. take index values ++ v ∷ []) (sym here) in
-    rw (added, so_far, read, grown, map-append view (take index values) (value ∷ []),
-        each-append reading (map view (take index values)) (view value)) refl
+    take_more values index value below ∙ ap (λ v. take index values ++ v ∷ []) (sym here) in
+    rw (
+      added,
+      so_far,
+      read,
+      grown,
+      map-append view (take index values) (value ∷ []),
+      each-append reading (map view (take index values)) (view value),
+    ) refl
 
 items_of-items_from : (ds : List Data) → items_of (items_from ds) ≡ ds
 items_of-items_from [] = refl
@@ -145,5 +154,6 @@ tree_of-text line text = rw (is_utf8-from_IsUtf8 line text) refl
 pub tree_of-none : (line : List ℕ) → (IsUtf8 line → read line ≡ None) → tree_of line ≡ None
 tree_of-none line refused =
     elim (cases_Bool (is_utf8 line)) [
-      inl text ↦ rw text (refused (IsUtf8-from_is_utf8 line text))
-    | inr other ↦ rw other refl ]
+      | inl text ↦ rw text (refused (IsUtf8-from_is_utf8 line text))
+      | inr other ↦ rw other refl
+    ]

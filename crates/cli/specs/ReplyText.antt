@@ -1,6 +1,6 @@
 -- The texts of replies: each a JSON object (RFC 8259) without spaces, with its members in the order
 -- of the format, and a line feed.
-use Rattle.std.specs.Prelude.{ℕ, List, [], ◌∷◌, ◌++◌, map, codes, decimal, Option, Some, None}
+use Rattle.std.specs.Prelude.{ℕ, List, ◌++◌, map, codes, decimal, Option, Some, None}
 use Rattle.std.specs.List.{join_with_byte}
 use Rattle.addr.specs.Day.{day_text}
 use Rattle.addr.specs.PrefixText.{spelling}

@@ -1,7 +1,7 @@
 -- Which lines are requests, and the lowest fault of a line that is none. A line is judged by the tree
 -- that the JSON reader gives: of a repeated member it has the last value, and a number is unsigned
 -- there exactly where it is written as plain decimal digits and is below 2 ^ 64.
-use Rattle.std.specs.Prelude.{◌≡◌, ℕ, ◌^◌, nat_le, nat_lt, ◌&&◌, ◌==◌, Bool, true, false, List, [], ◌∷◌, length, codes, if◌then◌else◌, Option, Some, None, option_map, option_and_then, Result, Ok, Err}
+use Rattle.std.specs.Prelude.{◌≡◌, ℕ, ◌^◌, nat_le, nat_lt, ◌&&◌, List, [], ◌∷◌, length, codes, if◌then◌else◌, Option, Some, None, option_map, option_and_then, Result, Ok, Err}
 use Rattle.std.specs.Str.{bytes_eq, is_utf8}
 use Rattle.addr.specs.Day.{day_in}
 use Rattle.addr.specs.Name.{name_in}
@@ -161,12 +161,12 @@ access_in d = and_then access_of (both (member_in role_read RoleFault (codes "ro
 abbrev pub create_terms_in : Data → Result CreateTerms Fault
 create_terms_in d =
     mapped (λ p. record { asn = p.0; prefix = p.1.0; max = p.1.1.0; from = p.1.1.1.0; until = p.1.1.1.1 })
-        (both (asn_in d) (both (prefix_in d) (both (max_in d) (both (day_in_member (codes "from") d) (day_in_member (codes "until") d)))))
+    (both (asn_in d) (both (prefix_in d) (both (max_in d) (both (day_in_member (codes "from") d) (day_in_member (codes "until") d)))))
 
 abbrev pub route_in : Data → Result Route Fault
 route_in d =
     unless (mapped (λ p. record { prefix = p.0; origin = p.1 }) (both (prefix_in d) (origin_in d)))
-        (only (codes "prefix" ∷ codes "origin" ∷ []) d)
+    (only (codes "prefix" ∷ codes "origin" ∷ []) d)
 
 -- one to ten thousand
 abbrev pub count_of : ℕ → Result (Unit {0}) Fault
@@ -197,7 +197,7 @@ reclaim_in d = mapped (λ p. Reclaim p.0 p.1) (both (holder_in (codes "holder") 
 abbrev pub grant_in : Data → Result Command Fault
 grant_in d =
     mapped (λ p. Grant p.0 p.1.0 p.1.1.0.0 p.1.1.0.1 p.1.1.1)
-        (both (holder_in (codes "holder") d) (both (caller_in (codes "name") d) (both (access_in d) (day_in_member (codes "until") d))))
+    (both (holder_in (codes "holder") d) (both (caller_in (codes "name") d) (both (access_in d) (day_in_member (codes "until") d))))
 
 abbrev pub revoke_in : Data → Result Command Fault
 revoke_in d = mapped (λ p. Revoke p.0 p.1) (both (holder_in (codes "holder") d) (number_in d))
@@ -209,7 +209,7 @@ create_in d =
 abbrev pub amend_in : Data → Result Command Fault
 amend_in d =
     mapped (λ p. Amend p.0 p.1.0 p.1.1.0 p.1.1.1)
-        (both (holder_in (codes "holder") d) (both (number_in d) (both (max_in d) (day_in_member (codes "until") d))))
+    (both (holder_in (codes "holder") d) (both (number_in d) (both (max_in d) (day_in_member (codes "until") d))))
 
 abbrev pub withdraw_in : Data → Result Command Fault
 withdraw_in d = mapped (λ p. Withdraw p.0 p.1) (both (holder_in (codes "holder") d) (number_in d))
@@ -277,7 +277,7 @@ asked_with p = record { day = p.0; caller = p.1.0; request = p.1.1 }
 abbrev pub asked_as : Action → Data → Result AskedTerms Fault
 asked_as action d =
     unless (mapped asked_with (both (day_in_member (codes "day") d) (both (caller_in (codes "caller") d) (request_in action d))))
-        (only (members_of action) d)
+    (only (members_of action) d)
 
 abbrev pub asked_by : Option Action → Data → Result AskedTerms Fault
 asked_by None d = Err Members

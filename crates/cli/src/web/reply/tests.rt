@@ -62,7 +62,10 @@ fn prints_each_reply(rt: HostRuntime) -> Result<(), Fail> {
         ),
         (Reply::Payloads(Vec::new(alloc)), "{\"payloads\":[]}\n"),
         (
-            Reply::Payloads(vec![in alloc; vrp("192.0.2.0/24", 24, 64496)?, vrp("::/0", 128, 4_294_967_295)?]?),
+            Reply::Payloads(vec![in alloc;
+                vrp("192.0.2.0/24", 24, 64496)?,
+                vrp("::/0", 128, 4_294_967_295)?,
+            ]?),
             "{\"payloads\":[{\"asn\":64496,\"prefix\":\"192.0.2.0/24\",\"max\":24},{\"asn\":4294967295,\"prefix\":\"::/0\",\"max\":128}]}\n",
         ),
         (
@@ -120,7 +123,11 @@ fn write_that_fails_leaves_a_beginning(rt: HostRuntime) -> Result<(), Fail> {
     for room in 0..whole.len() {
         let (result, bytes) = written(alloc, &reply, room);
         assert_eq!(rt; result, Err(Failed), "after {room} bytes");
-        assert_eq!(rt; bytes.as_slice(), &whole.as_slice()[..room], "after {room} bytes");
+        assert_eq!(rt;
+            bytes.as_slice(),
+            &whole.as_slice()[..room],
+            "after {room} bytes"
+        );
     }
     Ok(())
 }

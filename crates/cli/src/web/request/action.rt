@@ -80,14 +80,18 @@ pub(crate) fn only_members_of(action: Action, value: &Value) -> Result<(), Fault
         Action::Transfer => only(value, &["day", "caller", "do", "prefix", "giver", "taker"]),
         Action::Grant => only(
             value,
-            &["day", "caller", "do", "holder", "name", "role", "scope", "until"],
+            &[
+                "day", "caller", "do", "holder", "name", "role", "scope", "until",
+            ],
         ),
         Action::Revoke | Action::Withdraw | Action::Show => {
             only(value, &["day", "caller", "do", "holder", "number"])
         }
         Action::Create => only(
             value,
-            &["day", "caller", "do", "holder", "asn", "prefix", "max", "from", "until"],
+            &[
+                "day", "caller", "do", "holder", "asn", "prefix", "max", "from", "until",
+            ],
         ),
         Action::Amend => only(
             value,

@@ -15,7 +15,8 @@ fn told(alloc: Global, line: &[u8]) -> u8 {
 // The line of a request with this `do` and these further members.
 fn line_of(alloc: Global, action: &str, members: &str) -> Result<String, Fail> {
     Ok(format!(in alloc;
-        "{{\"day\":\"2026-03-01\",\"caller\":\"reg\",\"do\":\"{action}\"{members}}}")?)
+        "{{\"day\":\"2026-03-01\",\"caller\":\"reg\",\"do\":\"{action}\"{members}}}"
+    )?)
 }
 
 const REGISTER: &str = r#"{"day":"2026-03-01","caller":"reg","do":"register","holder":"alpha"}"#;
@@ -55,12 +56,30 @@ fn tells_what_a_line_is_refused_for(rt: HostRuntime) {
             br#"{"day":"2026-03-01","caller":"reg","do":"register","holder":"alpha","prefix":"192.0.2.0/24"}"#,
             2,
         ),
-        (br#"{"day":"2026-03-01","caller":"reg","do":"Register","holder":"alpha"}"#, 2),
-        (br#"{"day":"2026-03-01","caller":"reg","do":7,"holder":"alpha"}"#, 2),
-        (br#"{"day":"2026-03-01","caller":"reg","holder":"alpha"}"#, 2),
-        (br#"{"day":"2026-03-01","caller":"reg","do":"register","holder":7}"#, 3),
-        (br#"{"day":"2026-03-01","caller":null,"do":"register","holder":"alpha"}"#, 4),
-        (br#"{"day":"2026-02-29","caller":"reg","do":"register","holder":"alpha"}"#, 8),
+        (
+            br#"{"day":"2026-03-01","caller":"reg","do":"Register","holder":"alpha"}"#,
+            2,
+        ),
+        (
+            br#"{"day":"2026-03-01","caller":"reg","do":7,"holder":"alpha"}"#,
+            2,
+        ),
+        (
+            br#"{"day":"2026-03-01","caller":"reg","holder":"alpha"}"#,
+            2,
+        ),
+        (
+            br#"{"day":"2026-03-01","caller":"reg","do":"register","holder":7}"#,
+            3,
+        ),
+        (
+            br#"{"day":"2026-03-01","caller":null,"do":"register","holder":"alpha"}"#,
+            4,
+        ),
+        (
+            br#"{"day":"2026-02-29","caller":"reg","do":"register","holder":"alpha"}"#,
+            8,
+        ),
     ];
     for (line, number) in table {
         assert_eq!(rt; told(rt.alloc(), line), number, "{line:?}");
@@ -70,45 +89,149 @@ fn tells_what_a_line_is_refused_for(rt: HostRuntime) {
 #[test]
 fn tells_the_number_of_each_member(rt: HostRuntime) -> Result<(), Fail> {
     let table = [
-        ("delegate", r#","holder":"alpha","prefix":"192.0.2.0/24""#, 0),
-        ("delegate", r#","holder":"alpha","prefix":"192.0.2.1/24""#, 5),
+        (
+            "delegate",
+            r#","holder":"alpha","prefix":"192.0.2.0/24""#,
+            0,
+        ),
+        (
+            "delegate",
+            r#","holder":"alpha","prefix":"192.0.2.1/24""#,
+            5,
+        ),
         ("delegate", r#","holder":"alpha","prefix":24"#, 5),
-        ("reclaim", r#","holder":"alpha","prefix":"2001:db8::/32""#, 0),
-        ("reclaim", r#","holder":"-alpha","prefix":"2001:DB8::/32""#, 3),
-        ("transfer", r#","prefix":"192.0.2.0/24","giver":"alpha","taker":"beta""#, 0),
-        ("transfer", r#","prefix":"192.0.2.0/24","giver":"","taker":"beta""#, 3),
-        ("transfer", r#","prefix":"192.0.2.0/24","giver":"alpha","taker":"Beta""#, 3),
-        ("grant", r#","holder":"alpha","name":"ann","role":"clerk","scope":"192.0.2.0/24","until":"2026-12-31""#, 0),
-        ("grant", r#","holder":"alpha","name":"ann","role":"manager","scope":"all","until":"2026-12-31""#, 0),
-        ("grant", r#","holder":"alpha","name":"Ann","role":"manager","scope":"all","until":"2026-12-31""#, 4),
-        ("grant", r#","holder":"alpha","name":"ann","role":"manager","scope":"192.0.2.0/24","until":"2026-12-31""#, 9),
-        ("grant", r#","holder":"alpha","name":"ann","role":"auditor","scope":"192.0.2.1/24","until":"2026-12-31""#, 9),
-        ("grant", r#","holder":"alpha","name":"ann","role":"auditor","scope":null,"until":"2026-12-31""#, 9),
-        ("grant", r#","holder":"alpha","name":"ann","role":"owner","scope":"all","until":"2026-12-31""#, 9),
-        ("grant", r#","holder":"alpha","name":"ann","role":"manager","scope":"192.0.2.0/24","until":"2026-13-01""#, 8),
+        (
+            "reclaim",
+            r#","holder":"alpha","prefix":"2001:db8::/32""#,
+            0,
+        ),
+        (
+            "reclaim",
+            r#","holder":"-alpha","prefix":"2001:DB8::/32""#,
+            3,
+        ),
+        (
+            "transfer",
+            r#","prefix":"192.0.2.0/24","giver":"alpha","taker":"beta""#,
+            0,
+        ),
+        (
+            "transfer",
+            r#","prefix":"192.0.2.0/24","giver":"","taker":"beta""#,
+            3,
+        ),
+        (
+            "transfer",
+            r#","prefix":"192.0.2.0/24","giver":"alpha","taker":"Beta""#,
+            3,
+        ),
+        (
+            "grant",
+            r#","holder":"alpha","name":"ann","role":"clerk","scope":"192.0.2.0/24","until":"2026-12-31""#,
+            0,
+        ),
+        (
+            "grant",
+            r#","holder":"alpha","name":"ann","role":"manager","scope":"all","until":"2026-12-31""#,
+            0,
+        ),
+        (
+            "grant",
+            r#","holder":"alpha","name":"Ann","role":"manager","scope":"all","until":"2026-12-31""#,
+            4,
+        ),
+        (
+            "grant",
+            r#","holder":"alpha","name":"ann","role":"manager","scope":"192.0.2.0/24","until":"2026-12-31""#,
+            9,
+        ),
+        (
+            "grant",
+            r#","holder":"alpha","name":"ann","role":"auditor","scope":"192.0.2.1/24","until":"2026-12-31""#,
+            9,
+        ),
+        (
+            "grant",
+            r#","holder":"alpha","name":"ann","role":"auditor","scope":null,"until":"2026-12-31""#,
+            9,
+        ),
+        (
+            "grant",
+            r#","holder":"alpha","name":"ann","role":"owner","scope":"all","until":"2026-12-31""#,
+            9,
+        ),
+        (
+            "grant",
+            r#","holder":"alpha","name":"ann","role":"manager","scope":"192.0.2.0/24","until":"2026-13-01""#,
+            8,
+        ),
         ("revoke", r#","holder":"alpha","number":1"#, 0),
         ("revoke", r#","holder":"alpha","number":0"#, 10),
         ("withdraw", r#","holder":"alpha","number":999999"#, 0),
         ("show", r#","holder":"alpha","number":1000000"#, 10),
         ("show", r#","holder":"alpha","number":"1""#, 10),
-        ("create", r#","holder":"alpha","asn":64496,"prefix":"192.0.2.0/24","max":24,"from":"2026-01-01","until":"2026-12-31""#, 0),
-        ("create", r#","holder":"alpha","asn":4294967295,"prefix":"192.0.2.0/24","max":255,"from":"1970-01-01","until":"9999-12-31""#, 0),
-        ("create", r#","holder":"alpha","asn":4294967296,"prefix":"192.0.2.0/24","max":24,"from":"2026-01-01","until":"2026-12-31""#, 6),
-        ("create", r#","holder":"alpha","asn":64496,"prefix":"192.0.2.0/24","max":256,"from":"2026-01-01","until":"2026-12-31""#, 7),
-        ("create", r#","holder":"alpha","asn":64496,"prefix":"192.0.2.0/24","max":24,"from":"2026-1-1","until":"2026-12-31""#, 8),
-        ("amend", r#","holder":"alpha","number":1,"max":0,"until":"2026-12-31""#, 0),
-        ("amend", r#","holder":"alpha","number":1,"max":-1,"until":"2026-12-31""#, 7),
+        (
+            "create",
+            r#","holder":"alpha","asn":64496,"prefix":"192.0.2.0/24","max":24,"from":"2026-01-01","until":"2026-12-31""#,
+            0,
+        ),
+        (
+            "create",
+            r#","holder":"alpha","asn":4294967295,"prefix":"192.0.2.0/24","max":255,"from":"1970-01-01","until":"9999-12-31""#,
+            0,
+        ),
+        (
+            "create",
+            r#","holder":"alpha","asn":4294967296,"prefix":"192.0.2.0/24","max":24,"from":"2026-01-01","until":"2026-12-31""#,
+            6,
+        ),
+        (
+            "create",
+            r#","holder":"alpha","asn":64496,"prefix":"192.0.2.0/24","max":256,"from":"2026-01-01","until":"2026-12-31""#,
+            7,
+        ),
+        (
+            "create",
+            r#","holder":"alpha","asn":64496,"prefix":"192.0.2.0/24","max":24,"from":"2026-1-1","until":"2026-12-31""#,
+            8,
+        ),
+        (
+            "amend",
+            r#","holder":"alpha","number":1,"max":0,"until":"2026-12-31""#,
+            0,
+        ),
+        (
+            "amend",
+            r#","holder":"alpha","number":1,"max":-1,"until":"2026-12-31""#,
+            7,
+        ),
         ("list", r#","holder":"alpha""#, 0),
         ("payloads", "", 0),
         ("payloads", r#","holder":"alpha""#, 2),
-        ("validity", r#","routes":[{"prefix":"192.0.2.0/24","origin":64496},{"origin":null,"prefix":"::/0"}]"#, 0),
+        (
+            "validity",
+            r#","routes":[{"prefix":"192.0.2.0/24","origin":64496},{"origin":null,"prefix":"::/0"}]"#,
+            0,
+        ),
         ("validity", r#","routes":[]"#, 12),
         ("validity", r#","routes":{}"#, 2),
         ("validity", r#","routes":[7]"#, 2),
         ("validity", r#","routes":[{"prefix":"192.0.2.0/24"}]"#, 2),
-        ("validity", r#","routes":[{"prefix":"192.0.2.0/24","origin":1,"max":24}]"#, 2),
-        ("validity", r#","routes":[{"prefix":"192.0.2.0/24","origin":"AS1"}]"#, 6),
-        ("validity", r#","routes":[{"prefix":"192.0.2.0/24","origin":"AS1"},{"prefix":"all","origin":1}]"#, 5),
+        (
+            "validity",
+            r#","routes":[{"prefix":"192.0.2.0/24","origin":1,"max":24}]"#,
+            2,
+        ),
+        (
+            "validity",
+            r#","routes":[{"prefix":"192.0.2.0/24","origin":"AS1"}]"#,
+            6,
+        ),
+        (
+            "validity",
+            r#","routes":[{"prefix":"192.0.2.0/24","origin":"AS1"},{"prefix":"all","origin":1}]"#,
+            5,
+        ),
         ("content", r#","holder":"alpha","number":1"#, 2),
         ("import", r#","holder":"alpha","rows":[]"#, 2),
         ("slurm", r#","file":{}"#, 2),
@@ -137,7 +260,9 @@ fn takes_numbers_in_plain_digits_alone(rt: HostRuntime) -> Result<(), Fail> {
         ("1e999", 1),
     ];
     for (max, number) in table {
-        let members = format!(in rt.alloc(); ",\"holder\":\"alpha\",\"number\":1,\"max\":{max},\"until\":\"2026-12-31\"")?;
+        let members = format!(in rt.alloc();
+            ",\"holder\":\"alpha\",\"number\":1,\"max\":{max},\"until\":\"2026-12-31\""
+        )?;
         let line = line_of(rt.alloc(), "amend", members.as_str())?;
         assert_eq!(rt; told(rt.alloc(), line.as_bytes()), number, "{line}");
     }
@@ -160,7 +285,10 @@ fn lowest_malformed_number_is_told(rt: HostRuntime) {
         // A holder after a day and a caller.
         (r#"{"day":"","caller":"","do":"register","holder":""}"#, 3),
         // A missing member after a holder.
-        (r#"{"day":"2026-03-01","caller":"reg","do":"delegate","holder":""}"#, 2),
+        (
+            r#"{"day":"2026-03-01","caller":"reg","do":"delegate","holder":""}"#,
+            2,
+        ),
         // An unknown member after a holder.
         (
             r#"{"day":"2026-03-01","caller":"reg","do":"register","holder":"","zone":1}"#,
@@ -177,7 +305,10 @@ fn lowest_malformed_number_is_told(rt: HostRuntime) {
             8,
         ),
         // No routes and a day.
-        (r#"{"day":"","caller":"reg","do":"validity","routes":[]}"#, 8),
+        (
+            r#"{"day":"","caller":"reg","do":"validity","routes":[]}"#,
+            8,
+        ),
         // The origin of a route, and the prefix of a later one.
         (
             r#"{"day":"2026-03-01","caller":"reg","do":"validity","routes":[{"prefix":"::/0","origin":-1},{"prefix":"::/129","origin":1}]}"#,
@@ -253,7 +384,8 @@ fn length_is_tested_before_anything_else(rt: HostRuntime) -> Result<(), Fail> {
 
 #[test]
 fn reads_a_command(rt: HostRuntime) -> Result<(), Fail> {
-    let line = br#"{"day":"2026-03-01","caller":"reg","do":"grant","holder":"alpha","name":"ann","role":"clerk","scope":"192.0.2.0/24","until":"2026-12-31"}"#;
+    let line =
+        br#"{"day":"2026-03-01","caller":"reg","do":"grant","holder":"alpha","name":"ann","role":"clerk","scope":"192.0.2.0/24","until":"2026-12-31"}"#;
     let Ok(asked) = read_line_request(rt.alloc(), line) else {
         return Err("no request".into());
     };
@@ -276,11 +408,14 @@ fn reads_a_command(rt: HostRuntime) -> Result<(), Fail> {
 
 #[test]
 fn reads_the_routes_of_a_query(rt: HostRuntime) -> Result<(), Fail> {
-    let line = br#"{"day":"2026-03-01","caller":"ann","do":"validity","routes":[{"prefix":"::/0","origin":64496},{"prefix":"::/0","origin":null}]}"#;
-    let Ok(Asked {
-        request: Request::Query(Query::Validity { routes }),
-        ..
-    }) = read_line_request(rt.alloc(), line)
+    let line =
+        br#"{"day":"2026-03-01","caller":"ann","do":"validity","routes":[{"prefix":"::/0","origin":64496},{"prefix":"::/0","origin":null}]}"#;
+    let Ok(
+        Asked {
+            request: Request::Query(Query::Validity { routes }),
+            ..
+        },
+    ) = read_line_request(rt.alloc(), line)
     else {
         return Err("no routes".into());
     };

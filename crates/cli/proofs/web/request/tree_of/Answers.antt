@@ -1,4 +1,4 @@
-use Rattle.std.proofs.Common.{◌≡◌, sym, ◌∙◌}
+use Rattle.std.proofs.Common.{sym, ◌∙◌}
 use Rattle.cli.proofs.RequestLemmas.{tree_of-text, tree_of-none}
 use Rattle.cli.proofs.web.request.tree_of.Goals as goal
 

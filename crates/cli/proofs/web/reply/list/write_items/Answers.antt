@@ -1,4 +1,4 @@
-use Rattle.std.proofs.Common.{◌≡◌, ℕ, ◌+◌, List, ◌++◌, false, map, drop, ap, ◌∙◌}
+use Rattle.std.proofs.Common.{◌+◌, ◌++◌, false, map, drop, ap, ◌∙◌}
 use Rattle.cli.specs.ReplyItems.{item_after, items_left}
 use Rattle.cli.specs.ReplyText.{comma_joined}
 use Rattle.cli.proofs.ReplyLemmas.{items_left-at, list-broken, list-goes_on}

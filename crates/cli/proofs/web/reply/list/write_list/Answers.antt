@@ -1,4 +1,4 @@
-use Rattle.std.proofs.Common.{List, ◌++◌, map, ap, ◌∙◌, append_assoc}
+use Rattle.std.proofs.Common.{◌++◌, map}
 use Rattle.std.specs.Prelude.{codes}
 use Rattle.cli.specs.ReplyText.{comma_joined}
 use Rattle.cli.proofs.ReplyLemmas.{AppendsBeginning-after, AppendsBeginning-longer}

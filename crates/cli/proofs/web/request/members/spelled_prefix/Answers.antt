@@ -1,4 +1,4 @@
-use Rattle.std.proofs.Common.{◌≡◌, ◌∙◌}
+use Rattle.std.proofs.Common.{◌∙◌}
 use Rattle.addr.proofs.SpelledPrefixLemmas.{spelled_prefix-read}
 use Rattle.cli.proofs.web.request.members.spelled_prefix.Goals as goal
 

@@ -1,4 +1,4 @@
-use Rattle.std.proofs.Common.{◌≡◌, true, false, sym, ◌∙◌}
+use Rattle.std.proofs.Common.{true, false, sym, ◌∙◌}
 use Rattle.cli.proofs.RequestLemmas.{only-tested}
 use Rattle.cli.proofs.web.request.parts.only.Goals as goal
 

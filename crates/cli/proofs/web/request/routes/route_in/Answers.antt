@@ -1,4 +1,4 @@
-use Rattle.std.proofs.Common.{◌≡◌, refl}
+use Rattle.std.proofs.Common.{refl}
 use Rattle.cli.proofs.web.request.routes.route_in.Goals as goal
 
 pub returns : goal.returns
