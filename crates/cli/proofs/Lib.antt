@@ -7,3 +7,4 @@ mod TrailMade
 pub mod RecordLemmas
 pub mod VrpLemmas
 pub mod RequestLemmas
+pub mod DeskLemmas

@@ -2,7 +2,7 @@
 -- accepted exactly where its rules hold on the commands accepted before it, else it changes nothing
 -- and is answered with the first rule that fails; what is shown, exported and judged is what the
 -- history defines. Where no memory is found the reply is Unavailable and nothing has changed.
-use Rattle.std.specs.Prelude.{◌≡◌, ℕ, List, [], ◌∷◌, Option, Some, None, Ok, Err, ◌↔◌, Contains}
+use Rattle.std.specs.Prelude.{◌≡◌, ℕ, Bool, true, false, List, [], ◌∷◌, Option, Some, None, ◌↔◌, Contains}
 use Rattle.addr.specs.OriginValidation.{HasState}
 use Rattle.addr.specs.declared.route.Route.{Route}
 use Rattle.addr.specs.declared.vrp.Vrp.{Vrp}
@@ -12,15 +12,13 @@ use Rattle.payload.specs.declared.validity.Validity.{Validity}
 use Rattle.policy.specs.Answer.{number_given, IsShown, IsListed}
 use Rattle.policy.specs.DailyVrps.{IsVrpOn}
 use Rattle.policy.specs.History.{Entry, History}
-use Rattle.policy.specs.Verdict.{Verdict, IsLegal}
+use Rattle.policy.specs.Verdict.{Verdict, ShowVerdict, ListVerdict, IsLegal}
 use Rattle.policy.specs.Rows.{Rows}
 use Rattle.policy.specs.declared.charter.Charter.{Charter}
 use Rattle.policy.specs.declared.command.Command.{Command}
 use Rattle.policy.specs.declared.command.Query.{Query}
 use Rattle.policy.specs.declared.command.Query.TheVariants.{Show as ShowQuery, List as ListQuery, Payloads as PayloadsQuery, Validity as ValidityQuery}
-use Rattle.policy.specs.declared.rule.Refusal.TheVariants.{Denied as DeniedRefusal}
 use Rattle.cli.specs.DeskRows.{HasRows}
-use Rattle.cli.specs.declared.desk.asked.Asked.{Asked}
 use Rattle.cli.specs.declared.desk.asked.Request.{Request}
 use Rattle.cli.specs.declared.desk.asked.Request.TheVariants.{Command as CommandRequest, Query as QueryRequest}
 use Rattle.cli.specs.declared.desk.reply.Reply.{Reply}
@@ -38,6 +36,16 @@ AreStatesOn history day (r ∷ routes) [] = ⊥
 AreStatesOn history day (r ∷ routes) (s ∷ states) =
     HasState (IsVrpOn history day) r (state_of s) × AreStatesOn history day routes states
 
+-- the reply says that a command was accepted
+abbrev pub is_done : Reply → Bool
+is_done (Done number) = true
+is_done (Shown x) = false
+is_done (Listed xs) = false
+is_done (Payloads vrps) = false
+is_done (Validities states) = false
+is_done (Denied rule row) = false
+is_done Unavailable = false
+
 -- the reply to a command, and the history after it
 abbrev pub AnswersCommand : Charter → History → ℕ → List ℕ → Command → Reply → History → Type 0
 AnswersCommand charter before day caller command (Done number) after =
@@ -54,8 +62,8 @@ AnswersCommand charter before day caller command (Validities states) after = ⊥
 
 -- the reply to a request to show an authorization
 abbrev pub AnswersShow : History → List ℕ → ℕ → List ℕ → ℕ → Reply → Type 0
-AnswersShow history h day caller n (Shown x) = IsShown history h day caller n (Ok x)
-AnswersShow history h day caller n (Denied rule row) = IsShown history h day caller n (Err rule) × (row ≡ None)
+AnswersShow history h day caller n (Shown x) = IsShown history h day caller n x
+AnswersShow history h day caller n (Denied rule row) = ShowVerdict history h day caller n (Some rule) × (row ≡ None)
 AnswersShow history h day caller n Unavailable = Unit {0}
 AnswersShow history h day caller n (Done number) = ⊥
 AnswersShow history h day caller n (Listed xs) = ⊥
@@ -64,8 +72,8 @@ AnswersShow history h day caller n (Validities states) = ⊥
 
 -- the reply to a request to list authorizations
 abbrev pub AnswersList : History → List ℕ → ℕ → List ℕ → Reply → Type 0
-AnswersList history h day caller (Listed xs) = IsListed history h day caller (Ok xs.items)
-AnswersList history h day caller (Denied rule row) = IsListed history h day caller (Err (DeniedRefusal rule row))
+AnswersList history h day caller (Listed xs) = IsListed history h day caller xs.items
+AnswersList history h day caller (Denied rule row) = ListVerdict history h day caller (Some rule) × (row ≡ None)
 AnswersList history h day caller Unavailable = Unit {0}
 AnswersList history h day caller (Done number) = ⊥
 AnswersList history h day caller (Shown x) = ⊥

@@ -13,3 +13,4 @@ pub mod RequestParts
 pub mod RequestRoutes
 pub mod RequestText
 pub mod Answer
+pub mod Desk

@@ -1,7 +1,9 @@
 //! The desk: what is asked of it, and what it replies.
 mod asked;
+mod handling;
 mod records;
 mod reply;
 
 pub use asked::{Asked, Request};
+pub use handling::Desk;
 pub use reply::Reply;

@@ -2,6 +2,7 @@ pub mod Dedup
 pub mod Derived
 pub mod Fronts
 pub mod Left
+pub mod Lengths
 pub mod Places
 pub mod Prefixes
 pub mod Sets

@@ -1,10 +1,14 @@
 -- The operators of a desk and the pool of prefixes that it delegates from. Both are sets; they are
 -- kept in rising order.
-use Rattle.std.specs.Prelude.{ℕ, Bool, List}
+use Rattle.std.specs.Prelude.{ℕ, ◌≤◌, Bool, List, length}
 use Rattle.std.specs.List.{list_any}
 use Rattle.addr.specs.declared.prefix.Prefix.{Prefix}
 use Rattle.policy.specs.declared.charter.Charter.{Charter}
 use Rattle.policy.specs.History.{same_name}
+
+-- 1 to 16 operators and 1 to 64 prefixes
+abbrev pub AreInNumber : List (List ℕ) → List Prefix → Type 0
+AreInNumber operators pool = (1 ≤ length operators) × (length operators ≤ 16) × (1 ≤ length pool) × (length pool ≤ 64)
 
 abbrev pub operators_of : Charter → List (List ℕ)
 operators_of charter = charter.operators.items

@@ -1,3 +1,4 @@
+pub mod Repeats
 pub mod Pool
 pub mod Charter
 pub mod History
@@ -8,3 +9,4 @@ pub mod Verdict
 pub mod Rows
 pub mod Answer
 pub mod DailyVrps
+pub mod SharedVrps

@@ -1,6 +1,6 @@
 use Rattle.std.proofs.Common.{◌+◌, ◌-◌, ◌<◌, ◌≤◌, arith, refl, ap}
 use Rattle.addr.specs.Family.{width}
-use Rattle.payload.proofs.Prefixes.{top-fits, cut-aligned, cut-fits, first-below, round-both}
+use Rattle.payload.proofs.Prefixes.{top-fits, cut-aligned, cut-fits, first-below, round-both, round-length}
 use Rattle.payload.proofs.search.last_round_both.Goals as goal
 
 pub overflow_sub-result : goal.overflow_sub-result
@@ -18,6 +18,10 @@ invariant_of-result c =
       in_family = cut-fits c.args.low.now.first _ _ _ _ c.with_zeros.ensures c.width.ensures fits (first-below c.args.low.now);
     }
 
-pub returns : goal.returns
-returns c p in-low in-high =
+pub returns-clause-order : goal.returns-clause-order
+returns-clause-order c p in-low in-high =
     round-both p c.args.low.now c.args.high.now _ _ _ c.ilog2.result in-low in-high c.requires.order c.ilog2.ensures.power_le refl c.with_zeros.ensures (ap (λ w. w - (c.ilog2.result + 1)) c.width.ensures)
+
+pub returns-clause-length : goal.returns-clause-length
+returns-clause-length c p in-low in-high =
+    round-length p c.args.low.now c.args.high.now _ c.ilog2.result in-low in-high c.requires.order c.ilog2.ensures.power_le (ap (λ w. w - (c.ilog2.result + 1)) c.width.ensures)
