@@ -1,10 +1,16 @@
 pub mod Devices
 pub mod LineSplitting
+pub mod ReplyItems
+pub mod ReplyText
 pub mod Script
 pub mod ScriptFault
 pub mod ScriptLines
 pub mod Streams
 pub mod Trail
 pub mod DeskRows
+pub mod RequestFault
+pub mod RequestParts
+pub mod RequestRoutes
+pub mod RequestText
 pub mod Answer
 pub mod Desk
