@@ -6,3 +6,8 @@ mod TrailMade
 pub mod RecordLemmas
 pub mod VrpLemmas
 pub mod DeskLemmas
+pub mod AnswerSteps
+pub mod CheckLemmas
+pub mod RecordSteps
+pub mod RecordsLeft
+pub mod RowLemmas

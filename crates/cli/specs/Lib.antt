@@ -8,3 +8,8 @@ pub mod Trail
 pub mod DeskRows
 pub mod Answer
 pub mod Desk
+pub mod Check
+pub mod CsvRecords
+pub mod CsvRows
+pub mod ProgramFaults
+pub mod Words
