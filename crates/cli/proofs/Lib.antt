@@ -10,3 +10,8 @@ pub mod RequestLemmas
 pub mod DeskLemmas
 pub mod DailyLemmas
 pub mod ExportLemmas
+pub mod AnswerSteps
+pub mod CheckLemmas
+pub mod RecordSteps
+pub mod RecordsLeft
+pub mod RowLemmas

@@ -14,3 +14,8 @@ pub mod RequestRoutes
 pub mod RequestText
 pub mod Answer
 pub mod Desk
+pub mod Check
+pub mod CsvRecords
+pub mod CsvRows
+pub mod ProgramFaults
+pub mod Words
