@@ -19,3 +19,4 @@ pub mod CsvRecords
 pub mod CsvRows
 pub mod ProgramFaults
 pub mod Words
+pub mod ScriptAnswer

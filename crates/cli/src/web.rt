@@ -7,5 +7,6 @@ pub mod malformed;
 pub mod reply;
 pub mod request;
 pub mod script;
+pub mod session;
 pub mod stream;
 mod trail;

@@ -39,6 +39,11 @@ impl Desk {
         })
     }
 
+    /// The allocator that the desk was made with.
+    pub fn allocator(&self) -> Global {
+        self.alloc
+    }
+
     /// Replies to a request of the caller on the day. Only a reply of `Done` changes anything.
     pub fn handle(&mut self, day: Day, caller: &Name, request: &Request) -> Reply
         ensures answered { (history : History) → IsLegal (charter_of self.old) history → HasRows (desk_rows self.old) history
