@@ -15,3 +15,4 @@ pub mod CheckLemmas
 pub mod RecordSteps
 pub mod RecordsLeft
 pub mod RowLemmas
+pub mod SessionLemmas
