@@ -1,12 +1,13 @@
 -- `spelled_prefix` is the inverse of the spelling: the prefix that a text spells, where it spells one.
-use Rattle.std.proofs.Common.{◌≡◌, ℕ, ◌+◌, ◌-◌, ◌^◌, ◌%◌, ◌≤◌, ◌<◌, ◌↔◌, lit<, List, Option, Some, None, Result, Ok, Err, refl, ap, sym, ◌∙◌, arith}
+use Rattle.std.proofs.Common.{◌≡◌, ℕ, ◌+◌, ◌-◌, ◌^◌, ◌%◌, ◌≤◌, ◌<◌, ◌↔◌, lit<, List, Option, Some, None, Result, Ok, Err, refl, ap, sym, ◌∙◌, subst, arith}
 use Rattle.std.proofs.Math.Bridge.{le_prop}
 use Rattle.std.proofs.Math.Nat.{ℕ_set}
 use Rattle.std.proofs.lemmas.Nat.{pow_pos}
+use Rattle.std.proofs.lemmas.Option.{none-some, same_Some}
 use Rattle.std.specs.Prelude.{IfErr}
 use Rattle.std.specs.Result.{result_ok}
 use Rattle.addr.specs.Family.{width}
-use Rattle.addr.specs.PrefixText.{loose, prefix_text_fault, spelling, Spells}
+use Rattle.addr.specs.PrefixText.{loose, prefix_text_fault, Spells}
 use Rattle.addr.specs.SpelledPrefix.{prefix_if, spelled_prefix}
 use Rattle.addr.specs.declared.family.Family.{Family}
 use Rattle.addr.specs.declared.family.Family.TheVariants.{V4, V6}
@@ -18,8 +19,13 @@ use Rattle.addr.proofs.PrefixSpellingLemmas.{prefix_text_law}
 prefix_if-numbers : (p : Prefix) (fits : Dec (p.length ≤ width p.family)) (aligned : Dec (p.first % 2 ^ (width p.family - p.length) ≡ 0)) (inside : Dec (p.first + 2 ^ (width p.family - p.length) ≤ 2 ^ width p.family)) → prefix_if p.family p.first p.length fits aligned inside ≡ Some p
 prefix_if-numbers p (yes fits) (yes aligned) (yes inside) =
     λ i. Some (record {
-      family = p.family; first = p.first; length = p.length;
-      length_fits = le_prop fits p.length_fits i; aligned = ℕ_set _ _ aligned p.aligned i; in_family = le_prop inside p.in_family i })
+      family = p.family;
+      first = p.first;
+      length = p.length;
+      length_fits = le_prop fits p.length_fits i;
+      aligned = ℕ_set _ _ aligned p.aligned i;
+      in_family = le_prop inside p.in_family i;
+    })
 prefix_if-numbers p (yes fits) (yes aligned) (no outside) = absurd (outside p.in_family)
 prefix_if-numbers p (yes fits) (no unaligned) inside = absurd (unaligned p.aligned)
 prefix_if-numbers p (no long) aligned inside = absurd (long p.length_fits)
@@ -47,3 +53,13 @@ spelled_prefix-fault text fault told = rw told refl
 pub spelled_prefix-read : (text : List ℕ) (read : Result Prefix PrefixFault) → IfErr read (λ fault. prefix_text_fault text ≡ Some fault) → ((p : Prefix) → (read ≡ Ok p) ↔ Spells p text) → result_ok read ≡ spelled_prefix text
 spelled_prefix-read text (Ok p) fault each = sym (spelled_prefix-Spells p text ((each p).0 refl))
 spelled_prefix-read text (Err n) fault each = sym (spelled_prefix-fault text n fault)
+
+fault-unless_spelled : (text : List ℕ) (fault : Option PrefixFault) → prefix_text_fault text ≡ fault → (p : Prefix) → spelled_prefix text ≡ Some p → Spells p text
+fault-unless_spelled text None none p told =
+    let some = (prefix_text_law.faultless text).0 none in
+    let same : some.0 ≡ p = same_Some _ _ (sym (spelled_prefix-Spells some.0 text some.1) ∙ told) in
+    subst (λ (q : Prefix). Spells q text) same some.1
+fault-unless_spelled text (Some fault) is p told = absurd (none-some p (sym (spelled_prefix-fault text fault is) ∙ told))
+
+pub Spells-spelled_prefix : (p : Prefix) (text : List ℕ) → spelled_prefix text ≡ Some p → Spells p text
+Spells-spelled_prefix p text told = fault-unless_spelled text (prefix_text_fault text) refl p told

@@ -20,8 +20,8 @@ prefix_if family first len (no long) aligned inside = None
 abbrev pub prefix_with : PrefixParts → Option Prefix
 prefix_with parts =
     prefix_if parts.family parts.address parts.length (dec_le parts.length (width parts.family))
-        (ℕ_discrete (parts.address % 2 ^ (width parts.family - parts.length)) 0)
-        (dec_le (parts.address + 2 ^ (width parts.family - parts.length)) (2 ^ width parts.family))
+    (ℕ_discrete (parts.address % 2 ^ (width parts.family - parts.length)) 0)
+    (dec_le (parts.address + 2 ^ (width parts.family - parts.length)) (2 ^ width parts.family))
 
 abbrev pub prefix_unless : Option PrefixFault → Option PrefixParts → Option Prefix
 prefix_unless (Some fault) parts = None

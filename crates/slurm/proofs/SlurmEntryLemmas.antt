@@ -1,0 +1,218 @@
+-- What was read of a file is what its entries say.
+use Rattle.std.proofs.Common.{◌≡◌, ℕ, ◌≤◌, ◌^◌, Bool, true, false, if◌then◌else◌, nat_le, nat_lt, List, [], ◌∷◌, codes, Option, Some, None, option_and_then, Result, Ok, Err, refl, ap, sym, ◌∙◌, subst}
+use Rattle.std.proofs.Math.Decide.{dec_le}
+use Rattle.std.specs.Prelude.{IfOk}
+use Rattle.std.specs.List.{AllZip}
+use Rattle.std.specs.Option.{ok_or}
+use Rattle.addr.proofs.SpelledPrefixLemmas.{Spells-spelled_prefix}
+use Rattle.addr.specs.Family.{width}
+use Rattle.addr.specs.SpelledPrefix.{spelled_prefix}
+use Rattle.addr.specs.declared.asn.Asn.{Asn}
+use Rattle.addr.specs.declared.prefix.Prefix.{Prefix}
+use Rattle.addr.specs.declared.vrp.Vrp.{Vrp}
+use Rattle.serde_json.specs.Data.{Data, null, boolean, number, string, array, object, unsigned, negative, float, Items}
+use Rattle.serde_json.specs.Find.{get}
+use Rattle.slurm.specs.Exceptions.{Exceptions, entry_count}
+use Rattle.slurm.specs.Reading.{both, beside, mapped, and_then, required, optional, each, only, list_of}
+use Rattle.slurm.specs.SlurmEntries.{IsPrefixMember, IsAsnMember, IsFilterOf, SaysFilter, IsMaxLengthMember, SaysAssertion, SaysExceptions}
+use Rattle.slurm.specs.SlurmFaults.{array_at, items_at}
+use Rattle.slurm.specs.SlurmFile.{prefix_in, asn_in, length_in, version_in, filter_of, filter_in, vrp_if, max_length, assertion_of, assertion_in, entries_from, bgpsec_from, part_in, filters_in, assertions_in, object_in, within_limit, exceptions_of, file_in, slurm_in}
+use Rattle.slurm.specs.declared.fault.SlurmFault.{SlurmFault}
+use Rattle.slurm.specs.declared.fault.SlurmFault.TheVariants.{Prefix as PrefixFault, Asn as AsnFault, MaxPrefixLength, TooMany}
+use Rattle.slurm.specs.declared.filter.Filter.{Filter}
+use Rattle.slurm.specs.declared.filter.Filter.TheVariants.{Under, By, Both}
+use Rattle.slurm.specs.declared.members.MaxPrefixLength.{MaxPrefixLength as LengthRead}
+
+-- ---- values that were read
+
+beside-Ok : {A B : Type 0} (one : Result A SlurmFault) (other : Result B SlurmFault) (a : A) → beside one other ≡ Ok a → one ≡ Ok a
+beside-Ok (Ok x) (Ok y) a e = e
+beside-Ok (Ok x) (Err n) a e = cc
+beside-Ok (Err m) (Ok y) a e = cc
+beside-Ok (Err m) (Err n) a e = cc
+
+ok_or-Ok : {A : Type 0} (o : Option A) (n : SlurmFault) (a : A) → ok_or o n ≡ Ok a → o ≡ Some a
+ok_or-Ok None n a e = cc
+ok_or-Ok (Some x) n a e = let same : x ≡ a = cc in ap Some same
+
+each-said : {A : Type 0} (reading : Data → Result A SlurmFault) (Says : Data → A → Type 0) → ((d : Data) (a : A) → reading d ≡ Ok a → Says d a) →
+    (ds : List Data) (xs : List A) → each reading ds ≡ Ok xs → AllZip Says ds xs
+each-said reading Says said [] [] e = tt
+each-said reading Says said [] (x ∷ xs) e = let same : [] ≡ x ∷ xs = cc in absurd (cc)
+each-said {A} reading Says said (d ∷ ds) xs e = more (reading d) (each reading ds) refl (λ rest others. each-said reading Says said ds rest others) e
+  where
+    more : (one : Result A SlurmFault) (others : Result (List A) SlurmFault) → reading d ≡ one → ((rest : List A) → others ≡ Ok rest → AllZip Says ds rest) → mapped (λ p. p.0 ∷ p.1) (both one others) ≡ Ok xs → AllZip Says (d ∷ ds) xs
+    more (Ok a) (Ok rest) one others e =
+        let same : a ∷ rest ≡ xs = cc in
+        subst (λ (all : List A). AllZip Says (d ∷ ds) all) same (said d a one, others rest refl)
+    more (Ok a) (Err n) one others e = cc
+    more (Err m) (Ok rest) one others e = cc
+    more (Err m) (Err n) one others e = cc
+
+-- ---- members
+
+prefix-said : (d : Data) (p : Prefix) → prefix_in d ≡ Ok p → IsPrefixMember (Some d) p
+prefix-said null p e = cc
+prefix-said (boolean b) p e = cc
+prefix-said (number n) p e = cc
+prefix-said (string text) p e = (text, refl, Spells-spelled_prefix p text (ok_or-Ok (spelled_prefix text) PrefixFault p e))
+prefix-said (array ds) p e = cc
+prefix-said (object ms) p e = cc
+
+asn-said : (d : Data) (asn : Asn) → asn_in d ≡ Ok asn → IsAsnMember (Some d) asn
+asn-said null asn e = cc
+asn-said (boolean b) asn e = cc
+asn-said (number (unsigned n)) asn e = here (nat_lt n (2 ^ 32)) e
+  where
+    here : (b : Bool) → (if b then Ok (record { 0 = n }) else Err AsnFault) ≡ Ok asn → IsAsnMember (Some (number (unsigned n))) asn
+    here true e = let same : record { 0 = n } ≡ asn = cc in ap (λ (a : Asn). Some (number (unsigned a.0))) same
+    here false e = cc
+asn-said (number (negative z)) asn e = cc
+asn-said (number (float x)) asn e = cc
+asn-said (string s) asn e = cc
+asn-said (array ds) asn e = cc
+asn-said (object ms) asn e = cc
+
+length-said : (d : Data) (max : LengthRead) → length_in d ≡ Ok max → d ≡ number (unsigned max.0)
+length-said null max e = cc
+length-said (boolean b) max e = cc
+length-said (number (unsigned n)) max e = let same : record { 0 = n } ≡ max = cc in ap (λ (m : LengthRead). number (unsigned m.0)) same
+length-said (number (negative z)) max e = cc
+length-said (number (float x)) max e = cc
+length-said (string s) max e = cc
+length-said (array ds) max e = cc
+length-said (object ms) max e = cc
+
+-- ---- filters
+
+filter_of-said : (prefix asn : Option Data) (f : Filter) → and_then filter_of (both (optional prefix_in prefix) (optional asn_in asn)) ≡ Ok f → IsFilterOf prefix asn f
+filter_of-said None None f e = cc
+filter_of-said (Some d) None f e = here (prefix_in d) refl e
+  where
+    here : (r : Result Prefix SlurmFault) → prefix_in d ≡ r → and_then filter_of (both (mapped Some r) (Ok None)) ≡ Ok f → IsFilterOf (Some d) None f
+    here (Ok p) read e = let same : Under p ≡ f = cc in subst (IsFilterOf (Some d) None) same (prefix-said d p read, refl)
+    here (Err n) read e = cc
+filter_of-said None (Some d) f e = here (asn_in d) refl e
+  where
+    here : (r : Result Asn SlurmFault) → asn_in d ≡ r → and_then filter_of (both (Ok None) (mapped Some r)) ≡ Ok f → IsFilterOf None (Some d) f
+    here (Ok asn) read e = let same : By asn ≡ f = cc in subst (IsFilterOf None (Some d)) same (refl, asn-said d asn read)
+    here (Err n) read e = cc
+filter_of-said (Some d) (Some c) f e = here (prefix_in d) (asn_in c) refl refl e
+  where
+    here : (r : Result Prefix SlurmFault) (s : Result Asn SlurmFault) → prefix_in d ≡ r → asn_in c ≡ s → and_then filter_of (both (mapped Some r) (mapped Some s)) ≡ Ok f → IsFilterOf (Some d) (Some c) f
+    here (Ok p) (Ok asn) read also e = let same : Both p asn ≡ f = cc in subst (IsFilterOf (Some d) (Some c)) same (prefix-said d p read, asn-said c asn also)
+    here (Ok p) (Err n) read also e = cc
+    here (Err m) (Ok asn) read also e = cc
+    here (Err m) (Err n) read also e = cc
+
+filter-said : (d : Data) (f : Filter) → filter_in d ≡ Ok f → SaysFilter d f
+filter-said d f e =
+    filter_of-said (get (codes "prefix") d) (get (codes "asn") d) f (beside-Ok _ _ f (beside-Ok _ _ f e))
+
+-- ---- assertions
+
+vrp_if-said : (p : Prefix) (max : ℕ) (asn : Asn) (low : Dec (p.length ≤ max)) (high : Dec (max ≤ width p.family)) (v : Vrp) → vrp_if p max asn low high ≡ Some v → (v.prefix ≡ p) × (v.max ≡ max) × (v.asn ≡ asn)
+vrp_if-said p max asn (yes low) (yes high) v e =
+    let made : Vrp = record { prefix = p; max = max; asn = asn; at_least_length = low; at_most_width = high } in
+    let same : made ≡ v = cc in
+    (sym (ap (λ (w : Vrp). w.prefix) same), sym (ap (λ (w : Vrp). w.max) same), sym (ap (λ (w : Vrp). w.asn) same))
+vrp_if-said p max asn (yes low) (no high) v e = cc
+vrp_if-said p max asn (no low) high v e = cc
+
+abbrev IsRead : Option Data → Option LengthRead → Type 0
+IsRead None max = max ≡ None
+IsRead (Some d) max = (n : LengthRead) × (max ≡ Some n) × (d ≡ number (unsigned n.0))
+
+max-said : (d : Option Data) (max : Option LengthRead) → optional length_in d ≡ Ok max → IsRead d max
+max-said None max e = let same : None ≡ max = cc in sym same
+max-said (Some d) max e = here (length_in d) refl e
+  where
+    here : (r : Result LengthRead SlurmFault) → length_in d ≡ r → mapped Some r ≡ Ok max → IsRead (Some d) max
+    here (Ok n) read e = let same : Some n ≡ max = cc in (n, sym same, length-said d n read)
+    here (Err n) read e = cc
+
+max_length-said : (d : Option Data) (max : Option LengthRead) (v : Vrp) → IsRead d max → v.max ≡ max_length v.prefix max → IsMaxLengthMember d v
+max_length-said None max v read is = rw read at is
+max_length-said (Some d) max v read is =
+    let own = rw read.1 at is in read.2 ∙ ap (λ (n : ℕ). number (unsigned n)) (sym own)
+
+required-said : {A : Type 0} (reading : Data → Result A SlurmFault) (o : Option Data) (a : A) → required reading o ≡ Ok a → (d : Data) × (o ≡ Some d) × (reading d ≡ Ok a)
+required-said reading None a e = cc
+required-said reading (Some d) a e = (d, refl, e)
+
+assertion_of-said : (prefix asn max : Option Data) (v : Vrp) → and_then assertion_of (both (required prefix_in prefix) (both (required asn_in asn) (optional length_in max))) ≡ Ok v →
+    IsPrefixMember prefix v.prefix × IsAsnMember asn v.asn × IsMaxLengthMember max v
+assertion_of-said prefix asn max v e = here (required prefix_in prefix) (required asn_in asn) (optional length_in max) refl refl refl e
+  where
+    here : (r : Result Prefix SlurmFault) (s : Result Asn SlurmFault) (t : Result (Option LengthRead) SlurmFault) → required prefix_in prefix ≡ r → required asn_in asn ≡ s → optional length_in max ≡ t →
+        and_then assertion_of (both r (both s t)) ≡ Ok v → IsPrefixMember prefix v.prefix × IsAsnMember asn v.asn × IsMaxLengthMember max v
+    here (Ok p) (Ok a) (Ok m) read also last e =
+        let parts = vrp_if-said p (max_length p m) a (dec_le p.length (max_length p m)) (dec_le (max_length p m) (width p.family)) v (ok_or-Ok _ MaxPrefixLength v e) in
+        let of = required-said prefix_in prefix p read in
+        let by = required-said asn_in asn a also in (
+          rw (of.1, parts.0) (prefix-said of.0 p of.2),
+          rw (by.1, parts.2) (asn-said by.0 a by.2),
+          max_length-said max m v (max-said max m last) (rw parts.0 parts.1),
+        )
+    here (Ok p) (Ok a) (Err n) read also last e = cc
+    here (Ok p) (Err m) (Ok b) read also last e = cc
+    here (Ok p) (Err m) (Err n) read also last e = cc
+    here (Err l) (Ok a) (Ok m) read also last e = cc
+    here (Err l) (Ok a) (Err n) read also last e = cc
+    here (Err l) (Err m) (Ok b) read also last e = cc
+    here (Err l) (Err m) (Err n) read also last e = cc
+
+assertion-said : (d : Data) (v : Vrp) → assertion_in d ≡ Ok v → SaysAssertion d v
+assertion-said d v e =
+    assertion_of-said (get (codes "prefix") d) (get (codes "asn") d) (get (codes "maxPrefixLength") d) v (beside-Ok _ _ v (beside-Ok _ _ v e))
+
+-- ---- the file
+
+entries-said : {A : Type 0} (reading : Data → Result A SlurmFault) (Says : Data → A → Type 0) → ((d : Data) (a : A) → reading d ≡ Ok a → Says d a) →
+    (items : Option Items) (xs : List A) → entries_from reading items ≡ Ok xs → AllZip Says (items_at items) xs
+entries-said reading Says said None xs e = cc
+entries-said reading Says said (Some items) xs e = each-said reading Says said (list_of items) xs e
+
+part-said : {A : Type 0} (reading : Data → Result A SlurmFault) (Says : Data → A → Type 0) → ((d : Data) (a : A) → reading d ≡ Ok a → Says d a) →
+    (entries bgpsec : List ℕ) (part : Option Data) (xs : List A) → required (part_in reading entries bgpsec) part ≡ Ok xs → AllZip Says (items_at (option_and_then (array_at entries) part)) xs
+part-said reading Says said entries bgpsec None xs e = cc
+part-said reading Says said entries bgpsec (Some d) xs e =
+    entries-said reading Says said (array_at entries d) xs
+    (beside-Ok (entries_from reading (array_at entries d)) (only (entries ∷ bgpsec ∷ []) d) xs
+    (beside-Ok (beside (entries_from reading (array_at entries d)) (only (entries ∷ bgpsec ∷ []) d)) (bgpsec_from (array_at bgpsec d)) xs e))
+
+lists-said : (filters : Result (List Filter) SlurmFault) (assertions : Result (List Vrp) SlurmFault) (file : Exceptions) → mapped exceptions_of (both filters assertions) ≡ Ok file → (filters ≡ Ok file.filters) × (assertions ≡ Ok file.assertions)
+lists-said (Ok f) (Ok a) file e =
+    let same : exceptions_of (f, a) ≡ file = cc in (ap (λ (x : Exceptions). Ok x.filters) same, ap (λ (x : Exceptions). Ok x.assertions) same)
+lists-said (Ok f) (Err n) file e = cc
+lists-said (Err m) (Ok a) file e = cc
+lists-said (Err m) (Err n) file e = cc
+
+within_limit-said : (read : Result Exceptions SlurmFault) (file : Exceptions) → and_then within_limit read ≡ Ok file → read ≡ Ok file
+within_limit-said (Ok x) file e = ap Ok (here (nat_le (entry_count x) 4096) e)
+  where
+    here : (b : Bool) → (if b then Ok x else Err TooMany) ≡ Ok file → x ≡ file
+    here true e = cc
+    here false e = cc
+within_limit-said (Err n) file e = cc
+
+pub slurm_in-said : (tree : Option Data) (file : Exceptions) → slurm_in tree ≡ Ok file → SaysExceptions tree file
+slurm_in-said None file e = cc
+slurm_in-said (Some d) file e =
+    let filters = required filters_in (get (codes "validationOutputFilters") d) in
+    let assertions = required assertions_in (get (codes "locallyAddedAssertions") d) in
+    let names = codes "slurmVersion" ∷ codes "validationOutputFilters" ∷ codes "locallyAddedAssertions" ∷ [] in
+    let lists = mapped exceptions_of (both filters assertions) in
+    let read = within_limit-said (file_in d) file e in
+    let parts = lists-said filters assertions file
+    (beside-Ok lists (object_in d) file
+    (beside-Ok (beside lists (object_in d)) (only names d) file
+    (beside-Ok (beside (beside lists (object_in d)) (only names d)) (required version_in (get (codes "slurmVersion") d)) file read))) in (
+      part-said filter_in SaysFilter filter-said (codes "prefixFilters") (codes "bgpsecFilters") (get (codes "validationOutputFilters") d) file.filters parts.0,
+      part-said assertion_in SaysAssertion assertion-said (codes "prefixAssertions") (codes "bgpsecAssertions") (get (codes "locallyAddedAssertions") d) file.assertions parts.1,
+    )
+
+-- of what was answered
+pub answer-said : (tree : Option Data) (answer : Result Exceptions SlurmFault) → IfOk answer (λ file. slurm_in tree ≡ Ok file) → IfOk answer (SaysExceptions tree)
+answer-said tree (Ok file) e = slurm_in-said tree file e
+answer-said tree (Err n) e = tt

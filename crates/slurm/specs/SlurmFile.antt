@@ -1,0 +1,158 @@
+-- Which JSON trees are SLURM files, and what they say (RFC 8416 sections 3 and 4): the filters and
+-- assertions of a tree, or the fault that is told of it. Which faults a tree has stands in `SlurmFaults`.
+-- The tree is the one that the JSON reader gives: of a repeated member it has the last value, and a
+-- number is unsigned there exactly where it is written as plain decimal digits and is below 2 ^ 64.
+-- A file is read from all of its parts at once (`both`, `beside`, `each`), so that the fault is the lowest.
+use Rattle.std.specs.Prelude.{◌≡◌, ℕ, ◌^◌, ◌≤◌, nat_le, nat_lt, ◌==◌, List, [], ◌∷◌, codes, if◌then◌else◌, Option, Some, None, is_some, option_map, option_and_then, Result, Ok, Err}
+use Rattle.std.specs.Option.{ok_or}
+use Rattle.std.specs.Str.{is_utf8}
+use Rattle.std.proofs.Math.Decide.{dec_le}
+use Rattle.addr.specs.Family.{width}
+use Rattle.addr.specs.SpelledPrefix.{spelled_prefix}
+use Rattle.addr.specs.declared.prefix.Prefix.{Prefix}
+use Rattle.addr.specs.declared.asn.Asn.{Asn}
+use Rattle.addr.specs.declared.vrp.Vrp.{Vrp}
+use Rattle.serde_json.specs.Data.{Data, Items, no_items, item}
+use Rattle.serde_json.specs.Read.{read}
+use Rattle.serde_json.specs.Find.{get, as_object, as_array, as_str, as_number, as_u64}
+use Rattle.slurm.specs.Exceptions.{Exceptions, entry_count}
+use Rattle.slurm.specs.Reading.{both, beside, mapped, and_then, required, optional, each, only, list_of}
+use Rattle.slurm.specs.declared.fault.SlurmFault.{SlurmFault}
+use Rattle.slurm.specs.declared.fault.SlurmFault.TheVariants.{NotJson, NotObject, Members, Version, Bgpsec, Prefix as PrefixFault, Asn as AsnFault, MaxPrefixLength, EmptyFilter, Comment, TooMany}
+use Rattle.slurm.specs.declared.members.Comment.{Comment as CommentRead}
+use Rattle.slurm.specs.declared.members.MaxPrefixLength.{MaxPrefixLength as LengthRead}
+use Rattle.slurm.specs.declared.members.Version.{Version as VersionRead}
+use Rattle.slurm.specs.declared.filter.Filter.{Filter}
+use Rattle.slurm.specs.declared.filter.Filter.TheVariants.{Under, By, Both}
+
+-- ---- single members
+
+abbrev pub whole_number : Data → Option ℕ
+whole_number d = option_and_then as_u64 (as_number d)
+
+abbrev pub prefix_in : Data → Result Prefix SlurmFault
+prefix_in d = ok_or (option_and_then spelled_prefix (as_str d)) PrefixFault
+
+abbrev pub asn_from : Option ℕ → Result Asn SlurmFault
+asn_from None = Err AsnFault
+asn_from (Some n) = if nat_lt n (2 ^ 32) then Ok (record { 0 = n }) else Err AsnFault
+
+abbrev pub asn_in : Data → Result Asn SlurmFault
+asn_in d = asn_from (whole_number d)
+
+abbrev pub comment_in : Data → Result CommentRead SlurmFault
+comment_in d = if is_some (as_str d) then Ok (record {}) else Err Comment
+
+-- any whole number: its range depends on the prefix
+abbrev pub length_in : Data → Result LengthRead SlurmFault
+length_in d = ok_or (option_map (λ n. record { 0 = n }) (whole_number d)) MaxPrefixLength
+
+abbrev pub version_from : Option ℕ → Result VersionRead SlurmFault
+version_from None = Err Version
+version_from (Some n) = if n == 1 then Ok (record {}) else Err Version
+
+abbrev pub version_in : Data → Result VersionRead SlurmFault
+version_in d = version_from (whole_number d)
+
+-- ---- prefix filters (RFC 8416 section 3.3.1)
+
+-- the filter of the members that are there, of which there must be one
+abbrev pub filter_of : Option Prefix × Option Asn → Result Filter SlurmFault
+filter_of (Some p, Some asn) = Ok (Both p asn)
+filter_of (Some p, None) = Ok (Under p)
+filter_of (None, Some asn) = Ok (By asn)
+filter_of (None, None) = Err EmptyFilter
+
+abbrev pub filter_in : Data → Result Filter SlurmFault
+filter_in d =
+    beside (beside (and_then filter_of
+    (both (optional prefix_in (get (codes "prefix") d)) (optional asn_in (get (codes "asn") d))))
+    (only (codes "prefix" ∷ codes "asn" ∷ codes "comment" ∷ []) d))
+    (optional comment_in (get (codes "comment") d))
+
+-- ---- prefix assertions (RFC 8416 section 3.4.1)
+
+-- the VRP of this maxLength, which lies between the prefix's length and the family's width
+abbrev pub vrp_if : (p : Prefix) (max : ℕ) (asn : Asn) → Dec (p.length ≤ max) → Dec (max ≤ width p.family) → Option Vrp
+vrp_if p max asn (yes low) (yes high) =
+    Some (record { prefix = p; max = max; asn = asn; at_least_length = low; at_most_width = high })
+vrp_if p max asn (yes low) (no high) = None
+vrp_if p max asn (no low) high = None
+
+abbrev pub vrp_with : Prefix → ℕ → Asn → Option Vrp
+vrp_with p max asn = vrp_if p max asn (dec_le p.length max) (dec_le max (width p.family))
+
+-- without a maxPrefixLength it is the prefix's own length
+abbrev pub max_length : Prefix → Option LengthRead → ℕ
+max_length p None = p.length
+max_length p (Some max) = max.0
+
+abbrev pub assertion_of : Prefix × (Asn × Option LengthRead) → Result Vrp SlurmFault
+assertion_of (p, (asn, max)) = ok_or (vrp_with p (max_length p max) asn) MaxPrefixLength
+
+abbrev pub assertion_in : Data → Result Vrp SlurmFault
+assertion_in d =
+    beside (beside (and_then assertion_of
+    (both (required prefix_in (get (codes "prefix") d))
+    (both (required asn_in (get (codes "asn") d)) (optional length_in (get (codes "maxPrefixLength") d)))))
+    (only (codes "prefix" ∷ codes "asn" ∷ codes "maxPrefixLength" ∷ codes "comment" ∷ []) d))
+    (optional comment_in (get (codes "comment") d))
+
+-- ---- the file (RFC 8416 section 3.2)
+
+-- what is missing is no array
+abbrev pub entries_from : {A : Type 0} → (Data → Result A SlurmFault) → Option Items → Result (List A) SlurmFault
+entries_from reading None = Err Members
+entries_from reading (Some items) = each reading (list_of items)
+
+abbrev pub bgpsec_from : Option Items → Result (Unit {0}) SlurmFault
+bgpsec_from None = Err Members
+bgpsec_from (Some no_items) = Ok tt
+bgpsec_from (Some (item d ds)) = Err Bgpsec
+
+-- an object of two arrays: the entries, and what BGPsec adds, of which there must be nothing
+abbrev pub part_in : {A : Type 0} → (Data → Result A SlurmFault) → List ℕ → List ℕ → Data → Result (List A) SlurmFault
+part_in reading entries bgpsec d =
+    beside (beside (entries_from reading (option_and_then as_array (get entries d)))
+    (only (entries ∷ bgpsec ∷ []) d))
+    (bgpsec_from (option_and_then as_array (get bgpsec d)))
+
+abbrev pub filters_in : Data → Result (List Filter) SlurmFault
+filters_in = part_in filter_in (codes "prefixFilters") (codes "bgpsecFilters")
+
+abbrev pub assertions_in : Data → Result (List Vrp) SlurmFault
+assertions_in = part_in assertion_in (codes "prefixAssertions") (codes "bgpsecAssertions")
+
+abbrev pub object_in : Data → Result (Unit {0}) SlurmFault
+object_in d = if is_some (as_object d) then Ok tt else Err NotObject
+
+-- not more than 4096 entries
+abbrev pub within_limit : Exceptions → Result Exceptions SlurmFault
+within_limit file = if nat_le (entry_count file) 4096 then Ok file else Err TooMany
+
+abbrev pub exceptions_of : List Filter × List Vrp → Exceptions
+exceptions_of (filters, assertions) = record { filters = filters; assertions = assertions }
+
+-- the file of these two parts
+abbrev pub file_of : Result (List Filter) SlurmFault → Result (List Vrp) SlurmFault → Data → Result Exceptions SlurmFault
+file_of filters assertions d =
+    beside (beside (beside (mapped exceptions_of (both filters assertions))
+    (object_in d))
+    (only (codes "slurmVersion" ∷ codes "validationOutputFilters" ∷ codes "locallyAddedAssertions" ∷ []) d))
+    (required version_in (get (codes "slurmVersion") d))
+
+abbrev pub file_in : Data → Result Exceptions SlurmFault
+file_in d =
+    file_of (required filters_in (get (codes "validationOutputFilters") d))
+    (required assertions_in (get (codes "locallyAddedAssertions") d)) d
+
+-- what a tree says; there is none for bytes that are no JSON text
+abbrev pub slurm_in : Option Data → Result Exceptions SlurmFault
+slurm_in None = Err NotJson
+slurm_in (Some d) = and_then within_limit (file_in d)
+
+abbrev pub tree_of : List ℕ → Option Data
+tree_of bytes = if is_utf8 bytes then read bytes else None
+
+abbrev pub IsSlurmFile : Option Data → Exceptions → Type 0
+IsSlurmFile tree file = slurm_in tree ≡ Ok file

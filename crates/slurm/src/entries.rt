@@ -1,0 +1,74 @@
+//! Reading one prefix filter or prefix assertion.
+ghost use Rattle.std.specs.Prelude.{◌≡◌};
+ghost use Rattle.std.specs.Option.{ok_or};
+ghost use Rattle.slurm.specs.Reading.{both, and_then};
+ghost use Rattle.slurm.specs.SlurmFile.{filter_of, assertion_of, vrp_with};
+
+use crate::members::{Comment, FromJson, MaxPrefixLength, optional, required};
+use crate::reading::{beside, both, only};
+use crate::{Filter, SlurmFault};
+use addr::{Asn, Prefix, Vrp};
+use serde_json::Value;
+
+impl FromJson for Filter {
+    ghost use Rattle.slurm.specs.SlurmFile.{filter_in};
+
+    ghost reading = { filter_in };
+
+    fn from_json(value: &Value) -> Result<Filter, SlurmFault> {
+        let prefix = optional::<Prefix>(value, "prefix");
+        let asn = optional::<Asn>(value, "asn");
+        let filter = filter_of(both(prefix, asn));
+        let known = only(value, &["prefix", "asn", "comment"]);
+        beside(beside(filter, known), optional::<Comment>(value, "comment"))
+    }
+}
+
+fn filter_of(
+    members: Result<(Option<Prefix>, Option<Asn>), SlurmFault>,
+) -> Result<Filter, SlurmFault>
+    ensures { result ≡ and_then filter_of members }
+{
+    match members? {
+        (Some(prefix), Some(asn)) => Ok(Filter::Both(prefix, asn)),
+        (Some(prefix), None) => Ok(Filter::Under(prefix)),
+        (None, Some(asn)) => Ok(Filter::By(asn)),
+        (None, None) => Err(SlurmFault::EmptyFilter),
+    }
+}
+
+impl FromJson for Vrp {
+    ghost use Rattle.slurm.specs.SlurmFile.{assertion_in};
+
+    ghost reading = { assertion_in };
+
+    fn from_json(value: &Value) -> Result<Vrp, SlurmFault> {
+        let prefix = required::<Prefix>(value, "prefix");
+        let asn = required::<Asn>(value, "asn");
+        let max = optional::<MaxPrefixLength>(value, "maxPrefixLength");
+        let vrp = assertion_of(both(prefix, both(asn, max)));
+        let known = only(value, &["prefix", "asn", "maxPrefixLength", "comment"]);
+        beside(beside(vrp, known), optional::<Comment>(value, "comment"))
+    }
+}
+
+fn assertion_of(
+    members: Result<(Prefix, (Asn, Option<MaxPrefixLength>)), SlurmFault>,
+) -> Result<Vrp, SlurmFault>
+    ensures { result ≡ and_then assertion_of members }
+{
+    let (prefix, (asn, max)) = members?;
+    match max {
+        Some(MaxPrefixLength(max)) => vrp_with(prefix, max, asn),
+        None => vrp_with(prefix, u64::from(prefix.length), asn),
+    }
+}
+
+fn vrp_with(prefix: Prefix, max: u64, asn: Asn) -> Result<Vrp, SlurmFault>
+    ensures { result ≡ ok_or (vrp_with prefix max asn) SlurmFault.MaxPrefixLength }
+{
+    match u8::try_from(max) {
+        Ok(max) => Vrp::from_parts(prefix, max, asn).ok_or(SlurmFault::MaxPrefixLength),
+        Err(_) => Err(SlurmFault::MaxPrefixLength),
+    }
+}

@@ -1,0 +1,98 @@
+ghost use Rattle.std.specs.Prelude.{◌≡◌, ◌≢◌, ◌+◌, ◌≤◌, ◌↔◌, Any, IsTrue, List, length, Some, IfOk, IfErr};
+ghost use Rattle.std.specs.List.{list_any};
+ghost use Rattle.serde_json.specs.View.{view};
+ghost use Rattle.slurm.specs.Exceptions.{Exceptions, entry_count};
+
+use crate::file::read_file;
+use crate::filter::some_matches;
+use crate::{Filter, SlurmFault};
+use addr::Vrp;
+use serde_json::{Category, Value};
+use std::alloc::Global;
+use std::marker::Model;
+
+/// How many filters and assertions a file may have together.
+const MOST_ENTRIES: usize = 4096;
+
+/// The local exceptions of one SLURM file: its prefix filters and its prefix assertions.
+#[derive(Debug, Drop)]
+pub struct Slurm {
+    filters: Vec<Filter>,
+    assertions: Vec<Vrp>,
+}
+
+impl Model for Slurm {
+    ghost Value = { Exceptions };
+
+    ghost view = { λ s. record { filters = s.filters.items; assertions = s.assertions.items } };
+
+    ghost invariant = { λ s. length s.filters.items + length s.assertions.items ≤ 4096 };
+}
+
+impl Slurm {
+    ghost use Rattle.slurm.specs.Filter.{FilterMatches, filter_matches};
+    ghost use Rattle.slurm.specs.SlurmFile.{IsSlurmFile, tree_of, within_limit};
+    ghost use Rattle.slurm.specs.SlurmEntries.{SaysExceptions};
+    ghost use Rattle.slurm.specs.SlurmFaults.{slurm_fault};
+
+    /// The exceptions of these lists, which are kept as they are; `TooMany` where they have more than
+    /// 4096 entries together.
+    pub fn make(filters: Vec<Filter>, assertions: Vec<Vrp>) -> Result<Slurm, SlurmFault>
+        ensures { result ≡ within_limit (record { filters = filters.items; assertions = assertions.items }) }
+    {
+        if filters.len() + assertions.len() > MOST_ENTRIES {
+            return Err(SlurmFault::TooMany);
+        }
+        Ok(Slurm {
+            filters,
+            assertions,
+        })
+    }
+
+    /// Reads a file from its text.
+    pub fn read(alloc: Global, bytes: &[u8]) -> Result<Slurm, SlurmFault>
+        ensures file { IfOk result (IsSlurmFile (tree_of bytes.now)) }
+        ensures entries { IfOk result (SaysExceptions (tree_of bytes.now)) }
+        ensures fault { IfErr result (λ e. e ≢ SlurmFault.Memory → slurm_fault (tree_of bytes.now) ≡ Some e) }
+    {
+        match Value::from_slice(alloc, bytes) {
+            Ok(value) => Slurm::of(alloc, &value),
+            Err(error) => match error.classify() {
+                Category::Memory => Err(SlurmFault::Memory),
+                _ => Err(SlurmFault::NotJson),
+            },
+        }
+    }
+
+    /// Reads a file that stands in a greater JSON text.
+    pub fn of(alloc: Global, value: &Value) -> Result<Slurm, SlurmFault>
+        ensures file { IfOk result (IsSlurmFile (Some (view value.now))) }
+        ensures entries { IfOk result (SaysExceptions (Some (view value.now))) }
+        ensures fault { IfErr result (λ e. e ≢ SlurmFault.Memory → slurm_fault (Some (view value.now)) ≡ Some e) }
+        ensures is_json { result ≢ Err SlurmFault.NotJson }
+    {
+        read_file(alloc, value)
+    }
+
+    /// Whether some filter matches the VRP.
+    pub fn filtered(&self, vrp: &Vrp) -> bool
+        ensures some { IsTrue result ↔ Any (λ filter. FilterMatches filter vrp.now) self.now.filters }
+        ensures by_test { result ≡ list_any (λ filter. filter_matches filter vrp.now) self.now.filters }
+    {
+        some_matches(self.filters.as_slice(), vrp)
+    }
+
+    /// The prefix filters, in the file's order.
+    pub fn filters(&self) -> &[Filter]
+        ensures { result.now ≡ self.now.filters }
+    {
+        &self.filters
+    }
+
+    /// The prefix assertions as the VRPs that they add, in the file's order.
+    pub fn assertions(&self) -> &[Vrp]
+        ensures { result.now ≡ self.now.assertions }
+    {
+        &self.assertions
+    }
+}

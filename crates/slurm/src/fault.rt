@@ -1,0 +1,55 @@
+ghost use Rattle.std.specs.Prelude.{◌≡◌};
+ghost use Rattle.slurm.specs.Fault.{fault_number, lower};
+
+use thiserror::Error;
+
+/// Why something is no SLURM file. Where several faults apply, the one of the lowest number is told.
+#[derive(Clone, Copy, Debug, PartialEq, Eq, Error)]
+pub enum SlurmFault {
+    /// The bytes are no JSON text: so also where arrays and objects nest deeper than 127.
+    #[error("the text is not JSON")]
+    NotJson = 1,
+    #[error("the file is not an object")]
+    NotObject,
+    /// An object or array is something else, or a member is missing or unknown.
+    #[error("an object or array is wanted, or a member is missing or unknown")]
+    Members,
+    #[error("slurmVersion is not 1")]
+    Version,
+    #[error("BGPsec filters and assertions are not supported")]
+    Bgpsec,
+    #[error("a prefix is not in its one spelling")]
+    Prefix,
+    #[error("an asn is not an AS number")]
+    Asn,
+    #[error("a maxPrefixLength is not in its range")]
+    MaxPrefixLength,
+    #[error("a prefix filter has neither prefix nor asn")]
+    EmptyFilter,
+    #[error("a comment is not text")]
+    Comment,
+    #[error("there are more than 4096 filters and assertions")]
+    TooMany,
+    #[error("out of memory")]
+    Memory,
+}
+
+impl SlurmFault {
+    /// 1 for `NotJson` to 12 for `Memory`.
+    pub fn number(self) -> u8
+        ensures { result ≡ fault_number self }
+    {
+        self as u8
+    }
+
+    #[tactic(auto, unfolding(crate::specs::Fault::lower))]
+    pub(crate) fn lower(self, other: SlurmFault) -> SlurmFault
+        ensures { result ≡ lower self other }
+    {
+        if self.number() <= other.number() {
+            self
+        } else {
+            other
+        }
+    }
+}

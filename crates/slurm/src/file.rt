@@ -1,0 +1,76 @@
+//! Reading a whole file.
+ghost use Rattle.std.specs.Prelude.{◌≡◌, ◌≢◌, Some, IfOk, IfErr};
+ghost use Rattle.std.specs.Result.{result_err};
+ghost use Rattle.serde_json.specs.View.{view};
+ghost use Rattle.slurm.specs.Reading.{mapped};
+ghost use Rattle.slurm.specs.SlurmFile.{IsSlurmFile, slurm_in, file_of, object_in};
+
+use crate::lists::required_part;
+use crate::members::{Version, required};
+use crate::reading::{beside, both, only};
+use crate::{Filter, Slurm, SlurmFault};
+use addr::Vrp;
+use serde_json::Value;
+use std::alloc::Global;
+
+pub(crate) fn read_file(alloc: Global, value: &Value) -> Result<Slurm, SlurmFault>
+    ensures file { IfOk result (IsSlurmFile (Some (view value.now))) }
+    ensures fault { IfErr result (λ e. e ≢ SlurmFault.Memory → result_err (slurm_in (Some (view value.now))) ≡ Some e) }
+{
+    let Ok(filters) = required_part(
+        alloc,
+        value,
+        "validationOutputFilters",
+        "prefixFilters",
+        "bgpsecFilters",
+    ) else {
+        return Err(SlurmFault::Memory);
+    };
+    let Ok(assertions) = required_part(
+        alloc,
+        value,
+        "locallyAddedAssertions",
+        "prefixAssertions",
+        "bgpsecAssertions",
+    ) else {
+        return Err(SlurmFault::Memory);
+    };
+    match whole(value, filters, assertions) {
+        Ok((filters, assertions)) => Slurm::make(filters, assertions),
+        Err(fault) => Err(fault),
+    }
+}
+
+/// The two lists, or the lowest fault of them and of the object that they stand in.
+fn whole(
+    value: &Value,
+    filters: Result<Vec<Filter>, SlurmFault>,
+    assertions: Result<Vec<Vrp>, SlurmFault>,
+) -> Result<(Vec<Filter>, Vec<Vrp>), SlurmFault>
+    ensures { mapped (λ p. record { filters = p.0.items; assertions = p.1.items }) result
+        ≡ file_of (mapped (λ v. v.items) filters) (mapped (λ v. v.items) assertions) (view value.now) }
+{
+    let lists = beside(both(filters, assertions), object_in(value));
+    let known = only(
+        value,
+        &[
+            "slurmVersion",
+            "validationOutputFilters",
+            "locallyAddedAssertions",
+        ],
+    );
+    beside(
+        beside(lists, known),
+        required::<Version>(value, "slurmVersion"),
+    )
+}
+
+fn object_in(value: &Value) -> Result<(), SlurmFault>
+    ensures { result ≡ object_in (view value.now) }
+{
+    if value.is_object() {
+        Ok(())
+    } else {
+        Err(SlurmFault::NotObject)
+    }
+}

@@ -1,0 +1,18 @@
+//! SLURM files (RFC 8416): local exceptions to the VRPs of a relying party, as filters that take
+//! VRPs away and assertions that add some.
+#![tactic(auto)]
+
+mod entries;
+mod exceptions;
+mod fault;
+mod file;
+mod filter;
+mod lists;
+mod members;
+mod reading;
+#[cfg(test)]
+mod tests;
+
+pub use exceptions::Slurm;
+pub use fault::SlurmFault;
+pub use filter::Filter;

@@ -1,0 +1,131 @@
+//! Reading the lists of entries.
+ghost use Rattle.std.specs.Prelude.{◌≡◌, ◌++◌, ◌∷◌, [], map, IfOk, OnOk, option_and_then, option_map};
+ghost use Rattle.serde_json.specs.Find.{as_array, get};
+ghost use Rattle.serde_json.specs.View.{items_view, view};
+ghost use Rattle.slurm.specs.Gathered.{gathered};
+ghost use Rattle.slurm.specs.Reading.{both, each, mapped, required};
+ghost use Rattle.slurm.specs.SlurmFile.{bgpsec_from, entries_from, part_in};
+
+use crate::SlurmFault;
+use crate::members::FromJson;
+use crate::reading::{beside, only};
+use serde_json::Value;
+use std::alloc::{AllocError, Global};
+
+/// The entries of a list, or the lowest fault of the list and of all of its entries.
+type Listed<T> = Result<Vec<T>, SlurmFault>;
+
+/// All entries of a list that were read, or the lowest fault of any.
+#[derive(Drop)]
+struct Gathered<T> {
+    entries: Vec<T>,
+    fault: Option<SlurmFault>,
+}
+
+impl<T: FromJson> Gathered<T> {
+    fn add(&mut self, entry: Result<T, SlurmFault>) -> Result<(), AllocError>
+        ensures { OnOk result (gathered self.new.fault self.new.entries.items
+            ≡ mapped (λ p. p.0 ++ p.1 ∷ []) (both (gathered self.old.fault self.old.entries.items) entry)) }
+    {
+        match (entry, self.fault) {
+            (Ok(entry), None) => self.entries.push(entry)?,
+            (Ok(_), Some(_)) => {}
+            (Err(fault), None) => self.fault = Some(fault),
+            (Err(fault), Some(known)) => self.fault = Some(known.lower(fault)),
+        }
+        Ok(())
+    }
+
+    fn finish(self) -> Listed<T>
+        ensures { mapped (λ v. v.items) result ≡ gathered self.fault self.entries.items }
+    {
+        match self.fault {
+            None => Ok(self.entries),
+            Some(fault) => Err(fault),
+        }
+    }
+}
+
+/// Reads each item. The outer error is want of memory.
+fn each<T: FromJson>(alloc: Global, values: &[Value]) -> Result<Listed<T>, AllocError>
+    ensures { IfOk result (λ read. mapped (λ v. v.items) read ≡ each T.reading (map view values.now)) }
+{
+    let mut gathered = Gathered {
+        entries: Vec::new(alloc),
+        fault: None,
+    };
+    for value in values {
+        gathered.add(T::from_json(value))?;
+    }
+    Ok(gathered.finish())
+}
+
+fn array_in<'a>(value: &'a Value, name: &str) -> Option<&'a Vec<Value>>
+    ensures { option_map (λ v. items_view v.now.items) result ≡ option_and_then as_array (get name.now (view value.now)) }
+{
+    match value.get(name) {
+        Some(member) => member.as_array(),
+        None => None,
+    }
+}
+
+/// The array of that name, each item read. The outer error is want of memory.
+fn entries_in<T: FromJson>(
+    alloc: Global,
+    value: &Value,
+    name: &str,
+) -> Result<Listed<T>, AllocError>
+    ensures { IfOk result (λ read. mapped (λ v. v.items) read
+        ≡ entries_from T.reading (option_and_then as_array (get name.now (view value.now)))) }
+{
+    match array_in(value, name) {
+        Some(values) => each(alloc, values),
+        None => Ok(Err(SlurmFault::Members)),
+    }
+}
+
+/// The array of that name has to be there, and to be empty.
+fn bgpsec_in(value: &Value, name: &str) -> Result<(), SlurmFault>
+    ensures { result ≡ bgpsec_from (option_and_then as_array (get name.now (view value.now))) }
+{
+    let Some(values) = array_in(value, name) else {
+        return Err(SlurmFault::Members);
+    };
+    if values.as_slice().is_empty() {
+        Ok(())
+    } else {
+        Err(SlurmFault::Bgpsec)
+    }
+}
+
+fn part<T: FromJson>(
+    alloc: Global,
+    value: &Value,
+    entries: &str,
+    bgpsec: &str,
+) -> Result<Listed<T>, AllocError>
+    ensures { IfOk result (λ read. mapped (λ v. v.items) read ≡ part_in T.reading entries.now bgpsec.now (view value.now)) }
+{
+    let listed = entries_in(alloc, value, entries)?;
+    let known = only(value, &[entries, bgpsec]);
+    let unused = bgpsec_in(value, bgpsec);
+    Ok(beside(beside(listed, known), unused))
+}
+
+/// The part of that name: an object of the entries, and of the BGPsec entries, of which there must be
+/// none. The outer error is want of memory.
+pub(crate) fn required_part<T: FromJson>(
+    alloc: Global,
+    value: &Value,
+    name: &str,
+    entries: &str,
+    bgpsec: &str,
+) -> Result<Listed<T>, AllocError>
+    ensures { IfOk result (λ read. mapped (λ v. v.items) read
+        ≡ required (part_in T.reading entries.now bgpsec.now) (get name.now (view value.now))) }
+{
+    match value.get(name) {
+        Some(member) => part(alloc, member, entries, bgpsec),
+        None => Ok(Err(SlurmFault::Members)),
+    }
+}
