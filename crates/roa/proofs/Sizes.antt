@@ -1,0 +1,46 @@
+-- How long the parts of a content are: no length comes near 2 ^ 16.
+use Rattle.std.proofs.Common.{◌≡◌, ℕ, zero, suc, ◌+◌, ◌-◌, ◌*◌, ◌/◌, ◌^◌, ◌<◌, ◌≤◌, List, [], ◌∷◌, ◌++◌, length, refl, sym, ap, ◌∙◌, inl, inr, arith}
+use Rattle.std.specs.List.{flat_map}
+use Rattle.std.proofs.lemmas.Bool.{cases_lt, lt-ltb, le-ltb}
+use Rattle.std.proofs.lemmas.List.{length-append}
+use Rattle.std.proofs.lemmas.List.Concat.{flat_map-cons}
+use Rattle.addr.specs.Family.{width}
+use Rattle.addr.specs.declared.family.Family.{Family}
+use Rattle.roa.specs.RoaContent.{length_octets, element, be_octets, integer_len, integer, bit_octets, bit_string, max_length, roa_ip_address, family_octets, octet_string, sequence}
+use Rattle.roa.specs.Reading.{Numbers}
+use Rattle.roa.proofs.Octets.{length-be_octets}
+use Rattle.roa.proofs.Primitives.{integer_len_bound, bit_octets_bound, bit_contents}
+
+length-length_octets : (n : ℕ) → length (length_octets n) ≤ 3
+length-length_octets n =
+    elim (cases_lt n 128) [
+      | inl lt ↦ rw (lt-ltb n 128 lt) (omega arith)
+      | inr ge ↦ elim (cases_lt n 256) [
+        | inl lt ↦ rw (le-ltb n 128 ge, lt-ltb n 256 lt) (omega arith)
+        | inr ge2 ↦ rw (le-ltb n 128 ge, le-ltb n 256 ge2) (omega arith)
+      ]
+    ]
+
+pub length-element : (tag : ℕ) (contents : List ℕ) → length (element tag contents) ≤ length contents + 4
+length-element tag contents = omega (arith, length-append (length_octets (length contents)) contents, length-length_octets (length contents))
+
+pub length-integer : (n : ℕ) → length (integer n) ≤ 9
+length-integer n = omega (arith, length-element 2 (be_octets (integer_len n) n), length-be_octets (integer_len n) n, integer_len_bound n)
+
+pub length-bit_contents : (family : Family) (first bits : ℕ) → bits ≤ width family → length (bit_contents family first bits) ≤ 17
+length-bit_contents family first bits h = omega (arith, length-be_octets (bit_octets bits) (first / 2 ^ (width family - 8 * bit_octets bits)), bit_octets_bound family bits h)
+
+length-max_length : (bits max : ℕ) → length (max_length bits max) ≤ 9
+length-max_length bits max =
+    elim (cases_lt bits max) [
+      | inl lt ↦ rw (lt-ltb bits max lt) (length-integer max)
+      | inr ge ↦ rw (le-ltb bits max ge) (omega arith)
+    ]
+
+pub length-entry_contents : (family : Family) (first bits max : ℕ) → bits ≤ width family → length (bit_string family first bits ++ max_length bits max) ≤ 30
+length-entry_contents family first bits max h =
+    omega (arith, length-append (bit_string family first bits) (max_length bits max), length-element 3 (bit_contents family first bits), length-bit_contents family first bits h, length-max_length bits max)
+
+pub length-roa_ip_address : (family : Family) (first bits max : ℕ) → bits ≤ width family → length (roa_ip_address family first bits max) ≤ 34
+length-roa_ip_address family first bits max h =
+    omega (arith, length-element 48 (bit_string family first bits ++ max_length bits max), length-entry_contents family first bits max h)

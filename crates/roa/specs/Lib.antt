@@ -1,0 +1,2 @@
+pub mod RoaContent
+pub mod Reading
