@@ -36,6 +36,10 @@ spelled number four six = sequence (integer number ++ sequence (blocks_octets fo
 
 -- ---- one block
 
+length-family_octets : (family : Family) → length (family_octets family) ≡ 2
+length-family_octets V4 = refl
+length-family_octets V6 = refl
+
 same_octets : (family : Family) → pointwise nat_eq (family_octets family) (family_octets family) ≡ true
 same_octets V4 = refl
 same_octets V6 = refl
@@ -57,11 +61,11 @@ block_again family n ns rest all few =
     let addresses : List ℕ = flat_map numbers_octets (n ∷ ns) in
     let size : length (flat_map numbers_octets (n ∷ ns)) ≤ 2176 = omega (arith, length-entries family (n ∷ ns) all, few) in
     let size2 : length (sequence (flat_map numbers_octets (n ∷ ns))) ≤ 2180 = omega (arith, length-element 48 (flat_map numbers_octets (n ∷ ns)), size) in
-    let size3 : length (octet_string (family_octets family) ++ sequence (flat_map numbers_octets (n ∷ ns))) < 65536 = omega (arith, size2, length-append (octet_string (family_octets family)) (sequence (flat_map numbers_octets (n ∷ ns))), length-element 4 (family_octets family)) in
+    let size3 : length (octet_string (family_octets family) ++ sequence (flat_map numbers_octets (n ∷ ns))) < 65536 = omega (arith, size2, length-append (octet_string (family_octets family)) (sequence (flat_map numbers_octets (n ∷ ns))), length-element 4 (family_octets family), length-family_octets family) in
     let first : element_at 48 (block_octets family (n ∷ ns) ++ rest) ≡ Some (octet_string (family_octets family) ++ sequence (flat_map numbers_octets (n ∷ ns)), rest) =
         element_again 48 (octet_string (family_octets family) ++ sequence (flat_map numbers_octets (n ∷ ns))) rest size3 in
     let second : element_at 4 (octet_string (family_octets family) ++ sequence (flat_map numbers_octets (n ∷ ns))) ≡ Some (family_octets family, sequence (flat_map numbers_octets (n ∷ ns))) =
-        element_again 4 (family_octets family) (sequence (flat_map numbers_octets (n ∷ ns))) (omega arith) in
+        element_again 4 (family_octets family) (sequence (flat_map numbers_octets (n ∷ ns))) (omega (arith, length-family_octets family)) in
     let third : whole 48 (sequence (flat_map numbers_octets (n ∷ ns))) ≡ Some (flat_map numbers_octets (n ∷ ns)) = whole_again 48 (flat_map numbers_octets (n ∷ ns)) (omega (arith, size)) in
     let some : eqb (length (flat_map numbers_octets (n ∷ ns))) 0 ≡ false = ne_eqb _ 0 (λ z. omega (arith, ap length (flat_map-cons numbers_octets n ns), z)) in
     rw (first, second, same_octets family, third, some) refl
@@ -72,7 +76,7 @@ unfolding block_at
 block_other n ns all few =
     let size : length (flat_map numbers_octets (n ∷ ns)) ≤ 2176 = omega (arith, length-entries V6 (n ∷ ns) all, few) in
     let size2 : length (sequence (flat_map numbers_octets (n ∷ ns))) ≤ 2180 = omega (arith, length-element 48 (flat_map numbers_octets (n ∷ ns)), size) in
-    let size3 : length (octet_string (family_octets V6) ++ sequence (flat_map numbers_octets (n ∷ ns))) < 65536 = omega (arith, size2, length-append (octet_string (family_octets V6)) (sequence (flat_map numbers_octets (n ∷ ns))), length-element 4 (family_octets V6)) in
+    let size3 : length (octet_string (family_octets V6) ++ sequence (flat_map numbers_octets (n ∷ ns))) < 65536 = omega (arith, size2, length-append (octet_string (family_octets V6)) (sequence (flat_map numbers_octets (n ∷ ns))), length-element 4 (family_octets V6), length-family_octets V6) in
     let first : element_at 48 (block_octets V6 (n ∷ ns)) ≡ Some (octet_string (family_octets V6) ++ sequence (flat_map numbers_octets (n ∷ ns)), []) =
         ap (element_at 48) (sym (append-nil (block_octets V6 (n ∷ ns)))) ∙ element_again 48 (octet_string (family_octets V6) ++ sequence (flat_map numbers_octets (n ∷ ns))) [] size3 in
     let second : element_at 4 (octet_string (family_octets V6) ++ sequence (flat_map numbers_octets (n ∷ ns))) ≡ Some (family_octets V6, sequence (flat_map numbers_octets (n ∷ ns))) =
@@ -194,7 +198,7 @@ length-block family (n ∷ ns) all =
     let size : length (flat_map numbers_octets (n ∷ ns)) ≤ 34 * length (n ∷ ns) = length-entries family (n ∷ ns) all in
     let size2 : length (sequence (flat_map numbers_octets (n ∷ ns))) ≤ length (flat_map numbers_octets (n ∷ ns)) + 4 = length-element 48 (flat_map numbers_octets (n ∷ ns)) in
     let size3 : length (octet_string (family_octets family) ++ sequence (flat_map numbers_octets (n ∷ ns))) ≡ length (octet_string (family_octets family)) + length (sequence (flat_map numbers_octets (n ∷ ns))) = length-append (octet_string (family_octets family)) (sequence (flat_map numbers_octets (n ∷ ns))) in
-    let size4 : length (octet_string (family_octets family)) ≤ 6 = length-element 4 (family_octets family) in
+    let size4 : length (octet_string (family_octets family)) ≤ 6 = omega (arith, length-element 4 (family_octets family), length-family_octets family) in
     omega (arith, size, size2, size3, size4, length-element 48 (octet_string (family_octets family) ++ sequence (flat_map numbers_octets (n ∷ ns))))
 
 pub length-blocks : (four six : List Numbers) → AreBlocks four six → length (blocks_octets four six) ≤ 2204

@@ -4,3 +4,6 @@ pub mod Primitives
 pub mod Sizes
 pub mod Entries
 pub mod Blocks
+pub mod Prefixes
+pub mod Contents
+pub mod Order

@@ -22,15 +22,15 @@ pub record RouteOriginAttestation : Type 0 where
 
 -- ---- which contents there are
 
--- the place of the family's octets: IPv4 before IPv6
-abbrev pub family_number : Family → ℕ
-family_number V4 = 1
-family_number V6 = 2
+-- IPv4 before IPv6
+abbrev pub family_place : Family → ℕ
+family_place V4 = 0
+family_place V6 = 1
 
 -- entries rise by family, first address, prefix length and greatest length
 abbrev pub entry_order : Entry → Entry → Ordering
 entry_order a b =
-    ordering_then (nat_cmp (family_number a.prefix.family) (family_number b.prefix.family))
+    ordering_then (nat_cmp (family_place a.prefix.family) (family_place b.prefix.family))
     (ordering_then (nat_cmp a.prefix.first b.prefix.first)
     (ordering_then (nat_cmp a.prefix.length b.prefix.length) (nat_cmp a.max b.max)))
 
@@ -58,6 +58,11 @@ pub record AreCanonical (entries : List Entry) : Type 0 where
   pub count : AreInCount entries
   pub in_range : list_all is_in_range entries ≡ true
   pub rising : Rises entries
+
+-- the AS number has 32 bits, and the entries are those of a content
+pub record IsContent (content : RouteOriginAttestation) : Type 0 where
+  pub asn : content.asn.0 < 2 ^ 32
+  pub entries : AreCanonical content.entries
 
 -- the fault is the lowest one of the entries, over all of them
 abbrev pub IsLowestFault : List Entry → ContentFault → Type 0
@@ -127,9 +132,10 @@ roa_ip_address family first length max = sequence (bit_string family first lengt
 abbrev pub entry_octets : Entry → List ℕ
 entry_octets e = roa_ip_address e.prefix.family e.prefix.first e.prefix.length e.max
 
--- addressFamily
+-- addressFamily: the number of IPv4 is 1, and that of IPv6 is 2
 abbrev pub family_octets : Family → List ℕ
-family_octets family = 0 ∷ family_number family ∷ []
+family_octets V4 = 0 ∷ 1 ∷ []
+family_octets V6 = 0 ∷ 2 ∷ []
 
 -- ROAIPAddressFamily, where there are entries of the family
 abbrev pub roa_ip_address_family : Family → List Entry → List ℕ

@@ -1,15 +1,27 @@
-ghost use Rattle.std.specs.Prelude.{◌≡◌};
-ghost use Rattle.std.specs.Ordering.{is_lt};
-ghost use Rattle.roa.specs.RoaContent.{entry_order};
-ghost use Rattle.roa.specs.Reading.{length_at};
+ghost use Rattle.std.specs.Prelude.{◌≡◌, ◌<◌, ◌≤◌, ◌↔◌, true, length, IsTrue, IfOk, IfErr, IfSome, IfNone, IsPermutation};
+ghost use Rattle.std.specs.List.{list_all};
 
 use addr::{Asn, Prefix};
+use std::marker::Model;
 
 /// A prefix, and the greatest length that the authorization covers in it.
+///
+/// Entries rise by family, first address, prefix length and greatest length.
 #[derive(Clone, Copy, Debug, PartialEq, Eq, PartialOrd, Ord)]
 pub struct Entry {
     pub prefix: Prefix,
     pub max: u8,
+}
+
+impl Entry {
+    ghost use Rattle.roa.specs.RoaContent.{is_in_range};
+
+    /// Whether the greatest length is neither below the prefix's length nor over the family's width.
+    fn is_in_range(&self) -> bool
+        ensures { result ≡ is_in_range self.now }
+    {
+        self.prefix.length <= self.max && self.max <= self.prefix.family.width()
+    }
 }
 
 /// Why a list of entries is no content.
@@ -25,19 +37,94 @@ pub enum ContentFault {
     Repeated,
 }
 
+/// The content of a route origin authorization (RFC 9582 section 4): one AS number, and 1 to 64
+/// entries that rise strictly.
+#[derive(Debug, Drop)]
 pub struct Content {
-    pub asn: Asn,
+    asn: Asn,
+    entries: Vec<Entry>,
 }
 
-fn is_before(a: &Entry, b: &Entry) -> bool
-    ensures { result ≡ is_lt (entry_order a.now b.now) }
-{
-    a < b
+impl Model for Content {
+    ghost use Rattle.roa.specs.RoaContent.{RouteOriginAttestation, AreCanonical};
+
+    ghost Value = { RouteOriginAttestation };
+
+    ghost view = { λ c. record { asn = c.asn; entries = c.entries.items } };
+
+    ghost invariant = { λ c. AreCanonical c.entries.items };
 }
 
-#[tactic(auto, using(crate::proofs::Blocks::content_only))]
-fn nothing() -> u8
-    ensures { result ≡ 0 }
+impl Content {
+    ghost use Rattle.roa.specs.RoaContent.{AreCanonical, IsLowestFault, is_in_range};
+
+    /// The most entries that a content has.
+    pub const MAX_ENTRIES: usize = 64;
+
+    /// The content of the entries, which it puts in order. Of several faults it tells the lowest,
+    /// over all entries.
+    pub fn make(asn: Asn, mut entries: Vec<Entry>) -> Result<Content, ContentFault>
+        ensures asn { IfOk result (λ content. content.asn ≡ asn) }
+        ensures same_entries { IfOk result (λ content. IsPermutation entries.items content.entries) }
+        ensures canonical { IfOk result (λ content. AreCanonical content.entries) }
+        ensures fault { IfErr result (IsLowestFault entries.items) }
+    {
+        if entries.is_empty() {
+            return Err(ContentFault::Empty);
+        }
+        if entries.len() > Self::MAX_ENTRIES {
+            return Err(ContentFault::TooMany);
+        }
+        if !are_in_range(&entries) {
+            return Err(ContentFault::MaxLength);
+        }
+        entries.sort_unstable();
+        if !rises(&entries) {
+            return Err(ContentFault::Repeated);
+        }
+        Ok(Content { asn, entries })
+    }
+
+    /// None where there is no entry, or where the entries do not rise strictly.
+    pub(crate) fn from_rising(asn: Asn, entries: Vec<Entry>) -> Option<Content>
+        requires few { length entries.items ≤ 64 }
+        requires in_range { list_all is_in_range entries.items ≡ true }
+        ensures some { IfSome result (λ content. (content.asn ≡ asn) × (content.entries ≡ entries.items)) }
+        ensures canonical { IfSome result (λ content. AreCanonical content.entries) }
+        ensures none { IfNone result (AreCanonical entries.items → ⊥) }
+    {
+        if entries.is_empty() || !rises(&entries) {
+            return None;
+        }
+        Some(Content { asn, entries })
+    }
+
+    pub fn asn(&self) -> Asn
+        ensures { result ≡ self.now.asn }
+    {
+        self.asn
+    }
+
+    /// The entries, in rising order.
+    pub fn entries(&self) -> &[Entry]
+        ensures entries { result.now ≡ self.now.entries }
+        ensures canonical { AreCanonical self.now.entries }
+    {
+        &self.entries
+    }
+}
+
+ghost use Rattle.roa.specs.RoaContent.{Rises, is_in_range};
+
+fn are_in_range(entries: &[Entry]) -> bool
+    ensures { result ≡ list_all is_in_range entries.now }
 {
-    0
+    entries.iter().all(|entry| entry.is_in_range())
+}
+
+/// Whether each entry is before the next one.
+fn rises(entries: &[Entry]) -> bool
+    ensures { IsTrue result ↔ Rises entries.now }
+{
+    entries.is_sorted_by(|a, b| a < b)
 }
