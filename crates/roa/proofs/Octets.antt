@@ -1,5 +1,7 @@
 -- Numbers as octets, the most significant one first.
 use Rattle.std.proofs.Common.{◌≡◌, ℕ, zero, suc, ◌+◌, ◌-◌, ◌*◌, ◌/◌, ◌%◌, ◌^◌, ◌<◌, ◌≤◌, List, [], ◌∷◌, ◌++◌, length, get_or, take, drop, refl, sym, ap, subst, ◌∙◌, arith}
+use Rattle.std.proofs.Math.Nat.{pow-le-pow_right}
+use Rattle.std.proofs.lemmas.List.{take_more, length-append, length-take}
 use Rattle.std.proofs.lemmas.Nat.{pow_pos, pow-add, div-mul-add, mod-mul-add, mod_below, div_below, div-add-mod', mul-add-lt}
 use Rattle.roa.specs.RoaContent.{be_octets}
 use Rattle.roa.specs.Reading.{be_value}
@@ -47,3 +49,23 @@ be_octets-be_value [] h = refl
 be_octets-be_value (b ∷ bs) h =
     let low = be_value_below bs h.1 in
     rw (div-mul-add b (2 ^ (8 * length bs)) (be_value bs) low, mod-mul-add b (2 ^ (8 * length bs)) (be_value bs) low, be_octets-be_value bs h.1) refl
+
+be_value-push : (bs : List ℕ) (b : ℕ) → be_value (bs ++ b ∷ []) ≡ 256 * be_value bs + b
+be_value-push [] b = omega arith
+be_value-push (a ∷ bs) b =
+    let len : length (bs ++ b ∷ []) ≡ suc (length bs) = omega (arith, length-append bs (b ∷ [])) in
+    let step : 2 ^ (8 * length (bs ++ b ∷ [])) ≡ 256 * 2 ^ (8 * length bs) = ap (λ (k : ℕ). 2 ^ (8 * k)) len ∙ pow_step (length bs) in
+    let turned : a * (256 * 2 ^ (8 * length bs)) ≡ 256 * (a * 2 ^ (8 * length bs)) = grind arith in
+    rw (step, be_value-push bs b) (omega (arith, turned))
+
+-- a loop's step over the octets
+pub be_value_more : (bs : List ℕ) (i b : ℕ) → i < length bs → b ≡ get_or bs i 0 → be_value (take (i + 1) bs) ≡ 256 * be_value (take i bs) + b
+be_value_more bs i b lt is = ap be_value (take_more bs i 0 lt) ∙ be_value-push (take i bs) (get_or bs i 0) ∙ ap (λ (x : ℕ). 256 * be_value (take i bs) + x) (sym is)
+
+pub be_value_short : (bs : List ℕ) (i : ℕ) → AreOctets bs → i ≤ 15 → be_value (take i bs) < 2 ^ 120
+be_value_short bs i are le =
+    let below : be_value (take i bs) < 2 ^ (8 * length (take i bs)) = be_value_below (take i bs) (AreOctets-take i bs are) in
+    let short : 8 * length (take i bs) ≤ 120 = omega (arith, length-take i bs) in
+    let two : 0 < 2 = omega arith in
+    let bigger : 2 ^ (8 * length (take i bs)) ≤ 2 ^ 120 = pow-le-pow_right two short in
+    omega (arith, below, bigger)

@@ -1,6 +1,9 @@
 -- INTEGER and BIT STRING: what is read is what is written.
 use Rattle.std.proofs.Common.{◌≡◌, ℕ, zero, suc, ◌+◌, ◌-◌, ◌*◌, ◌/◌, ◌%◌, ◌^◌, ◌<◌, ◌≤◌, Bool, true, false, cond, ltb, eqb, ◌&&◌, List, [], ◌∷◌, ◌++◌, length, Option, Some, None, refl, sym, ap, subst, ◌∙◌, inl, inr, arith}
-use Rattle.std.proofs.lemmas.Bool.{cases_lt, cases_eq, cases_Bool, lt-ltb, le-ltb, eq-eqb, ne_eqb, ltb-true, eqb-true, and_parts, and_from}
+use Rattle.std.specs.Prelude.{◌↔◌, IsSome, IfSome, unwrap_or}
+use Rattle.std.specs.Option.{SomeIff}
+use Rattle.addr.specs.declared.prefix.Prefix.{Prefix}
+use Rattle.std.proofs.lemmas.Bool.{false≢true, cases_lt, cases_eq, cases_Bool, lt-ltb, le-ltb, eq-eqb, ne_eqb, ltb-true, eqb-true, and_parts, and_from}
 use Rattle.std.proofs.lemmas.Option.{same_Some}
 use Rattle.std.proofs.lemmas.Nat.{pow_pos, pow-add, shl-shr, shr_split, mod-pow-add, shr_below, shl_below}
 use Rattle.addr.specs.Family.{width}
@@ -8,7 +11,7 @@ use Rattle.addr.specs.Address.{IsPrefix}
 use Rattle.addr.specs.declared.family.Family.{Family}
 use Rattle.addr.specs.declared.family.Family.TheVariants.{V4, V6}
 use Rattle.roa.specs.RoaContent.{be_octets, integer_len, bit_octets}
-use Rattle.roa.specs.Reading.{be_value, integer_of, prefix_of}
+use Rattle.roa.specs.Reading.{be_value, integer_of, prefix_of, Gives}
 use Rattle.roa.proofs.Octets.{AreOctets, length-be_octets, be_value-be_octets, be_value_below, be_octets-be_value}
 
 -- ---- INTEGER
@@ -117,40 +120,75 @@ prefix_again family first bits is =
     let bits_back : 8 * bit_octets bits - (8 * bit_octets bits - bits) ≡ bits = omega arith in
     let t1 : ltb 7 (8 * bit_octets bits - bits) ≡ false = le-ltb _ _ small in
     let t2 : ltb (8 * bit_octets bits) (8 * bit_octets bits - bits) ≡ false = le-ltb _ _ (omega arith) in
-    let t3 : ltb (width family) (8 * bit_octets bits) ≡ false = le-ltb _ _ fit in
+    let t3 : ltb (width family / 8) (bit_octets bits) ≡ false = le-ltb _ _ (omega (arith, fit)) in
     let t4 : eqb (first % 2 ^ (width family - bits)) 0 ≡ true = eq-eqb _ _ is.2 in
-    rw (t1, len, t2, t3, value, back, bits_back, t4) refl
+    rw (t1, len, t3, t2, value, back, bits_back, t4) refl
+
+-- the first address that the octets begin
+abbrev pub first_of : Family → List ℕ → ℕ
+first_of family bs = be_value bs * 2 ^ (width family - 8 * length bs)
+
+first_below : (family : Family) (bs : List ℕ) → AreOctets bs → 8 * length bs ≤ width family → first_of family bs < 2 ^ width family
+first_below family bs are fit =
+    let whole_width : 8 * length bs + (width family - 8 * length bs) ≡ width family = omega arith in
+    subst (λ (m : ℕ). first_of family bs < 2 ^ m) whole_width (shl_below (be_value bs) (8 * length bs) (width family - 8 * length bs) (be_value_below bs are))
+
+width_bound : (family : Family) → 2 ^ width family ≤ 2 ^ 128
+width_bound V4 = omega arith
+width_bound V6 = omega arith
+
+nothing_read : (family : Family) (bs : List ℕ) → (width family - 8 * length bs < 128 → ⊥) → first_of family bs ≡ 0
+nothing_read family [] h = omega arith
+nothing_read V4 (b ∷ bs) h = absurd (h (omega arith))
+nothing_read V6 (b ∷ bs) h = absurd (h (omega arith))
+
+-- the octets shifted to the front of the address, in 128 bits
+pub shifted_is : (family : Family) (bs : List ℕ) (r : Option ℕ) → AreOctets bs → 8 * length bs ≤ width family → SomeIff r (width family - 8 * length bs < 128) (first_of family bs % 2 ^ 128) → unwrap_or r 0 ≡ first_of family bs
+shifted_is family bs (Some n) are fit h =
+    let small : first_of family bs < 2 ^ 128 = omega (arith, first_below family bs are fit, width_bound family) in
+    omega (arith, h.1, small)
+shifted_is family bs None are fit h = sym (nothing_read family bs h)
 
 pub prefix_only : (family : Family) (c : List ℕ) (p : ℕ × ℕ) → AreOctets c → prefix_of family c ≡ Some p → (c ≡ bit_contents family p.0 p.1) × IsPrefix family p.0 p.1
 unfolding prefix_of
 prefix_only family [] p octets e = absurd cc
 prefix_only family (unused ∷ bs) p octets e =
-    let k : ℕ = length bs in
-    let first : ℕ = be_value bs * 2 ^ (width family - 8 * length bs) in
-    let bits : ℕ = 8 * length bs - unused in
     elim (cases_lt 7 unused) [
       | inl many ↦ let e' = rw (lt-ltb 7 unused many) at e in absurd cc
-      | inr few ↦ elim (cases_lt (8 * length bs) unused) [
-        | inl short ↦ let e' = rw (le-ltb 7 unused few, lt-ltb (8 * length bs) unused short) at e in absurd cc
-        | inr long ↦ elim (cases_lt (width family) (8 * length bs)) [
-          | inl wide ↦ let e' = rw (le-ltb 7 unused few, le-ltb (8 * length bs) unused long, lt-ltb (width family) (8 * length bs) wide) at e in absurd cc
-          | inr fit ↦
-              let e1 = rw (le-ltb 7 unused few, le-ltb (8 * length bs) unused long, le-ltb (width family) (8 * length bs) fit) at e in
-              elim (cases_eq ((be_value bs * 2 ^ (width family - 8 * length bs)) % 2 ^ (width family - (8 * length bs - unused))) 0) [
+      | inr few ↦ elim (cases_lt (width family / 8) (length bs)) [
+        | inl wide ↦ let e' = rw (le-ltb 7 unused few, lt-ltb (width family / 8) (length bs) wide) at e in absurd cc
+        | inr narrow ↦ elim (cases_lt (8 * length bs) unused) [
+          | inl short ↦ let e' = rw (le-ltb 7 unused few, le-ltb (width family / 8) (length bs) narrow, lt-ltb (8 * length bs) unused short) at e in absurd cc
+          | inr long ↦
+              let e1 = rw (le-ltb 7 unused few, le-ltb (width family / 8) (length bs) narrow, le-ltb (8 * length bs) unused long) at e in
+              let fit : 8 * length bs ≤ width family = omega (arith, narrow) in
+              elim (cases_eq (first_of family bs % 2 ^ (width family - (8 * length bs - unused))) 0) [
                 | inr set' ↦ let e2 = rw (ne_eqb _ 0 set') at e1 in absurd cc
                 | inl zeros ↦
                     let e2 = rw (eq-eqb _ 0 zeros) at e1 in
                     let count : bit_octets (8 * length bs - unused) ≡ length bs = omega arith in
                     let unused_is : 8 * length bs - (8 * length bs - unused) ≡ unused = omega arith in
-                    let shifted : be_value bs * 2 ^ (width family - 8 * length bs) / 2 ^ (width family - 8 * length bs) ≡ be_value bs = shl-shr (be_value bs) (width family - 8 * length bs) in
-                    let parts : unused ∷ bs ≡ bit_contents family (be_value bs * 2 ^ (width family - 8 * length bs)) (8 * length bs - unused) =
+                    let shifted : first_of family bs / 2 ^ (width family - 8 * length bs) ≡ be_value bs = shl-shr (be_value bs) (width family - 8 * length bs) in
+                    let parts : unused ∷ bs ≡ bit_contents family (first_of family bs) (8 * length bs - unused) =
                         rw (count, unused_is, shifted, be_octets-be_value bs octets.1) refl in
-                    let whole_width : 8 * length bs + (width family - 8 * length bs) ≡ width family = omega arith in
-                    let below : be_value bs * 2 ^ (width family - 8 * length bs) < 2 ^ width family =
-                        subst (λ (m : ℕ). be_value bs * 2 ^ (width family - 8 * length bs) < 2 ^ m) whole_width (shl_below (be_value bs) (8 * length bs) (width family - 8 * length bs) (be_value_below bs octets.1)) in
-                    subst (λ (q : ℕ × ℕ). (unused ∷ bs ≡ bit_contents family q.0 q.1) × IsPrefix family q.0 q.1) (same_Some (be_value bs * 2 ^ (width family - 8 * length bs), 8 * length bs - unused) p e2)
-                        (parts, (omega arith, below, zeros))
+                    subst (λ (q : ℕ × ℕ). (unused ∷ bs ≡ bit_contents family q.0 q.1) × IsPrefix family q.0 q.1) (same_Some (first_of family bs, 8 * length bs - unused) p e2)
+                        (parts, (omega arith, first_below family bs octets.1 fit, zeros))
               ]
-          ]
         ]
       ]
+    ]
+
+-- what a prefix made of the parts is, or that there is none
+pub prefix_made : (family : Family) (unused : ℕ) (bs : List ℕ) (first bits : ℕ) (r : Option Prefix) → AreOctets bs → unused ≤ 7 → length bs ≤ width family / 8 → unused ≤ 8 * length bs
+    → first ≡ first_of family bs → bits ≡ 8 * length bs - unused → (IsSome r ↔ IsPrefix family first bits) → IfSome r (λ p. (p.family ≡ family) × (p.first ≡ first) × (p.length ≡ bits))
+    → Gives (λ p. (p.first, p.length)) r (prefix_of family (unused ∷ bs))
+unfolding prefix_of
+prefix_made family unused bs first bits (Some p) are few narrow long first_is bits_is some parts =
+    let is : IsPrefix family first bits = some.0 refl in
+    let zeros : first_of family bs % 2 ^ (width family - (8 * length bs - unused)) ≡ 0 = rw (← first_is, ← bits_is) is.2 in
+    rw (le-ltb 7 unused few, le-ltb (width family / 8) (length bs) narrow, le-ltb (8 * length bs) unused long, eq-eqb _ 0 zeros, ← first_is, ← bits_is, parts.1, parts.2) refl
+prefix_made family unused bs first bits None are few narrow long first_is bits_is some parts =
+    let fit : 8 * length bs ≤ width family = omega (arith, narrow) in
+    let set' : first_of family bs % 2 ^ (width family - (8 * length bs - unused)) ≡ 0 → ⊥ = λ zeros.
+        false≢true (some.1 (omega (arith, bits_is, fit), rw first_is (first_below family bs are fit), rw (first_is, bits_is) zeros)) in
+    rw (le-ltb 7 unused few, le-ltb (width family / 8) (length bs) narrow, le-ltb (8 * length bs) unused long, ne_eqb _ 0 set') refl

@@ -65,8 +65,8 @@ unfoldable pub prefix_of : Family → List ℕ → Option (ℕ × ℕ)
 prefix_of family [] = None
 prefix_of family (unused ∷ octets) =
     if nat_lt 7 unused then None
+    else (if nat_lt (width family / 8) (length octets) then None
     else (if nat_lt (8 * length octets) unused then None
-    else (if nat_lt (width family) (8 * length octets) then None
     else (let first : ℕ = be_value octets * 2 ^ (width family - 8 * length octets) in
           let bits : ℕ = 8 * length octets - unused in
           if first % 2 ^ (width family - bits) == 0 then Some (first, bits) else None)))
@@ -131,3 +131,10 @@ content_of bytes = do
   blocks ← whole 48 asn.1
   entries ← blocks_of blocks
   Some (number, entries)
+
+-- ---- what a reader answers
+
+-- a reader's answer, seen by view, is what reading gives
+abbrev pub Gives : {X Y : Type 0} → (X → Y) → Option X → Option Y → Type 0
+Gives view None read = read ≡ None
+Gives view (Some x) read = read ≡ Some (view x)

@@ -2,5 +2,7 @@
 #![tactic(auto)]
 
 mod content;
+mod der;
+mod reading;
 
 pub use content::{Content, ContentFault, Entry};

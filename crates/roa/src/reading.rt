@@ -1,0 +1,139 @@
+ghost use Rattle.std.specs.Prelude.{◌≡◌, ◌<◌, ◌≤◌, ◌*◌, ◌-◌, ◌^◌, length, IfSome};
+ghost use Rattle.addr.specs.Family.{width};
+ghost use Rattle.roa.specs.Reading.{Gives, be_value, length_at, contents_at, element_at, whole, integer_of, prefix_of, max_of, entry_of, entry_at, numbers};
+
+use crate::der::{
+    BIT_STRING, INTEGER, OCTET_STRING, ONE_OCTET_LENGTH, SEQUENCE, TWO_OCTET_LENGTH, integer_len,
+};
+use crate::Entry;
+use addr::{Family, Prefix};
+
+/// A length, and the octets after it.
+#[tactic(auto, unfolding(crate::specs::Reading::length_at, crate::specs::Reading::one_octet_at, crate::specs::Reading::two_octets_at))]
+fn read_length(octets: &[u8]) -> Option<(usize, &[u8])>
+    ensures { Gives (λ x. (x.0, x.1.now)) result (length_at octets.now) }
+{
+    match octets {
+        [short, rest @ ..] if *short < 0x80 => Some((usize::from(*short), rest)),
+        [ONE_OCTET_LENGTH, long, rest @ ..] if *long >= 0x80 => Some((usize::from(*long), rest)),
+        [TWO_OCTET_LENGTH, high, low, rest @ ..] if *high != 0 => {
+            Some((256 * usize::from(*high) + usize::from(*low), rest))
+        }
+        _ => None,
+    }
+}
+
+/// The contents of an element after its tag, and the octets after it.
+#[tactic(auto, unfolding(crate::specs::Reading::contents_at))]
+fn read_contents(octets: &[u8]) -> Option<(&[u8], &[u8])>
+    ensures { Gives (λ x. (x.0.now, x.1.now)) result (contents_at octets.now) }
+{
+    let (len, rest) = read_length(octets)?;
+    if rest.len() < len {
+        return None;
+    }
+    Some(rest.split_at(len))
+}
+
+/// The contents of an element with the tag, and the octets after it.
+#[tactic(auto, unfolding(crate::specs::Reading::element_at))]
+fn read_element(tag: u8, octets: &[u8]) -> Option<(&[u8], &[u8])>
+    ensures { Gives (λ x. (x.0.now, x.1.now)) result (element_at tag octets.now) }
+{
+    match octets {
+        [first, rest @ ..] if *first == tag => read_contents(rest),
+        _ => None,
+    }
+}
+
+/// The contents of an element with the tag that is all of the octets.
+#[tactic(auto, unfolding(crate::specs::Reading::whole))]
+fn read_whole(tag: u8, octets: &[u8]) -> Option<&[u8]>
+    ensures { Gives (λ x. x.now) result (whole tag octets.now) }
+{
+    let (contents, rest) = read_element(tag, octets)?;
+    if !rest.is_empty() {
+        return None;
+    }
+    Some(contents)
+}
+
+/// The number that the octets spell, the most significant one first.
+fn number_of(octets: &[u8]) -> u128
+    requires { length octets.now ≤ 16 }
+    ensures { result ≡ be_value octets.now }
+{
+    let mut number = 0;
+    for octet in octets {
+        number = 256 * number + u128::from(*octet);
+    }
+    number
+}
+
+/// The number of an INTEGER, by its contents; None where it has more than 32 bits.
+#[tactic(auto, unfolding(crate::specs::Reading::integer_of))]
+fn read_integer(contents: &[u8]) -> Option<u32>
+    ensures { Gives (λ n. n) result (integer_of contents.now) }
+{
+    if contents.len() > 5 {
+        return None;
+    }
+    let number = u32::try_from(number_of(contents)).ok()?;
+    if contents.len() != integer_len(number) {
+        return None;
+    }
+    Some(number)
+}
+
+/// The first address that the octets begin, whose bits from there on are zero.
+fn first_address(family: Family, octets: &[u8]) -> u128
+    requires { 8 * length octets.now ≤ width family }
+    ensures { result ≡ be_value octets.now * 2 ^ (width family - 8 * length octets.now) }
+{
+    let missing_bits = usize::from(family.width()) - 8 * octets.len();
+    number_of(octets).checked_shl(missing_bits as u32).unwrap_or(0)
+}
+
+/// The prefix of a BIT STRING, by its contents.
+#[tactic(auto, unfolding(crate::specs::Reading::prefix_of))]
+fn read_prefix(family: Family, contents: &[u8]) -> Option<Prefix>
+    ensures numbers { Gives (λ p. (p.first, p.length)) result (prefix_of family contents.now) }
+    ensures family { IfSome result (λ p. p.family ≡ family) }
+{
+    let (unused, octets) = contents.split_first()?;
+    if *unused > 7 || octets.len() > usize::from(family.width() / 8) {
+        return None;
+    }
+    let bits = 8 * octets.len();
+    if usize::from(*unused) > bits {
+        return None;
+    }
+    let length = (bits - usize::from(*unused)) as u8;
+    Prefix::from_parts(family, first_address(family, octets), length)
+}
+
+/// The greatest length, by the octets after the BIT STRING of the prefix.
+#[tactic(auto, unfolding(crate::specs::Reading::max_of))]
+fn read_max(prefix: &Prefix, octets: &[u8]) -> Option<u8>
+    ensures { Gives (λ n. n) result (max_of prefix.now.family prefix.now.length octets.now) }
+{
+    if octets.is_empty() {
+        return Some(prefix.length);
+    }
+    let max = read_integer(read_whole(INTEGER, octets)?)?;
+    if max <= u32::from(prefix.length) || max > u32::from(prefix.family.width()) {
+        return None;
+    }
+    Some(max as u8)
+}
+
+/// An entry, by the contents of its SEQUENCE.
+#[tactic(auto, unfolding(crate::specs::Reading::entry_of))]
+fn read_entry(family: Family, contents: &[u8]) -> Option<Entry>
+    ensures { Gives numbers result (entry_of family contents.now) }
+{
+    let (bits, rest) = read_element(BIT_STRING, contents)?;
+    let prefix = read_prefix(family, bits)?;
+    let max = read_max(&prefix, rest)?;
+    Some(Entry { prefix, max })
+}
