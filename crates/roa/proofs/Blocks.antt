@@ -10,7 +10,7 @@ use Rattle.std.proofs.lemmas.List.Concat.{flat_map-cons}
 use Rattle.addr.specs.declared.family.Family.{Family}
 use Rattle.addr.specs.declared.family.Family.TheVariants.{V4, V6}
 use Rattle.roa.specs.RoaContent.{be_octets, integer_len, integer, element, sequence, octet_string, family_octets}
-use Rattle.roa.specs.Reading.{Numbers, ◌>>=◌, element_at, whole, integer_of, entries_of, block_at, entries_after, family_at, blocks_of, content_of}
+use Rattle.roa.specs.Reading.{Numbers, ◌>>=◌, element_at, whole, integer_of, entries_of, block_at, entries_after, family_at, blocks_of, fields_of, content_of}
 use Rattle.roa.proofs.Octets.{AreOctets, length-be_octets}
 use Rattle.roa.proofs.Elements.{Takes, Takes-then, element_again, element_only, whole_again, whole_only}
 use Rattle.roa.proofs.Primitives.{integer_len_bound, integer_again, integer_only}
@@ -208,7 +208,7 @@ pub length-fields : (number : ℕ) (four six : List Numbers) → AreBlocks four 
 length-fields number four six are = omega (arith, length-append (integer number) (sequence (blocks_octets four six)), length-integer number, length-element 48 (blocks_octets four six), length-blocks four six are)
 
 pub content_again : (number : ℕ) (four six : List Numbers) → number < 2 ^ 32 → AreBlocks four six → content_of (spelled number four six) ≡ Some (number, four ++ six)
-unfolding content_of
+unfolding content_of fields_of
 content_again number four six small are =
     let fields : whole 48 (spelled number four six) ≡ Some (integer number ++ sequence (blocks_octets four six)) = whole_again 48 (integer number ++ sequence (blocks_octets four six)) (length-fields number four six are) in
     let asn : element_at 2 (integer number ++ sequence (blocks_octets four six)) ≡ Some (be_octets (integer_len number) number, sequence (blocks_octets four six)) =
@@ -224,20 +224,28 @@ pub record ReadsContent (bytes : List ℕ) (number : ℕ) (ns : List Numbers) : 
   pub small : number < 2 ^ 32
   pub parts : bytes ≡ spelled number four six
 
+fields_only : (bytes : List ℕ) (p : ℕ × List ℕ) → AreOctets bytes → fields_of bytes ≡ Some p → (bytes ≡ sequence (integer p.0 ++ sequence p.1)) × (p.0 < 2 ^ 32) × AreOctets p.1
+unfolding fields_of
+fields_only bytes p octets e =
+    option_and_then_some (λ (fields : List ℕ). element_at 2 fields >>= λ asn. integer_of asn.0 >>= λ number. whole 48 asn.1 >>= λ blocks. Some (number, blocks)) (whole 48 bytes) p e (λ fields found e1.
+      option_and_then_some (λ (asn : List ℕ × List ℕ). integer_of asn.0 >>= λ number. whole 48 asn.1 >>= λ blocks. Some (number, blocks)) (element_at 2 fields) p e1 (λ asn found2 e2.
+        option_and_then_some (λ (number : ℕ). whole 48 asn.1 >>= λ blocks. Some (number, blocks)) (integer_of asn.0) p e2 (λ number found3 e3.
+          option_and_then_some (λ (blocks : List ℕ). Some (number, blocks)) (whole 48 asn.1) p e3 (λ blocks found4 e4.
+            let w = whole_only 48 bytes fields octets found in
+            let a = element_only 2 fields asn w.1 found2 in
+            let i = integer_only asn.0 number a.1 found3 in
+            let x = whole_only 48 asn.1 blocks a.0.rest_octets found4 in
+            let inner : fields ≡ integer number ++ sequence blocks =
+                a.0.parts ∙ ap (λ (c : List ℕ). element 2 c ++ asn.1) i.0 ∙ ap (λ (c : List ℕ). integer number ++ c) x.0 in
+            subst (λ (q : ℕ × List ℕ). (bytes ≡ sequence (integer q.0 ++ sequence q.1)) × (q.0 < 2 ^ 32) × AreOctets q.1) (same_Some (number, blocks) p e4)
+                (w.0 ∙ ap (λ (c : List ℕ). sequence c) inner, i.1, x.1)))))
+
 pub content_only : (bytes : List ℕ) (p : ℕ × List Numbers) → AreOctets bytes → content_of bytes ≡ Some p → ReadsContent bytes p.0 p.1
 unfolding content_of
 content_only bytes p octets e =
-    option_and_then_some (λ (fields : List ℕ). element_at 2 fields >>= λ asn. integer_of asn.0 >>= λ number. whole 48 asn.1 >>= λ blocks. blocks_of blocks >>= λ entries. Some (number, entries)) (whole 48 bytes) p e (λ fields found e1.
-      option_and_then_some (λ (asn : List ℕ × List ℕ). integer_of asn.0 >>= λ number. whole 48 asn.1 >>= λ blocks. blocks_of blocks >>= λ entries. Some (number, entries)) (element_at 2 fields) p e1 (λ asn found2 e2.
-        option_and_then_some (λ (number : ℕ). whole 48 asn.1 >>= λ blocks. blocks_of blocks >>= λ entries. Some (number, entries)) (integer_of asn.0) p e2 (λ number found3 e3.
-          option_and_then_some (λ (blocks : List ℕ). blocks_of blocks >>= λ entries. Some (number, entries)) (whole 48 asn.1) p e3 (λ blocks found4 e4.
-            option_and_then_some (λ (entries : List Numbers). Some (number, entries)) (blocks_of blocks) p e4 (λ entries found5 e5.
-              let w = whole_only 48 bytes fields octets found in
-              let a = element_only 2 fields asn w.1 found2 in
-              let i = integer_only asn.0 number a.1 found3 in
-              let x = whole_only 48 asn.1 blocks a.0.rest_octets found4 in
-              let b = blocks_only blocks entries x.1 found5 in
-              let inner : fields ≡ integer number ++ sequence (blocks_octets b.four b.six) =
-                  a.0.parts ∙ ap (λ (c : List ℕ). element 2 c ++ asn.1) i.0 ∙ ap (λ (c : List ℕ). integer number ++ c) (x.0 ∙ ap (λ (c : List ℕ). sequence c) b.parts) in
-              subst (λ (q : ℕ × List Numbers). ReadsContent bytes q.0 q.1) (same_Some (number, entries) p e5)
-                  (record { four = b.four; six = b.six; are = b.are; all_of = b.all_of; small = i.1; parts = w.0 ∙ ap (λ (c : List ℕ). sequence c) inner }))))))
+    option_and_then_some (λ (fields : ℕ × List ℕ). blocks_of fields.1 >>= λ entries. Some (fields.0, entries)) (fields_of bytes) p e (λ fields found e1.
+      option_and_then_some (λ (entries : List Numbers). Some (fields.0, entries)) (blocks_of fields.1) p e1 (λ entries found2 e2.
+        let f = fields_only bytes fields octets found in
+        let b = blocks_only fields.1 entries f.2 found2 in
+        subst (λ (q : ℕ × List Numbers). ReadsContent bytes q.0 q.1) (same_Some (fields.0, entries) p e2)
+            (record { four = b.four; six = b.six; are = b.are; all_of = b.all_of; small = f.1; parts = f.0 ∙ ap (λ (c : List ℕ). sequence (integer fields.0 ++ sequence c)) b.parts })))

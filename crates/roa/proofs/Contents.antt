@@ -13,7 +13,11 @@ use Rattle.addr.specs.declared.family.Family.{Family}
 use Rattle.addr.specs.declared.family.Family.TheVariants.{V4, V6}
 use Rattle.roa.specs.declared.content.Entry.{Entry}
 use Rattle.roa.specs.RoaContent.{RouteOriginAttestation, IsContent, AreCanonical, AreInCount, Rises, entry_order, is_in_range, integer, sequence, octet_string, family_octets, entry_octets, of_family, roa_ip_address_family, content_octets, Encodes}
-use Rattle.roa.specs.Reading.{Numbers, numbers, element_at, content_of}
+use Rattle.std.specs.Prelude.{Result, Ok, Err, IfSome, IfNone, IfOk, MatchResult}
+use Rattle.std.specs.Option.{ok_or}
+use Rattle.roa.specs.declared.fault.DecodeFault.{DecodeFault}
+use Rattle.roa.specs.declared.fault.DecodeFault.TheVariants.{NotContent, Memory}
+use Rattle.roa.specs.Reading.{Numbers, numbers, element_at, content_of, Reads}
 use Rattle.roa.proofs.Octets.{AreOctets}
 use Rattle.roa.proofs.Elements.{element_again}
 use Rattle.roa.proofs.Entries.{IsEntry, numbers_octets}
@@ -123,6 +127,7 @@ block-numbers f [] = refl
 block-numbers f (e ∷ es) = ap (λ (x : List ℕ). sequence (octet_string (family_octets f) ++ sequence x)) (flat_map-numbers (e ∷ es))
 
 pub content_octets-numbers : (content : RouteOriginAttestation) → content_octets content ≡ spelled content.asn.0 (map numbers (of_family V4 content.entries)) (map numbers (of_family V6 content.entries))
+unfolding content_octets
 content_octets-numbers content =
     ap (λ (x : List ℕ). sequence (integer content.asn.0 ++ sequence (x ++ roa_ip_address_family V6 (of_family V6 content.entries)))) (block-numbers V4 (of_family V4 content.entries))
     ∙ ap (λ (x : List ℕ). sequence (integer content.asn.0 ++ sequence (block_octets V4 (map numbers (of_family V4 content.entries)) ++ x))) (block-numbers V6 (of_family V6 content.entries))
@@ -232,6 +237,7 @@ fields_short content is =
         (length-fields content.asn.0 (map numbers (of_family V4 content.entries)) (map numbers (of_family V6 content.entries)) (are_blocks content.entries is.entries))
 
 pub is_prefix_free : (a b : RouteOriginAttestation) (s t x y : List ℕ) → IsContent a → IsContent b → Encodes a s → Encodes b t → s ++ x ≡ t ++ y → (a ≡ b) × (s ≡ t) × (x ≡ y)
+unfolding content_octets
 is_prefix_free a b s t x y is_a is_b of_a of_b e =
     let joined : content_octets a ++ x ≡ content_octets b ++ y = ap (λ (o : List ℕ). o ++ x) (sym of_a) ∙ e ∙ ap (λ (o : List ℕ). o ++ y) of_b in
     let read : Some (fields a, x) ≡ Some (fields b, y) = sym (element_again 48 (fields a) x (fields_short a is_a)) ∙ ap (element_at 48) joined ∙ element_again 48 (fields b) y (fields_short b is_b) in
@@ -239,3 +245,27 @@ is_prefix_free a b s t x y is_a is_b of_a of_b e =
     let octets : content_octets a ≡ content_octets b = ap sequence both.0 in
     let content : a ≡ b = same_content a b (sym (is_read a is_a) ∙ ap content_of octets ∙ is_read b is_b) in
     (content, of_a ∙ octets ∙ sym of_b, both.1)
+
+-- ---- what decoding answers
+
+-- a fault is want of memory, where the octets are those of a content
+pub is_memory : (fault : DecodeFault) (octets : List ℕ) → Reads {X = ℕ × List Numbers} (λ x. x) (Err fault) (content_of octets) → (content : RouteOriginAttestation) → IsContent content → Encodes content octets → fault ≡ Memory
+is_memory Memory octets read content is encodes = refl
+is_memory NotContent octets read content is encodes = absurd (is_none content octets read is encodes)
+
+made_is : (content : RouteOriginAttestation) (asn : Asn) (entries : List Entry) → (content.asn ≡ asn) × (content.entries ≡ entries) → content_made asn entries ≡ content
+made_is content asn entries h = ap (λ (a : Asn). content_made a entries) (sym h.0) ∙ ap (λ (es : List Entry). content_made content.asn es) (sym h.1)
+
+pub is_encoded : (made : Option RouteOriginAttestation) (asn : Asn) (entries : List Entry) (octets : List ℕ) → IfSome made (λ content. (content.asn ≡ asn) × (content.entries ≡ entries)) → Encodes (record { asn = asn; entries = entries }) octets
+    → IfOk (ok_or made NotContent) (λ content. Encodes content octets)
+is_encoded None asn entries octets parts encodes = tt
+is_encoded (Some content) asn entries octets parts encodes = subst (λ (c : RouteOriginAttestation). Encodes c octets) (made_is content asn entries parts) encodes
+
+pub is_decoded : (made : Option RouteOriginAttestation) (asn : Asn) (entries : List Entry) (octets : List ℕ) → IfSome made (λ content. (content.asn ≡ asn) × (content.entries ≡ entries)) → IfNone made (AreCanonical entries → ⊥)
+    → content_of octets ≡ Some (asn.0, map numbers entries) → (content : RouteOriginAttestation) → IsContent content → Encodes content octets → MatchResult (ok_or made NotContent) (λ found. found ≡ content) (λ fault. fault ≡ Memory)
+is_decoded (Some found) asn entries octets parts none e content is encodes =
+    sym (made_is found asn entries parts) ∙ is_only (content_made asn entries) content octets e is encodes
+is_decoded None asn entries octets parts none e content is encodes =
+    let same : content_made asn entries ≡ content = is_only (content_made asn entries) content octets e is encodes in
+    let canonical : AreCanonical entries = subst (λ (c : RouteOriginAttestation). AreCanonical c.entries) (sym same) is.entries in
+    absurd (none canonical)

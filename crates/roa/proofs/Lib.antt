@@ -7,3 +7,4 @@ pub mod Blocks
 pub mod Prefixes
 pub mod Contents
 pub mod Order
+pub mod Loop

@@ -1,5 +1,9 @@
 -- Reading octets from left to right, as the reader's functions do. None: no content begins so.
-use Rattle.std.specs.Prelude.{◌≡◌, ℕ, zero, suc, ◌+◌, ◌-◌, ◌*◌, ◌/◌, ◌%◌, ◌^◌, ◌<◌, ◌≤◌, Bool, true, false, ◌&&◌, ◌==◌, nat_eq, nat_lt, nat_le, if◌then◌else◌, List, [], ◌∷◌, ◌++◌, length, take, drop, map, Option, Some, None, option_and_then}
+use Rattle.std.specs.Prelude.{◌≡◌, ℕ, zero, suc, ◌+◌, ◌-◌, ◌*◌, ◌/◌, ◌%◌, ◌^◌, ◌<◌, ◌≤◌, Bool, true, false, ◌&&◌, ◌==◌, nat_eq, nat_lt, nat_le, if◌then◌else◌, List, [], ◌∷◌, ◌++◌, length, take, drop, map, Option, Some, None, option_and_then, Result, Ok, Err}
+use Rattle.std.specs.Option.{option_map}
+use denote.Ref.{Bor}
+use Rattle.roa.specs.declared.fault.DecodeFault.{DecodeFault}
+use Rattle.roa.specs.declared.fault.DecodeFault.TheVariants.{NotContent, Memory}
 use Rattle.std.specs.Cmp.Lexicographic.{pointwise}
 use Rattle.addr.specs.Family.{width}
 use Rattle.addr.specs.declared.family.Family.{Family}
@@ -122,15 +126,21 @@ blocks_of bytes = do
   six ← family_at (64 - length four.0) V6 four.1
   if length six.1 == 0 then Some (four.0 ++ six.0) else None
 
--- the AS number and the entries
-unfoldable pub content_of : List ℕ → Option (ℕ × List Numbers)
-content_of bytes = do
+-- the AS number, and the octets of the blocks
+unfoldable pub fields_of : List ℕ → Option (ℕ × List ℕ)
+fields_of bytes = do
   fields ← whole 48 bytes
   asn ← element_at 2 fields
   number ← integer_of asn.0
   blocks ← whole 48 asn.1
-  entries ← blocks_of blocks
-  Some (number, entries)
+  Some (number, blocks)
+
+-- the AS number and the entries
+unfoldable pub content_of : List ℕ → Option (ℕ × List Numbers)
+content_of bytes = do
+  fields ← fields_of bytes
+  entries ← blocks_of fields.1
+  Some (fields.0, entries)
 
 -- ---- what a reader answers
 
@@ -138,3 +148,21 @@ content_of bytes = do
 abbrev pub Gives : {X Y : Type 0} → (X → Y) → Option X → Option Y → Type 0
 Gives view None read = read ≡ None
 Gives view (Some x) read = read ≡ Some (view x)
+
+-- a reader that adds the entries that it reads: their list before and after
+abbrev pub Adds : {X : Type 0} → Result X DecodeFault → List Entry → List Entry → Option (List Numbers) → Type 0
+Adds (Ok x) old new read = option_map (λ ns. map numbers old ++ ns) read ≡ Some (map numbers new)
+Adds (Err NotContent) old new read = read ≡ None
+Adds (Err Memory) old new read = Unit {0}
+
+-- the same, with the octets that are left
+abbrev pub AddsThen : Result (Bor (List ℕ)) DecodeFault → List Entry → List Entry → Option (List Numbers × List ℕ) → Type 0
+AddsThen (Ok rest) old new read = option_map {T = List Numbers × List ℕ} {U = List Numbers × List ℕ} (λ x. (map numbers old ++ x.0, x.1)) read ≡ Some (map numbers new, rest.now)
+AddsThen (Err NotContent) old new read = read ≡ None
+AddsThen (Err Memory) old new read = Unit {0}
+
+-- what was read is the view of it, unless memory ran out
+abbrev pub Reads : {X Y : Type 0} → (X → Y) → Result X DecodeFault → Option Y → Type 0
+Reads view (Ok x) read = read ≡ Some (view x)
+Reads view (Err NotContent) read = read ≡ None
+Reads view (Err Memory) read = Unit {0}

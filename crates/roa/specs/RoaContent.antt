@@ -151,7 +151,7 @@ abbrev pub ip_addr_blocks : List Entry → List ℕ
 ip_addr_blocks entries = sequence (roa_ip_address_family V4 (of_family V4 entries) ++ roa_ip_address_family V6 (of_family V6 entries))
 
 -- RouteOriginAttestation
-abbrev pub content_octets : RouteOriginAttestation → List ℕ
+unfoldable pub content_octets : RouteOriginAttestation → List ℕ
 content_octets content = sequence (integer content.asn.0 ++ ip_addr_blocks content.entries)
 
 -- the octets are the content's

@@ -1,5 +1,7 @@
 ghost use Rattle.std.specs.Prelude.{◌≡◌, ◌<◌, ◌≤◌, length};
-ghost use Rattle.roa.specs.RoaContent.{integer_len, bit_octets};
+ghost use Rattle.roa.specs.RoaContent.{integer_len, family_octets};
+
+use addr::Family;
 
 // The tags (X.690 section 8.1.2, X.680 section 8.4), of which SEQUENCE is constructed.
 pub(crate) const INTEGER: u8 = 0x02;
@@ -21,5 +23,15 @@ pub(crate) fn integer_len(number: u32) -> usize
         0x8000..=0x7f_ffff => 3,
         0x80_0000..=0x7fff_ffff => 4,
         _ => 5,
+    }
+}
+
+/// The octets of an address family.
+pub(crate) fn family_octets(family: Family) -> [u8; 2]
+    ensures { result ≡ family_octets family }
+{
+    match family {
+        Family::V4 => [0, 1],
+        Family::V6 => [0, 2],
     }
 }

@@ -3,6 +3,9 @@
 
 mod content;
 mod der;
+mod fault;
 mod reading;
 
 pub use content::{Content, ContentFault, Entry};
+pub use fault::DecodeFault;
+pub use reading::decode;
