@@ -1,8 +1,8 @@
 -- Numbers as octets, the most significant one first.
-use Rattle.std.proofs.Common.{◌≡◌, ℕ, zero, suc, ◌+◌, ◌-◌, ◌*◌, ◌/◌, ◌%◌, ◌^◌, ◌<◌, ◌≤◌, List, [], ◌∷◌, ◌++◌, length, get_or, take, drop, refl, sym, ap, subst, ◌∙◌, arith}
+use Rattle.std.proofs.Common.{◌≡◌, ℕ, zero, suc, ◌+◌, ◌-◌, ◌*◌, ◌/◌, ◌%◌, ◌^◌, ◌<◌, ◌≤◌, List, [], ◌∷◌, ◌++◌, length, get_or, take, drop, refl, sym, ap, subst, ◌∙◌, append_assoc, arith}
 use Rattle.std.proofs.Math.Nat.{pow-le-pow_right}
 use Rattle.std.proofs.lemmas.List.{take_more, length-append, length-take}
-use Rattle.std.proofs.lemmas.Nat.{pow_pos, pow-add, div-mul-add, mod-mul-add, mod_below, div_below, div-add-mod', mul-add-lt}
+use Rattle.std.proofs.lemmas.Nat.{pow_pos, pow-add, div-mul-add, mod-mul-add, mod_below, div_below, div-add-mod', mul-add-lt, one_shl}
 use Rattle.roa.specs.RoaContent.{be_octets}
 use Rattle.roa.specs.Reading.{be_value}
 
@@ -69,3 +69,27 @@ be_value_short bs i are le =
     let two : 0 < 2 = omega arith in
     let bigger : 2 ^ (8 * length (take i bs)) ≤ 2 ^ 120 = pow-le-pow_right two short in
     omega (arith, below, bigger)
+
+-- ---- writing a number octet by octet
+
+pub unit_is : (place : ℕ) → 0 < place → place ≤ 16 → (1 * 2 ^ (8 * (place - 1))) % 2 ^ 128 ≡ 2 ^ (8 * (place - 1))
+unit_is place some few = one_shl (8 * (place - 1)) 128 (omega arith)
+
+pub octet_below : (place rest : ℕ) → 0 < place → rest < 2 ^ (8 * place) → rest / 2 ^ (8 * (place - 1)) < 256
+octet_below place rest some below =
+    let k : place ≡ suc (place - 1) = omega arith in
+    let step : 2 ^ (8 * place) ≡ 256 * 2 ^ (8 * (place - 1)) = ap (λ (n : ℕ). 2 ^ (8 * n)) k ∙ pow_step (place - 1) in
+    div_below rest (2 ^ (8 * (place - 1))) 256 (pow_pos (8 * (place - 1))) (omega (arith, below, step))
+
+octets_step : (place k rest : ℕ) → place ≡ suc k → be_octets place rest ≡ rest / 2 ^ (8 * k) ∷ be_octets k (rest % 2 ^ (8 * k))
+octets_step place k rest e = ap (λ (n : ℕ). be_octets n rest) e
+
+pub octet_written : (old out : List ℕ) (place rest count number : ℕ) → 0 < place → out ++ be_octets place rest ≡ old ++ be_octets count number
+    → (out ++ rest / 2 ^ (8 * (place - 1)) ∷ []) ++ be_octets (place - 1) (rest % 2 ^ (8 * (place - 1))) ≡ old ++ be_octets count number
+octet_written old out place rest count number some so_far =
+    append_assoc out (rest / 2 ^ (8 * (place - 1)) ∷ []) (be_octets (place - 1) (rest % 2 ^ (8 * (place - 1))))
+    ∙ ap (λ (x : List ℕ). out ++ x) (sym (octets_step place (place - 1) rest (omega arith)))
+    ∙ so_far
+
+pub rest_below : (place rest : ℕ) → rest % 2 ^ (8 * (place - 1)) < 2 ^ (8 * (place - 1))
+rest_below place rest = mod_below rest (2 ^ (8 * (place - 1))) (pow_pos (8 * (place - 1)))

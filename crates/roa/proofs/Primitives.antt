@@ -1,5 +1,5 @@
 -- INTEGER and BIT STRING: what is read is what is written.
-use Rattle.std.proofs.Common.{◌≡◌, ℕ, zero, suc, ◌+◌, ◌-◌, ◌*◌, ◌/◌, ◌%◌, ◌^◌, ◌<◌, ◌≤◌, Bool, true, false, cond, ltb, eqb, ◌&&◌, List, [], ◌∷◌, ◌++◌, length, Option, Some, None, refl, sym, ap, subst, ◌∙◌, inl, inr, arith}
+use Rattle.std.proofs.Common.{◌≡◌, ℕ, zero, suc, ◌+◌, ◌-◌, ◌*◌, ◌/◌, ◌%◌, ◌^◌, ◌<◌, ◌≤◌, Bool, true, false, cond, ltb, eqb, ◌&&◌, List, [], ◌∷◌, ◌++◌, length, Option, Some, None, refl, sym, ap, subst, ◌∙◌, inl, inr, append_assoc, arith}
 use Rattle.std.specs.Prelude.{◌↔◌, IsSome, IfSome, unwrap_or}
 use Rattle.std.specs.Option.{SomeIff}
 use Rattle.addr.specs.declared.prefix.Prefix.{Prefix}
@@ -10,7 +10,7 @@ use Rattle.addr.specs.Family.{width}
 use Rattle.addr.specs.Address.{IsPrefix}
 use Rattle.addr.specs.declared.family.Family.{Family}
 use Rattle.addr.specs.declared.family.Family.TheVariants.{V4, V6}
-use Rattle.roa.specs.RoaContent.{be_octets, integer_len, bit_octets}
+use Rattle.roa.specs.RoaContent.{be_octets, integer_len, bit_octets, length_octets, bit_string}
 use Rattle.roa.specs.Reading.{be_value, integer_of, prefix_of, Gives}
 use Rattle.roa.proofs.Octets.{AreOctets, length-be_octets, be_value-be_octets, be_value_below, be_octets-be_value}
 
@@ -192,3 +192,29 @@ prefix_made family unused bs first bits None are few narrow long first_is bits_i
     let set' : first_of family bs % 2 ^ (width family - (8 * length bs - unused)) ≡ 0 → ⊥ = λ zeros.
         false≢true (some.1 (omega (arith, bits_is, fit), rw first_is (first_below family bs are fit), rw (first_is, bits_is) zeros)) in
     rw (le-ltb 7 unused few, le-ltb (width family / 8) (length bs) narrow, le-ltb (8 * length bs) unused long, ne_eqb _ 0 set') refl
+
+-- ---- writing
+
+nothing_left : (family : Family) (first k : ℕ) → first < 2 ^ width family → (width family - 8 * k < 128 → ⊥) → first / 2 ^ (width family - 8 * k) ≡ 0
+nothing_left V4 first k below none = absurd (none (omega arith))
+nothing_left V6 first k below none =
+    let all : 128 - 8 * k ≡ 128 = omega (arith, λ (lt : 128 - 8 * k < 128). none lt) in
+    rw all (omega (arith, below))
+
+pub shifted_down : (family : Family) (first bits : ℕ) (r : Option ℕ) → first < 2 ^ width family
+    → SomeIff r (width family - 8 * bit_octets bits < 128) (first / 2 ^ (width family - 8 * bit_octets bits)) → unwrap_or r 0 ≡ first / 2 ^ (width family - 8 * bit_octets bits)
+shifted_down family first bits (Some n) below h = h.1
+shifted_down family first bits None below h = sym (nothing_left family first (bit_octets bits) below h)
+
+pub first_octets_fit : (family : Family) (first bits : ℕ) → bits ≤ width family → first < 2 ^ width family → first / 2 ^ (width family - 8 * bit_octets bits) < 2 ^ (8 * bit_octets bits)
+first_octets_fit family first bits long below = first_octets_below (width family) first (8 * bit_octets bits) (octets_fit family bits long) below
+
+-- the parts of a BIT STRING, one pushed after the other
+pub bit_string_pushed : (out : List ℕ) (family : Family) (first bits : ℕ)
+    → (((out ++ 3 ∷ []) ++ length_octets (1 + bit_octets bits)) ++ (8 * bit_octets bits - bits) ∷ []) ++ be_octets (bit_octets bits) (first / 2 ^ (width family - 8 * bit_octets bits)) ≡ out ++ bit_string family first bits
+bit_string_pushed out family first bits =
+    let len : length (bit_contents family first bits) ≡ 1 + bit_octets bits = omega (arith, length-be_octets (bit_octets bits) (first / 2 ^ (width family - 8 * bit_octets bits))) in
+    rw len (simp append_assoc)
+
+pub first_fits : (p : Prefix) → p.first < 2 ^ width p.family
+first_fits p = omega (arith, p.in_family, pow_pos (width p.family - p.length))

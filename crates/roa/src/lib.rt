@@ -5,7 +5,9 @@ mod content;
 mod der;
 mod fault;
 mod reading;
+mod writing;
 
 pub use content::{Content, ContentFault, Entry};
 pub use fault::DecodeFault;
 pub use reading::decode;
+pub use writing::encode;

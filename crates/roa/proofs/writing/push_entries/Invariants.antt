@@ -1,0 +1,7 @@
+use Rattle.std.proofs.Common.{◌≡◌, ◌++◌, take}
+use Rattle.std.specs.List.{flat_map}
+use Rattle.roa.specs.RoaContent.{entry_octets, of_family}
+use Rattle.roa.proofs.writing.push_entries.Given as goal
+
+abbrev pub invariant-loop-entry : goal.invariant-loop-entry
+invariant-loop-entry l = l.out.items ≡ l.fn.out.items ++ flat_map entry_octets (of_family l.family (take l.entry-index l.entries))
