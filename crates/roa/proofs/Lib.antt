@@ -8,3 +8,4 @@ pub mod Prefixes
 pub mod Contents
 pub mod Order
 pub mod Loop
+pub mod Written

@@ -1,12 +1,14 @@
 -- How long the parts of a content are: no length comes near 2 ^ 16.
-use Rattle.std.proofs.Common.{◌≡◌, ℕ, zero, suc, ◌+◌, ◌-◌, ◌*◌, ◌/◌, ◌^◌, ◌<◌, ◌≤◌, List, [], ◌∷◌, ◌++◌, length, refl, sym, ap, ◌∙◌, inl, inr, arith}
+use Rattle.std.proofs.Common.{◌≡◌, ℕ, zero, suc, ◌+◌, ◌-◌, ◌*◌, ◌/◌, ◌^◌, ◌<◌, ◌≤◌, not, List, [], ◌∷◌, ◌++◌, length, refl, sym, ap, ◌∙◌, inl, inr, arith}
 use Rattle.std.specs.List.{flat_map}
 use Rattle.std.proofs.lemmas.Bool.{cases_lt, lt-ltb, le-ltb}
 use Rattle.std.proofs.lemmas.List.{length-append}
+use Rattle.std.proofs.lemmas.List.Filters.{length-filter_both}
 use Rattle.std.proofs.lemmas.List.Concat.{flat_map-cons}
-use Rattle.addr.specs.Family.{width}
+use Rattle.addr.specs.Family.{width, family_eq}
+use Rattle.roa.specs.declared.content.Entry.{Entry}
 use Rattle.addr.specs.declared.family.Family.{Family}
-use Rattle.roa.specs.RoaContent.{length_octets, element, be_octets, integer_len, integer, bit_octets, bit_string, max_length, roa_ip_address, family_octets, octet_string, sequence}
+use Rattle.roa.specs.RoaContent.{length_octets, element, be_octets, integer_len, integer, bit_octets, bit_string, max_length, roa_ip_address, family_octets, octet_string, sequence, entry_octets, of_family}
 use Rattle.roa.specs.Reading.{Numbers}
 use Rattle.roa.proofs.Octets.{length-be_octets}
 use Rattle.roa.proofs.Primitives.{integer_len_bound, bit_octets_bound, bit_contents}
@@ -44,3 +46,12 @@ length-entry_contents family first bits max h =
 pub length-roa_ip_address : (family : Family) (first bits max : ℕ) → bits ≤ width family → length (roa_ip_address family first bits max) ≤ 34
 length-roa_ip_address family first bits max h =
     omega (arith, length-element 48 (bit_string family first bits ++ max_length bits max), length-entry_contents family first bits max h)
+
+pub length-addresses : (es : List Entry) → length (flat_map entry_octets es) ≤ 34 * length es
+length-addresses [] = omega arith
+length-addresses (e ∷ es) =
+    let head : length (entry_octets e) ≤ 34 = length-roa_ip_address e.prefix.family e.prefix.first e.prefix.length e.max e.prefix.length_fits in
+    omega (arith, ap length (flat_map-cons entry_octets e es), length-append (entry_octets e) (flat_map entry_octets es), head, length-addresses es)
+
+pub length-of_family : (family : Family) (es : List Entry) → length (of_family family es) ≤ length es
+length-of_family family es = omega (arith, length-filter_both (λ (e : Entry). family_eq family e.prefix.family) (λ (e : Entry). not (family_eq family e.prefix.family)) (λ e. refl) es)

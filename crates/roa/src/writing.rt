@@ -93,7 +93,7 @@ fn push_entries(
 {
     let mut contents = Vec::new(alloc);
     for entry in entries {
-        if entry.prefix.family == family {
+        if family.is(entry.prefix.family) {
             contents.clear();
             push_entry(&mut contents, entry)?;
             push_element(out, SEQUENCE, &contents)?;
