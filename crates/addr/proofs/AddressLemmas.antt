@@ -1,11 +1,11 @@
 -- Intervals of addresses: what contains and overlaps say of each address.
-use Rattle.std.proofs.Common.{◌≡◌, ℕ, ◌+◌, ◌-◌, ◌*◌, ◌/◌, ◌%◌, ◌^◌, ◌≤◌, ◌<◌, Bool, true, false, ◌&&◌, nat_le, refl, arith, ◌↔◌, IsTrue, inl, inr, ap, ◌∙◌, suc}
+use Rattle.std.proofs.Common.{◌≡◌, ℕ, ◌+◌, ◌-◌, ◌*◌, ◌/◌, ◌%◌, ◌^◌, ◌≤◌, ◌<◌, true, ◌&&◌, nat_le, arith, ◌↔◌, IsTrue, inl, inr, ap, ◌∙◌, suc}
 use Rattle.std.proofs.lemmas.Bool.{cases_lt}
 use Rattle.std.proofs.lemmas.Bool.Decides.{nat_tests}
 use Rattle.std.proofs.lemmas.Nat.{pow_pos, pow-add, div-add-mod', div_below}
 use Rattle.std.proofs.Math.Nat.{mul-le-mul_right, suc-mul}
 use Rattle.addr.specs.Family.{width, family_eq}
-use Rattle.addr.specs.Address.{Address, is_between, last_of, has_address, contains, overlaps, Contains, Overlaps}
+use Rattle.addr.specs.Address.{is_between, last_of, contains, overlaps, Contains, Overlaps}
 use Rattle.addr.specs.declared.family.Family.{Family}
 use Rattle.addr.specs.declared.family.Family.TheVariants.{V4, V6}
 use Rattle.addr.specs.declared.prefix.Prefix.{Prefix}

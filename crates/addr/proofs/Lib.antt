@@ -1,3 +1,11 @@
 pub mod AddressLemmas
 pub mod SpanLemmas
 pub mod SpanSteps
+mod DayLemmas
+mod DayTextLemmas
+pub mod DigitsLemmas
+mod NameLemmas
+pub mod PrefixTextLemmas
+pub mod PrefixGroupsLemmas
+pub mod PrefixSpellingLemmas
+mod PrefixTextSamples

@@ -1,15 +1,14 @@
 -- Runs of addresses: what lists of maximal runs have, and how they grow.
-use Rattle.std.proofs.Common.{◌≡◌, ℕ, ◌+◌, ◌≤◌, ◌<◌, Bool, true, false, ◌&&◌, ◌||◌, not, nat_le, nat_lt, refl, sym, ap, ◌∙◌, arith, ◌↔◌, IsTrue, inl, inr, ◌⊎◌, List, [], ◌∷◌, ◌++◌, Option, Some, None, subst}
+use Rattle.std.proofs.Common.{◌≡◌, ℕ, ◌+◌, ◌≤◌, ◌<◌, Bool, true, false, ◌&&◌, ◌||◌, nat_le, nat_lt, refl, arith, ◌↔◌, IsTrue, inl, inr, List, [], ◌∷◌, ◌++◌}
 use Rattle.std.specs.List.{list_any, list_all}
-use Rattle.std.specs.Option.{option_to_list}
 use Rattle.std.proofs.lemmas.Bool.{cases_Bool, cases_lt, and_parts, and_from, or_cases, or_left, or_right, false≢true, true≢false}
 use Rattle.std.proofs.lemmas.Bool.Decides.{nat_tests}
-use Rattle.std.proofs.lemmas.List.Folds.{list_all-append, list_any-append}
-use Rattle.addr.specs.Family.{width, family_eq}
+use Rattle.std.proofs.lemmas.List.Folds.{list_all-append}
+use Rattle.addr.specs.Family.{family_eq}
 use Rattle.addr.specs.Address.{Address, is_between, last_of, has_address}
 use Rattle.addr.specs.Spans.{span_has, spans_have, family_lt, is_apart_below, AreMaximal, span_covers, span_meets, HaveAll, HaveSome}
-use Rattle.addr.specs.Parts.{IsWithin, AreParts, part_has, is_after}
-use Rattle.addr.proofs.AddressLemmas.{between_within, between_at, within_by_ends, overlap_by_shared, shared_by_overlap, overlap_ends, first-last}
+use Rattle.addr.specs.Parts.{IsWithin}
+use Rattle.addr.proofs.AddressLemmas.{between_within, between_at, overlap_by_shared, shared_by_overlap, overlap_ends, first-last}
 use Rattle.addr.specs.declared.family.Family.{Family}
 use Rattle.addr.specs.declared.family.Family.TheVariants.{V4, V6}
 use Rattle.addr.specs.declared.prefix.Prefix.{Prefix}

@@ -1,8 +1,8 @@
 -- One more run looked at, while a run is added to a set of addresses or taken out of it.
-use Rattle.std.proofs.Common.{◌≡◌, ℕ, ◌+◌, ◌≤◌, ◌<◌, Bool, true, false, ◌&&◌, ◌||◌, not, nat_le, nat_lt, refl, sym, ap, ◌∙◌, arith, List, [], ◌∷◌, ◌++◌, Option, Some, None, IfSome, take, drop, get_or, length, suc, add-one, take_all}
-use Rattle.std.specs.List.{list_any, list_all}
+use Rattle.std.proofs.Common.{◌≡◌, ℕ, ◌+◌, ◌≤◌, ◌<◌, Bool, true, false, ◌&&◌, ◌||◌, not, nat_lt, refl, sym, ap, ◌∙◌, arith, List, [], ◌∷◌, ◌++◌, Option, Some, None, IfSome, take, drop, get_or, length, suc, add-one, take_all}
+use Rattle.std.specs.List.{list_all}
 use Rattle.std.specs.Option.{option_to_list}
-use Rattle.std.proofs.lemmas.Bool.{cases_Bool, and_parts, and_from, false≢true, true≢false}
+use Rattle.std.proofs.lemmas.Bool.{and_parts, and_from, false≢true, true≢false}
 use Rattle.std.proofs.lemmas.Bool.Decides.{nat_tests}
 use Rattle.std.proofs.lemmas.List.{take_more}
 use Rattle.std.proofs.Math.Seq.{drop-cons}
@@ -13,7 +13,7 @@ use Rattle.addr.specs.declared.family.Family.{Family}
 use Rattle.addr.specs.declared.family.Family.TheVariants.{V4, V6}
 use Rattle.addr.specs.Spans.{span_has, spans_have, is_apart_below, AreMaximal}
 use Rattle.addr.specs.Parts.{IsWithin, AreParts, part_has, is_after}
-use Rattle.addr.proofs.SpanLemmas.{is_gap, all_below, all_above, AllApart, maximal_append, all_above_trans, apart_trans, apart_to_part, apart_from_part}
+use Rattle.addr.proofs.SpanLemmas.{is_gap, all_below, all_above, AllApart, maximal_append, all_above_trans, apart_to_part, apart_from_part}
 use Rattle.addr.specs.declared.span.Span.{Span}
 
 -- the runs kept, then the pending one, then those still to come; together what was had and what is added

@@ -1,7 +1,7 @@
 -- Route origin validation (RFC 6811 section 2). A VRP covers a route where the route's prefix lies in
 -- the VRP's; it matches where it covers, the route's prefix is no longer than the VRP's maxLength, and
 -- the route's origin is an AS, is not AS 0, and is the VRP's.
-use Rattle.std.specs.Prelude.{◌≡◌, ℕ, Bool, true, false, ◌&&◌, ◌==◌, not, nat_le, List, if◌then◌else◌}
+use Rattle.std.specs.Prelude.{◌≡◌, Bool, true, false, ◌&&◌, ◌==◌, not, nat_le, List, if◌then◌else◌}
 use Rattle.std.specs.List.{list_any}
 use Rattle.addr.specs.Address.{contains}
 use Rattle.addr.specs.declared.asn.Asn.{Asn}

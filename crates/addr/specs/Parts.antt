@@ -1,5 +1,5 @@
 -- What is left of a run where another is taken out of it.
-use Rattle.std.specs.Prelude.{◌≡◌, ℕ, ◌<◌, ◌≤◌, Bool, true, false, ◌&&◌, not, nat_lt, List, Option, Some, None}
+use Rattle.std.specs.Prelude.{◌≡◌, ◌≤◌, Bool, true, false, ◌&&◌, not, nat_lt, List, Option, Some, None}
 use Rattle.std.specs.List.{list_all}
 use Rattle.addr.specs.Family.{family_eq}
 use Rattle.addr.specs.Address.{Address}

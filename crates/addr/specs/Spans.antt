@@ -1,6 +1,6 @@
 -- Address space as closed runs of addresses. A list of runs is seen as the set of its addresses; it is
 -- maximal where the runs rise and at least one address that is not in the set lies between any two.
-use Rattle.std.specs.Prelude.{◌≡◌, ℕ, ◌+◌, Bool, true, false, ◌&&◌, ◌||◌, nat_le, nat_lt, List, [], ◌∷◌}
+use Rattle.std.specs.Prelude.{◌≡◌, ◌+◌, Bool, true, false, ◌&&◌, ◌||◌, nat_le, nat_lt, List, [], ◌∷◌}
 use Rattle.std.specs.List.{list_any, list_all}
 use Rattle.addr.specs.Family.{family_eq}
 use Rattle.addr.specs.Address.{Address, is_between, has_address, last_of}

@@ -30,7 +30,7 @@ impl Family {
     }
 
     /// Whether the two are one family: `==` with the answer as a definition.
-    pub(crate) fn is(self, other: Family) -> bool
+    pub fn is(self, other: Family) -> bool
         ensures { result ≡ family_eq self other }
     {
         matches!(

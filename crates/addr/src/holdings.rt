@@ -24,6 +24,16 @@ impl Model for Holdings {
     ghost invariant = { λ h. AreMaximal h.spans.items };
 }
 
+impl Clone for Holdings {
+    ghost is_clone = { λ holdings copy. copy ≡ holdings };
+
+    fn clone(&self) -> Result<Self, AllocError> {
+        Ok(Holdings {
+            spans: self.spans.clone()?,
+        })
+    }
+}
+
 impl Holdings {
     /// The empty set, which takes no memory.
     pub fn new(alloc: Global) -> Self
@@ -32,6 +42,15 @@ impl Holdings {
         Holdings {
             spans: Vec::new(alloc),
         }
+    }
+
+    /// Another set of the same addresses.
+    pub fn copy(&self, alloc: Global) -> Result<Holdings, AllocError>
+        ensures { IfOk result (λ other. other ≡ self.now) }
+    {
+        Ok(Holdings {
+            spans: Vec::from_slice(alloc, &self.spans)?,
+        })
     }
 
     /// The maximal runs of neighbouring addresses of the set, rising.

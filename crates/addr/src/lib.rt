@@ -3,17 +3,26 @@
 #![tactic(auto)]
 
 mod asn;
+mod day;
+mod decimal;
 mod family;
 mod holdings;
+pub mod laws;
+mod name;
 mod prefix;
 mod route;
 mod span;
+mod text;
 mod vrp;
 
 pub use asn::Asn;
+pub use day::Day;
+pub use decimal::{digits, number_from_text};
 pub use family::Family;
 pub use holdings::Holdings;
+pub use name::Name;
 pub use prefix::Prefix;
 pub use route::{Origin, Route};
 pub use span::Span;
+pub use text::PrefixFault;
 pub use vrp::Vrp;

@@ -1,4 +1,3 @@
-use Rattle.std.proofs.Common.{◌≡◌, refl}
 use Rattle.addr.proofs.SpanSteps.{cutting_first, cutting_step, cutting_end}
 use Rattle.addr.proofs.holdings.without_span.Goals as goal
 

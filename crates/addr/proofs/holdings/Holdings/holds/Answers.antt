@@ -1,4 +1,3 @@
-use Rattle.std.proofs.Common.{◌≡◌}
 use Rattle.addr.proofs.SpanLemmas.{covered_iff}
 use Rattle.addr.proofs.holdings.Holdings.holds.Goals as goal
 

@@ -1,4 +1,3 @@
-use Rattle.std.proofs.Common.{◌≡◌}
 use Rattle.addr.proofs.SpanLemmas.{met_iff}
 use Rattle.addr.proofs.holdings.Holdings.touches.Goals as goal
 

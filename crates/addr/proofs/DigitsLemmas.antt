@@ -1,0 +1,84 @@
+use Rattle.std.proofs.lemmas.List.{take_all}
+use Rattle.std.proofs.Common.{◌≡◌, ℕ, ◌-◌, ◌^◌, ◌<◌, ◌≤◌, ◌∷◌, length, take, drop, arith, List, true, Some, None, Option, ap, subst, ◌∙◌, sym, refl, inl, inr, cond, nat_eq, false, true≢false}
+use Rattle.std.specs.Fmt.{decimal}
+use Rattle.std.specs.Str.{IsUtf8}
+use Rattle.std.specs.Str.Parse.{digits_value}
+use Rattle.std.specs.Cmp.Lexicographic.{pointwise, bytes_decides}
+use Rattle.std.proofs.lemmas.Fmt.{decimal_is_IsNumeral, IsAscii-decimal}
+use Rattle.std.proofs.lemmas.Str.{IsUtf8-from_ascii}
+use Rattle.std.proofs.lemmas.Bool.{and_parts, and_from, cases_Bool, ltb-true, lt-ltb}
+use Rattle.addr.specs.Digits.{writes, number_in}
+
+pub utf8_decimal : (text : List ℕ) (n : ℕ) → n < 2 ^ 64 → text ≡ decimal n → IsUtf8 text
+utf8_decimal text n h e = subst IsUtf8 (sym e) (IsUtf8-from_ascii (decimal n) (IsAscii-decimal n h))
+
+written : (n : ℕ) (text : List ℕ) → writes n text ≡ true → (n < 2 ^ 64) × (text ≡ decimal n)
+written n text t =
+    let parts = and_parts _ _ t in
+    (ltb-true _ _ parts.0, sym ((bytes_decides (decimal n) text).0 parts.1))
+
+-- what `number_in` reads is the number that has these digits, and it reads each
+pub number_in-decimal : (n : ℕ) → n < 2 ^ 64 → number_in (decimal n) ≡ Some n
+unfolding number_in
+number_in-decimal n h =
+    let P : ℕ → Type 0 = λ k. cond (writes k (decimal n)) (Some k) None ≡ Some n in
+    let itself : writes n (decimal n) ≡ true =
+    and_from _ _ (lt-ltb n (2 ^ 64) h) ((bytes_decides (decimal n) (decimal n)).1 refl)
+    in
+    subst P (sym (decimal_is_IsNumeral n h).1) (ap (λ b. cond b (Some n) None) itself)
+
+pub number_in-none : (text : List ℕ) → ((n : ℕ) → n < 2 ^ 64 → ¬ (text ≡ decimal n)) → number_in text ≡ None
+unfolding number_in
+number_in-none text never =
+    elim (cases_Bool (writes (digits_value 10 text) text)) [
+      | inl t ↦ let w = written (digits_value 10 text) text t in absurd (never (digits_value 10 text) w.0 w.1)
+      | inr f ↦ ap (λ b. cond b (Some (digits_value 10 text)) None) f
+    ]
+
+pub number_in-some : (text : List ℕ) (n : ℕ) → number_in text ≡ Some n → (n < 2 ^ 64) × (text ≡ decimal n)
+unfolding number_in
+number_in-some text n e =
+    elim (cases_Bool (writes (digits_value 10 text) text)) [
+      | inl t ↦
+          let some : Some (digits_value 10 text) ≡ Some n =
+          sym (ap (λ b. cond b (Some (digits_value 10 text)) None) t) ∙ e
+          in
+          let same : digits_value 10 text ≡ n = cc in
+          let P : ℕ → Type 0 = λ k. (k < 2 ^ 64) × (text ≡ decimal k) in
+          subst P same (written (digits_value 10 text) text t)
+      | inr f ↦
+          let none : None ≡ Some n = sym (ap (λ b. cond b (Some (digits_value 10 text)) None) f) ∙ e in
+          cc
+    ]
+
+-- a reading that finds each number below 2^64 by its digits, and maybe reads other texts too
+abbrev pub Reads : List ℕ → Option ℕ → Type 0
+Reads text read = (n : ℕ) → n < 2 ^ 64 → text ≡ decimal n → read ≡ Some n
+
+some_is : (m n : ℕ) → Some m ≡ Some n → m ≡ n
+some_is m n e = cc
+
+none_is_not : (n : ℕ) → None ≡ Some n → ⊥
+none_is_not n e = cc
+
+pub number_in-unread : (text : List ℕ) (read : Option ℕ) → Reads text read → read ≡ None → number_in text ≡ None
+number_in-unread text read reads none =
+    number_in-none text (λ n h e. none_is_not n (sym none ∙ reads n h e))
+
+pub number_in-rewritten :
+    (text written : List ℕ) (read : Option ℕ) (number : ℕ) → Reads text read → read ≡ Some number
+    → written ≡ decimal number → pointwise nat_eq written text ≡ false → number_in text ≡ None
+number_in-rewritten text written read number reads some digits differs =
+    number_in-none text (λ n h e.
+    let same : number ≡ n = some_is number n (sym some ∙ reads n h e) in
+    let equal : pointwise nat_eq written text ≡ true =
+    (bytes_decides written text).1 (digits ∙ ap decimal same ∙ sym e)
+    in
+    true≢false (sym equal ∙ differs))
+
+-- the slice behind the two letters
+pub behind_letters :
+    (text rest : List ℕ) (a b : ℕ) → text ≡ a ∷ b ∷ rest → take (length text - 2) (drop 2 text) ≡ rest
+behind_letters text rest a b e =
+    let all : length rest ≤ length (a ∷ b ∷ rest) - 2 = omega arith in
+    ap (λ t. take (length t - 2) (drop 2 t)) e ∙ take_all _ rest all

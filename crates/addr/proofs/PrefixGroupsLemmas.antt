@@ -1,0 +1,369 @@
+-- The texts of IPv6 addresses: `Ipv6Addr` reads the loose groups where there is no dot, and nothing else.
+use Rattle.std.proofs.Common.{◌≡◌, ◌⊎◌, ℕ, zero, suc, ◌+◌, ◌-◌, ◌^◌, ◌<◌, ◌≤◌, Bool, true, false, ◌&&◌, ◌==◌, List, [], ◌∷◌, ◌++◌, length, replicate, drop, slice_index, option_map, Some, None, Result, Ok, Err, All, decimal, refl, sym, ap, ◌∙◌, subst, inl, inr, append_assoc, append-nil, arith, lit≤, lit<, length-append, lt-ltb, eq-eqb}
+use Rattle.std.proofs.lemmas.Bool.{cases_Bool, or_parts, and_parts, ltb-true, eqb-true, false≢true}
+use Rattle.std.proofs.lemmas.Option.{cond_some, option_and_then_some, some_pair_parts, none-some, same_Some}
+use Rattle.std.proofs.lemmas.List.Elements.{All-nil, All-cons}
+use Rattle.std.proofs.lemmas.List.Splits.{slice_split_none, slice_split_at, join_with_byte-slice_split, length-slice_split}
+use Rattle.std.proofs.NetLemmas.Options.{map_some}
+use Rattle.std.proofs.Math.Nat.{pow-le-pow_right}
+use Rattle.std.proofs.lemmas.Int.Digits.{digits_value-lt, number_lt}
+use Rattle.std.proofs.lemmas.List.{length-replicate}
+use Rattle.std.specs.Char.{digit_value}
+use Rattle.std.specs.Int.Digits.{number_from_digits, AllBelowBase}
+use Rattle.std.specs.List.{list_any, slice_split, join_with_byte}
+use Rattle.std.specs.Result.{result_ok}
+use Rattle.std.specs.declared.net.ipv6_addr.Ipv6Addr.{Ipv6Addr}
+use Rattle.std.specs.Net.Grammar.{Parses, IsIpv6Text, IsDotted, IsGroup, IsGroupsAfter, IsGroups, IsColonHex}
+use Rattle.addr.specs.PrefixText.{group, all_groups, colon_groups, cut_at_gap, loose_groups}
+use Rattle.addr.proofs.PrefixTextLemmas.{short_number_from, short_number_is, Lacks, Lacks-append, Lacks_parts, Lacks-digits, option_cases, dotted_parts}
+
+-- ---- one group
+
+group_from : (text : List ℕ) (s : ℕ) → IsGroup text s → group text ≡ Some s
+group_from text s h = short_number_from 16 4 text s (record { some = omega (arith, h.0.0.0); few = h.1; digits = h.0.0.1; value = h.0.1 })
+
+group_is : (text : List ℕ) (s : ℕ) → group text ≡ Some s → IsGroup text s
+group_is text s e =
+    let h = short_number_is 16 4 text s e in
+    let some = h.some in
+    (((omega arith, h.digits), h.value), h.few)
+
+group_lacks : (byte : ℕ) (text : List ℕ) (s : ℕ) → 16 ≤ digit_value byte → IsGroup text s → Lacks byte text
+group_lacks byte text s other h = Lacks-digits 16 byte text other h.0.0.1
+
+-- ---- groups as they are cut at the colons
+
+none_passes : (byte : ℕ) (text : List ℕ) → Lacks byte text → All (λ b. (b == byte) ≡ false) text
+none_passes byte [] none = All-nil (λ b. (b == byte) ≡ false)
+none_passes byte (c ∷ text) none =
+    let (here, others) = or_parts (c == byte) (list_any (λ b. b == byte) text) none in
+    All-cons (λ b. (b == byte) ≡ false) c text here (none_passes byte text others)
+
+-- a dotted tail has a dot
+dotted_has_dot : (text octets : List ℕ) → IsDotted text octets → Lacks 46 text → ⊥
+dotted_has_dot text octets h none =
+    let split = subst (Lacks 46) (h.spelled ∙ dotted_parts h.a h.b h.c h.d) none in
+    let dot = (Lacks_parts 46 (decimal h.a) (46 ∷ (decimal h.b ++ 46 ∷ (decimal h.c ++ 46 ∷ decimal h.d))) split).1 in
+    false≢true (sym dot)
+
+-- what follows a group: nothing, or a colon and more groups
+IsTail : List ℕ → List ℕ → Type 0
+IsTail text segments = ((text ≡ []) × (segments ≡ [])) ⊎ ((rest : List ℕ) × (text ≡ 58 ∷ rest) × (all_groups (slice_split (λ b. b == 58) rest) ≡ Some segments))
+
+split_group : (here text : List ℕ) (s : ℕ) (segments : List ℕ) → IsGroup here s → IsTail text segments → all_groups (slice_split (λ b. b == 58) (here ++ text)) ≡ Some (s ∷ segments)
+unfolding IsTail
+split_group here text s segments h (inl end) =
+    let plain = none_passes 58 here (group_lacks 58 here s (lit≤ tt) h) in
+    rw (end.0, end.1, append-nil here, slice_split_none (λ b. b == 58) here plain, group_from here s h)
+split_group here text s segments h (inr more) =
+    let plain = none_passes 58 here (group_lacks 58 here s (lit≤ tt) h) in
+    rw (more.1, slice_split_at (λ b. b == 58) here 58 more.0 plain refl, group_from here s h, more.2)
+
+tail_groups : (ipv4 : Bool) (text segments : List ℕ) → IsGroupsAfter ipv4 (58 ∷ []) text segments → Lacks 46 text → IsTail text segments
+unfolding IsTail
+tail_groups ipv4 text [] h none = inl (h, refl)
+tail_groups ipv4 text (s ∷ segments) (inl h) none =
+    let (here, more, split, is_group, is_more) = h in
+    let lacks = (Lacks_parts 46 (58 ∷ here) more (subst (Lacks 46) split none)).1 in
+    inr (here ++ more, split, split_group here more s segments is_group (tail_groups ipv4 more segments is_more lacks))
+tail_groups ipv4 text (s ∷ segments) (inr h) none =
+    let (last, octets, allowed, split, is_dotted, value) = h in
+    absurd (dotted_has_dot last octets is_dotted (Lacks_parts 46 (58 ∷ []) last (subst (Lacks 46) split none)).1)
+
+colon_groups_some : (text here : List ℕ) (s : ℕ) (segments : List ℕ) → IsGroup here s → IsTail text segments → colon_groups (here ++ text) ≡ Some (s ∷ segments)
+unfolding colon_groups
+colon_groups_some text [] s segments h tail = absurd (omega (arith, h.0.0.0))
+colon_groups_some text (c ∷ here) s segments h tail = split_group (c ∷ here) text s segments h tail
+
+colon_groups_from : (ipv4 : Bool) (text segments : List ℕ) → IsGroups ipv4 text segments → Lacks 46 text → colon_groups text ≡ Some segments
+unfolding colon_groups
+colon_groups_from ipv4 text [] h none = rw h
+colon_groups_from ipv4 text (s ∷ segments) (inl h) none =
+    let (here, more, split, is_group, is_more) = h in
+    let lacks = (Lacks_parts 46 here more (subst (Lacks 46) split none)).1 in
+    rw split (colon_groups_some more here s segments is_group (tail_groups ipv4 more segments is_more lacks))
+colon_groups_from ipv4 text (s ∷ segments) (inr h) none =
+    let (last, octets, allowed, split, is_dotted, value) = h in
+    absurd (dotted_has_dot last octets is_dotted (subst (Lacks 46) split none))
+
+-- parts that are groups, joined by colons
+joined : List (List ℕ) → List ℕ
+joined [] = []
+joined (part ∷ parts) = 58 ∷ (part ++ joined parts)
+
+join-joined : (part : List ℕ) (parts : List (List ℕ)) → join_with_byte 58 (part ∷ parts) ≡ part ++ joined parts
+unfolding joined
+join-joined part [] = sym (append-nil part)
+join-joined part (next ∷ parts) = ap (λ text. part ++ 58 ∷ text) (join-joined next parts)
+
+tail_is : (ipv4 : Bool) (parts : List (List ℕ)) (segments : List ℕ) → all_groups parts ≡ Some segments → IsGroupsAfter ipv4 (58 ∷ []) (joined parts) segments
+unfolding joined
+tail_is ipv4 [] segments e = subst (IsGroupsAfter ipv4 (58 ∷ []) []) (same_Some _ _ e) refl
+tail_is ipv4 (part ∷ parts) segments e =
+    option_and_then_some _ (group part) _ e λ s here kept.
+    option_and_then_some _ (all_groups parts) _ kept λ others more same.
+    subst (IsGroupsAfter ipv4 (58 ∷ []) (58 ∷ (part ++ joined parts))) (same_Some _ _ same)
+    (inl (part, joined parts, refl, group_is part s here, tail_is ipv4 parts others more))
+
+parts_are : (ipv4 : Bool) (parts : List (List ℕ)) (segments : List ℕ) → 0 < length parts → all_groups parts ≡ Some segments → IsGroups ipv4 (join_with_byte 58 parts) segments
+parts_are ipv4 [] segments some e = absurd (omega arith)
+parts_are ipv4 (part ∷ parts) segments some e =
+    option_and_then_some _ (group part) _ e λ s here kept.
+    option_and_then_some _ (all_groups parts) _ kept λ others more same.
+    subst (IsGroups ipv4 (join_with_byte 58 (part ∷ parts))) (same_Some _ _ same)
+    (inl (part, joined parts, join-joined part parts, group_is part s here, tail_is ipv4 parts others more))
+
+colon_groups_are : (ipv4 : Bool) (text segments : List ℕ) → colon_groups text ≡ Some segments → IsGroups ipv4 text segments
+unfolding colon_groups
+colon_groups_are ipv4 [] segments e = subst (IsGroups ipv4 []) (same_Some _ _ e) refl
+colon_groups_are ipv4 (c ∷ rest) segments e =
+    let parts = slice_split (λ b. b == 58) (c ∷ rest) in
+    let some : 0 < length parts = omega (arith, length-slice_split (λ b. b == 58) (c ∷ rest)) in
+    subst (λ text. IsGroups ipv4 text segments) (join_with_byte-slice_split 58 (c ∷ rest)) (parts_are ipv4 parts segments some e)
+
+-- groups with no dotted tail have no dot
+tail_lacks : (text segments : List ℕ) → IsGroupsAfter false (58 ∷ []) text segments → Lacks 46 text
+tail_lacks text [] h = subst (Lacks 46) (sym h) refl
+tail_lacks text (s ∷ segments) (inl h) =
+    let (here, more, split, is_group, is_more) = h in
+    subst (Lacks 46) (sym split) (Lacks-append 46 here more (group_lacks 46 here s (lit≤ tt) is_group) (tail_lacks more segments is_more))
+tail_lacks text (s ∷ segments) (inr h) = absurd (false≢true h.2)
+
+groups_lack : (text segments : List ℕ) → IsGroups false text segments → Lacks 46 text
+groups_lack text [] h = subst (Lacks 46) (sym h) refl
+groups_lack text (s ∷ segments) (inl h) =
+    let (here, more, split, is_group, is_more) = h in
+    subst (Lacks 46) (sym split) (Lacks-append 46 here more (group_lacks 46 here s (lit≤ tt) is_group) (tail_lacks more segments is_more))
+groups_lack text (s ∷ segments) (inr h) = absurd (false≢true h.2)
+
+-- ---- the gap
+
+gap_over_some : (front rest before after : List ℕ) → Lacks 58 front → cut_at_gap rest ≡ Some (before, after) → cut_at_gap (front ++ rest) ≡ Some (front ++ before, after)
+unfolding cut_at_gap
+gap_over_some [] rest before after none e = e
+gap_over_some (c ∷ front) rest before after none e =
+    let (here, others) = or_parts (c == 58) (list_any (λ b. b == 58) front) none in
+    rw (here, gap_over_some front rest before after others e)
+
+gap_over_none : (front rest : List ℕ) → Lacks 58 front → cut_at_gap rest ≡ None → cut_at_gap (front ++ rest) ≡ None
+unfolding cut_at_gap
+gap_over_none [] rest none e = e
+gap_over_none (c ∷ front) rest none e =
+    let (here, others) = or_parts (c == 58) (list_any (λ b. b == 58) front) none in
+    rw (here, gap_over_none front rest others e)
+
+-- a lone colon is no gap
+colon_then : (next : List ℕ) → (slice_index next 0 == 58) ≡ false → cut_at_gap (58 ∷ next) ≡ option_map {T = List ℕ × List ℕ} (λ cut. (58 ∷ cut.0, cut.1)) (cut_at_gap next)
+unfolding cut_at_gap
+colon_then next other = rw other
+
+colon_then_some : (here rest before after : List ℕ) → 0 < length here → Lacks 58 here → cut_at_gap (here ++ rest) ≡ Some (before, after) → cut_at_gap (58 ∷ (here ++ rest)) ≡ Some (58 ∷ before, after)
+colon_then_some [] rest before after some none e = absurd (omega arith)
+colon_then_some (c ∷ here) rest before after some none e =
+    let (first, others) = or_parts (c == 58) (list_any (λ b. b == 58) here) none in
+    rw (colon_then (c ∷ (here ++ rest)) first, e)
+
+colon_then_none : (here rest : List ℕ) → 0 < length here → Lacks 58 here → cut_at_gap (here ++ rest) ≡ None → cut_at_gap (58 ∷ (here ++ rest)) ≡ None
+colon_then_none [] rest some none e = absurd (omega arith)
+colon_then_none (c ∷ here) rest some none e =
+    let (first, others) = or_parts (c == 58) (list_any (λ b. b == 58) here) none in
+    rw (colon_then (c ∷ (here ++ rest)) first, e)
+
+gap_at : (after : List ℕ) → cut_at_gap (58 ∷ 58 ∷ after) ≡ Some ([], after)
+unfolding cut_at_gap
+gap_at after = refl
+
+gap_after_tail : (text segments after : List ℕ) → IsGroupsAfter false (58 ∷ []) text segments → cut_at_gap (text ++ 58 ∷ 58 ∷ after) ≡ Some (text, after)
+gap_after_tail text [] after h = subst (λ t. cut_at_gap (t ++ 58 ∷ 58 ∷ after) ≡ Some (t, after)) (sym h) (gap_at after)
+gap_after_tail text (s ∷ segments) after (inl h) =
+    let (here, more, split, is_group, is_more) = h in
+    let plain = group_lacks 58 here s (lit≤ tt) is_group in
+    let later = gap_over_some here (more ++ 58 ∷ 58 ∷ after) more after plain (gap_after_tail more segments after is_more) in
+    let step = colon_then_some here (more ++ 58 ∷ 58 ∷ after) (here ++ more) after is_group.0.0.0 plain later in
+    rw (split, append_assoc here more (58 ∷ 58 ∷ after)) step
+gap_after_tail text (s ∷ segments) after (inr h) = absurd (false≢true h.2)
+
+gap_after_groups : (text segments after : List ℕ) → IsGroups false text segments → cut_at_gap (text ++ 58 ∷ 58 ∷ after) ≡ Some (text, after)
+gap_after_groups text [] after h = subst (λ t. cut_at_gap (t ++ 58 ∷ 58 ∷ after) ≡ Some (t, after)) (sym h) (gap_at after)
+gap_after_groups text (s ∷ segments) after (inl h) =
+    let (here, more, split, is_group, is_more) = h in
+    let plain = group_lacks 58 here s (lit≤ tt) is_group in
+    let later = gap_over_some here (more ++ 58 ∷ 58 ∷ after) more after plain (gap_after_tail more segments after is_more) in
+    rw (split, append_assoc here more (58 ∷ 58 ∷ after)) later
+gap_after_groups text (s ∷ segments) after (inr h) = absurd (false≢true h.2)
+
+no_gap_in_nothing : cut_at_gap [] ≡ None
+unfolding cut_at_gap
+no_gap_in_nothing = refl
+
+no_gap_in_tail : (ipv4 : Bool) (text segments : List ℕ) → IsGroupsAfter ipv4 (58 ∷ []) text segments → Lacks 46 text → cut_at_gap text ≡ None
+no_gap_in_tail ipv4 text [] h none = rw h no_gap_in_nothing
+no_gap_in_tail ipv4 text (s ∷ segments) (inl h) none =
+    let (here, more, split, is_group, is_more) = h in
+    let lacks = (Lacks_parts 46 (58 ∷ here) more (subst (Lacks 46) split none)).1 in
+    let plain = group_lacks 58 here s (lit≤ tt) is_group in
+    rw split (colon_then_none here more is_group.0.0.0 plain (gap_over_none here more plain (no_gap_in_tail ipv4 more segments is_more lacks)))
+no_gap_in_tail ipv4 text (s ∷ segments) (inr h) none =
+    let (last, octets, allowed, split, is_dotted, value) = h in
+    absurd (dotted_has_dot last octets is_dotted (Lacks_parts 46 (58 ∷ []) last (subst (Lacks 46) split none)).1)
+
+no_gap_in_groups : (ipv4 : Bool) (text segments : List ℕ) → IsGroups ipv4 text segments → Lacks 46 text → cut_at_gap text ≡ None
+no_gap_in_groups ipv4 text [] h none = rw h no_gap_in_nothing
+no_gap_in_groups ipv4 text (s ∷ segments) (inl h) none =
+    let (here, more, split, is_group, is_more) = h in
+    let lacks = (Lacks_parts 46 here more (subst (Lacks 46) split none)).1 in
+    let plain = group_lacks 58 here s (lit≤ tt) is_group in
+    rw split (gap_over_none here more plain (no_gap_in_tail ipv4 more segments is_more lacks))
+no_gap_in_groups ipv4 text (s ∷ segments) (inr h) none =
+    let (last, octets, allowed, split, is_dotted, value) = h in
+    absurd (dotted_has_dot last octets is_dotted (subst (Lacks 46) split none))
+
+gap_starts : (c : ℕ) (rest : List ℕ) → (c == 58 && (slice_index rest 0 == 58)) ≡ true → c ∷ rest ≡ 58 ∷ 58 ∷ drop 1 rest
+gap_starts c [] e = absurd (false≢true (and_parts (c == 58) false e).1)
+gap_starts c (d ∷ more) e =
+    let (first, second) = and_parts (c == 58) (d == 58) e in
+    let one = eqb-true c 58 first in
+    let two = eqb-true d 58 second in
+    cc
+
+gap_is : (text before after : List ℕ) → cut_at_gap text ≡ Some (before, after) → text ≡ before ++ 58 ∷ 58 ∷ after
+unfolding cut_at_gap
+gap_is [] before after e = absurd (none-some _ e)
+gap_is (c ∷ rest) before after e =
+    let test = c == 58 && (slice_index rest 0 == 58) in
+    elim (cases_Bool test) [
+      | inl gap ↦
+          let here = rw gap at e in
+          let (none, more) = some_pair_parts _ _ _ _ here in
+          rw (← none, ← more) (gap_starts c rest gap)
+      | inr other ↦
+          let later = rw other at e in
+          map_some _ (cut_at_gap rest) _ later λ cut found same.
+          let front : c ∷ cut.0 ≡ before = ap (λ p. p.0) same in
+          let back : cut.1 ≡ after = ap (λ p. p.1) same in
+          rw (← front, ← back) (ap (λ t. c ∷ t) (gap_is rest cut.0 cut.1 found))
+    ]
+
+-- ---- the whole address
+
+pub loose_groups_from : (text segments : List ℕ) → IsColonHex text segments → Lacks 46 text → loose_groups text ≡ Some segments
+unfolding loose_groups
+loose_groups_from text segments (inl (groups, eight)) none =
+    rw (no_gap_in_groups true text segments groups none, colon_groups_from true text segments groups none, eq-eqb (length segments) 8 eight)
+loose_groups_from text segments (inr h) none =
+    let split = h.spelled ∙ append_assoc h.head_text (58 ∷ 58 ∷ []) h.tail_text in
+    let (head_lacks, rest_lacks) = Lacks_parts 46 h.head_text (58 ∷ 58 ∷ h.tail_text) (subst (Lacks 46) split none) in
+    rw (
+      split,
+      gap_after_groups h.head_text h.head h.tail_text h.head_groups,
+      colon_groups_from false h.head_text h.head h.head_groups head_lacks,
+      colon_groups_from true h.tail_text h.tail h.tail_groups rest_lacks,
+      lt-ltb (length h.head + length h.tail) 8 h.room,
+      h.value,
+    )
+
+pub loose_groups_are : (text segments : List ℕ) → loose_groups text ≡ Some segments → IsColonHex text segments × Lacks 46 text
+unfolding loose_groups
+loose_groups_are text segments e =
+    elim (option_cases (cut_at_gap text)) [
+      | inl none ↦
+          let whole = rw none at e in
+          option_and_then_some _ (colon_groups text) _ whole λ groups read kept.
+          let (test, same) = cond_some _ _ _ kept in (
+            inl (subst (IsGroups true text) same (colon_groups_are true text groups read), ap length (sym same) ∙ eqb-true (length groups) 8 test),
+            groups_lack text groups (colon_groups_are false text groups read),
+          )
+      | inr cut ↦
+          let gapped = rw cut.1 at e in
+          option_and_then_some _ (colon_groups cut.0.0) _ gapped λ front read kept.
+          option_and_then_some _ (colon_groups cut.0.1) _ kept λ back read_back rest.
+          let (test, same) = cond_some _ _ _ rest in
+          let split = gap_is text cut.0.0 cut.0.1 cut.1 in
+          let head = colon_groups_are false cut.0.0 front read in
+          let tail = colon_groups_are false cut.0.1 back read_back in (
+            inr (record {
+              head_text = cut.0.0;
+              tail_text = cut.0.1;
+              head = front;
+              tail = back;
+              spelled = split ∙ sym (append_assoc cut.0.0 (58 ∷ 58 ∷ []) cut.0.1);
+              head_groups = head;
+              tail_groups = colon_groups_are true cut.0.1 back read_back;
+              room = ltb-true (length front + length back) 8 test;
+              value = sym same;
+            }),
+            subst (Lacks 46) (sym split) (Lacks-append 46 cut.0.0 (58 ∷ 58 ∷ cut.0.1) (groups_lack cut.0.0 front head) (groups_lack cut.0.1 back tail)),
+          )
+    ]
+
+pub loose_groups_none : (text : List ℕ) → ((segments : List ℕ) → IsColonHex text segments → Lacks 46 text → ⊥) → loose_groups text ≡ None
+loose_groups_none text never =
+    elim (option_cases (loose_groups text)) [
+      | inl none ↦ none
+      | inr some ↦ let (is, lacks) = loose_groups_are text some.0 some.1 in absurd (never some.0 is lacks)
+    ]
+
+-- ---- what `Ipv6Addr` reads
+
+module _ {E : Type 0} where
+  pub read_none : (text : List ℕ) (parsed : Result Ipv6Addr E) → Parses IsIpv6Text text parsed → None ≡ result_ok parsed → loose_groups text ≡ None
+  read_none text (Ok address) h e = absurd (none-some address e)
+  read_none text (Err error) h e = loose_groups_none text λ segments is lacks. h (record { segments = segments }) is
+
+  pub read_some : (text : List ℕ) (parsed : Result Ipv6Addr E) (address : Ipv6Addr) → Parses IsIpv6Text text parsed → Some address ≡ result_ok parsed → Lacks 46 text → loose_groups text ≡ Some address.segments
+  read_some text (Ok read) address h e lacks =
+      let same = same_Some address read e in
+      rw same (loose_groups_from text read.segments h lacks)
+  read_some text (Err error) address h e lacks = absurd (none-some address (sym e))
+
+-- ---- eight groups of 16 bits
+
+group_below : (text : List ℕ) (s : ℕ) → group text ≡ Some s → s < 0x10000
+group_below text s e =
+    let h = short_number_is 16 4 text s e in
+    let below = digits_value-lt 16 text h.digits in
+    let most : 16 ^ length text ≤ 16 ^ 4 = pow-le-pow_right (lit≤ tt) {i = length text} {j = 4} h.few in
+    let value = h.value in
+    omega arith
+
+all_groups_below : (parts : List (List ℕ)) (segments : List ℕ) → all_groups parts ≡ Some segments → AllBelowBase 0x10000 segments
+all_groups_below [] segments e = subst (AllBelowBase 0x10000) (same_Some _ _ e) tt
+all_groups_below (part ∷ parts) segments e =
+    option_and_then_some _ (group part) _ e λ s here kept.
+    option_and_then_some _ (all_groups parts) _ kept λ others more same.
+    subst (AllBelowBase 0x10000) (same_Some _ _ same) (group_below part s here, all_groups_below parts others more)
+
+colon_groups_below : (text segments : List ℕ) → colon_groups text ≡ Some segments → AllBelowBase 0x10000 segments
+unfolding colon_groups
+colon_groups_below [] segments e = subst (AllBelowBase 0x10000) (same_Some _ _ e) tt
+colon_groups_below (c ∷ rest) segments e = all_groups_below (slice_split (λ b. b == 58) (c ∷ rest)) segments e
+
+below_append : (xs ys : List ℕ) → AllBelowBase 0x10000 xs → AllBelowBase 0x10000 ys → AllBelowBase 0x10000 (xs ++ ys)
+below_append [] ys hx hy = hy
+below_append (x ∷ xs) ys hx hy = (hx.0, below_append xs ys hx.1 hy)
+
+below_zeros : (count : ℕ) → AllBelowBase 0x10000 (replicate count 0)
+below_zeros zero = tt
+below_zeros (suc count) = (lit< tt, below_zeros count)
+
+number_fits : (groups : List ℕ) → length groups ≡ 8 → AllBelowBase 0x10000 groups → number_from_digits 0x10000 groups < 2 ^ 128
+number_fits groups eight below = let all = number_lt 0x10000 groups below in rw eight at all
+
+pub loose_groups_fit : (text segments : List ℕ) → loose_groups text ≡ Some segments → number_from_digits 0x10000 segments < 2 ^ 128
+unfolding loose_groups
+loose_groups_fit text segments e =
+    elim (option_cases (cut_at_gap text)) [
+      | inl none ↦
+          option_and_then_some _ (colon_groups text) _ (rw none at e) λ groups read kept.
+          let (test, same) = cond_some _ _ _ kept in
+          rw (← same) (number_fits groups (eqb-true (length groups) 8 test) (colon_groups_below text groups read))
+      | inr cut ↦
+          option_and_then_some _ (colon_groups cut.0.0) _ (rw cut.1 at e) λ front read kept.
+          option_and_then_some _ (colon_groups cut.0.1) _ kept λ back read_back rest.
+          let (test, same) = cond_some _ _ _ rest in
+          let room = ltb-true (length front + length back) 8 test in
+          let zeros = replicate (8 - length front - length back) 0 in
+          let begins = below_append front zeros (colon_groups_below cut.0.0 front read) (below_zeros (8 - length front - length back)) in
+          let eight : length (front ++ zeros ++ back) ≡ 8 = omega (arith, length-append (front ++ zeros) back, length-append front zeros, length-replicate {A = ℕ} (8 - length front - length back) 0) in
+          rw (← same) (number_fits (front ++ zeros ++ back) eight (below_append (front ++ zeros) back begins (colon_groups_below cut.0.1 back read_back)))
+    ]

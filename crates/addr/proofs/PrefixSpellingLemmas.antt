@@ -1,0 +1,289 @@
+-- The law of prefix texts: each spelling is read back, so it has no fault where its parts are a prefix's.
+use Rattle.std.proofs.Common.{◌≡◌, ◌↔◌, ℕ, ◌+◌, ◌-◌, ◌%◌, ◌^◌, ◌<◌, ◌≤◌, sub-le, Bool, true, false, not, nat_lt, cond, List, [], ◌∷◌, ◌++◌, get_or, Option, Some, None, Result, Ok, Err, All, decimal, refl, sym, ap, ◌∙◌, subst, inl, inr, arith, lit≤, lit<, le-ltb, le-leb, ne_eqb}
+use Rattle.std.proofs.lemmas.Bool.{leb-true, or_from, ltb-false, eqb-true, not-false}
+use Rattle.std.proofs.lemmas.Option.{none-some, same_Some, option_and_then_some, cond_some}
+use Rattle.std.proofs.NetLemmas.Options.{map_some}
+use Rattle.std.proofs.lemmas.Slice.Eq.{bytes_eq-Decides}
+use Rattle.std.proofs.lemmas.Fmt.{decimal_is_IsNumeral, length-decimal-le}
+use Rattle.std.proofs.lemmas.List.Elements.{All-head, All-tail}
+use Rattle.std.proofs.NetLemmas.Arrays.{four_items}
+use native.Mathlib.Nat.{ℕ_set}
+use Rattle.std.proofs.Math.Bridge.{le_prop}
+use Rattle.std.proofs.lemmas.Nat.{pow_pos}
+use Rattle.std.specs.Result.{MatchResult}
+use Rattle.std.proofs.NetLemmas.Texts.{IsZeroRun-longest_zero_run, longest_zero_run_first, AllSegments, IsColonHex-hex_groups_text}
+use Rattle.std.proofs.NetLemmas.Alphabet.{IsHexOrColon, All-hex_groups_text}
+use Rattle.std.specs.Char.{digit_value}
+use Rattle.std.specs.Str.{bytes_eq}
+use Rattle.std.specs.Int.Digits.{number_from_digits}
+use Rattle.std.specs.Net.Text.{ipv4_text, hex_groups_text, dotted_text, longest_zero_run}
+use Rattle.addr.specs.Family.{width}
+use Rattle.addr.specs.declared.family.Family.{Family}
+use Rattle.addr.specs.declared.family.Family.TheVariants.{V4, V6}
+use Rattle.addr.specs.declared.text.PrefixParts.{PrefixParts}
+use Rattle.addr.specs.declared.text.PrefixFault.{PrefixFault}
+use Rattle.addr.specs.declared.text.PrefixFault.TheVariants.{Shape, Spelling, Length, HostBits}
+use Rattle.addr.specs.declared.prefix.Prefix.{Prefix}
+use Rattle.addr.specs.PrefixText.{octets_of, groups_of, address_text, spelling, cut_at, short_number, octet, dotted_address, loose_address, loose_groups, loose, fault_of, is_aligned, prefix_text_fault, Spells, IsFirstLongestRun, PrefixTextLaw}
+use Rattle.addr.proofs.PrefixTextLemmas.{short_number_from, Lacks, Lacks-append, Lacks-digits, cut_at_here, cut_at_none, dotted_parts, length_digits_in, below-digits_in, number-digits_in, at_below, option_cases}
+use Rattle.addr.proofs.AddressLemmas.{multiple-fits}
+use Rattle.addr.proofs.PrefixGroupsLemmas.{loose_groups_from, loose_groups_fit}
+
+-- ---- numbers
+
+short_number-decimal : (n : ℕ) → n < 1000 → short_number 10 3 (decimal n) ≡ Some n
+short_number-decimal n below =
+    let (numeral, value) = decimal_is_IsNumeral n (omega arith) in
+    let few = length-decimal-le 3 n (lit< tt) below (omega arith) in
+    short_number_from 10 3 (decimal n) n (record { some = omega (arith, numeral.0); few = few; digits = numeral.1; value = value })
+
+octet-decimal : (n : ℕ) → n < 256 → octet (decimal n) ≡ Some n
+octet-decimal n below = rw (short_number-decimal n (omega arith), le-leb n 255 (omega arith))
+
+decimal_lacks : (byte n : ℕ) → 10 ≤ digit_value byte → n < 1000 → Lacks byte (decimal n)
+decimal_lacks byte n other below = Lacks-digits 10 byte (decimal n) other (decimal_is_IsNumeral n (omega arith)).0.1
+
+-- ---- IPv4
+
+dotted_address-text : (a b c d : ℕ) → a < 256 → b < 256 → c < 256 → d < 256 → dotted_address (dotted_text a b c d) ≡ Some (number_from_digits 0x100 (a ∷ b ∷ c ∷ d ∷ []))
+unfolding dotted_address
+dotted_address-text a b c d ha hb hc hd =
+    rw (
+      dotted_parts a b c d,
+      cut_at_here 46 (decimal a) (decimal b ++ 46 ∷ (decimal c ++ 46 ∷ decimal d)) (decimal_lacks 46 a (lit≤ tt) (omega arith)),
+      cut_at_here 46 (decimal b) (decimal c ++ 46 ∷ decimal d) (decimal_lacks 46 b (lit≤ tt) (omega arith)),
+      cut_at_here 46 (decimal c) (decimal d) (decimal_lacks 46 c (lit≤ tt) (omega arith)),
+      octet-decimal a ha,
+      octet-decimal b hb,
+      octet-decimal c hc,
+      octet-decimal d hd,
+    )
+
+dotted_lacks_slash : (a b c d : ℕ) → a < 256 → b < 256 → c < 256 → d < 256 → Lacks 47 (dotted_text a b c d)
+dotted_lacks_slash a b c d ha hb hc hd =
+    let last = Lacks-append 47 (decimal c) (46 ∷ decimal d) (decimal_lacks 47 c (lit≤ tt) (omega arith)) (decimal_lacks 47 d (lit≤ tt) (omega arith)) in
+    let middle = Lacks-append 47 (decimal b) (46 ∷ (decimal c ++ 46 ∷ decimal d)) (decimal_lacks 47 b (lit≤ tt) (omega arith)) last in
+    rw (dotted_parts a b c d) (Lacks-append 47 (decimal a) (46 ∷ (decimal b ++ 46 ∷ (decimal c ++ 46 ∷ decimal d))) (decimal_lacks 47 a (lit≤ tt) (omega arith)) middle)
+
+octet_below : (address k : ℕ) → get_or (octets_of address) k 0 < 256
+octet_below address k = at_below 0x100 (octets_of address) k (lit< tt) (below-digits_in 0x100 4 address (lit< tt))
+
+octets_back : (address : ℕ) → address < 2 ^ 32 → dotted_address (ipv4_text (octets_of address)) ≡ Some address
+octets_back address fits =
+    let read = dotted_address-text _ _ _ _ (octet_below address 0) (octet_below address 1) (octet_below address 2) (octet_below address 3) in
+    let all = four_items (octets_of address) (length_digits_in 0x100 4 address) in
+    read ∙ ap Some (ap (number_from_digits 0x100) (sym all) ∙ number-digits_in 0x100 4 address (lit< tt) fits)
+
+-- ---- IPv6
+
+hex_lacks : (byte : ℕ) (text : List ℕ) → (IsHexOrColon byte → ⊥) → All IsHexOrColon text → Lacks byte text
+hex_lacks byte [] other all = refl
+hex_lacks byte (c ∷ text) other all =
+    or_from _ _ (ne_eqb c byte λ same. other (subst IsHexOrColon same (All-head IsHexOrColon c text all))) (hex_lacks byte text other (All-tail IsHexOrColon c text all))
+
+segments_fit : (address : ℕ) → AllSegments (groups_of address)
+segments_fit address k = at_below 0x10000 (groups_of address) k (lit< tt) (below-digits_in 0x10000 8 address (lit< tt))
+
+hex_text_lacks : (byte address : ℕ) → (IsHexOrColon byte → ⊥) → Lacks byte (hex_groups_text (groups_of address))
+hex_text_lacks byte address other = hex_lacks byte (hex_groups_text (groups_of address)) other (All-hex_groups_text (groups_of address) (segments_fit address))
+
+groups_back : (address : ℕ) → loose_groups (hex_groups_text (groups_of address)) ≡ Some (groups_of address)
+groups_back address =
+    loose_groups_from (hex_groups_text (groups_of address)) (groups_of address)
+    (IsColonHex-hex_groups_text (groups_of address) (length_digits_in 0x10000 8 address) (segments_fit address))
+    (hex_text_lacks 46 address (λ h. omega arith))
+
+not_dotted : (address : ℕ) → dotted_address (hex_groups_text (groups_of address)) ≡ None
+unfolding dotted_address
+not_dotted address = rw (cut_at_none 46 (hex_groups_text (groups_of address)) (hex_text_lacks 46 address (λ h. omega arith)))
+
+-- ---- both families
+
+address_lacks_slash : (family : Family) (address : ℕ) → Lacks 47 (address_text family address)
+address_lacks_slash V4 address = dotted_lacks_slash _ _ _ _ (octet_below address 0) (octet_below address 1) (octet_below address 2) (octet_below address 3)
+address_lacks_slash V6 address = hex_text_lacks 47 address (λ h. omega arith)
+
+address_back : (family : Family) (address : ℕ) → address < 2 ^ width family → loose_address (address_text family address) ≡ Some (family, address)
+unfolding loose_address
+address_back V4 address fits = rw (octets_back address fits)
+address_back V6 address fits = rw (not_dotted address, groups_back address, number-digits_in 0x10000 8 address (lit< tt) fits)
+
+pub loose-spelling : (family : Family) (address len : ℕ) → address < 2 ^ width family → len < 1000 → loose (spelling family address len) ≡ Some (record { family = family; address = address; length = len })
+unfolding loose spelling
+loose-spelling family address len fits below =
+    rw (cut_at_here 47 (address_text family address) (decimal len) (address_lacks_slash family address), address_back family address fits, short_number-decimal len below)
+
+-- ---- faults
+
+-- no fault: the text was read as parts that are a prefix's, and spells them
+record IsFaultless (text : List ℕ) (parts : PrefixParts) : Type 0 where
+  pub spelled : spelling parts.family parts.address parts.length ≡ text
+  pub length_fits : parts.length ≤ width parts.family
+  pub aligned : parts.address % 2 ^ (width parts.family - parts.length) ≡ 0
+
+faultless_parts : (text : List ℕ) (parts : PrefixParts) → fault_of text (Some parts) ≡ None → IsFaultless text parts
+faultless_parts text parts e =
+    let same = bytes_eq (spelling parts.family parts.address parts.length) text in
+    let over = nat_lt (width parts.family) parts.length in
+    let (is_same, rest) = cond_is_none (not same) Spelling _ e in
+    let (is_within, others) = cond_is_none over Length _ rest in
+    let (has_no_bits, end) = cond_is_none (not (is_aligned parts)) HostBits _ others in
+    record {
+      spelled = (bytes_eq-Decides (spelling parts.family parts.address parts.length) text).0 (not-false same is_same);
+      length_fits = ltb-false (width parts.family) parts.length is_within;
+      aligned = eqb-true (parts.address % 2 ^ (width parts.family - parts.length)) 0 (not-false (is_aligned parts) has_no_bits);
+    }
+  where
+    cond_is_none : (b : Bool) (fault : PrefixFault) (rest : Option PrefixFault) → cond b (Some fault) rest ≡ None → (b ≡ false) × (rest ≡ None)
+    cond_is_none true fault rest e = absurd (none-some fault (sym e))
+    cond_is_none false fault rest e = (refl, e)
+
+-- ---- what was read is an address of its family
+
+dotted_fits : (text : List ℕ) (address : ℕ) → dotted_address text ≡ Some address → address < 2 ^ 32
+unfolding dotted_address
+dotted_fits text address e =
+    option_and_then_some _ (cut_at 46 text) _ e λ a cut_a after_a.
+    option_and_then_some _ (cut_at 46 a.1) _ after_a λ b cut_b after_b.
+    option_and_then_some _ (cut_at 46 b.1) _ after_b λ c cut_c after_c.
+    option_and_then_some _ (octet a.0) _ after_c λ first read_a then_b.
+    option_and_then_some _ (octet b.0) _ then_b λ second read_b then_c.
+    option_and_then_some _ (octet c.0) _ then_c λ third read_c then_d.
+    option_and_then_some _ (octet c.1) _ then_d λ fourth read_d done.
+    let one = octet_fits a.0 first read_a in
+    let two = octet_fits b.0 second read_b in
+    let three = octet_fits c.0 third read_c in
+    let four = octet_fits c.1 fourth read_d in
+    let value = same_Some _ _ done in
+    omega (arith, value)
+  where
+    octet_fits : (digits : List ℕ) (value : ℕ) → octet digits ≡ Some value → value ≤ 255
+    octet_fits digits value e =
+        option_and_then_some _ (short_number 10 3 digits) _ e λ number read kept.
+        let (test, same) = cond_some _ _ _ kept in
+        let below = leb-true number 255 test in
+        omega (arith, same)
+
+loose_address_fits : (text : List ℕ) (read : Family × ℕ) → loose_address text ≡ Some read → read.1 < 2 ^ width read.0
+unfolding loose_address
+loose_address_fits text read e =
+    elim (option_cases (dotted_address text)) [
+      | inl none ↦
+          let rest = rw none at e in
+          map_some _ (loose_groups text) _ rest λ groups found same.
+          rw (← same) (loose_groups_fit text groups found)
+      | inr dotted ↦
+          let same = same_Some _ _ (rw dotted.1 at e) in
+          rw (← same) (dotted_fits text dotted.0 dotted.1)
+    ]
+
+loose_fits : (text : List ℕ) (parts : PrefixParts) → loose text ≡ Some parts → parts.address < 2 ^ width parts.family
+unfolding loose
+loose_fits text parts e =
+    option_and_then_some _ (cut_at 47 text) _ e λ cut found after_cut.
+    option_and_then_some _ (loose_address cut.0) _ after_cut λ address read after_address.
+    option_and_then_some _ (short_number 10 3 cut.1) _ after_address λ len read_len done.
+    rw (← same_Some _ _ done) (loose_address_fits cut.0 address read)
+
+-- ---- prefixes
+
+abbrev prefix_of : (family : Family) (first len : ℕ) → len ≤ width family → first % 2 ^ (width family - len) ≡ 0 → first + 2 ^ (width family - len) ≤ 2 ^ width family → Prefix
+prefix_of family first len fits aligned inside = record { family = family; first = first; length = len; length_fits = fits; aligned = aligned; in_family = inside }
+
+-- a prefix of one family, first address and length is one value
+module _ (q : Prefix) where
+  same_facts : (fits : q.length ≤ width q.family) (aligned : q.first % 2 ^ (width q.family - q.length) ≡ 0) (inside : q.first + 2 ^ (width q.family - q.length) ≤ 2 ^ width q.family) → prefix_of q.family q.first q.length fits aligned inside ≡ q
+  same_facts fits aligned inside i = prefix_of q.family q.first q.length (le_prop fits q.length_fits i) (ℕ_set _ _ aligned q.aligned i) (le_prop inside q.in_family i)
+
+  same_length : (len : ℕ) → q.length ≡ len → (fits : len ≤ width q.family) (aligned : q.first % 2 ^ (width q.family - len) ≡ 0) (inside : q.first + 2 ^ (width q.family - len) ≤ 2 ^ width q.family) → prefix_of q.family q.first len fits aligned inside ≡ q
+  same_length len same =
+      subst (λ (l : ℕ). (fits : l ≤ width q.family) (aligned : q.first % 2 ^ (width q.family - l) ≡ 0) (inside : q.first + 2 ^ (width q.family - l) ≤ 2 ^ width q.family) → prefix_of q.family q.first l fits aligned inside ≡ q) same same_facts
+
+  same_first : (first len : ℕ) → q.first ≡ first → q.length ≡ len → (fits : len ≤ width q.family) (aligned : first % 2 ^ (width q.family - len) ≡ 0) (inside : first + 2 ^ (width q.family - len) ≤ 2 ^ width q.family) → prefix_of q.family first len fits aligned inside ≡ q
+  same_first first len one same =
+      subst (λ (n : ℕ). (fits : len ≤ width q.family) (aligned : n % 2 ^ (width q.family - len) ≡ 0) (inside : n + 2 ^ (width q.family - len) ≤ 2 ^ width q.family) → prefix_of q.family n len fits aligned inside ≡ q) one (same_length len same)
+
+  same_family : (family : Family) (first len : ℕ) → q.family ≡ family → q.first ≡ first → q.length ≡ len → (fits : len ≤ width family) (aligned : first % 2 ^ (width family - len) ≡ 0) (inside : first + 2 ^ (width family - len) ≤ 2 ^ width family) → prefix_of family first len fits aligned inside ≡ q
+  same_family family first len kind one same =
+      subst (λ (f : Family). (fits : len ≤ width f) (aligned : first % 2 ^ (width f - len) ≡ 0) (inside : first + 2 ^ (width f - len) ≤ 2 ^ width f) → prefix_of f first len fits aligned inside ≡ q) kind (same_first first len one same)
+
+same_prefix : (p q : Prefix) → q.family ≡ p.family → q.first ≡ p.first → q.length ≡ p.length → p ≡ q
+same_prefix p q kind one same = same_family q p.family p.first p.length kind one same p.length_fits p.aligned p.in_family
+
+prefix_below : (p : Prefix) → p.first < 2 ^ width p.family
+prefix_below p = let some = pow_pos (width p.family - p.length) in let inside = p.in_family in omega arith
+
+width_small : (family : Family) → width family < 1000
+width_small V4 = lit< tt
+width_small V6 = lit< tt
+
+prefix_short : (p : Prefix) → p.length < 1000
+prefix_short p = let small = width_small p.family in let fits = p.length_fits in omega arith
+
+parts_of : Prefix → PrefixParts
+parts_of p = record { family = p.family; address = p.first; length = p.length }
+
+loose-Spells : (p : Prefix) (text : List ℕ) → Spells p text → loose text ≡ Some (parts_of p)
+unfolding parts_of
+loose-Spells p text spelled = rw spelled (loose-spelling p.family p.first p.length (prefix_below p) (prefix_short p))
+
+pub Spells_unique : (p q : Prefix) (text : List ℕ) → Spells p text → Spells q text → p ≡ q
+unfolding parts_of
+Spells_unique p q text hp hq =
+    let same = same_Some _ _ (sym (loose-Spells q text hq) ∙ loose-Spells p text hp) in
+    same_prefix p q (ap (λ (parts : PrefixParts). parts.family) same) (ap (λ (parts : PrefixParts). parts.address) same) (ap (λ (parts : PrefixParts). parts.length) same)
+
+pub faultless-Spells : (p : Prefix) (text : List ℕ) → Spells p text → prefix_text_fault text ≡ None
+unfolding prefix_text_fault parts_of
+faultless-Spells p text spelled =
+    rw (
+      loose-Spells p text spelled,
+      (bytes_eq-Decides (spelling p.family p.first p.length) text).1 (sym spelled),
+      le-ltb (width p.family) p.length p.length_fits,
+      p.aligned,
+    )
+
+prefix_from_parts : (text : List ℕ) (parts : PrefixParts) → loose text ≡ Some parts → IsFaultless text parts → (p : Prefix) × Spells p text
+prefix_from_parts text parts read h =
+    let below = loose_fits text parts read in
+    let multiple = multiple-fits parts.address (width parts.family - parts.length) (width parts.family) (sub-le (width parts.family) parts.length) below h.aligned in
+    (prefix_of parts.family parts.address parts.length h.length_fits h.aligned multiple, sym h.spelled)
+
+prefix_from_faultless : (text : List ℕ) → prefix_text_fault text ≡ None → (p : Prefix) × Spells p text
+unfolding prefix_text_fault
+prefix_from_faultless text none =
+    elim (option_cases (loose text)) [
+      | inl shapeless ↦ absurd (none-some Shape (sym (rw shapeless at none)))
+      | inr read ↦ prefix_from_parts text read.0 read.1 (faultless_parts text read.0 (rw read.1 at none))
+    ]
+
+-- ---- the run of zero groups that `::` replaces
+
+first_longest_run : (groups : List ℕ) → IsFirstLongestRun groups (longest_zero_run groups).0 (longest_zero_run groups).1
+first_longest_run groups =
+    let run = IsZeroRun-longest_zero_run groups in
+    record {
+      run = record { within = run.0; zeros = run.1 };
+      longest = λ from count h. (longest_zero_run_first groups from count (h.within, h.zeros)).0;
+      first = λ from h. (longest_zero_run_first groups from (longest_zero_run groups).1 (h.within, h.zeros)).1 refl;
+    }
+
+pub prefix_text_law : PrefixTextLaw
+prefix_text_law = record {
+  read_back = loose-spelling;
+  faultless = λ text. (prefix_from_faultless text, λ h. faultless-Spells h.0 text h.1);
+  unique = Spells_unique;
+  elided = first_longest_run;
+}
+
+-- ---- what reading answers
+
+pub read_gives : (text : List ℕ) (read : Result Prefix PrefixFault) → MatchResult read (λ prefix. (prefix_text_fault text ≡ None) × Spells prefix text) (λ fault. prefix_text_fault text ≡ Some fault) → (prefix : Prefix) → (read ≡ Ok prefix) ↔ Spells prefix text
+read_gives text (Ok read) h prefix = (
+  λ same. let is : read ≡ prefix = cc in subst (λ p. Spells p text) is h.1,
+  λ spelled. ap Ok (Spells_unique read prefix text h.1 spelled),
+)
+read_gives text (Err fault) h prefix = (
+  λ same. cc,
+  λ spelled. absurd (none-some fault (sym (faultless-Spells prefix text spelled) ∙ h)),
+)

@@ -1,0 +1,5 @@
+use Rattle.addr.proofs.PrefixSpellingLemmas.{read_gives}
+use Rattle.addr.proofs.prefix.Prefix.read.Goals as goal
+
+pub returns-clause-each : goal.returns-clause-each
+returns-clause-each c = read_gives c.args.text.now c.read_prefix.result c.read_prefix.ensures

@@ -1,0 +1,58 @@
+ghost use Rattle.std.specs.Prelude.{◌≡◌, ℕ, ◌+◌, ◌^◌, ◌<◌, ◌≤◌, [], ◌∷◌, ◌++◌, MatchOption};
+ghost use Rattle.std.specs.Fmt.{decimal};
+ghost use Rattle.arrayvec.specs.ArrayString.{array_string_len};
+ghost use Rattle.addr.specs.Digits.{number_in};
+
+use arrayvec::ArrayString;
+
+/// The decimal digits of `number`, without leading zeros.
+pub fn digits(number: u64) -> ArrayString<20>
+    ensures text { result.bytes ≡ decimal number }
+    ensures len { array_string_len result ≤ 20 }
+{
+    if number < 10 {
+        let mut text = ArrayString::new();
+        push_digit(&mut text, number as u8);
+        return text;
+    }
+    let mut text = digits(number / 10);
+    push_digit(&mut text, (number % 10) as u8);
+    text
+}
+
+fn push_digit(text: &mut ArrayString<20>, digit: u8)
+    requires digit { digit < 10 }
+    requires room { array_string_len text.old < 20 }
+    ensures { text.new.bytes ≡ text.old.bytes ++ (48 + digit) ∷ [] }
+{
+    text.push((b'0' + digit) as char);
+}
+
+/// The number below 2^64 whose decimal digits `text` is, without leading zeros; `None` for any
+/// other text.
+pub fn number_from_text(text: &[u8]) -> Option<u64>
+    ensures value { result ≡ number_in text.now }
+    ensures exact { MatchOption result ((n : ℕ) → n < 2 ^ 64 → ¬ (text.now ≡ decimal n)) (λ n. text.now ≡ decimal n) }
+{
+    let Some(number) = parse(text) else {
+        return None;
+    };
+    if digits(number).as_str().as_bytes() == text {
+        Some(number)
+    } else {
+        None
+    }
+}
+
+/// Reads more spellings than one: a plus and leading zeros too.
+fn parse(text: &[u8]) -> Option<u64>
+    ensures { (n : ℕ) → n < 2 ^ 64 → text.now ≡ decimal n → result ≡ Some n }
+{
+    let Ok(text) = str::from_utf8(text) else {
+        return None;
+    };
+    text.parse().ok()
+}
+
+#[cfg(test)]
+mod tests;

@@ -1,0 +1,73 @@
+//! The texts of prefixes, as `192.0.2.0/24` and `2001:db8::/32`.
+ghost use Rattle.std.specs.Prelude.{◌≡◌, ◌↔◌, None, Some, Ok, IfOk, IfErr};
+ghost use Rattle.addr.specs.PrefixText.{fault_number, prefix_text_fault, Spells};
+ghost use Rattle.addr.specs.declared.prefix.Prefix.{Prefix};
+
+use crate::{Family, Prefix};
+use arrayvec::ArrayString;
+use thiserror::Error;
+
+mod read;
+#[cfg(test)]
+mod tests;
+mod write;
+
+use read::read_prefix;
+use write::write_spelling;
+
+/// Why a text is not the one spelling of a prefix. Of several faults the first counts.
+#[derive(Clone, Copy, Debug, PartialEq, Eq, Error)]
+pub enum PrefixFault {
+    /// It is no address, `/` and length in any spelling.
+    #[error("not an address, a slash and a length")]
+    Shape,
+    /// The address or the length has another spelling (RFC 5952 section 4).
+    #[error("the address or the length is not in its one spelling")]
+    Spelling,
+    /// The length is greater than the family's width.
+    #[error("the length is greater than the addresses have bits")]
+    Length,
+    /// A bit past the length is set.
+    #[error("a bit past the length is set")]
+    HostBits,
+}
+
+impl PrefixFault {
+    /// The number of the fault, from 1 in the order above.
+    pub fn number(self) -> u8
+        ensures { result ≡ fault_number self }
+    {
+        match self {
+            PrefixFault::Shape => 1,
+            PrefixFault::Spelling => 2,
+            PrefixFault::Length => 3,
+            PrefixFault::HostBits => 4,
+        }
+    }
+}
+
+// What a text of the loose shape says: the length may be too great, and bits past it may be set.
+#[derive(Clone, Copy)]
+struct PrefixParts {
+    family: Family,
+    address: u128,
+    length: u16,
+}
+
+impl Prefix {
+    /// Reads the one spelling of a prefix: of IPv4 in dotted decimal, of IPv6 as RFC 5952
+    /// section 4 writes it, never with a dotted tail.
+    pub fn read(text: &[u8]) -> Result<Prefix, PrefixFault>
+        ensures fault { IfErr result (λ fault. prefix_text_fault text.now ≡ Some fault) }
+        ensures each { (prefix : Prefix) → (result ≡ Ok prefix) ↔ Spells prefix text.now }
+    {
+        read_prefix(text)
+    }
+
+    /// Puts the one spelling in place of what `text` held.
+    pub fn write_to(&self, text: &mut ArrayString<48>)
+        ensures { Spells self.now text.new.bytes }
+    {
+        write_spelling(text, self.family, self.first, u16::from(self.length));
+    }
+}

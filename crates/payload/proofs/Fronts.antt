@@ -1,0 +1,126 @@
+-- Fronts of lists of VRPs that rise.
+use Rattle.std.proofs.Common.{◌≡◌, ℕ, ◌+◌, ◌≤◌, ◌<◌, true, false, List, [], ◌∷◌, ◌++◌, take, drop, length, get_or, refl, sym, subst, length-append, arith, inl, inr, Ordering}
+use Rattle.std.specs.List.{All}
+use Rattle.std.specs.List.Sorted.{IsPartitionPoint, IsPartitionedBy}
+use Rattle.std.specs.Ordering.{is_le, is_gt, ordering_then}
+use Rattle.std.specs.declared.cmp.Ordering.TheVariants.{Less, Equal, Greater}
+use Rattle.std.proofs.lemmas.Bool.{both_ways, cases_Bool, cases_lt}
+use Rattle.std.proofs.lemmas.Cmp.{upto}
+use Rattle.std.proofs.lemmas.List.{take-append-drop, get_or_append_left, get_or-take, get_or-drop, get_or-append-add, get_or_at, length-take-le, length-drop}
+use Rattle.addr.specs.declared.prefix.Prefix.{Prefix}
+use Rattle.addr.specs.declared.vrp.Vrp.{Vrp}
+use Rattle.addr.specs.Address.{contains}
+use Rattle.addr.specs.Family.{family_eq}
+use Rattle.payload.proofs.Prefixes.{contains-between, contains-at_most, no-family_of_both}
+use Rattle.payload.specs.Rising.{AreRising}
+use Rattle.payload.specs.Search.{is_at_most, IsFrontUpTo, HasAllEnclosing}
+use Rattle.payload.specs.VrpOrder.{prefix_total, vrp_cmp}
+
+pub rising-front : (xs ys : List Vrp) → AreRising (xs ++ ys) → AreRising xs
+rising-front xs ys rising i j d less within =
+    let first : get_or (xs ++ ys) i d ≡ get_or xs i d = get_or_append_left xs ys d i (omega arith) in
+    let second : get_or (xs ++ ys) j d ≡ get_or xs j d = get_or_append_left xs ys d j within in
+    let whole : vrp_cmp (get_or (xs ++ ys) i d) (get_or (xs ++ ys) j d) ≡ Less = rising i j d less (omega (arith, length-append xs ys)) in
+    subst (λ v. vrp_cmp v (get_or xs j d) ≡ Less) first (subst (λ w. vrp_cmp (get_or (xs ++ ys) i d) w ≡ Less) second whole)
+
+not_after : (o : Ordering) → is_le o ≡ true → is_gt o ≡ false
+not_after Less h = refl
+not_after Equal h = refl
+not_after Greater h = cc
+
+not_greater : (o : Ordering) → is_gt o ≡ false → is_le o ≡ true
+not_greater Less h = refl
+not_greater Equal h = refl
+not_greater Greater h = cc
+
+pub at_most-trans : (p q r : Prefix) → is_at_most p q ≡ true → is_at_most q r ≡ true → is_at_most p r ≡ true
+at_most-trans p q r one two = not_greater _ (upto prefix_total p q r (not_after _ one) (not_after _ two))
+
+first-less : (o r : Ordering) → ordering_then o r ≡ Less → is_le o ≡ true
+first-less Less r h = refl
+first-less Equal r h = refl
+first-less Greater r h = cc
+
+-- of VRPs in order so are the prefixes
+pub less-at_most : (v w : Vrp) → vrp_cmp v w ≡ Less → is_at_most v.prefix w.prefix ≡ true
+less-at_most v w h = first-less _ _ h
+
+-- where VRPs rise, those up to a prefix stand at the front
+pub rising-partitioned : (p : Prefix) (vrps : List Vrp) → AreRising vrps → IsPartitionedBy (λ v. is_at_most v.prefix p) vrps
+rising-partitioned p vrps rising i j d le within last =
+    elim (cases_lt i j) [
+      | inl less ↦
+          let v = get_or vrps i d in
+          let w = get_or vrps j d in
+          at_most-trans v.prefix w.prefix p (less-at_most v w (rising i j d less within)) last
+      | inr most ↦ let same : j ≡ i = omega arith in rw (sym same) last
+    ]
+
+pub front-up_to : (p : Prefix) (vrps : List Vrp) (n : ℕ) → n ≤ length vrps → IsPartitionPoint (λ v. is_at_most v.prefix p ≡ true) (λ v. is_at_most v.prefix p ≡ false) vrps n → IsFrontUpTo p vrps (take n vrps)
+front-up_to p vrps n fits parted = record {
+  rest = drop n vrps;
+  parts = sym (take-append-drop n vrps);
+  at_most = λ k d within.
+      let low : k < n = omega (arith, length-take-le n vrps fits) in
+      let read : get_or (take n vrps) k d ≡ get_or vrps k d = get_or-take n vrps k d low in
+      subst (λ v. is_at_most v.prefix p ≡ true) (sym read) (parted.0 k d (omega arith) low);
+  after = λ k d within.
+      let high : n + k < length vrps = omega (arith, length-drop n vrps) in
+      let read : get_or (drop n vrps) k d ≡ get_or vrps (n + k) d = get_or-drop n vrps k d in
+      subst (λ v. is_at_most v.prefix p ≡ false) (sym read) (parted.1 (n + k) d (omega arith) high);
+}
+
+pub All-front : {X : Type 0} (P : X → Type 0) (xs ys : List X) → All P (xs ++ ys) → All P xs
+All-front P xs ys all k d within = subst P (get_or_append_left xs ys d k within) (all k d (omega (arith, length-append xs ys)))
+
+pub All-back : {X : Type 0} (P : X → Type 0) (xs ys : List X) → All P (xs ++ ys) → All P ys
+All-back P xs ys all k d within = subst P (get_or-append-add xs ys k d) (all (length xs + k) d (omega (arith, length-append xs ys)))
+
+-- a VRP that contains `high` and sorts at or before `low` contains `low`, and so sorts at or before `bound`
+pub enclosing-from_front : (low high bound : Prefix) (vrps front : List Vrp) → All (λ v. is_at_most v.prefix low ≡ true) vrps → is_at_most low high ≡ true → ((p : Prefix) → contains p low ≡ true → contains p high ≡ true → is_at_most p bound ≡ true) → IsFrontUpTo bound vrps front → HasAllEnclosing high vrps front
+enclosing-from_front low high bound vrps front before order round is = record {
+  rest = is.rest;
+  parts = is.parts;
+  others = λ k d within.
+      let v = get_or is.rest k d in
+      let from : is_at_most v.prefix low ≡ true = All-back (λ v. is_at_most v.prefix low ≡ true) front is.rest (subst (All (λ v. is_at_most v.prefix low ≡ true)) is.parts before) k d within in
+      elim (cases_Bool (contains v.prefix high)) [
+        | inl both ↦ absurd (both_ways _ (is.after k d within) (round v.prefix (contains-between v.prefix low high both from order) both))
+        | inr out ↦ out
+      ];
+}
+
+-- no VRP that sorts at or before a prefix of one family contains a later one of another
+pub none-of_two_families : (low high : Prefix) (vrps : List Vrp) → All (λ v. is_at_most v.prefix low ≡ true) vrps → is_at_most low high ≡ true → family_eq low.family high.family ≡ false → HasAllEnclosing high vrps []
+none-of_two_families low high vrps before order apart = record {
+  rest = vrps;
+  parts = refl;
+  others = λ k d within.
+      let v = get_or vrps k d in
+      elim (cases_Bool (contains v.prefix high)) [
+        | inl both ↦ no-family_of_both v.prefix low high apart (contains-between v.prefix low high both (before k d within) order)
+        | inr out ↦ out
+      ];
+}
+
+-- a prefix sorts at or before each that it contains
+pub enclosing-up_to : (p : Prefix) (vrps front : List Vrp) → IsFrontUpTo p vrps front → HasAllEnclosing p vrps front
+enclosing-up_to p vrps front is = record {
+  rest = is.rest;
+  parts = is.parts;
+  others = λ k d within.
+      let v = get_or is.rest k d in
+      elim (cases_Bool (contains v.prefix p)) [
+        | inl inside ↦ absurd (both_ways _ (is.after k d within) (contains-at_most v.prefix p inside))
+        | inr out ↦ out
+      ];
+}
+
+-- of VRPs that rise, those before the last have prefixes at or before its own
+pub rising-last : (before : List Vrp) (v : Vrp) → AreRising (before ++ v ∷ []) → All (λ w. is_at_most w.prefix v.prefix ≡ true) before
+rising-last before v rising k d within =
+    let w = get_or before k d in
+    let first : get_or (before ++ v ∷ []) k d ≡ w = get_or_append_left before (v ∷ []) d k within in
+    let last : get_or (before ++ v ∷ []) (length before) d ≡ v = get_or_at before v [] d (length before) refl in
+    let whole : vrp_cmp (get_or (before ++ v ∷ []) k d) (get_or (before ++ v ∷ []) (length before) d) ≡ Less = rising k (length before) d within (omega (arith, length-append before (v ∷ []))) in
+    less-at_most w v (subst (λ x. vrp_cmp x v ≡ Less) first (subst (λ x. vrp_cmp (get_or (before ++ v ∷ []) k d) x ≡ Less) last whole))

@@ -1,0 +1,117 @@
+-- Sets of VRPs made from lists.
+use Rattle.std.proofs.Common.{◌≡◌, ℕ, suc, Bool, true, false, cond, not, ◌&&◌, ◌||◌, Option, Some, None, is_some, List, [], ◌∷◌, map, length, refl, sym, ap, ◌∙◌, arith, Ordering, lit<}
+use Rattle.std.specs.FinMap as maps
+use Rattle.std.specs.FinMap.Entries.{by_order, put}
+use Rattle.std.specs.List.{list_any, insert}
+use Rattle.std.specs.Ordering.{eq_by_cmp, is_eq}
+use Rattle.std.specs.declared.cmp.Ordering.TheVariants.{Less, Equal, Greater}
+use Rattle.std.proofs.lemmas.List.Sorted.{IsPermutation-insert, list_any-IsPermutation}
+use Rattle.addr.specs.declared.vrp.Vrp.{Vrp}
+use Rattle.payload.specs.Rising.{AreRising}
+use Rattle.payload.specs.VrpOrder.{vrp_cmp, vrp_total, exact_vrp}
+use Rattle.payload.specs.VrpSet as set
+
+-- two VRPs are one
+abbrev pub is_vrp : Vrp → Vrp → Bool
+is_vrp v w = eq_by_cmp vrp_cmp v w
+
+some-or : (b : Bool) (x : Option (Unit {0})) → is_some (cond b (Some tt) x) ≡ (b || is_some x)
+some-or true x = refl
+some-or false x = refl
+
+none-and : (b : Bool) (x : Option (Unit {0})) → is_some (cond b None x) ≡ (not b && is_some x)
+none-and true x = refl
+none-and false x = refl
+
+abbrev marked : Bool → Option (Unit {0})
+marked b = cond b (Some tt) None
+
+marks : (x : Option (Unit {0})) → x ≡ marked (is_some x)
+marks None = refl
+marks (Some u) = refl
+
+-- sets with the same VRPs are equal
+pub same_set : (s t : set.VrpSet) → ((v : Vrp) → set.contains s v ≡ set.contains t v) → s ≡ t
+same_set s t each = maps.same_map vrp_total exact_vrp s t (λ v. marks _ ∙ ap marked (each v) ∙ sym (marks _))
+
+pub contains-insert : (s : set.VrpSet) (v w : Vrp) → set.contains (set.insert s v) w ≡ (is_vrp w v || set.contains s w)
+contains-insert s v w = ap is_some (maps.get-insert vrp_total s v tt w) ∙ some-or (is_vrp w v) _
+
+pub contains-remove : (s : set.VrpSet) (v w : Vrp) → set.contains (set.remove s v) w ≡ (not (is_vrp w v) && set.contains s w)
+contains-remove s v w = ap is_some (maps.get-remove vrp_total s v w) ∙ none-and (is_vrp w v) _
+
+pub contains-from_list : (vrps : List Vrp) (v : Vrp) → set.contains (set.from_list vrps) v ≡ list_any (is_vrp v) vrps
+contains-from_list [] v = ap is_some (maps.get-empty vrp_cmp v)
+contains-from_list (w ∷ vrps) v = contains-insert (set.from_list vrps) w v ∙ ap (λ b. is_vrp v w || b) (contains-from_list vrps v)
+
+-- lists that contain the same VRPs make one set
+pub same_from_list : (xs ys : List Vrp) → ((v : Vrp) → list_any (is_vrp v) xs ≡ list_any (is_vrp v) ys) → set.from_list xs ≡ set.from_list ys
+same_from_list xs ys each = same_set _ _ (λ v. contains-from_list xs v ∙ each v ∙ sym (contains-from_list ys v))
+
+pub contains-items : (s : set.VrpSet) (v : Vrp) → set.contains s v ≡ list_any (is_vrp v) (set.items s)
+contains-items s v = maps.contains_key-keys s v
+
+or_false : (b : Bool) → (b || false) ≡ b
+or_false true = refl
+or_false false = refl
+
+-- an insertion anywhere in the list is one into the set
+pub from_list-insert : (vrps : List Vrp) (at : ℕ) (v : Vrp) → set.from_list (insert vrps at v) ≡ set.insert (set.from_list vrps) v
+from_list-insert vrps at v = same_set _ _ (λ w.
+    contains-from_list (insert vrps at v) w
+    ∙ sym (list_any-IsPermutation (is_vrp w) (v ∷ vrps) (insert vrps at v) (IsPermutation-insert vrps at v))
+    ∙ ap (λ b. is_vrp w v || b) (sym (contains-from_list vrps w))
+    ∙ sym (contains-insert (set.from_list vrps) v w))
+
+pub same_vrp-equal : (v w : Vrp) → is_vrp v w ≡ true → v ≡ w
+same_vrp-equal v w h = exact_vrp v w (equal _ h)
+  where
+    equal : (o : Ordering) → is_eq o ≡ true → o ≡ Equal
+    equal Less e = cc
+    equal Equal e = refl
+    equal Greater e = cc
+
+-- a VRP that is there is inserted to no effect
+pub insert-present : (s : set.VrpSet) (v : Vrp) → set.contains s v ≡ true → s ≡ set.insert s v
+insert-present s v there = same_set _ _ (λ w. at w (is_vrp w v) refl ∙ sym (contains-insert s v w))
+  where
+    at : (w : Vrp) (b : Bool) → is_vrp w v ≡ b → set.contains s w ≡ (is_vrp w v || set.contains s w)
+    at w true e = ap (set.contains s) (same_vrp-equal w v e) ∙ there ∙ sym (ap (λ b. b || set.contains s w) e)
+    at w false e = sym (ap (λ b. b || set.contains s w) e)
+
+-- a VRP that is not there is removed to no effect
+pub remove-absent : (s : set.VrpSet) (v : Vrp) → set.contains s v ≡ false → s ≡ set.remove s v
+remove-absent s v absent = same_set _ _ (λ w. at w (is_vrp w v) refl ∙ sym (contains-remove s v w))
+  where
+    at : (w : Vrp) (b : Bool) → is_vrp w v ≡ b → set.contains s w ≡ (not (is_vrp w v) && set.contains s w)
+    at w true e = ap (set.contains s) (same_vrp-equal w v e) ∙ absent ∙ sym (ap (λ b. not b && set.contains s w) e)
+    at w false e = sym (ap (λ b. not b && set.contains s w) e)
+
+abbrev mark : Vrp → Vrp × Unit {0}
+mark v = (v, tt)
+
+names-marked : (vrps : List Vrp) → map (λ e. e.0) (map mark vrps) ≡ vrps
+names-marked [] = refl
+names-marked (v ∷ vrps) = ap (λ vs. v ∷ vs) (names-marked vrps)
+
+rising-tail : (v : Vrp) (vrps : List Vrp) → AreRising (v ∷ vrps) → AreRising vrps
+rising-tail v vrps rising i j d less within = rising (suc i) (suc j) d (omega arith) (omega arith)
+
+put-first : (v w : Vrp) (es : List (Vrp × Unit {0})) → vrp_cmp v w ≡ Less → put vrp_cmp v tt ((w, tt) ∷ es) ≡ (v, tt) ∷ (w, tt) ∷ es
+put-first v w es less = ap (λ o. by_order o ((v, tt) ∷ (w, tt) ∷ es) ((w, tt) ∷ es) ((w, tt) ∷ put vrp_cmp v tt es)) less
+
+no-entries : (es : List (Vrp × Unit {0})) → length es ≡ 0 → es ≡ []
+no-entries [] none = refl
+no-entries (e ∷ es) none = absurd (omega arith)
+
+entries-from_list : (vrps : List Vrp) → AreRising vrps → maps.entries (set.from_list vrps) ≡ map mark vrps
+entries-from_list [] rising = no-entries _ (sym (maps.len-entries _) ∙ maps.len-empty vrp_cmp (Unit {0}))
+entries-from_list (v ∷ []) rising = maps.entries-insert vrp_total (set.from_list []) v tt ∙ ap (put vrp_cmp v tt) (entries-from_list [] (λ i j d less within. absurd (omega arith)))
+entries-from_list (v ∷ w ∷ vrps) rising =
+    maps.entries-insert vrp_total (set.from_list (w ∷ vrps)) v tt
+    ∙ ap (put vrp_cmp v tt) (entries-from_list (w ∷ vrps) (rising-tail v (w ∷ vrps) rising))
+    ∙ put-first v w (map mark vrps) (rising 0 1 v (lit< tt) (omega arith))
+
+-- the set of a list that rises gives that list
+pub items-from_list : (vrps : List Vrp) → AreRising vrps → set.items (set.from_list vrps) ≡ vrps
+items-from_list vrps rising = ap (map (λ e. e.0)) (entries-from_list vrps rising) ∙ names-marked vrps

@@ -1,0 +1,6 @@
+pub mod Rising
+pub mod Search
+pub mod ValidityState
+pub mod Visit
+pub mod VrpOrder
+pub mod VrpSet

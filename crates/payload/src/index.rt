@@ -1,0 +1,39 @@
+ghost use Rattle.std.specs.Prelude.{◌≡◌, ◌++◌, true, not, IfOk, OnOk, OnErr};
+ghost use Rattle.addr.specs.OriginValidation.{validation_state};
+ghost use Rattle.payload.specs.ValidityState.{state_of};
+ghost use Rattle.payload.specs.Visit.{WasGivenBeginning};
+ghost use Rattle.payload.specs.VrpSet as set;
+
+use crate::{Sink, Stop, Validity};
+use addr::{Route, Vrp};
+use std::alloc::AllocError;
+
+/// A finite set of VRPs on which routes are judged, however it is kept.
+pub trait PayloadIndex {
+    /// The set.
+    ghost vrps: { Self → set.VrpSet };
+
+    /// Whether the VRP is new.
+    fn insert(&mut self, vrp: Vrp) -> Result<bool, AllocError>
+        ensures new { IfOk result (λ is_new. is_new ≡ not (set.contains (vrps self.old) vrp)) }
+        ensures ok { OnOk result (vrps self.new ≡ set.insert (vrps self.old) vrp) }
+        ensures err { OnErr result (vrps self.new ≡ vrps self.old) };
+
+    /// Whether the VRP was there.
+    fn remove(&mut self, vrp: &Vrp) -> bool
+        ensures found { result ≡ set.contains (vrps self.old) vrp.now }
+        ensures rest { vrps self.new ≡ set.remove (vrps self.old) vrp.now };
+
+    fn contains(&self, vrp: &Vrp) -> bool
+        ensures { result ≡ set.contains (vrps self.now) vrp.now };
+
+    /// The state of the route over the whole set: any VRP that covers it may match it.
+    fn validity(&self, route: &Route) -> Validity
+        ensures { state_of result ≡ validation_state (set.items (vrps self.now)) route.now };
+
+    /// Hands the VRPs to the sink, rising, each once, until it stops.
+    fn visit<S: Sink>(&self, sink: &mut S) -> Result<(), Stop>
+        ensures ok { OnOk result (S.given sink.new ≡ S.given sink.old ++ set.items (vrps self.now)) }
+        ensures beginning { OnErr result (WasGivenBeginning (set.items (vrps self.now)) (S.given sink.old) (S.given sink.new)) }
+        ensures stopped { OnErr result (S.has_stopped sink.new ≡ true) };
+}

@@ -1,0 +1,13 @@
+//! Sets of validated ROA payloads (VRPs), and route origin validation on them (RFC 6811 section 2).
+#![tactic(auto)]
+
+mod index;
+mod list;
+mod search;
+mod sink;
+mod validity;
+
+pub use index::PayloadIndex;
+pub use list::ListIndex;
+pub use sink::{Sink, Stop};
+pub use validity::Validity;

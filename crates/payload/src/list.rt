@@ -1,0 +1,98 @@
+ghost use Rattle.std.specs.Prelude.{◌≡◌};
+ghost use Rattle.std.specs.List.{list_any};
+ghost use Rattle.std.specs.List.Sorted.{IsStrictlySortedBy};
+ghost use Rattle.std.specs.Ordering.{eq_by_cmp};
+ghost use Rattle.payload.specs.VrpSet as set;
+
+use crate::{PayloadIndex, Sink, Stop, Validity, search};
+use addr::{Route, Vrp};
+use std::alloc::{AllocError, Global};
+use std::marker::Model;
+
+/// A set of VRPs in a sorted vector, seen as the set.
+#[derive(Drop)]
+pub struct ListIndex {
+    vrps: Vec<Vrp>,
+}
+
+impl Model for ListIndex {
+    ghost use Rattle.payload.specs.VrpSet as set;
+    ghost use Rattle.payload.specs.Rising.{AreRising};
+
+    ghost Value = { set.VrpSet };
+
+    ghost coded = { set.coded_set };
+
+    ghost view = { λ a. set.from_list a.vrps.items };
+
+    ghost invariant = { λ a. AreRising a.vrps.items };
+}
+
+impl ListIndex {
+    /// The empty set.
+    pub fn new(alloc: Global) -> ListIndex
+        ensures { result ≡ set.empty }
+    {
+        ListIndex {
+            vrps: Vec::new(alloc),
+        }
+    }
+}
+
+impl From<Vec<Vrp>> for ListIndex {
+    ghost from_gives = { λ vrps index. index ≡ set.from_list vrps.items };
+
+    /// The VRPs may stand in any order and repeat. Takes no memory beyond the vector.
+    fn from(mut vrps: Vec<Vrp>) -> ListIndex {
+        sort_and_dedup(&mut vrps);
+        ListIndex { vrps }
+    }
+}
+
+/// Sorts the items, and keeps one of those that compare alike.
+fn sort_and_dedup<T: Ord + Drop>(items: &mut Vec<T>)
+    ensures rising { IsStrictlySortedBy T.cmp items.new.items }
+    ensures members { (x : T) → list_any (eq_by_cmp T.cmp x) items.new.items ≡ list_any (eq_by_cmp T.cmp x) items.old.items }
+{
+    items.sort_unstable();
+    items.dedup();
+}
+
+impl PayloadIndex for ListIndex {
+    ghost vrps = { λ index. index };
+
+    fn insert(&mut self, vrp: Vrp) -> Result<bool, AllocError> {
+        match self.vrps.binary_search(&vrp) {
+            Ok(_) => Ok(false),
+            Err(at) => {
+                self.vrps.insert(at, vrp)?;
+                Ok(true)
+            }
+        }
+    }
+
+    fn remove(&mut self, vrp: &Vrp) -> bool {
+        match self.vrps.binary_search(vrp) {
+            Ok(at) => {
+                self.vrps.remove(at);
+                true
+            }
+            Err(_) => false,
+        }
+    }
+
+    fn contains(&self, vrp: &Vrp) -> bool {
+        self.vrps.binary_search(vrp).is_ok()
+    }
+
+    fn validity(&self, route: &Route) -> Validity {
+        search::validity(&self.vrps, route)
+    }
+
+    fn visit<S: Sink>(&self, sink: &mut S) -> Result<(), Stop> {
+        for vrp in &self.vrps {
+            sink.take(vrp)?;
+        }
+        Ok(())
+    }
+}

@@ -1,0 +1,108 @@
+ghost use Rattle.std.specs.Prelude.{◌≡◌, ◌-◌, ◌%◌, ◌^◌, ◌<◌, true, false, ◌&&◌, nat_le};
+ghost use Rattle.std.specs.List.{All};
+ghost use Rattle.addr.specs.Address.{contains};
+ghost use Rattle.addr.specs.Family.{family_eq};
+ghost use Rattle.addr.specs.OriginValidation.{is_from, validation_state};
+ghost use Rattle.addr.specs.declared.prefix.Prefix.{Prefix};
+ghost use Rattle.payload.specs.Rising.{AreRising};
+ghost use Rattle.payload.specs.Search.{is_at_most, IsFrontUpTo, HasAllEnclosing};
+ghost use Rattle.payload.specs.ValidityState.{state_of};
+
+use crate::Validity;
+use addr::{Family, Origin, Prefix, Route, Vrp};
+
+/// The state of the route over VRPs that rise.
+///
+/// A VRP that covers the route sorts at or before it. So the search goes back from the route's place;
+/// and from a VRP that does not cover the route, past all that do not reach from that VRP to the
+/// route.
+pub fn validity(vrps: &[Vrp], route: &Route) -> Validity
+    requires { AreRising vrps.now }
+    ensures { state_of result ≡ validation_state vrps.now route.now }
+{
+    let mut is_covered = false;
+    let mut rest = up_to(vrps, &route.prefix);
+    while let Some((vrp, before)) = rest.split_last() {
+        if !vrp.prefix.contains(&route.prefix) {
+            rest = enclosing_both(before, &vrp.prefix, &route.prefix);
+            continue;
+        }
+        if is_authorized(vrp, route) {
+            return Validity::Valid;
+        }
+        is_covered = true;
+        rest = before;
+    }
+    if is_covered {
+        Validity::Invalid
+    } else {
+        Validity::NotFound
+    }
+}
+
+/// Whether a VRP that covers the route matches it.
+fn is_authorized(vrp: &Vrp, route: &Route) -> bool
+    ensures { result ≡ (nat_le route.now.prefix.length vrp.now.max && is_from route.now.origin vrp.now.asn) }
+{
+    match route.origin {
+        Origin::As(asn) => route.prefix.length <= vrp.max && asn.0 != 0 && asn.0 == vrp.asn.0,
+        Origin::None => false,
+    }
+}
+
+/// The VRPs at the front whose prefixes sort at or before this one.
+fn up_to<'a>(vrps: &'a [Vrp], prefix: &Prefix) -> &'a [Vrp]
+    requires { AreRising vrps.now }
+    ensures { IsFrontUpTo prefix.now vrps.now result.now }
+{
+    let end = vrps.partition_point(|vrp| vrp.prefix <= *prefix);
+    &vrps[..end]
+}
+
+/// Some VRPs at the front, among them all that contain both prefixes.
+fn enclosing_both<'a>(vrps: &'a [Vrp], low: &Prefix, high: &Prefix) -> &'a [Vrp]
+    requires rising { AreRising vrps.now }
+    requires before { All (λ v. is_at_most v.prefix low.now ≡ true) vrps.now }
+    requires order { is_at_most low.now high.now ≡ true }
+    requires apart { contains low.now high.now ≡ false }
+    ensures { HasAllEnclosing high.now vrps.now result.now }
+{
+    if !is_one_family(low.family, high.family) {
+        return &vrps[..0];
+    }
+    up_to(vrps, &last_round_both(low, high))
+}
+
+fn is_one_family(one: Family, other: Family) -> bool
+    ensures { result ≡ family_eq one other }
+{
+    matches!(
+        (one, other),
+        (Family::V4, Family::V4) | (Family::V6, Family::V6)
+    )
+}
+
+/// A prefix at or before which each prefix sorts that contains both.
+fn last_round_both(low: &Prefix, high: &Prefix) -> Prefix
+    requires family { low.now.family ≡ high.now.family }
+    requires order { low.now.first < high.now.first }
+    ensures { (p : Prefix) → contains p low.now ≡ true → contains p high.now ≡ true → is_at_most p result ≡ true }
+{
+    // A prefix that contains both has at least as many host bits as the distance of the two takes.
+    let host_bits = (high.first - low.first).ilog2() as u8 + 1;
+    Prefix {
+        family: low.family,
+        first: with_zeros(low.first, host_bits),
+        length: low.family.width() - host_bits,
+    }
+}
+
+/// The number with its lowest bits cleared.
+fn with_zeros(number: u128, bits: u8) -> u128
+    ensures { result ≡ number - number % 2 ^ bits }
+{
+    match 1u128.checked_shl(u32::from(bits)) {
+        Some(size) => number - (number & (size - 1)),
+        None => 0,
+    }
+}

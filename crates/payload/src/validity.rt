@@ -1,0 +1,34 @@
+use std::fmt;
+
+/// The validation state of a route (RFC 6811 section 2).
+#[derive(Clone, Copy, Debug, PartialEq, Eq)]
+pub enum Validity {
+    /// Some VRP matches the route.
+    Valid,
+    /// Some VRP covers the route, and none matches it.
+    Invalid,
+    /// No VRP covers the route.
+    NotFound,
+}
+
+impl Validity {
+    ghost use Rattle.std.specs.Prelude.{◌≡◌};
+    ghost use Rattle.payload.specs.ValidityState.{validity_text};
+
+    /// The state's name, as the variant is written.
+    pub fn as_str(self) -> &'static str
+        ensures { result.now ≡ validity_text self }
+    {
+        match self {
+            Validity::Valid => "Valid",
+            Validity::Invalid => "Invalid",
+            Validity::NotFound => "NotFound",
+        }
+    }
+}
+
+impl fmt::Display for Validity {
+    fn fmt<W: fmt::Write>(&self, f: &mut fmt::Formatter<W>) -> fmt::Result {
+        f.write_str(self.as_str())
+    }
+}

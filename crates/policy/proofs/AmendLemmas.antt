@@ -1,0 +1,35 @@
+-- The rule that amended terms share no AS, prefix and maxLength with another active authorization.
+use Rattle.std.proofs.Common.{◌≡◌, ℕ, Bool, true, false, not, ◌&&◌, eqb, List, Option, Some, sym, subst, IsSomeAnd}
+use Rattle.std.specs.List.{list_any}
+use Rattle.policy.specs.declared.authorization.Auth.{Auth}
+use Rattle.policy.specs.History.{History}
+use Rattle.policy.specs.Terms.{share_vrp, OfActive}
+use Rattle.policy.specs.Verdict.{numbered}
+use Rattle.policy.specs.Rows.{Rows, RowsOf}
+use Rattle.policy.proofs.CarryTerms.{found_number}
+use Rattle.policy.proofs.RowsLemmas.{active-from}
+
+abbrev pub shares_with_other : ℕ → Auth → List Auth → Bool
+shares_with_other n z active = list_any (λ y. not (eqb y.number n) && share_vrp z y) active
+
+abbrev pub new_terms : Auth → ℕ → ℕ → Auth
+new_terms x max until = record x { max = max; until = until }
+
+abbrev pub SharesWithNoOther : History → List ℕ → ℕ → ℕ → ℕ → Type 0
+SharesWithNoOther history h n max until =
+    OfActive history h (λ active. IsSomeAnd (numbered n active) (λ x. shares_with_other n (new_terms x max until) active ≡ false))
+
+pub only-to : (history : History) (h : List ℕ) (rows : Rows) (n max until : ℕ) (x : Auth) → RowsOf history h rows → numbered n rows.auths ≡ Some x
+    → shares_with_other x.number (new_terms x max until) rows.auths ≡ false → SharesWithNoOther history h n max until
+only-to history h rows n max until x are found is =
+    let at_n : shares_with_other n (new_terms x max until) rows.auths ≡ false =
+        subst (λ (m : ℕ). shares_with_other m (new_terms x max until) rows.auths ≡ false) (found_number n rows.auths x found) is in
+    (rows.auths, are.auths, subst (λ (o : Option Auth). IsSomeAnd o (λ z. shares_with_other n (new_terms z max until) rows.auths ≡ false)) (sym found) at_n)
+
+pub only-from : (history : History) (h : List ℕ) (rows : Rows) (n max until : ℕ) (x : Auth) → RowsOf history h rows → numbered n rows.auths ≡ Some x
+    → SharesWithNoOther history h n max until → shares_with_other x.number (new_terms x max until) rows.auths ≡ false
+only-from history h rows n max until x are found of =
+    let here = active-from history h rows (λ active. IsSomeAnd (numbered n active) (λ z. shares_with_other n (new_terms z max until) active ≡ false)) are of in
+    let at_n : shares_with_other n (new_terms x max until) rows.auths ≡ false =
+        subst (λ (o : Option Auth). IsSomeAnd o (λ z. shares_with_other n (new_terms z max until) rows.auths ≡ false)) found here in
+    subst (λ (m : ℕ). shares_with_other m (new_terms x max until) rows.auths ≡ false) (sym (found_number n rows.auths x found)) at_n

@@ -1,0 +1,13 @@
+pub mod Names
+pub mod Numbers
+pub mod Kept
+pub mod Held
+pub mod Ended
+pub mod Carry
+pub mod Unregistered
+pub mod CarrySpace
+pub mod CarryGrants
+pub mod CarryTerms
+pub mod PoolLemmas
+pub mod RowsLemmas
+pub mod AmendLemmas

@@ -1,0 +1,109 @@
+-- A prefix is in the pool where a walk along the pool's prefixes reaches its end.
+use Rattle.std.proofs.Common.{◌≡◌, ℕ, ◌+◌, ◌<◌, ◌≤◌, Bool, true, false, not, ◌||◌, ◌&&◌, cond, List, [], ◌∷◌, ◌⊎◌, inl, inr, Option, Some, None, refl, sym, ap, ◌∙◌, subst, arith}
+use Rattle.std.specs.List.{list_any, find}
+use Rattle.std.proofs.lemmas.Bool.{cases_Bool, cases_lt, false≢true}
+use Rattle.std.proofs.lemmas.Bool.Decides.{nat_tests}
+use Rattle.addr.specs.Family.{family_eq}
+use Rattle.addr.specs.Address.{Address, is_between, has_address, last_of}
+use Rattle.addr.specs.declared.family.Family.{Family}
+use Rattle.addr.specs.declared.family.Family.TheVariants.{V4, V6}
+use Rattle.addr.specs.declared.prefix.Prefix.{Prefix}
+use Rattle.policy.specs.Pool.{pool_has, IsInPool, HasFromTo}
+
+find_none : (test : Prefix → Bool) (pool : List Prefix) → find test pool ≡ None → list_any test pool ≡ false
+find_none test [] is = refl
+find_none test (q ∷ pool) is =
+    elim (cases_Bool (test q)) [
+      | inl t ↦ absurd (some_none (sym (ap (λ b. cond b (Some q) (find test pool)) t) ∙ is))
+      | inr f ↦ ap (λ b. b || list_any test pool) f ∙ find_none test pool (sym (ap (λ b. cond b (Some q) (find test pool)) f) ∙ is) ]
+  where
+    some_none : Some q ≡ None → ⊥
+    some_none e = cc
+
+find_some : (test : Prefix → Bool) (pool : List Prefix) (p : Prefix) → find test pool ≡ Some p → test p ≡ true
+find_some test [] p is = absurd (none_some is)
+  where
+    none_some : None ≡ Some p → ⊥
+    none_some e = cc
+find_some test (q ∷ pool) p is =
+    elim (cases_Bool (test q)) [
+      | inl t ↦ ap test (sym (same (sym (ap (λ b. cond b (Some q) (find test pool)) t) ∙ is))) ∙ t
+      | inr f ↦ find_some test pool p (sym (ap (λ b. cond b (Some q) (find test pool)) f) ∙ is) ]
+  where
+    same : Some q ≡ Some p → q ≡ p
+    same e = cc
+
+-- what is found is in the pool
+found_has : (test other : Prefix → Bool) (pool : List Prefix) (p : Prefix) → find test pool ≡ Some p → other p ≡ true → list_any other pool ≡ true
+found_has test other [] p is has = absurd (none_some is)
+  where
+    none_some : None ≡ Some p → ⊥
+    none_some e = cc
+found_has test other (q ∷ pool) p is has =
+    elim (cases_Bool (test q)) [
+      | inl t ↦ ap (λ b. b || list_any other pool) (ap other (same (sym (ap (λ b. cond b (Some q) (find test pool)) t) ∙ is)) ∙ has)
+      | inr f ↦ or_later (other q) (list_any other pool) (found_has test other pool p (sym (ap (λ b. cond b (Some q) (find test pool)) f) ∙ is) has) ]
+  where
+    same : Some q ≡ Some p → q ≡ p
+    same e = cc
+
+    or_later : (a b : Bool) → b ≡ true → a || b ≡ true
+    or_later true b e = refl
+    or_later false b e = e
+
+between_end : (f g : Family) (low high m : ℕ) → is_between f low high (record { family = g; number = m }) ≡ true → m ≤ high
+between_end V4 V4 low high m is = grind (arith, nat_tests)
+between_end V6 V6 low high m is = grind (arith, nat_tests)
+between_end V4 V6 low high m is = absurd (false≢true is)
+between_end V6 V4 low high m is = absurd (false≢true is)
+
+between_more : (f g : Family) (low high m n : ℕ) → is_between f low high (record { family = g; number = m }) ≡ true → m ≤ n → n ≤ high
+    → is_between f low high (record { family = g; number = n }) ≡ true
+between_more V4 V4 low high m n is from to = grind (arith, nat_tests)
+between_more V6 V6 low high m n is from to = grind (arith, nat_tests)
+between_more V4 V6 low high m n is from to = absurd (false≢true is)
+between_more V6 V4 low high m n is from to = absurd (false≢true is)
+
+pub pool-none : (pool : List Prefix) (family : Family) (m : ℕ) → find (λ p. has_address p (record { family = family; number = m })) pool ≡ None
+    → pool_has pool (record { family = family; number = m }) ≡ false
+pool-none pool family m is = find_none (λ p. has_address p (record { family = family; number = m })) pool is
+
+pub pool-end : (pool : List Prefix) (family : Family) (m : ℕ) (p : Prefix) → find (λ p. has_address p (record { family = family; number = m })) pool ≡ Some p
+    → m ≤ last_of p
+pool-end pool family m p is =
+    between_end p.family family p.first (last_of p) m (find_some (λ p. has_address p (record { family = family; number = m })) pool p is)
+
+pub pool-some : (pool : List Prefix) (family : Family) (m : ℕ) (p : Prefix) → find (λ p. has_address p (record { family = family; number = m })) pool ≡ Some p
+    → HasFromTo pool family m (last_of p)
+pool-some pool family m p is n from to =
+    let has = find_some (λ p. has_address p (record { family = family; number = m })) pool p is in
+    found_has (λ p. has_address p (record { family = family; number = m })) (λ p. has_address p (record { family = family; number = n })) pool p is
+      (between_more p.family family p.first (last_of p) m n has from to)
+
+between_parts : (f g : Family) (low high n : ℕ) → is_between f low high (record { family = g; number = n }) ≡ true → (f ≡ g) × (low ≤ n) × (n ≤ high)
+between_parts V4 V4 low high n is = (refl, grind (arith, nat_tests), grind (arith, nat_tests))
+between_parts V6 V6 low high n is = (refl, grind (arith, nat_tests), grind (arith, nat_tests))
+between_parts V4 V6 low high n is = absurd (false≢true is)
+between_parts V6 V4 low high n is = absurd (false≢true is)
+
+-- the walk has passed every address below next, and the pool has the others up to the end
+pub pool-whole : (pool : List Prefix) (p : Prefix) (next end : ℕ) → last_of p ≤ end
+    → ((n : ℕ) → p.first ≤ n → n < next → pool_has pool (record { family = p.family; number = n }) ≡ true)
+    → HasFromTo pool p.family next end → IsInPool pool p
+pool-whole pool p next end reached passed rest a has =
+    let parts = between_parts p.family a.family p.first (last_of p) a.number has in
+    let above : p.first ≤ a.number = parts.1 in
+    let below : a.number ≤ last_of p = parts.2 in
+    let there : pool_has pool (record { family = p.family; number = a.number }) ≡ true =
+        elim (cases_lt a.number next) [ inl before ↦ passed a.number above before | inr after ↦ rest a.number after (omega arith) ] in
+    subst (λ (f : Family). pool_has pool (record { family = f; number = a.number }) ≡ true) parts.0 there
+
+between_here : (f : Family) (low high n : ℕ) → low ≤ n → n ≤ high → is_between f low high (record { family = f; number = n }) ≡ true
+between_here V4 low high n from to = grind (arith, nat_tests)
+between_here V6 low high n from to = grind (arith, nat_tests)
+
+-- an address of the prefix is in no prefix of the pool
+pub pool-hole : (pool : List Prefix) (p : Prefix) (next : ℕ) → p.first ≤ next → next ≤ last_of p
+    → pool_has pool (record { family = p.family; number = next }) ≡ false → IsInPool pool p → ⊥
+pool-hole pool p next from to hole whole =
+    false≢true (sym hole ∙ whole (record { family = p.family; number = next }) (between_here p.family p.first (last_of p) next from to))

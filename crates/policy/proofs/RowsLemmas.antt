@@ -1,0 +1,77 @@
+-- What the rows that are handed in say of the holder.
+use Rattle.std.proofs.Common.{◌≡◌, ℕ, Bool, true, false, not, List, [], ◌∷◌, Option, Some, None, refl, sym, ap, ◌∙◌, subst, Bor, option_copied, is_none, is_some, IsSomeAnd, ◌↔◌}
+use Rattle.std.specs.List.{list_any}
+use Rattle.std.proofs.lemmas.Bool.{cases_Bool, false≢true}
+use Rattle.addr.specs.Address.{Address, has_address}
+use Rattle.addr.specs.Spans.{HaveAll, spans_have}
+use Rattle.addr.specs.declared.prefix.Prefix.{Prefix}
+use Rattle.policy.specs.declared.charter.Charter.{Charter}
+use Rattle.policy.specs.declared.rows.HolderRows.{HolderRows}
+use Rattle.policy.specs.declared.change.Change.{Change}
+use Rattle.policy.specs.History.{Entry, History, is_registered}
+use Rattle.policy.specs.Rows.{Rows, RowsOf, RowsIfAny, rows_of, rows_if_any, grants_if_any, Carries}
+use Rattle.policy.specs.Resources.{HoldsPrefix, resource_holder, is_held_by}
+use Rattle.policy.specs.declared.authorization.Auth.{Auth}
+use Rattle.policy.specs.declared.grant.Granted.{Granted}
+use Rattle.policy.specs.Terms.{grant_terms, authorization_terms, HeldSinceMade, OfActive}
+use Rattle.policy.specs.Verdict.{IsLegal, numbered, OfNumber}
+use Rattle.policy.proofs.Kept.{Keeps-unique}
+use Rattle.policy.proofs.Names.{is_held_by-true, held_by_itself}
+use Rattle.policy.proofs.Unregistered.{has_nothing}
+
+pub not_true : (b : Bool) → not b ≡ true → b ≡ false
+not_true true is = sym is
+not_true false is = refl
+
+pub unregistered : (history : History) (h : List ℕ) (rows : Option (Bor HolderRows)) → is_some rows ≡ false
+    → RowsIfAny history h (rows_if_any (option_copied rows)) → is_registered history h ≡ false
+unregistered history h None none are = are
+unregistered history h (Some r) none are = absurd (false≢true (sym none))
+
+pub carried : (before after : History) (change literal : Change) → change ≡ literal → Carries literal before after → Carries change before after
+carried before after change literal is carries = subst (λ (c : Change). Carries c before after) (sym is) carries
+
+-- the grants of the rows are those of the history: without rows none were made
+pub grants-are : (charter : Charter) (history : History) (h : List ℕ) (rows : Option (Bor HolderRows)) → IsLegal charter history
+    → RowsIfAny history h (rows_if_any (option_copied rows)) → grants_if_any (option_copied rows) ≡ grant_terms history h
+grants-are charter history h None legal are = sym (has_nothing charter history h legal are).grants
+grants-are charter history h (Some r) legal are = are.1.grants
+
+-- the holdings hold a prefix where the holder does
+pub holds-to : (history : History) (h : List ℕ) (rows : Rows) (p : Prefix) → RowsOf history h rows → HaveAll rows.holdings p → HoldsPrefix history h p
+holds-to history h rows p are all a has = is_held_by-true h (resource_holder history a) (sym (are.holdings a) ∙ all a has)
+
+pub holds-from : (history : History) (h : List ℕ) (rows : Rows) (p : Prefix) → RowsOf history h rows → HoldsPrefix history h p → HaveAll rows.holdings p
+holds-from history h rows p are holds a has = are.holdings a ∙ ap (is_held_by h) (holds a has) ∙ held_by_itself h
+
+-- the active authorizations of the history are those of the rows
+pub active-to : (history : History) (h : List ℕ) (rows : Rows) (P : List Auth → Type 0) → RowsOf history h rows → P rows.auths → OfActive history h P
+active-to history h rows P are holds = (rows.auths, are.auths, holds)
+
+pub active-from : (history : History) (h : List ℕ) (rows : Rows) (P : List Auth → Type 0) → RowsOf history h rows → OfActive history h P → P rows.auths
+active-from history h rows P are of =
+    subst P (Keeps-unique (HeldSinceMade history h) (authorization_terms history h) of.0 rows.auths of.1 are.auths) of.2
+
+pub number-to : (history : History) (h : List ℕ) (rows : Rows) (n : ℕ) (x : Auth) (P : Auth → Type 0) → RowsOf history h rows
+    → numbered n rows.auths ≡ Some x → P x → OfNumber history h n P
+number-to history h rows n x P are found holds =
+    (rows.auths, are.auths, subst (λ (o : Option Auth). IsSomeAnd o P) (sym found) holds)
+
+pub number-from : (history : History) (h : List ℕ) (rows : Rows) (n : ℕ) (x : Auth) (P : Auth → Type 0) → RowsOf history h rows
+    → numbered n rows.auths ≡ Some x → OfNumber history h n P → P x
+number-from history h rows n x P are found of =
+    subst (λ (o : Option Auth). IsSomeAnd o P) found (active-from history h rows (λ active. IsSomeAnd (numbered n active) P) are of)
+
+pub number-none : (history : History) (h : List ℕ) (rows : Rows) (n : ℕ) (P : Auth → Type 0) → RowsOf history h rows
+    → numbered n rows.auths ≡ None → OfNumber history h n P → ⊥
+number-none history h rows n P are missing of =
+    subst (λ (o : Option Auth). IsSomeAnd o P) missing (active-from history h rows (λ active. IsSomeAnd (numbered n active) P) are of)
+
+
+-- a holder with a grant is registered
+pub registered-by_grant : (charter : Charter) (history : History) (h : List ℕ) (rows : Option (Bor HolderRows)) (test : Granted → Bool)
+    → IsLegal charter history → RowsIfAny history h (rows_if_any (option_copied rows)) → list_any test (grant_terms history h) ≡ true
+    → is_registered history h ≡ true
+registered-by_grant charter history h None test legal are has =
+    absurd (false≢true (ap (list_any test) (sym (has_nothing charter history h legal are).grants) ∙ has))
+registered-by_grant charter history h (Some r) test legal are has = are.0

@@ -1,0 +1,13 @@
+use Rattle.std.proofs.Common.{◌≡◌, Bool, ◌||◌, false, sym, ◌∙◌, ap}
+use Rattle.policy.specs.declared.grant.Access.TheVariants.{Manage}
+use Rattle.policy.specs.Terms.{grant_terms}
+use Rattle.policy.specs.Permission.{has_access}
+use Rattle.policy.proofs.RowsLemmas.{grants-are}
+use Rattle.policy.proofs.admission.is_steward.Goals as goal
+
+pub returns-else-is_operator : goal.returns-else-is_operator
+returns-else-is_operator c history h legal are =
+    let a = c.args in
+    let same = c.grants_of.ensures ∙ grants-are a.charter.now history h a.rows legal are in
+    c.has_access.ensures ∙ ap (λ gs. has_access gs a.day a.caller.now Manage) same
+    ∙ ap (λ b. b || has_access (grant_terms history h) a.day a.caller.now Manage) (sym c.if-is_operator.false ∙ c.is_operator.ensures)

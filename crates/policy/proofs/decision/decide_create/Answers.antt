@@ -1,0 +1,27 @@
+use Rattle.std.proofs.Common.{◌≡◌, ℕ, ◌+◌, ◌∷◌, Bool, true, false, not, refl, sym, ◌∙◌, ap, Some}
+use Rattle.policy.specs.declared.authorization.Auth.{Auth}
+use Rattle.policy.specs.declared.command.Command.TheVariants.{Create}
+use Rattle.policy.specs.Answer.{number_made}
+use Rattle.policy.specs.History.{Entry}
+use Rattle.policy.proofs.RowsLemmas.{carried}
+use Rattle.policy.proofs.CarryTerms.{carries-create}
+use Rattle.policy.proofs.decision.decide_create.Goals as goal
+
+pub returns : goal.returns
+returns c charter history legal are =
+    let a = c.args in
+    let h = a.holder.now in
+    let t = a.terms in
+    let e : Entry = record { day = a.day; caller = a.caller.now; command = Create h t.asn t.prefix t.max t.from t.until } in
+    let had = c.in_ok-rows.ensures charter history h legal are in
+    let scope = sym (c.may_alter.ensures history h had.2) ∙ c.in_ok-require.ensures in
+    let dates = c.are_dates.ensures.0 c.in_ok-require-2.ensures in
+    let length = sym c.fits_length.ensures ∙ c.in_ok-require-3.ensures in
+    let held = (c.holds.ensures history h had.2).0 c.in_ok-require-4.ensures in
+    let same = (c.is_new.ensures history h had.2).0 c.in_ok-require-5.ensures in
+    let room = (c.has_room_for_authorization.ensures.room history h had.2).0 c.in_ok-require-6.ensures in
+    let new = λ (k : ℕ). let x : Auth = record { number = k + 1; asn = t.asn; prefix = t.prefix; max = t.max; from = t.from; until = t.until } in x in
+    ((had.0, (scope, (dates, (length, (held, (same, (room, tt))))))),
+      ap (λ ch. number_made ch.first.edit) c.change_of.ensures ∙ ap (λ n. Some (n + 1)) had.2.created,
+      carried history (e ∷ history) c.change_of.result _ c.change_of.ensures
+        (carries-create history a.day a.caller.now h t.asn t.prefix t.max t.from t.until _ had.1 held (ap new had.2.created)))

@@ -1,0 +1,118 @@
+-- What the calls of this crate answer, for the rows of a history.
+use Rattle.std.specs.Prelude.{◌≡◌, ℕ, ◌+◌, Bool, true, false, List, [], ◌∷◌, Option, Some, None, Result, Ok, Err, MatchBool, filter, find}
+use Rattle.addr.specs.Address.{Address, has_address}
+use Rattle.policy.specs.declared.authorization.Auth.{Auth}
+use Rattle.policy.specs.declared.charter.Charter.{Charter}
+use Rattle.policy.specs.declared.command.Command.{Command}
+use Rattle.policy.specs.declared.command.Command.TheVariants.{Register, Delegate, Transfer, Reclaim, Grant, Revoke, Create, Amend, Withdraw}
+use Rattle.policy.specs.declared.change.Change.{Change}
+use Rattle.policy.specs.declared.change.Edit.{Edit}
+use Rattle.policy.specs.declared.change.Edit.TheVariants.{Register as RegisterEdit, Hold, Grant as GrantEdit, Revoke as RevokeEdit, Create as CreateEdit, Amend as AmendEdit, Withdraw as WithdrawEdit}
+use Rattle.policy.specs.declared.grant.Access.TheVariants.{Look}
+use Rattle.policy.specs.declared.rows.HolderRows.{HolderRows}
+use Rattle.policy.specs.declared.rows.View.{View}
+use Rattle.policy.specs.declared.rule.Refusal.{Refusal}
+use Rattle.policy.specs.declared.rule.Refusal.TheVariants.{Denied, Memory}
+use Rattle.policy.specs.declared.rule.Rule.{Rule}
+use Rattle.policy.specs.History.{Entry, History}
+use Rattle.policy.specs.Resources.{IsFree}
+use Rattle.policy.specs.Terms.{grant_terms, grants_made, authorizations_made, OfActive}
+use Rattle.policy.specs.Permission.{is_permitted_terms}
+use Rattle.policy.specs.Verdict.{Verdict, ShowVerdict, ListVerdict, IsLegal, numbered}
+use Rattle.policy.specs.Rows.{Rows, rows_of, rows_if_any, RowsIfAny, Carries}
+
+abbrev pub is_transfer : Command → Bool
+is_transfer (Register holder) = false
+is_transfer (Delegate holder p) = false
+is_transfer (Transfer p giver taker) = true
+is_transfer (Reclaim holder p) = false
+is_transfer (Grant holder name role scope until) = false
+is_transfer (Revoke holder n) = false
+is_transfer (Create holder asn p max from until) = false
+is_transfer (Amend holder n max until) = false
+is_transfer (Withdraw holder n) = false
+
+-- the holder that the command names; of a transfer the giver
+abbrev pub holder_of : Command → List ℕ
+holder_of (Register holder) = holder
+holder_of (Delegate holder p) = holder
+holder_of (Transfer p giver taker) = giver
+holder_of (Reclaim holder p) = holder
+holder_of (Grant holder name role scope until) = holder
+holder_of (Revoke holder n) = holder
+holder_of (Create holder asn p max from until) = holder
+holder_of (Amend holder n max until) = holder
+holder_of (Withdraw holder n) = holder
+
+-- the number that the new grant or authorization gets; other commands answer none
+abbrev pub number_given : History → Command → Option ℕ
+number_given history (Register holder) = None
+number_given history (Delegate holder p) = None
+number_given history (Transfer p giver taker) = None
+number_given history (Reclaim holder p) = None
+number_given history (Grant holder name role scope until) = Some (grants_made history holder + 1)
+number_given history (Revoke holder n) = None
+number_given history (Create holder asn p max from until) = Some (authorizations_made history holder + 1)
+number_given history (Amend holder n max until) = None
+number_given history (Withdraw holder n) = None
+
+-- the number of the grant or authorization that a change makes
+abbrev pub number_made : Edit → Option ℕ
+number_made RegisterEdit = None
+number_made (Hold holdings ended) = None
+number_made (GrantEdit g) = Some g.number
+number_made (RevokeEdit n) = None
+number_made (CreateEdit x) = Some x.number
+number_made (AmendEdit x) = None
+number_made (WithdrawEdit n) = None
+
+-- whether some address of a delegation's prefix has a resource holder is told rightly; of any other
+-- command it is not asked
+abbrev pub TellsTaken : History → Command → Bool → Type 0
+TellsTaken history (Register holder) taken = Unit {0}
+TellsTaken history (Delegate holder p) taken = MatchBool taken (IsFree history p → ⊥) (IsFree history p)
+TellsTaken history (Transfer p giver taker) taken = Unit {0}
+TellsTaken history (Reclaim holder p) taken = Unit {0}
+TellsTaken history (Grant holder name role scope until) taken = Unit {0}
+TellsTaken history (Revoke holder n) taken = Unit {0}
+TellsTaken history (Create holder asn p max from until) taken = Unit {0}
+TellsTaken history (Amend holder n max until) taken = Unit {0}
+TellsTaken history (Withdraw holder n) taken = Unit {0}
+
+-- what a command is judged on is that of the history
+pub record IsViewOf (history : History) (command : Command) (view : View) : Type 0 where
+  pub rows : RowsIfAny history (holder_of command) (rows_if_any view.holder)
+  pub taken : TellsTaken history command view.taken
+
+-- denied exactly by the verdict, with no row; else accepted, with a change that carries the rows of
+-- every holder to the history with the command, and with the number made
+abbrev pub IsAnswer : Charter → History → ℕ → List ℕ → Command → Result Change Refusal → Type 0
+IsAnswer charter history day caller command (Err (Denied rule row)) =
+    Verdict charter history day caller command (Some rule) × (row ≡ None)
+IsAnswer charter history day caller command (Err Memory) = Unit {0}
+IsAnswer charter history day caller command (Ok change) =
+    Verdict charter history day caller command None
+    × (number_made change.first.edit ≡ number_given history command)
+    × Carries change history (record { day = day; caller = caller; command = command } ∷ history)
+
+-- what is shown is the active authorization of that number
+abbrev pub IsShown : History → List ℕ → ℕ → List ℕ → ℕ → Auth → Type 0
+IsShown history h day caller n x =
+    ShowVerdict history h day caller n None × OfActive history h (λ active. numbered n active ≡ Some x)
+
+-- what is listed are the active authorizations that the caller may see, by rising number
+abbrev pub IsListed : History → List ℕ → ℕ → List ℕ → List Auth → Type 0
+IsListed history h day caller listed =
+    ListVerdict history h day caller None
+    × OfActive history h (λ active. listed ≡ filter (λ x. is_permitted_terms (grant_terms history h) day caller Look x) active)
+
+-- a list is denied exactly by the verdict
+abbrev pub IsListRefusal : History → List ℕ → ℕ → List ℕ → Refusal → Type 0
+IsListRefusal history h day caller (Denied rule row) = ListVerdict history h day caller (Some rule) × (row ≡ None)
+IsListRefusal history h day caller Memory = Unit {0}
+
+-- what is answered is that of every legal history with these rows of the holder
+abbrev pub Answers : Charter → Option Rows → ℕ → List ℕ → Command → Result Change Refusal → Type 0
+Answers charter rows day caller command result =
+    (history : History) → IsLegal charter history → RowsIfAny history (holder_of command) rows
+    → IsAnswer charter history day caller command result

@@ -1,0 +1,10 @@
+pub mod Pool
+pub mod Charter
+pub mod History
+pub mod Resources
+pub mod Terms
+pub mod Permission
+pub mod Verdict
+pub mod Rows
+pub mod Answer
+pub mod DailyVrps

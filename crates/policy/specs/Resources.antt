@@ -1,0 +1,37 @@
+-- Who holds which address: the receiver of the last delegation, transfer or reclaim whose prefix has
+-- the address. A reclaim leaves nobody.
+use Rattle.std.specs.Prelude.{◌≡◌, Bool, true, false, List, ℕ, [], ◌∷◌, Option, Some, None, if◌then◌else◌}
+use Rattle.addr.specs.Address.{Address, has_address}
+use Rattle.addr.specs.declared.prefix.Prefix.{Prefix}
+use Rattle.policy.specs.declared.command.Command.{Command}
+use Rattle.policy.specs.declared.command.Command.TheVariants.{Register, Delegate, Transfer, Reclaim, Grant, Revoke, Create, Amend, Withdraw}
+use Rattle.policy.specs.History.{Entry, History, same_name}
+
+-- who holds the address after a command, from who held it before
+abbrev pub holder_after : Command → Address → Option (List ℕ) → Option (List ℕ)
+holder_after (Register holder) a held = held
+holder_after (Delegate holder p) a held = if has_address p a then Some holder else held
+holder_after (Transfer p giver taker) a held = if has_address p a then Some taker else held
+holder_after (Reclaim holder p) a held = if has_address p a then None else held
+holder_after (Grant holder name role scope until) a held = held
+holder_after (Revoke holder n) a held = held
+holder_after (Create holder asn p max from until) a held = held
+holder_after (Amend holder n max until) a held = held
+holder_after (Withdraw holder n) a held = held
+
+abbrev pub resource_holder : History → Address → Option (List ℕ)
+resource_holder [] a = None
+resource_holder (e ∷ before) a = holder_after e.command a (resource_holder before a)
+
+-- every address of the prefix is held by the holder
+abbrev pub HoldsPrefix : History → List ℕ → Prefix → Type 0
+HoldsPrefix history h p = (a : Address) → has_address p a ≡ true → resource_holder history a ≡ Some h
+
+-- no address of the prefix is held by anybody
+abbrev pub IsFree : History → Prefix → Type 0
+IsFree history p = (a : Address) → has_address p a ≡ true → resource_holder history a ≡ None
+
+-- an address is held by this holder
+abbrev pub is_held_by : List ℕ → Option (List ℕ) → Bool
+is_held_by h None = false
+is_held_by h (Some holder) = same_name holder h

@@ -1,0 +1,124 @@
+-- The rules of each command in their order, and the verdict: the first rule that does not hold, or
+-- none where all hold.
+use Rattle.std.specs.Prelude.{◌≡◌, ℕ, ◌<◌, ◌≤◌, Bool, true, false, not, ◌&&◌, ◌||◌, ◌==◌, nat_le, List, [], ◌∷◌, length, Option, Some, None, find, IsSomeAnd, ◌⊎◌}
+use Rattle.std.specs.List.{list_any}
+use Rattle.addr.specs.Family.{width}
+use Rattle.addr.specs.declared.asn.Asn.{Asn}
+use Rattle.addr.specs.declared.prefix.Prefix.{Prefix}
+use Rattle.policy.specs.declared.authorization.Auth.{Auth}
+use Rattle.policy.specs.declared.charter.Charter.{Charter}
+use Rattle.policy.specs.declared.command.Command.{Command}
+use Rattle.policy.specs.declared.command.Command.TheVariants.{Register, Delegate, Transfer, Reclaim, Grant, Revoke, Create, Amend, Withdraw}
+use Rattle.policy.specs.declared.grant.Access.TheVariants.{Manage, Alter, Look}
+use Rattle.policy.specs.declared.rule.Rule.{Rule}
+use Rattle.policy.specs.declared.rule.Rule.TheVariants.{Operator, Steward, Grant as GrantRule, Holder, Fresh, Number, Scope, Dates, Length, Pool, Free, Distinct, Held, Same, Room}
+use Rattle.policy.specs.Charter.{is_operator, pool_of}
+use Rattle.policy.specs.Pool.{IsInPool}
+use Rattle.policy.specs.History.{Entry, History, same_name, is_registered}
+use Rattle.policy.specs.Resources.{HoldsPrefix, IsFree}
+use Rattle.policy.specs.Terms.{gives_vrp, share_vrp, grant_terms, grants_made, authorizations_made, OfActive}
+use Rattle.policy.specs.Permission.{has_access, is_permitted, is_permitted_terms}
+
+-- asks a rule and then the others: all hold where this one does and the others do; and the first that
+-- does not hold is this one where it does not, else the first of the others
+abbrev pub ask : Rule → Type 0 → (Option Rule → Type 0) → Option Rule → Type 0
+ask rule P rest None = P × rest None
+ask rule P rest (Some first) = ((P → ⊥) × (first ≡ rule)) ⊎ (P × rest (Some first))
+
+-- no rule is left to ask
+abbrev pub accept : Option Rule → Type 0
+accept None = Unit {0}
+accept (Some first) = ⊥
+
+-- the maxLength lies from the prefix's length to the width of its family
+abbrev pub fits_length : Prefix → ℕ → Bool
+fits_length p max = nat_le p.length max && nat_le max (width p.family)
+
+-- of all prefixes of the terms
+abbrev pub terms_fit_length : Auth → ℕ → Bool
+terms_fit_length x max = fits_length x.prefix max
+
+-- an operator, or a manager at the holder
+abbrev pub is_steward : Charter → History → ℕ → List ℕ → List ℕ → Bool
+is_steward charter history day caller holder =
+    is_operator charter caller || has_access (grant_terms history holder) day caller Manage
+
+-- the authorization of this number in a list
+abbrev pub numbered : ℕ → List Auth → Option Auth
+numbered n auths = find (λ x. x.number == n) auths
+
+-- the holder has an active authorization of this number, and of it the fact holds
+abbrev pub OfNumber : History → List ℕ → ℕ → (Auth → Type 0) → Type 0
+OfNumber history holder n P = OfActive history holder (λ active. IsSomeAnd (numbered n active) P)
+
+abbrev pub Verdict : Charter → History → ℕ → List ℕ → Command → Option Rule → Type 0
+Verdict charter history day caller (Register holder) =
+    ask Operator (is_operator charter caller ≡ true) (
+    ask Fresh (is_registered history holder ≡ false)
+    accept)
+Verdict charter history day caller (Delegate holder p) =
+    ask Operator (is_operator charter caller ≡ true) (
+    ask Holder (is_registered history holder ≡ true) (
+    ask Pool (IsInPool (pool_of charter) p) (
+    ask Free (IsFree history p)
+    accept)))
+Verdict charter history day caller (Transfer p giver taker) =
+    ask Operator (is_operator charter caller ≡ true) (
+    ask Holder ((is_registered history giver ≡ true) × (is_registered history taker ≡ true)) (
+    ask Distinct (same_name giver taker ≡ false) (
+    ask Held (HoldsPrefix history giver p)
+    accept)))
+Verdict charter history day caller (Reclaim holder p) =
+    ask Operator (is_operator charter caller ≡ true) (
+    ask Holder (is_registered history holder ≡ true) (
+    ask Held (HoldsPrefix history holder p)
+    accept))
+Verdict charter history day caller (Grant holder name role scope until) =
+    ask Steward (is_steward charter history day caller holder ≡ true) (
+    ask Holder (is_registered history holder ≡ true) (
+    ask Dates (day ≤ until) (
+    ask Room ((length (grant_terms history holder) < 64) × (grants_made history holder < 999999))
+    accept)))
+Verdict charter history day caller (Revoke holder n) =
+    ask Steward (is_steward charter history day caller holder ≡ true) (
+    ask Number (list_any (λ g. g.number == n) (grant_terms history holder) ≡ true)
+    accept)
+Verdict charter history day caller (Create holder asn p max from until) =
+    ask GrantRule (has_access (grant_terms history holder) day caller Alter ≡ true) (
+    ask Scope (is_permitted (grant_terms history holder) day caller Alter p ≡ true) (
+    ask Dates ((from ≤ until) × (day ≤ until)) (
+    ask Length (fits_length p max ≡ true) (
+    ask Held (HoldsPrefix history holder p) (
+    ask Same (OfActive history holder (λ active. list_any (λ y. gives_vrp y asn p max) active ≡ false)) (
+    ask Room (OfActive history holder (λ active. length active < 1000) × (authorizations_made history holder < 999999))
+    accept))))))
+Verdict charter history day caller (Amend holder n max until) =
+    ask GrantRule (has_access (grant_terms history holder) day caller Alter ≡ true) (
+    ask Number (OfNumber history holder n (λ x. is_permitted_terms (grant_terms history holder) day caller Alter x ≡ true)) (
+    ask Dates (OfNumber history holder n (λ x. (x.from ≤ until) × (day ≤ until))) (
+    ask Length (OfNumber history holder n (λ x. terms_fit_length x max ≡ true)) (
+    ask Same (OfActive history holder (λ active. IsSomeAnd (numbered n active) (λ x.
+        list_any (λ y. not (y.number == n) && share_vrp (record x { max = max; until = until }) y) active ≡ false)))
+    accept))))
+Verdict charter history day caller (Withdraw holder n) =
+    ask GrantRule (has_access (grant_terms history holder) day caller Alter ≡ true) (
+    ask Number (OfNumber history holder n (λ x. is_permitted_terms (grant_terms history holder) day caller Alter x ≡ true))
+    accept)
+
+-- the verdict of showing the authorization of a number
+abbrev pub ShowVerdict : History → List ℕ → ℕ → List ℕ → ℕ → Option Rule → Type 0
+ShowVerdict history holder day caller n =
+    ask GrantRule (has_access (grant_terms history holder) day caller Look ≡ true) (
+    ask Number (OfNumber history holder n (λ x. is_permitted_terms (grant_terms history holder) day caller Look x ≡ true))
+    accept)
+
+-- the verdict of listing authorizations
+abbrev pub ListVerdict : History → List ℕ → ℕ → List ℕ → Option Rule → Type 0
+ListVerdict history holder day caller =
+    ask GrantRule (has_access (grant_terms history holder) day caller Look ≡ true)
+    accept
+
+-- each command of the history was accepted on those before it
+abbrev pub IsLegal : Charter → History → Type 0
+IsLegal charter [] = Unit {0}
+IsLegal charter (e ∷ before) = Verdict charter before e.day e.caller e.command None × IsLegal charter before

@@ -1,0 +1,169 @@
+ghost use Rattle.std.specs.Prelude.{◌≡◌, ℕ, ◌<◌, ◌==◌, ◌&&◌, not, length, vec_len, List, Bool, true, false, ◌↔◌, IsTrue, Some, ◌≤◌, option_copied, MatchResult};
+ghost use Rattle.std.specs.List.{list_any};
+ghost use Rattle.policy.specs.declared.charter.Charter.{Charter as CharterValue};
+ghost use Rattle.policy.specs.History.{History, is_registered};
+ghost use Rattle.policy.specs.Resources.{HoldsPrefix};
+ghost use Rattle.policy.specs.Terms.{grant_terms, authorizations_made, OfActive, gives_vrp, share_vrp};
+ghost use Rattle.policy.specs.Permission.{has_access, is_permitted, is_permitted_terms};
+ghost use Rattle.policy.specs.Verdict.{IsLegal, is_steward, numbered, OfNumber};
+ghost use Rattle.policy.specs.Rows.{rows_of, rows_if_any, RowsOf, RowsIfAny, grants_if_any};
+
+use addr::{Asn, Day, Name, Prefix};
+
+use crate::grant::{has_access, is_permitted};
+use crate::{Access, Auth, Charter, Granted, HolderRows, Rule};
+
+/// The rule where it does not hold.
+pub fn require(holds: bool, rule: Rule) -> Result<(), Rule>
+    ensures { MatchResult result (λ _. holds ≡ true) (λ first. (holds ≡ false) × (first ≡ rule)) }
+{
+    if holds { Ok(()) } else { Err(rule) }
+}
+
+/// The rows of a holder that is registered.
+pub fn registered(rows: Option<&HolderRows>) -> Result<&HolderRows, Rule>
+    ensures { (history : History) (h : List ℕ) → RowsIfAny history h (rows_if_any (option_copied rows.entry))
+        → MatchResult result (λ r. (is_registered history h ≡ true) × RowsOf history h (rows_of r.now))
+            (λ rule. (is_registered history h ≡ false) × (rule ≡ Rule.Holder)) }
+{
+    rows.ok_or(Rule::Holder)
+}
+
+fn grants_of(rows: Option<&HolderRows>) -> &[Granted]
+    ensures { result.now ≡ grants_if_any (option_copied rows.entry) }
+{
+    match rows {
+        Some(rows) => &rows.grants,
+        None => &[],
+    }
+}
+
+/// Whether the caller is an operator, or a manager at the holder.
+pub fn is_steward(charter: &Charter, rows: Option<&HolderRows>, day: Day, caller: &Name) -> bool
+    ensures { (history : History) (h : List ℕ) → IsLegal charter.now history → RowsIfAny history h (rows_if_any (option_copied rows.entry))
+        → result ≡ is_steward charter.now history day caller.now h }
+{
+    charter.is_operator(caller) || has_access(grants_of(rows), day, caller, Access::Manage)
+}
+
+/// The rows of a holder at which the caller has the access, whatever the scope.
+pub fn rows_with_access<'a>(rows: Option<&'a HolderRows>, day: Day, caller: &Name, access: Access) -> Result<&'a HolderRows, Rule>
+    ensures { (charter : CharterValue) (history : History) (h : List ℕ) → IsLegal charter history
+        → RowsIfAny history h (rows_if_any (option_copied rows.entry))
+        → MatchResult result
+            (λ r. (has_access (grant_terms history h) day caller.now access ≡ true) × (is_registered history h ≡ true) × RowsOf history h (rows_of r.now))
+            (λ rule. (has_access (grant_terms history h) day caller.now access ≡ false) × (rule ≡ Rule.Grant)) }
+{
+    if has_access(grants_of(rows), day, caller, access) {
+        rows.ok_or(Rule::Grant)
+    } else {
+        Err(Rule::Grant)
+    }
+}
+
+/// Whether every address of the prefix is held by the holder of the rows.
+pub fn holds(rows: &HolderRows, prefix: &Prefix) -> bool
+    ensures { (history : History) (h : List ℕ) → RowsOf history h (rows_of rows.now) → (IsTrue result ↔ HoldsPrefix history h prefix.now) }
+{
+    rows.holdings.holds(prefix)
+}
+
+/// Whether some one grant gives the caller the access to all prefixes of the terms.
+fn may_reach(rows: &HolderRows, day: Day, caller: &Name, access: Access, auth: &Auth) -> bool
+    ensures { result ≡ is_permitted_terms rows.now.grants.items day caller.now access auth.now }
+{
+    is_permitted(&rows.grants, day, caller, access, &auth.prefix)
+}
+
+fn numbered(auths: &[Auth], number: u32) -> Option<&Auth>
+    ensures { option_copied result ≡ numbered number auths.now }
+{
+    auths.iter().find(|auth| auth.number == number)
+}
+
+/// The active authorization of the number, where the caller has the access to it.
+pub fn permitted<'a>(rows: &'a HolderRows, day: Day, caller: &Name, access: Access, number: u32) -> Result<&'a Auth, Rule>
+    ensures { (history : History) (h : List ℕ) → RowsOf history h (rows_of rows.now)
+        → MatchResult result
+            (λ x. (numbered number rows.now.auths.items ≡ Some x.now)
+                × OfNumber history h number (λ x. is_permitted_terms (grant_terms history h) day caller.now access x ≡ true))
+            (λ rule. (OfNumber history h number (λ x. is_permitted_terms (grant_terms history h) day caller.now access x ≡ true) → ⊥)
+                × (rule ≡ Rule.Number)) }
+{
+    match numbered(&rows.auths, number) {
+        Some(auth) => {
+            if may_reach(rows, day, caller, access, auth) {
+                Ok(auth)
+            } else {
+                Err(Rule::Number)
+            }
+        }
+        None => Err(Rule::Number),
+    }
+}
+
+/// Whether the first day does not lie after the last, nor today.
+pub fn are_dates(today: Day, from: Day, until: Day) -> bool
+    ensures { IsTrue result ↔ ((from ≤ until) × (today ≤ until)) }
+{
+    from.number() <= until.number() && today.number() <= until.number()
+}
+
+/// Whether some grant of the rows has the number.
+pub fn has_grant(rows: Option<&HolderRows>, number: u32) -> bool
+    ensures { (charter : CharterValue) (history : History) (h : List ℕ) → IsLegal charter history
+        → RowsIfAny history h (rows_if_any (option_copied rows.entry))
+        → result ≡ list_any (λ g. g.number == number) (grant_terms history h) }
+{
+    is_among(grants_of(rows), number)
+}
+
+fn is_among(grants: &[Granted], number: u32) -> bool
+    ensures { result ≡ list_any (λ g. g.number == number) grants.now }
+{
+    grants.iter().any(|grant| grant.number == number)
+}
+
+/// Whether the caller may alter an authorization of this prefix.
+pub fn may_alter(rows: &HolderRows, day: Day, caller: &Name, prefix: &Prefix) -> bool
+    ensures { (history : History) (h : List ℕ) → RowsOf history h (rows_of rows.now)
+        → result ≡ is_permitted (grant_terms history h) day caller.now Access.Alter prefix.now }
+{
+    is_permitted(&rows.grants, day, caller, Access::Alter, prefix)
+}
+
+fn some_gives(auths: &[Auth], asn: Asn, prefix: &Prefix, max: u8) -> bool
+    ensures { result ≡ list_any (λ y. gives_vrp y asn prefix.now max) auths.now }
+{
+    auths.iter().any(|auth| auth.gives_vrp(asn, prefix, max))
+}
+
+/// Whether no active authorization gives this AS, prefix and maxLength.
+pub fn is_new(rows: &HolderRows, asn: Asn, prefix: &Prefix, max: u8) -> bool
+    ensures { (history : History) (h : List ℕ) → RowsOf history h (rows_of rows.now)
+        → (IsTrue result ↔ OfActive history h (λ active. list_any (λ y. gives_vrp y asn prefix.now max) active ≡ false)) }
+{
+    !some_gives(&rows.auths, asn, prefix, max)
+}
+
+/// Whether another authorization may be made: fewer than 1000 are active, and 999,999 were made.
+pub fn has_room_for_authorization(rows: &HolderRows) -> bool
+    ensures counter { IsTrue result → rows.now.created < 999999 }
+    ensures room { (history : History) (h : List ℕ) → RowsOf history h (rows_of rows.now)
+        → (IsTrue result ↔ (OfActive history h (λ active. length active < 1000) × (authorizations_made history h < 999999))) }
+{
+    rows.auths.len() < 1000 && rows.created < 999_999
+}
+
+fn is_other_sharing(auth: &Auth, other: &Auth) -> bool
+    ensures { result ≡ (not (other.now.number == auth.now.number) && share_vrp auth.now other.now) }
+{
+    other.number != auth.number && auth.shares_vrp(other)
+}
+
+/// Whether an authorization of another number shares an AS, prefix and maxLength with these terms.
+pub fn shares_with_other(auths: &[Auth], auth: &Auth) -> bool
+    ensures { result ≡ list_any (λ y. not (y.number == auth.now.number) && share_vrp auth.now y) auths.now }
+{
+    auths.iter().any(|other| is_other_sharing(auth, other))
+}

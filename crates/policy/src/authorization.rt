@@ -1,0 +1,79 @@
+ghost use Rattle.std.specs.Prelude.{◌≡◌, ◌≤◌, ◌↔◌, ◌&&◌, nat_le, true, IsTrue, IsSome, IfSome};
+ghost use Rattle.addr.specs.Address.{prefix_eq};
+ghost use Rattle.policy.specs.Terms.{terms_overlap, gives_vrp, share_vrp, IsVrpOf};
+ghost use Rattle.policy.specs.Verdict.{fits_length, terms_fit_length};
+
+use addr::{Asn, Day, Prefix, Vrp};
+
+/// A route origin authorization with its terms.
+#[derive(Clone, Copy, Debug, PartialEq, Eq)]
+pub struct Auth {
+    /// Counts the holder's authorizations from 1, in the order in which they were made.
+    pub number: u32,
+    pub asn: Asn,
+    pub prefix: Prefix,
+    /// The maxLength as it was asked for; the rule `length` judges it.
+    pub max: u8,
+    /// The first day in force.
+    pub from: Day,
+    /// The last day in force.
+    pub until: Day,
+}
+
+/// Whether the maxLength lies from the prefix's length to the width of its family.
+pub fn fits_length(prefix: &Prefix, max: u8) -> bool
+    ensures { result ≡ fits_length prefix.now max }
+{
+    prefix.length <= max && max <= prefix.family.width()
+}
+
+fn is_same_prefix(prefix: &Prefix, other: &Prefix) -> bool
+    ensures { result ≡ prefix_eq prefix.now other.now }
+{
+    prefix.family.is(other.family) && prefix.first == other.first && prefix.length == other.length
+}
+
+impl Auth {
+    /// Whether a prefix of the terms shares an address with `prefix`.
+    pub fn overlaps(&self, prefix: &Prefix) -> bool
+        ensures { result ≡ terms_overlap self.now prefix.now }
+    {
+        self.prefix.overlaps(prefix)
+    }
+
+    /// Whether the terms give this AS, prefix and maxLength.
+    pub fn gives_vrp(&self, asn: Asn, prefix: &Prefix, max: u8) -> bool
+        ensures { result ≡ gives_vrp self.now asn prefix.now max }
+    {
+        self.asn.0 == asn.0 && is_same_prefix(&self.prefix, prefix) && self.max == max
+    }
+
+    /// Whether some AS, prefix and maxLength is given by the terms of both.
+    pub fn shares_vrp(&self, other: &Auth) -> bool
+        ensures { result ≡ share_vrp self.now other.now }
+    {
+        self.gives_vrp(other.asn, &other.prefix, other.max)
+    }
+
+    /// Whether the maxLength is one for all prefixes of the terms.
+    pub fn fits_length(&self, max: u8) -> bool
+        ensures { result ≡ terms_fit_length self.now max }
+    {
+        fits_length(&self.prefix, max)
+    }
+
+    /// Whether the day lies from the first to the last day in force.
+    pub fn is_in_force(&self, day: Day) -> bool
+        ensures { IsTrue result ↔ ((self.now.from ≤ day) × (day ≤ self.now.until)) }
+    {
+        self.from.number() <= day.number() && day.number() <= self.until.number()
+    }
+
+    /// The VRP of the terms; `None` where the maxLength is out of range, as in no history.
+    pub fn vrp(&self) -> Option<Vrp>
+        ensures some { IsSome result ↔ (terms_fit_length self.now self.now.max ≡ true) }
+        ensures value { IfSome result (IsVrpOf self.now) }
+    {
+        Vrp::from_parts(self.prefix, self.max, self.asn)
+    }
+}

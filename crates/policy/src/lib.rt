@@ -1,0 +1,22 @@
+//! The rules of the desk: for a request on the rows of a holder, the first rule that does not hold,
+//! or the change of the rows. Nothing here reads or writes a store.
+#![tactic(auto)]
+
+mod admission;
+mod authorization;
+mod change;
+mod charter;
+mod command;
+mod decision;
+mod edit;
+mod grant;
+mod rows;
+mod rule;
+
+pub use authorization::Auth;
+pub use change::{Change, Edit, HolderChange};
+pub use charter::Charter;
+pub use command::{Command, Query};
+pub use grant::{Access, Granted, Role, Scope};
+pub use rows::{HolderRows, View};
+pub use rule::{Refusal, Rule};
