@@ -14,7 +14,7 @@ use Rattle.roa.specs.Reading.{Numbers, ◌>>=◌, element_at, whole, integer_of,
 use Rattle.roa.proofs.Octets.{AreOctets, length-be_octets}
 use Rattle.roa.proofs.Elements.{Takes, Takes-then, element_again, element_only, whole_again, whole_only}
 use Rattle.roa.proofs.Primitives.{integer_len_bound, integer_again, integer_only}
-use Rattle.roa.proofs.Sizes.{length-element, length-integer}
+use Rattle.roa.proofs.Sizes.{length-element, length-integer, length-family_octets}
 use Rattle.roa.proofs.Entries.{IsEntry, numbers_octets, length-entries, entries_again, entries_only}
 
 -- the block of a family, where there are entries of it
@@ -35,10 +35,6 @@ abbrev pub spelled : ℕ → List Numbers → List Numbers → List ℕ
 spelled number four six = sequence (integer number ++ sequence (blocks_octets four six))
 
 -- ---- one block
-
-length-family_octets : (family : Family) → length (family_octets family) ≡ 2
-length-family_octets V4 = refl
-length-family_octets V6 = refl
 
 same_octets : (family : Family) → pointwise nat_eq (family_octets family) (family_octets family) ≡ true
 same_octets V4 = refl

@@ -8,7 +8,8 @@ use Rattle.std.proofs.lemmas.List.Concat.{flat_map-cons}
 use Rattle.addr.specs.Family.{width, family_eq}
 use Rattle.roa.specs.declared.content.Entry.{Entry}
 use Rattle.addr.specs.declared.family.Family.{Family}
-use Rattle.roa.specs.RoaContent.{length_octets, element, be_octets, integer_len, integer, bit_octets, bit_string, max_length, roa_ip_address, family_octets, octet_string, sequence, entry_octets, of_family}
+use Rattle.addr.specs.declared.family.Family.TheVariants.{V4, V6}
+use Rattle.roa.specs.RoaContent.{length_octets, element, be_octets, integer_len, integer, bit_octets, bit_string, max_length, roa_ip_address, family_octets, octet_string, sequence, entry_octets, of_family, roa_ip_address_family}
 use Rattle.roa.specs.Reading.{Numbers}
 use Rattle.roa.proofs.Octets.{length-be_octets}
 use Rattle.roa.proofs.Primitives.{integer_len_bound, bit_octets_bound, bit_contents}
@@ -55,3 +56,30 @@ length-addresses (e ∷ es) =
 
 pub length-of_family : (family : Family) (es : List Entry) → length (of_family family es) ≤ length es
 length-of_family family es = omega (arith, length-filter_both (λ (e : Entry). family_eq family e.prefix.family) (λ (e : Entry). not (family_eq family e.prefix.family)) (λ e. refl) es)
+
+pub length-family_octets : (family : Family) → length (family_octets family) ≡ 2
+length-family_octets V4 = refl
+length-family_octets V6 = refl
+
+-- ---- what is written for at most 64 entries
+
+pub addresses_short : (family : Family) (es : List Entry) → length es ≤ 64 → length (flat_map entry_octets (of_family family es)) ≤ 2176
+addresses_short family es few = omega (arith, few, length-of_family family es, length-addresses (of_family family es))
+
+pub block_short : (octets addresses : List ℕ) → length octets ≡ 2 → length addresses ≤ 2176 → length (element 4 octets ++ element 48 addresses) ≤ 2200
+block_short octets addresses two short = omega (arith, length-append (element 4 octets) (element 48 addresses), length-element 4 octets, length-element 48 addresses, two, short)
+
+family_short : (family : Family) (es : List Entry) → length (flat_map entry_octets es) ≤ 2176 → length (roa_ip_address_family family es) ≤ 2204
+family_short family [] short = omega arith
+family_short family (e ∷ es) short =
+    let block = block_short (family_octets family) (flat_map entry_octets (e ∷ es)) (length-family_octets family) short in
+    omega (arith, block, length-element 48 (element 4 (family_octets family) ++ element 48 (flat_map entry_octets (e ∷ es))))
+
+pub blocks_short : (es : List Entry) → length es ≤ 64 → length (roa_ip_address_family V4 (of_family V4 es) ++ roa_ip_address_family V6 (of_family V6 es)) ≤ 4408
+blocks_short es few =
+    let four = family_short V4 (of_family V4 es) (addresses_short V4 es few) in
+    let six = family_short V6 (of_family V6 es) (addresses_short V6 es few) in
+    omega (arith, length-append (roa_ip_address_family V4 (of_family V4 es)) (roa_ip_address_family V6 (of_family V6 es)), four, six)
+
+pub fields_short : (number : ℕ) (blocks : List ℕ) → length blocks ≤ 4408 → length (integer number ++ element 48 blocks) < 65536
+fields_short number blocks short = omega (arith, length-append (integer number) (element 48 blocks), length-integer number, length-element 48 blocks, short)
