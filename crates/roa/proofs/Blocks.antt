@@ -59,9 +59,9 @@ block_again family n ns rest all few =
     let size2 : length (sequence (flat_map numbers_octets (n ∷ ns))) ≤ 2180 = omega (arith, length-element 48 (flat_map numbers_octets (n ∷ ns)), size) in
     let size3 : length (octet_string (family_octets family) ++ sequence (flat_map numbers_octets (n ∷ ns))) < 65536 = omega (arith, size2, length-append (octet_string (family_octets family)) (sequence (flat_map numbers_octets (n ∷ ns))), length-element 4 (family_octets family), length-family_octets family) in
     let first : element_at 48 (block_octets family (n ∷ ns) ++ rest) ≡ Some (octet_string (family_octets family) ++ sequence (flat_map numbers_octets (n ∷ ns)), rest) =
-        element_again 48 (octet_string (family_octets family) ++ sequence (flat_map numbers_octets (n ∷ ns))) rest size3 in
+    element_again 48 (octet_string (family_octets family) ++ sequence (flat_map numbers_octets (n ∷ ns))) rest size3 in
     let second : element_at 4 (octet_string (family_octets family) ++ sequence (flat_map numbers_octets (n ∷ ns))) ≡ Some (family_octets family, sequence (flat_map numbers_octets (n ∷ ns))) =
-        element_again 4 (family_octets family) (sequence (flat_map numbers_octets (n ∷ ns))) (omega (arith, length-family_octets family)) in
+    element_again 4 (family_octets family) (sequence (flat_map numbers_octets (n ∷ ns))) (omega (arith, length-family_octets family)) in
     let third : whole 48 (sequence (flat_map numbers_octets (n ∷ ns))) ≡ Some (flat_map numbers_octets (n ∷ ns)) = whole_again 48 (flat_map numbers_octets (n ∷ ns)) (omega (arith, size)) in
     let some : eqb (length (flat_map numbers_octets (n ∷ ns))) 0 ≡ false = ne_eqb _ 0 (λ z. omega (arith, ap length (flat_map-cons numbers_octets n ns), z)) in
     rw (first, second, same_octets family, third, some) refl
@@ -74,9 +74,9 @@ block_other n ns all few =
     let size2 : length (sequence (flat_map numbers_octets (n ∷ ns))) ≤ 2180 = omega (arith, length-element 48 (flat_map numbers_octets (n ∷ ns)), size) in
     let size3 : length (octet_string (family_octets V6) ++ sequence (flat_map numbers_octets (n ∷ ns))) < 65536 = omega (arith, size2, length-append (octet_string (family_octets V6)) (sequence (flat_map numbers_octets (n ∷ ns))), length-element 4 (family_octets V6), length-family_octets V6) in
     let first : element_at 48 (block_octets V6 (n ∷ ns)) ≡ Some (octet_string (family_octets V6) ++ sequence (flat_map numbers_octets (n ∷ ns)), []) =
-        ap (element_at 48) (sym (append-nil (block_octets V6 (n ∷ ns)))) ∙ element_again 48 (octet_string (family_octets V6) ++ sequence (flat_map numbers_octets (n ∷ ns))) [] size3 in
+    ap (element_at 48) (sym (append-nil (block_octets V6 (n ∷ ns)))) ∙ element_again 48 (octet_string (family_octets V6) ++ sequence (flat_map numbers_octets (n ∷ ns))) [] size3 in
     let second : element_at 4 (octet_string (family_octets V6) ++ sequence (flat_map numbers_octets (n ∷ ns))) ≡ Some (family_octets V6, sequence (flat_map numbers_octets (n ∷ ns))) =
-        element_again 4 (family_octets V6) (sequence (flat_map numbers_octets (n ∷ ns))) (omega arith) in
+    element_again 4 (family_octets V6) (sequence (flat_map numbers_octets (n ∷ ns))) (omega arith) in
     rw (first, second) refl
 
 block_none : (family : Family) → block_at family [] ≡ None
@@ -90,26 +90,26 @@ block_only : (family : Family) (bytes : List ℕ) (p : List ℕ × List ℕ) →
 unfolding block_at
 block_only family bytes p are e =
     option_and_then_some (λ (b : List ℕ × List ℕ). element_at 4 b.0 >>= λ octets. cond (pointwise nat_eq octets.0 (family_octets family)) (whole 48 octets.1 >>= λ addresses. cond (eqb (length addresses) 0) None (Some (addresses, b.1))) None) (element_at 48 bytes) p e (λ b found e1.
-      option_and_then_some (λ (octets : List ℕ × List ℕ). cond (pointwise nat_eq octets.0 (family_octets family)) (whole 48 octets.1 >>= λ addresses. cond (eqb (length addresses) 0) None (Some (addresses, b.1))) None) (element_at 4 b.0) p e1 (λ octets found2 e2.
-        let t = element_only 48 bytes b are found in
-        let f = element_only 4 b.0 octets t.1 found2 in
-        elim (cases_Bool (pointwise nat_eq octets.0 (family_octets family))) [
-          | inr other ↦ let e3 = rw other at e2 in absurd cc
-          | inl same ↦
-              let e3 = rw same at e2 in
-              option_and_then_some (λ (addresses : List ℕ). cond (eqb (length addresses) 0) None (Some (addresses, b.1))) (whole 48 octets.1) p e3 (λ addresses found3 e4.
-                let w = whole_only 48 octets.1 addresses f.0.rest_octets found3 in
-                elim (cases_eq (length addresses) 0) [
-                  | inl none ↦ let e5 = rw (eq-eqb (length addresses) 0 none) at e4 in absurd cc
-                  | inr some ↦
-                      let e5 = rw (ne_eqb (length addresses) 0 some) at e4 in
-                      let inner : b.0 ≡ octet_string (family_octets family) ++ sequence addresses =
-                          f.0.parts ∙ ap (λ (x : List ℕ). element 4 x ++ octets.1) (pointwise_is octets.0 (family_octets family) same) ∙ ap (λ (x : List ℕ). octet_string (family_octets family) ++ x) w.0 in
-                      let parts : Takes bytes (sequence (octet_string (family_octets family) ++ sequence addresses)) b.1 =
-                          record { parts = t.0.parts ∙ ap (λ (x : List ℕ). element 48 x ++ b.1) inner; rest_octets = t.0.rest_octets } in
-                      subst (λ (q : List ℕ × List ℕ). TakesBlock family bytes q) (same_Some (addresses, b.1) p e5) (parts, w.1, some)
-                ])
-        ]))
+    option_and_then_some (λ (octets : List ℕ × List ℕ). cond (pointwise nat_eq octets.0 (family_octets family)) (whole 48 octets.1 >>= λ addresses. cond (eqb (length addresses) 0) None (Some (addresses, b.1))) None) (element_at 4 b.0) p e1 (λ octets found2 e2.
+    let t = element_only 48 bytes b are found in
+    let f = element_only 4 b.0 octets t.1 found2 in
+    elim (cases_Bool (pointwise nat_eq octets.0 (family_octets family))) [
+      | inr other ↦ let e3 = rw other at e2 in absurd cc
+      | inl same ↦
+          let e3 = rw same at e2 in
+          option_and_then_some (λ (addresses : List ℕ). cond (eqb (length addresses) 0) None (Some (addresses, b.1))) (whole 48 octets.1) p e3 (λ addresses found3 e4.
+          let w = whole_only 48 octets.1 addresses f.0.rest_octets found3 in
+          elim (cases_eq (length addresses) 0) [
+            | inl none ↦ let e5 = rw (eq-eqb (length addresses) 0 none) at e4 in absurd cc
+            | inr some ↦
+                let e5 = rw (ne_eqb (length addresses) 0 some) at e4 in
+                let inner : b.0 ≡ octet_string (family_octets family) ++ sequence addresses =
+                f.0.parts ∙ ap (λ (x : List ℕ). element 4 x ++ octets.1) (pointwise_is octets.0 (family_octets family) same) ∙ ap (λ (x : List ℕ). octet_string (family_octets family) ++ x) w.0 in
+                let parts : Takes bytes (sequence (octet_string (family_octets family) ++ sequence addresses)) b.1 =
+                record { parts = t.0.parts ∙ ap (λ (x : List ℕ). element 48 x ++ b.1) inner; rest_octets = t.0.rest_octets } in
+                subst (λ (q : List ℕ × List ℕ). TakesBlock family bytes q) (same_Some (addresses, b.1) p e5) (parts, w.1, some)
+          ])
+    ]))
 
 -- ---- a family
 
@@ -142,13 +142,13 @@ after_only : (room : ℕ) (family : Family) (bytes : List ℕ) (block : Option (
 after_only room family bytes None p are found e = subst (λ (q : List Numbers × List ℕ). TakesFamily room family bytes q) (same_Some ([], bytes) p e) (record { parts = refl; rest_octets = are }, tt, omega arith)
 after_only room family bytes (Some b) p are found e =
     option_and_then_some (λ (entries : List Numbers). Some (entries, b.1)) (entries_of room family b.0) p e (λ ns found2 e1.
-      let t = block_only family bytes b are found in
-      let o = entries_only room family b.0 ns t.1 found2 in
-      let some : length (flat_map numbers_octets ns) ≡ 0 → ⊥ = λ z. t.2 (ap length o.0 ∙ z) in
-      let same : sequence (octet_string (family_octets family) ++ sequence b.0) ≡ block_octets family ns =
-          ap (λ (x : List ℕ). sequence (octet_string (family_octets family) ++ sequence x)) o.0 ∙ block_of_entries family ns some in
-      let parts : Takes bytes (block_octets family ns) b.1 = record { parts = t.0.parts ∙ ap (λ (x : List ℕ). x ++ b.1) same; rest_octets = t.0.rest_octets } in
-      subst (λ (q : List Numbers × List ℕ). TakesFamily room family bytes q) (same_Some (ns, b.1) p e1) (parts, o.1, o.2))
+    let t = block_only family bytes b are found in
+    let o = entries_only room family b.0 ns t.1 found2 in
+    let some : length (flat_map numbers_octets ns) ≡ 0 → ⊥ = λ z. t.2 (ap length o.0 ∙ z) in
+    let same : sequence (octet_string (family_octets family) ++ sequence b.0) ≡ block_octets family ns =
+    ap (λ (x : List ℕ). sequence (octet_string (family_octets family) ++ sequence x)) o.0 ∙ block_of_entries family ns some in
+    let parts : Takes bytes (block_octets family ns) b.1 = record { parts = t.0.parts ∙ ap (λ (x : List ℕ). x ++ b.1) same; rest_octets = t.0.rest_octets } in
+    subst (λ (q : List Numbers × List ℕ). TakesFamily room family bytes q) (same_Some (ns, b.1) p e1) (parts, o.1, o.2))
 
 family_only : (room : ℕ) (family : Family) (bytes : List ℕ) (p : List Numbers × List ℕ) → AreOctets bytes → family_at room family bytes ≡ Some p → TakesFamily room family bytes p
 unfolding family_at
@@ -173,18 +173,18 @@ pub blocks_only : (bytes : List ℕ) (ns : List Numbers) → AreOctets bytes →
 unfolding blocks_of
 blocks_only bytes ns octets e =
     option_and_then_some (λ (four : List Numbers × List ℕ). family_at (64 - length four.0) V6 four.1 >>= λ six. cond (eqb (length six.1) 0) (Some (four.0 ++ six.0)) None) (family_at 64 V4 bytes) ns e (λ four found e1.
-      option_and_then_some (λ (six : List Numbers × List ℕ). cond (eqb (length six.1) 0) (Some (four.0 ++ six.0)) None) (family_at (64 - length four.0) V6 four.1) ns e1 (λ six found2 e2.
-        let f = family_only 64 V4 bytes four octets found in
-        let s = family_only (64 - length four.0) V6 four.1 six f.0.rest_octets found2 in
-        elim (cases_eq (length six.1) 0) [
-          | inr more ↦ let e3 = rw (ne_eqb (length six.1) 0 more) at e2 in absurd cc
-          | inl none ↦
-              let e3 = rw (eq-eqb (length six.1) 0 none) at e2 in
-              let nothing : six.1 ≡ [] = nil_from_length six.1 none in
-              let second : four.1 ≡ block_octets V6 six.0 = s.0.parts ∙ ap (λ (r : List ℕ). block_octets V6 six.0 ++ r) nothing ∙ append-nil (block_octets V6 six.0) in
-              let whole_of : bytes ≡ blocks_octets four.0 six.0 = f.0.parts ∙ ap (λ (r : List ℕ). block_octets V4 four.0 ++ r) second in
-              record { four = four.0; six = six.0; are = record { four_are = f.1; six_are = s.1; few = omega (arith, f.2, s.2) }; all_of = sym (same_Some (four.0 ++ six.0) ns e3); parts = whole_of }
-        ]))
+    option_and_then_some (λ (six : List Numbers × List ℕ). cond (eqb (length six.1) 0) (Some (four.0 ++ six.0)) None) (family_at (64 - length four.0) V6 four.1) ns e1 (λ six found2 e2.
+    let f = family_only 64 V4 bytes four octets found in
+    let s = family_only (64 - length four.0) V6 four.1 six f.0.rest_octets found2 in
+    elim (cases_eq (length six.1) 0) [
+      | inr more ↦ let e3 = rw (ne_eqb (length six.1) 0 more) at e2 in absurd cc
+      | inl none ↦
+          let e3 = rw (eq-eqb (length six.1) 0 none) at e2 in
+          let nothing : six.1 ≡ [] = nil_from_length six.1 none in
+          let second : four.1 ≡ block_octets V6 six.0 = s.0.parts ∙ ap (λ (r : List ℕ). block_octets V6 six.0 ++ r) nothing ∙ append-nil (block_octets V6 six.0) in
+          let whole_of : bytes ≡ blocks_octets four.0 six.0 = f.0.parts ∙ ap (λ (r : List ℕ). block_octets V4 four.0 ++ r) second in
+          record { four = four.0; six = six.0; are = record { four_are = f.1; six_are = s.1; few = omega (arith, f.2, s.2) }; all_of = sym (same_Some (four.0 ++ six.0) ns e3); parts = whole_of }
+    ]))
 
 -- ---- the content
 
@@ -208,7 +208,7 @@ unfolding content_of fields_of
 content_again number four six small are =
     let fields : whole 48 (spelled number four six) ≡ Some (integer number ++ sequence (blocks_octets four six)) = whole_again 48 (integer number ++ sequence (blocks_octets four six)) (length-fields number four six are) in
     let asn : element_at 2 (integer number ++ sequence (blocks_octets four six)) ≡ Some (be_octets (integer_len number) number, sequence (blocks_octets four six)) =
-        element_again 2 (be_octets (integer_len number) number) (sequence (blocks_octets four six)) (omega (arith, length-be_octets (integer_len number) number, integer_len_bound number)) in
+    element_again 2 (be_octets (integer_len number) number) (sequence (blocks_octets four six)) (omega (arith, length-be_octets (integer_len number) number, integer_len_bound number)) in
     let blocks : whole 48 (sequence (blocks_octets four six)) ≡ Some (blocks_octets four six) = whole_again 48 (blocks_octets four six) (omega (arith, length-blocks four six are)) in
     rw (fields, asn, integer_again number small, blocks, blocks_again four six are) refl
 
@@ -224,24 +224,24 @@ fields_only : (bytes : List ℕ) (p : ℕ × List ℕ) → AreOctets bytes → f
 unfolding fields_of
 fields_only bytes p octets e =
     option_and_then_some (λ (fields : List ℕ). element_at 2 fields >>= λ asn. integer_of asn.0 >>= λ number. whole 48 asn.1 >>= λ blocks. Some (number, blocks)) (whole 48 bytes) p e (λ fields found e1.
-      option_and_then_some (λ (asn : List ℕ × List ℕ). integer_of asn.0 >>= λ number. whole 48 asn.1 >>= λ blocks. Some (number, blocks)) (element_at 2 fields) p e1 (λ asn found2 e2.
-        option_and_then_some (λ (number : ℕ). whole 48 asn.1 >>= λ blocks. Some (number, blocks)) (integer_of asn.0) p e2 (λ number found3 e3.
-          option_and_then_some (λ (blocks : List ℕ). Some (number, blocks)) (whole 48 asn.1) p e3 (λ blocks found4 e4.
-            let w = whole_only 48 bytes fields octets found in
-            let a = element_only 2 fields asn w.1 found2 in
-            let i = integer_only asn.0 number a.1 found3 in
-            let x = whole_only 48 asn.1 blocks a.0.rest_octets found4 in
-            let inner : fields ≡ integer number ++ sequence blocks =
-                a.0.parts ∙ ap (λ (c : List ℕ). element 2 c ++ asn.1) i.0 ∙ ap (λ (c : List ℕ). integer number ++ c) x.0 in
-            subst (λ (q : ℕ × List ℕ). (bytes ≡ sequence (integer q.0 ++ sequence q.1)) × (q.0 < 2 ^ 32) × AreOctets q.1) (same_Some (number, blocks) p e4)
-                (w.0 ∙ ap (λ (c : List ℕ). sequence c) inner, i.1, x.1)))))
+    option_and_then_some (λ (asn : List ℕ × List ℕ). integer_of asn.0 >>= λ number. whole 48 asn.1 >>= λ blocks. Some (number, blocks)) (element_at 2 fields) p e1 (λ asn found2 e2.
+    option_and_then_some (λ (number : ℕ). whole 48 asn.1 >>= λ blocks. Some (number, blocks)) (integer_of asn.0) p e2 (λ number found3 e3.
+    option_and_then_some (λ (blocks : List ℕ). Some (number, blocks)) (whole 48 asn.1) p e3 (λ blocks found4 e4.
+    let w = whole_only 48 bytes fields octets found in
+    let a = element_only 2 fields asn w.1 found2 in
+    let i = integer_only asn.0 number a.1 found3 in
+    let x = whole_only 48 asn.1 blocks a.0.rest_octets found4 in
+    let inner : fields ≡ integer number ++ sequence blocks =
+    a.0.parts ∙ ap (λ (c : List ℕ). element 2 c ++ asn.1) i.0 ∙ ap (λ (c : List ℕ). integer number ++ c) x.0 in
+    subst (λ (q : ℕ × List ℕ). (bytes ≡ sequence (integer q.0 ++ sequence q.1)) × (q.0 < 2 ^ 32) × AreOctets q.1) (same_Some (number, blocks) p e4)
+    (w.0 ∙ ap (λ (c : List ℕ). sequence c) inner, i.1, x.1)))))
 
 pub content_only : (bytes : List ℕ) (p : ℕ × List Numbers) → AreOctets bytes → content_of bytes ≡ Some p → ReadsContent bytes p.0 p.1
 unfolding content_of
 content_only bytes p octets e =
     option_and_then_some (λ (fields : ℕ × List ℕ). blocks_of fields.1 >>= λ entries. Some (fields.0, entries)) (fields_of bytes) p e (λ fields found e1.
-      option_and_then_some (λ (entries : List Numbers). Some (fields.0, entries)) (blocks_of fields.1) p e1 (λ entries found2 e2.
-        let f = fields_only bytes fields octets found in
-        let b = blocks_only fields.1 entries f.2 found2 in
-        subst (λ (q : ℕ × List Numbers). ReadsContent bytes q.0 q.1) (same_Some (fields.0, entries) p e2)
-            (record { four = b.four; six = b.six; are = b.are; all_of = b.all_of; small = f.1; parts = f.0 ∙ ap (λ (c : List ℕ). sequence (integer fields.0 ++ sequence c)) b.parts })))
+    option_and_then_some (λ (entries : List Numbers). Some (fields.0, entries)) (blocks_of fields.1) p e1 (λ entries found2 e2.
+    let f = fields_only bytes fields octets found in
+    let b = blocks_only fields.1 entries f.2 found2 in
+    subst (λ (q : ℕ × List Numbers). ReadsContent bytes q.0 q.1) (same_Some (fields.0, entries) p e2)
+    (record { four = b.four; six = b.six; are = b.are; all_of = b.all_of; small = f.1; parts = f.0 ∙ ap (λ (c : List ℕ). sequence (integer fields.0 ++ sequence c)) b.parts })))

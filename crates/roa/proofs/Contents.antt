@@ -140,7 +140,7 @@ content_numbers content = (content.asn.0, map numbers content.entries)
 pub is_read : (content : RouteOriginAttestation) → IsContent content → content_of (content_octets content) ≡ Some (content_numbers content)
 is_read content is =
     let all_of : map numbers (of_family V4 content.entries) ++ map numbers (of_family V6 content.entries) ≡ map numbers content.entries =
-        sym (map-append numbers (of_family V4 content.entries) (of_family V6 content.entries)) ∙ ap (λ (es : List Entry). map numbers es) (families_joined content.entries is.entries.rising) in
+    sym (map-append numbers (of_family V4 content.entries) (of_family V6 content.entries)) ∙ ap (λ (es : List Entry). map numbers es) (families_joined content.entries is.entries.rising) in
     ap content_of (content_octets-numbers content)
     ∙ content_again content.asn.0 (map numbers (of_family V4 content.entries)) (map numbers (of_family V6 content.entries)) is.asn (are_blocks content.entries is.entries)
     ∙ ap (λ (ns : List Numbers). Some (content.asn.0, ns)) all_of
@@ -190,8 +190,8 @@ was_read content octets are e =
     let r = content_only octets (content_numbers content) are e in
     let s = splits content.entries r.four r.six r.all_of r.are.four_are r.are.six_are in
     let written : octets ≡ content_octets content = r.parts ∙ sym (content_octets-numbers content
-        ∙ ap (λ (ns : List Numbers). spelled content.asn.0 ns (map numbers (of_family V6 content.entries))) s.four_is
-        ∙ ap (λ (ns : List Numbers). spelled content.asn.0 r.four ns) s.six_is) in
+    ∙ ap (λ (ns : List Numbers). spelled content.asn.0 ns (map numbers (of_family V6 content.entries))) s.four_is
+    ∙ ap (λ (ns : List Numbers). spelled content.asn.0 r.four ns) s.six_is) in
     record { encodes = written; in_range = s.in_range; few = omega (arith, length-numbers content.entries, ap length r.all_of, length-append r.four r.six, r.are.few) }
 
 -- ---- contents with the same numbers
@@ -234,7 +234,7 @@ fields content = integer content.asn.0 ++ sequence (roa_ip_address_family V4 (of
 fields_short : (content : RouteOriginAttestation) → IsContent content → length (fields content) < 65536
 fields_short content is =
     rw (block-numbers V4 (of_family V4 content.entries), block-numbers V6 (of_family V6 content.entries))
-        (length-fields content.asn.0 (map numbers (of_family V4 content.entries)) (map numbers (of_family V6 content.entries)) (are_blocks content.entries is.entries))
+    (length-fields content.asn.0 (map numbers (of_family V4 content.entries)) (map numbers (of_family V6 content.entries)) (are_blocks content.entries is.entries))
 
 pub is_prefix_free : (a b : RouteOriginAttestation) (s t x y : List ℕ) → IsContent a → IsContent b → Encodes a s → Encodes b t → s ++ x ≡ t ++ y → (a ≡ b) × (s ≡ t) × (x ≡ y)
 unfolding content_octets

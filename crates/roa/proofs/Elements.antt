@@ -98,17 +98,17 @@ contents_only : (bytes : List ℕ) (p : List ℕ × List ℕ) → AreOctets byte
 unfolding contents_at
 contents_only bytes p octets e =
     option_and_then_some (λ (n : ℕ × List ℕ). cond (ltb (length n.1) n.0) None (Some (take n.0 n.1, drop n.0 n.1))) (length_at bytes) p e (λ n found e1.
-      let l = length_only bytes n octets found in
-      elim (cases_lt (length n.1) n.0) [
-        | inl short ↦ let e' = rw (lt-ltb (length n.1) n.0 short) at e1 in absurd cc
-        | inr long ↦
-            let e' = rw (le-ltb (length n.1) n.0 long) at e1 in
-            let len : length (take n.0 n.1) ≡ n.0 = omega (arith, length-take n.0 n.1) in
-            let second : Takes n.1 (take n.0 n.1) (drop n.0 n.1) = record { parts = sym (take-append-drop n.0 n.1); rest_octets = AreOctets-drop n.0 n.1 l.0.rest_octets } in
-            let both = Takes-then bytes (length_octets n.0) n.1 (take n.0 n.1) (drop n.0 n.1) l.0 second in
-            let made : Takes bytes (length_octets (length (take n.0 n.1)) ++ take n.0 n.1) (drop n.0 n.1) = subst (λ (k : ℕ). Takes bytes (length_octets k ++ take n.0 n.1) (drop n.0 n.1)) (sym len) both in
-            subst (λ (q : List ℕ × List ℕ). Takes bytes (length_octets (length q.0) ++ q.0) q.1 × AreOctets q.0 × (length q.0 < 65536)) (same_Some (take n.0 n.1, drop n.0 n.1) p e') (made, AreOctets-take n.0 n.1 l.0.rest_octets, omega (arith, len, l.1))
-      ])
+    let l = length_only bytes n octets found in
+    elim (cases_lt (length n.1) n.0) [
+      | inl short ↦ let e' = rw (lt-ltb (length n.1) n.0 short) at e1 in absurd cc
+      | inr long ↦
+          let e' = rw (le-ltb (length n.1) n.0 long) at e1 in
+          let len : length (take n.0 n.1) ≡ n.0 = omega (arith, length-take n.0 n.1) in
+          let second : Takes n.1 (take n.0 n.1) (drop n.0 n.1) = record { parts = sym (take-append-drop n.0 n.1); rest_octets = AreOctets-drop n.0 n.1 l.0.rest_octets } in
+          let both = Takes-then bytes (length_octets n.0) n.1 (take n.0 n.1) (drop n.0 n.1) l.0 second in
+          let made : Takes bytes (length_octets (length (take n.0 n.1)) ++ take n.0 n.1) (drop n.0 n.1) = subst (λ (k : ℕ). Takes bytes (length_octets k ++ take n.0 n.1) (drop n.0 n.1)) (sym len) both in
+          subst (λ (q : List ℕ × List ℕ). Takes bytes (length_octets (length q.0) ++ q.0) q.1 × AreOctets q.0 × (length q.0 < 65536)) (same_Some (take n.0 n.1, drop n.0 n.1) p e') (made, AreOctets-take n.0 n.1 l.0.rest_octets, omega (arith, len, l.1))
+    ])
 
 pub element_only : (tag : ℕ) (bytes : List ℕ) (p : List ℕ × List ℕ) → AreOctets bytes → element_at tag bytes ≡ Some p → TakesElement tag bytes p
 unfolding element_at
@@ -133,12 +133,12 @@ pub whole_only : (tag : ℕ) (bytes contents : List ℕ) → AreOctets bytes →
 unfolding whole
 whole_only tag bytes contents octets e =
     option_and_then_some (λ (p : List ℕ × List ℕ). cond (eqb (length p.1) 0) (Some p.0) None) (element_at tag bytes) contents e (λ p found e1.
-      elim (cases_eq (length p.1) 0) [
-        | inl none ↦
-            let e' = rw (eq-eqb (length p.1) 0 none) at e1 in
-            let t = element_only tag bytes p octets found in
-            let nothing : p.1 ≡ [] = nil_from_length p.1 none in
-            let parts : bytes ≡ element tag p.0 = t.0.parts ∙ ap (λ (r : List ℕ). element tag p.0 ++ r) nothing ∙ append-nil (element tag p.0) in
-            subst (λ (c : List ℕ). (bytes ≡ element tag c) × AreOctets c × (length c < 65536)) (same_Some p.0 contents e') (parts, t.1, t.2)
-        | inr some ↦ let e' = rw (ne_eqb (length p.1) 0 some) at e1 in absurd cc
-      ])
+    elim (cases_eq (length p.1) 0) [
+      | inl none ↦
+          let e' = rw (eq-eqb (length p.1) 0 none) at e1 in
+          let t = element_only tag bytes p octets found in
+          let nothing : p.1 ≡ [] = nil_from_length p.1 none in
+          let parts : bytes ≡ element tag p.0 = t.0.parts ∙ ap (λ (r : List ℕ). element tag p.0 ++ r) nothing ∙ append-nil (element tag p.0) in
+          subst (λ (c : List ℕ). (bytes ≡ element tag c) × AreOctets c × (length c < 65536)) (same_Some p.0 contents e') (parts, t.1, t.2)
+      | inr some ↦ let e' = rw (ne_eqb (length p.1) 0 some) at e1 in absurd cc
+    ])

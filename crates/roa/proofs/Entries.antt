@@ -61,18 +61,18 @@ max_only family bits octets max are small e =
       | inr some ↦
           let e' = rw (ne_eqb (length octets) 0 some) at e in
           option_and_then_some (λ (contents : List ℕ). integer_of contents >>= λ m. cond (ltb bits m && leb m (width family)) (Some m) None) (whole 2 octets) max e' (λ contents found e1.
-            option_and_then_some (λ (m : ℕ). cond (ltb bits m && leb m (width family)) (Some m) None) (integer_of contents) max e1 (λ m found' e2.
-              let w = whole_only 2 octets contents are found in
-              let i = integer_only contents m w.1 found' in
-              elim (cases_Bool (ltb bits m && leb m (width family))) [
-                | inl yes' ↦
-                    let e3 = rw yes' at e2 in
-                    let both = and_parts (ltb bits m) (leb m (width family)) yes' in
-                    let more : bits < m = ltb-true bits m both.0 in
-                    let parts : octets ≡ max_length bits m = rw both.0 (w.0 ∙ ap (λ (c : List ℕ). element 2 c) i.0) in
-                    subst (λ (k : ℕ). (octets ≡ max_length bits k) × (bits ≤ k) × (k ≤ width family)) (same_Some m max e3) (parts, omega arith, leb-true m (width family) both.1)
-                | inr no' ↦ let e3 = rw no' at e2 in absurd cc
-              ]))
+          option_and_then_some (λ (m : ℕ). cond (ltb bits m && leb m (width family)) (Some m) None) (integer_of contents) max e1 (λ m found' e2.
+          let w = whole_only 2 octets contents are found in
+          let i = integer_only contents m w.1 found' in
+          elim (cases_Bool (ltb bits m && leb m (width family))) [
+            | inl yes' ↦
+                let e3 = rw yes' at e2 in
+                let both = and_parts (ltb bits m) (leb m (width family)) yes' in
+                let more : bits < m = ltb-true bits m both.0 in
+                let parts : octets ≡ max_length bits m = rw both.0 (w.0 ∙ ap (λ (c : List ℕ). element 2 c) i.0) in
+                subst (λ (k : ℕ). (octets ≡ max_length bits k) × (bits ≤ k) × (k ≤ width family)) (same_Some m max e3) (parts, omega arith, leb-true m (width family) both.1)
+            | inr no' ↦ let e3 = rw no' at e2 in absurd cc
+          ]))
     ]
 
 -- ---- one entry
@@ -82,7 +82,7 @@ unfolding entry_of
 entry_of_again family n is =
     let size : length (bit_contents family n.first n.length) < 65536 = omega (arith, length-bit_contents family n.first n.length is.is_prefix.0) in
     let bits : element_at 3 (element 3 (bit_contents family n.first n.length) ++ max_length n.length n.max) ≡ Some (bit_contents family n.first n.length, max_length n.length n.max) =
-        element_again 3 (bit_contents family n.first n.length) (max_length n.length n.max) size in
+    element_again 3 (bit_contents family n.first n.length) (max_length n.length n.max) size in
     let made : n ≡ record { family = family; first = n.first; length = n.length; max = n.max } = ap (λ (f : Family). record { family = f; first = n.first; length = n.length; max = n.max }) is.same in
     rw (bits, prefix_again family n.first n.length is.is_prefix, max_again family n.length n.max is.long is.fits) (ap (λ (m : Numbers). Some m) (sym made))
 
@@ -90,23 +90,23 @@ entry_of_only : (family : Family) (contents : List ℕ) (n : Numbers) → AreOct
 unfolding entry_of
 entry_of_only family contents n are e =
     option_and_then_some (λ (bits : List ℕ × List ℕ). prefix_of family bits.0 >>= λ p. max_of family p.1 bits.1 >>= λ max. Some (record { family = family; first = p.0; length = p.1; max = max })) (element_at 3 contents) n e (λ bits found e1.
-      option_and_then_some (λ (p : ℕ × ℕ). max_of family p.1 bits.1 >>= λ max. Some (record { family = family; first = p.0; length = p.1; max = max })) (prefix_of family bits.0) n e1 (λ p found_p e2.
-        option_and_then_some (λ (max : ℕ). Some (record { family = family; first = p.0; length = p.1; max = max })) (max_of family p.1 bits.1) n e2 (λ max found_max e3.
-          let t = element_only 3 contents bits are found in
-          let q = prefix_only family bits.0 p t.1 found_p in
-          let m = max_only family p.1 bits.1 max t.0.rest_octets q.1.0 found_max in
-          let made : Numbers = record { family = family; first = p.0; length = p.1; max = max } in
-          let parts : contents ≡ bit_string family p.0 p.1 ++ max_length p.1 max = t.0.parts ∙ ap (λ (c : List ℕ). element 3 c ++ bits.1) q.0 ∙ ap (λ (c : List ℕ). bit_string family p.0 p.1 ++ c) m.0 in
-          let is : IsEntry family made = record { same = refl; is_prefix = q.1; long = m.1; fits = m.2 } in
-          subst (λ (k : Numbers). (contents ≡ bit_string family k.first k.length ++ max_length k.length k.max) × IsEntry family k) (same_Some made n e3) (parts, is))))
+    option_and_then_some (λ (p : ℕ × ℕ). max_of family p.1 bits.1 >>= λ max. Some (record { family = family; first = p.0; length = p.1; max = max })) (prefix_of family bits.0) n e1 (λ p found_p e2.
+    option_and_then_some (λ (max : ℕ). Some (record { family = family; first = p.0; length = p.1; max = max })) (max_of family p.1 bits.1) n e2 (λ max found_max e3.
+    let t = element_only 3 contents bits are found in
+    let q = prefix_only family bits.0 p t.1 found_p in
+    let m = max_only family p.1 bits.1 max t.0.rest_octets q.1.0 found_max in
+    let made : Numbers = record { family = family; first = p.0; length = p.1; max = max } in
+    let parts : contents ≡ bit_string family p.0 p.1 ++ max_length p.1 max = t.0.parts ∙ ap (λ (c : List ℕ). element 3 c ++ bits.1) q.0 ∙ ap (λ (c : List ℕ). bit_string family p.0 p.1 ++ c) m.0 in
+    let is : IsEntry family made = record { same = refl; is_prefix = q.1; long = m.1; fits = m.2 } in
+    subst (λ (k : Numbers). (contents ≡ bit_string family k.first k.length ++ max_length k.length k.max) × IsEntry family k) (same_Some made n e3) (parts, is))))
 
 pub entry_again : (family : Family) (n : Numbers) (rest : List ℕ) → IsEntry family n → entry_at family (numbers_octets n ++ rest) ≡ Some (n, rest)
 unfolding entry_at
 entry_again family n rest is =
     let size : length (bit_string n.family n.first n.length ++ max_length n.length n.max) < 65536 =
-        rw is.same (omega (arith, length-entry_contents family n.first n.length n.max is.is_prefix.0)) in
+    rw is.same (omega (arith, length-entry_contents family n.first n.length n.max is.is_prefix.0)) in
     let contents : element_at 48 (numbers_octets n ++ rest) ≡ Some (bit_string n.family n.first n.length ++ max_length n.length n.max, rest) =
-        element_again 48 (bit_string n.family n.first n.length ++ max_length n.length n.max) rest size in
+    element_again 48 (bit_string n.family n.first n.length ++ max_length n.length n.max) rest size in
     let entry : entry_of family (bit_string n.family n.first n.length ++ max_length n.length n.max) ≡ Some n = ap (λ (f : Family). entry_of family (bit_string f n.first n.length ++ max_length n.length n.max)) is.same ∙ entry_of_again family n is in
     rw (contents, entry) refl
 
@@ -114,11 +114,11 @@ pub entry_only : (family : Family) (bytes : List ℕ) (p : Numbers × List ℕ) 
 unfolding entry_at
 entry_only family bytes p are e =
     option_and_then_some (λ (c : List ℕ × List ℕ). entry_of family c.0 >>= λ n. Some (n, c.1)) (element_at 48 bytes) p e (λ c found e1.
-      option_and_then_some (λ (n : Numbers). Some (n, c.1)) (entry_of family c.0) p e1 (λ n found_n e2.
-        let t = element_only 48 bytes c are found in
-        let o = entry_of_only family c.0 n t.1 found_n in
-        let parts : Takes bytes (numbers_octets n) c.1 = record { parts = t.0.parts ∙ ap (λ (x : List ℕ). element 48 x ++ c.1) o.0 ∙ ap (λ (f : Family). roa_ip_address f n.first n.length n.max ++ c.1) (sym o.1.same); rest_octets = t.0.rest_octets } in
-        subst (λ (q : Numbers × List ℕ). Takes bytes (numbers_octets q.0) q.1 × IsEntry family q.0) (same_Some (n, c.1) p e2) (parts, o.1)))
+    option_and_then_some (λ (n : Numbers). Some (n, c.1)) (entry_of family c.0) p e1 (λ n found_n e2.
+    let t = element_only 48 bytes c are found in
+    let o = entry_of_only family c.0 n t.1 found_n in
+    let parts : Takes bytes (numbers_octets n) c.1 = record { parts = t.0.parts ∙ ap (λ (x : List ℕ). element 48 x ++ c.1) o.0 ∙ ap (λ (f : Family). roa_ip_address f n.first n.length n.max ++ c.1) (sym o.1.same); rest_octets = t.0.rest_octets } in
+    subst (λ (q : Numbers × List ℕ). Takes bytes (numbers_octets q.0) q.1 × IsEntry family q.0) (same_Some (n, c.1) p e2) (parts, o.1)))
 
 -- ---- the entries of a family
 
@@ -157,9 +157,9 @@ entries_only (suc room) family bytes ns are e =
       | inr some ↦
           let e' = rw (ne_eqb (length bytes) 0 some) at e in
           option_and_then_some (λ (entry : Numbers × List ℕ). entries_of room family entry.1 >>= λ others. Some (entry.0 ∷ others)) (entry_at family bytes) ns e' (λ entry found e1.
-            option_and_then_some (λ (others : List Numbers). Some (entry.0 ∷ others)) (entries_of room family entry.1) ns e1 (λ others found_others e2.
-              let t = entry_only family bytes entry are found in
-              let o = entries_only room family entry.1 others t.0.rest_octets found_others in
-              let parts : bytes ≡ flat_map numbers_octets (entry.0 ∷ others) = t.0.parts ∙ ap (λ (r : List ℕ). numbers_octets entry.0 ++ r) o.0 ∙ sym (flat_map-cons numbers_octets entry.0 others) in
-              subst (λ (ms : List Numbers). (bytes ≡ flat_map numbers_octets ms) × AllByRecursion (IsEntry family) ms × (length ms ≤ suc room)) (same_Some (entry.0 ∷ others) ns e2) (parts, (t.1, o.1), omega (arith, o.2))))
+          option_and_then_some (λ (others : List Numbers). Some (entry.0 ∷ others)) (entries_of room family entry.1) ns e1 (λ others found_others e2.
+          let t = entry_only family bytes entry are found in
+          let o = entries_only room family entry.1 others t.0.rest_octets found_others in
+          let parts : bytes ≡ flat_map numbers_octets (entry.0 ∷ others) = t.0.parts ∙ ap (λ (r : List ℕ). numbers_octets entry.0 ++ r) o.0 ∙ sym (flat_map-cons numbers_octets entry.0 others) in
+          subst (λ (ms : List Numbers). (bytes ≡ flat_map numbers_octets ms) × AllByRecursion (IsEntry family) ms × (length ms ≤ suc room)) (same_Some (entry.0 ∷ others) ns e2) (parts, (t.1, o.1), omega (arith, o.2))))
     ]

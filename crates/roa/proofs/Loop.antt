@@ -25,7 +25,7 @@ unfolding entries_of
 goes_on es e family rest after total lt some found so_far =
     let k : 64 - length es ≡ suc (64 - length (es ++ e ∷ [])) = omega (arith, length-append es (e ∷ []), lt) in
     let one : with_front es (entries_of (64 - length es) family rest) ≡ with_front (es ++ e ∷ []) (entries_of (64 - length (es ++ e ∷ [])) family after) =
-        rw (k, ne_eqb (length rest) 0 some, found) (regroup es e (entries_of (64 - length (es ++ e ∷ [])) family after)) in
+    rw (k, ne_eqb (length rest) 0 some, found) (regroup es e (entries_of (64 - length (es ++ e ∷ [])) family after)) in
     sym one ∙ so_far
 
 none_before : (es : List Entry) (read : Option (List Numbers)) → with_front es read ≡ None → read ≡ None

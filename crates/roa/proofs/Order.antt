@@ -32,9 +32,9 @@ Rises-from_index [] h = tt
 Rises-from_index (a ∷ []) h = tt
 Rises-from_index (a ∷ b ∷ rest) h =
     let tail : AllAdjacentBelow (λ x y. is_before x y ≡ true) (b ∷ rest) (length (b ∷ rest)) = λ k d lt.
-        let e : suc k + 1 ≡ suc (k + 1) = omega arith in
-        let at : is_before (get_or (b ∷ rest) k d) (get_or (a ∷ b ∷ rest) (suc k + 1) d) ≡ true = h (suc k) d (omega (arith, lt)) in
-        subst (λ (j : ℕ). is_before (get_or (b ∷ rest) k d) (get_or (a ∷ b ∷ rest) j d) ≡ true) e at in
+    let e : suc k + 1 ≡ suc (k + 1) = omega arith in
+    let at : is_before (get_or (b ∷ rest) k d) (get_or (a ∷ b ∷ rest) (suc k + 1) d) ≡ true = h (suc k) d (omega (arith, lt)) in
+    subst (λ (j : ℕ). is_before (get_or (b ∷ rest) k d) (get_or (a ∷ b ∷ rest) j d) ≡ true) e at in
     (less_from_before (entry_order a b) (h 0 a (omega arith)), Rises-from_index (b ∷ rest) tail)
 
 Rises-at : (es : List Entry) (k : ℕ) (d : Entry) → Rises es → k + 1 < length es → entry_order (get_or es k d) (get_or es (k + 1) d) ≡ Less
@@ -50,10 +50,13 @@ pub rises_from_answer : (es : List Entry) (r : Bool) → IsAllAdjacentAnswer (λ
 rises_from_answer [] true h = (λ _. tt, λ _. refl)
 rises_from_answer [] false h = absurd (omega (arith, h.1))
 rises_from_answer (e ∷ es) true h = (λ _. Rises-from_index (e ∷ es) (λ k d lt. sym (h k d lt)), λ _. refl)
-rises_from_answer (e ∷ es) false h = (λ t. absurd cc, λ rising.
-    let less : entry_order (get_or (e ∷ es) h.0 e) (get_or (e ∷ es) (h.0 + 1) e) ≡ Less = Rises-at (e ∷ es) h.0 e rising h.1 in
-    let before : is_before (get_or (e ∷ es) h.0 e) (get_or (e ∷ es) (h.0 + 1) e) ≡ true = ap is_lt less in
-    absurd (both_ways (is_before (get_or (e ∷ es) h.0 e) (get_or (e ∷ es) (h.0 + 1) e)) (sym (h.2 e)) before))
+rises_from_answer (e ∷ es) false h = (
+  λ t. absurd cc,
+  λ rising.
+      let less : entry_order (get_or (e ∷ es) h.0 e) (get_or (e ∷ es) (h.0 + 1) e) ≡ Less = Rises-at (e ∷ es) h.0 e rising h.1 in
+      let before : is_before (get_or (e ∷ es) h.0 e) (get_or (e ∷ es) (h.0 + 1) e) ≡ true = ap is_lt less in
+      absurd (both_ways (is_before (get_or (e ∷ es) h.0 e) (get_or (e ∷ es) (h.0 + 1) e)) (sym (h.2 e)) before),
+)
 
 -- ---- the laws of the order
 
@@ -90,9 +93,9 @@ same_from_order a b e =
     let first = equal_then (nat_cmp a.prefix.first b.prefix.first) _ family.1 in
     let length_max = equal_then (nat_cmp a.prefix.length b.prefix.length) (nat_cmp a.max b.max) first.1 in
     and_from _ _
-        (and_from _ _ (family_eq-same a.prefix.family b.prefix.family (nat_cmp-Equal _ _ family.0))
-            (and_from _ _ (eq-eqb _ _ (nat_cmp-Equal a.prefix.first b.prefix.first first.0)) (eq-eqb _ _ (nat_cmp-Equal a.prefix.length b.prefix.length length_max.0))))
-        (eq-eqb _ _ (nat_cmp-Equal a.max b.max length_max.1))
+    (and_from _ _ (family_eq-same a.prefix.family b.prefix.family (nat_cmp-Equal _ _ family.0))
+    (and_from _ _ (eq-eqb _ _ (nat_cmp-Equal a.prefix.first b.prefix.first first.0)) (eq-eqb _ _ (nat_cmp-Equal a.prefix.length b.prefix.length length_max.0))))
+    (eq-eqb _ _ (nat_cmp-Equal a.max b.max length_max.1))
 
 entry_eq-itself : (a : Entry) → entry_eq a a ≡ true
 entry_eq-itself a =
@@ -127,9 +130,9 @@ sorted_from_index [] h = tt
 sorted_from_index (a ∷ []) h = tt
 sorted_from_index (a ∷ b ∷ rest) h =
     let tail : IsSorted entry_order (b ∷ rest) = λ k d low lt.
-        let e : suc k + 1 ≡ suc (k + 1) = omega arith in
-        let at : is_before (get_or (a ∷ b ∷ rest) (suc k + 1) d) (get_or (b ∷ rest) k d) ≡ false = h (suc k) d (omega arith) (omega (arith, lt)) in
-        subst (λ (j : ℕ). is_before (get_or (a ∷ b ∷ rest) j d) (get_or (b ∷ rest) k d) ≡ false) e at in
+    let e : suc k + 1 ≡ suc (k + 1) = omega arith in
+    let at : is_before (get_or (a ∷ b ∷ rest) (suc k + 1) d) (get_or (b ∷ rest) k d) ≡ false = h (suc k) d (omega arith) (omega (arith, lt)) in
+    subst (λ (j : ℕ). is_before (get_or (a ∷ b ∷ rest) j d) (get_or (b ∷ rest) k d) ≡ false) e at in
     (h 0 a (omega arith) (omega arith), sorted_from_index (b ∷ rest) tail)
 
 -- some entry stands there twice

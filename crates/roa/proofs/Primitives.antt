@@ -55,7 +55,7 @@ integer_again n h =
     let value : be_value (be_octets (integer_len n) n) ≡ n = be_value-be_octets (integer_len n) n (integer_len_fits n h) in
     let short : ltb 5 (length (be_octets (integer_len n) n)) ≡ false = le-ltb _ _ (rw len (integer_len_bound n)) in
     let fits : (ltb (be_value (be_octets (integer_len n) n)) (2 ^ 32) && eqb (length (be_octets (integer_len n) n)) (integer_len (be_value (be_octets (integer_len n) n)))) ≡ true =
-        and_from _ _ (lt-ltb _ _ (rw value h)) (eq-eqb _ _ (len ∙ ap integer_len (sym value))) in
+    and_from _ _ (lt-ltb _ _ (rw value h)) (eq-eqb _ _ (len ∙ ap integer_len (sym value))) in
     rw (short, fits) (ap (λ (m : ℕ). Some m) value)
 
 pub integer_only : (c : List ℕ) (n : ℕ) → AreOctets c → integer_of c ≡ Some n → (c ≡ be_octets (integer_len n) n) × (n < 2 ^ 32)
@@ -170,9 +170,9 @@ prefix_only family (unused ∷ bs) p octets e =
                     let unused_is : 8 * length bs - (8 * length bs - unused) ≡ unused = omega arith in
                     let shifted : first_of family bs / 2 ^ (width family - 8 * length bs) ≡ be_value bs = shl-shr (be_value bs) (width family - 8 * length bs) in
                     let parts : unused ∷ bs ≡ bit_contents family (first_of family bs) (8 * length bs - unused) =
-                        rw (count, unused_is, shifted, be_octets-be_value bs octets.1) refl in
+                    rw (count, unused_is, shifted, be_octets-be_value bs octets.1) refl in
                     subst (λ (q : ℕ × ℕ). (unused ∷ bs ≡ bit_contents family q.0 q.1) × IsPrefix family q.0 q.1) (same_Some (first_of family bs, 8 * length bs - unused) p e2)
-                        (parts, (omega arith, first_below family bs octets.1 fit, zeros))
+                    (parts, (omega arith, first_below family bs octets.1 fit, zeros))
               ]
         ]
       ]
@@ -190,7 +190,7 @@ prefix_made family unused bs first bits (Some p) are few narrow long first_is bi
 prefix_made family unused bs first bits None are few narrow long first_is bits_is some parts =
     let fit : 8 * length bs ≤ width family = omega (arith, narrow) in
     let set' : first_of family bs % 2 ^ (width family - (8 * length bs - unused)) ≡ 0 → ⊥ = λ zeros.
-        false≢true (some.1 (omega (arith, bits_is, fit), rw first_is (first_below family bs are fit), rw (first_is, bits_is) zeros)) in
+    false≢true (some.1 (omega (arith, bits_is, fit), rw first_is (first_below family bs are fit), rw (first_is, bits_is) zeros)) in
     rw (le-ltb 7 unused few, le-ltb (width family / 8) (length bs) narrow, le-ltb (8 * length bs) unused long, ne_eqb _ 0 set') refl
 
 -- ---- writing

@@ -24,9 +24,9 @@ pub written_more : (old out : List ℕ) (family : Family) (es : List Entry) (i :
     → out ≡ old ++ written family (take i es) → out ++ entry_octets e ≡ old ++ written family (take (i + 1) es)
 written_more old out family es i e lt is same so_far =
     let one : written family (take (i + 1) es) ≡ written family (take i es) ++ entry_octets e =
-        ap (flat_map entry_octets) (more family es i e true lt is same)
-        ∙ flat_map-append entry_octets (of_family family (take i es)) (e ∷ [])
-        ∙ ap (λ (x : List ℕ). written family (take i es) ++ x) (flat_map-cons entry_octets e [] ∙ append-nil (entry_octets e)) in
+    ap (flat_map entry_octets) (more family es i e true lt is same)
+    ∙ flat_map-append entry_octets (of_family family (take i es)) (e ∷ [])
+    ∙ ap (λ (x : List ℕ). written family (take i es) ++ x) (flat_map-cons entry_octets e [] ∙ append-nil (entry_octets e)) in
     ap (λ (x : List ℕ). x ++ entry_octets e) so_far ∙ append_assoc old (written family (take i es)) (entry_octets e) ∙ ap (λ (x : List ℕ). old ++ x) (sym one)
 
 pub written_same : (old out : List ℕ) (family : Family) (es : List Entry) (i : ℕ) (e : Entry) → i < length es → e ≡ get_or es i e → family_eq family e.prefix.family ≡ false

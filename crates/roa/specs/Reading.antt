@@ -72,15 +72,15 @@ prefix_of family (unused ∷ octets) =
     else (if nat_lt (width family / 8) (length octets) then None
     else (if nat_lt (8 * length octets) unused then None
     else (let first : ℕ = be_value octets * 2 ^ (width family - 8 * length octets) in
-          let bits : ℕ = 8 * length octets - unused in
-          if first % 2 ^ (width family - bits) == 0 then Some (first, bits) else None)))
+    let bits : ℕ = 8 * length octets - unused in
+    if first % 2 ^ (width family - bits) == 0 then Some (first, bits) else None)))
 
 -- the greatest length, by what stands after the BIT STRING: where nothing does, the prefix's length
 unfoldable pub max_of : Family → ℕ → List ℕ → Option ℕ
 max_of family bits octets =
     if length octets == 0 then Some bits
     else (whole 2 octets >>= λ contents. integer_of contents >>= λ max.
-        if nat_lt bits max && nat_le max (width family) then Some max else None)
+    if nat_lt bits max && nat_le max (width family) then Some max else None)
 
 -- an entry, by the contents of its SEQUENCE
 unfoldable pub entry_of : Family → List ℕ → Option Numbers
@@ -109,7 +109,7 @@ block_at family bytes = do
   block ← element_at 48 bytes
   octets ← element_at 4 block.0
   if pointwise nat_eq octets.0 (family_octets family) then (whole 48 octets.1 >>= λ addresses.
-    if length addresses == 0 then None else Some (addresses, block.1)) else None
+      if length addresses == 0 then None else Some (addresses, block.1)) else None
 
 abbrev pub entries_after : ℕ → Family → List ℕ → Option (List ℕ × List ℕ) → Option (List Numbers × List ℕ)
 entries_after room family bytes None = Some ([], bytes)

@@ -4,7 +4,8 @@ ghost use Rattle.roa.specs.Reading.{Gives, be_value, length_at, contents_at, ele
 ghost use Rattle.roa.specs.RoaContent.{RouteOriginAttestation, IsContent, Encodes};
 
 use crate::der::{
-    BIT_STRING, INTEGER, OCTET_STRING, ONE_OCTET_LENGTH, SEQUENCE, TWO_OCTET_LENGTH, family_octets, integer_len,
+    BIT_STRING, INTEGER, OCTET_STRING, ONE_OCTET_LENGTH, SEQUENCE, TWO_OCTET_LENGTH, family_octets,
+    integer_len,
 };
 use crate::{Content, DecodeFault, Entry};
 use addr::{Asn, Family, Prefix};
@@ -93,7 +94,9 @@ fn first_address(family: Family, octets: &[u8]) -> u128
     ensures { result ≡ be_value octets.now * 2 ^ (width family - 8 * length octets.now) }
 {
     let missing_bits = usize::from(family.width()) - 8 * octets.len();
-    number_of(octets).checked_shl(missing_bits as u32).unwrap_or(0)
+    number_of(octets)
+        .checked_shl(missing_bits as u32)
+        .unwrap_or(0)
 }
 
 /// The prefix of a BIT STRING, by its contents.
@@ -151,11 +154,7 @@ fn take_entry(family: Family, octets: &[u8]) -> Option<(Entry, &[u8])>
 }
 
 /// Adds the entries of a family, which are all of the octets.
-fn read_entries(
-    family: Family,
-    octets: &[u8],
-    entries: &mut Vec<Entry>,
-) -> Result<(), DecodeFault>
+fn read_entries(family: Family, octets: &[u8], entries: &mut Vec<Entry>) -> Result<(), DecodeFault>
     requires { length entries.old.items ≤ 64 }
     ensures adds { Adds result entries.old.items entries.new.items (entries_of (64 - length entries.old.items) family octets.now) }
     ensures few { length entries.new.items ≤ 64 }

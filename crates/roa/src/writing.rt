@@ -64,7 +64,10 @@ fn push_prefix(out: &mut Vec<u8>, prefix: &Prefix) -> Result<(), AllocError>
 {
     let len = (prefix.length + 7) / 8;
     let missing_bits = prefix.family.width() - 8 * len;
-    let first_octets = prefix.first.checked_shr(u32::from(missing_bits)).unwrap_or(0);
+    let first_octets = prefix
+        .first
+        .checked_shr(u32::from(missing_bits))
+        .unwrap_or(0);
     out.push(BIT_STRING)?;
     push_length(out, 1 + usize::from(len))?;
     out.push(8 * len - prefix.length)?;

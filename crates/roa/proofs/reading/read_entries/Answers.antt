@@ -8,14 +8,14 @@ use Rattle.roa.proofs.reading.read_entries.Goals as goal
 pub returns-then-len-eq-MAX_ENTRIES-clause-adds : goal.returns-then-len-eq-MAX_ENTRIES-clause-adds
 returns-then-len-eq-MAX_ENTRIES-clause-adds c =
     is_full c.args.entries.now.items c.loop-rest.entries.items c.args.family c.loop-rest.rest.now (entries_of (64 - length c.args.entries.now.items) c.args.family c.args.octets.now)
-        (omega arith) (eqb-false _ 0 (sym c.is_empty.ensures ∙ c.loop-rest-test.true)) c.loop-rest.invariant.so_far
+    (omega arith) (eqb-false _ 0 (sym c.is_empty.ensures ∙ c.loop-rest-test.true)) c.loop-rest.invariant.so_far
 
 pub returns-in_err-entry-clause-adds : goal.returns-in_err-entry-clause-adds
 returns-in_err-entry-clause-adds c =
     let p = err_from_is_err_and c.from_residual.result c.from_residual.ensures.1 in
     let none = read_failed (λ x. (numbers x.0, x.1.now)) c.take_entry.result (entry_at c.args.family c.loop-rest.rest.now) c.in_err-entry.field-0.0 c.take_entry.ensures c.in_err-entry.ensures.value in
     rw (p.1, p.2, none.1) (ends c.args.entries.now.items c.loop-rest.entries.items c.args.family c.loop-rest.rest.now (entries_of (64 - length c.args.entries.now.items) c.args.family c.args.octets.now)
-        (omega arith) (eqb-false _ 0 (sym c.is_empty.ensures ∙ c.loop-rest-test.true)) none.0 c.loop-rest.invariant.so_far)
+    (omega arith) (eqb-false _ 0 (sym c.is_empty.ensures ∙ c.loop-rest-test.true)) none.0 c.loop-rest.invariant.so_far)
 
 pub loop-rest-preserved : goal.loop-rest-preserved
 loop-rest-preserved c =

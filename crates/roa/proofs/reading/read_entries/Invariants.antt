@@ -6,7 +6,7 @@ use Rattle.roa.proofs.reading.read_entries.Given as goal
 abbrev pub invariant-loop-rest : goal.invariant-loop-rest
 invariant-loop-rest l = record {
   so_far : with_front l.entries.items (entries_of (64 - length l.entries.items) l.family l.rest) ≡ with_front l.fn.entries.items (entries_of (64 - length l.fn.entries.items) l.family l.octets);
-  few : length l.entries.items ≤ 64
+  few : length l.entries.items ≤ 64;
 }
 
 abbrev pub decreases-loop-rest : goal.decreases-loop-rest

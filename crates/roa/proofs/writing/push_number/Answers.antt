@@ -13,7 +13,7 @@ loop-place-preserved c =
     let few : c.loop-place.place ≤ 16 = omega (arith, c.loop-place.auto.place) in
     let unit = unit_is c.loop-place.place c.loop-place-test.true few in
     rw (c.in_ok-push.ensures.items, unit)
-        (record {
-          so_far = octet_written c.args.out.now.items c.loop-place.out.items c.loop-place.place c.loop-place.rest c.args.count c.args.number c.loop-place-test.true c.loop-place.invariant.so_far;
-          below = rest_below c.loop-place.place c.loop-place.rest;
-        })
+    (record {
+      so_far = octet_written c.args.out.now.items c.loop-place.out.items c.loop-place.place c.loop-place.rest c.args.count c.args.number c.loop-place-test.true c.loop-place.invariant.so_far;
+      below = rest_below c.loop-place.place c.loop-place.rest;
+    })
