@@ -9,9 +9,11 @@ use Rattle.std.proofs.lemmas.List.{length-append, append-nil, nil_from_length}
 use Rattle.std.proofs.lemmas.List.Concat.{flat_map-cons}
 use Rattle.addr.specs.declared.family.Family.{Family}
 use Rattle.addr.specs.declared.family.Family.TheVariants.{V4, V6}
-use Rattle.roa.specs.RoaContent.{be_octets, integer_len, integer, element, sequence, octet_string, family_octets}
+use Rattle.roa.specs.RoaContent.{family_octets}
+use Rattle.roa.specs.ContentOctets.{be_octets, integer_len, integer, element, sequence, octet_string}
 use Rattle.roa.specs.Reading.{Numbers, ◌>>=◌, element_at, whole, integer_of, entries_of, block_at, entries_after, family_at, blocks_of, fields_of, content_of}
-use Rattle.roa.proofs.Octets.{AreOctets, length-be_octets}
+use Rattle.roa.specs.RoaContent.{AreOctets}
+use Rattle.roa.proofs.Octets.{length-be_octets}
 use Rattle.roa.proofs.Elements.{Takes, Takes-then, element_again, element_only, whole_again, whole_only}
 use Rattle.roa.proofs.Primitives.{integer_len_bound, integer_again, integer_only}
 use Rattle.roa.proofs.Sizes.{length-element, length-integer, length-family_octets}

@@ -12,13 +12,14 @@ use Rattle.addr.specs.declared.asn.Asn.{Asn}
 use Rattle.addr.specs.declared.family.Family.{Family}
 use Rattle.addr.specs.declared.family.Family.TheVariants.{V4, V6}
 use Rattle.roa.specs.declared.content.Entry.{Entry}
-use Rattle.roa.specs.RoaContent.{RouteOriginAttestation, IsContent, AreCanonical, AreInCount, Rises, entry_order, is_in_range, integer, sequence, octet_string, family_octets, entry_octets, of_family, roa_ip_address_family, content_octets, Encodes}
+use Rattle.roa.specs.RoaContent.{RouteOriginAttestation, IsContent, AreCanonical, AreInCount, Rises, entry_order, is_in_range, family_octets, of_family}
+use Rattle.roa.specs.ContentOctets.{AreOctetsOf, integer, sequence, octet_string, entry_octets, roa_ip_address_family, content_octets}
 use Rattle.std.specs.Prelude.{Result, Ok, Err, IfSome, IfNone, IfOk, MatchResult}
 use Rattle.std.specs.Option.{ok_or}
 use Rattle.roa.specs.declared.fault.DecodeFault.{DecodeFault}
 use Rattle.roa.specs.declared.fault.DecodeFault.TheVariants.{NotContent, Memory}
 use Rattle.roa.specs.Reading.{Numbers, numbers, element_at, content_of, Reads}
-use Rattle.roa.proofs.Octets.{AreOctets}
+use Rattle.roa.specs.RoaContent.{AreOctets}
 use Rattle.roa.proofs.Elements.{element_again}
 use Rattle.roa.proofs.Entries.{IsEntry, numbers_octets}
 use Rattle.roa.proofs.Blocks.{block_octets, blocks_octets, AreBlocks, spelled, ReadsContent, length-fields, content_again, content_only}
@@ -44,7 +45,7 @@ family_same V6 V4 e = absurd cc
 
 -- ---- an entry with its facts
 
-entry_is : (e : Entry) → is_in_range e ≡ true → IsEntry e.prefix.family (numbers e)
+pub entry_is : (e : Entry) → is_in_range e ≡ true → IsEntry e.prefix.family (numbers e)
 entry_is e h =
     let both = and_parts (leb e.prefix.length e.max) (leb e.max (width e.prefix.family)) h in
     let below : e.prefix.first < 2 ^ width e.prefix.family = omega (arith, e.prefix.in_family, pow_pos (width e.prefix.family - e.prefix.length)) in
@@ -177,7 +178,7 @@ splits (x ∷ es) (n ∷ ns) six e all_four all_six =
 
 -- what the octets of a content say, but for the order of its entries
 pub record WasRead (content : RouteOriginAttestation) (octets : List ℕ) : Type 0 where
-  pub encodes : Encodes content octets
+  pub octets_are : AreOctetsOf content octets
   pub in_range : list_all is_in_range content.entries ≡ true
   pub few : length content.entries ≤ 64
 
@@ -192,7 +193,7 @@ was_read content octets are e =
     let written : octets ≡ content_octets content = r.parts ∙ sym (content_octets-numbers content
     ∙ ap (λ (ns : List Numbers). spelled content.asn.0 ns (map numbers (of_family V6 content.entries))) s.four_is
     ∙ ap (λ (ns : List Numbers). spelled content.asn.0 r.four ns) s.six_is) in
-    record { encodes = written; in_range = s.in_range; few = omega (arith, length-numbers content.entries, ap length r.all_of, length-append r.four r.six, r.are.few) }
+    record { octets_are = written; in_range = s.in_range; few = omega (arith, length-numbers content.entries, ap length r.all_of, length-append r.four r.six, r.are.few) }
 
 -- ---- contents with the same numbers
 
@@ -210,7 +211,7 @@ same_entries (x ∷ xs) (y ∷ ys) e =
 abbrev asn_made : ℕ → Asn
 asn_made n = record { 0 = n }
 
-abbrev content_made : Asn → List Entry → RouteOriginAttestation
+abbrev pub content_made : Asn → List Entry → RouteOriginAttestation
 content_made asn entries = record { asn = asn; entries = entries }
 
 pub same_content : (a b : RouteOriginAttestation) → Some (content_numbers a) ≡ Some (content_numbers b) → a ≡ b
@@ -219,10 +220,10 @@ same_content a b e =
     ap (λ (n : ℕ). content_made (asn_made n) a.entries) both.0 ∙ ap (λ (es : List Entry). content_made b.asn es) (same_entries a.entries b.entries both.1)
 
 -- the content that the octets are read as is the only one that they are the octets of
-pub is_only : (a b : RouteOriginAttestation) (octets : List ℕ) → content_of octets ≡ Some (content_numbers a) → IsContent b → Encodes b octets → a ≡ b
+pub is_only : (a b : RouteOriginAttestation) (octets : List ℕ) → content_of octets ≡ Some (content_numbers a) → IsContent b → AreOctetsOf b octets → a ≡ b
 is_only a b octets e is encodes = same_content a b (sym e ∙ ap content_of encodes ∙ is_read b is)
 
-pub is_none : (content : RouteOriginAttestation) (octets : List ℕ) → content_of octets ≡ None → IsContent content → Encodes content octets → ⊥
+pub is_none : (content : RouteOriginAttestation) (octets : List ℕ) → content_of octets ≡ None → IsContent content → AreOctetsOf content octets → ⊥
 is_none content octets e is encodes = none-some (content_numbers content) (sym e ∙ ap content_of encodes ∙ is_read content is)
 
 -- ---- no spelling begins another
@@ -236,7 +237,7 @@ fields_short content is =
     rw (block-numbers V4 (of_family V4 content.entries), block-numbers V6 (of_family V6 content.entries))
     (length-fields content.asn.0 (map numbers (of_family V4 content.entries)) (map numbers (of_family V6 content.entries)) (are_blocks content.entries is.entries))
 
-pub is_prefix_free : (a b : RouteOriginAttestation) (s t x y : List ℕ) → IsContent a → IsContent b → Encodes a s → Encodes b t → s ++ x ≡ t ++ y → (a ≡ b) × (s ≡ t) × (x ≡ y)
+pub is_prefix_free : (a b : RouteOriginAttestation) (s t x y : List ℕ) → IsContent a → IsContent b → AreOctetsOf a s → AreOctetsOf b t → s ++ x ≡ t ++ y → (a ≡ b) × (s ≡ t) × (x ≡ y)
 unfolding content_octets
 is_prefix_free a b s t x y is_a is_b of_a of_b e =
     let joined : content_octets a ++ x ≡ content_octets b ++ y = ap (λ (o : List ℕ). o ++ x) (sym of_a) ∙ e ∙ ap (λ (o : List ℕ). o ++ y) of_b in
@@ -245,27 +246,3 @@ is_prefix_free a b s t x y is_a is_b of_a of_b e =
     let octets : content_octets a ≡ content_octets b = ap sequence both.0 in
     let content : a ≡ b = same_content a b (sym (is_read a is_a) ∙ ap content_of octets ∙ is_read b is_b) in
     (content, of_a ∙ octets ∙ sym of_b, both.1)
-
--- ---- what decoding answers
-
--- a fault is want of memory, where the octets are those of a content
-pub is_memory : (fault : DecodeFault) (octets : List ℕ) → Reads {X = ℕ × List Numbers} (λ x. x) (Err fault) (content_of octets) → (content : RouteOriginAttestation) → IsContent content → Encodes content octets → fault ≡ Memory
-is_memory Memory octets read content is encodes = refl
-is_memory NotContent octets read content is encodes = absurd (is_none content octets read is encodes)
-
-made_is : (content : RouteOriginAttestation) (asn : Asn) (entries : List Entry) → (content.asn ≡ asn) × (content.entries ≡ entries) → content_made asn entries ≡ content
-made_is content asn entries h = ap (λ (a : Asn). content_made a entries) (sym h.0) ∙ ap (λ (es : List Entry). content_made content.asn es) (sym h.1)
-
-pub is_encoded : (made : Option RouteOriginAttestation) (asn : Asn) (entries : List Entry) (octets : List ℕ) → IfSome made (λ content. (content.asn ≡ asn) × (content.entries ≡ entries)) → Encodes (record { asn = asn; entries = entries }) octets
-    → IfOk (ok_or made NotContent) (λ content. Encodes content octets)
-is_encoded None asn entries octets parts encodes = tt
-is_encoded (Some content) asn entries octets parts encodes = subst (λ (c : RouteOriginAttestation). Encodes c octets) (made_is content asn entries parts) encodes
-
-pub is_decoded : (made : Option RouteOriginAttestation) (asn : Asn) (entries : List Entry) (octets : List ℕ) → IfSome made (λ content. (content.asn ≡ asn) × (content.entries ≡ entries)) → IfNone made (AreCanonical entries → ⊥)
-    → content_of octets ≡ Some (asn.0, map numbers entries) → (content : RouteOriginAttestation) → IsContent content → Encodes content octets → MatchResult (ok_or made NotContent) (λ found. found ≡ content) (λ fault. fault ≡ Memory)
-is_decoded (Some found) asn entries octets parts none e content is encodes =
-    sym (made_is found asn entries parts) ∙ is_only (content_made asn entries) content octets e is encodes
-is_decoded None asn entries octets parts none e content is encodes =
-    let same : content_made asn entries ≡ content = is_only (content_made asn entries) content octets e is encodes in
-    let canonical : AreCanonical entries = subst (λ (c : RouteOriginAttestation). AreCanonical c.entries) (sym same) is.entries in
-    absurd (none canonical)

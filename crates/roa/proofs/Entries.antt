@@ -9,9 +9,10 @@ use Rattle.addr.specs.Family.{width}
 use Rattle.addr.specs.Address.{IsPrefix}
 use Rattle.addr.specs.declared.family.Family.{Family}
 use Rattle.addr.specs.declared.family.Family.TheVariants.{V4, V6}
-use Rattle.roa.specs.RoaContent.{be_octets, integer_len, integer, element, bit_string, max_length, roa_ip_address}
+use Rattle.roa.specs.ContentOctets.{be_octets, integer_len, integer, element, bit_string, max_length, roa_ip_address}
 use Rattle.roa.specs.Reading.{Numbers, ◌>>=◌, element_at, whole, integer_of, prefix_of, max_of, entry_of, entry_at, entries_of}
-use Rattle.roa.proofs.Octets.{AreOctets, length-be_octets}
+use Rattle.roa.specs.RoaContent.{AreOctets}
+use Rattle.roa.proofs.Octets.{length-be_octets}
 use Rattle.roa.proofs.Elements.{Takes, Takes-then, element_again, element_only, whole_again, whole_only}
 use Rattle.roa.proofs.Primitives.{integer_len_bound, integer_again, integer_only, prefix_again, prefix_only, bit_contents}
 use Rattle.roa.proofs.Sizes.{length-integer, length-bit_contents, length-entry_contents, length-roa_ip_address}

@@ -9,3 +9,6 @@ pub mod Contents
 pub mod Order
 pub mod Loop
 pub mod Written
+pub mod Shortest
+pub mod Grammar
+pub mod Decoding

@@ -3,12 +3,8 @@ use Rattle.std.proofs.Common.{◌≡◌, ℕ, zero, suc, ◌+◌, ◌-◌, ◌*�
 use Rattle.std.proofs.Math.Nat.{pow-le-pow_right}
 use Rattle.std.proofs.lemmas.List.{take_more, length-append, length-take}
 use Rattle.std.proofs.lemmas.Nat.{pow_pos, pow-add, div-mul-add, mod-mul-add, mod_below, div_below, div-add-mod', mul-add-lt, one_shl}
-use Rattle.roa.specs.RoaContent.{be_octets}
-use Rattle.roa.specs.Reading.{be_value}
-
-abbrev pub AreOctets : List ℕ → Type 0
-AreOctets [] = Unit {0}
-AreOctets (b ∷ bs) = (b < 256) × AreOctets bs
+use Rattle.roa.specs.ContentOctets.{be_octets}
+use Rattle.roa.specs.RoaContent.{be_value, AreOctets}
 
 pub AreOctets-from_index : (bs : List ℕ) → ((i : ℕ) → get_or bs i 0 < 256) → AreOctets bs
 AreOctets-from_index [] h = tt
@@ -93,3 +89,9 @@ octet_written old out place rest count number some so_far =
 
 pub rest_below : (place rest : ℕ) → rest % 2 ^ (8 * (place - 1)) < 2 ^ (8 * (place - 1))
 rest_below place rest = mod_below rest (2 ^ (8 * (place - 1))) (pow_pos (8 * (place - 1)))
+
+pub AreOctets-be_octets : (k n : ℕ) → n < 2 ^ (8 * k) → AreOctets (be_octets k n)
+AreOctets-be_octets zero n h = tt
+AreOctets-be_octets (suc k) n h =
+    let first : n / 2 ^ (8 * k) < 256 = div_below n (2 ^ (8 * k)) 256 (pow_pos (8 * k)) (omega (arith, h, pow_step k)) in
+    (first, AreOctets-be_octets k (n % 2 ^ (8 * k)) (mod_below n (2 ^ (8 * k)) (pow_pos (8 * k))))

@@ -10,9 +10,11 @@ use Rattle.addr.specs.Family.{width}
 use Rattle.addr.specs.Address.{IsPrefix}
 use Rattle.addr.specs.declared.family.Family.{Family}
 use Rattle.addr.specs.declared.family.Family.TheVariants.{V4, V6}
-use Rattle.roa.specs.RoaContent.{be_octets, integer_len, bit_octets, length_octets, bit_string}
-use Rattle.roa.specs.Reading.{be_value, integer_of, prefix_of, Gives}
-use Rattle.roa.proofs.Octets.{AreOctets, length-be_octets, be_value-be_octets, be_value_below, be_octets-be_value}
+use Rattle.roa.specs.ContentOctets.{be_octets, integer_len, bit_octets, length_octets, bit_string}
+use Rattle.roa.specs.RoaContent.{be_value}
+use Rattle.roa.specs.Reading.{integer_of, prefix_of, Gives}
+use Rattle.roa.specs.RoaContent.{AreOctets}
+use Rattle.roa.proofs.Octets.{length-be_octets, be_value-be_octets, be_value_below, be_octets-be_value}
 
 -- ---- INTEGER
 
@@ -105,6 +107,12 @@ first_octets_below w n k h g =
     let split : w ≡ k + (w - k) = omega arith in
     shr_below n k (w - k) (subst (λ (m : ℕ). n < 2 ^ m) split g)
 
+-- the first octets of a prefix's address, shifted back, are the address
+pub octets_back : (family : Family) (first bits : ℕ) → IsPrefix family first bits → first / 2 ^ (width family - 8 * bit_octets bits) * 2 ^ (width family - 8 * bit_octets bits) ≡ first
+octets_back family first bits is =
+    let up : bits ≤ 8 * bit_octets bits = omega arith in
+    shifted_back (width family) first (8 * bit_octets bits) (aligned_to_octets (width family) first bits (8 * bit_octets bits) up (octets_fit family bits is.0) is.2)
+
 pub prefix_again : (family : Family) (first length : ℕ) → IsPrefix family first length → prefix_of family (bit_contents family first length) ≡ Some (first, length)
 unfolding prefix_of
 prefix_again family first bits is =
@@ -112,11 +120,10 @@ prefix_again family first bits is =
     let k : ℕ = bit_octets bits in
     let q : ℕ = first / 2 ^ (w - 8 * k) in
     let fit : 8 * bit_octets bits ≤ width family = octets_fit family bits is.0 in
-    let up : bits ≤ 8 * bit_octets bits = omega arith in
     let small : 8 * bit_octets bits - bits ≤ 7 = omega arith in
     let len : length (be_octets k q) ≡ k = length-be_octets k q in
     let value : be_value (be_octets k q) ≡ q = be_value-be_octets k q (first_octets_below (width family) first (8 * bit_octets bits) fit is.1) in
-    let back : first / 2 ^ (width family - 8 * bit_octets bits) * 2 ^ (width family - 8 * bit_octets bits) ≡ first = shifted_back (width family) first (8 * bit_octets bits) (aligned_to_octets (width family) first bits (8 * bit_octets bits) up fit is.2) in
+    let back : first / 2 ^ (width family - 8 * bit_octets bits) * 2 ^ (width family - 8 * bit_octets bits) ≡ first = octets_back family first bits is in
     let bits_back : 8 * bit_octets bits - (8 * bit_octets bits - bits) ≡ bits = omega arith in
     let t1 : ltb 7 (8 * bit_octets bits - bits) ≡ false = le-ltb _ _ small in
     let t2 : ltb (8 * bit_octets bits) (8 * bit_octets bits - bits) ≡ false = le-ltb _ _ (omega arith) in

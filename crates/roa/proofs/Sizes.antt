@@ -9,7 +9,8 @@ use Rattle.addr.specs.Family.{width, family_eq}
 use Rattle.roa.specs.declared.content.Entry.{Entry}
 use Rattle.addr.specs.declared.family.Family.{Family}
 use Rattle.addr.specs.declared.family.Family.TheVariants.{V4, V6}
-use Rattle.roa.specs.RoaContent.{length_octets, element, be_octets, integer_len, integer, bit_octets, bit_string, max_length, roa_ip_address, family_octets, octet_string, sequence, entry_octets, of_family, roa_ip_address_family}
+use Rattle.roa.specs.RoaContent.{family_octets, of_family}
+use Rattle.roa.specs.ContentOctets.{length_octets, element, be_octets, integer_len, integer, bit_octets, bit_string, max_length, roa_ip_address, octet_string, sequence, entry_octets, roa_ip_address_family}
 use Rattle.roa.specs.Reading.{Numbers}
 use Rattle.roa.proofs.Octets.{length-be_octets}
 use Rattle.roa.proofs.Primitives.{integer_len_bound, bit_octets_bound, bit_contents}

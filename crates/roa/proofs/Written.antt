@@ -8,7 +8,8 @@ use Rattle.std.proofs.lemmas.List.Elements.{filter_more}
 use Rattle.addr.specs.Family.{family_eq}
 use Rattle.addr.specs.declared.family.Family.{Family}
 use Rattle.roa.specs.declared.content.Entry.{Entry}
-use Rattle.roa.specs.RoaContent.{entry_octets, of_family}
+use Rattle.roa.specs.RoaContent.{of_family}
+use Rattle.roa.specs.ContentOctets.{entry_octets}
 
 abbrev written : Family → List Entry → List ℕ
 written family es = flat_map entry_octets (of_family family es)

@@ -9,7 +9,8 @@ use Rattle.addr.specs.Family.{width}
 use Rattle.addr.specs.declared.family.Family.{Family}
 use Rattle.addr.specs.declared.family.Family.TheVariants.{V4, V6}
 use Rattle.roa.specs.declared.content.Entry.{Entry}
-use Rattle.roa.specs.RoaContent.{integer_len, family_octets}
+use Rattle.roa.specs.RoaContent.{be_value, family_octets}
+use Rattle.roa.specs.ContentOctets.{integer_len}
 
 infixl 10 ◌>>=◌
 abbrev pub ◌>>=◌ : {A B : Type 0} → Option A → (A → Option B) → Option B
@@ -24,11 +25,6 @@ pub record Numbers : Type 0 where
 
 abbrev pub numbers : Entry → Numbers
 numbers e = record { family = e.prefix.family; first = e.prefix.first; length = e.prefix.length; max = e.max }
-
--- the number that the octets spell, the most significant one first
-abbrev pub be_value : List ℕ → ℕ
-be_value [] = 0
-be_value (b ∷ bs) = b * 2 ^ (8 * length bs) + be_value bs
 
 -- a length, and the octets after it
 unfoldable pub one_octet_at : List ℕ → Option (ℕ × List ℕ)
@@ -75,7 +71,7 @@ prefix_of family (unused ∷ octets) =
     let bits : ℕ = 8 * length octets - unused in
     if first % 2 ^ (width family - bits) == 0 then Some (first, bits) else None)))
 
--- the greatest length, by what stands after the BIT STRING: where nothing does, the prefix's length
+-- maxLength, by what stands after the BIT STRING: where nothing does, the prefix's length
 unfoldable pub max_of : Family → ℕ → List ℕ → Option ℕ
 max_of family bits octets =
     if length octets == 0 then Some bits

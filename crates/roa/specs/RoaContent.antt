@@ -1,11 +1,10 @@
--- The content of a route origin authorization (RFC 9582 section 4) and its octets by the
--- distinguished encoding rules (X.690): RouteOriginAttestation, with version 0, which DER leaves out
--- as the default.
-use Rattle.std.specs.Prelude.{◌≡◌, ℕ, zero, suc, ◌+◌, ◌-◌, ◌*◌, ◌/◌, ◌%◌, ◌^◌, ◌<◌, ◌≤◌, Bool, true, false, ◌&&◌, ◌==◌, nat_lt, nat_le, if◌then◌else◌, List, [], ◌∷◌, ◌++◌, length, filter, count_by}
+-- The content of a route origin authorization (RFC 9582 section 4), and which octets are its own by
+-- the distinguished encoding rules (X.690).
+use Rattle.std.specs.Prelude.{◌≡◌, ℕ, ◌+◌, ◌-◌, ◌*◌, ◌^◌, ◌<◌, ◌≤◌, ◌⊎◌, Bool, true, false, ◌&&◌, ◌==◌, nat_le, List, [], ◌∷◌, ◌++◌, length, filter, count_by}
 use Rattle.std.specs.declared.cmp.Ordering.{Ordering}
 use Rattle.std.specs.declared.cmp.Ordering.TheVariants.{Less}
 use Rattle.std.specs.Ordering.{ordering_then, nat_cmp}
-use Rattle.std.specs.List.{flat_map, list_all}
+use Rattle.std.specs.List.{list_all}
 use Rattle.addr.specs.Family.{width, family_eq}
 use Rattle.addr.specs.Address.{prefix_eq}
 use Rattle.addr.specs.declared.asn.Asn.{Asn}
@@ -27,18 +26,18 @@ abbrev pub family_place : Family → ℕ
 family_place V4 = 0
 family_place V6 = 1
 
--- entries rise by family, first address, prefix length and greatest length
+-- entries rise by family, first address, prefix length and maxLength
 abbrev pub entry_order : Entry → Entry → Ordering
 entry_order a b =
     ordering_then (nat_cmp (family_place a.prefix.family) (family_place b.prefix.family))
     (ordering_then (nat_cmp a.prefix.first b.prefix.first)
     (ordering_then (nat_cmp a.prefix.length b.prefix.length) (nat_cmp a.max b.max)))
 
--- one prefix and one greatest length
+-- one prefix and one maxLength
 abbrev pub entry_eq : Entry → Entry → Bool
 entry_eq a b = prefix_eq a.prefix b.prefix && (a.max == b.max)
 
--- the greatest length is neither below the prefix's length nor over the family's width
+-- the maxLength is neither below the prefix's length nor over the family's width
 abbrev pub is_in_range : Entry → Bool
 is_in_range e = nat_le e.prefix.length e.max && nat_le e.max (width e.prefix.family)
 
@@ -71,89 +70,118 @@ IsLowestFault entries TooMany = 64 < length entries
 IsLowestFault entries MaxLength = AreInCount entries × (list_all is_in_range entries ≡ false)
 IsLowestFault entries Repeated = AreInCount entries × (list_all is_in_range entries ≡ true) × (e : Entry) × (2 ≤ count_by (entry_eq e) entries)
 
--- ---- DER
+-- ---- DER (X.690)
 
--- a number in so many octets, the most significant one first
-abbrev pub be_octets : ℕ → ℕ → List ℕ
-be_octets zero n = []
-be_octets (suc k) n = n / 2 ^ (8 * k) ∷ be_octets k (n % 2 ^ (8 * k))
+abbrev pub AreOctets : List ℕ → Type 0
+AreOctets [] = Unit {0}
+AreOctets (b ∷ bs) = (b < 256) × AreOctets bs
 
--- a definite length in the fewest octets (X.690 sections 8.1.3 and 10.1), below 2 ^ 16
-abbrev pub length_octets : ℕ → List ℕ
-length_octets n =
-    if nat_lt n 128 then n ∷ []
-    else (if nat_lt n 256 then 129 ∷ n ∷ [] else 130 ∷ n / 256 ∷ n % 256 ∷ [])
+-- the number that the octets spell, the most significant one first
+abbrev pub be_value : List ℕ → ℕ
+be_value [] = 0
+be_value (b ∷ bs) = b * 2 ^ (8 * length bs) + be_value bs
 
--- identifier, length and contents (X.690 section 8.1.1)
-abbrev pub element : ℕ → List ℕ → List ℕ
-element tag contents = tag ∷ length_octets (length contents) ++ contents
+-- The octets spell the number, and the first of them is not zero.
+abbrev pub SpellsShortest : ℕ → List ℕ → Type 0
+SpellsShortest n [] = ⊥
+SpellsShortest n (b ∷ bs) = (0 < b) × AreOctets (b ∷ bs) × (be_value (b ∷ bs) ≡ n)
 
--- SEQUENCE (X.690 section 8.9)
-abbrev pub sequence : List ℕ → List ℕ
-sequence contents = element 48 contents
+-- A definite length in the fewest octets (sections 8.1.3.4, 8.1.3.5 and 10.1): a length below 128 is
+-- one octet. Of a greater one the first octet is 128 and the count of those after it, which spell it.
+abbrev pub IsLength : ℕ → List ℕ → Type 0
+IsLength n [] = ⊥
+IsLength n (first ∷ rest) = ((n < 128) × (first ≡ n) × (rest ≡ [])) ⊎ ((128 ≤ n) × (first ≡ 128 + length rest) × SpellsShortest n rest)
 
--- how many octets the two's complement of a number takes at least, below 2 ^ 39: the first bit is
--- the sign (X.690 section 8.3.2)
-abbrev pub integer_len : ℕ → ℕ
-integer_len n =
-    if nat_lt n (2 ^ 7) then 1
-    else (if nat_lt n (2 ^ 15) then 2
-    else (if nat_lt n (2 ^ 23) then 3
-    else (if nat_lt n (2 ^ 31) then 4 else 5)))
+-- identifier, length and contents (section 8.1.1)
+pub record IsElement (tag : ℕ) (contents octets : List ℕ) : Type 0 where
+  pub len : List ℕ
+  pub is_length : IsLength (length contents) len
+  pub parts : octets ≡ tag ∷ len ++ contents
 
--- INTEGER (X.690 section 8.3)
-abbrev pub integer : ℕ → List ℕ
-integer n = element 2 (be_octets (integer_len n) n)
+-- SEQUENCE (section 8.9)
+abbrev pub IsSequence : List ℕ → List ℕ → Type 0
+IsSequence contents octets = IsElement 48 contents octets
 
--- OCTET STRING (X.690 section 8.7)
-abbrev pub octet_string : List ℕ → List ℕ
-octet_string octets = element 4 octets
+-- OCTET STRING (section 8.7)
+abbrev pub IsOctetString : List ℕ → List ℕ → Type 0
+IsOctetString contents octets = IsElement 4 contents octets
 
--- how many octets so many bits take at least
-abbrev pub bit_octets : ℕ → ℕ
-bit_octets bits = (bits + 7) / 8
+-- The contents are the two's complement of the number, which is not negative: the first bit is 0. The
+-- first nine bits are not all 0 (sections 8.3.2 and 8.3.3).
+abbrev pub IsTwosComplement : ℕ → List ℕ → Type 0
+IsTwosComplement n [] = ⊥
+IsTwosComplement n (a ∷ []) = (a < 128) × (n ≡ a)
+IsTwosComplement n (a ∷ b ∷ rest) = (a < 128) × ((0 < a) ⊎ (128 ≤ b)) × AreOctets (a ∷ b ∷ rest) × (be_value (a ∷ b ∷ rest) ≡ n)
 
--- BIT STRING (X.690 sections 8.6 and 11.2): the count of unused bits, then the address's first bits
--- in the fewest octets. Those of a prefix are zero from its length on.
-abbrev pub bit_string : Family → ℕ → ℕ → List ℕ
-bit_string family first length =
-    element 3 ((8 * bit_octets length - length) ∷ be_octets (bit_octets length) (first / 2 ^ (width family - 8 * bit_octets length)))
+-- INTEGER (section 8.3)
+pub record IsInteger (n : ℕ) (octets : List ℕ) : Type 0 where
+  pub contents : List ℕ
+  pub is : IsTwosComplement n contents
+  pub element : IsElement 2 contents octets
+
+-- The contents count the unused bits at the end of the last octet, at most 7, and then have so many of
+-- the address's first bits. The other bits of the address are 0, and so are the unused ones (sections
+-- 8.6.2 and 11.2.1).
+abbrev pub AreFirstBits : Family → ℕ → ℕ → List ℕ → Type 0
+AreFirstBits family address bits [] = ⊥
+AreFirstBits family address bits (unused ∷ octets) =
+    (unused < 8) × (8 * length octets ≡ bits + unused) × AreOctets octets × (be_value octets * 2 ^ (width family - 8 * length octets) ≡ address)
+
+-- BIT STRING (section 8.6)
+pub record IsBitString (family : Family) (address bits : ℕ) (octets : List ℕ) : Type 0 where
+  pub contents : List ℕ
+  pub are : AreFirstBits family address bits contents
+  pub element : IsElement 3 contents octets
 
 -- ---- RFC 9582 section 4
 
--- maxLength, where it is over the prefix's length
-abbrev pub max_length : ℕ → ℕ → List ℕ
-max_length length max = if nat_lt length max then integer max else []
+-- maxLength is there exactly where it is over the prefix's length
+abbrev pub IsMaxLength : ℕ → ℕ → List ℕ → Type 0
+IsMaxLength length max octets = ((max ≤ length) × (octets ≡ [])) ⊎ ((length < max) × IsInteger max octets)
 
 -- ROAIPAddress
-abbrev pub roa_ip_address : Family → ℕ → ℕ → ℕ → List ℕ
-roa_ip_address family first length max = sequence (bit_string family first length ++ max_length length max)
+pub record IsRoaIpAddress (e : Entry) (octets : List ℕ) : Type 0 where
+  pub address : List ℕ
+  pub max_length : List ℕ
+  pub is_address : IsBitString e.prefix.family e.prefix.first e.prefix.length address
+  pub is_max_length : IsMaxLength e.prefix.length e.max max_length
+  pub sequence : IsSequence (address ++ max_length) octets
 
-abbrev pub entry_octets : Entry → List ℕ
-entry_octets e = roa_ip_address e.prefix.family e.prefix.first e.prefix.length e.max
+abbrev pub AreRoaIpAddresses : List Entry → List ℕ → Type 0
+AreRoaIpAddresses [] octets = octets ≡ []
+AreRoaIpAddresses (e ∷ es) octets = (first : List ℕ) × (rest : List ℕ) × IsRoaIpAddress e first × AreRoaIpAddresses es rest × (octets ≡ first ++ rest)
 
 -- addressFamily: the number of IPv4 is 1, and that of IPv6 is 2
 abbrev pub family_octets : Family → List ℕ
 family_octets V4 = 0 ∷ 1 ∷ []
 family_octets V6 = 0 ∷ 2 ∷ []
 
--- ROAIPAddressFamily, where there are entries of the family
-abbrev pub roa_ip_address_family : Family → List Entry → List ℕ
-roa_ip_address_family family [] = []
-roa_ip_address_family family (e ∷ rest) =
-    sequence (octet_string (family_octets family) ++ sequence (flat_map entry_octets (e ∷ rest)))
+-- ROAIPAddressFamily
+pub record IsRoaIpAddressFamily (family : Family) (entries : List Entry) (octets : List ℕ) : Type 0 where
+  pub address_family : List ℕ
+  pub addresses_contents : List ℕ
+  pub addresses : List ℕ
+  pub is_address_family : IsOctetString (family_octets family) address_family
+  pub are_addresses : AreRoaIpAddresses entries addresses_contents
+  pub addresses_sequence : IsSequence addresses_contents addresses
+  pub sequence : IsSequence (address_family ++ addresses) octets
+
+-- the block of a family, which is there exactly where there are entries of it
+abbrev pub IsBlock : Family → List Entry → List ℕ → Type 0
+IsBlock family [] octets = octets ≡ []
+IsBlock family (e ∷ es) octets = IsRoaIpAddressFamily family (e ∷ es) octets
 
 abbrev pub of_family : Family → List Entry → List Entry
 of_family family entries = filter (λ e. family_eq family e.prefix.family) entries
 
--- ipAddrBlocks
-abbrev pub ip_addr_blocks : List Entry → List ℕ
-ip_addr_blocks entries = sequence (roa_ip_address_family V4 (of_family V4 entries) ++ roa_ip_address_family V6 (of_family V6 entries))
-
--- RouteOriginAttestation
-unfoldable pub content_octets : RouteOriginAttestation → List ℕ
-content_octets content = sequence (integer content.asn.0 ++ ip_addr_blocks content.entries)
-
--- the octets are the content's
-abbrev pub Encodes : RouteOriginAttestation → List ℕ → Type 0
-Encodes content octets = octets ≡ content_octets content
+-- RouteOriginAttestation: asID and ipAddrBlocks, for DER leaves the version out, which is the default
+pub record Encodes (content : RouteOriginAttestation) (octets : List ℕ) : Type 0 where
+  pub as_id : List ℕ
+  pub four : List ℕ
+  pub six : List ℕ
+  pub ip_addr_blocks : List ℕ
+  pub is_as_id : IsInteger content.asn.0 as_id
+  pub is_four : IsBlock V4 (of_family V4 content.entries) four
+  pub is_six : IsBlock V6 (of_family V6 content.entries) six
+  pub are_blocks : IsSequence (four ++ six) ip_addr_blocks
+  pub sequence : IsSequence (as_id ++ ip_addr_blocks) octets

@@ -46,17 +46,17 @@ pub struct Content {
 }
 
 impl Model for Content {
-    ghost use Rattle.roa.specs.RoaContent.{RouteOriginAttestation, AreCanonical};
+    ghost use Rattle.roa.specs.RoaContent.{RouteOriginAttestation, IsContent};
 
     ghost Value = { RouteOriginAttestation };
 
     ghost view = { λ c. record { asn = c.asn; entries = c.entries.items } };
 
-    ghost invariant = { λ c. AreCanonical c.entries.items };
+    ghost invariant = { λ c. IsContent (record { asn = c.asn; entries = c.entries.items }) };
 }
 
 impl Content {
-    ghost use Rattle.roa.specs.RoaContent.{AreCanonical, IsLowestFault, is_in_range};
+    ghost use Rattle.roa.specs.RoaContent.{AreCanonical, IsContent, IsLowestFault, is_in_range};
 
     /// The most entries that a content has.
     pub const MAX_ENTRIES: usize = 64;
@@ -66,7 +66,7 @@ impl Content {
     pub fn make(asn: Asn, mut entries: Vec<Entry>) -> Result<Content, ContentFault>
         ensures asn { IfOk result (λ content. content.asn ≡ asn) }
         ensures same_entries { IfOk result (λ content. IsPermutation entries.items content.entries) }
-        ensures canonical { IfOk result (λ content. AreCanonical content.entries) }
+        ensures content { IfOk result IsContent }
         ensures fault { IfErr result (IsLowestFault entries.items) }
     {
         if entries.is_empty() {
@@ -90,7 +90,7 @@ impl Content {
         requires few { length entries.items ≤ 64 }
         requires in_range { list_all is_in_range entries.items ≡ true }
         ensures some { IfSome result (λ content. (content.asn ≡ asn) × (content.entries ≡ entries.items)) }
-        ensures canonical { IfSome result (λ content. AreCanonical content.entries) }
+        ensures content { IfSome result IsContent }
         ensures none { IfNone result (AreCanonical entries.items → ⊥) }
     {
         if entries.is_empty() || !rises(&entries) {
@@ -108,7 +108,7 @@ impl Content {
     /// The entries, in rising order.
     pub fn entries(&self) -> &[Entry]
         ensures entries { result.now ≡ self.now.entries }
-        ensures canonical { AreCanonical self.now.entries }
+        ensures content { IsContent self.now }
     {
         &self.entries
     }

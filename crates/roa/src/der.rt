@@ -1,5 +1,6 @@
 ghost use Rattle.std.specs.Prelude.{◌≡◌, ◌<◌, ◌≤◌, length};
-ghost use Rattle.roa.specs.RoaContent.{integer_len, family_octets};
+ghost use Rattle.roa.specs.RoaContent.{family_octets};
+ghost use Rattle.roa.specs.ContentOctets.{integer_len};
 
 use addr::Family;
 

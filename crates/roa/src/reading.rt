@@ -1,6 +1,7 @@
 ghost use Rattle.std.specs.Prelude.{◌≡◌, ◌<◌, ◌≤◌, ◌*◌, ◌-◌, ◌^◌, length, map, IfSome, IfOk, MatchResult};
 ghost use Rattle.addr.specs.Family.{width};
-ghost use Rattle.roa.specs.Reading.{Gives, be_value, length_at, contents_at, element_at, whole, integer_of, prefix_of, max_of, entry_of, entry_at, entries_of, block_at, family_at, blocks_of, fields_of, content_of, numbers, Adds, AddsThen, Reads};
+ghost use Rattle.roa.specs.RoaContent.{be_value};
+ghost use Rattle.roa.specs.Reading.{Gives, length_at, contents_at, element_at, whole, integer_of, prefix_of, max_of, entry_of, entry_at, entries_of, block_at, family_at, blocks_of, fields_of, content_of, numbers, Adds, AddsThen, Reads};
 ghost use Rattle.roa.specs.RoaContent.{RouteOriginAttestation, IsContent, Encodes};
 
 use crate::der::{

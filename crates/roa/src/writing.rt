@@ -1,13 +1,14 @@
 ghost use Rattle.std.specs.Prelude.{◌≡◌, ◌<◌, ◌≤◌, ◌*◌, ◌^◌, ◌++◌, ◌∷◌, length, IfOk, OnOk};
 ghost use Rattle.std.specs.List.{flat_map};
-ghost use Rattle.roa.specs.RoaContent.{be_octets, length_octets, element, integer, bit_string, max_length, entry_octets, of_family, roa_ip_address_family, Encodes};
+ghost use Rattle.roa.specs.RoaContent.{of_family, Encodes};
+ghost use Rattle.roa.specs.ContentOctets.{be_octets, length_octets, element, integer, bit_string, max_length, entry_octets, roa_ip_address_family, content_octets};
 
 use crate::der::{
     BIT_STRING, INTEGER, OCTET_STRING, ONE_OCTET_LENGTH, SEQUENCE, TWO_OCTET_LENGTH, family_octets,
     integer_len,
 };
 use crate::{Content, Entry};
-use addr::{Family, Prefix};
+use addr::{Asn, Family, Prefix};
 use std::alloc::{AllocError, Global};
 
 /// Adds a length in the fewest octets.
@@ -126,19 +127,25 @@ fn push_family(
     push_element(out, SEQUENCE, &block)
 }
 
-/// The octets of the content.
-#[tactic(auto, unfolding(crate::specs::RoaContent::content_octets))]
-pub fn encode(alloc: Global, content: &Content) -> Result<Vec<u8>, AllocError>
-    ensures { IfOk result (λ octets. Encodes content.now octets.items) }
+#[tactic(auto, unfolding(crate::specs::ContentOctets::content_octets))]
+fn write_content(alloc: Global, asn: Asn, entries: &[Entry]) -> Result<Vec<u8>, AllocError>
+    requires { length entries.now ≤ 64 }
+    ensures { IfOk result (λ octets. octets.items ≡ content_octets (record { asn = asn; entries = entries.now })) }
 {
-    let entries = content.entries();
     let mut blocks = Vec::new(alloc);
     push_family(alloc, &mut blocks, Family::V4, entries)?;
     push_family(alloc, &mut blocks, Family::V6, entries)?;
     let mut fields = Vec::new(alloc);
-    push_integer(&mut fields, content.asn().0)?;
+    push_integer(&mut fields, asn.0)?;
     push_element(&mut fields, SEQUENCE, &blocks)?;
     let mut octets = Vec::new(alloc);
     push_element(&mut octets, SEQUENCE, &fields)?;
     Ok(octets)
+}
+
+/// The octets of the content.
+pub fn encode(alloc: Global, content: &Content) -> Result<Vec<u8>, AllocError>
+    ensures { IfOk result (λ octets. Encodes content.now octets.items) }
+{
+    write_content(alloc, content.asn(), content.entries())
 }

@@ -1,7 +1,8 @@
 use Rattle.std.proofs.Common.{◌≡◌, ◌≤◌, ◌-◌, length, sym, ◌∙◌, arith}
 use Rattle.std.proofs.lemmas.Result.{err_from_is_err_and}
 use Rattle.roa.proofs.Octets.{AreOctets-from_index}
-use Rattle.roa.proofs.Contents.{was_read, is_memory, is_encoded, is_decoded}
+use Rattle.roa.proofs.Contents.{was_read}
+use Rattle.roa.proofs.Decoding.{is_memory, is_encoded, is_decoded}
 use Rattle.roa.proofs.reading.decode.Goals as goal
 
 pub returns-in_err-asn-clause-only : goal.returns-in_err-asn-clause-only
@@ -20,7 +21,7 @@ from_rising-requires-clause-in_range c =
 pub returns-clause-encodes : goal.returns-clause-encodes
 returns-clause-encodes c =
     let read = was_read (record { asn = c.in_ok-asn.asn; entries = c.in_ok-asn.entries.items }) c.args.octets.now (AreOctets-from_index c.args.octets.now (λ i. omega (arith, c.type_inv.octets i))) c.in_ok-asn.ensures in
-    rw c.ok_or.ensures.value (is_encoded c.from_rising.result c.in_ok-asn.asn c.in_ok-asn.entries.items c.args.octets.now c.from_rising.ensures.some read.encodes)
+    rw c.ok_or.ensures.value (is_encoded c.from_rising.result c.in_ok-asn.asn c.in_ok-asn.entries.items c.args.octets.now c.from_rising.ensures.some c.from_rising.ensures.content read)
 
 pub returns-clause-only : goal.returns-clause-only
 returns-clause-only c = λ content is encodes.

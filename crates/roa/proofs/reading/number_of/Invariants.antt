@@ -1,5 +1,5 @@
 use Rattle.std.proofs.Common.{◌≡◌, take}
-use Rattle.roa.specs.Reading.{be_value}
+use Rattle.roa.specs.RoaContent.{be_value}
 use Rattle.roa.proofs.reading.number_of.Given as goal
 
 abbrev pub invariant-loop-octet : goal.invariant-loop-octet

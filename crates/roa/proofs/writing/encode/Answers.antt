@@ -1,22 +1,16 @@
-use Rattle.std.proofs.Common.{◌≡◌, ◌≤◌, ◌++◌, length, arith}
-use Rattle.addr.specs.declared.family.Family.TheVariants.{V4, V6}
-use Rattle.roa.specs.RoaContent.{element, integer, of_family, roa_ip_address_family}
-use Rattle.roa.proofs.Sizes.{blocks_short, fields_short}
+use Rattle.std.proofs.Common.{◌≡◌, List, ap, ◌∙◌}
+use Rattle.std.specs.Global.{Vec}
+use Rattle.std.proofs.lemmas.Result.{IfOk-weaker}
+use Rattle.addr.specs.declared.asn.Asn.{Asn}
+use Rattle.roa.specs.declared.content.Entry.{Entry}
+use Rattle.roa.specs.RoaContent.{Encodes}
+use Rattle.roa.specs.ContentOctets.{content_octets}
+use Rattle.roa.proofs.Contents.{content_made}
+use Rattle.roa.proofs.Grammar.{encodes_from}
 use Rattle.roa.proofs.writing.encode.Goals as goal
 
-pub push_element-requires : goal.push_element-requires
-push_element-requires c =
-    let four : c.push_family.new.out.items ≡ c.new-blocks.result.items ++ roa_ip_address_family V4 (of_family V4 c.entries-entries.result.now) = c.in_ok-push_family.ensures in
-    let six : c.push_family-2.new.out.items ≡ c.push_family.new.out.items ++ roa_ip_address_family V6 (of_family V6 c.entries-entries.result.now) = c.in_ok-push_family-2.ensures in
-    let few : length c.entries-entries.result.now ≤ 64 = rw c.entries-entries.ensures.entries c.entries-entries.ensures.canonical.count.few in
-    rw (c.deref.ensures.value, six, four, c.new-blocks.ensures.items) (omega (arith, blocks_short c.entries-entries.result.now few))
-
-pub push_element-requires-2 : goal.push_element-requires-2
-push_element-requires-2 c =
-    let four : c.push_family.new.out.items ≡ c.new-blocks.result.items ++ roa_ip_address_family V4 (of_family V4 c.entries-entries.result.now) = c.in_ok-push_family.ensures in
-    let six : c.push_family-2.new.out.items ≡ c.push_family.new.out.items ++ roa_ip_address_family V6 (of_family V6 c.entries-entries.result.now) = c.in_ok-push_family-2.ensures in
-    let few : length c.entries-entries.result.now ≤ 64 = rw c.entries-entries.ensures.entries c.entries-entries.ensures.canonical.count.few in
-    let short : length c.deref.result.now ≤ 4408 = rw (c.deref.ensures.value, six, four, c.new-blocks.ensures.items) (blocks_short c.entries-entries.result.now few) in
-    let number : c.push_integer.new.out.items ≡ c.new-fields.result.items ++ integer c.asn.result.0 = c.in_ok-push_integer.ensures in
-    let fields : c.push_element.new.out.items ≡ c.push_integer.new.out.items ++ element 48 c.deref.result.now = c.in_ok-push_element.ensures in
-    rw (c.deref-2.ensures.value, fields, number, c.new-fields.ensures.items) (fields_short c.asn.result.0 c.deref.result.now short)
+pub returns : goal.returns
+returns c =
+    let made : content_made c.asn.result c.entries.result.now ≡ c.args.content.now =
+        ap (λ (a : Asn). content_made a c.entries.result.now) c.asn.ensures ∙ ap (λ (es : List Entry). content_made c.args.content.now.asn es) c.entries.ensures.entries in
+    IfOk-weaker c.write_content.result _ _ (λ octets are. encodes_from c.args.content.now octets.items c.entries.ensures.content (are ∙ ap content_octets made)) c.write_content.ensures

@@ -1,6 +1,7 @@
 use Rattle.std.proofs.Common.{◌≡◌, ◌≤◌, ◌++◌, ◌∙◌, ap, length, List, ℕ, arith}
 use Rattle.std.specs.List.{flat_map}
-use Rattle.roa.specs.RoaContent.{element, entry_octets, of_family}
+use Rattle.roa.specs.RoaContent.{of_family}
+use Rattle.roa.specs.ContentOctets.{element, entry_octets}
 use Rattle.roa.proofs.Sizes.{addresses_short, block_short, length-family_octets}
 use Rattle.roa.proofs.writing.push_family.Goals as goal
 

@@ -2,7 +2,7 @@ use Rattle.std.proofs.Common.{◌≡◌, ◌-◌, ◌*◌, ◌^◌, ◌/◌, ◌
 use Rattle.std.specs.Option.{SomeIff}
 use Rattle.std.proofs.lemmas.Result.{on_ok_weaker}
 use Rattle.addr.specs.Family.{width}
-use Rattle.roa.specs.RoaContent.{bit_octets}
+use Rattle.roa.specs.ContentOctets.{bit_octets}
 use Rattle.roa.proofs.Primitives.{shifted_down, first_octets_fit, first_fits, bit_string_pushed}
 use Rattle.roa.proofs.writing.push_prefix.Goals as goal
 

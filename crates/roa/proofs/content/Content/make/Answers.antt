@@ -17,10 +17,13 @@ pub invariant_of-result : goal.invariant_of-result
 invariant_of-result c =
     let checked : list_all is_in_range c.args.entries.items ≡ true = search rules in
     record {
-      count = record { some = search rules; few = omega (arith, c.sort_unstable.ensures.len) };
-      in_range = in_range_moved c.args.entries.items c.sort_unstable.new.self.items c.sort_unstable.ensures.permutation checked;
-      rising = rw (← c.deref-2.ensures.value) (c.rises.ensures.0 c.if-not-rises.false);
+      asn = search rules;
+      entries = record {
+        count = record { some = search rules; few = omega (arith, c.sort_unstable.ensures.len) };
+        in_range = in_range_moved c.args.entries.items c.sort_unstable.new.self.items c.sort_unstable.ensures.permutation checked;
+        rising = rw (← c.deref-2.ensures.value) (c.rises.ensures.0 c.if-not-rises.false);
+      };
     }
 
-pub returns-clause-canonical : goal.returns-clause-canonical
-returns-clause-canonical c = invariant_of-result c
+pub returns-clause-content : goal.returns-clause-content
+returns-clause-content c = invariant_of-result c
