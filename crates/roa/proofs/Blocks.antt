@@ -1,9 +1,9 @@
 -- The blocks of both families and the whole content: what is read is what is written.
-use Rattle.std.proofs.Common.{◌≡◌, ℕ, zero, suc, ◌+◌, ◌-◌, ◌*◌, ◌/◌, ◌%◌, ◌^◌, ◌<◌, ◌≤◌, Bool, true, false, cond, ltb, leb, eqb, ◌&&◌, List, [], ◌∷◌, ◌++◌, length, Option, Some, None, refl, sym, ap, subst, ◌∙◌, inl, inr, append_assoc, arith}
+use Rattle.std.proofs.Common.{◌≡◌, ℕ, ◌+◌, ◌-◌, ◌*◌, ◌^◌, ◌<◌, ◌≤◌, true, false, cond, eqb, List, [], ◌∷◌, ◌++◌, length, Option, Some, None, refl, sym, ap, subst, ◌∙◌, inl, inr, arith}
 use Rattle.std.specs.Prelude.{nat_eq}
 use Rattle.std.specs.Cmp.Lexicographic.{pointwise}
 use Rattle.std.specs.List.{flat_map, AllByRecursion}
-use Rattle.std.proofs.lemmas.Bool.{cases_lt, cases_eq, cases_Bool, lt-ltb, le-ltb, le-leb, eq-eqb, ne_eqb, ltb-true, leb-true, eqb-true, and_parts, and_from}
+use Rattle.std.proofs.lemmas.Bool.{cases_eq, cases_Bool, eq-eqb, ne_eqb, eqb-true, and_parts}
 use Rattle.std.proofs.lemmas.Option.{same_Some, option_and_then_some}
 use Rattle.std.proofs.lemmas.List.{length-append, append-nil, nil_from_length}
 use Rattle.std.proofs.lemmas.List.Concat.{flat_map-cons}
@@ -14,7 +14,7 @@ use Rattle.roa.specs.ContentOctets.{be_octets, integer_len, integer, element, se
 use Rattle.roa.specs.Reading.{Numbers, ◌>>=◌, element_at, whole, integer_of, entries_of, block_at, entries_after, family_at, blocks_of, fields_of, content_of}
 use Rattle.roa.specs.RoaContent.{AreOctets}
 use Rattle.roa.proofs.Octets.{length-be_octets}
-use Rattle.roa.proofs.Elements.{Takes, Takes-then, element_again, element_only, whole_again, whole_only}
+use Rattle.roa.proofs.Elements.{Takes, element_again, element_only, whole_again, whole_only}
 use Rattle.roa.proofs.Primitives.{integer_len_bound, integer_again, integer_only}
 use Rattle.roa.proofs.Sizes.{length-element, length-integer, length-family_octets}
 use Rattle.roa.proofs.Entries.{IsEntry, numbers_octets, length-entries, entries_again, entries_only}

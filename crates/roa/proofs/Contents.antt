@@ -1,10 +1,10 @@
 -- The two laws of a content: its octets are read as it, and what is read has these octets.
-use Rattle.std.proofs.Common.{◌≡◌, ℕ, zero, suc, ◌+◌, ◌-◌, ◌*◌, ◌/◌, ◌%◌, ◌^◌, ◌<◌, ◌≤◌, Bool, true, false, cond, ltb, leb, eqb, ◌&&◌, List, [], ◌∷◌, ◌++◌, length, map, Option, Some, None, refl, sym, ap, subst, ◌∙◌, inl, inr, ◌⊎◌, append_assoc, arith}
+use Rattle.std.proofs.Common.{◌≡◌, ℕ, suc, ◌+◌, ◌-◌, ◌^◌, ◌<◌, ◌≤◌, Bool, true, cond, leb, List, [], ◌∷◌, ◌++◌, length, map, Some, None, refl, sym, ap, subst, ◌∙◌, inl, inr, ◌⊎◌, arith}
 use Rattle.std.specs.declared.cmp.Ordering.TheVariants.{Less}
 use Rattle.std.specs.List.{flat_map, list_all, AllByRecursion}
 use Rattle.std.proofs.lemmas.Bool.{leb-true, le-leb, and_parts, and_from}
 use Rattle.std.proofs.lemmas.Nat.{pow_pos}
-use Rattle.std.proofs.lemmas.Option.{same_Some, none-some, some_pair_parts}
+use Rattle.std.proofs.lemmas.Option.{none-some, some_pair_parts}
 use Rattle.std.proofs.lemmas.List.{map-append, length-append}
 use Rattle.std.proofs.lemmas.List.Concat.{flat_map-cons}
 use Rattle.addr.specs.Family.{width, family_eq}
@@ -12,17 +12,13 @@ use Rattle.addr.specs.declared.asn.Asn.{Asn}
 use Rattle.addr.specs.declared.family.Family.{Family}
 use Rattle.addr.specs.declared.family.Family.TheVariants.{V4, V6}
 use Rattle.roa.specs.declared.content.Entry.{Entry}
-use Rattle.roa.specs.RoaContent.{RouteOriginAttestation, IsContent, AreCanonical, AreInCount, Rises, entry_order, is_in_range, family_octets, of_family}
+use Rattle.roa.specs.RoaContent.{RouteOriginAttestation, IsContent, AreCanonical, Rises, entry_order, is_in_range, family_octets, of_family}
 use Rattle.roa.specs.ContentOctets.{AreOctetsOf, integer, sequence, octet_string, entry_octets, roa_ip_address_family, content_octets}
-use Rattle.std.specs.Prelude.{Result, Ok, Err, IfSome, IfNone, IfOk, MatchResult}
-use Rattle.std.specs.Option.{ok_or}
-use Rattle.roa.specs.declared.fault.DecodeFault.{DecodeFault}
-use Rattle.roa.specs.declared.fault.DecodeFault.TheVariants.{NotContent, Memory}
-use Rattle.roa.specs.Reading.{Numbers, numbers, element_at, content_of, Reads}
+use Rattle.roa.specs.Reading.{Numbers, numbers, element_at, content_of}
 use Rattle.roa.specs.RoaContent.{AreOctets}
 use Rattle.roa.proofs.Elements.{element_again}
 use Rattle.roa.proofs.Entries.{IsEntry, numbers_octets}
-use Rattle.roa.proofs.Blocks.{block_octets, blocks_octets, AreBlocks, spelled, ReadsContent, length-fields, content_again, content_only}
+use Rattle.roa.proofs.Blocks.{block_octets, AreBlocks, spelled, length-fields, content_again, content_only}
 use Rattle.roa.proofs.Prefixes.{same_entry}
 
 -- ---- families

@@ -1,6 +1,6 @@
 -- What decoding answers, in terms of the grammar.
 use Rattle.std.proofs.Common.{◌≡◌, ℕ, List, map, Option, Some, None, refl, sym, ap, subst, ◌∙◌}
-use Rattle.std.specs.Prelude.{Result, Ok, Err, IfSome, IfNone, IfOk, MatchResult}
+use Rattle.std.specs.Prelude.{Err, IfSome, IfNone, IfOk, MatchResult}
 use Rattle.std.specs.Option.{ok_or}
 use Rattle.addr.specs.declared.asn.Asn.{Asn}
 use Rattle.roa.specs.declared.content.Entry.{Entry}

@@ -1,9 +1,9 @@
 -- Entries: what is read is what is written.
-use Rattle.std.proofs.Common.{◌≡◌, ℕ, zero, suc, ◌+◌, ◌-◌, ◌*◌, ◌/◌, ◌%◌, ◌^◌, ◌<◌, ◌≤◌, Bool, true, false, cond, ltb, leb, eqb, ◌&&◌, List, [], ◌∷◌, ◌++◌, length, Option, Some, None, refl, sym, ap, subst, ◌∙◌, inl, inr, append_assoc, arith}
+use Rattle.std.proofs.Common.{◌≡◌, ℕ, zero, suc, ◌*◌, ◌^◌, ◌<◌, ◌≤◌, false, cond, ltb, leb, eqb, ◌&&◌, List, [], ◌∷◌, ◌++◌, length, Some, None, refl, sym, ap, subst, ◌∙◌, inl, inr, arith}
 use Rattle.std.specs.List.{flat_map, AllByRecursion}
-use Rattle.std.proofs.lemmas.Bool.{cases_lt, cases_eq, cases_Bool, lt-ltb, le-ltb, le-leb, eq-eqb, ne_eqb, ltb-true, leb-true, eqb-true, and_parts, and_from}
+use Rattle.std.proofs.lemmas.Bool.{cases_lt, cases_eq, cases_Bool, lt-ltb, le-ltb, le-leb, eq-eqb, ne_eqb, ltb-true, leb-true, and_parts}
 use Rattle.std.proofs.lemmas.Option.{same_Some, option_and_then_some}
-use Rattle.std.proofs.lemmas.List.{length-append, append-nil, nil_from_length}
+use Rattle.std.proofs.lemmas.List.{length-append, nil_from_length}
 use Rattle.std.proofs.lemmas.List.Concat.{flat_map-cons}
 use Rattle.addr.specs.Family.{width}
 use Rattle.addr.specs.Address.{IsPrefix}
@@ -13,9 +13,9 @@ use Rattle.roa.specs.ContentOctets.{be_octets, integer_len, integer, element, bi
 use Rattle.roa.specs.Reading.{Numbers, ◌>>=◌, element_at, whole, integer_of, prefix_of, max_of, entry_of, entry_at, entries_of}
 use Rattle.roa.specs.RoaContent.{AreOctets}
 use Rattle.roa.proofs.Octets.{length-be_octets}
-use Rattle.roa.proofs.Elements.{Takes, Takes-then, element_again, element_only, whole_again, whole_only}
+use Rattle.roa.proofs.Elements.{Takes, element_again, element_only, whole_again, whole_only}
 use Rattle.roa.proofs.Primitives.{integer_len_bound, integer_again, integer_only, prefix_again, prefix_only, bit_contents}
-use Rattle.roa.proofs.Sizes.{length-integer, length-bit_contents, length-entry_contents, length-roa_ip_address}
+use Rattle.roa.proofs.Sizes.{length-bit_contents, length-entry_contents, length-roa_ip_address}
 
 -- the facts that an entry of a content keeps
 pub record IsEntry (family : Family) (n : Numbers) : Type 0 where
@@ -27,11 +27,7 @@ pub record IsEntry (family : Family) (n : Numbers) : Type 0 where
 abbrev pub numbers_octets : Numbers → List ℕ
 numbers_octets n = roa_ip_address n.family n.first n.length n.max
 
--- ---- the greatest length
-
--- the octets are those of a greatest length
-abbrev IsMax : Family → ℕ → List ℕ → ℕ → Type 0
-IsMax family bits octets max = (octets ≡ max_length bits max) × (bits ≤ max)
+-- ---- maxLength
 
 width_small : (family : Family) → width family ≤ 128
 width_small V4 = omega arith

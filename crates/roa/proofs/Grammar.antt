@@ -1,7 +1,7 @@
 -- The grammar relates a content to the octets that the function gives, and to no others.
-use Rattle.std.proofs.Common.{◌≡◌, ℕ, zero, suc, ◌+◌, ◌-◌, ◌*◌, ◌/◌, ◌^◌, ◌<◌, ◌≤◌, Bool, true, false, cond, ◌&&◌, List, [], ◌∷◌, ◌++◌, length, refl, sym, ap, subst, ◌∙◌, inl, inr, ◌⊎◌, arith}
-use Rattle.std.specs.List.{flat_map, list_all, filter}
-use Rattle.std.proofs.lemmas.Bool.{cases_lt, cases_Bool, lt-ltb, le-ltb, and_parts, and_from}
+use Rattle.std.proofs.Common.{◌≡◌, ℕ, ◌-◌, ◌*◌, ◌/◌, ◌^◌, ◌<◌, ◌≤◌, Bool, true, false, cond, List, [], ◌∷◌, ◌++◌, length, refl, sym, ap, subst, ◌∙◌, inl, inr, arith}
+use Rattle.std.specs.List.{flat_map, list_all}
+use Rattle.std.proofs.lemmas.Bool.{cases_lt, lt-ltb, le-ltb, and_parts, and_from}
 use Rattle.std.proofs.lemmas.Nat.{shl-shr}
 use Rattle.std.proofs.lemmas.List.Concat.{flat_map-cons}
 use Rattle.addr.specs.Family.{width, family_eq}
@@ -9,9 +9,8 @@ use Rattle.addr.specs.Address.{IsPrefix}
 use Rattle.addr.specs.declared.family.Family.{Family}
 use Rattle.addr.specs.declared.family.Family.TheVariants.{V4, V6}
 use Rattle.roa.specs.declared.content.Entry.{Entry}
-use Rattle.roa.specs.RoaContent.{RouteOriginAttestation, IsContent, is_in_range, AreOctets, be_value, IsElement, IsInteger, AreFirstBits, IsBitString, IsMaxLength, IsRoaIpAddress, AreRoaIpAddresses, family_octets, IsRoaIpAddressFamily, IsBlock, of_family, Encodes}
+use Rattle.roa.specs.RoaContent.{RouteOriginAttestation, IsContent, is_in_range, be_value, IsElement, IsInteger, AreFirstBits, IsBitString, IsMaxLength, IsRoaIpAddress, AreRoaIpAddresses, family_octets, IsBlock, of_family, Encodes}
 use Rattle.roa.specs.ContentOctets.{be_octets, length_octets, element, sequence, integer_len, integer, octet_string, bit_octets, bit_string, max_length, entry_octets, roa_ip_address_family, content_octets, AreOctetsOf}
-use Rattle.roa.specs.Reading.{numbers}
 use Rattle.roa.proofs.Octets.{length-be_octets, be_octets-be_value, be_value-be_octets, AreOctets-be_octets}
 use Rattle.roa.proofs.Primitives.{integer_len_bound, bit_contents, first_octets_fit, octets_back}
 use Rattle.roa.proofs.Sizes.{length-bit_contents, length-entry_contents, length-family_octets, addresses_short, block_short, blocks_short, fields_short}
@@ -57,7 +56,7 @@ are_bits family first bits is =
     let len : length (be_octets (bit_octets bits) (first / 2 ^ (width family - 8 * bit_octets bits))) ≡ bit_octets bits = length-be_octets (bit_octets bits) (first / 2 ^ (width family - 8 * bit_octets bits)) in
     let value : be_value (be_octets (bit_octets bits) (first / 2 ^ (width family - 8 * bit_octets bits))) ≡ first / 2 ^ (width family - 8 * bit_octets bits) = be_value-be_octets (bit_octets bits) (first / 2 ^ (width family - 8 * bit_octets bits)) below in
     let back : be_value (be_octets (bit_octets bits) (first / 2 ^ (width family - 8 * bit_octets bits))) * 2 ^ (width family - 8 * length (be_octets (bit_octets bits) (first / 2 ^ (width family - 8 * bit_octets bits)))) ≡ first =
-        rw (len, value) (octets_back family first bits is) in
+    rw (len, value) (octets_back family first bits is) in
     (omega arith, rw len (omega arith), AreOctets-be_octets (bit_octets bits) (first / 2 ^ (width family - 8 * bit_octets bits)) below, back)
 
 bit_short : (family : Family) (first bits : ℕ) → bits ≤ width family → length (bit_contents family first bits) < 65536
@@ -97,8 +96,8 @@ entry_short e = omega (arith, length-entry_contents e.prefix.family e.prefix.fir
 address_is : (e : Entry) (octets : List ℕ) → is_in_range e ≡ true → IsRoaIpAddress e octets → octets ≡ entry_octets e
 address_is e octets h is =
     let parts : is.address ++ is.max_length ≡ bit_string e.prefix.family e.prefix.first e.prefix.length ++ max_length e.prefix.length e.max =
-        ap (λ (x : List ℕ). x ++ is.max_length) (bit_string_is e.prefix.family e.prefix.first e.prefix.length is.address e.prefix.length_fits is.is_address)
-        ∙ ap (λ (x : List ℕ). bit_string e.prefix.family e.prefix.first e.prefix.length ++ x) (max_length_is e.prefix.length e.max is.max_length (max_small e h) is.is_max_length) in
+    ap (λ (x : List ℕ). x ++ is.max_length) (bit_string_is e.prefix.family e.prefix.first e.prefix.length is.address e.prefix.length_fits is.is_address)
+    ∙ ap (λ (x : List ℕ). bit_string e.prefix.family e.prefix.first e.prefix.length ++ x) (max_length_is e.prefix.length e.max is.max_length (max_small e h) is.is_max_length) in
     known_element 48 (is.address ++ is.max_length) (bit_string e.prefix.family e.prefix.first e.prefix.length ++ max_length e.prefix.length e.max) octets parts (entry_short e) is.sequence
 
 is_address : (e : Entry) → is_in_range e ≡ true → IsRoaIpAddress e (entry_octets e)
@@ -134,9 +133,9 @@ block_is family (e ∷ es) octets all short is =
     let contents_are = addresses_are (e ∷ es) is.addresses_contents all is.are_addresses in
     let sequence_is = known_element 48 is.addresses_contents (flat_map entry_octets (e ∷ es)) is.addresses contents_are (omega (arith, short)) is.addresses_sequence in
     let parts : is.address_family ++ is.addresses ≡ octet_string (family_octets family) ++ sequence (flat_map entry_octets (e ∷ es)) =
-        ap (λ (x : List ℕ). x ++ is.addresses) family_is ∙ ap (λ (x : List ℕ). octet_string (family_octets family) ++ x) sequence_is in
+    ap (λ (x : List ℕ). x ++ is.addresses) family_is ∙ ap (λ (x : List ℕ). octet_string (family_octets family) ++ x) sequence_is in
     known_element 48 (is.address_family ++ is.addresses) (octet_string (family_octets family) ++ sequence (flat_map entry_octets (e ∷ es))) octets parts
-        (omega (arith, block_short (family_octets family) (flat_map entry_octets (e ∷ es)) (length-family_octets family) short)) is.sequence
+    (omega (arith, block_short (family_octets family) (flat_map entry_octets (e ∷ es)) (length-family_octets family) short)) is.sequence
 
 is_block : (family : Family) (es : List Entry) → list_all is_in_range es ≡ true → length (flat_map entry_octets es) ≤ 2176 → IsBlock family es (roa_ip_address_family family es)
 is_block family [] all short = refl
@@ -173,13 +172,13 @@ encodes_is content octets is e =
     let four = block_is V4 (of_family V4 content.entries) e.four (in_range_of V4 content.entries is.entries.in_range) (addresses_short V4 content.entries few) e.is_four in
     let six = block_is V6 (of_family V6 content.entries) e.six (in_range_of V6 content.entries is.entries.in_range) (addresses_short V6 content.entries few) e.is_six in
     let both : e.four ++ e.six ≡ roa_ip_address_family V4 (of_family V4 content.entries) ++ roa_ip_address_family V6 (of_family V6 content.entries) =
-        ap (λ (x : List ℕ). x ++ e.six) four ∙ ap (λ (x : List ℕ). roa_ip_address_family V4 (of_family V4 content.entries) ++ x) six in
+    ap (λ (x : List ℕ). x ++ e.six) four ∙ ap (λ (x : List ℕ). roa_ip_address_family V4 (of_family V4 content.entries) ++ x) six in
     let short = blocks_short content.entries few in
     let blocks = known_element 48 (e.four ++ e.six) (roa_ip_address_family V4 (of_family V4 content.entries) ++ roa_ip_address_family V6 (of_family V6 content.entries)) e.ip_addr_blocks both (omega (arith, short)) e.are_blocks in
     let parts : e.as_id ++ e.ip_addr_blocks ≡ integer content.asn.0 ++ sequence (roa_ip_address_family V4 (of_family V4 content.entries) ++ roa_ip_address_family V6 (of_family V6 content.entries)) =
-        ap (λ (x : List ℕ). x ++ e.ip_addr_blocks) number ∙ ap (λ (x : List ℕ). integer content.asn.0 ++ x) blocks in
+    ap (λ (x : List ℕ). x ++ e.ip_addr_blocks) number ∙ ap (λ (x : List ℕ). integer content.asn.0 ++ x) blocks in
     known_element 48 (e.as_id ++ e.ip_addr_blocks) (integer content.asn.0 ++ sequence (roa_ip_address_family V4 (of_family V4 content.entries) ++ roa_ip_address_family V6 (of_family V6 content.entries))) octets parts
-        (fields_short content.asn.0 (roa_ip_address_family V4 (of_family V4 content.entries) ++ roa_ip_address_family V6 (of_family V6 content.entries)) short) e.sequence
+    (fields_short content.asn.0 (roa_ip_address_family V4 (of_family V4 content.entries) ++ roa_ip_address_family V6 (of_family V6 content.entries)) short) e.sequence
 
 is_encoded_by : (content : RouteOriginAttestation) → IsContent content → Encodes content (content_octets content)
 unfolding content_octets

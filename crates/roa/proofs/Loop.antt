@@ -1,10 +1,10 @@
 -- Reading the entries of a family one after the other, as a loop does.
-use Rattle.std.proofs.Common.{◌≡◌, ℕ, zero, suc, ◌-◌, ◌+◌, ◌≤◌, ◌<◌, eqb, List, [], ◌∷◌, ◌++◌, length, map, Option, Some, None, Result, Ok, Err, refl, sym, ap, ◌∙◌, append_assoc, arith}
+use Rattle.std.proofs.Common.{◌≡◌, ℕ, zero, suc, ◌-◌, ◌≤◌, ◌<◌, List, [], ◌∷◌, ◌++◌, length, map, Option, Some, None, Ok, Err, refl, sym, ap, ◌∙◌, append_assoc, arith}
 use Rattle.std.specs.Option.{option_map, ok_or}
 use Rattle.roa.specs.declared.fault.DecodeFault.{DecodeFault}
 use Rattle.roa.specs.declared.fault.DecodeFault.TheVariants.{NotContent}
 use Rattle.std.proofs.lemmas.Bool.{eq-eqb, ne_eqb}
-use Rattle.std.proofs.lemmas.List.{append-nil, length-append, map-append, nil_from_length}
+use Rattle.std.proofs.lemmas.List.{append-nil, length-append, map-append}
 use Rattle.addr.specs.declared.family.Family.{Family}
 use Rattle.roa.specs.declared.content.Entry.{Entry}
 use Rattle.roa.specs.Reading.{Gives, Numbers, numbers, ◌>>=◌, entry_at, entries_of}

@@ -1,12 +1,11 @@
 -- The order of entries: rising by index, sorted lists with a repeated entry.
-use Rattle.std.proofs.Common.{◌≡◌, ℕ, zero, suc, ◌+◌, ◌-◌, ◌<◌, ◌≤◌, Bool, true, false, cond, eqb, ◌&&◌, List, [], ◌∷◌, length, get_or, Ordering, refl, sym, ap, subst, ◌∙◌, inl, inr, ◌⊎◌, arith}
+use Rattle.std.proofs.Common.{◌≡◌, ℕ, zero, suc, ◌+◌, ◌<◌, ◌≤◌, Bool, true, false, cond, List, [], ◌∷◌, length, get_or, Ordering, refl, sym, ap, subst, ◌∙◌, inl, inr, arith}
 use Rattle.std.specs.Prelude.{◌↔◌, IsTrue, IsPermutation, IsSorted}
 use Rattle.std.specs.declared.cmp.Ordering.TheVariants.{Less, Equal, Greater}
 use Rattle.std.specs.Cmp.{IsTotalOrder}
 use Rattle.std.specs.Ordering.{is_lt, nat_cmp, ordering_then, ordering_reverse}
-use Rattle.std.specs.List.{All, AllAdjacentBelow, IsAllAdjacentAnswer, list_all, count_by}
+use Rattle.std.specs.List.{AllAdjacentBelow, IsAllAdjacentAnswer, list_all, count_by}
 use Rattle.std.proofs.lemmas.Bool.{and_from, eq-eqb, cases_order, lt-ltb, le-ltb, ne_eqb, both_ways}
-use Rattle.std.proofs.lemmas.Bool.Decides.{nat_tests}
 use Rattle.std.proofs.lemmas.Cmp.{nat_cmp_total, on_total, then_total}
 use Rattle.std.proofs.lemmas.List.Recursion.{is_count_by}
 use Rattle.std.proofs.lemmas.List.Sorted.{All-permutation, sum_by-IsPermutation}

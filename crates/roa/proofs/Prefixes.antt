@@ -1,5 +1,5 @@
 -- Two prefixes with the same numbers are equal: the facts beside them have one proof each.
-use Rattle.std.proofs.Common.{◌≡◌, ℕ, ◌+◌, ◌-◌, ◌^◌, ◌%◌, ◌≤◌, refl, ap, subst, ◌∙◌, sym}
+use Rattle.std.proofs.Common.{◌≡◌, ℕ, ◌+◌, ◌-◌, ◌^◌, ◌%◌, ◌≤◌, ap, subst, ◌∙◌}
 use Rattle.std.specs.Coded.{Coded-set, coded_ℕ, le_prop}
 use Rattle.addr.specs.Family.{width}
 use Rattle.addr.specs.declared.family.Family.{Family}

@@ -4,6 +4,7 @@ use Rattle.std.specs.List.{flat_map}
 use Rattle.addr.specs.Family.{width}
 use Rattle.addr.specs.declared.family.Family.{Family}
 use Rattle.addr.specs.declared.family.Family.TheVariants.{V4, V6}
+use Rattle.addr.specs.declared.prefix.Prefix.{Prefix}
 use Rattle.roa.specs.declared.content.Entry.{Entry}
 use Rattle.roa.specs.RoaContent.{RouteOriginAttestation, of_family, family_octets}
 
@@ -64,6 +65,12 @@ max_length length max = if nat_lt length max then integer max else []
 -- ROAIPAddress
 abbrev pub roa_ip_address : Family → ℕ → ℕ → ℕ → List ℕ
 roa_ip_address family first length max = sequence (bit_string family first length ++ max_length length max)
+
+abbrev pub prefix_octets : Prefix → List ℕ
+prefix_octets p = bit_string p.family p.first p.length
+
+abbrev pub entry_contents : Entry → List ℕ
+entry_contents e = prefix_octets e.prefix ++ max_length e.prefix.length e.max
 
 abbrev pub entry_octets : Entry → List ℕ
 entry_octets e = roa_ip_address e.prefix.family e.prefix.first e.prefix.length e.max

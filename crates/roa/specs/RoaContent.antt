@@ -10,7 +10,6 @@ use Rattle.addr.specs.Address.{prefix_eq}
 use Rattle.addr.specs.declared.asn.Asn.{Asn}
 use Rattle.addr.specs.declared.family.Family.{Family}
 use Rattle.addr.specs.declared.family.Family.TheVariants.{V4, V6}
-use Rattle.addr.specs.declared.prefix.Prefix.{Prefix}
 use Rattle.roa.specs.declared.content.Entry.{Entry}
 use Rattle.roa.specs.declared.content.ContentFault.{ContentFault}
 use Rattle.roa.specs.declared.content.ContentFault.TheVariants.{Empty, TooMany, MaxLength, Repeated}

@@ -4,9 +4,10 @@ ghost use Rattle.std.specs.List.{list_all};
 use addr::{Asn, Prefix};
 use std::marker::Model;
 
-/// A prefix, and the greatest length that the authorization covers in it.
+/// A prefix and its maxLength, the length of the longest prefixes in it that are authorized too
+/// (RFC 9582 section 4.3.2).
 ///
-/// Entries rise by family, first address, prefix length and greatest length.
+/// Entries rise by family, first address, prefix length and maxLength.
 #[derive(Clone, Copy, Debug, PartialEq, Eq, PartialOrd, Ord)]
 pub struct Entry {
     pub prefix: Prefix,
@@ -16,7 +17,7 @@ pub struct Entry {
 impl Entry {
     ghost use Rattle.roa.specs.RoaContent.{is_in_range};
 
-    /// Whether the greatest length is neither below the prefix's length nor over the family's width.
+    /// Whether maxLength is neither below the prefix's length nor over the family's width.
     fn is_in_range(&self) -> bool
         ensures { result ≡ is_in_range self.now }
     {
@@ -31,7 +32,7 @@ pub enum ContentFault {
     Empty,
     /// There are more than 64 entries.
     TooMany,
-    /// A greatest length is below its prefix's length or over its family's width.
+    /// A maxLength is below its prefix's length or over its family's width.
     MaxLength,
     /// Two entries are equal.
     Repeated,

@@ -1,8 +1,7 @@
 ghost use Rattle.std.specs.Prelude.{◌≡◌, ◌<◌, ◌≤◌, ◌*◌, ◌-◌, ◌^◌, length, map, IfSome, IfOk, MatchResult};
 ghost use Rattle.addr.specs.Family.{width};
-ghost use Rattle.roa.specs.RoaContent.{be_value};
 ghost use Rattle.roa.specs.Reading.{Gives, length_at, contents_at, element_at, whole, integer_of, prefix_of, max_of, entry_of, entry_at, entries_of, block_at, family_at, blocks_of, fields_of, content_of, numbers, Adds, AddsThen, Reads};
-ghost use Rattle.roa.specs.RoaContent.{RouteOriginAttestation, IsContent, Encodes};
+ghost use Rattle.roa.specs.RoaContent.{RouteOriginAttestation, IsContent, Encodes, be_value};
 
 use crate::der::{
     BIT_STRING, INTEGER, OCTET_STRING, ONE_OCTET_LENGTH, SEQUENCE, TWO_OCTET_LENGTH, family_octets,
@@ -118,7 +117,7 @@ fn read_prefix(family: Family, contents: &[u8]) -> Option<Prefix>
     Prefix::from_parts(family, first_address(family, octets), length)
 }
 
-/// The greatest length, by the octets after the BIT STRING of the prefix.
+/// The maxLength, by the octets after the BIT STRING of the prefix.
 #[tactic(auto, unfolding(crate::specs::Reading::max_of))]
 fn read_max(prefix: &Prefix, octets: &[u8]) -> Option<u8>
     ensures { Gives (λ n. n) result (max_of prefix.now.family prefix.now.length octets.now) }
@@ -157,7 +156,8 @@ fn take_entry(family: Family, octets: &[u8]) -> Option<(Entry, &[u8])>
 /// Adds the entries of a family, which are all of the octets.
 fn read_entries(family: Family, octets: &[u8], entries: &mut Vec<Entry>) -> Result<(), DecodeFault>
     requires { length entries.old.items ≤ 64 }
-    ensures adds { Adds result entries.old.items entries.new.items (entries_of (64 - length entries.old.items) family octets.now) }
+    ensures adds { Adds result entries.old.items entries.new.items
+        (entries_of (64 - length entries.old.items) family octets.now) }
     ensures few { length entries.new.items ≤ 64 }
 {
     let mut rest = octets;
@@ -197,7 +197,8 @@ fn read_family<'a>(
     entries: &mut Vec<Entry>,
 ) -> Result<&'a [u8], DecodeFault>
     requires { length entries.old.items ≤ 64 }
-    ensures adds { AddsThen result entries.old.items entries.new.items (family_at (64 - length entries.old.items) family octets.now) }
+    ensures adds { AddsThen result entries.old.items entries.new.items
+        (family_at (64 - length entries.old.items) family octets.now) }
     ensures few { length entries.new.items ≤ 64 }
 {
     match take_block(family, octets) {
@@ -244,13 +245,15 @@ fn read_content(alloc: Global, octets: &[u8]) -> Result<(Asn, Vec<Entry>), Decod
     Ok((Asn(number), entries))
 }
 
-/// The content of which these are the octets.
+/// The content of which these are the octets. Octets that no content has, as those of another
+/// spelling, are `NotContent`.
 pub fn decode(alloc: Global, octets: &[u8]) -> Result<Content, DecodeFault>
     ensures content { IfOk result IsContent }
     ensures encodes { IfOk result (λ content. Encodes content octets.now) }
 
-    // What are the octets of a content is decoded, unless memory runs out.
-    ensures only { (content : RouteOriginAttestation) → IsContent content → Encodes content octets.now → MatchResult result (λ found. found ≡ content) (λ fault. fault ≡ DecodeFault.Memory) }
+    // The octets of a content are decoded, unless memory runs out.
+    ensures only { (content : RouteOriginAttestation) → IsContent content → Encodes content octets.now
+        → MatchResult result (λ found. found ≡ content) (λ fault. fault ≡ DecodeFault.Memory) }
 {
     let (asn, entries) = read_content(alloc, octets)?;
     Content::from_rising(asn, entries).ok_or(DecodeFault::NotContent)

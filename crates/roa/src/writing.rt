@@ -1,7 +1,7 @@
 ghost use Rattle.std.specs.Prelude.{◌≡◌, ◌<◌, ◌≤◌, ◌*◌, ◌^◌, ◌++◌, ◌∷◌, length, IfOk, OnOk};
 ghost use Rattle.std.specs.List.{flat_map};
 ghost use Rattle.roa.specs.RoaContent.{of_family, Encodes};
-ghost use Rattle.roa.specs.ContentOctets.{be_octets, length_octets, element, integer, bit_string, max_length, entry_octets, roa_ip_address_family, content_octets};
+ghost use Rattle.roa.specs.ContentOctets.{be_octets, length_octets, element, integer, prefix_octets, entry_contents, entry_octets, roa_ip_address_family, content_octets};
 
 use crate::der::{
     BIT_STRING, INTEGER, OCTET_STRING, ONE_OCTET_LENGTH, SEQUENCE, TWO_OCTET_LENGTH, family_octets,
@@ -61,9 +61,9 @@ fn push_integer(out: &mut Vec<u8>, number: u32) -> Result<(), AllocError>
 
 /// Adds the BIT STRING of the prefix.
 fn push_prefix(out: &mut Vec<u8>, prefix: &Prefix) -> Result<(), AllocError>
-    ensures { OnOk result (out.new.items ≡ out.old.items ++ bit_string prefix.now.family prefix.now.first prefix.now.length) }
+    ensures { OnOk result (out.new.items ≡ out.old.items ++ prefix_octets prefix.now) }
 {
-    let len = (prefix.length + 7) / 8;
+    let len = prefix.length.div_ceil(8);
     let missing_bits = prefix.family.width() - 8 * len;
     let first_octets = prefix
         .first
@@ -77,7 +77,7 @@ fn push_prefix(out: &mut Vec<u8>, prefix: &Prefix) -> Result<(), AllocError>
 
 /// Adds the contents of an entry's SEQUENCE.
 fn push_entry(out: &mut Vec<u8>, entry: &Entry) -> Result<(), AllocError>
-    ensures { OnOk result (out.new.items ≡ out.old.items ++ (bit_string entry.now.prefix.family entry.now.prefix.first entry.now.prefix.length ++ max_length entry.now.prefix.length entry.now.max)) }
+    ensures { OnOk result (out.new.items ≡ out.old.items ++ entry_contents entry.now) }
 {
     push_prefix(out, &entry.prefix)?;
     if entry.max > entry.prefix.length {
@@ -93,7 +93,8 @@ fn push_entries(
     family: Family,
     entries: &[Entry],
 ) -> Result<(), AllocError>
-    ensures { OnOk result (out.new.items ≡ out.old.items ++ flat_map entry_octets (of_family family entries.now)) }
+    ensures { OnOk result
+        (out.new.items ≡ out.old.items ++ flat_map entry_octets (of_family family entries.now)) }
 {
     let mut contents = Vec::new(alloc);
     for entry in entries {
@@ -114,7 +115,9 @@ fn push_family(
     entries: &[Entry],
 ) -> Result<(), AllocError>
     requires { length entries.now ≤ 64 }
-    ensures { OnOk result (out.new.items ≡ out.old.items ++ roa_ip_address_family family (of_family family entries.now)) }
+    ensures { OnOk result
+        (out.new.items
+        ≡ out.old.items ++ roa_ip_address_family family (of_family family entries.now)) }
 {
     let mut addresses = Vec::new(alloc);
     push_entries(alloc, &mut addresses, family, entries)?;
@@ -130,7 +133,8 @@ fn push_family(
 #[tactic(auto, unfolding(crate::specs::ContentOctets::content_octets))]
 fn write_content(alloc: Global, asn: Asn, entries: &[Entry]) -> Result<Vec<u8>, AllocError>
     requires { length entries.now ≤ 64 }
-    ensures { IfOk result (λ octets. octets.items ≡ content_octets (record { asn = asn; entries = entries.now })) }
+    ensures { IfOk result
+        (λ octets. octets.items ≡ content_octets (record { asn = asn; entries = entries.now })) }
 {
     let mut blocks = Vec::new(alloc);
     push_family(alloc, &mut blocks, Family::V4, entries)?;

@@ -1,4 +1,4 @@
-use Rattle.std.proofs.Common.{ℕ, ◌≡◌, ◌-◌, ◌*◌, ◌<◌, ◌%◌, ◌^◌, length, ◌∙◌, arith}
+use Rattle.std.proofs.Common.{◌≡◌, ◌-◌, ◌*◌, ◌<◌, ◌%◌, ◌^◌, length, ◌∙◌, arith}
 use Rattle.std.specs.Option.{SomeIff}
 use Rattle.addr.specs.Family.{width}
 use Rattle.roa.proofs.Octets.{AreOctets-from_index}

@@ -1,6 +1,5 @@
-use Rattle.std.proofs.Common.{◌≡◌, ◌++◌, ℕ, List, arith, refl, sym, ap, ◌∙◌, append_assoc, length}
-use Rattle.std.proofs.lemmas.List.{length-append}
-use Rattle.roa.specs.ContentOctets.{bit_string, max_length, element, entry_octets, length_octets}
+use Rattle.std.proofs.Common.{◌≡◌, ◌++◌, ℕ, List, arith, sym, ap, ◌∙◌}
+use Rattle.roa.specs.ContentOctets.{bit_string, max_length, element, entry_octets}
 use Rattle.roa.proofs.Sizes.{length-entry_contents}
 use Rattle.roa.proofs.Written.{written_more, written_same}
 use Rattle.roa.proofs.writing.push_entries.Goals as goal

@@ -1,4 +1,4 @@
-use Rattle.std.proofs.Common.{◌≡◌, ◌≤◌, ◌++◌, ◌∙◌, ap, length, List, ℕ, arith}
+use Rattle.std.proofs.Common.{◌≡◌, ◌≤◌, ◌++◌, ◌∙◌, ap, length, arith}
 use Rattle.std.specs.List.{flat_map}
 use Rattle.roa.specs.RoaContent.{of_family}
 use Rattle.roa.specs.ContentOctets.{element, entry_octets}

@@ -1,9 +1,8 @@
-use Rattle.std.proofs.Common.{◌≡◌, ◌≤◌, ◌<◌, length, true, List, arith, rules, sym, subst}
+use Rattle.std.proofs.Common.{◌≡◌, true, arith, rules}
 use Rattle.std.specs.Prelude.{IsSorted}
 use Rattle.std.proofs.lemmas.Bool.{both_ways}
 use Rattle.std.specs.List.{list_all}
-use Rattle.roa.specs.declared.content.Entry.{Entry}
-use Rattle.roa.specs.RoaContent.{Rises, is_in_range, entry_order}
+use Rattle.roa.specs.RoaContent.{is_in_range, entry_order}
 use Rattle.roa.proofs.Order.{is_repeated, in_range_moved}
 use Rattle.roa.proofs.content.Content.make.Goals as goal
 
