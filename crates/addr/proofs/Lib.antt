@@ -9,3 +9,4 @@ pub mod PrefixTextLemmas
 pub mod PrefixGroupsLemmas
 pub mod PrefixSpellingLemmas
 mod PrefixTextSamples
+pub mod SpelledPrefixLemmas

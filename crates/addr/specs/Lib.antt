@@ -7,3 +7,4 @@ pub mod Name
 pub mod Day
 pub mod Digits
 pub mod PrefixText
+pub mod SpelledPrefix

@@ -1,6 +1,6 @@
 -- The rows of the holders of a map, by name and as a list.
-use Rattle.std.proofs.Common.{◌≡◌, ℕ, Bool, true, false, ◌↔◌, IsTrue, List, [], ◌∷◌, Option, Some, None, refl, sym, ap, subst, ◌∙◌, Global, BTreeMap, Contains}
-use Rattle.std.specs.BTreeMap.{get, values, IsOrdered}
+use Rattle.std.proofs.Common.{◌≡◌, ℕ, Bool, true, false, ◌↔◌, IsTrue, List, [], ◌∷◌, Option, Some, None, refl, sym, ap, subst, cond, if◌then◌else◌, ◌∙◌, Global, BTreeMap, Contains, Result, Ok, Err, OnOk, OnErr, IsSome}
+use Rattle.std.specs.BTreeMap.{get, values, IsOrdered, is_at}
 use Rattle.std.specs.Cmp.Lexicographic.{slice_cmp}
 use Rattle.std.specs.Ordering.{nat_cmp}
 use Rattle.std.specs.List.{list_any}
@@ -8,11 +8,17 @@ use Rattle.std.proofs.lemmas.Cmp.{nat_list_cmp_total}
 use Rattle.std.proofs.lemmas.List.Folds.{Any-from_list_any, list_any-from_Any}
 use Rattle.std.proofs.lemmas.Map.Lookups.{exact_bytes}
 use Rattle.std.proofs.lemmas.Map.Made.{Contains-values_of, Contains-from_values_of}
+use Rattle.std.proofs.lemmas.Map.Text.{is_eq-slice_cmp}
+use Rattle.policy.specs.History.{same_name}
 use Rattle.std.proofs.lemmas.Map.Views.{btree_map_get_iff}
 use Rattle.addr.specs.Spans.{span_meets, HaveSome}
 use Rattle.addr.specs.declared.prefix.Prefix.{Prefix}
 use Rattle.addr.proofs.SpanLemmas.{met_some, some_met}
-use Rattle.policy.specs.Rows.{Rows, rows_of, rows_if_any}
+use Rattle.policy.specs.Rows.{Rows, rows_of, rows_if_any, edited, edited_if_any, changed_by_one}
+use Rattle.policy.specs.declared.change.HolderChange.{HolderChange}
+use Rattle.std.proofs.lemmas.Bool.{false≢true}
+use Rattle.policy.specs.declared.change.Edit.{Edit}
+use Rattle.policy.proofs.Names.{same_name-true}
 use Rattle.policy.specs.declared.rows.HolderRows.{HolderRows}
 use Rattle.addr.specs.declared.vrp.Vrp.{Vrp}
 use Rattle.cli.specs.DeskRows.{rows_at, IsTaken, gives_on, rows_give_on, IsGivenOn}
@@ -60,3 +66,64 @@ taken_iff records p ordered =
 pub given_iff : (records : Records) (day : ℕ) (v : Vrp) → IsOrdered (slice_cmp nat_cmp) records.holders → IsTrue (list_any (rows_give_on day v) (values records.holders)) ↔ IsGivenOn (rows_at records) day v
 given_iff records day v ordered =
     any_iff records (rows_give_on day v) (λ r. list_any (gives_on day v) r.auths ≡ true) ordered (λ r gives. gives) (λ r gives. gives)
+
+-- the rows at a name after those of one holder were put or taken away
+pub rows_written : (m n : Holders) (holder : List ℕ) (w : Option HolderRows) → ((h : List ℕ) → get (slice_cmp nat_cmp) n h ≡ cond (is_at (slice_cmp nat_cmp holder) h) w (get (slice_cmp nat_cmp) m h)) → (h : List ℕ) → rows_if_any (get (slice_cmp nat_cmp) n h) ≡ (if same_name holder h then rows_if_any w else rows_if_any (get (slice_cmp nat_cmp) m h))
+rows_written m n holder w put h = rw (put h, is_eq-slice_cmp holder h) (go (same_name holder h))
+  where
+    go : (b : Bool) → rows_if_any (cond b w (get (slice_cmp nat_cmp) m h)) ≡ (if b then rows_if_any w else rows_if_any (get (slice_cmp nat_cmp) m h))
+    go true = refl
+    go false = refl
+
+-- the rows at a name after the rows of one holder were edited
+pub rows_edited : (m n : Holders) (holder : List ℕ) (before after : HolderRows) (edit : Edit) → Some before ≡ get (slice_cmp nat_cmp) m holder → rows_of after ≡ edited edit (rows_of before) → ((h : List ℕ) → get (slice_cmp nat_cmp) n h ≡ cond (is_at (slice_cmp nat_cmp holder) h) (Some after) (get (slice_cmp nat_cmp) m h)) → (h : List ℕ) → rows_if_any (get (slice_cmp nat_cmp) n h) ≡ (if same_name holder h then edited_if_any edit (rows_if_any (get (slice_cmp nat_cmp) m h)) else rows_if_any (get (slice_cmp nat_cmp) m h))
+rows_edited m n holder before after edit there is put h = rows_written m n holder (Some after) put h ∙ go (same_name holder h) refl
+  where
+    go : (b : Bool) → same_name holder h ≡ b → (if b then Some (rows_of after) else rows_if_any (get (slice_cmp nat_cmp) m h)) ≡ (if b then edited_if_any edit (rows_if_any (get (slice_cmp nat_cmp) m h)) else rows_if_any (get (slice_cmp nat_cmp) m h))
+    go false same = refl
+    go true same =
+        let found : Some before ≡ get (slice_cmp nat_cmp) m h = there ∙ ap (get (slice_cmp nat_cmp) m) (same_name-true holder h same) in
+        ap Some is ∙ ap (λ r. edited_if_any edit (rows_if_any r)) found
+
+-- the rows at a name after the rows of one holder were written again
+pub rows_kept : (m n : Holders) (holder : List ℕ) (before after : HolderRows) → Some before ≡ get (slice_cmp nat_cmp) m holder → rows_of after ≡ rows_of before → ((h : List ℕ) → get (slice_cmp nat_cmp) n h ≡ cond (is_at (slice_cmp nat_cmp holder) h) (Some after) (get (slice_cmp nat_cmp) m h)) → (h : List ℕ) → rows_if_any (get (slice_cmp nat_cmp) n h) ≡ rows_if_any (get (slice_cmp nat_cmp) m h)
+rows_kept m n holder before after there is put h = rows_written m n holder (Some after) put h ∙ go (same_name holder h) refl
+  where
+    go : (b : Bool) → same_name holder h ≡ b → (if b then Some (rows_of after) else rows_if_any (get (slice_cmp nat_cmp) m h)) ≡ rows_if_any (get (slice_cmp nat_cmp) m h)
+    go false same = refl
+    go true same =
+        let found : Some before ≡ get (slice_cmp nat_cmp) m h = there ∙ ap (get (slice_cmp nat_cmp) m) (same_name-true holder h same) in
+        ap Some is ∙ ap rows_if_any found
+
+-- what holds anyhow holds on an error
+pub on_err : {T E P : Type 0} → (r : Result T E) → P → OnErr r P
+on_err (Ok x) holds = tt
+on_err (Err e) holds = holds
+
+-- what holds where it went well holds, where an error could not come
+pub not_err : {T E P Q : Type 0} → (r : Result T E) → OnOk r P → OnErr r Q → (Q → ⊥) → P
+not_err (Ok x) ok err never = ok
+not_err (Err e) ok err never = absurd (never err)
+
+-- a holder that has rows is a key of the map
+pub rows_not_absent : (m : Holders) (holder : List ℕ) → IsSome (rows_if_any (get (slice_cmp nat_cmp) m holder)) → get (slice_cmp nat_cmp) m holder ≡ None → ⊥
+rows_not_absent m holder some none =
+    let P : Option HolderRows → Type 0 = λ found. IsSome (rows_if_any found) in
+    absurd (false≢true (subst P none some))
+
+-- rows that were there are there after an edit
+pub still_some : (c : HolderChange) (h : List ℕ) (rows : Option Rows) → IsSome rows → IsSome (changed_by_one c h rows)
+still_some c h (Some r) some = go (same_name c.holder h)
+  where
+    go : (b : Bool) → IsSome (if b then edited_if_any c.edit (Some r) else Some r)
+    go true = refl
+    go false = refl
+still_some c h None some = absurd (false≢true some)
+
+-- an edit of one holder that is put back
+pub put_back_all : (c : HolderChange) (holder : List ℕ) (old mid new : List ℕ → Option Rows) (kept : Option Rows) → holder ≡ c.holder → kept ≡ old holder → ((h : List ℕ) → mid h ≡ changed_by_one c h (old h)) → ((h : List ℕ) → new h ≡ (if same_name holder h then kept else mid h)) → (h : List ℕ) → new h ≡ old h
+put_back_all c holder old mid new kept is same edited put h = put h ∙ go (same_name holder h) refl
+  where
+    go : (b : Bool) → same_name holder h ≡ b → (if b then kept else mid h) ≡ old h
+    go true at = same ∙ ap old (same_name-true holder h at)
+    go false at = edited h ∙ ap (λ b. if b then edited_if_any c.edit (old h) else old h) (ap (λ n. same_name n h) (sym is) ∙ at)

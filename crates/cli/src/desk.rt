@@ -1,7 +1,10 @@
 //! The desk: what is asked of it, and what it replies.
 mod asked;
+mod gathering;
+mod handling;
 mod records;
 mod reply;
 
 pub use asked::{Asked, Request};
-pub use reply::{Reply, Validity};
+pub use handling::Desk;
+pub use reply::Reply;

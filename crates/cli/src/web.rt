@@ -1,8 +1,11 @@
-//! Bytes in and bytes out: streams, lines and scripts.
+//! Bytes in and bytes out: streams, lines, scripts, requests and replies.
 pub mod device;
 #[cfg(test)]
 mod fakes;
 pub mod lines;
+pub mod malformed;
+pub mod reply;
+pub mod request;
 pub mod script;
 pub mod stream;
 mod trail;

@@ -1,12 +1,13 @@
 -- Fronts of lists of VRPs that rise.
-use Rattle.std.proofs.Common.{◌≡◌, ℕ, ◌+◌, ◌≤◌, ◌<◌, true, false, List, [], ◌∷◌, ◌++◌, take, drop, length, get_or, refl, sym, subst, length-append, arith, inl, inr, Ordering}
-use Rattle.std.specs.List.{All}
+use Rattle.std.proofs.Common.{◌∙◌, ap, ◌≡◌, ℕ, ◌+◌, ◌-◌, ◌≤◌, ◌<◌, true, false, List, [], ◌∷◌, ◌++◌, take, drop, length, get_or, refl, sym, subst, length-append, arith, inl, inr, Ordering}
+use Rattle.std.specs.List.{All, AllWithin, slice_range}
 use Rattle.std.specs.List.Sorted.{IsPartitionPoint, IsPartitionedBy}
 use Rattle.std.specs.Ordering.{is_le, is_gt, ordering_then}
 use Rattle.std.specs.declared.cmp.Ordering.TheVariants.{Less, Equal, Greater}
 use Rattle.std.proofs.lemmas.Bool.{both_ways, cases_Bool, cases_lt}
 use Rattle.std.proofs.lemmas.Cmp.{upto}
-use Rattle.std.proofs.lemmas.List.{take-append-drop, get_or_append_left, get_or-take, get_or-drop, get_or-append-add, get_or_at, length-take-le, length-drop}
+use Rattle.std.proofs.lemmas.List.Edits.{get_or-between, length-between}
+use Rattle.std.proofs.lemmas.List.{get_or_read, take-append-drop, get_or_append_left, get_or-take, get_or-drop, get_or-append-add, get_or_at, length-take-le, length-drop}
 use Rattle.addr.specs.declared.prefix.Prefix.{Prefix}
 use Rattle.addr.specs.declared.vrp.Vrp.{Vrp}
 use Rattle.addr.specs.Address.{contains}
@@ -124,3 +125,50 @@ rising-last before v rising k d within =
     let last : get_or (before ++ v ∷ []) (length before) d ≡ v = get_or_at before v [] d (length before) refl in
     let whole : vrp_cmp (get_or (before ++ v ∷ []) k d) (get_or (before ++ v ∷ []) (length before) d) ≡ Less = rising k (length before) d within (omega (arith, length-append before (v ∷ []))) in
     less-at_most w v (subst (λ x. vrp_cmp x v ≡ Less) first (subst (λ x. vrp_cmp (get_or (before ++ v ∷ []) k d) x ≡ Less) last whole))
+
+-- behind a VRP that sorts after a prefix all do
+pub after-onwards : (p : Prefix) (vrps : List Vrp) (i : ℕ) (v : Vrp) → AreRising vrps → i < length vrps → v ≡ get_or vrps i v → is_at_most v.prefix p ≡ false → AllWithin (λ v. is_at_most v.prefix p ≡ false) vrps i (length vrps)
+after-onwards p vrps i v rising within read after k d low high =
+    let here : v ≡ get_or vrps i d = get_or_read vrps i v within read d in
+    elim (cases_Bool (is_at_most (get_or vrps k d).prefix p)) [
+      | inl upto ↦ absurd (both_ways _ (subst (λ w. is_at_most w.prefix p ≡ false) here after) (rising-partitioned p vrps rising i k d low high upto))
+      | inr out ↦ out
+    ]
+
+-- up to a VRP that sorts up to a prefix all do
+pub upto-before : (p : Prefix) (vrps : List Vrp) (i : ℕ) (v : Vrp) → AreRising vrps → i < length vrps → v ≡ get_or vrps i v → is_at_most v.prefix p ≡ true → AllWithin (λ v. is_at_most v.prefix p ≡ true) vrps 0 i
+upto-before p vrps i v rising within read upto k d low high =
+    let here : v ≡ get_or vrps i d = get_or_read vrps i v within read d in
+    rising-partitioned p vrps rising k i d (omega arith) within (subst (λ w. is_at_most w.prefix p ≡ true) here upto)
+
+range-read : (vrps : List Vrp) (start end k : ℕ) (d : Vrp) → start + k < end → get_or (slice_range vrps start end) k d ≡ get_or vrps (start + k) d
+range-read vrps start end k d within = get_or-between vrps start end k d within
+
+pub range-partitioned : (p : Prefix) (vrps : List Vrp) (start end : ℕ) → end ≤ length vrps → AreRising vrps → IsPartitionedBy (λ v. is_at_most v.prefix p) (slice_range vrps start end)
+range-partitioned p vrps start end fits rising i j d le within last =
+    let long = length-between vrps start end fits in
+    let first : get_or (slice_range vrps start end) i d ≡ get_or vrps (start + i) d = range-read vrps start end i d (omega arith) in
+    let second : get_or (slice_range vrps start end) j d ≡ get_or vrps (start + j) d = range-read vrps start end j d (omega arith) in
+    subst (λ v. is_at_most v.prefix p ≡ true) (sym first)
+    (rising-partitioned p vrps rising (start + i) (start + j) d (omega arith) (omega arith) (subst (λ v. is_at_most v.prefix p ≡ true) second last))
+
+-- the place in a range round it is the place in the whole
+pub front-in_range : (p : Prefix) (vrps : List Vrp) (start end more : ℕ) → end ≤ length vrps → start ≤ end → AllWithin (λ v. is_at_most v.prefix p ≡ true) vrps 0 start → AllWithin (λ v. is_at_most v.prefix p ≡ false) vrps end (length vrps) → more ≤ length (slice_range vrps start end) → IsPartitionPoint (λ v. is_at_most v.prefix p ≡ true) (λ v. is_at_most v.prefix p ≡ false) (slice_range vrps start end) more → IsFrontUpTo p vrps (take (start + more) vrps)
+front-in_range p vrps start end more fits order before after within parted =
+    let long = length-between vrps start end fits in
+    front-up_to p vrps (start + more) (omega arith) (
+      (λ k d low high. elim (cases_lt k start) [
+        | inl early ↦ before k d low early
+        | inr late ↦
+            let same : start + (k - start) ≡ k = omega arith in
+            let read : get_or (slice_range vrps start end) (k - start) d ≡ get_or vrps k d = range-read vrps start end (k - start) d (omega arith) ∙ ap (λ n. get_or vrps n d) same in
+            subst (λ v. is_at_most v.prefix p ≡ true) read (parted.0 (k - start) d (omega arith) (omega arith))
+      ]),
+      (λ k d low high. elim (cases_lt k end) [
+        | inl early ↦
+            let same : start + (k - start) ≡ k = omega arith in
+            let read : get_or (slice_range vrps start end) (k - start) d ≡ get_or vrps k d = range-read vrps start end (k - start) d (omega arith) ∙ ap (λ n. get_or vrps n d) same in
+            subst (λ v. is_at_most v.prefix p ≡ false) read (parted.1 (k - start) d (omega arith) (omega arith))
+        | inr late ↦ after k d late high
+      ]),
+    )

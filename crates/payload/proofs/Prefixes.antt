@@ -230,13 +230,22 @@ host_bits-fit gap top w low high =
     ]
 
 -- a prefix round both of two at this distance has more host bits than the distance's top bit
-pub round-both : (p low high : Prefix) (f : Family) (first length top : ℕ) → contains p low ≡ true → contains p high ≡ true → low.first < high.first → 2 ^ top ≤ high.first - low.first → f ≡ low.family → first ≡ low.first - low.first % 2 ^ (top + 1) → length ≡ width low.family - (top + 1) → is_le (ordering_then (family_cmp p.family f) (ordering_then (nat_cmp p.first first) (nat_cmp p.length length))) ≡ true
-round-both p low high f first length top in-low in-high less far family cut short =
+round-bits : (p low high : Prefix) (top : ℕ) → contains p low ≡ true → contains p high ≡ true → low.first < high.first → 2 ^ top ≤ high.first - low.first → top < width low.family - p.length
+round-bits p low high top in-low in-high less far =
     let ends = contains-ends p low in-low in
     let ends' = contains-ends p high in-high in
     let widths : width p.family ≡ width low.family = ap width ends.family in
     let room : high.first < p.first + size p = omega (arith, ends'.last, first-last p, first-last high, pow_pos (width high.family - high.length)) in
-    let more : top < width p.family - p.length = host_bits-fit (high.first - low.first) top (width p.family - p.length) far (omega (arith, ends.first)) in
+    rw (sym widths) (host_bits-fit (high.first - low.first) top (width p.family - p.length) far (omega (arith, ends.first)))
+
+pub round-length : (p low high : Prefix) (length top : ℕ) → contains p low ≡ true → contains p high ≡ true → low.first < high.first → 2 ^ top ≤ high.first - low.first → length ≡ width low.family - (top + 1) → p.length ≤ length
+round-length p low high length top in-low in-high less far short = omega (arith, round-bits p low high top in-low in-high less far)
+
+pub round-both : (p low high : Prefix) (f : Family) (first length top : ℕ) → contains p low ≡ true → contains p high ≡ true → low.first < high.first → 2 ^ top ≤ high.first - low.first → f ≡ low.family → first ≡ low.first - low.first % 2 ^ (top + 1) → length ≡ width low.family - (top + 1) → is_le (ordering_then (family_cmp p.family f) (ordering_then (nat_cmp p.first first) (nat_cmp p.length length))) ≡ true
+round-both p low high f first length top in-low in-high less far family cut short =
+    let ends = contains-ends p low in-low in
+    let widths : width p.family ≡ width low.family = ap width ends.family in
+    let more : top < width low.family - p.length = round-bits p low high top in-low in-high less far in
     let aligned : p.first % 2 ^ (top + 1) ≡ 0 = multiple-at_most p.first (width p.family - p.length) (top + 1) (omega arith) p.aligned in
     let before : p.first ≤ first = rw cut (multiple-below p.first low.first (2 ^ (top + 1)) (pow_pos (top + 1)) aligned ends.first) in
     order-one_family p.family f _ (ends.family ∙ sym family) (numbers-order p.first first p.length length (elim (cases_lt p.first first) [

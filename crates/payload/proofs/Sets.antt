@@ -1,9 +1,9 @@
 -- Sets of VRPs made from lists.
-use Rattle.std.proofs.Common.{◌≡◌, ℕ, suc, Bool, true, false, cond, not, ◌&&◌, ◌||◌, Option, Some, None, is_some, List, [], ◌∷◌, map, length, refl, sym, ap, ◌∙◌, arith, Ordering, lit<}
+use Rattle.std.proofs.Common.{T, zero, get_or, ◌<◌, ◌≡◌, ℕ, suc, Bool, true, false, cond, not, ◌&&◌, ◌||◌, Option, Some, None, is_some, List, [], ◌∷◌, map, length, refl, sym, ap, ◌∙◌, arith, Ordering, lit<}
 use Rattle.std.specs.FinMap as maps
-use Rattle.std.specs.FinMap.Entries.{by_order, put}
+use Rattle.std.specs.FinMap.Entries.{below_all, by_order, is_sorted, put}
 use Rattle.std.specs.List.{list_any, insert}
-use Rattle.std.specs.Ordering.{eq_by_cmp, is_eq}
+use Rattle.std.specs.Ordering.{eq_by_cmp, is_eq, is_lt}
 use Rattle.std.specs.declared.cmp.Ordering.TheVariants.{Less, Equal, Greater}
 use Rattle.std.proofs.lemmas.List.Sorted.{IsPermutation-insert, list_any-IsPermutation}
 use Rattle.addr.specs.declared.vrp.Vrp.{Vrp}
@@ -34,6 +34,9 @@ marks (Some u) = refl
 pub same_set : (s t : set.VrpSet) → ((v : Vrp) → set.contains s v ≡ set.contains t v) → s ≡ t
 same_set s t each = maps.same_map vrp_total exact_vrp s t (λ v. marks _ ∙ ap marked (each v) ∙ sym (marks _))
 
+pub contains-empty : (v : Vrp) → set.contains set.empty v ≡ false
+contains-empty v = ap is_some (maps.get-empty vrp_cmp v)
+
 pub contains-insert : (s : set.VrpSet) (v w : Vrp) → set.contains (set.insert s v) w ≡ (is_vrp w v || set.contains s w)
 contains-insert s v w = ap is_some (maps.get-insert vrp_total s v tt w) ∙ some-or (is_vrp w v) _
 
@@ -41,7 +44,7 @@ pub contains-remove : (s : set.VrpSet) (v w : Vrp) → set.contains (set.remove 
 contains-remove s v w = ap is_some (maps.get-remove vrp_total s v w) ∙ none-and (is_vrp w v) _
 
 pub contains-from_list : (vrps : List Vrp) (v : Vrp) → set.contains (set.from_list vrps) v ≡ list_any (is_vrp v) vrps
-contains-from_list [] v = ap is_some (maps.get-empty vrp_cmp v)
+contains-from_list [] v = contains-empty v
 contains-from_list (w ∷ vrps) v = contains-insert (set.from_list vrps) w v ∙ ap (λ b. is_vrp v w || b) (contains-from_list vrps v)
 
 -- lists that contain the same VRPs make one set
@@ -115,3 +118,28 @@ entries-from_list (v ∷ w ∷ vrps) rising =
 -- the set of a list that rises gives that list
 pub items-from_list : (vrps : List Vrp) → AreRising vrps → set.items (set.from_list vrps) ≡ vrps
 items-from_list vrps rising = ap (map (λ e. e.0)) (entries-from_list vrps rising) ∙ names-marked vrps
+
+-- ---- the VRPs of a set rise
+
+both : (a b : Bool) → T (a && b) → T a × T b
+both true b h = (tt, h)
+both false b h = absurd h
+
+is-less : (o : Ordering) → T (is_lt o) → o ≡ Less
+is-less Less h = refl
+is-less Equal h = absurd h
+is-less Greater h = absurd h
+
+below-at : (v : Vrp) (es : List (Vrp × Unit {0})) → T (below_all vrp_cmp v es) → (k : ℕ) (d : Vrp) → k < length (map (λ e. e.0) es) → vrp_cmp v (get_or (map (λ e. e.0) es) k d) ≡ Less
+below-at v [] below k d within = absurd (omega arith)
+below-at v (e ∷ es) below zero d within = is-less _ (both _ _ below).0
+below-at v (e ∷ es) below (suc k) d within = below-at v es (both _ _ below).1 k d (omega arith)
+
+rising-keys : (es : List (Vrp × Unit {0})) → T (is_sorted vrp_cmp es) → AreRising (map (λ e. e.0) es)
+rising-keys [] sorted i j d less within = absurd (omega arith)
+rising-keys (e ∷ es) sorted i zero d less within = absurd (omega arith)
+rising-keys (e ∷ es) sorted zero (suc j) d less within = below-at e.0 es (both _ _ sorted).0 j d (omega arith)
+rising-keys (e ∷ es) sorted (suc i) (suc j) d less within = rising-keys es (both _ _ sorted).1 i j d (omega arith) (omega arith)
+
+pub items_rise : (s : set.VrpSet) → AreRising (set.items s)
+items_rise s = rising-keys (maps.entries s) (maps.entries_sorted s)

@@ -1,5 +1,6 @@
-ghost use Rattle.std.specs.Prelude.{◌≡◌, ◌++◌, true, not, IfOk, OnOk, OnErr};
+ghost use Rattle.std.specs.Prelude.{◌≡◌, ◌++◌, true, false, not, IfOk, OnOk, OnErr};
 ghost use Rattle.addr.specs.OriginValidation.{validation_state};
+ghost use Rattle.payload.specs.Rising.{AreRising};
 ghost use Rattle.payload.specs.ValidityState.{state_of};
 ghost use Rattle.payload.specs.Visit.{WasGivenBeginning};
 ghost use Rattle.payload.specs.VrpSet as set;
@@ -33,7 +34,11 @@ pub trait PayloadIndex {
 
     /// Hands the VRPs to the sink, rising, each once, until it stops.
     fn visit<S: Sink>(&self, sink: &mut S) -> Result<(), Stop>
-        ensures ok { OnOk result (S.given sink.new ≡ S.given sink.old ++ set.items (vrps self.now)) }
-        ensures beginning { OnErr result (WasGivenBeginning (set.items (vrps self.now)) (S.given sink.old) (S.given sink.new)) }
+        ensures rising { AreRising (set.items (vrps self.now)) }
+        ensures all { OnOk result (S.has_stopped sink.old ≡ false → S.given sink.new ≡ S.given sink.old ++ set.items (vrps self.now)) }
+        ensures goes_on { OnOk result (S.has_stopped sink.old ≡ false → S.has_stopped sink.new ≡ false) }
+
+        // The sink's last `take` answered the `Stop`.
+        ensures beginning { OnErr result (S.has_stopped sink.old ≡ false → WasGivenBeginning (set.items (vrps self.now)) (S.given sink.old) (S.given sink.new)) }
         ensures stopped { OnErr result (S.has_stopped sink.new ≡ true) };
 }

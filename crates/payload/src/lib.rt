@@ -4,6 +4,7 @@
 mod index;
 mod list;
 mod search;
+mod shortest;
 mod sink;
 mod validity;
 
@@ -11,3 +12,6 @@ pub use index::PayloadIndex;
 pub use list::ListIndex;
 pub use sink::{Sink, Stop};
 pub use validity::Validity;
+
+#[cfg(test)]
+mod tests;

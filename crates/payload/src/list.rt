@@ -4,20 +4,23 @@ ghost use Rattle.std.specs.List.Sorted.{IsStrictlySortedBy};
 ghost use Rattle.std.specs.Ordering.{eq_by_cmp};
 ghost use Rattle.payload.specs.VrpSet as set;
 
+use crate::shortest::Shortest;
 use crate::{PayloadIndex, Sink, Stop, Validity, search};
 use addr::{Route, Vrp};
 use std::alloc::{AllocError, Global};
 use std::marker::Model;
 
 /// A set of VRPs in a sorted vector, seen as the set.
-#[derive(Drop)]
+#[derive(Debug, Drop)]
 pub struct ListIndex {
     vrps: Vec<Vrp>,
+    shortest: Shortest,
 }
 
 impl Model for ListIndex {
     ghost use Rattle.payload.specs.VrpSet as set;
     ghost use Rattle.payload.specs.Rising.{AreRising};
+    ghost use Rattle.payload.specs.Shortest.{AreNoShorter};
 
     ghost Value = { set.VrpSet };
 
@@ -25,7 +28,7 @@ impl Model for ListIndex {
 
     ghost view = { λ a. set.from_list a.vrps.items };
 
-    ghost invariant = { λ a. AreRising a.vrps.items };
+    ghost invariant = { λ a. AreRising a.vrps.items × AreNoShorter a.shortest a.vrps.items };
 }
 
 impl ListIndex {
@@ -35,6 +38,7 @@ impl ListIndex {
     {
         ListIndex {
             vrps: Vec::new(alloc),
+            shortest: Shortest::new(),
         }
     }
 }
@@ -45,7 +49,8 @@ impl From<Vec<Vrp>> for ListIndex {
     /// The VRPs may stand in any order and repeat. Takes no memory beyond the vector.
     fn from(mut vrps: Vec<Vrp>) -> ListIndex {
         sort_and_dedup(&mut vrps);
-        ListIndex { vrps }
+        let shortest = Shortest::of(&vrps);
+        ListIndex { vrps, shortest }
     }
 }
 
@@ -66,6 +71,7 @@ impl PayloadIndex for ListIndex {
             Ok(_) => Ok(false),
             Err(at) => {
                 self.vrps.insert(at, vrp)?;
+                self.shortest = self.shortest.with(&vrp.prefix);
                 Ok(true)
             }
         }
@@ -86,9 +92,10 @@ impl PayloadIndex for ListIndex {
     }
 
     fn validity(&self, route: &Route) -> Validity {
-        search::validity(&self.vrps, route)
+        search::validity(&self.vrps, self.shortest, route)
     }
 
+    #[tactic(auto, using(crate::proofs::Sets::items_rise))]
     fn visit<S: Sink>(&self, sink: &mut S) -> Result<(), Stop> {
         for vrp in &self.vrps {
             sink.take(vrp)?;

@@ -1,4 +1,4 @@
-ghost use Rattle.std.specs.Prelude.{◌≡◌, ◌-◌, ◌%◌, ◌^◌, ◌<◌, true, false, ◌&&◌, nat_le};
+ghost use Rattle.std.specs.Prelude.{◌≡◌, ◌-◌, ◌%◌, ◌^◌, ◌<◌, ◌≤◌, true, false, ◌&&◌, nat_le};
 ghost use Rattle.std.specs.List.{All};
 ghost use Rattle.addr.specs.Address.{contains};
 ghost use Rattle.addr.specs.Family.{family_eq};
@@ -6,25 +6,28 @@ ghost use Rattle.addr.specs.OriginValidation.{is_from, validation_state};
 ghost use Rattle.addr.specs.declared.prefix.Prefix.{Prefix};
 ghost use Rattle.payload.specs.Rising.{AreRising};
 ghost use Rattle.payload.specs.Search.{is_at_most, IsFrontUpTo, HasAllEnclosing};
+ghost use Rattle.payload.specs.Shortest.{AreNoShorter};
 ghost use Rattle.payload.specs.ValidityState.{state_of};
 
 use crate::Validity;
+use crate::shortest::Shortest;
 use addr::{Family, Origin, Prefix, Route, Vrp};
 
 /// The state of the route over VRPs that rise.
 ///
-/// A VRP that covers the route sorts at or before it. So the search goes back from the route's place;
-/// and from a VRP that does not cover the route, past all that do not reach from that VRP to the
-/// route.
-pub fn validity(vrps: &[Vrp], route: &Route) -> Validity
-    requires { AreRising vrps.now }
+/// A VRP that covers the route sorts at or before it. So the search goes back from the route's place,
+/// over each VRP that covers the route; and from one that does not cover it, past all that do not
+/// reach from that one to the route. It ends where no prefix is short enough for that.
+pub fn validity(vrps: &[Vrp], shortest: Shortest, route: &Route) -> Validity
+    requires rising { AreRising vrps.now }
+    requires no_shorter { AreNoShorter shortest vrps.now }
     ensures { state_of result ≡ validation_state vrps.now route.now }
 {
     let mut is_covered = false;
     let mut rest = up_to(vrps, &route.prefix);
     while let Some((vrp, before)) = rest.split_last() {
         if !vrp.prefix.contains(&route.prefix) {
-            rest = enclosing_both(before, &vrp.prefix, &route.prefix);
+            rest = enclosing_both(before, shortest, &vrp.prefix, &route.prefix);
             continue;
         }
         if is_authorized(vrp, route) {
@@ -55,13 +58,37 @@ fn up_to<'a>(vrps: &'a [Vrp], prefix: &Prefix) -> &'a [Vrp]
     requires { AreRising vrps.now }
     ensures { IsFrontUpTo prefix.now vrps.now result.now }
 {
-    let end = vrps.partition_point(|vrp| vrp.prefix <= *prefix);
+    let end = vrps.partition_point(|vrp| is_up_to(vrp, prefix));
     &vrps[..end]
 }
 
+/// Whether the VRP's prefix sorts at or before this one.
+fn is_up_to(vrp: &Vrp, prefix: &Prefix) -> bool
+    ensures { result ≡ is_at_most vrp.now.prefix prefix.now }
+{
+    vrp.prefix <= *prefix
+}
+
+/// As `up_to`, and faster where only few VRPs at the end sort after the prefix.
+fn up_to_from_end<'a>(vrps: &'a [Vrp], prefix: &Prefix) -> &'a [Vrp]
+    requires { AreRising vrps.now }
+    ensures { IsFrontUpTo prefix.now vrps.now result.now }
+{
+    let mut end = vrps.len();
+    let mut step: usize = 1;
+    while step < end && !is_up_to(&vrps[end - step], prefix) {
+        end -= step;
+        step = step.saturating_add(step);
+    }
+    let start = end.saturating_sub(step);
+    let more = vrps[start..end].partition_point(|vrp| is_up_to(vrp, prefix));
+    &vrps[..start + more]
+}
+
 /// Some VRPs at the front, among them all that contain both prefixes.
-fn enclosing_both<'a>(vrps: &'a [Vrp], low: &Prefix, high: &Prefix) -> &'a [Vrp]
+fn enclosing_both<'a>(vrps: &'a [Vrp], shortest: Shortest, low: &Prefix, high: &Prefix) -> &'a [Vrp]
     requires rising { AreRising vrps.now }
+    requires no_shorter { AreNoShorter shortest vrps.now }
     requires before { All (λ v. is_at_most v.prefix low.now ≡ true) vrps.now }
     requires order { is_at_most low.now high.now ≡ true }
     requires apart { contains low.now high.now ≡ false }
@@ -70,7 +97,11 @@ fn enclosing_both<'a>(vrps: &'a [Vrp], low: &Prefix, high: &Prefix) -> &'a [Vrp]
     if !is_one_family(low.family, high.family) {
         return &vrps[..0];
     }
-    up_to(vrps, &last_round_both(low, high))
+    let bound = common_bound(low, high);
+    if bound.length < shortest.in_family(low.family) {
+        return &vrps[..0];
+    }
+    up_to_from_end(vrps, &bound)
 }
 
 fn is_one_family(one: Family, other: Family) -> bool
@@ -82,23 +113,24 @@ fn is_one_family(one: Family, other: Family) -> bool
     )
 }
 
-/// A prefix at or before which each prefix sorts that contains both.
-fn last_round_both(low: &Prefix, high: &Prefix) -> Prefix
+/// A prefix at or before which each prefix that contains both sorts, and which is as long at least.
+fn common_bound(low: &Prefix, high: &Prefix) -> Prefix
     requires family { low.now.family ≡ high.now.family }
     requires order { low.now.first < high.now.first }
-    ensures { (p : Prefix) → contains p low.now ≡ true → contains p high.now ≡ true → is_at_most p result ≡ true }
+    ensures order { (p : Prefix) → contains p low.now ≡ true → contains p high.now ≡ true → is_at_most p result ≡ true }
+    ensures length { (p : Prefix) → contains p low.now ≡ true → contains p high.now ≡ true → p.length ≤ result.length }
 {
     // A prefix that contains both has at least as many host bits as the distance of the two takes.
     let host_bits = (high.first - low.first).ilog2() as u8 + 1;
     Prefix {
         family: low.family,
-        first: with_zeros(low.first, host_bits),
+        first: without_low_bits(low.first, host_bits),
         length: low.family.width() - host_bits,
     }
 }
 
 /// The number with its lowest bits cleared.
-fn with_zeros(number: u128, bits: u8) -> u128
+fn without_low_bits(number: u128, bits: u8) -> u128
     ensures { result ≡ number - number % 2 ^ bits }
 {
     match 1u128.checked_shl(u32::from(bits)) {

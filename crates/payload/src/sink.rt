@@ -1,4 +1,4 @@
-ghost use Rattle.std.specs.Prelude.{◌≡◌, List, Bool, ◌∷◌, [], ◌++◌, is_err};
+ghost use Rattle.std.specs.Prelude.{◌≡◌, List, Bool, false, ◌∷◌, [], ◌++◌, is_err};
 ghost use Rattle.addr.specs.declared.vrp.Vrp.{Vrp};
 
 use addr::Vrp;
@@ -15,7 +15,8 @@ pub trait Sink {
     /// Whether it stopped at the last one.
     ghost has_stopped: { Self → Bool };
 
+    /// Nothing is said of a sink that is given more once it has stopped.
     fn take(&mut self, vrp: &Vrp) -> Result<(), Stop>
-        ensures given { given self.new ≡ given self.old ++ vrp.now ∷ [] }
+        ensures given { has_stopped self.old ≡ false → given self.new ≡ given self.old ++ vrp.now ∷ [] }
         ensures stopped { is_err result ≡ has_stopped self.new };
 }

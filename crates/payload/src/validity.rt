@@ -28,6 +28,11 @@ impl Validity {
 }
 
 impl fmt::Display for Validity {
+    ghost use Rattle.std.specs.Prelude.{Some};
+    ghost use Rattle.payload.specs.ValidityState.{validity_text};
+
+    ghost output = { λ validity. Some (validity_text validity) };
+
     fn fmt<W: fmt::Write>(&self, f: &mut fmt::Formatter<W>) -> fmt::Result {
         f.write_str(self.as_str())
     }

@@ -23,7 +23,7 @@ pub only-to : (history : History) (h : List ℕ) (rows : Rows) (n max until : �
     → shares_with_other x.number (new_terms x max until) rows.auths ≡ false → SharesWithNoOther history h n max until
 only-to history h rows n max until x are found is =
     let at_n : shares_with_other n (new_terms x max until) rows.auths ≡ false =
-        subst (λ (m : ℕ). shares_with_other m (new_terms x max until) rows.auths ≡ false) (found_number n rows.auths x found) is in
+    subst (λ (m : ℕ). shares_with_other m (new_terms x max until) rows.auths ≡ false) (found_number n rows.auths x found) is in
     (rows.auths, are.auths, subst (λ (o : Option Auth). IsSomeAnd o (λ z. shares_with_other n (new_terms z max until) rows.auths ≡ false)) (sym found) at_n)
 
 pub only-from : (history : History) (h : List ℕ) (rows : Rows) (n max until : ℕ) (x : Auth) → RowsOf history h rows → numbered n rows.auths ≡ Some x
@@ -31,5 +31,5 @@ pub only-from : (history : History) (h : List ℕ) (rows : Rows) (n max until : 
 only-from history h rows n max until x are found of =
     let here = active-from history h rows (λ active. IsSomeAnd (numbered n active) (λ z. shares_with_other n (new_terms z max until) active ≡ false)) are of in
     let at_n : shares_with_other n (new_terms x max until) rows.auths ≡ false =
-        subst (λ (o : Option Auth). IsSomeAnd o (λ z. shares_with_other n (new_terms z max until) rows.auths ≡ false)) found here in
+    subst (λ (o : Option Auth). IsSomeAnd o (λ z. shares_with_other n (new_terms z max until) rows.auths ≡ false)) found here in
     subst (λ (m : ℕ). shares_with_other m (new_terms x max until) rows.auths ≡ false) (sym (found_number n rows.auths x found)) at_n

@@ -35,13 +35,17 @@ active-left e before h active holders terms are =
 
 pub left : (e : Entry) (before : History) (h : List ℕ) → Leaves e before h → (rows : Option Rows) → RowsIfAny before h rows → RowsIfAny (e ∷ before) h rows
 left e before h stays None are = stays.registered ∙ are
-left e before h stays (Some rows) are = (stays.registered ∙ are.0, record {
+left e before h stays (Some rows) are = (
+  stays.registered ∙ are.0,
+  record {
     maximal = are.1.maximal;
     holdings = λ a. are.1.holdings a ∙ sym (stays.holders a);
     grants = are.1.grants ∙ sym stays.grants;
     auths = active-left e before h rows.auths stays.holders stays.terms are.1.auths;
     granted = are.1.granted ∙ sym stays.granted;
-    created = are.1.created ∙ sym stays.created })
+    created = are.1.created ∙ sym stays.created;
+  },
+)
 
 -- a change of one holder
 pub carries-one : (e : Entry) (before : History) (holder : List ℕ) (edit : Edit)
@@ -55,7 +59,8 @@ carries-one e before holder edit named others h rows are =
           let same = same_name-true holder h t in
           let Q : List ℕ → Type 0 = λ g. RowsIfAny before g rows → RowsIfAny (e ∷ before) g (edited_if_any edit rows) in
           subst P (sym t) (subst Q same (named rows) are)
-      | inr f ↦ subst P (sym f) (left e before h (others h f) rows are) ]
+      | inr f ↦ subst P (sym f) (left e before h (others h f) rows are)
+    ]
 
 -- a change of one holder and then of another
 pub carries-two : (e : Entry) (before : History) (one other : List ℕ) (edit_one edit_other : Edit)
@@ -66,7 +71,7 @@ pub carries-two : (e : Entry) (before : History) (one other : List ℕ) (edit_on
     → Carries (record { first = record { holder = one; edit = edit_one }; second = Some (record { holder = other; edit = edit_other }) }) before (e ∷ before)
 carries-two e before one other edit_one edit_other differ named_one named_other others h rows are =
     let P : Bool → Bool → Type 0 = λ b c.
-        RowsIfAny (e ∷ before) h (cond c (edited_if_any edit_other (cond b (edited_if_any edit_one rows) rows)) (cond b (edited_if_any edit_one rows) rows)) in
+    RowsIfAny (e ∷ before) h (cond c (edited_if_any edit_other (cond b (edited_if_any edit_one rows) rows)) (cond b (edited_if_any edit_one rows) rows)) in
     elim (cases_Bool (same_name one h)) [
       | inl t ↦
           let same = same_name-true one h t in
@@ -86,4 +91,6 @@ carries-two e before one other edit_one edit_other differ named_one named_other 
             | inr g ↦
                 let at : P false false = left e before h (others h f g) rows are in
                 let with_first : P (same_name one h) false = subst (λ (b : Bool). P b false) (sym f) at in
-                subst (λ (c : Bool). P (same_name one h) c) (sym g) with_first ] ]
+                subst (λ (c : Bool). P (same_name one h) c) (sym g) with_first
+          ]
+    ]

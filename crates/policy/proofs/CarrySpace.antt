@@ -34,16 +34,30 @@ carries-register charter before day caller holder legal fresh =
     let e : Entry = record { day = day; caller = caller; command = Register holder } in
     let registered : is_registered (e ∷ before) holder ≡ true = ap (λ b. b || is_registered before holder) (same_name-same holder) in
     let no_terms : AreActive (e ∷ before) holder [] =
-        subst (λ (xs : List Auth). Keeps (HeldSinceMade (e ∷ before) holder) xs []) (sym none.terms) tt in
+    subst (λ (xs : List Auth). Keeps (HeldSinceMade (e ∷ before) holder) xs []) (sym none.terms) tt in
     carries-one e before holder RegisterEdit
-      (λ rows are. elim rows as (λ r. RowsIfAny before holder r → RowsIfAny (e ∷ before) holder (edited_if_any RegisterEdit r)) [
-        | None ↦ λ _. (registered, record {
-            maximal = tt; holdings = λ a. sym (none.holders a); grants = sym none.grants; auths = no_terms;
-            granted = sym none.granted; created = sym none.created })
-        | Some r ↦ λ had. absurd (false≢true (sym fresh ∙ had.0)) ] are)
-      (λ h differ. record {
-        registered = ap (λ b. b || is_registered before h) differ;
-        holders = λ a. refl; grants = refl; granted = refl; terms = refl; created = refl })
+    (λ rows are. elim rows as (λ r. RowsIfAny before holder r → RowsIfAny (e ∷ before) holder (edited_if_any RegisterEdit r)) [
+      | None ↦ λ _. (
+        registered,
+        record {
+          maximal = tt;
+          holdings = λ a. sym (none.holders a);
+          grants = sym none.grants;
+          auths = no_terms;
+          granted = sym none.granted;
+          created = sym none.created;
+        },
+      )
+      | Some r ↦ λ had. absurd (false≢true (sym fresh ∙ had.0))
+    ] are)
+    (λ h differ. record {
+      registered = ap (λ b. b || is_registered before h) differ;
+      holders = λ a. refl;
+      grants = refl;
+      granted = refl;
+      terms = refl;
+      created = refl;
+    })
 
 -- a holder that gains addresses and loses none
 rows-gained : (e : Entry) (before : History) (h : List ℕ) (spans : List Span) (rows : Rows)
@@ -54,12 +68,13 @@ rows-gained : (e : Entry) (before : History) (h : List ℕ) (spans : List Span) 
     → authorization_terms (e ∷ before) h ≡ authorization_terms before h → authorizations_made (e ∷ before) h ≡ authorizations_made before h
     → RowsOf before h rows → RowsOf (e ∷ before) h (record rows { holdings = spans })
 rows-gained e before h spans rows maximal holdings keeps grants granted terms created are = record {
-    maximal = maximal;
-    holdings = holdings;
-    grants = are.grants ∙ sym grants;
-    auths = subst (λ (xs : List Auth). Keeps (HeldSinceMade (e ∷ before) h) xs rows.auths) (sym terms) (active-kept e before h rows.auths keeps are.auths);
-    granted = are.granted ∙ sym granted;
-    created = are.created ∙ sym created }
+  maximal = maximal;
+  holdings = holdings;
+  grants = are.grants ∙ sym grants;
+  auths = subst (λ (xs : List Auth). Keeps (HeldSinceMade (e ∷ before) h) xs rows.auths) (sym terms) (active-kept e before h rows.auths keeps are.auths);
+  granted = are.granted ∙ sym granted;
+  created = are.created ∙ sym created;
+}
 
 or_true : (b : Bool) → b || true ≡ true
 or_true true = refl
@@ -95,14 +110,14 @@ receiver-rows : (e : Entry) (before : History) (h : List ℕ) (p : Prefix) (span
     → RowsOf before h v → RowsOf before h rows → RowsOf (e ∷ before) h (edited (Hold spans ended) rows)
 receiver-rows e before h p spans ended v rows receives maximal united none grants granted terms created had are =
     let holdings = λ (a : Address).
-        let at : (b : Bool) → (spans_have v.holdings a || b) ≡ is_held_by h (cond b (Some h) (resource_holder before a)) =
-            λ b. elim b as (λ b. (spans_have v.holdings a || b) ≡ is_held_by h (cond b (Some h) (resource_holder before a)))
-              [ true ↦ or_true (spans_have v.holdings a) ∙ sym (held_by_itself h) | false ↦ or_false (spans_have v.holdings a) ∙ had.holdings a ] in
-        united a ∙ at (has_address p a) ∙ ap (is_held_by h) (sym (receives a)) in
+    let at : (b : Bool) → (spans_have v.holdings a || b) ≡ is_held_by h (cond b (Some h) (resource_holder before a)) =
+    λ b. elim b as (λ b. (spans_have v.holdings a || b) ≡ is_held_by h (cond b (Some h) (resource_holder before a)))
+    [ true ↦ or_true (spans_have v.holdings a) ∙ sym (held_by_itself h) | false ↦ or_false (spans_have v.holdings a) ∙ had.holdings a ] in
+    united a ∙ at (has_address p a) ∙ ap (is_held_by h) (sym (receives a)) in
     let keeps : LosesNothing e before h = λ a is.
-        receives a ∙ elim (has_address p a) as (λ b. cond b (Some h) (resource_holder before a) ≡ Some h) [ true ↦ refl | false ↦ is ] in
+    receives a ∙ elim (has_address p a) as (λ b. cond b (Some h) (resource_holder before a) ≡ Some h) [ true ↦ refl | false ↦ is ] in
     subst (λ (xs : List Auth). RowsOf (e ∷ before) h (record rows { holdings = spans; auths = xs })) (kept_all ended.items rows.auths none)
-      (rows-gained e before h spans rows maximal holdings keeps grants granted terms created are)
+    (rows-gained e before h spans rows maximal holdings keeps grants granted terms created are)
 
 -- the former holder of a prefix, after a transfer or a reclaim
 giver-rows : (e : Entry) (before : History) (h : List ℕ) (p : Prefix) (spans : List Span) (ended : Vec ℕ) (v rows : Rows)
@@ -116,28 +131,30 @@ giver-rows : (e : Entry) (before : History) (h : List ℕ) (p : Prefix) (spans :
     → RowsOf before h v → RowsOf before h rows → RowsOf (e ∷ before) h (edited (Hold spans ended) rows)
 giver-rows e before h p spans ended v rows gives others maximal without numbers grants granted terms created had are =
     let holdings = λ (a : Address).
-        let at : (b : Bool) → (spans_have v.holdings a && not b) ≡ cond b false (is_held_by h (resource_holder before a)) =
-            λ b. elim b as (λ b. (spans_have v.holdings a && not b) ≡ cond b false (is_held_by h (resource_holder before a)))
-              [ true ↦ and_false (spans_have v.holdings a) | false ↦ and_true (spans_have v.holdings a) ∙ had.holdings a ] in
-        without a ∙ at (has_address p a) ∙ sym (gives a) in
+    let at : (b : Bool) → (spans_have v.holdings a && not b) ≡ cond b false (is_held_by h (resource_holder before a)) =
+    λ b. elim b as (λ b. (spans_have v.holdings a && not b) ≡ cond b false (is_held_by h (resource_holder before a)))
+    [ true ↦ and_false (spans_have v.holdings a) | false ↦ and_true (spans_have v.holdings a) ∙ had.holdings a ] in
+    without a ∙ at (has_address p a) ∙ sym (gives a) in
     let loses : LosesPrefix e before h p = record {
-        lost = λ a has is.
-            false≢true (sym (gives a ∙ ap (λ b. cond b false (is_held_by h (resource_holder before a))) has) ∙ ap (is_held_by h) is ∙ held_by_itself h);
-        others = others } in
+      lost = λ a has is.
+          false≢true (sym (gives a ∙ ap (λ b. cond b false (is_held_by h (resource_holder before a))) has) ∙ ap (is_held_by h) is ∙ held_by_itself h);
+      others = others;
+    } in
     let same_auths : v.auths ≡ rows.auths = Keeps-unique (HeldSinceMade before h) (authorization_terms before h) v.auths rows.auths had.auths are.auths in
     let rest : filter (λ x. not (among ended.items x)) rows.auths ≡ filter (λ x. not (terms_overlap x p)) rows.auths =
-        ap (λ ns. filter (λ x. not (among ns x)) rows.auths) (numbers ∙ ap (numbers_where (λ x. terms_overlap x p)) same_auths)
-        ∙ filter-numbers (λ x. terms_overlap x p) rows.auths (authorizations_made before h) (active-numbered before h rows.auths are.auths) in
+    ap (λ ns. filter (λ x. not (among ns x)) rows.auths) (numbers ∙ ap (numbers_where (λ x. terms_overlap x p)) same_auths)
+    ∙ filter-numbers (λ x. terms_overlap x p) rows.auths (authorizations_made before h) (active-numbered before h rows.auths are.auths) in
     let kept = active-ended e before h p rows.auths loses created are.auths in
     record {
       maximal = maximal;
       holdings = holdings;
       grants = are.grants ∙ sym grants;
       auths =
-        subst (λ (ys : List Auth). Keeps (HeldSinceMade (e ∷ before) h) (authorization_terms (e ∷ before) h) ys) (sym rest)
+          subst (λ (ys : List Auth). Keeps (HeldSinceMade (e ∷ before) h) (authorization_terms (e ∷ before) h) ys) (sym rest)
           (subst (λ (xs : List Auth). Keeps (HeldSinceMade (e ∷ before) h) xs (filter (λ x. not (terms_overlap x p)) rows.auths)) (sym terms) kept);
       granted = are.granted ∙ sym granted;
-      created = are.created ∙ sym created }
+      created = are.created ∙ sym created;
+    }
 
 -- rows of a holder that is registered
 with_rows : (e : Entry) (before : History) (h : List ℕ) (spans : List Span) (ended : Vec ℕ) → is_registered before h ≡ true → is_registered (e ∷ before) h ≡ is_registered before h
@@ -153,14 +170,19 @@ pub carries-delegate : (before : History) (day : ℕ) (caller holder : List ℕ)
 carries-delegate before day caller holder p spans ended v registered free had maximal united none =
     let e : Entry = record { day = day; caller = caller; command = Delegate holder p } in
     carries-one e before holder (Hold spans ended)
-      (with_rows e before holder spans ended registered refl
-        (λ rows are. receiver-rows e before holder p spans ended v rows (λ a. refl) maximal united none refl refl refl refl had are))
-      (λ h differ. record {
-        registered = refl;
-        holders = λ a. elim (cases_Bool (has_address p a)) [
-          | inl t ↦ ap (λ b. is_held_by h (cond b (Some holder) (resource_holder before a))) t ∙ differ ∙ ap (is_held_by h) (sym (free a t))
-          | inr f ↦ ap (λ b. is_held_by h (cond b (Some holder) (resource_holder before a))) f ];
-        grants = refl; granted = refl; terms = refl; created = refl })
+    (with_rows e before holder spans ended registered refl
+    (λ rows are. receiver-rows e before holder p spans ended v rows (λ a. refl) maximal united none refl refl refl refl had are))
+    (λ h differ. record {
+      registered = refl;
+      holders = λ a. elim (cases_Bool (has_address p a)) [
+        | inl t ↦ ap (λ b. is_held_by h (cond b (Some holder) (resource_holder before a))) t ∙ differ ∙ ap (is_held_by h) (sym (free a t))
+        | inr f ↦ ap (λ b. is_held_by h (cond b (Some holder) (resource_holder before a))) f
+      ];
+      grants = refl;
+      granted = refl;
+      terms = refl;
+      created = refl;
+    })
 
 pub carries-reclaim : (before : History) (day : ℕ) (caller holder : List ℕ) (p : Prefix) (spans : List Span) (ended : Vec ℕ) (v : Rows)
     → is_registered before holder ≡ true → HoldsPrefix before holder p → RowsOf before holder v
@@ -170,17 +192,22 @@ pub carries-reclaim : (before : History) (day : ℕ) (caller holder : List ℕ) 
 carries-reclaim before day caller holder p spans ended v registered holds had maximal without numbers =
     let e : Entry = record { day = day; caller = caller; command = Reclaim holder p } in
     carries-one e before holder (Hold spans ended)
-      (with_rows e before holder spans ended registered refl
-        (λ rows are. giver-rows e before holder p spans ended v rows
-          (λ a. elim (has_address p a) as (λ b. is_held_by holder (cond b None (resource_holder before a)) ≡ cond b false (is_held_by holder (resource_holder before a))) [ true ↦ refl | false ↦ refl ])
-          (λ a f. ap (λ b. cond b None (resource_holder before a)) f)
-          maximal without numbers refl refl refl refl had are))
-      (λ h differ. record {
-        registered = refl;
-        holders = λ a. elim (cases_Bool (has_address p a)) [
-          | inl t ↦ ap (λ b. is_held_by h (cond b None (resource_holder before a))) t ∙ sym differ ∙ ap (is_held_by h) (sym (holds a t))
-          | inr f ↦ ap (λ b. is_held_by h (cond b None (resource_holder before a))) f ];
-        grants = refl; granted = refl; terms = refl; created = refl })
+    (with_rows e before holder spans ended registered refl
+    (λ rows are. giver-rows e before holder p spans ended v rows
+    (λ a. elim (has_address p a) as (λ b. is_held_by holder (cond b None (resource_holder before a)) ≡ cond b false (is_held_by holder (resource_holder before a))) [ true ↦ refl | false ↦ refl ])
+    (λ a f. ap (λ b. cond b None (resource_holder before a)) f)
+    maximal without numbers refl refl refl refl had are))
+    (λ h differ. record {
+      registered = refl;
+      holders = λ a. elim (cases_Bool (has_address p a)) [
+        | inl t ↦ ap (λ b. is_held_by h (cond b None (resource_holder before a))) t ∙ sym differ ∙ ap (is_held_by h) (sym (holds a t))
+        | inr f ↦ ap (λ b. is_held_by h (cond b None (resource_holder before a))) f
+      ];
+      grants = refl;
+      granted = refl;
+      terms = refl;
+      created = refl;
+    })
 
 pub carries-transfer : (before : History) (day : ℕ) (caller giver taker : List ℕ) (p : Prefix) (less more : List Span) (ended none : Vec ℕ) (v w : Rows)
     → is_registered before giver ≡ true → is_registered before taker ≡ true → same_name taker giver ≡ false → HoldsPrefix before giver p
@@ -189,20 +216,25 @@ pub carries-transfer : (before : History) (day : ℕ) (caller giver taker : List
     → AreMaximal more → ((a : Address) → spans_have more a ≡ (spans_have w.holdings a || has_address p a))
     → ended.items ≡ numbers_where (λ x. terms_overlap x p) v.auths → none.items ≡ []
     → Carries (record { first = record { holder = giver; edit = Hold less ended }; second = Some (record { holder = taker; edit = Hold more none }) }) before
-        (record { day = day; caller = caller; command = Transfer p giver taker } ∷ before)
+    (record { day = day; caller = caller; command = Transfer p giver taker } ∷ before)
 carries-transfer before day caller giver taker p less more ended none v w giver_registered taker_registered differ holds had_v had_w maximal_less without maximal_more united numbers nothing =
     let e : Entry = record { day = day; caller = caller; command = Transfer p giver taker } in
     carries-two e before giver taker (Hold less ended) (Hold more none) differ
-      (with_rows e before giver less ended giver_registered refl
-        (λ rows are. giver-rows e before giver p less ended v rows
-          (λ a. elim (has_address p a) as (λ b. is_held_by giver (cond b (Some taker) (resource_holder before a)) ≡ cond b false (is_held_by giver (resource_holder before a))) [ true ↦ differ | false ↦ refl ])
-          (λ a f. ap (λ b. cond b (Some taker) (resource_holder before a)) f)
-          maximal_less without numbers refl refl refl refl had_v are))
-      (with_rows e before taker more none taker_registered refl
-        (λ rows are. receiver-rows e before taker p more none w rows (λ a. refl) maximal_more united nothing refl refl refl refl had_w are))
-      (λ h not_giver not_taker. record {
-        registered = refl;
-        holders = λ a. elim (cases_Bool (has_address p a)) [
-          | inl t ↦ ap (λ b. is_held_by h (cond b (Some taker) (resource_holder before a))) t ∙ not_taker ∙ sym not_giver ∙ ap (is_held_by h) (sym (holds a t))
-          | inr f ↦ ap (λ b. is_held_by h (cond b (Some taker) (resource_holder before a))) f ];
-        grants = refl; granted = refl; terms = refl; created = refl })
+    (with_rows e before giver less ended giver_registered refl
+    (λ rows are. giver-rows e before giver p less ended v rows
+    (λ a. elim (has_address p a) as (λ b. is_held_by giver (cond b (Some taker) (resource_holder before a)) ≡ cond b false (is_held_by giver (resource_holder before a))) [ true ↦ differ | false ↦ refl ])
+    (λ a f. ap (λ b. cond b (Some taker) (resource_holder before a)) f)
+    maximal_less without numbers refl refl refl refl had_v are))
+    (with_rows e before taker more none taker_registered refl
+    (λ rows are. receiver-rows e before taker p more none w rows (λ a. refl) maximal_more united nothing refl refl refl refl had_w are))
+    (λ h not_giver not_taker. record {
+      registered = refl;
+      holders = λ a. elim (cases_Bool (has_address p a)) [
+        | inl t ↦ ap (λ b. is_held_by h (cond b (Some taker) (resource_holder before a))) t ∙ not_taker ∙ sym not_giver ∙ ap (is_held_by h) (sym (holds a t))
+        | inr f ↦ ap (λ b. is_held_by h (cond b (Some taker) (resource_holder before a))) f
+      ];
+      grants = refl;
+      granted = refl;
+      terms = refl;
+      created = refl;
+    })

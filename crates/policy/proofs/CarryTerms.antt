@@ -26,61 +26,80 @@ pub carries-create : (before : History) (day : ℕ) (caller holder : List ℕ) (
     → is_registered before holder ≡ true → HoldsPrefix before holder p
     → x ≡ record { number = authorizations_made before holder + 1; asn = asn; prefix = p; max = max; from = from; until = until }
     → Carries (record { first = record { holder = holder; edit = CreateEdit x }; second = None }) before
-        (record { day = day; caller = caller; command = Create holder asn p max from until } ∷ before)
+    (record { day = day; caller = caller; command = Create holder asn p max from until } ∷ before)
 carries-create before day caller holder asn p max from until x registered holds is =
     let e : Entry = record { day = day; caller = caller; command = Create holder asn p max from until } in
     let new = λ (h : List ℕ). let y : Auth = record { number = authorizations_made before h + 1; asn = asn; prefix = p; max = max; from = from; until = until } in y in
     let number : x.number ≡ authorizations_made before holder + 1 = ap (λ y. y.number) is in
-    let since : HeldSinceMade (e ∷ before) holder x =
-        (λ made. λ q same a has. holds a (subst (λ (r : Prefix). has_address r a ≡ true) (same ∙ ap (λ y. y.prefix) is) has)
-        , not_yet_made before holder x (omega arith)) in
+    let since : HeldSinceMade (e ∷ before) holder x = (
+      λ made. λ q same a has. holds a (subst (λ (r : Prefix). has_address r a ≡ true) (same ∙ ap (λ y. y.prefix) is) has),
+      not_yet_made before holder x (omega arith),
+    ) in
     let terms : authorization_terms before holder ++ x ∷ [] ≡ authorization_terms (e ∷ before) holder =
-        ap (λ y. authorization_terms before holder ++ y ∷ []) is
-        ∙ sym (ap (λ b. cond b (authorization_terms before holder ++ new holder ∷ []) (authorization_terms before holder)) (same_name-same holder)) in
+    ap (λ y. authorization_terms before holder ++ y ∷ []) is
+    ∙ sym (ap (λ b. cond b (authorization_terms before holder ++ new holder ∷ []) (authorization_terms before holder)) (same_name-same holder)) in
     carries-one e before holder (CreateEdit x)
-      (λ rows are. elim rows as (λ r. RowsIfAny before holder r → RowsIfAny (e ∷ before) holder (edited_if_any (CreateEdit x) r)) [
-        | None ↦ λ missing. absurd (false≢true (sym missing ∙ registered))
-        | Some r ↦ λ had. (had.0, record {
-            maximal = had.1.maximal;
-            holdings = had.1.holdings;
-            grants = had.1.grants;
-            auths = subst (λ (xs : List Auth). Keeps (HeldSinceMade (e ∷ before) holder) xs (r.auths ++ x ∷ [])) terms
+    (λ rows are. elim rows as (λ r. RowsIfAny before holder r → RowsIfAny (e ∷ before) holder (edited_if_any (CreateEdit x) r)) [
+      | None ↦ λ missing. absurd (false≢true (sym missing ∙ registered))
+      | Some r ↦ λ had. (
+        had.0,
+        record {
+          maximal = had.1.maximal;
+          holdings = had.1.holdings;
+          grants = had.1.grants;
+          auths = subst (λ (xs : List Auth). Keeps (HeldSinceMade (e ∷ before) holder) xs (r.auths ++ x ∷ [])) terms
               (Keeps-append (HeldSinceMade (e ∷ before) holder) (authorization_terms before holder) r.auths x since
-                (active-kept e before holder r.auths (λ a held. held) had.1.auths));
-            granted = had.1.granted;
-            created = number ∙ sym (ap (λ b. cond b (authorizations_made before holder + 1) (authorizations_made before holder)) (same_name-same holder)) }) ] are)
-      (λ h differ. record {
-        registered = refl; holders = λ a. refl; grants = refl; granted = refl;
-        terms = ap (λ b. cond b (authorization_terms before h ++ new h ∷ []) (authorization_terms before h)) differ;
-        created = ap (λ b. cond b (authorizations_made before h + 1) (authorizations_made before h)) differ })
+              (active-kept e before holder r.auths (λ a held. held) had.1.auths));
+          granted = had.1.granted;
+          created = number ∙ sym (ap (λ b. cond b (authorizations_made before holder + 1) (authorizations_made before holder)) (same_name-same holder));
+        },
+      )
+    ] are)
+    (λ h differ. record {
+      registered = refl;
+      holders = λ a. refl;
+      grants = refl;
+      granted = refl;
+      terms = ap (λ b. cond b (authorization_terms before h ++ new h ∷ []) (authorization_terms before h)) differ;
+      created = ap (λ b. cond b (authorizations_made before h + 1) (authorizations_made before h)) differ;
+    })
 
 pub carries-withdraw : (before : History) (day : ℕ) (caller holder : List ℕ) (n : ℕ)
     → is_registered before holder ≡ true
     → Carries (record { first = record { holder = holder; edit = WithdrawEdit n }; second = None }) before
-        (record { day = day; caller = caller; command = Withdraw holder n } ∷ before)
+    (record { day = day; caller = caller; command = Withdraw holder n } ∷ before)
 carries-withdraw before day caller holder n registered =
     let e : Entry = record { day = day; caller = caller; command = Withdraw holder n } in
     let keep = λ (x : Auth). not (eqb x.number n) in
     let terms : filter keep (authorization_terms before holder) ≡ authorization_terms (e ∷ before) holder =
-        sym (ap (λ b. cond b (filter keep (authorization_terms before holder)) (authorization_terms before holder)) (same_name-same holder)) in
+    sym (ap (λ b. cond b (filter keep (authorization_terms before holder)) (authorization_terms before holder)) (same_name-same holder)) in
     carries-one e before holder (WithdrawEdit n)
-      (λ rows are. elim rows as (λ r. RowsIfAny before holder r → RowsIfAny (e ∷ before) holder (edited_if_any (WithdrawEdit n) r)) [
-        | None ↦ λ missing. absurd (false≢true (sym missing ∙ registered))
-        | Some r ↦ λ had. (had.0, record {
-            maximal = had.1.maximal;
-            holdings = had.1.holdings;
-            grants = had.1.grants;
-            auths = subst (λ (xs : List Auth). Keeps (HeldSinceMade (e ∷ before) holder) xs (filter keep r.auths)) terms
+    (λ rows are. elim rows as (λ r. RowsIfAny before holder r → RowsIfAny (e ∷ before) holder (edited_if_any (WithdrawEdit n) r)) [
+      | None ↦ λ missing. absurd (false≢true (sym missing ∙ registered))
+      | Some r ↦ λ had. (
+        had.0,
+        record {
+          maximal = had.1.maximal;
+          holdings = had.1.holdings;
+          grants = had.1.grants;
+          auths = subst (λ (xs : List Auth). Keeps (HeldSinceMade (e ∷ before) holder) xs (filter keep r.auths)) terms
               (Keeps-filtered (HeldSinceMade (e ∷ before) holder) keep (authorization_terms before holder) r.auths
-                (active-kept e before holder r.auths (λ a held. held) had.1.auths));
-            granted = had.1.granted;
-            created = had.1.created }) ] are)
-      (λ h differ. record {
-        registered = refl; holders = λ a. refl; grants = refl; granted = refl;
-        terms = ap (λ b. cond b (filter keep (authorization_terms before h)) (authorization_terms before h)) differ;
-        created = refl })
+              (active-kept e before holder r.auths (λ a held. held) had.1.auths));
+          granted = had.1.granted;
+          created = had.1.created;
+        },
+      )
+    ] are)
+    (λ h differ. record {
+      registered = refl;
+      holders = λ a. refl;
+      grants = refl;
+      granted = refl;
+      terms = ap (λ b. cond b (filter keep (authorization_terms before h)) (authorization_terms before h)) differ;
+      created = refl;
+    })
 
-some_same : {x y : Auth} → Some x ≡ Some y → x ≡ y
+pub some_same : {x y : Auth} → Some x ≡ Some y → x ≡ y
 some_same {x} {y} is = cc
 
 -- what is found has the number
@@ -95,7 +114,8 @@ found_number n (z ∷ zs) x found =
           let same : z ≡ x = some_same (sym (ap (λ b. cond b (Some z) (numbered n zs)) t) ∙ found) in
           let number : z.number ≡ n = grind (arith, nat_tests) in
           ap (λ a. a.number) (sym same) ∙ number
-      | inr f ↦ found_number n zs x (sym (ap (λ b. cond b (Some z) (numbered n zs)) f) ∙ found) ]
+      | inr f ↦ found_number n zs x (sym (ap (λ b. cond b (Some z) (numbered n zs)) f) ∙ found)
+    ]
 
 -- an authorization of a higher number stays
 untouched : (low n : ℕ) (xs : List Auth) (high : ℕ) (max until : ℕ) (y : Auth) → Numbered low xs high → n ≤ low → y.number ≡ n
@@ -107,7 +127,7 @@ untouched low n (x ∷ xs) high max until y numbers below is =
     let not_y : eqb x.number y.number ≡ false = grind (arith, nat_tests) in
     let rest = untouched x.number n xs high max until y numbers.1 (omega arith) is in
     let one : replaced_by y x ≡ amended n max until x =
-        ap (λ b. cond b y x) not_y ∙ sym (ap (λ b. cond b (record x { max = max; until = until }) x) not_n) in
+    ap (λ b. cond b y x) not_y ∙ sym (ap (λ b. cond b (record x { max = max; until = until }) x) not_n) in
     ap (λ z. z ∷ map (replaced_by y) xs) one ∙ ap (λ zs. amended n max until x ∷ zs) rest
 
 -- the amended one put in the place of the one of its number
@@ -123,7 +143,7 @@ replaced-amended low n (z ∷ zs) high max until x y numbers found is =
           let same_number : eqb z.number y.number ≡ true = grind (arith, nat_tests) in
           let new : record z { max = max; until = until } ≡ y = ap (λ a. let b : Auth = record a { max = max; until = until } in b) same ∙ sym is in
           let one : replaced_by y z ≡ amended n max until z =
-              ap (λ b. cond b y z) same_number ∙ sym new ∙ sym (ap (λ b. cond b (record z { max = max; until = until }) z) t) in
+          ap (λ b. cond b y z) same_number ∙ sym new ∙ sym (ap (λ b. cond b (record z { max = max; until = until }) z) t) in
           let rest = untouched z.number n zs high max until y numbers.1 (omega arith) number_y in
           ap (λ a. a ∷ map (replaced_by y) zs) one ∙ ap (λ cs. amended n max until z ∷ cs) rest
       | inr f ↦
@@ -132,39 +152,48 @@ replaced-amended low n (z ∷ zs) high max until x y numbers found is =
           let number_y : y.number ≡ n = ap (λ a. a.number) is ∙ found_number n zs x later in
           let differ : eqb z.number y.number ≡ false = ap (λ k. eqb z.number k) number_y ∙ f in
           let one : replaced_by y z ≡ amended n max until z =
-              ap (λ b. cond b y z) differ ∙ sym (ap (λ b. cond b (record z { max = max; until = until }) z) f) in
-          ap (λ a. a ∷ map (replaced_by y) zs) one ∙ ap (λ cs. amended n max until z ∷ cs) rest ]
+          ap (λ b. cond b y z) differ ∙ sym (ap (λ b. cond b (record z { max = max; until = until }) z) f) in
+          ap (λ a. a ∷ map (replaced_by y) zs) one ∙ ap (λ cs. amended n max until z ∷ cs) rest
+    ]
 
 pub carries-amend : (before : History) (day : ℕ) (caller holder : List ℕ) (n max until : ℕ) (v : Rows) (x y : Auth)
     → is_registered before holder ≡ true → RowsOf before holder v → numbered n v.auths ≡ Some x → y ≡ record x { max = max; until = until }
     → Carries (record { first = record { holder = holder; edit = AmendEdit y }; second = None }) before
-        (record { day = day; caller = caller; command = Amend holder n max until } ∷ before)
+    (record { day = day; caller = caller; command = Amend holder n max until } ∷ before)
 carries-amend before day caller holder n max until v x y registered had_v found is =
     let e : Entry = record { day = day; caller = caller; command = Amend holder n max until } in
     let f = amended n max until in
     let terms : map f (authorization_terms before holder) ≡ authorization_terms (e ∷ before) holder =
-        sym (ap (λ b. cond b (map f (authorization_terms before holder)) (authorization_terms before holder)) (same_name-same holder)) in
+    sym (ap (λ b. cond b (map f (authorization_terms before holder)) (authorization_terms before holder)) (same_name-same holder)) in
     let to = λ (z : Auth) (since : HeldSinceMade (e ∷ before) holder z). since_same (e ∷ before) holder z (f z) (amended-number n max until z) (amended-prefix n max until z) since in
     let back = λ (z : Auth) (since : HeldSinceMade (e ∷ before) holder (f z)). since_same (e ∷ before) holder (f z) z (sym (amended-number n max until z)) (sym (amended-prefix n max until z)) since in
     carries-one e before holder (AmendEdit y)
-      (λ rows are. elim rows as (λ r. RowsIfAny before holder r → RowsIfAny (e ∷ before) holder (edited_if_any (AmendEdit y) r)) [
-        | None ↦ λ missing. absurd (false≢true (sym missing ∙ registered))
-        | Some r ↦ λ had.
-            let same_auths : v.auths ≡ r.auths = Keeps-unique (HeldSinceMade before holder) (authorization_terms before holder) v.auths r.auths had_v.auths had.1.auths in
-            let found_r : numbered n r.auths ≡ Some x = ap (numbered n) (sym same_auths) ∙ found in
-            let mapped : map (replaced_by y) r.auths ≡ map f r.auths =
-                replaced-amended 0 n r.auths (authorizations_made before holder) max until x y (active-numbered before holder r.auths had.1.auths) found_r is in
-            (had.0, record {
+    (λ rows are. elim rows as (λ r. RowsIfAny before holder r → RowsIfAny (e ∷ before) holder (edited_if_any (AmendEdit y) r)) [
+      | None ↦ λ missing. absurd (false≢true (sym missing ∙ registered))
+      | Some r ↦ λ had.
+          let same_auths : v.auths ≡ r.auths = Keeps-unique (HeldSinceMade before holder) (authorization_terms before holder) v.auths r.auths had_v.auths had.1.auths in
+          let found_r : numbered n r.auths ≡ Some x = ap (numbered n) (sym same_auths) ∙ found in
+          let mapped : map (replaced_by y) r.auths ≡ map f r.auths =
+          replaced-amended 0 n r.auths (authorizations_made before holder) max until x y (active-numbered before holder r.auths had.1.auths) found_r is in (
+            had.0,
+            record {
               maximal = had.1.maximal;
               holdings = had.1.holdings;
               grants = had.1.grants;
               auths = subst (λ (ys : List Auth). Keeps (HeldSinceMade (e ∷ before) holder) (authorization_terms (e ∷ before) holder) ys) (sym mapped)
-                (subst (λ (xs : List Auth). Keeps (HeldSinceMade (e ∷ before) holder) xs (map f r.auths)) terms
+                  (subst (λ (xs : List Auth). Keeps (HeldSinceMade (e ∷ before) holder) xs (map f r.auths)) terms
                   (Keeps-map (HeldSinceMade (e ∷ before) holder) f to back (authorization_terms before holder) r.auths
-                    (active-kept e before holder r.auths (λ a held. held) had.1.auths)));
+                  (active-kept e before holder r.auths (λ a held. held) had.1.auths)));
               granted = had.1.granted;
-              created = had.1.created }) ] are)
-      (λ h differ. record {
-        registered = refl; holders = λ a. refl; grants = refl; granted = refl;
-        terms = ap (λ b. cond b (map f (authorization_terms before h)) (authorization_terms before h)) differ;
-        created = refl })
+              created = had.1.created;
+            },
+          )
+    ] are)
+    (λ h differ. record {
+      registered = refl;
+      holders = λ a. refl;
+      grants = refl;
+      granted = refl;
+      terms = ap (λ b. cond b (map f (authorization_terms before h)) (authorization_terms before h)) differ;
+      created = refl;
+    })

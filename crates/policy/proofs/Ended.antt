@@ -19,7 +19,8 @@ pub apart : (p q : Prefix) (a : Address) → overlaps p q ≡ false → has_addr
 apart p q a none has =
     elim (cases_Bool (has_address q a)) [
       | inl t ↦ absurd (false≢true (sym none ∙ (overlaps_some p q).1 (a, has, t)))
-      | inr f ↦ f ]
+      | inr f ↦ f
+    ]
 
 -- the holder loses the addresses of p, which somebody else or nobody holds then, and no others
 pub record LosesPrefix (e : Entry) (before : History) (h : List ℕ) (p : Prefix) : Type 0 where
@@ -32,17 +33,23 @@ pub active-ended : (e : Entry) (before : History) (h : List ℕ) (p : Prefix) (a
     → AreActive before h active → Keeps (HeldSinceMade (e ∷ before) h) (authorization_terms before h) (filter (λ x. not (terms_overlap x p)) active)
 active-ended e before h p active loses made are =
     Keeps-filter (HeldSinceMade before h) (HeldSinceMade (e ∷ before) h) (λ x. terms_overlap x p) 0 (authorization_terms before h) active (authorizations_made before h)
-      (authorization_terms-numbered before h)
-      (λ x positive bound since apart_from. (λ _. λ q is a has.
+    (authorization_terms-numbered before h)
+    (λ x positive bound since apart_from. (
+      λ _. λ q is a has.
           let in_x : has_address x.prefix a ≡ true = subst (λ (r : Prefix). has_address r a ≡ true) is has in
-          loses.others a (apart x.prefix p a apart_from in_x) ∙ held_now before h x positive bound since q is a has, since))
-      (λ x positive bound since. (since.1,
-          elim (cases_Bool (terms_overlap x p)) [
-            | inl t ↦
-                let shared = (overlaps_some x.prefix p).0 t in
-                absurd (loses.lost shared.0 shared.2 (since.0 (subst (λ (k : ℕ). x.number ≤ k) (sym made) bound) x.prefix refl shared.0 shared.1))
-            | inr f ↦ f ]))
-      are
+          loses.others a (apart x.prefix p a apart_from in_x) ∙ held_now before h x positive bound since q is a has,
+      since,
+    ))
+    (λ x positive bound since. (
+      since.1,
+      elim (cases_Bool (terms_overlap x p)) [
+        | inl t ↦
+            let shared = (overlaps_some x.prefix p).0 t in
+            absurd (loses.lost shared.0 shared.2 (since.0 (subst (λ (k : ℕ). x.number ≤ k) (sym made) bound) x.prefix refl shared.0 shared.1))
+        | inr f ↦ f
+      ],
+    ))
+    are
 
 -- the numbers of those that pass a test
 abbrev pub numbers_where : (Auth → Bool) → List Auth → List ℕ
@@ -59,7 +66,7 @@ not_among test low (y ∷ ys) high x n below =
     let rest = not_among test y.number ys high x n.1 (omega arith) in
     let differ : eqb x.number y.number ≡ false = grind (arith, nat_tests) in
     elim (test y) as (λ b. among (map (λ z. z.number) (cond b (y ∷ filter test ys) (filter test ys))) x ≡ false)
-      [ true ↦ ap (λ b. b || among (numbers_where test ys) x) differ ∙ rest | false ↦ rest ]
+    [ true ↦ ap (λ b. b || among (numbers_where test ys) x) differ ∙ rest | false ↦ rest ]
 
 -- a number of the list is among them exactly where its authorization passes
 pub filter_among : (test : Auth → Bool) (low : ℕ) (xs : List Auth) (high : ℕ) → Numbered low xs high → (numbers : List ℕ)
@@ -71,18 +78,18 @@ filter_among test low (y ∷ ys) high n numbers same =
     let beyond = not_among test y.number ys high y n.1 (omega arith) in
     let itself : eqb y.number y.number ≡ true = grind (arith, nat_tests) in
     let here : among (numbers_where test (y ∷ ys)) y ≡ test y =
-        elim (test y) as (λ b. among (map (λ z. z.number) (cond b (y ∷ filter test ys) (filter test ys))) y ≡ b)
-          [ true ↦ ap (λ b. b || among (numbers_where test ys) y) itself | false ↦ beyond ] in
+    elim (test y) as (λ b. among (map (λ z. z.number) (cond b (y ∷ filter test ys) (filter test ys))) y ≡ b)
+    [ true ↦ ap (λ b. b || among (numbers_where test ys) y) itself | false ↦ beyond ] in
     let after = λ (x : Auth) (above : y.number < x.number).
-        let differ : eqb x.number y.number ≡ false = grind (arith, nat_tests) in
-        let there : among (numbers_where test (y ∷ ys)) x ≡ among (numbers_where test ys) x =
-            elim (test y) as (λ b. among (map (λ z. z.number) (cond b (y ∷ filter test ys) (filter test ys))) x ≡ among (numbers_where test ys) x)
-              [ true ↦ ap (λ b. b || among (numbers_where test ys) x) differ | false ↦ refl ] in
-        same x (omega arith) ∙ there in
+    let differ : eqb x.number y.number ≡ false = grind (arith, nat_tests) in
+    let there : among (numbers_where test (y ∷ ys)) x ≡ among (numbers_where test ys) x =
+    elim (test y) as (λ b. among (map (λ z. z.number) (cond b (y ∷ filter test ys) (filter test ys))) x ≡ among (numbers_where test ys) x)
+    [ true ↦ ap (λ b. b || among (numbers_where test ys) x) differ | false ↦ refl ] in
+    same x (omega arith) ∙ there in
     let rest = filter_among test y.number ys high n.1 numbers after in
     let head : not (among numbers y) ≡ not (test y) = ap not (same y first ∙ here) in
     ap (λ b. cond b (y ∷ filter (λ x. not (among numbers x)) ys) (filter (λ x. not (among numbers x)) ys)) head
-      ∙ ap (λ zs. cond (not (test y)) (y ∷ zs) zs) rest
+    ∙ ap (λ zs. cond (not (test y)) (y ∷ zs) zs) rest
 
 -- taking away the numbers of those that pass takes away those that pass
 pub filter-numbers : (test : Auth → Bool) (xs : List Auth) (high : ℕ) → Numbered 0 xs high

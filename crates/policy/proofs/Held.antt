@@ -45,13 +45,13 @@ terms_after-numbered (Revoke holder m) h made xs n = n
 terms_after-numbered (Create holder asn p max from until) h made xs n =
     let x : Auth = record { number = made + 1; asn = asn; prefix = p; max = max; from = from; until = until } in
     elim (same_name holder h) as (λ b. Numbered 0 (cond b (xs ++ x ∷ []) xs) (cond b (made + 1) made))
-      [ true ↦ Numbered-append 0 xs made x (omega arith) n | false ↦ n ]
+    [ true ↦ Numbered-append 0 xs made x (omega arith) n | false ↦ n ]
 terms_after-numbered (Amend holder m max until) h made xs n =
     elim (same_name holder h) as (λ b. Numbered 0 (cond b (map (amended m max until) xs) xs) made)
-      [ true ↦ Numbered-map (amended m max until) (amended-number m max until) 0 xs made n | false ↦ n ]
+    [ true ↦ Numbered-map (amended m max until) (amended-number m max until) 0 xs made n | false ↦ n ]
 terms_after-numbered (Withdraw holder m) h made xs n =
     elim (same_name holder h) as (λ b. Numbered 0 (cond b (filter (λ x. not (eqb x.number m)) xs) xs) made)
-      [ true ↦ Numbered-filter (λ x. not (eqb x.number m)) 0 xs made n | false ↦ n ]
+    [ true ↦ Numbered-filter (λ x. not (eqb x.number m)) 0 xs made n | false ↦ n ]
 
 pub authorization_terms-numbered : (history : History) (h : List ℕ) → Numbered 0 (authorization_terms history h) (authorizations_made history h)
 authorization_terms-numbered [] h = omega arith
@@ -88,7 +88,7 @@ pub active-kept : (e : Entry) (before : History) (h : List ℕ) (active : List A
     → AreActive before h active → Keeps (HeldSinceMade (e ∷ before) h) (authorization_terms before h) active
 active-kept e before h active keeps are =
     Keeps-same (HeldSinceMade before h) (HeldSinceMade (e ∷ before) h) 0 (authorization_terms before h) active (authorizations_made before h)
-      (authorization_terms-numbered before h) (since_more e before h keeps) (λ x since. since.1) are
+    (authorization_terms-numbered before h) (since_more e before h keeps) (λ x since. since.1) are
 
 -- equal prefixes and numbers, equally held
 pub since_same : (history : History) (h : List ℕ) (x y : Auth) → y.number ≡ x.number → y.prefix ≡ x.prefix → HeldSinceMade history h x → HeldSinceMade history h y

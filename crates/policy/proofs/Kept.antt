@@ -93,16 +93,18 @@ pub Keeps-filter : (P Q : Auth → Type 0) (drop : Auth → Bool) (low : ℕ) (x
     → Keeps P xs ys → Keeps Q xs (filter (λ x. not (drop x)) ys)
 Keeps-filter P Q drop low [] [] high n to from k = tt
 Keeps-filter P Q drop low [] (y ∷ ys) high n to from k = absurd k
-Keeps-filter P Q drop low (x ∷ xs) [] high n to from k =
-    (λ q. k.0 (from x n.0 (Numbered-high x.number xs high n.1) q).0
-    , Keeps-filter P Q drop x.number xs [] high n.1 (λ y above. to y (later n.0 above)) (λ y above. from y (later n.0 above)) k.1)
+Keeps-filter P Q drop low (x ∷ xs) [] high n to from k = (
+  λ q. k.0 (from x n.0 (Numbered-high x.number xs high n.1) q).0,
+  Keeps-filter P Q drop x.number xs [] high n.1 (λ y above. to y (later n.0 above)) (λ y above. from y (later n.0 above)) k.1,
+)
 Keeps-filter P Q drop low (x ∷ xs) (y ∷ ys) high n to from (inl k) =
     let rest = Keeps-filter P Q drop x.number xs ys high n.1 (λ z above. to z (later n.0 above)) (λ z above. from z (later n.0 above)) k.2 in
     let up = Numbered-high x.number xs high n.1 in
     let G : Bool → Type 0 = λ b. Keeps Q (x ∷ xs) (cond (not b) (y ∷ filter (λ x. not (drop x)) ys) (filter (λ x. not (drop x)) ys)) in
     elim (cases_Bool (drop y)) [
       | inl t ↦ subst G (sym t) (Keeps-skip Q x xs _ (λ q. false≢true (sym (from x n.0 up q).1 ∙ ap drop (sym k.1) ∙ t)) rest)
-      | inr f ↦ subst G (sym f) (inl (to x n.0 up k.0 (ap drop (sym k.1) ∙ f), k.1, rest)) ]
+      | inr f ↦ subst G (sym f) (inl (to x n.0 up k.0 (ap drop (sym k.1) ∙ f), k.1, rest))
+    ]
 Keeps-filter P Q drop low (x ∷ xs) (y ∷ ys) high n to from (inr k) =
     let rest = Keeps-filter P Q drop x.number xs (y ∷ ys) high n.1 (λ z above. to z (later n.0 above)) (λ z above. from z (later n.0 above)) k.1 in
     Keeps-skip Q x xs _ (λ q. k.0 (from x n.0 (Numbered-high x.number xs high n.1) q).0) rest

@@ -11,3 +11,5 @@ pub mod CarryTerms
 pub mod PoolLemmas
 pub mod RowsLemmas
 pub mod AmendLemmas
+pub mod Repeats
+pub mod SharedVrps

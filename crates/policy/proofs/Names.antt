@@ -28,4 +28,5 @@ pub same_name-false : (g h : List ℕ) → same_name g h ≡ false → same_name
 same_name-false g h differ =
     elim (cases_Bool (same_name h g)) [
       | inl t ↦ absurd (false≢true (sym differ ∙ ap (λ k. same_name k h) (sym (same_name-true h g t)) ∙ same_name-same h))
-      | inr f ↦ f ]
+      | inr f ↦ f
+    ]

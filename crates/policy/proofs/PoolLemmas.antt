@@ -15,7 +15,8 @@ find_none test [] is = refl
 find_none test (q ∷ pool) is =
     elim (cases_Bool (test q)) [
       | inl t ↦ absurd (some_none (sym (ap (λ b. cond b (Some q) (find test pool)) t) ∙ is))
-      | inr f ↦ ap (λ b. b || list_any test pool) f ∙ find_none test pool (sym (ap (λ b. cond b (Some q) (find test pool)) f) ∙ is) ]
+      | inr f ↦ ap (λ b. b || list_any test pool) f ∙ find_none test pool (sym (ap (λ b. cond b (Some q) (find test pool)) f) ∙ is)
+    ]
   where
     some_none : Some q ≡ None → ⊥
     some_none e = cc
@@ -28,7 +29,8 @@ find_some test [] p is = absurd (none_some is)
 find_some test (q ∷ pool) p is =
     elim (cases_Bool (test q)) [
       | inl t ↦ ap test (sym (same (sym (ap (λ b. cond b (Some q) (find test pool)) t) ∙ is))) ∙ t
-      | inr f ↦ find_some test pool p (sym (ap (λ b. cond b (Some q) (find test pool)) f) ∙ is) ]
+      | inr f ↦ find_some test pool p (sym (ap (λ b. cond b (Some q) (find test pool)) f) ∙ is)
+    ]
   where
     same : Some q ≡ Some p → q ≡ p
     same e = cc
@@ -42,7 +44,8 @@ found_has test other [] p is has = absurd (none_some is)
 found_has test other (q ∷ pool) p is has =
     elim (cases_Bool (test q)) [
       | inl t ↦ ap (λ b. b || list_any other pool) (ap other (same (sym (ap (λ b. cond b (Some q) (find test pool)) t) ∙ is)) ∙ has)
-      | inr f ↦ or_later (other q) (list_any other pool) (found_has test other pool p (sym (ap (λ b. cond b (Some q) (find test pool)) f) ∙ is) has) ]
+      | inr f ↦ or_later (other q) (list_any other pool) (found_has test other pool p (sym (ap (λ b. cond b (Some q) (find test pool)) f) ∙ is) has)
+    ]
   where
     same : Some q ≡ Some p → q ≡ p
     same e = cc
@@ -78,7 +81,7 @@ pub pool-some : (pool : List Prefix) (family : Family) (m : ℕ) (p : Prefix) �
 pool-some pool family m p is n from to =
     let has = find_some (λ p. has_address p (record { family = family; number = m })) pool p is in
     found_has (λ p. has_address p (record { family = family; number = m })) (λ p. has_address p (record { family = family; number = n })) pool p is
-      (between_more p.family family p.first (last_of p) m n has from to)
+    (between_more p.family family p.first (last_of p) m n has from to)
 
 between_parts : (f g : Family) (low high n : ℕ) → is_between f low high (record { family = g; number = n }) ≡ true → (f ≡ g) × (low ≤ n) × (n ≤ high)
 between_parts V4 V4 low high n is = (refl, grind (arith, nat_tests), grind (arith, nat_tests))
@@ -95,7 +98,7 @@ pool-whole pool p next end reached passed rest a has =
     let above : p.first ≤ a.number = parts.1 in
     let below : a.number ≤ last_of p = parts.2 in
     let there : pool_has pool (record { family = p.family; number = a.number }) ≡ true =
-        elim (cases_lt a.number next) [ inl before ↦ passed a.number above before | inr after ↦ rest a.number after (omega arith) ] in
+    elim (cases_lt a.number next) [ inl before ↦ passed a.number above before | inr after ↦ rest a.number after (omega arith) ] in
     subst (λ (f : Family). pool_has pool (record { family = f; number = a.number }) ≡ true) parts.0 there
 
 between_here : (f : Family) (low high n : ℕ) → low ≤ n → n ≤ high → is_between f low high (record { family = f; number = n }) ≡ true

@@ -67,7 +67,6 @@ pub number-none : (history : History) (h : List ℕ) (rows : Rows) (n : ℕ) (P 
 number-none history h rows n P are missing of =
     subst (λ (o : Option Auth). IsSomeAnd o P) missing (active-from history h rows (λ active. IsSomeAnd (numbered n active) P) are of)
 
-
 -- a holder with a grant is registered
 pub registered-by_grant : (charter : Charter) (history : History) (h : List ℕ) (rows : Option (Bor HolderRows)) (test : Granted → Bool)
     → IsLegal charter history → RowsIfAny history h (rows_if_any (option_copied rows)) → list_any test (grant_terms history h) ≡ true

@@ -27,7 +27,8 @@ pub differ_by : (f : List ℕ → Bool) (g h : List ℕ) → f g ≡ true → f 
 differ_by f g h yes_g no_h =
     elim (cases_Bool (same_name g h)) [
       | inl t ↦ absurd (false≢true (sym no_h ∙ ap f (sym (same_name-true g h t)) ∙ yes_g))
-      | inr n ↦ n ]
+      | inr n ↦ n
+    ]
 
 pub or_left : (a b : Bool) → a || b ≡ false → a ≡ false
 or_left true b is = is
@@ -49,23 +50,40 @@ pub nothing_after : (charter : Charter) (before : History) (day : ℕ) (caller :
     → Verdict charter before day caller c None → is_registered before h ≡ false → HasNothing before h
     → HasNothing (record { day = day; caller = caller; command = c } ∷ before) h
 nothing_after charter before day caller (Register holder) h accepted unregistered none = record {
-    holders = none.holders; grants = none.grants; granted = none.granted; terms = none.terms; created = none.created }
+  holders = none.holders;
+  grants = none.grants;
+  granted = none.granted;
+  terms = none.terms;
+  created = none.created;
+}
 nothing_after charter before day caller (Delegate holder p) h accepted unregistered none =
     let differ = differ_by (is_registered before) holder h accepted.1.0 unregistered in
     record {
       holders = λ a. elim (has_address p a) as (λ b. is_held_by h (cond b (Some holder) (resource_holder before a)) ≡ false)
-        [ true ↦ differ | false ↦ none.holders a ];
-      grants = none.grants; granted = none.granted; terms = none.terms; created = none.created }
+          [ true ↦ differ | false ↦ none.holders a ];
+      grants = none.grants;
+      granted = none.granted;
+      terms = none.terms;
+      created = none.created;
+    }
 nothing_after charter before day caller (Transfer p giver taker) h accepted unregistered none =
     let differ = differ_by (is_registered before) taker h accepted.1.0.1 unregistered in
     record {
       holders = λ a. elim (has_address p a) as (λ b. is_held_by h (cond b (Some taker) (resource_holder before a)) ≡ false)
-        [ true ↦ differ | false ↦ none.holders a ];
-      grants = none.grants; granted = none.granted; terms = none.terms; created = none.created }
+          [ true ↦ differ | false ↦ none.holders a ];
+      grants = none.grants;
+      granted = none.granted;
+      terms = none.terms;
+      created = none.created;
+    }
 nothing_after charter before day caller (Reclaim holder p) h accepted unregistered none = record {
-    holders = λ a. elim (has_address p a) as (λ b. is_held_by h (cond b None (resource_holder before a)) ≡ false)
+  holders = λ a. elim (has_address p a) as (λ b. is_held_by h (cond b None (resource_holder before a)) ≡ false)
       [ true ↦ refl | false ↦ none.holders a ];
-    grants = none.grants; granted = none.granted; terms = none.terms; created = none.created }
+  grants = none.grants;
+  granted = none.granted;
+  terms = none.terms;
+  created = none.created;
+}
 nothing_after charter before day caller (Grant holder name role scope until) h accepted unregistered none =
     let differ = differ_by (is_registered before) holder h accepted.1.0 unregistered in
     let g : Granted = record { number = grants_made before h + 1; caller = name; role = role; scope = scope; until = until } in
@@ -73,28 +91,42 @@ nothing_after charter before day caller (Grant holder name role scope until) h a
       holders = none.holders;
       grants = ap (λ b. cond b (grant_terms before h ++ g ∷ []) (grant_terms before h)) differ ∙ none.grants;
       granted = ap (λ b. cond b (grants_made before h + 1) (grants_made before h)) differ ∙ none.granted;
-      terms = none.terms; created = none.created }
+      terms = none.terms;
+      created = none.created;
+    }
 nothing_after charter before day caller (Revoke holder n) h accepted unregistered none = record {
-    holders = none.holders;
-    grants = filter_nothing (same_name holder h) (λ g. not (eqb g.number n)) (grant_terms before h) none.grants;
-    granted = none.granted; terms = none.terms; created = none.created }
+  holders = none.holders;
+  grants = filter_nothing (same_name holder h) (λ g. not (eqb g.number n)) (grant_terms before h) none.grants;
+  granted = none.granted;
+  terms = none.terms;
+  created = none.created;
+}
 nothing_after charter before day caller (Create holder asn p max from until) h accepted unregistered none =
     let no_access : has_access (grant_terms before h) day caller Alter ≡ false =
-        ap (λ gs. has_access gs day caller Alter) none.grants in
+    ap (λ gs. has_access gs day caller Alter) none.grants in
     let differ = differ_by (λ g. has_access (grant_terms before g) day caller Alter) holder h accepted.0 no_access in
     let x : Auth = record { number = authorizations_made before h + 1; asn = asn; prefix = p; max = max; from = from; until = until } in
     record {
-      holders = none.holders; grants = none.grants; granted = none.granted;
+      holders = none.holders;
+      grants = none.grants;
+      granted = none.granted;
       terms = ap (λ b. cond b (authorization_terms before h ++ x ∷ []) (authorization_terms before h)) differ ∙ none.terms;
-      created = ap (λ b. cond b (authorizations_made before h + 1) (authorizations_made before h)) differ ∙ none.created }
+      created = ap (λ b. cond b (authorizations_made before h + 1) (authorizations_made before h)) differ ∙ none.created;
+    }
 nothing_after charter before day caller (Amend holder n max until) h accepted unregistered none = record {
-    holders = none.holders; grants = none.grants; granted = none.granted;
-    terms = map_nothing (same_name holder h) (amended n max until) (authorization_terms before h) none.terms;
-    created = none.created }
+  holders = none.holders;
+  grants = none.grants;
+  granted = none.granted;
+  terms = map_nothing (same_name holder h) (amended n max until) (authorization_terms before h) none.terms;
+  created = none.created;
+}
 nothing_after charter before day caller (Withdraw holder n) h accepted unregistered none = record {
-    holders = none.holders; grants = none.grants; granted = none.granted;
-    terms = filter_nothing (same_name holder h) (λ x. not (eqb x.number n)) (authorization_terms before h) none.terms;
-    created = none.created }
+  holders = none.holders;
+  grants = none.grants;
+  granted = none.granted;
+  terms = filter_nothing (same_name holder h) (λ x. not (eqb x.number n)) (authorization_terms before h) none.terms;
+  created = none.created;
+}
 
 pub has_nothing : (charter : Charter) (history : History) (h : List ℕ) → IsLegal charter history → is_registered history h ≡ false → HasNothing history h
 has_nothing charter [] h legal unregistered = record { holders = λ a. refl; grants = refl; granted = refl; terms = refl; created = refl }

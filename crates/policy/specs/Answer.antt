@@ -44,6 +44,18 @@ holder_of (Create holder asn p max from until) = holder
 holder_of (Amend holder n max until) = holder
 holder_of (Withdraw holder n) = holder
 
+-- the taker of a transfer; of another command its holder
+abbrev pub taker_of : Command → List ℕ
+taker_of (Register holder) = holder
+taker_of (Delegate holder p) = holder
+taker_of (Transfer p giver taker) = taker
+taker_of (Reclaim holder p) = holder
+taker_of (Grant holder name role scope until) = holder
+taker_of (Revoke holder n) = holder
+taker_of (Create holder asn p max from until) = holder
+taker_of (Amend holder n max until) = holder
+taker_of (Withdraw holder n) = holder
+
 -- the number that the new grant or authorization gets; other commands answer none
 abbrev pub number_given : History → Command → Option ℕ
 number_given history (Register holder) = None

@@ -7,10 +7,10 @@ use Rattle.policy.specs.declared.charter.Charter.{Charter}
 use Rattle.policy.specs.History.{same_name}
 
 abbrev pub operators_of : Charter → List (List ℕ)
-operators_of charter = charter.operators.items
+operators_of charter = charter.operators
 
 abbrev pub pool_of : Charter → List Prefix
-pool_of charter = charter.pool.items
+pool_of charter = charter.pool
 
 abbrev pub is_operator : Charter → List ℕ → Bool
 is_operator charter caller = list_any (λ name. same_name name caller) (operators_of charter)

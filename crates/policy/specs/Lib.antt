@@ -1,4 +1,6 @@
+pub mod Repeats
 pub mod Pool
+pub mod CharterSets
 pub mod Charter
 pub mod History
 pub mod Resources
@@ -8,3 +10,4 @@ pub mod Verdict
 pub mod Rows
 pub mod Answer
 pub mod DailyVrps
+pub mod SharedVrps

@@ -98,7 +98,7 @@ Verdict charter history day caller (Amend holder n max until) =
     ask Dates (OfNumber history holder n (λ x. (x.from ≤ until) × (day ≤ until))) (
     ask Length (OfNumber history holder n (λ x. terms_fit_length x max ≡ true)) (
     ask Same (OfActive history holder (λ active. IsSomeAnd (numbered n active) (λ x.
-        list_any (λ y. not (y.number == n) && share_vrp (record x { max = max; until = until }) y) active ≡ false)))
+    list_any (λ y. not (y.number == n) && share_vrp (record x { max = max; until = until }) y) active ≡ false)))
     accept))))
 Verdict charter history day caller (Withdraw holder n) =
     ask GrantRule (has_access (grant_terms history holder) day caller Alter ≡ true) (

@@ -8,10 +8,9 @@ ghost use Rattle.policy.specs.Permission.{has_access, is_permitted, is_permitted
 ghost use Rattle.policy.specs.Verdict.{IsLegal, is_steward, numbered, OfNumber};
 ghost use Rattle.policy.specs.Rows.{rows_of, rows_if_any, RowsOf, RowsIfAny, grants_if_any};
 
-use addr::{Asn, Day, Name, Prefix};
-
 use crate::grant::{has_access, is_permitted};
 use crate::{Access, Auth, Charter, Granted, HolderRows, Rule};
+use addr::{Asn, Day, Name, Prefix};
 
 /// The rule where it does not hold.
 pub fn require(holds: bool, rule: Rule) -> Result<(), Rule>
@@ -24,7 +23,7 @@ pub fn require(holds: bool, rule: Rule) -> Result<(), Rule>
 pub fn registered(rows: Option<&HolderRows>) -> Result<&HolderRows, Rule>
     ensures { (history : History) (h : List ℕ) → RowsIfAny history h (rows_if_any (option_copied rows.entry))
         → MatchResult result (λ r. (is_registered history h ≡ true) × RowsOf history h (rows_of r.now))
-            (λ rule. (is_registered history h ≡ false) × (rule ≡ Rule.Holder)) }
+        (λ rule. (is_registered history h ≡ false) × (rule ≡ Rule.Holder)) }
 {
     rows.ok_or(Rule::Holder)
 }
@@ -47,12 +46,17 @@ pub fn is_steward(charter: &Charter, rows: Option<&HolderRows>, day: Day, caller
 }
 
 /// The rows of a holder at which the caller has the access, whatever the scope.
-pub fn rows_with_access<'a>(rows: Option<&'a HolderRows>, day: Day, caller: &Name, access: Access) -> Result<&'a HolderRows, Rule>
+pub fn rows_with_access<'a>(
+    rows: Option<&'a HolderRows>,
+    day: Day,
+    caller: &Name,
+    access: Access,
+) -> Result<&'a HolderRows, Rule>
     ensures { (charter : CharterValue) (history : History) (h : List ℕ) → IsLegal charter history
         → RowsIfAny history h (rows_if_any (option_copied rows.entry))
         → MatchResult result
-            (λ r. (has_access (grant_terms history h) day caller.now access ≡ true) × (is_registered history h ≡ true) × RowsOf history h (rows_of r.now))
-            (λ rule. (has_access (grant_terms history h) day caller.now access ≡ false) × (rule ≡ Rule.Grant)) }
+        (λ r. (has_access (grant_terms history h) day caller.now access ≡ true) × (is_registered history h ≡ true) × RowsOf history h (rows_of r.now))
+        (λ rule. (has_access (grant_terms history h) day caller.now access ≡ false) × (rule ≡ Rule.Grant)) }
 {
     if has_access(grants_of(rows), day, caller, access) {
         rows.ok_or(Rule::Grant)
@@ -69,10 +73,10 @@ pub fn holds(rows: &HolderRows, prefix: &Prefix) -> bool
 }
 
 /// Whether some one grant gives the caller the access to all prefixes of the terms.
-fn may_reach(rows: &HolderRows, day: Day, caller: &Name, access: Access, auth: &Auth) -> bool
-    ensures { result ≡ is_permitted_terms rows.now.grants.items day caller.now access auth.now }
+pub fn may_reach(grants: &[Granted], day: Day, caller: &Name, access: Access, auth: &Auth) -> bool
+    ensures { result ≡ is_permitted_terms grants.now day caller.now access auth.now }
 {
-    is_permitted(&rows.grants, day, caller, access, &auth.prefix)
+    is_permitted(grants, day, caller, access, &auth.prefix)
 }
 
 fn numbered(auths: &[Auth], number: u32) -> Option<&Auth>
@@ -82,17 +86,23 @@ fn numbered(auths: &[Auth], number: u32) -> Option<&Auth>
 }
 
 /// The active authorization of the number, where the caller has the access to it.
-pub fn permitted<'a>(rows: &'a HolderRows, day: Day, caller: &Name, access: Access, number: u32) -> Result<&'a Auth, Rule>
+pub fn permitted<'a>(
+    rows: &'a HolderRows,
+    day: Day,
+    caller: &Name,
+    access: Access,
+    number: u32,
+) -> Result<&'a Auth, Rule>
     ensures { (history : History) (h : List ℕ) → RowsOf history h (rows_of rows.now)
         → MatchResult result
-            (λ x. (numbered number rows.now.auths.items ≡ Some x.now)
-                × OfNumber history h number (λ x. is_permitted_terms (grant_terms history h) day caller.now access x ≡ true))
-            (λ rule. (OfNumber history h number (λ x. is_permitted_terms (grant_terms history h) day caller.now access x ≡ true) → ⊥)
-                × (rule ≡ Rule.Number)) }
+        (λ x. (numbered number rows.now.auths.items ≡ Some x.now)
+        × OfNumber history h number (λ x. is_permitted_terms (grant_terms history h) day caller.now access x ≡ true))
+        (λ rule. (OfNumber history h number (λ x. is_permitted_terms (grant_terms history h) day caller.now access x ≡ true) → ⊥)
+        × (rule ≡ Rule.Number)) }
 {
     match numbered(&rows.auths, number) {
         Some(auth) => {
-            if may_reach(rows, day, caller, access, auth) {
+            if may_reach(&rows.grants, day, caller, access, auth) {
                 Ok(auth)
             } else {
                 Err(Rule::Number)

@@ -27,7 +27,7 @@ pub fn fits_length(prefix: &Prefix, max: u8) -> bool
     prefix.length <= max && max <= prefix.family.width()
 }
 
-fn is_same_prefix(prefix: &Prefix, other: &Prefix) -> bool
+pub fn is_same_prefix(prefix: &Prefix, other: &Prefix) -> bool
     ensures { result ≡ prefix_eq prefix.now other.now }
 {
     prefix.family.is(other.family) && prefix.first == other.first && prefix.length == other.length

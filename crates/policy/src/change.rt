@@ -1,6 +1,5 @@
-use addr::{Holdings, Name};
-
 use crate::{Auth, Granted};
+use addr::{Holdings, Name};
 
 /// What an accepted command does to the rows of one resource holder.
 #[derive(Drop)]
@@ -34,4 +33,24 @@ pub struct HolderChange {
 pub struct Change {
     pub first: HolderChange,
     pub second: Option<HolderChange>,
+}
+
+impl Change {
+    ghost use Rattle.std.specs.Prelude.{◌≡◌};
+    ghost use Rattle.policy.specs.Answer.{number_made};
+
+    /// The number of the grant or authorization that the change makes; other changes have none.
+    pub fn number(&self) -> Option<u32>
+        ensures { result ≡ number_made self.now.first.edit }
+    {
+        match &self.first.edit {
+            Edit::Grant(grant) => Some(grant.number),
+            Edit::Create(auth) => Some(auth.number),
+            Edit::Register
+            | Edit::Hold { .. }
+            | Edit::Revoke(_)
+            | Edit::Amend(_)
+            | Edit::Withdraw(_) => None,
+        }
+    }
 }

@@ -1,33 +1,127 @@
-ghost use Rattle.std.specs.Prelude.{◌≡◌, ℕ, ◌≤◌, ◌↔◌, true, false, IsTrue, IfNone, IfSome, option_copied, find};
-ghost use Rattle.addr.specs.Address.{has_address};
+ghost use Rattle.std.specs.Prelude.{nat_eq, length, ◌||◌, Err, IfOk, IsPermutation, IsSorted, ◌≡◌, ℕ, ◌≤◌, ◌↔◌, true, false, IsTrue, IfNone, IfSome, option_copied, find};
+ghost use Rattle.std.specs.List.{list_any};
+ghost use Rattle.std.specs.Ordering.{nat_cmp};
+ghost use Rattle.std.specs.Cmp.Lexicographic.{pointwise, slice_cmp};
+ghost use Rattle.addr.specs.Address.{has_address, prefix_eq};
+ghost use Rattle.policy.specs.Repeats.{has_repeat};
+ghost use Rattle.policy.specs.CharterSets.{AreInNumber, IsCharter};
 ghost use Rattle.policy.specs.Pool.{pool_has, IsInPool, HasFromTo};
 
+use crate::authorization::is_same_prefix;
 use addr::{Family, Name, Prefix};
+use std::marker::Model;
 
-/// The operators of the desk and the pool of prefixes that it delegates from.
+/// Why two lists make no charter.
+#[derive(Clone, Copy, Debug, PartialEq, Eq)]
+pub enum CharterFault {
+    /// There are not 1 to 16 operators, or not 1 to 64 prefixes.
+    Count,
+    /// An operator or a prefix stands twice.
+    Repeated,
+}
+
+/// The operators of the desk and the pool of prefixes that it delegates from: 1 to 16 operators and
+/// 1 to 64 prefixes, none twice.
 #[derive(Drop)]
 pub struct Charter {
     operators: Vec<Name>,
     pool: Vec<Prefix>,
 }
 
+impl Model for Charter {
+    ghost use Rattle.policy.specs.CharterSets.{CharterSets, IsCharter};
+
+    ghost Value = { CharterSets };
+
+    ghost view = { λ c. record { operators = c.operators.items; pool = c.pool.items } };
+
+    ghost invariant = { λ c. IsCharter (record { operators = c.operators.items; pool = c.pool.items }) };
+}
+
+fn are_in_number(operators: &[Name], pool: &[Prefix]) -> bool
+    ensures { IsTrue result ↔ AreInNumber operators.now pool.now }
+{
+    1 <= operators.len() && operators.len() <= 16 && 1 <= pool.len() && pool.len() <= 64
+}
+
+fn has_operator(operators: &[Name], name: &Name) -> bool
+    ensures { result ≡ list_any (λ y. pointwise nat_eq name.now y) operators.now }
+{
+    operators.iter().any(|operator| *name == *operator)
+}
+
+fn has_prefix(pool: &[Prefix], prefix: &Prefix) -> bool
+    ensures { result ≡ list_any (λ y. prefix_eq prefix.now y) pool.now }
+{
+    pool.iter().any(|other| is_same_prefix(prefix, other))
+}
+
+fn has_operator_twice(operators: &[Name]) -> bool
+    ensures { result ≡ has_repeat (pointwise nat_eq) operators.now }
+{
+    let mut rest = operators;
+    while let [first, others @ ..] = rest {
+        if has_operator(others, first) {
+            return true;
+        }
+        rest = others;
+    }
+    false
+}
+
+fn has_prefix_twice(pool: &[Prefix]) -> bool
+    ensures { result ≡ has_repeat prefix_eq pool.now }
+{
+    let mut rest = pool;
+    while let [first, others @ ..] = rest {
+        if has_prefix(others, first) {
+            return true;
+        }
+        rest = others;
+    }
+    false
+}
+
 impl Charter {
     ghost use Rattle.policy.specs.Charter.{is_operator, operators_of, pool_of};
 
+    /// The charter of these operators and this pool, both in rising order. It takes no memory.
+    pub fn make(mut operators: Vec<Name>, mut pool: Vec<Prefix>) -> Result<Charter, CharterFault>
+        ensures operators { IfOk result (λ charter. IsPermutation operators.items (operators_of charter)) }
+        ensures pool { IfOk result (λ charter. IsPermutation pool.items (pool_of charter)) }
+        ensures operators_rise { IfOk result (λ charter. IsSorted (slice_cmp nat_cmp) (operators_of charter)) }
+        ensures count { (result ≡ Err CharterFault.Count) ↔ ¬ AreInNumber operators.items pool.items }
+        ensures repeated { (result ≡ Err CharterFault.Repeated)
+            ↔ (AreInNumber operators.items pool.items × (has_repeat (pointwise nat_eq) operators.items || has_repeat prefix_eq pool.items ≡ true)) }
+    {
+        if !are_in_number(&operators, &pool) {
+            return Err(CharterFault::Count);
+        }
+        if has_operator_twice(&operators) || has_prefix_twice(&pool) {
+            return Err(CharterFault::Repeated);
+        }
+        operators.sort_unstable();
+        pool.sort_unstable();
+        Ok(Charter { operators, pool })
+    }
+
     /// The operators, rising.
     pub fn operators(&self) -> &[Name]
-        ensures { result.now ≡ operators_of self.now }
+        ensures operators { result.now ≡ operators_of self.now }
+        ensures valid { IsCharter self.now }
     {
         &self.operators
     }
 
     /// The pool, rising.
     pub fn pool(&self) -> &[Prefix]
-        ensures { result.now ≡ pool_of self.now }
+        ensures pool { result.now ≡ pool_of self.now }
+        ensures valid { IsCharter self.now }
     {
         &self.pool
     }
 
+    /// Whether the caller is one of the operators.
     pub fn is_operator(&self, caller: &Name) -> bool
         ensures { result ≡ is_operator self.now caller.now }
     {
@@ -52,7 +146,8 @@ fn has_number(prefix: &Prefix, family: Family, number: u128) -> bool
 fn prefix_in_pool(pool: &[Prefix], family: Family, number: u128) -> Option<&Prefix>
     ensures { option_copied result ≡ find (λ p. has_address p (record { family = family; number = number })) pool.now }
 {
-    pool.iter().find(|prefix| has_number(prefix, family, number))
+    pool.iter()
+        .find(|prefix| has_number(prefix, family, number))
 }
 
 /// The last address of a prefix of the pool that has the address.

@@ -2,11 +2,9 @@ ghost use Rattle.std.specs.Prelude.{◌≡◌, OnOk, OnErr, map, filter, not, �
 ghost use Rattle.std.specs.List.{list_any};
 ghost use Rattle.policy.specs.Rows.{rows_of, new_rows, edited, replaced_by};
 
-use std::alloc::{AllocError, Global};
-
-use addr::Holdings;
-
 use crate::{Auth, Edit, Granted, HolderRows};
+use addr::Holdings;
+use std::alloc::{AllocError, Global};
 
 impl HolderRows {
     /// The rows of a holder that was just registered, which take no memory.

@@ -88,7 +88,13 @@ pub fn has_access(grants: &[Granted], day: Day, caller: &Name, access: Access) -
 }
 
 /// Whether some one grant gives the caller the access on the day and has the prefix in its scope.
-pub fn is_permitted(grants: &[Granted], day: Day, caller: &Name, access: Access, prefix: &Prefix) -> bool
+pub fn is_permitted(
+    grants: &[Granted],
+    day: Day,
+    caller: &Name,
+    access: Access,
+    prefix: &Prefix,
+) -> bool
     ensures { result ≡ is_permitted grants.now day caller.now access prefix.now }
 {
     grants.iter().any(|grant| grant.gives(day, caller, access) && grant.scope.has(prefix))

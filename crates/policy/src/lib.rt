@@ -10,13 +10,17 @@ mod command;
 mod decision;
 mod edit;
 mod grant;
+pub mod laws;
 mod rows;
 mod rule;
+mod sight;
 
 pub use authorization::Auth;
 pub use change::{Change, Edit, HolderChange};
-pub use charter::Charter;
+pub use charter::{Charter, CharterFault};
 pub use command::{Command, Query};
+pub use decision::{decide, decide_two};
 pub use grant::{Access, Granted, Role, Scope};
 pub use rows::{HolderRows, View};
 pub use rule::{Refusal, Rule};
+pub use sight::{see, see_all};

@@ -1,6 +1,5 @@
-use addr::Holdings;
-
 use crate::{Auth, Granted};
+use addr::Holdings;
 
 /// The rows of one registered resource holder.
 ///

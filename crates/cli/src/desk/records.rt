@@ -1,15 +1,16 @@
-ghost use Rattle.std.specs.Prelude.{◌≡◌, ℕ, List, Option, None, IsTrue, IfOk, OnOk, OnErr, ◌↔◌, ◌||◌};
+ghost use Rattle.std.specs.Prelude.{◌≡◌, ℕ, List, Option, Some, None, if◌then◌else◌, IsTrue, IsSome, IfOk, OnOk, OnErr, ◌↔◌, ◌||◌};
 ghost use Rattle.std.specs.BTreeMap.{values, IsOrdered};
 ghost use Rattle.std.specs.Cmp.Lexicographic.{slice_cmp};
 ghost use Rattle.std.specs.List.{list_any};
 ghost use Rattle.std.specs.Ordering.{nat_cmp};
 ghost use Rattle.addr.specs.Spans.{span_meets};
-ghost use Rattle.policy.specs.Rows.{rows_if_any, changed};
+ghost use Rattle.policy.specs.Rows.{rows_if_any, changed, changed_by_one, new_rows};
+ghost use Rattle.policy.specs.History.{same_name};
 ghost use Rattle.cli.specs.DeskRows.{rows_at, IsTaken, has_vrp, gives_on, rows_give_on, IsGivenOn};
 ghost use Rattle.addr.specs.declared.vrp.Vrp.{Vrp};
 
 use addr::{Day, Name, Prefix, Vrp};
-use policy::{Auth, HolderRows};
+use policy::{Auth, Change, Edit, HolderChange, HolderRows};
 use std::alloc::{AllocError, Global};
 use std::collections::BTreeMap;
 
@@ -37,6 +38,67 @@ impl Records {
             Some(rows) => Ok(Some(rows.clone()?)),
             None => Ok(None),
         }
+    }
+
+    /// Changes the rows. On an error they stay as they were.
+    pub fn apply(&mut self, alloc: Global, change: Change) -> Result<(), AllocError>
+        ensures ok { OnOk result ((h : List ℕ) → rows_at self.new h ≡ changed change h (rows_at self.old h)) }
+        ensures err { OnErr result ((h : List ℕ) → rows_at self.new h ≡ rows_at self.old h) }
+    {
+        let Change { first, second } = change;
+        let Some(second) = second else {
+            return self.apply_one(alloc, first);
+        };
+        let holder = first.holder;
+        let kept = self.load(&holder)?;
+        self.apply_one(alloc, first)?;
+        match self.apply_one(alloc, second) {
+            Ok(()) => Ok(()),
+            Err(error) => {
+                self.put_back(holder, kept);
+                Err(error)
+            }
+        }
+    }
+
+    /// Puts the rows that a holder had in the place of those that it has.
+    fn put_back(&mut self, holder: Name, rows: Option<HolderRows>)
+        requires { IsSome (rows_if_any rows) → IsSome (rows_at self.old holder) }
+        ensures { (h : List ℕ) → rows_at self.new h ≡ (if same_name holder h then rows_if_any rows else rows_at self.old h) }
+    {
+        match rows {
+            Some(rows) => {
+                let _ = self.holders.insert(holder, rows);
+            }
+            None => {
+                self.holders.remove(&holder);
+            }
+        }
+    }
+
+    /// Edits the rows of one holder. On an error they stay as they were.
+    fn apply_one(&mut self, alloc: Global, change: HolderChange) -> Result<(), AllocError>
+        ensures ok { OnOk result ((h : List ℕ) → rows_at self.new h ≡ changed_by_one change h (rows_at self.old h)) }
+        ensures err { OnErr result ((h : List ℕ) → rows_at self.new h ≡ rows_at self.old h) }
+    {
+        let HolderChange { holder, edit } = change;
+        if let Some(rows) = self.holders.get_mut(&holder) {
+            rows.apply(alloc, edit)?;
+            return Ok(());
+        }
+        if let Edit::Register = edit {
+            self.register(alloc, holder)?;
+        }
+        Ok(())
+    }
+
+    /// Puts the rows of a holder that has none. On an error nothing changes.
+    fn register(&mut self, alloc: Global, holder: Name) -> Result<(), AllocError>
+        ensures ok { OnOk result ((h : List ℕ) → rows_at self.new h ≡ (if same_name holder h then Some new_rows else rows_at self.old h)) }
+        ensures err { OnErr result ((h : List ℕ) → rows_at self.new h ≡ rows_at self.old h) }
+    {
+        self.holders.insert(holder, HolderRows::new(alloc))?;
+        Ok(())
     }
 
     /// Whether some address of the prefix is held by a registered holder.

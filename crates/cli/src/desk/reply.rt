@@ -1,13 +1,6 @@
 use addr::Vrp;
+use payload::Validity;
 use policy::{Auth, Rule};
-
-/// The validation state of a route (RFC 6811 section 2).
-#[derive(Clone, Copy, Debug, PartialEq, Eq)]
-pub enum Validity {
-    Valid,
-    Invalid,
-    NotFound,
-}
 
 /// What the desk answers to a request.
 #[derive(Debug, Drop)]

@@ -1,12 +1,17 @@
-use Rattle.std.proofs.Common.{sym}
-use Rattle.payload.proofs.Prefixes.{apart-before, family_eq-same}
+use Rattle.std.proofs.Common.{◌<◌, subst, sym}
 use Rattle.payload.proofs.Fronts.{enclosing-from_front}
+use Rattle.payload.proofs.Lengths.{none-so_short}
+use Rattle.payload.proofs.Prefixes.{apart-before, family_eq-same}
 use Rattle.payload.proofs.search.enclosing_both.Goals as goal
 
-pub last_round_both-requires-clause-order : goal.last_round_both-requires-clause-order
-last_round_both-requires-clause-order c =
-    apart-before c.args.low.now c.args.high.now (family_eq-same _ _ (sym (c.if-not-is_one_family.ensures))) c.requires.order c.requires.apart
+pub common_bound-bound-requires-clause-order : goal.common_bound-bound-requires-clause-order
+common_bound-bound-requires-clause-order c =
+    apart-before c.args.low.now c.args.high.now (family_eq-same _ _ (sym c.if-not-is_one_family.ensures)) c.requires.order c.requires.apart
+
+pub returns-then-bound-in_family : goal.returns-then-bound-in_family
+returns-then-bound-in_family c =
+    none-so_short _ c.args.low.now c.args.high.now c.common_bound-bound.result.length _ c.requires.no_shorter c.requires.before c.requires.order c.common_bound-bound.ensures.length (subst (λ n. c.common_bound-bound.result.length < n) c.in_family.ensures c.if-bound-in_family.true)
 
 pub returns : goal.returns
 returns c =
-    enclosing-from_front c.args.low.now c.args.high.now c.last_round_both.result _ _ c.requires.before c.requires.order c.last_round_both.ensures c.up_to.ensures
+    enclosing-from_front c.args.low.now c.args.high.now c.common_bound-bound.result _ _ c.requires.before c.requires.order c.common_bound-bound.ensures.order c.up_to_from_end.ensures

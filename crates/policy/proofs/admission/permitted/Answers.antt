@@ -11,17 +11,20 @@ pub returns-else-may_reach : goal.returns-else-may_reach
 returns-else-may_reach c history h are =
     let a = c.args in
     let x = c.in-Some.auth.now in
-    let found = ap (numbered a.number) (sym c.deref.ensures.value) ∙ sym c.in-Some.ensures in
-    (λ of.
-        let reached = number-from history h (rows_of a.rows.now) a.number x
-            (λ y. is_permitted_terms (grant_terms history h) a.day a.caller.now a.access y ≡ true) are found of in
-        let same = ap (λ gs. is_permitted_terms gs a.day a.caller.now a.access x) are.grants in
-        false≢true (sym c.if-may_reach.false ∙ c.may_reach.ensures ∙ same ∙ reached),
-     refl)
+    let found = ap (numbered a.number) (sym c.deref.ensures.value) ∙ sym c.in-Some.ensures in (
+      λ of.
+          let reached = number-from history h (rows_of a.rows.now) a.number x
+          (λ y. is_permitted_terms (grant_terms history h) a.day a.caller.now a.access y ≡ true) are found of in
+          let same = ap (λ gs. is_permitted_terms gs a.day a.caller.now a.access x) (c.deref-in-Some.ensures.value ∙ are.grants) in
+          false≢true (sym c.if-may_reach.false ∙ c.may_reach.ensures ∙ same ∙ reached),
+      refl,
+    )
 
 pub returns-in-None : goal.returns-in-None
 returns-in-None c history h are =
     let a = c.args in
-    let missing = ap (numbered a.number) (sym c.deref.ensures.value) ∙ sym c.in-None.ensures in
-    (λ of. number-none history h (rows_of a.rows.now) a.number
-        (λ y. is_permitted_terms (grant_terms history h) a.day a.caller.now a.access y ≡ true) are missing of, refl)
+    let missing = ap (numbered a.number) (sym c.deref.ensures.value) ∙ sym c.in-None.ensures in (
+      λ of. number-none history h (rows_of a.rows.now) a.number
+          (λ y. is_permitted_terms (grant_terms history h) a.day a.caller.now a.access y ≡ true) are missing of,
+      refl,
+    )

@@ -22,8 +22,8 @@ returns-in_err-require c charter history legal are =
     let number = c.in_ok-auth.ensures history h had.2 in
     let x = c.in_ok-auth.auth.now in
     let no_dates : OfNumber history h a.number (λ y. (y.from ≤ a.until) × (a.day ≤ a.until)) → ⊥ = λ of.
-        let dates = number-from history h (rows_of c.in_ok-rows.rows.now) a.number x (λ y. (y.from ≤ a.until) × (a.day ≤ a.until)) had.2 number.0 of in
-        false≢true (sym c.in_err-require.ensures.0 ∙ c.are_dates.ensures.1 dates) in
+    let dates = number-from history h (rows_of c.in_ok-rows.rows.now) a.number x (λ y. (y.from ≤ a.until) × (a.day ≤ a.until)) had.2 number.0 of in
+    false≢true (sym c.in_err-require.ensures.0 ∙ c.are_dates.ensures.1 dates) in
     rw (p.1, p.2) (inr (had.0, inr (number.1, inl (no_dates, c.in_err-require.ensures.1))), refl)
 
 pub returns-in_err-require-2 : goal.returns-in_err-require-2
@@ -37,8 +37,8 @@ returns-in_err-require-2 c charter history legal are =
     let rows = rows_of c.in_ok-rows.rows.now in
     let dates = number-to history h rows a.number x (λ y. (y.from ≤ a.until) × (a.day ≤ a.until)) had.2 number.0 (c.are_dates.ensures.0 c.in_ok-require.ensures) in
     let no_length : OfNumber history h a.number (λ y. terms_fit_length y a.max ≡ true) → ⊥ = λ of.
-        let length = number-from history h rows a.number x (λ y. terms_fit_length y a.max ≡ true) had.2 number.0 of in
-        false≢true (sym c.in_err-require-2.ensures.0 ∙ c.fits_length.ensures ∙ length) in
+    let length = number-from history h rows a.number x (λ y. terms_fit_length y a.max ≡ true) had.2 number.0 of in
+    false≢true (sym c.in_err-require-2.ensures.0 ∙ c.fits_length.ensures ∙ length) in
     rw (p.1, p.2) (inr (had.0, inr (number.1, inr (dates, inl (no_length, c.in_err-require-2.ensures.1)))), refl)
 
 pub returns-in_err-require-3 : goal.returns-in_err-require-3
@@ -54,8 +54,8 @@ returns-in_err-require-3 c charter history legal are =
     let length = number-to history h rows a.number x (λ y. terms_fit_length y a.max ≡ true) had.2 number.0 (sym c.fits_length.ensures ∙ c.in_ok-require-2.ensures) in
     let shared = ap (shares_with_other x.number (new_terms x a.max a.until)) (sym c.deref.ensures.value) ∙ sym c.shares_with_other.ensures in
     let not_only : SharesWithNoOther history h a.number a.max a.until → ⊥ = λ of.
-        let only = only-from history h rows a.number a.max a.until x had.2 number.0 of in
-        false≢true (sym c.in_err-require-3.ensures.0 ∙ ap not (sym shared ∙ only)) in
+    let only = only-from history h rows a.number a.max a.until x had.2 number.0 of in
+    false≢true (sym c.in_err-require-3.ensures.0 ∙ ap not (sym shared ∙ only)) in
     rw (p.1, p.2) (inr (had.0, inr (number.1, inr (dates, inr (length, inl (not_only, c.in_err-require-3.ensures.1))))), refl)
 
 pub returns : goal.returns
@@ -70,8 +70,9 @@ returns c charter history legal are =
     let dates = number-to history h rows a.number x (λ y. (y.from ≤ a.until) × (a.day ≤ a.until)) had.2 number.0 (c.are_dates.ensures.0 c.in_ok-require.ensures) in
     let length = number-to history h rows a.number x (λ y. terms_fit_length y a.max ≡ true) had.2 number.0 (sym c.fits_length.ensures ∙ c.in_ok-require-2.ensures) in
     let shared = ap (shares_with_other x.number (new_terms x a.max a.until)) (sym c.deref.ensures.value) ∙ sym c.shares_with_other.ensures in
-    let only = only-to history h rows a.number a.max a.until x had.2 number.0 (shared ∙ not_true c.shares_with_other.result c.in_ok-require-3.ensures) in
-    ((had.0, (number.1, (dates, (length, (only, tt))))),
+    let only = only-to history h rows a.number a.max a.until x had.2 number.0 (shared ∙ not_true c.shares_with_other.result c.in_ok-require-3.ensures) in (
+      (had.0, (number.1, (dates, (length, (only, tt))))),
       ap (λ ch. number_made ch.first.edit) c.change_of.ensures,
       carried history (e ∷ history) c.change_of.result _ c.change_of.ensures
-        (carries-amend history a.day a.caller.now h a.number a.max a.until rows x _ had.1 had.2 number.0 refl))
+          (carries-amend history a.day a.caller.now h a.number a.max a.until rows x _ had.1 had.2 number.0 refl),
+    )

@@ -20,8 +20,9 @@ returns c charter history legal are =
     let held = (c.holds.ensures history h had.2).0 c.in_ok-require-4.ensures in
     let same = (c.is_new.ensures history h had.2).0 c.in_ok-require-5.ensures in
     let room = (c.has_room_for_authorization.ensures.room history h had.2).0 c.in_ok-require-6.ensures in
-    let new = λ (k : ℕ). let x : Auth = record { number = k + 1; asn = t.asn; prefix = t.prefix; max = t.max; from = t.from; until = t.until } in x in
-    ((had.0, (scope, (dates, (length, (held, (same, (room, tt))))))),
+    let new = λ (k : ℕ). let x : Auth = record { number = k + 1; asn = t.asn; prefix = t.prefix; max = t.max; from = t.from; until = t.until } in x in (
+      (had.0, (scope, (dates, (length, (held, (same, (room, tt))))))),
       ap (λ ch. number_made ch.first.edit) c.change_of.ensures ∙ ap (λ n. Some (n + 1)) had.2.created,
       carried history (e ∷ history) c.change_of.result _ c.change_of.ensures
-        (carries-create history a.day a.caller.now h t.asn t.prefix t.max t.from t.until _ had.1 held (ap new had.2.created)))
+          (carries-create history a.day a.caller.now h t.asn t.prefix t.max t.from t.until _ had.1 held (ap new had.2.created)),
+    )

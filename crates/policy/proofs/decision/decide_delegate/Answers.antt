@@ -17,9 +17,10 @@ returns c history legal are told =
     let e : Entry = record { day = a.day; caller = a.caller.now; command = Delegate h p } in
     let had = c.in_ok-rows.ensures history h are in
     let pool = c.has_in_pool.ensures.0 c.in_ok-require-2.ensures in
-    let free = when_false (IsFree history p → ⊥) (IsFree history p) (not_true a.taken c.in_ok-require-3.ensures) told in
-    ((sym c.is_operator.ensures ∙ c.in_ok-require.ensures, (had.0, (pool, (free, tt)))),
+    let free = when_false (IsFree history p → ⊥) (IsFree history p) (not_true a.taken c.in_ok-require-3.ensures) told in (
+      (sym c.is_operator.ensures ∙ c.in_ok-require.ensures, (had.0, (pool, (free, tt)))),
       ap (λ ch. number_made ch.first.edit) c.change_of.ensures,
       carried history (e ∷ history) c.change_of.result _ c.change_of.ensures
-        (carries-delegate history a.day a.caller.now h p c.in_ok-holdings.holdings c.new-ended.result (rows_of c.in_ok-rows.rows.now)
-          had.0 free had.1 c.in_ok-holdings.ensures.maximal c.in_ok-holdings.ensures.same c.new-ended.ensures.items))
+          (carries-delegate history a.day a.caller.now h p c.in_ok-holdings.holdings c.new-ended.result (rows_of c.in_ok-rows.rows.now)
+          had.0 free had.1 c.in_ok-holdings.ensures.maximal c.in_ok-holdings.ensures.same c.new-ended.ensures.items),
+    )

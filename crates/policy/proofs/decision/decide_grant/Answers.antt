@@ -25,8 +25,9 @@ returns c history legal are =
     let today = c.number.ensures.value in
     let last = c.number-2.ensures.value in
     let in_time : a.day ≤ t.until = grind (arith, nat_tests) in
-    let new = λ (k : ℕ). let g : Granted = record { number = k + 1; caller = t.caller; role = t.role; scope = t.scope; until = t.until } in g in
-    ((sym (c.is_steward.ensures history h legal are) ∙ c.in_ok-require.ensures, (had.0, (in_time, ((few, made), tt)))),
+    let new = λ (k : ℕ). let g : Granted = record { number = k + 1; caller = t.caller; role = t.role; scope = t.scope; until = t.until } in g in (
+      (sym (c.is_steward.ensures history h legal are) ∙ c.in_ok-require.ensures, (had.0, (in_time, ((few, made), tt)))),
       ap (λ ch. number_made ch.first.edit) c.change_of.ensures ∙ ap (λ n. Some (n + 1)) had.1.granted,
       carried history (e ∷ history) c.change_of.result _ c.change_of.ensures
-        (carries-grant history a.day a.caller.now h t.caller t.role t.scope t.until _ had.0 (ap new had.1.granted)))
+          (carries-grant history a.day a.caller.now h t.caller t.role t.scope t.until _ had.0 (ap new had.1.granted)),
+    )

@@ -19,10 +19,11 @@ returns c history day legal giver_are taker_are =
     let took = c.in_ok-taking.ensures history a.taker.now taker_are in
     let differ = not_true (same_name a.giver.now a.taker.now) (sym c.ne.ensures ∙ c.in_ok-require-2.ensures) in
     let held = (c.holds.ensures history a.giver.now gave.1).0 c.in_ok-require-3.ensures in
-    let numbers = c.in_ok-ended.ensures ∙ ap (numbers_where (λ x. terms_overlap x p)) c.deref.ensures.value in
-    ((sym c.is_operator.ensures ∙ c.in_ok-require.ensures, ((gave.0, took.0), (differ, (held, tt)))),
+    let numbers = c.in_ok-ended.ensures ∙ ap (numbers_where (λ x. terms_overlap x p)) c.deref.ensures.value in (
+      (sym c.is_operator.ensures ∙ c.in_ok-require.ensures, ((gave.0, took.0), (differ, (held, tt)))),
       refl,
       carries-transfer history day a.caller.now a.giver.now a.taker.now p c.in_ok-less.less c.in_ok-more.more c.in_ok-ended.ended c.new.result
-        (rows_of c.in_ok-giving.giving.now) (rows_of c.in_ok-taking.taking.now)
-        gave.0 took.0 (same_name-false a.giver.now a.taker.now differ) held gave.1 took.1
-        c.in_ok-less.ensures.maximal c.in_ok-less.ensures.same c.in_ok-more.ensures.maximal c.in_ok-more.ensures.same numbers c.new.ensures.items)
+          (rows_of c.in_ok-giving.giving.now) (rows_of c.in_ok-taking.taking.now)
+          gave.0 took.0 (same_name-false a.giver.now a.taker.now differ) held gave.1 took.1
+          c.in_ok-less.ensures.maximal c.in_ok-less.ensures.same c.in_ok-more.ensures.maximal c.in_ok-more.ensures.same numbers c.new.ensures.items,
+    )

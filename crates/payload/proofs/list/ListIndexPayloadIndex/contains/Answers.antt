@@ -5,4 +5,4 @@ use Rattle.payload.proofs.list.ListIndexPayloadIndex.contains.Goals as goal
 pub returns : goal.returns
 returns c =
     c.is_ok.ensures.value
-    ∙ search-contains _ _ _ c.args.vrp.now c.binary_search.result c.deref.ensures.value c.self.view_is c.self.invariant c.binary_search.ensures.bound c.binary_search.ensures.position
+    ∙ search-contains _ _ _ c.args.vrp.now c.binary_search.result c.deref.ensures.value c.self.view_is c.self.invariant.0 c.binary_search.ensures.bound c.binary_search.ensures.position

@@ -9,12 +9,12 @@ returns-in-Ok-clause-found c =
 
 pub returns-in-Ok-clause-rest : goal.returns-in-Ok-clause-rest
 returns-in-Ok-clause-rest c =
-    remove-view c.args.self.now _ _ _ c.args.vrp.now _ c.deref.ensures.value c.self.view_is c.self.invariant c.in-Ok.ensures.bound c.in-Ok.ensures.position c.remove.ensures.items
+    remove-view c.args.self.now _ _ _ c.args.vrp.now _ c.deref.ensures.value c.self.view_is c.self.invariant.0 c.in-Ok.ensures.bound c.in-Ok.ensures.position c.remove.ensures.items
 
 pub returns-in-Err-clause-found : goal.returns-in-Err-clause-found
 returns-in-Err-clause-found c =
-    sym (search-absent c.args.self.now _ _ c.args.vrp.now _ c.deref.ensures.value c.self.view_is c.self.invariant c.in-Err.ensures.position)
+    sym (search-absent c.args.self.now _ _ c.args.vrp.now _ c.deref.ensures.value c.self.view_is c.self.invariant.0 c.in-Err.ensures.position)
 
 pub returns-in-Err-clause-rest : goal.returns-in-Err-clause-rest
 returns-in-Err-clause-rest c =
-    remove-absent c.args.self.now c.args.vrp.now (search-absent c.args.self.now _ _ c.args.vrp.now _ c.deref.ensures.value c.self.view_is c.self.invariant c.in-Err.ensures.position)
+    remove-absent c.args.self.now c.args.vrp.now (search-absent c.args.self.now _ _ c.args.vrp.now _ c.deref.ensures.value c.self.view_is c.self.invariant.0 c.in-Err.ensures.position)

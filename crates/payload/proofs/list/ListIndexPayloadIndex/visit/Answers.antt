@@ -4,10 +4,10 @@ use Rattle.payload.proofs.list.ListIndexPayloadIndex.visit.Goals as goal
 
 pub returns-in_err-take-clause-beginning : goal.returns-in_err-take-clause-beginning
 returns-in_err-take-clause-beginning g c =
-    let all = listed c.args.self.now _ _ c.deref-vrp-items.ensures.value c.self.view_is c.self.invariant in
-    on-err c.from_residual.result _ (given-beginning _ _ _ _ _ _ _ all c.loop-vrp.invariant c.take.ensures.given c.loop-vrp-test.true c.vrp-item.is)
+    let all = listed c.args.self.now _ _ c.deref-vrp-items.ensures.value c.self.view_is c.self.invariant.0 in
+    on-err c.from_residual.result _ (λ fresh. given-beginning _ _ _ _ _ _ _ all (c.loop-vrp.invariant.taken fresh) (c.take.ensures.given (c.loop-vrp.invariant.goes_on fresh)) c.loop-vrp-test.true c.vrp-item.is)
 
-pub returns-clause-ok : goal.returns-clause-ok
-returns-clause-ok g c =
-    let all = listed c.args.self.now _ _ c.deref-vrp-items.ensures.value c.self.view_is c.self.invariant in
-    given-all _ _ _ _ _ all c.loop-vrp.invariant c.loop-vrp-test.false
+pub returns-clause-all : goal.returns-clause-all
+returns-clause-all g c = λ fresh.
+    let all = listed c.args.self.now _ _ c.deref-vrp-items.ensures.value c.self.view_is c.self.invariant.0 in
+    given-all _ _ _ _ _ all (c.loop-vrp.invariant.taken fresh) c.loop-vrp-test.false

@@ -1,0 +1,49 @@
+-- `spelled_prefix` is the inverse of the spelling: the prefix that a text spells, where it spells one.
+use Rattle.std.proofs.Common.{◌≡◌, ℕ, ◌+◌, ◌-◌, ◌^◌, ◌%◌, ◌≤◌, ◌<◌, ◌↔◌, lit<, List, Option, Some, None, Result, Ok, Err, refl, ap, sym, ◌∙◌, arith}
+use Rattle.std.proofs.Math.Bridge.{le_prop}
+use Rattle.std.proofs.Math.Nat.{ℕ_set}
+use Rattle.std.proofs.lemmas.Nat.{pow_pos}
+use Rattle.std.specs.Prelude.{IfErr}
+use Rattle.std.specs.Result.{result_ok}
+use Rattle.addr.specs.Family.{width}
+use Rattle.addr.specs.PrefixText.{loose, prefix_text_fault, spelling, Spells}
+use Rattle.addr.specs.SpelledPrefix.{prefix_if, spelled_prefix}
+use Rattle.addr.specs.declared.family.Family.{Family}
+use Rattle.addr.specs.declared.family.Family.TheVariants.{V4, V6}
+use Rattle.addr.specs.declared.prefix.Prefix.{Prefix}
+use Rattle.addr.specs.declared.text.PrefixFault.{PrefixFault}
+use Rattle.addr.proofs.PrefixSpellingLemmas.{prefix_text_law}
+
+-- the numbers of a prefix give it, whatever proves that they are a prefix's
+prefix_if-numbers : (p : Prefix) (fits : Dec (p.length ≤ width p.family)) (aligned : Dec (p.first % 2 ^ (width p.family - p.length) ≡ 0)) (inside : Dec (p.first + 2 ^ (width p.family - p.length) ≤ 2 ^ width p.family)) → prefix_if p.family p.first p.length fits aligned inside ≡ Some p
+prefix_if-numbers p (yes fits) (yes aligned) (yes inside) =
+    λ i. Some (record {
+      family = p.family; first = p.first; length = p.length;
+      length_fits = le_prop fits p.length_fits i; aligned = ℕ_set _ _ aligned p.aligned i; in_family = le_prop inside p.in_family i })
+prefix_if-numbers p (yes fits) (yes aligned) (no outside) = absurd (outside p.in_family)
+prefix_if-numbers p (yes fits) (no unaligned) inside = absurd (unaligned p.aligned)
+prefix_if-numbers p (no long) aligned inside = absurd (long p.length_fits)
+
+width_small : (family : Family) → width family < 1000
+width_small V4 = lit< tt
+width_small V6 = lit< tt
+
+loose-prefix : (p : Prefix) (text : List ℕ) → Spells p text → loose text ≡ Some (record { family = p.family; address = p.first; length = p.length })
+loose-prefix p text spelled =
+    let some = pow_pos (width p.family - p.length) in
+    let small = width_small p.family in
+    ap loose spelled ∙ prefix_text_law.read_back p.family p.first p.length (omega arith) (omega arith)
+
+pub spelled_prefix-Spells : (p : Prefix) (text : List ℕ) → Spells p text → spelled_prefix text ≡ Some p
+unfolding spelled_prefix
+spelled_prefix-Spells p text spelled =
+    rw ((prefix_text_law.faultless text).1 (p, spelled), loose-prefix p text spelled) (prefix_if-numbers p _ _ _)
+
+pub spelled_prefix-fault : (text : List ℕ) (fault : PrefixFault) → prefix_text_fault text ≡ Some fault → spelled_prefix text ≡ None
+unfolding spelled_prefix
+spelled_prefix-fault text fault told = rw told refl
+
+-- what `Prefix::read` answers
+pub spelled_prefix-read : (text : List ℕ) (read : Result Prefix PrefixFault) → IfErr read (λ fault. prefix_text_fault text ≡ Some fault) → ((p : Prefix) → (read ≡ Ok p) ↔ Spells p text) → result_ok read ≡ spelled_prefix text
+spelled_prefix-read text (Ok p) fault each = sym (spelled_prefix-Spells p text ((each p).0 refl))
+spelled_prefix-read text (Err n) fault each = sym (spelled_prefix-fault text n fault)

@@ -1,0 +1,117 @@
+-- Rows of CSV files.
+use Rattle.std.proofs.Common.{◌≡◌, ◌+◌, ◌^◌, ◌<◌, ◌≤◌, ◌-◌, lit<, inl, inr, ℕ, List, [], ◌∷◌, ◌++◌, length, map, Option, Some, None, Bool, true, false, refl, sym, ap, ◌∙◌, arith}
+use Rattle.std.proofs.lemmas.Bool.{cases_Bool}
+use Rattle.std.proofs.lemmas.Slice.Eq.{bytes_eq-Decides}
+use Rattle.std.specs.Str.{bytes_eq}
+use Rattle.std.proofs.lemmas.Nat.{pow_pos}
+use Rattle.csv.specs.Records.{field_at}
+use Rattle.addr.specs.declared.family.Family.{Family}
+use Rattle.addr.specs.declared.family.Family.TheVariants.{V4, V6}
+use Rattle.addr.specs.Family.{width}
+use Rattle.addr.specs.PrefixText.{Spells, prefix_text_fault}
+use Rattle.addr.specs.Digits.{asn_in}
+use Rattle.addr.specs.declared.prefix.Prefix.{Prefix}
+use Rattle.addr.specs.declared.text.PrefixFault.{PrefixFault}
+use Rattle.addr.proofs.PrefixSpellingLemmas.{loose-spelling, faultless-Spells}
+use Rattle.cli.specs.CsvRecords.{Fields}
+use Rattle.cli.specs.CsvRows.{two_of, three_of, fields_eq, header_fault, length_and_width, number_between, payload_texts_fault, origin_fault, route_texts_fault}
+use Rattle.cli.specs.declared.fault.FileFault.TheVariants as file
+use Rattle.cli.specs.declared.fault.RowFault.{RowFault}
+use Rattle.cli.specs.declared.fault.RowFault.TheVariants as row
+
+-- ---- fields
+
+pub three_of-no_first : (xs : Fields) → None ≡ field_at xs 0 → None ≡ three_of xs
+unfolding field_at
+three_of-no_first [] e = refl
+three_of-no_first (a ∷ xs) e = cc
+
+pub three_of-no_second : (xs : Fields) → None ≡ field_at xs 1 → None ≡ three_of xs
+unfolding field_at
+three_of-no_second [] e = refl
+three_of-no_second (a ∷ []) e = refl
+three_of-no_second (a ∷ b ∷ xs) e = cc
+
+pub three_of-no_third : (xs : Fields) → None ≡ field_at xs 2 → None ≡ three_of xs
+unfolding field_at
+three_of-no_third [] e = refl
+three_of-no_third (a ∷ []) e = refl
+three_of-no_third (a ∷ b ∷ []) e = refl
+three_of-no_third (a ∷ b ∷ c ∷ xs) e = cc
+
+pub three_of-all : (xs : Fields) (x y z : List ℕ) → length xs ≡ 3 → Some x ≡ field_at xs 0 → Some y ≡ field_at xs 1 → Some z ≡ field_at xs 2 → Some (x, (y, z)) ≡ three_of xs
+unfolding field_at
+three_of-all [] x y z n e f g = cc
+three_of-all (a ∷ []) x y z n e f g = cc
+three_of-all (a ∷ b ∷ []) x y z n e f g = cc
+three_of-all (a ∷ b ∷ c ∷ []) x y z n e f g = cc
+three_of-all (a ∷ b ∷ c ∷ d ∷ xs) x y z n e f g = absurd (omega arith)
+
+pub two_of-no_first : (xs : Fields) → None ≡ field_at xs 0 → None ≡ two_of xs
+unfolding field_at
+two_of-no_first [] e = refl
+two_of-no_first (a ∷ xs) e = cc
+
+pub two_of-no_second : (xs : Fields) → None ≡ field_at xs 1 → None ≡ two_of xs
+unfolding field_at
+two_of-no_second [] e = refl
+two_of-no_second (a ∷ []) e = refl
+two_of-no_second (a ∷ b ∷ xs) e = cc
+
+pub two_of-all : (xs : Fields) (x y : List ℕ) → length xs ≡ 2 → Some x ≡ field_at xs 0 → Some y ≡ field_at xs 1 → Some (x, y) ≡ two_of xs
+unfolding field_at
+two_of-all [] x y n e f = cc
+two_of-all (a ∷ []) x y n e f = cc
+two_of-all (a ∷ b ∷ []) x y n e f = cc
+two_of-all (a ∷ b ∷ d ∷ xs) x y n e f = absurd (omega arith)
+
+pub same_fields : (xs ys : Fields) → fields_eq xs ys ≡ true → xs ≡ ys
+same_fields [] [] e = refl
+same_fields [] (b ∷ ys) e = cc
+same_fields (a ∷ xs) [] e = cc
+same_fields (a ∷ xs) (b ∷ ys) e = elim (cases_Bool (bytes_eq a b)) [
+  | inl same ↦ rw ((bytes_eq-Decides a b).0 same, same_fields xs ys (rw same at e)) refl
+  | inr other ↦ let h = rw other at e in cc
+]
+
+-- ---- headers
+
+pub header-same : (header first : Fields) (all rest : List Fields) → all ≡ first ∷ rest → true ≡ fields_eq first header
+    → (all ≡ header ∷ rest) × (header_fault header all ≡ None)
+header-same header first all rest e same =
+    (e ∙ rw (same_fields first header (sym same)) refl, rw (e, ← same) refl)
+
+pub header-other : (header first : Fields) (all rest : List Fields) → all ≡ first ∷ rest → false ≡ fields_eq first header
+    → header_fault header all ≡ Some file.Header
+header-other header first all rest e other = rw (e, ← other) refl
+
+-- ---- payload rows
+
+prefix_below : (p : Prefix) → p.first < 2 ^ width p.family
+prefix_below p = let some = pow_pos (width p.family - p.length) in let inside = p.in_family in omega arith
+
+width_small : (family : Family) → width family < 1000
+width_small V4 = lit< tt
+width_small V6 = lit< tt
+
+prefix_short : (p : Prefix) → p.length < 1000
+prefix_short p = let small = width_small p.family in let fits = p.length_fits in omega arith
+
+pub length_and_width-Spells : (p : Prefix) (text : List ℕ) → Spells p text → length_and_width text ≡ Some (p.length, width p.family)
+length_and_width-Spells p text spelled = rw (spelled, loose-spelling p.family p.first p.length (prefix_below p) (prefix_short p)) refl
+
+pub faultless_payload : (asn prefix max : List ℕ) (n m : ℕ) (p : Prefix) → Some n ≡ asn_in asn → Spells p prefix → Some m ≡ number_between p.length (width p.family) max
+    → payload_texts_fault asn prefix max ≡ None
+faultless_payload asn prefix max n m p a s l =
+    rw (← a, faultless-Spells p prefix s, length_and_width-Spells p prefix s, ← l) refl
+
+pub payload_length_fault : (asn prefix max : List ℕ) (n : ℕ) (p : Prefix) → Some n ≡ asn_in asn → Spells p prefix → None ≡ number_between p.length (width p.family) max
+    → payload_texts_fault asn prefix max ≡ Some row.Length
+payload_length_fault asn prefix max n p a s l =
+    rw (← a, faultless-Spells p prefix s, length_and_width-Spells p prefix s, ← l) refl
+
+-- ---- route rows
+
+pub route_texts_fault-Spells : (prefix origin : List ℕ) (p : Prefix) (fault : Option RowFault) → Spells p prefix → origin_fault origin ≡ fault
+    → route_texts_fault prefix origin ≡ fault
+route_texts_fault-Spells prefix origin p fault s o = rw (faultless-Spells p prefix s, o) refl

@@ -1,0 +1,58 @@
+-- What `roadesk check` prints: a line for each route, in the file's order, with its validation state over
+-- the set of the VRPs (RFC 6811 section 2).
+use Rattle.std.specs.Prelude.{◌≡◌, ℕ, List, [], ◌∷◌, ◌++◌, map, Option, Some, None, Result, Ok, Err}
+use Rattle.addr.specs.OriginValidation.{ValidationState, Valid, Invalid, NotFound, validation_state}
+use Rattle.addr.specs.declared.route.Route.{Route}
+use Rattle.addr.specs.declared.vrp.Vrp.{Vrp}
+use Rattle.payload.specs.VrpSet as set
+use Rattle.std.specs.Prelude.{codes, Bool, true, option_map}
+use Rattle.cli.specs.Streams.{AppendsBeginning}
+use Rattle.cli.specs.ProgramFaults.{fault_of_file}
+use Rattle.cli.specs.declared.fault.InputFile.TheVariants.{Payloads, Routes}
+use Rattle.cli.specs.declared.fault.ProgramFault.{ProgramFault}
+use Rattle.cli.specs.declared.fault.ProgramFault.TheVariants as fault
+use Rattle.cli.specs.CsvRecords.{Fields, csv_records}
+use Rattle.cli.specs.CsvRows.{file_fault, or_else, origin_text, payload_fault, payload_header, payload_row, prefix_text, route_fault, route_header, route_row}
+
+abbrev pub state_text : ValidationState → List ℕ
+state_text Valid = codes "Valid"
+state_text Invalid = codes "Invalid"
+state_text NotFound = codes "NotFound"
+
+-- `prefix,origin,state` and a line feed
+abbrev pub answer_line : set.VrpSet → Route → List ℕ
+answer_line vrps r =
+    prefix_text r.prefix ++ 44 ∷ origin_text r.origin ++ 44 ∷ state_text (validation_state (set.items vrps) r) ++ 10 ∷ []
+
+abbrev pub answers_text : set.VrpSet → List Route → List ℕ
+answers_text vrps [] = []
+answers_text vrps (r ∷ routes) = answer_line vrps r ++ answers_text vrps routes
+
+-- the files are these VRPs and these routes, each under its header
+pub record AreFilesOf (payloads routes : List ℕ) (vrps : List Vrp) (announced : List Route) : Type 0 where
+  pub payload_file : csv_records payloads ≡ payload_header ∷ map payload_row vrps
+  pub route_file : csv_records routes ≡ route_header ∷ map route_row announced
+
+-- the text is the answers to a check of the two files
+abbrev pub AnswersFiles : List ℕ → List ℕ → List ℕ → Type 0
+AnswersFiles payloads routes text = (vrps : List Vrp) × (announced : List Route)
+    × AreFilesOf payloads routes vrps announced
+    × (text ≡ answers_text (set.from_list vrps) announced)
+
+-- the first fault of the payload file, or else of the route file
+abbrev pub check_fault : List ℕ → List ℕ → Option ProgramFault
+check_fault payloads routes = or_else
+    (option_map (fault_of_file Payloads) (file_fault payload_header payload_fault (csv_records payloads)))
+    (option_map (fault_of_file Routes) (file_fault route_header route_fault (csv_records routes)))
+
+-- how a check ends early: for want of memory or for the content of a file it has written nothing, and where
+-- the drain failed a beginning of the answers
+abbrev pub EndsCheck : ProgramFault → List ℕ → List ℕ → List ℕ → List ℕ → Bool → Type 0
+EndsCheck fault.Memory payloads routes old new failed = new ≡ old
+EndsCheck fault.Stream payloads routes old new failed = (text : List ℕ) × AnswersFiles payloads routes text
+    × AppendsBeginning old new text × (failed ≡ true)
+EndsCheck (fault.Header which) payloads routes old new failed = (check_fault payloads routes ≡ Some (fault.Header which)) × (new ≡ old)
+EndsCheck (fault.Row which k why) payloads routes old new failed = (check_fault payloads routes ≡ Some (fault.Row which k why)) × (new ≡ old)
+EndsCheck fault.Words payloads routes old new failed = ⊥
+EndsCheck fault.File payloads routes old new failed = ⊥
+EndsCheck fault.CharterCount payloads routes old new failed = ⊥

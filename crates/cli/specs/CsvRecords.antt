@@ -1,0 +1,46 @@
+-- The records of a CSV text, as the crate `csv` reads them with its defaults: empty lines are none, a
+-- byte order mark at the start is no part of the first, and quotes round a field are no part of it.
+use Rattle.std.specs.Prelude.{ℕ, ◌+◌, ◌≡◌, Bool, true, false, List, [], ◌∷◌, length, Option, Some, None}
+use Rattle.std.specs.Borrow.{Bor}
+use Rattle.csv.specs.Reading.{Ready, default_config, reader_config, reader_state, reader_trim, records, records_from, source_of, strip_bom}
+use Rattle.csv.specs.Records.{Row, fields_of}
+use Rattle.csv.specs.declared.parser.State.{State}
+use Rattle.csv.specs.declared.reader.Reader.{Reader}
+use Rattle.csv.specs.declared.reader.Trim.TheVariants as trim
+use Rattle.cli.specs.declared.files.records.Records.{Records}
+
+-- the fields of a record
+abbrev pub Fields : Type 0
+Fields = List (List ℕ)
+
+abbrev pub csv_records : List ℕ → List Fields
+csv_records text = records default_config (strip_bom text)
+
+-- the records of the bytes that a reader has left
+abbrev pub records_of_rest : State → Option (List ℕ) → List Fields
+records_of_rest state None = []
+records_of_rest state (Some rest) = records_from default_config (length rest + 1) state rest
+
+abbrev pub unread : Reader (Bor (List ℕ)) → Option (List ℕ)
+unread reader = source_of (λ (text : Bor (List ℕ)). Some text.now) reader
+
+-- the records that come after the one at hand
+abbrev pub records_left : Records → List Fields
+records_left r = records_of_rest (reader_state r.reader) (unread r.reader)
+
+-- the record at hand
+abbrev pub current : Records → Fields
+current r = fields_of r.row
+
+-- each read takes a whole record, as it stands in the text
+pub record IsReading (r : Records) : Type 0 where
+  pub untrimmed : reader_trim r.reader ≡ trim.None
+  pub ready : Ready r.reader
+  pub config : reader_config r.reader ≡ default_config
+  pub rest : List ℕ
+  pub known : unread r.reader ≡ Some rest
+
+-- a read of the next record found one, or found that there is none
+abbrev pub Takes : Bool → Fields → List Fields → List Fields → Type 0
+Takes true row old new = old ≡ row ∷ new
+Takes false row old new = old ≡ []

@@ -1,0 +1,189 @@
+ghost use Rattle.std.specs.Prelude.{◌≡◌, ℕ, List, false, None, IfOk, IsTrue, ◌↔◌};
+ghost use Rattle.addr.specs.declared.vrp.Vrp.{Vrp};
+ghost use Rattle.policy.specs.Answer.{is_transfer, holder_of, IsViewOf, IsAnswer, TellsTaken, number_made};
+ghost use Rattle.policy.specs.History.{History};
+ghost use Rattle.policy.specs.Verdict.{IsLegal};
+ghost use Rattle.policy.specs.declared.charter.Charter.{Charter as CharterValue};
+ghost use Rattle.cli.specs.Answer.{is_done, AnswersCommand, AnswersQuery, AnswersShow, AnswersList, AnswersPayloads, AnswersValidity, IsAnswered};
+ghost use Rattle.cli.specs.DeskRows.{rows_at, HasRows, IsGivenOn};
+ghost use Rattle.payload.specs.VrpSet as set;
+ghost use Rattle.cli.specs.Desk.{charter_of, desk_rows, IsKept};
+
+use addr::{Day, Name, Route};
+use payload::ListIndex;
+use policy::{Change, Charter, Command, Query, Refusal, View};
+use std::alloc::{AllocError, Global};
+
+use crate::desk::gathering::{gather, judge};
+use crate::desk::records::Records;
+use crate::desk::{Reply, Request};
+
+/// A route origin authorization desk in memory, with the charter that it was made with.
+#[derive(Drop)]
+pub struct Desk {
+    alloc: Global,
+    charter: Charter,
+    records: Records,
+}
+
+impl Desk {
+    /// A desk on which nothing was accepted yet.
+    pub fn open_memory(alloc: Global, charter: Charter) -> Result<Desk, AllocError>
+        ensures charter { IfOk result (λ desk. charter_of desk ≡ charter) }
+        ensures empty { IfOk result (λ desk. (h : List ℕ) → desk_rows desk h ≡ None) }
+    {
+        Ok(Desk {
+            alloc,
+            charter,
+            records: Records::new(alloc),
+        })
+    }
+
+    /// Replies to a request of the caller on the day. Only a reply of `Done` changes anything.
+    pub fn handle(&mut self, day: Day, caller: &Name, request: &Request) -> Reply
+        ensures answered { (history : History) → IsLegal (charter_of self.old) history → HasRows (desk_rows self.old) history
+            → IsAnswered (charter_of self.old) history day caller.now request.now result (desk_rows self.new) }
+        ensures charter { charter_of self.new ≡ charter_of self.old }
+        ensures kept { is_done result ≡ false → IsKept self.old self.new }
+    {
+        match request {
+            Request::Command(command) => self.carry_out(day, caller, command),
+            Request::Query(query) => self.answer(day, caller, query),
+        }
+    }
+
+    fn carry_out(&mut self, day: Day, caller: &Name, command: &Command) -> Reply
+        ensures answered { (history : History) → IsLegal (charter_of self.old) history → HasRows (desk_rows self.old) history
+            → IsAnswered (charter_of self.old) history day caller.now (Request.Command command.now) result (desk_rows self.new) }
+        ensures charter { charter_of self.new ≡ charter_of self.old }
+        ensures kept { is_done result ≡ false → IsKept self.old self.new }
+    {
+        let change = match self.decide(day, caller, command) {
+            Ok(change) => change,
+            Err(Refusal::Denied(rule, row)) => return Reply::Denied(rule, row),
+            Err(Refusal::Memory) => return Reply::Unavailable,
+        };
+        let number = change.number();
+        match self.records.apply(self.alloc, change) {
+            Ok(()) => Reply::Done(number),
+            Err(_) => Reply::Unavailable,
+        }
+    }
+
+    fn answer(&self, day: Day, caller: &Name, query: &Query) -> Reply
+        ensures answered { (history : History) → IsLegal (charter_of self.now) history → HasRows (desk_rows self.now) history
+            → AnswersQuery history day caller.now query.now result }
+        ensures never_done { is_done result ≡ false }
+    {
+        match query {
+            Query::Show { holder, number } => self.show(holder, day, caller, *number),
+            Query::List { holder } => self.list(holder, day, caller),
+            Query::Payloads => self.payloads(day),
+            Query::Validity { routes } => self.validity(day, routes),
+        }
+    }
+
+    fn show(&self, holder: &Name, day: Day, caller: &Name, number: u32) -> Reply
+        ensures answered { (history : History) → IsLegal (charter_of self.now) history → HasRows (desk_rows self.now) history
+            → AnswersShow history holder.now day caller.now number result }
+        ensures never_done { is_done result ≡ false }
+    {
+        let Ok(rows) = self.records.load(holder) else {
+            return Reply::Unavailable;
+        };
+        match policy::see(rows.as_ref(), day, caller, number) {
+            Ok(auth) => Reply::Shown(*auth),
+            Err(rule) => Reply::Denied(rule, None),
+        }
+    }
+
+    fn list(&self, holder: &Name, day: Day, caller: &Name) -> Reply
+        ensures answered { (history : History) → IsLegal (charter_of self.now) history → HasRows (desk_rows self.now) history
+            → AnswersList history holder.now day caller.now result }
+        ensures never_done { is_done result ≡ false }
+    {
+        let Ok(rows) = self.records.load(holder) else {
+            return Reply::Unavailable;
+        };
+        match policy::see_all(self.alloc, rows.as_ref(), day, caller) {
+            Ok(auths) => Reply::Listed(auths),
+            Err(Refusal::Denied(rule, row)) => Reply::Denied(rule, row),
+            Err(Refusal::Memory) => Reply::Unavailable,
+        }
+    }
+
+    fn payloads(&self, day: Day) -> Reply
+        ensures answered { (history : History) → IsLegal (charter_of self.now) history → HasRows (desk_rows self.now) history
+            → AnswersPayloads history day result }
+        ensures never_done { is_done result ≡ false }
+    {
+        let Ok(index) = self.index_on(day) else {
+            return Reply::Unavailable;
+        };
+        let Ok(vrps) = gather(self.alloc, &index) else {
+            return Reply::Unavailable;
+        };
+        Reply::Payloads(vrps)
+    }
+
+    fn validity(&self, day: Day, routes: &[Route]) -> Reply
+        ensures answered { (history : History) → IsLegal (charter_of self.now) history → HasRows (desk_rows self.now) history
+            → AnswersValidity history day routes.now result }
+        ensures never_done { is_done result ≡ false }
+    {
+        let Ok(index) = self.index_on(day) else {
+            return Reply::Unavailable;
+        };
+        let Ok(states) = judge(self.alloc, &index, routes) else {
+            return Reply::Unavailable;
+        };
+        Reply::Answers(states)
+    }
+
+    /// The VRPs of the day.
+    fn index_on(&self, day: Day) -> Result<ListIndex, AllocError>
+        ensures { IfOk result (λ index. (v : Vrp) → IsTrue (set.contains index v) ↔ IsGivenOn (desk_rows self.now) day v) }
+    {
+        let vrps = self.records.vrps_in_force(self.alloc, day)?;
+        Ok(ListIndex::from(vrps))
+    }
+
+    /// What the command does, or why it is refused.
+    fn decide(&self, day: Day, caller: &Name, command: &Command) -> Result<Change, Refusal>
+        ensures { (history : History) → IsLegal (charter_of self.now) history → HasRows (desk_rows self.now) history
+            → IsAnswer (charter_of self.now) history day caller.now command.now result }
+    {
+        match command {
+            Command::Transfer { giver, taker, .. } => {
+                let from = self.records.load(giver)?;
+                let to = self.records.load(taker)?;
+                policy::decide_two(self.alloc, &self.charter, from.as_ref(), to.as_ref(), caller, command)
+            }
+            _ => {
+                let view = self.view(command)?;
+                policy::decide(self.alloc, &self.charter, &view, day, caller, command)
+            }
+        }
+    }
+
+    /// What the command is judged on.
+    fn view(&self, command: &Command) -> Result<View, AllocError>
+        ensures { IfOk result (λ view. (history : History) → IsLegal (charter_of self.now) history → HasRows (desk_rows self.now) history
+            → IsViewOf history command.now view) }
+    {
+        let holder = self.records.load(command.holder())?;
+        let taken = self.is_taken(command);
+        Ok(View { holder, taken })
+    }
+
+    /// Whether some address of a delegation's prefix is held. Not asked of any other command.
+    fn is_taken(&self, command: &Command) -> bool
+        ensures { (history : History) → IsLegal (charter_of self.now) history → HasRows (desk_rows self.now) history
+            → TellsTaken history command.now result }
+    {
+        match command {
+            Command::Delegate { prefix, .. } => self.records.is_taken(prefix),
+            _ => false,
+        }
+    }
+}

@@ -1,0 +1,57 @@
+-- Lists of VRPs whose prefixes are no shorter than some length.
+use Rattle.std.proofs.Common.{◌≡◌, ℕ, suc, ◌+◌, ◌≤◌, ◌<◌, List, [], ◌++◌, take, length, get_or, true, refl, ap, sym, subst, arith, inl, inr}
+use Rattle.std.specs.List.{All, insert, remove}
+use Rattle.std.proofs.lemmas.List.{take_all}
+use Rattle.std.proofs.lemmas.List.Elements.{All-append, All-cons, All-drop, All-more, All-take, All-weaker}
+use Rattle.std.proofs.lemmas.Bool.{cases_Bool}
+use Rattle.addr.specs.Address.{contains}
+use Rattle.addr.specs.declared.prefix.Prefix.{Prefix}
+use Rattle.payload.specs.Search.{is_at_most, HasAllEnclosing}
+use Rattle.payload.proofs.Fronts.{All-front}
+use Rattle.payload.proofs.Prefixes.{contains-between, contains-ends}
+use Rattle.addr.specs.declared.family.Family.{Family}
+use Rattle.addr.specs.declared.vrp.Vrp.{Vrp}
+use Rattle.payload.specs.declared.shortest.Shortest.{Shortest}
+use Rattle.payload.specs.Shortest.{shortest_in, AreNoShorter}
+
+weaker : (s t : Shortest) (vrps : List Vrp) → ((f : Family) → shortest_in t f ≤ shortest_in s f) → AreNoShorter s vrps → AreNoShorter t vrps
+weaker s t vrps less all =
+    All-weaker (λ v. shortest_in s v.prefix.family ≤ v.prefix.length) (λ v. shortest_in t v.prefix.family ≤ v.prefix.length) (λ v h. omega (arith, less v.prefix.family)) vrps all
+
+pub no_shorter-more : (s t : Shortest) (vrps : List Vrp) (i : ℕ) (v : Vrp) → AreNoShorter s (take i vrps) → i < length vrps → v ≡ get_or vrps i v → shortest_in t v.prefix.family ≤ v.prefix.length → ((f : Family) → shortest_in t f ≤ shortest_in s f) → AreNoShorter t (take (i + 1) vrps)
+no_shorter-more s t vrps i v all within read here less =
+    All-more (λ v. shortest_in t v.prefix.family ≤ v.prefix.length) vrps i v within (weaker s t (take i vrps) less all)
+    (subst (λ w. shortest_in t w.prefix.family ≤ w.prefix.length) read here)
+
+pub no_shorter-all : (s : Shortest) (vrps : List Vrp) (i : ℕ) → AreNoShorter s (take i vrps) → length vrps ≤ i → AreNoShorter s vrps
+no_shorter-all s vrps i all past = subst (AreNoShorter s) (take_all i vrps past) all
+
+pub no_shorter-insert : (s t : Shortest) (vrps news : List Vrp) (at : ℕ) (v : Vrp) → AreNoShorter s vrps → news ≡ insert vrps at v → shortest_in t v.prefix.family ≤ v.prefix.length → ((f : Family) → shortest_in t f ≤ shortest_in s f) → AreNoShorter t news
+no_shorter-insert s t vrps news at v all new here less =
+    let P = λ (v : Vrp). shortest_in t v.prefix.family ≤ v.prefix.length in
+    let all' = weaker s t vrps less all in
+    subst (AreNoShorter t) (sym new) (All-append P (take at vrps) _ (All-take P at vrps all') (All-cons P v _ here (All-drop P at vrps all')))
+
+pub no_shorter-remove : (s : Shortest) (vrps news : List Vrp) (at : ℕ) → AreNoShorter s vrps → news ≡ remove vrps at → AreNoShorter s news
+no_shorter-remove s vrps news at all new =
+    let P = λ (v : Vrp). shortest_in s v.prefix.family ≤ v.prefix.length in
+    subst (AreNoShorter s) (sym new) (All-append P (take at vrps) _ (All-take P at vrps all) (All-drop P (suc at) vrps all))
+
+-- no prefix that contains two of one family is longer than the last round both
+pub none-so_short : (s : Shortest) (low high : Prefix) (last : ℕ) (vrps : List Vrp) → AreNoShorter s vrps → All (λ v. is_at_most v.prefix low ≡ true) vrps → is_at_most low high ≡ true → ((p : Prefix) → contains p low ≡ true → contains p high ≡ true → p.length ≤ last) → last < shortest_in s low.family → HasAllEnclosing high vrps []
+none-so_short s low high last vrps long before order round short = record {
+  rest = vrps;
+  parts = refl;
+  others = λ k d within.
+      let v = get_or vrps k d in
+      elim (cases_Bool (contains v.prefix high)) [
+        | inl both ↦
+            let inside = contains-between v.prefix low high both (before k d within) order in
+            let family : shortest_in s v.prefix.family ≡ shortest_in s low.family = ap (shortest_in s) (contains-ends v.prefix low inside).family in
+            absurd (omega (arith, round v.prefix inside both, long k d within, family))
+        | inr out ↦ out
+      ];
+}
+
+pub no_shorter-front : (s : Shortest) (vrps front : List Vrp) (rest : List Vrp) → vrps ≡ front ++ rest → AreNoShorter s vrps → AreNoShorter s front
+no_shorter-front s vrps front rest parts all = All-front (λ v. shortest_in s v.prefix.family ≤ v.prefix.length) front rest (subst (AreNoShorter s) parts all)

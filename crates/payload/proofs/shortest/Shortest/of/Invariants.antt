@@ -1,0 +1,6 @@
+use Rattle.std.proofs.Common.{take}
+use Rattle.payload.specs.Shortest.{AreNoShorter}
+use Rattle.payload.proofs.shortest.Shortest.of.Given as goal
+
+abbrev pub invariant-loop-vrp : goal.invariant-loop-vrp
+invariant-loop-vrp l = AreNoShorter l.shortest (take l.vrp-index l.vrps)

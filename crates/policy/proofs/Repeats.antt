@@ -1,0 +1,70 @@
+-- A walk along a list that looks for a value that stands twice, and lists in another order.
+use Rattle.std.proofs.Common.{◌≡◌, ℕ, ◌+◌, ◌-◌, ◌<◌, ◌≤◌, Bool, true, false, ◌||◌, cond, eqb, List, [], ◌∷◌, ◌⊎◌, inl, inr, length, take, drop, get_or, refl, sym, ap, ◌∙◌, subst, arith}
+use Rattle.std.specs.List.{list_any, IsDistinct, AllByRecursion}
+use Rattle.std.specs.List.Sorted.{IsPermutation}
+use Rattle.std.proofs.lemmas.Bool.{cases_Bool, false≢true}
+use Rattle.std.proofs.lemmas.List.{take_all}
+use Rattle.std.proofs.lemmas.Map.Keys.{IsDistinct-IsPermutation, IsDistinct-cons, IsDistinct-head, IsDistinct-tail}
+use Rattle.std.proofs.lemmas.Bool.Decides.{nat_tests}
+use Rattle.addr.specs.Family.{family_eq}
+use Rattle.addr.specs.Address.{prefix_eq}
+use Rattle.addr.specs.declared.family.Family.{Family}
+use Rattle.addr.specs.declared.family.Family.TheVariants.{V4, V6}
+use Rattle.addr.specs.declared.prefix.Prefix.{Prefix}
+use Rattle.policy.specs.Repeats.{has_repeat}
+use Rattle.policy.proofs.Unregistered.{or_left, or_right}
+
+-- the list without its first value, as a slice pattern has it
+pub rest_of : {T : Type 0} (y : T) (ys : List T) → take (length (y ∷ ys) - 1) (drop 1 (y ∷ ys)) ≡ ys
+rest_of {T} y ys = take_all (length (y ∷ ys) - 1) ys (omega arith)
+
+pub repeat_step : {T : Type 0} (same : T → T → Bool) (rest others : List T) (x : T) → 0 < length rest → x ≡ get_or rest 0 x
+    → others ≡ take (length rest - 1) (drop 1 rest) → list_any (λ y. same x y) others ≡ false → has_repeat same others ≡ has_repeat same rest
+repeat_step same [] others x long is tail none = absurd (omega arith)
+repeat_step {T} same (y ∷ ys) others x long is tail none =
+    let same_tail : others ≡ ys = tail ∙ rest_of y ys in
+    let first : list_any (λ z. same y z) ys ≡ false =
+    ap (λ (zs : List T). list_any (λ z. same y z) zs) (sym same_tail) ∙ ap (λ (a : T). list_any (λ z. same a z) others) (sym is) ∙ none in
+    ap (has_repeat same) same_tail ∙ sym (ap (λ b. b || has_repeat same ys) first)
+
+none_to : {T : Type 0} (test : T → Bool) (xs : List T) → list_any test xs ≡ false → AllByRecursion (λ y. test y ≡ false) xs
+none_to test [] none = tt
+none_to test (x ∷ xs) none = (or_left (test x) (list_any test xs) none, none_to test xs (or_right (test x) (list_any test xs) none))
+
+none_from : {T : Type 0} (test : T → Bool) (xs : List T) → AllByRecursion (λ y. test y ≡ false) xs → list_any test xs ≡ false
+none_from test [] all = refl
+none_from test (x ∷ xs) all = ap (λ b. b || list_any test xs) all.0 ∙ none_from test xs all.1
+
+distinct_to : {T : Type 0} (same : T → T → Bool) (xs : List T) → has_repeat same xs ≡ false → IsDistinct same xs
+unfolding IsDistinct
+distinct_to same [] none = tt
+distinct_to same (x ∷ xs) none =
+    (none_to (λ y. same x y) xs (or_left (list_any (λ y. same x y) xs) (has_repeat same xs) none), distinct_to same xs (or_right (list_any (λ y. same x y) xs) (has_repeat same xs) none))
+
+distinct_from : {T : Type 0} (same : T → T → Bool) (xs : List T) → IsDistinct same xs → has_repeat same xs ≡ false
+unfolding IsDistinct
+distinct_from same [] distinct = refl
+distinct_from same (x ∷ xs) distinct =
+    ap (λ b. b || has_repeat same xs) (none_from (λ y. same x y) xs distinct.0) ∙ distinct_from same xs distinct.1
+
+-- another order of values that stand once
+pub has_repeat-moved : {T : Type 0} (same : T → T → Bool) → ((x y : T) → same x y ≡ same y x) → (xs ys : List T) → IsPermutation xs ys
+    → has_repeat same xs ≡ false → has_repeat same ys ≡ false
+has_repeat-moved same flips xs ys moved none =
+    distinct_from same ys (IsDistinct-IsPermutation same flips xs ys moved (distinct_to same xs none))
+
+family_eq-flips : (f g : Family) → family_eq f g ≡ family_eq g f
+family_eq-flips V4 V4 = refl
+family_eq-flips V4 V6 = refl
+family_eq-flips V6 V4 = refl
+family_eq-flips V6 V6 = refl
+
+pub eqb-flips : (m n : ℕ) → eqb m n ≡ eqb n m
+eqb-flips m n = grind (arith, nat_tests)
+
+pub prefix_eq-flips : (p q : Prefix) → prefix_eq p q ≡ prefix_eq q p
+prefix_eq-flips p q =
+    let family = family_eq-flips p.family q.family in
+    let first = eqb-flips p.first q.first in
+    let length = eqb-flips p.length q.length in
+    cc

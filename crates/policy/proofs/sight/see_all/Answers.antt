@@ -1,0 +1,21 @@
+use Rattle.std.proofs.Common.{◌≡◌, List, sym, ◌∙◌, ap, filter}
+use Rattle.policy.specs.declared.authorization.Auth.{Auth}
+use Rattle.policy.specs.declared.grant.Access.TheVariants.{Look}
+use Rattle.policy.specs.Permission.{is_permitted_terms}
+use Rattle.policy.specs.Rows.{rows_of}
+use Rattle.policy.specs.Terms.{grant_terms}
+use Rattle.policy.proofs.RowsLemmas.{active-to}
+use Rattle.policy.proofs.sight.see_all.Goals as goal
+
+pub returns : goal.returns
+returns c charter history h legal are =
+    let a = c.args in
+    let had = c.in_ok-rows.ensures charter history h legal are in
+    let r = c.in_ok-rows.rows.now in
+    let seen = c.in_ok-permitted_auths.ensures
+    ∙ ap (λ gs. filter (λ x. is_permitted_terms gs a.day a.caller.now Look x) c.deref.result.now) (c.deref-2.ensures.value ∙ had.2.grants)
+    ∙ ap (filter (λ x. is_permitted_terms (grant_terms history h) a.day a.caller.now Look x)) c.deref.ensures.value in (
+      (had.0, tt),
+      active-to history h (rows_of r)
+          (λ active. c.in_ok-permitted_auths.field-0.items ≡ filter (λ x. is_permitted_terms (grant_terms history h) a.day a.caller.now Look x) active) had.2 seen,
+    )

@@ -1,0 +1,21 @@
+-- A charter as what it says: the operators of a desk, and the pool of prefixes that it delegates from.
+use Rattle.std.specs.Prelude.{◌≡◌, ℕ, ◌≤◌, false, List, length, nat_eq}
+use Rattle.std.specs.Cmp.Lexicographic.{pointwise}
+use Rattle.addr.specs.Address.{prefix_eq}
+use Rattle.addr.specs.declared.prefix.Prefix.{Prefix}
+use Rattle.policy.specs.Repeats.{has_repeat}
+
+-- both are sets; they are kept in rising order
+pub record CharterSets : Type 0 where
+  pub operators : List (List ℕ)
+  pub pool : List Prefix
+
+-- 1 to 16 operators and 1 to 64 prefixes
+abbrev pub AreInNumber : List (List ℕ) → List Prefix → Type 0
+AreInNumber operators pool = (1 ≤ length operators) × (length operators ≤ 16) × (1 ≤ length pool) × (length pool ≤ 64)
+
+-- in number, and none twice
+pub record IsCharter (charter : CharterSets) : Type 0 where
+  pub number : AreInNumber charter.operators charter.pool
+  pub operators_once : has_repeat (pointwise nat_eq) charter.operators ≡ false
+  pub pool_once : has_repeat prefix_eq charter.pool ≡ false

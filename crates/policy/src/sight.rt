@@ -1,0 +1,61 @@
+ghost use Rattle.std.specs.Prelude.{◌≡◌, ℕ, List, true, Some, option_copied, MatchResult, IfOk, filter};
+ghost use Rattle.policy.specs.declared.charter.Charter.{Charter as CharterValue};
+ghost use Rattle.policy.specs.History.{History};
+ghost use Rattle.policy.specs.Permission.{is_permitted_terms};
+ghost use Rattle.policy.specs.Rows.{rows_if_any, RowsIfAny};
+ghost use Rattle.policy.specs.Verdict.{IsLegal, ShowVerdict};
+ghost use Rattle.policy.specs.Answer.{IsShown, IsListed, IsListRefusal};
+
+use crate::admission::{may_reach, permitted, rows_with_access};
+use crate::{Access, Auth, Granted, HolderRows, Refusal, Rule};
+use addr::{Day, Name};
+use std::alloc::{AllocError, Global};
+
+/// The authorization of the number, where the caller may see it on the day. Of one that the caller
+/// may not see the same is said as of one that does not exist. It takes no memory.
+pub fn see<'a>(
+    rows: Option<&'a HolderRows>,
+    day: Day,
+    caller: &Name,
+    number: u32,
+) -> Result<&'a Auth, Rule>
+    ensures { (charter : CharterValue) (history : History) (h : List ℕ) → IsLegal charter history
+        → RowsIfAny history h (rows_if_any (option_copied rows.entry))
+        → MatchResult result (λ x. IsShown history h day caller.now number x.now)
+        (λ rule. ShowVerdict history h day caller.now number (Some rule)) }
+{
+    let rows = rows_with_access(rows, day, caller, Access::Look)?;
+    permitted(rows, day, caller, Access::Look, number)
+}
+
+fn permitted_auths(
+    alloc: Global,
+    auths: &[Auth],
+    grants: &[Granted],
+    day: Day,
+    caller: &Name,
+) -> Result<Vec<Auth>, AllocError>
+    ensures { IfOk result (λ seen. seen.items ≡ filter (λ x. is_permitted_terms grants.now day caller.now Access.Look x) auths.now) }
+{
+    auths
+        .iter()
+        .filter(|auth| may_reach(grants, day, caller, Access::Look, auth))
+        .copied()
+        .collect(alloc)
+}
+
+/// The active authorizations that the caller may see on the day, by rising number.
+pub fn see_all(
+    alloc: Global,
+    rows: Option<&HolderRows>,
+    day: Day,
+    caller: &Name,
+) -> Result<Vec<Auth>, Refusal>
+    ensures { (charter : CharterValue) (history : History) (h : List ℕ) → IsLegal charter history
+        → RowsIfAny history h (rows_if_any (option_copied rows.entry))
+        → MatchResult result (λ seen. IsListed history h day caller.now seen.items)
+        (λ refusal. IsListRefusal history h day caller.now refusal) }
+{
+    let rows = rows_with_access(rows, day, caller, Access::Look)?;
+    Ok(permitted_auths(alloc, &rows.auths, &rows.grants, day, caller)?)
+}
