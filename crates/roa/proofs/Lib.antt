@@ -1,0 +1,14 @@
+pub mod Octets
+pub mod Elements
+pub mod Primitives
+pub mod Sizes
+pub mod Entries
+pub mod Blocks
+pub mod Prefixes
+pub mod Contents
+pub mod Order
+pub mod Loop
+pub mod Written
+pub mod Shortest
+pub mod Grammar
+pub mod Decoding

@@ -1,0 +1,3 @@
+pub mod RoaContent
+pub mod ContentOctets
+pub mod Reading

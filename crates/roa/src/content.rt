@@ -1,0 +1,131 @@
+ghost use Rattle.std.specs.Prelude.{◌≡◌, ◌<◌, ◌≤◌, ◌↔◌, true, length, IsTrue, IfOk, IfErr, IfSome, IfNone, IsPermutation};
+ghost use Rattle.std.specs.List.{list_all};
+
+use addr::{Asn, Prefix};
+use std::marker::Model;
+
+/// A prefix and its maxLength, the length of the longest prefixes in it that are authorized too
+/// (RFC 9582 section 4.3.2).
+///
+/// Entries rise by family, first address, prefix length and maxLength.
+#[derive(Clone, Copy, Debug, PartialEq, Eq, PartialOrd, Ord)]
+pub struct Entry {
+    pub prefix: Prefix,
+    pub max: u8,
+}
+
+impl Entry {
+    ghost use Rattle.roa.specs.RoaContent.{is_in_range};
+
+    /// Whether maxLength is neither below the prefix's length nor over the family's width.
+    fn is_in_range(&self) -> bool
+        ensures { result ≡ is_in_range self.now }
+    {
+        self.prefix.length <= self.max && self.max <= self.prefix.family.width()
+    }
+}
+
+/// Why a list of entries is no content.
+#[derive(Clone, Copy, Debug, PartialEq, Eq)]
+pub enum ContentFault {
+    /// There is no entry.
+    Empty,
+    /// There are more than 64 entries.
+    TooMany,
+    /// A maxLength is below its prefix's length or over its family's width.
+    MaxLength,
+    /// Two entries are equal.
+    Repeated,
+}
+
+/// The content of a route origin authorization (RFC 9582 section 4): one AS number, and 1 to 64
+/// entries that rise strictly.
+#[derive(Debug, Drop)]
+pub struct Content {
+    asn: Asn,
+    entries: Vec<Entry>,
+}
+
+impl Model for Content {
+    ghost use Rattle.roa.specs.RoaContent.{RouteOriginAttestation, IsContent};
+
+    ghost Value = { RouteOriginAttestation };
+
+    ghost view = { λ c. record { asn = c.asn; entries = c.entries.items } };
+
+    ghost invariant = { λ c. IsContent (record { asn = c.asn; entries = c.entries.items }) };
+}
+
+impl Content {
+    ghost use Rattle.roa.specs.RoaContent.{AreCanonical, IsContent, IsLowestFault, is_in_range};
+
+    /// The most entries that a content has.
+    pub const MAX_ENTRIES: usize = 64;
+
+    /// The content of the entries, which it puts in order. Of several faults it tells the lowest,
+    /// over all entries.
+    pub fn make(asn: Asn, mut entries: Vec<Entry>) -> Result<Content, ContentFault>
+        ensures asn { IfOk result (λ content. content.asn ≡ asn) }
+        ensures same_entries { IfOk result (λ content. IsPermutation entries.items content.entries) }
+        ensures content { IfOk result IsContent }
+        ensures fault { IfErr result (IsLowestFault entries.items) }
+    {
+        if entries.is_empty() {
+            return Err(ContentFault::Empty);
+        }
+        if entries.len() > Self::MAX_ENTRIES {
+            return Err(ContentFault::TooMany);
+        }
+        if !are_in_range(&entries) {
+            return Err(ContentFault::MaxLength);
+        }
+        entries.sort_unstable();
+        if !rises(&entries) {
+            return Err(ContentFault::Repeated);
+        }
+        Ok(Content { asn, entries })
+    }
+
+    /// None where there is no entry, or where the entries do not rise strictly.
+    pub(crate) fn from_rising(asn: Asn, entries: Vec<Entry>) -> Option<Content>
+        requires few { length entries.items ≤ 64 }
+        requires in_range { list_all is_in_range entries.items ≡ true }
+        ensures some { IfSome result (λ content. (content.asn ≡ asn) × (content.entries ≡ entries.items)) }
+        ensures content { IfSome result IsContent }
+        ensures none { IfNone result (AreCanonical entries.items → ⊥) }
+    {
+        if entries.is_empty() || !rises(&entries) {
+            return None;
+        }
+        Some(Content { asn, entries })
+    }
+
+    pub fn asn(&self) -> Asn
+        ensures { result ≡ self.now.asn }
+    {
+        self.asn
+    }
+
+    /// The entries, in rising order.
+    pub fn entries(&self) -> &[Entry]
+        ensures entries { result.now ≡ self.now.entries }
+        ensures content { IsContent self.now }
+    {
+        &self.entries
+    }
+}
+
+ghost use Rattle.roa.specs.RoaContent.{Rises, is_in_range};
+
+fn are_in_range(entries: &[Entry]) -> bool
+    ensures { result ≡ list_all is_in_range entries.now }
+{
+    entries.iter().all(|entry| entry.is_in_range())
+}
+
+/// Whether each entry is before the next one.
+fn rises(entries: &[Entry]) -> bool
+    ensures { IsTrue result ↔ Rises entries.now }
+{
+    entries.is_sorted_by(|a, b| a < b)
+}
