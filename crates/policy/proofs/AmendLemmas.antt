@@ -1,5 +1,5 @@
 -- The rule that amended terms share no AS, prefix and maxLength with another active authorization.
-use Rattle.std.proofs.Common.{◌≡◌, ℕ, Bool, true, false, not, ◌&&◌, eqb, List, Option, Some, sym, subst, IsSomeAnd}
+use Rattle.std.proofs.Common.{◌≡◌, ℕ, Bool, false, not, ◌&&◌, eqb, List, Option, Some, sym, subst, IsSomeAnd}
 use Rattle.std.specs.List.{list_any}
 use Rattle.policy.specs.declared.authorization.Auth.{Auth}
 use Rattle.policy.specs.History.{History}

@@ -1,16 +1,13 @@
 -- A change carries the rows of every holder from a history to the one with the command.
-use Rattle.std.proofs.Common.{◌≡◌, ℕ, ◌+◌, ◌<◌, ◌≤◌, Bool, true, false, not, ◌||◌, cond, eqb, List, [], ◌∷◌, ◌++◌, ◌⊎◌, inl, inr, Option, Some, None, refl, sym, ap, ◌∙◌, subst, arith, map, filter}
-use Rattle.std.proofs.lemmas.Bool.{cases_Bool, false≢true}
-use Rattle.addr.specs.Address.{Address, has_address}
-use Rattle.addr.specs.Spans.{spans_have}
+use Rattle.std.proofs.Common.{◌≡◌, ℕ, Bool, true, false, cond, List, ◌∷◌, inl, inr, Option, Some, None, sym, ◌∙◌, subst}
+use Rattle.std.proofs.lemmas.Bool.{cases_Bool}
+use Rattle.addr.specs.Address.{Address}
 use Rattle.policy.specs.declared.authorization.Auth.{Auth}
-use Rattle.policy.specs.declared.change.Change.{Change}
-use Rattle.policy.specs.declared.change.HolderChange.{HolderChange}
 use Rattle.policy.specs.declared.change.Edit.{Edit}
 use Rattle.policy.specs.History.{Entry, History, same_name, is_registered}
 use Rattle.policy.specs.Resources.{resource_holder, is_held_by}
 use Rattle.policy.specs.Terms.{grant_terms, grants_made, authorizations_made, authorization_terms, HeldSinceMade, Keeps, AreActive}
-use Rattle.policy.specs.Rows.{Rows, RowsOf, RowsIfAny, edited, edited_if_any, changed_by_one, changed, Carries}
+use Rattle.policy.specs.Rows.{Rows, RowsIfAny, edited_if_any, Carries}
 use Rattle.policy.proofs.Names.{same_name-true, held_by_same}
 use Rattle.policy.proofs.Held.{active-kept}
 

@@ -1,21 +1,16 @@
 -- The changes of a grant and a revocation carry every holder's rows.
-use Rattle.std.proofs.Common.{◌≡◌, ℕ, ◌+◌, ◌<◌, ◌≤◌, Bool, true, false, not, ◌||◌, ◌&&◌, cond, eqb, List, [], ◌∷◌, ◌++◌, ◌⊎◌, inl, inr, Option, Some, None, refl, sym, ap, ◌∙◌, subst, arith, map, filter}
-use Rattle.std.proofs.lemmas.Bool.{cases_Bool, false≢true}
-use Rattle.addr.specs.Address.{Address, has_address}
-use Rattle.policy.specs.declared.authorization.Auth.{Auth}
+use Rattle.std.proofs.Common.{◌≡◌, ℕ, ◌+◌, true, not, cond, eqb, List, [], ◌∷◌, ◌++◌, Some, None, refl, sym, ap, ◌∙◌, filter}
+use Rattle.std.proofs.lemmas.Bool.{false≢true}
 use Rattle.policy.specs.declared.grant.Granted.{Granted}
 use Rattle.policy.specs.declared.grant.Role.{Role}
 use Rattle.policy.specs.declared.grant.Scope.{Scope}
-use Rattle.policy.specs.declared.change.Change.{Change}
-use Rattle.policy.specs.declared.change.Edit.{Edit}
 use Rattle.policy.specs.declared.change.Edit.TheVariants.{Grant as GrantEdit, Revoke as RevokeEdit}
 use Rattle.policy.specs.declared.command.Command.TheVariants.{Grant, Revoke}
-use Rattle.policy.specs.History.{Entry, History, same_name, is_registered}
-use Rattle.policy.specs.Resources.{resource_holder, is_held_by}
-use Rattle.policy.specs.Terms.{grant_terms, grants_made, authorizations_made, authorization_terms, HeldSinceMade, Keeps, AreActive}
-use Rattle.policy.specs.Rows.{Rows, RowsOf, RowsIfAny, edited, edited_if_any, changed, Carries}
+use Rattle.policy.specs.History.{Entry, History, is_registered}
+use Rattle.policy.specs.Terms.{grant_terms, grants_made}
+use Rattle.policy.specs.Rows.{RowsIfAny, edited_if_any, Carries}
 use Rattle.policy.proofs.Names.{same_name-same}
-use Rattle.policy.proofs.Carry.{Leaves, active-left, carries-one}
+use Rattle.policy.proofs.Carry.{active-left, carries-one}
 
 pub carries-grant : (before : History) (day : ℕ) (caller holder name : List ℕ) (role : Role) (scope : Scope) (until : ℕ) (g : Granted)
     → is_registered before holder ≡ true

@@ -1,5 +1,5 @@
 -- The changes of a registration, a delegation, a transfer and a reclaim carry every holder's rows.
-use Rattle.std.proofs.Common.{◌≡◌, ℕ, ◌+◌, ◌<◌, ◌≤◌, Bool, true, false, not, ◌||◌, ◌&&◌, cond, eqb, List, [], ◌∷◌, ◌++◌, ◌⊎◌, inl, inr, Option, Some, None, refl, sym, ap, ◌∙◌, subst, arith, map, filter, vec_len}
+use Rattle.std.proofs.Common.{◌≡◌, ℕ, Bool, true, false, not, ◌||◌, ◌&&◌, cond, List, [], ◌∷◌, inl, inr, Option, Some, None, refl, sym, ap, ◌∙◌, subst, filter}
 use Rattle.std.proofs.lemmas.Bool.{cases_Bool, false≢true}
 use Rattle.std.specs.Global.{Vec}
 use Rattle.addr.specs.Address.{Address, has_address}
@@ -8,22 +8,19 @@ use Rattle.addr.specs.declared.span.Span.{Span}
 use Rattle.addr.specs.Spans.{spans_have, AreMaximal}
 use Rattle.policy.specs.declared.authorization.Auth.{Auth}
 use Rattle.policy.specs.declared.charter.Charter.{Charter}
-use Rattle.policy.specs.declared.change.Change.{Change}
-use Rattle.policy.specs.declared.change.Edit.{Edit}
 use Rattle.policy.specs.declared.change.Edit.TheVariants.{Register as RegisterEdit, Hold}
-use Rattle.policy.specs.declared.command.Command.{Command}
 use Rattle.policy.specs.declared.command.Command.TheVariants.{Register, Delegate, Transfer, Reclaim}
 use Rattle.policy.specs.History.{Entry, History, same_name, is_registered}
 use Rattle.policy.specs.Resources.{resource_holder, is_held_by, HoldsPrefix, IsFree}
 use Rattle.policy.specs.Terms.{terms_overlap, grant_terms, grants_made, authorizations_made, authorization_terms, HeldSinceMade, Keeps, AreActive}
 use Rattle.policy.specs.Verdict.{IsLegal}
-use Rattle.policy.specs.Rows.{Rows, RowsOf, RowsIfAny, edited, edited_if_any, changed, Carries}
-use Rattle.policy.proofs.Names.{same_name-true, same_name-same, held_by_itself}
+use Rattle.policy.specs.Rows.{Rows, RowsOf, RowsIfAny, edited, edited_if_any, Carries}
+use Rattle.policy.proofs.Names.{same_name-same, held_by_itself}
 use Rattle.policy.proofs.Kept.{Keeps-unique}
 use Rattle.policy.proofs.Held.{active-kept, active-numbered, LosesNothing}
 use Rattle.policy.proofs.Ended.{LosesPrefix, active-ended, numbers_where, among, filter-numbers}
-use Rattle.policy.proofs.Carry.{Leaves, carries-one, carries-two}
-use Rattle.policy.proofs.Unregistered.{HasNothing, has_nothing}
+use Rattle.policy.proofs.Carry.{carries-one, carries-two}
+use Rattle.policy.proofs.Unregistered.{has_nothing}
 
 -- a registration: a holder that was not registered has nothing yet
 pub carries-register : (charter : Charter) (before : History) (day : ℕ) (caller holder : List ℕ) → IsLegal charter before

@@ -1,26 +1,23 @@
 -- The changes of a create, an amend and a withdrawal carry every holder's rows.
-use Rattle.std.proofs.Common.{◌≡◌, ℕ, ◌+◌, ◌<◌, ◌≤◌, Bool, true, false, not, ◌||◌, ◌&&◌, cond, eqb, List, [], ◌∷◌, ◌++◌, ◌⊎◌, inl, inr, Option, Some, None, refl, sym, ap, ◌∙◌, subst, arith, map, filter}
-use Rattle.std.specs.List.{find}
+use Rattle.std.proofs.Common.{◌≡◌, ℕ, ◌+◌, ◌<◌, ◌≤◌, true, false, not, cond, eqb, List, [], ◌∷◌, ◌++◌, inl, inr, Some, None, refl, sym, ap, ◌∙◌, subst, arith, map, filter}
 use Rattle.std.proofs.lemmas.Bool.{cases_Bool, false≢true}
 use Rattle.std.proofs.lemmas.Bool.Decides.{nat_tests}
-use Rattle.addr.specs.Address.{Address, has_address}
+use Rattle.addr.specs.Address.{has_address}
 use Rattle.addr.specs.declared.asn.Asn.{Asn}
 use Rattle.addr.specs.declared.prefix.Prefix.{Prefix}
 use Rattle.policy.specs.declared.authorization.Auth.{Auth}
-use Rattle.policy.specs.declared.change.Change.{Change}
-use Rattle.policy.specs.declared.change.Edit.{Edit}
 use Rattle.policy.specs.declared.change.Edit.TheVariants.{Create as CreateEdit, Amend as AmendEdit, Withdraw as WithdrawEdit}
 use Rattle.policy.specs.declared.command.Command.TheVariants.{Create, Amend, Withdraw}
-use Rattle.policy.specs.History.{Entry, History, same_name, is_registered}
-use Rattle.policy.specs.Resources.{resource_holder, is_held_by, HoldsPrefix}
-use Rattle.policy.specs.Terms.{grant_terms, grants_made, authorizations_made, authorization_terms, amended, HeldSinceMade, Keeps, AreActive}
+use Rattle.policy.specs.History.{Entry, History, is_registered}
+use Rattle.policy.specs.Resources.{HoldsPrefix}
+use Rattle.policy.specs.Terms.{authorizations_made, authorization_terms, amended, HeldSinceMade, Keeps}
 use Rattle.policy.specs.Verdict.{numbered}
-use Rattle.policy.specs.Rows.{Rows, RowsOf, RowsIfAny, replaced_by, edited, edited_if_any, changed, Carries}
+use Rattle.policy.specs.Rows.{Rows, RowsOf, RowsIfAny, replaced_by, edited_if_any, Carries}
 use Rattle.policy.proofs.Names.{same_name-same}
 use Rattle.policy.proofs.Numbers.{Numbered}
 use Rattle.policy.proofs.Kept.{Keeps-unique, Keeps-append, Keeps-filtered, Keeps-map}
 use Rattle.policy.proofs.Held.{active-kept, active-numbered, not_yet_made, since_same, amended-number, amended-prefix}
-use Rattle.policy.proofs.Carry.{Leaves, active-left, carries-one}
+use Rattle.policy.proofs.Carry.{carries-one}
 
 pub carries-create : (before : History) (day : ℕ) (caller holder : List ℕ) (asn : Asn) (p : Prefix) (max from until : ℕ) (x : Auth)
     → is_registered before holder ≡ true → HoldsPrefix before holder p

@@ -1,16 +1,16 @@
 -- Authorizations that end where a prefix of their terms shares an address with a prefix that moves.
-use Rattle.std.proofs.Common.{◌≡◌, ℕ, ◌+◌, ◌<◌, ◌≤◌, Bool, true, false, not, ◌||◌, cond, eqb, List, [], ◌∷◌, ◌++◌, ◌⊎◌, inl, inr, Option, Some, None, refl, sym, ap, ◌∙◌, subst, arith, map, filter}
-use Rattle.std.specs.List.{list_any, All}
+use Rattle.std.proofs.Common.{◌≡◌, ℕ, ◌<◌, ◌≤◌, Bool, true, false, not, ◌||◌, cond, eqb, List, [], ◌∷◌, inl, inr, Some, refl, sym, ap, ◌∙◌, subst, arith, map, filter}
+use Rattle.std.specs.List.{list_any}
 use Rattle.std.proofs.lemmas.Bool.{cases_Bool, false≢true}
 use Rattle.std.proofs.lemmas.Bool.Decides.{nat_tests}
 use Rattle.addr.specs.Address.{Address, has_address, overlaps}
 use Rattle.addr.specs.declared.prefix.Prefix.{Prefix}
 use Rattle.addr.proofs.AddressLemmas.{overlaps_some}
 use Rattle.policy.specs.declared.authorization.Auth.{Auth}
-use Rattle.policy.specs.History.{Entry, History, same_name}
-use Rattle.policy.specs.Resources.{resource_holder, HoldsPrefix, is_held_by}
-use Rattle.policy.specs.Terms.{HoldsTerms, terms_overlap, authorizations_made, authorization_terms, HeldSinceMade, Keeps, AreActive}
-use Rattle.policy.proofs.Numbers.{Numbered, Numbered-high}
+use Rattle.policy.specs.History.{Entry, History}
+use Rattle.policy.specs.Resources.{resource_holder}
+use Rattle.policy.specs.Terms.{terms_overlap, authorizations_made, authorization_terms, HeldSinceMade, Keeps, AreActive}
+use Rattle.policy.proofs.Numbers.{Numbered}
 use Rattle.policy.proofs.Kept.{Keeps-filter}
 use Rattle.policy.proofs.Held.{authorization_terms-numbered, held_now}
 

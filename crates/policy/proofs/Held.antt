@@ -1,17 +1,14 @@
 -- The active authorizations after a command, from those before it.
-use Rattle.std.proofs.Common.{◌≡◌, ℕ, ◌+◌, ◌<◌, ◌≤◌, Bool, true, false, not, cond, eqb, List, [], ◌∷◌, ◌++◌, ◌⊎◌, inl, inr, Option, Some, None, refl, sym, ap, ◌∙◌, subst, arith, map, filter}
-use Rattle.std.proofs.lemmas.Bool.{cases_Bool, false≢true}
-use Rattle.addr.specs.Address.{Address, has_address}
-use Rattle.addr.specs.declared.prefix.Prefix.{Prefix}
+use Rattle.std.proofs.Common.{◌≡◌, ℕ, ◌+◌, ◌<◌, ◌≤◌, true, false, not, cond, eqb, List, [], ◌∷◌, ◌++◌, Some, refl, ◌∙◌, subst, arith, map, filter}
+use Rattle.addr.specs.Address.{Address}
 use Rattle.policy.specs.declared.authorization.Auth.{Auth}
 use Rattle.policy.specs.declared.command.Command.{Command}
 use Rattle.policy.specs.declared.command.Command.TheVariants.{Register, Delegate, Transfer, Reclaim, Grant, Revoke, Create, Amend, Withdraw}
 use Rattle.policy.specs.History.{Entry, History, same_name}
-use Rattle.policy.specs.Resources.{resource_holder, HoldsPrefix, is_held_by}
-use Rattle.policy.specs.Terms.{HoldsTerms, terms_have, terms_overlap, created_after, terms_after, authorizations_made, authorization_terms, amended, HeldSinceMade, Keeps, AreActive}
-use Rattle.policy.proofs.Names.{held_by_same}
-use Rattle.policy.proofs.Numbers.{Numbered, Numbered-high, Numbered-low, Numbered-append, Numbered-filter, Numbered-map}
-use Rattle.policy.proofs.Kept.{Keeps-unique, Keeps-append, Keeps-skip, Keeps-filtered, Keeps-map, Keeps-numbered, Keeps-same, Keeps-filter}
+use Rattle.policy.specs.Resources.{resource_holder}
+use Rattle.policy.specs.Terms.{HoldsTerms, created_after, terms_after, authorizations_made, authorization_terms, amended, HeldSinceMade, Keeps, AreActive}
+use Rattle.policy.proofs.Numbers.{Numbered, Numbered-append, Numbered-filter, Numbered-map}
+use Rattle.policy.proofs.Kept.{Keeps-numbered, Keeps-same}
 
 -- a command takes nothing back
 pub created_after-more : (c : Command) (h : List ℕ) (made : ℕ) → made ≤ created_after c h made

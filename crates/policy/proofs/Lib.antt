@@ -13,3 +13,4 @@ pub mod RowsLemmas
 pub mod AmendLemmas
 pub mod Repeats
 pub mod SharedVrps
+pub mod PrefixOrder

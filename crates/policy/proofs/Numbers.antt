@@ -1,6 +1,5 @@
 -- Authorizations whose numbers rise, and lie above one number and up to another.
-use Rattle.std.proofs.Common.{◌≡◌, ℕ, ◌+◌, ◌<◌, ◌≤◌, Bool, true, false, not, cond, eqb, List, [], ◌∷◌, ◌++◌, ◌⊎◌, inl, inr, refl, sym, ap, ◌∙◌, subst, arith, map, filter}
-use Rattle.std.proofs.lemmas.Bool.{cases_Bool}
+use Rattle.std.proofs.Common.{◌≡◌, ℕ, ◌<◌, ◌≤◌, Bool, true, false, cond, List, [], ◌∷◌, ◌++◌, sym, subst, arith, map, filter}
 use Rattle.policy.specs.declared.authorization.Auth.{Auth}
 
 abbrev pub Numbered : ℕ → List Auth → ℕ → Type 0

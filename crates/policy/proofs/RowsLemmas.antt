@@ -1,15 +1,14 @@
 -- What the rows that are handed in say of the holder.
-use Rattle.std.proofs.Common.{◌≡◌, ℕ, Bool, true, false, not, List, [], ◌∷◌, Option, Some, None, refl, sym, ap, ◌∙◌, subst, Bor, option_copied, is_none, is_some, IsSomeAnd, ◌↔◌}
+use Rattle.std.proofs.Common.{◌≡◌, ℕ, Bool, true, false, not, List, Option, Some, None, refl, sym, ap, ◌∙◌, subst, Bor, option_copied, is_some, IsSomeAnd}
 use Rattle.std.specs.List.{list_any}
-use Rattle.std.proofs.lemmas.Bool.{cases_Bool, false≢true}
-use Rattle.addr.specs.Address.{Address, has_address}
-use Rattle.addr.specs.Spans.{HaveAll, spans_have}
+use Rattle.std.proofs.lemmas.Bool.{false≢true}
+use Rattle.addr.specs.Spans.{HaveAll}
 use Rattle.addr.specs.declared.prefix.Prefix.{Prefix}
 use Rattle.policy.specs.declared.charter.Charter.{Charter}
 use Rattle.policy.specs.declared.rows.HolderRows.{HolderRows}
 use Rattle.policy.specs.declared.change.Change.{Change}
-use Rattle.policy.specs.History.{Entry, History, is_registered}
-use Rattle.policy.specs.Rows.{Rows, RowsOf, RowsIfAny, rows_of, rows_if_any, grants_if_any, Carries}
+use Rattle.policy.specs.History.{History, is_registered}
+use Rattle.policy.specs.Rows.{Rows, RowsOf, RowsIfAny, rows_if_any, grants_if_any, Carries}
 use Rattle.policy.specs.Resources.{HoldsPrefix, resource_holder, is_held_by}
 use Rattle.policy.specs.declared.authorization.Auth.{Auth}
 use Rattle.policy.specs.declared.grant.Granted.{Granted}

@@ -1,10 +1,10 @@
 -- No two active authorizations share a VRP.
-use Rattle.std.proofs.Common.{◌≡◌, ℕ, ◌+◌, ◌<◌, ◌≤◌, Bool, true, false, not, ◌&&◌, ◌||◌, cond, eqb, nat_le, List, [], ◌∷◌, ◌++◌, ◌⊎◌, inl, inr, Option, Some, None, IsSomeAnd, refl, sym, ap, ◌∙◌, subst, arith, map, filter}
-use Rattle.std.specs.List.{list_any, list_all}
+use Rattle.std.proofs.Common.{◌≡◌, ℕ, ◌+◌, ◌<◌, ◌≤◌, Bool, true, false, not, ◌&&◌, ◌||◌, cond, eqb, nat_le, List, [], ◌∷◌, ◌++◌, inl, inr, Option, Some, None, IsSomeAnd, refl, sym, ap, ◌∙◌, subst, arith, map, filter}
+use Rattle.std.specs.List.{list_any}
 use Rattle.std.proofs.lemmas.Bool.{cases_Bool, false≢true}
 use Rattle.std.proofs.lemmas.Bool.Decides.{nat_tests}
 use Rattle.addr.specs.Family.{family_eq}
-use Rattle.addr.specs.Address.{Address, has_address, last_of, overlaps, Overlaps, prefix_eq}
+use Rattle.addr.specs.Address.{last_of, Overlaps, prefix_eq}
 use Rattle.addr.specs.declared.family.Family.{Family}
 use Rattle.addr.specs.declared.family.Family.TheVariants.{V4, V6}
 use Rattle.addr.specs.declared.prefix.Prefix.{Prefix}
@@ -14,9 +14,8 @@ use Rattle.policy.specs.declared.charter.Charter.{Charter}
 use Rattle.policy.specs.declared.command.Command.{Command}
 use Rattle.policy.specs.declared.command.Command.TheVariants.{Register, Delegate, Transfer, Reclaim, Grant, Revoke, Create, Amend, Withdraw}
 use Rattle.policy.specs.History.{Entry, History, same_name}
-use Rattle.policy.specs.Resources.{resource_holder}
 use Rattle.policy.specs.Repeats.{has_repeat}
-use Rattle.policy.specs.Terms.{gives_vrp, share_vrp, terms_after, authorizations_made, authorization_terms, amended, HeldSinceMade, HoldsTerms, Keeps, AreActive}
+use Rattle.policy.specs.Terms.{gives_vrp, share_vrp, authorizations_made, authorization_terms, amended, HeldSinceMade, HoldsTerms, Keeps, AreActive}
 use Rattle.policy.specs.Verdict.{Verdict, IsLegal, numbered}
 use Rattle.policy.specs.SharedVrps.{share_none, NoSharedVrp}
 use Rattle.policy.proofs.Names.{same_name-same, same_name-true}

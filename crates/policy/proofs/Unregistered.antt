@@ -1,5 +1,5 @@
 -- In a legal history a holder that is not registered has nothing.
-use Rattle.std.proofs.Common.{◌≡◌, ℕ, ◌+◌, ◌<◌, ◌≤◌, Bool, true, false, not, ◌||◌, cond, eqb, List, [], ◌∷◌, ◌++◌, ◌⊎◌, inl, inr, Option, Some, None, refl, sym, ap, ◌∙◌, subst, arith, map, filter}
+use Rattle.std.proofs.Common.{◌≡◌, ℕ, ◌+◌, Bool, true, false, not, ◌||◌, cond, eqb, List, [], ◌∷◌, ◌++◌, inl, inr, Some, None, refl, sym, ap, ◌∙◌, map, filter}
 use Rattle.std.proofs.lemmas.Bool.{cases_Bool, false≢true}
 use Rattle.addr.specs.Address.{Address, has_address}
 use Rattle.policy.specs.declared.authorization.Auth.{Auth}
@@ -8,7 +8,7 @@ use Rattle.policy.specs.declared.grant.Granted.{Granted}
 use Rattle.policy.specs.declared.grant.Access.TheVariants.{Alter}
 use Rattle.policy.specs.declared.command.Command.{Command}
 use Rattle.policy.specs.declared.command.Command.TheVariants.{Register, Delegate, Transfer, Reclaim, Grant, Revoke, Create, Amend, Withdraw}
-use Rattle.policy.specs.History.{Entry, History, same_name, registers, is_registered}
+use Rattle.policy.specs.History.{History, same_name, registers, is_registered}
 use Rattle.policy.specs.Resources.{resource_holder, is_held_by}
 use Rattle.policy.specs.Terms.{grant_terms, grants_made, authorizations_made, authorization_terms, amended}
 use Rattle.policy.specs.Permission.{has_access}

@@ -1,6 +1,5 @@
 -- What the calls of this crate answer, for the rows of a history.
-use Rattle.std.specs.Prelude.{◌≡◌, ℕ, ◌+◌, Bool, true, false, List, [], ◌∷◌, Option, Some, None, Result, Ok, Err, MatchBool, filter, find}
-use Rattle.addr.specs.Address.{Address, has_address}
+use Rattle.std.specs.Prelude.{◌≡◌, ℕ, ◌+◌, Bool, true, false, List, ◌∷◌, Option, Some, None, Result, Ok, Err, MatchBool, filter}
 use Rattle.policy.specs.declared.authorization.Auth.{Auth}
 use Rattle.policy.specs.declared.charter.Charter.{Charter}
 use Rattle.policy.specs.declared.command.Command.{Command}
@@ -9,17 +8,15 @@ use Rattle.policy.specs.declared.change.Change.{Change}
 use Rattle.policy.specs.declared.change.Edit.{Edit}
 use Rattle.policy.specs.declared.change.Edit.TheVariants.{Register as RegisterEdit, Hold, Grant as GrantEdit, Revoke as RevokeEdit, Create as CreateEdit, Amend as AmendEdit, Withdraw as WithdrawEdit}
 use Rattle.policy.specs.declared.grant.Access.TheVariants.{Look}
-use Rattle.policy.specs.declared.rows.HolderRows.{HolderRows}
 use Rattle.policy.specs.declared.rows.View.{View}
 use Rattle.policy.specs.declared.rule.Refusal.{Refusal}
 use Rattle.policy.specs.declared.rule.Refusal.TheVariants.{Denied, Memory}
-use Rattle.policy.specs.declared.rule.Rule.{Rule}
-use Rattle.policy.specs.History.{Entry, History}
+use Rattle.policy.specs.History.{History}
 use Rattle.policy.specs.Resources.{IsFree}
 use Rattle.policy.specs.Terms.{grant_terms, grants_made, authorizations_made, OfActive}
 use Rattle.policy.specs.Permission.{is_permitted_terms}
 use Rattle.policy.specs.Verdict.{Verdict, ShowVerdict, ListVerdict, IsLegal, numbered}
-use Rattle.policy.specs.Rows.{Rows, rows_of, rows_if_any, RowsIfAny, Carries}
+use Rattle.policy.specs.Rows.{Rows, rows_if_any, RowsIfAny, Carries}
 
 abbrev pub is_transfer : Command → Bool
 is_transfer (Register holder) = false

@@ -5,7 +5,7 @@ use Rattle.addr.specs.Address.{Address, has_address}
 use Rattle.addr.specs.declared.prefix.Prefix.{Prefix}
 use Rattle.policy.specs.declared.command.Command.{Command}
 use Rattle.policy.specs.declared.command.Command.TheVariants.{Register, Delegate, Transfer, Reclaim, Grant, Revoke, Create, Amend, Withdraw}
-use Rattle.policy.specs.History.{Entry, History, same_name}
+use Rattle.policy.specs.History.{History, same_name}
 
 -- who holds the address after a command, from who held it before
 abbrev pub holder_after : Command → Address → Option (List ℕ) → Option (List ℕ)

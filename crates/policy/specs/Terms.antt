@@ -1,8 +1,7 @@
 -- The grants and the authorizations of a holder. Each are numbered 1, 2, .. in the order in which
 -- they were made, no number twice. What is said of an authorization's prefix goes through the first
 -- definitions here, and nothing else looks into its terms.
-use Rattle.std.specs.Prelude.{◌≡◌, ℕ, ◌+◌, ◌<◌, ◌≤◌, Bool, true, not, ◌&&◌, ◌==◌, nat_le, List, [], ◌∷◌, ◌++◌, map, filter, if◌then◌else◌, ◌⊎◌, Contains}
-use Rattle.addr.specs.Family.{width}
+use Rattle.std.specs.Prelude.{◌≡◌, ℕ, ◌+◌, ◌≤◌, Bool, true, not, ◌&&◌, ◌==◌, List, [], ◌∷◌, ◌++◌, map, filter, if◌then◌else◌, ◌⊎◌, Contains}
 use Rattle.addr.specs.Address.{Address, has_address, overlaps, prefix_eq}
 use Rattle.addr.specs.declared.asn.Asn.{Asn}
 use Rattle.addr.specs.declared.prefix.Prefix.{Prefix}
@@ -11,7 +10,7 @@ use Rattle.policy.specs.declared.command.Command.{Command}
 use Rattle.policy.specs.declared.command.Command.TheVariants.{Register, Delegate, Transfer, Reclaim, Grant, Revoke, Create, Amend, Withdraw}
 use Rattle.policy.specs.declared.authorization.Auth.{Auth}
 use Rattle.policy.specs.declared.grant.Granted.{Granted}
-use Rattle.policy.specs.History.{Entry, History, same_name}
+use Rattle.policy.specs.History.{History, same_name}
 use Rattle.policy.specs.Resources.{HoldsPrefix}
 
 -- p is a prefix of the terms

@@ -3,7 +3,6 @@
 use Rattle.std.specs.Prelude.{◌≡◌, ℕ, ◌<◌, ◌≤◌, Bool, true, false, not, ◌&&◌, ◌||◌, ◌==◌, nat_le, List, [], ◌∷◌, length, Option, Some, None, find, IsSomeAnd, ◌⊎◌}
 use Rattle.std.specs.List.{list_any}
 use Rattle.addr.specs.Family.{width}
-use Rattle.addr.specs.declared.asn.Asn.{Asn}
 use Rattle.addr.specs.declared.prefix.Prefix.{Prefix}
 use Rattle.policy.specs.declared.authorization.Auth.{Auth}
 use Rattle.policy.specs.declared.charter.Charter.{Charter}
@@ -14,7 +13,7 @@ use Rattle.policy.specs.declared.rule.Rule.{Rule}
 use Rattle.policy.specs.declared.rule.Rule.TheVariants.{Operator, Steward, Grant as GrantRule, Holder, Fresh, Number, Scope, Dates, Length, Pool, Free, Distinct, Held, Same, Room}
 use Rattle.policy.specs.Charter.{is_operator, pool_of}
 use Rattle.policy.specs.Pool.{IsInPool}
-use Rattle.policy.specs.History.{Entry, History, same_name, is_registered}
+use Rattle.policy.specs.History.{History, same_name, is_registered}
 use Rattle.policy.specs.Resources.{HoldsPrefix, IsFree}
 use Rattle.policy.specs.Terms.{gives_vrp, share_vrp, grant_terms, grants_made, authorizations_made, OfActive}
 use Rattle.policy.specs.Permission.{has_access, is_permitted, is_permitted_terms}

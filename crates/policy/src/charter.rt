@@ -4,7 +4,7 @@ ghost use Rattle.std.specs.Ordering.{nat_cmp};
 ghost use Rattle.std.specs.Cmp.Lexicographic.{pointwise, slice_cmp};
 ghost use Rattle.addr.specs.Address.{has_address, prefix_eq};
 ghost use Rattle.policy.specs.Repeats.{has_repeat};
-ghost use Rattle.policy.specs.CharterSets.{AreInNumber, IsCharter};
+ghost use Rattle.policy.specs.CharterSets.{AreInNumber, IsCharter, prefix_cmp};
 ghost use Rattle.policy.specs.Pool.{pool_has, IsInPool, HasFromTo};
 
 use crate::authorization::is_same_prefix;
@@ -90,6 +90,7 @@ impl Charter {
         ensures operators { IfOk result (λ charter. IsPermutation operators.items (operators_of charter)) }
         ensures pool { IfOk result (λ charter. IsPermutation pool.items (pool_of charter)) }
         ensures operators_rise { IfOk result (λ charter. IsSorted (slice_cmp nat_cmp) (operators_of charter)) }
+        ensures pool_rises { IfOk result (λ charter. IsSorted prefix_cmp (pool_of charter)) }
         ensures count { (result ≡ Err CharterFault.Count) ↔ ¬ AreInNumber operators.items pool.items }
         ensures repeated { (result ≡ Err CharterFault.Repeated)
             ↔ (AreInNumber operators.items pool.items × (has_repeat (pointwise nat_eq) operators.items || has_repeat prefix_eq pool.items ≡ true)) }

@@ -1,4 +1,4 @@
-use Rattle.std.proofs.Common.{◌≡◌, ◌∙◌, ap, eqb}
+use Rattle.std.proofs.Common.{◌∙◌, ap, eqb}
 use Rattle.std.specs.List.{list_any}
 use Rattle.policy.proofs.RowsLemmas.{grants-are}
 use Rattle.policy.proofs.admission.has_grant.Goals as goal

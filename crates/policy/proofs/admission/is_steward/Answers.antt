@@ -1,4 +1,4 @@
-use Rattle.std.proofs.Common.{◌≡◌, Bool, ◌||◌, false, sym, ◌∙◌, ap}
+use Rattle.std.proofs.Common.{◌||◌, sym, ◌∙◌, ap}
 use Rattle.policy.specs.declared.grant.Access.TheVariants.{Manage}
 use Rattle.policy.specs.Terms.{grant_terms}
 use Rattle.policy.specs.Permission.{has_access}

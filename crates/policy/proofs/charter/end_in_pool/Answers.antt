@@ -1,4 +1,4 @@
-use Rattle.std.proofs.Common.{◌≡◌, ◌≤◌, Some, None, subst, sym, ◌∙◌, ap, ℕ}
+use Rattle.std.proofs.Common.{◌≤◌, subst, sym, ℕ}
 use Rattle.policy.specs.Pool.{HasFromTo}
 use Rattle.policy.proofs.PoolLemmas.{pool-none, pool-some, pool-end}
 use Rattle.policy.proofs.charter.end_in_pool.Goals as goal

@@ -1,4 +1,4 @@
-use Rattle.std.proofs.Common.{◌≡◌, nat_eq, refl, sym, ◌∙◌, arith}
+use Rattle.std.proofs.Common.{nat_eq, refl, sym, ◌∙◌}
 use Rattle.std.specs.Cmp.Lexicographic.{pointwise}
 use Rattle.policy.proofs.Repeats.{repeat_step}
 use Rattle.policy.proofs.charter.has_operator_twice.Goals as goal

@@ -1,4 +1,4 @@
-use Rattle.std.proofs.Common.{◌≡◌, refl, sym, ◌∙◌, arith}
+use Rattle.std.proofs.Common.{refl, sym, ◌∙◌}
 use Rattle.addr.specs.Address.{prefix_eq}
 use Rattle.policy.proofs.Repeats.{repeat_step}
 use Rattle.policy.proofs.charter.has_prefix_twice.Goals as goal

@@ -1,4 +1,4 @@
-use Rattle.std.proofs.Common.{◌≡◌, ◌∷◌, Bool, true, false, not, refl, sym, ◌∙◌, ap}
+use Rattle.std.proofs.Common.{◌∷◌, sym, ◌∙◌, ap}
 use Rattle.std.proofs.lemmas.Bool.Decides.{when_false}
 use Rattle.policy.specs.declared.command.Command.TheVariants.{Delegate}
 use Rattle.policy.specs.Answer.{number_made}

@@ -1,10 +1,9 @@
-use Rattle.std.proofs.Common.{◌≡◌, ℕ, ◌<◌, ◌≤◌, ◌∷◌, Bool, true, false, not, refl, sym, ◌∙◌, ap, subst, length, Some, arith, nat_le, ◌+◌}
+use Rattle.std.proofs.Common.{ℕ, ◌<◌, ◌≤◌, ◌∷◌, sym, ◌∙◌, ap, subst, length, Some, arith, ◌+◌}
 use Rattle.std.proofs.lemmas.Bool.Decides.{nat_tests}
 use Rattle.policy.specs.declared.command.Command.TheVariants.{Grant}
 use Rattle.policy.specs.declared.grant.Granted.{Granted}
 use Rattle.policy.specs.Answer.{number_made}
 use Rattle.policy.specs.History.{Entry}
-use Rattle.policy.specs.Rows.{rows_of}
 use Rattle.policy.specs.Terms.{grant_terms, grants_made}
 use Rattle.policy.proofs.RowsLemmas.{carried}
 use Rattle.policy.proofs.CarryGrants.{carries-grant}

@@ -1,4 +1,4 @@
-use Rattle.std.proofs.Common.{◌≡◌, ◌∷◌, Bool, true, false, option_copied, refl, subst, sym, ◌∙◌, ap, not}
+use Rattle.std.proofs.Common.{◌∷◌, sym, ◌∙◌, ap, not}
 use Rattle.policy.specs.declared.command.Command.TheVariants.{Register}
 use Rattle.policy.specs.Answer.{number_made}
 use Rattle.policy.specs.History.{Entry}

@@ -1,4 +1,4 @@
-use Rattle.std.proofs.Common.{◌≡◌, ◌∷◌, Bool, true, false, not, refl, sym, ◌∙◌, ap, eqb, inl, inr}
+use Rattle.std.proofs.Common.{◌∷◌, refl, sym, ◌∙◌, ap, eqb, inl, inr}
 use Rattle.std.proofs.lemmas.Bool.{false≢true}
 use Rattle.std.proofs.lemmas.Result.{err_from_is_err_and}
 use Rattle.policy.specs.declared.command.Command.TheVariants.{Revoke}

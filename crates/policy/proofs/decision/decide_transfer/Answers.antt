@@ -1,6 +1,5 @@
-use Rattle.std.proofs.Common.{◌≡◌, ◌∷◌, Bool, true, false, not, refl, sym, ◌∙◌, ap}
+use Rattle.std.proofs.Common.{refl, sym, ◌∙◌, ap}
 use Rattle.policy.specs.declared.command.Command.TheVariants.{Transfer}
-use Rattle.policy.specs.Answer.{number_made}
 use Rattle.policy.specs.History.{Entry, same_name}
 use Rattle.policy.specs.Rows.{rows_of}
 use Rattle.policy.specs.Terms.{terms_overlap}

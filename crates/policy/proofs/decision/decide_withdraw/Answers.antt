@@ -1,4 +1,4 @@
-use Rattle.std.proofs.Common.{◌≡◌, ◌∷◌, Bool, true, false, not, refl, sym, ◌∙◌, ap}
+use Rattle.std.proofs.Common.{◌∷◌, ap}
 use Rattle.policy.specs.declared.command.Command.TheVariants.{Withdraw}
 use Rattle.policy.specs.Answer.{number_made}
 use Rattle.policy.specs.History.{Entry}

@@ -1,5 +1,4 @@
-use Rattle.std.proofs.Common.{◌≡◌, List, sym, ◌∙◌, ap, filter}
-use Rattle.policy.specs.declared.authorization.Auth.{Auth}
+use Rattle.std.proofs.Common.{◌≡◌, ◌∙◌, ap, filter}
 use Rattle.policy.specs.declared.grant.Access.TheVariants.{Look}
 use Rattle.policy.specs.Permission.{is_permitted_terms}
 use Rattle.policy.specs.Rows.{rows_of}

@@ -1,10 +1,11 @@
-use Rattle.std.proofs.Common.{◌≡◌, ◌≤◌, ℕ, Bool, true, false, not, ◌||◌, List, length, nat_eq, refl, sym, ◌∙◌, ap, subst, arith}
+use Rattle.std.proofs.Common.{◌≡◌, ◌≤◌, ℕ, length, nat_eq, sym, ◌∙◌, ap, subst, is_lt, get_or, ◌+◌}
 use Rattle.std.specs.Cmp.Lexicographic.{pointwise}
 use Rattle.std.proofs.lemmas.List.Sorted.{length_permutation}
 use Rattle.std.proofs.lemmas.Cmp.{nat_list_eq_equiv}
 use Rattle.addr.specs.Address.{prefix_eq}
 use Rattle.policy.specs.Repeats.{has_repeat}
 use Rattle.policy.proofs.Repeats.{has_repeat-moved, prefix_eq-flips}
+use Rattle.policy.proofs.PrefixOrder.{derived_cmp}
 use Rattle.policy.proofs.charter.Charter.make.Goals as goal
 
 pub invariant_of-result : goal.invariant_of-result
@@ -19,9 +20,15 @@ invariant_of-result c =
         subst (λ (k : ℕ). 1 ≤ k) (sym operators) number.0,
         subst (λ (k : ℕ). k ≤ 16) (sym operators) number.1,
         subst (λ (k : ℕ). 1 ≤ k) (sym pool) number.2,
-        subst (λ (k : ℕ). k ≤ 64) (sym pool) number.3);
+        subst (λ (k : ℕ). k ≤ 64) (sym pool) number.3,
+      );
       operators_once = has_repeat-moved (pointwise nat_eq) nat_list_eq_equiv.symm c.args.operators.items c.sort_unstable.new.self.items c.sort_unstable.ensures.permutation
           (ap (has_repeat (pointwise nat_eq)) (sym c.deref-3.ensures.value) ∙ sym c.has_operator_twice.ensures ∙ c.if-has_operator_twice.false);
       pool_once = has_repeat-moved prefix_eq prefix_eq-flips c.args.pool.items c.sort_unstable-2.new.self.items c.sort_unstable-2.ensures.permutation
           (ap (has_repeat prefix_eq) (sym c.deref-else-has_operator_twice.ensures.value) ∙ sym c.has_prefix_twice.ensures ∙ c.if-has_prefix_twice.false);
     }
+
+pub returns-clause-pool_rises : goal.returns-clause-pool_rises
+returns-clause-pool_rises c k d low high =
+    ap is_lt (sym (derived_cmp (get_or c.sort_unstable-2.new.self.items (k + 1) d) (get_or c.sort_unstable-2.new.self.items k d)))
+    ∙ c.sort_unstable-2.ensures.sorted k d low high
