@@ -14,6 +14,7 @@ use Rattle.roa.specs.declared.content.Entry.{Entry}
 use Rattle.roa.specs.declared.content.ContentFault.{ContentFault}
 use Rattle.roa.specs.declared.content.ContentFault.TheVariants.{Empty, TooMany, MaxLength, Repeated}
 
+-- asID, and the entries of ipAddrBlocks with their families (RFC 9582 section 4)
 pub record RouteOriginAttestation : Type 0 where
   pub asn : Asn
   pub entries : List Entry

@@ -1,4 +1,4 @@
-use Rattle.std.proofs.Common.{◌≡◌, ◌-◌, ◌*◌, ◌^◌, ◌/◌, ◌<◌, ◌∙◌, arith}
+use Rattle.std.proofs.Common.{ℕ, List, ◌≡◌, ◌-◌, ◌*◌, ◌^◌, ◌/◌, ◌<◌, ◌∙◌, arith}
 use Rattle.std.specs.Option.{SomeIff}
 use Rattle.std.proofs.lemmas.Result.{on_ok_weaker}
 use Rattle.addr.specs.Family.{width}
@@ -24,4 +24,4 @@ returns c =
     rw (← missing) c.checked_shr.ensures in
     let first : c.unwrap_or-first_octets.result ≡ c.args.prefix.now.first / 2 ^ (width c.args.prefix.now.family - 8 * bit_octets c.args.prefix.now.length) =
     c.unwrap_or-first_octets.ensures ∙ shifted_down c.args.prefix.now.family c.args.prefix.now.first c.args.prefix.now.length c.checked_shr.result (first_fits c.args.prefix.now) shifted in
-    on_ok_weaker c.push_number.result (λ items. items ∙ rw (c.in_ok-push-2.ensures.items, c.in_ok-push_length.ensures, c.in_ok-push.ensures.items, c.from-2.ensures, c.from-3.ensures, len, first) (bit_string_pushed c.args.out.now.items c.args.prefix.now.family c.args.prefix.now.first c.args.prefix.now.length)) c.push_number.ensures
+    on_ok_weaker c.push_number.result (λ items. ◌∙◌ {A = List ℕ} items (rw (c.in_ok-push-2.ensures.items, c.in_ok-push_length.ensures, c.in_ok-push.ensures.items, c.from-2.ensures, c.from-3.ensures, len, first) (bit_string_pushed c.args.out.now.items c.args.prefix.now.family c.args.prefix.now.first c.args.prefix.now.length))) c.push_number.ensures
