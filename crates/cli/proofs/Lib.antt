@@ -16,3 +16,4 @@ pub mod RecordSteps
 pub mod RecordsLeft
 pub mod RowLemmas
 pub mod SessionLemmas
+pub mod CharterSteps

@@ -35,14 +35,16 @@ pub reading-next : (old new : Records) → IsReading old
     → ReadRecord remaining old.reader new.reader true (current new) → ReadsOn old.reader new.reader
     → IsReading new × (records_left old ≡ current new ∷ records_left new)
 reading-next old new reading read on =
-    let more = more_left old.reader new.reader (current new) reading.rest reading.config reading.known read in
-    (record {
-      untrimmed = on.1 ∙ reading.untrimmed;
-      ready = (on.4 reading.ready).0;
-      config = on.0 ∙ reading.config;
-      rest = more.0.0;
-      known = more.0.1;
-    }, more.1)
+    let more = more_left old.reader new.reader (current new) reading.rest reading.config reading.known read in (
+      record {
+        untrimmed = on.1 ∙ reading.untrimmed;
+        ready = (on.4 reading.ready).0;
+        config = on.0 ∙ reading.config;
+        rest = more.0.0;
+        known = more.0.1;
+      },
+      more.1,
+    )
 
 pub reading-end : (old new : Records) → IsReading old → ReadRecord remaining old.reader new.reader false (current new) → records_left old ≡ []
 reading-end old new reading read =

@@ -20,3 +20,4 @@ pub mod CsvRows
 pub mod ProgramFaults
 pub mod Words
 pub mod ScriptAnswer
+pub mod CharterFile

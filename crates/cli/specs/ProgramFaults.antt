@@ -5,6 +5,8 @@ use Rattle.cli.specs.declared.fault.FileFault.TheVariants as file
 use Rattle.cli.specs.declared.fault.InputFile.{InputFile}
 use Rattle.cli.specs.declared.fault.ProgramFault.{ProgramFault}
 use Rattle.cli.specs.declared.fault.ProgramFault.TheVariants.{Words, File, Stream, Memory, Header, Row, CharterCount}
+use Rattle.cli.specs.declared.web.script.ScriptFault.{ScriptFault}
+use Rattle.cli.specs.declared.web.script.ScriptFault.TheVariants as script
 use Rattle.cli.specs.declared.words.WordsFault.{WordsFault}
 use Rattle.cli.specs.declared.words.WordsFault.TheVariants as words
 
@@ -20,6 +22,12 @@ status_of CharterCount = 5
 
 abbrev pub told_words : WordsFault → ProgramFault
 told_words words.Words = Words
+
+-- a stream that failed, or no memory for the script's line
+abbrev pub told_script : ScriptFault → ProgramFault
+told_script script.Read = Stream
+told_script script.Write = Stream
+told_script script.Memory = Memory
 
 abbrev pub fault_of_file : InputFile → FileFault → ProgramFault
 fault_of_file which file.Memory = Memory

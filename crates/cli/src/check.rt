@@ -15,7 +15,12 @@ use std::alloc::{AllocError, Global};
 /// Judges the routes of a file on the VRPs of another, and writes a line `prefix,origin,state` for
 /// each (RFC 6811 section 2). Both are CSV files with a header, and both are read to their ends before
 /// anything is written.
-pub fn check_on<D: Drain>(alloc: Global, payloads: &[u8], routes: &[u8], drain: &mut D) -> Result<(), ProgramFault>
+pub fn check_on<D: Drain>(
+    alloc: Global,
+    payloads: &[u8],
+    routes: &[u8],
+    drain: &mut D,
+) -> Result<(), ProgramFault>
     ensures ok { OnOk result ((text : List ℕ) × AnswersFiles payloads.now routes.now text
         × (D.written drain.new ≡ D.written drain.old ++ text)) }
     ensures faultless { OnOk result (check_fault payloads.now routes.now ≡ None) }
@@ -49,7 +54,11 @@ fn answers_to(alloc: Global, index: &ListIndex, text: &[u8]) -> Result<Vec<u8>, 
     answers_to_rows(alloc, index, &mut records)
 }
 
-fn answers_to_rows(alloc: Global, index: &ListIndex, records: &mut Records<'_>) -> Result<Vec<u8>, FileFault>
+fn answers_to_rows(
+    alloc: Global,
+    index: &ListIndex,
+    records: &mut Records<'_>,
+) -> Result<Vec<u8>, FileFault>
     requires { IsReading records.old }
     ensures ok { IfOk result (λ answers. (routes : List announced.Route)
         × (records_left records.old ≡ map route_row routes)
@@ -70,7 +79,11 @@ fn answers_to_rows(alloc: Global, index: &ListIndex, records: &mut Records<'_>) 
 }
 
 // The texts of a row have one spelling, so they are what is printed.
-fn push_answer(answers: &mut Vec<u8>, read: &RouteRow<'_>, state: Validity) -> Result<(), AllocError>
+fn push_answer(
+    answers: &mut Vec<u8>,
+    read: &RouteRow<'_>,
+    state: Validity,
+) -> Result<(), AllocError>
     ensures { OnOk result (answers.new.items
         ≡ answers.old.items ++ (read.now.prefix.now ++ 44 ∷ read.now.origin.now ++ 44 ∷ state_text (state_of state) ++ 10 ∷ [])) }
 {
@@ -81,3 +94,6 @@ fn push_answer(answers: &mut Vec<u8>, read: &RouteRow<'_>, state: Validity) -> R
     answers.extend_from_slice(state.as_str().as_bytes())?;
     answers.extend_from_slice("\n".as_bytes())
 }
+
+#[cfg(test)]
+mod tests;

@@ -1,8 +1,9 @@
 //! How the program ends where it does not do its task: a line on standard error and a status.
 ghost use Rattle.std.specs.Prelude.{◌≡◌};
 ghost use Rattle.cli.specs.declared.fault.FileFault.TheVariants.{Memory};
-ghost use Rattle.cli.specs.ProgramFaults.{status_of, told_words, fault_of_file};
+ghost use Rattle.cli.specs.ProgramFaults.{status_of, told_script, told_words, fault_of_file};
 
+use crate::web::script::ScriptFault;
 use crate::words::WordsFault;
 use addr::PrefixFault;
 use std::alloc::AllocError;
@@ -117,6 +118,17 @@ impl From<WordsFault> for ProgramFault {
     fn from(fault: WordsFault) -> ProgramFault {
         match fault {
             WordsFault::Words => ProgramFault::Words,
+        }
+    }
+}
+
+impl From<ScriptFault> for ProgramFault {
+    ghost from_gives = { λ fault told. told ≡ told_script fault };
+
+    fn from(fault: ScriptFault) -> ProgramFault {
+        match fault {
+            ScriptFault::Read | ScriptFault::Write => ProgramFault::Stream,
+            ScriptFault::Memory => ProgramFault::Memory,
         }
     }
 }

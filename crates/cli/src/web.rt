@@ -1,7 +1,7 @@
 //! Bytes in and bytes out: streams, lines, scripts, requests and replies.
 pub mod device;
 #[cfg(test)]
-mod fakes;
+pub(crate) mod fakes;
 pub mod lines;
 pub mod malformed;
 pub mod reply;

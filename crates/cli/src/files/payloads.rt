@@ -94,7 +94,8 @@ fn read_max_length(prefix: &Prefix, text: &[u8]) -> Option<u8>
     ensures range { IfSome result (λ max. (prefix.now.length ≤ max) × (max ≤ width prefix.now.family)) }
 {
     match number_from_text(text) {
-        Some(number) if u64::from(prefix.length) <= number && number <= u64::from(prefix.family.width()) => {
+        Some(number)
+            if u64::from(prefix.length) <= number && number <= u64::from(prefix.family.width()) => {
             Some(number as u8)
         }
         _ => None,

@@ -39,9 +39,9 @@ pub(crate) fn after_route_header(alloc: Global, text: &[u8]) -> Result<Records<'
 pub(crate) fn read_route(row: &ByteRecord) -> Result<RouteRow<'_>, RowFault>
     ensures { MatchResult result
         (λ read. (fields_of row.now ≡ route_row read.route)
-            × (read.prefix.now ≡ prefix_text read.route.prefix)
-            × (read.origin.now ≡ origin_text read.route.origin)
-            × (route_fault (fields_of row.now) ≡ None))
+        × (read.prefix.now ≡ prefix_text read.route.prefix)
+        × (read.origin.now ≡ origin_text read.route.origin)
+        × (route_fault (fields_of row.now) ≡ None))
         (λ fault. route_fault (fields_of row.now) ≡ Some fault) }
 {
     let Some((prefix, origin)) = two_fields(row) else {
@@ -60,8 +60,8 @@ pub(crate) fn read_route(row: &ByteRecord) -> Result<RouteRow<'_>, RowFault>
 fn read_texts(prefix: &[u8], origin: &[u8]) -> Result<Route, RowFault>
     ensures { MatchResult result
         (λ route. (prefix.now ≡ prefix_text route.prefix)
-            × (origin.now ≡ origin_text route.origin)
-            × (route_texts_fault prefix.now origin.now ≡ None))
+        × (origin.now ≡ origin_text route.origin)
+        × (route_texts_fault prefix.now origin.now ≡ None))
         (λ fault. route_texts_fault prefix.now origin.now ≡ Some fault) }
 {
     let prefix = match Prefix::read(prefix) {

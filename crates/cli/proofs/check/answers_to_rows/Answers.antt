@@ -17,9 +17,11 @@ loop-answers-preserved c =
     let counted = inv.counted in
     record {
       reading = c.in_ok-advance.ensures.reading c.if-branch.true;
-      read = (routes ++ c.in-Ok.read.route ∷ [],
+      read = (
+        routes ++ c.in-Ok.read.route ∷ [],
         rows_more (records_left c.args.records.now) (records_left c.loop-answers.records) (records_left c.advance.new.self) (current c.advance.new.self) routes c.in-Ok.read.route rows found same,
-        line_more c.args.index.now routes c.in-Ok.read.route c.loop-answers.answers.items c.push_answer.new.answers.items c.in-Ok.read.prefix.now c.in-Ok.read.origin.now (state_of c.validity.result) text prefix origin c.validity.ensures pushed);
+        line_more c.args.index.now routes c.in-Ok.read.route c.loop-answers.answers.items c.push_answer.new.answers.items c.in-Ok.read.prefix.now c.in-Ok.read.origin.now (state_of c.validity.result) text prefix origin c.validity.ensures pushed,
+      );
       faultless = inv.faultless ∙ first_more c.loop-answers.row (records_left c.loop-answers.records) (records_left c.advance.new.self) (current c.advance.new.self) found none;
       counted = omega arith;
     }

@@ -4,10 +4,11 @@ use Rattle.cli.proofs.check.check_on.Goals as goal
 
 pub returns-clause-ok : goal.returns-clause-ok
 returns-clause-ok g c =
-    let (routes, file, text) = c.in-Ok-answers_to.ensures.ok in
-    (c.in-Ok-answers_to.answers.items,
-     (c.in-Ok.vrps.items, routes, record { payload_file = c.in-Ok.ensures.ok; route_file = file }, rw c.from-index.ensures at text),
-     rw c.deref.ensures.value at c.in-Ok-write_all.ensures.ok)
+    let (routes, file, text) = c.in-Ok-answers_to.ensures.ok in (
+      c.in-Ok-answers_to.answers.items,
+      (c.in-Ok.vrps.items, routes, record { payload_file = c.in-Ok.ensures.ok; route_file = file }, rw c.from-index.ensures at text),
+      rw c.deref.ensures.value at c.in-Ok-write_all.ensures.ok,
+    )
 
 pub returns-clause-faultless : goal.returns-clause-faultless
 returns-clause-faultless g c =

@@ -15,5 +15,5 @@ returns-in_default-get-2 c = three_of-no_third (fields_of c.args.row.now) c.in_d
 pub returns : goal.returns
 returns c =
     three_of-all (fields_of c.args.row.now) c.in-Some.first.now c.in-Some-get.second.now c.in-Some-get-2.third.now
-        (sym c.len.ensures ∙ c.if-len-ne3.false)
-        c.in-Some.ensures.value c.in-Some-get.ensures.value c.in-Some-get-2.ensures.value
+    (sym c.len.ensures ∙ c.if-len-ne3.false)
+    c.in-Some.ensures.value c.in-Some-get.ensures.value c.in-Some-get-2.ensures.value

@@ -12,5 +12,5 @@ returns-in_default-get c = two_of-no_second (fields_of c.args.row.now) c.in_defa
 pub returns : goal.returns
 returns c =
     two_of-all (fields_of c.args.row.now) c.in-Some.first.now c.in-Some-get.second.now
-        (sym c.len.ensures ∙ c.if-len-ne2.false)
-        c.in-Some.ensures.value c.in-Some-get.ensures.value
+    (sym c.len.ensures ∙ c.if-len-ne2.false)
+    c.in-Some.ensures.value c.in-Some-get.ensures.value

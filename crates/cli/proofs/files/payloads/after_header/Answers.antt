@@ -7,17 +7,17 @@ use Rattle.cli.proofs.files.payloads.after_header.Goals as goal
 pub returns-then-not-are_three-clause-err : goal.returns-then-not-are_three-clause-err
 returns-then-not-are_three-clause-err c =
     header-other payload_header (current c.advance.new.self) (csv_records c.args.text.now) (records_left c.advance.new.self)
-        (sym c.new-records.ensures.all ∙ (rw c.if-not-branch.false at c.in_ok-advance.ensures.found))
-        (rw c.row.ensures at c.if-not-are_three.ensures)
+    (sym c.new-records.ensures.all ∙ (rw c.if-not-branch.false at c.in_ok-advance.ensures.found))
+    (rw c.row.ensures at c.if-not-are_three.ensures)
 
 pub returns-clause-ok : goal.returns-clause-ok
 returns-clause-ok c =
     (header-same payload_header (current c.advance.new.self) (csv_records c.args.text.now) (records_left c.advance.new.self)
-        (sym c.new-records.ensures.all ∙ (rw c.if-not-branch.false at c.in_ok-advance.ensures.found))
-        (rw c.row.ensures at c.if-not-are_three.ensures)).0
+    (sym c.new-records.ensures.all ∙ (rw c.if-not-branch.false at c.in_ok-advance.ensures.found))
+    (rw c.row.ensures at c.if-not-are_three.ensures)).0
 
 pub returns-clause-faultless : goal.returns-clause-faultless
 returns-clause-faultless c =
     (header-same payload_header (current c.advance.new.self) (csv_records c.args.text.now) (records_left c.advance.new.self)
-        (sym c.new-records.ensures.all ∙ (rw c.if-not-branch.false at c.in_ok-advance.ensures.found))
-        (rw c.row.ensures at c.if-not-are_three.ensures)).1
+    (sym c.new-records.ensures.all ∙ (rw c.if-not-branch.false at c.in_ok-advance.ensures.found))
+    (rw c.row.ensures at c.if-not-are_three.ensures)).1

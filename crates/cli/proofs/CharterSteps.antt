@@ -1,0 +1,281 @@
+-- The rows of a charter file, one after the other.
+use Rattle.std.proofs.Common.{◌≡◌, ◌+◌, ◌≤◌, ◌⊎◌, inl, inr, ℕ, suc, List, [], ◌∷◌, ◌++◌, length, map, Option, Some, None, Bool, true, false, not, cond, refl, sym, ap, ◌∙◌, append_assoc, arith, length-append, Vec, Global, nat_eq}
+use Rattle.std.specs.Prelude.{◌&&◌, ◌||◌}
+use Rattle.std.proofs.lemmas.Bool.{cases_Bool, or_parts, or_from, eqb-true}
+use Rattle.std.proofs.lemmas.List.{append-nil, map-append}
+use Rattle.std.proofs.lemmas.List.Folds.{list_any-append}
+use Rattle.std.proofs.lemmas.Map.Text.{is_eq-slice_cmp}
+use Rattle.std.proofs.lemmas.Slice.Eq.{bytes_eq-Decides}
+use Rattle.std.specs.BTreeMap.{is_at}
+use Rattle.std.specs.BTreeSet.{contains}
+use Rattle.std.specs.Cmp.Lexicographic.{pointwise}
+use Rattle.std.specs.List.{list_any}
+use Rattle.std.specs.Str.{bytes_eq}
+use Rattle.addr.specs.Address.{prefix_eq}
+use Rattle.addr.specs.Family.{family_eq}
+use Rattle.addr.specs.declared.family.Family.{Family}
+use Rattle.addr.specs.declared.family.Family.TheVariants.{V4, V6}
+use Rattle.addr.specs.PrefixText.{Spells}
+use Rattle.addr.proofs.PrefixSpellingLemmas.{faultless-Spells}
+use Rattle.addr.specs.declared.prefix.Prefix.{Prefix}
+use Rattle.policy.specs.Repeats.{has_repeat}
+use Rattle.cli.specs.CharterFile.{charter_fault, charter_row, fault_of_pair, first_charter_fault, kind_and_value_fault, kind_of, operators_in, pool_in, pool_kind, row_text, text_cmp, value_of, HoldsRows}
+use Rattle.cli.specs.CsvRecords.{Fields}
+use Rattle.cli.specs.CsvRows.{at_row, fields_eq, prefix_text, two_of, IsTold}
+use Rattle.cli.specs.declared.charter_file.CharterRow.{CharterRow}
+use Rattle.cli.specs.declared.charter_file.CharterRow.TheVariants.{Operator, Pool}
+use Rattle.cli.specs.declared.charter_file.CharterRows.{CharterRows}
+use Rattle.cli.specs.declared.fault.FileFault.{FileFault}
+use Rattle.cli.specs.declared.fault.FileFault.TheVariants as file
+use Rattle.cli.specs.declared.fault.RowFault.{RowFault}
+use Rattle.cli.specs.declared.fault.RowFault.TheVariants as row
+
+-- ---- rows and their texts
+
+and_true : (b : Bool) → (b && true) ≡ b
+and_true true = refl
+and_true false = refl
+
+one_same : (e r : CharterRow) → fields_eq (charter_row e) (charter_row r) ≡ bytes_eq (row_text e) (row_text r)
+one_same (Operator n) (Operator m) = and_true (bytes_eq n m)
+one_same (Operator n) (Pool q) = refl
+one_same (Pool p) (Operator m) = refl
+one_same (Pool p) (Pool q) = and_true (bytes_eq (prefix_text p) (prefix_text q))
+
+rows_same : (rows : List CharterRow) (r : CharterRow)
+    → list_any (λ before. fields_eq before (charter_row r)) (map charter_row rows) ≡ list_any (λ e. bytes_eq (row_text e) (row_text r)) rows
+rows_same [] r = refl
+rows_same (e ∷ rows) r = rw (one_same e r, rows_same rows r) refl
+
+repeat-or : (earlier : List Fields) (fields : Fields) (b : Bool) → fault_of_pair (two_of fields) ≡ None
+    → list_any (λ before. fields_eq before fields) earlier ≡ b
+    → charter_fault earlier fields ≡ cond b (Some row.Repeated) None
+repeat-or earlier fields b plain e = rw (plain, e) refl
+
+pub charter_fault-held : (kept : CharterRows) (rows : List CharterRow) (r : CharterRow) (fields : Fields) (text : Vec ℕ Global) (b : Bool) → HoldsRows kept rows
+    → fields ≡ charter_row r → fault_of_pair (two_of fields) ≡ None → text.items ≡ row_text r → contains text_cmp kept.texts text ≡ b
+    → charter_fault (map charter_row rows) fields ≡ cond b (Some row.Repeated) None
+charter_fault-held kept rows r fields text b held same plain spelled has =
+    let any : list_any (λ e. bytes_eq (row_text e) (row_text r)) rows ≡ b = rw spelled at (sym (held.texts text) ∙ has) in
+    repeat-or (map charter_row rows) fields b plain (rw same (rows_same rows r ∙ any))
+
+-- ---- one more row
+
+operators_in-append : (rows : List CharterRow) (r : CharterRow) → operators_in (rows ++ r ∷ []) ≡ operators_in rows ++ operators_in (r ∷ [])
+operators_in-append [] r = refl
+operators_in-append (Operator n ∷ rows) r = ap (λ (t : List (List ℕ)). n ∷ t) (operators_in-append rows r)
+operators_in-append (Pool p ∷ rows) r = operators_in-append rows r
+
+pool_in-append : (rows : List CharterRow) (r : CharterRow) → pool_in (rows ++ r ∷ []) ≡ pool_in rows ++ pool_in (r ∷ [])
+pool_in-append [] r = refl
+pool_in-append (Operator n ∷ rows) r = pool_in-append rows r
+pool_in-append (Pool p ∷ rows) r = ap (λ (t : List Prefix). p ∷ t) (pool_in-append rows r)
+
+one_in : (r : CharterRow) → length (operators_in (r ∷ [])) + length (pool_in (r ∷ [])) ≡ 1
+one_in (Operator n) = refl
+one_in (Pool p) = refl
+
+once-append : {T : Type 0} (same : T → T → Bool) (xs : List T) (y : T) → has_repeat same xs ≡ false → list_any (λ x. same x y) xs ≡ false
+    → has_repeat same (xs ++ y ∷ []) ≡ false
+once-append same [] y once none = refl
+once-append same (x ∷ xs) y once none =
+    let before = or_parts _ _ once in
+    let others = or_parts _ _ none in
+    let last : list_any (same x) (y ∷ []) ≡ false = or_from _ _ others.0 refl in
+    or_from _ _ (list_any-append (same x) xs (y ∷ []) ∙ or_from _ _ before.0 last) (once-append same xs y before.1 others.1)
+
+or_flip : (a b : Bool) → cond a true b ≡ (b || (a || false))
+or_flip true true = refl
+or_flip true false = refl
+or_flip false true = refl
+or_flip false false = refl
+
+pub holds_more : (old new : CharterRows) (rows : List CharterRow) (r : CharterRow) (text : Vec ℕ Global) → HoldsRows old rows → text.items ≡ row_text r
+    → contains text_cmp old.texts text ≡ false
+    → ((other : Vec ℕ Global) → contains text_cmp new.texts other ≡ cond (is_at (text_cmp text) other) true (contains text_cmp old.texts other))
+    → new.operators.items ≡ old.operators.items ++ operators_in (r ∷ [])
+    → new.pool.items ≡ old.pool.items ++ pool_in (r ∷ [])
+    → HoldsRows new (rows ++ r ∷ [])
+holds_more old new rows r text held spelled fresh updates operators pool = record {
+  operators = operators ∙ rw (held.operators, operators_in-append rows r) refl;
+  pool = pool ∙ rw (held.pool, pool_in-append rows r) refl;
+  count = counted;
+  once = once-append (λ a b. bytes_eq (row_text a) (row_text b)) rows r held.once (rw spelled at (sym (held.texts text) ∙ fresh));
+  texts = λ other.
+      updates other
+      ∙ rw (is_eq-slice_cmp text.items other.items, spelled, held.texts other) (or_flip (bytes_eq (row_text r) other.items) (list_any (λ e. bytes_eq (row_text e) other.items) rows))
+      ∙ sym (list_any-append (λ e. bytes_eq (row_text e) other.items) rows (r ∷ []));
+} where
+  counted : length (rows ++ r ∷ []) ≡ length new.operators.items + length new.pool.items
+  counted =
+      let a = length-append rows (r ∷ []) in
+      let b = ap (λ (t : List (List ℕ)). length t) operators in
+      let c = ap (λ (t : List Prefix). length t) pool in
+      let d = length-append old.operators.items (operators_in (r ∷ [])) in
+      let e = length-append old.pool.items (pool_in (r ∷ [])) in
+      let f = one_in r in
+      let g = held.count in
+      omega arith
+
+pub rows_more : (all left rest : List Fields) (fields : Fields) (rows : List CharterRow) (r : CharterRow)
+    → all ≡ map charter_row rows ++ left → left ≡ fields ∷ rest → fields ≡ charter_row r
+    → all ≡ map charter_row (rows ++ r ∷ []) ++ rest
+rows_more all left rest fields rows r a l same =
+    rw (a, l, same, map-append charter_row rows (r ∷ []), append_assoc) refl
+
+pub first_more : (left rest : List Fields) (fields : Fields) (rows : List CharterRow) (r : CharterRow)
+    → left ≡ fields ∷ rest → fields ≡ charter_row r → charter_fault (map charter_row rows) fields ≡ None
+    → first_charter_fault (map charter_row rows) left ≡ first_charter_fault (map charter_row (rows ++ r ∷ [])) rest
+first_more left rest fields rows r l same none =
+    rw (l, none, same, map-append charter_row rows (r ∷ [])) refl
+
+length-map : (rows : List CharterRow) → length (map charter_row rows) ≡ length rows
+length-map [] = refl
+length-map (r ∷ rows) = ap suc (length-map rows)
+
+told-later : (fault : FileFault) (k : ℕ) (why : Option RowFault) (later : Option FileFault) → IsTold fault (at_row k why None) → IsTold fault (at_row k why later)
+told-later file.Memory k why later told = tt
+told-later file.Header k None later told = cc
+told-later file.Header k (Some f) later told = told
+told-later (file.Row n w) k None later told = cc
+told-later (file.Row n w) k (Some f) later told = told
+
+pub told-first : (fault : FileFault) (all left rest : List Fields) (fields : Fields) (rows : List CharterRow)
+    → first_charter_fault [] all ≡ first_charter_fault (map charter_row rows) left → left ≡ fields ∷ rest
+    → IsTold fault (at_row (length rows + 1) (charter_fault (map charter_row rows) fields) None)
+    → IsTold fault (first_charter_fault [] all)
+told-first fault all left rest fields rows same l told =
+    rw (same, l, length-map rows) (told-later fault (length rows + 1) (charter_fault (map charter_row rows) fields) _ told)
+
+-- ---- no operator and no prefix twice
+
+operator_once : (n : List ℕ) (rows : List CharterRow) → list_any (λ e. bytes_eq (row_text (Operator n)) (row_text e)) rows ≡ false
+    → list_any (λ m. pointwise nat_eq n m) (operators_in rows) ≡ false
+operator_once n [] none = refl
+operator_once n (Operator m ∷ rows) none =
+    let parts = or_parts _ _ none in
+    or_from _ _ parts.0 (operator_once n rows parts.1)
+operator_once n (Pool p ∷ rows) none = operator_once n rows none
+
+pub operators_once : (rows : List CharterRow) → has_repeat (λ a b. bytes_eq (row_text a) (row_text b)) rows ≡ false
+    → has_repeat (pointwise nat_eq) (operators_in rows) ≡ false
+operators_once [] once = refl
+operators_once (Operator n ∷ rows) once =
+    let parts = or_parts _ _ once in
+    or_from _ _ (operator_once n rows parts.0) (operators_once rows parts.1)
+operators_once (Pool p ∷ rows) once = operators_once rows (or_parts _ _ once).1
+
+same_family : (f g : Family) → family_eq f g ≡ true → f ≡ g
+same_family V4 V4 e = refl
+same_family V4 V6 e = cc
+same_family V6 V4 e = cc
+same_family V6 V6 e = refl
+
+and_left : (a b : Bool) → (a && b) ≡ true → a ≡ true
+and_left true b e = refl
+and_left false b e = cc
+
+and_right : (a b : Bool) → (a && b) ≡ true → b ≡ true
+and_right true b e = e
+and_right false b e = cc
+
+same_text : (p q : Prefix) → prefix_eq p q ≡ true → prefix_text p ≡ prefix_text q
+same_text p q e =
+    let family = same_family p.family q.family (and_left _ _ e) in
+    let rest = and_right _ _ e in
+    let first = eqb-true p.first q.first (and_left _ _ rest) in
+    let size = eqb-true p.length q.length (and_right _ _ rest) in
+    rw (family, first, size) refl
+
+other_prefix : (p q : Prefix) → bytes_eq (prefix_text p) (prefix_text q) ≡ false → prefix_eq p q ≡ false
+other_prefix p q other = elim (cases_Bool (prefix_eq p q)) [
+  | inl same ↦ let e = (bytes_eq-Decides (prefix_text p) (prefix_text q)).1 (same_text p q same) in cc
+  | inr apart ↦ apart
+]
+
+prefix_once : (p : Prefix) (rows : List CharterRow) → list_any (λ e. bytes_eq (row_text (Pool p)) (row_text e)) rows ≡ false
+    → list_any (λ q. prefix_eq p q) (pool_in rows) ≡ false
+prefix_once p [] none = refl
+prefix_once p (Operator m ∷ rows) none = prefix_once p rows none
+prefix_once p (Pool q ∷ rows) none =
+    let parts = or_parts _ _ none in
+    or_from _ _ (other_prefix p q parts.0) (prefix_once p rows parts.1)
+
+pub pool_once : (rows : List CharterRow) → has_repeat (λ a b. bytes_eq (row_text a) (row_text b)) rows ≡ false
+    → has_repeat prefix_eq (pool_in rows) ≡ false
+pool_once [] once = refl
+pool_once (Operator n ∷ rows) once = pool_once rows (or_parts _ _ once).1
+pool_once (Pool p ∷ rows) once =
+    let parts = or_parts _ _ once in
+    or_from _ _ (prefix_once p rows parts.0) (pool_once rows parts.1)
+
+pub no_repeats : (kept : CharterRows) (rows : List CharterRow) → HoldsRows kept rows
+    → (has_repeat (pointwise nat_eq) kept.operators.items || has_repeat prefix_eq kept.pool.items) ≡ true → ⊥
+no_repeats kept rows held twice =
+    let one : has_repeat (pointwise nat_eq) kept.operators.items ≡ false = rw held.operators (operators_once rows held.once) in
+    let two : has_repeat prefix_eq kept.pool.items ≡ false = rw held.pool (pool_once rows held.once) in
+    let none = or_from _ _ one two in
+    cc
+
+-- ---- a row that was read
+
+pub pool_value : (kind value : List ℕ) (p : Prefix) → true ≡ bytes_eq kind pool_kind → Spells p value
+    → (kind ≡ pool_kind) × (value ≡ prefix_text p) × (kind_and_value_fault kind value ≡ None)
+pool_value kind value p e spells =
+    let same = (bytes_eq-Decides kind pool_kind).0 (sym e) in
+    (same, spells, rw (same, faultless-Spells p value spells) refl)
+
+same_some : {T : Type 0} (a b : T) → Some a ≡ Some b → a ≡ b
+same_some a b e = cc
+
+two_fields : (xs : Fields) (a b : List ℕ) → Some (a, b) ≡ two_of xs → xs ≡ a ∷ b ∷ []
+two_fields [] a b e = cc
+two_fields (x ∷ []) a b e = cc
+two_fields (x ∷ y ∷ []) a b e =
+    let same = same_some (a, b) (x, y) e in
+    rw (ap (λ (p : List ℕ × List ℕ). p.0) same, ap (λ (p : List ℕ × List ℕ). p.1) same) refl
+two_fields (x ∷ y ∷ z ∷ rest) a b e = cc
+
+not_true : (b : Bool) → true ≡ not b → b ≡ false
+not_true true e = e
+not_true false e = refl
+
+not_false : (b : Bool) → false ≡ not b → b ≡ true
+not_false true e = refl
+not_false false e = e
+
+pub row_taken : (old new : CharterRows) (r : CharterRow) (fields : Fields) (kind value : List ℕ) (text : Vec ℕ Global)
+    → Some (kind, value) ≡ two_of fields
+    → (kind ≡ kind_of r) × (value ≡ value_of r) × (kind_and_value_fault kind value ≡ None)
+    → text.items ≡ kind ++ value
+    → true ≡ not (contains text_cmp old.texts text)
+    → ((other : Vec ℕ Global) → contains text_cmp new.texts other ≡ cond (is_at (text_cmp text) other) true (contains text_cmp old.texts other))
+    → new.operators.items ≡ old.operators.items ++ operators_in (r ∷ [])
+    → new.pool.items ≡ old.pool.items ++ pool_in (r ∷ [])
+    → (rows : List CharterRow) → HoldsRows old rows
+    → (x : CharterRow) × (fields ≡ charter_row x) × HoldsRows new (rows ++ x ∷ []) × (charter_fault (map charter_row rows) fields ≡ None)
+row_taken old new r fields kind value text pair read joined fresh updates operators pool rows held =
+    let same : fields ≡ charter_row r = two_fields fields kind value pair ∙ rw (read.0, read.1) refl in
+    let plain : fault_of_pair (two_of fields) ≡ None = rw (← pair) read.2 in
+    let spelled : text.items ≡ row_text r = joined ∙ rw (read.0, read.1) refl in
+    let absent = not_true (contains text_cmp old.texts text) fresh in (
+      r,
+      same,
+      holds_more old new rows r text held spelled absent updates operators pool,
+      charter_fault-held old rows r fields text false held same plain spelled absent,
+    )
+
+pub row_repeated : (old : CharterRows) (r : CharterRow) (fields : Fields) (kind value : List ℕ) (text : Vec ℕ Global) (fault : FileFault)
+    → Some (kind, value) ≡ two_of fields
+    → (kind ≡ kind_of r) × (value ≡ value_of r) × (kind_and_value_fault kind value ≡ None)
+    → text.items ≡ kind ++ value
+    → false ≡ not (contains text_cmp old.texts text)
+    → fault ≡ file.Row (length old.operators.items + length old.pool.items + 1) row.Repeated
+    → (rows : List CharterRow) → HoldsRows old rows
+    → IsTold fault (at_row (length rows + 1) (charter_fault (map charter_row rows) fields) None)
+row_repeated old r fields kind value text fault pair read joined known told rows held =
+    let same : fields ≡ charter_row r = two_fields fields kind value pair ∙ rw (read.0, read.1) refl in
+    let plain : fault_of_pair (two_of fields) ≡ None = rw (← pair) read.2 in
+    let spelled : text.items ≡ row_text r = joined ∙ rw (read.0, read.1) refl in
+    let again = charter_fault-held old rows r fields text true held same plain spelled (not_false (contains text_cmp old.texts text) known) in
+    rw (told, again, held.count) refl

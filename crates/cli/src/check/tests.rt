@@ -1,0 +1,216 @@
+use super::check_on;
+use crate::web::device::Device;
+use crate::web::fakes::Sheet;
+use std::alloc::{AllocError, Global};
+use std::rt::HostRuntime;
+
+// What a check prints: its lines, or the line of its fault, and which of the two it is.
+fn checked(
+    alloc: Global,
+    payloads: &[u8],
+    routes: &[u8],
+    room: usize,
+) -> Result<(bool, Vec<u8>, String), AllocError> {
+    let mut sheet = Sheet {
+        bytes: Vec::new(alloc),
+        room,
+        is_interrupted: false,
+    };
+    let result = check_on(alloc, payloads, routes, &mut Device::new(&mut sheet));
+    let line = match &result {
+        Ok(()) => format!(in alloc; "")?,
+        Err(fault) => format!(in alloc; "{fault}")?,
+    };
+    Ok((result.is_ok(), sheet.bytes, line))
+}
+
+const VRPS: &str = "asn,prefix,maxlength\n\
+    AS64497,198.51.100.0/24,24\n\
+    AS64496,198.51.100.0/22,24\n\
+    AS64497,198.51.100.0/24,24\n";
+
+const NO_VRPS: &str = "asn,prefix,maxlength\n";
+
+#[test]
+fn answers(rt: HostRuntime) {
+    let cases = [
+        // check_as_zero_never_matches
+        (
+            "asn,prefix,maxlength\nAS0,0.0.0.0/0,32\n",
+            "prefix,origin\n255.255.255.255/32,AS0\n",
+            "255.255.255.255/32,AS0,Invalid\n",
+        ),
+        // check_refuses_set_bit_and_shorter_vrp_matches
+        (
+            "asn,prefix,maxlength\nAS64496,198.51.100.0/22,24\nAS64497,198.51.100.0/24,24\n",
+            "prefix,origin\n198.51.100.0/24,AS64496\n",
+            "198.51.100.0/24,AS64496,Valid\n",
+        ),
+        // check_payload_order_and_repeats
+        (
+            VRPS,
+            "prefix,origin\n198.51.100.0/24,AS64496\n198.51.100.0/25,AS64496\n198.51.100.0/24,NONE\n198.51.104.0/24,AS64496\n",
+            "198.51.100.0/24,AS64496,Valid\n198.51.100.0/25,AS64496,Invalid\n198.51.100.0/24,NONE,Invalid\n198.51.104.0/24,AS64496,NotFound\n",
+        ),
+        // headers alone
+        (VRPS, "prefix,origin\n", ""),
+        (VRPS, "prefix,origin", ""),
+        (
+            NO_VRPS,
+            "prefix,origin\n2001:db8::/32,AS64496\n",
+            "2001:db8::/32,AS64496,NotFound\n",
+        ),
+        // CR LF, quotes, no last LF, empty lines and a byte order mark
+        (
+            "\u{feff}asn,prefix,maxlength\r\n\r\n\"AS64496\",\"2001:db8::/32\",48\r\n\r\n",
+            "\n\"prefix\",origin\r\n\"2001:db8:1::/48\",AS64496\r\n\n2001:db8::/31,\"AS64496\"",
+            "2001:db8:1::/48,AS64496,Valid\n2001:db8::/31,AS64496,NotFound\n",
+        ),
+    ];
+    for (payloads, routes, lines) in cases {
+        let (is_ok, written, line) = checked(
+            rt.alloc(),
+            payloads.as_bytes(),
+            routes.as_bytes(),
+            1000,
+        ).unwrap();
+        assert_eq!(rt; line.as_str(), "");
+        assert!(rt; is_ok);
+        assert_eq!(rt; written.as_slice(), lines.as_bytes());
+    }
+}
+
+#[test]
+fn faults(rt: HostRuntime) {
+    let routes = "prefix,origin\n198.51.100.0/24,AS64496\n";
+    let cases: [(&[u8], &[u8], &str); 24] = [
+        (b"", routes.as_bytes(), "roadesk: payloads header"),
+        (b"\n\n", routes.as_bytes(), "roadesk: payloads header"),
+        (
+            b"asn,prefix,max\n",
+            routes.as_bytes(),
+            "roadesk: payloads header",
+        ),
+        (
+            b"asn,prefix\n",
+            routes.as_bytes(),
+            "roadesk: payloads header",
+        ),
+        (
+            b"AS64496,198.51.100.0/22,24\n",
+            routes.as_bytes(),
+            "roadesk: payloads header",
+        ),
+        (
+            b"asn,prefix,maxlength\nAS64496,198.51.100.0/21,24\nAS64497,198.51.100.0/24,24\n",
+            routes.as_bytes(),
+            "roadesk: payloads row 1: prefix 4",
+        ),
+        (
+            b"asn,prefix,maxlength\nAS64496,198.51.100.0/22\n",
+            routes.as_bytes(),
+            "roadesk: payloads row 1: fields",
+        ),
+        (
+            b"asn,prefix,maxlength\nAS64496,198.51.100.0/22,24,\n",
+            routes.as_bytes(),
+            "roadesk: payloads row 1: fields",
+        ),
+        (
+            b"asn,prefix,maxlength\nAS4294967296,198.51.100.0/22,24\n",
+            routes.as_bytes(),
+            "roadesk: payloads row 1: asn",
+        ),
+        (
+            b"asn,prefix,maxlength\nAS64496,198.51.100.\xff/22,24\n",
+            routes.as_bytes(),
+            "roadesk: payloads row 1: prefix 1",
+        ),
+        (
+            b"asn,prefix,maxlength\n\nAS64496,198.51.100.0/24,24\n\nas1,198.51.100.0/24,0\n",
+            routes.as_bytes(),
+            "roadesk: payloads row 2: asn",
+        ),
+        (
+            b"asn,prefix,maxlength\nAS64496,2001:DB8::/32,24\n",
+            routes.as_bytes(),
+            "roadesk: payloads row 1: prefix 2",
+        ),
+        (
+            b"asn,prefix,maxlength\nAS64496,192.0.2.0/33,24\n",
+            routes.as_bytes(),
+            "roadesk: payloads row 1: prefix 3",
+        ),
+        (
+            b"asn,prefix,maxlength\nAS64496,192.0.2.0/24,23\n",
+            routes.as_bytes(),
+            "roadesk: payloads row 1: length",
+        ),
+        (
+            b"asn,prefix,maxlength\nAS64496,192.0.2.0/24,33\n",
+            routes.as_bytes(),
+            "roadesk: payloads row 1: length",
+        ),
+        (
+            b"asn,prefix,maxlength\nAS64496,192.0.2.0/24,024\n",
+            routes.as_bytes(),
+            "roadesk: payloads row 1: length",
+        ),
+        (
+            b"asn,prefix,maxlength\nAS64496,192.0.2.0/24,\n",
+            b"",
+            "roadesk: payloads row 1: length",
+        ),
+        (VRPS.as_bytes(), b"", "roadesk: routes header"),
+        (VRPS.as_bytes(), b"prefix,asn\n", "roadesk: routes header"),
+        (
+            VRPS.as_bytes(),
+            b"prefix,origin\n198.51.100.0/24\n",
+            "roadesk: routes row 1: fields",
+        ),
+        (
+            VRPS.as_bytes(),
+            b"prefix,origin\n198.51.100.0/24,AS64496\n198.51.100.1/24,64496\n",
+            "roadesk: routes row 2: prefix 4",
+        ),
+        // check_refuses_route_origin
+        (
+            VRPS.as_bytes(),
+            b"prefix,origin\n198.51.100.0/24,AS64496\n198.51.100.0/25,64496\n",
+            "roadesk: routes row 2: origin",
+        ),
+        (
+            VRPS.as_bytes(),
+            b"prefix,origin\n198.51.100.0/24,none\n",
+            "roadesk: routes row 1: origin",
+        ),
+        (
+            VRPS.as_bytes(),
+            b"prefix,origin\n198.51.100.0/24,AS00\n",
+            "roadesk: routes row 1: origin",
+        ),
+    ];
+    for (payloads, routes, told) in cases {
+        let (is_ok, written, line) = checked(rt.alloc(), payloads, routes, 1000).unwrap();
+        assert_eq!(rt; line.as_str(), told);
+        assert!(rt; !is_ok);
+        assert_eq!(rt; written.len(), 0);
+    }
+}
+
+#[test]
+fn failing_drain(rt: HostRuntime) {
+    let routes = "prefix,origin\n198.51.100.0/24,AS64496\n198.51.104.0/24,AS64496\n";
+    let (is_ok, written, line) = checked(
+        rt.alloc(),
+        VRPS.as_bytes(),
+        routes.as_bytes(),
+        40,
+    ).unwrap();
+    assert!(rt; !is_ok);
+    assert_eq!(rt; line.as_str(), "roadesk: stream");
+    assert_eq!(rt;
+        written.as_slice(),
+        "198.51.100.0/24,AS64496,Valid\n198.51.104".as_bytes()
+    );
+}
