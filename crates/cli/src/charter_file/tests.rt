@@ -33,13 +33,13 @@ fn charter_of_rows(rt: HostRuntime) {
         panic!(rt; "refused");
     };
     assert_eq!(rt; charter.operators().len(), 2);
-    assert!(rt; charter.is_operator(&Name::read(b"reg").unwrap()));
-    assert!(rt; charter.is_operator(&Name::read(b"alpha").unwrap()));
+    assert!(rt; charter.is_operator(&Name::read(b"reg").expect(&rt, "name")));
+    assert!(rt; charter.is_operator(&Name::read(b"alpha").expect(&rt, "name")));
     assert_eq!(rt;
         charter.pool(),
         [
-            Prefix::read(b"192.0.2.0/24").unwrap(),
-            Prefix::read(b"2001:db8::/32").unwrap()
+            Prefix::read(b"192.0.2.0/24").expect(&rt, "prefix"),
+            Prefix::read(b"2001:db8::/32").expect(&rt, "prefix")
         ]
         .as_slice()
     );
@@ -94,7 +94,7 @@ fn faults(rt: HostRuntime) {
         ),
     ];
     for (text, told) in cases {
-        assert_eq!(rt; line(rt.alloc(), text).unwrap().as_str(), told);
+        assert_eq!(rt; line(rt.alloc(), text).expect(&rt, "memory").as_str(), told);
     }
 }
 
@@ -132,7 +132,7 @@ fn counts(rt: HostRuntime) {
     for (operators, prefixes, last, told) in cases {
         assert_eq!(rt;
             counted(rt.alloc(), operators, prefixes, last)
-                .unwrap()
+                .expect(&rt, "memory")
                 .as_str(),
             told
         );

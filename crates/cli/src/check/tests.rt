@@ -73,7 +73,7 @@ fn answers(rt: HostRuntime) {
             payloads.as_bytes(),
             routes.as_bytes(),
             1000,
-        ).unwrap();
+        ).expect(&rt, "memory");
         assert_eq!(rt; line.as_str(), "");
         assert!(rt; is_ok);
         assert_eq!(rt; written.as_slice(), lines.as_bytes());
@@ -191,7 +191,9 @@ fn faults(rt: HostRuntime) {
         ),
     ];
     for (payloads, routes, told) in cases {
-        let (is_ok, written, line) = checked(rt.alloc(), payloads, routes, 1000).unwrap();
+        let (is_ok, written, line) = checked(rt.alloc(), payloads, routes, 1000).expect(
+            &rt, "memory",
+        );
         assert_eq!(rt; line.as_str(), told);
         assert!(rt; !is_ok);
         assert_eq!(rt; written.len(), 0);
@@ -201,12 +203,9 @@ fn faults(rt: HostRuntime) {
 #[test]
 fn failing_drain(rt: HostRuntime) {
     let routes = "prefix,origin\n198.51.100.0/24,AS64496\n198.51.104.0/24,AS64496\n";
-    let (is_ok, written, line) = checked(
-        rt.alloc(),
-        VRPS.as_bytes(),
-        routes.as_bytes(),
-        40,
-    ).unwrap();
+    let (is_ok, written, line) = checked(rt.alloc(), VRPS.as_bytes(), routes.as_bytes(), 40).expect(
+        &rt, "memory",
+    );
     assert!(rt; !is_ok);
     assert_eq!(rt; line.as_str(), "roadesk: stream");
     assert_eq!(rt;

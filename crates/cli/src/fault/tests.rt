@@ -114,7 +114,12 @@ fn lines_and_statuses(rt: HostRuntime) {
         ),
     ];
     for (fault, line, status) in cases {
-        assert_eq!(rt; format!(in rt.alloc(); "{fault}").unwrap().as_str(), line);
+        assert_eq!(rt;
+            format!(in rt.alloc(); "{fault}")
+                .expect(&rt, "memory")
+                .as_str(),
+            line
+        );
         assert_eq!(rt; fault.status(), status);
     }
 }

@@ -1,44 +1,36 @@
 use super::{Task, WordsFault, read_words};
+use std::alloc::{AllocError, Global};
 use std::rt::HostRuntime;
+
+// What the words of a line, which a space parts, name.
+fn named(alloc: Global, line: &str) -> Result<String, AllocError> {
+    let words = line.split(' ').collect::<Vec<_>>(alloc)?;
+    match read_words(&words) {
+        Ok(Task::Script { charter }) => format!(in alloc; "script {charter}"),
+        Ok(Task::Check { payloads, routes }) => format!(in alloc; "check {payloads} {routes}"),
+        Err(WordsFault::Words) => format!(in alloc; "words"),
+    }
+}
 
 #[test]
 fn words_of_each_task(rt: HostRuntime) {
-    let charter = "--charter";
-    let cases: [(&[&str], Result<Task<'_>, WordsFault>); 12] = [
-        (
-            &["script", charter, "charter.csv"],
-            Ok(Task::Script {
-                charter: "charter.csv",
-            }),
-        ),
-        (&["script", charter, ""], Ok(Task::Script { charter: "" })),
-        (&["script", charter, charter], Ok(Task::Script { charter })),
-        (
-            &["check", "a.csv", "b.csv"],
-            Ok(Task::Check {
-                payloads: "a.csv",
-                routes: "b.csv",
-            }),
-        ),
-        (
-            &["check", "--", "--help"],
-            Ok(Task::Check {
-                payloads: "--",
-                routes: "--help",
-            }),
-        ),
-        (&[], Err(WordsFault::Words)),
-        (&["check", "a.csv"], Err(WordsFault::Words)),
-        (
-            &["check", "a.csv", "b.csv", "c.csv"],
-            Err(WordsFault::Words),
-        ),
-        (&["script", "charter.csv", charter], Err(WordsFault::Words)),
-        (&["Script", charter, "charter.csv"], Err(WordsFault::Words)),
-        (&["help"], Err(WordsFault::Words)),
-        (&["--help"], Err(WordsFault::Words)),
+    let cases = [
+        ("script --charter charter.csv", "script charter.csv"),
+        ("script --charter ", "script "),
+        ("script --charter --charter", "script --charter"),
+        ("check a.csv b.csv", "check a.csv b.csv"),
+        ("check -- --help", "check -- --help"),
+        ("", "words"),
+        ("check a.csv", "words"),
+        ("check a.csv b.csv c.csv", "words"),
+        ("script charter.csv --charter", "words"),
+        ("Script --charter charter.csv", "words"),
+        ("help", "words"),
+        ("--help", "words"),
     ];
-    for (words, task) in cases {
-        assert_eq!(rt; read_words(words), task);
+    for (line, task) in cases {
+        let name = named(rt.alloc(), line).expect(&rt, "memory");
+        assert_eq!(rt; name.as_str(), task);
     }
+    assert_eq!(rt; read_words(&[]), Err(WordsFault::Words));
 }
