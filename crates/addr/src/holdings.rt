@@ -44,15 +44,6 @@ impl Holdings {
         }
     }
 
-    /// Another set of the same addresses.
-    pub fn copy(&self, alloc: Global) -> Result<Holdings, AllocError>
-        ensures { IfOk result (λ other. other ≡ self.now) }
-    {
-        Ok(Holdings {
-            spans: Vec::from_slice(alloc, &self.spans)?,
-        })
-    }
-
     /// The maximal runs of neighbouring addresses of the set, rising.
     pub fn spans(&self) -> &[Span]
         ensures items { result.now ≡ self.now }
@@ -161,3 +152,6 @@ fn push_part(kept: &mut Vec<Span>, part: Option<Span>) -> Result<(), AllocError>
     }
     Ok(())
 }
+
+#[cfg(test)]
+mod tests;

@@ -34,26 +34,22 @@ fn change_of(holder: &Name, edit: Edit) -> Change
 }
 
 /// The holdings with the prefix.
-fn with_prefix(alloc: Global, holdings: &Holdings, prefix: &Prefix) -> Result<Holdings, AllocError>
+fn with_prefix(holdings: &Holdings, prefix: &Prefix) -> Result<Holdings, AllocError>
     ensures maximal { IfOk result AreMaximal }
     ensures same { IfOk result (λ more. (a : Address) → spans_have more a ≡ (spans_have holdings.now a || has_address prefix.now a)) }
 {
-    let mut more = holdings.copy(alloc)?;
+    let mut more = holdings.clone()?;
     more.add(prefix)?;
     let _ = more.spans();
     Ok(more)
 }
 
 /// The holdings without the prefix.
-fn without_prefix(
-    alloc: Global,
-    holdings: &Holdings,
-    prefix: &Prefix,
-) -> Result<Holdings, AllocError>
+fn without_prefix(holdings: &Holdings, prefix: &Prefix) -> Result<Holdings, AllocError>
     ensures maximal { IfOk result AreMaximal }
     ensures same { IfOk result (λ less. (a : Address) → spans_have less a ≡ (spans_have holdings.now a && not (has_address prefix.now a))) }
 {
-    let mut less = holdings.copy(alloc)?;
+    let mut less = holdings.clone()?;
     less.take(prefix)?;
     let _ = less.spans();
     Ok(less)
@@ -106,7 +102,7 @@ fn decide_delegate(
     let rows = registered(rows)?;
     require(charter.has_in_pool(prefix), Rule::Pool)?;
     require(!taken, Rule::Free)?;
-    let holdings = with_prefix(alloc, &rows.holdings, prefix)?;
+    let holdings = with_prefix(&rows.holdings, prefix)?;
     let ended = Vec::new(alloc);
     Ok(change_of(holder, Edit::Hold { holdings, ended }))
 }
@@ -125,7 +121,7 @@ fn decide_reclaim(
     require(charter.is_operator(caller), Rule::Operator)?;
     let rows = registered(rows)?;
     require(holds(rows, prefix), Rule::Held)?;
-    let holdings = without_prefix(alloc, &rows.holdings, prefix)?;
+    let holdings = without_prefix(&rows.holdings, prefix)?;
     let ended = numbers_overlapping(alloc, &rows.auths, prefix)?;
     Ok(change_of(holder, Edit::Hold { holdings, ended }))
 }
@@ -266,8 +262,8 @@ fn decide_transfer(
     let taking = registered(taker_rows)?;
     require(*giver != *taker, Rule::Distinct)?;
     require(holds(giving, prefix), Rule::Held)?;
-    let less = without_prefix(alloc, &giving.holdings, prefix)?;
-    let more = with_prefix(alloc, &taking.holdings, prefix)?;
+    let less = without_prefix(&giving.holdings, prefix)?;
+    let more = with_prefix(&taking.holdings, prefix)?;
     let ended = numbers_overlapping(alloc, &giving.auths, prefix)?;
     Ok(Change {
         first: HolderChange {
