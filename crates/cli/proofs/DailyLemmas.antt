@@ -35,15 +35,17 @@ pub any_among : {X : Type 0} (p : X → Bool) (xs : List X) (x : X) → Contains
 any_among p [] x there passes = absurd (none_in_nil x there)
 any_among p (y ∷ ys) x there passes =
     elim (head_or_tail y ys x there) [
-      inl is ↦ or_left (p y) (list_any p ys) (ap p is ∙ passes)
-    | inr later ↦ or_right (p y) (list_any p ys) (any_among p ys x later passes) ]
+      | inl is ↦ or_left (p y) (list_any p ys) (ap p is ∙ passes)
+      | inr later ↦ or_right (p y) (list_any p ys) (any_among p ys x later passes)
+    ]
 
 pub among_any : {X : Type 0} (p : X → Bool) (xs : List X) → list_any p xs ≡ true → (x : X) × Contains xs x × (p x ≡ true)
 among_any p [] any = absurd (false≢true any)
 among_any p (y ∷ ys) any =
     elim (or_cases (p y) (list_any p ys) any) [
-      inl here ↦ (y, at_head y ys, here)
-    | inr later ↦ let found = among_any p ys later in (found.0, in_tail y ys found.0 found.1, found.2) ]
+      | inl here ↦ (y, at_head y ys, here)
+      | inr later ↦ let found = among_any p ys later in (found.0, in_tail y ys found.0 found.1, found.2)
+    ]
 
 -- what is kept was there and meets the fact, and what meets it is kept
 pub kept_was : (P : Auth → Type 0) (xs ys : List Auth) (x : Auth) → Keeps P xs ys → Contains ys x → Contains xs x × P x
@@ -51,25 +53,31 @@ kept_was P xs [] x keeps there = absurd (none_in_nil x there)
 kept_was P [] (y ∷ ys) x keeps there = absurd keeps
 kept_was P (z ∷ zs) (y ∷ ys) x keeps there =
     elim keeps [
-      inl kept ↦ elim (head_or_tail y ys x there) [
-        inl is ↦ (subst (Contains (z ∷ zs)) (sym kept.1 ∙ is) (at_head z zs), subst P (sym kept.1 ∙ is) kept.0)
-      | inr later ↦ let was = kept_was P zs ys x kept.2 later in (in_tail z zs x was.0, was.1) ]
-    | inr lost ↦ let was = kept_was P zs (y ∷ ys) x lost.1 there in (in_tail z zs x was.0, was.1) ]
+      | inl kept ↦ elim (head_or_tail y ys x there) [
+        | inl is ↦ (subst (Contains (z ∷ zs)) (sym kept.1 ∙ is) (at_head z zs), subst P (sym kept.1 ∙ is) kept.0)
+        | inr later ↦ let was = kept_was P zs ys x kept.2 later in (in_tail z zs x was.0, was.1)
+      ]
+      | inr lost ↦ let was = kept_was P zs (y ∷ ys) x lost.1 there in (in_tail z zs x was.0, was.1)
+    ]
 
 pub kept_is : (P : Auth → Type 0) (xs ys : List Auth) (x : Auth) → Keeps P xs ys → Contains xs x → P x → Contains ys x
 kept_is P [] ys x keeps there holds = absurd (none_in_nil x there)
 kept_is P (z ∷ zs) [] x keeps there holds =
     elim (head_or_tail z zs x there) [
-      inl is ↦ absurd (keeps.0 (subst P (sym is) holds))
-    | inr later ↦ absurd (none_in_nil x (kept_is P zs [] x keeps.1 later holds)) ]
+      | inl is ↦ absurd (keeps.0 (subst P (sym is) holds))
+      | inr later ↦ absurd (none_in_nil x (kept_is P zs [] x keeps.1 later holds))
+    ]
 kept_is P (z ∷ zs) (y ∷ ys) x keeps there holds =
     elim keeps [
-      inl kept ↦ elim (head_or_tail z zs x there) [
-        inl is ↦ subst (Contains (y ∷ ys)) (kept.1 ∙ is) (at_head y ys)
-      | inr later ↦ in_tail y ys x (kept_is P zs ys x kept.2 later holds) ]
-    | inr lost ↦ elim (head_or_tail z zs x there) [
-        inl is ↦ absurd (lost.0 (subst P (sym is) holds))
-      | inr later ↦ kept_is P zs (y ∷ ys) x lost.1 later holds ] ]
+      | inl kept ↦ elim (head_or_tail z zs x there) [
+        | inl is ↦ subst (Contains (y ∷ ys)) (kept.1 ∙ is) (at_head y ys)
+        | inr later ↦ in_tail y ys x (kept_is P zs ys x kept.2 later holds)
+      ]
+      | inr lost ↦ elim (head_or_tail z zs x there) [
+        | inl is ↦ absurd (lost.0 (subst P (sym is) holds))
+        | inr later ↦ kept_is P zs (y ∷ ys) x lost.1 later holds
+      ]
+    ]
 
 given_in_force : (charter : Charter) (rows : List ℕ → Option Rows) (history : History) → HasRows rows history → (day : ℕ) (v : Vrp) → IsGivenOn rows day v → IsVrpInForce history day v
 given_in_force charter rows history has day v given =
@@ -98,7 +106,9 @@ in_force_given charter rows history legal has day v is = go (rows is.0) refl
 -- the VRPs that the rows give are the VRPs of the day
 pub given_on : (charter : Charter) (rows : List ℕ → Option Rows) (history : History) → IsLegal charter history → HasRows rows history → (day : ℕ) (v : Vrp) → IsGivenOn rows day v ↔ IsVrpOn history day v
 given_on charter rows history legal has day v = (
-    λ given. inl (given_in_force charter rows history has day v given, λ k d below. absurd (omega (arith, below))),
-    λ on. elim on [
-      inl in_force ↦ in_force_given charter rows history legal has day v in_force.0
-    | inr asserted ↦ absurd (none_in_nil v asserted) ])
+  λ given. inl (given_in_force charter rows history has day v given, λ k d below. absurd (omega (arith, below))),
+  λ on. elim on [
+    | inl in_force ↦ in_force_given charter rows history legal has day v in_force.0
+    | inr asserted ↦ absurd (none_in_nil v asserted)
+  ],
+)

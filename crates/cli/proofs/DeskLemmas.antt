@@ -71,8 +71,8 @@ loaded_rows history name command known rows found lent is same loaded has =
 -- a command that was accepted, whose change was applied
 pub done_answered : (charter : Charter) (history : History) (day : ℕ) (caller : List ℕ) (command : Command) (change : Change) (number : Option ℕ) (old new : List ℕ → Option Rows) → IsLegal charter history → HasRows old history → IsAnswer charter history day caller command (Ok change) → number ≡ number_made change.first.edit → ((h : List ℕ) → new h ≡ changed change h (old h)) → IsAnswered charter history day caller (CommandRequest command) (Done number) new
 done_answered charter history day caller command change number old new legal has answer made applied = record {
-    after = record { day = day; caller = caller; command = command } ∷ history;
-    legal = (answer.0, legal);
-    answers = (answer.0, made ∙ answer.1, refl);
-    rows_after = λ h. subst (RowsIfAny (record { day = day; caller = caller; command = command } ∷ history) h) (sym (applied h)) (answer.2 h (old h) (has h));
-  }
+  after = record { day = day; caller = caller; command = command } ∷ history;
+  legal = (answer.0, legal);
+  answers = (answer.0, made ∙ answer.1, refl);
+  rows_after = λ h. subst (RowsIfAny (record { day = day; caller = caller; command = command } ∷ history) h) (sym (applied h)) (answer.2 h (old h) (has h));
+}

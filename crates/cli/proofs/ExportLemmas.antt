@@ -25,13 +25,8 @@ use Rattle.policy.specs.Rows.{Rows}
 use Rattle.policy.specs.Verdict.{IsLegal}
 use Rattle.policy.specs.declared.charter.Charter.{Charter}
 use Rattle.cli.specs.DeskRows.{vrp_eq, has_vrp, HasRows, IsGivenOn}
+use Rattle.cli.proofs.VrpLemmas.{family_same}
 use Rattle.cli.proofs.DailyLemmas.{given_on, any_among, among_any, at_head, in_tail, none_in_nil}
-
-family_same : (f g : Family) → family_eq f g ≡ true → f ≡ g
-family_same V4 V4 same = refl
-family_same V6 V6 same = refl
-family_same V4 V6 same = absurd (false≢true same)
-family_same V6 V4 same = absurd (false≢true same)
 
 family_itself : (f : Family) → family_eq f f ≡ true
 family_itself V4 = refl
@@ -57,10 +52,12 @@ is_vrp-itself v = ap is_eq (tied_itself vrp_total v)
 vrp_eq-is : (w v : Vrp) → vrp_eq w v ≡ is_vrp v w
 vrp_eq-is w v =
     elim (cases_Bool (is_vrp v w)) [
-      inl one ↦ subst (λ (u : Vrp). vrp_eq u v ≡ is_vrp v u) (same_vrp-equal v w one) (vrp_eq-itself v ∙ sym (is_vrp-itself v))
-    | inr two ↦ elim (cases_Bool (vrp_eq w v)) [
-        inl same ↦ absurd (false≢true (sym two ∙ subst (λ (u : Vrp). is_vrp v u ≡ true) (sym (vrp_eq-same w v same)) (is_vrp-itself v)))
-      | inr other ↦ other ∙ sym two ] ]
+      | inl one ↦ subst (λ (u : Vrp). vrp_eq u v ≡ is_vrp v u) (same_vrp-equal v w one) (vrp_eq-itself v ∙ sym (is_vrp-itself v))
+      | inr two ↦ elim (cases_Bool (vrp_eq w v)) [
+        | inl same ↦ absurd (false≢true (sym two ∙ subst (λ (u : Vrp). is_vrp v u ≡ true) (sym (vrp_eq-same w v same)) (is_vrp-itself v)))
+        | inr other ↦ other ∙ sym two
+      ]
+    ]
 
 -- the set of a list has what the list has
 pub from_list-has : (vrps : List Vrp) (v : Vrp) → set.contains (set.from_list vrps) v ≡ has_vrp vrps v
@@ -73,10 +70,11 @@ from_list-has vrps v = contains-from_list vrps v ∙ go vrps
 -- the VRPs of a set are those that it has
 pub items_contain : (s : set.VrpSet) (v : Vrp) → Contains (set.items s) v ↔ IsTrue (set.contains s v)
 items_contain s v = (
-    λ there. contains-items s v ∙ any_among (is_vrp v) (set.items s) v there (is_vrp-itself v),
-    λ has.
-        let found = among_any (is_vrp v) (set.items s) (sym (contains-items s v) ∙ has) in
-        subst (Contains (set.items s)) (sym (same_vrp-equal v found.0 found.2)) found.1)
+  λ there. contains-items s v ∙ any_among (is_vrp v) (set.items s) v there (is_vrp-itself v),
+  λ has.
+      let found = among_any (is_vrp v) (set.items s) (sym (contains-items s v) ∙ has) in
+      subst (Contains (set.items s)) (sym (same_vrp-equal v found.0 found.2)) found.1,
+)
 
 -- the state over a list is the state over any set with the same VRPs
 pub state_has : (S : Vrp → Type 0) (items : List Vrp) → ((v : Vrp) → Contains items v ↔ S v) → (r : Route) → HasState S r (validation_state items r)
@@ -86,8 +84,9 @@ state_has S items same r =
     none : (p : Vrp → Bool) → list_any p items ≡ false → (v : Vrp) → S v → p v ≡ false
     none p never v in_set =
         elim (cases_Bool (p v)) [
-          inl passes ↦ absurd (true≢false (sym (any_among p items v ((same v).1 in_set) passes) ∙ never))
-        | inr fails ↦ fails ]
+          | inl passes ↦ absurd (true≢false (sym (any_among p items v ((same v).1 in_set) passes) ∙ never))
+          | inr fails ↦ fails
+        ]
 
     some : (p : Vrp → Bool) → list_any p items ≡ true → (v : Vrp) × S v × (p v ≡ true)
     some p any =

@@ -47,20 +47,21 @@ rows_from (Some r) rows same = (r, refl, cc)
 -- some value passes a test exactly where some registered holder has rows of which the fact holds
 pub any_iff : (records : Records) (p : HolderRows → Bool) (P : Rows → Type 0) → IsOrdered (slice_cmp nat_cmp) records.holders → ((r : HolderRows) → p r ≡ true → P (rows_of r)) → ((r : HolderRows) → P (rows_of r) → p r ≡ true) → IsTrue (list_any p (values records.holders)) ↔ ((h : List ℕ) × (r : Rows) × (rows_at records h ≡ Some r) × P r)
 any_iff records p P ordered there back = (
-    λ any.
-        let some = Any-from_list_any p (values records.holders) any in
-        let at = value_of records.holders ordered some.1 (some.0, some.2, some.3) in
-        (at.0, rows_of some.1, ap rows_if_any at.1, there some.1 some.4),
-    λ known.
-        let found = rows_from (get (slice_cmp nat_cmp) records.holders known.0) known.1 known.2 in
-        let among = value_at records.holders ordered known.0 found.0 found.1 in
-        list_any-from_Any p (values records.holders) (among.0, found.0, among.1, among.2, back found.0 (subst P (sym found.2) known.3)))
+  λ any.
+      let some = Any-from_list_any p (values records.holders) any in
+      let at = value_of records.holders ordered some.1 (some.0, some.2, some.3) in
+      (at.0, rows_of some.1, ap rows_if_any at.1, there some.1 some.4),
+  λ known.
+      let found = rows_from (get (slice_cmp nat_cmp) records.holders known.0) known.1 known.2 in
+      let among = value_at records.holders ordered known.0 found.0 found.1 in
+      list_any-from_Any p (values records.holders) (among.0, found.0, among.1, among.2, back found.0 (subst P (sym found.2) known.3)),
+)
 
 -- some value's holdings meet the prefix exactly where some registered holder has an address of it
 pub taken_iff : (records : Records) (p : Prefix) → IsOrdered (slice_cmp nat_cmp) records.holders → IsTrue (list_any (λ r. list_any (λ s. span_meets s p) r.holdings) (values records.holders)) ↔ IsTaken (rows_at records) p
 taken_iff records p ordered =
     any_iff records (λ r. list_any (λ s. span_meets s p) r.holdings) (λ r. HaveSome r.holdings p) ordered
-      (λ r meets. met_some r.holdings p meets) (λ r some. some_met r.holdings p some.0 some.1 some.2)
+    (λ r meets. met_some r.holdings p meets) (λ r some. some_met r.holdings p some.0 some.1 some.2)
 
 -- some value gives a VRP exactly where some registered holder does
 pub given_iff : (records : Records) (day : ℕ) (v : Vrp) → IsOrdered (slice_cmp nat_cmp) records.holders → IsTrue (list_any (rows_give_on day v) (values records.holders)) ↔ IsGivenOn (rows_at records) day v
@@ -110,20 +111,3 @@ pub rows_not_absent : (m : Holders) (holder : List ℕ) → IsSome (rows_if_any 
 rows_not_absent m holder some none =
     let P : Option HolderRows → Type 0 = λ found. IsSome (rows_if_any found) in
     absurd (false≢true (subst P none some))
-
--- rows that were there are there after an edit
-pub still_some : (c : HolderChange) (h : List ℕ) (rows : Option Rows) → IsSome rows → IsSome (changed_by_one c h rows)
-still_some c h (Some r) some = go (same_name c.holder h)
-  where
-    go : (b : Bool) → IsSome (if b then edited_if_any c.edit (Some r) else Some r)
-    go true = refl
-    go false = refl
-still_some c h None some = absurd (false≢true some)
-
--- an edit of one holder that is put back
-pub put_back_all : (c : HolderChange) (holder : List ℕ) (old mid new : List ℕ → Option Rows) (kept : Option Rows) → holder ≡ c.holder → kept ≡ old holder → ((h : List ℕ) → mid h ≡ changed_by_one c h (old h)) → ((h : List ℕ) → new h ≡ (if same_name holder h then kept else mid h)) → (h : List ℕ) → new h ≡ old h
-put_back_all c holder old mid new kept is same edited put h = put h ∙ go (same_name holder h) refl
-  where
-    go : (b : Bool) → same_name holder h ≡ b → (if b then kept else mid h) ≡ old h
-    go true at = same ∙ ap old (same_name-true holder h at)
-    go false at = edited h ∙ ap (λ b. if b then edited_if_any c.edit (old h) else old h) (ap (λ n. same_name n h) (sym is) ∙ at)

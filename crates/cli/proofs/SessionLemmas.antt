@@ -21,10 +21,11 @@ on_ok_map (Err e) f holds = tt
 -- a request that a line is, answered
 pub replied_at : (old new : Desk) (line : List ℕ) (asked : Asked) (reply : Reply) → charter_of new ≡ charter_of old → ReadsLine line asked → ((history : History) → StandsFor (charter_of old) old history → IsAnswered (charter_of old) history asked.day asked.caller asked.request reply (desk_rows new)) → AnswersLineAt old (Some line) (line_text reply) new
 replied_at old new line asked reply chartered reads answered = (
-    chartered,
-    λ history stands.
-        let is = answered history stands in
-        (is.after, record { chartered = chartered; legal = is.legal; rows = is.rows_after }, inr (inl (asked, reply, reads, is.answers, refl))))
+  chartered,
+  λ history stands.
+      let is = answered history stands in
+      (is.after, record { chartered = chartered; legal = is.legal; rows = is.rows_after }, inr (inl (asked, reply, reads, is.answers, refl))),
+)
 
 -- a line answered by the desk is answered on each history that the desk stands for
 pub line_along : (charter : Charter) (state next : Desk) (line : Option (List ℕ)) (reply : List ℕ) (history : History) → StandsFor charter state history → AnswersLineAt state line reply next → (later : History) × StandsFor charter next later × AnswersLine charter history line reply later

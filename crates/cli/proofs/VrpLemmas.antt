@@ -17,7 +17,8 @@ or-false : (b : Bool) → (b || false) ≡ b
 or-false true = refl
 or-false false = refl
 
-family_same : (f g : Family) → family_eq f g ≡ true → f ≡ g
+-- families that the test calls equal are one
+pub family_same : (f g : Family) → family_eq f g ≡ true → f ≡ g
 family_same V4 V4 same = refl
 family_same V6 V6 same = refl
 family_same V4 V6 same = cc
@@ -43,8 +44,3 @@ push_given vrps w x day v of in_force =
   where
     in_days : gives_vrp x v.asn v.prefix v.max ≡ ((nat_le x.from day && nat_le day x.until) && gives_vrp x v.asn v.prefix v.max)
     in_days = rw (le-leb x.from day in_force.0, le-leb day x.until in_force.1) refl
-
--- one more of a list, where each adds what it passes
-pub or_more : (a b c d : Bool) → a ≡ (b || c) → (a || d) ≡ (b || (c || d))
-or_more a true c d e = rw e refl
-or_more a false c d e = rw e refl

@@ -51,7 +51,11 @@ pub fn gather<I: PayloadIndex>(alloc: Global, index: &I) -> Result<Vec<Vrp>, All
 }
 
 /// The validation state of each route over the VRPs of an index.
-pub fn judge<I: PayloadIndex>(alloc: Global, index: &I, routes: &[Route]) -> Result<Vec<Validity>, AllocError>
+pub fn judge<I: PayloadIndex>(
+    alloc: Global,
+    index: &I,
+    routes: &[Route],
+) -> Result<Vec<Validity>, AllocError>
     ensures { IfOk result (λ states. map state_of states.items ≡ map (λ r. validation_state (set.items (I.vrps index.now)) r) routes.now) }
 {
     let mut states = Vec::with_capacity(alloc, routes.len())?;

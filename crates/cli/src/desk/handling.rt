@@ -9,14 +9,13 @@ ghost use Rattle.cli.specs.DeskRows.{rows_at, HasRows, IsGivenOn};
 ghost use Rattle.payload.specs.VrpSet as set;
 ghost use Rattle.cli.specs.Desk.{charter_of, desk_rows, IsKept};
 
+use crate::desk::gathering::{gather, judge};
+use crate::desk::records::Records;
+use crate::desk::{Reply, Request};
 use addr::{Day, Name, Route};
 use payload::ListIndex;
 use policy::{Change, Charter, Command, Query, Refusal, View};
 use std::alloc::{AllocError, Global};
-
-use crate::desk::gathering::{gather, judge};
-use crate::desk::records::Records;
-use crate::desk::{Reply, Request};
 
 /// A route origin authorization desk in memory, with the charter that it was made with.
 #[derive(Drop)]
@@ -162,7 +161,14 @@ impl Desk {
             Command::Transfer { giver, taker, .. } => {
                 let from = self.records.load(giver)?;
                 let to = self.records.load(taker)?;
-                policy::decide_two(self.alloc, &self.charter, from.as_ref(), to.as_ref(), caller, command)
+                policy::decide_two(
+                    self.alloc,
+                    &self.charter,
+                    from.as_ref(),
+                    to.as_ref(),
+                    caller,
+                    command,
+                )
             }
             _ => {
                 let view = self.view(command)?;

@@ -117,7 +117,11 @@ impl Records {
     }
 }
 
-fn all_in_force(alloc: Global, holders: &BTreeMap<Name, HolderRows>, day: Day) -> Result<Vec<Vrp>, AllocError>
+fn all_in_force(
+    alloc: Global,
+    holders: &BTreeMap<Name, HolderRows>,
+    day: Day,
+) -> Result<Vec<Vrp>, AllocError>
     ensures any { IfOk result (λ vrps. (v : Vrp) → has_vrp vrps.items v ≡ list_any (rows_give_on day v) (values holders.now)) }
     ensures ordered { IsOrdered (slice_cmp nat_cmp) holders.now }
 {
@@ -155,7 +159,5 @@ fn touch(holders: &BTreeMap<Name, HolderRows>, prefix: &Prefix) -> bool
     ensures any { result ≡ list_any (λ r. list_any (λ s. span_meets s prefix.now) r.holdings) (values holders.now) }
     ensures ordered { IsOrdered (slice_cmp nat_cmp) holders.now }
 {
-    holders
-        .values()
-        .any(|rows| rows.holdings.touches(prefix))
+    holders.values().any(|rows| rows.holdings.touches(prefix))
 }

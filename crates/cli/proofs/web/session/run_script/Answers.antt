@@ -5,8 +5,8 @@ use Rattle.cli.proofs.web.session.run_script.Goals as goal
 pub returns-clause-ok : goal.returns-clause-ok
 returns-clause-ok g c = on_ok_map c.run_lines.result
     (λ (input, handed, ended, each) history stands.
-        let along = each_along (charter_of c.args.desk.now) c.args.desk.now c.run_lines.new.engine _ _ _ history stands each in
-        (input, along.0, handed, ended, along.1, along.2))
+    let along = each_along (charter_of c.args.desk.now) c.args.desk.now c.run_lines.new.engine _ _ _ history stands each in
+    (input, along.0, handed, ended, along.1, along.2))
     c.run_lines.ensures.ok
 
 pub returns-clause-read : goal.returns-clause-read
