@@ -29,7 +29,10 @@ impl LineAnswer {
         ensures failed { OnErr result (D.has_failed drain.new ≡ true) }
     {
         match self {
-            LineAnswer::Refused(malformed) => write_all(drain, malformed.text().as_str().as_bytes()),
+            LineAnswer::Refused(malformed) => write_all(
+                drain,
+                malformed.text().as_str().as_bytes(),
+            ),
             LineAnswer::Replied(reply) => write_reply(reply, drain),
         }
     }
@@ -98,3 +101,6 @@ pub fn run_script<S: Source, D: Drain>(
 {
     run_lines(desk.allocator(), source, drain, desk)
 }
+
+#[cfg(test)]
+mod tests;
