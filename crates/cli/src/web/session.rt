@@ -101,3 +101,6 @@ pub fn run_script<S: Source, D: Drain>(
 {
     run_lines(desk.allocator(), source, drain, desk)
 }
+
+#[cfg(test)]
+mod tests;
