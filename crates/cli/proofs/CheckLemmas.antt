@@ -1,6 +1,5 @@
 -- How a check of two files ends early.
-use Rattle.std.proofs.Common.{◌≡◌, ℕ, List, [], Option, Some, None, Bool, refl, ap, ◌∙◌, map}
-use Rattle.std.specs.Prelude.{option_map}
+use Rattle.std.proofs.Common.{◌≡◌, ℕ, List, Option, None, Bool, refl}
 use Rattle.cli.specs.Check.{check_fault, EndsCheck}
 use Rattle.cli.specs.CsvRecords.{csv_records}
 use Rattle.cli.specs.CsvRows.{file_fault, payload_fault, payload_header, route_fault, route_header, IsTold}

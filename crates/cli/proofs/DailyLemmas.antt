@@ -1,12 +1,12 @@
 -- The VRPs of a day: those that the rows of a legal history give are those of the history.
-use Rattle.std.proofs.Common.{◌≡◌, ℕ, zero, suc, ◌<◌, ◌≤◌, nat_le, Bool, true, false, ◌&&◌, ◌||◌, ◌↔◌, ◌⊎◌, inl, inr, IsTrue, List, [], ◌∷◌, Option, Some, None, refl, sym, ap, ◌∙◌, subst, length, get_or, Contains, All, arith}
+use Rattle.std.proofs.Common.{◌≡◌, ℕ, zero, suc, ◌<◌, nat_le, Bool, true, ◌&&◌, ◌↔◌, ◌⊎◌, inl, inr, List, [], ◌∷◌, Option, Some, None, refl, sym, ap, ◌∙◌, subst, length, get_or, Contains, arith}
 use Rattle.std.specs.List.{list_any}
-use Rattle.std.proofs.lemmas.Bool.{cases_Bool, and_parts, and_from, or_cases, or_left, or_right, false≢true, leb-true, le-leb}
+use Rattle.std.proofs.lemmas.Bool.{and_parts, and_from, or_cases, or_left, or_right, false≢true, leb-true, le-leb}
 use Rattle.addr.specs.declared.vrp.Vrp.{Vrp}
 use Rattle.policy.specs.DailyVrps.{IsVrpOn, IsVrpInForce}
-use Rattle.policy.specs.History.{History, is_registered}
-use Rattle.policy.specs.Rows.{Rows, RowsOf, RowsIfAny}
-use Rattle.policy.specs.Terms.{gives_vrp, IsVrpOf, IsInForce, IsActive, HeldSinceMade, authorization_terms, Keeps}
+use Rattle.policy.specs.History.{History}
+use Rattle.policy.specs.Rows.{Rows}
+use Rattle.policy.specs.Terms.{gives_vrp, HeldSinceMade, authorization_terms, Keeps}
 use Rattle.policy.specs.Verdict.{IsLegal}
 use Rattle.policy.specs.declared.authorization.Auth.{Auth}
 use Rattle.policy.specs.declared.charter.Charter.{Charter}

@@ -1,8 +1,7 @@
 -- What the rows of a legal history say of it.
-use Rattle.std.proofs.Common.{◌≡◌, ℕ, Bool, true, false, ◌↔◌, IsTrue, List, Option, Some, None, refl, sym, ap, ◌∙◌, subst, MatchBool, ◌∷◌, Result, Ok}
-use Rattle.std.proofs.lemmas.Bool.{cases_Bool, false≢true, true≢false}
-use Rattle.addr.specs.Address.{Address, has_address}
-use Rattle.addr.specs.Spans.{spans_have, HaveSome}
+use Rattle.std.proofs.Common.{◌≡◌, ℕ, Bool, true, false, ◌↔◌, IsTrue, List, Option, Some, None, refl, sym, ap, ◌∙◌, subst, MatchBool, ◌∷◌, Ok}
+use Rattle.std.proofs.lemmas.Bool.{false≢true}
+use Rattle.addr.specs.Address.{Address}
 use Rattle.addr.specs.declared.prefix.Prefix.{Prefix}
 use Rattle.policy.specs.History.{History, is_registered}
 use Rattle.policy.specs.Resources.{resource_holder, is_held_by, IsFree}

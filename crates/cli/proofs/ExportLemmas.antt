@@ -1,16 +1,15 @@
 -- VRPs as an index has them, and the states of routes over them.
-use Rattle.std.proofs.Common.{◌≡◌, ℕ, ◌==◌, Bool, true, false, ◌&&◌, ◌↔◌, ◌⊎◌, inl, inr, IsTrue, List, [], ◌∷◌, Option, refl, sym, ap, ◌∙◌, subst, map, Contains, if◌then◌else◌}
+use Rattle.std.proofs.Common.{◌≡◌, ℕ, ◌==◌, Bool, true, false, ◌&&◌, ◌↔◌, inl, inr, IsTrue, List, [], ◌∷◌, Option, refl, sym, ap, ◌∙◌, subst, map, Contains, if◌then◌else◌}
 use Rattle.std.specs.List.{list_any}
 use Rattle.std.proofs.lemmas.Bool.{cases_Bool, and_parts, and_from, false≢true, true≢false, eqb-true, eq-eqb}
 use Rattle.std.specs.Ordering.{is_eq}
 use Rattle.std.proofs.lemmas.Cmp.{tied_itself}
 use Rattle.addr.specs.Family.{family_eq}
 use Rattle.addr.specs.Address.{prefix_eq}
-use Rattle.addr.specs.OriginValidation.{covers, matches, ValidationState, Valid, Invalid, NotFound, HasState, validation_state}
+use Rattle.addr.specs.OriginValidation.{covers, matches, Valid, Invalid, NotFound, HasState, validation_state}
 use Rattle.addr.specs.declared.asn.Asn.{Asn}
 use Rattle.addr.specs.declared.family.Family.{Family}
 use Rattle.addr.specs.declared.family.Family.TheVariants.{V4, V6}
-use Rattle.addr.specs.declared.prefix.Prefix.{Prefix}
 use Rattle.addr.specs.declared.route.Route.{Route}
 use Rattle.addr.specs.declared.vrp.Vrp.{Vrp}
 use Rattle.payload.specs.ValidityState.{state_of}
@@ -26,7 +25,7 @@ use Rattle.policy.specs.Verdict.{IsLegal}
 use Rattle.policy.specs.declared.charter.Charter.{Charter}
 use Rattle.cli.specs.DeskRows.{vrp_eq, has_vrp, HasRows, IsGivenOn}
 use Rattle.cli.proofs.VrpLemmas.{family_same}
-use Rattle.cli.proofs.DailyLemmas.{given_on, any_among, among_any, at_head, in_tail, none_in_nil}
+use Rattle.cli.proofs.DailyLemmas.{given_on, any_among, among_any}
 
 family_itself : (f : Family) → family_eq f f ≡ true
 family_itself V4 = refl

@@ -1,5 +1,5 @@
 -- The rows of the holders of a map, by name and as a list.
-use Rattle.std.proofs.Common.{◌≡◌, ℕ, Bool, true, false, ◌↔◌, IsTrue, List, [], ◌∷◌, Option, Some, None, refl, sym, ap, subst, cond, if◌then◌else◌, ◌∙◌, Global, BTreeMap, Contains, Result, Ok, Err, OnOk, OnErr, IsSome}
+use Rattle.std.proofs.Common.{◌≡◌, ℕ, Bool, true, false, ◌↔◌, IsTrue, List, Option, Some, None, refl, sym, ap, subst, cond, if◌then◌else◌, ◌∙◌, BTreeMap, Contains, Result, Ok, Err, OnOk, OnErr, IsSome}
 use Rattle.std.specs.BTreeMap.{get, values, IsOrdered, is_at}
 use Rattle.std.specs.Cmp.Lexicographic.{slice_cmp}
 use Rattle.std.specs.Ordering.{nat_cmp}
@@ -14,8 +14,7 @@ use Rattle.std.proofs.lemmas.Map.Views.{btree_map_get_iff}
 use Rattle.addr.specs.Spans.{span_meets, HaveSome}
 use Rattle.addr.specs.declared.prefix.Prefix.{Prefix}
 use Rattle.addr.proofs.SpanLemmas.{met_some, some_met}
-use Rattle.policy.specs.Rows.{Rows, rows_of, rows_if_any, edited, edited_if_any, changed_by_one}
-use Rattle.policy.specs.declared.change.HolderChange.{HolderChange}
+use Rattle.policy.specs.Rows.{Rows, rows_of, rows_if_any, edited, edited_if_any}
 use Rattle.std.proofs.lemmas.Bool.{false≢true}
 use Rattle.policy.specs.declared.change.Edit.{Edit}
 use Rattle.policy.proofs.Names.{same_name-true}

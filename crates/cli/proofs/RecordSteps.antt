@@ -1,13 +1,11 @@
 -- What a read of the next record does to the records that are left.
-use Rattle.std.proofs.Common.{◌≡◌, ◌+◌, ℕ, List, [], ◌∷◌, length, Option, Some, None, Bool, true, false, Bor, refl, sym, ap, ◌∙◌}
-use Rattle.std.proofs.lemmas.Bool.{cases_Bool}
+use Rattle.std.proofs.Common.{◌≡◌, ℕ, List, [], ◌∷◌, Option, Some, true, false, Bor, refl, ◌∙◌}
 use Rattle.csv.specs.Machine.{Read, next_record}
-use Rattle.csv.specs.Reading.{default_config, reader_config, reader_state, reader_trim, Ready, records_from, source_of, Reached, ReadRecord, ReadsOn}
+use Rattle.csv.specs.Reading.{default_config, reader_config, reader_state, Reached, ReadRecord, ReadsOn}
 use Rattle.csv.specs.declared.parser.State.{State}
 use Rattle.csv.specs.declared.reader.Reader.{Reader}
-use Rattle.csv.specs.declared.reader.Trim.TheVariants as trim
 use Rattle.csv.proofs.ReadFacts.{rows-more, rows-end}
-use Rattle.cli.specs.CsvRecords.{Fields, records_of_rest, unread, records_left, current, IsReading, Takes}
+use Rattle.cli.specs.CsvRecords.{Fields, records_of_rest, unread, records_left, current, IsReading}
 use Rattle.cli.specs.declared.files.records.Records.{Records}
 use Rattle.cli.proofs.RecordsLeft.{records-next, records-end}
 

@@ -1,5 +1,5 @@
 -- Rows of CSV files.
-use Rattle.std.proofs.Common.{◌≡◌, ◌+◌, ◌^◌, ◌<◌, ◌≤◌, ◌-◌, lit<, inl, inr, ℕ, List, [], ◌∷◌, ◌++◌, length, map, Option, Some, None, Bool, true, false, refl, sym, ap, ◌∙◌, arith}
+use Rattle.std.proofs.Common.{◌≡◌, ◌^◌, ◌<◌, ◌-◌, lit<, inl, inr, ℕ, List, [], ◌∷◌, length, Option, Some, None, true, false, refl, sym, ◌∙◌, arith}
 use Rattle.std.proofs.lemmas.Bool.{cases_Bool}
 use Rattle.std.proofs.lemmas.Slice.Eq.{bytes_eq-Decides}
 use Rattle.std.specs.Str.{bytes_eq}
@@ -8,10 +8,9 @@ use Rattle.csv.specs.Records.{field_at}
 use Rattle.addr.specs.declared.family.Family.{Family}
 use Rattle.addr.specs.declared.family.Family.TheVariants.{V4, V6}
 use Rattle.addr.specs.Family.{width}
-use Rattle.addr.specs.PrefixText.{Spells, prefix_text_fault}
+use Rattle.addr.specs.PrefixText.{Spells}
 use Rattle.addr.specs.Digits.{asn_in}
 use Rattle.addr.specs.declared.prefix.Prefix.{Prefix}
-use Rattle.addr.specs.declared.text.PrefixFault.{PrefixFault}
 use Rattle.addr.proofs.PrefixSpellingLemmas.{loose-spelling, faultless-Spells}
 use Rattle.cli.specs.CsvRecords.{Fields}
 use Rattle.cli.specs.CsvRows.{two_of, three_of, fields_eq, header_fault, length_and_width, number_between, payload_texts_fault, origin_fault, route_texts_fault}

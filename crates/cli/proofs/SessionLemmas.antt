@@ -1,5 +1,5 @@
 -- A script over a desk is a script over the histories that the desk stands for.
-use Rattle.std.proofs.Common.{◌≡◌, ℕ, List, ◌++◌, Option, Some, None, refl, sym, subst, ◌∙◌, inl, inr, ◌⊎◌, Result, Ok, Err, OnOk, Bool, true}
+use Rattle.std.proofs.Common.{◌≡◌, ℕ, List, Option, Some, refl, subst, inl, inr, Result, Ok, Err, OnOk}
 use Rattle.policy.specs.History.{History}
 use Rattle.policy.specs.declared.charter.Charter.{Charter}
 use Rattle.cli.specs.Answer.{IsAnswered}

@@ -11,7 +11,7 @@ use Rattle.payload.specs.ValidityState.{state_of}
 use Rattle.payload.specs.declared.validity.Validity.{Validity}
 use Rattle.policy.specs.Answer.{number_given, IsShown, IsListed}
 use Rattle.policy.specs.DailyVrps.{IsVrpOn}
-use Rattle.policy.specs.History.{Entry, History}
+use Rattle.policy.specs.History.{History}
 use Rattle.policy.specs.Verdict.{Verdict, ShowVerdict, ListVerdict, IsLegal}
 use Rattle.policy.specs.Rows.{Rows}
 use Rattle.policy.specs.declared.charter.Charter.{Charter}

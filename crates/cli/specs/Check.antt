@@ -1,6 +1,6 @@
 -- What `roadesk check` prints: a line for each route, in the file's order, with its validation state over
 -- the set of the VRPs (RFC 6811 section 2).
-use Rattle.std.specs.Prelude.{◌≡◌, ℕ, List, [], ◌∷◌, ◌++◌, map, Option, Some, None, Result, Ok, Err}
+use Rattle.std.specs.Prelude.{◌≡◌, ℕ, List, [], ◌∷◌, ◌++◌, map, Option, Some}
 use Rattle.addr.specs.OriginValidation.{ValidationState, Valid, Invalid, NotFound, validation_state}
 use Rattle.addr.specs.declared.route.Route.{Route}
 use Rattle.addr.specs.declared.vrp.Vrp.{Vrp}
@@ -11,7 +11,7 @@ use Rattle.cli.specs.ProgramFaults.{fault_of_file}
 use Rattle.cli.specs.declared.fault.InputFile.TheVariants.{Payloads, Routes}
 use Rattle.cli.specs.declared.fault.ProgramFault.{ProgramFault}
 use Rattle.cli.specs.declared.fault.ProgramFault.TheVariants as fault
-use Rattle.cli.specs.CsvRecords.{Fields, csv_records}
+use Rattle.cli.specs.CsvRecords.{csv_records}
 use Rattle.cli.specs.CsvRows.{file_fault, or_else, origin_text, payload_fault, payload_header, payload_row, prefix_text, route_fault, route_header, route_row}
 
 abbrev pub state_text : ValidationState → List ℕ

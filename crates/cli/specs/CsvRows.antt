@@ -1,6 +1,6 @@
 -- The rows of CSV files: what they say, and their faults. A file is its header and its rows; of its
 -- faults the first row's counts, and of a row's the leftmost.
-use Rattle.std.specs.Prelude.{ℕ, ◌+◌, ◌≡◌, Bool, true, false, ◌&&◌, if◌then◌else◌, nat_le, List, [], ◌∷◌, ◌++◌, length, drop, map, Option, Some, None, is_some, codes, decimal}
+use Rattle.std.specs.Prelude.{ℕ, ◌+◌, ◌≡◌, Bool, true, false, ◌&&◌, if◌then◌else◌, nat_le, List, [], ◌∷◌, drop, Option, Some, None, codes, decimal}
 use Rattle.std.specs.Option.{option_and_then, option_map}
 use Rattle.std.specs.Str.{bytes_eq}
 use Rattle.addr.specs.Digits.{asn_in, asn_text, number_in}

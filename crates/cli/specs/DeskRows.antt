@@ -1,5 +1,5 @@
 -- The rows that a desk keeps, as the rows of each holder by its name, and the history that they are of.
-use Rattle.std.specs.Prelude.{◌≡◌, ℕ, ◌==◌, nat_le, Bool, ◌&&◌, true, List, Option, Some, None}
+use Rattle.std.specs.Prelude.{◌≡◌, ℕ, ◌==◌, nat_le, Bool, ◌&&◌, true, List, Option, Some}
 use Rattle.std.specs.List.{list_any}
 use Rattle.std.specs.BTreeMap.{get}
 use Rattle.std.specs.Cmp.Lexicographic.{slice_cmp}

@@ -1,5 +1,5 @@
 -- The words after the program's name, and the tasks that they name.
-use Rattle.std.specs.Prelude.{ℕ, Bool, ◌&&◌, if◌then◌else◌, List, [], ◌∷◌, Option, Some, None, Result, Ok, Err, codes}
+use Rattle.std.specs.Prelude.{ℕ, ◌&&◌, if◌then◌else◌, List, [], ◌∷◌, Option, Some, None, Result, Ok, Err, codes}
 use Rattle.std.specs.Str.{bytes_eq}
 use Rattle.cli.specs.declared.words.Task as code
 use Rattle.cli.specs.declared.words.Task.TheVariants as task

@@ -1,4 +1,3 @@
-use Rattle.std.proofs.Common.{◌≡◌}
 use Rattle.cli.proofs.CharterSteps.{no_repeats}
 use Rattle.cli.proofs.charter_file.charter_from.Goals as goal
 

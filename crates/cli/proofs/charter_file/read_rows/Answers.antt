@@ -1,4 +1,4 @@
-use Rattle.std.proofs.Common.{◌≡◌, ◌++◌, ◌∷◌, [], ◌∙◌}
+use Rattle.std.proofs.Common.{◌++◌, ◌∷◌, [], ◌∙◌}
 use Rattle.cli.specs.CsvRecords.{current, records_left}
 use Rattle.cli.proofs.CharterSteps.{rows_more, first_more, told-first}
 use Rattle.cli.proofs.charter_file.read_rows.Goals as goal

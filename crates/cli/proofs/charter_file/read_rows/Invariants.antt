@@ -1,4 +1,4 @@
-use Rattle.std.proofs.Common.{◌≡◌, ◌++◌, ℕ, List, [], map, length}
+use Rattle.std.proofs.Common.{◌≡◌, ◌++◌, List, [], map, length}
 use Rattle.cli.specs.CharterFile.{charter_row, first_charter_fault, HoldsRows}
 use Rattle.cli.specs.CsvRecords.{records_left, IsReading}
 use Rattle.cli.specs.declared.charter_file.CharterRow.{CharterRow}

@@ -1,4 +1,4 @@
-use Rattle.std.proofs.Common.{◌≡◌, refl}
+use Rattle.std.proofs.Common.{refl}
 use Rattle.cli.proofs.CharterSteps.{pool_value}
 use Rattle.cli.proofs.charter_file.read_texts.Goals as goal
 

@@ -1,5 +1,4 @@
-use Rattle.std.proofs.Common.{◌≡◌, ◌+◌, ◌≤◌, ◌++◌, ◌∷◌, [], length, refl, sym, ap, ◌∙◌, arith}
-use Rattle.csv.specs.Records.{fields_of}
+use Rattle.std.proofs.Common.{◌++◌, ◌∷◌, [], ◌∙◌, arith}
 use Rattle.payload.specs.ValidityState.{state_of}
 use Rattle.cli.specs.Check.{state_text}
 use Rattle.cli.specs.CsvRecords.{current, records_left}

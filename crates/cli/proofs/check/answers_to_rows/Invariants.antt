@@ -1,4 +1,4 @@
-use Rattle.std.proofs.Common.{◌≡◌, ◌+◌, ◌≤◌, ◌++◌, ℕ, List, map, length}
+use Rattle.std.proofs.Common.{◌≡◌, ◌+◌, ◌≤◌, ◌++◌, List, map, length}
 use Rattle.addr.specs.declared.route.Route.{Route}
 use Rattle.cli.specs.Check.{answers_text}
 use Rattle.cli.specs.CsvRecords.{records_left, IsReading}

@@ -1,5 +1,4 @@
-use Rattle.std.proofs.Common.{◌≡◌, refl, ◌∙◌, ap, ◌++◌, List, ℕ, sym}
-use Rattle.cli.proofs.CheckLemmas.{payloads-told, routes-told, faultless-check}
+use Rattle.cli.proofs.CheckLemmas.{faultless-check}
 use Rattle.cli.proofs.check.check_on.Goals as goal
 
 pub returns-clause-ok : goal.returns-clause-ok

@@ -1,4 +1,3 @@
-use Rattle.std.proofs.Common.{◌≡◌}
 use Rattle.csv.specs.Records.{fields_of}
 use Rattle.cli.proofs.CharterSteps.{row_taken, row_repeated}
 use Rattle.cli.proofs.charter_file.CharterRows.take.Goals as goal

@@ -1,4 +1,3 @@
-use Rattle.std.proofs.Common.{◌≡◌}
 use Rattle.cli.proofs.VrpLemmas.{push_given}
 use Rattle.cli.proofs.desk.records.push_if_in_force.Goals as goal
 

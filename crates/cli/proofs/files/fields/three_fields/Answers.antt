@@ -1,4 +1,4 @@
-use Rattle.std.proofs.Common.{◌≡◌, ◌∙◌, sym}
+use Rattle.std.proofs.Common.{◌∙◌, sym}
 use Rattle.csv.specs.Records.{fields_of}
 use Rattle.cli.proofs.RowLemmas.{three_of-no_first, three_of-no_second, three_of-no_third, three_of-all}
 use Rattle.cli.proofs.files.fields.three_fields.Goals as goal

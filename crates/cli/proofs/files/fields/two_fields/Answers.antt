@@ -1,4 +1,4 @@
-use Rattle.std.proofs.Common.{◌≡◌, ◌∙◌, sym}
+use Rattle.std.proofs.Common.{◌∙◌, sym}
 use Rattle.csv.specs.Records.{fields_of}
 use Rattle.cli.proofs.RowLemmas.{two_of-no_first, two_of-no_second, two_of-all}
 use Rattle.cli.proofs.files.fields.two_fields.Goals as goal

@@ -1,4 +1,4 @@
-use Rattle.std.proofs.Common.{◌≡◌, refl, sym, ◌∙◌}
+use Rattle.std.proofs.Common.{sym, ◌∙◌}
 use Rattle.cli.specs.CsvRecords.{csv_records, current, records_left}
 use Rattle.cli.specs.CsvRows.{payload_header}
 use Rattle.cli.proofs.RowLemmas.{header-same, header-other}

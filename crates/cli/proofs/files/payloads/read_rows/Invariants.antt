@@ -1,4 +1,4 @@
-use Rattle.std.proofs.Common.{◌≡◌, ◌+◌, ◌++◌, ℕ, List, map, length}
+use Rattle.std.proofs.Common.{◌≡◌, ◌+◌, ◌++◌, map, length}
 use Rattle.cli.specs.CsvRecords.{records_left, IsReading}
 use Rattle.cli.specs.CsvRows.{first_fault, payload_fault, payload_row}
 use Rattle.cli.proofs.files.payloads.read_rows.Given as goal

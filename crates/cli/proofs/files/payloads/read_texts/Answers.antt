@@ -1,4 +1,4 @@
-use Rattle.std.proofs.Common.{◌≡◌, refl}
+use Rattle.std.proofs.Common.{refl}
 use Rattle.cli.proofs.RowLemmas.{faultless_payload, payload_length_fault}
 use Rattle.cli.proofs.files.payloads.read_texts.Goals as goal
 

@@ -1,4 +1,4 @@
-use Rattle.std.proofs.Common.{◌≡◌, refl, Some, None}
+use Rattle.std.proofs.Common.{refl, Some, None}
 use Rattle.cli.proofs.RowLemmas.{route_texts_fault-Spells}
 use Rattle.cli.specs.declared.fault.RowFault.TheVariants as row_fault
 use Rattle.cli.proofs.files.routes.read_texts.Goals as goal

@@ -1,4 +1,3 @@
-use Rattle.std.proofs.Common.{◌≡◌}
 use Rattle.cli.proofs.SessionLemmas.{replied_at}
 use Rattle.cli.proofs.web.session.answer_to.Goals as goal
 

@@ -1,5 +1,3 @@
-use Rattle.std.proofs.Common.{◌≡◌, ◌∙◌, ap}
-use Rattle.payload.specs.VrpSet as set
 use Rattle.cli.proofs.ExportLemmas.{from_list-has}
 use Rattle.cli.proofs.desk.handling.Desk.index_on.Goals as goal
 

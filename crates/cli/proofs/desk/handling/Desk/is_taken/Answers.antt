@@ -1,4 +1,3 @@
-use Rattle.policy.specs.Answer.{TellsTaken}
 use Rattle.cli.specs.Desk.{charter_of, desk_rows}
 use Rattle.cli.proofs.DeskLemmas.{tells_taken}
 use Rattle.cli.proofs.desk.handling.Desk.is_taken.Goals as goal

@@ -1,4 +1,3 @@
-use Rattle.std.proofs.Common.{◌≡◌}
 use Rattle.cli.specs.Desk.{charter_of, desk_rows}
 use Rattle.cli.proofs.ExportLemmas.{items_on}
 use Rattle.cli.proofs.desk.handling.Desk.payloads.Goals as goal

@@ -1,4 +1,4 @@
-use Rattle.std.proofs.Common.{◌≡◌, Some, Option, IsSome, subst, refl}
+use Rattle.std.proofs.Common.{Option, IsSome, subst, refl}
 use Rattle.policy.specs.declared.rows.HolderRows.{HolderRows}
 use Rattle.cli.proofs.RecordLemmas.{rows_edited, rows_kept, on_err}
 use Rattle.cli.proofs.desk.records.Records.apply_one.Goals as goal

@@ -1,4 +1,3 @@
-use Rattle.std.proofs.Common.{◌≡◌}
 use Rattle.cli.proofs.RecordLemmas.{taken_iff}
 use Rattle.cli.proofs.desk.records.Records.is_taken.Goals as goal
 

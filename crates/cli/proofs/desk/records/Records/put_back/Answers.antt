@@ -1,5 +1,4 @@
-use Rattle.std.proofs.Common.{◌≡◌, Some, None, refl}
-use Rattle.cli.specs.DeskRows.{rows_at}
+use Rattle.std.proofs.Common.{Some, None, refl}
 use Rattle.cli.proofs.RecordLemmas.{rows_written, rows_not_absent, not_err}
 use Rattle.cli.proofs.desk.records.Records.put_back.Goals as goal
 

@@ -1,4 +1,4 @@
-use Rattle.std.proofs.Common.{◌≡◌, ◌∙◌, ap, Some, if◌then◌else◌}
+use Rattle.std.proofs.Common.{◌∙◌, ap, Some, if◌then◌else◌}
 use Rattle.policy.specs.History.{same_name}
 use Rattle.policy.specs.Rows.{Rows}
 use Rattle.cli.specs.DeskRows.{rows_at}

@@ -1,4 +1,3 @@
-use Rattle.std.proofs.Common.{◌≡◌}
 use Rattle.cli.proofs.RecordLemmas.{given_iff}
 use Rattle.cli.proofs.desk.records.Records.vrps_in_force.Goals as goal
 

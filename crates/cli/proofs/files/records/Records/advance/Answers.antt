@@ -1,6 +1,5 @@
-use Rattle.std.proofs.Common.{◌≡◌, true, false, inl, inr, Bool, refl}
+use Rattle.std.proofs.Common.{inl, inr}
 use Rattle.std.proofs.lemmas.Bool.{cases_Bool}
-use Rattle.cli.specs.CsvRecords.{current, records_left, IsReading, Takes}
 use Rattle.cli.proofs.RecordSteps.{reading-next, reading-end}
 use Rattle.cli.proofs.files.records.Records.advance.Goals as goal
 
