@@ -85,7 +85,7 @@ fn faults(rt: HostRuntime) {
             "roadesk: charter row 1: prefix 4",
         ),
         (
-            "kind,value\noperator,reg\npool,192.0.2.0/24\noperator,reg\nkeeper,reg\n",
+            "kind,value\noperator,reg\npool,192.0.2.0/24\noperator,reg\nowner,reg\n",
             "roadesk: charter row 3: repeated",
         ),
         (

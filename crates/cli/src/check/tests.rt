@@ -81,7 +81,7 @@ fn answers(rt: HostRuntime) {
 }
 
 #[test]
-fn faults(rt: HostRuntime) {
+fn check_refuses_bad_files(rt: HostRuntime) {
     let routes = "prefix,origin\n198.51.100.0/24,AS64496\n";
     let cases: [(&[u8], &[u8], &str); 24] = [
         (b"", routes.as_bytes(), "roadesk: payloads header"),
