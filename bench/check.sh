@@ -1,24 +1,67 @@
-#!/bin/bash
-# Compares two programs that answer `PROGRAM check PAYLOADS ROUTES` on the same files.
+#!/usr/bin/env bash
+# Measures `roadesk check` against plain.rs, the same job in plain Rust, on generated files.
 #
-#   bench/check.sh PROGRAM OTHER PAYLOADS ROUTES
+#     check.sh [VRPS [ROUTES [shuffled]]]      (500000 and 1000000 where left out)
 #
-# PROGRAM is the built roadesk, crates/cli/out/cli. OTHER is a command that is called with the two files as its last
-# words, as "./plain" of a program that needs no word before them. Prints the least of three runs: seconds of processor
-# time, peak memory, their ratios, and whether the two wrote the same bytes. It needs GNU time.
-set -eu
-program=$1 other=$2 payloads=$3 routes=$4
-work=$(mktemp -d)
-trap 'rm -rf "$work"' EXIT
-for _ in 1 2 3; do
-  /usr/bin/time -q -a -o "$work/other.time" -f '%U %S %M' $other "$payloads" "$routes" >"$work/other.out"
-  /usr/bin/time -q -a -o "$work/program.time" -f '%U %S %M' "$program" check "$payloads" "$routes" >"$work/program.out"
-done
-least() { awk '{ t = $1 + $2; if (NR == 1 || t < least) { least = t; kib = $3 } } END { print least, kib }' "$1"; }
-read -r other_seconds other_kib <<<"$(least "$work/other.time")"
-read -r seconds kib <<<"$(least "$work/program.time")"
-awk -v a="$other_seconds" -v b="$seconds" -v m="$other_kib" -v n="$kib" 'BEGIN {
-  printf "other    %6.2f s  %7.1f MiB\n", a, m / 1024
-  printf "roadesk  %6.2f s  %7.1f MiB  time x %.2f  memory x %.2f\n", b, n / 1024, b / a, n / m
-}'
-if cmp -s "$work/other.out" "$work/program.out"; then echo "same bytes"; else echo "the bytes differ"; exit 1; fi
+# Needs rustc, python3 and GNU time at /usr/bin/time. The program has to be built first, by running
+# ./roadesk at the top; PROGRAM may name another. Files go to a temporary folder, or stay in BENCH_WORK.
+# Each runs three times: cpu is the least user and system seconds, memory the greatest peak.
+# Ends with 1 where the two outputs differ, with 2 where something could not be run.
+set -u
+bench=$(cd "$(dirname "${BASH_SOURCE[0]}")" && pwd)
+program=${PROGRAM:-$bench/../crates/cli/out/cli}
+vrps=${1:-500000}
+routes=${2:-1000000}
+
+fail() {
+    echo "check.sh: $1" >&2
+    exit 2
+}
+
+order=()
+case ${3:-} in
+    '') ;;
+    shuffled) order=(--shuffled) ;;
+    *) fail "the third word can only be: shuffled" ;;
+esac
+[ -x "$program" ] || fail "the program is not built: run ./roadesk first"
+
+if [ -n "${BENCH_WORK:-}" ]; then
+    work=$BENCH_WORK
+    mkdir -p "$work" || fail "no folder $work"
+else
+    work=$(mktemp -d) || fail "no temporary folder"
+    trap 'rm -rf "$work"' EXIT
+fi
+
+rustc --edition 2021 -O -o "$work/plain" "$bench/plain.rs" || fail "plain.rs was not built"
+python3 "$bench/generate.py" ${order[@]+"${order[@]}"} "$vrps" "$routes" "$work/payloads.csv" "$work/routes.csv" ||
+    fail "no files were generated"
+
+# measure NAME COMMAND...: leaves the output in NAME.out, prints the cpu seconds and the peak in MB.
+measure() {
+    local name=$1
+    shift
+    : >"$work/$name.times"
+    for _ in 1 2 3; do
+        /usr/bin/time -a -o "$work/$name.times" -f '%U %S %M' "$@" "$work/payloads.csv" "$work/routes.csv" \
+            >"$work/$name.out" || return 1
+    done
+    awk '{ cpu = $1 + $2; if (NR == 1 || cpu < least) least = cpu; if ($3 > peak) peak = $3 }
+        END { printf "%.2f %.1f\n", least, peak / 1024 }' "$work/$name.times"
+}
+
+plain=$(measure plain "$work/plain") || fail "plain failed"
+roadesk=$(measure roadesk "$program" check) || fail "roadesk failed"
+
+echo "$vrps VRPs, $routes routes, ${3:-rising}"
+echo "$plain $roadesk" | awk '{
+    printf "%-8s %8s s cpu %8s MB\n", "plain", $1, $2
+    printf "%-8s %8s s cpu %8s MB\n", "roadesk", $3, $4
+    printf "%-8s %8s       %8.2f\n", "ratio", ($1 == 0 ? "-" : sprintf("%.2f", $3 / $1)), $4 / $2 }'
+if cmp "$work/plain.out" "$work/roadesk.out"; then
+    echo "outputs: same"
+else
+    echo "outputs: different"
+    exit 1
+fi
