@@ -213,3 +213,60 @@ fn failing_drain(rt: HostRuntime) {
         "198.51.100.0/24,AS64496,Valid\n198.51.104".as_bytes()
     );
 }
+
+// The files of examples/ and what the guide prints of them.
+const EXAMPLE_PAYLOADS: &str = "asn,prefix,maxlength\n\
+    AS64496,192.0.2.0/24,24\n\
+    AS64497,198.51.100.0/24,24\n\
+    AS64496,198.51.100.0/22,24\n\
+    AS64498,203.0.113.0/24,26\n\
+    AS0,233.252.0.0/24,32\n\
+    AS64499,2001:db8::/32,48\n\
+    AS64500,2001:db8:1000::/36,36\n\
+    AS65536,2001:db8:ffff::/48,48\n\
+    AS64497,198.51.100.0/24,24\n";
+
+const EXAMPLE_ROUTES: &str = "prefix,origin\n\
+    192.0.2.0/24,AS64496\n\
+    192.0.2.0/25,AS64496\n\
+    192.0.2.0/24,NONE\n\
+    198.51.100.0/24,AS64496\n\
+    198.51.100.0/24,AS64497\n\
+    198.51.101.0/24,AS64496\n\
+    203.0.113.64/26,AS64498\n\
+    203.0.113.64/27,AS64498\n\
+    233.252.0.0/24,AS0\n\
+    2001:db8:1::/48,AS64499\n\
+    2001:db8:1::/49,AS64499\n\
+    2001:db8:1000::/36,AS64500\n\
+    2001:db8:ffff::/48,AS65537\n\
+    10.0.0.0/8,AS64496\n";
+
+const EXAMPLE_ANSWERS: &str = "192.0.2.0/24,AS64496,Valid\n\
+    192.0.2.0/25,AS64496,Invalid\n\
+    192.0.2.0/24,NONE,Invalid\n\
+    198.51.100.0/24,AS64496,Valid\n\
+    198.51.100.0/24,AS64497,Valid\n\
+    198.51.101.0/24,AS64496,Valid\n\
+    203.0.113.64/26,AS64498,Valid\n\
+    203.0.113.64/27,AS64498,Invalid\n\
+    233.252.0.0/24,AS0,Invalid\n\
+    2001:db8:1::/48,AS64499,Valid\n\
+    2001:db8:1::/49,AS64499,Invalid\n\
+    2001:db8:1000::/36,AS64500,Valid\n\
+    2001:db8:ffff::/48,AS65537,Invalid\n\
+    10.0.0.0/8,AS64496,NotFound\n";
+
+#[test]
+fn example_files_are_judged_as_the_guide_prints(rt: HostRuntime) {
+    let (is_ok, written, line) = checked(
+        rt.alloc(),
+        EXAMPLE_PAYLOADS.as_bytes(),
+        EXAMPLE_ROUTES.as_bytes(),
+        1000,
+    )
+    .expect(&rt, "memory");
+    assert_eq!(rt; line.as_str(), "");
+    assert!(rt; is_ok);
+    assert_eq!(rt; written.as_slice(), EXAMPLE_ANSWERS.as_bytes());
+}
