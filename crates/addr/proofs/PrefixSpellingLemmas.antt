@@ -7,8 +7,6 @@ use Rattle.std.proofs.lemmas.Slice.Eq.{bytes_eq-Decides}
 use Rattle.std.proofs.lemmas.Fmt.{decimal_is_IsNumeral, length-decimal-le}
 use Rattle.std.proofs.lemmas.List.Elements.{All-head, All-tail}
 use Rattle.std.proofs.NetLemmas.Arrays.{four_items}
-use native.Mathlib.Nat.{ℕ_set}
-use Rattle.std.proofs.Math.Bridge.{le_prop}
 use Rattle.std.proofs.lemmas.Nat.{pow_pos}
 use Rattle.std.specs.Result.{MatchResult}
 use Rattle.std.proofs.NetLemmas.Texts.{IsZeroRun-longest_zero_run, longest_zero_run_first, AllSegments, IsColonHex-hex_groups_text}
@@ -18,6 +16,7 @@ use Rattle.std.specs.Str.{bytes_eq}
 use Rattle.std.specs.Int.Digits.{number_from_digits}
 use Rattle.std.specs.Net.Text.{ipv4_text, hex_groups_text, dotted_text, longest_zero_run}
 use Rattle.addr.specs.Family.{width}
+use Rattle.addr.specs.Address.{same_prefix}
 use Rattle.addr.specs.declared.family.Family.{Family}
 use Rattle.addr.specs.declared.family.Family.TheVariants.{V4, V6}
 use Rattle.addr.specs.declared.text.PrefixParts.{PrefixParts}
@@ -190,26 +189,6 @@ loose_fits text parts e =
 abbrev prefix_of : (family : Family) (first len : ℕ) → len ≤ width family → first % 2 ^ (width family - len) ≡ 0 → first + 2 ^ (width family - len) ≤ 2 ^ width family → Prefix
 prefix_of family first len fits aligned inside = record { family = family; first = first; length = len; length_fits = fits; aligned = aligned; in_family = inside }
 
--- a prefix of one family, first address and length is one value
-module _ (q : Prefix) where
-  same_facts : (fits : q.length ≤ width q.family) (aligned : q.first % 2 ^ (width q.family - q.length) ≡ 0) (inside : q.first + 2 ^ (width q.family - q.length) ≤ 2 ^ width q.family) → prefix_of q.family q.first q.length fits aligned inside ≡ q
-  same_facts fits aligned inside i = prefix_of q.family q.first q.length (le_prop fits q.length_fits i) (ℕ_set _ _ aligned q.aligned i) (le_prop inside q.in_family i)
-
-  same_length : (len : ℕ) → q.length ≡ len → (fits : len ≤ width q.family) (aligned : q.first % 2 ^ (width q.family - len) ≡ 0) (inside : q.first + 2 ^ (width q.family - len) ≤ 2 ^ width q.family) → prefix_of q.family q.first len fits aligned inside ≡ q
-  same_length len same =
-      subst (λ (l : ℕ). (fits : l ≤ width q.family) (aligned : q.first % 2 ^ (width q.family - l) ≡ 0) (inside : q.first + 2 ^ (width q.family - l) ≤ 2 ^ width q.family) → prefix_of q.family q.first l fits aligned inside ≡ q) same same_facts
-
-  same_first : (first len : ℕ) → q.first ≡ first → q.length ≡ len → (fits : len ≤ width q.family) (aligned : first % 2 ^ (width q.family - len) ≡ 0) (inside : first + 2 ^ (width q.family - len) ≤ 2 ^ width q.family) → prefix_of q.family first len fits aligned inside ≡ q
-  same_first first len one same =
-      subst (λ (n : ℕ). (fits : len ≤ width q.family) (aligned : n % 2 ^ (width q.family - len) ≡ 0) (inside : n + 2 ^ (width q.family - len) ≤ 2 ^ width q.family) → prefix_of q.family n len fits aligned inside ≡ q) one (same_length len same)
-
-  same_family : (family : Family) (first len : ℕ) → q.family ≡ family → q.first ≡ first → q.length ≡ len → (fits : len ≤ width family) (aligned : first % 2 ^ (width family - len) ≡ 0) (inside : first + 2 ^ (width family - len) ≤ 2 ^ width family) → prefix_of family first len fits aligned inside ≡ q
-  same_family family first len kind one same =
-      subst (λ (f : Family). (fits : len ≤ width f) (aligned : first % 2 ^ (width f - len) ≡ 0) (inside : first + 2 ^ (width f - len) ≤ 2 ^ width f) → prefix_of f first len fits aligned inside ≡ q) kind (same_first first len one same)
-
-same_prefix : (p q : Prefix) → q.family ≡ p.family → q.first ≡ p.first → q.length ≡ p.length → p ≡ q
-same_prefix p q kind one same = same_family q p.family p.first p.length kind one same p.length_fits p.aligned p.in_family
-
 prefix_below : (p : Prefix) → p.first < 2 ^ width p.family
 prefix_below p = let some = pow_pos (width p.family - p.length) in let inside = p.in_family in omega arith
 
@@ -230,7 +209,7 @@ loose-Spells p text spelled = rw spelled (loose-spelling p.family p.first p.leng
 pub Spells_unique : (p q : Prefix) (text : List ℕ) → Spells p text → Spells q text → p ≡ q
 unfolding parts_of
 Spells_unique p q text hp hq =
-    let same = same_Some _ _ (sym (loose-Spells q text hq) ∙ loose-Spells p text hp) in
+    let same = same_Some _ _ (sym (loose-Spells p text hp) ∙ loose-Spells q text hq) in
     same_prefix p q (ap (λ (parts : PrefixParts). parts.family) same) (ap (λ (parts : PrefixParts). parts.address) same) (ap (λ (parts : PrefixParts). parts.length) same)
 
 pub faultless-Spells : (p : Prefix) (text : List ℕ) → Spells p text → prefix_text_fault text ≡ None

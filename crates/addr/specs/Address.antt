@@ -3,6 +3,9 @@
 -- interval of 2 ^ (width - n) addresses whose first is a multiple of that size (RFC 4291 section
 -- 2.3, RFC 4632 section 3.1).
 use Rattle.std.specs.Prelude.{◌≡◌, ℕ, ◌+◌, ◌-◌, ◌^◌, ◌/◌, ◌%◌, ◌<◌, ◌≤◌, Bool, true, ◌&&◌, ◌==◌, nat_le}
+use Rattle.std.specs.Coded.{le_prop}
+use mathlib.Core.HLevel.{is_prop→PathP}
+use native.Mathlib.Nat.{ℕ_set}
 use Rattle.addr.specs.Family.{width, family_eq}
 use Rattle.addr.specs.declared.family.Family.{Family}
 use Rattle.addr.specs.declared.prefix.Prefix.{Prefix}
@@ -51,3 +54,14 @@ Contains p q = (a : Address) → has_address q a ≡ true → has_address p a �
 -- p and q share an address
 abbrev pub Overlaps : Prefix → Prefix → Type 0
 Overlaps p q = (a : Address) × (has_address p a ≡ true) × (has_address q a ≡ true)
+
+-- prefixes of one family, first address and length are equal
+pub same_prefix : (p q : Prefix) → p.family ≡ q.family → p.first ≡ q.first → p.length ≡ q.length → p ≡ q
+same_prefix p q family first length = λ i. record {
+  family = family i;
+  first = first i;
+  length = length i;
+  length_fits = is_prop→PathP (λ j. length j ≤ width (family j)) (λ j. le_prop) p.length_fits q.length_fits i;
+  aligned = is_prop→PathP (λ j. first j % 2 ^ (width (family j) - length j) ≡ 0) (λ j. ℕ_set _ _) p.aligned q.aligned i;
+  in_family = is_prop→PathP (λ j. first j + 2 ^ (width (family j) - length j) ≤ 2 ^ width (family j)) (λ j. le_prop) p.in_family q.in_family i;
+}

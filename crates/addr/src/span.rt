@@ -1,4 +1,4 @@
-ghost use Rattle.std.specs.Prelude.{◌≡◌, ℕ, ◌+◌, ◌-◌, ◌^◌, ◌<◌, ◌≤◌, ◌↔◌, IsSome, IfSome};
+ghost use Rattle.std.specs.Prelude.{◌≡◌, ◌+◌, ◌-◌, ◌^◌, ◌<◌, ◌≤◌, ◌↔◌, IsSome, IfSome};
 ghost use Rattle.addr.specs.Family.{width};
 
 use crate::{Family, Prefix};
@@ -16,7 +16,7 @@ pub struct Span {
 }
 
 impl Span {
-    ghost use Rattle.std.specs.Prelude.{true, false, Bool, ◌&&◌, ◌||◌, not};
+    ghost use Rattle.std.specs.Prelude.{true, false, ◌&&◌, ◌||◌, not};
     ghost use Rattle.addr.specs.Family.{family_eq};
     ghost use Rattle.addr.specs.Address.{Address};
     ghost use Rattle.addr.specs.Spans.{span_has, span_covers, span_meets, is_apart_below};

@@ -1,5 +1,5 @@
 //! The texts of prefixes, as `192.0.2.0/24` and `2001:db8::/32`.
-ghost use Rattle.std.specs.Prelude.{◌≡◌, ◌↔◌, None, Some, Ok, IfOk, IfErr};
+ghost use Rattle.std.specs.Prelude.{◌≡◌, ◌↔◌, Some, Ok, IfErr};
 ghost use Rattle.addr.specs.PrefixText.{fault_number, prefix_text_fault, Spells};
 ghost use Rattle.addr.specs.declared.prefix.Prefix.{Prefix};
 

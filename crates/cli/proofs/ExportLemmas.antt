@@ -5,7 +5,7 @@ use Rattle.std.proofs.lemmas.Bool.{cases_Bool, and_parts, and_from, false≢true
 use Rattle.std.specs.Ordering.{is_eq}
 use Rattle.std.proofs.lemmas.Cmp.{tied_itself}
 use Rattle.addr.specs.Family.{family_eq}
-use Rattle.addr.specs.Address.{prefix_eq}
+use Rattle.addr.specs.Address.{prefix_eq, same_prefix}
 use Rattle.addr.specs.OriginValidation.{covers, matches, Valid, Invalid, NotFound, HasState, validation_state}
 use Rattle.addr.specs.declared.asn.Asn.{Asn}
 use Rattle.addr.specs.declared.family.Family.{Family}
@@ -13,7 +13,7 @@ use Rattle.addr.specs.declared.family.Family.TheVariants.{V4, V6}
 use Rattle.addr.specs.declared.route.Route.{Route}
 use Rattle.addr.specs.declared.vrp.Vrp.{Vrp}
 use Rattle.payload.specs.ValidityState.{state_of}
-use Rattle.payload.specs.VrpOrder.{same_prefix, same_vrp, vrp_total}
+use Rattle.payload.specs.VrpOrder.{same_vrp, vrp_total}
 use Rattle.payload.specs.VrpSet as set
 use Rattle.payload.specs.declared.validity.Validity.{Validity}
 use Rattle.payload.proofs.Sets.{is_vrp, same_vrp-equal, contains-from_list, contains-items}

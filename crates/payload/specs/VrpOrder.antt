@@ -1,6 +1,6 @@
 -- The order of VRPs: by family, address, length, maxLength and AS. It is total, and VRPs that tie in
 -- it are one.
-use Rattle.std.specs.Prelude.{◌≡◌, ◌+◌, ◌-◌, ◌%◌, ◌^◌, ◌≤◌, refl}
+use Rattle.std.specs.Prelude.{◌≡◌, ◌≤◌, refl}
 use Rattle.std.specs.declared.cmp.Ordering.{Ordering}
 use Rattle.std.specs.declared.cmp.Ordering.TheVariants.{Less, Equal, Greater}
 use Rattle.std.specs.Ordering.{nat_cmp, ordering_then, ordering_reverse}
@@ -9,8 +9,8 @@ use Rattle.std.specs.FinMap.{IsAntisymmetric, nat_cmp-IsAntisymmetric}
 use Rattle.std.specs.Coded.{le_prop}
 use mathlib.Core.Path.{ap}
 use mathlib.Core.HLevel.{is_prop→PathP}
-use native.Mathlib.Nat.{ℕ_set}
 use Rattle.addr.specs.Family.{width}
+use Rattle.addr.specs.Address.{same_prefix}
 use Rattle.addr.specs.declared.family.Family.{Family}
 use Rattle.addr.specs.declared.family.Family.TheVariants.{V4, V6}
 use Rattle.addr.specs.declared.prefix.Prefix.{Prefix}
@@ -32,17 +32,6 @@ abbrev pub vrp_cmp : Vrp → Vrp → Ordering
 vrp_cmp v w =
     ordering_then (prefix_cmp v.prefix w.prefix)
     (ordering_then (nat_cmp v.max w.max) (nat_cmp v.asn.0 w.asn.0))
-
--- prefixes of one family, first address and length are equal
-pub same_prefix : (p q : Prefix) → p.family ≡ q.family → p.first ≡ q.first → p.length ≡ q.length → p ≡ q
-same_prefix p q family first length = λ i. record {
-  family = family i;
-  first = first i;
-  length = length i;
-  length_fits = is_prop→PathP (λ j. length j ≤ width (family j)) (λ j. le_prop) p.length_fits q.length_fits i;
-  aligned = is_prop→PathP (λ j. first j % 2 ^ (width (family j) - length j) ≡ 0) (λ j. ℕ_set _ _) p.aligned q.aligned i;
-  in_family = is_prop→PathP (λ j. first j + 2 ^ (width (family j) - length j) ≤ 2 ^ width (family j)) (λ j. le_prop) p.in_family q.in_family i;
-}
 
 -- VRPs of one prefix, maxLength and AS are equal
 pub same_vrp : (v w : Vrp) → v.prefix ≡ w.prefix → v.max ≡ w.max → v.asn ≡ w.asn → v ≡ w

@@ -1,4 +1,4 @@
-ghost use Rattle.std.specs.Prelude.{◌≡◌, ◌≤◌, ◌↔◌, ◌&&◌, nat_le, true, IsTrue, IsSome, IfSome};
+ghost use Rattle.std.specs.Prelude.{◌≡◌, ◌≤◌, ◌↔◌, ◌&&◌, true, IsTrue, IsSome, IfSome};
 ghost use Rattle.addr.specs.Address.{prefix_eq};
 ghost use Rattle.policy.specs.Terms.{terms_overlap, gives_vrp, share_vrp, IsVrpOf};
 ghost use Rattle.policy.specs.Verdict.{fits_length, terms_fit_length};

@@ -1,4 +1,4 @@
-ghost use Rattle.std.specs.Prelude.{nat_eq, length, ◌||◌, Err, IfOk, IsPermutation, IsSorted, ◌≡◌, ℕ, ◌≤◌, ◌↔◌, true, false, IsTrue, IfNone, IfSome, option_copied, find};
+ghost use Rattle.std.specs.Prelude.{nat_eq, ◌||◌, Err, IfOk, IsPermutation, IsSorted, ◌≡◌, ◌≤◌, ◌↔◌, true, false, IsTrue, IfNone, IfSome, option_copied, find};
 ghost use Rattle.std.specs.List.{list_any};
 ghost use Rattle.std.specs.Ordering.{nat_cmp};
 ghost use Rattle.std.specs.Cmp.Lexicographic.{pointwise, slice_cmp};

@@ -1,4 +1,4 @@
-ghost use Rattle.std.specs.Prelude.{◌≡◌, ℕ, List, Bool, true, false, not, ◌||◌, ◌&&◌, None, option_copied, MatchBool, IfOk, map, filter, IsTrue, ◌↔◌, ◌<◌, length};
+ghost use Rattle.std.specs.Prelude.{◌≡◌, ℕ, true, false, not, ◌||◌, ◌&&◌, None, option_copied, MatchBool, IfOk, map, filter, IsTrue, ◌↔◌, ◌<◌, length};
 ghost use Rattle.addr.specs.Address.{Address, has_address};
 ghost use Rattle.addr.specs.Spans.{spans_have, AreMaximal};
 ghost use Rattle.policy.specs.declared.charter.Charter.{Charter as CharterValue};

@@ -1,4 +1,4 @@
-ghost use Rattle.std.specs.Prelude.{◌≡◌, nat_le};
+ghost use Rattle.std.specs.Prelude.{◌≡◌};
 ghost use Rattle.policy.specs.Permission.{allowed_roles, scope_has, is_current, gives_access, has_access, is_permitted};
 
 use addr::{Day, Name, Prefix};

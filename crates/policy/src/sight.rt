@@ -1,4 +1,4 @@
-ghost use Rattle.std.specs.Prelude.{◌≡◌, ℕ, List, true, Some, option_copied, MatchResult, IfOk, filter};
+ghost use Rattle.std.specs.Prelude.{◌≡◌, ℕ, List, Some, option_copied, MatchResult, IfOk, filter};
 ghost use Rattle.policy.specs.declared.charter.Charter.{Charter as CharterValue};
 ghost use Rattle.policy.specs.History.{History};
 ghost use Rattle.policy.specs.Permission.{is_permitted_terms};

@@ -1,4 +1,4 @@
-ghost use Rattle.std.specs.Prelude.{◌≡◌, ◌<◌, ◌≤◌, length};
+ghost use Rattle.std.specs.Prelude.{◌≡◌, length};
 ghost use Rattle.roa.specs.RoaContent.{family_octets};
 ghost use Rattle.roa.specs.ContentOctets.{integer_len};
 

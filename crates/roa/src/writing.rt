@@ -1,4 +1,4 @@
-ghost use Rattle.std.specs.Prelude.{◌≡◌, ◌<◌, ◌≤◌, ◌*◌, ◌^◌, ◌++◌, ◌∷◌, length, IfOk, OnOk};
+ghost use Rattle.std.specs.Prelude.{◌≡◌, ◌<◌, ◌≤◌, ◌*◌, ◌^◌, ◌++◌, length, IfOk, OnOk};
 ghost use Rattle.std.specs.List.{flat_map};
 ghost use Rattle.roa.specs.RoaContent.{of_family, Encodes};
 ghost use Rattle.roa.specs.ContentOctets.{be_octets, length_octets, element, integer, prefix_octets, entry_contents, entry_octets, roa_ip_address_family, content_octets};

@@ -1,7 +1,7 @@
-ghost use Rattle.std.specs.Prelude.{◌≡◌, ◌≢◌, ◌+◌, ◌≤◌, ◌↔◌, Any, IsTrue, List, length, Some, IfOk, IfErr};
+ghost use Rattle.std.specs.Prelude.{◌≡◌, ◌≢◌, ◌+◌, ◌≤◌, ◌↔◌, Any, IsTrue, length, Some, IfOk, IfErr};
 ghost use Rattle.std.specs.List.{list_any};
 ghost use Rattle.serde_json.specs.View.{view};
-ghost use Rattle.slurm.specs.Exceptions.{Exceptions, entry_count};
+ghost use Rattle.slurm.specs.Exceptions.{Exceptions};
 
 use crate::file::read_file;
 use crate::filter::some_matches;

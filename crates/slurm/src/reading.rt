@@ -1,11 +1,10 @@
 //! Reading the parts of a JSON value: all parts are read, and the lowest fault of all is told.
-ghost use Rattle.std.specs.Prelude.{◌≡◌, List, map, option_map, OnOk, Ok, Result, string_bytes};
+ghost use Rattle.std.specs.Prelude.{◌≡◌, map, Ok, Result, string_bytes};
 ghost use Rattle.std.specs.List.{list_all, list_any};
 ghost use Rattle.std.specs.Str.{bytes_eq};
 ghost use Rattle.std.specs.BTreeMap.{keys};
-ghost use Rattle.serde_json.specs.Data.{Data};
 ghost use Rattle.serde_json.specs.View.{view};
-ghost use Rattle.slurm.specs.Reading.{both, beside, is_among, only, each};
+ghost use Rattle.slurm.specs.Reading.{both, beside, is_among, only};
 
 use crate::SlurmFault;
 use serde_json::{Map, Value};

@@ -1,5 +1,5 @@
 // Reading: loosely first, and then by comparing with the one spelling.
-ghost use Rattle.std.specs.Prelude.{◌≡◌, ◌==◌, ◌%◌, ◌<◌, ◌≤◌, ◌^◌, None, Some, length, option_map, MatchResult, IfSome};
+ghost use Rattle.std.specs.Prelude.{◌≡◌, ◌==◌, ◌<◌, ◌^◌, None, Some, length, option_map, MatchResult, IfSome};
 ghost use Rattle.std.specs.List.{position};
 ghost use Rattle.std.specs.Int.Digits.{number_from_digits};
 ghost use Rattle.addr.specs.Family.{width};

@@ -1,9 +1,8 @@
 // Writing the one spelling.
-ghost use Rattle.std.specs.Prelude.{◌≡◌, ◌+◌, ◌*◌, ◌^◌, ◌<◌, ◌≤◌, ◌++◌, ◌∷◌, [], length, decimal, EachIndex, slice_index};
+ghost use Rattle.std.specs.Prelude.{◌≡◌, ◌+◌, ◌*◌, ◌<◌, ◌≤◌, ◌++◌, ◌∷◌, [], length, decimal};
 ghost use Rattle.std.specs.Char.{digit_char};
 ghost use Rattle.arrayvec.specs.ArrayString.{array_string_len};
 ghost use Rattle.std.specs.Net.Text.{groups_text, hex, longest_zero_run, ipv4_text, hex_groups_text};
-ghost use Rattle.addr.specs.Family.{width};
 ghost use Rattle.addr.specs.PrefixText.{digits_in, groups_of, octets_of, spelling};
 
 use crate::Family;

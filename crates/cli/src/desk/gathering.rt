@@ -1,4 +1,4 @@
-ghost use Rattle.std.specs.Prelude.{◌≡◌, ℕ, List, map, IfOk, ◌++◌, is_some};
+ghost use Rattle.std.specs.Prelude.{◌≡◌, map, IfOk, ◌++◌, is_some};
 ghost use Rattle.std.specs.Option.{option_to_list};
 ghost use Rattle.addr.specs.OriginValidation.{validation_state};
 ghost use Rattle.payload.specs.Rising.{AreRising};

@@ -1,11 +1,10 @@
 ghost use Rattle.std.specs.Prelude.{◌≡◌, ℕ, List, false, None, IfOk, IsTrue, ◌↔◌};
 ghost use Rattle.addr.specs.declared.vrp.Vrp.{Vrp};
-ghost use Rattle.policy.specs.Answer.{is_transfer, holder_of, IsViewOf, IsAnswer, TellsTaken, number_made};
+ghost use Rattle.policy.specs.Answer.{IsViewOf, IsAnswer, TellsTaken};
 ghost use Rattle.policy.specs.History.{History};
 ghost use Rattle.policy.specs.Verdict.{IsLegal};
-ghost use Rattle.policy.specs.declared.charter.Charter.{Charter as CharterValue};
-ghost use Rattle.cli.specs.Answer.{is_done, AnswersCommand, AnswersQuery, AnswersShow, AnswersList, AnswersPayloads, AnswersValidity, IsAnswered};
-ghost use Rattle.cli.specs.DeskRows.{rows_at, HasRows, IsGivenOn};
+ghost use Rattle.cli.specs.Answer.{is_done, AnswersQuery, AnswersShow, AnswersList, AnswersPayloads, AnswersValidity, IsAnswered};
+ghost use Rattle.cli.specs.DeskRows.{HasRows, IsGivenOn};
 ghost use Rattle.payload.specs.VrpSet as set;
 ghost use Rattle.cli.specs.Desk.{charter_of, desk_rows, IsKept};
 

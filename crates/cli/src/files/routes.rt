@@ -1,5 +1,5 @@
 // Route files: announced routes.
-ghost use Rattle.std.specs.Prelude.{◌≡◌, [], ◌∷◌, None, Some, IfOk, IfErr, MatchOption, MatchResult};
+ghost use Rattle.std.specs.Prelude.{◌≡◌, ◌∷◌, None, Some, IfOk, IfErr, MatchOption, MatchResult};
 ghost use Rattle.csv.specs.Records.{fields_of};
 ghost use Rattle.cli.specs.CsvRecords.{csv_records, records_left, IsReading};
 ghost use Rattle.cli.specs.CsvRows.{header_fault, origin_fault, origin_text, prefix_text, route_fault, route_header, route_row, route_texts_fault, IsTold};

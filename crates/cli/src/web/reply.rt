@@ -1,5 +1,5 @@
 //! The texts of replies.
-ghost use Rattle.std.specs.Prelude.{◌≡◌, ◌++◌, ◌≤◌, true, map, length, codes, option_map, OnOk, OnErr};
+ghost use Rattle.std.specs.Prelude.{◌≡◌, ◌++◌, ◌≤◌, true, length, codes, option_map, OnOk, OnErr};
 ghost use Rattle.cli.specs.Streams.{AppendsBeginning};
 ghost use Rattle.cli.specs.ReplyText.{auth_text, denied_text, done_text, line_text, rule_name, short_text, unavailable_text};
 

@@ -1,5 +1,5 @@
 // Lists of routes.
-ghost use Rattle.std.specs.Prelude.{◌≡◌, ◌++◌, ◌∷◌, [], length, map, IfOk, OnOk};
+ghost use Rattle.std.specs.Prelude.{◌≡◌, ◌++◌, ◌∷◌, [], map, IfOk, OnOk};
 ghost use Rattle.serde_json.specs.View.{view};
 ghost use Rattle.cli.specs.RequestParts.{both, each, mapped};
 ghost use Rattle.cli.specs.RequestRoutes.{routes_so_far};
