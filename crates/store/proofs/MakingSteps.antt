@@ -1,0 +1,86 @@
+-- What each CREATE does to the tables that are made so far.
+use Rattle.std.proofs.Common.{◌≡◌, ℕ, suc, Bool, true, false, List, [], ◌∷◌, ◌++◌, take, ◌||◌, ◌==◌, None, Ok, refl, sym, ap, subst, ◌∙◌}
+use Rattle.std.specs.List.{AllByRecursion, list_any}
+use Rattle.std.proofs.lemmas.Bool.{eqb-true}
+use Rattle.std.proofs.lemmas.List.Sorted.{IsPermutation-refl}
+use Rattle.sqlite_value.specs.Order.{Row}
+use Rattle.sqlite.specs.Change.{created, next_tree, KeepsRows}
+use Rattle.sqlite.specs.Does.{Tally, lacks_sequence}
+use Rattle.sqlite.specs.Effect.{Database}
+use Rattle.sqlite.specs.State.{State, HasCleanDisk, Shows, Writes, ExecutesInside}
+use Rattle.sqlite.proofs.Callers.{runs_as}
+use Rattle.sqlite_trees.specs.Tree.{Trees}
+use Rattle.sqlite_trees.proofs.ListLemmas.{all_both, all-append}
+use Rattle.sqlite_schema.specs.declared.command.Command.TheVariants.{CreateTable}
+use Rattle.sqlite_schema.specs.declared.schema.Schema.{Schema}
+use Rattle.sqlite_schema.specs.declared.schema.Table.{Table}
+use Rattle.store.specs.Tables.{desk_tables}
+use Rattle.store.specs.Edits.{contents, IsTree}
+use Rattle.store.specs.TablesHold.{Part, holder_part, holding_part, granted_part, auth_part, HoldsPart, TablesHold}
+use Rattle.store.specs.Making.{so_far, IsMadeTo, IsBlank}
+use Rattle.store.specs.StoreRows.{IsKept}
+use Rattle.store.proofs.Inserting.{went, same_value}
+use Rattle.store.proofs.Creates.{Defines}
+
+-- one table more
+grown : (n : ℕ) (table : Table) (old new : State) → IsMadeTo n old → take (suc n) desk_tables ≡ take n desk_tables ++ table ∷ [] → new.in_transaction ≡ true → new.now.schema ≡ so_far (suc n)
+    → KeepsRows (take n desk_tables) old.now.trees new.now.trees → new.now.trees table.tree ≡ [] → IsMadeTo (suc n) new
+grown n table old new before next inside schema kept empty = record {
+  inside = inside;
+  schema = schema;
+  empty = subst (AllByRecursion (λ t. new.now.trees t.tree ≡ [])) (sym next)
+      (all-append (λ t. new.now.trees t.tree ≡ []) (take n desk_tables) (table ∷ [])
+      (all_both (λ t. new.now.trees t.tree ≡ old.now.trees t.tree) (λ t. old.now.trees t.tree ≡ []) (λ t. new.now.trees t.tree ≡ []) (λ t same none. same ∙ none) (take n desk_tables) kept before.empty)
+      (empty, tt));
+}
+
+pub makes : (n : ℕ) (sql : List ℕ) (table : Table) → Defines sql table (so_far n) (so_far (suc n)) → take (suc n) desk_tables ≡ take n desk_tables ++ table ∷ []
+    → (old new : State) (count : ℕ) → IsMadeTo n old → ExecutesInside 0 sql [] old new (Ok count) → IsMadeTo (suc n) new
+makes n sql table d next old new count before h =
+    let runs = runs_as sql [] old new (so_far n) before.schema CreateTable d.is d.plain count h.0 in
+    let w = subst (λ t. Writes old new None CreateTable t [] count) d.text runs in
+    let all = went w.changed in
+    let first = went all.1 in
+    let made = first.1 in
+    let same : made.table ≡ record table { tree = 0 } = same_value (sym made.defined ∙ d.defined) in
+    let schema : first.0.schema ≡ so_far (suc n) = made.is ∙ ap (λ s. created s made.table) before.schema ∙ ap (created (so_far n)) same ∙ d.made in
+    let plain : lacks_sequence first.0.schema ≡ false = ap lacks_sequence schema ∙ d.uncounted in
+    let now : new.now ≡ first.0 = ap (λ (p : Tally × Database). p.1) (same_value all.2) ∙ same_value (rw plain at first.2) in
+    let kept : KeepsRows (take n desk_tables) old.now.trees first.0.trees = subst (λ (s : Schema). KeepsRows s.tables old.now.trees first.0.trees) before.schema made.others in
+    let empty : first.0.trees table.tree ≡ [] = subst (λ t. first.0.trees t ≡ []) (ap next_tree before.schema ∙ d.place) made.empty in
+    grown n table old new before next h.1.mode (ap (λ (d : Database). d.schema) now ∙ schema)
+    (subst (λ (d : Database). KeepsRows (take n desk_tables) old.now.trees d.trees) (sym now) kept) (ap (λ (d : Database). d.trees table.tree) now ∙ empty)
+
+each_table : (P : ℕ → Type 0) (tables : List Table) → AllByRecursion (λ t. P t.tree) tables → (t : ℕ) → list_any (λ table. table.tree == t) tables ≡ true → P t
+each_table P [] all t is = absurd cc
+each_table P (x ∷ tables) all t is = go (x.tree == t) refl is (λ later. each_table P tables all.1 t later)
+  where
+    go : (b : Bool) → (x.tree == t) ≡ b → (b || list_any (λ table. table.tree == t) tables) ≡ true → (list_any (λ table. table.tree == t) tables ≡ true → P t) → P t
+    go true here is later = subst P (eqb-true _ _ here) all.0
+    go false there is later = later is
+
+none_held : (part : Part) (table : List Row) → table ≡ [] → HoldsPart part (λ h. None) (contents table)
+none_held part table none = rw none (record { each = λ h. IsPermutation-refl []; named = tt })
+
+-- empty tables hold the rows of no holder
+pub blank_holds : (trees : Trees) → AllByRecursion (λ t. trees t.tree ≡ []) desk_tables → TablesHold (λ h. None) trees
+blank_holds trees empty =
+    let at = each_table (λ t. trees t ≡ []) desk_tables empty in
+    record {
+      holders = none_held holder_part (trees 6) (at 6 refl);
+      holdings = none_held holding_part (trees 8) (at 8 refl);
+      grants = none_held granted_part (trees 10) (at 10 refl);
+      auths = none_held auth_part (trees 12) (at 12 refl);
+      whole = λ t is. subst IsTree (sym (at t is)) (tt, tt);
+    }
+
+-- the tables that were made are committed
+pub blank_after : (mid last : State) → IsMadeTo 8 mid → Shows mid last mid.now mid.now false → IsBlank last
+blank_after mid last made shown = record {
+  schema = ap (λ (d : Database). d.schema) shown.now_is ∙ made.schema;
+  settled = shown.committed_is ∙ sym shown.now_is;
+  empty = subst (λ (d : Database). AllByRecursion (λ t. d.trees t.tree ≡ []) (take 8 desk_tables)) (sym shown.now_is) made.empty;
+}
+
+pub blank_kept : (s : State) → (HasCleanDisk s → IsBlank s) → IsKept s
+blank_kept s blank clean opened = record { schema = (blank clean).schema; settled = (blank clean).settled }

@@ -1,0 +1,186 @@
+-- Steps of edits of a holder's rows, one after another.
+use Rattle.std.proofs.Common.{◌≡◌, ℕ, Bool, true, false, cond, not, ◌||◌, ◌==◌, List, [], ◌∷◌, ◌++◌, filter, Option, Some, None, option_map, is_some, if◌then◌else◌, Result, Ok, Err, OnOk, IsSome, ◌+◌, ◌<◌, length, take, get_or, refl, sym, ap, subst, ◌∙◌, append-nil, append_assoc}
+use Rattle.std.proofs.lemmas.List.{take_more}
+use Rattle.sqlite.proofs.StateLemmas.{survives_then}
+use Rattle.std.specs.List.{list_any}
+use Rattle.sqlite.specs.Effect.{Database}
+use Rattle.sqlite.specs.State.{State, HasCleanDisk, KeepsCommit, Survives}
+use Rattle.sqlite_trees.specs.Tree.{Trees}
+use Rattle.addr.specs.declared.span.Span.{Span}
+use Rattle.policy.specs.declared.authorization.Auth.{Auth}
+use Rattle.policy.specs.History.{same_name}
+use Rattle.policy.specs.declared.change.Edit.{Edit}
+use Rattle.policy.specs.declared.change.Edit.TheVariants.{Register, Hold, Grant, Revoke, Create, Amend, Withdraw}
+use Rattle.policy.specs.Rows.{Rows, new_rows, edited, edited_if_any}
+use Rattle.policy.proofs.Names.{same_name-true}
+use Rattle.store.specs.TablesHold.{TablesHold, at_holder, EditsRows}
+use Rattle.store.specs.RowEdits.{with_holding, with_holdings, without_auth, without_auths, is_registration}
+use Rattle.store.specs.Steps.{IsReady, Done, Tells, Registers, Turned, registered}
+use Rattle.store.proofs.TreeRows.{filter_twice}
+
+-- equal rows of every holder
+pub same_rows : (rows other : List ℕ → Option Rows) (trees : Trees) → ((k : List ℕ) → rows k ≡ other k) → TablesHold rows trees → TablesHold other trees
+same_rows rows other trees same holds = subst (λ r. TablesHold r trees) (λ i k. same k i) holds
+
+edited_still : (o : Option Rows) (edit : Rows → Rows) (b : Bool) → IsSome o → IsSome (cond b (option_map edit o) o)
+edited_still None edit b some = absurd cc
+edited_still (Some r) edit true some = refl
+edited_still (Some r) edit false some = refl
+
+module _ (h : List ℕ) where
+  in_turn : (f g : Rows → Rows) (o : Option Rows) (b : Bool) → cond b (option_map g (cond b (option_map f o) o)) (cond b (option_map f o) o) ≡ cond b (option_map (λ r. g (f r)) o) o
+  in_turn f g None true = refl
+  in_turn f g (Some r) true = refl
+  in_turn f g o false = refl
+
+  pub edits_then : (f g : Rows → Rows) (a b c : Database) → EditsRows h f a b → EditsRows h g b c → EditsRows h (λ r. g (f r)) a c
+  edits_then f g a b c first second rows holds some =
+      same_rows (at_holder h g (at_holder h f rows)) (at_holder h (λ r. g (f r)) rows) c.trees (λ k. in_turn f g (rows k) (same_name h k))
+      (second (at_holder h f rows) (first rows holds some) (edited_still (rows h) f (same_name h h) some))
+
+  none_edited : (f : Rows → Rows) → ((r : Rows) → f r ≡ r) → (o : Option Rows) (b : Bool) → o ≡ cond b (option_map f o) o
+  none_edited f same None true = refl
+  none_edited f same (Some r) true = ap Some (sym (same r))
+  none_edited f same o false = refl
+
+  pub edits_none : (f : Rows → Rows) (a : Database) → ((r : Rows) → f r ≡ r) → EditsRows h f a a
+  edits_none f a same rows holds some = same_rows rows (at_holder h f rows) a.trees (λ k. none_edited f same (rows k) (same_name h k)) holds
+
+  pub edits_as : (f g : Rows → Rows) (a b : Database) → ((r : Rows) → f r ≡ g r) → EditsRows h f a b → EditsRows h g a b
+  edits_as f g a b same = subst (λ e. EditsRows h e a b) (λ i r. same r i)
+
+  pub done_none : (f : Rows → Rows) (old : State) → ((r : Rows) → f r ≡ r) → IsReady old → Done h f old old
+  done_none f old same ready = record { ready = ready; rows = edits_none f old.now same }
+
+  pub done_then : (f g e : Rows → Rows) (a b c : State) → ((r : Rows) → g (f r) ≡ e r) → Done h f a b → Done h g b c → Done h e a c
+  done_then f g e a b c same first second = record { ready = second.ready; rows = edits_as (λ r. g (f r)) e a.now c.now same (edits_then f g a.now b.now c.now first.rows second.rows) }
+
+pub no_holdings : (r : Rows) → with_holdings [] r ≡ r
+no_holdings r = λ i. record r { holdings = append-nil r.holdings i }
+
+pub one_more_holding : (spans : List Span) (s : Span) (r : Rows) → with_holding s (with_holdings spans r) ≡ with_holdings (spans ++ s ∷ []) r
+one_more_holding spans s r = λ i. record r { holdings = append_assoc r.holdings spans (s ∷ []) i }
+
+all_kept : (auths : List Auth) → filter (λ x. true) auths ≡ auths
+all_kept [] = refl
+all_kept (x ∷ auths) = ap (λ l. x ∷ l) (all_kept auths)
+
+pub no_auths : (r : Rows) → without_auths [] r ≡ r
+no_auths r = λ i. record r { auths = all_kept r.auths i }
+
+any_more : {A : Type 0} (p : A → Bool) (xs : List A) (y : A) → list_any p (xs ++ y ∷ []) ≡ (list_any p xs || p y)
+any_more p [] y = elim (p y) as (λ b. (b || false) ≡ b) [ true ↦ refl | false ↦ refl ]
+any_more p (x ∷ xs) y = ap (λ b. p x || b) (any_more p xs y) ∙ regroup (p x) (list_any p xs) (p y)
+  where
+    regroup : (a b c : Bool) → (a || (b || c)) ≡ ((a || b) || c)
+    regroup true b c = refl
+    regroup false b c = refl
+
+both_out : (a b : Bool) → cond (not a) (not b) false ≡ not (a || b)
+both_out true b = refl
+both_out false b = refl
+
+pub one_auth_less : (ns : List ℕ) (n : ℕ) (r : Rows) → without_auth n (without_auths ns r) ≡ without_auths (ns ++ n ∷ []) r
+one_auth_less ns n r =
+    let at = λ (x : Auth). both_out (list_any (λ k. x.number == k) ns) (x.number == n) ∙ ap not (sym (any_more (λ k. x.number == k) ns n)) in
+    let out = filter_twice (λ x. not (x.number == n)) (λ x. not (list_any (λ k. x.number == k) ns)) r.auths ∙ (λ i. filter (λ x. at x i) r.auths) in
+    λ i. record r { auths = out i }
+
+pub taken_more : {X : Type 0} (xs : List X) (i : ℕ) (x : X) → i < length xs → x ≡ get_or xs i x → take (i + 1) xs ≡ take i xs ++ x ∷ []
+taken_more xs i x low is = take_more xs i x low ∙ ap (λ y. take i xs ++ y ∷ []) (sym is)
+
+-- where no call commits, no two do
+pub quiet_then : (a b c : State) → Survives a b (λ _. ⊥) → Survives b c (λ _. ⊥) → Survives a c (λ _. ⊥)
+quiet_then a b c = survives_then a b c (λ _. ⊥) (λ _. ⊥) (λ _. ⊥) (λ _ db none. none) (λ _ db none. none)
+
+pub commit_then : (a b c : State) → KeepsCommit a b → KeepsCommit b c → KeepsCommit a c
+commit_then a b c first second = record {
+  was_open = λ opened. first.was_open (second.was_open opened);
+  committed = λ opened. second.committed opened ∙ first.committed (second.was_open opened);
+}
+
+-- one more step of a loop
+pub along : (h : List ℕ) (f g e : Rows → Rows) (a b c : State) → ((r : Rows) → g (f r) ≡ e r) → (HasCleanDisk b → KeepsCommit a b × Done h f a b) → HasCleanDisk b
+    → KeepsCommit b c → Done h g b c → KeepsCommit a c × Done h e a c
+along h f g e a b c same before clean kept done = (commit_then a b c (before clean).0 kept, done_then h f g e a b c same (before clean).1 done)
+
+pub on_ok : {A E P Q : Type 0} (r : Result A E) → (P → Q) → OnOk r P → OnOk r Q
+on_ok (Ok a) f p = f p
+on_ok (Err e) f p = tt
+
+-- ---- a change
+
+module _ (h : List ℕ) (edit : Edit) where
+  abbrev pub edited_at : (List ℕ → Option Rows) → List ℕ → Option Rows
+  edited_at rows k = if same_name h k then edited_if_any edit (rows k) else rows k
+
+  -- what the edit makes of the holder's rows is all that matters
+  at_name : (to : Option Rows → Option Rows) (rows : List ℕ → Option Rows) → to (rows h) ≡ edited_if_any edit (rows h) → (k : List ℕ) → cond (same_name h k) (to (rows k)) (rows k) ≡ edited_at rows k
+  at_name to rows same k = go (same_name h k) refl
+    where
+      go : (b : Bool) → same_name h k ≡ b → cond b (to (rows k)) (rows k) ≡ cond b (edited_if_any edit (rows k)) (rows k)
+      go true is = subst (λ n. to (rows n) ≡ edited_if_any edit (rows n)) (same_name-true h k is) same
+      go false is = refl
+
+  some_edited : (o : Option Rows) → IsSome o → option_map (edited edit) o ≡ edited_if_any edit o
+  some_edited None some = absurd cc
+  some_edited (Some r) some = refl
+
+  pub turned_registered : (told : Bool) (a b c : State) → Tells h told a b → told ≡ true → Done h (edited edit) b c → Turned edited_at a c
+  turned_registered told a b c tells is done = record {
+    was_open = tells.was_open;
+    ready = done.ready;
+    rows = λ rows was.
+        let some : IsSome (rows h) = sym (tells.answer rows was) ∙ is in
+        same_rows (at_holder h (edited edit) rows) (edited_at rows) c.now.trees (at_name (option_map (edited edit)) rows (some_edited (rows h) some))
+        (done.rows rows (subst (λ (d : Database). TablesHold rows d.trees) (sym tells.same) was) some);
+  }
+
+  none_there : (o : Option Rows) → is_some o ≡ false → o ≡ None
+  none_there None is = refl
+  none_there (Some r) is = absurd cc
+
+  registering : (e : Edit) → is_registration e ≡ true → Some new_rows ≡ edited_if_any e None
+  registering Register is = refl
+  registering (Hold holdings ended) is = absurd cc
+  registering (Grant g) is = absurd cc
+  registering (Revoke n) is = absurd cc
+  registering (Create x) is = absurd cc
+  registering (Amend x) is = absurd cc
+  registering (Withdraw n) is = absurd cc
+
+  leaving : (e : Edit) → is_registration e ≡ false → None ≡ edited_if_any e None
+  leaving Register is = absurd cc
+  leaving (Hold holdings ended) is = refl
+  leaving (Grant g) is = refl
+  leaving (Revoke n) is = refl
+  leaving (Create x) is = refl
+  leaving (Amend x) is = refl
+  leaving (Withdraw n) is = refl
+
+  pub turned_new : (told : Bool) (a b c : State) → Tells h told a b → told ≡ false → is_registration edit ≡ true → Registers h b c → Turned edited_at a c
+  turned_new told a b c tells is registers done = record {
+    was_open = tells.was_open;
+    ready = done.ready;
+    rows = λ rows was.
+        let none = none_there (rows h) (sym (tells.answer rows was) ∙ is) in
+        same_rows (registered h rows) (edited_at rows) c.now.trees (at_name (λ _. Some new_rows) rows (registering edit registers ∙ ap (edited_if_any edit) (sym none)))
+        (done.rows rows (subst (λ (d : Database). TablesHold rows d.trees) (sym tells.same) was) none);
+  }
+
+  pub turned_none : (told : Bool) (a b : State) → Tells h told a b → told ≡ false → is_registration edit ≡ false → Turned edited_at a b
+  turned_none told a b tells is leaves = record {
+    was_open = tells.was_open;
+    ready = tells.ready;
+    rows = λ rows was.
+        let none = none_there (rows h) (sym (tells.answer rows was) ∙ is) in
+        same_rows rows (edited_at rows) b.now.trees (λ k. kept (same_name h k) (rows k) ∙ at_name (λ o. o) rows (none ∙ leaving edit leaves ∙ ap (edited_if_any edit) (sym none)) k)
+        (subst (λ (d : Database). TablesHold rows d.trees) (sym tells.same) was);
+  }
+    where
+      kept : (b : Bool) (o : Option Rows) → o ≡ cond b o o
+      kept true o = refl
+      kept false o = refl
+
+pub turned_then : (f g : (List ℕ → Option Rows) → List ℕ → Option Rows) (a b c : State) → Turned f a b → Turned g b c → Turned (λ rows. g (f rows)) a c
+turned_then f g a b c first second = record { was_open = first.was_open; ready = second.ready; rows = λ rows was. second.rows (f rows) (first.rows rows was) }

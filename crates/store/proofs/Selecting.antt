@@ -1,0 +1,77 @@
+-- What a query over one table answers, whatever the table.
+use Rattle.std.proofs.Common.{◌≡◌, ℕ, pos, negsuc, ◌^◌, ◌-◌, Bool, true, false, cond, List, [], ◌∷◌, ◌++◌, map, filter, flat_map, length, take, slice_get, None, nat_le, unwrap_or, refl, ap, subst, ◌∙◌, IsPermutation}
+use Rattle.std.specs.List.{list_all}
+use Rattle.std.proofs.lemmas.List.{length-map}
+use Rattle.std.proofs.lemmas.List.Sorted.{IsPermutation-map, length_permutation}
+use Rattle.sqlite_value.specs.declared.value.Value.TheVariants.{Int}
+use Rattle.sqlite_value.specs.declared.keys.Key.{Key}
+use Rattle.sqlite_value.specs.Order.{Row}
+use Rattle.sqlite_trees.specs.Tree.{Trees}
+use Rattle.sqlite_trees.proofs.ListLemmas.{map-map}
+use Rattle.sqlite_sql.specs.Term.{Term, lit, eval_all, holds}
+use Rattle.sqlite_sql.specs.Query.{Query, inner, end, IsAnswer, Output, output}
+use Rattle.sqlite_sql.specs.Program.{overlay}
+
+-- SELECT shown FROM one table WHERE tests ORDER BY order, with a LIMIT, where -1 is none
+abbrev pub from_table : ℕ → List Term → List Term → List (Term × Key) → Term → Query
+from_table tree tests shown order limit = record {
+  from = inner tree end;
+  filter = tests;
+  group = None;
+  project = shown;
+  distinct = false;
+  collations = [];
+  order = order;
+  limit = limit;
+  offset = lit (Int (pos 0));
+}
+
+abbrev pub no_limit : Term
+no_limit = lit (Int (negsuc 0))
+
+-- the row passes each test
+abbrev pub picks : Row → List Term → Row → Bool
+picks params tests r = list_all (holds (params ∷ r ∷ [])) tests
+
+pub plain_trees : (db : Trees) (tree : ℕ) → overlay db [] tree ≡ db tree
+plain_trees db tree = go (nat_le (2 ^ 31) tree)
+  where
+    go : (b : Bool) → unwrap_or (cond b (slice_get [] (tree - 2 ^ 31)) None) (db tree) ≡ db tree
+    go true = refl
+    go false = refl
+
+matched : {A B : Type 0} (p : A → Bool) (f : A → B) (xs : List A) → flat_map (λ x. cond (p x) (f x ∷ []) []) xs ≡ map f (filter p xs)
+matched p f [] = refl
+matched p f (x ∷ xs) =
+    elim (p x) as (λ b. cond b (f x ∷ []) [] ++ flat_map (λ y. cond (p y) (f y ∷ []) []) xs ≡ map f (cond b (x ∷ filter p xs) (filter p xs)))
+    [ true ↦ ap (λ l. f x ∷ l) (matched p f xs) | false ↦ matched p f xs ]
+
+module _ (tree : ℕ) (tests shown : List Term) (order : List (Term × Key)) (limit : Term) (db : Trees) (params : Row) (rows : List Row) where
+  abbrev query : Query
+  query = from_table tree tests shown order limit
+
+  outputs : (a : IsAnswer query (overlay db []) params rows) → IsPermutation (map (λ r. output query (params ∷ r ∷ [])) (filter (picks params tests) (db tree))) a.ordered
+  outputs a =
+      let matches = a.grouped ∙ matched (picks params tests) (λ r. params ∷ r ∷ []) (overlay db [] tree) in
+      let kept = a.distinct ∙ ap (map (output query)) matches ∙ map-map (output query) (λ r. params ∷ r ∷ []) _ ∙ ap (λ t. map (λ r. output query (params ∷ r ∷ [])) (filter (picks params tests) t)) (plain_trees db tree) in
+      subst (λ k. IsPermutation k a.ordered) kept a.same
+
+  -- the rows of an answer, before LIMIT
+  pub shown_rows : (a : IsAnswer query (overlay db []) params rows) → IsPermutation (map (λ r. eval_all shown (params ∷ r ∷ [])) (filter (picks params tests) (db tree))) (map (λ (o : Output). o.1) a.ordered)
+  shown_rows a =
+      subst (λ l. IsPermutation l (map (λ (o : Output). o.1) a.ordered)) (map-map (λ (o : Output). o.1) (λ r. output query (params ∷ r ∷ [])) _)
+      (IsPermutation-map (λ (o : Output). o.1) _ _ (outputs a))
+
+-- the rows of a query with no LIMIT are those that its tests pick
+pub permuted : (tree : ℕ) (tests shown : List Term) (order : List (Term × Key)) (db : Trees) (params : Row) (rows : List Row)
+    → IsAnswer (from_table tree tests shown order no_limit) (overlay db []) params rows
+    → IsPermutation (map (λ r. eval_all shown (params ∷ r ∷ [])) (filter (picks params tests) (db tree))) rows
+permuted tree tests shown order db params rows a = rw a.shown (shown_rows tree tests shown order no_limit db params rows a)
+
+-- a query with LIMIT 1 answers one row where its tests pick some
+pub first_shown : (tree : ℕ) (tests shown : List Term) (db : Trees) (params : Row) (rows : List Row)
+    → IsAnswer (from_table tree tests shown [] (lit (Int (pos 1)))) (overlay db []) params rows
+    → (n : List Row) × (length n ≡ length (filter (picks params tests) (db tree))) × (rows ≡ take 1 n)
+first_shown tree tests shown db params rows a =
+    let all = shown_rows tree tests shown [] (lit (Int (pos 1))) db params rows a in
+    (map (λ (o : Output). o.1) a.ordered, length_permutation _ _ all ∙ length-map _ _, a.shown)

@@ -1,0 +1,19 @@
+use Rattle.store.proofs.change.edit_rows.Goals as goal
+
+pub returns-in_ok-hold-in-Hold-clause-done : goal.returns-in_ok-hold-in-Hold-clause-done
+returns-in_ok-hold-in-Hold-clause-done g c clean = rw c.in-Hold.is (rw (c.spans.ensures.items, c.deref.ensures.value) at (c.in_ok-hold-in-Hold.ensures.done clean))
+
+pub returns-in_ok-grant-in-Grant-clause-done : goal.returns-in_ok-grant-in-Grant-clause-done
+returns-in_ok-grant-in-Grant-clause-done g c clean = rw c.in-Grant.is (c.in_ok-grant-in-Grant.ensures.done clean)
+
+pub returns-in_ok-take_grant-in-Revoke-clause-done : goal.returns-in_ok-take_grant-in-Revoke-clause-done
+returns-in_ok-take_grant-in-Revoke-clause-done g c clean = rw c.in-Revoke.is (c.in_ok-take_grant-in-Revoke.ensures.done clean)
+
+pub returns-in_ok-create-in-Create-clause-done : goal.returns-in_ok-create-in-Create-clause-done
+returns-in_ok-create-in-Create-clause-done g c clean = rw c.in-Create.is (c.in_ok-create-in-Create.ensures.done clean)
+
+pub returns-in_ok-amend_auth-in-Amend-clause-done : goal.returns-in_ok-amend_auth-in-Amend-clause-done
+returns-in_ok-amend_auth-in-Amend-clause-done g c clean = rw c.in-Amend.is (c.in_ok-amend_auth-in-Amend.ensures.done clean)
+
+pub returns-in_ok-take_auth-in-Withdraw-clause-done : goal.returns-in_ok-take_auth-in-Withdraw-clause-done
+returns-in_ok-take_auth-in-Withdraw-clause-done g c clean = rw c.in-Withdraw.is (c.in_ok-take_auth-in-Withdraw.ensures.done clean)

@@ -1,0 +1,74 @@
+-- How the rows of a holder are written as rows of the tables, without their rowids.
+use Rattle.std.specs.Prelude.{ℕ, pos, List, [], ◌∷◌, ◌++◌}
+use Rattle.std.specs.Int.{w128, to_be_bytes}
+use Rattle.sqlite_value.specs.declared.value.Value.{Value}
+use Rattle.sqlite_value.specs.declared.value.Value.TheVariants.{Null, Int, Text, Blob}
+use Rattle.sqlite_value.specs.Order.{Row}
+use Rattle.addr.specs.declared.family.Family.{Family}
+use Rattle.addr.specs.declared.family.Family.TheVariants.{V4, V6}
+use Rattle.addr.specs.declared.prefix.Prefix.{Prefix}
+use Rattle.addr.specs.declared.span.Span.{Span}
+use Rattle.policy.specs.declared.authorization.Auth.{Auth}
+use Rattle.policy.specs.declared.grant.Granted.{Granted}
+use Rattle.policy.specs.declared.grant.Role.{Role}
+use Rattle.policy.specs.declared.grant.Role.TheVariants.{Manager, Clerk, Auditor}
+use Rattle.policy.specs.declared.grant.Scope.{Scope}
+use Rattle.policy.specs.declared.grant.Scope.TheVariants.{All, Only}
+
+abbrev pub number_cell : ℕ → Value
+number_cell n = Int (pos n)
+
+abbrev pub family_number : Family → ℕ
+family_number V4 = 4
+family_number V6 = 6
+
+-- the 16 bytes of an address, the greatest first
+unfoldable pub address : ℕ → List ℕ
+address n = to_be_bytes w128 n
+
+abbrev pub role_number : Role → ℕ
+role_number Manager = 1
+role_number Clerk = 2
+role_number Auditor = 3
+
+abbrev pub prefix_cells : Prefix → Row
+prefix_cells p = number_cell (family_number p.family) ∷ Blob (address p.first) ∷ number_cell p.length ∷ []
+
+-- no prefix is all of them
+abbrev pub scope_cells : Scope → Row
+scope_cells All = Null ∷ Null ∷ Null ∷ []
+scope_cells (Only p) = prefix_cells p
+
+-- the first address of the scope's prefix; 0 where there is none
+abbrev pub scope_first : Scope → ℕ
+scope_first All = 0
+scope_first (Only p) = p.first
+
+abbrev pub counter_cells : ℕ → ℕ → Row
+counter_cells granted created = number_cell granted ∷ number_cell created ∷ []
+
+abbrev pub span_cells : Span → Row
+span_cells s = number_cell (family_number s.family) ∷ Blob (address s.lo) ∷ Blob (address s.hi) ∷ []
+
+abbrev pub grant_cells : Granted → Row
+grant_cells g =
+    number_cell g.number ∷ Text g.caller ∷ number_cell (role_number g.role) ∷ scope_cells g.scope
+    ++ number_cell g.until ∷ []
+
+abbrev pub auth_cells : Auth → Row
+auth_cells x =
+    number_cell x.number ∷ number_cell x.asn.0 ∷ prefix_cells x.prefix
+    ++ number_cell x.max ∷ number_cell x.from ∷ number_cell x.until ∷ []
+
+-- the rows of the tables `holder`, `holding`, `granted` and `auth`, with the holder's name
+abbrev pub holder_row : List ℕ → ℕ → ℕ → Row
+holder_row h granted created = Text h ∷ counter_cells granted created
+
+abbrev pub holding_row : List ℕ → Span → Row
+holding_row h s = span_cells s ++ Text h ∷ []
+
+abbrev pub granted_row : List ℕ → Granted → Row
+granted_row h g = Text h ∷ grant_cells g
+
+abbrev pub auth_row : List ℕ → Auth → Row
+auth_row h x = Text h ∷ auth_cells x

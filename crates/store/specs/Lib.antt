@@ -1,0 +1,9 @@
+pub mod Tables
+pub mod Edits
+pub mod Cells
+pub mod TablesHold
+pub mod RowEdits
+pub mod Steps
+pub mod Fault
+pub mod StoreRows
+pub mod Making

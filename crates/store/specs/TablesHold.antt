@@ -1,0 +1,69 @@
+-- What the tables hold of the rows of every holder.
+use Rattle.std.specs.Prelude.{◌≡◌, ℕ, Bool, true, false, List, [], ◌∷◌, map, filter, Option, Some, None, option_map, IsPermutation, IsSome, if◌then◌else◌}
+use Rattle.std.specs.List.{AllByRecursion}
+use Rattle.std.specs.Ordering.{is_eq}
+use Rattle.sqlite.specs.Effect.{Database}
+use Rattle.sqlite_value.specs.declared.value.Value.{Value}
+use Rattle.sqlite_value.specs.declared.value.Value.TheVariants.{Null, Int, Real, Text, Blob}
+use Rattle.sqlite_value.specs.Order.{Row, column, value_cmp}
+use Rattle.sqlite_trees.specs.Tree.{Trees}
+use Rattle.policy.specs.History.{same_name}
+use Rattle.policy.specs.Rows.{Rows}
+use Rattle.store.specs.Tables.{holder, holding, granted, auth}
+use Rattle.store.specs.Cells.{holder_row, holding_row, granted_row, auth_row}
+use Rattle.store.specs.Edits.{contents, AreTrees}
+
+-- A table that has rows of holders: its tree, the column that names the holder, and the rows of one holder.
+pub record Part : Type 0 where
+  pub tree : ℕ
+  pub place : ℕ
+  pub rows : List ℕ → Rows → List Row
+
+abbrev pub holder_part : Part
+holder_part = record { tree = holder.tree; place = 0; rows = λ h r. holder_row h r.granted r.created ∷ [] }
+
+abbrev pub holding_part : Part
+holding_part = record { tree = holding.tree; place = 3; rows = λ h r. map (holding_row h) r.holdings }
+
+abbrev pub granted_part : Part
+granted_part = record { tree = granted.tree; place = 0; rows = λ h r. map (granted_row h) r.grants }
+
+abbrev pub auth_part : Part
+auth_part = record { tree = auth.tree; place = 0; rows = λ h r. map (auth_row h) r.auths }
+
+abbrev pub rows_if_any : Part → List ℕ → Option Rows → List Row
+rows_if_any part h None = []
+rows_if_any part h (Some r) = part.rows h r
+
+-- the value is this name
+abbrev pub is_name_of : List ℕ → Value → Bool
+is_name_of h v = is_eq (value_cmp v (Text h))
+
+abbrev pub is_text : Value → Bool
+is_text (Text t) = true
+is_text Null = false
+is_text (Int n) = false
+is_text (Real x) = false
+is_text (Blob b) = false
+
+-- the table has the rows of every holder, in some order, and no others
+pub record HoldsPart (part : Part) (rows : List ℕ → Option Rows) (table : List Row) : Type 0 where
+  pub each : (h : List ℕ) → IsPermutation (rows_if_any part h (rows h)) (filter (λ c. is_name_of h (column c part.place)) table)
+  pub named : AllByRecursion (λ c. is_text (column c part.place) ≡ true) table
+
+-- the tables hold these rows
+pub record TablesHold (rows : List ℕ → Option Rows) (trees : Trees) : Type 0 where
+  pub holders : HoldsPart holder_part rows (contents (trees holder_part.tree))
+  pub holdings : HoldsPart holding_part rows (contents (trees holding_part.tree))
+  pub grants : HoldsPart granted_part rows (contents (trees granted_part.tree))
+  pub auths : HoldsPart auth_part rows (contents (trees auth_part.tree))
+  pub whole : AreTrees trees
+
+-- the rows with those of one holder edited
+abbrev pub at_holder : List ℕ → (Rows → Rows) → (List ℕ → Option Rows) → List ℕ → Option Rows
+at_holder h edit rows k = if same_name h k then option_map edit (rows k) else rows k
+
+-- Where the holder is registered, its rows are edited, and those of every other holder stay.
+abbrev pub EditsRows : List ℕ → (Rows → Rows) → Database → Database → Type 0
+EditsRows h edit old new =
+    (rows : List ℕ → Option Rows) → TablesHold rows old.trees → IsSome (rows h) → TablesHold (at_holder h edit rows) new.trees

@@ -1,0 +1,123 @@
+ghost use Rattle.std.specs.Prelude.{◌≡◌, OnOk};
+ghost use Rattle.sqlite.specs.Held.{state};
+ghost use Rattle.sqlite.specs.State.{HasCleanDisk, KeepsCommit, Survives};
+ghost use Rattle.policy.specs.Rows.{edited, changed, changed_by_one};
+ghost use Rattle.store.specs.RowEdits.{granted_more, created_more, held, is_registration};
+ghost use Rattle.store.specs.Steps.{IsReady, Done, Turned};
+
+use crate::StoreFault;
+use crate::auth::{amend_auth, put_auth, take_auth, take_auths};
+use crate::granted::{put_grant, take_grant};
+use crate::holder::{is_registered, register, set_created, set_granted};
+use crate::holding::{put_holdings, take_holdings};
+use addr::{Name, Span};
+use policy::{Auth, Change, Edit, Granted, HolderChange};
+use sqlite::{Alter, Error, Transaction};
+
+/// Puts a grant, and its number as the counter.
+fn grant<S: Alter>(tx: &mut Transaction<'_, S>, holder: &Name, grant: &Granted) -> Result<(), Error>
+    requires { HasCleanDisk (state S.Store tx.old.conn.now) → IsReady (state S.Store tx.old.conn.now) }
+    ensures same_reference { tx.new.conn.ghost_name ≡ tx.old.conn.ghost_name }
+    ensures done { HasCleanDisk (state S.Store tx.new.conn.now) → OnOk result (Done holder.now (granted_more grant.now) (state S.Store tx.old.conn.now) (state S.Store tx.new.conn.now)) }
+    ensures kept { HasCleanDisk (state S.Store tx.new.conn.now) → KeepsCommit (state S.Store tx.old.conn.now) (state S.Store tx.new.conn.now) }
+    ensures survives { Survives (state S.Store tx.old.conn.now) (state S.Store tx.new.conn.now) (λ _. ⊥) }
+{
+    put_grant(tx, holder, grant)?;
+    set_granted(tx, holder, grant.number)
+}
+
+/// Puts an authorization, and its number as the counter.
+fn create<S: Alter>(tx: &mut Transaction<'_, S>, holder: &Name, auth: &Auth) -> Result<(), Error>
+    requires { HasCleanDisk (state S.Store tx.old.conn.now) → IsReady (state S.Store tx.old.conn.now) }
+    ensures same_reference { tx.new.conn.ghost_name ≡ tx.old.conn.ghost_name }
+    ensures done { HasCleanDisk (state S.Store tx.new.conn.now) → OnOk result (Done holder.now (created_more auth.now) (state S.Store tx.old.conn.now) (state S.Store tx.new.conn.now)) }
+    ensures kept { HasCleanDisk (state S.Store tx.new.conn.now) → KeepsCommit (state S.Store tx.old.conn.now) (state S.Store tx.new.conn.now) }
+    ensures survives { Survives (state S.Store tx.old.conn.now) (state S.Store tx.new.conn.now) (λ _. ⊥) }
+{
+    put_auth(tx, holder, auth)?;
+    set_created(tx, holder, auth.number)
+}
+
+/// Puts these runs in the place of those that the holder holds, and takes away the authorizations
+/// of these numbers.
+fn hold<S: Alter>(
+    tx: &mut Transaction<'_, S>,
+    holder: &Name,
+    spans: &[Span],
+    ended: &[u32],
+) -> Result<(), Error>
+    requires { HasCleanDisk (state S.Store tx.old.conn.now) → IsReady (state S.Store tx.old.conn.now) }
+    ensures same_reference { tx.new.conn.ghost_name ≡ tx.old.conn.ghost_name }
+    ensures done { HasCleanDisk (state S.Store tx.new.conn.now) → OnOk result (Done holder.now (held spans.now ended.now) (state S.Store tx.old.conn.now) (state S.Store tx.new.conn.now)) }
+    ensures kept { HasCleanDisk (state S.Store tx.new.conn.now) → KeepsCommit (state S.Store tx.old.conn.now) (state S.Store tx.new.conn.now) }
+    ensures survives { Survives (state S.Store tx.old.conn.now) (state S.Store tx.new.conn.now) (λ _. ⊥) }
+{
+    take_holdings(tx, holder)?;
+    put_holdings(tx, holder, spans)?;
+    take_auths(tx, holder, ended)
+}
+
+/// Edits the rows of a registered holder. It cannot be registered again.
+fn edit_rows<S: Alter>(
+    tx: &mut Transaction<'_, S>,
+    holder: &Name,
+    edit: &Edit,
+) -> Result<(), StoreFault>
+    requires { HasCleanDisk (state S.Store tx.old.conn.now) → IsReady (state S.Store tx.old.conn.now) }
+    ensures same_reference { tx.new.conn.ghost_name ≡ tx.old.conn.ghost_name }
+    ensures done { HasCleanDisk (state S.Store tx.new.conn.now) → OnOk result (Done holder.now (edited edit.now) (state S.Store tx.old.conn.now) (state S.Store tx.new.conn.now)) }
+    ensures kept { HasCleanDisk (state S.Store tx.new.conn.now) → KeepsCommit (state S.Store tx.old.conn.now) (state S.Store tx.new.conn.now) }
+    ensures survives { Survives (state S.Store tx.old.conn.now) (state S.Store tx.new.conn.now) (λ _. ⊥) }
+{
+    match edit {
+        Edit::Register => return Err(StoreFault::Database),
+        Edit::Hold { holdings, ended } => hold(tx, holder, holdings.spans(), ended)?,
+        Edit::Grant(granted) => grant(tx, holder, granted)?,
+        Edit::Revoke(number) => take_grant(tx, holder, *number)?,
+        Edit::Create(auth) => create(tx, holder, auth)?,
+        Edit::Amend(auth) => amend_auth(tx, holder, auth)?,
+        Edit::Withdraw(number) => take_auth(tx, holder, *number)?,
+    }
+    Ok(())
+}
+
+fn is_registration(edit: &Edit) -> bool
+    ensures { result ≡ is_registration edit.now }
+{
+    matches!(edit, Edit::Register)
+}
+
+/// Edits the rows of one holder.
+fn edit_holder<S: Alter>(
+    tx: &mut Transaction<'_, S>,
+    change: &HolderChange,
+) -> Result<(), StoreFault>
+    requires { HasCleanDisk (state S.Store tx.old.conn.now) → IsReady (state S.Store tx.old.conn.now) }
+    ensures same_reference { tx.new.conn.ghost_name ≡ tx.old.conn.ghost_name }
+    ensures done { HasCleanDisk (state S.Store tx.new.conn.now) → OnOk result (Turned (λ rows h. changed_by_one change.now h (rows h)) (state S.Store tx.old.conn.now) (state S.Store tx.new.conn.now)) }
+    ensures kept { HasCleanDisk (state S.Store tx.new.conn.now) → KeepsCommit (state S.Store tx.old.conn.now) (state S.Store tx.new.conn.now) }
+    ensures survives { Survives (state S.Store tx.old.conn.now) (state S.Store tx.new.conn.now) (λ _. ⊥) }
+{
+    if is_registered(tx, &change.holder)? {
+        return edit_rows(tx, &change.holder, &change.edit);
+    }
+    if is_registration(&change.edit) {
+        register(tx, &change.holder)?;
+    }
+    Ok(())
+}
+
+/// Makes the change.
+pub fn make_change<S: Alter>(tx: &mut Transaction<'_, S>, change: &Change) -> Result<(), StoreFault>
+    requires { HasCleanDisk (state S.Store tx.old.conn.now) → IsReady (state S.Store tx.old.conn.now) }
+    ensures same_reference { tx.new.conn.ghost_name ≡ tx.old.conn.ghost_name }
+    ensures done { HasCleanDisk (state S.Store tx.new.conn.now) → OnOk result (Turned (λ rows h. changed change.now h (rows h)) (state S.Store tx.old.conn.now) (state S.Store tx.new.conn.now)) }
+    ensures kept { HasCleanDisk (state S.Store tx.new.conn.now) → KeepsCommit (state S.Store tx.old.conn.now) (state S.Store tx.new.conn.now) }
+    ensures survives { Survives (state S.Store tx.old.conn.now) (state S.Store tx.new.conn.now) (λ _. ⊥) }
+{
+    edit_holder(tx, &change.first)?;
+    if let Some(second) = &change.second {
+        edit_holder(tx, second)?;
+    }
+    Ok(())
+}

@@ -1,0 +1,48 @@
+use sqlite::Error;
+use std::alloc::AllocError;
+
+/// Why the store did not answer, or did not change its rows. After a fault nothing has changed.
+#[derive(Clone, Copy, Debug, PartialEq, Eq)]
+pub enum StoreFault {
+    /// The database refused, or there was no memory.
+    Database,
+    /// A table or a row does not read as one of this schema.
+    Schema,
+}
+
+impl StoreFault {
+    ghost use Rattle.std.specs.Prelude.{◌≡◌};
+    ghost use Rattle.store.specs.Fault.{fault_number};
+
+    /// The fault as a number: 1 for the database, 2 for the schema.
+    pub fn number(self) -> u8
+        ensures { result ≡ fault_number self }
+    {
+        match self {
+            StoreFault::Database => 1,
+            StoreFault::Schema => 2,
+        }
+    }
+}
+
+impl From<Error> for StoreFault {
+    ghost use Rattle.std.specs.Prelude.{◌≡◌};
+    ghost use Rattle.store.specs.declared.fault.StoreFault.TheVariants.{Database};
+
+    ghost from_gives = { λ _ fault. fault ≡ Database };
+
+    fn from(_: Error) -> StoreFault {
+        StoreFault::Database
+    }
+}
+
+impl From<AllocError> for StoreFault {
+    ghost use Rattle.std.specs.Prelude.{◌≡◌};
+    ghost use Rattle.store.specs.declared.fault.StoreFault.TheVariants.{Database};
+
+    ghost from_gives = { λ _ fault. fault ≡ Database };
+
+    fn from(_: AllocError) -> StoreFault {
+        StoreFault::Database
+    }
+}
