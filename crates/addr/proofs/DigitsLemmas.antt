@@ -35,22 +35,6 @@ number_in-none text never =
       | inr f ↦ ap (λ b. cond b (Some (digits_value 10 text)) None) f
     ]
 
-pub number_in-some : (text : List ℕ) (n : ℕ) → number_in text ≡ Some n → (n < 2 ^ 64) × (text ≡ decimal n)
-unfolding number_in
-number_in-some text n e =
-    elim (cases_Bool (writes (digits_value 10 text) text)) [
-      | inl t ↦
-          let some : Some (digits_value 10 text) ≡ Some n =
-          sym (ap (λ b. cond b (Some (digits_value 10 text)) None) t) ∙ e
-          in
-          let same : digits_value 10 text ≡ n = cc in
-          let P : ℕ → Type 0 = λ k. (k < 2 ^ 64) × (text ≡ decimal k) in
-          subst P same (written (digits_value 10 text) text t)
-      | inr f ↦
-          let none : None ≡ Some n = sym (ap (λ b. cond b (Some (digits_value 10 text)) None) f) ∙ e in
-          cc
-    ]
-
 -- a reading that finds each number below 2^64 by its digits, and maybe reads other texts too
 abbrev pub Reads : List ℕ → Option ℕ → Type 0
 Reads text read = (n : ℕ) → n < 2 ^ 64 → text ≡ decimal n → read ≡ Some n

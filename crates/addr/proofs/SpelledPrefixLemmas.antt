@@ -5,7 +5,7 @@ use Rattle.std.proofs.Math.Nat.{ℕ_set}
 use Rattle.std.proofs.lemmas.Nat.{pow_pos}
 use Rattle.std.proofs.lemmas.Option.{none-some, same_Some}
 use Rattle.std.specs.Prelude.{IfErr}
-use Rattle.std.specs.Result.{result_ok}
+use Rattle.std.specs.Result.{MatchResult, result_ok}
 use Rattle.addr.specs.Family.{width}
 use Rattle.addr.specs.PrefixText.{loose, prefix_text_fault, Spells}
 use Rattle.addr.specs.SpelledPrefix.{prefix_if, spelled_prefix}
@@ -49,7 +49,14 @@ pub spelled_prefix-fault : (text : List ℕ) (fault : PrefixFault) → prefix_te
 unfolding spelled_prefix
 spelled_prefix-fault text fault told = rw told refl
 
--- what `Prefix::read` answers
+-- what `Prefix::read` answers, by its one clause that has both outcomes
+pub spelled_prefix-gives : (text : List ℕ) (read : Result Prefix PrefixFault)
+    → MatchResult read (λ prefix. (prefix_text_fault text ≡ None) × Spells prefix text) (λ fault. prefix_text_fault text ≡ Some fault)
+    → result_ok read ≡ spelled_prefix text
+spelled_prefix-gives text (Ok p) is = sym (spelled_prefix-Spells p text is.1)
+spelled_prefix-gives text (Err fault) is = sym (spelled_prefix-fault text fault is)
+
+-- what `Prefix::read` answers, by its other clauses
 pub spelled_prefix-read : (text : List ℕ) (read : Result Prefix PrefixFault) → IfErr read (λ fault. prefix_text_fault text ≡ Some fault) → ((p : Prefix) → (read ≡ Ok p) ↔ Spells p text) → result_ok read ≡ spelled_prefix text
 spelled_prefix-read text (Ok p) fault each = sym (spelled_prefix-Spells p text ((each p).0 refl))
 spelled_prefix-read text (Err n) fault each = sym (spelled_prefix-fault text n fault)

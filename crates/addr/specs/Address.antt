@@ -35,17 +35,29 @@ is_between family low high a = family_eq family a.family && (nat_le low a.number
 abbrev pub has_address : Prefix → Address → Bool
 has_address p a = is_between p.family p.first (last_of p) a
 
+-- the prefix lies in the closed interval of the family
+abbrev pub interval_contains : Family → ℕ → ℕ → Prefix → Bool
+interval_contains family low high p = family_eq family p.family && (nat_le low p.first && nat_le (last_of p) high)
+
+-- the prefix shares an address with the closed interval of the family
+abbrev pub interval_overlaps : Family → ℕ → ℕ → Prefix → Bool
+interval_overlaps family low high p = family_eq family p.family && (nat_le low (last_of p) && nat_le p.first high)
+
 -- the interval of q lies in that of p
 abbrev pub contains : Prefix → Prefix → Bool
-contains p q = family_eq p.family q.family && (nat_le p.first q.first && nat_le (last_of q) (last_of p))
+contains p q = interval_contains p.family p.first (last_of p) q
 
 -- the intervals of p and q share an address
 abbrev pub overlaps : Prefix → Prefix → Bool
-overlaps p q = family_eq p.family q.family && (nat_le p.first (last_of q) && nat_le q.first (last_of p))
+overlaps p q = interval_overlaps p.family p.first (last_of p) q
 
 -- one family, one first address, one length
 abbrev pub prefix_eq : Prefix → Prefix → Bool
 prefix_eq p q = family_eq p.family q.family && ((p.first == q.first) && (p.length == q.length))
+
+-- the maxLength is neither below the prefix's length nor over its family's width (RFC 6811 section 2)
+abbrev pub fits_max_length : Prefix → ℕ → Bool
+fits_max_length p max = nat_le p.length max && nat_le max (width p.family)
 
 -- p contains q: each address of q is one of p
 abbrev pub Contains : Prefix → Prefix → Type 0

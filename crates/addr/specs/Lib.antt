@@ -1,5 +1,6 @@
 pub mod Family
 pub mod Address
+pub mod Order
 pub mod OriginValidation
 pub mod Spans
 pub mod Parts

@@ -1,5 +1,5 @@
 -- The text of a prefix: the text of its address, `/` and its length (RFC 4632 section 3.1, RFC 4291 section 2.3).
-use Rattle.std.specs.Prelude.{ℕ, zero, suc, ◌+◌, ◌-◌, ◌/◌, ◌%◌, ◌^◌, ◌≡◌, ◌<◌, ◌≤◌, ◌↔◌, Bool, not, ◌&&◌, List, [], ◌∷◌, ◌++◌, length, take, drop, replicate, slice_index, decimal, nat_le, nat_lt, ◌==◌, if◌then◌else◌, Option, Some, None, is_some, option_map, option_and_then}
+use Rattle.std.specs.Prelude.{ℕ, zero, suc, ◌+◌, ◌-◌, ◌/◌, ◌%◌, ◌^◌, ◌≡◌, ◌<◌, ◌≤◌, ◌↔◌, Bool, not, ◌&&◌, List, [], ◌∷◌, ◌++◌, length, take, drop, replicate, slice_index, decimal, nat_le, nat_lt, ◌==◌, if◌then◌else◌, Option, Some, None, option_map, option_and_then}
 use Rattle.std.specs.Char.{is_digit}
 use Rattle.std.specs.List.{list_all, slice_split}
 use Rattle.std.specs.Str.{bytes_eq}
@@ -148,9 +148,6 @@ loose text = do
   address ← loose_address cut.0
   len ← short_number 10 3 cut.1
   Some (record { family = address.0; address = address.1; length = len })
-
-abbrev pub has_loose_shape : List ℕ → Bool
-has_loose_shape text = is_some (loose text)
 
 -- ---- faults
 

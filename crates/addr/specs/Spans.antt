@@ -1,11 +1,12 @@
 -- Address space as closed runs of addresses. A list of runs is seen as the set of its addresses; it is
 -- maximal where the runs rise and at least one address that is not in the set lies between any two.
-use Rattle.std.specs.Prelude.{◌≡◌, ◌+◌, Bool, true, false, ◌&&◌, ◌||◌, nat_le, nat_lt, List, [], ◌∷◌}
+use Rattle.std.specs.Prelude.{◌≡◌, ◌+◌, Bool, true, ◌&&◌, ◌||◌, nat_lt, List, [], ◌∷◌}
 use Rattle.std.specs.List.{list_any, list_all}
+use Rattle.std.specs.Ordering.{is_lt}
 use Rattle.addr.specs.Family.{family_eq}
-use Rattle.addr.specs.Address.{Address, is_between, has_address, last_of}
+use Rattle.addr.specs.Address.{Address, is_between, has_address, interval_contains, interval_overlaps}
+use Rattle.addr.specs.Order.{family_cmp}
 use Rattle.addr.specs.declared.family.Family.{Family}
-use Rattle.addr.specs.declared.family.Family.TheVariants.{V4, V6}
 use Rattle.addr.specs.declared.prefix.Prefix.{Prefix}
 use Rattle.addr.specs.declared.span.Span.{Span}
 
@@ -17,11 +18,9 @@ span_has s a = is_between s.family s.lo s.hi a
 abbrev pub spans_have : List Span → Address → Bool
 spans_have spans a = list_any (λ s. span_has s a) spans
 
--- IPv4 comes before IPv6
+-- the family comes before the other
 abbrev pub family_lt : Family → Family → Bool
-family_lt V4 V6 = true
-family_lt V4 V4 = false
-family_lt V6 f = false
+family_lt f g = is_lt (family_cmp f g)
 
 -- s ends before t starts, and an address lies between them; or the family of s comes first
 abbrev pub is_apart_below : Span → Span → Bool
@@ -34,11 +33,11 @@ AreMaximal (s ∷ rest) = (list_all (λ t. is_apart_below s t) rest ≡ true) ×
 
 -- the prefix lies in the run
 abbrev pub span_covers : Span → Prefix → Bool
-span_covers s p = family_eq s.family p.family && (nat_le s.lo p.first && nat_le (last_of p) s.hi)
+span_covers s p = interval_contains s.family s.lo s.hi p
 
 -- the prefix shares an address with the run
 abbrev pub span_meets : Span → Prefix → Bool
-span_meets s p = family_eq s.family p.family && (nat_le s.lo (last_of p) && nat_le p.first s.hi)
+span_meets s p = interval_overlaps s.family s.lo s.hi p
 
 -- every address of the prefix lies in one of the runs
 abbrev pub HaveAll : List Span → Prefix → Type 0

@@ -1,8 +1,9 @@
-ghost use Rattle.std.specs.Prelude.{◌≡◌, ◌+◌, ◌<◌, ◌≤◌, [], ◌∷◌, ◌++◌, IfSome, nat_le, if◌then◌else◌, pos, Some, None};
+ghost use Rattle.std.specs.Prelude.{◌≡◌, ◌+◌, ◌≤◌, ◌++◌, IfSome, nat_le, if◌then◌else◌, pos, Some, None};
 ghost use Rattle.arrayvec.specs.ArrayString.{array_string_len};
 ghost use Rattle.jiff.specs.Words.{epoch_day};
 ghost use Rattle.addr.specs.Day.{day_in, day_text, date_text, in_two_digits, day_number, digit, two_digits, four_digits, from_1970};
 
+use crate::ascii::push_ascii;
 use arrayvec::ArrayString;
 use jiff::civil::Date;
 use jiff::{ToSpan, civil};
@@ -143,15 +144,6 @@ fn push_two_digits(text: &mut ArrayString<10>, number: u8)
 {
     push_ascii(text, b'0' + number / 10);
     push_ascii(text, b'0' + number % 10);
-}
-
-fn push_ascii(text: &mut ArrayString<10>, byte: u8)
-    requires ascii { byte < 128 }
-    requires room { array_string_len text.old < 10 }
-    ensures bytes { text.new.bytes ≡ text.old.bytes ++ byte ∷ [] }
-    ensures len { array_string_len text.new ≡ array_string_len text.old + 1 }
-{
-    text.push(byte as char);
 }
 
 fn digit(byte: u8) -> Option<u8>

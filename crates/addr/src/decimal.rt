@@ -1,8 +1,9 @@
-ghost use Rattle.std.specs.Prelude.{◌≡◌, ℕ, ◌+◌, ◌^◌, ◌<◌, ◌≤◌, [], ◌∷◌, ◌++◌, MatchOption};
+ghost use Rattle.std.specs.Prelude.{◌≡◌, ℕ, ◌^◌, ◌<◌, ◌≤◌, MatchOption};
 ghost use Rattle.std.specs.Fmt.{decimal};
 ghost use Rattle.arrayvec.specs.ArrayString.{array_string_len};
 ghost use Rattle.addr.specs.Digits.{number_in};
 
+use crate::ascii::push_ascii;
 use arrayvec::ArrayString;
 
 /// The decimal digits of `number`, without leading zeros.
@@ -12,20 +13,12 @@ pub fn digits(number: u64) -> ArrayString<20>
 {
     if number < 10 {
         let mut text = ArrayString::new();
-        push_digit(&mut text, number as u8);
+        push_ascii(&mut text, b'0' + number as u8);
         return text;
     }
     let mut text = digits(number / 10);
-    push_digit(&mut text, (number % 10) as u8);
+    push_ascii(&mut text, b'0' + (number % 10) as u8);
     text
-}
-
-fn push_digit(text: &mut ArrayString<20>, digit: u8)
-    requires digit { digit < 10 }
-    requires room { array_string_len text.old < 20 }
-    ensures { text.new.bytes ≡ text.old.bytes ++ (48 + digit) ∷ [] }
-{
-    text.push((b'0' + digit) as char);
 }
 
 /// The number below 2^64 whose decimal digits `text` is, without leading zeros; `None` for any

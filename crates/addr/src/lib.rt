@@ -2,6 +2,7 @@
 //! other crate speaks of, each valid by its type.
 #![tactic(auto)]
 
+mod ascii;
 mod asn;
 mod day;
 mod decimal;

@@ -11,8 +11,8 @@ use std::cmp::Ordering;
 use std::fmt;
 use std::marker::Model;
 
-/// The name of a resource holder, a caller, an operator or a file: 1 to 32 bytes of `a-z`,
-/// `0-9` and `-`, not beginning with `-`. Names are ordered by their bytes.
+/// The name of a resource holder, a caller or an operator: 1 to 32 bytes of `a-z`, `0-9` and `-`,
+/// not beginning with `-`. Names are ordered by their bytes.
 #[derive(Clone, Copy)]
 pub struct Name {
     bytes: [u8; 32],
@@ -78,6 +78,7 @@ impl Name {
         })
     }
 
+    /// The name's bytes.
     pub fn as_bytes(&self) -> &[u8]
         ensures text { result.now ≡ self.now }
         ensures is_name { IsTrue (is_name self.now) }
@@ -85,6 +86,7 @@ impl Name {
         &self.bytes[..self.len as usize]
     }
 
+    /// The name as text.
     pub fn as_str(&self) -> &str
         ensures text { result.now ≡ self.now }
         ensures is_name { IsTrue (is_name self.now) }

@@ -19,7 +19,7 @@ pub struct Prefix {
 }
 
 impl Prefix {
-    ghost use Rattle.addr.specs.Address.{last_of, contains, overlaps, bit_of, IsPrefix, Contains, Overlaps};
+    ghost use Rattle.addr.specs.Address.{last_of, contains, overlaps, fits_max_length, prefix_eq, bit_of, IsPrefix, Contains, Overlaps};
 
     /// None where the length is over the family's width, the address is over the family's last, or
     /// a bit past the length is set.
@@ -68,7 +68,7 @@ impl Prefix {
         ensures by_ends { result ≡ contains self.now other.now }
         ensures each { IsTrue result ↔ Contains self.now other.now }
     {
-        self.has_ends_of(other)
+        self.span().covers(other)
     }
 
     /// Whether the two share an address. Of two prefixes that do, one contains the other.
@@ -77,19 +77,23 @@ impl Prefix {
         ensures by_ends { result ≡ overlaps self.now other.now }
         ensures some { IsTrue result ↔ Overlaps self.now other.now }
     {
-        self.meets(other)
+        self.span().meets(other)
     }
 
-    fn has_ends_of(&self, other: &Prefix) -> bool
-        ensures { result ≡ contains self.now other.now }
+    /// Whether the two are one prefix: `==` with the answer as a definition.
+    pub fn is(&self, other: &Prefix) -> bool
+        ensures { result ≡ prefix_eq self.now other.now }
     {
-        self.family.is(other.family) && self.first <= other.first && other.last() <= self.last()
+        self.family.is(other.family) && self.first == other.first && self.length == other.length
     }
 
-    fn meets(&self, other: &Prefix) -> bool
-        ensures { result ≡ overlaps self.now other.now }
+    /// Whether `max` can be the prefix's maxLength: it is neither below the prefix's length nor over
+    /// the family's width.
+    pub fn fits_max_length(&self, max: u8) -> bool
+        ensures value { result ≡ fits_max_length self.now max }
+        ensures range { IsTrue result ↔ ((self.now.length ≤ max) × (max ≤ width self.now.family)) }
     {
-        self.family.is(other.family) && self.first <= other.last() && other.first <= self.last()
+        self.length <= max && max <= self.family.width()
     }
 
     /// The bit at place `i`, counted from 0 at the most significant one.

@@ -10,6 +10,8 @@ pub enum Origin {
 /// An announced route, as route origin validation sees it.
 #[derive(Clone, Copy, Debug, PartialEq, Eq, PartialOrd, Ord)]
 pub struct Route {
+    /// The prefix that was announced.
     pub prefix: Prefix,
+    /// Who announced it.
     pub origin: Origin,
 }

@@ -1,5 +1,7 @@
 //! The texts of prefixes, as `192.0.2.0/24` and `2001:db8::/32`.
 ghost use Rattle.std.specs.Prelude.{◌≡◌, ◌↔◌, Some, Ok, IfErr};
+ghost use Rattle.std.specs.Result.{result_ok};
+ghost use Rattle.addr.specs.SpelledPrefix.{spelled_prefix};
 ghost use Rattle.addr.specs.PrefixText.{fault_number, prefix_text_fault, Spells};
 ghost use Rattle.addr.specs.declared.prefix.Prefix.{Prefix};
 
@@ -58,6 +60,7 @@ impl Prefix {
     /// Reads the one spelling of a prefix: of IPv4 in dotted decimal, of IPv6 as RFC 5952
     /// section 4 writes it, never with a dotted tail.
     pub fn read(text: &[u8]) -> Result<Prefix, PrefixFault>
+        ensures value { result_ok result ≡ spelled_prefix text.now }
         ensures fault { IfErr result (λ fault. prefix_text_fault text.now ≡ Some fault) }
         ensures each { (prefix : Prefix) → (result ≡ Ok prefix) ↔ Spells prefix text.now }
     {

@@ -23,7 +23,7 @@ impl Vrp {
         ensures some { IsSome result ↔ ((prefix.length ≤ max) × (max ≤ width prefix.family)) }
         ensures parts { IfSome result (λ v. (v.prefix ≡ prefix) × (v.max ≡ max) × (v.asn ≡ asn)) }
     {
-        if prefix.length <= max && max <= prefix.family.width() {
+        if prefix.fits_max_length(max) {
             Some(Vrp { prefix, max, asn })
         } else {
             None

@@ -11,11 +11,11 @@ use Rattle.std.proofs.lemmas.List.{get_or_read, take-append-drop, get_or_append_
 use Rattle.addr.specs.declared.prefix.Prefix.{Prefix}
 use Rattle.addr.specs.declared.vrp.Vrp.{Vrp}
 use Rattle.addr.specs.Address.{contains}
-use Rattle.addr.specs.Family.{family_eq}
-use Rattle.payload.proofs.Prefixes.{contains-between, contains-at_most, no-family_of_both}
+use Rattle.payload.proofs.Prefixes.{contains-between, contains-at_most}
 use Rattle.payload.specs.Rising.{AreRising}
 use Rattle.payload.specs.Search.{is_at_most, IsFrontUpTo, HasAllEnclosing}
-use Rattle.payload.specs.VrpOrder.{prefix_total, vrp_cmp}
+use Rattle.addr.specs.Order.{vrp_cmp}
+use Rattle.addr.proofs.OrderLemmas.{prefix_total}
 
 pub rising-front : (xs ys : List Vrp) → AreRising (xs ++ ys) → AreRising xs
 rising-front xs ys rising i j d less within =
@@ -91,19 +91,6 @@ enclosing-from_front low high bound vrps front before order round is = record {
       ];
 }
 
--- no VRP that sorts at or before a prefix of one family contains a later one of another
-pub none-of_two_families : (low high : Prefix) (vrps : List Vrp) → All (λ v. is_at_most v.prefix low ≡ true) vrps → is_at_most low high ≡ true → family_eq low.family high.family ≡ false → HasAllEnclosing high vrps []
-none-of_two_families low high vrps before order apart = record {
-  rest = vrps;
-  parts = refl;
-  others = λ k d within.
-      let v = get_or vrps k d in
-      elim (cases_Bool (contains v.prefix high)) [
-        | inl both ↦ no-family_of_both v.prefix low high apart (contains-between v.prefix low high both (before k d within) order)
-        | inr out ↦ out
-      ];
-}
-
 -- a prefix sorts at or before each that it contains
 pub enclosing-up_to : (p : Prefix) (vrps front : List Vrp) → IsFrontUpTo p vrps front → HasAllEnclosing p vrps front
 enclosing-up_to p vrps front is = record {
@@ -117,14 +104,18 @@ enclosing-up_to p vrps front is = record {
       ];
 }
 
--- of VRPs that rise, those before the last have prefixes at or before its own
-pub rising-last : (before : List Vrp) (v : Vrp) → AreRising (before ++ v ∷ []) → All (λ w. is_at_most w.prefix v.prefix ≡ true) before
-rising-last before v rising k d within =
+-- of VRPs that rise, those before the last sort before it
+pub rising-before : (before : List Vrp) (v : Vrp) → AreRising (before ++ v ∷ []) → All (λ w. vrp_cmp w v ≡ Less) before
+rising-before before v rising k d within =
     let w = get_or before k d in
     let first : get_or (before ++ v ∷ []) k d ≡ w = get_or_append_left before (v ∷ []) d k within in
     let last : get_or (before ++ v ∷ []) (length before) d ≡ v = get_or_at before v [] d (length before) refl in
     let whole : vrp_cmp (get_or (before ++ v ∷ []) k d) (get_or (before ++ v ∷ []) (length before) d) ≡ Less = rising k (length before) d within (omega (arith, length-append before (v ∷ []))) in
-    less-at_most w v (subst (λ x. vrp_cmp x v ≡ Less) first (subst (λ x. vrp_cmp (get_or (before ++ v ∷ []) k d) x ≡ Less) last whole))
+    subst (λ x. vrp_cmp x v ≡ Less) first (subst (λ x. vrp_cmp (get_or (before ++ v ∷ []) k d) x ≡ Less) last whole)
+
+-- and their prefixes at or before its own
+pub rising-last : (before : List Vrp) (v : Vrp) → AreRising (before ++ v ∷ []) → All (λ w. is_at_most w.prefix v.prefix ≡ true) before
+rising-last before v rising k d within = less-at_most (get_or before k d) v (rising-before before v rising k d within)
 
 -- behind a VRP that sorts after a prefix all do
 pub after-onwards : (p : Prefix) (vrps : List Vrp) (i : ℕ) (v : Vrp) → AreRising vrps → i < length vrps → v ≡ get_or vrps i v → is_at_most v.prefix p ≡ false → AllWithin (λ v. is_at_most v.prefix p ≡ false) vrps i (length vrps)

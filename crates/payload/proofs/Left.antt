@@ -1,14 +1,16 @@
 -- A search that has looked at the VRPs from some place on.
-use Rattle.std.proofs.Common.{lit<, ◌≡◌, Bool, true, false, cond, ◌&&◌, ◌||◌, nat_le, List, [], ◌∷◌, ◌++◌, length, get_or, refl, sym, ap, ◌∙◌, subst, arith}
+use Rattle.std.proofs.Common.{lit<, ◌≡◌, Bool, true, false, ◌&&◌, ◌||◌, nat_le, List, [], ◌∷◌, ◌++◌, get_or, refl, sym, ap, ◌∙◌, subst}
 use Rattle.std.specs.List.{All, list_any}
 use Rattle.std.proofs.lemmas.Bool.{and_left}
 use Rattle.std.proofs.lemmas.List.Folds.{list_any-append, list_any_none}
-use Rattle.addr.specs.OriginValidation.{Valid, Invalid, NotFound, covers, matches, is_from, validation_state}
+use Rattle.addr.specs.OriginValidation.{covers, matches, is_from}
 use Rattle.addr.specs.declared.route.Route.{Route}
 use Rattle.addr.specs.declared.vrp.Vrp.{Vrp}
+use Rattle.addr.specs.Order.{vrp_cmp}
+use Rattle.std.specs.declared.cmp.Ordering.TheVariants.{Less}
 use Rattle.payload.specs.Rising.{AreRising}
-use Rattle.payload.specs.Search.{is_at_most, IsFrontUpTo, HasAllEnclosing}
-use Rattle.payload.proofs.Fronts.{All-front, All-back, rising-last, rising-front, enclosing-up_to}
+use Rattle.payload.specs.Search.{is_at_most, IsFrontUpTo, HasAllEnclosing, HasAllMatching}
+use Rattle.payload.proofs.Fronts.{All-front, All-back, rising-before, rising-last, rising-front, enclosing-up_to}
 
 -- what is left to look at decides the state: of the VRPs already passed none matches the route, and some cover it or none
 pub record IsLeft (vrps rest : List Vrp) (route : Route) (is_covered : Bool) : Type 0 where
@@ -63,34 +65,26 @@ left-skip vrps rest before front v route is_covered left split apart is =
           ∙ ap (λ b. list_any (λ v. covers v route) before || b) apart ∙ or-false _ ∙ any-enclosing_covers route before front is);
     }
 
--- the last VRP covers the route and does not match it
-pub left-covering : (vrps rest before : List Vrp) (v : Vrp) (route : Route) (is_covered : Bool) → IsLeft vrps rest route is_covered → rest ≡ before ++ v ∷ [] → covers v route ≡ true → nat_le route.prefix.length v.max && is_from route.origin v.asn ≡ false → IsLeft vrps before route true
-left-covering vrps rest before v route is_covered left split inside unlike = record {
-  rising = rising-front before (v ∷ []) (subst AreRising split left.rising);
-  before = All-front (λ v. is_at_most v.prefix route.prefix ≡ true) before (v ∷ []) (subst (All (λ v. is_at_most v.prefix route.prefix ≡ true)) split left.before);
-  matched = left.matched ∙ ap (list_any (λ v. matches v route)) split ∙ any-last _ before v
-      ∙ ap (λ b. list_any (λ v. matches v route) before || b) (ap (λ b. covers v route && b) unlike ∙ and-false _) ∙ or-false _;
-  covered = left.covered ∙ ap (λ b. b || is_covered) (ap (list_any (λ v. covers v route)) split ∙ any-last _ before v
-      ∙ ap (λ b. list_any (λ v. covers v route) before || b) inside ∙ or-true _) ∙ sym (or-true _);
-}
+any-matching : (route : Route) (vrps front : List Vrp) → HasAllMatching route vrps front → list_any (λ v. matches v route) vrps ≡ list_any (λ v. matches v route) front
+any-matching route vrps front is = ap (list_any (λ v. matches v route)) is.parts ∙ any-front _ front is.rest is.others
+
+-- the last VRP covers the route and does not match it, nor do those that are skipped before it
+pub left-covering : (vrps rest before front : List Vrp) (v : Vrp) (route : Route) (is_covered : Bool) → IsLeft vrps rest route is_covered → rest ≡ before ++ v ∷ [] → covers v route ≡ true → nat_le route.prefix.length v.max && is_from route.origin v.asn ≡ false → HasAllMatching route before front → IsLeft vrps front route true
+left-covering vrps rest before front v route is_covered left split inside unlike is =
+    let rising = rising-front before (v ∷ []) (subst AreRising split left.rising) in
+    let at_most = All-front (λ v. is_at_most v.prefix route.prefix ≡ true) before (v ∷ []) (subst (All (λ v. is_at_most v.prefix route.prefix ≡ true)) split left.before) in
+    record {
+      rising = rising-front front is.rest (subst AreRising is.parts rising);
+      before = All-front (λ v. is_at_most v.prefix route.prefix ≡ true) front is.rest (subst (All (λ v. is_at_most v.prefix route.prefix ≡ true)) is.parts at_most);
+      matched = left.matched ∙ ap (list_any (λ v. matches v route)) split ∙ any-last _ before v
+          ∙ ap (λ b. list_any (λ v. matches v route) before || b) (ap (λ b. covers v route && b) unlike ∙ and-false _) ∙ or-false _ ∙ any-matching route before front is;
+      covered = left.covered ∙ ap (λ b. b || is_covered) (ap (list_any (λ v. covers v route)) split ∙ any-last _ before v
+          ∙ ap (λ b. list_any (λ v. covers v route) before || b) inside ∙ or-true _) ∙ sym (or-true _);
+    }
   where
     and-false : (b : Bool) → (b && false) ≡ false
     and-false true = refl
     and-false false = refl
-
--- the last VRP matches the route
-pub left-matching : (vrps rest before : List Vrp) (v : Vrp) (route : Route) (is_covered : Bool) → IsLeft vrps rest route is_covered → rest ≡ before ++ v ∷ [] → covers v route ≡ true → nat_le route.prefix.length v.max && is_from route.origin v.asn ≡ true → Valid ≡ validation_state vrps route
-left-matching vrps rest before v route is_covered left split inside alike =
-    let both : matches v route ≡ true = ap (λ b. b && (nat_le route.prefix.length v.max && is_from route.origin v.asn)) inside ∙ alike in
-    let some : list_any (λ v. matches v route) vrps ≡ true = left.matched ∙ ap (list_any (λ v. matches v route)) split ∙ any-last _ before v
-    ∙ ap (λ b. list_any (λ v. matches v route) before || b) both ∙ or-true _ in
-    sym (ap (λ b. cond b Valid (cond (list_any (λ v. covers v route) vrps) Invalid NotFound)) some)
-
--- nothing is left
-pub left-none : (vrps rest : List Vrp) (route : Route) (is_covered : Bool) → IsLeft vrps rest route is_covered → length rest ≡ 0 → cond is_covered Invalid NotFound ≡ validation_state vrps route
-left-none vrps [] route is_covered left none =
-    sym (ap (λ b. cond b Valid (cond (list_any (λ v. covers v route) vrps) Invalid NotFound)) left.matched ∙ ap (λ b. cond b Invalid NotFound) left.covered)
-left-none vrps (v ∷ rest) route is_covered left none = absurd (omega arith)
 
 -- the VRPs before the last one rise, and their prefixes sort at or before its own, and that at or before the route
 pub left-rising : (vrps rest before : List Vrp) (v : Vrp) (route : Route) (is_covered : Bool) → IsLeft vrps rest route is_covered → rest ≡ before ++ v ∷ [] → AreRising before
@@ -102,3 +96,6 @@ left-before vrps rest before v route is_covered left split = rising-last before 
 pub left-last : (vrps rest before : List Vrp) (v : Vrp) (route : Route) (is_covered : Bool) → IsLeft vrps rest route is_covered → rest ≡ before ++ v ∷ [] → is_at_most v.prefix route.prefix ≡ true
 left-last vrps rest before v route is_covered left split =
     All-back (λ w. is_at_most w.prefix route.prefix ≡ true) before (v ∷ []) (subst (All (λ w. is_at_most w.prefix route.prefix ≡ true)) split left.before) 0 v (lit< tt)
+
+pub left-less : (vrps rest before : List Vrp) (v : Vrp) (route : Route) (is_covered : Bool) → IsLeft vrps rest route is_covered → rest ≡ before ++ v ∷ [] → All (λ w. vrp_cmp w v ≡ Less) before
+left-less vrps rest before v route is_covered left split = rising-before before v (subst AreRising split left.rising)

@@ -1,6 +1,6 @@
 -- Lists of VRPs whose prefixes are no shorter than some length.
-use Rattle.std.proofs.Common.{◌≡◌, ℕ, suc, ◌+◌, ◌≤◌, ◌<◌, List, [], ◌++◌, take, length, get_or, true, refl, ap, sym, subst, arith, inl, inr}
-use Rattle.std.specs.List.{All, insert, remove}
+use Rattle.std.proofs.Common.{◌≡◌, ℕ, ◌+◌, ◌≤◌, ◌<◌, List, [], ◌++◌, take, length, get_or, true, refl, ap, sym, subst, arith, inl, inr}
+use Rattle.std.specs.List.{All, insert}
 use Rattle.std.proofs.lemmas.List.{take_all}
 use Rattle.std.proofs.lemmas.List.Elements.{All-append, All-cons, All-drop, All-more, All-take, All-weaker}
 use Rattle.std.proofs.lemmas.Bool.{cases_Bool}
@@ -31,11 +31,6 @@ no_shorter-insert s t vrps news at v all new here less =
     let P = λ (v : Vrp). shortest_in t v.prefix.family ≤ v.prefix.length in
     let all' = weaker s t vrps less all in
     subst (AreNoShorter t) (sym new) (All-append P (take at vrps) _ (All-take P at vrps all') (All-cons P v _ here (All-drop P at vrps all')))
-
-pub no_shorter-remove : (s : Shortest) (vrps news : List Vrp) (at : ℕ) → AreNoShorter s vrps → news ≡ remove vrps at → AreNoShorter s news
-no_shorter-remove s vrps news at all new =
-    let P = λ (v : Vrp). shortest_in s v.prefix.family ≤ v.prefix.length in
-    subst (AreNoShorter s) (sym new) (All-append P (take at vrps) _ (All-take P at vrps all) (All-drop P (suc at) vrps all))
 
 -- no prefix that contains two of one family is longer than the last round both
 pub none-so_short : (s : Shortest) (low high : Prefix) (last : ℕ) (vrps : List Vrp) → AreNoShorter s vrps → All (λ v. is_at_most v.prefix low ≡ true) vrps → is_at_most low high ≡ true → ((p : Prefix) → contains p low ≡ true → contains p high ≡ true → p.length ≤ last) → last < shortest_in s low.family → HasAllEnclosing high vrps []

@@ -1,10 +1,9 @@
 pub mod Dedup
-pub mod Derived
 pub mod Fronts
 pub mod Left
 pub mod Lengths
 pub mod Places
 pub mod Prefixes
 pub mod Sets
-pub mod States
+pub mod Unlike
 pub mod Visits

@@ -10,13 +10,12 @@ use Rattle.std.proofs.lemmas.List.{get_or_read}
 use Rattle.std.proofs.lemmas.Map.Keys.{Less-from_sorted}
 use Rattle.std.proofs.lemmas.List.Edits.{length-insert, get_or-insert_below, get_or-insert_at, get_or-insert_above, length-remove, get_or-remove_below, get_or-remove_above}
 use Rattle.std.proofs.lemmas.List.Folds.{list_any_none, list_any_at}
-use Rattle.std.proofs.lemmas.List.Quantifiers.{all_pairs_remove}
 use Rattle.std.proofs.lemmas.List.Sorted.{searchable_from_sorted, IsPermutation-remove, list_any-IsPermutation}
 use Rattle.addr.specs.declared.vrp.Vrp.{Vrp}
 use Rattle.payload.specs.Rising.{AreRising}
-use Rattle.payload.specs.VrpOrder.{vrp_cmp, vrp_total, exact_vrp}
+use Rattle.addr.specs.Order.{vrp_cmp}
+use Rattle.addr.proofs.OrderLemmas.{vrp_total, exact_vrp, derived_vrp_cmp, derived_vrp_order}
 use Rattle.payload.specs.VrpSet as set
-use Rattle.payload.proofs.Derived.{derived_cmp, derived-order}
 use Rattle.payload.proofs.Sets.{is_vrp, same_set, same_vrp-equal, contains-from_list, contains-remove, from_list-insert, items-from_list, same_from_list}
 
 turned : (v w : Vrp) (o : Ordering) → vrp_cmp v w ≡ o → vrp_cmp w v ≡ ordering_reverse o
@@ -85,9 +84,6 @@ rising-insert vrps v at rising fits place i j d less within =
         let same : (k - 1) + 1 ≡ k = omega arith in
         subst P (sym (subst (λ n. get_or (insert vrps at v) n d ≡ get_or vrps (k - 1) d) same next)) h
 
-pub rising-remove : (vrps : List Vrp) (at : ℕ) → AreRising vrps → at < length vrps → AreRising (remove vrps at)
-rising-remove vrps at rising within = all_pairs_remove (λ v w. vrp_cmp v w ≡ Less) vrps at within rising
-
 -- no other of the VRPs is the one at the place
 others-differ : (vrps : List Vrp) (v : Vrp) (at : ℕ) → AreRising vrps → at < length vrps → v ≡ get_or vrps at v → list_any (is_vrp v) (remove vrps at) ≡ false
 others-differ vrps v at rising within is = list_any_none (is_vrp v) (remove vrps at) (λ k d short.
@@ -119,10 +115,10 @@ from_list-remove vrps v at rising within is = same_set _ _ (λ w. contains-from_
 -- what a binary search over the list ys of a set's VRPs says of the set
 -- what a binary search answers, by the derived `cmp`
 abbrev pub IsSearched : List Vrp → Vrp → Result ℕ ℕ → Type 0
-IsSearched vrps v r = IsBinarySearchResult (λ w. derived_cmp w v) vrps r
+IsSearched vrps v r = IsBinarySearchResult (λ w. derived_vrp_cmp w v) vrps r
 
 searched : (vrps : List Vrp) (v : Vrp) (r : Result ℕ ℕ) → IsSearched vrps v r → IsBinarySearchResult (λ w. vrp_cmp w v) vrps r
-searched vrps v r h = subst (λ (R : Vrp → Vrp → Ordering). IsBinarySearchResult (λ w. R w v) vrps r) derived-order h
+searched vrps v r h = subst (λ (R : Vrp → Vrp → Ordering). IsBinarySearchResult (λ w. R w v) vrps r) derived_vrp_order h
 
 pub search-found : (s : set.VrpSet) (xs ys : List Vrp) (v : Vrp) (at : ℕ) → ys ≡ xs → set.from_list xs ≡ s → at < length ys → IsSearched ys v (Ok at) → set.contains s v ≡ true
 search-found s xs ys v at same view within found =
@@ -157,9 +153,9 @@ remove-view s xs ys zs v at same view rising within found new =
 pub listed : (s : set.VrpSet) (xs ys : List Vrp) → ys ≡ xs → set.from_list xs ≡ s → AreRising xs → ys ≡ set.items s
 listed s xs ys same view rising = same ∙ sym (items-from_list xs rising) ∙ ap set.items view
 
-pub rising-from_sorted : (vrps : List Vrp) → IsStrictlySortedBy derived_cmp vrps → AreRising vrps
+pub rising-from_sorted : (vrps : List Vrp) → IsStrictlySortedBy derived_vrp_cmp vrps → AreRising vrps
 rising-from_sorted vrps sorted i j d less within =
-    Less-from_sorted vrp_cmp vrps i j d (subst (λ (R : Vrp → Vrp → Ordering). IsStrictlySortedBy R vrps) derived-order sorted) less within
+    Less-from_sorted vrp_cmp vrps i j d (subst (λ (R : Vrp → Vrp → Ordering). IsStrictlySortedBy R vrps) derived_vrp_order sorted) less within
 
-pub same-members : (xs ys : List Vrp) → ((v : Vrp) → list_any (eq_by_cmp derived_cmp v) xs ≡ list_any (eq_by_cmp derived_cmp v) ys) → set.from_list xs ≡ set.from_list ys
-same-members xs ys each = same_from_list xs ys (subst (λ (R : Vrp → Vrp → Ordering). (v : Vrp) → list_any (eq_by_cmp R v) xs ≡ list_any (eq_by_cmp R v) ys) derived-order each)
+pub same-members : (xs ys : List Vrp) → ((v : Vrp) → list_any (eq_by_cmp derived_vrp_cmp v) xs ≡ list_any (eq_by_cmp derived_vrp_cmp v) ys) → set.from_list xs ≡ set.from_list ys
+same-members xs ys each = same_from_list xs ys (subst (λ (R : Vrp → Vrp → Ordering). (v : Vrp) → list_any (eq_by_cmp R v) xs ≡ list_any (eq_by_cmp R v) ys) derived_vrp_order each)

@@ -2,7 +2,7 @@
 use Rattle.std.proofs.Common.{lit<, mod-eq_of_lt, bit_and, ◌≡◌, ℕ, suc, ◌+◌, ◌-◌, ◌*◌, ◌/◌, ◌%◌, ◌^◌, ◌≤◌, ◌<◌, true, false, nat_le, refl, sym, arith, inl, inr, ◌⊎◌, ap, ◌∙◌, Ordering}
 use Rattle.std.specs.Ordering.{nat_cmp, ordering_then, is_le}
 use Rattle.std.specs.declared.cmp.Ordering.TheVariants.{Less, Equal, Greater}
-use Rattle.std.proofs.lemmas.Bool.{both_ways, cases_Bool, and_parts, leb-true, le-leb, cases_lt, cases_order, lt-ltb, le-ltb, eq-eqb, ne_eqb}
+use Rattle.std.proofs.lemmas.Bool.{both_ways, and_parts, leb-true, le-leb, cases_lt, cases_order, lt-ltb, le-ltb, eq-eqb, ne_eqb}
 use Rattle.std.proofs.lemmas.Nat.{pow_pos, pow-add, div-add-mod', mod-pow-add, le-div, pow_below, one_shl, and_mask}
 use Rattle.std.proofs.Math.Nat.{mul-le-mul_right, suc-mul, add-mul-mod_self_right, mul-mod_left, pow-le-pow_right}
 use Rattle.addr.specs.Family.{width, family_eq}
@@ -11,7 +11,7 @@ use Rattle.addr.specs.declared.family.Family.{Family}
 use Rattle.addr.specs.declared.family.Family.TheVariants.{V4, V6}
 use Rattle.addr.specs.declared.prefix.Prefix.{Prefix}
 use Rattle.payload.specs.Search.{is_at_most}
-use Rattle.payload.specs.VrpOrder.{family_cmp}
+use Rattle.addr.specs.Order.{family_cmp}
 
 -- a multiple of a power of two is one of a smaller power
 pub multiple-smaller : (n j k : ℕ) → n % 2 ^ (j + k) ≡ 0 → n % 2 ^ k ≡ 0
@@ -71,13 +71,13 @@ block-within x y z i j mx my le most within tie =
           next-multiple y (x + 2 ^ i) (2 ^ j) (pow_pos j) my whole (omega arith)
     ]
 
-cmp-less : (a b : ℕ) → a < b → nat_cmp a b ≡ Less
+pub cmp-less : (a b : ℕ) → a < b → nat_cmp a b ≡ Less
 cmp-less a b h = rw (lt-ltb a b h)
 
-cmp-equal : (a b : ℕ) → a ≡ b → nat_cmp a b ≡ Equal
+pub cmp-equal : (a b : ℕ) → a ≡ b → nat_cmp a b ≡ Equal
 cmp-equal a b h = rw (le-ltb a b (omega arith), eq-eqb a b h)
 
-cmp-greater : (a b : ℕ) → b < a → nat_cmp a b ≡ Greater
+pub cmp-greater : (a b : ℕ) → b < a → nat_cmp a b ≡ Greater
 cmp-greater a b h = rw (le-ltb a b (omega arith), ne_eqb a b (omega arith))
 
 pub family_eq-same : (f g : Family) → family_eq f g ≡ true → f ≡ g
@@ -205,16 +205,6 @@ contains-between p low high h from to =
           | inl one ↦ one.0
           | inr two ↦ elim (order-families g h r to) [ inl one ↦ cc | inr both ↦ cc ]
         ]
-
--- no prefix contains both of two families
-pub no-family_of_both : (p low high : Prefix) → family_eq low.family high.family ≡ false → contains p low ≡ true → contains p high ≡ false
-no-family_of_both p low high apart inside =
-    elim (cases_Bool (contains p high)) [
-      | inl both ↦
-          let one : low.family ≡ high.family = sym (contains-ends p low inside).family ∙ (contains-ends p high both).family in
-          absurd (both_ways _ apart (same-family_eq low.family high.family one))
-      | inr out ↦ out
-    ]
 
 pub rounded-aligned : (n m : ℕ) → (n - n % m) % m ≡ 0
 rounded-aligned n m =

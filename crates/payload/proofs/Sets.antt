@@ -8,7 +8,8 @@ use Rattle.std.specs.declared.cmp.Ordering.TheVariants.{Less, Equal, Greater}
 use Rattle.std.proofs.lemmas.List.Sorted.{IsPermutation-insert, list_any-IsPermutation}
 use Rattle.addr.specs.declared.vrp.Vrp.{Vrp}
 use Rattle.payload.specs.Rising.{AreRising}
-use Rattle.payload.specs.VrpOrder.{vrp_cmp, vrp_total, exact_vrp}
+use Rattle.addr.specs.Order.{vrp_cmp}
+use Rattle.addr.proofs.OrderLemmas.{vrp_total, exact_vrp}
 use Rattle.payload.specs.VrpSet as set
 
 -- two VRPs are one

@@ -3,5 +3,4 @@ pub mod Search
 pub mod Shortest
 pub mod ValidityState
 pub mod Visit
-pub mod VrpOrder
 pub mod VrpSet

@@ -3,7 +3,7 @@ use Rattle.std.specs.Prelude.{◌≡◌, List}
 use Rattle.std.specs.declared.cmp.Ordering.TheVariants.{Less}
 use Rattle.std.specs.List.{AllPairs}
 use Rattle.addr.specs.declared.vrp.Vrp.{Vrp}
-use Rattle.payload.specs.VrpOrder.{vrp_cmp}
+use Rattle.addr.specs.Order.{vrp_cmp}
 
 -- each VRP sorts before all later ones
 abbrev pub AreRising : List Vrp → Type 0

@@ -9,7 +9,7 @@ use Rattle.addr.specs.declared.family.Family.{Family}
 use Rattle.addr.specs.declared.family.Family.TheVariants.{V4, V6}
 use Rattle.addr.specs.declared.vrp.Vrp.{Vrp}
 use Rattle.addr.specs.Address.{same_prefix}
-use Rattle.payload.specs.VrpOrder.{vrp_cmp, same_vrp}
+use Rattle.addr.specs.Order.{vrp_cmp, same_vrp}
 
 abbrev pub VrpSet : Type 0
 VrpSet = map.FinMap vrp_cmp (Unit {0})

@@ -25,6 +25,7 @@ pub trait PayloadIndex {
         ensures found { result ≡ set.contains (vrps self.old) vrp.now }
         ensures rest { vrps self.new ≡ set.remove (vrps self.old) vrp.now };
 
+    /// Whether the VRP is there.
     fn contains(&self, vrp: &Vrp) -> bool
         ensures { result ≡ set.contains (vrps self.now) vrp.now };
 

@@ -1,23 +1,27 @@
 ghost use Rattle.std.specs.Prelude.{◌≡◌, ◌-◌, ◌%◌, ◌^◌, ◌<◌, ◌≤◌, true, false, ◌&&◌, nat_le};
 ghost use Rattle.std.specs.List.{All};
 ghost use Rattle.addr.specs.Address.{contains};
-ghost use Rattle.addr.specs.Family.{family_eq};
-ghost use Rattle.addr.specs.OriginValidation.{is_from, validation_state};
+ghost use Rattle.addr.specs.OriginValidation.{is_from, matches, validation_state};
+ghost use Rattle.addr.specs.Order.{vrp_cmp};
+ghost use Rattle.addr.specs.declared.asn.Asn.{Asn};
 ghost use Rattle.addr.specs.declared.prefix.Prefix.{Prefix};
+ghost use Rattle.addr.specs.declared.vrp.Vrp.{Vrp};
+ghost use Rattle.std.specs.declared.cmp.Ordering.TheVariants.{Less};
 ghost use Rattle.payload.specs.Rising.{AreRising};
-ghost use Rattle.payload.specs.Search.{is_at_most, IsFrontUpTo, HasAllEnclosing};
+ghost use Rattle.payload.specs.Search.{is_at_most, is_below, IsFrontUpTo, HasAllEnclosing, HasAllMatching};
 ghost use Rattle.payload.specs.Shortest.{AreNoShorter};
 ghost use Rattle.payload.specs.ValidityState.{state_of};
 
 use crate::Validity;
 use crate::shortest::Shortest;
-use addr::{Family, Origin, Prefix, Route, Vrp};
+use addr::{Asn, Origin, Prefix, Route, Vrp};
 
 /// The state of the route over VRPs that rise.
 ///
-/// A VRP that covers the route sorts at or before it. So the search goes back from the route's place,
-/// over each VRP that covers the route; and from one that does not cover it, past all that do not
-/// reach from that one to the route. It ends where no prefix is short enough for that.
+/// A VRP that covers the route sorts at or before it. So the search goes back from the route's place.
+/// Of the VRPs of a prefix that covers the route it looks at one or two for each maxLength. From a VRP
+/// that does not cover the route it goes past all that do not reach from that one to the route, and
+/// it ends where no prefix is short enough for that.
 pub fn validity(vrps: &[Vrp], shortest: Shortest, route: &Route) -> Validity
     requires rising { AreRising vrps.now }
     requires no_shorter { AreNoShorter shortest vrps.now }
@@ -34,7 +38,7 @@ pub fn validity(vrps: &[Vrp], shortest: Shortest, route: &Route) -> Validity
             return Validity::Valid;
         }
         is_covered = true;
-        rest = before;
+        rest = past_unlike(before, vrp, route);
     }
     if is_covered {
         Validity::Invalid
@@ -51,6 +55,56 @@ fn is_authorized(vrp: &Vrp, route: &Route) -> bool
         Origin::As(asn) => route.prefix.length <= vrp.max && asn.0 != 0 && asn.0 == vrp.asn.0,
         Origin::None => false,
     }
+}
+
+/// The VRPs before one that covers the route and does not match it, but for those just before it that
+/// do not match either.
+fn past_unlike<'a>(before: &'a [Vrp], vrp: &Vrp, route: &Route) -> &'a [Vrp]
+    requires rising { AreRising before.now }
+    requires less { All (λ v. vrp_cmp v vrp.now ≡ Less) before.now }
+    ensures { HasAllMatching route.now before.now result.now }
+{
+    match before.last() {
+        Some(other) if other.prefix.is(&vrp.prefix) => {
+            let first = first_unlike(vrp, route);
+            let end = before.partition_point(|other| is_below(other, &first));
+            &before[..end]
+        }
+        _ => before,
+    }
+}
+
+/// A VRP such that none from it on, and before the given one, matches the route.
+fn first_unlike(vrp: &Vrp, route: &Route) -> Vrp
+    ensures { (v : Vrp) → vrp_cmp v vrp.now ≡ Less → is_below v result ≡ false → matches v route.now ≡ false }
+{
+    let max = if route.prefix.length <= vrp.max {
+        vrp.max
+    } else {
+        vrp.prefix.length
+    };
+    Vrp {
+        prefix: vrp.prefix,
+        max,
+        asn: first_other(route.origin, vrp.asn),
+    }
+}
+
+/// An AS such that none from it on, and before the given one, is the origin.
+fn first_other(origin: Origin, asn: Asn) -> Asn
+    ensures { (a : Asn) → result.0 ≤ a.0 → a.0 < asn.0 → is_from origin a ≡ false }
+{
+    match origin {
+        Origin::As(from) if from.0 < asn.0 => Asn(from.0 + 1),
+        _ => Asn(0),
+    }
+}
+
+/// Whether the VRP sorts before the other.
+fn is_below(vrp: &Vrp, other: &Vrp) -> bool
+    ensures { result ≡ is_below vrp.now other.now }
+{
+    vrp < other
 }
 
 /// The VRPs at the front whose prefixes sort at or before this one.
@@ -94,7 +148,7 @@ fn enclosing_both<'a>(vrps: &'a [Vrp], shortest: Shortest, low: &Prefix, high: &
     requires apart { contains low.now high.now ≡ false }
     ensures { HasAllEnclosing high.now vrps.now result.now }
 {
-    if !is_one_family(low.family, high.family) {
+    if !low.family.is(high.family) {
         return &vrps[..0];
     }
     let bound = common_bound(low, high);
@@ -102,15 +156,6 @@ fn enclosing_both<'a>(vrps: &'a [Vrp], shortest: Shortest, low: &Prefix, high: &
         return &vrps[..0];
     }
     up_to_from_end(vrps, &bound)
-}
-
-fn is_one_family(one: Family, other: Family) -> bool
-    ensures { result ≡ family_eq one other }
-{
-    matches!(
-        (one, other),
-        (Family::V4, Family::V4) | (Family::V6, Family::V6)
-    )
 }
 
 /// A prefix at or before which each prefix that contains both sorts, and which is as long at least.

@@ -2,7 +2,7 @@
 //! give for some routes.
 ghost use Rattle.std.specs.Prelude.{◌++◌, is_some, option_to_list};
 
-use crate::{ListIndex, PayloadIndex, Sink, Stop, Validity};
+use crate::{ListIndex, PayloadIndex, Sink, Stop};
 use addr::{Asn, Origin, Prefix, Route, Vrp};
 use std::alloc::{AllocError, Global};
 use std::process::Abort;

@@ -12,5 +12,5 @@ pub mod PoolLemmas
 pub mod RowsLemmas
 pub mod AmendLemmas
 pub mod Repeats
+mod PrefixEquality
 pub mod SharedVrps
-pub mod PrefixOrder

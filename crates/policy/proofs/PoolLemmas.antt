@@ -1,5 +1,5 @@
 -- A prefix is in the pool where a walk along the pool's prefixes reaches its end.
-use Rattle.std.proofs.Common.{◌≡◌, ℕ, ◌<◌, ◌≤◌, Bool, true, false, ◌||◌, cond, List, [], ◌∷◌, inl, inr, Some, None, refl, sym, ap, ◌∙◌, subst, arith}
+use Rattle.std.proofs.Common.{◌≡◌, ℕ, ◌<◌, ◌≤◌, Bool, true, false, ◌||◌, cond, List, [], ◌∷◌, inl, inr, Option, Some, None, Bor, option_copied, MatchOption, IsSomeAnd, IfNone, IfSome, refl, sym, ap, ◌∙◌, subst, arith}
 use Rattle.std.specs.List.{list_any, find}
 use Rattle.std.proofs.lemmas.Bool.{cases_Bool, cases_lt, false≢true}
 use Rattle.std.proofs.lemmas.Bool.Decides.{nat_tests}
@@ -66,21 +66,44 @@ between_more V6 V6 low high m n is from to = grind (arith, nat_tests)
 between_more V4 V6 low high m n is from to = absurd (false≢true is)
 between_more V6 V4 low high m n is from to = absurd (false≢true is)
 
-pub pool-none : (pool : List Prefix) (family : Family) (m : ℕ) → find (λ p. has_address p (record { family = family; number = m })) pool ≡ None
+pool-none : (pool : List Prefix) (family : Family) (m : ℕ) → find (λ p. has_address p (record { family = family; number = m })) pool ≡ None
     → pool_has pool (record { family = family; number = m }) ≡ false
 pool-none pool family m is = find_none (λ p. has_address p (record { family = family; number = m })) pool is
 
-pub pool-end : (pool : List Prefix) (family : Family) (m : ℕ) (p : Prefix) → find (λ p. has_address p (record { family = family; number = m })) pool ≡ Some p
+pool-end : (pool : List Prefix) (family : Family) (m : ℕ) (p : Prefix) → find (λ p. has_address p (record { family = family; number = m })) pool ≡ Some p
     → m ≤ last_of p
 pool-end pool family m p is =
     between_end p.family family p.first (last_of p) m (find_some (λ p. has_address p (record { family = family; number = m })) pool p is)
 
-pub pool-some : (pool : List Prefix) (family : Family) (m : ℕ) (p : Prefix) → find (λ p. has_address p (record { family = family; number = m })) pool ≡ Some p
+pool-some : (pool : List Prefix) (family : Family) (m : ℕ) (p : Prefix) → find (λ p. has_address p (record { family = family; number = m })) pool ≡ Some p
     → HasFromTo pool family m (last_of p)
 pool-some pool family m p is n from to =
     let has = find_some (λ p. has_address p (record { family = family; number = m })) pool p is in
     found_has (λ p. has_address p (record { family = family; number = m })) (λ p. has_address p (record { family = family; number = n })) pool p is
     (between_more p.family family p.first (last_of p) m n has from to)
+
+-- the end of the prefix that was found, if any
+pub end-none : (pool : List Prefix) (family : Family) (m : ℕ) (found : Option (Bor Prefix)) (end : Option ℕ)
+    → option_copied found ≡ find (λ p. has_address p (record { family = family; number = m })) pool
+    → MatchOption found (end ≡ None) (λ p. IsSomeAnd end (λ k. k ≡ last_of p.now))
+    → IfNone end (pool_has pool (record { family = family; number = m }) ≡ false)
+end-none pool family m None None is made = pool-none pool family m (sym is)
+end-none pool family m None (Some k) is made = tt
+end-none pool family m (Some p) None is made = absurd made
+end-none pool family m (Some p) (Some k) is made = tt
+
+pub end-some : (pool : List Prefix) (family : Family) (m : ℕ) (found : Option (Bor Prefix)) (end : Option ℕ)
+    → option_copied found ≡ find (λ p. has_address p (record { family = family; number = m })) pool
+    → MatchOption found (end ≡ None) (λ p. IsSomeAnd end (λ k. k ≡ last_of p.now))
+    → IfSome end (λ k. (m ≤ k) × HasFromTo pool family m k)
+end-some pool family m None None is made = tt
+end-some pool family m None (Some k) is made = absurd (some_none made)
+  where
+    some_none : Some k ≡ None → ⊥
+    some_none e = cc
+end-some pool family m (Some p) None is made = tt
+end-some pool family m (Some p) (Some k) is made =
+    subst (λ (n : ℕ). (m ≤ n) × HasFromTo pool family m n) (sym made) (pool-end pool family m p.now (sym is), pool-some pool family m p.now (sym is))
 
 between_parts : (f g : Family) (low high n : ℕ) → is_between f low high (record { family = g; number = n }) ≡ true → (f ≡ g) × (low ≤ n) × (n ≤ high)
 between_parts V4 V4 low high n is = (refl, grind (arith, nat_tests), grind (arith, nat_tests))

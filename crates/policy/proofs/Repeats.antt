@@ -1,5 +1,5 @@
 -- A walk along a list that looks for a value that stands twice, and lists in another order.
-use Rattle.std.proofs.Common.{◌≡◌, ℕ, ◌-◌, ◌<◌, Bool, false, ◌||◌, eqb, List, [], ◌∷◌, length, take, drop, get_or, refl, sym, ap, ◌∙◌, arith}
+use Rattle.std.proofs.Common.{◌≡◌, ℕ, ◌-◌, ◌<◌, Bool, true, false, ◌||◌, eqb, List, [], ◌∷◌, length, take, drop, get_or, refl, sym, ap, ◌∙◌, arith}
 use Rattle.std.specs.List.{list_any, IsDistinct, AllByRecursion}
 use Rattle.std.specs.List.Sorted.{IsPermutation}
 use Rattle.std.proofs.lemmas.List.{take_all}
@@ -17,14 +17,40 @@ use Rattle.policy.proofs.Unregistered.{or_left, or_right}
 pub rest_of : {T : Type 0} (y : T) (ys : List T) → take (length (y ∷ ys) - 1) (drop 1 (y ∷ ys)) ≡ ys
 rest_of {T} y ys = take_all (length (y ∷ ys) - 1) ys (omega arith)
 
-pub repeat_step : {T : Type 0} (same : T → T → Bool) (rest others : List T) (x : T) → 0 < length rest → x ≡ get_or rest 0 x
-    → others ≡ take (length rest - 1) (drop 1 rest) → list_any (λ y. same x y) others ≡ false → has_repeat same others ≡ has_repeat same rest
-repeat_step same [] others x long is tail none = absurd (omega arith)
-repeat_step {T} same (y ∷ ys) others x long is tail none =
-    let same_tail : others ≡ ys = tail ∙ rest_of y ys in
-    let first : list_any (λ z. same y z) ys ≡ false =
-    ap (λ (zs : List T). list_any (λ z. same y z) zs) (sym same_tail) ∙ ap (λ (a : T). list_any (λ z. same a z) others) (sym is) ∙ none in
-    ap (has_repeat same) same_tail ∙ sym (ap (λ b. b || has_repeat same ys) first)
+-- tests that agree pass the same lists
+any_agree : {T : Type 0} (f g : T → Bool) → ((x : T) → f x ≡ g x) → (xs : List T) → list_any f xs ≡ list_any g xs
+any_agree f g agree [] = refl
+any_agree f g agree (x ∷ xs) =
+    ap (λ b. b || list_any f xs) (agree x) ∙ ap (λ b. g x || b) (any_agree f g agree xs)
+
+pub has_repeat-agree : {T : Type 0} (f g : T → T → Bool) → ((x y : T) → f x y ≡ g x y) → (xs : List T) → has_repeat f xs ≡ has_repeat g xs
+has_repeat-agree f g agree [] = refl
+has_repeat-agree f g agree (x ∷ xs) =
+    ap (λ b. b || has_repeat f xs) (any_agree (λ y. f x y) (λ y. g x y) (agree x) xs)
+    ∙ ap (λ b. list_any (λ y. g x y) xs || b) (has_repeat-agree f g agree xs)
+
+-- a repeat is of the first value, or after it
+has_repeat-first : {T : Type 0} (same : T → T → Bool) → ((x y : T) → same x y ≡ same y x) → (rest others : List T) (x : T) → 0 < length rest
+    → x ≡ get_or rest 0 x → others ≡ take (length rest - 1) (drop 1 rest)
+    → has_repeat same rest ≡ (list_any (λ y. same y x) others || has_repeat same others)
+has_repeat-first same flips [] others x long is tail = absurd (omega arith)
+has_repeat-first {T} same flips (y ∷ ys) others x long is tail =
+    let same_tail : ys ≡ others = sym (tail ∙ rest_of y ys) in
+    let first : list_any (λ z. same y z) ys ≡ list_any (λ z. same z x) ys =
+    any_agree (λ z. same y z) (λ z. same z x) (λ z. flips y z ∙ ap (λ (a : T). same z a) (sym is)) ys in
+    ap (λ b. b || has_repeat same ys) first ∙ ap (λ (zs : List T). list_any (λ z. same z x) zs || has_repeat same zs) same_tail
+
+pub repeat_passed : {T : Type 0} (same : T → T → Bool) → ((x y : T) → same x y ≡ same y x) → (rest others : List T) (x : T) → 0 < length rest
+    → x ≡ get_or rest 0 x → others ≡ take (length rest - 1) (drop 1 rest) → list_any (λ y. same y x) others ≡ false
+    → has_repeat same others ≡ has_repeat same rest
+repeat_passed same flips rest others x long is tail none =
+    sym (has_repeat-first same flips rest others x long is tail ∙ ap (λ b. b || has_repeat same others) none)
+
+pub repeat_found : {T : Type 0} (same : T → T → Bool) → ((x y : T) → same x y ≡ same y x) → (rest others : List T) (x : T) → 0 < length rest
+    → x ≡ get_or rest 0 x → others ≡ take (length rest - 1) (drop 1 rest) → list_any (λ y. same y x) others ≡ true
+    → has_repeat same rest ≡ true
+repeat_found same flips rest others x long is tail some =
+    has_repeat-first same flips rest others x long is tail ∙ ap (λ b. b || has_repeat same others) some
 
 none_to : {T : Type 0} (test : T → Bool) (xs : List T) → list_any test xs ≡ false → AllByRecursion (λ y. test y ≡ false) xs
 none_to test [] none = tt

@@ -2,20 +2,16 @@
 use Rattle.std.proofs.Common.{◌≡◌, ℕ, Bool, true, false, not, List, Option, Some, None, refl, sym, ap, ◌∙◌, subst, Bor, option_copied, is_some, IsSomeAnd}
 use Rattle.std.specs.List.{list_any}
 use Rattle.std.proofs.lemmas.Bool.{false≢true}
-use Rattle.addr.specs.Spans.{HaveAll}
-use Rattle.addr.specs.declared.prefix.Prefix.{Prefix}
 use Rattle.policy.specs.declared.charter.Charter.{Charter}
 use Rattle.policy.specs.declared.rows.HolderRows.{HolderRows}
 use Rattle.policy.specs.declared.change.Change.{Change}
 use Rattle.policy.specs.History.{History, is_registered}
 use Rattle.policy.specs.Rows.{Rows, RowsOf, RowsIfAny, rows_if_any, grants_if_any, Carries}
-use Rattle.policy.specs.Resources.{HoldsPrefix, resource_holder, is_held_by}
 use Rattle.policy.specs.declared.authorization.Auth.{Auth}
 use Rattle.policy.specs.declared.grant.Granted.{Granted}
 use Rattle.policy.specs.Terms.{grant_terms, authorization_terms, HeldSinceMade, OfActive}
 use Rattle.policy.specs.Verdict.{IsLegal, numbered, OfNumber}
 use Rattle.policy.proofs.Kept.{Keeps-unique}
-use Rattle.policy.proofs.Names.{is_held_by-true, held_by_itself}
 use Rattle.policy.proofs.Unregistered.{has_nothing}
 
 pub not_true : (b : Bool) → not b ≡ true → b ≡ false
@@ -35,13 +31,6 @@ pub grants-are : (charter : Charter) (history : History) (h : List ℕ) (rows : 
     → RowsIfAny history h (rows_if_any (option_copied rows)) → grants_if_any (option_copied rows) ≡ grant_terms history h
 grants-are charter history h None legal are = sym (has_nothing charter history h legal are).grants
 grants-are charter history h (Some r) legal are = are.1.grants
-
--- the holdings hold a prefix where the holder does
-pub holds-to : (history : History) (h : List ℕ) (rows : Rows) (p : Prefix) → RowsOf history h rows → HaveAll rows.holdings p → HoldsPrefix history h p
-holds-to history h rows p are all a has = is_held_by-true h (resource_holder history a) (sym (are.holdings a) ∙ all a has)
-
-pub holds-from : (history : History) (h : List ℕ) (rows : Rows) (p : Prefix) → RowsOf history h rows → HoldsPrefix history h p → HaveAll rows.holdings p
-holds-from history h rows p are holds a has = are.holdings a ∙ ap (is_held_by h) (holds a has) ∙ held_by_itself h
 
 -- the active authorizations of the history are those of the rows
 pub active-to : (history : History) (h : List ℕ) (rows : Rows) (P : List Auth → Type 0) → RowsOf history h rows → P rows.auths → OfActive history h P

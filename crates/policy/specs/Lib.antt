@@ -2,6 +2,8 @@ pub mod Repeats
 pub mod Pool
 pub mod CharterSets
 pub mod Charter
+pub mod CharterFault
+pub mod Rule
 pub mod History
 pub mod Resources
 pub mod Terms

@@ -2,7 +2,7 @@
 -- they were made, no number twice. What is said of an authorization's prefix goes through the first
 -- definitions here, and nothing else looks into its terms.
 use Rattle.std.specs.Prelude.{◌≡◌, ℕ, ◌+◌, ◌≤◌, Bool, true, not, ◌&&◌, ◌==◌, List, [], ◌∷◌, ◌++◌, map, filter, if◌then◌else◌, ◌⊎◌, Contains}
-use Rattle.addr.specs.Address.{Address, has_address, overlaps, prefix_eq}
+use Rattle.addr.specs.Address.{overlaps, prefix_eq}
 use Rattle.addr.specs.declared.asn.Asn.{Asn}
 use Rattle.addr.specs.declared.prefix.Prefix.{Prefix}
 use Rattle.addr.specs.declared.vrp.Vrp.{Vrp}
@@ -16,10 +16,6 @@ use Rattle.policy.specs.Resources.{HoldsPrefix}
 -- p is a prefix of the terms
 abbrev pub IsPrefixOf : Auth → Prefix → Type 0
 IsPrefixOf x p = p ≡ x.prefix
-
--- an address lies in a prefix of the terms
-abbrev pub terms_have : Auth → Address → Bool
-terms_have x a = has_address x.prefix a
 
 -- a prefix of the terms shares an address with p
 abbrev pub terms_overlap : Auth → Prefix → Bool

@@ -12,6 +12,15 @@ use crate::grant::{has_access, is_permitted};
 use crate::{Access, Auth, Charter, Granted, HolderRows, Rule};
 use addr::{Asn, Day, Name, Prefix};
 
+/// How many grants that are not revoked a holder may have.
+const MOST_GRANTS: usize = 64;
+
+/// How many active authorizations a holder may have.
+const MOST_AUTHORIZATIONS: usize = 1000;
+
+/// The last number that a grant or an authorization of a holder gets.
+const LAST_NUMBER: u32 = 999_999;
+
 /// The rule where it does not hold.
 pub fn require(holds: bool, rule: Rule) -> Result<(), Rule>
     ensures { MatchResult result (λ _. holds ≡ true) (λ first. (holds ≡ false) × (first ≡ rule)) }
@@ -72,7 +81,7 @@ pub fn holds(rows: &HolderRows, prefix: &Prefix) -> bool
     rows.holdings.holds(prefix)
 }
 
-/// Whether some one grant gives the caller the access to all prefixes of the terms.
+/// Whether for each prefix of the terms some one grant gives the caller the access to it.
 pub fn may_reach(grants: &[Granted], day: Day, caller: &Name, access: Access, auth: &Auth) -> bool
     ensures { result ≡ is_permitted_terms grants.now day caller.now access auth.now }
 {
@@ -156,13 +165,21 @@ pub fn is_new(rows: &HolderRows, asn: Asn, prefix: &Prefix, max: u8) -> bool
     !some_gives(&rows.auths, asn, prefix, max)
 }
 
-/// Whether another authorization may be made: fewer than 1000 are active, and 999,999 were made.
+/// Whether another grant may be made: fewer than 64 are unrevoked, and fewer than 999,999 were made.
+pub fn has_room_for_grant(rows: &HolderRows) -> bool
+    ensures { IsTrue result ↔ ((length rows.now.grants.items < 64) × (rows.now.granted < 999999)) }
+{
+    rows.grants.len() < MOST_GRANTS && rows.granted < LAST_NUMBER
+}
+
+/// Whether another authorization may be made: fewer than 1000 are active, and fewer than 999,999
+/// were made.
 pub fn has_room_for_authorization(rows: &HolderRows) -> bool
     ensures counter { IsTrue result → rows.now.created < 999999 }
     ensures room { (history : History) (h : List ℕ) → RowsOf history h (rows_of rows.now)
         → (IsTrue result ↔ (OfActive history h (λ active. length active < 1000) × (authorizations_made history h < 999999))) }
 {
-    rows.auths.len() < 1000 && rows.created < 999_999
+    rows.auths.len() < MOST_AUTHORIZATIONS && rows.created < LAST_NUMBER
 }
 
 fn is_other_sharing(auth: &Auth, other: &Auth) -> bool

@@ -1,27 +1,43 @@
 ghost use Rattle.std.specs.Prelude.{nat_eq, ◌||◌, Err, IfOk, IsPermutation, IsSorted, ◌≡◌, ◌≤◌, ◌↔◌, true, false, IsTrue, IfNone, IfSome, option_copied, find};
-ghost use Rattle.std.specs.List.{list_any};
 ghost use Rattle.std.specs.Ordering.{nat_cmp};
 ghost use Rattle.std.specs.Cmp.Lexicographic.{pointwise, slice_cmp};
 ghost use Rattle.addr.specs.Address.{has_address, prefix_eq};
+ghost use Rattle.addr.specs.Order.{prefix_cmp};
 ghost use Rattle.policy.specs.Repeats.{has_repeat};
-ghost use Rattle.policy.specs.CharterSets.{AreInNumber, IsCharter, prefix_cmp};
+ghost use Rattle.policy.specs.CharterSets.{AreInNumber, IsCharter};
 ghost use Rattle.policy.specs.Pool.{pool_has, IsInPool, HasFromTo};
 
-use crate::authorization::is_same_prefix;
 use addr::{Family, Name, Prefix};
 use std::marker::Model;
+use thiserror::Error;
 
-/// Why two lists make no charter.
-#[derive(Clone, Copy, Debug, PartialEq, Eq)]
+/// Why two lists make no charter. Of several faults the first counts.
+#[derive(Clone, Copy, Debug, PartialEq, Eq, Error)]
 pub enum CharterFault {
     /// There are not 1 to 16 operators, or not 1 to 64 prefixes.
+    #[error("there are not 1 to 16 operators and 1 to 64 prefixes")]
     Count,
     /// An operator or a prefix stands twice.
+    #[error("an operator or a prefix stands twice")]
     Repeated,
 }
 
+impl CharterFault {
+    ghost use Rattle.policy.specs.CharterFault.{fault_number};
+
+    /// The number of the fault, from 1 in the order above.
+    pub fn number(self) -> u8
+        ensures { result ≡ fault_number self }
+    {
+        match self {
+            CharterFault::Count => 1,
+            CharterFault::Repeated => 2,
+        }
+    }
+}
+
 /// The operators of the desk and the pool of prefixes that it delegates from: 1 to 16 operators and
-/// 1 to 64 prefixes, none twice.
+/// 1 to 64 prefixes, none twice, both in rising order.
 #[derive(Drop)]
 pub struct Charter {
     operators: Vec<Name>,
@@ -41,40 +57,16 @@ impl Model for Charter {
 fn are_in_number(operators: &[Name], pool: &[Prefix]) -> bool
     ensures { IsTrue result ↔ AreInNumber operators.now pool.now }
 {
-    1 <= operators.len() && operators.len() <= 16 && 1 <= pool.len() && pool.len() <= 64
+    (1..=16).contains(&operators.len()) && (1..=64).contains(&pool.len())
 }
 
-fn has_operator(operators: &[Name], name: &Name) -> bool
-    ensures { result ≡ list_any (λ y. pointwise nat_eq name.now y) operators.now }
+/// Whether some item stands twice.
+fn has_repeat<T: PartialEq>(items: &[T]) -> bool
+    ensures { result ≡ has_repeat T.eq items.now }
 {
-    operators.iter().any(|operator| *name == *operator)
-}
-
-fn has_prefix(pool: &[Prefix], prefix: &Prefix) -> bool
-    ensures { result ≡ list_any (λ y. prefix_eq prefix.now y) pool.now }
-{
-    pool.iter().any(|other| is_same_prefix(prefix, other))
-}
-
-fn has_operator_twice(operators: &[Name]) -> bool
-    ensures { result ≡ has_repeat (pointwise nat_eq) operators.now }
-{
-    let mut rest = operators;
+    let mut rest = items;
     while let [first, others @ ..] = rest {
-        if has_operator(others, first) {
-            return true;
-        }
-        rest = others;
-    }
-    false
-}
-
-fn has_prefix_twice(pool: &[Prefix]) -> bool
-    ensures { result ≡ has_repeat prefix_eq pool.now }
-{
-    let mut rest = pool;
-    while let [first, others @ ..] = rest {
-        if has_prefix(others, first) {
+        if others.contains(first) {
             return true;
         }
         rest = others;
@@ -86,6 +78,7 @@ impl Charter {
     ghost use Rattle.policy.specs.Charter.{is_operator, operators_of, pool_of};
 
     /// The charter of these operators and this pool, both in rising order. It takes no memory.
+    #[tactic(auto, using(crate::proofs::PrefixEquality::derived_repeats))]
     pub fn make(mut operators: Vec<Name>, mut pool: Vec<Prefix>) -> Result<Charter, CharterFault>
         ensures operators { IfOk result (λ charter. IsPermutation operators.items (operators_of charter)) }
         ensures pool { IfOk result (λ charter. IsPermutation pool.items (pool_of charter)) }
@@ -98,7 +91,7 @@ impl Charter {
         if !are_in_number(&operators, &pool) {
             return Err(CharterFault::Count);
         }
-        if has_operator_twice(&operators) || has_prefix_twice(&pool) {
+        if has_repeat(&operators) || has_repeat(&pool) {
             return Err(CharterFault::Repeated);
         }
         operators.sort_unstable();
@@ -109,6 +102,7 @@ impl Charter {
     /// The operators, rising.
     pub fn operators(&self) -> &[Name]
         ensures operators { result.now ≡ operators_of self.now }
+        ensures rising { IsSorted (slice_cmp nat_cmp) result.now }
         ensures valid { IsCharter self.now }
     {
         &self.operators
@@ -117,6 +111,7 @@ impl Charter {
     /// The pool, rising.
     pub fn pool(&self) -> &[Prefix]
         ensures pool { result.now ≡ pool_of self.now }
+        ensures rising { IsSorted prefix_cmp result.now }
         ensures valid { IsCharter self.now }
     {
         &self.pool
@@ -126,7 +121,7 @@ impl Charter {
     pub fn is_operator(&self, caller: &Name) -> bool
         ensures { result ≡ is_operator self.now caller.now }
     {
-        self.operators.iter().any(|name| *name == *caller)
+        self.operators.contains(caller)
     }
 
     /// Whether every address of the prefix lies in some prefix of the pool.
@@ -156,10 +151,7 @@ fn end_in_pool(pool: &[Prefix], family: Family, number: u128) -> Option<u128>
     ensures none { IfNone result (pool_has pool.now (record { family = family; number = number }) ≡ false) }
     ensures some { IfSome result (λ end. (number ≤ end) × HasFromTo pool.now family number end) }
 {
-    match prefix_in_pool(pool, family, number) {
-        Some(prefix) => Some(prefix.last()),
-        None => None,
-    }
+    prefix_in_pool(pool, family, number).map(Prefix::last)
 }
 
 fn is_in_pool(pool: &[Prefix], prefix: &Prefix) -> bool

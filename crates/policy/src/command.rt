@@ -6,22 +6,27 @@ use addr::{Asn, Day, Name, Prefix, Route};
 /// A request that enters the history where it is accepted.
 #[derive(Clone, Copy, Debug, PartialEq, Eq)]
 pub enum Command {
+    /// Makes the holder known to the desk; it has no addresses yet.
     Register {
         holder: Name,
     },
+    /// Gives the holder a prefix of the pool that nobody holds.
     Delegate {
         holder: Name,
         prefix: Prefix,
     },
+    /// Takes a prefix from its holder and gives it to another.
     Transfer {
         prefix: Prefix,
         giver: Name,
         taker: Name,
     },
+    /// Takes a prefix back from its holder.
     Reclaim {
         holder: Name,
         prefix: Prefix,
     },
+    /// Permits a caller to act at the holder in a role.
     Grant {
         holder: Name,
         name: Name,
@@ -29,10 +34,12 @@ pub enum Command {
         scope: Scope,
         until: Day,
     },
+    /// Takes back the grant of this number.
     Revoke {
         holder: Name,
         number: u32,
     },
+    /// Authorizes an AS to originate routes of the prefix.
     Create {
         holder: Name,
         asn: Asn,
@@ -41,12 +48,14 @@ pub enum Command {
         from: Day,
         until: Day,
     },
+    /// Sets the maxLength and the last day of the authorization of this number.
     Amend {
         holder: Name,
         number: u32,
         max: u8,
         until: Day,
     },
+    /// Ends the authorization of this number.
     Withdraw {
         holder: Name,
         number: u32,
@@ -56,15 +65,22 @@ pub enum Command {
 /// A request that changes nothing.
 #[derive(Debug, Drop)]
 pub enum Query {
+    /// The authorization of this number.
     Show { holder: Name, number: u32 },
+    /// The ROA content of the authorization of this number.
+    Content { holder: Name, number: u32 },
+    /// The active authorizations that the caller may see.
     List { holder: Name },
+    /// The VRPs of the day.
     Payloads,
+    /// The validation state of each route on the day's VRPs.
     Validity { routes: Vec<Route> },
 }
 
 impl Command {
     ghost use Rattle.policy.specs.Answer.{is_transfer, holder_of, taker_of};
 
+    /// Whether `decide_two` is asked, with the rows of two holders, and not `decide`.
     pub fn is_transfer(&self) -> bool
         ensures { result ≡ is_transfer self.now }
     {

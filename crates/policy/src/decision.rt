@@ -1,4 +1,4 @@
-ghost use Rattle.std.specs.Prelude.{◌≡◌, ℕ, true, false, not, ◌||◌, ◌&&◌, None, option_copied, MatchBool, IfOk, map, filter, IsTrue, ◌↔◌, ◌<◌, length};
+ghost use Rattle.std.specs.Prelude.{◌≡◌, ℕ, true, false, not, ◌||◌, ◌&&◌, None, option_copied, MatchBool, IfOk, map, filter};
 ghost use Rattle.addr.specs.Address.{Address, has_address};
 ghost use Rattle.addr.specs.Spans.{spans_have, AreMaximal};
 ghost use Rattle.policy.specs.declared.charter.Charter.{Charter as CharterValue};
@@ -9,17 +9,34 @@ ghost use Rattle.policy.specs.Verdict.{IsLegal};
 ghost use Rattle.policy.specs.Rows.{rows_if_any, RowsIfAny};
 ghost use Rattle.policy.specs.Answer.{Answers, IsAnswer, IsViewOf, is_transfer, holder_of, taker_of};
 
+mod terms;
+
 use crate::admission::{
-    are_dates, has_grant, has_room_for_authorization, holds, is_new, is_steward, may_alter,
-    permitted, registered, require, rows_with_access, shares_with_other,
+    are_dates, has_grant, has_room_for_authorization, has_room_for_grant, holds, is_new,
+    is_steward, may_alter, permitted, registered, require, rows_with_access, shares_with_other,
 };
 use crate::authorization::fits_length;
 use crate::{
-    Access, Auth, Change, Charter, Command, Edit, Granted, HolderChange, HolderRows, Refusal, Rule,
-    View,
+    Access, Auth, Change, Charter, Command, Edit, HolderChange, HolderRows, Refusal, Rule, View,
 };
 use addr::{Day, Holdings, Name, Prefix};
 use std::alloc::{AllocError, Global};
+use terms::{AuthTerms, GrantTerms};
+
+/// What every command is judged by, beside what it asks for and the rows.
+#[derive(Clone, Copy)]
+struct Basis<'a> {
+    charter: &'a Charter,
+    day: Day,
+    caller: &'a Name,
+}
+
+/// A holder that a command names, and its rows; none where it is not registered.
+#[derive(Clone, Copy)]
+struct Holder<'a> {
+    name: &'a Name,
+    rows: Option<&'a HolderRows>,
+}
 
 fn change_of(holder: &Name, edit: Edit) -> Change
     ensures { result ≡ record { first = record { holder = holder.now; edit = edit }; second = None } }
@@ -40,6 +57,7 @@ fn with_prefix(holdings: &Holdings, prefix: &Prefix) -> Result<Holdings, AllocEr
 {
     let mut more = holdings.clone()?;
     more.add(prefix)?;
+    // It tells the proof that the runs are maximal.
     let _ = more.spans();
     Ok(more)
 }
@@ -51,6 +69,7 @@ fn without_prefix(holdings: &Holdings, prefix: &Prefix) -> Result<Holdings, Allo
 {
     let mut less = holdings.clone()?;
     less.take(prefix)?;
+    // It tells the proof that the runs are maximal.
     let _ = less.spans();
     Ok(less)
 }
@@ -70,122 +89,92 @@ fn numbers_overlapping(
         .collect(alloc)
 }
 
-fn decide_register(
-    charter: &Charter,
-    rows: Option<&HolderRows>,
-    day: Day,
-    caller: &Name,
-    holder: &Name,
-) -> Result<Change, Refusal>
-    ensures { Answers charter.now (rows_if_any (option_copied rows.entry)) day caller.now (Command.Register holder.now) result }
+fn decide_register(basis: Basis<'_>, holder: Holder<'_>) -> Result<Change, Refusal>
+    ensures { Answers basis.entry.charter.now (rows_if_any (option_copied holder.entry.rows)) basis.entry.day basis.entry.caller.now
+        (Command.Register holder.entry.name.now) result }
 {
-    require(charter.is_operator(caller), Rule::Operator)?;
-    require(rows.is_none(), Rule::Fresh)?;
-    Ok(change_of(holder, Edit::Register))
+    require(basis.charter.is_operator(basis.caller), Rule::Operator)?;
+    require(holder.rows.is_none(), Rule::Fresh)?;
+    Ok(change_of(holder.name, Edit::Register))
 }
 
 fn decide_delegate(
     alloc: Global,
-    charter: &Charter,
-    rows: Option<&HolderRows>,
+    basis: Basis<'_>,
+    holder: Holder<'_>,
     taken: bool,
-    day: Day,
-    caller: &Name,
-    holder: &Name,
     prefix: &Prefix,
 ) -> Result<Change, Refusal>
-    ensures { (history : History) → IsLegal charter.now history → RowsIfAny history holder.now (rows_if_any (option_copied rows.entry))
+    ensures { (history : History) → IsLegal basis.entry.charter.now history
+        → RowsIfAny history holder.entry.name.now (rows_if_any (option_copied holder.entry.rows))
         → MatchBool taken (IsFree history prefix.now → ⊥) (IsFree history prefix.now)
-        → IsAnswer charter.now history day caller.now (Command.Delegate holder.now prefix.now) result }
+        → IsAnswer basis.entry.charter.now history basis.entry.day basis.entry.caller.now (Command.Delegate holder.entry.name.now prefix.now) result }
 {
-    require(charter.is_operator(caller), Rule::Operator)?;
-    let rows = registered(rows)?;
-    require(charter.has_in_pool(prefix), Rule::Pool)?;
+    require(basis.charter.is_operator(basis.caller), Rule::Operator)?;
+    let rows = registered(holder.rows)?;
+    require(basis.charter.has_in_pool(prefix), Rule::Pool)?;
     require(!taken, Rule::Free)?;
     let holdings = with_prefix(&rows.holdings, prefix)?;
     let ended = Vec::new(alloc);
-    Ok(change_of(holder, Edit::Hold { holdings, ended }))
+    Ok(change_of(holder.name, Edit::Hold { holdings, ended }))
 }
 
 fn decide_reclaim(
     alloc: Global,
-    charter: &Charter,
-    rows: Option<&HolderRows>,
-    day: Day,
-    caller: &Name,
-    holder: &Name,
+    basis: Basis<'_>,
+    holder: Holder<'_>,
     prefix: &Prefix,
 ) -> Result<Change, Refusal>
-    ensures { Answers charter.now (rows_if_any (option_copied rows.entry)) day caller.now (Command.Reclaim holder.now prefix.now) result }
+    ensures { Answers basis.entry.charter.now (rows_if_any (option_copied holder.entry.rows)) basis.entry.day basis.entry.caller.now
+        (Command.Reclaim holder.entry.name.now prefix.now) result }
 {
-    require(charter.is_operator(caller), Rule::Operator)?;
-    let rows = registered(rows)?;
+    require(basis.charter.is_operator(basis.caller), Rule::Operator)?;
+    let rows = registered(holder.rows)?;
     require(holds(rows, prefix), Rule::Held)?;
     let holdings = without_prefix(&rows.holdings, prefix)?;
     let ended = numbers_overlapping(alloc, &rows.auths, prefix)?;
-    Ok(change_of(holder, Edit::Hold { holdings, ended }))
+    Ok(change_of(holder.name, Edit::Hold { holdings, ended }))
 }
 
-/// How many unrevoked grants a holder may have, and how many grants may be made at it in all.
-fn has_room_for_grant(rows: &HolderRows) -> bool
-    ensures { IsTrue result ↔ ((length rows.now.grants.items < 64) × (rows.now.granted < 999999)) }
+fn decide_grant(basis: Basis<'_>, holder: Holder<'_>, terms: &GrantTerms) -> Result<Change, Refusal>
+    ensures { Answers basis.entry.charter.now (rows_if_any (option_copied holder.entry.rows)) basis.entry.day basis.entry.caller.now
+        (Command.Grant holder.entry.name.now terms.now.caller terms.now.role terms.now.scope terms.now.until) result }
 {
-    rows.grants.len() < 64 && rows.granted < 999_999
-}
-
-fn decide_grant(
-    charter: &Charter,
-    rows: Option<&HolderRows>,
-    day: Day,
-    caller: &Name,
-    holder: &Name,
-    terms: Granted,
-) -> Result<Change, Refusal>
-    ensures { Answers charter.now (rows_if_any (option_copied rows.entry)) day caller.now
-        (Command.Grant holder.now terms.caller terms.role terms.scope terms.until) result }
-{
-    require(is_steward(charter, rows, day, caller), Rule::Steward)?;
-    let rows = registered(rows)?;
+    let Basis {
+        charter,
+        day,
+        caller,
+    } = basis;
+    require(is_steward(charter, holder.rows, day, caller), Rule::Steward)?;
+    let rows = registered(holder.rows)?;
     require(day.number() <= terms.until.number(), Rule::Dates)?;
     require(has_room_for_grant(rows), Rule::Room)?;
-    Ok(change_of(
-        holder,
-        Edit::Grant(Granted {
-            number: rows.granted + 1,
-            ..terms
-        }),
-    ))
+    let grant = terms.numbered(rows.granted + 1);
+    Ok(change_of(holder.name, Edit::Grant(grant)))
 }
 
-fn decide_revoke(
-    charter: &Charter,
-    rows: Option<&HolderRows>,
-    day: Day,
-    caller: &Name,
-    holder: &Name,
-    number: u32,
-) -> Result<Change, Refusal>
-    ensures { Answers charter.now (rows_if_any (option_copied rows.entry)) day caller.now (Command.Revoke holder.now number) result }
+fn decide_revoke(basis: Basis<'_>, holder: Holder<'_>, number: u32) -> Result<Change, Refusal>
+    ensures { Answers basis.entry.charter.now (rows_if_any (option_copied holder.entry.rows)) basis.entry.day basis.entry.caller.now
+        (Command.Revoke holder.entry.name.now number) result }
 {
-    require(is_steward(charter, rows, day, caller), Rule::Steward)?;
-    require(has_grant(rows, number), Rule::Number)?;
-    Ok(change_of(holder, Edit::Revoke(number)))
+    require(
+        is_steward(basis.charter, holder.rows, basis.day, basis.caller),
+        Rule::Steward,
+    )?;
+    require(has_grant(holder.rows, number), Rule::Number)?;
+    Ok(change_of(holder.name, Edit::Revoke(number)))
 }
 
-/// The number of `terms` is not read.
-fn decide_create(
-    rows: Option<&HolderRows>,
-    day: Day,
-    caller: &Name,
-    holder: &Name,
-    terms: Auth,
-) -> Result<Change, Refusal>
-    ensures { (charter : CharterValue) → Answers charter (rows_if_any (option_copied rows.entry)) day caller.now
-        (Command.Create holder.now terms.asn terms.prefix terms.max terms.from terms.until) result }
+fn decide_create(basis: Basis<'_>, holder: Holder<'_>, terms: &AuthTerms) -> Result<Change, Refusal>
+    ensures { (charter : CharterValue) → Answers charter (rows_if_any (option_copied holder.entry.rows)) basis.entry.day basis.entry.caller.now
+        (Command.Create holder.entry.name.now terms.now.asn terms.now.prefix terms.now.max terms.now.from terms.now.until) result }
 {
-    let rows = rows_with_access(rows, day, caller, Access::Alter)?;
-    require(may_alter(rows, day, caller, &terms.prefix), Rule::Scope)?;
-    require(are_dates(day, terms.from, terms.until), Rule::Dates)?;
+    let rows = rows_with_access(holder.rows, basis.day, basis.caller, Access::Alter)?;
+    require(
+        may_alter(rows, basis.day, basis.caller, &terms.prefix),
+        Rule::Scope,
+    )?;
+    require(are_dates(basis.day, terms.from, terms.until), Rule::Dates)?;
     require(fits_length(&terms.prefix, terms.max), Rule::Length)?;
     require(holds(rows, &terms.prefix), Rule::Held)?;
     require(
@@ -193,30 +182,23 @@ fn decide_create(
         Rule::Same,
     )?;
     require(has_room_for_authorization(rows), Rule::Room)?;
-    Ok(change_of(
-        holder,
-        Edit::Create(Auth {
-            number: rows.created + 1,
-            ..terms
-        }),
-    ))
+    let auth = terms.numbered(rows.created + 1);
+    Ok(change_of(holder.name, Edit::Create(auth)))
 }
 
 fn decide_amend(
-    rows: Option<&HolderRows>,
-    day: Day,
-    caller: &Name,
-    holder: &Name,
+    basis: Basis<'_>,
+    holder: Holder<'_>,
     number: u32,
     max: u8,
     until: Day,
 ) -> Result<Change, Refusal>
-    ensures { (charter : CharterValue) → Answers charter (rows_if_any (option_copied rows.entry)) day caller.now
-        (Command.Amend holder.now number max until) result }
+    ensures { (charter : CharterValue) → Answers charter (rows_if_any (option_copied holder.entry.rows)) basis.entry.day basis.entry.caller.now
+        (Command.Amend holder.entry.name.now number max until) result }
 {
-    let rows = rows_with_access(rows, day, caller, Access::Alter)?;
-    let auth = permitted(rows, day, caller, Access::Alter, number)?;
-    require(are_dates(day, auth.from, until), Rule::Dates)?;
+    let rows = rows_with_access(holder.rows, basis.day, basis.caller, Access::Alter)?;
+    let auth = permitted(rows, basis.day, basis.caller, Access::Alter, number)?;
+    require(are_dates(basis.day, auth.from, until), Rule::Dates)?;
     require(auth.fits_length(max), Rule::Length)?;
     let amended = Auth {
         max,
@@ -224,57 +206,49 @@ fn decide_amend(
         ..*auth
     };
     require(!shares_with_other(&rows.auths, &amended), Rule::Same)?;
-    Ok(change_of(holder, Edit::Amend(amended)))
+    Ok(change_of(holder.name, Edit::Amend(amended)))
 }
 
-fn decide_withdraw(
-    rows: Option<&HolderRows>,
-    day: Day,
-    caller: &Name,
-    holder: &Name,
-    number: u32,
-) -> Result<Change, Refusal>
-    ensures { (charter : CharterValue) → Answers charter (rows_if_any (option_copied rows.entry)) day caller.now
-        (Command.Withdraw holder.now number) result }
+fn decide_withdraw(basis: Basis<'_>, holder: Holder<'_>, number: u32) -> Result<Change, Refusal>
+    ensures { (charter : CharterValue) → Answers charter (rows_if_any (option_copied holder.entry.rows)) basis.entry.day basis.entry.caller.now
+        (Command.Withdraw holder.entry.name.now number) result }
 {
-    let rows = rows_with_access(rows, day, caller, Access::Alter)?;
-    permitted(rows, day, caller, Access::Alter, number)?;
-    Ok(change_of(holder, Edit::Withdraw(number)))
+    let rows = rows_with_access(holder.rows, basis.day, basis.caller, Access::Alter)?;
+    permitted(rows, basis.day, basis.caller, Access::Alter, number)?;
+    Ok(change_of(holder.name, Edit::Withdraw(number)))
 }
 
 fn decide_transfer(
     alloc: Global,
     charter: &Charter,
-    giver_rows: Option<&HolderRows>,
-    taker_rows: Option<&HolderRows>,
     caller: &Name,
     prefix: &Prefix,
-    giver: &Name,
-    taker: &Name,
+    giver: Holder<'_>,
+    taker: Holder<'_>,
 ) -> Result<Change, Refusal>
     ensures { (history : History) (day : ℕ) → IsLegal charter.now history
-        → RowsIfAny history giver.now (rows_if_any (option_copied giver_rows.entry))
-        → RowsIfAny history taker.now (rows_if_any (option_copied taker_rows.entry))
-        → IsAnswer charter.now history day caller.now (Command.Transfer prefix.now giver.now taker.now) result }
+        → RowsIfAny history giver.entry.name.now (rows_if_any (option_copied giver.entry.rows))
+        → RowsIfAny history taker.entry.name.now (rows_if_any (option_copied taker.entry.rows))
+        → IsAnswer charter.now history day caller.now (Command.Transfer prefix.now giver.entry.name.now taker.entry.name.now) result }
 {
     require(charter.is_operator(caller), Rule::Operator)?;
-    let giving = registered(giver_rows)?;
-    let taking = registered(taker_rows)?;
-    require(*giver != *taker, Rule::Distinct)?;
+    let giving = registered(giver.rows)?;
+    let taking = registered(taker.rows)?;
+    require(*giver.name != *taker.name, Rule::Distinct)?;
     require(holds(giving, prefix), Rule::Held)?;
     let less = without_prefix(&giving.holdings, prefix)?;
     let more = with_prefix(&taking.holdings, prefix)?;
     let ended = numbers_overlapping(alloc, &giving.auths, prefix)?;
     Ok(Change {
         first: HolderChange {
-            holder: *giver,
+            holder: *giver.name,
             edit: Edit::Hold {
                 holdings: less,
                 ended,
             },
         },
         second: Some(HolderChange {
-            holder: *taker,
+            holder: *taker.name,
             edit: Edit::Hold {
                 holdings: more,
                 ended: Vec::new(alloc),
@@ -299,60 +273,62 @@ pub fn decide(
     ensures { (history : History) → IsLegal charter.now history → IsViewOf history command.now view.now
         → IsAnswer charter.now history day caller.now command.now result }
 {
-    let rows = view.holder.as_ref();
+    let basis = Basis {
+        charter,
+        day,
+        caller,
+    };
+    let holder = Holder {
+        name: command.holder(),
+        rows: view.holder.as_ref(),
+    };
     match command {
-        Command::Register { holder } => decide_register(charter, rows, day, caller, holder),
-        Command::Delegate { holder, prefix } => decide_delegate(
-            alloc, charter, rows, view.taken, day, caller, holder, prefix,
-        ),
+        Command::Register { .. } => decide_register(basis, holder),
+        Command::Delegate { prefix, .. } => {
+            decide_delegate(alloc, basis, holder, view.taken, prefix)
+        }
         Command::Transfer { .. } => unreachable!(),
-        Command::Reclaim { holder, prefix } => decide_reclaim(
-            alloc, charter, rows, day, caller, holder, prefix,
-        ),
+        Command::Reclaim { prefix, .. } => decide_reclaim(alloc, basis, holder, prefix),
         Command::Grant {
-            holder,
             name,
             role,
             scope,
             until,
+            ..
         } => {
-            let terms = Granted {
-                number: 0,
+            let terms = GrantTerms {
                 caller: *name,
                 role: *role,
                 scope: *scope,
                 until: *until,
             };
-            decide_grant(charter, rows, day, caller, holder, terms)
+            decide_grant(basis, holder, &terms)
         }
-        Command::Revoke { holder, number } => decide_revoke(
-            charter, rows, day, caller, holder, *number,
-        ),
+        Command::Revoke { number, .. } => decide_revoke(basis, holder, *number),
         Command::Create {
-            holder,
             asn,
             prefix,
             max,
             from,
             until,
+            ..
         } => {
-            let terms = Auth {
-                number: 0,
+            let terms = AuthTerms {
                 asn: *asn,
                 prefix: *prefix,
                 max: *max,
                 from: *from,
                 until: *until,
             };
-            decide_create(rows, day, caller, holder, terms)
+            decide_create(basis, holder, &terms)
         }
         Command::Amend {
-            holder,
             number,
             max,
             until,
-        } => decide_amend(rows, day, caller, holder, *number, *max, *until),
-        Command::Withdraw { holder, number } => decide_withdraw(rows, day, caller, holder, *number),
+            ..
+        } => decide_amend(basis, holder, *number, *max, *until),
+        Command::Withdraw { number, .. } => decide_withdraw(basis, holder, *number),
     }
 }
 
@@ -375,9 +351,19 @@ pub fn decide_two(
     match command {
         Command::Transfer {
             prefix,
-            giver: from,
-            taker: to,
-        } => decide_transfer(alloc, charter, giver, taker, caller, prefix, from, to),
+            giver: giver_name,
+            taker: taker_name,
+        } => {
+            let giver = Holder {
+                name: giver_name,
+                rows: giver,
+            };
+            let taker = Holder {
+                name: taker_name,
+                rows: taker,
+            };
+            decide_transfer(alloc, charter, caller, prefix, giver, taker)
+        }
         _ => unreachable!(),
     }
 }

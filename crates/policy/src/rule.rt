@@ -2,25 +2,81 @@ ghost use Rattle.std.specs.Prelude.{◌≡◌, None};
 ghost use Rattle.policy.specs.declared.rule.Refusal.TheVariants.{Denied, Memory};
 
 use std::alloc::AllocError;
+use std::fmt;
 
 /// The rules of admission. Each request has a line of them; the first that does not hold is told.
 #[derive(Clone, Copy, Debug, PartialEq, Eq)]
 pub enum Rule {
+    /// The caller is an operator of the desk.
     Operator,
+    /// The caller is an operator, or a manager at the holder.
     Steward,
+    /// Some grant gives the caller the access that is wanted, whatever its scope.
     Grant,
+    /// Each holder that is named is registered.
     Holder,
+    /// The holder is not registered yet.
     Fresh,
+    /// There is a grant of the number, or an authorization of the number that the caller has access to.
     Number,
+    /// Some grant gives the caller the access and has the prefix in its scope.
     Scope,
+    /// Neither the first day nor the day of the request lies after the last day.
     Dates,
+    /// The maxLength lies from the length of the prefix to the width of its family.
     Length,
+    /// Every address of the prefix lies in the pool.
     Pool,
+    /// Nobody holds an address of the prefix.
     Free,
+    /// The giver and the taker are two holders.
     Distinct,
+    /// The holder holds every address of the prefix.
     Held,
+    /// No other active authorization gives the same AS, prefix and maxLength.
     Same,
+    /// Neither too many stand at the holder, nor were too many ever made.
     Room,
+}
+
+impl Rule {
+    ghost use Rattle.std.specs.Prelude.{◌≤◌, length};
+    ghost use Rattle.policy.specs.Rule.{rule_name};
+
+    /// The rule's name, in lower case.
+    pub fn as_str(self) -> &'static str
+        ensures name { result.now ≡ rule_name self }
+        ensures short { length result.now ≤ 8 }
+    {
+        match self {
+            Rule::Operator => "operator",
+            Rule::Steward => "steward",
+            Rule::Grant => "grant",
+            Rule::Holder => "holder",
+            Rule::Fresh => "fresh",
+            Rule::Number => "number",
+            Rule::Scope => "scope",
+            Rule::Dates => "dates",
+            Rule::Length => "length",
+            Rule::Pool => "pool",
+            Rule::Free => "free",
+            Rule::Distinct => "distinct",
+            Rule::Held => "held",
+            Rule::Same => "same",
+            Rule::Room => "room",
+        }
+    }
+}
+
+impl fmt::Display for Rule {
+    ghost use Rattle.std.specs.Prelude.{Some};
+    ghost use Rattle.policy.specs.Rule.{rule_name};
+
+    ghost output = { λ rule. Some (rule_name rule) };
+
+    fn fmt<W: fmt::Write>(&self, f: &mut fmt::Formatter<W>) -> fmt::Result {
+        f.write_str(self.as_str())
+    }
 }
 
 /// Why a request was not decided for.
@@ -45,5 +101,35 @@ impl From<AllocError> for Refusal {
 
     fn from(_: AllocError) -> Refusal {
         Refusal::Memory
+    }
+}
+
+#[cfg(test)]
+mod tests {
+    use super::*;
+    use std::test::Fail;
+
+    #[test]
+    fn prints_each_rule(rt: HostRuntime) -> Result<(), Fail> {
+        for (rule, name) in [
+            (Rule::Operator, "operator"),
+            (Rule::Steward, "steward"),
+            (Rule::Grant, "grant"),
+            (Rule::Holder, "holder"),
+            (Rule::Fresh, "fresh"),
+            (Rule::Number, "number"),
+            (Rule::Scope, "scope"),
+            (Rule::Dates, "dates"),
+            (Rule::Length, "length"),
+            (Rule::Pool, "pool"),
+            (Rule::Free, "free"),
+            (Rule::Distinct, "distinct"),
+            (Rule::Held, "held"),
+            (Rule::Same, "same"),
+            (Rule::Room, "room"),
+        ] {
+            assert_eq!(rt; format!(in rt.alloc(); "{rule}")?.as_str(), name);
+        }
+        Ok(())
     }
 }

@@ -1,12 +1,13 @@
 -- The order of entries: rising by index, sorted lists with a repeated entry.
-use Rattle.std.proofs.Common.{◌≡◌, ℕ, zero, suc, ◌+◌, ◌<◌, ◌≤◌, Bool, true, false, cond, List, [], ◌∷◌, length, get_or, Ordering, refl, sym, ap, subst, ◌∙◌, inl, inr, arith}
+use Rattle.std.proofs.Common.{◌≡◌, ℕ, zero, suc, ◌+◌, ◌<◌, ◌≤◌, Bool, true, false, cond, List, [], ◌∷◌, length, get_or, Ordering, refl, sym, ap, subst, ◌∙◌, arith}
 use Rattle.std.specs.Prelude.{◌↔◌, IsTrue, IsPermutation, IsSorted}
 use Rattle.std.specs.declared.cmp.Ordering.TheVariants.{Less, Equal, Greater}
 use Rattle.std.specs.Cmp.{IsTotalOrder}
-use Rattle.std.specs.Ordering.{is_lt, nat_cmp, ordering_then, ordering_reverse}
+use Rattle.std.specs.Ordering.{is_lt, nat_cmp, ordering_reverse}
 use Rattle.std.specs.List.{AllAdjacentBelow, IsAllAdjacentAnswer, list_all, count_by}
-use Rattle.std.proofs.lemmas.Bool.{and_from, eq-eqb, cases_order, lt-ltb, le-ltb, ne_eqb, both_ways}
+use Rattle.std.proofs.lemmas.Bool.{and_from, eq-eqb, both_ways}
 use Rattle.std.proofs.lemmas.Cmp.{nat_cmp_total, on_total, then_total}
+use Rattle.std.specs.FinMap.{nat_cmp-IsAntisymmetric}
 use Rattle.std.proofs.lemmas.List.Recursion.{is_count_by}
 use Rattle.std.proofs.lemmas.List.Sorted.{All-permutation, sum_by-IsPermutation}
 use Rattle.std.proofs.lemmas.List.Sums.{AllPass-from_list_all, list_all-from_AllPass}
@@ -14,7 +15,9 @@ use Rattle.addr.specs.Family.{family_eq}
 use Rattle.addr.specs.declared.family.Family.{Family}
 use Rattle.addr.specs.declared.family.Family.TheVariants.{V4, V6}
 use Rattle.roa.specs.declared.content.Entry.{Entry}
-use Rattle.roa.specs.RoaContent.{family_place, entry_order, entry_eq, is_in_range, Rises}
+use Rattle.addr.specs.Order.{prefix_cmp}
+use Rattle.addr.proofs.OrderLemmas.{prefix_total, exact_prefix, both_equal}
+use Rattle.roa.specs.RoaContent.{entry_order, entry_eq, is_in_range, Rises}
 
 -- ---- rising, by index and by recursion
 
@@ -60,45 +63,24 @@ rises_from_answer (e ∷ es) false h = (
 -- ---- the laws of the order
 
 entry_order_total : IsTotalOrder entry_order
-entry_order_total =
-    then_total (on_total (λ (a : Entry). family_place a.prefix.family) nat_cmp_total)
-    (then_total (on_total (λ (a : Entry). a.prefix.first) nat_cmp_total)
-    (then_total (on_total (λ (a : Entry). a.prefix.length) nat_cmp_total) (on_total (λ (a : Entry). a.max) nat_cmp_total)))
+entry_order_total = then_total (on_total (λ (a : Entry). a.prefix) prefix_total) (on_total (λ (a : Entry). a.max) nat_cmp_total)
 
-equal_then : (o p : Ordering) → ordering_then o p ≡ Equal → (o ≡ Equal) × (p ≡ Equal)
-equal_then Less p e = absurd cc
-equal_then Equal p e = (refl, e)
-equal_then Greater p e = absurd cc
+family_eq-itself : (f : Family) → family_eq f f ≡ true
+family_eq-itself V4 = refl
+family_eq-itself V6 = refl
 
-nat_cmp-Equal : (m n : ℕ) → nat_cmp m n ≡ Equal → m ≡ n
-nat_cmp-Equal m n e = elim (cases_order m n) [
-  | inl same ↦ same
-  | inr other ↦ elim other [
-    | inl lt ↦ let e' = rw (lt-ltb m n lt) at e in absurd cc
-    | inr gt ↦ let e' = rw (le-ltb m n (omega (arith, gt)), ne_eqb m n (λ z. omega (arith, gt, z))) at e in absurd cc
-  ]
-]
-
-family_eq-same : (f g : Family) → family_place f ≡ family_place g → family_eq f g ≡ true
-family_eq-same V4 V4 e = refl
-family_eq-same V6 V6 e = refl
-family_eq-same V4 V6 e = absurd (omega (arith, e))
-family_eq-same V6 V4 e = absurd (omega (arith, e))
+entry_eq-itself : (a : Entry) → entry_eq a a ≡ true
+entry_eq-itself a =
+    and_from _ _ (and_from _ _ (family_eq-itself a.prefix.family) (and_from _ _ (eq-eqb a.prefix.first a.prefix.first refl) (eq-eqb a.prefix.length a.prefix.length refl))) (eq-eqb a.max a.max refl)
 
 -- entries that the order takes for equal are equal
 same_from_order : (a b : Entry) → entry_order a b ≡ Equal → entry_eq a b ≡ true
 same_from_order a b e =
-    let family = equal_then (nat_cmp (family_place a.prefix.family) (family_place b.prefix.family)) _ e in
-    let first = equal_then (nat_cmp a.prefix.first b.prefix.first) _ family.1 in
-    let length_max = equal_then (nat_cmp a.prefix.length b.prefix.length) (nat_cmp a.max b.max) first.1 in
-    and_from _ _
-    (and_from _ _ (family_eq-same a.prefix.family b.prefix.family (nat_cmp-Equal _ _ family.0))
-    (and_from _ _ (eq-eqb _ _ (nat_cmp-Equal a.prefix.first b.prefix.first first.0)) (eq-eqb _ _ (nat_cmp-Equal a.prefix.length b.prefix.length length_max.0))))
-    (eq-eqb _ _ (nat_cmp-Equal a.max b.max length_max.1))
-
-entry_eq-itself : (a : Entry) → entry_eq a a ≡ true
-entry_eq-itself a =
-    and_from _ _ (and_from _ _ (family_eq-same a.prefix.family a.prefix.family refl) (and_from _ _ (eq-eqb a.prefix.first a.prefix.first refl) (eq-eqb a.prefix.length a.prefix.length refl))) (eq-eqb a.max a.max refl)
+    let parts = both_equal (prefix_cmp a.prefix b.prefix) (nat_cmp a.max b.max) e in
+    let prefix = exact_prefix a.prefix b.prefix parts.0 in
+    let max = nat_cmp-IsAntisymmetric a.max b.max parts.1 in
+    let same : a ≡ b = λ i. record { prefix = prefix i; max = max i } in
+    subst (λ (x : Entry). entry_eq a x ≡ true) same (entry_eq-itself a)
 
 -- ---- a sorted list that does not rise has some entry twice
 

@@ -1,12 +1,13 @@
 -- The content of a route origin authorization (RFC 9582 section 4), and which octets are its own by
 -- the distinguished encoding rules (X.690).
-use Rattle.std.specs.Prelude.{◌≡◌, ℕ, ◌+◌, ◌-◌, ◌*◌, ◌^◌, ◌<◌, ◌≤◌, ◌⊎◌, Bool, true, false, ◌&&◌, ◌==◌, nat_le, List, [], ◌∷◌, ◌++◌, length, filter, count_by}
+use Rattle.std.specs.Prelude.{◌≡◌, ℕ, ◌+◌, ◌-◌, ◌*◌, ◌^◌, ◌<◌, ◌≤◌, ◌⊎◌, Bool, true, false, ◌&&◌, ◌==◌, List, [], ◌∷◌, ◌++◌, length, filter, count_by}
 use Rattle.std.specs.declared.cmp.Ordering.{Ordering}
 use Rattle.std.specs.declared.cmp.Ordering.TheVariants.{Less}
 use Rattle.std.specs.Ordering.{ordering_then, nat_cmp}
 use Rattle.std.specs.List.{list_all}
 use Rattle.addr.specs.Family.{width, family_eq}
-use Rattle.addr.specs.Address.{prefix_eq}
+use Rattle.addr.specs.Address.{prefix_eq, fits_max_length}
+use Rattle.addr.specs.Order.{prefix_cmp}
 use Rattle.addr.specs.declared.asn.Asn.{Asn}
 use Rattle.addr.specs.declared.family.Family.{Family}
 use Rattle.addr.specs.declared.family.Family.TheVariants.{V4, V6}
@@ -21,17 +22,9 @@ pub record RouteOriginAttestation : Type 0 where
 
 -- ---- which contents there are
 
--- IPv4 before IPv6
-abbrev pub family_place : Family → ℕ
-family_place V4 = 0
-family_place V6 = 1
-
--- entries rise by family, first address, prefix length and maxLength
+-- entries rise by prefix (family, first address and length) and then by maxLength
 abbrev pub entry_order : Entry → Entry → Ordering
-entry_order a b =
-    ordering_then (nat_cmp (family_place a.prefix.family) (family_place b.prefix.family))
-    (ordering_then (nat_cmp a.prefix.first b.prefix.first)
-    (ordering_then (nat_cmp a.prefix.length b.prefix.length) (nat_cmp a.max b.max)))
+entry_order a b = ordering_then (prefix_cmp a.prefix b.prefix) (nat_cmp a.max b.max)
 
 -- one prefix and one maxLength
 abbrev pub entry_eq : Entry → Entry → Bool
@@ -39,7 +32,7 @@ entry_eq a b = prefix_eq a.prefix b.prefix && (a.max == b.max)
 
 -- the maxLength is neither below the prefix's length nor over the family's width
 abbrev pub is_in_range : Entry → Bool
-is_in_range e = nat_le e.prefix.length e.max && nat_le e.max (width e.prefix.family)
+is_in_range e = fits_max_length e.prefix e.max
 
 -- each entry is before the next one
 abbrev pub Rises : List Entry → Type 0
@@ -69,6 +62,13 @@ IsLowestFault entries Empty = entries ≡ []
 IsLowestFault entries TooMany = 64 < length entries
 IsLowestFault entries MaxLength = AreInCount entries × (list_all is_in_range entries ≡ false)
 IsLowestFault entries Repeated = AreInCount entries × (list_all is_in_range entries ≡ true) × (e : Entry) × (2 ≤ count_by (entry_eq e) entries)
+
+-- the number of a fault, from 1, the lowest first
+abbrev pub content_fault_number : ContentFault → ℕ
+content_fault_number Empty = 1
+content_fault_number TooMany = 2
+content_fault_number MaxLength = 3
+content_fault_number Repeated = 4
 
 -- ---- DER (X.690)
 

@@ -3,6 +3,7 @@ ghost use Rattle.std.specs.List.{list_all};
 
 use addr::{Asn, Prefix};
 use std::marker::Model;
+use thiserror::Error;
 
 /// A prefix and its maxLength, the length of the longest prefixes in it that are authorized too
 /// (RFC 9582 section 4.3.2).
@@ -11,31 +12,41 @@ use std::marker::Model;
 #[derive(Clone, Copy, Debug, PartialEq, Eq, PartialOrd, Ord)]
 pub struct Entry {
     pub prefix: Prefix,
+    /// The maxLength.
     pub max: u8,
 }
 
-impl Entry {
-    ghost use Rattle.roa.specs.RoaContent.{is_in_range};
-
-    /// Whether maxLength is neither below the prefix's length nor over the family's width.
-    fn is_in_range(&self) -> bool
-        ensures { result ≡ is_in_range self.now }
-    {
-        self.prefix.length <= self.max && self.max <= self.prefix.family.width()
-    }
-}
-
-/// Why a list of entries is no content.
-#[derive(Clone, Copy, Debug, PartialEq, Eq)]
+/// Why a list of entries is no content. Of several faults the lowest counts.
+#[derive(Clone, Copy, Debug, PartialEq, Eq, Error)]
 pub enum ContentFault {
     /// There is no entry.
+    #[error("there is no entry")]
     Empty,
     /// There are more than 64 entries.
+    #[error("there are more than 64 entries")]
     TooMany,
     /// A maxLength is below its prefix's length or over its family's width.
+    #[error("a maxLength is below its prefix's length or over its family's width")]
     MaxLength,
     /// Two entries are equal.
+    #[error("two entries are equal")]
     Repeated,
+}
+
+impl ContentFault {
+    ghost use Rattle.roa.specs.RoaContent.{content_fault_number};
+
+    /// The number of the fault, from 1 in the order above.
+    pub fn number(self) -> u8
+        ensures { result ≡ content_fault_number self }
+    {
+        match self {
+            ContentFault::Empty => 1,
+            ContentFault::TooMany => 2,
+            ContentFault::MaxLength => 3,
+            ContentFault::Repeated => 4,
+        }
+    }
 }
 
 /// The content of a route origin authorization (RFC 9582 section 4): one AS number, and 1 to 64
@@ -100,6 +111,7 @@ impl Content {
         Some(Content { asn, entries })
     }
 
+    /// The AS that may originate the prefixes.
     pub fn asn(&self) -> Asn
         ensures { result ≡ self.now.asn }
     {
@@ -120,7 +132,9 @@ ghost use Rattle.roa.specs.RoaContent.{Rises, is_in_range};
 fn are_in_range(entries: &[Entry]) -> bool
     ensures { result ≡ list_all is_in_range entries.now }
 {
-    entries.iter().all(|entry| entry.is_in_range())
+    entries
+        .iter()
+        .all(|entry| entry.prefix.fits_max_length(entry.max))
 }
 
 /// Whether each entry is before the next one.

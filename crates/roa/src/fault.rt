@@ -2,14 +2,31 @@ ghost use Rattle.std.specs.Prelude.{◌≡◌};
 ghost use Rattle.roa.specs.declared.fault.DecodeFault.TheVariants.{Memory};
 
 use std::alloc::{AllocError, AllocFailed};
+use thiserror::Error;
 
 /// Why octets were not decoded.
-#[derive(Clone, Copy, Debug, PartialEq, Eq)]
+#[derive(Clone, Copy, Debug, PartialEq, Eq, Error)]
 pub enum DecodeFault {
     /// The octets are those of no content.
+    #[error("not the content of a route origin authorization in DER")]
     NotContent,
     /// There was no memory for the entries.
+    #[error("want of memory")]
     Memory,
+}
+
+impl DecodeFault {
+    ghost use Rattle.roa.specs.Reading.{decode_fault_number};
+
+    /// The number of the reason, from 1 in the order above.
+    pub fn number(self) -> u8
+        ensures { result ≡ decode_fault_number self }
+    {
+        match self {
+            DecodeFault::NotContent => 1,
+            DecodeFault::Memory => 2,
+        }
+    }
 }
 
 impl From<AllocError> for DecodeFault {

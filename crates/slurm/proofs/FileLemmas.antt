@@ -1,30 +1,25 @@
--- The whole file: its two lists, and the tree of its text.
-use Rattle.std.proofs.Common.{◌≡◌, ℕ, inl, inr, List, Vec, Global, None, Result, Ok, Err, refl}
-use Rattle.std.proofs.lemmas.Bool.{cases_Bool}
-use Rattle.std.proofs.lemmas.Str.{is_utf8-from_IsUtf8, IsUtf8-from_is_utf8}
-use Rattle.std.specs.Str.{IsUtf8, is_utf8}
+-- The whole file: its two lists, and what BGPsec adds, of which there must be nothing.
+use Rattle.std.proofs.Common.{◌≡◌, ◌==◌, false, length, List, [], ◌∷◌, Vec, Global, Some, Result, Ok, Err, refl}
 use Rattle.addr.specs.declared.vrp.Vrp.{Vrp}
-use Rattle.serde_json.specs.Read.{read}
+use Rattle.json_parts.specs.Parts.{both, mapped}
+use Rattle.serde_json.specs.View.{items_view}
+use Rattle.serde_json.specs.declared.value.Value.{Value}
 use Rattle.slurm.specs.Exceptions.{Exceptions}
-use Rattle.slurm.specs.Reading.{both, mapped}
-use Rattle.slurm.specs.SlurmFile.{exceptions_of, tree_of}
+use Rattle.slurm.specs.Fault.{fault_number}
+use Rattle.slurm.specs.SlurmFile.{bgpsec_from, exceptions_of}
 use Rattle.slurm.specs.declared.fault.SlurmFault.{SlurmFault}
+use Rattle.slurm.specs.declared.fault.SlurmFault.TheVariants.{Bgpsec}
 use Rattle.slurm.specs.declared.filter.Filter.{Filter}
 
 pub exceptions-both : (filters : Result (Vec Filter Global) SlurmFault) (assertions : Result (Vec Vrp Global) SlurmFault) →
-    mapped (λ (p : Vec Filter Global × Vec Vrp Global). let file : Exceptions = record { filters = p.0.items; assertions = p.1.items } in file) (both filters assertions)
-    ≡ mapped exceptions_of (both (mapped (λ v. v.items) filters) (mapped (λ v. v.items) assertions))
+    mapped (λ (p : Vec Filter Global × Vec Vrp Global). let file : Exceptions = record { filters = p.0.items; assertions = p.1.items } in file) (both fault_number filters assertions)
+    ≡ mapped exceptions_of (both fault_number (mapped (λ v. v.items) filters) (mapped (λ v. v.items) assertions))
 exceptions-both (Ok f) (Ok a) = refl
 exceptions-both (Ok f) (Err n) = refl
 exceptions-both (Err m) (Ok a) = refl
 exceptions-both (Err m) (Err n) = refl
 
-pub tree_of-text : (bytes : List ℕ) → IsUtf8 bytes → tree_of bytes ≡ read bytes
-tree_of-text bytes text = rw (is_utf8-from_IsUtf8 bytes text) refl
-
-pub tree_of-none : (bytes : List ℕ) → (IsUtf8 bytes → read bytes ≡ None) → tree_of bytes ≡ None
-tree_of-none bytes refused =
-    elim (cases_Bool (is_utf8 bytes)) [
-      | inl text ↦ rw text (refused (IsUtf8-from_is_utf8 bytes text))
-      | inr other ↦ rw other refl
-    ]
+-- an array that is not empty, where it has to be
+pub bgpsec_from-full : (values : List Value) → false ≡ (length values == 0) → Err Bgpsec ≡ bgpsec_from (Some (items_view values))
+bgpsec_from-full [] none = cc
+bgpsec_from-full (v ∷ values) none = refl

@@ -1,17 +1,18 @@
 -- The faults of a JSON tree are neither that of a text that is no JSON nor want of memory.
-use Rattle.std.proofs.Common.{◌≡◌, ◌≢◌, ℕ, ◌<◌, inl, inr, Bool, true, false, if◌then◌else◌, List, [], ◌∷◌, Option, Some, None, is_some, nat_le, nat_lt, ◌==◌, ◌^◌, codes, Result, Ok, Err, subst, arith, lit<}
-use Rattle.std.proofs.lemmas.Bool.Decides.{leb_tells}
+use Rattle.std.proofs.Common.{◌≡◌, ◌≢◌, ℕ, ◌<◌, Bool, true, false, if◌then◌else◌, List, [], ◌∷◌, Option, Some, None, is_some, nat_le, nat_lt, ◌==◌, ◌^◌, codes, Result, Ok, Err, subst, arith, lit<}
 use Rattle.std.specs.Prelude.{IfErr}
 use Rattle.std.specs.Option.{ok_or}
 use Rattle.std.specs.Result.{result_err}
 use Rattle.serde_json.specs.Data.{Data, Items, no_items, item, Members as JsonMembers}
 use Rattle.serde_json.specs.Find.{get, as_object, as_str}
+use Rattle.json_parts.proofs.PartsLemmas.{lower-each}
+use Rattle.json_parts.specs.Parts.{lower, both, mapped, and_then, unless, each}
+use Rattle.json_parts.specs.Tree.{whole_number, required, optional, has_only, only_of}
 use Rattle.slurm.specs.Exceptions.{Exceptions, entry_count}
-use Rattle.slurm.specs.Fault.{fault_number, lower}
-use Rattle.slurm.specs.Reading.{both, beside, mapped, and_then, required, optional, each, only_of, has_only}
-use Rattle.slurm.specs.SlurmFile.{whole_number, asn_from, asn_in, prefix_in, comment_in, length_in, version_from, version_in, filter_of, filter_in, assertion_of, vrp_with, max_length, assertion_in, entries_from, bgpsec_from, part_in, filters_in, assertions_in, exceptions_of, file_in, within_limit, slurm_in}
+use Rattle.slurm.specs.Fault.{fault_number}
+use Rattle.slurm.specs.SlurmFile.{asn_from, asn_in, prefix_in, comment_in, length_in, version_from, version_in, filter_of, filter_in, assertion_of, vrp_with, max_length, assertion_in, entries_from, bgpsec_from, part_in, filters_in, assertions_in, exceptions_of, file_in, within_limit, slurm_in}
 use Rattle.slurm.specs.declared.fault.SlurmFault.{SlurmFault}
-use Rattle.slurm.specs.declared.fault.SlurmFault.TheVariants.{NotJson, NotObject, TooMany, Memory}
+use Rattle.slurm.specs.declared.fault.SlurmFault.TheVariants.{NotJson, NotObject, Members, TooMany, Memory}
 use Rattle.addr.specs.declared.prefix.Prefix.{Prefix}
 use Rattle.addr.specs.declared.asn.Asn.{Asn}
 
@@ -19,21 +20,20 @@ abbrev pub OfTree : {A : Type 0} → Result A SlurmFault → Type 0
 OfTree (Ok a) = Unit {0}
 OfTree (Err n) = (1 < fault_number n) × (fault_number n < 12)
 
-tree-lower : (a b : SlurmFault) → OfTree {A = Unit {0}} (Err a) → OfTree {A = Unit {0}} (Err b) → OfTree {A = Unit {0}} (Err (lower a b))
-unfolding lower
-tree-lower a b one other = elim (leb_tells (fault_number a) (fault_number b)) [ inl first ↦ rw first.0 one | inr second ↦ rw second.0 other ]
+tree-lower : (a b : SlurmFault) → OfTree {A = Unit {0}} (Err a) → OfTree {A = Unit {0}} (Err b) → OfTree {A = Unit {0}} (Err (lower fault_number a b))
+tree-lower a b one other = lower-each fault_number (λ n. OfTree {A = Unit {0}} (Err n)) a b one other
 
-tree-both : {A B : Type 0} (one : Result A SlurmFault) (other : Result B SlurmFault) → OfTree one → OfTree other → OfTree (both one other)
+tree-both : {A B : Type 0} (one : Result A SlurmFault) (other : Result B SlurmFault) → OfTree one → OfTree other → OfTree (both fault_number one other)
 tree-both (Ok a) (Ok b) h k = tt
 tree-both (Ok a) (Err n) h k = k
 tree-both (Err m) (Ok b) h k = h
 tree-both (Err m) (Err n) h k = tree-lower m n h k
 
-tree-beside : {A B : Type 0} (one : Result A SlurmFault) (other : Result B SlurmFault) → OfTree one → OfTree other → OfTree (beside one other)
-tree-beside (Ok a) (Ok b) h k = tt
-tree-beside (Ok a) (Err n) h k = k
-tree-beside (Err m) (Ok b) h k = h
-tree-beside (Err m) (Err n) h k = tree-lower m n h k
+tree-unless : {A B : Type 0} (one : Result A SlurmFault) (other : Result B SlurmFault) → OfTree one → OfTree other → OfTree (unless fault_number one other)
+tree-unless (Ok a) (Ok b) h k = tt
+tree-unless (Ok a) (Err n) h k = k
+tree-unless (Err m) (Ok b) h k = h
+tree-unless (Err m) (Err n) h k = tree-lower m n h k
 
 tree-mapped : {A B : Type 0} (f : A → B) (r : Result A SlurmFault) → OfTree r → OfTree (mapped f r)
 tree-mapped f (Ok a) h = tt
@@ -43,7 +43,7 @@ tree-and_then : {A B : Type 0} (f : A → Result B SlurmFault) (r : Result A Slu
 tree-and_then f (Ok a) next h = next a
 tree-and_then f (Err n) next h = h
 
-tree-required : {A : Type 0} (reading : Data → Result A SlurmFault) (d : Option Data) → ((d : Data) → OfTree (reading d)) → OfTree (required reading d)
+tree-required : {A : Type 0} (reading : Data → Result A SlurmFault) (d : Option Data) → ((d : Data) → OfTree (reading d)) → OfTree (required Members reading d)
 tree-required reading None h = (lit< tt, lit< tt)
 tree-required reading (Some d) h = h d
 
@@ -51,9 +51,9 @@ tree-optional : {A : Type 0} (reading : Data → Result A SlurmFault) (d : Optio
 tree-optional reading None h = tt
 tree-optional reading (Some d) h = tree-mapped Some (reading d) (h d)
 
-tree-each : {A : Type 0} (reading : Data → Result A SlurmFault) (ds : List Data) → ((d : Data) → OfTree (reading d)) → OfTree (each reading ds)
+tree-each : {A : Type 0} (reading : Data → Result A SlurmFault) (ds : List Data) → ((d : Data) → OfTree (reading d)) → OfTree (each fault_number reading ds)
 tree-each reading [] h = tt
-tree-each reading (d ∷ ds) h = tree-mapped _ (both (reading d) (each reading ds)) (tree-both (reading d) (each reading ds) (h d) (tree-each reading ds h))
+tree-each reading (d ∷ ds) h = tree-mapped _ (both fault_number (reading d) (each fault_number reading ds)) (tree-both (reading d) (each fault_number reading ds) (h d) (tree-each reading ds h))
 
 tree-if : {A : Type 0} (b : Bool) (one other : Result A SlurmFault) → OfTree one → OfTree other → OfTree (if b then one else other)
 tree-if true one other h k = h
@@ -63,7 +63,7 @@ tree-ok_or : {A : Type 0} (o : Option A) (n : SlurmFault) → (1 < fault_number 
 tree-ok_or None n h = h
 tree-ok_or (Some a) n h = tt
 
-tree-only : (names : List (List ℕ)) (members : Option JsonMembers) → OfTree (only_of names members)
+tree-only : (names : List (List ℕ)) (members : Option JsonMembers) → OfTree (only_of Members names members)
 tree-only names None = (lit< tt, lit< tt)
 tree-only names (Some ms) = tree-if (has_only names ms) _ _ tt (lit< tt, lit< tt)
 
@@ -92,14 +92,14 @@ tree-filter_of (None, None) = (lit< tt, lit< tt)
 
 tree-filter : (d : Data) → OfTree (filter_in d)
 tree-filter d =
-    tree-beside _ _ (tree-beside _ _ (tree-and_then filter_of _ tree-filter_of
+    tree-unless _ _ (tree-unless _ _ (tree-and_then filter_of _ tree-filter_of
     (tree-both _ _ (tree-optional prefix_in _ tree-prefix) (tree-optional asn_in (get (codes "asn") d) (λ e. tree-asn_from (whole_number e)))))
     (tree-only (codes "prefix" ∷ codes "asn" ∷ codes "comment" ∷ []) (as_object d)))
     (tree-optional comment_in _ tree-comment)
 
 tree-assertion : (d : Data) → OfTree (assertion_in d)
 tree-assertion d =
-    tree-beside _ _ (tree-beside _ _ (tree-and_then assertion_of _ (λ m. tree-ok_or (vrp_with m.0 (max_length m.0 m.1.1) m.1.0) _ (lit< tt, lit< tt))
+    tree-unless _ _ (tree-unless _ _ (tree-and_then assertion_of _ (λ m. tree-ok_or (vrp_with m.0 (max_length m.0 m.1.1) m.1.0) _ (lit< tt, lit< tt))
     (tree-both _ _ (tree-required prefix_in _ tree-prefix)
     (tree-both _ _ (tree-required asn_in (get (codes "asn") d) (λ e. tree-asn_from (whole_number e))) (tree-optional length_in _ tree-length))))
     (tree-only (codes "prefix" ∷ codes "asn" ∷ codes "maxPrefixLength" ∷ codes "comment" ∷ []) (as_object d)))
@@ -116,9 +116,9 @@ tree-bgpsec (Some (item d ds)) = (lit< tt, lit< tt)
 
 tree-part : {A : Type 0} (reading : Data → Result A SlurmFault) (entries bgpsec : List ℕ) → ((d : Data) → OfTree (reading d)) → (d : Data) → OfTree (part_in reading entries bgpsec d)
 tree-part reading entries bgpsec h d =
-    tree-beside _ _ (tree-beside _ _ (tree-entries reading _ h) (tree-only (entries ∷ bgpsec ∷ []) (as_object d))) (tree-bgpsec _)
+    tree-unless _ _ (tree-unless _ _ (tree-entries reading _ h) (tree-only (entries ∷ bgpsec ∷ []) (as_object d))) (tree-bgpsec _)
 
-tree-lists : (d : Data) → OfTree (mapped exceptions_of (both (required filters_in (get (codes "validationOutputFilters") d)) (required assertions_in (get (codes "locallyAddedAssertions") d))))
+tree-lists : (d : Data) → OfTree (mapped exceptions_of (both fault_number (required Members filters_in (get (codes "validationOutputFilters") d)) (required Members assertions_in (get (codes "locallyAddedAssertions") d))))
 tree-lists d =
     tree-mapped exceptions_of _ (tree-both _ _
     (tree-required filters_in (get (codes "validationOutputFilters") d) (tree-part filter_in (codes "prefixFilters") (codes "bgpsecFilters") tree-filter))
@@ -126,7 +126,7 @@ tree-lists d =
 
 pub tree-file : (d : Data) → OfTree (file_in d)
 tree-file d =
-    tree-beside _ _ (tree-beside _ _ (tree-beside _ _ (tree-lists d)
+    tree-unless _ _ (tree-unless _ _ (tree-unless _ _ (tree-lists d)
     (tree-if (is_some (as_object d)) (Ok tt) (Err NotObject) tt (lit< tt, lit< tt)))
     (tree-only (codes "slurmVersion" ∷ codes "validationOutputFilters" ∷ codes "locallyAddedAssertions" ∷ []) (as_object d)))
     (tree-required version_in (get (codes "slurmVersion") d) (λ e. tree-version_from (whole_number e)))

@@ -1,10 +1,10 @@
 -- What the readings tell is the lowest of all faults of the tree.
-use Rattle.std.proofs.Common.{◌≡◌, ◌≢◌, ℕ, suc, ◌+◌, ◌≤◌, ◌^◌, inl, inr, Bool, true, false, ◌&&◌, ◌||◌, ◌==◌, if◌then◌else◌, nat_le, nat_lt, List, [], ◌∷◌, ◌++◌, length, codes, Option, Some, None, is_some, option_and_then, option_map, Result, Ok, Err, refl, ap, sym, ◌∙◌, arith, lit≤}
+use Rattle.std.proofs.Common.{◌≡◌, ℕ, suc, ◌+◌, ◌≤◌, ◌^◌, inl, inr, Bool, true, false, ◌&&◌, ◌||◌, ◌==◌, if◌then◌else◌, nat_le, nat_lt, List, [], ◌∷◌, ◌++◌, length, codes, Option, Some, None, is_some, option_and_then, option_map, Result, Ok, Err, refl, ap, sym, ◌∙◌, arith, lit≤}
 use Rattle.std.proofs.lemmas.Bool.{le-leb}
 use Rattle.std.proofs.lemmas.Bool.Decides.{leb_tells}
 use Rattle.std.proofs.lemmas.List.{append-nil}
 use Rattle.std.proofs.Math.Decide.{dec_le}
-use Rattle.std.specs.Prelude.{IfOk, IfErr}
+use Rattle.std.specs.Prelude.{IfOk, OnOk}
 use Rattle.std.specs.List.{flat_map}
 use Rattle.std.specs.Option.{ok_or}
 use Rattle.std.specs.Result.{result_err}
@@ -14,16 +14,17 @@ use Rattle.addr.specs.declared.prefix.Prefix.{Prefix}
 use Rattle.addr.specs.declared.vrp.Vrp.{Vrp}
 use Rattle.serde_json.specs.Data.{Data, Items, no_items, item, Members as JsonMembers}
 use Rattle.serde_json.specs.Find.{get, as_object, as_str}
+use Rattle.json_parts.proofs.PartsLemmas.{lower-first, lower_assoc}
+use Rattle.json_parts.specs.Parts.{both, mapped, and_then, unless, each}
+use Rattle.json_parts.specs.Tree.{whole_number, required, optional, has_only, only_of, only, list_of}
 use Rattle.slurm.specs.Exceptions.{Exceptions, entry_count}
 use Rattle.slurm.specs.Fault.{fault_number}
-use Rattle.slurm.specs.Reading.{both, beside, mapped, and_then, required, optional, each, only, only_of, has_only, list_of}
-use Rattle.slurm.specs.SlurmFile.{whole_number, prefix_in, asn_from, asn_in, comment_in, length_in, version_from, version_in, filter_of, filter_in, vrp_if, vrp_with, max_length, assertion_of, assertion_in, entries_from, bgpsec_from, part_in, filters_in, assertions_in, object_in, within_limit, exceptions_of, file_in, slurm_in, IsSlurmFile}
+use Rattle.slurm.specs.SlurmFile.{prefix_in, asn_from, asn_in, comment_in, length_in, version_from, version_in, filter_of, filter_in, vrp_if, vrp_with, max_length, assertion_of, assertion_in, entries_from, bgpsec_from, part_in, filters_in, assertions_in, object_in, within_limit, exceptions_of, file_in, slurm_in, IsSlurmFile}
 use Rattle.slurm.specs.SlurmFaults.{lower_of, lowest, fault_unless, required_faults, optional_faults, is_object_of, name_faults, prefix_at, prefix_faults, is_asn, asn_faults, comment_faults, is_one, version_faults, is_max_length, max_length_faults, filter_faults, assertion_faults, array_at, items_at, entries_faults, bgpsec_faults, part_faults, file_entries, slurm_fault}
 use Rattle.slurm.specs.declared.fault.SlurmFault.{SlurmFault}
-use Rattle.slurm.specs.declared.fault.SlurmFault.TheVariants.{NotObject, Members, Version, Prefix as PrefixFault, Asn as AsnFault, MaxPrefixLength, EmptyFilter, Comment, TooMany, Memory}
+use Rattle.slurm.specs.declared.fault.SlurmFault.TheVariants.{NotObject, Members, Version, Prefix as PrefixFault, Asn as AsnFault, MaxPrefixLength, EmptyFilter, Comment, TooMany}
 use Rattle.slurm.specs.declared.filter.Filter.{Filter}
 use Rattle.slurm.specs.declared.members.MaxPrefixLength.{MaxPrefixLength as LengthRead}
-use Rattle.slurm.proofs.FaultLemmas.{lower_assoc, lower-first}
 use Rattle.slurm.proofs.JsonFaultLemmas.{OfTree, tree-file}
 
 -- ---- the lowest of two lists
@@ -32,7 +33,7 @@ lower_of-assoc : (a b c : Option SlurmFault) → lower_of (lower_of a b) c ≡ l
 lower_of-assoc None b c = refl
 lower_of-assoc (Some a) None c = refl
 lower_of-assoc (Some a) (Some b) None = refl
-lower_of-assoc (Some a) (Some b) (Some c) = ap Some (lower_assoc a b c)
+lower_of-assoc (Some a) (Some b) (Some c) = ap Some (lower_assoc fault_number a b c)
 
 lowest-append : (xs ys : List SlurmFault) → lowest (xs ++ ys) ≡ lower_of (lowest xs) (lowest ys)
 lowest-append [] ys = refl
@@ -45,7 +46,7 @@ lowest-append (n ∷ xs) ys =
 pub record Told {A : Type 0} (r : Result A SlurmFault) (faults : List SlurmFault) : Type 0 where
   pub is : result_err r ≡ lowest faults
 
-err-both : {A B : Type 0} (a : Result A SlurmFault) (b : Result B SlurmFault) → result_err (both a b) ≡ lower_of (result_err a) (result_err b)
+err-both : {A B : Type 0} (a : Result A SlurmFault) (b : Result B SlurmFault) → result_err (both fault_number a b) ≡ lower_of (result_err a) (result_err b)
 err-both (Ok a) (Ok b) = refl
 err-both (Ok a) (Err n) = refl
 err-both (Err m) (Ok b) = refl
@@ -55,14 +56,14 @@ err-mapped : {A B : Type 0} (f : A → B) (r : Result A SlurmFault) → result_e
 err-mapped f (Ok a) = refl
 err-mapped f (Err n) = refl
 
-told-both : {A B : Type 0} {a : Result A SlurmFault} {b : Result B SlurmFault} {xs ys : List SlurmFault} → Told a xs → Told b ys → Told (both a b) (xs ++ ys)
+told-both : {A B : Type 0} {a : Result A SlurmFault} {b : Result B SlurmFault} {xs ys : List SlurmFault} → Told a xs → Told b ys → Told (both fault_number a b) (xs ++ ys)
 told-both {a = a} {b = b} {xs = xs} {ys = ys} h k = record { is = rw (err-both a b, h.is, k.is) (sym (lowest-append xs ys)) }
 
 told-mapped : {A B : Type 0} (f : A → B) {r : Result A SlurmFault} {xs : List SlurmFault} → Told r xs → Told (mapped f r) xs
 told-mapped f {r = r} h = record { is = err-mapped f r ∙ h.is }
 
-told-beside : {A B : Type 0} {a : Result A SlurmFault} {b : Result B SlurmFault} {xs ys : List SlurmFault} → Told a xs → Told b ys → Told (beside a b) (xs ++ ys)
-told-beside h k = told-mapped (λ p. p.0) (told-both h k)
+told-unless : {A B : Type 0} {a : Result A SlurmFault} {b : Result B SlurmFault} {xs ys : List SlurmFault} → Told a xs → Told b ys → Told (unless fault_number a b) (xs ++ ys)
+told-unless h k = told-mapped (λ p. p.0) (told-both h k)
 
 told-if : {A : Type 0} (b : Bool) (a : A) (n : SlurmFault) → Told (if b then Ok a else Err n) (fault_unless b n)
 told-if true a n = record { is = refl }
@@ -72,14 +73,14 @@ told-ok_or : {A : Type 0} (o : Option A) (n : SlurmFault) → Told (ok_or o n) (
 told-ok_or None n = record { is = refl }
 told-ok_or (Some a) n = record { is = refl }
 
-told-only_of : (names : List (List ℕ)) (members : Option JsonMembers) → Told (only_of names members) (fault_unless (is_object_of names members) Members)
+told-only_of : (names : List (List ℕ)) (members : Option JsonMembers) → Told (only_of Members names members) (fault_unless (is_object_of names members) Members)
 told-only_of names None = record { is = refl }
 told-only_of names (Some ms) = told-if (has_only names ms) tt Members
 
-told-only : (names : List (List ℕ)) (d : Data) → Told (only names d) (name_faults names d)
+told-only : (names : List (List ℕ)) (d : Data) → Told (only Members names d) (name_faults names d)
 told-only names d = told-only_of names (as_object d)
 
-told-required : {A : Type 0} (reading : Data → Result A SlurmFault) (faults : Data → List SlurmFault) (o : Option Data) → ((d : Data) → Told (reading d) (faults d)) → Told (required reading o) (required_faults faults o)
+told-required : {A : Type 0} (reading : Data → Result A SlurmFault) (faults : Data → List SlurmFault) (o : Option Data) → ((d : Data) → Told (reading d) (faults d)) → Told (required Members reading o) (required_faults faults o)
 told-required reading faults None h = record { is = refl }
 told-required reading faults (Some d) h = h d
 
@@ -87,7 +88,7 @@ told-optional : {A : Type 0} (reading : Data → Result A SlurmFault) (faults : 
 told-optional reading faults None h = record { is = refl }
 told-optional reading faults (Some d) h = told-mapped Some (h d)
 
-told-each : {A : Type 0} (reading : Data → Result A SlurmFault) (faults : Data → List SlurmFault) (ds : List Data) → ((d : Data) → Told (reading d) (faults d)) → Told (each reading ds) (flat_map faults ds)
+told-each : {A : Type 0} (reading : Data → Result A SlurmFault) (faults : Data → List SlurmFault) (ds : List Data) → ((d : Data) → Told (reading d) (faults d)) → Told (each fault_number reading ds) (flat_map faults ds)
 told-each reading faults [] h = record { is = refl }
 told-each reading faults (d ∷ ds) h = told-mapped (λ p. p.0 ∷ p.1) (told-both (h d) (told-each reading faults ds h))
 
@@ -115,19 +116,19 @@ told-version d = told-version_from (whole_number d)
 
 -- ---- filters
 
-err-filter_prefix : (p : Result Prefix SlurmFault) (asn : Result (Option Asn) SlurmFault) → result_err (and_then filter_of (both (mapped Some p) asn)) ≡ result_err (both (mapped {B = Option Prefix} Some p) asn)
+err-filter_prefix : (p : Result Prefix SlurmFault) (asn : Result (Option Asn) SlurmFault) → result_err (and_then filter_of (both fault_number (mapped Some p) asn)) ≡ result_err (both fault_number (mapped {B = Option Prefix} Some p) asn)
 err-filter_prefix (Ok p) (Ok (Some asn)) = refl
 err-filter_prefix (Ok p) (Ok None) = refl
 err-filter_prefix (Ok p) (Err n) = refl
 err-filter_prefix (Err m) (Ok asn) = refl
 err-filter_prefix (Err m) (Err n) = refl
 
-err-filter_asn : (asn : Result Asn SlurmFault) → result_err (and_then filter_of (both (Ok None) (mapped Some asn))) ≡ result_err (both {A = Option Prefix} (Ok None) (mapped {B = Option Asn} Some asn))
+err-filter_asn : (asn : Result Asn SlurmFault) → result_err (and_then filter_of (both fault_number (Ok None) (mapped Some asn))) ≡ result_err (both {A = Option Prefix} fault_number (Ok None) (mapped {B = Option Asn} Some asn))
 err-filter_asn (Ok asn) = refl
 err-filter_asn (Err n) = refl
 
 told-filter_of : (p asn : Option Data) →
-    Told (and_then filter_of (both (optional prefix_in p) (optional asn_in asn)))
+    Told (and_then filter_of (both fault_number (optional prefix_in p) (optional asn_in asn)))
     (optional_faults prefix_faults p ++ optional_faults asn_faults asn ++ fault_unless (is_some p || is_some asn) EmptyFilter)
 told-filter_of (Some p) asn = record {
   is =
@@ -146,7 +147,7 @@ told-filter_of None None = record { is = refl }
 
 told-filter : (d : Data) → Told (filter_in d) (filter_faults d)
 told-filter d =
-    told-beside (told-beside (told-filter_of (get (codes "prefix") d) (get (codes "asn") d))
+    told-unless (told-unless (told-filter_of (get (codes "prefix") d) (get (codes "asn") d))
     (told-only (codes "prefix" ∷ codes "asn" ∷ codes "comment" ∷ []) d))
     (told-optional comment_in comment_faults (get (codes "comment") d) told-comment)
 
@@ -179,17 +180,17 @@ asn_from-low (Some n) = low (nat_lt n (2 ^ 32))
     low true = tt
     low false = lit≤ tt
 
-asn-low : (asn : Option Data) → OfAsn (required asn_in asn)
+asn-low : (asn : Option Data) → OfAsn (required Members asn_in asn)
 asn-low None = lit≤ tt
 asn-low (Some d) = asn_from-low (whole_number d)
 
 lower_of-low : (m : SlurmFault) (b : Bool) → fault_number m ≤ 8 → Some m ≡ lower_of (Some m) (lowest (fault_unless b MaxPrefixLength))
 lower_of-low m true low = refl
-lower_of-low m false low = ap Some (sym (lower-first m MaxPrefixLength low))
+lower_of-low m false low = ap Some (sym (lower-first fault_number m MaxPrefixLength low))
 
 -- a prefix and a number: the VRP is there where the number is in its range
 told-in_range : (p : Prefix) (max : Option LengthRead) (asn : Result Asn SlurmFault) (xs : List SlurmFault) → Told asn xs → OfAsn asn →
-    Told (and_then assertion_of (both (Ok p) (both asn (Ok max)))) (xs ++ fault_unless (is_in_range p (max_length p max)) MaxPrefixLength)
+    Told (and_then assertion_of (both fault_number (Ok p) (both fault_number asn (Ok max)))) (xs ++ fault_unless (is_in_range p (max_length p max)) MaxPrefixLength)
 told-in_range p max (Ok asn) xs h low =
     let range = is_in_range p (max_length p max) in
     record {
@@ -209,7 +210,7 @@ told-in_range p max (Err m) xs h low =
     }
 
 -- no number
-err-no_number : (p : Prefix) (asn : Result Asn SlurmFault) → result_err (and_then assertion_of (both (Ok p) (both asn (Err MaxPrefixLength)))) ≡ result_err (both {B = Option LengthRead} asn (Err MaxPrefixLength))
+err-no_number : (p : Prefix) (asn : Result Asn SlurmFault) → result_err (and_then assertion_of (both fault_number (Ok p) (both fault_number asn (Err MaxPrefixLength)))) ≡ result_err (both {B = Option LengthRead} fault_number asn (Err MaxPrefixLength))
 err-no_number p (Ok asn) = refl
 err-no_number p (Err m) = refl
 
@@ -217,7 +218,7 @@ own_length : (p : Prefix) → is_in_range p p.length ≡ true
 own_length p = rw (le-leb p.length p.length (omega arith), le-leb p.length (width p.family) p.length_fits) refl
 
 told-max : (p : Prefix) (asn : Result Asn SlurmFault) (xs : List SlurmFault) (number : Option ℕ) → Told asn xs → OfAsn asn →
-    Told (and_then assertion_of (both (Ok p) (both asn (mapped {B = Option LengthRead} Some (ok_or (option_map (λ n. record { 0 = n }) number) MaxPrefixLength)))))
+    Told (and_then assertion_of (both fault_number (Ok p) (both fault_number asn (mapped {B = Option LengthRead} Some (ok_or (option_map (λ n. record { 0 = n }) number) MaxPrefixLength)))))
     (xs ++ fault_unless (is_max_length (Some p) number) MaxPrefixLength)
 told-max p asn xs None h low = record {
   is =
@@ -227,13 +228,13 @@ told-max p asn xs None h low = record {
 told-max p asn xs (Some n) h low = told-in_range p (Some (record { 0 = n })) asn xs h low
 
 told-with_prefix : (p : Prefix) (asn max : Option Data) →
-    Told (and_then assertion_of (both (Ok p) (both (required asn_in asn) (optional length_in max))))
+    Told (and_then assertion_of (both fault_number (Ok p) (both fault_number (required Members asn_in asn) (optional length_in max))))
     (required_faults asn_faults asn ++ optional_faults (max_length_faults (Some p)) max)
 told-with_prefix p asn None =
-    let own = told-in_range p None (required asn_in asn) (required_faults asn_faults asn) (told-required asn_in asn_faults asn told-asn) (asn-low asn) in
+    let own = told-in_range p None (required Members asn_in asn) (required_faults asn_faults asn) (told-required asn_in asn_faults asn told-asn) (asn-low asn) in
     record { is = own.is ∙ ap (λ (b : Bool). lowest (required_faults asn_faults asn ++ fault_unless b MaxPrefixLength)) (own_length p) }
 told-with_prefix p asn (Some max) =
-    told-max p (required asn_in asn) (required_faults asn_faults asn) (whole_number max) (told-required asn_in asn_faults asn told-asn) (asn-low asn)
+    told-max p (required Members asn_in asn) (required_faults asn_faults asn) (whole_number max) (told-required asn_in asn_faults asn told-asn) (asn-low asn)
 
 -- without a prefix
 told-length : (d : Data) → Told (length_in d) (max_length_faults None d)
@@ -243,32 +244,32 @@ told-length d = told-number (whole_number d)
     told-number None = record { is = refl }
     told-number (Some n) = record { is = refl }
 
-err-no_prefix : (m : SlurmFault) (others : Result (Asn × Option LengthRead) SlurmFault) → result_err (and_then assertion_of (both (Err m) others)) ≡ lower_of (Some m) (result_err others)
+err-no_prefix : (m : SlurmFault) (others : Result (Asn × Option LengthRead) SlurmFault) → result_err (and_then assertion_of (both fault_number (Err m) others)) ≡ lower_of (Some m) (result_err others)
 err-no_prefix m (Ok others) = refl
 err-no_prefix m (Err n) = refl
 
 told-no_prefix : (m : SlurmFault) (asn max : Option Data) →
-    Told (and_then assertion_of (both (Err m) (both (required asn_in asn) (optional length_in max))))
+    Told (and_then assertion_of (both fault_number (Err m) (both fault_number (required Members asn_in asn) (optional length_in max))))
     (m ∷ [] ++ required_faults asn_faults asn ++ optional_faults (max_length_faults None) max)
 told-no_prefix m asn max =
     let others = told-both (told-required asn_in asn_faults asn told-asn) (told-optional length_in (max_length_faults None) max told-length) in
-    record { is = err-no_prefix m (both (required asn_in asn) (optional length_in max)) ∙ ap (lower_of (Some m)) others.is }
+    record { is = err-no_prefix m (both fault_number (required Members asn_in asn) (optional length_in max)) ∙ ap (lower_of (Some m)) others.is }
 
 told-read_prefix : (p : Option Prefix) (asn max : Option Data) →
-    Told (and_then assertion_of (both (ok_or p PrefixFault) (both (required asn_in asn) (optional length_in max))))
+    Told (and_then assertion_of (both fault_number (ok_or p PrefixFault) (both fault_number (required Members asn_in asn) (optional length_in max))))
     (fault_unless (is_some p) PrefixFault ++ required_faults asn_faults asn ++ optional_faults (max_length_faults p) max)
 told-read_prefix None asn max = told-no_prefix PrefixFault asn max
 told-read_prefix (Some p) asn max = told-with_prefix p asn max
 
 told-assertion_of : (p asn max : Option Data) →
-    Told (and_then assertion_of (both (required prefix_in p) (both (required asn_in asn) (optional length_in max))))
+    Told (and_then assertion_of (both fault_number (required Members prefix_in p) (both fault_number (required Members asn_in asn) (optional length_in max))))
     (required_faults prefix_faults p ++ required_faults asn_faults asn ++ optional_faults (max_length_faults (option_and_then prefix_at p)) max)
 told-assertion_of None asn max = told-no_prefix Members asn max
 told-assertion_of (Some p) asn max = told-read_prefix (prefix_at p) asn max
 
 told-assertion : (d : Data) → Told (assertion_in d) (assertion_faults d)
 told-assertion d =
-    told-beside (told-beside (told-assertion_of (get (codes "prefix") d) (get (codes "asn") d) (get (codes "maxPrefixLength") d))
+    told-unless (told-unless (told-assertion_of (get (codes "prefix") d) (get (codes "asn") d) (get (codes "maxPrefixLength") d))
     (told-only (codes "prefix" ∷ codes "asn" ∷ codes "maxPrefixLength" ∷ codes "comment" ∷ []) d))
     (told-optional comment_in comment_faults (get (codes "comment") d) told-comment)
 
@@ -285,7 +286,7 @@ told-bgpsec (Some (item d ds)) = record { is = refl }
 
 told-part : {A : Type 0} (reading : Data → Result A SlurmFault) (faults : Data → List SlurmFault) (entries bgpsec : List ℕ) → ((d : Data) → Told (reading d) (faults d)) → (d : Data) → Told (part_in reading entries bgpsec d) (part_faults faults entries bgpsec d)
 told-part reading faults entries bgpsec h d =
-    told-beside (told-beside (told-entries reading faults (array_at entries d) h) (told-only (entries ∷ bgpsec ∷ []) d)) (told-bgpsec (array_at bgpsec d))
+    told-unless (told-unless (told-entries reading faults (array_at entries d) h) (told-only (entries ∷ bgpsec ∷ []) d)) (told-bgpsec (array_at bgpsec d))
 
 abbrev parts_faults : Data → List SlurmFault
 parts_faults d =
@@ -297,7 +298,7 @@ parts_faults d =
 
 told-file : (d : Data) → Told (file_in d) (parts_faults d)
 told-file d =
-    told-beside (told-beside (told-beside (told-mapped exceptions_of (told-both
+    told-unless (told-unless (told-unless (told-mapped exceptions_of (told-both
     (told-required filters_in (part_faults filter_faults (codes "prefixFilters") (codes "bgpsecFilters")) (get (codes "validationOutputFilters") d)
     (told-part filter_in filter_faults (codes "prefixFilters") (codes "bgpsecFilters") told-filter))
     (told-required assertions_in (part_faults assertion_faults (codes "prefixAssertions") (codes "bgpsecAssertions")) (get (codes "locallyAddedAssertions") d)
@@ -316,53 +317,53 @@ abbrev CountsFile : Result Exceptions SlurmFault → ℕ → Type 0
 CountsFile (Ok file) n = entry_count file ≡ n
 CountsFile (Err e) n = Unit {0}
 
-counts-more : {A : Type 0} (one : Result A SlurmFault) (others : Result (List A) SlurmFault) (n : ℕ) → Counts others n → Counts (mapped (λ p. p.0 ∷ p.1) (both one others)) (suc n)
+counts-more : {A : Type 0} (one : Result A SlurmFault) (others : Result (List A) SlurmFault) (n : ℕ) → Counts others n → Counts (mapped (λ p. p.0 ∷ p.1) (both fault_number one others)) (suc n)
 counts-more (Ok x) (Ok xs) n h = ap suc h
 counts-more (Ok x) (Err e) n h = tt
 counts-more (Err e) (Ok xs) n h = tt
 counts-more (Err e) (Err f) n h = tt
 
-counts-each : {A : Type 0} (reading : Data → Result A SlurmFault) (ds : List Data) → Counts (each reading ds) (length ds)
+counts-each : {A : Type 0} (reading : Data → Result A SlurmFault) (ds : List Data) → Counts (each fault_number reading ds) (length ds)
 counts-each reading [] = refl
-counts-each reading (d ∷ ds) = counts-more (reading d) (each reading ds) (length ds) (counts-each reading ds)
+counts-each reading (d ∷ ds) = counts-more (reading d) (each fault_number reading ds) (length ds) (counts-each reading ds)
 
-counts-beside : {A B : Type 0} (one : Result (List A) SlurmFault) (other : Result B SlurmFault) (n : ℕ) → Counts one n → Counts (beside one other) n
-counts-beside (Ok xs) (Ok b) n h = h
-counts-beside (Ok xs) (Err e) n h = tt
-counts-beside (Err e) (Ok b) n h = tt
-counts-beside (Err e) (Err f) n h = tt
+counts-unless : {A B : Type 0} (one : Result (List A) SlurmFault) (other : Result B SlurmFault) (n : ℕ) → Counts one n → Counts (unless fault_number one other) n
+counts-unless (Ok xs) (Ok b) n h = h
+counts-unless (Ok xs) (Err e) n h = tt
+counts-unless (Err e) (Ok b) n h = tt
+counts-unless (Err e) (Err f) n h = tt
 
 counts-entries : {A : Type 0} (reading : Data → Result A SlurmFault) (items : Option Items) → Counts (entries_from reading items) (length (items_at items))
 counts-entries reading None = tt
 counts-entries reading (Some items) = counts-each reading (list_of items)
 
-counts-part : {A : Type 0} (reading : Data → Result A SlurmFault) (entries bgpsec : List ℕ) (part : Option Data) → Counts (required (part_in reading entries bgpsec) part) (length (items_at (option_and_then (array_at entries) part)))
+counts-part : {A : Type 0} (reading : Data → Result A SlurmFault) (entries bgpsec : List ℕ) (part : Option Data) → Counts (required Members (part_in reading entries bgpsec) part) (length (items_at (option_and_then (array_at entries) part)))
 counts-part reading entries bgpsec None = tt
 counts-part reading entries bgpsec (Some d) =
-    counts-beside (beside (entries_from reading (array_at entries d)) (only (entries ∷ bgpsec ∷ []) d)) (bgpsec_from (array_at bgpsec d)) _
-    (counts-beside (entries_from reading (array_at entries d)) (only (entries ∷ bgpsec ∷ []) d) _ (counts-entries reading (array_at entries d)))
+    counts-unless (unless fault_number (entries_from reading (array_at entries d)) (only Members (entries ∷ bgpsec ∷ []) d)) (bgpsec_from (array_at bgpsec d)) _
+    (counts-unless (entries_from reading (array_at entries d)) (only Members (entries ∷ bgpsec ∷ []) d) _ (counts-entries reading (array_at entries d)))
 
-counts-lists : (filters : Result (List Filter) SlurmFault) (assertions : Result (List Vrp) SlurmFault) (m n : ℕ) → Counts filters m → Counts assertions n → CountsFile (mapped exceptions_of (both filters assertions)) (m + n)
+counts-lists : (filters : Result (List Filter) SlurmFault) (assertions : Result (List Vrp) SlurmFault) (m n : ℕ) → Counts filters m → Counts assertions n → CountsFile (mapped exceptions_of (both fault_number filters assertions)) (m + n)
 counts-lists (Ok f) (Ok a) m n h k = rw (h, k) refl
 counts-lists (Ok f) (Err e) m n h k = tt
 counts-lists (Err e) (Ok a) m n h k = tt
 counts-lists (Err e) (Err f) m n h k = tt
 
-counts_file-beside : {B : Type 0} (one : Result Exceptions SlurmFault) (other : Result B SlurmFault) (n : ℕ) → CountsFile one n → CountsFile (beside one other) n
-counts_file-beside (Ok file) (Ok b) n h = h
-counts_file-beside (Ok file) (Err e) n h = tt
-counts_file-beside (Err e) (Ok b) n h = tt
-counts_file-beside (Err e) (Err f) n h = tt
+counts_file-unless : {B : Type 0} (one : Result Exceptions SlurmFault) (other : Result B SlurmFault) (n : ℕ) → CountsFile one n → CountsFile (unless fault_number one other) n
+counts_file-unless (Ok file) (Ok b) n h = h
+counts_file-unless (Ok file) (Err e) n h = tt
+counts_file-unless (Err e) (Ok b) n h = tt
+counts_file-unless (Err e) (Err f) n h = tt
 
 counts-file : (d : Data) → CountsFile (file_in d) (file_entries d)
 counts-file d =
-    let filters = required filters_in (get (codes "validationOutputFilters") d) in
-    let assertions = required assertions_in (get (codes "locallyAddedAssertions") d) in
+    let filters = required Members filters_in (get (codes "validationOutputFilters") d) in
+    let assertions = required Members assertions_in (get (codes "locallyAddedAssertions") d) in
     let names = codes "slurmVersion" ∷ codes "validationOutputFilters" ∷ codes "locallyAddedAssertions" ∷ [] in
-    let lists = mapped exceptions_of (both filters assertions) in
-    counts_file-beside (beside (beside lists (object_in d)) (only names d)) (required version_in (get (codes "slurmVersion") d)) _
-    (counts_file-beside (beside lists (object_in d)) (only names d) _
-    (counts_file-beside lists (object_in d) _
+    let lists = mapped exceptions_of (both fault_number filters assertions) in
+    counts_file-unless (unless fault_number (unless fault_number lists (object_in d)) (only Members names d)) (required Members version_in (get (codes "slurmVersion") d)) _
+    (counts_file-unless (unless fault_number lists (object_in d)) (only Members names d) _
+    (counts_file-unless lists (object_in d) _
     (counts-lists filters assertions _ _
     (counts-part filter_in (codes "prefixFilters") (codes "bgpsecFilters") (get (codes "validationOutputFilters") d))
     (counts-part assertion_in (codes "prefixAssertions") (codes "bgpsecAssertions") (get (codes "locallyAddedAssertions") d)))))
@@ -378,16 +379,12 @@ told-within_limit (Err n) faults count h counts low =
   where
     last : (b : Bool) → Some n ≡ lower_of (Some n) (lowest (fault_unless b TooMany))
     last true = refl
-    last false = ap Some (sym (lower-first n TooMany (omega (arith, low.1))))
+    last false = ap Some (sym (lower-first fault_number n TooMany (omega (arith, low.1))))
 
 pub slurm_fault-told : (d : Data) → result_err (slurm_in (Some d)) ≡ slurm_fault (Some d)
 slurm_fault-told d = told-within_limit (file_in d) (parts_faults d) (file_entries d) (told-file d) (counts-file d) (tree-file d)
 
--- an answer that is not of memory is what the tree says, in one equation
-pub slurm_in-answered : (d : Data) (answer : Result Exceptions SlurmFault) → IfOk answer (IsSlurmFile (Some d)) → IfErr answer (λ e. e ≢ Memory → slurm_fault (Some d) ≡ Some e) → answer ≢ Err Memory → answer ≡ slurm_in (Some d)
-slurm_in-answered d (Ok file) read fault other = sym read
-slurm_in-answered d (Err n) read fault other = told (slurm_in (Some d)) (slurm_fault-told d ∙ fault (λ same. other (ap Err same)))
-  where
-    told : (r : Result Exceptions SlurmFault) → result_err r ≡ Some n → Err n ≡ r
-    told (Ok file) e = cc
-    told (Err m) e = let same : m ≡ n = cc in sym (ap Err same)
+-- a tree that was read as a file has no fault
+pub slurm_fault-none : (d : Data) (answer : Result Exceptions SlurmFault) → IfOk answer (IsSlurmFile (Some d)) → OnOk answer (slurm_fault (Some d) ≡ None)
+slurm_fault-none d (Ok file) read = sym (slurm_fault-told d) ∙ ap result_err read
+slurm_fault-none d (Err n) read = tt

@@ -1,5 +1,5 @@
 -- The faults of a SLURM file by number. Where several apply, the lowest is told.
-use Rattle.std.specs.Prelude.{ℕ, nat_le, if◌then◌else◌}
+use Rattle.std.specs.Prelude.{ℕ}
 use Rattle.slurm.specs.declared.fault.SlurmFault.{SlurmFault}
 use Rattle.slurm.specs.declared.fault.SlurmFault.TheVariants.{NotJson, NotObject, Members, Version, Bgpsec, Prefix, Asn, MaxPrefixLength, EmptyFilter, Comment, TooMany, Memory}
 
@@ -16,6 +16,3 @@ fault_number EmptyFilter = 9
 fault_number Comment = 10
 fault_number TooMany = 11
 fault_number Memory = 12
-
-unfoldable pub lower : SlurmFault → SlurmFault → SlurmFault
-lower a b = if nat_le (fault_number a) (fault_number b) then a else b

@@ -1,6 +1,4 @@
 pub mod Fault
-pub mod Reading
-pub mod Gathered
 pub mod Filter
 pub mod Exceptions
 pub mod SlurmFile

@@ -6,16 +6,16 @@ use Rattle.addr.specs.SpelledPrefix.{spelled_prefix}
 use Rattle.addr.specs.declared.prefix.Prefix.{Prefix}
 use Rattle.serde_json.specs.Data.{Data, Items, no_items, item, Members as JsonMembers}
 use Rattle.serde_json.specs.Find.{get, as_object, as_array, as_str}
-use Rattle.slurm.specs.Fault.{lower}
-use Rattle.slurm.specs.Reading.{has_only, list_of}
-use Rattle.slurm.specs.SlurmFile.{whole_number}
+use Rattle.json_parts.specs.Parts.{lower}
+use Rattle.json_parts.specs.Tree.{whole_number, has_only, list_of}
+use Rattle.slurm.specs.Fault.{fault_number}
 use Rattle.slurm.specs.declared.fault.SlurmFault.{SlurmFault}
 use Rattle.slurm.specs.declared.fault.SlurmFault.TheVariants.{NotJson, NotObject, Members, Version, Bgpsec, Prefix as PrefixFault, Asn as AsnFault, MaxPrefixLength, EmptyFilter, Comment, TooMany}
 
 abbrev pub lower_of : Option SlurmFault → Option SlurmFault → Option SlurmFault
 lower_of None other = other
 lower_of (Some m) None = Some m
-lower_of (Some m) (Some n) = Some (lower m n)
+lower_of (Some m) (Some n) = Some (lower fault_number m n)
 
 -- the lowest of some faults
 abbrev pub lowest : List SlurmFault → Option SlurmFault

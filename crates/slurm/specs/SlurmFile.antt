@@ -1,11 +1,8 @@
 -- Which JSON trees are SLURM files, and what they say (RFC 8416 sections 3 and 4): the filters and
 -- assertions of a tree, or the fault that is told of it. Which faults a tree has stands in `SlurmFaults`.
--- The tree is the one that the JSON reader gives: of a repeated member it has the last value, and a
--- number is unsigned there exactly where it is written as plain decimal digits and is below 2 ^ 64.
--- A file is read from all of its parts at once (`both`, `beside`, `each`), so that the fault is the lowest.
+-- A file is read from all of its parts at once (`both`, `unless`, `each`), so that the fault is the lowest.
 use Rattle.std.specs.Prelude.{◌≡◌, ℕ, ◌^◌, ◌≤◌, nat_le, nat_lt, ◌==◌, List, [], ◌∷◌, codes, if◌then◌else◌, Option, Some, None, is_some, option_map, option_and_then, Result, Ok, Err}
 use Rattle.std.specs.Option.{ok_or}
-use Rattle.std.specs.Str.{is_utf8}
 use Rattle.std.proofs.Math.Decide.{dec_le}
 use Rattle.addr.specs.Family.{width}
 use Rattle.addr.specs.SpelledPrefix.{spelled_prefix}
@@ -13,10 +10,11 @@ use Rattle.addr.specs.declared.prefix.Prefix.{Prefix}
 use Rattle.addr.specs.declared.asn.Asn.{Asn}
 use Rattle.addr.specs.declared.vrp.Vrp.{Vrp}
 use Rattle.serde_json.specs.Data.{Data, Items, no_items, item}
-use Rattle.serde_json.specs.Read.{read}
-use Rattle.serde_json.specs.Find.{get, as_object, as_array, as_str, as_number, as_u64}
+use Rattle.serde_json.specs.Find.{get, as_object, as_array, as_str}
+use Rattle.json_parts.specs.Parts.{both, mapped, and_then, unless, each}
+use Rattle.json_parts.specs.Tree.{whole_number, required, optional, only, list_of}
 use Rattle.slurm.specs.Exceptions.{Exceptions, entry_count}
-use Rattle.slurm.specs.Reading.{both, beside, mapped, and_then, required, optional, each, only, list_of}
+use Rattle.slurm.specs.Fault.{fault_number}
 use Rattle.slurm.specs.declared.fault.SlurmFault.{SlurmFault}
 use Rattle.slurm.specs.declared.fault.SlurmFault.TheVariants.{NotJson, NotObject, Members, Version, Bgpsec, Prefix as PrefixFault, Asn as AsnFault, MaxPrefixLength, EmptyFilter, Comment, TooMany}
 use Rattle.slurm.specs.declared.members.Comment.{Comment as CommentRead}
@@ -26,9 +24,6 @@ use Rattle.slurm.specs.declared.filter.Filter.{Filter}
 use Rattle.slurm.specs.declared.filter.Filter.TheVariants.{Under, By, Both}
 
 -- ---- single members
-
-abbrev pub whole_number : Data → Option ℕ
-whole_number d = option_and_then as_u64 (as_number d)
 
 abbrev pub prefix_in : Data → Result Prefix SlurmFault
 prefix_in d = ok_or (option_and_then spelled_prefix (as_str d)) PrefixFault
@@ -65,9 +60,9 @@ filter_of (None, None) = Err EmptyFilter
 
 abbrev pub filter_in : Data → Result Filter SlurmFault
 filter_in d =
-    beside (beside (and_then filter_of
-    (both (optional prefix_in (get (codes "prefix") d)) (optional asn_in (get (codes "asn") d))))
-    (only (codes "prefix" ∷ codes "asn" ∷ codes "comment" ∷ []) d))
+    unless fault_number (unless fault_number (and_then filter_of
+    (both fault_number (optional prefix_in (get (codes "prefix") d)) (optional asn_in (get (codes "asn") d))))
+    (only Members (codes "prefix" ∷ codes "asn" ∷ codes "comment" ∷ []) d))
     (optional comment_in (get (codes "comment") d))
 
 -- ---- prefix assertions (RFC 8416 section 3.4.1)
@@ -92,10 +87,10 @@ assertion_of (p, (asn, max)) = ok_or (vrp_with p (max_length p max) asn) MaxPref
 
 abbrev pub assertion_in : Data → Result Vrp SlurmFault
 assertion_in d =
-    beside (beside (and_then assertion_of
-    (both (required prefix_in (get (codes "prefix") d))
-    (both (required asn_in (get (codes "asn") d)) (optional length_in (get (codes "maxPrefixLength") d)))))
-    (only (codes "prefix" ∷ codes "asn" ∷ codes "maxPrefixLength" ∷ codes "comment" ∷ []) d))
+    unless fault_number (unless fault_number (and_then assertion_of
+    (both fault_number (required Members prefix_in (get (codes "prefix") d))
+    (both fault_number (required Members asn_in (get (codes "asn") d)) (optional length_in (get (codes "maxPrefixLength") d)))))
+    (only Members (codes "prefix" ∷ codes "asn" ∷ codes "maxPrefixLength" ∷ codes "comment" ∷ []) d))
     (optional comment_in (get (codes "comment") d))
 
 -- ---- the file (RFC 8416 section 3.2)
@@ -103,7 +98,7 @@ assertion_in d =
 -- what is missing is no array
 abbrev pub entries_from : {A : Type 0} → (Data → Result A SlurmFault) → Option Items → Result (List A) SlurmFault
 entries_from reading None = Err Members
-entries_from reading (Some items) = each reading (list_of items)
+entries_from reading (Some items) = each fault_number reading (list_of items)
 
 abbrev pub bgpsec_from : Option Items → Result (Unit {0}) SlurmFault
 bgpsec_from None = Err Members
@@ -113,8 +108,8 @@ bgpsec_from (Some (item d ds)) = Err Bgpsec
 -- an object of two arrays: the entries, and what BGPsec adds, of which there must be nothing
 abbrev pub part_in : {A : Type 0} → (Data → Result A SlurmFault) → List ℕ → List ℕ → Data → Result (List A) SlurmFault
 part_in reading entries bgpsec d =
-    beside (beside (entries_from reading (option_and_then as_array (get entries d)))
-    (only (entries ∷ bgpsec ∷ []) d))
+    unless fault_number (unless fault_number (entries_from reading (option_and_then as_array (get entries d)))
+    (only Members (entries ∷ bgpsec ∷ []) d))
     (bgpsec_from (option_and_then as_array (get bgpsec d)))
 
 abbrev pub filters_in : Data → Result (List Filter) SlurmFault
@@ -136,23 +131,20 @@ exceptions_of (filters, assertions) = record { filters = filters; assertions = a
 -- the file of these two parts
 abbrev pub file_of : Result (List Filter) SlurmFault → Result (List Vrp) SlurmFault → Data → Result Exceptions SlurmFault
 file_of filters assertions d =
-    beside (beside (beside (mapped exceptions_of (both filters assertions))
+    unless fault_number (unless fault_number (unless fault_number (mapped exceptions_of (both fault_number filters assertions))
     (object_in d))
-    (only (codes "slurmVersion" ∷ codes "validationOutputFilters" ∷ codes "locallyAddedAssertions" ∷ []) d))
-    (required version_in (get (codes "slurmVersion") d))
+    (only Members (codes "slurmVersion" ∷ codes "validationOutputFilters" ∷ codes "locallyAddedAssertions" ∷ []) d))
+    (required Members version_in (get (codes "slurmVersion") d))
 
 abbrev pub file_in : Data → Result Exceptions SlurmFault
 file_in d =
-    file_of (required filters_in (get (codes "validationOutputFilters") d))
-    (required assertions_in (get (codes "locallyAddedAssertions") d)) d
+    file_of (required Members filters_in (get (codes "validationOutputFilters") d))
+    (required Members assertions_in (get (codes "locallyAddedAssertions") d)) d
 
 -- what a tree says; there is none for bytes that are no JSON text
 abbrev pub slurm_in : Option Data → Result Exceptions SlurmFault
 slurm_in None = Err NotJson
 slurm_in (Some d) = and_then within_limit (file_in d)
-
-abbrev pub tree_of : List ℕ → Option Data
-tree_of bytes = if is_utf8 bytes then read bytes else None
 
 abbrev pub IsSlurmFile : Option Data → Exceptions → Type 0
 IsSlurmFile tree file = slurm_in tree ≡ Ok file

@@ -1,26 +1,29 @@
 //! Reading one prefix filter or prefix assertion.
 ghost use Rattle.std.specs.Prelude.{◌≡◌};
 ghost use Rattle.std.specs.Option.{ok_or};
-ghost use Rattle.slurm.specs.Reading.{both, and_then};
+ghost use Rattle.json_parts.specs.Parts.{and_then};
 ghost use Rattle.slurm.specs.SlurmFile.{filter_of, assertion_of, vrp_with};
 
-use crate::members::{Comment, FromJson, MaxPrefixLength, optional, required};
-use crate::reading::{beside, both, only};
+use crate::members::{Comment, MaxPrefixLength};
 use crate::{Filter, SlurmFault};
 use addr::{Asn, Prefix, Vrp};
+use json_parts::{FromJson, both, only, optional, required, unless};
 use serde_json::Value;
 
-impl FromJson for Filter {
+impl FromJson<SlurmFault> for Filter {
     ghost use Rattle.slurm.specs.SlurmFile.{filter_in};
 
     ghost reading = { filter_in };
 
     fn from_json(value: &Value) -> Result<Filter, SlurmFault> {
-        let prefix = optional::<Prefix>(value, "prefix");
-        let asn = optional::<Asn>(value, "asn");
+        let prefix = optional::<Prefix, _>(value, "prefix");
+        let asn = optional::<Asn, _>(value, "asn");
         let filter = filter_of(both(prefix, asn));
         let known = only(value, &["prefix", "asn", "comment"]);
-        beside(beside(filter, known), optional::<Comment>(value, "comment"))
+        unless(
+            unless(filter, known),
+            optional::<Comment, _>(value, "comment"),
+        )
     }
 }
 
@@ -37,18 +40,18 @@ fn filter_of(
     }
 }
 
-impl FromJson for Vrp {
+impl FromJson<SlurmFault> for Vrp {
     ghost use Rattle.slurm.specs.SlurmFile.{assertion_in};
 
     ghost reading = { assertion_in };
 
     fn from_json(value: &Value) -> Result<Vrp, SlurmFault> {
-        let prefix = required::<Prefix>(value, "prefix");
-        let asn = required::<Asn>(value, "asn");
-        let max = optional::<MaxPrefixLength>(value, "maxPrefixLength");
+        let prefix = required::<Prefix, _>(value, "prefix");
+        let asn = required::<Asn, _>(value, "asn");
+        let max = optional::<MaxPrefixLength, _>(value, "maxPrefixLength");
         let vrp = assertion_of(both(prefix, both(asn, max)));
         let known = only(value, &["prefix", "asn", "maxPrefixLength", "comment"]);
-        beside(beside(vrp, known), optional::<Comment>(value, "comment"))
+        unless(unless(vrp, known), optional::<Comment, _>(value, "comment"))
     }
 }
 

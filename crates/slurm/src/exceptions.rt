@@ -1,4 +1,4 @@
-ghost use Rattle.std.specs.Prelude.{◌≡◌, ◌≢◌, ◌+◌, ◌≤◌, ◌↔◌, Any, IsTrue, length, Some, IfOk, IfErr};
+ghost use Rattle.std.specs.Prelude.{◌≡◌, ◌≢◌, ◌+◌, ◌≤◌, ◌↔◌, Any, IsTrue, length, None, Some, IfOk, IfErr, OnOk};
 ghost use Rattle.std.specs.List.{list_any};
 ghost use Rattle.serde_json.specs.View.{view};
 ghost use Rattle.slurm.specs.Exceptions.{Exceptions};
@@ -7,7 +7,8 @@ use crate::file::read_file;
 use crate::filter::some_matches;
 use crate::{Filter, SlurmFault};
 use addr::Vrp;
-use serde_json::{Category, Value};
+use json_parts::tree_of;
+use serde_json::Value;
 use std::alloc::Global;
 use std::marker::Model;
 
@@ -31,7 +32,8 @@ impl Model for Slurm {
 
 impl Slurm {
     ghost use Rattle.slurm.specs.Filter.{FilterMatches, filter_matches};
-    ghost use Rattle.slurm.specs.SlurmFile.{IsSlurmFile, tree_of, within_limit};
+    ghost use Rattle.json_parts.specs.Tree.{tree_of};
+    ghost use Rattle.slurm.specs.SlurmFile.{within_limit};
     ghost use Rattle.slurm.specs.SlurmEntries.{SaysExceptions};
     ghost use Rattle.slurm.specs.SlurmFaults.{slurm_fault};
 
@@ -51,23 +53,20 @@ impl Slurm {
 
     /// Reads a file from its text.
     pub fn read(alloc: Global, bytes: &[u8]) -> Result<Slurm, SlurmFault>
-        ensures file { IfOk result (IsSlurmFile (tree_of bytes.now)) }
         ensures entries { IfOk result (SaysExceptions (tree_of bytes.now)) }
+        ensures faultless { OnOk result (slurm_fault (tree_of bytes.now) ≡ None) }
         ensures fault { IfErr result (λ e. e ≢ SlurmFault.Memory → slurm_fault (tree_of bytes.now) ≡ Some e) }
     {
-        match Value::from_slice(alloc, bytes) {
-            Ok(value) => Slurm::of(alloc, &value),
-            Err(error) => match error.classify() {
-                Category::Memory => Err(SlurmFault::Memory),
-                _ => Err(SlurmFault::NotJson),
-            },
+        match tree_of(alloc, bytes)? {
+            Some(value) => Slurm::of(alloc, &value),
+            None => Err(SlurmFault::NotJson),
         }
     }
 
     /// Reads a file that stands in a greater JSON text.
     pub fn of(alloc: Global, value: &Value) -> Result<Slurm, SlurmFault>
-        ensures file { IfOk result (IsSlurmFile (Some (view value.now))) }
         ensures entries { IfOk result (SaysExceptions (Some (view value.now))) }
+        ensures faultless { OnOk result (slurm_fault (Some (view value.now)) ≡ None) }
         ensures fault { IfErr result (λ e. e ≢ SlurmFault.Memory → slurm_fault (Some (view value.now)) ≡ Some e) }
         ensures is_json { result ≢ Err SlurmFault.NotJson }
     {

@@ -1,6 +1,8 @@
 ghost use Rattle.std.specs.Prelude.{◌≡◌};
-ghost use Rattle.slurm.specs.Fault.{fault_number, lower};
+ghost use Rattle.slurm.specs.Fault.{fault_number};
 
+use json_parts::Fault;
+use std::alloc::AllocError;
 use thiserror::Error;
 
 /// Why something is no SLURM file. Where several faults apply, the one of the lowest number is told.
@@ -41,15 +43,30 @@ impl SlurmFault {
     {
         self as u8
     }
+}
 
-    #[tactic(auto, unfolding(crate::specs::Fault::lower))]
-    pub(crate) fn lower(self, other: SlurmFault) -> SlurmFault
-        ensures { result ≡ lower self other }
-    {
-        if self.number() <= other.number() {
-            self
-        } else {
-            other
-        }
+impl Fault for SlurmFault {
+    ghost use Rattle.slurm.specs.declared.fault.SlurmFault.TheVariants.{Members};
+
+    ghost number = { fault_number };
+
+    ghost members = { Members };
+
+    fn number(self) -> u8 {
+        SlurmFault::number(self)
+    }
+
+    fn members() -> SlurmFault {
+        SlurmFault::Members
+    }
+}
+
+impl From<AllocError> for SlurmFault {
+    ghost use Rattle.slurm.specs.declared.fault.SlurmFault.TheVariants.{Memory};
+
+    ghost from_gives = { λ _ fault. fault ≡ Memory };
+
+    fn from(_: AllocError) -> SlurmFault {
+        SlurmFault::Memory
     }
 }

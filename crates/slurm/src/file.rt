@@ -2,14 +2,14 @@
 ghost use Rattle.std.specs.Prelude.{◌≡◌, ◌≢◌, Some, IfOk, IfErr};
 ghost use Rattle.std.specs.Result.{result_err};
 ghost use Rattle.serde_json.specs.View.{view};
-ghost use Rattle.slurm.specs.Reading.{mapped};
+ghost use Rattle.json_parts.specs.Parts.{mapped};
 ghost use Rattle.slurm.specs.SlurmFile.{IsSlurmFile, slurm_in, file_of, object_in};
 
 use crate::lists::required_part;
-use crate::members::{Version, required};
-use crate::reading::{beside, both, only};
+use crate::members::Version;
 use crate::{Filter, Slurm, SlurmFault};
 use addr::Vrp;
+use json_parts::{both, only, required, unless};
 use serde_json::Value;
 use std::alloc::Global;
 
@@ -17,28 +17,22 @@ pub(crate) fn read_file(alloc: Global, value: &Value) -> Result<Slurm, SlurmFaul
     ensures file { IfOk result (IsSlurmFile (Some (view value.now))) }
     ensures fault { IfErr result (λ e. e ≢ SlurmFault.Memory → result_err (slurm_in (Some (view value.now))) ≡ Some e) }
 {
-    let Ok(filters) = required_part(
+    let filters = required_part(
         alloc,
         value,
         "validationOutputFilters",
         "prefixFilters",
         "bgpsecFilters",
-    ) else {
-        return Err(SlurmFault::Memory);
-    };
-    let Ok(assertions) = required_part(
+    )?;
+    let assertions = required_part(
         alloc,
         value,
         "locallyAddedAssertions",
         "prefixAssertions",
         "bgpsecAssertions",
-    ) else {
-        return Err(SlurmFault::Memory);
-    };
-    match whole(value, filters, assertions) {
-        Ok((filters, assertions)) => Slurm::make(filters, assertions),
-        Err(fault) => Err(fault),
-    }
+    )?;
+    let (filters, assertions) = whole(value, filters, assertions)?;
+    Slurm::make(filters, assertions)
 }
 
 /// The two lists, or the lowest fault of them and of the object that they stand in.
@@ -50,7 +44,7 @@ fn whole(
     ensures { mapped (λ p. record { filters = p.0.items; assertions = p.1.items }) result
         ≡ file_of (mapped (λ v. v.items) filters) (mapped (λ v. v.items) assertions) (view value.now) }
 {
-    let lists = beside(both(filters, assertions), object_in(value));
+    let lists = unless(both(filters, assertions), object_in(value));
     let known = only(
         value,
         &[
@@ -59,9 +53,9 @@ fn whole(
             "locallyAddedAssertions",
         ],
     );
-    beside(
-        beside(lists, known),
-        required::<Version>(value, "slurmVersion"),
+    unless(
+        unless(lists, known),
+        required::<Version, _>(value, "slurmVersion"),
     )
 }
 

@@ -9,7 +9,6 @@ mod file;
 mod filter;
 mod lists;
 mod members;
-mod reading;
 #[cfg(test)]
 mod tests;
 

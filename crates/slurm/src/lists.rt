@@ -1,64 +1,18 @@
 //! Reading the lists of entries.
-ghost use Rattle.std.specs.Prelude.{◌≡◌, ◌++◌, ◌∷◌, [], map, IfOk, OnOk, option_and_then, option_map};
+ghost use Rattle.std.specs.Prelude.{◌≡◌, IfOk, option_and_then, option_map};
 ghost use Rattle.serde_json.specs.Find.{as_array, get};
 ghost use Rattle.serde_json.specs.View.{items_view, view};
-ghost use Rattle.slurm.specs.Gathered.{gathered};
-ghost use Rattle.slurm.specs.Reading.{both, each, mapped, required};
+ghost use Rattle.json_parts.specs.Parts.{mapped};
+ghost use Rattle.json_parts.specs.Tree.{required};
 ghost use Rattle.slurm.specs.SlurmFile.{bgpsec_from, entries_from, part_in};
 
 use crate::SlurmFault;
-use crate::members::FromJson;
-use crate::reading::{beside, only};
+use json_parts::{FromJson, each, only, unless};
 use serde_json::Value;
 use std::alloc::{AllocError, Global};
 
 /// The entries of a list, or the lowest fault of the list and of all of its entries.
 type Listed<T> = Result<Vec<T>, SlurmFault>;
-
-/// All entries of a list that were read, or the lowest fault of any.
-#[derive(Drop)]
-struct Gathered<T> {
-    entries: Vec<T>,
-    fault: Option<SlurmFault>,
-}
-
-impl<T: FromJson> Gathered<T> {
-    fn add(&mut self, entry: Result<T, SlurmFault>) -> Result<(), AllocError>
-        ensures { OnOk result (gathered self.new.fault self.new.entries.items
-            ≡ mapped (λ p. p.0 ++ p.1 ∷ []) (both (gathered self.old.fault self.old.entries.items) entry)) }
-    {
-        match (entry, self.fault) {
-            (Ok(entry), None) => self.entries.push(entry)?,
-            (Ok(_), Some(_)) => {}
-            (Err(fault), None) => self.fault = Some(fault),
-            (Err(fault), Some(known)) => self.fault = Some(known.lower(fault)),
-        }
-        Ok(())
-    }
-
-    fn finish(self) -> Listed<T>
-        ensures { mapped (λ v. v.items) result ≡ gathered self.fault self.entries.items }
-    {
-        match self.fault {
-            None => Ok(self.entries),
-            Some(fault) => Err(fault),
-        }
-    }
-}
-
-/// Reads each item. The outer error is want of memory.
-fn each<T: FromJson>(alloc: Global, values: &[Value]) -> Result<Listed<T>, AllocError>
-    ensures { IfOk result (λ read. mapped (λ v. v.items) read ≡ each T.reading (map view values.now)) }
-{
-    let mut gathered = Gathered {
-        entries: Vec::new(alloc),
-        fault: None,
-    };
-    for value in values {
-        gathered.add(T::from_json(value))?;
-    }
-    Ok(gathered.finish())
-}
 
 fn array_in<'a>(value: &'a Value, name: &str) -> Option<&'a Vec<Value>>
     ensures { option_map (λ v. items_view v.now.items) result ≡ option_and_then as_array (get name.now (view value.now)) }
@@ -70,7 +24,7 @@ fn array_in<'a>(value: &'a Value, name: &str) -> Option<&'a Vec<Value>>
 }
 
 /// The array of that name, each item read. The outer error is want of memory.
-fn entries_in<T: FromJson>(
+fn entries_in<T: FromJson<SlurmFault>>(
     alloc: Global,
     value: &Value,
     name: &str,
@@ -98,7 +52,7 @@ fn bgpsec_in(value: &Value, name: &str) -> Result<(), SlurmFault>
     }
 }
 
-fn part<T: FromJson>(
+fn part<T: FromJson<SlurmFault>>(
     alloc: Global,
     value: &Value,
     entries: &str,
@@ -109,12 +63,12 @@ fn part<T: FromJson>(
     let listed = entries_in(alloc, value, entries)?;
     let known = only(value, &[entries, bgpsec]);
     let unused = bgpsec_in(value, bgpsec);
-    Ok(beside(beside(listed, known), unused))
+    Ok(unless(unless(listed, known), unused))
 }
 
 /// The part of that name: an object of the entries, and of the BGPsec entries, of which there must be
 /// none. The outer error is want of memory.
-pub(crate) fn required_part<T: FromJson>(
+pub(crate) fn required_part<T: FromJson<SlurmFault>>(
     alloc: Global,
     value: &Value,
     name: &str,
@@ -122,7 +76,7 @@ pub(crate) fn required_part<T: FromJson>(
     bgpsec: &str,
 ) -> Result<Listed<T>, AllocError>
     ensures { IfOk result (λ read. mapped (λ v. v.items) read
-        ≡ required (part_in T.reading entries.now bgpsec.now) (get name.now (view value.now))) }
+        ≡ required SlurmFault.Members (part_in T.reading entries.now bgpsec.now) (get name.now (view value.now))) }
 {
     match value.get(name) {
         Some(member) => part(alloc, member, entries, bgpsec),

@@ -1,46 +1,13 @@
 //! Reading the members of an object.
-ghost use Rattle.std.specs.Prelude.{◌≡◌, Result};
+ghost use Rattle.std.specs.Prelude.{◌≡◌};
 ghost use Rattle.addr.specs.SpelledPrefix.{spelled_prefix};
-ghost use Rattle.serde_json.specs.Data.{Data};
-ghost use Rattle.serde_json.specs.Find.{get};
-ghost use Rattle.serde_json.specs.View.{view};
-ghost use Rattle.slurm.specs.Reading.{required, optional};
 
 use crate::SlurmFault;
 use addr::{Asn, Prefix};
+use json_parts::FromJson;
 use serde_json::Value;
 
-/// What a JSON value is read as.
-pub(crate) trait FromJson: Copy {
-    ghost use Rattle.slurm.specs.declared.fault.SlurmFault.{SlurmFault};
-
-    ghost reading: { Data → Result Self SlurmFault };
-
-    fn from_json(value: &Value) -> Result<Self, SlurmFault>
-        ensures { result ≡ reading (view value.now) };
-}
-
-/// The member of that name, which has to be there.
-pub(crate) fn required<T: FromJson>(value: &Value, name: &str) -> Result<T, SlurmFault>
-    ensures { result ≡ required T.reading (get name.now (view value.now)) }
-{
-    match value.get(name) {
-        Some(member) => T::from_json(member),
-        None => Err(SlurmFault::Members),
-    }
-}
-
-/// The member of that name, if it is there.
-pub(crate) fn optional<T: FromJson>(value: &Value, name: &str) -> Result<Option<T>, SlurmFault>
-    ensures { result ≡ optional T.reading (get name.now (view value.now)) }
-{
-    match value.get(name) {
-        Some(member) => Ok(Some(T::from_json(member)?)),
-        None => Ok(None),
-    }
-}
-
-impl FromJson for Prefix {
+impl FromJson<SlurmFault> for Prefix {
     ghost use Rattle.slurm.specs.SlurmFile.{prefix_in};
 
     ghost reading = { prefix_in };
@@ -59,7 +26,7 @@ fn spelled_prefix(text: &[u8]) -> Option<Prefix>
     Prefix::read(text).ok()
 }
 
-impl FromJson for Asn {
+impl FromJson<SlurmFault> for Asn {
     ghost use Rattle.slurm.specs.SlurmFile.{asn_in};
 
     ghost reading = { asn_in };
@@ -76,7 +43,7 @@ impl FromJson for Asn {
 #[derive(Clone, Copy)]
 pub(crate) struct MaxPrefixLength(pub(crate) u64);
 
-impl FromJson for MaxPrefixLength {
+impl FromJson<SlurmFault> for MaxPrefixLength {
     ghost use Rattle.slurm.specs.SlurmFile.{length_in};
 
     ghost reading = { length_in };
@@ -93,7 +60,7 @@ impl FromJson for MaxPrefixLength {
 #[derive(Clone, Copy)]
 pub(crate) struct Comment;
 
-impl FromJson for Comment {
+impl FromJson<SlurmFault> for Comment {
     ghost use Rattle.slurm.specs.SlurmFile.{comment_in};
 
     ghost reading = { comment_in };
@@ -111,7 +78,7 @@ impl FromJson for Comment {
 #[derive(Clone, Copy)]
 pub(crate) struct Version;
 
-impl FromJson for Version {
+impl FromJson<SlurmFault> for Version {
     ghost use Rattle.slurm.specs.SlurmFile.{version_in};
 
     ghost reading = { version_in };

@@ -1,24 +1,16 @@
 // Writing the one spelling.
-ghost use Rattle.std.specs.Prelude.{◌≡◌, ◌+◌, ◌*◌, ◌<◌, ◌≤◌, ◌++◌, ◌∷◌, [], length, decimal};
+ghost use Rattle.std.specs.Prelude.{◌≡◌, ◌+◌, ◌*◌, ◌<◌, ◌≤◌, ◌++◌, length, decimal};
 ghost use Rattle.std.specs.Char.{digit_char};
 ghost use Rattle.arrayvec.specs.ArrayString.{array_string_len};
 ghost use Rattle.std.specs.Net.Text.{groups_text, hex, longest_zero_run, ipv4_text, hex_groups_text};
 ghost use Rattle.addr.specs.PrefixText.{digits_in, groups_of, octets_of, spelling};
 
 use crate::Family;
+use crate::ascii::push_ascii;
 use arrayvec::ArrayString;
 
 // `255.255.255.255/999`, and eight groups of four digits with seven colons, `/` and three digits, fit.
 type Buffer = ArrayString<48>;
-
-fn push_ascii(text: &mut Buffer, byte: u8)
-    requires ascii { byte < 128 }
-    requires room { array_string_len text.old < 48 }
-    ensures bytes { text.new.bytes ≡ text.old.bytes ++ byte ∷ [] }
-    ensures len { array_string_len text.new ≡ array_string_len text.old + 1 }
-{
-    text.push(char::from(byte));
-}
 
 #[tactic(auto, using(crate::proofs::PrefixTextLemmas::decimal_one, crate::proofs::PrefixTextLemmas::decimal_two, crate::proofs::PrefixTextLemmas::decimal_three))]
 fn push_decimal(text: &mut Buffer, number: u16)

@@ -1,8 +1,6 @@
 use super::*;
 use crate::Role::{Auditor, Clerk, Manager};
-use crate::Rule::{
-    Dates, Distinct, Fresh, Held, Length, Number, Operator, Pool, Room, Same, Steward,
-};
+use crate::Rule::{Dates, Distinct, Held, Length, Number, Pool, Room, Same, Steward};
 use crate::{CharterFault, Role, Scope, see, see_all};
 use Outcome::{Denied, Done};
 use addr::Asn;
@@ -304,14 +302,6 @@ fn withdraw(rt: &impl Abort, number: u32) -> Command {
 }
 
 #[test]
-fn register_twice_and_by_a_stranger(rt: HostRuntime) -> Result<(), Fail> {
-    let mut book = example_book(&rt, rt.alloc())?;
-    book.asks(&rt, "reg", register(&rt, "alpha"), Done(None))?;
-    book.asks(&rt, "bob", register(&rt, "alpha"), Denied(Operator))?;
-    book.asks(&rt, "reg", register(&rt, "alpha"), Denied(Fresh))
-}
-
-#[test]
 fn create_over_width_is_denied_length_before_held(rt: HostRuntime) -> Result<(), Fail> {
     let mut book = registered_holder(&rt, rt.alloc())?;
     book.asks(
@@ -359,71 +349,6 @@ fn transfer_away_and_back_ends_authorization(rt: HostRuntime) -> Result<(), Fail
         create_for_2026(&rt, 64496, "192.0.2.0/24", 24),
         Done(Some(2)),
     )
-}
-
-#[test]
-fn reclaim_and_delegation_back_end_authorization(rt: HostRuntime) -> Result<(), Fail> {
-    let mut book = one_authorization(&rt, rt.alloc())?;
-    book.asks(
-        &rt,
-        "reg",
-        reclaim(&rt, "alpha", "192.0.2.0/24"),
-        Done(None),
-    )?;
-    book.asks(
-        &rt,
-        "reg",
-        delegate(&rt, "alpha", "192.0.2.0/24"),
-        Done(None),
-    )?;
-    assert_eq!(rt; book.shown(&rt, "ann", 1), Err(Number));
-    Ok(())
-}
-
-#[test]
-fn transfer_beside_authorization_keeps_it(rt: HostRuntime) -> Result<(), Fail> {
-    let mut book = registered_holder(&rt, rt.alloc())?;
-    book.asks(&rt, "reg", register(&rt, "beta"), Done(None))?;
-    book.asks(
-        &rt,
-        "ann",
-        create_for_2026(&rt, 64496, "192.0.2.0/25", 25),
-        Done(Some(1)),
-    )?;
-    book.asks(
-        &rt,
-        "reg",
-        transfer(&rt, "192.0.2.128/25", "alpha", "beta"),
-        Done(None),
-    )?;
-    assert_eq!(rt; book.shown(&rt, "ann", 1), Ok(64496));
-    Ok(())
-}
-
-#[test]
-fn transfer_of_the_whole_ends_authorizations_within(rt: HostRuntime) -> Result<(), Fail> {
-    let mut book = registered_holder(&rt, rt.alloc())?;
-    book.asks(&rt, "reg", register(&rt, "beta"), Done(None))?;
-    book.asks(
-        &rt,
-        "ann",
-        create_for_2026(&rt, 64496, "192.0.2.0/25", 25),
-        Done(Some(1)),
-    )?;
-    book.asks(
-        &rt,
-        "ann",
-        create_for_2026(&rt, 64496, "192.0.2.128/25", 25),
-        Done(Some(2)),
-    )?;
-    book.lists(&rt, "ann", Ok(&[1, 2]))?;
-    book.asks(
-        &rt,
-        "reg",
-        transfer(&rt, "192.0.2.0/24", "alpha", "beta"),
-        Done(None),
-    )?;
-    book.lists(&rt, "ann", Ok(&[]))
 }
 
 #[test]
@@ -482,39 +407,6 @@ fn show_out_of_scope_looks_like_missing(rt: HostRuntime) -> Result<(), Fail> {
         "cleo",
         create_for_2026(&rt, 64496, "192.0.2.0/24", 24),
         Denied(Rule::Scope),
-    )
-}
-
-#[test]
-fn grant_ends_after_its_last_day(rt: HostRuntime) -> Result<(), Fail> {
-    let mut book = registered_holder(&rt, rt.alloc())?;
-    book.asks(
-        &rt,
-        "reg",
-        grant(&rt, "dan", Clerk, None, "2026-03-31"),
-        Done(Some(2)),
-    )?;
-    book.asks_on(
-        &rt,
-        "2026-03-31",
-        "dan",
-        create_for_2026(&rt, 64496, "192.0.2.0/24", 24),
-        Done(Some(1)),
-    )?;
-    book.asks_on(
-        &rt,
-        "2026-04-01",
-        "dan",
-        create_for_2026(&rt, 64497, "192.0.2.0/24", 24),
-        Denied(Rule::Grant),
-    )?;
-    // A grant has no first day.
-    book.asks_on(
-        &rt,
-        "2026-01-01",
-        "dan",
-        create_for_2026(&rt, 64497, "192.0.2.0/24", 24),
-        Done(Some(2)),
     )
 }
 
@@ -625,54 +517,6 @@ fn reclaim_of_a_part_ends_authorization(rt: HostRuntime) -> Result<(), Fail> {
         "reg",
         delegate(&rt, "alpha", "192.0.2.0/24"),
         Denied(Rule::Free),
-    )
-}
-
-#[test]
-fn prefix_held_by_two_parts_after_transfer(rt: HostRuntime) -> Result<(), Fail> {
-    let mut book = registered_holder(&rt, rt.alloc())?;
-    book.asks(&rt, "reg", register(&rt, "beta"), Done(None))?;
-    book.asks(
-        &rt,
-        "reg",
-        delegate(&rt, "alpha", "2001:db8::/33"),
-        Done(None),
-    )?;
-    book.asks(
-        &rt,
-        "reg",
-        delegate(&rt, "beta", "2001:db8:8000::/33"),
-        Done(None),
-    )?;
-    book.asks(
-        &rt,
-        "ann",
-        create_for_2026(&rt, 64496, "2001:db8::/32", 48),
-        Denied(Held),
-    )?;
-    book.asks(
-        &rt,
-        "reg",
-        transfer(&rt, "2001:db8:8000::/33", "beta", "alpha"),
-        Done(None),
-    )?;
-    book.asks(
-        &rt,
-        "ann",
-        create_for_2026(&rt, 64496, "2001:db8::/32", 48),
-        Done(Some(1)),
-    )
-}
-
-#[test]
-fn delegation_spans_two_prefixes_of_the_pool(rt: HostRuntime) -> Result<(), Fail> {
-    let mut book = book_of(&rt, rt.alloc(), &["192.0.2.0/25", "192.0.2.128/25"])?;
-    book.asks(&rt, "reg", register(&rt, "alpha"), Done(None))?;
-    book.asks(
-        &rt,
-        "reg",
-        delegate(&rt, "alpha", "192.0.2.0/24"),
-        Done(None),
     )
 }
 

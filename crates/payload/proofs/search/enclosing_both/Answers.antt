@@ -6,7 +6,7 @@ use Rattle.payload.proofs.search.enclosing_both.Goals as goal
 
 pub common_bound-bound-requires-clause-order : goal.common_bound-bound-requires-clause-order
 common_bound-bound-requires-clause-order c =
-    apart-before c.args.low.now c.args.high.now (family_eq-same _ _ (sym c.if-not-is_one_family.ensures)) c.requires.order c.requires.apart
+    apart-before c.args.low.now c.args.high.now (family_eq-same _ _ (sym c.if-not-is.ensures)) c.requires.order c.requires.apart
 
 pub returns-then-bound-in_family : goal.returns-then-bound-in_family
 returns-then-bound-in_family c =

@@ -1,6 +1,6 @@
 use Rattle.std.proofs.Common.{sym}
 use Rattle.payload.proofs.Lengths.{no_shorter-front}
-use Rattle.payload.proofs.Left.{left-start, left-skip, left-covering, left-rising, left-before, left-last}
+use Rattle.payload.proofs.Left.{left-start, left-skip, left-covering, left-rising, left-before, left-last, left-less}
 use Rattle.payload.proofs.search.validity.Goals as goal
 
 pub loop-vrp-init : goal.loop-vrp-init
@@ -27,8 +27,14 @@ loop-vrp-preserved-then-not-contains c = record {
   no_shorter = no_shorter-front _ _ _ _ c.enclosing_both-rest.ensures.parts (no_shorter-front _ _ _ _ c.in-Some.ensures.cases.0 c.loop-vrp.invariant.no_shorter);
 }
 
+pub past_unlike-rest-requires-clause-rising : goal.past_unlike-rest-requires-clause-rising
+past_unlike-rest-requires-clause-rising c = left-rising _ _ _ _ _ _ c.loop-vrp.invariant.left c.in-Some.ensures.cases.0
+
+pub past_unlike-rest-requires-clause-less : goal.past_unlike-rest-requires-clause-less
+past_unlike-rest-requires-clause-less c = left-less _ _ _ _ _ _ c.loop-vrp.invariant.left c.in-Some.ensures.cases.0
+
 pub loop-vrp-preserved : goal.loop-vrp-preserved
 loop-vrp-preserved c = record {
-  left = left-covering _ _ _ _ _ _ c.loop-vrp.invariant.left c.in-Some.ensures.cases.0 (sym c.if-not-contains.ensures.by_ends) (sym c.if-is_authorized.ensures);
-  no_shorter = no_shorter-front _ _ _ _ c.in-Some.ensures.cases.0 c.loop-vrp.invariant.no_shorter;
+  left = left-covering _ _ _ _ _ _ _ c.loop-vrp.invariant.left c.in-Some.ensures.cases.0 (sym c.if-not-contains.ensures.by_ends) (sym c.if-is_authorized.ensures) c.past_unlike-rest.ensures;
+  no_shorter = no_shorter-front _ _ _ _ c.past_unlike-rest.ensures.parts (no_shorter-front _ _ _ _ c.in-Some.ensures.cases.0 c.loop-vrp.invariant.no_shorter);
 }

@@ -4,9 +4,9 @@ use Rattle.policy.specs.Rows.{rows_of}
 use Rattle.policy.proofs.RowsLemmas.{active-from}
 use Rattle.policy.proofs.admission.has_room_for_authorization.Goals as goal
 
-pub returns-else-len-lt1000-clause-room : goal.returns-else-len-lt1000-clause-room
-returns-else-len-lt1000-clause-room c history h are =
-    let many : 1000 ≤ c.len.result = c.if-len-lt1000.false in (
+pub returns-else-len-lt-MOST_AUTHORIZATIONS-clause-room : goal.returns-else-len-lt-MOST_AUTHORIZATIONS-clause-room
+returns-else-len-lt-MOST_AUTHORIZATIONS-clause-room c history h are =
+    let many : 1000 ≤ c.len.result = c.if-len-lt-MOST_AUTHORIZATIONS.false in (
       λ is. absurd (grind (arith, nat_tests)),
       λ of.
           let few : length c.args.rows.now.auths.items < 1000 = active-from history h (rows_of c.args.rows.now) (λ active. length active < 1000) are of.0 in

@@ -14,26 +14,26 @@ use Rattle.policy.proofs.decision.decide_amend.Goals as goal
 pub returns-in_err-require : goal.returns-in_err-require
 returns-in_err-require c charter history legal are =
     let a = c.args in
-    let h = a.holder.now in
+    let h = a.holder.name.now in
     let p = err_from_is_err_and c.from_residual-in_err-require.result c.from_residual-in_err-require.ensures.1 in
     let had = c.in_ok-rows.ensures charter history h legal are in
     let number = c.in_ok-auth.ensures history h had.2 in
     let x = c.in_ok-auth.auth.now in
-    let no_dates : OfNumber history h a.number (λ y. (y.from ≤ a.until) × (a.day ≤ a.until)) → ⊥ = λ of.
-    let dates = number-from history h (rows_of c.in_ok-rows.rows.now) a.number x (λ y. (y.from ≤ a.until) × (a.day ≤ a.until)) had.2 number.0 of in
+    let no_dates : OfNumber history h a.number (λ y. (y.from ≤ a.until) × (a.basis.day ≤ a.until)) → ⊥ = λ of.
+    let dates = number-from history h (rows_of c.in_ok-rows.rows.now) a.number x (λ y. (y.from ≤ a.until) × (a.basis.day ≤ a.until)) had.2 number.0 of in
     false≢true (sym c.in_err-require.ensures.0 ∙ c.are_dates.ensures.1 dates) in
     rw (p.1, p.2) (inr (had.0, inr (number.1, inl (no_dates, c.in_err-require.ensures.1))), refl)
 
 pub returns-in_err-require-2 : goal.returns-in_err-require-2
 returns-in_err-require-2 c charter history legal are =
     let a = c.args in
-    let h = a.holder.now in
+    let h = a.holder.name.now in
     let p = err_from_is_err_and c.from_residual-in_err-require-2.result c.from_residual-in_err-require-2.ensures.1 in
     let had = c.in_ok-rows.ensures charter history h legal are in
     let number = c.in_ok-auth.ensures history h had.2 in
     let x = c.in_ok-auth.auth.now in
     let rows = rows_of c.in_ok-rows.rows.now in
-    let dates = number-to history h rows a.number x (λ y. (y.from ≤ a.until) × (a.day ≤ a.until)) had.2 number.0 (c.are_dates.ensures.0 c.in_ok-require.ensures) in
+    let dates = number-to history h rows a.number x (λ y. (y.from ≤ a.until) × (a.basis.day ≤ a.until)) had.2 number.0 (c.are_dates.ensures.0 c.in_ok-require.ensures) in
     let no_length : OfNumber history h a.number (λ y. terms_fit_length y a.max ≡ true) → ⊥ = λ of.
     let length = number-from history h rows a.number x (λ y. terms_fit_length y a.max ≡ true) had.2 number.0 of in
     false≢true (sym c.in_err-require-2.ensures.0 ∙ c.fits_length.ensures ∙ length) in
@@ -42,13 +42,13 @@ returns-in_err-require-2 c charter history legal are =
 pub returns-in_err-require-3 : goal.returns-in_err-require-3
 returns-in_err-require-3 c charter history legal are =
     let a = c.args in
-    let h = a.holder.now in
+    let h = a.holder.name.now in
     let p = err_from_is_err_and c.from_residual-in_err-require-3.result c.from_residual-in_err-require-3.ensures.1 in
     let had = c.in_ok-rows.ensures charter history h legal are in
     let number = c.in_ok-auth.ensures history h had.2 in
     let x = c.in_ok-auth.auth.now in
     let rows = rows_of c.in_ok-rows.rows.now in
-    let dates = number-to history h rows a.number x (λ y. (y.from ≤ a.until) × (a.day ≤ a.until)) had.2 number.0 (c.are_dates.ensures.0 c.in_ok-require.ensures) in
+    let dates = number-to history h rows a.number x (λ y. (y.from ≤ a.until) × (a.basis.day ≤ a.until)) had.2 number.0 (c.are_dates.ensures.0 c.in_ok-require.ensures) in
     let length = number-to history h rows a.number x (λ y. terms_fit_length y a.max ≡ true) had.2 number.0 (sym c.fits_length.ensures ∙ c.in_ok-require-2.ensures) in
     let shared = ap (shares_with_other x.number (new_terms x a.max a.until)) (sym c.deref.ensures.value) ∙ sym c.shares_with_other.ensures in
     let not_only : SharesWithNoOther history h a.number a.max a.until → ⊥ = λ of.
@@ -59,18 +59,18 @@ returns-in_err-require-3 c charter history legal are =
 pub returns : goal.returns
 returns c charter history legal are =
     let a = c.args in
-    let h = a.holder.now in
-    let e : Entry = record { day = a.day; caller = a.caller.now; command = Amend h a.number a.max a.until } in
+    let h = a.holder.name.now in
+    let e : Entry = record { day = a.basis.day; caller = a.basis.caller.now; command = Amend h a.number a.max a.until } in
     let had = c.in_ok-rows.ensures charter history h legal are in
     let number = c.in_ok-auth.ensures history h had.2 in
     let x = c.in_ok-auth.auth.now in
     let rows = rows_of c.in_ok-rows.rows.now in
-    let dates = number-to history h rows a.number x (λ y. (y.from ≤ a.until) × (a.day ≤ a.until)) had.2 number.0 (c.are_dates.ensures.0 c.in_ok-require.ensures) in
+    let dates = number-to history h rows a.number x (λ y. (y.from ≤ a.until) × (a.basis.day ≤ a.until)) had.2 number.0 (c.are_dates.ensures.0 c.in_ok-require.ensures) in
     let length = number-to history h rows a.number x (λ y. terms_fit_length y a.max ≡ true) had.2 number.0 (sym c.fits_length.ensures ∙ c.in_ok-require-2.ensures) in
     let shared = ap (shares_with_other x.number (new_terms x a.max a.until)) (sym c.deref.ensures.value) ∙ sym c.shares_with_other.ensures in
     let only = only-to history h rows a.number a.max a.until x had.2 number.0 (shared ∙ not_true c.shares_with_other.result c.in_ok-require-3.ensures) in (
       (had.0, (number.1, (dates, (length, (only, tt))))),
       ap (λ ch. number_made ch.first.edit) c.change_of.ensures,
       carried history (e ∷ history) c.change_of.result _ c.change_of.ensures
-          (carries-amend history a.day a.caller.now h a.number a.max a.until rows x _ had.1 had.2 number.0 refl),
+          (carries-amend history a.basis.day a.basis.caller.now h a.number a.max a.until rows x _ had.1 had.2 number.0 refl),
     )

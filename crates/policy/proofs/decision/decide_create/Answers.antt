@@ -10,9 +10,9 @@ use Rattle.policy.proofs.decision.decide_create.Goals as goal
 pub returns : goal.returns
 returns c charter history legal are =
     let a = c.args in
-    let h = a.holder.now in
-    let t = a.terms in
-    let e : Entry = record { day = a.day; caller = a.caller.now; command = Create h t.asn t.prefix t.max t.from t.until } in
+    let h = a.holder.name.now in
+    let t = a.terms.now in
+    let e : Entry = record { day = a.basis.day; caller = a.basis.caller.now; command = Create h t.asn t.prefix t.max t.from t.until } in
     let had = c.in_ok-rows.ensures charter history h legal are in
     let scope = sym (c.may_alter.ensures history h had.2) ∙ c.in_ok-require.ensures in
     let dates = c.are_dates.ensures.0 c.in_ok-require-2.ensures in
@@ -22,7 +22,8 @@ returns c charter history legal are =
     let room = (c.has_room_for_authorization.ensures.room history h had.2).0 c.in_ok-require-6.ensures in
     let new = λ (k : ℕ). let x : Auth = record { number = k + 1; asn = t.asn; prefix = t.prefix; max = t.max; from = t.from; until = t.until } in x in (
       (had.0, (scope, (dates, (length, (held, (same, (room, tt))))))),
-      ap (λ ch. number_made ch.first.edit) c.change_of.ensures ∙ ap (λ n. Some (n + 1)) had.2.created,
+      ap (λ ch. number_made ch.first.edit) c.change_of.ensures ∙ ap (λ (x : Auth). Some x.number) c.numbered-auth.ensures
+          ∙ ap (λ n. Some (n + 1)) had.2.created,
       carried history (e ∷ history) c.change_of.result _ c.change_of.ensures
-          (carries-create history a.day a.caller.now h t.asn t.prefix t.max t.from t.until _ had.1 held (ap new had.2.created)),
+          (carries-create history a.basis.day a.basis.caller.now h t.asn t.prefix t.max t.from t.until _ had.1 held (c.numbered-auth.ensures ∙ ap new had.2.created)),
     )

@@ -9,10 +9,10 @@ use Rattle.policy.proofs.decision.decide_register.Goals as goal
 pub returns : goal.returns
 returns c history legal are =
     let a = c.args in
-    let e : Entry = record { day = a.day; caller = a.caller.now; command = Register a.holder.now } in
-    let fresh = unregistered history a.holder.now a.rows (c.is_none.ensures ∙ ap not c.in_ok-require-2.ensures) are in (
+    let e : Entry = record { day = a.basis.day; caller = a.basis.caller.now; command = Register a.holder.name.now } in
+    let fresh = unregistered history a.holder.name.now a.holder.rows (c.is_none.ensures ∙ ap not c.in_ok-require-2.ensures) are in (
       (sym c.is_operator.ensures ∙ c.in_ok-require.ensures, (fresh, tt)),
       ap (λ ch. number_made ch.first.edit) c.change_of.ensures,
       carried history (e ∷ history) c.change_of.result _ c.change_of.ensures
-          (carries-register a.charter.now history a.day a.caller.now a.holder.now legal fresh),
+          (carries-register a.basis.charter.now history a.basis.day a.basis.caller.now a.holder.name.now legal fresh),
     )

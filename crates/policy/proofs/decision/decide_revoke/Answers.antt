@@ -11,24 +11,24 @@ use Rattle.policy.proofs.decision.decide_revoke.Goals as goal
 pub returns : goal.returns
 returns c history legal are =
     let a = c.args in
-    let h = a.holder.now in
-    let e : Entry = record { day = a.day; caller = a.caller.now; command = Revoke h a.number } in
-    let has = sym (c.has_grant.ensures a.charter.now history h legal are) ∙ c.in_ok-require-2.ensures in
-    let registered = registered-by_grant a.charter.now history h a.rows (λ g. eqb g.number a.number) legal are has in (
+    let h = a.holder.name.now in
+    let e : Entry = record { day = a.basis.day; caller = a.basis.caller.now; command = Revoke h a.number } in
+    let has = sym (c.has_grant.ensures a.basis.charter.now history h legal are) ∙ c.in_ok-require-2.ensures in
+    let registered = registered-by_grant a.basis.charter.now history h a.holder.rows (λ g. eqb g.number a.number) legal are has in (
       (sym (c.is_steward.ensures history h legal are) ∙ c.in_ok-require.ensures, (has, tt)),
       ap (λ ch. number_made ch.first.edit) c.change_of.ensures,
       carried history (e ∷ history) c.change_of.result _ c.change_of.ensures
-          (carries-revoke history a.day a.caller.now h a.number registered),
+          (carries-revoke history a.basis.day a.basis.caller.now h a.number registered),
     )
 
 pub returns-in_err-require-2 : goal.returns-in_err-require-2
 returns-in_err-require-2 c history legal are =
     let a = c.args in
     let p = err_from_is_err_and c.from_residual-in_err-require-2.result c.from_residual-in_err-require-2.ensures.1 in
-    let lacks = sym (c.has_grant.ensures a.charter.now history a.holder.now legal are) ∙ c.in_err-require-2.ensures.0 in
+    let lacks = sym (c.has_grant.ensures a.basis.charter.now history a.holder.name.now legal are) ∙ c.in_err-require-2.ensures.0 in
     rw (p.1, p.2) (
       inr (
-        sym (c.is_steward.ensures history a.holder.now legal are) ∙ c.in_ok-require.ensures,
+        sym (c.is_steward.ensures history a.holder.name.now legal are) ∙ c.in_ok-require.ensures,
         inl (λ has. false≢true (sym lacks ∙ has), c.in_err-require-2.ensures.1),
       ),
       refl,

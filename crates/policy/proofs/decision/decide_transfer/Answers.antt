@@ -13,16 +13,16 @@ pub returns : goal.returns
 returns c history day legal giver_are taker_are =
     let a = c.args in
     let p = a.prefix.now in
-    let e : Entry = record { day = day; caller = a.caller.now; command = Transfer p a.giver.now a.taker.now } in
-    let gave = c.in_ok-giving.ensures history a.giver.now giver_are in
-    let took = c.in_ok-taking.ensures history a.taker.now taker_are in
-    let differ = not_true (same_name a.giver.now a.taker.now) (sym c.ne.ensures ∙ c.in_ok-require-2.ensures) in
-    let held = (c.holds.ensures history a.giver.now gave.1).0 c.in_ok-require-3.ensures in
+    let e : Entry = record { day = day; caller = a.caller.now; command = Transfer p a.giver.name.now a.taker.name.now } in
+    let gave = c.in_ok-giving.ensures history a.giver.name.now giver_are in
+    let took = c.in_ok-taking.ensures history a.taker.name.now taker_are in
+    let differ = not_true (same_name a.giver.name.now a.taker.name.now) (sym c.ne.ensures ∙ c.in_ok-require-2.ensures) in
+    let held = (c.holds.ensures history a.giver.name.now gave.1).0 c.in_ok-require-3.ensures in
     let numbers = c.in_ok-ended.ensures ∙ ap (numbers_where (λ x. terms_overlap x p)) c.deref.ensures.value in (
       (sym c.is_operator.ensures ∙ c.in_ok-require.ensures, ((gave.0, took.0), (differ, (held, tt)))),
       refl,
-      carries-transfer history day a.caller.now a.giver.now a.taker.now p c.in_ok-less.less c.in_ok-more.more c.in_ok-ended.ended c.new.result
+      carries-transfer history day a.caller.now a.giver.name.now a.taker.name.now p c.in_ok-less.less c.in_ok-more.more c.in_ok-ended.ended c.new.result
           (rows_of c.in_ok-giving.giving.now) (rows_of c.in_ok-taking.taking.now)
-          gave.0 took.0 (same_name-false a.giver.now a.taker.now differ) held gave.1 took.1
+          gave.0 took.0 (same_name-false a.giver.name.now a.taker.name.now differ) held gave.1 took.1
           c.in_ok-less.ensures.maximal c.in_ok-less.ensures.same c.in_ok-more.ensures.maximal c.in_ok-more.ensures.same numbers c.new.ensures.items,
     )

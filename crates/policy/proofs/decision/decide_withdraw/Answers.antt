@@ -9,12 +9,12 @@ use Rattle.policy.proofs.decision.decide_withdraw.Goals as goal
 pub returns : goal.returns
 returns c charter history legal are =
     let a = c.args in
-    let h = a.holder.now in
-    let e : Entry = record { day = a.day; caller = a.caller.now; command = Withdraw h a.number } in
+    let h = a.holder.name.now in
+    let e : Entry = record { day = a.basis.day; caller = a.basis.caller.now; command = Withdraw h a.number } in
     let had = c.in_ok-rows.ensures charter history h legal are in
     let number = c.in_ok-permitted.ensures history h had.2 in (
       (had.0, (number.1, tt)),
       ap (λ ch. number_made ch.first.edit) c.change_of.ensures,
       carried history (e ∷ history) c.change_of.result _ c.change_of.ensures
-          (carries-withdraw history a.day a.caller.now h a.number had.1),
+          (carries-withdraw history a.basis.day a.basis.caller.now h a.number had.1),
     )

@@ -1,5 +1,5 @@
 use Rattle.std.proofs.Common.{sym, ◌∙◌}
-use Rattle.slurm.proofs.ReadingLemmas.{bgpsec_from-full}
+use Rattle.slurm.proofs.FileLemmas.{bgpsec_from-full}
 use Rattle.slurm.proofs.lists.bgpsec_in.Goals as goal
 
 pub returns-else-is_empty : goal.returns-else-is_empty

@@ -5,7 +5,8 @@ use Rattle.std.proofs.lemmas.Cmp.{nat_list_eq_equiv}
 use Rattle.addr.specs.Address.{prefix_eq}
 use Rattle.policy.specs.Repeats.{has_repeat}
 use Rattle.policy.proofs.Repeats.{has_repeat-moved, prefix_eq-flips}
-use Rattle.policy.proofs.PrefixOrder.{derived_cmp}
+use Rattle.policy.proofs.PrefixEquality.{derived_repeats}
+use Rattle.addr.proofs.OrderLemmas.{derived_prefix}
 use Rattle.policy.proofs.charter.Charter.make.Goals as goal
 
 pub invariant_of-result : goal.invariant_of-result
@@ -23,12 +24,17 @@ invariant_of-result c =
         subst (λ (k : ℕ). k ≤ 64) (sym pool) number.3,
       );
       operators_once = has_repeat-moved (pointwise nat_eq) nat_list_eq_equiv.symm c.args.operators.items c.sort_unstable.new.self.items c.sort_unstable.ensures.permutation
-          (ap (has_repeat (pointwise nat_eq)) (sym c.deref-3.ensures.value) ∙ sym c.has_operator_twice.ensures ∙ c.if-has_operator_twice.false);
+          (ap (has_repeat (pointwise nat_eq)) (sym c.deref-3.ensures.value) ∙ sym c.has_repeat.ensures ∙ c.if-has_repeat.false);
       pool_once = has_repeat-moved prefix_eq prefix_eq-flips c.args.pool.items c.sort_unstable-2.new.self.items c.sort_unstable-2.ensures.permutation
-          (ap (has_repeat prefix_eq) (sym c.deref-else-has_operator_twice.ensures.value) ∙ sym c.has_prefix_twice.ensures ∙ c.if-has_prefix_twice.false);
+          (ap (has_repeat prefix_eq) (sym c.deref-else-has_repeat.ensures.value) ∙ sym (derived_repeats c.deref-else-has_repeat.result.now)
+          ∙ sym c.has_repeat-else-has_repeat.ensures ∙ c.if-has_repeat-2.false);
+      operators_rise = c.sort_unstable.ensures.sorted;
+      pool_rises = λ k d low high.
+          ap is_lt (sym (derived_prefix (get_or c.sort_unstable-2.new.self.items (k + 1) d) (get_or c.sort_unstable-2.new.self.items k d)))
+          ∙ c.sort_unstable-2.ensures.sorted k d low high;
     }
 
 pub returns-clause-pool_rises : goal.returns-clause-pool_rises
 returns-clause-pool_rises c k d low high =
-    ap is_lt (sym (derived_cmp (get_or c.sort_unstable-2.new.self.items (k + 1) d) (get_or c.sort_unstable-2.new.self.items k d)))
+    ap is_lt (sym (derived_prefix (get_or c.sort_unstable-2.new.self.items (k + 1) d) (get_or c.sort_unstable-2.new.self.items k d)))
     ∙ c.sort_unstable-2.ensures.sorted k d low high
