@@ -1,5 +1,5 @@
 //! The job of `roadesk check` in plain Rust, to measure against: reads payloads and routes from CSV
-//! files, judges each route by RFC 6811 and prints `prefix,origin,answer` lines.
+//! files, judges each route by RFC 6811 and prints `prefix,origin,state` lines.
 //!
 //!     plain PAYLOADS.csv ROUTES.csv
 //!
@@ -74,18 +74,18 @@ impl Route {
 }
 
 #[derive(Clone, Copy)]
-enum Answer {
+enum State {
     Valid,
     Invalid,
     NotFound,
 }
 
-impl Answer {
+impl State {
     fn name(self) -> &'static str {
         match self {
-            Answer::Valid => "Valid",
-            Answer::Invalid => "Invalid",
-            Answer::NotFound => "NotFound",
+            State::Valid => "Valid",
+            State::Invalid => "Invalid",
+            State::NotFound => "NotFound",
         }
     }
 }
@@ -111,22 +111,22 @@ impl Table {
     }
 
     /// RFC 6811. What covers the route is among the last VRP that is not after it, and its parents.
-    fn judge(&self, route: &Route) -> Answer {
+    fn judge(&self, route: &Route) -> State {
         let origin = route.origin.filter(|&asn| asn != 0);
         let after = self.vrps.partition_point(|vrp| vrp.prefix <= route.prefix);
         let mut next = after.checked_sub(1);
-        let mut answer = Answer::NotFound;
+        let mut state = State::NotFound;
         while let Some(i) = next {
             let vrp = &self.vrps[i];
             if vrp.prefix.covers(&route.prefix) {
                 if route.prefix.length <= vrp.max_length && origin == Some(vrp.asn) {
-                    return Answer::Valid;
+                    return State::Valid;
                 }
-                answer = Answer::Invalid;
+                state = State::Invalid;
             }
             next = self.parents[i].map(|p| p as usize);
         }
-        answer
+        state
     }
 }
 
@@ -142,10 +142,10 @@ fn read_rows<T>(text: &str, header: &str, parse: impl Fn(&str) -> Option<T>) -> 
 fn run(payload_file: &str, route_file: &str) -> Result<(), Box<dyn Error>> {
     let table = Table::new(read_rows(&fs::read_to_string(payload_file)?, "asn,prefix,maxlength", Vrp::parse)?);
     let text = fs::read_to_string(route_file)?;
-    let answers = read_rows(&text, "prefix,origin", |row| Some(table.judge(&Route::parse(row)?)))?;
+    let states = read_rows(&text, "prefix,origin", |row| Some(table.judge(&Route::parse(row)?)))?;
     let mut out = BufWriter::with_capacity(1 << 16, io::stdout().lock());
-    for (row, answer) in text.lines().skip(1).zip(answers) {
-        writeln!(out, "{row},{}", answer.name())?;
+    for (row, state) in text.lines().skip(1).zip(states) {
+        writeln!(out, "{row},{}", state.name())?;
     }
     Ok(out.flush()?)
 }

@@ -1,14 +1,17 @@
 -- The rows of a charter file, one after the other.
-use Rattle.std.proofs.Common.{◌≡◌, ◌+◌, inl, inr, ℕ, suc, List, [], ◌∷◌, ◌++◌, length, map, Option, Some, None, Bool, true, false, not, cond, refl, sym, ap, ◌∙◌, append_assoc, arith, length-append, Vec, Global, nat_eq}
+use Rattle.std.proofs.Common.{◌≡◌, ◌+◌, ℕ, suc, List, [], ◌∷◌, ◌++◌, length, map, Option, Some, None, Bool, true, false, not, cond, refl, sym, ap, subst, ◌∙◌, append_assoc, arith, length-append, nat_eq}
 use Rattle.std.specs.Prelude.{◌&&◌, ◌||◌}
-use Rattle.std.proofs.lemmas.Bool.{cases_Bool, or_parts, or_from, eqb-true}
+use Rattle.std.proofs.lemmas.Bool.{or_parts, or_from, eqb-true}
 use Rattle.std.proofs.lemmas.List.{map-append}
 use Rattle.std.proofs.lemmas.List.Folds.{list_any-append}
 use Rattle.std.proofs.lemmas.Map.Text.{is_eq-slice_cmp}
 use Rattle.std.proofs.lemmas.Slice.Eq.{bytes_eq-Decides}
 use Rattle.std.specs.BTreeMap.{is_at}
 use Rattle.std.specs.BTreeSet.{contains}
-use Rattle.std.specs.Cmp.Lexicographic.{pointwise}
+use Rattle.std.specs.Cmp.{both_tied, both_ways, unsigned_Decides, unsigned_ties}
+use Rattle.std.specs.Cmp.Lexicographic.{pointwise, slice_cmp}
+use Rattle.std.specs.Ordering.{is_eq, nat_cmp}
+use Rattle.std.specs.declared.cmp.Ordering.{Ordering}
 use Rattle.std.specs.List.{list_any}
 use Rattle.std.specs.Str.{bytes_eq}
 use Rattle.addr.specs.Address.{prefix_eq}
@@ -16,11 +19,15 @@ use Rattle.addr.specs.Family.{family_eq}
 use Rattle.addr.specs.declared.family.Family.{Family}
 use Rattle.addr.specs.declared.family.Family.TheVariants.{V4, V6}
 use Rattle.addr.specs.PrefixText.{Spells}
-use Rattle.addr.proofs.PrefixSpellingLemmas.{faultless-Spells}
+use Rattle.addr.proofs.PrefixSpellingLemmas.{Spells_unique, faultless-Spells}
+use Rattle.addr.specs.contracts.prefix.PrefixOrd.TheImpl as prefix_order
 use Rattle.addr.specs.declared.prefix.Prefix.{Prefix}
+use Rattle.addr.proofs.OrderLemmas.{derived_prefix}
+use Rattle.addr.specs.Order.{family_cmp, prefix_cmp}
 use Rattle.policy.specs.Repeats.{has_repeat}
-use Rattle.cli.specs.CharterFile.{charter_fault, charter_row, fault_of_pair, first_charter_fault, kind_and_value_fault, kind_of, operators_in, pool_in, pool_kind, row_text, text_cmp, value_of, HoldsRows}
+use Rattle.cli.specs.CharterFile.{charter_fault, charter_row, fault_of_pair, first_charter_fault, kind_and_value_fault, kind_of, operators_in, pool_in, pool_kind, is_noted, same_row, value_of, HoldsRows}
 use Rattle.cli.specs.CsvRecords.{Fields}
+use Rattle.cli.proofs.RowLemmas.{not_true, not_false}
 use Rattle.cli.specs.CsvRows.{at_row, fields_eq, prefix_text, two_of, IsTold}
 use Rattle.cli.specs.declared.charter_file.CharterRow.{CharterRow}
 use Rattle.cli.specs.declared.charter_file.CharterRow.TheVariants.{Operator, Pool}
@@ -30,20 +37,70 @@ use Rattle.cli.specs.declared.fault.FileFault.TheVariants as file
 use Rattle.cli.specs.declared.fault.RowFault.{RowFault}
 use Rattle.cli.specs.declared.fault.RowFault.TheVariants as row
 
--- ---- rows and their texts
+-- ---- prefixes and their texts
+
+same_family : (f g : Family) → family_eq f g ≡ true → f ≡ g
+same_family V4 V4 e = refl
+same_family V4 V6 e = cc
+same_family V6 V4 e = cc
+same_family V6 V6 e = refl
+
+and_left : (a b : Bool) → (a && b) ≡ true → a ≡ true
+and_left true b e = refl
+and_left false b e = cc
+
+and_right : (a b : Bool) → (a && b) ≡ true → b ≡ true
+and_right true b e = e
+and_right false b e = cc
+
+same_text : (p q : Prefix) → prefix_eq p q ≡ true → prefix_text p ≡ prefix_text q
+same_text p q e =
+    let family = same_family p.family q.family (and_left _ _ e) in
+    let rest = and_right _ _ e in
+    let first = eqb-true p.first q.first (and_left _ _ rest) in
+    let size = eqb-true p.length q.length (and_right _ _ rest) in
+    rw (family, first, size) refl
+
+family_ties : (f g : Family) → family_eq f g ≡ is_eq (family_cmp f g)
+family_ties V4 V4 = refl
+family_ties V4 V6 = refl
+family_ties V6 V4 = refl
+family_ties V6 V6 = refl
+
+-- prefixes are equal where neither is less
+prefix_ties : (p q : Prefix) → prefix_eq p q ≡ is_eq (prefix_cmp p q)
+prefix_ties p q =
+    both_tied _ _ _ _ (family_ties p.family q.family) (both_tied _ _ _ _ (unsigned_ties p.first q.first) (unsigned_ties p.length q.length))
+
+family_eq-itself : (f : Family) → family_eq f f ≡ true
+family_eq-itself V4 = refl
+family_eq-itself V6 = refl
+
+prefix_eq-itself : (p : Prefix) → prefix_eq p p ≡ true
+prefix_eq-itself p =
+    rw (family_eq-itself p.family, (unsigned_Decides p.first p.first).1 refl, (unsigned_Decides p.length p.length).1 refl) refl
+
+-- texts are equal where the prefixes are
+texts_same : (p q : Prefix) → bytes_eq (prefix_text p) (prefix_text q) ≡ prefix_eq p q
+texts_same p q = both_ways _ _
+    (λ e. let same = Spells_unique p q (prefix_text p) refl ((bytes_eq-Decides (prefix_text p) (prefix_text q)).0 e) in
+    subst (λ r. prefix_eq p r ≡ true) same (prefix_eq-itself p))
+    (λ e. (bytes_eq-Decides (prefix_text p) (prefix_text q)).1 (same_text p q e))
+
+-- ---- rows that say the same
 
 and_true : (b : Bool) → (b && true) ≡ b
 and_true true = refl
 and_true false = refl
 
-one_same : (e r : CharterRow) → fields_eq (charter_row e) (charter_row r) ≡ bytes_eq (row_text e) (row_text r)
+one_same : (e r : CharterRow) → fields_eq (charter_row e) (charter_row r) ≡ same_row e r
 one_same (Operator n) (Operator m) = and_true (bytes_eq n m)
 one_same (Operator n) (Pool q) = refl
 one_same (Pool p) (Operator m) = refl
-one_same (Pool p) (Pool q) = and_true (bytes_eq (prefix_text p) (prefix_text q))
+one_same (Pool p) (Pool q) = and_true (bytes_eq (prefix_text p) (prefix_text q)) ∙ texts_same p q
 
 rows_same : (rows : List CharterRow) (r : CharterRow)
-    → list_any (λ before. fields_eq before (charter_row r)) (map charter_row rows) ≡ list_any (λ e. bytes_eq (row_text e) (row_text r)) rows
+    → list_any (λ before. fields_eq before (charter_row r)) (map charter_row rows) ≡ list_any (λ e. same_row e r) rows
 rows_same [] r = refl
 rows_same (e ∷ rows) r = rw (one_same e r, rows_same rows r) refl
 
@@ -52,12 +109,45 @@ repeat-or : (earlier : List Fields) (fields : Fields) (b : Bool) → fault_of_pa
     → charter_fault earlier fields ≡ cond b (Some row.Repeated) None
 repeat-or earlier fields b plain e = rw (plain, e) refl
 
-pub charter_fault-held : (kept : CharterRows) (rows : List CharterRow) (r : CharterRow) (fields : Fields) (text : Vec ℕ Global) (b : Bool) → HoldsRows kept rows
-    → fields ≡ charter_row r → fault_of_pair (two_of fields) ≡ None → text.items ≡ row_text r → contains text_cmp kept.texts text ≡ b
+charter_fault-noted : (kept : CharterRows) (rows : List CharterRow) (r : CharterRow) (fields : Fields) (b : Bool) → HoldsRows kept rows
+    → fields ≡ charter_row r → fault_of_pair (two_of fields) ≡ None → is_noted kept r ≡ b
     → charter_fault (map charter_row rows) fields ≡ cond b (Some row.Repeated) None
-charter_fault-held kept rows r fields text b held same plain spelled has =
-    let any : list_any (λ e. bytes_eq (row_text e) (row_text r)) rows ≡ b = rw spelled at (sym (held.texts text) ∙ has) in
-    repeat-or (map charter_row rows) fields b plain (rw same (rows_same rows r ∙ any))
+charter_fault-noted kept rows r fields b held same plain has =
+    repeat-or (map charter_row rows) fields b plain (rw same (rows_same rows r ∙ sym (held.noted r) ∙ has))
+
+-- ---- a row is noted
+
+cond_or : (a b : Bool) → cond a true b ≡ (a || b)
+cond_or true b = refl
+cond_or false b = refl
+
+pub noted-operator : (old new : CharterRows) (n : List ℕ)
+    → ((m : List ℕ) → contains (slice_cmp nat_cmp) new.names m ≡ cond (is_at (slice_cmp nat_cmp n) m) true (contains (slice_cmp nat_cmp) old.names m))
+    → new.prefixes ≡ old.prefixes
+    → (r : CharterRow) → is_noted new r ≡ (same_row (Operator n) r || is_noted old r)
+noted-operator old new n updates others (Operator m) = updates m ∙ rw (is_eq-slice_cmp n m) (cond_or (bytes_eq n m) _)
+noted-operator old new n updates others (Pool q) = rw others refl
+
+-- the order that is derived for prefixes
+abbrev order : Prefix → Prefix → Ordering
+order = prefix_order.ghosts.cmp
+
+same_order : order ≡ prefix_cmp
+same_order = λ i p q. derived_prefix p q i
+
+pub noted-pool : (old new : CharterRows) (p : Prefix)
+    → ((q : Prefix) → contains order new.prefixes q ≡ cond (is_at (order p) q) true (contains order old.prefixes q))
+    → new.names ≡ old.names
+    → (r : CharterRow) → is_noted new r ≡ (same_row (Pool p) r || is_noted old r)
+noted-pool old new p updates others (Operator m) = rw others refl
+noted-pool old new p updates others (Pool q) =
+    let by_order = subst (λ (c : Prefix → Prefix → Ordering). contains c new.prefixes q ≡ cond (is_at (c p) q) true (contains c old.prefixes q)) same_order (updates q) in
+    by_order ∙ rw (← prefix_ties p q) (cond_or (prefix_eq p q) _)
+
+noted-same : (old new : CharterRows) → new.names ≡ old.names → new.prefixes ≡ old.prefixes
+    → (r : CharterRow) → is_noted new r ≡ is_noted old r
+noted-same old new names prefixes (Operator n) = rw names refl
+noted-same old new names prefixes (Pool p) = rw prefixes refl
 
 -- ---- one more row
 
@@ -84,27 +174,27 @@ once-append same (x ∷ xs) y once none =
     let last : list_any (same x) (y ∷ []) ≡ false = or_from _ _ others.0 refl in
     or_from _ _ (list_any-append (same x) xs (y ∷ []) ∙ or_from _ _ before.0 last) (once-append same xs y before.1 others.1)
 
-or_flip : (a b : Bool) → cond a true b ≡ (b || (a || false))
+or_flip : (a b : Bool) → (a || b) ≡ (b || (a || false))
 or_flip true true = refl
 or_flip true false = refl
 or_flip false true = refl
 or_flip false false = refl
 
-pub holds_more : (old new : CharterRows) (rows : List CharterRow) (r : CharterRow) (text : Vec ℕ Global) → HoldsRows old rows → text.items ≡ row_text r
-    → contains text_cmp old.texts text ≡ false
-    → ((other : Vec ℕ Global) → contains text_cmp new.texts other ≡ cond (is_at (text_cmp text) other) true (contains text_cmp old.texts other))
+holds_more : (old new : CharterRows) (rows : List CharterRow) (r : CharterRow) → HoldsRows old rows
+    → is_noted old r ≡ false
+    → ((other : CharterRow) → is_noted new other ≡ (same_row r other || is_noted old other))
     → new.operators.items ≡ old.operators.items ++ operators_in (r ∷ [])
     → new.pool.items ≡ old.pool.items ++ pool_in (r ∷ [])
     → HoldsRows new (rows ++ r ∷ [])
-holds_more old new rows r text held spelled fresh updates operators pool = record {
+holds_more old new rows r held fresh noted operators pool = record {
   operators = operators ∙ rw (held.operators, operators_in-append rows r) refl;
   pool = pool ∙ rw (held.pool, pool_in-append rows r) refl;
   count = counted;
-  once = once-append (λ a b. bytes_eq (row_text a) (row_text b)) rows r held.once (rw spelled at (sym (held.texts text) ∙ fresh));
-  texts = λ other.
-      updates other
-      ∙ rw (is_eq-slice_cmp text.items other.items, spelled, held.texts other) (or_flip (bytes_eq (row_text r) other.items) (list_any (λ e. bytes_eq (row_text e) other.items) rows))
-      ∙ sym (list_any-append (λ e. bytes_eq (row_text e) other.items) rows (r ∷ []));
+  once = once-append same_row rows r held.once (sym (held.noted r) ∙ fresh);
+  noted = λ other.
+      noted other
+      ∙ rw (held.noted other) (or_flip (same_row r other) (list_any (λ e. same_row e other) rows))
+      ∙ sym (list_any-append (λ e. same_row e other) rows (r ∷ []));
 } where
   counted : length (rows ++ r ∷ []) ≡ length new.operators.items + length new.pool.items
   counted =
@@ -149,7 +239,7 @@ told-first fault all left rest fields rows same l told =
 
 -- ---- no operator and no prefix twice
 
-operator_once : (n : List ℕ) (rows : List CharterRow) → list_any (λ e. bytes_eq (row_text (Operator n)) (row_text e)) rows ≡ false
+operator_once : (n : List ℕ) (rows : List CharterRow) → list_any (same_row (Operator n)) rows ≡ false
     → list_any (λ m. pointwise nat_eq n m) (operators_in rows) ≡ false
 operator_once n [] none = refl
 operator_once n (Operator m ∷ rows) none =
@@ -157,52 +247,22 @@ operator_once n (Operator m ∷ rows) none =
     or_from _ _ parts.0 (operator_once n rows parts.1)
 operator_once n (Pool p ∷ rows) none = operator_once n rows none
 
-pub operators_once : (rows : List CharterRow) → has_repeat (λ a b. bytes_eq (row_text a) (row_text b)) rows ≡ false
-    → has_repeat (pointwise nat_eq) (operators_in rows) ≡ false
+operators_once : (rows : List CharterRow) → has_repeat same_row rows ≡ false → has_repeat (pointwise nat_eq) (operators_in rows) ≡ false
 operators_once [] once = refl
 operators_once (Operator n ∷ rows) once =
     let parts = or_parts _ _ once in
     or_from _ _ (operator_once n rows parts.0) (operators_once rows parts.1)
 operators_once (Pool p ∷ rows) once = operators_once rows (or_parts _ _ once).1
 
-same_family : (f g : Family) → family_eq f g ≡ true → f ≡ g
-same_family V4 V4 e = refl
-same_family V4 V6 e = cc
-same_family V6 V4 e = cc
-same_family V6 V6 e = refl
-
-and_left : (a b : Bool) → (a && b) ≡ true → a ≡ true
-and_left true b e = refl
-and_left false b e = cc
-
-and_right : (a b : Bool) → (a && b) ≡ true → b ≡ true
-and_right true b e = e
-and_right false b e = cc
-
-same_text : (p q : Prefix) → prefix_eq p q ≡ true → prefix_text p ≡ prefix_text q
-same_text p q e =
-    let family = same_family p.family q.family (and_left _ _ e) in
-    let rest = and_right _ _ e in
-    let first = eqb-true p.first q.first (and_left _ _ rest) in
-    let size = eqb-true p.length q.length (and_right _ _ rest) in
-    rw (family, first, size) refl
-
-other_prefix : (p q : Prefix) → bytes_eq (prefix_text p) (prefix_text q) ≡ false → prefix_eq p q ≡ false
-other_prefix p q other = elim (cases_Bool (prefix_eq p q)) [
-  | inl same ↦ let e = (bytes_eq-Decides (prefix_text p) (prefix_text q)).1 (same_text p q same) in cc
-  | inr apart ↦ apart
-]
-
-prefix_once : (p : Prefix) (rows : List CharterRow) → list_any (λ e. bytes_eq (row_text (Pool p)) (row_text e)) rows ≡ false
+prefix_once : (p : Prefix) (rows : List CharterRow) → list_any (same_row (Pool p)) rows ≡ false
     → list_any (λ q. prefix_eq p q) (pool_in rows) ≡ false
 prefix_once p [] none = refl
 prefix_once p (Operator m ∷ rows) none = prefix_once p rows none
 prefix_once p (Pool q ∷ rows) none =
     let parts = or_parts _ _ none in
-    or_from _ _ (other_prefix p q parts.0) (prefix_once p rows parts.1)
+    or_from _ _ parts.0 (prefix_once p rows parts.1)
 
-pub pool_once : (rows : List CharterRow) → has_repeat (λ a b. bytes_eq (row_text a) (row_text b)) rows ≡ false
-    → has_repeat prefix_eq (pool_in rows) ≡ false
+pool_once : (rows : List CharterRow) → has_repeat same_row rows ≡ false → has_repeat prefix_eq (pool_in rows) ≡ false
 pool_once [] once = refl
 pool_once (Operator n ∷ rows) once = pool_once rows (or_parts _ _ once).1
 pool_once (Pool p ∷ rows) once =
@@ -236,46 +296,35 @@ two_fields (x ∷ y ∷ []) a b e =
     rw (ap (λ (p : List ℕ × List ℕ). p.0) same, ap (λ (p : List ℕ × List ℕ). p.1) same) refl
 two_fields (x ∷ y ∷ z ∷ rest) a b e = cc
 
-not_true : (b : Bool) → true ≡ not b → b ≡ false
-not_true true e = e
-not_true false e = refl
-
-not_false : (b : Bool) → false ≡ not b → b ≡ true
-not_false true e = refl
-not_false false e = e
-
-pub row_taken : (old new : CharterRows) (r : CharterRow) (fields : Fields) (kind value : List ℕ) (text : Vec ℕ Global)
+pub row_taken : (old noted new : CharterRows) (r : CharterRow) (fields : Fields) (kind value : List ℕ)
     → Some (kind, value) ≡ two_of fields
     → (kind ≡ kind_of r) × (value ≡ value_of r) × (kind_and_value_fault kind value ≡ None)
-    → text.items ≡ kind ++ value
-    → true ≡ not (contains text_cmp old.texts text)
-    → ((other : Vec ℕ Global) → contains text_cmp new.texts other ≡ cond (is_at (text_cmp text) other) true (contains text_cmp old.texts other))
+    → true ≡ not (is_noted old r)
+    → ((other : CharterRow) → is_noted noted other ≡ (same_row r other || is_noted old other))
+    → new.names ≡ noted.names → new.prefixes ≡ noted.prefixes
     → new.operators.items ≡ old.operators.items ++ operators_in (r ∷ [])
     → new.pool.items ≡ old.pool.items ++ pool_in (r ∷ [])
     → (rows : List CharterRow) → HoldsRows old rows
     → (x : CharterRow) × (fields ≡ charter_row x) × HoldsRows new (rows ++ x ∷ []) × (charter_fault (map charter_row rows) fields ≡ None)
-row_taken old new r fields kind value text pair read joined fresh updates operators pool rows held =
+row_taken old noted new r fields kind value pair read fresh updates names prefixes operators pool rows held =
     let same : fields ≡ charter_row r = two_fields fields kind value pair ∙ rw (read.0, read.1) refl in
     let plain : fault_of_pair (two_of fields) ≡ None = rw (← pair) read.2 in
-    let spelled : text.items ≡ row_text r = joined ∙ rw (read.0, read.1) refl in
-    let absent = not_true (contains text_cmp old.texts text) fresh in (
+    let absent = not_true (is_noted old r) fresh in (
       r,
       same,
-      holds_more old new rows r text held spelled absent updates operators pool,
-      charter_fault-held old rows r fields text false held same plain spelled absent,
+      holds_more old new rows r held absent (λ other. noted-same noted new names prefixes other ∙ updates other) operators pool,
+      charter_fault-noted old rows r fields false held same plain absent,
     )
 
-pub row_repeated : (old : CharterRows) (r : CharterRow) (fields : Fields) (kind value : List ℕ) (text : Vec ℕ Global) (fault : FileFault)
+pub row_repeated : (old : CharterRows) (r : CharterRow) (fields : Fields) (kind value : List ℕ) (fault : FileFault)
     → Some (kind, value) ≡ two_of fields
     → (kind ≡ kind_of r) × (value ≡ value_of r) × (kind_and_value_fault kind value ≡ None)
-    → text.items ≡ kind ++ value
-    → false ≡ not (contains text_cmp old.texts text)
+    → false ≡ not (is_noted old r)
     → fault ≡ file.Row (length old.operators.items + length old.pool.items + 1) row.Repeated
     → (rows : List CharterRow) → HoldsRows old rows
     → IsTold fault (at_row (length rows + 1) (charter_fault (map charter_row rows) fields) None)
-row_repeated old r fields kind value text fault pair read joined known told rows held =
+row_repeated old r fields kind value fault pair read known told rows held =
     let same : fields ≡ charter_row r = two_fields fields kind value pair ∙ rw (read.0, read.1) refl in
     let plain : fault_of_pair (two_of fields) ≡ None = rw (← pair) read.2 in
-    let spelled : text.items ≡ row_text r = joined ∙ rw (read.0, read.1) refl in
-    let again = charter_fault-held old rows r fields text true held same plain spelled (not_false (contains text_cmp old.texts text) known) in
+    let again = charter_fault-noted old rows r fields true held same plain (not_false (is_noted old r) known) in
     rw (told, again, held.count) refl

@@ -13,7 +13,8 @@ use Rattle.addr.specs.declared.family.Family.TheVariants.{V4, V6}
 use Rattle.addr.specs.declared.route.Route.{Route}
 use Rattle.addr.specs.declared.vrp.Vrp.{Vrp}
 use Rattle.payload.specs.ValidityState.{state_of}
-use Rattle.payload.specs.VrpOrder.{same_vrp, vrp_total}
+use Rattle.addr.specs.Order.{same_vrp}
+use Rattle.addr.proofs.OrderLemmas.{vrp_total}
 use Rattle.payload.specs.VrpSet as set
 use Rattle.payload.specs.declared.validity.Validity.{Validity}
 use Rattle.payload.proofs.Sets.{is_vrp, same_vrp-equal, contains-from_list, contains-items}

@@ -7,10 +7,12 @@ mod TrailMade
 pub mod RecordLemmas
 pub mod VrpLemmas
 pub mod RequestLemmas
+pub mod ContentLemmas
 pub mod DeskLemmas
+pub mod RunLemmas
 pub mod DailyLemmas
 pub mod ExportLemmas
-pub mod AnswerSteps
+pub mod StateSteps
 pub mod CheckLemmas
 pub mod RecordSteps
 pub mod RecordsLeft

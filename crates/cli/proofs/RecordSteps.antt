@@ -6,7 +6,7 @@ use Rattle.csv.specs.declared.parser.State.{State}
 use Rattle.csv.specs.declared.reader.Reader.{Reader}
 use Rattle.csv.proofs.ReadFacts.{rows-more, rows-end}
 use Rattle.cli.specs.CsvRecords.{Fields, records_of_rest, unread, records_left, current, IsReading}
-use Rattle.cli.specs.declared.files.records.Records.{Records}
+use Rattle.cli.specs.declared.files.records.CsvRecords.{CsvRecords}
 use Rattle.cli.proofs.RecordsLeft.{records-next, records-end}
 
 abbrev remaining : Bor (List ℕ) → Option (List ℕ)
@@ -29,7 +29,7 @@ more_left a b row xs config known read =
     let (r, next, same, (state, bytes)) = taken in
     ((rest, left), joined a.state b.state row xs rest (unread a) (unread b) r known left next same state bytes)
 
-pub reading-next : (old new : Records) → IsReading old
+pub reading-next : (old new : CsvRecords) → IsReading old
     → ReadRecord remaining old.reader new.reader true (current new) → ReadsOn old.reader new.reader
     → IsReading new × (records_left old ≡ current new ∷ records_left new)
 reading-next old new reading read on =
@@ -44,7 +44,7 @@ reading-next old new reading read on =
       more.1,
     )
 
-pub reading-end : (old new : Records) → IsReading old → ReadRecord remaining old.reader new.reader false (current new) → records_left old ≡ []
+pub reading-end : (old new : CsvRecords) → IsReading old → ReadRecord remaining old.reader new.reader false (current new) → records_left old ≡ []
 reading-end old new reading read =
     let none = rows-end remaining old.reader new.reader (current new) default_config reading.rest reading.config reading.known read in
     rw reading.known (records-end default_config old.reader.state reading.rest none)

@@ -1,6 +1,9 @@
 -- Rows of CSV files.
-use Rattle.std.proofs.Common.{◌≡◌, ◌^◌, ◌<◌, ◌-◌, lit<, inl, inr, ℕ, List, [], ◌∷◌, length, Option, Some, None, true, false, refl, sym, ◌∙◌, arith}
+use Rattle.std.proofs.Common.{◌≡◌, ◌^◌, ◌<◌, ◌+◌, ◌-◌, lit<, inl, inr, ℕ, zero, suc, List, [], ◌∷◌, length, drop, get_or, Bool, not, Option, Some, None, true, false, refl, sym, ap, ◌∙◌, arith}
+use Rattle.std.specs.Prelude.{◌&&◌}
 use Rattle.std.proofs.lemmas.Bool.{cases_Bool}
+use Rattle.std.proofs.lemmas.List.{get_or-map, length-map}
+use Rattle.std.specs.Borrow.{Bor}
 use Rattle.std.proofs.lemmas.Slice.Eq.{bytes_eq-Decides}
 use Rattle.std.specs.Str.{bytes_eq}
 use Rattle.std.proofs.lemmas.Nat.{pow_pos}
@@ -13,12 +16,15 @@ use Rattle.addr.specs.Digits.{asn_in}
 use Rattle.addr.specs.declared.prefix.Prefix.{Prefix}
 use Rattle.addr.proofs.PrefixSpellingLemmas.{loose-spelling, faultless-Spells}
 use Rattle.cli.specs.CsvRecords.{Fields}
-use Rattle.cli.specs.CsvRows.{two_of, three_of, fields_eq, header_fault, length_and_width, number_between, payload_texts_fault, origin_fault, route_texts_fault}
+use Rattle.cli.specs.CsvRows.{two_of, three_of, fields_eq, header_fault, length_and_width, number_between, payload_texts_fault, origin_fault, route_texts_fault, texts_of}
 use Rattle.cli.specs.declared.fault.FileFault.TheVariants as file
 use Rattle.cli.specs.declared.fault.RowFault.{RowFault}
 use Rattle.cli.specs.declared.fault.RowFault.TheVariants as row
 
 -- ---- fields
+
+same_some : {T : Type 0} (a b : T) → Some a ≡ Some b → a ≡ b
+same_some a b e = cc
 
 pub three_of-no_first : (xs : Fields) → None ≡ field_at xs 0 → None ≡ three_of xs
 unfolding field_at
@@ -72,6 +78,39 @@ same_fields (a ∷ xs) (b ∷ ys) e = elim (cases_Bool (bytes_eq a b)) [
   | inl same ↦ rw ((bytes_eq-Decides a b).0 same, same_fields xs ys (rw same at e)) refl
   | inr other ↦ let h = rw other at e in cc
 ]
+
+pub fields_eq-length : (xs ys : Fields) → (length xs ≡ length ys → ⊥) → false ≡ fields_eq xs ys
+fields_eq-length xs ys other = elim (cases_Bool (fields_eq xs ys)) [
+  | inl same ↦ absurd (other (ap (λ (t : Fields). length t) (same_fields xs ys same)))
+  | inr apart ↦ sym apart
+]
+
+-- the fields from a place on are equal where the first of them is and the others are
+pub fields_eq-drop : (xs ys : Fields) (i : ℕ) (x : List ℕ) → Some x ≡ field_at xs i → i < length ys
+    → fields_eq (drop i xs) (drop i ys) ≡ (bytes_eq x (get_or ys i []) && fields_eq (drop (i + 1) xs) (drop (i + 1) ys))
+unfolding field_at
+fields_eq-drop [] ys i x e inside = cc
+fields_eq-drop (a ∷ xs) [] i x e inside = absurd (omega arith)
+fields_eq-drop (a ∷ xs) (b ∷ ys) zero x e inside = rw (same_some x a e) refl
+fields_eq-drop (a ∷ xs) (b ∷ ys) (suc i) x e inside =
+    let next : suc i + 1 ≡ suc (i + 1) = omega arith in
+    rw next (fields_eq-drop xs ys i x e (omega arith))
+
+-- the same, where the other fields are texts and this one was compared with its text
+pub texts-next : (xs : Fields) (ts : List (Bor (List ℕ))) (i : ℕ) (x y : List ℕ) (d : Bor (List ℕ)) (same : Bool)
+    → Some x ≡ field_at xs i → i < length ts → y ≡ (get_or ts i d).now → bytes_eq x y ≡ same
+    → fields_eq (drop i xs) (drop i (texts_of ts)) ≡ (same && fields_eq (drop (i + 1) xs) (drop (i + 1) (texts_of ts)))
+texts-next xs ts i x y d same e inside is eq =
+    fields_eq-drop xs (texts_of ts) i x e (rw (length-map ts (λ text. text.now)) inside)
+    ∙ rw (get_or-map (λ (text : Bor (List ℕ)). text.now) ts i d [] inside, ← is, eq) refl
+
+pub not_true : (b : Bool) → true ≡ not b → b ≡ false
+not_true true e = e
+not_true false e = refl
+
+pub not_false : (b : Bool) → false ≡ not b → b ≡ true
+not_false true e = refl
+not_false false e = e
 
 -- ---- headers
 

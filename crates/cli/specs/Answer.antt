@@ -3,6 +3,7 @@
 -- and is answered with the first rule that fails; what is shown, exported and judged is what the
 -- history defines. Where no memory is found the reply is Unavailable and nothing has changed.
 use Rattle.std.specs.Prelude.{◌≡◌, ℕ, Bool, true, false, List, [], ◌∷◌, Option, Some, None, ◌↔◌, Contains}
+use Rattle.std.specs.String.{string_bytes}
 use Rattle.addr.specs.OriginValidation.{HasState}
 use Rattle.addr.specs.declared.route.Route.{Route}
 use Rattle.addr.specs.declared.vrp.Vrp.{Vrp}
@@ -14,15 +15,17 @@ use Rattle.policy.specs.DailyVrps.{IsVrpOn}
 use Rattle.policy.specs.History.{History}
 use Rattle.policy.specs.Verdict.{Verdict, ShowVerdict, ListVerdict, IsLegal}
 use Rattle.policy.specs.Rows.{Rows}
+use Rattle.policy.specs.declared.authorization.Auth.{Auth}
 use Rattle.policy.specs.declared.charter.Charter.{Charter}
 use Rattle.policy.specs.declared.command.Command.{Command}
 use Rattle.policy.specs.declared.command.Query.{Query}
-use Rattle.policy.specs.declared.command.Query.TheVariants.{Show as ShowQuery, List as ListQuery, Payloads as PayloadsQuery, Validity as ValidityQuery}
+use Rattle.policy.specs.declared.command.Query.TheVariants.{Show as ShowQuery, Content as ContentQuery, List as ListQuery, Payloads as PayloadsQuery, Validity as ValidityQuery}
+use Rattle.cli.specs.ContentText.{IsContentText}
 use Rattle.cli.specs.DeskRows.{HasRows}
 use Rattle.cli.specs.declared.desk.asked.Request.{Request}
 use Rattle.cli.specs.declared.desk.asked.Request.TheVariants.{Command as CommandRequest, Query as QueryRequest}
 use Rattle.cli.specs.declared.desk.reply.Reply.{Reply}
-use Rattle.cli.specs.declared.desk.reply.Reply.TheVariants.{Done, Shown, Listed, Payloads, Answers as Validities, Denied, Unavailable}
+use Rattle.cli.specs.declared.desk.reply.Reply.TheVariants.{Done, Shown, Content, Listed, Payloads, Answers as Validities, Denied, Unavailable}
 
 -- the VRPs of the day, rising
 abbrev pub AreVrpsOn : History → ℕ → List Vrp → Type 0
@@ -40,6 +43,7 @@ AreStatesOn history day (r ∷ routes) (s ∷ states) =
 abbrev pub is_done : Reply → Bool
 is_done (Done number) = true
 is_done (Shown x) = false
+is_done (Content text) = false
 is_done (Listed xs) = false
 is_done (Payloads vrps) = false
 is_done (Validities states) = false
@@ -56,6 +60,7 @@ AnswersCommand charter before day caller command (Denied rule row) after =
     Verdict charter before day caller command (Some rule) × (row ≡ None) × (after ≡ before)
 AnswersCommand charter before day caller command Unavailable after = after ≡ before
 AnswersCommand charter before day caller command (Shown x) after = ⊥
+AnswersCommand charter before day caller command (Content text) after = ⊥
 AnswersCommand charter before day caller command (Listed xs) after = ⊥
 AnswersCommand charter before day caller command (Payloads vrps) after = ⊥
 AnswersCommand charter before day caller command (Validities states) after = ⊥
@@ -66,9 +71,22 @@ AnswersShow history h day caller n (Shown x) = IsShown history h day caller n x
 AnswersShow history h day caller n (Denied rule row) = ShowVerdict history h day caller n (Some rule) × (row ≡ None)
 AnswersShow history h day caller n Unavailable = Unit {0}
 AnswersShow history h day caller n (Done number) = ⊥
+AnswersShow history h day caller n (Content text) = ⊥
 AnswersShow history h day caller n (Listed xs) = ⊥
 AnswersShow history h day caller n (Payloads vrps) = ⊥
 AnswersShow history h day caller n (Validities states) = ⊥
+
+-- the reply to a request for the ROA content of an authorization: that of the terms that would be shown
+abbrev pub AnswersContent : History → List ℕ → ℕ → List ℕ → ℕ → Reply → Type 0
+AnswersContent history h day caller n (Content text) =
+    (x : Auth) × IsShown history h day caller n x × IsContentText x (string_bytes text)
+AnswersContent history h day caller n (Denied rule row) = ShowVerdict history h day caller n (Some rule) × (row ≡ None)
+AnswersContent history h day caller n Unavailable = Unit {0}
+AnswersContent history h day caller n (Done number) = ⊥
+AnswersContent history h day caller n (Shown x) = ⊥
+AnswersContent history h day caller n (Listed xs) = ⊥
+AnswersContent history h day caller n (Payloads vrps) = ⊥
+AnswersContent history h day caller n (Validities states) = ⊥
 
 -- the reply to a request to list authorizations
 abbrev pub AnswersList : History → List ℕ → ℕ → List ℕ → Reply → Type 0
@@ -77,6 +95,7 @@ AnswersList history h day caller (Denied rule row) = ListVerdict history h day c
 AnswersList history h day caller Unavailable = Unit {0}
 AnswersList history h day caller (Done number) = ⊥
 AnswersList history h day caller (Shown x) = ⊥
+AnswersList history h day caller (Content text) = ⊥
 AnswersList history h day caller (Payloads vrps) = ⊥
 AnswersList history h day caller (Validities states) = ⊥
 
@@ -86,6 +105,7 @@ AnswersPayloads history day (Payloads vrps) = AreVrpsOn history day vrps.items
 AnswersPayloads history day Unavailable = Unit {0}
 AnswersPayloads history day (Done number) = ⊥
 AnswersPayloads history day (Shown x) = ⊥
+AnswersPayloads history day (Content text) = ⊥
 AnswersPayloads history day (Listed xs) = ⊥
 AnswersPayloads history day (Denied rule row) = ⊥
 AnswersPayloads history day (Validities states) = ⊥
@@ -96,12 +116,14 @@ AnswersValidity history day routes (Validities states) = AreStatesOn history day
 AnswersValidity history day routes Unavailable = Unit {0}
 AnswersValidity history day routes (Done number) = ⊥
 AnswersValidity history day routes (Shown x) = ⊥
+AnswersValidity history day routes (Content text) = ⊥
 AnswersValidity history day routes (Listed xs) = ⊥
 AnswersValidity history day routes (Payloads vrps) = ⊥
 AnswersValidity history day routes (Denied rule row) = ⊥
 
 abbrev pub AnswersQuery : History → ℕ → List ℕ → Query → Reply → Type 0
 AnswersQuery history day caller (ShowQuery h n) reply = AnswersShow history h day caller n reply
+AnswersQuery history day caller (ContentQuery h n) reply = AnswersContent history h day caller n reply
 AnswersQuery history day caller (ListQuery h) reply = AnswersList history h day caller reply
 AnswersQuery history day caller PayloadsQuery reply = AnswersPayloads history day reply
 AnswersQuery history day caller (ValidityQuery routes) reply = AnswersValidity history day routes.items reply

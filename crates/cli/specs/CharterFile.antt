@@ -1,15 +1,15 @@
 -- Charter files: a row for each operator and each prefix of the pool. A row that says what an earlier one
 -- says is refused, and after all rows the counts are asked.
-use Rattle.std.specs.Prelude.{◌≡◌, ℕ, ◌+◌, false, if◌then◌else◌, List, [], ◌∷◌, ◌++◌, length, drop, map, Option, Some, None, option_map, codes, Vec}
-use Rattle.std.specs.Global.{Global}
+use Rattle.std.specs.Prelude.{◌≡◌, ℕ, ◌+◌, false, if◌then◌else◌, Bool, List, [], ◌∷◌, ◌++◌, length, drop, map, Option, Some, None, option_map, codes}
 use Rattle.std.specs.List.{list_any}
 use Rattle.std.specs.Prelude.{IsPermutation}
 use Rattle.std.specs.Str.{bytes_eq}
 use Rattle.std.specs.BTreeSet.{contains}
 use Rattle.std.specs.Cmp.Lexicographic.{slice_cmp}
 use Rattle.std.specs.Ordering.{nat_cmp}
-use Rattle.std.specs.declared.cmp.Ordering.{Ordering}
+use Rattle.addr.specs.Address.{prefix_eq}
 use Rattle.addr.specs.Name.{name_in}
+use Rattle.addr.specs.Order.{prefix_cmp}
 use Rattle.addr.specs.declared.prefix.Prefix.{Prefix}
 use Rattle.policy.specs.Repeats.{has_repeat}
 use Rattle.policy.specs.Charter.{operators_of, pool_of}
@@ -111,16 +111,22 @@ RefusesCharter fault.Stream text = ⊥
 
 -- ---- rows that were read
 
-abbrev pub row_text : CharterRow → List ℕ
-row_text r = kind_of r ++ value_of r
+-- the rows say the same
+abbrev pub same_row : CharterRow → CharterRow → Bool
+same_row (Operator name) (Operator other) = bytes_eq name other
+same_row (Operator name) (Pool other) = false
+same_row (Pool prefix) (Operator other) = false
+same_row (Pool prefix) (Pool other) = prefix_eq prefix other
 
-abbrev pub text_cmp : Vec ℕ Global → Vec ℕ Global → Ordering
-text_cmp a b = slice_cmp nat_cmp a.items b.items
+-- what the row says is in its set
+abbrev pub is_noted : CharterRows → CharterRow → Bool
+is_noted kept (Operator name) = contains (slice_cmp nat_cmp) kept.names name
+is_noted kept (Pool prefix) = contains prefix_cmp kept.prefixes prefix
 
 -- these rows were read and kept
 pub record HoldsRows (kept : CharterRows) (rows : List CharterRow) : Type 0 where
   pub operators : kept.operators.items ≡ operators_in rows
   pub pool : kept.pool.items ≡ pool_in rows
   pub count : length rows ≡ length kept.operators.items + length kept.pool.items
-  pub once : has_repeat (λ a b. bytes_eq (row_text a) (row_text b)) rows ≡ false
-  pub texts : (text : Vec ℕ Global) → contains text_cmp kept.texts text ≡ list_any (λ r. bytes_eq (row_text r) text.items) rows
+  pub once : has_repeat same_row rows ≡ false
+  pub noted : (r : CharterRow) → is_noted kept r ≡ list_any (λ e. same_row e r) rows

@@ -20,24 +20,24 @@ state_text Invalid = codes "Invalid"
 state_text NotFound = codes "NotFound"
 
 -- `prefix,origin,state` and a line feed
-abbrev pub answer_line : set.VrpSet → Route → List ℕ
-answer_line vrps r =
+abbrev pub state_line : set.VrpSet → Route → List ℕ
+state_line vrps r =
     prefix_text r.prefix ++ 44 ∷ origin_text r.origin ++ 44 ∷ state_text (validation_state (set.items vrps) r) ++ 10 ∷ []
 
-abbrev pub answers_text : set.VrpSet → List Route → List ℕ
-answers_text vrps [] = []
-answers_text vrps (r ∷ routes) = answer_line vrps r ++ answers_text vrps routes
+abbrev pub states_text : set.VrpSet → List Route → List ℕ
+states_text vrps [] = []
+states_text vrps (r ∷ routes) = state_line vrps r ++ states_text vrps routes
 
 -- the files are these VRPs and these routes, each under its header
 pub record AreFilesOf (payloads routes : List ℕ) (vrps : List Vrp) (announced : List Route) : Type 0 where
   pub payload_file : csv_records payloads ≡ payload_header ∷ map payload_row vrps
   pub route_file : csv_records routes ≡ route_header ∷ map route_row announced
 
--- the text is the answers to a check of the two files
-abbrev pub AnswersFiles : List ℕ → List ℕ → List ℕ → Type 0
-AnswersFiles payloads routes text = (vrps : List Vrp) × (announced : List Route)
+-- the text is the lines of a check of the two files
+abbrev pub JudgesFiles : List ℕ → List ℕ → List ℕ → Type 0
+JudgesFiles payloads routes text = (vrps : List Vrp) × (announced : List Route)
     × AreFilesOf payloads routes vrps announced
-    × (text ≡ answers_text (set.from_list vrps) announced)
+    × (text ≡ states_text (set.from_list vrps) announced)
 
 -- the first fault of the payload file, or else of the route file
 abbrev pub check_fault : List ℕ → List ℕ → Option ProgramFault
@@ -46,10 +46,10 @@ check_fault payloads routes = or_else
     (option_map (fault_of_file Routes) (file_fault route_header route_fault (csv_records routes)))
 
 -- how a check ends early: for want of memory or for the content of a file it has written nothing, and where
--- the drain failed a beginning of the answers
+-- the drain failed a beginning of the lines
 abbrev pub EndsCheck : ProgramFault → List ℕ → List ℕ → List ℕ → List ℕ → Bool → Type 0
 EndsCheck fault.Memory payloads routes old new failed = new ≡ old
-EndsCheck fault.Stream payloads routes old new failed = (text : List ℕ) × AnswersFiles payloads routes text
+EndsCheck fault.Stream payloads routes old new failed = (text : List ℕ) × JudgesFiles payloads routes text
     × AppendsBeginning old new text × (failed ≡ true)
 EndsCheck (fault.Header which) payloads routes old new failed = (check_fault payloads routes ≡ Some (fault.Header which)) × (new ≡ old)
 EndsCheck (fault.Row which k why) payloads routes old new failed = (check_fault payloads routes ≡ Some (fault.Row which k why)) × (new ≡ old)

@@ -7,7 +7,7 @@ use Rattle.csv.specs.Records.{fields_of}
 use Rattle.csv.specs.declared.parser.State.{State}
 use Rattle.csv.specs.declared.reader.Reader.{Reader}
 use Rattle.csv.specs.declared.reader.Trim.TheVariants as trim
-use Rattle.cli.specs.declared.files.records.Records.{Records}
+use Rattle.cli.specs.declared.files.records.CsvRecords.{CsvRecords}
 
 -- the fields of a record
 abbrev pub Fields : Type 0
@@ -25,15 +25,15 @@ abbrev pub unread : Reader (Bor (List ℕ)) → Option (List ℕ)
 unread reader = source_of (λ (text : Bor (List ℕ)). Some text.now) reader
 
 -- the records that come after the one at hand
-abbrev pub records_left : Records → List Fields
+abbrev pub records_left : CsvRecords → List Fields
 records_left r = records_of_rest (reader_state r.reader) (unread r.reader)
 
 -- the record at hand
-abbrev pub current : Records → Fields
+abbrev pub current : CsvRecords → Fields
 current r = fields_of r.row
 
 -- each read takes a whole record, as it stands in the text
-pub record IsReading (r : Records) : Type 0 where
+pub record IsReading (r : CsvRecords) : Type 0 where
   pub untrimmed : reader_trim r.reader ≡ trim.None
   pub ready : Ready r.reader
   pub config : reader_config r.reader ≡ default_config

@@ -1,6 +1,7 @@
 -- The rows of CSV files: what they say, and their faults. A file is its header and its rows; of its
 -- faults the first row's counts, and of a row's the leftmost.
-use Rattle.std.specs.Prelude.{ℕ, ◌+◌, ◌≡◌, Bool, true, false, ◌&&◌, if◌then◌else◌, nat_le, List, [], ◌∷◌, drop, Option, Some, None, codes, decimal}
+use Rattle.std.specs.Prelude.{ℕ, ◌+◌, ◌≡◌, Bool, true, false, ◌&&◌, if◌then◌else◌, nat_le, List, [], ◌∷◌, drop, map, Option, Some, None, codes, decimal}
+use Rattle.std.specs.Borrow.{Bor}
 use Rattle.std.specs.Option.{option_and_then, option_map}
 use Rattle.std.specs.Str.{bytes_eq}
 use Rattle.addr.specs.Digits.{asn_in, asn_text, number_in}
@@ -37,6 +38,10 @@ fields_eq [] [] = true
 fields_eq [] (b ∷ rest) = false
 fields_eq (a ∷ rest) [] = false
 fields_eq (a ∷ one) (b ∷ two) = bytes_eq a b && fields_eq one two
+
+-- the bytes of some texts
+abbrev pub texts_of : List (Bor (List ℕ)) → Fields
+texts_of texts = map (λ text. text.now) texts
 
 -- ---- faults of a file
 

@@ -2,6 +2,7 @@
 -- of the format, and a line feed.
 use Rattle.std.specs.Prelude.{ℕ, List, ◌++◌, map, codes, decimal, Option, Some, None}
 use Rattle.std.specs.List.{join_with_byte}
+use Rattle.std.specs.String.{string_bytes}
 use Rattle.addr.specs.Day.{day_text}
 use Rattle.addr.specs.PrefixText.{spelling}
 use Rattle.addr.specs.declared.asn.Asn.{Asn}
@@ -9,9 +10,9 @@ use Rattle.addr.specs.declared.prefix.Prefix.{Prefix}
 use Rattle.addr.specs.declared.vrp.Vrp.{Vrp}
 use Rattle.policy.specs.declared.authorization.Auth.{Auth}
 use Rattle.policy.specs.declared.rule.Rule.{Rule}
-use Rattle.policy.specs.declared.rule.Rule.TheVariants.{Operator, Steward, Grant, Holder, Fresh, Number, Scope, Dates, Length, Pool, Free, Distinct, Held, Same, Room}
+use Rattle.policy.specs.Rule.{rule_name}
 use Rattle.cli.specs.declared.desk.reply.Reply.{Reply}
-use Rattle.cli.specs.declared.desk.reply.Reply.TheVariants.{Done, Shown, Listed, Payloads, Answers, Denied, Unavailable}
+use Rattle.cli.specs.declared.desk.reply.Reply.TheVariants.{Done, Shown, Content, Listed, Payloads, Answers, Denied, Unavailable}
 use Rattle.payload.specs.declared.validity.Validity.{Validity}
 use Rattle.payload.specs.declared.validity.Validity.TheVariants.{Valid, Invalid, NotFound}
 use Rattle.cli.specs.declared.web.malformed.Malformed.{Malformed}
@@ -42,23 +43,6 @@ validity_text Valid = codes "\"Valid\""
 validity_text Invalid = codes "\"Invalid\""
 validity_text NotFound = codes "\"NotFound\""
 
-abbrev pub rule_name : Rule → List ℕ
-rule_name Operator = codes "operator"
-rule_name Steward = codes "steward"
-rule_name Grant = codes "grant"
-rule_name Holder = codes "holder"
-rule_name Fresh = codes "fresh"
-rule_name Number = codes "number"
-rule_name Scope = codes "scope"
-rule_name Dates = codes "dates"
-rule_name Length = codes "length"
-rule_name Pool = codes "pool"
-rule_name Free = codes "free"
-rule_name Distinct = codes "distinct"
-rule_name Held = codes "held"
-rule_name Same = codes "same"
-rule_name Room = codes "room"
-
 -- the texts with a comma between each two
 abbrev pub comma_joined : List (List ℕ) → List ℕ
 comma_joined texts = join_with_byte 44 texts
@@ -76,6 +60,10 @@ denied_text rule (Some row) = codes "{\"denied\":\"" ++ rule_name rule ++ codes 
 abbrev pub unavailable_text : List ℕ
 unavailable_text = codes "{\"unavailable\":true}\n"
 
+-- the hex of a content
+abbrev pub content_text : List ℕ → List ℕ
+content_text hex = codes "{\"content\":\"" ++ hex ++ codes "\"}\n"
+
 -- an object with one member, a list, from its opening on
 abbrev pub list_text : List ℕ → List (List ℕ) → List ℕ
 list_text opening texts = opening ++ comma_joined texts ++ codes "]}\n"
@@ -84,6 +72,7 @@ list_text opening texts = opening ++ comma_joined texts ++ codes "]}\n"
 abbrev pub line_text : Reply → List ℕ
 line_text (Done number) = done_text number
 line_text (Shown auth) = codes "{\"shown\":" ++ auth_text auth ++ codes "}\n"
+line_text (Content text) = content_text (string_bytes text)
 line_text (Listed auths) = list_text (codes "{\"listed\":[") (map auth_text auths.items)
 line_text (Payloads vrps) = list_text (codes "{\"payloads\":[") (map vrp_text vrps.items)
 line_text (Answers states) = list_text (codes "{\"answers\":[") (map validity_text states.items)
@@ -94,6 +83,7 @@ line_text Unavailable = unavailable_text
 abbrev pub short_text : Reply → Option (List ℕ)
 short_text (Done number) = Some (line_text (Done number))
 short_text (Shown auth) = None
+short_text (Content text) = None
 short_text (Listed auths) = None
 short_text (Payloads vrps) = None
 short_text (Answers states) = None

@@ -1,5 +1,5 @@
 -- The faults of a request by number. Where several apply, the lowest is told.
-use Rattle.std.specs.Prelude.{ℕ, nat_le, if◌then◌else◌}
+use Rattle.std.specs.Prelude.{ℕ}
 use Rattle.cli.specs.declared.web.request.fault.Fault.{Fault}
 use Rattle.cli.specs.declared.web.request.fault.Fault.TheVariants.{Json, Members, Holder, Caller, Prefix, Asn, Max, Day, Role, Number, Count, TooLong}
 
@@ -16,6 +16,3 @@ fault_number Role = 9
 fault_number Number = 10
 fault_number Count = 12
 fault_number TooLong = 13
-
-unfoldable pub lower : Fault → Fault → Fault
-lower one other = if nat_le (fault_number one) (fault_number other) then one else other

@@ -2,7 +2,8 @@
 -- that the JSON reader gives: of a repeated member it has the last value, and a number is unsigned
 -- there exactly where it is written as plain decimal digits and is below 2 ^ 64.
 use Rattle.std.specs.Prelude.{◌≡◌, ℕ, ◌^◌, nat_le, nat_lt, ◌&&◌, List, [], ◌∷◌, length, codes, if◌then◌else◌, Option, Some, None, option_map, option_and_then, Result, Ok, Err}
-use Rattle.std.specs.Str.{bytes_eq, is_utf8}
+use Rattle.std.specs.Option.{ok_or}
+use Rattle.std.specs.Str.{bytes_eq}
 use Rattle.addr.specs.Day.{day_in}
 use Rattle.addr.specs.Name.{name_in}
 use Rattle.addr.specs.SpelledPrefix.{spelled_prefix}
@@ -14,22 +15,22 @@ use Rattle.addr.specs.declared.route.Route.{Route}
 use Rattle.policy.specs.declared.command.Command.{Command}
 use Rattle.policy.specs.declared.command.Command.TheVariants.{Register, Delegate, Transfer, Reclaim, Grant, Revoke, Create, Amend, Withdraw}
 use Rattle.policy.specs.declared.command.Query.{Query}
-use Rattle.policy.specs.declared.command.Query.TheVariants.{Show, List as ListQuery, Payloads, Validity}
+use Rattle.policy.specs.declared.command.Query.TheVariants.{Show, Content, List as ListQuery, Payloads, Validity}
 use Rattle.policy.specs.declared.grant.Role.{Role}
 use Rattle.policy.specs.declared.grant.Role.TheVariants.{Manager, Clerk, Auditor}
 use Rattle.policy.specs.declared.grant.Scope.{Scope}
 use Rattle.policy.specs.declared.grant.Scope.TheVariants.{All, Only}
 use Rattle.serde_json.specs.Data.{Data, null, boolean, number, string, array, object, Items}
-use Rattle.serde_json.specs.Find.{get, as_array, as_str, as_number, as_u64}
-use Rattle.serde_json.specs.Read.{read}
+use Rattle.serde_json.specs.Find.{get, as_array, as_str}
+use Rattle.json_parts.specs.Parts.{both, mapped, and_then, unless, each}
+use Rattle.json_parts.specs.Tree.{tree_of, whole_number, required, only, list_of}
 use Rattle.cli.specs.RequestFault.{fault_number}
-use Rattle.cli.specs.RequestParts.{both, unless, mapped, and_then, member_in, each, items_of, only}
 use Rattle.cli.specs.declared.desk.asked.Asked.{Asked}
 use Rattle.cli.specs.declared.desk.asked.Request.{Request}
 use Rattle.cli.specs.declared.desk.asked.Request.TheVariants.{Command as CommandRequest, Query as QueryRequest}
 use Rattle.cli.specs.declared.web.malformed.Malformed.{Malformed}
 use Rattle.cli.specs.declared.web.request.action.Action.{Action}
-use Rattle.cli.specs.declared.web.request.action.Action.TheVariants.{Register as AskRegister, Delegate as AskDelegate, Transfer as AskTransfer, Reclaim as AskReclaim, Grant as AskGrant, Revoke as AskRevoke, Create as AskCreate, Amend as AskAmend, Withdraw as AskWithdraw, Show as AskShow, List as AskList, Payloads as AskPayloads, Validity as AskValidity}
+use Rattle.cli.specs.declared.web.request.action.Action.TheVariants.{Register as AskRegister, Delegate as AskDelegate, Transfer as AskTransfer, Reclaim as AskReclaim, Grant as AskGrant, Revoke as AskRevoke, Create as AskCreate, Amend as AskAmend, Withdraw as AskWithdraw, Show as AskShow, Content as AskContent, List as AskList, Payloads as AskPayloads, Validity as AskValidity}
 use Rattle.cli.specs.declared.web.request.fault.Fault.{Fault}
 use Rattle.cli.specs.declared.web.request.fault.Fault.TheVariants.{Json, Members, Holder, Caller, Prefix as PrefixFault, Asn as AsnFault, Max, Day, Role as RoleFault, Number, Count, TooLong}
 use Rattle.cli.specs.declared.web.request.members.CreateTerms.{CreateTerms}
@@ -39,6 +40,7 @@ use Rattle.cli.specs.declared.web.request.members.CreateTerms.{CreateTerms}
 pub data RequestTerms : Type 0 where
   command : Command → RequestTerms
   show : List ℕ → ℕ → RequestTerms
+  content : List ℕ → ℕ → RequestTerms
   list : List ℕ → RequestTerms
   payloads : RequestTerms
   validity : List Route → RequestTerms
@@ -50,6 +52,7 @@ pub record AskedTerms : Type 0 where
 
 abbrev pub query_terms : Query → RequestTerms
 query_terms (Show holder n) = show holder n
+query_terms (Content holder n) = content holder n
 query_terms (ListQuery holder) = list holder
 query_terms Payloads = payloads
 query_terms (Validity routes) = validity routes.items
@@ -71,9 +74,6 @@ prefix_read d = option_and_then spelled_prefix (as_str d)
 
 abbrev pub day_read : Data → Option ℕ
 day_read d = option_and_then day_in (as_str d)
-
-abbrev pub whole_number : Data → Option ℕ
-whole_number d = option_and_then as_u64 (as_number d)
 
 abbrev pub asn_from : Option ℕ → Option Asn
 asn_from None = None
@@ -123,6 +123,10 @@ scope_read d = option_and_then scope_of (as_str d)
 
 -- ---- members
 
+-- the member of this name, which has to be there: the value that is read of it, or its fault
+abbrev pub member_in : {A : Type 0} → (Data → Option A) → Fault → List ℕ → Data → Result A Fault
+member_in reading fault name d = required Members (λ found. ok_or (reading found) fault) (get name d)
+
 abbrev pub holder_in : List ℕ → Data → Result (List ℕ) Fault
 holder_in = member_in name_read Holder
 
@@ -155,18 +159,18 @@ access_of (Clerk, scope) = Ok (Clerk, scope)
 access_of (Auditor, scope) = Ok (Auditor, scope)
 
 abbrev pub access_in : Data → Result (Role × Scope) Fault
-access_in d = and_then access_of (both (member_in role_read RoleFault (codes "role") d) (member_in scope_read RoleFault (codes "scope") d))
+access_in d = and_then access_of (both fault_number (member_in role_read RoleFault (codes "role") d) (member_in scope_read RoleFault (codes "scope") d))
 
 -- the terms that an authorization is created with
 abbrev pub create_terms_in : Data → Result CreateTerms Fault
 create_terms_in d =
     mapped (λ p. record { asn = p.0; prefix = p.1.0; max = p.1.1.0; from = p.1.1.1.0; until = p.1.1.1.1 })
-    (both (asn_in d) (both (prefix_in d) (both (max_in d) (both (day_in_member (codes "from") d) (day_in_member (codes "until") d)))))
+    (both fault_number (asn_in d) (both fault_number (prefix_in d) (both fault_number (max_in d) (both fault_number (day_in_member (codes "from") d) (day_in_member (codes "until") d)))))
 
 abbrev pub route_in : Data → Result Route Fault
 route_in d =
-    unless (mapped (λ p. record { prefix = p.0; origin = p.1 }) (both (prefix_in d) (origin_in d)))
-    (only (codes "prefix" ∷ codes "origin" ∷ []) d)
+    unless fault_number (mapped (λ p. record { prefix = p.0; origin = p.1 }) (both fault_number (prefix_in d) (origin_in d)))
+    (only Members (codes "prefix" ∷ codes "origin" ∷ []) d)
 
 -- one to ten thousand
 abbrev pub count_of : ℕ → Result (Unit {0}) Fault
@@ -174,7 +178,7 @@ count_of n = if nat_le 1 n && nat_le n 10_000 then Ok tt else Err Count
 
 abbrev pub routes_of : Option Items → Result (List Route) Fault
 routes_of None = Err Members
-routes_of (Some items) = unless (each route_in (items_of items)) (count_of (length (items_of items)))
+routes_of (Some items) = unless fault_number (each fault_number route_in (list_of items)) (count_of (length (list_of items)))
 
 abbrev pub routes_in : Data → Result (List Route) Fault
 routes_in d = routes_of (option_and_then as_array (get (codes "routes") d))
@@ -185,37 +189,40 @@ abbrev pub register_in : Data → Result Command Fault
 register_in d = mapped (λ holder. Register holder) (holder_in (codes "holder") d)
 
 abbrev pub delegate_in : Data → Result Command Fault
-delegate_in d = mapped (λ p. Delegate p.0 p.1) (both (holder_in (codes "holder") d) (prefix_in d))
+delegate_in d = mapped (λ p. Delegate p.0 p.1) (both fault_number (holder_in (codes "holder") d) (prefix_in d))
 
 abbrev pub transfer_in : Data → Result Command Fault
 transfer_in d =
-    mapped (λ p. Transfer p.0 p.1.0 p.1.1) (both (prefix_in d) (both (holder_in (codes "giver") d) (holder_in (codes "taker") d)))
+    mapped (λ p. Transfer p.0 p.1.0 p.1.1) (both fault_number (prefix_in d) (both fault_number (holder_in (codes "giver") d) (holder_in (codes "taker") d)))
 
 abbrev pub reclaim_in : Data → Result Command Fault
-reclaim_in d = mapped (λ p. Reclaim p.0 p.1) (both (holder_in (codes "holder") d) (prefix_in d))
+reclaim_in d = mapped (λ p. Reclaim p.0 p.1) (both fault_number (holder_in (codes "holder") d) (prefix_in d))
 
 abbrev pub grant_in : Data → Result Command Fault
 grant_in d =
     mapped (λ p. Grant p.0 p.1.0 p.1.1.0.0 p.1.1.0.1 p.1.1.1)
-    (both (holder_in (codes "holder") d) (both (caller_in (codes "name") d) (both (access_in d) (day_in_member (codes "until") d))))
+    (both fault_number (holder_in (codes "holder") d) (both fault_number (caller_in (codes "name") d) (both fault_number (access_in d) (day_in_member (codes "until") d))))
 
 abbrev pub revoke_in : Data → Result Command Fault
-revoke_in d = mapped (λ p. Revoke p.0 p.1) (both (holder_in (codes "holder") d) (number_in d))
+revoke_in d = mapped (λ p. Revoke p.0 p.1) (both fault_number (holder_in (codes "holder") d) (number_in d))
 
 abbrev pub create_in : Data → Result Command Fault
 create_in d =
-    mapped (λ p. Create p.0 p.1.asn p.1.prefix p.1.max p.1.from p.1.until) (both (holder_in (codes "holder") d) (create_terms_in d))
+    mapped (λ p. Create p.0 p.1.asn p.1.prefix p.1.max p.1.from p.1.until) (both fault_number (holder_in (codes "holder") d) (create_terms_in d))
 
 abbrev pub amend_in : Data → Result Command Fault
 amend_in d =
     mapped (λ p. Amend p.0 p.1.0 p.1.1.0 p.1.1.1)
-    (both (holder_in (codes "holder") d) (both (number_in d) (both (max_in d) (day_in_member (codes "until") d))))
+    (both fault_number (holder_in (codes "holder") d) (both fault_number (number_in d) (both fault_number (max_in d) (day_in_member (codes "until") d))))
 
 abbrev pub withdraw_in : Data → Result Command Fault
-withdraw_in d = mapped (λ p. Withdraw p.0 p.1) (both (holder_in (codes "holder") d) (number_in d))
+withdraw_in d = mapped (λ p. Withdraw p.0 p.1) (both fault_number (holder_in (codes "holder") d) (number_in d))
 
 abbrev pub show_in : Data → Result RequestTerms Fault
-show_in d = mapped (λ p. show p.0 p.1) (both (holder_in (codes "holder") d) (number_in d))
+show_in d = mapped (λ p. show p.0 p.1) (both fault_number (holder_in (codes "holder") d) (number_in d))
+
+abbrev pub content_in : Data → Result RequestTerms Fault
+content_in d = mapped (λ p. content p.0 p.1) (both fault_number (holder_in (codes "holder") d) (number_in d))
 
 abbrev pub list_in : Data → Result RequestTerms Fault
 list_in d = mapped list (holder_in (codes "holder") d)
@@ -233,10 +240,11 @@ action_of text =
     else (if bytes_eq text (codes "amend") then Some AskAmend
     else (if bytes_eq text (codes "withdraw") then Some AskWithdraw
     else (if bytes_eq text (codes "show") then Some AskShow
+    else (if bytes_eq text (codes "content") then Some AskContent
     else (if bytes_eq text (codes "list") then Some AskList
     else (if bytes_eq text (codes "payloads") then Some AskPayloads
     else (if bytes_eq text (codes "validity") then Some AskValidity
-    else None))))))))))))
+    else None)))))))))))))
 
 abbrev pub request_in : Action → Data → Result RequestTerms Fault
 request_in AskRegister d = mapped command (register_in d)
@@ -249,6 +257,7 @@ request_in AskCreate d = mapped command (create_in d)
 request_in AskAmend d = mapped command (amend_in d)
 request_in AskWithdraw d = mapped command (withdraw_in d)
 request_in AskShow d = show_in d
+request_in AskContent d = content_in d
 request_in AskList d = list_in d
 request_in AskPayloads d = Ok payloads
 request_in AskValidity d = mapped validity (routes_in d)
@@ -265,6 +274,7 @@ members_of AskCreate = codes "day" ∷ codes "caller" ∷ codes "do" ∷ codes "
 members_of AskAmend = codes "day" ∷ codes "caller" ∷ codes "do" ∷ codes "holder" ∷ codes "number" ∷ codes "max" ∷ codes "until" ∷ []
 members_of AskWithdraw = codes "day" ∷ codes "caller" ∷ codes "do" ∷ codes "holder" ∷ codes "number" ∷ []
 members_of AskShow = codes "day" ∷ codes "caller" ∷ codes "do" ∷ codes "holder" ∷ codes "number" ∷ []
+members_of AskContent = codes "day" ∷ codes "caller" ∷ codes "do" ∷ codes "holder" ∷ codes "number" ∷ []
 members_of AskList = codes "day" ∷ codes "caller" ∷ codes "do" ∷ codes "holder" ∷ []
 members_of AskPayloads = codes "day" ∷ codes "caller" ∷ codes "do" ∷ []
 members_of AskValidity = codes "day" ∷ codes "caller" ∷ codes "do" ∷ codes "routes" ∷ []
@@ -276,8 +286,8 @@ asked_with p = record { day = p.0; caller = p.1.0; request = p.1.1 }
 
 abbrev pub asked_as : Action → Data → Result AskedTerms Fault
 asked_as action d =
-    unless (mapped asked_with (both (day_in_member (codes "day") d) (both (caller_in (codes "caller") d) (request_in action d))))
-    (only (members_of action) d)
+    unless fault_number (mapped asked_with (both fault_number (day_in_member (codes "day") d) (both fault_number (caller_in (codes "caller") d) (request_in action d))))
+    (only Members (members_of action) d)
 
 abbrev pub asked_by : Option Action → Data → Result AskedTerms Fault
 asked_by None d = Err Members
@@ -289,10 +299,6 @@ action_in d = option_and_then action_of (option_and_then as_str (get (codes "do"
 abbrev pub asked_from : Option Data → Result AskedTerms Fault
 asked_from None = Err Json
 asked_from (Some d) = asked_by (action_in d) d
-
--- no tree for bytes that are no JSON text
-abbrev pub tree_of : List ℕ → Option Data
-tree_of line = if is_utf8 line then read line else None
 
 -- the request that a line is, or its lowest fault; the length is tested first
 abbrev pub asked_in : List ℕ → Result AskedTerms Fault

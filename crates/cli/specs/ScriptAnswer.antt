@@ -9,17 +9,19 @@ use Rattle.cli.specs.Answer.{Answers}
 use Rattle.cli.specs.Desk.{charter_of, desk_rows}
 use Rattle.cli.specs.DeskRows.{HasRows}
 use Rattle.cli.specs.ReplyText.{line_text, malformed_text, unavailable_text}
+use Rattle.cli.specs.RequestFault.{fault_number}
 use Rattle.cli.specs.RequestText.{ReadsLine, request_fault}
 use Rattle.cli.specs.declared.desk.asked.Asked.{Asked}
 use Rattle.cli.specs.declared.desk.handling.Desk.{Desk}
 use Rattle.cli.specs.declared.desk.reply.Reply.{Reply}
 use Rattle.cli.specs.declared.web.malformed.Malformed.{Malformed}
+use Rattle.cli.specs.declared.web.request.fault.Fault.TheVariants.{TooLong}
 use Rattle.cli.specs.declared.web.session.LineAnswer.{LineAnswer}
 use Rattle.cli.specs.declared.web.session.LineAnswer.TheVariants.{Refused, Replied}
 
 -- the fault of a line that is over the limit
 abbrev pub too_long : Malformed
-too_long = record { number = 13; slurm = None }
+too_long = record { number = fault_number TooLong; slurm = None }
 
 -- the line is no request, and the text says why
 abbrev pub IsRefused : List ℕ → List ℕ → Type 0

@@ -1,14 +1,14 @@
 //! Charter files: the operators of a desk and its pool of prefixes.
-ghost use Rattle.std.specs.Prelude.{◌≡◌, ◌+◌, ◌++◌, ◌∷◌, [], List, None, Some, map, length, IfOk, IfErr, OnOk, MatchResult};
+ghost use Rattle.std.specs.Prelude.{◌≡◌, ◌+◌, ◌++◌, ◌∷◌, ◌||◌, not, [], List, None, Some, map, length, IfOk, IfErr, OnOk, MatchResult};
 ghost use Rattle.csv.specs.Records.{fields_of};
-ghost use Rattle.cli.specs.CharterFile.{charter_fault, charter_file_fault, charter_header, charter_row, first_charter_fault, kind_and_value_fault, kind_of, operators_in, pool_in, value_of, HoldsRows, IsCharterFile, IsCharterOf, RefusesCharter};
+ghost use Rattle.cli.specs.CharterFile.{charter_fault, charter_file_fault, charter_row, first_charter_fault, kind_and_value_fault, kind_of, operators_in, pool_in, is_noted, same_row, value_of, HoldsRows, IsCharterFile, IsCharterOf, RefusesCharter};
 ghost use Rattle.cli.specs.CsvRecords.{csv_records, records_left, IsReading};
-ghost use Rattle.cli.specs.CsvRows.{at_row, header_fault, IsTold};
+ghost use Rattle.cli.specs.CsvRows.{at_row, IsTold};
 ghost use Rattle.cli.specs.declared.charter_file.CharterRow as read;
 ghost use Rattle.cli.specs.declared.fault.FileFault.TheVariants as file;
 
 use crate::fault::{FileFault, InputFile, ProgramFault, RowFault};
-use crate::files::{Records, are_two, two_fields};
+use crate::files::{CsvRecords, two_fields};
 use addr::{Name, Prefix};
 use csv::ByteRecord;
 use policy::{Charter, CharterFault};
@@ -21,13 +21,13 @@ enum CharterRow {
     Pool(Prefix),
 }
 
-// The rows that were read, and their texts: a row has one spelling, so one that repeats another has
-// its text. A file may have any number of rows.
+// The rows that were read. A file may have any number of them, so sets tell which row repeats another.
 #[derive(Drop)]
 struct CharterRows {
     operators: Vec<Name>,
     pool: Vec<Prefix>,
-    texts: BTreeSet<Vec<u8>>,
+    names: BTreeSet<Name>,
+    prefixes: BTreeSet<Prefix>,
 }
 
 /// The charter that a CSV file with the header `kind,value` spells. Its rows are `operator,NAME` and
@@ -53,27 +53,11 @@ fn read_charter(alloc: Global, text: &[u8]) -> Result<CharterRows, FileFault>
     ensures faultless { IfOk result (λ kept. charter_file_fault (csv_records text.now) ≡ None) }
     ensures err { IfErr result (λ fault. IsTold fault (charter_file_fault (csv_records text.now))) }
 {
-    let mut records = after_header(alloc, text)?;
+    let mut records = CsvRecords::after_header(alloc, text, &["kind", "value"])?;
     read_rows(alloc, &mut records)
 }
 
-fn after_header(alloc: Global, text: &[u8]) -> Result<Records<'_>, FileFault>
-    ensures reading { IfOk result (λ records. IsReading records) }
-    ensures ok { IfOk result (λ records. csv_records text.now ≡ charter_header ∷ records_left records) }
-    ensures faultless { IfOk result (λ records. header_fault charter_header (csv_records text.now) ≡ None) }
-    ensures err { IfErr result (λ fault. IsTold fault (header_fault charter_header (csv_records text.now))) }
-{
-    let mut records = Records::new(alloc, text);
-    if !records.advance()? {
-        return Err(FileFault::Header);
-    }
-    if !are_two(records.row(), "kind", "value") {
-        return Err(FileFault::Header);
-    }
-    Ok(records)
-}
-
-fn read_rows(alloc: Global, records: &mut Records<'_>) -> Result<CharterRows, FileFault>
+fn read_rows(alloc: Global, records: &mut CsvRecords<'_>) -> Result<CharterRows, FileFault>
     requires { IsReading records.old }
     ensures ok { IfOk result (λ kept. (rows : List read.CharterRow)
         × (records_left records.old ≡ map charter_row rows) × HoldsRows kept rows) }
@@ -82,10 +66,7 @@ fn read_rows(alloc: Global, records: &mut Records<'_>) -> Result<CharterRows, Fi
 {
     let mut rows = CharterRows::new(alloc);
     while records.advance()? {
-        match rows.take(alloc, records.row()) {
-            Ok(()) => {}
-            Err(fault) => return Err(fault),
-        }
+        rows.take(records.row())?;
     }
     Ok(rows)
 }
@@ -97,11 +78,12 @@ impl CharterRows {
         CharterRows {
             operators: Vec::new(alloc),
             pool: Vec::new(alloc),
-            texts: BTreeSet::new(alloc),
+            names: BTreeSet::new(alloc),
+            prefixes: BTreeSet::new(alloc),
         }
     }
 
-    fn take(&mut self, alloc: Global, row: &ByteRecord) -> Result<(), FileFault>
+    fn take(&mut self, row: &ByteRecord) -> Result<(), FileFault>
         ensures ok { OnOk result ((rows : List read.CharterRow) → HoldsRows self.old rows
             → (r : read.CharterRow) × (fields_of row.now ≡ charter_row r) × HoldsRows self.new (rows ++ r ∷ [])
             × (charter_fault (map charter_row rows) (fields_of row.now) ≡ None)) }
@@ -115,19 +97,11 @@ impl CharterRows {
             Ok(read) => read,
             Err(fault) => return Err(self.fault(fault)),
         };
-        let repeated = self.fault(RowFault::Repeated);
-        let Ok(text) = joined(alloc, kind, value) else {
-            return Err(FileFault::Memory);
-        };
-        let Ok(is_new) = self.texts.insert(text) else {
-            return Err(FileFault::Memory);
-        };
+        let is_new = self.note(&read)?;
         if !is_new {
-            return Err(repeated);
+            return Err(self.fault(RowFault::Repeated));
         }
-        let Ok(()) = self.keep(read) else {
-            return Err(FileFault::Memory);
-        };
+        self.keep(&read)?;
         Ok(())
     }
 
@@ -141,14 +115,28 @@ impl CharterRows {
         }
     }
 
-    fn keep(&mut self, row: CharterRow) -> Result<(), AllocError>
-        ensures operators { OnOk result (self.new.operators.items ≡ self.old.operators.items ++ operators_in (row ∷ [])) }
-        ensures pool { OnOk result (self.new.pool.items ≡ self.old.pool.items ++ pool_in (row ∷ [])) }
-        ensures texts { self.new.texts ≡ self.old.texts }
+    // Puts the row into its set, and tells whether it was not there.
+    fn note(&mut self, row: &CharterRow) -> Result<bool, AllocError>
+        ensures is_new { IfOk result (λ is_new. is_new ≡ not (is_noted self.old row.now)) }
+        ensures noted { OnOk result ((other : read.CharterRow) → is_noted self.new other ≡ (same_row row.now other || is_noted self.old other)) }
+        ensures operators { self.new.operators ≡ self.old.operators }
+        ensures pool { self.new.pool ≡ self.old.pool }
     {
         match row {
-            CharterRow::Operator(name) => self.operators.push(name).map_err(|_| AllocError),
-            CharterRow::Pool(prefix) => self.pool.push(prefix).map_err(|_| AllocError),
+            CharterRow::Operator(name) => Ok(self.names.insert(*name)?),
+            CharterRow::Pool(prefix) => Ok(self.prefixes.insert(*prefix)?),
+        }
+    }
+
+    fn keep(&mut self, row: &CharterRow) -> Result<(), AllocError>
+        ensures operators { OnOk result (self.new.operators.items ≡ self.old.operators.items ++ operators_in (row.now ∷ [])) }
+        ensures pool { OnOk result (self.new.pool.items ≡ self.old.pool.items ++ pool_in (row.now ∷ [])) }
+        ensures names { self.new.names ≡ self.old.names }
+        ensures prefixes { self.new.prefixes ≡ self.old.prefixes }
+    {
+        match row {
+            CharterRow::Operator(name) => self.operators.push(*name).map_err(|_| AllocError),
+            CharterRow::Pool(prefix) => self.pool.push(*prefix).map_err(|_| AllocError),
         }
     }
 }
@@ -171,15 +159,6 @@ fn read_texts(kind: &[u8], value: &[u8]) -> Result<CharterRow, RowFault>
         };
     }
     Err(RowFault::Kind)
-}
-
-fn joined(alloc: Global, kind: &[u8], value: &[u8]) -> Result<Vec<u8>, AllocError>
-    ensures { IfOk result (λ text. text.items ≡ kind.now ++ value.now) }
-{
-    let mut text = Vec::with_capacity(alloc, kind.len() + value.len())?;
-    text.extend_from_slice(kind)?;
-    text.extend_from_slice(value)?;
-    Ok(text)
 }
 
 #[cfg(test)]

@@ -2,12 +2,12 @@
 ghost use Rattle.std.specs.Prelude.{◌≡◌, ◌++◌, ◌∷◌, [], ℕ, List, None, map, IfOk, IfErr, OnOk};
 ghost use Rattle.addr.specs.declared.route.Route as announced;
 ghost use Rattle.payload.specs.ValidityState.{state_of};
-ghost use Rattle.cli.specs.Check.{answers_text, check_fault, state_text, AnswersFiles, EndsCheck};
+ghost use Rattle.cli.specs.Check.{states_text, check_fault, state_text, JudgesFiles, EndsCheck};
 ghost use Rattle.cli.specs.CsvRecords.{csv_records, records_left, IsReading};
 ghost use Rattle.cli.specs.CsvRows.{file_fault, first_fault, route_fault, route_header, route_row, IsTold};
 
 use crate::fault::{FileFault, InputFile, ProgramFault};
-use crate::files::{Records, RouteRow, after_route_header, read_payloads, read_route};
+use crate::files::{CsvRecords, RouteRow, read_payloads, read_route};
 use crate::web::stream::{Drain, write_all};
 use payload::{ListIndex, PayloadIndex, Validity};
 use std::alloc::{AllocError, Global};
@@ -21,7 +21,7 @@ pub fn check_on<D: Drain>(
     routes: &[u8],
     drain: &mut D,
 ) -> Result<(), ProgramFault>
-    ensures ok { OnOk result ((text : List ℕ) × AnswersFiles payloads.now routes.now text
+    ensures ok { OnOk result ((text : List ℕ) × JudgesFiles payloads.now routes.now text
         × (D.written drain.new ≡ D.written drain.old ++ text)) }
     ensures faultless { OnOk result (check_fault payloads.now routes.now ≡ None) }
     ensures err { IfErr result (λ fault. EndsCheck fault payloads.now routes.now
@@ -32,67 +32,63 @@ pub fn check_on<D: Drain>(
         Err(fault) => return Err(fault.of(InputFile::Payloads)),
     };
     let index = ListIndex::from(vrps);
-    let answers = match answers_to(alloc, &index, routes) {
-        Ok(answers) => answers,
+    let lines = match lines_of(alloc, &index, routes) {
+        Ok(lines) => lines,
         Err(fault) => return Err(fault.of(InputFile::Routes)),
     };
-    let Ok(()) = write_all(drain, &answers) else {
+    let Ok(()) = write_all(drain, &lines) else {
         return Err(ProgramFault::Stream);
     };
     Ok(())
 }
 
 // The lines for the routes of a file.
-fn answers_to(alloc: Global, index: &ListIndex, text: &[u8]) -> Result<Vec<u8>, FileFault>
-    ensures ok { IfOk result (λ answers. (routes : List announced.Route)
+fn lines_of(alloc: Global, index: &ListIndex, text: &[u8]) -> Result<Vec<u8>, FileFault>
+    ensures ok { IfOk result (λ lines. (routes : List announced.Route)
         × (csv_records text.now ≡ route_header ∷ map route_row routes)
-        × (answers.items ≡ answers_text index.now routes)) }
-    ensures faultless { IfOk result (λ answers. file_fault route_header route_fault (csv_records text.now) ≡ None) }
+        × (lines.items ≡ states_text index.now routes)) }
+    ensures faultless { IfOk result (λ lines. file_fault route_header route_fault (csv_records text.now) ≡ None) }
     ensures err { IfErr result (λ fault. IsTold fault (file_fault route_header route_fault (csv_records text.now))) }
 {
-    let mut records = after_route_header(alloc, text)?;
-    answers_to_rows(alloc, index, &mut records)
+    let mut records = CsvRecords::after_header(alloc, text, &["prefix", "origin"])?;
+    lines_of_rows(alloc, index, &mut records)
 }
 
-fn answers_to_rows(
+fn lines_of_rows(
     alloc: Global,
     index: &ListIndex,
-    records: &mut Records<'_>,
+    records: &mut CsvRecords<'_>,
 ) -> Result<Vec<u8>, FileFault>
     requires { IsReading records.old }
-    ensures ok { IfOk result (λ answers. (routes : List announced.Route)
+    ensures ok { IfOk result (λ lines. (routes : List announced.Route)
         × (records_left records.old ≡ map route_row routes)
-        × (answers.items ≡ answers_text index.now routes)) }
-    ensures faultless { IfOk result (λ answers. first_fault route_fault 1 (records_left records.old) ≡ None) }
+        × (lines.items ≡ states_text index.now routes)) }
+    ensures faultless { IfOk result (λ lines. first_fault route_fault 1 (records_left records.old) ≡ None) }
     ensures err { IfErr result (λ fault. IsTold fault (first_fault route_fault 1 (records_left records.old))) }
 {
-    let mut answers = Vec::new(alloc);
+    let mut lines = Vec::new(alloc);
     let mut row = 1;
     while records.advance()? {
         match read_route(records.row()) {
-            Ok(read) => push_answer(&mut answers, &read, index.validity(&read.route))?,
+            Ok(read) => push_line(&mut lines, &read, index.validity(&read.route))?,
             Err(fault) => return Err(FileFault::Row { row, fault }),
         }
         row += 1;
     }
-    Ok(answers)
+    Ok(lines)
 }
 
 // The texts of a row have one spelling, so they are what is printed.
-fn push_answer(
-    answers: &mut Vec<u8>,
-    read: &RouteRow<'_>,
-    state: Validity,
-) -> Result<(), AllocError>
-    ensures { OnOk result (answers.new.items
-        ≡ answers.old.items ++ (read.now.prefix.now ++ 44 ∷ read.now.origin.now ++ 44 ∷ state_text (state_of state) ++ 10 ∷ [])) }
+fn push_line(lines: &mut Vec<u8>, read: &RouteRow<'_>, state: Validity) -> Result<(), AllocError>
+    ensures { OnOk result (lines.new.items
+        ≡ lines.old.items ++ (read.now.prefix.now ++ 44 ∷ read.now.origin.now ++ 44 ∷ state_text (state_of state) ++ 10 ∷ [])) }
 {
-    answers.extend_from_slice(read.prefix)?;
-    answers.extend_from_slice(",".as_bytes())?;
-    answers.extend_from_slice(read.origin)?;
-    answers.extend_from_slice(",".as_bytes())?;
-    answers.extend_from_slice(state.as_str().as_bytes())?;
-    answers.extend_from_slice("\n".as_bytes())
+    lines.extend_from_slice(read.prefix)?;
+    lines.extend_from_slice(",".as_bytes())?;
+    lines.extend_from_slice(read.origin)?;
+    lines.extend_from_slice(",".as_bytes())?;
+    lines.extend_from_slice(state.as_str().as_bytes())?;
+    lines.extend_from_slice("\n".as_bytes())
 }
 
 #[cfg(test)]

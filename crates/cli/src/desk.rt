@@ -1,5 +1,6 @@
 //! The desk: what is asked of it, and what it replies.
 mod asked;
+mod content;
 mod gathering;
 mod handling;
 mod records;

@@ -2,6 +2,8 @@
 ghost use Rattle.std.specs.Prelude.{◌≡◌, map};
 ghost use Rattle.cli.specs.Words.{task_in, task_read};
 
+use thiserror::Error;
+
 /// What the program is to do. Files are named by any texts.
 #[derive(Clone, Copy, Debug, PartialEq, Eq)]
 pub enum Task<'a> {
@@ -12,10 +14,23 @@ pub enum Task<'a> {
 }
 
 /// Why words name no task.
-#[derive(Clone, Copy, Debug, PartialEq, Eq)]
+#[derive(Clone, Copy, Debug, PartialEq, Eq, Error)]
 pub enum WordsFault {
     /// They are not exactly the words of one task, in its order.
+    #[error("the words are not those of a task")]
     Words,
+}
+
+impl WordsFault {
+    ghost use Rattle.cli.specs.WordsFault.{number_of};
+
+    pub fn number(self) -> u8
+        ensures { result ≡ number_of self }
+    {
+        match self {
+            WordsFault::Words => 1,
+        }
+    }
 }
 
 /// Reads the words after the program's name. It takes no memory.

@@ -2,61 +2,124 @@ use super::check_on;
 use crate::web::device::Device;
 use crate::web::fakes::Sheet;
 use std::alloc::{AllocError, Global};
+use std::process::Abort;
 use std::rt::HostRuntime;
 
-// What a check prints: its lines, or the line of its fault, and which of the two it is.
+// How a check ended: what it wrote, the line of its fault (none: empty) and its status.
+#[derive(Drop)]
+struct Ended {
+    written: Vec<u8>,
+    line: String,
+    status: u8,
+}
+
 fn checked(
     alloc: Global,
     payloads: &[u8],
     routes: &[u8],
     room: usize,
-) -> Result<(bool, Vec<u8>, String), AllocError> {
+) -> Result<Ended, AllocError> {
     let mut sheet = Sheet {
         bytes: Vec::new(alloc),
         room,
         is_interrupted: false,
     };
-    let result = check_on(alloc, payloads, routes, &mut Device::new(&mut sheet));
-    let line = match &result {
-        Ok(()) => format!(in alloc; "")?,
-        Err(fault) => format!(in alloc; "{fault}")?,
+    let (line, status) = match check_on(alloc, payloads, routes, &mut Device::new(&mut sheet)) {
+        Ok(()) => (String::new(alloc), 0),
+        Err(fault) => (format!(in alloc; "{fault}")?, fault.status()),
     };
-    Ok((result.is_ok(), sheet.bytes, line))
+    Ok(Ended {
+        written: sheet.bytes,
+        line,
+        status,
+    })
 }
 
+fn assert_prints<R: Abort + AllocGlobal>(rt: &R, payloads: &str, routes: &str, lines: &str) {
+    let ended = checked(rt.alloc(), payloads.as_bytes(), routes.as_bytes(), 1000).expect(
+        rt, "memory",
+    );
+    assert_eq!(rt; ended.line.as_str(), "");
+    assert_eq!(rt; ended.status, 0);
+    assert_eq!(rt; ended.written.as_slice(), lines.as_bytes());
+}
+
+fn assert_refuses<R: Abort + AllocGlobal>(rt: &R, payloads: &[u8], routes: &[u8], line: &str) {
+    let ended = checked(rt.alloc(), payloads, routes, 1000).expect(rt, "memory");
+    assert_eq!(rt; ended.line.as_str(), line);
+    assert_eq!(rt; ended.status, 5);
+    assert_eq!(rt; ended.written.len(), 0);
+}
+
+// Out of order, and the first row again.
 const VRPS: &str = "asn,prefix,maxlength\n\
     AS64497,198.51.100.0/24,24\n\
     AS64496,198.51.100.0/22,24\n\
     AS64497,198.51.100.0/24,24\n";
 
-const NO_VRPS: &str = "asn,prefix,maxlength\n";
+#[test]
+fn check_as_zero_never_matches(rt: HostRuntime) {
+    assert_prints(
+        &rt,
+        "asn,prefix,maxlength\nAS0,0.0.0.0/0,32\n",
+        "prefix,origin\n255.255.255.255/32,AS0\n",
+        "255.255.255.255/32,AS0,Invalid\n",
+    );
+}
 
 #[test]
-fn answers(rt: HostRuntime) {
+fn check_refuses_set_bit_and_shorter_vrp_matches(rt: HostRuntime) {
+    let routes = "prefix,origin\n198.51.100.0/24,AS64496\n";
+    assert_refuses(
+        &rt,
+        b"asn,prefix,maxlength\nAS64496,198.51.100.0/21,24\nAS64497,198.51.100.0/24,24\n",
+        routes.as_bytes(),
+        "roadesk: payloads row 1: prefix 4",
+    );
+    assert_prints(
+        &rt,
+        "asn,prefix,maxlength\nAS64496,198.51.100.0/22,24\nAS64497,198.51.100.0/24,24\n",
+        routes,
+        "198.51.100.0/24,AS64496,Valid\n",
+    );
+}
+
+#[test]
+fn check_payload_order_and_repeats(rt: HostRuntime) {
+    assert_prints(
+        &rt,
+        VRPS,
+        "prefix,origin\n\
+            198.51.100.0/24,AS64496\n\
+            198.51.100.0/25,AS64496\n\
+            198.51.100.0/24,NONE\n\
+            198.51.104.0/24,AS64496\n",
+        "198.51.100.0/24,AS64496,Valid\n\
+            198.51.100.0/25,AS64496,Invalid\n\
+            198.51.100.0/24,NONE,Invalid\n\
+            198.51.104.0/24,AS64496,NotFound\n",
+    );
+}
+
+#[test]
+fn check_refuses_route_origin(rt: HostRuntime) {
+    assert_refuses(
+        &rt,
+        VRPS.as_bytes(),
+        b"prefix,origin\n198.51.100.0/24,AS64496\n198.51.100.0/25,64496\n",
+        "roadesk: routes row 2: origin",
+    );
+}
+
+#[test]
+fn check_takes_headers_alone_and_each_form_of_csv(rt: HostRuntime) {
     let cases = [
-        // check_as_zero_never_matches
-        (
-            "asn,prefix,maxlength\nAS0,0.0.0.0/0,32\n",
-            "prefix,origin\n255.255.255.255/32,AS0\n",
-            "255.255.255.255/32,AS0,Invalid\n",
-        ),
-        // check_refuses_set_bit_and_shorter_vrp_matches
-        (
-            "asn,prefix,maxlength\nAS64496,198.51.100.0/22,24\nAS64497,198.51.100.0/24,24\n",
-            "prefix,origin\n198.51.100.0/24,AS64496\n",
-            "198.51.100.0/24,AS64496,Valid\n",
-        ),
-        // check_payload_order_and_repeats
-        (
-            VRPS,
-            "prefix,origin\n198.51.100.0/24,AS64496\n198.51.100.0/25,AS64496\n198.51.100.0/24,NONE\n198.51.104.0/24,AS64496\n",
-            "198.51.100.0/24,AS64496,Valid\n198.51.100.0/25,AS64496,Invalid\n198.51.100.0/24,NONE,Invalid\n198.51.104.0/24,AS64496,NotFound\n",
-        ),
-        // headers alone
+        // no route, with and without a line feed
         (VRPS, "prefix,origin\n", ""),
         (VRPS, "prefix,origin", ""),
+        // no VRP
         (
-            NO_VRPS,
+            "asn,prefix,maxlength\n",
             "prefix,origin\n2001:db8::/32,AS64496\n",
             "2001:db8::/32,AS64496,NotFound\n",
         ),
@@ -68,22 +131,14 @@ fn answers(rt: HostRuntime) {
         ),
     ];
     for (payloads, routes, lines) in cases {
-        let (is_ok, written, line) = checked(
-            rt.alloc(),
-            payloads.as_bytes(),
-            routes.as_bytes(),
-            1000,
-        ).expect(&rt, "memory");
-        assert_eq!(rt; line.as_str(), "");
-        assert!(rt; is_ok);
-        assert_eq!(rt; written.as_slice(), lines.as_bytes());
+        assert_prints(&rt, payloads, routes, lines);
     }
 }
 
 #[test]
 fn check_refuses_bad_files(rt: HostRuntime) {
     let routes = "prefix,origin\n198.51.100.0/24,AS64496\n";
-    let cases: [(&[u8], &[u8], &str); 24] = [
+    let cases: [(&[u8], &[u8], &str); 22] = [
         (b"", routes.as_bytes(), "roadesk: payloads header"),
         (b"\n\n", routes.as_bytes(), "roadesk: payloads header"),
         (
@@ -100,11 +155,6 @@ fn check_refuses_bad_files(rt: HostRuntime) {
             b"AS64496,198.51.100.0/22,24\n",
             routes.as_bytes(),
             "roadesk: payloads header",
-        ),
-        (
-            b"asn,prefix,maxlength\nAS64496,198.51.100.0/21,24\nAS64497,198.51.100.0/24,24\n",
-            routes.as_bytes(),
-            "roadesk: payloads row 1: prefix 4",
         ),
         (
             b"asn,prefix,maxlength\nAS64496,198.51.100.0/22\n",
@@ -173,12 +223,6 @@ fn check_refuses_bad_files(rt: HostRuntime) {
             b"prefix,origin\n198.51.100.0/24,AS64496\n198.51.100.1/24,64496\n",
             "roadesk: routes row 2: prefix 4",
         ),
-        // check_refuses_route_origin
-        (
-            VRPS.as_bytes(),
-            b"prefix,origin\n198.51.100.0/24,AS64496\n198.51.100.0/25,64496\n",
-            "roadesk: routes row 2: origin",
-        ),
         (
             VRPS.as_bytes(),
             b"prefix,origin\n198.51.100.0/24,none\n",
@@ -190,26 +234,19 @@ fn check_refuses_bad_files(rt: HostRuntime) {
             "roadesk: routes row 1: origin",
         ),
     ];
-    for (payloads, routes, told) in cases {
-        let (is_ok, written, line) = checked(rt.alloc(), payloads, routes, 1000).expect(
-            &rt, "memory",
-        );
-        assert_eq!(rt; line.as_str(), told);
-        assert!(rt; !is_ok);
-        assert_eq!(rt; written.len(), 0);
+    for (payloads, routes, line) in cases {
+        assert_refuses(&rt, payloads, routes, line);
     }
 }
 
 #[test]
 fn failing_drain(rt: HostRuntime) {
     let routes = "prefix,origin\n198.51.100.0/24,AS64496\n198.51.104.0/24,AS64496\n";
-    let (is_ok, written, line) = checked(rt.alloc(), VRPS.as_bytes(), routes.as_bytes(), 40).expect(
-        &rt, "memory",
-    );
-    assert!(rt; !is_ok);
-    assert_eq!(rt; line.as_str(), "roadesk: stream");
+    let ended = checked(rt.alloc(), VRPS.as_bytes(), routes.as_bytes(), 40).expect(&rt, "memory");
+    assert_eq!(rt; ended.line.as_str(), "roadesk: stream");
+    assert_eq!(rt; ended.status, 3);
     assert_eq!(rt;
-        written.as_slice(),
+        ended.written.as_slice(),
         "198.51.100.0/24,AS64496,Valid\n198.51.104".as_bytes()
     );
 }
@@ -242,7 +279,7 @@ const EXAMPLE_ROUTES: &str = "prefix,origin\n\
     2001:db8:ffff::/48,AS65537\n\
     10.0.0.0/8,AS64496\n";
 
-const EXAMPLE_ANSWERS: &str = "192.0.2.0/24,AS64496,Valid\n\
+const EXAMPLE_STATES: &str = "192.0.2.0/24,AS64496,Valid\n\
     192.0.2.0/25,AS64496,Invalid\n\
     192.0.2.0/24,NONE,Invalid\n\
     198.51.100.0/24,AS64496,Valid\n\
@@ -259,14 +296,5 @@ const EXAMPLE_ANSWERS: &str = "192.0.2.0/24,AS64496,Valid\n\
 
 #[test]
 fn example_files_are_judged_as_the_guide_prints(rt: HostRuntime) {
-    let (is_ok, written, line) = checked(
-        rt.alloc(),
-        EXAMPLE_PAYLOADS.as_bytes(),
-        EXAMPLE_ROUTES.as_bytes(),
-        1000,
-    )
-    .expect(&rt, "memory");
-    assert_eq!(rt; line.as_str(), "");
-    assert!(rt; is_ok);
-    assert_eq!(rt; written.as_slice(), EXAMPLE_ANSWERS.as_bytes());
+    assert_prints(&rt, EXAMPLE_PAYLOADS, EXAMPLE_ROUTES, EXAMPLE_STATES);
 }

@@ -1,16 +1,18 @@
-ghost use Rattle.std.specs.Prelude.{◌≡◌, ℕ, List, false, None, IfOk, IsTrue, ◌↔◌};
+ghost use Rattle.std.specs.Prelude.{◌≡◌, ℕ, List, false, None, IfOk, OnErr, IsTrue, ◌↔◌};
 ghost use Rattle.addr.specs.declared.vrp.Vrp.{Vrp};
 ghost use Rattle.policy.specs.Answer.{IsViewOf, IsAnswer, TellsTaken};
 ghost use Rattle.policy.specs.History.{History};
 ghost use Rattle.policy.specs.Verdict.{IsLegal};
-ghost use Rattle.cli.specs.Answer.{is_done, AnswersQuery, AnswersShow, AnswersList, AnswersPayloads, AnswersValidity, IsAnswered};
+ghost use Rattle.cli.specs.Answer.{is_done, AnswersQuery, AnswersShow, AnswersContent, AnswersList, AnswersPayloads, AnswersValidity, IsAnswered};
 ghost use Rattle.cli.specs.DeskRows.{HasRows, IsGivenOn};
+ghost use Rattle.cli.specs.Run.{AreAnswered};
 ghost use Rattle.payload.specs.VrpSet as set;
 ghost use Rattle.cli.specs.Desk.{charter_of, desk_rows, IsKept};
 
+use crate::desk::content::content_text;
 use crate::desk::gathering::{gather, judge};
 use crate::desk::records::Records;
-use crate::desk::{Reply, Request};
+use crate::desk::{Asked, Reply, Request};
 use addr::{Day, Name, Route};
 use payload::ListIndex;
 use policy::{Change, Charter, Command, Query, Refusal, View};
@@ -55,6 +57,22 @@ impl Desk {
         }
     }
 
+    /// Replies to each of the requests, in their order. Room is made for all replies first; where there
+    /// is none, nothing is acted on.
+    pub fn run(&mut self, asked: &[Asked]) -> Result<Vec<Reply>, AllocError>
+        ensures answered { IfOk result (λ replies. (history : History) → IsLegal (charter_of self.old) history → HasRows (desk_rows self.old) history
+            → AreAnswered (charter_of self.old) history asked.now replies.items (desk_rows self.new)) }
+        ensures charter { charter_of self.new ≡ charter_of self.old }
+        ensures err { OnErr result (IsKept self.old self.new) }
+    {
+        let mut replies = Vec::with_capacity(self.alloc, asked.len())?;
+        for one in asked {
+            let reply = self.handle(one.day, &one.caller, &one.request);
+            replies.push(reply).unwrap();
+        }
+        Ok(replies)
+    }
+
     fn carry_out(&mut self, day: Day, caller: &Name, command: &Command) -> Reply
         ensures answered { (history : History) → IsLegal (charter_of self.old) history → HasRows (desk_rows self.old) history
             → IsAnswered (charter_of self.old) history day caller.now (Request.Command command.now) result (desk_rows self.new) }
@@ -80,6 +98,7 @@ impl Desk {
     {
         match query {
             Query::Show { holder, number } => self.show(holder, day, caller, *number),
+            Query::Content { holder, number } => self.content(holder, day, caller, *number),
             Query::List { holder } => self.list(holder, day, caller),
             Query::Payloads => self.payloads(day),
             Query::Validity { routes } => self.validity(day, routes),
@@ -98,6 +117,22 @@ impl Desk {
             Ok(auth) => Reply::Shown(*auth),
             Err(rule) => Reply::Denied(rule, None),
         }
+    }
+
+    fn content(&self, holder: &Name, day: Day, caller: &Name, number: u32) -> Reply
+        ensures answered { (history : History) → IsLegal (charter_of self.now) history → HasRows (desk_rows self.now) history
+            → AnswersContent history holder.now day caller.now number result }
+        ensures never_done { is_done result ≡ false }
+    {
+        let auth = match self.show(holder, day, caller, number) {
+            Reply::Shown(auth) => auth,
+            refused => return refused,
+        };
+        // No history has terms without a content.
+        let Ok(Some(text)) = content_text(self.alloc, &auth) else {
+            return Reply::Unavailable;
+        };
+        Reply::Content(text)
     }
 
     fn list(&self, holder: &Name, day: Day, caller: &Name) -> Reply

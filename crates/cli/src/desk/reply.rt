@@ -8,6 +8,8 @@ pub enum Reply {
     /// A command was accepted; with the number of the grant or authorization that it made.
     Done(Option<u32>),
     Shown(Auth),
+    /// The octets of an authorization's ROA content, in lower-case hex.
+    Content(String),
     /// By rising number.
     Listed(Vec<Auth>),
     /// The VRPs of the day, rising.

@@ -1,7 +1,7 @@
 // The fields of a record.
-ghost use Rattle.std.specs.Prelude.{◌≡◌, [], ◌∷◌, option_map};
+ghost use Rattle.std.specs.Prelude.{◌≡◌, option_map};
 ghost use Rattle.csv.specs.Records.{fields_of};
-ghost use Rattle.cli.specs.CsvRows.{two_of, three_of, fields_eq};
+ghost use Rattle.cli.specs.CsvRows.{two_of, three_of, fields_eq, texts_of};
 
 use csv::ByteRecord;
 
@@ -40,22 +40,22 @@ pub(crate) fn three_fields(row: &ByteRecord) -> Option<(&[u8], &[u8], &[u8])>
     Some((first, second, third))
 }
 
-pub(crate) fn are_two(row: &ByteRecord, first: &str, second: &str) -> bool
-    ensures { result ≡ fields_eq (fields_of row.now) (first.now ∷ second.now ∷ []) }
+// Whether the fields of a record are these texts.
+pub(crate) fn are_fields(row: &ByteRecord, texts: &[&str]) -> bool
+    ensures { result ≡ fields_eq (fields_of row.now) (texts_of texts.now) }
 {
-    match two_fields(row) {
-        Some((one, two)) => one == first.as_bytes() && two == second.as_bytes(),
-        None => false,
+    if row.len() != texts.len() {
+        return false;
     }
-}
-
-pub(crate) fn are_three(row: &ByteRecord, first: &str, second: &str, third: &str) -> bool
-    ensures { result ≡ fields_eq (fields_of row.now) (first.now ∷ second.now ∷ third.now ∷ []) }
-{
-    match three_fields(row) {
-        Some((one, two, three)) => {
-            one == first.as_bytes() && two == second.as_bytes() && three == third.as_bytes()
+    let mut place = 0;
+    while place < texts.len() {
+        let Some(field) = row.get(place) else {
+            return false;
+        };
+        if field != texts[place].as_bytes() {
+            return false;
         }
-        None => false,
+        place += 1;
     }
+    true
 }

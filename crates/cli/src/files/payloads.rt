@@ -3,10 +3,10 @@ ghost use Rattle.std.specs.Prelude.{◌≡◌, ◌≤◌, [], ◌∷◌, None, S
 ghost use Rattle.csv.specs.Records.{fields_of};
 ghost use Rattle.addr.specs.Family.{width};
 ghost use Rattle.cli.specs.CsvRecords.{csv_records, records_left, IsReading};
-ghost use Rattle.cli.specs.CsvRows.{file_fault, first_fault, header_fault, number_between, payload_fault, payload_header, payload_row, payload_texts_fault, IsTold};
+ghost use Rattle.cli.specs.CsvRows.{file_fault, first_fault, number_between, payload_fault, payload_header, payload_row, payload_texts_fault, IsTold};
 
-use super::Records;
-use super::fields::{are_three, three_fields};
+use super::CsvRecords;
+use super::fields::three_fields;
 use crate::fault::{FileFault, RowFault};
 use addr::{Asn, Prefix, Vrp, number_from_text};
 use csv::ByteRecord;
@@ -18,27 +18,11 @@ pub(crate) fn read_payloads(alloc: Global, text: &[u8]) -> Result<Vec<Vrp>, File
     ensures faultless { IfOk result (λ vrps. file_fault payload_header payload_fault (csv_records text.now) ≡ None) }
     ensures err { IfErr result (λ fault. IsTold fault (file_fault payload_header payload_fault (csv_records text.now))) }
 {
-    let mut records = after_header(alloc, text)?;
+    let mut records = CsvRecords::after_header(alloc, text, &["asn", "prefix", "maxlength"])?;
     read_rows(alloc, &mut records)
 }
 
-fn after_header(alloc: Global, text: &[u8]) -> Result<Records<'_>, FileFault>
-    ensures reading { IfOk result (λ records. IsReading records) }
-    ensures ok { IfOk result (λ records. csv_records text.now ≡ payload_header ∷ records_left records) }
-    ensures faultless { IfOk result (λ records. header_fault payload_header (csv_records text.now) ≡ None) }
-    ensures err { IfErr result (λ fault. IsTold fault (header_fault payload_header (csv_records text.now))) }
-{
-    let mut records = Records::new(alloc, text);
-    if !records.advance()? {
-        return Err(FileFault::Header);
-    }
-    if !are_three(records.row(), "asn", "prefix", "maxlength") {
-        return Err(FileFault::Header);
-    }
-    Ok(records)
-}
-
-fn read_rows(alloc: Global, records: &mut Records<'_>) -> Result<Vec<Vrp>, FileFault>
+fn read_rows(alloc: Global, records: &mut CsvRecords<'_>) -> Result<Vec<Vrp>, FileFault>
     requires { IsReading records.old }
     ensures ok { IfOk result (λ vrps. records_left records.old ≡ map payload_row vrps.items) }
     ensures faultless { IfOk result (λ vrps. first_fault payload_fault 1 (records_left records.old) ≡ None) }

@@ -1,16 +1,13 @@
 // Route files: announced routes.
-ghost use Rattle.std.specs.Prelude.{◌≡◌, ◌∷◌, None, Some, IfOk, IfErr, MatchOption, MatchResult};
+ghost use Rattle.std.specs.Prelude.{◌≡◌, None, Some, MatchOption, MatchResult};
 ghost use Rattle.csv.specs.Records.{fields_of};
-ghost use Rattle.cli.specs.CsvRecords.{csv_records, records_left, IsReading};
-ghost use Rattle.cli.specs.CsvRows.{header_fault, origin_fault, origin_text, prefix_text, route_fault, route_header, route_row, route_texts_fault, IsTold};
+ghost use Rattle.cli.specs.CsvRows.{origin_fault, origin_text, prefix_text, route_fault, route_row, route_texts_fault};
 ghost use Rattle.cli.specs.declared.fault.RowFault.TheVariants as row_fault;
 
-use super::Records;
-use super::fields::{are_two, two_fields};
-use crate::fault::{FileFault, RowFault};
+use super::fields::two_fields;
+use crate::fault::RowFault;
 use addr::{Asn, Origin, Prefix, Route};
 use csv::ByteRecord;
-use std::alloc::Global;
 
 // A route, and the row's texts of its prefix and its origin.
 #[derive(Clone, Copy)]
@@ -18,22 +15,6 @@ pub(crate) struct RouteRow<'a> {
     pub(crate) route: Route,
     pub(crate) prefix: &'a [u8],
     pub(crate) origin: &'a [u8],
-}
-
-pub(crate) fn after_route_header(alloc: Global, text: &[u8]) -> Result<Records<'_>, FileFault>
-    ensures reading { IfOk result (λ records. IsReading records) }
-    ensures ok { IfOk result (λ records. csv_records text.now ≡ route_header ∷ records_left records) }
-    ensures faultless { IfOk result (λ records. header_fault route_header (csv_records text.now) ≡ None) }
-    ensures err { IfErr result (λ fault. IsTold fault (header_fault route_header (csv_records text.now))) }
-{
-    let mut records = Records::new(alloc, text);
-    if !records.advance()? {
-        return Err(FileFault::Header);
-    }
-    if !are_two(records.row(), "prefix", "origin") {
-        return Err(FileFault::Header);
-    }
-    Ok(records)
 }
 
 pub(crate) fn read_route(row: &ByteRecord) -> Result<RouteRow<'_>, RowFault>

@@ -21,6 +21,7 @@ pub struct Device<T> {
 }
 
 impl<T> Device<T> {
+    /// A device that nothing has passed.
     pub fn new(inner: T) -> Device<T>
         ensures inner { device_inner result ≡ inner }
         ensures bytes { device_bytes result ≡ [] }
@@ -105,12 +106,8 @@ impl<T: Write> Drain for Device<T> {
         ensures writes { IfOk result (λ n. Appends (T.contents (device_inner self.old))
             (T.contents (device_inner self.new)) (take n bytes.now)) }
     {
-        let Ok(count) = self.write_some(bytes) else {
-            return Err(Failed);
-        };
-        let Ok(()) = self.flush() else {
-            return Err(Failed);
-        };
+        let count = self.write_some(bytes)?;
+        self.flush()?;
         Ok(count)
     }
 }

@@ -65,6 +65,7 @@ impl LineBuffer {
         self.is_too_long = false;
     }
 
+    /// Whether the line has no byte.
     pub fn is_empty(&self) -> bool
         ensures { IsTrue result ↔ (self.now ≡ within_limit []) }
     {

@@ -1,7 +1,7 @@
 //! The texts of replies.
-ghost use Rattle.std.specs.Prelude.{◌≡◌, ◌++◌, ◌≤◌, true, length, codes, option_map, OnOk, OnErr};
+ghost use Rattle.std.specs.Prelude.{◌≡◌, ◌++◌, true, codes, option_map, OnOk, OnErr};
 ghost use Rattle.cli.specs.Streams.{AppendsBeginning};
-ghost use Rattle.cli.specs.ReplyText.{auth_text, denied_text, done_text, line_text, rule_name, short_text, unavailable_text};
+ghost use Rattle.cli.specs.ReplyText.{auth_text, content_text, denied_text, done_text, line_text, short_text, unavailable_text};
 
 mod items;
 mod list;
@@ -24,6 +24,7 @@ pub fn write_reply<D: Drain>(reply: &Reply, drain: &mut D) -> Result<(), Failed>
     match reply {
         Reply::Done(number) => write_all(drain, done_text(*number).as_str().as_bytes()),
         Reply::Shown(auth) => write_all(drain, shown_text(auth).as_str().as_bytes()),
+        Reply::Content(text) => write_content(text.as_str(), drain),
         Reply::Listed(auths) => write_list(b"{\"listed\":[", auths.as_slice(), drain),
         Reply::Payloads(vrps) => write_list(b"{\"payloads\":[", vrps.as_slice(), drain),
         Reply::Answers(states) => write_list(b"{\"answers\":[", states.as_slice(), drain),
@@ -41,7 +42,11 @@ pub fn short_text(reply: &Reply) -> Option<ArrayString<128>>
         Reply::Done(number) => Some(done_text(*number)),
         Reply::Denied(rule, row) => Some(denied_text(*rule, *row)),
         Reply::Unavailable => Some(unavailable_text()),
-        Reply::Shown(_) | Reply::Listed(_) | Reply::Payloads(_) | Reply::Answers(_) => None,
+        Reply::Shown(_)
+        | Reply::Content(_)
+        | Reply::Listed(_)
+        | Reply::Payloads(_)
+        | Reply::Answers(_) => None,
     }
 }
 
@@ -70,12 +75,30 @@ fn shown_text(auth: &Auth) -> ArrayString<280>
     text
 }
 
+fn write_content<D: Drain>(hex: &str, drain: &mut D) -> Result<(), Failed>
+    ensures ok { OnOk result (D.written drain.new ≡ D.written drain.old ++ content_text hex.now) }
+    ensures err { OnErr result
+        (AppendsBeginning (D.written drain.old) (D.written drain.new) (content_text hex.now)) }
+    ensures failed { OnErr result (D.has_failed drain.new ≡ true) }
+{
+    let Ok(()) = write_all(drain, b"{\"content\":\"") else {
+        return Err(Failed);
+    };
+    let Ok(()) = write_all(drain, hex.as_bytes()) else {
+        return Err(Failed);
+    };
+    let Ok(()) = write_all(drain, b"\"}\n") else {
+        return Err(Failed);
+    };
+    Ok(())
+}
+
 fn denied_text(rule: Rule, row: Option<u64>) -> ArrayString<128>
     ensures { result.bytes ≡ denied_text rule row }
 {
     let mut text = ArrayString::new();
     text.push_str("{\"denied\":\"");
-    text.push_str(rule_name(rule));
+    text.push_str(rule.as_str());
     match row {
         None => text.push_str("\"}\n"),
         Some(row) => {
@@ -93,29 +116,6 @@ fn unavailable_text() -> ArrayString<128>
     let mut text = ArrayString::new();
     text.push_str("{\"unavailable\":true}\n");
     text
-}
-
-fn rule_name(rule: Rule) -> &'static str
-    ensures name { result.now ≡ rule_name rule }
-    ensures short { length result.now ≤ 8 }
-{
-    match rule {
-        Rule::Operator => "operator",
-        Rule::Steward => "steward",
-        Rule::Grant => "grant",
-        Rule::Holder => "holder",
-        Rule::Fresh => "fresh",
-        Rule::Number => "number",
-        Rule::Scope => "scope",
-        Rule::Dates => "dates",
-        Rule::Length => "length",
-        Rule::Pool => "pool",
-        Rule::Free => "free",
-        Rule::Distinct => "distinct",
-        Rule::Held => "held",
-        Rule::Same => "same",
-        Rule::Room => "room",
-    }
 }
 
 #[cfg(test)]

@@ -1,14 +1,14 @@
 //! Reading requests from JSON lines.
-ghost use Rattle.std.specs.Prelude.{◌≡◌, Some, Err, IfOk, option_map};
+ghost use Rattle.std.specs.Prelude.{◌≡◌, Some, Err, IfOk};
 ghost use Rattle.serde_json.specs.View.{view};
-ghost use Rattle.cli.specs.RequestParts.{mapped};
-ghost use Rattle.cli.specs.RequestText.{action_in, asked_as, asked_by, asked_in, asked_terms, ReadsLine, request_fault, request_in, request_terms, tree_of};
+ghost use Rattle.json_parts.specs.Parts.{mapped};
+ghost use Rattle.json_parts.specs.Tree.{tree_of};
+ghost use Rattle.cli.specs.RequestText.{action_in, asked_as, asked_by, asked_in, asked_terms, ReadsLine, request_fault, request_in, request_terms};
 
 mod action;
 mod commands;
 pub(crate) mod fault;
 pub(crate) mod members;
-mod parts;
 mod routes;
 
 use super::lines::LINE_LENGTH_LIMIT;
@@ -17,10 +17,10 @@ use crate::desk::{Asked, Request};
 use action::{Action, action_in, only_members_of};
 use addr::{Day, Name};
 use fault::Fault;
+use json_parts::{both, tree_of, unless};
 use members::{caller_in, day_in};
-use parts::{both, unless};
 use policy::{Command, Query};
-use serde_json::{Category, Value};
+use serde_json::Value;
 use std::alloc::{AllocError, Global};
 
 /// Why a line is no request.
@@ -56,19 +56,6 @@ fn asked_in(alloc: Global, line: &[u8]) -> Result<Result<Asked, Fault>, AllocErr
     match tree_of(alloc, line)? {
         Some(value) => asked_by(alloc, &value),
         None => Ok(Err(Fault::Json)),
-    }
-}
-
-/// None where the line is no JSON text.
-fn tree_of(alloc: Global, line: &[u8]) -> Result<Option<Value>, AllocError>
-    ensures { IfOk result (λ value. option_map view value ≡ tree_of line.now) }
-{
-    match Value::from_slice(alloc, line) {
-        Ok(value) => Ok(Some(value)),
-        Err(error) => match error.classify() {
-            Category::Memory => Err(AllocError),
-            _ => Ok(None),
-        },
     }
 }
 
@@ -127,6 +114,7 @@ fn request_in(
         Action::Amend => Ok(commanded(commands::amend_in(value))),
         Action::Withdraw => Ok(commanded(commands::withdraw_in(value))),
         Action::Show => Ok(commands::show_in(value)),
+        Action::Content => Ok(commands::content_in(value)),
         Action::List => Ok(commands::list_in(value)),
         Action::Payloads => Ok(Ok(Request::Query(Query::Payloads))),
         Action::Validity => routes::validity_in(alloc, value),

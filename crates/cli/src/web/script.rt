@@ -72,9 +72,7 @@ fn answer_at<D: Drain, E: AnswerLines>(
         buffer.push(byte);
         return Ok(());
     }
-    let Ok(()) = engine.answer(drain, buffer.line()) else {
-        return Err(Failed);
-    };
+    engine.answer(drain, buffer.line())?;
     buffer.clear();
     Ok(())
 }
@@ -97,9 +95,7 @@ fn answer_completed<D: Drain, E: AnswerLines>(
     ensures failed { OnErr result (D.has_failed drain.new ≡ true) }
 {
     for byte in bytes {
-        let Ok(()) = answer_at(*byte, buffer, drain, engine) else {
-            return Err(Failed);
-        };
+        answer_at(*byte, buffer, drain, engine)?;
     }
     Ok(())
 }
@@ -121,9 +117,7 @@ fn answer_last<D: Drain, E: AnswerLines>(
     if buffer.is_empty() {
         return Ok(());
     }
-    let Ok(()) = engine.answer(drain, buffer.line()) else {
-        return Err(Failed);
-    };
+    engine.answer(drain, buffer.line())?;
     Ok(())
 }
 

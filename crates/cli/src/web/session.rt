@@ -10,6 +10,7 @@ ghost use Rattle.cli.specs.Streams.{AppendsBeginning};
 
 use super::malformed::Malformed;
 use super::reply::write_reply;
+use super::request::fault::Fault;
 use super::request::{LineFault, read_line_request};
 use super::script::{AnswerLines, ScriptFault, run_lines};
 use super::stream::{Drain, Failed, Source, write_all};
@@ -43,10 +44,7 @@ fn answer_to(desk: &mut Desk, line: Option<&[u8]>) -> LineAnswer
     ensures { AnswersLineAt desk.old (option_copied line.entry) (answer_text result) desk.new }
 {
     let Some(line) = line else {
-        return LineAnswer::Refused(Malformed {
-            number: 13,
-            slurm: None,
-        });
+        return LineAnswer::Refused(Fault::TooLong.malformed());
     };
     match read_line_request(desk.allocator(), line) {
         Ok(asked) => LineAnswer::Replied(desk.handle(asked.day, &asked.caller, &asked.request)),
@@ -60,9 +58,7 @@ impl AnswerLines for Desk {
 
     fn answer<D: Drain>(&mut self, drain: &mut D, line: Option<&[u8]>) -> Result<(), Failed> {
         let answer = answer_to(self, line);
-        let Ok(()) = answer.write(drain) else {
-            return Err(Failed);
-        };
+        answer.write(drain)?;
         Ok(())
     }
 }

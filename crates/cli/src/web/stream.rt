@@ -20,6 +20,7 @@ pub trait Source {
     // How many more reads may be answered at most. So read number 2^64 fails at the latest.
     ghost reads_left: { Self → ℕ };
 
+    /// Puts the next bytes at the buffer's start, and tells how many. The rest of the buffer may change.
     fn read(&mut self, buffer: &mut [u8]) -> Result<usize, Failed>
         ensures bound { IfOk result (λ n. n ≤ length buffer.new) }
         ensures bytes { IfOk result (λ n.
@@ -42,6 +43,7 @@ pub trait Drain {
 
     ghost has_failed: { Self → Bool };
 
+    /// Writes a beginning of the bytes, and tells its length.
     fn write(&mut self, bytes: &[u8]) -> Result<usize, Failed>
         ensures bound { IfOk result (λ n. n ≤ length bytes.now) }
         ensures some { IfOk result (λ n. 0 < length bytes.now → 0 < n) }
@@ -61,9 +63,7 @@ pub fn write_all<D: Drain>(drain: &mut D, text: &[u8]) -> Result<(), Failed>
 {
     let mut rest = text;
     while !rest.is_empty() {
-        let Ok(count) = drain.write(rest) else {
-            return Err(Failed);
-        };
+        let count = drain.write(rest)?;
         rest = &rest[count..];
     }
     Ok(())

@@ -33,4 +33,5 @@ fn words_of_each_task(rt: HostRuntime) {
         assert_eq!(rt; name.as_str(), task);
     }
     assert_eq!(rt; read_words(&[]), Err(WordsFault::Words));
+    assert_eq!(rt; WordsFault::Words.number(), 1);
 }

@@ -1,4 +1,5 @@
 use Rattle.std.proofs.Common.{◌++◌, ◌∷◌, [], ◌∙◌}
+use Rattle.std.proofs.lemmas.Result.{err_from_is_err_and}
 use Rattle.cli.specs.CsvRecords.{current, records_left}
 use Rattle.cli.proofs.CharterSteps.{rows_more, first_more, told-first}
 use Rattle.cli.proofs.charter_file.read_rows.Goals as goal
@@ -7,7 +8,7 @@ pub loop-rows-preserved : goal.loop-rows-preserved
 loop-rows-preserved c =
     let found = rw c.if-branch.true at c.in_ok-advance.ensures.found in
     let (rows, read, held, first) = c.loop-rows.invariant.read in
-    let (r, same, more, none) = rw c.row.ensures at (c.in-Ok.ensures.ok rows held) in
+    let (r, same, more, none) = rw c.row.ensures at (c.in_ok-take.ensures.ok rows held) in
     record {
       reading = c.in_ok-advance.ensures.reading c.if-branch.true;
       read = (
@@ -18,9 +19,10 @@ loop-rows-preserved c =
       );
     }
 
-pub returns-in-Err-clause-err : goal.returns-in-Err-clause-err
-returns-in-Err-clause-err c =
+pub returns-in_err-take-clause-err : goal.returns-in_err-take-clause-err
+returns-in_err-take-clause-err c =
     let found = rw c.if-branch.true at c.in_ok-advance.ensures.found in
     let (rows, read, held, first) = c.loop-rows.invariant.read in
-    told-first c.in-Err.fault (records_left c.args.records.now) (records_left c.loop-rows.records) (records_left c.advance.new.self) (current c.advance.new.self) rows first found
-    (rw c.row.ensures at (c.in-Err.ensures.err rows held))
+    let p = err_from_is_err_and c.from_residual-in_err-take.result c.from_residual-in_err-take.ensures.1 in
+    rw (p.1, p.2) (told-first c.in_err-take.field-0.0 (records_left c.args.records.now) (records_left c.loop-rows.records) (records_left c.advance.new.self) (current c.advance.new.self) rows first found
+    (rw c.row.ensures at (c.in_err-take.ensures.err rows held)))

@@ -55,6 +55,10 @@ fn prints_each_reply(rt: HostRuntime) -> Result<(), Fail> {
             Reply::Shown(one),
             "{\"shown\":{\"number\":1,\"asn\":64496,\"prefix\":\"192.0.2.0/24\",\"max\":24,\"from\":\"2026-01-01\",\"until\":\"2026-12-31\"}}\n",
         ),
+        (
+            Reply::Content(String::from_str(alloc, "3017c0")?),
+            "{\"content\":\"3017c0\"}\n",
+        ),
         (Reply::Listed(Vec::new(alloc)), "{\"listed\":[]}\n"),
         (
             Reply::Listed(vec![in alloc; one, other]?),
@@ -88,30 +92,6 @@ fn prints_each_reply(rt: HostRuntime) -> Result<(), Fail> {
         }
     }
     Ok(())
-}
-
-#[test]
-fn names_each_rule(rt: HostRuntime) {
-    let table = [
-        (Rule::Operator, "operator"),
-        (Rule::Steward, "steward"),
-        (Rule::Grant, "grant"),
-        (Rule::Holder, "holder"),
-        (Rule::Fresh, "fresh"),
-        (Rule::Number, "number"),
-        (Rule::Scope, "scope"),
-        (Rule::Dates, "dates"),
-        (Rule::Length, "length"),
-        (Rule::Pool, "pool"),
-        (Rule::Free, "free"),
-        (Rule::Distinct, "distinct"),
-        (Rule::Held, "held"),
-        (Rule::Same, "same"),
-        (Rule::Room, "room"),
-    ];
-    for (rule, name) in table {
-        assert_eq!(rt; rule_name(rule), name);
-    }
 }
 
 #[test]

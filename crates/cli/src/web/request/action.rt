@@ -1,11 +1,11 @@
 // What a request's `do` says.
 ghost use Rattle.std.specs.Prelude.{◌≡◌};
 ghost use Rattle.serde_json.specs.View.{view};
-ghost use Rattle.cli.specs.RequestParts.{only};
+ghost use Rattle.json_parts.specs.Tree.{only};
 ghost use Rattle.cli.specs.RequestText.{action_in, action_of, members_of};
 
 use super::fault::Fault;
-use super::parts::only;
+use json_parts::only;
 use serde_json::Value;
 
 #[derive(Clone, Copy, Debug, PartialEq, Eq)]
@@ -20,6 +20,7 @@ pub(crate) enum Action {
     Amend,
     Withdraw,
     Show,
+    Content,
     List,
     Payloads,
     Validity,
@@ -57,6 +58,8 @@ fn action_of(text: &str) -> Option<Action>
         Some(Action::Withdraw)
     } else if text == "show" {
         Some(Action::Show)
+    } else if text == "content" {
+        Some(Action::Content)
     } else if text == "list" {
         Some(Action::List)
     } else if text == "payloads" {
@@ -70,7 +73,7 @@ fn action_of(text: &str) -> Option<Action>
 
 /// Refuses what is no object, or has a member that the request does not have.
 pub(crate) fn only_members_of(action: Action, value: &Value) -> Result<(), Fault>
-    ensures { result ≡ only (members_of action) (view value.now) }
+    ensures { result ≡ only Fault.Members (members_of action) (view value.now) }
 {
     match action {
         Action::Register | Action::List => only(value, &["day", "caller", "do", "holder"]),
@@ -84,7 +87,7 @@ pub(crate) fn only_members_of(action: Action, value: &Value) -> Result<(), Fault
                 "day", "caller", "do", "holder", "name", "role", "scope", "until",
             ],
         ),
-        Action::Revoke | Action::Withdraw | Action::Show => {
+        Action::Revoke | Action::Withdraw | Action::Show | Action::Content => {
             only(value, &["day", "caller", "do", "holder", "number"])
         }
         Action::Create => only(

@@ -1,15 +1,15 @@
 // One reader for each request, of the members that are its own.
 ghost use Rattle.std.specs.Prelude.{◌≡◌};
 ghost use Rattle.serde_json.specs.View.{view};
-ghost use Rattle.cli.specs.RequestParts.{mapped};
-ghost use Rattle.cli.specs.RequestText.{amend_in, create_in, create_terms_in, delegate_in, grant_in, list_in, reclaim_in, register_in, request_terms, revoke_in, show_in, transfer_in, withdraw_in};
+ghost use Rattle.json_parts.specs.Parts.{mapped};
+ghost use Rattle.cli.specs.RequestText.{amend_in, content_in, create_in, create_terms_in, delegate_in, grant_in, list_in, reclaim_in, register_in, request_terms, revoke_in, show_in, transfer_in, withdraw_in};
 
 use super::fault::Fault;
 use super::members::{
     CreateTerms, access_in, asn_in, caller_in, day_in, holder_in, max_in, number_in, prefix_in,
 };
-use super::parts::both;
 use crate::desk::Request;
+use json_parts::both;
 use policy::{Command, Query};
 use serde_json::Value;
 
@@ -129,6 +129,13 @@ pub(crate) fn show_in(value: &Value) -> Result<Request, Fault>
 {
     let (holder, number) = both(holder_in(value, "holder"), number_in(value))?;
     Ok(Request::Query(Query::Show { holder, number }))
+}
+
+pub(crate) fn content_in(value: &Value) -> Result<Request, Fault>
+    ensures { mapped request_terms result ≡ content_in (view value.now) }
+{
+    let (holder, number) = both(holder_in(value, "holder"), number_in(value))?;
+    Ok(Request::Query(Query::Content { holder, number }))
 }
 
 pub(crate) fn list_in(value: &Value) -> Result<Request, Fault>

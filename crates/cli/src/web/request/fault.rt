@@ -1,6 +1,6 @@
 // What may be wrong with a request.
 ghost use Rattle.std.specs.Prelude.{◌≡◌, None};
-ghost use Rattle.cli.specs.RequestFault.{fault_number, lower};
+ghost use Rattle.cli.specs.RequestFault.{fault_number};
 
 use crate::web::malformed::Malformed;
 
@@ -50,17 +50,6 @@ impl Fault {
         }
     }
 
-    #[tactic(auto, unfolding(crate::specs::RequestFault::lower))]
-    pub(crate) fn lower(self, other: Fault) -> Fault
-        ensures { result ≡ lower self other }
-    {
-        if self.number() <= other.number() {
-            self
-        } else {
-            other
-        }
-    }
-
     pub(crate) fn malformed(self) -> Malformed
         ensures { result ≡ record { number = fault_number self; slurm = None } }
     {
@@ -68,5 +57,21 @@ impl Fault {
             number: self.number(),
             slurm: None,
         }
+    }
+}
+
+impl json_parts::Fault for Fault {
+    ghost use Rattle.cli.specs.declared.web.request.fault.Fault.TheVariants.{Members};
+
+    ghost number = { fault_number };
+
+    ghost members = { Members };
+
+    fn number(self) -> u8 {
+        Fault::number(self)
+    }
+
+    fn members() -> Fault {
+        Fault::Members
     }
 }

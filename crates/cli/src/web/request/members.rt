@@ -2,12 +2,12 @@
 ghost use Rattle.std.specs.Prelude.{◌≡◌, codes};
 ghost use Rattle.addr.specs.SpelledPrefix.{spelled_prefix};
 ghost use Rattle.serde_json.specs.View.{view};
-ghost use Rattle.cli.specs.RequestParts.{and_then, member_in};
-ghost use Rattle.cli.specs.RequestText.{access_in, access_of, asn_in, asn_read, caller_in, day_in_member, day_read, holder_in, max_in, max_read, name_read, number_in, number_read, origin_in, origin_read, prefix_in, prefix_read, role_of, role_read, scope_of, scope_read};
+ghost use Rattle.json_parts.specs.Parts.{and_then};
+ghost use Rattle.cli.specs.RequestText.{access_in, access_of, asn_in, asn_read, caller_in, day_in_member, day_read, holder_in, max_in, max_read, member_in, name_read, number_in, number_read, origin_in, origin_read, prefix_in, prefix_read, role_of, role_read, scope_of, scope_read};
 
 use super::fault::Fault;
-use super::parts::both;
 use addr::{Asn, Day, Name, Origin, Prefix};
+use json_parts::{both, member};
 use policy::{Role, Scope};
 use serde_json::Value;
 
@@ -123,91 +123,61 @@ fn scope_read(value: &Value) -> Option<Scope>
 pub(crate) fn holder_in(value: &Value, name: &str) -> Result<Name, Fault>
     ensures { result ≡ holder_in name.now (view value.now) }
 {
-    match value.get(name) {
-        Some(member) => name_read(member).ok_or(Fault::Holder),
-        None => Err(Fault::Members),
-    }
+    name_read(member(value, name)?).ok_or(Fault::Holder)
 }
 
 pub(crate) fn caller_in(value: &Value, name: &str) -> Result<Name, Fault>
     ensures { result ≡ caller_in name.now (view value.now) }
 {
-    match value.get(name) {
-        Some(member) => name_read(member).ok_or(Fault::Caller),
-        None => Err(Fault::Members),
-    }
+    name_read(member(value, name)?).ok_or(Fault::Caller)
 }
 
 pub(crate) fn prefix_in(value: &Value) -> Result<Prefix, Fault>
     ensures { result ≡ prefix_in (view value.now) }
 {
-    match value.get("prefix") {
-        Some(member) => prefix_read(member).ok_or(Fault::Prefix),
-        None => Err(Fault::Members),
-    }
+    prefix_read(member(value, "prefix")?).ok_or(Fault::Prefix)
 }
 
 pub(crate) fn asn_in(value: &Value) -> Result<Asn, Fault>
     ensures { result ≡ asn_in (view value.now) }
 {
-    match value.get("asn") {
-        Some(member) => asn_read(member).ok_or(Fault::Asn),
-        None => Err(Fault::Members),
-    }
+    asn_read(member(value, "asn")?).ok_or(Fault::Asn)
 }
 
 pub(crate) fn origin_in(value: &Value) -> Result<Origin, Fault>
     ensures { result ≡ origin_in (view value.now) }
 {
-    match value.get("origin") {
-        Some(member) => origin_read(member).ok_or(Fault::Asn),
-        None => Err(Fault::Members),
-    }
+    origin_read(member(value, "origin")?).ok_or(Fault::Asn)
 }
 
 pub(crate) fn max_in(value: &Value) -> Result<u8, Fault>
     ensures { result ≡ max_in (view value.now) }
 {
-    match value.get("max") {
-        Some(member) => max_read(member).ok_or(Fault::Max),
-        None => Err(Fault::Members),
-    }
+    max_read(member(value, "max")?).ok_or(Fault::Max)
 }
 
 pub(crate) fn number_in(value: &Value) -> Result<u32, Fault>
     ensures { result ≡ number_in (view value.now) }
 {
-    match value.get("number") {
-        Some(member) => number_read(member).ok_or(Fault::Number),
-        None => Err(Fault::Members),
-    }
+    number_read(member(value, "number")?).ok_or(Fault::Number)
 }
 
 pub(crate) fn day_in(value: &Value, name: &str) -> Result<Day, Fault>
     ensures { result ≡ day_in_member name.now (view value.now) }
 {
-    match value.get(name) {
-        Some(member) => day_read(member).ok_or(Fault::Day),
-        None => Err(Fault::Members),
-    }
+    day_read(member(value, name)?).ok_or(Fault::Day)
 }
 
 fn role_in(value: &Value) -> Result<Role, Fault>
     ensures { result ≡ member_in role_read Fault.Role (codes "role") (view value.now) }
 {
-    match value.get("role") {
-        Some(member) => role_read(member).ok_or(Fault::Role),
-        None => Err(Fault::Members),
-    }
+    role_read(member(value, "role")?).ok_or(Fault::Role)
 }
 
 fn scope_in(value: &Value) -> Result<Scope, Fault>
     ensures { result ≡ member_in scope_read Fault.Role (codes "scope") (view value.now) }
 {
-    match value.get("scope") {
-        Some(member) => scope_read(member).ok_or(Fault::Role),
-        None => Err(Fault::Members),
-    }
+    scope_read(member(value, "scope")?).ok_or(Fault::Role)
 }
 
 /// The role and scope of a grant.

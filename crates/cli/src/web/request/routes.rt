@@ -1,15 +1,14 @@
 // Lists of routes.
-ghost use Rattle.std.specs.Prelude.{◌≡◌, ◌++◌, ◌∷◌, [], map, IfOk, OnOk};
+ghost use Rattle.std.specs.Prelude.{◌≡◌, IfOk};
 ghost use Rattle.serde_json.specs.View.{view};
-ghost use Rattle.cli.specs.RequestParts.{both, each, mapped};
-ghost use Rattle.cli.specs.RequestRoutes.{routes_so_far};
-ghost use Rattle.cli.specs.RequestText.{count_of, request_terms, route_in, routes_in, validity};
+ghost use Rattle.json_parts.specs.Parts.{mapped};
+ghost use Rattle.cli.specs.RequestText.{count_of, request_terms, routes_in, validity};
 
 use super::fault::Fault;
 use super::members::{origin_in, prefix_in};
-use super::parts::{both, only, unless};
 use crate::desk::Request;
-use addr::Route;
+use addr::{Origin, Prefix, Route};
+use json_parts::{FromJson, both, each, only, unless};
 use policy::Query;
 use serde_json::Value;
 use std::alloc::{AllocError, Global};
@@ -45,7 +44,7 @@ fn routes_in(alloc: Global, value: &Value) -> Result<Result<Vec<Route>, Fault>, 
     let Some(values) = member.as_array() else {
         return Ok(Err(Fault::Members));
     };
-    let routes = each_route(alloc, values.as_slice())?;
+    let routes = each(alloc, values.as_slice())?;
     Ok(unless(routes, count_of(values.len())))
 }
 
@@ -59,58 +58,18 @@ fn count_of(count: usize) -> Result<(), Fault>
     }
 }
 
-// All routes that were read, or the lowest fault of any.
-#[derive(Drop)]
-struct Gathered {
-    routes: Vec<Route>,
-    fault: Option<Fault>,
-}
+impl FromJson<Fault> for Route {
+    ghost use Rattle.cli.specs.RequestText.{route_in};
 
-impl Gathered {
-    fn add(&mut self, route: Result<Route, Fault>) -> Result<(), AllocError>
-        ensures { OnOk result (routes_so_far self.new.fault self.new.routes.items
-            ≡ mapped (λ p. p.0 ++ p.1 ∷ []) (both (routes_so_far self.old.fault self.old.routes.items) route)) }
-    {
-        match (route, self.fault) {
-            (Ok(route), None) => self.routes.push(route)?,
-            (Ok(_), Some(_)) => {}
-            (Err(fault), None) => self.fault = Some(fault),
-            (Err(fault), Some(known)) => self.fault = Some(known.lower(fault)),
-        }
-        Ok(())
-    }
+    ghost reading = { route_in };
 
-    fn finish(self) -> Result<Vec<Route>, Fault>
-        ensures { mapped (λ v. v.items) result ≡ routes_so_far self.fault self.routes.items }
-    {
-        match self.fault {
-            None => Ok(self.routes),
-            Some(fault) => Err(fault),
-        }
+    fn from_json(value: &Value) -> Result<Route, Fault> {
+        let members = both(prefix_in(value), origin_in(value));
+        unless(route_of(members), only(value, &["prefix", "origin"]))
     }
 }
 
-fn each_route(alloc: Global, values: &[Value]) -> Result<Result<Vec<Route>, Fault>, AllocError>
-    ensures { IfOk result (λ routes. mapped (λ v. v.items) routes ≡ each route_in (map view values.now)) }
-{
-    let mut gathered = Gathered {
-        routes: Vec::new(alloc),
-        fault: None,
-    };
-    for value in values {
-        gathered.add(route_in(value))?;
-    }
-    Ok(gathered.finish())
-}
-
-fn route_in(value: &Value) -> Result<Route, Fault>
-    ensures { result ≡ route_in (view value.now) }
-{
-    let members = both(prefix_in(value), origin_in(value));
-    unless(route_of(members), only(value, &["prefix", "origin"]))
-}
-
-fn route_of(members: Result<(addr::Prefix, addr::Origin), Fault>) -> Result<Route, Fault>
+fn route_of(members: Result<(Prefix, Origin), Fault>) -> Result<Route, Fault>
     ensures { result ≡ mapped (λ p. record { prefix = p.0; origin = p.1 }) members }
 {
     let (prefix, origin) = members?;

@@ -170,6 +170,9 @@ fn tells_the_number_of_each_member(rt: HostRuntime) -> Result<(), Fail> {
         ("withdraw", r#","holder":"alpha","number":999999"#, 0),
         ("show", r#","holder":"alpha","number":1000000"#, 10),
         ("show", r#","holder":"alpha","number":"1""#, 10),
+        ("content", r#","holder":"alpha","number":1"#, 0),
+        ("content", r#","holder":"alpha","number":0"#, 10),
+        ("content", r#","holder":"alpha""#, 2),
         (
             "create",
             r#","holder":"alpha","asn":64496,"prefix":"192.0.2.0/24","max":24,"from":"2026-01-01","until":"2026-12-31""#,
@@ -232,7 +235,6 @@ fn tells_the_number_of_each_member(rt: HostRuntime) -> Result<(), Fail> {
             r#","routes":[{"prefix":"192.0.2.0/24","origin":"AS1"},{"prefix":"all","origin":1}]"#,
             5,
         ),
-        ("content", r#","holder":"alpha","number":1"#, 2),
         ("import", r#","holder":"alpha","rows":[]"#, 2),
         ("slurm", r#","file":{}"#, 2),
         ("whatif", r#","holder":"alpha","changes":[],"routes":[]"#, 2),

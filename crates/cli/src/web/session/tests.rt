@@ -11,6 +11,7 @@ use std::test::Fail;
 
 mod amendments;
 mod authorizations;
+mod contents;
 mod grants;
 mod resources;
 mod vrps;
@@ -24,6 +25,8 @@ const REGISTER_ALPHA: &[u8] = br#""do":"register","holder":"alpha""#;
 const REGISTER_BETA: &[u8] = br#""do":"register","holder":"beta""#;
 
 const SHOW_1: &[u8] = br#""do":"show","holder":"alpha","number":1"#;
+
+const CONTENT_1: &[u8] = br#""do":"content","holder":"alpha","number":1"#;
 
 const LIST: &[u8] = br#""do":"list","holder":"alpha""#;
 
@@ -80,9 +83,33 @@ impl Dialogue {
         Ok(())
     }
 
-    // As `assert_replies`, with the example charter.
+    // Asked as one list, the lines that are requests have the same replies.
+    fn assert_replies_of_run(&self, rt: &impl Abort, charter: Charter) -> Result<(), Fail> {
+        let mut asked = Vec::new(self.alloc);
+        let mut expected = Vec::new(self.alloc);
+        let lines = self.script.split(|byte| *byte == b'\n');
+        let texts = self.expected.split(|byte| *byte == b'\n');
+        for (line, text) in lines.zip(texts) {
+            if let Ok(one) = read_line_request(self.alloc, line) {
+                asked.push(one)?;
+                expected.extend_from_slice(text)?;
+                expected.push(b'\n')?;
+            }
+        }
+        let mut desk = Desk::open_memory(self.alloc, charter)?;
+        let replies = desk.run(asked.as_slice())?;
+        let written = texts_of(self.alloc, replies.as_slice())?;
+        assert_eq!(rt;
+            str::from_utf8(written.as_slice())?,
+            str::from_utf8(expected.as_slice())?
+        );
+        Ok(())
+    }
+
+    // As both of these, with the example charter.
     fn assert_example_replies(&self, rt: &impl Abort) -> Result<(), Fail> {
-        self.assert_replies(rt, example_charter(self.alloc)?)
+        self.assert_replies(rt, example_charter(self.alloc)?)?;
+        self.assert_replies_of_run(rt, example_charter(self.alloc)?)
     }
 }
 
@@ -105,6 +132,24 @@ fn replies(alloc: Global, charter: Charter, script: &[u8]) -> Result<Vec<u8>, Fa
         run_script(&mut source, &mut drain, &mut desk)
     };
     result?;
+    Ok(sheet.bytes)
+}
+
+fn texts_of(alloc: Global, replies: &[Reply]) -> Result<Vec<u8>, Fail> {
+    let mut sheet = Sheet {
+        bytes: Vec::new(alloc),
+        room: usize::MAX,
+        is_interrupted: false,
+    };
+    for reply in replies {
+        let result = {
+            let mut drain = Device::new(&mut sheet);
+            write_reply(reply, &mut drain)
+        };
+        if result.is_err() {
+            return Err("a reply was not written".into());
+        }
+    }
     Ok(sheet.bytes)
 }
 
@@ -200,6 +245,11 @@ fn answers_without_want_of_memory_in_ample_memory(rt: HostRuntime) -> Result<(),
                 b"ann",
                 SHOW_1,
                 br#"{"shown":{"number":1,"asn":64496,"prefix":"192.0.2.0/24","max":26,"from":"2026-01-01","until":"2026-06-30"}}"#,
+            ),
+            (
+                b"ann",
+                CONTENT_1,
+                br#"{"content":"301a020300fbf03013301104020001300b3009030400c0000202011a"}"#,
             ),
             (
                 b"ann",

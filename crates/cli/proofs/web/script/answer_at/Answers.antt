@@ -1,10 +1,11 @@
 use Rattle.std.proofs.Common.{◌∙◌}
+use Rattle.cli.proofs.RecordLemmas.{on_err}
 use Rattle.cli.proofs.ScriptLemmas.{BreaksOff-one}
 use Rattle.cli.proofs.web.script.answer_at.Goals as goal
 
-pub returns-in_default-clause-err : goal.returns-in_default-clause-err
-returns-in_default-clause-err g c = λ unfinished holds.
-    let (reply, acted, written) = c.in_default.ensures.err in
+pub returns-in_err-answer-clause-err : goal.returns-in_err-answer-clause-err
+returns-in_err-answer-clause-err g c = λ unfinished holds.
+    let (reply, acted, written) = c.in_err-answer.ensures.err in
     let line_feed = c.if-byte-ne10.false in
-    rw line_feed
-    (BreaksOff-one g.E.AnswerLines.answers _ _ unfinished reply _ _ (rw (c.line.ensures ∙ holds) at acted) written)
+    on_err c.from_residual.result (rw line_feed
+    (BreaksOff-one g.E.AnswerLines.answers _ _ unfinished reply _ _ (rw (c.line.ensures ∙ holds) at acted) written))

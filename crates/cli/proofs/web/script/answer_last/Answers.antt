@@ -1,6 +1,7 @@
 use Rattle.std.proofs.Common.{◌≡◌, [], ◌∙◌, ap, sym, refl, true, false}
 use Rattle.cli.specs.ScriptLines.{within_limit}
 use Rattle.cli.proofs.LineSplits.{unless_empty-lem, within_limit-nil}
+use Rattle.cli.proofs.RecordLemmas.{on_err}
 use Rattle.cli.proofs.ScriptLemmas.{AnswersEach-nil, BreaksOff-one}
 use Rattle.cli.proofs.web.script.answer_last.Goals as goal
 
@@ -9,10 +10,10 @@ returns-then-is_empty-clause-ok g c = λ unfinished holds.
     let is_nil : unfinished ≡ [] = within_limit-nil unfinished (sym holds ∙ c.if-is_empty.ensures.0 refl) in
     rw is_nil (AnswersEach-nil g.E.AnswerLines.answers c.args.engine.now (g.D.Drain.written c.args.drain.now))
 
-pub returns-in_default-clause-err : goal.returns-in_default-clause-err
-returns-in_default-clause-err g c = λ unfinished holds.
-    let (reply, acted, written) = c.in_default.ensures.err in
-    rw (unless_empty-lem unfinished (λ is_nil. let no : false ≡ true = c.if-is_empty.ensures.1 (holds ∙ ap within_limit is_nil) in cc))
+pub returns-in_err-answer-clause-err : goal.returns-in_err-answer-clause-err
+returns-in_err-answer-clause-err g c = λ unfinished holds.
+    let (reply, acted, written) = c.in_err-answer.ensures.err in
+    on_err c.from_residual.result (rw (unless_empty-lem unfinished (λ is_nil. let no : false ≡ true = c.if-is_empty.ensures.1 (holds ∙ ap within_limit is_nil) in cc))
     (BreaksOff-one g.E.AnswerLines.answers c.args.engine.now c.answer.new.self unfinished reply
     (g.D.Drain.written c.args.drain.now) (g.D.Drain.written c.answer.new.drain)
-    (rw (c.line.ensures ∙ holds) at acted) written)
+    (rw (c.line.ensures ∙ holds) at acted) written))

@@ -1,8 +1,10 @@
 use Rattle.std.proofs.Common.{◌∙◌}
+use Rattle.cli.proofs.RecordLemmas.{on_err}
 use Rattle.cli.proofs.StreamLemmas.{AppendsBeginning-take}
 use Rattle.cli.proofs.web.device.DeviceDrain.write.Goals as goal
 
-pub returns-in_default-flush-clause-err : goal.returns-in_default-flush-clause-err
-returns-in_default-flush-clause-err g c =
-    AppendsBeginning-take _ _ c.args.bytes.now c.in-Ok.count
-    (c.in_default-flush.ensures.bytes ∙ c.in-Ok.ensures.ok)
+pub returns-in_err-flush-clause-err : goal.returns-in_err-flush-clause-err
+returns-in_err-flush-clause-err g c =
+    on_err c.from_residual-in_err-flush.result
+    (AppendsBeginning-take _ _ c.args.bytes.now c.in_ok-count.count
+    (c.in_err-flush.ensures.bytes ∙ c.in_ok-count.ensures.ok))

@@ -20,7 +20,10 @@ returns-in-Revoke c =
       | inl is ↦ rw is c.only-in-Revoke.ensures
       | inr other ↦ elim other [
         | inl is ↦ rw is c.only-in-Revoke.ensures
-        | inr is ↦ rw is c.only-in-Revoke.ensures
+        | inr last ↦ elim last [
+          | inl is ↦ rw is c.only-in-Revoke.ensures
+          | inr is ↦ rw is c.only-in-Revoke.ensures
+        ]
       ]
     ]
 
