@@ -1,5 +1,5 @@
 -- One more run looked at, while a run is added to a set of addresses or taken out of it.
-use Rattle.std.proofs.Common.{◌≡◌, ℕ, ◌+◌, ◌≤◌, ◌<◌, Bool, true, false, ◌&&◌, ◌||◌, not, nat_lt, refl, sym, ap, ◌∙◌, arith, List, [], ◌∷◌, ◌++◌, Option, Some, None, IfSome, take, drop, get_or, length, suc, add-one, take_all}
+use Rattle.std.proofs.Common.{◌≡◌, ℕ, ◌+◌, ◌-◌, ◌≤◌, ◌<◌, Bool, true, false, ◌&&◌, ◌||◌, not, nat_lt, refl, sym, ap, subst, ◌∙◌, arith, List, [], ◌∷◌, ◌++◌, Option, Some, None, IfSome, take, drop, get_or, length, suc, add-one, take_all}
 use Rattle.std.specs.List.{list_all}
 use Rattle.std.specs.Option.{option_to_list}
 use Rattle.std.proofs.lemmas.Bool.{and_parts, and_from, false≢true, true≢false}
@@ -13,7 +13,7 @@ use Rattle.addr.specs.declared.family.Family.{Family}
 use Rattle.addr.specs.declared.family.Family.TheVariants.{V4, V6}
 use Rattle.addr.specs.Spans.{span_has, spans_have, is_apart_below, AreMaximal}
 use Rattle.addr.specs.Parts.{IsWithin, AreParts, part_has, is_after}
-use Rattle.addr.proofs.SpanLemmas.{is_gap, all_below, all_above, AllApart, maximal_append, all_above_trans, apart_to_part, apart_from_part}
+use Rattle.addr.proofs.SpanLemmas.{is_gap, all_below, all_above, AllApart, maximal_append, all_above_trans, apart_trans, apart_to_part, apart_from_part}
 use Rattle.addr.specs.declared.span.Span.{Span}
 
 -- the runs kept, then the pending one, then those still to come; together what was had and what is added
@@ -51,6 +51,24 @@ below_apart (k ∷ kept) s below =
 
 pub maximal_more : (kept : List Span) (s : Span) → AreMaximal kept → all_below kept s ≡ true → AreMaximal (kept ++ s ∷ [])
 maximal_more kept s maximal below = maximal_append kept (s ∷ []) maximal (refl, tt) (below_apart kept s below)
+
+-- maximal runs are apart below a run where the last of them is
+pub last_below : (xs : List Span) (last s : Span) → AreMaximal (xs ++ last ∷ []) → all_below (xs ++ last ∷ []) s ≡ is_apart_below last s
+last_below xs last s maximal = go (is_apart_below last s) refl
+  where
+    go : (b : Bool) → is_apart_below last s ≡ b → all_below (xs ++ last ∷ []) s ≡ b
+    go true is = each xs maximal
+      where
+        each : (xs : List Span) → AreMaximal (xs ++ last ∷ []) → all_below (xs ++ last ∷ []) s ≡ true
+        each [] all = and_from _ _ is refl
+        each (x ∷ xs) all =
+            let below = list_all-append (λ t. is_apart_below x t) xs (last ∷ []) in
+            and_from _ _ (apart_trans x last s (and_parts _ _ (and_parts _ _ (sym below ∙ all.0)).1).0 is) (each xs all.1)
+    go false is = list_all-append (λ t. is_apart_below t s) xs (last ∷ []) ∙ (λ i. all_below xs s && (is i && true)) ∙ never (all_below xs s)
+      where
+        never : (b : Bool) → (b && false) ≡ false
+        never true = refl
+        never false = refl
 
 swap_last : (w x y z n : Bool) → (x || y) ≡ (z || n) → ((x || w) || y) ≡ ((z || w) || n)
 swap_last true true y true n e = refl
@@ -262,3 +280,9 @@ cutting_end xs gone kept i ended now a = now.same a ∙ ap (λ ys. spans_have ys
 
 pub adding_at : (done rest : List Span) (added : Span) (kept after : List Span) (pending next : Span) → after ≡ kept → next ≡ pending → Adding done rest added kept pending → Adding done rest added after next
 adding_at done rest added kept after pending next same_kept same_pending now = rw (same_kept, same_pending) now
+
+pub last_of_maximal : (xs : List Span) (last s : Span) → 1 ≤ length xs → last ≡ get_or xs (length xs - 1) last → AreMaximal xs → all_below xs s ≡ is_apart_below last s
+last_of_maximal xs last s some is maximal =
+    let before = take (length xs - 1) xs in
+    let parts : xs ≡ before ++ last ∷ [] = sym (take_all (length xs - 1 + 1) xs (omega arith)) ∙ (one_more xs (length xs - 1) last (omega arith) is).0 in
+    ap (λ l. all_below l s) parts ∙ last_below before last s (subst AreMaximal parts maximal)

@@ -1,8 +1,8 @@
 ghost use Rattle.std.specs.Prelude.{◌≡◌, ◌+◌, ◌<◌, ◌↔◌, ◌&&◌, ◌||◌, not, List, [], ◌++◌, IsTrue, OnOk, OnErr, IfOk};
-ghost use Rattle.std.specs.List.{list_any};
+ghost use Rattle.std.specs.List.{list_any, list_all};
 ghost use Rattle.std.specs.Option.{option_to_list};
 ghost use Rattle.addr.specs.Address.{Address, has_address};
-ghost use Rattle.addr.specs.Spans.{span_has, spans_have, span_covers, span_meets, AreMaximal, HaveAll, HaveSome};
+ghost use Rattle.addr.specs.Spans.{span_has, spans_have, span_covers, span_meets, is_apart_below, AreMaximal, HaveAll, HaveSome};
 ghost use Rattle.addr.specs.Parts.{AreParts};
 ghost use Rattle.addr.specs.declared.span.Span.{Span};
 
@@ -73,7 +73,21 @@ impl Holdings {
         ensures ok { OnOk result ((a : Address) → spans_have self.new a ≡ (spans_have self.old a || has_address prefix.now a)) }
         ensures err { OnErr result (self.new ≡ self.old) }
     {
-        self.spans = with_span(*self.spans.allocator(), &self.spans, prefix.span())?;
+        self.add_span(&prefix.span())
+    }
+
+    /// Puts every address of the run into the set. On an error the set stays as it was.
+    ///
+    /// A run that lies after all others is put in one step, so that rising runs cost one step each.
+    pub fn add_span(&mut self, span: &Span) -> Result<(), AllocError>
+        ensures ok { OnOk result ((a : Address) → spans_have self.new a ≡ (spans_have self.old a || span_has span.now a)) }
+        ensures err { OnErr result (self.new ≡ self.old) }
+    {
+        if is_apart_above(&self.spans, span) {
+            self.spans.push(*span)?;
+        } else {
+            self.spans = with_span(*self.spans.allocator(), &self.spans, *span)?;
+        }
         Ok(())
     }
 
@@ -97,6 +111,17 @@ fn is_met(spans: &[Span], prefix: &Prefix) -> bool
     ensures { result ≡ list_any (λ s. span_meets s prefix.now) spans.now }
 {
     spans.iter().any(|span| span.meets(prefix))
+}
+
+/// Whether every run lies before the span, with an address between them.
+fn is_apart_above(spans: &[Span], span: &Span) -> bool
+    requires { AreMaximal spans.now }
+    ensures { result ≡ list_all (λ s. is_apart_below s span.now) spans.now }
+{
+    match spans {
+        [.., last] => last.is_apart_below(span),
+        [] => true,
+    }
 }
 
 /// The maximal runs of the addresses of `spans` and those of `added`.

@@ -8,6 +8,7 @@ ghost use Rattle.policy.specs.CharterSets.{AreInNumber, IsCharter};
 ghost use Rattle.policy.specs.Pool.{pool_has, IsInPool, HasFromTo};
 
 use addr::{Family, Name, Prefix};
+use std::alloc::AllocError;
 use std::marker::Model;
 use thiserror::Error;
 
@@ -52,6 +53,17 @@ impl Model for Charter {
     ghost view = { λ c. record { operators = c.operators.items; pool = c.pool.items } };
 
     ghost invariant = { λ c. IsCharter (record { operators = c.operators.items; pool = c.pool.items }) };
+}
+
+impl Clone for Charter {
+    ghost is_clone = { λ charter copy. copy ≡ charter };
+
+    fn clone(&self) -> Result<Self, AllocError> {
+        Ok(Charter {
+            operators: self.operators.clone()?,
+            pool: self.pool.clone()?,
+        })
+    }
 }
 
 fn are_in_number(operators: &[Name], pool: &[Prefix]) -> bool

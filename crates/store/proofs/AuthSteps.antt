@@ -73,10 +73,10 @@ module _ (h : List ℕ) (old new : State) (ready : IsReady old) (count : ℕ) wh
       let w = wrote take_auth_text params command take_auth_is old new ready count ran in
       let has = has_schema take_auth_text params command take_auth_is old new ready count ran in
       let keeps = (deleting.applied 6 auth.name 12 auth.columns auth.primary auth.uniques auth.orders auth.references refl tests old new _ params count has w).2 in
-      done_by take_auth_text params command take_auth_is old new ready count ran h (without_auth n) keeps (λ rows was some.
+      done_by take_auth_text params command take_auth_is old new ready count ran h (without_auth n) keeps (λ charter rows was some.
       edits_auths h (without_auth n) (filter (λ c. not (is_of h n c))) old.now new.now
       (deleting.takes 6 auth.name 12 auth.columns auth.primary auth.uniques auth.orders auth.references refl tests (is_of h n) old new _ params count has (of_tests h n []) (was.whole 12 refl) w)
-      (take_local 0 h (is_of h n) (of_holder h n)) (λ r. IsPermutation-same _ _ (taken r.auths)) (λ r. refl) (λ r. refl) (λ r. refl) rows was some)
+      (take_local 0 h (is_of h n) (of_holder h n)) (λ r. IsPermutation-same _ _ (taken r.auths)) (λ r. refl) (λ r. refl) (λ r. refl) charter rows was some)
     where
       taken : (auths : List Auth) → map (auth_row h) (filter (λ x. not (x.number == n)) auths) ≡ filter (λ c. not (is_of h n c)) (map (auth_row h) auths)
       taken auths = ap (map (auth_row h)) (λ i. filter (λ x. not (sym (own h n x) i)) auths) ∙ sym (filter-map (λ c. not (is_of h n c)) (auth_row h) auths)
@@ -89,11 +89,11 @@ module _ (h : List ℕ) (old new : State) (ready : IsReady old) (count : ℕ) wh
       let w = wrote amend_text params command amend_is old new ready count ran in
       let has = has_schema amend_text params command amend_is old new ready count ran in
       let keeps = (updating.applied 6 auth.name 12 auth.columns auth.primary auth.uniques auth.orders auth.references refl tests amend_sets old new _ params count has w).2 in
-      done_by amend_text params command amend_is old new ready count ran h (with_amended x) keeps (λ rows was some.
+      done_by amend_text params command amend_is old new ready count ran h (with_amended x) keeps (λ charter rows was some.
       edits_auths h (with_amended x) (map (changed_if (is_of h x.number) (amended_row x))) old.now new.now
       (updating.changes 6 auth.name 12 auth.columns auth.primary auth.uniques auth.orders auth.references refl tests amend_sets (is_of h x.number) (amended_row x) old new _ params count has
       (of_tests h x.number (drop 1 (auth_cells x))) (amends h x) (was.whole 12 refl) w)
-      (change_local 0 h (is_of h x.number) (of_holder h x.number) (amended_row x) (name_kept h x)) (λ r. IsPermutation-same _ _ (changed x r.auths)) (λ r. refl) (λ r. refl) (λ r. refl) rows was some)
+      (change_local 0 h (is_of h x.number) (of_holder h x.number) (amended_row x) (name_kept h x)) (λ r. IsPermutation-same _ _ (changed x r.auths)) (λ r. refl) (λ r. refl) (λ r. refl) charter rows was some)
     where
       each : (x y : Auth) → auth_row h (replaced_by x y) ≡ changed_if (is_of h x.number) (amended_row x) (auth_row h y)
       each x y = rw (own h x.number y) (at (y.number == x.number) refl)

@@ -1,5 +1,5 @@
 -- The cells of typed rows: what their columns cast and how they compare.
-use Rattle.std.proofs.Common.{◌≡◌, ℕ, pos, Bool, ◌==◌, List, [], ◌∷◌, ◌++◌, map, sym, ap, ◌∙◌, subst, IsPermutation, is_eq, int_cmp, arith}
+use Rattle.std.proofs.Common.{◌≡◌, ℕ, pos, Bool, ◌==◌, List, [], ◌∷◌, ◌++◌, codes, map, sym, ap, ◌∙◌, subst, IsPermutation, is_eq, int_cmp, arith}
 use Rattle.std.proofs.lemmas.Int.{ints}
 use Rattle.std.proofs.lemmas.List.{map-append}
 use Rattle.std.proofs.lemmas.List.Sorted.{IsPermutation-to_front}
@@ -10,18 +10,25 @@ use Rattle.sqlite_value.proofs.OrderLemmas.{value_cmp-Int}
 use Rattle.sqlite_sql.specs.Ops.{unary}
 use Rattle.sqlite_schema.specs.declared.schema.Kind.TheVariants.{Integer}
 use Rattle.sqlite_rules.specs.Cast.{cast, cast_all}
+use Rattle.addr.specs.declared.prefix.Prefix.{Prefix}
 use Rattle.addr.specs.declared.span.Span.{Span}
 use Rattle.policy.specs.declared.authorization.Auth.{Auth}
 use Rattle.policy.specs.declared.grant.Granted.{Granted}
 use Rattle.policy.specs.declared.grant.Scope.{Scope}
 use Rattle.policy.specs.declared.grant.Scope.TheVariants.{All, Only}
-use Rattle.store.specs.Tables.{holder, holding, granted, auth}
-use Rattle.store.specs.Cells.{number_cell, family_number, role_number, address, scope_cells, holder_row, holding_row, granted_row, auth_row}
+use Rattle.store.specs.Tables.{meta, pool, holder, holding, granted, auth}
+use Rattle.store.specs.Cells.{number_cell, family_number, role_number, address, schema_row, prefix_cells, scope_cells, holder_row, holding_row, granted_row, auth_row}
 use Rattle.store.proofs.Inserting.{either, cast_null}
 
 pub cast_number : (n : ℕ) → cast Integer (number_cell n) ≡ number_cell n
 unfolding unary
 cast_number n = either _ (number_cell n)
+
+pub cast_schema : cast_all meta.columns schema_row ≡ schema_row
+cast_schema = λ i. Text (codes "schema") ∷ cast_number 1 i ∷ []
+
+pub cast_prefix : (p : Prefix) → cast_all pool.columns (prefix_cells p) ≡ prefix_cells p
+cast_prefix p = λ i. cast_number (family_number p.family) i ∷ Blob (address p.first) ∷ cast_number p.length i ∷ []
 
 pub cast_holder : (h : List ℕ) (granted created : ℕ) → cast_all holder.columns (holder_row h granted created) ≡ holder_row h granted created
 cast_holder h granted created = λ i. Text h ∷ cast_number granted i ∷ cast_number created i ∷ []

@@ -53,10 +53,10 @@ module _ (h : List ℕ) (old new : State) (ready : IsReady old) (count : ℕ) wh
       let w = wrote take_granted_text params command take_granted_is old new ready count ran in
       let has = has_schema take_granted_text params command take_granted_is old new ready count ran in
       let keeps = (deleting.applied 5 granted.name 10 granted.columns granted.primary granted.uniques granted.orders granted.references refl tests old new _ params count has w).2 in
-      done_by take_granted_text params command take_granted_is old new ready count ran h (without_grant n) keeps (λ rows was some.
+      done_by take_granted_text params command take_granted_is old new ready count ran h (without_grant n) keeps (λ charter rows was some.
       edits_grants h (without_grant n) (filter (λ c. not (is_of h n c))) old.now new.now
       (deleting.takes 5 granted.name 10 granted.columns granted.primary granted.uniques granted.orders granted.references refl tests (is_of h n) old new _ params count has (of_tests h n []) (was.whole 10 refl) w)
-      (take_local 0 h (is_of h n) (of_holder h n)) (λ r. IsPermutation-same _ _ (taken r.grants)) (λ r. refl) (λ r. refl) (λ r. refl) rows was some)
+      (take_local 0 h (is_of h n) (of_holder h n)) (λ r. IsPermutation-same _ _ (taken r.grants)) (λ r. refl) (λ r. refl) (λ r. refl) charter rows was some)
     where
       taken : (grants : List Granted) → map (granted_row h) (filter (λ g. not (g.number == n)) grants) ≡ filter (λ c. not (is_of h n c)) (map (granted_row h) grants)
       taken grants = ap (map (granted_row h)) (λ i. filter (λ g. not (sym (own h n g) i)) grants) ∙ sym (filter-map (λ c. not (is_of h n c)) (granted_row h) grants)

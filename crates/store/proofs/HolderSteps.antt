@@ -14,6 +14,7 @@ use Rattle.sqlite_schema.specs.declared.command.Command.TheVariants.{Update, Ins
 use Rattle.sqlite_schema.specs.declared.command.Source.TheVariants.{Values}
 use Rattle.sqlite_schema.specs.declared.schema.Kind.TheVariants.{Integer, Text as Words}
 use Rattle.sqlite_rules.specs.Cast.{cast, cast_all}
+use Rattle.policy.specs.CharterSets.{CharterSets}
 use Rattle.policy.specs.Rows.{Rows, new_rows}
 use Rattle.store.specs.Tables.{holder, desk_schema}
 use Rattle.store.specs.Cells.{number_cell, holder_row}
@@ -26,7 +27,7 @@ use Rattle.store.proofs.Updating.{changed_if}
 use Rattle.store.proofs.Selecting.{from_table, no_limit, permuted}
 use Rattle.store.proofs.CellLemmas.{cast_number, cast_holder}
 use Rattle.store.proofs.PartLemmas.{names, name_of-true, name_of_itself, put_local, change_local, part_turned}
-use Rattle.store.proofs.StepLemmas.{column_after, has_schema, wrote, done_by, edits_holder, sound_still, turned_still}
+use Rattle.store.proofs.StepLemmas.{column_after, has_schema, wrote, done_by, edits_holder, charter_still, sound_still, turned_still}
 use Rattle.store.proofs.QueryLemmas.{shown_open, answered_inside}
 use Rattle.store.proofs.HoldingSteps.{holder_test}
 use Rattle.store.proofs.Texts.{equals, put_holder_text, put_holder_is, counters_text, counters_is, set_grants_text, set_grants_is, set_auths_text, set_auths_is}
@@ -60,11 +61,11 @@ module _ (h : List ℕ) (old new : State) (ready : IsReady old) (count : ℕ) (n
       let w = wrote set_grants_text params command set_grants_is old new ready count ran in
       let has = has_schema set_grants_text params command set_grants_is old new ready count ran in
       let keeps = (updating.applied 3 holder.name 6 holder.columns holder.primary holder.uniques holder.orders holder.references refl tests grants_sets old new _ params count has w).2 in
-      done_by set_grants_text params command set_grants_is old new ready count ran h (with_granted n) keeps (λ rows was some.
+      done_by set_grants_text params command set_grants_is old new ready count ran h (with_granted n) keeps (λ charter rows was some.
       edits_holder h (with_granted n) (map (changed_if (names 0 h) (granted_set n))) old.now new.now
       (updating.changes 3 holder.name 6 holder.columns holder.primary holder.uniques holder.orders holder.references refl tests grants_sets (names 0 h) (granted_set n) old new _ params count has
       (holder_test 0 h (number_cell n ∷ [])) sets (was.whole 6 refl) w)
-      (change_local 0 h (names 0 h) (λ c is. is) (granted_set n) name_kept) (λ r. IsPermutation-same _ _ (changed r)) (λ r. refl) (λ r. refl) (λ r. refl) rows was some)
+      (change_local 0 h (names 0 h) (λ c is. is) (granted_set n) name_kept) (λ r. IsPermutation-same _ _ (changed r)) (λ r. refl) (λ r. refl) (λ r. refl) charter rows was some)
     where
       sets : (r : Row) → cast_all holder.columns (eval_all grants_sets (params ∷ r ∷ [])) ≡ granted_set n (drop 1 r)
       sets r = λ i. cast Words (column_after r 0 i) ∷ cast_number n i ∷ cast Integer (column_after r 2 i) ∷ []
@@ -78,11 +79,11 @@ module _ (h : List ℕ) (old new : State) (ready : IsReady old) (count : ℕ) (n
       let w = wrote set_auths_text params command set_auths_is old new ready count ran in
       let has = has_schema set_auths_text params command set_auths_is old new ready count ran in
       let keeps = (updating.applied 3 holder.name 6 holder.columns holder.primary holder.uniques holder.orders holder.references refl tests auths_sets old new _ params count has w).2 in
-      done_by set_auths_text params command set_auths_is old new ready count ran h (with_created n) keeps (λ rows was some.
+      done_by set_auths_text params command set_auths_is old new ready count ran h (with_created n) keeps (λ charter rows was some.
       edits_holder h (with_created n) (map (changed_if (names 0 h) (created_set n))) old.now new.now
       (updating.changes 3 holder.name 6 holder.columns holder.primary holder.uniques holder.orders holder.references refl tests auths_sets (names 0 h) (created_set n) old new _ params count has
       (holder_test 0 h (number_cell n ∷ [])) sets (was.whole 6 refl) w)
-      (change_local 0 h (names 0 h) (λ c is. is) (created_set n) name_kept) (λ r. IsPermutation-same _ _ (changed r)) (λ r. refl) (λ r. refl) (λ r. refl) rows was some)
+      (change_local 0 h (names 0 h) (λ c is. is) (created_set n) name_kept) (λ r. IsPermutation-same _ _ (changed r)) (λ r. refl) (λ r. refl) (λ r. refl) charter rows was some)
     where
       sets : (r : Row) → cast_all holder.columns (eval_all auths_sets (params ∷ r ∷ [])) ≡ created_set n (drop 1 r)
       sets r = λ i. cast Words (column_after r 0 i) ∷ cast Integer (column_after r 1 i) ∷ cast_number n i ∷ []
@@ -100,7 +101,8 @@ module _ (h : List ℕ) (old new : State) (ready : IsReady old) where
       let e = inserting.puts 3 holder.name 6 holder.columns holder.primary holder.uniques holder.orders holder.references refl terms 4 (holder_row h 0 0) old new _ (Text h ∷ []) count has refl (cast_holder h 0 0) w in
       record {
         ready = record { schema = λ _. e.schema ∙ has; inside = ran.1.mode };
-        rows = λ rows was none. record {
+        rows = λ charter rows was none. record {
+          charter_kept = charter_still charter holder_part.tree _ old.now new.now e (λ same. cc) (λ same. cc) (λ same. cc) was.charter_kept;
           holders = part_turned holder_part rows h (λ _. Some new_rows) (λ rows. holder_row h 0 0 ∷ rows) _ _ was.holders (put_local 0 h (holder_row h 0 0) refl) e.rows (rw none (IsPermutation-refl _));
           holdings = turned_still holding_part rows h (λ _. Some new_rows) holder_part.tree _ old.now new.now e refl (λ same. cc) was.holdings (ap (rows_if_any holding_part h) none);
           grants = turned_still granted_part rows h (λ _. Some new_rows) holder_part.tree _ old.now new.now e refl (λ same. cc) was.grants (ap (rows_if_any granted_part h) none);
@@ -113,8 +115,8 @@ module _ (h : List ℕ) (old new : State) (ready : IsReady old) where
   counters_query = record { lets = []; body = from_table 6 (equals 1 0 ∷ []) (col 1 2 ∷ col 1 3 ∷ []) [] no_limit }
 
   -- as many rows are found as the holder has in its table
-  found : (rows : List Row) (all : List ℕ → Option Rows) → old.now.schema ≡ desk_schema → Shown counters_text (Text h ∷ []) old new rows → TablesHold all old.now.trees → length rows ≡ length (rows_if_any holder_part h (all h))
-  found rows all has shown holds =
+  found : (rows : List Row) (charter : CharterSets) (all : List ℕ → Option Rows) → old.now.schema ≡ desk_schema → Shown counters_text (Text h ∷ []) old new rows → TablesHold charter all old.now.trees → length rows ≡ length (rows_if_any holder_part h (all h))
+  found rows charter all has shown holds =
       let read = reads_as counters_text (Text h ∷ []) old new desk_schema has (Select counters_query (codes "grants" ∷ codes "auths" ∷ [])) counters_is.is counters_is.plain counters_is.unlisted rows shown in
       let same = permuted 6 (equals 1 0 ∷ []) (col 1 2 ∷ col 1 3 ∷ []) [] old.now.trees (Text h ∷ []) rows (read.answer Null) in
       let picked = filter-map (names 0 h) (drop 1) (old.now.trees 6) ∙ (λ i. map (drop 1) (filter (λ r. sym (holder_test 0 h [] r) i) (old.now.trees 6))) in
@@ -131,7 +133,7 @@ module _ (h : List ℕ) (old new : State) (ready : IsReady old) where
         was_open = same.0.was_open;
         ready = record { schema = λ _. ap (λ (d : Database). d.schema) same.0.now_is ∙ has; inside = same.0.mode ∙ ready.inside };
         same = same.0.now_is;
-        answer = λ all holds. ap not (is ∙ ap (λ n. n == 0) (counted ∙ found rows all has shown holds)) ∙ go (all h);
+        answer = λ charter all holds. ap not (is ∙ ap (λ n. n == 0) (counted ∙ found rows charter all has shown holds)) ∙ go (all h);
       }
     where
       go : (o : Option Rows) → not (length (rows_if_any holder_part h o) == 0) ≡ is_some o

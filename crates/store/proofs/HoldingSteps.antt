@@ -44,10 +44,10 @@ module _ (h : List ℕ) (old new : State) (ready : IsReady old) (count : ℕ) wh
       let w = wrote take_holdings_text params command take_holdings_is old new ready count ran in
       let has = has_schema take_holdings_text params command take_holdings_is old new ready count ran in
       let keeps = (deleting.applied 4 holding.name 8 holding.columns holding.primary holding.uniques holding.orders holding.references refl tests old new _ params count has w).2 in
-      done_by take_holdings_text params command take_holdings_is old new ready count ran h without_holdings keeps (λ rows was some.
+      done_by take_holdings_text params command take_holdings_is old new ready count ran h without_holdings keeps (λ charter rows was some.
       edits_holdings h without_holdings (filter (λ c. not (names 3 h c))) old.now new.now
       (deleting.takes 4 holding.name 8 holding.columns holding.primary holding.uniques holding.orders holding.references refl tests (names 3 h) old new _ params count has (holder_test 3 h []) (was.whole 8 refl) w)
-      (take_local 3 h (names 3 h) (λ c is. is)) (λ r. IsPermutation-same _ _ (none r.holdings)) (λ r. refl) (λ r. refl) (λ r. refl) rows was some)
+      (take_local 3 h (names 3 h) (λ c is. is)) (λ r. IsPermutation-same _ _ (none r.holdings)) (λ r. refl) (λ r. refl) (λ r. refl) charter rows was some)
     where
       none : (spans : List Span) → [] ≡ filter (λ c. not (names 3 h c)) (map (holding_row h) spans)
       none [] = refl

@@ -16,3 +16,14 @@ mod QueryLemmas
 mod StoreLemmas
 mod Creates
 mod MakingSteps
+mod CharterSteps
+mod AddressBytes
+mod ReadLemmas
+mod CellsOnce
+mod Finding
+mod Loading
+mod Addresses
+mod SomeRow
+mod Overlapping
+mod InForce
+mod Giving

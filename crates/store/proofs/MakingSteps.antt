@@ -7,18 +7,16 @@ use Rattle.sqlite_value.specs.Order.{Row}
 use Rattle.sqlite.specs.Change.{created, next_tree, KeepsRows}
 use Rattle.sqlite.specs.Does.{Tally, lacks_sequence}
 use Rattle.sqlite.specs.Effect.{Database}
-use Rattle.sqlite.specs.State.{State, HasCleanDisk, Shows, Writes, ExecutesInside}
+use Rattle.sqlite.specs.State.{State, Writes, ExecutesInside}
 use Rattle.sqlite.proofs.Callers.{runs_as}
-use Rattle.sqlite_trees.specs.Tree.{Trees}
 use Rattle.sqlite_trees.proofs.ListLemmas.{all_both, all-append}
 use Rattle.sqlite_schema.specs.declared.command.Command.TheVariants.{CreateTable}
 use Rattle.sqlite_schema.specs.declared.schema.Schema.{Schema}
 use Rattle.sqlite_schema.specs.declared.schema.Table.{Table}
 use Rattle.store.specs.Tables.{desk_tables}
-use Rattle.store.specs.Edits.{contents, IsTree}
-use Rattle.store.specs.TablesHold.{Part, holder_part, holding_part, granted_part, auth_part, HoldsPart, TablesHold}
-use Rattle.store.specs.Making.{so_far, IsMadeTo, IsBlank}
-use Rattle.store.specs.StoreRows.{IsKept}
+use Rattle.store.specs.Edits.{contents}
+use Rattle.store.specs.TablesHold.{Part, HoldsPart}
+use Rattle.store.specs.Making.{so_far, IsMadeTo}
 use Rattle.store.proofs.Inserting.{went, same_value}
 use Rattle.store.proofs.Creates.{Defines}
 
@@ -51,7 +49,8 @@ makes n sql table d next old new count before h =
     grown n table old new before next h.1.mode (ap (λ (d : Database). d.schema) now ∙ schema)
     (subst (λ (d : Database). KeepsRows (take n desk_tables) old.now.trees d.trees) (sym now) kept) (ap (λ (d : Database). d.trees table.tree) now ∙ empty)
 
-each_table : (P : ℕ → Type 0) (tables : List Table) → AllByRecursion (λ t. P t.tree) tables → (t : ℕ) → list_any (λ table. table.tree == t) tables ≡ true → P t
+-- each table of the list
+pub each_table : (P : ℕ → Type 0) (tables : List Table) → AllByRecursion (λ t. P t.tree) tables → (t : ℕ) → list_any (λ table. table.tree == t) tables ≡ true → P t
 each_table P [] all t is = absurd cc
 each_table P (x ∷ tables) all t is = go (x.tree == t) refl is (λ later. each_table P tables all.1 t later)
   where
@@ -59,28 +58,6 @@ each_table P (x ∷ tables) all t is = go (x.tree == t) refl is (λ later. each_
     go true here is later = subst P (eqb-true _ _ here) all.0
     go false there is later = later is
 
-none_held : (part : Part) (table : List Row) → table ≡ [] → HoldsPart part (λ h. None) (contents table)
+-- an empty table has the rows of no holder
+pub none_held : (part : Part) (table : List Row) → table ≡ [] → HoldsPart part (λ h. None) (contents table)
 none_held part table none = rw none (record { each = λ h. IsPermutation-refl []; named = tt })
-
--- empty tables hold the rows of no holder
-pub blank_holds : (trees : Trees) → AllByRecursion (λ t. trees t.tree ≡ []) desk_tables → TablesHold (λ h. None) trees
-blank_holds trees empty =
-    let at = each_table (λ t. trees t ≡ []) desk_tables empty in
-    record {
-      holders = none_held holder_part (trees 6) (at 6 refl);
-      holdings = none_held holding_part (trees 8) (at 8 refl);
-      grants = none_held granted_part (trees 10) (at 10 refl);
-      auths = none_held auth_part (trees 12) (at 12 refl);
-      whole = λ t is. subst IsTree (sym (at t is)) (tt, tt);
-    }
-
--- the tables that were made are committed
-pub blank_after : (mid last : State) → IsMadeTo 8 mid → Shows mid last mid.now mid.now false → IsBlank last
-blank_after mid last made shown = record {
-  schema = ap (λ (d : Database). d.schema) shown.now_is ∙ made.schema;
-  settled = shown.committed_is ∙ sym shown.now_is;
-  empty = subst (λ (d : Database). AllByRecursion (λ t. d.trees t.tree ≡ []) (take 8 desk_tables)) (sym shown.now_is) made.empty;
-}
-
-pub blank_kept : (s : State) → (HasCleanDisk s → IsBlank s) → IsKept s
-blank_kept s blank clean opened = record { schema = (blank clean).schema; settled = (blank clean).settled }

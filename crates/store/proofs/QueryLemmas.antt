@@ -1,14 +1,19 @@
 -- What a query leaves of a connection.
-use Rattle.std.proofs.Common.{◌≡◌, ◌⊎◌, inl, inr, ℕ, List, Option, Some, None, IsTrue, sym, subst}
+use Rattle.std.proofs.Common.{◌≡◌, ◌⊎◌, inl, inr, ℕ, List, Option, Some, None, Result, Ok, Err, IfOk, IfErr, OnOk, IsTrue, sym, ap, subst, ◌∙◌, arith}
+use Rattle.std.proofs.lemmas.Result.{IfOk-weaker}
 use Rattle.sqlite.specs.declared.error.Error.{Error}
-use Rattle.sqlite.specs.Listing.{understood}
-use Rattle.sqlite.specs.State.{State, KeepsCommit, IsUnchanged, IsRolledBack, IsNotRun, Shown, ShowsRows, FailsToQuery, FailsToShow, IsTooLate}
+use Rattle.sqlite.specs.Effect.{Database}
+use Rattle.sqlite.specs.Listing.{understood, reads_listing, IsSourceOf}
+use Rattle.sqlite.specs.State.{State, KeepsCommit, IsUnchanged, IsRolledBack, IsNotRun, Shown, ShowsRows, FailsToQuery, FailsToShow, IsTooLate, CommitsShowing, HasCleanDisk, Survives}
 use Rattle.sqlite.specs.Clock.{timed}
-use Rattle.sqlite.proofs.Callers.{IsPlain}
+use Rattle.sqlite.proofs.Callers.{IsPlain, unchanged_then, never_commits}
+use Rattle.sqlite.proofs.StateLemmas.{survives_then}
 use Rattle.sqlite_value.specs.Order.{Row}
+use Rattle.sqlite_trees.specs.Tree.{Trees}
 use Rattle.sqlite_schema.specs.declared.command.Command.{Command}
 use Rattle.sqlite_schema.specs.declared.command.Returning.{Returning}
 use Rattle.store.specs.Tables.{desk_schema}
+use Rattle.store.specs.Queries.{IsAsBefore}
 use Rattle.store.specs.Steps.{IsReady}
 use Rattle.store.proofs.Texts.{Means}
 
@@ -53,3 +58,78 @@ kept_inside sql params old new e (inr late) = unchanged_keeps old new late.5
 
 pub answered_inside : (sql : List ℕ) (command : Command) → Means sql command → (params : Row) (old new : State) (rows : List Row) → IsReady old → Shown sql params old new rows → IsUnchanged old new
 answered_inside sql command means params old new rows ready shown = asked_same sql command means params old new rows (ready.schema (shown_open sql params old new rows shown)) shown
+
+-- ---- a query outside a transaction, which is compiled first
+
+pub shown_plain : (sql : List ℕ) (params : Row) (old mid new : State) (rows : List Row) → IsPlain (understood mid.now.schema sql) → IsUnchanged old mid → Shown sql params mid new rows → Shown sql params old new rows
+unfolding Shown
+shown_plain sql params old mid new rows plain same h =
+    let none = (subst IsPlain h.1.is plain).0 in
+    let full = timed params h.0.formats h.1.now in
+    let it = subst (ShowsRows mid new sql h.0 full rows) none h.2 in
+    let is : mid.now ≡ old.now = same.0.now_is in (
+      h.0,
+      record { is = subst (λ (d : Database). understood d.schema sql ≡ Ok h.0) is h.1.is; whole = h.1.whole; given = h.1.given; now = h.1.now },
+      subst (ShowsRows old new sql h.0 full rows) (sym none) (it.0, subst (λ (d : Database). IsSourceOf (reads_listing d.schema sql) d it.0) is it.1, it.2, unchanged_then old mid new same it.3),
+    )
+
+pub not_run : (sql : List ℕ) (params : Row) (old new : State) (e : Error) → IsNotRun old new sql params e → IsUnchanged old new ⊎ IsRolledBack old new
+unfolding FailsToQuery
+not_run sql params old new e h = failed_to_query sql params old new e (inl h)
+
+-- outside a transaction all that is shown was committed, so that one undone leaves it too
+pub as_before : (old new : State) → (IsTrue old.is_open → old.now ≡ old.committed) → IsUnchanged old new ⊎ IsRolledBack old new → IsTrue new.is_open → IsAsBefore old new
+as_before old new settled (inl same) opened = (same.0.was_open, same.0.now_is, same.0.committed_is)
+as_before old new settled (inr back) opened = let was = back.was_open opened in (was, (back.undone opened).0 ∙ sym (settled was), (back.undone opened).1)
+
+module _ (sql : List ℕ) (params : Row) (old mid new : State) (has : IsTrue old.is_open → old.now.schema ≡ desk_schema) (plain : IsPlain (understood desk_schema sql)) (compiled : IsUnchanged old mid) where
+  plain_then : IsPlain (understood mid.now.schema sql)
+  plain_then = subst (λ s. IsPlain (understood s sql)) (sym (ap (λ (d : Database). d.schema) compiled.0.now_is ∙ has compiled.0.was_open)) plain
+
+  pub asked_shown : (rows : List Row) → Shown sql params mid new rows → Shown sql params old new rows
+  asked_shown rows h = shown_plain sql params old mid new rows plain_then compiled h
+
+  pub asked_unchanged : (rows : List Row) → Shown sql params mid new rows → IsUnchanged old new
+  asked_unchanged rows h = unchanged_then old mid new compiled (shown_same sql params mid new rows plain_then h)
+
+  pub asked_failed : (e : Error) → FailsToQuery sql params mid new e → IsUnchanged old new ⊎ IsRolledBack old new
+  asked_failed e h = elim (failed_to_query sql params mid new e h) [
+    | inl same ↦ inl (unchanged_then old mid new compiled same)
+    | inr back ↦ inr (record {
+      was_open = λ _. compiled.0.was_open;
+      undone = λ opened. let it = back.undone opened in (it.0 ∙ compiled.0.committed_is, it.1 ∙ compiled.0.committed_is);
+      autocommit = back.autocommit;
+      unmarked = back.unmarked;
+      counts = record { changes = back.counts.changes ∙ compiled.1.changes; last_rowid = back.counts.last_rowid ∙ compiled.1.last_rowid };
+    })
+  ]
+
+  pub asked_commits : (db : Trees) → ¬ CommitsShowing sql params mid db
+  asked_commits db = never_commits sql params mid db plain_then
+
+-- the clauses of a query that was compiled, whatever its rows are kept in
+module _ {X : Type 0} (items : X → List Row) (r : Result X Error) (sql text : List ℕ) (params : Row) (old mid new : State) (has : IsTrue old.is_open → old.now.schema ≡ desk_schema)
+    (plain : IsPlain (understood desk_schema sql)) (compiled : (text ≡ sql) × IsUnchanged old mid) where
+  at_sql : (rows : List Row) → Shown text params mid new rows → Shown sql params mid new rows
+  at_sql rows h = subst (λ t. Shown t params mid new rows) compiled.0 h
+
+  pub answer_shown : IfOk r (λ x. Shown text params mid new (items x)) → IfOk r (λ x. Shown sql params old new (items x))
+  answer_shown = IfOk-weaker r _ _ (λ x h. asked_shown sql params old mid new has plain compiled.1 (items x) (at_sql (items x) h))
+
+  pub answer_unchanged : IfOk r (λ x. Shown text params mid new (items x)) → OnOk r (IsUnchanged old new)
+  answer_unchanged = IfOk-weaker r _ _ (λ x h. asked_unchanged sql params old mid new has plain compiled.1 (items x) (at_sql (items x) h))
+
+  pub answer_kept : IfOk r (λ x. Shown text params mid new (items x)) → IfErr r (FailsToQuery text params mid new) → (IsTrue old.is_open → old.now ≡ old.committed) → IsTrue new.is_open → IsAsBefore old new
+  answer_kept = go r
+    where
+      go : (r : Result X Error) → IfOk r (λ x. Shown text params mid new (items x)) → IfErr r (FailsToQuery text params mid new) → (IsTrue old.is_open → old.now ≡ old.committed) → IsTrue new.is_open → IsAsBefore old new
+      go (Ok x) h fails settled = as_before old new settled (inl (asked_unchanged sql params old mid new has plain compiled.1 (items x) (at_sql (items x) h)))
+      go (Err e) h fails settled = as_before old new settled (asked_failed sql params old mid new has plain compiled.1 e (subst (λ t. FailsToQuery t params mid new e) compiled.0 fails))
+
+pub answer_survives : (sql text : List ℕ) (params : Row) (old mid new : State) → (HasCleanDisk old → IsTrue old.is_open → old.now.schema ≡ desk_schema) → IsPlain (understood desk_schema sql) → (HasCleanDisk mid → (text ≡ sql) × IsUnchanged old mid)
+    → Survives old mid (λ _. ⊥) → Survives mid new (CommitsShowing text params mid) → Survives old new (λ _. ⊥)
+answer_survives sql text params old mid new has plain compiled one two =
+    survives_then old mid new (λ _. ⊥) (CommitsShowing text params mid) (λ _. ⊥) (λ _ db none. none) (λ clean db commits.
+    let before : HasCleanDisk mid = omega (arith, two.clean) in
+    let it = compiled before in
+    asked_commits sql params old mid new (has (omega (arith, one.clean))) plain it.1 db (subst (λ t. CommitsShowing t params mid db) it.0 commits)) one two

@@ -8,6 +8,7 @@ use Rattle.sqlite.specs.State.{State, HasCleanDisk, KeepsCommit, Survives}
 use Rattle.sqlite_trees.specs.Tree.{Trees}
 use Rattle.addr.specs.declared.span.Span.{Span}
 use Rattle.policy.specs.declared.authorization.Auth.{Auth}
+use Rattle.policy.specs.CharterSets.{CharterSets}
 use Rattle.policy.specs.History.{same_name}
 use Rattle.policy.specs.declared.change.Edit.{Edit}
 use Rattle.policy.specs.declared.change.Edit.TheVariants.{Register, Hold, Grant, Revoke, Create, Amend, Withdraw}
@@ -19,8 +20,8 @@ use Rattle.store.specs.Steps.{IsReady, Done, Tells, Registers, Turned, registere
 use Rattle.store.proofs.TreeRows.{filter_twice}
 
 -- equal rows of every holder
-pub same_rows : (rows other : List ℕ → Option Rows) (trees : Trees) → ((k : List ℕ) → rows k ≡ other k) → TablesHold rows trees → TablesHold other trees
-same_rows rows other trees same holds = subst (λ r. TablesHold r trees) (λ i k. same k i) holds
+pub same_rows : (charter : CharterSets) (rows other : List ℕ → Option Rows) (trees : Trees) → ((k : List ℕ) → rows k ≡ other k) → TablesHold charter rows trees → TablesHold charter other trees
+same_rows charter rows other trees same holds = subst (λ r. TablesHold charter r trees) (λ i k. same k i) holds
 
 edited_still : (o : Option Rows) (edit : Rows → Rows) (b : Bool) → IsSome o → IsSome (cond b (option_map edit o) o)
 edited_still None edit b some = absurd cc
@@ -34,9 +35,9 @@ module _ (h : List ℕ) where
   in_turn f g o false = refl
 
   pub edits_then : (f g : Rows → Rows) (a b c : Database) → EditsRows h f a b → EditsRows h g b c → EditsRows h (λ r. g (f r)) a c
-  edits_then f g a b c first second rows holds some =
-      same_rows (at_holder h g (at_holder h f rows)) (at_holder h (λ r. g (f r)) rows) c.trees (λ k. in_turn f g (rows k) (same_name h k))
-      (second (at_holder h f rows) (first rows holds some) (edited_still (rows h) f (same_name h h) some))
+  edits_then f g a b c first second charter rows holds some =
+      same_rows charter (at_holder h g (at_holder h f rows)) (at_holder h (λ r. g (f r)) rows) c.trees (λ k. in_turn f g (rows k) (same_name h k))
+      (second charter (at_holder h f rows) (first charter rows holds some) (edited_still (rows h) f (same_name h h) some))
 
   none_edited : (f : Rows → Rows) → ((r : Rows) → f r ≡ r) → (o : Option Rows) (b : Bool) → o ≡ cond b (option_map f o) o
   none_edited f same None true = refl
@@ -44,7 +45,7 @@ module _ (h : List ℕ) where
   none_edited f same o false = refl
 
   pub edits_none : (f : Rows → Rows) (a : Database) → ((r : Rows) → f r ≡ r) → EditsRows h f a a
-  edits_none f a same rows holds some = same_rows rows (at_holder h f rows) a.trees (λ k. none_edited f same (rows k) (same_name h k)) holds
+  edits_none f a same charter rows holds some = same_rows charter rows (at_holder h f rows) a.trees (λ k. none_edited f same (rows k) (same_name h k)) holds
 
   pub edits_as : (f g : Rows → Rows) (a b : Database) → ((r : Rows) → f r ≡ g r) → EditsRows h f a b → EditsRows h g a b
   edits_as f g a b same = subst (λ e. EditsRows h e a b) (λ i r. same r i)
@@ -130,10 +131,10 @@ module _ (h : List ℕ) (edit : Edit) where
   turned_registered told a b c tells is done = record {
     was_open = tells.was_open;
     ready = done.ready;
-    rows = λ rows was.
-        let some : IsSome (rows h) = sym (tells.answer rows was) ∙ is in
-        same_rows (at_holder h (edited edit) rows) (edited_at rows) c.now.trees (at_name (option_map (edited edit)) rows (some_edited (rows h) some))
-        (done.rows rows (subst (λ (d : Database). TablesHold rows d.trees) (sym tells.same) was) some);
+    rows = λ charter rows was.
+        let some : IsSome (rows h) = sym (tells.answer charter rows was) ∙ is in
+        same_rows charter (at_holder h (edited edit) rows) (edited_at rows) c.now.trees (at_name (option_map (edited edit)) rows (some_edited (rows h) some))
+        (done.rows charter rows (subst (λ (d : Database). TablesHold charter rows d.trees) (sym tells.same) was) some);
   }
 
   none_there : (o : Option Rows) → is_some o ≡ false → o ≡ None
@@ -162,20 +163,20 @@ module _ (h : List ℕ) (edit : Edit) where
   turned_new told a b c tells is registers done = record {
     was_open = tells.was_open;
     ready = done.ready;
-    rows = λ rows was.
-        let none = none_there (rows h) (sym (tells.answer rows was) ∙ is) in
-        same_rows (registered h rows) (edited_at rows) c.now.trees (at_name (λ _. Some new_rows) rows (registering edit registers ∙ ap (edited_if_any edit) (sym none)))
-        (done.rows rows (subst (λ (d : Database). TablesHold rows d.trees) (sym tells.same) was) none);
+    rows = λ charter rows was.
+        let none = none_there (rows h) (sym (tells.answer charter rows was) ∙ is) in
+        same_rows charter (registered h rows) (edited_at rows) c.now.trees (at_name (λ _. Some new_rows) rows (registering edit registers ∙ ap (edited_if_any edit) (sym none)))
+        (done.rows charter rows (subst (λ (d : Database). TablesHold charter rows d.trees) (sym tells.same) was) none);
   }
 
   pub turned_none : (told : Bool) (a b : State) → Tells h told a b → told ≡ false → is_registration edit ≡ false → Turned edited_at a b
   turned_none told a b tells is leaves = record {
     was_open = tells.was_open;
     ready = tells.ready;
-    rows = λ rows was.
-        let none = none_there (rows h) (sym (tells.answer rows was) ∙ is) in
-        same_rows rows (edited_at rows) b.now.trees (λ k. kept (same_name h k) (rows k) ∙ at_name (λ o. o) rows (none ∙ leaving edit leaves ∙ ap (edited_if_any edit) (sym none)) k)
-        (subst (λ (d : Database). TablesHold rows d.trees) (sym tells.same) was);
+    rows = λ charter rows was.
+        let none = none_there (rows h) (sym (tells.answer charter rows was) ∙ is) in
+        same_rows charter rows (edited_at rows) b.now.trees (λ k. kept (same_name h k) (rows k) ∙ at_name (λ o. o) rows (none ∙ leaving edit leaves ∙ ap (edited_if_any edit) (sym none)) k)
+        (subst (λ (d : Database). TablesHold charter rows d.trees) (sym tells.same) was);
   }
     where
       kept : (b : Bool) (o : Option Rows) → o ≡ cond b o o
@@ -183,4 +184,4 @@ module _ (h : List ℕ) (edit : Edit) where
       kept false o = refl
 
 pub turned_then : (f g : (List ℕ → Option Rows) → List ℕ → Option Rows) (a b c : State) → Turned f a b → Turned g b c → Turned (λ rows. g (f rows)) a c
-turned_then f g a b c first second = record { was_open = first.was_open; ready = second.ready; rows = λ rows was. second.rows (f rows) (first.rows rows was) }
+turned_then f g a b c first second = record { was_open = first.was_open; ready = second.ready; rows = λ charter rows was. second.rows charter (f rows) (first.rows charter rows was) }

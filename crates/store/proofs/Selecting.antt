@@ -1,15 +1,17 @@
 -- What a query over one table answers, whatever the table.
-use Rattle.std.proofs.Common.{◌≡◌, ℕ, pos, negsuc, ◌^◌, ◌-◌, Bool, true, false, cond, List, [], ◌∷◌, ◌++◌, map, filter, flat_map, length, take, slice_get, None, nat_le, unwrap_or, refl, ap, subst, ◌∙◌, IsPermutation}
-use Rattle.std.specs.List.{list_all}
+use lib.ListN.{get_or-map}
+use Rattle.std.proofs.Common.{◌≡◌, ℕ, pos, negsuc, ◌^◌, ◌-◌, ◌+◌, ◌<◌, Bool, true, false, cond, List, [], ◌∷◌, ◌++◌, map, filter, flat_map, length, take, slice_get, None, nat_le, unwrap_or, get_or, refl, sym, ap, ap₂, subst, ◌∙◌, IsPermutation, IsSorted, Ordering, arith}
+use Rattle.std.specs.List.{list_all, AllByRecursion}
+use Rattle.std.specs.Ordering.{is_lt}
 use Rattle.std.proofs.lemmas.List.{length-map}
 use Rattle.std.proofs.lemmas.List.Sorted.{IsPermutation-map, length_permutation}
 use Rattle.sqlite_value.specs.declared.value.Value.TheVariants.{Int}
 use Rattle.sqlite_value.specs.declared.keys.Key.{Key}
-use Rattle.sqlite_value.specs.Order.{Row}
+use Rattle.sqlite_value.specs.Order.{Row, column}
 use Rattle.sqlite_trees.specs.Tree.{Trees}
-use Rattle.sqlite_trees.proofs.ListLemmas.{map-map}
+use Rattle.sqlite_trees.proofs.ListLemmas.{map-map, all_of, all-map, all-permutation, all-get_or}
 use Rattle.sqlite_sql.specs.Term.{Term, lit, eval_all, holds}
-use Rattle.sqlite_sql.specs.Query.{Query, inner, end, IsAnswer, Output, output}
+use Rattle.sqlite_sql.specs.Query.{Query, inner, end, IsAnswer, Output, output, output_cmp, key_cmp}
 use Rattle.sqlite_sql.specs.Program.{overlay}
 
 -- SELECT shown FROM one table WHERE tests ORDER BY order, with a LIMIT, where -1 is none
@@ -75,3 +77,25 @@ pub first_shown : (tree : ℕ) (tests shown : List Term) (db : Trees) (params : 
 first_shown tree tests shown db params rows a =
     let all = shown_rows tree tests shown [] (lit (Int (pos 1))) db params rows a in
     (map (λ (o : Output). o.1) a.ordered, length_permutation _ _ all ∙ length-map _ _, a.shown)
+
+-- the rows of a query with no LIMIT are sorted by what ORDER BY names, where the query shows that
+module _ (tree : ℕ) (tests shown : List Term) (order : List (Term × Key)) (db : Trees) (params : Row) (rows : List Row) (places : List ℕ) (cmp : Row → Row → Ordering)
+    (keys : (r : Row) → eval_all (map (λ (k : Term × Key). k.0) order) (params ∷ r ∷ []) ≡ map (column (eval_all shown (params ∷ r ∷ []))) places)
+    (by : (x y : Row) → key_cmp 0 (map (λ (k : Term × Key). k.1) order) (map (column x) places) (map (column y) places) ≡ cmp x y) where
+  abbrev IsKeyed : Output → Type 0
+  IsKeyed o = o.0 ≡ map (column o.1) places
+
+  sorted_outputs : (all : List Output) → AllByRecursion IsKeyed all → IsSorted (output_cmp (from_table tree tests shown order no_limit)) all → IsSorted cmp (map (λ (o : Output). o.1) all)
+  sorted_outputs all keyed up k d low high =
+      let first : Output = (map (column d) places, d) in
+      let next : k + 1 < length all = omega (arith, high, length-map all (λ (o : Output). o.1)) in
+      let x = get_or all (k + 1) first in
+      let y = get_or all k first in
+      let same = ap₂ (key_cmp 0 (map (λ (k : Term × Key). k.1) order)) (all-get_or IsKeyed all (k + 1) first keyed next) (all-get_or IsKeyed all k first keyed (omega arith)) ∙ by x.1 y.1 in
+      let shows = ap₂ cmp (get_or-map (λ (o : Output). o.1) all (k + 1) first) (get_or-map (λ (o : Output). o.1) all k first) in
+      ap is_lt (shows ∙ sym same) ∙ up k first low next
+
+  pub sorted : IsAnswer (from_table tree tests shown order no_limit) (overlay db []) params rows → IsSorted cmp rows
+  sorted a =
+      let keyed = all-permutation IsKeyed _ _ (outputs tree tests shown order no_limit db params rows a) (all-map IsKeyed (λ r. output (from_table tree tests shown order no_limit) (params ∷ r ∷ [])) _ (all_of (λ r. IsKeyed (output (from_table tree tests shown order no_limit) (params ∷ r ∷ []))) keys _)) in
+      subst (IsSorted cmp) (sym a.shown) (sorted_outputs a.ordered keyed a.sorted)

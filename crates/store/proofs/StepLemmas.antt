@@ -1,5 +1,5 @@
 -- What a statement means within a transaction, and what its edit of one table does to the rows of a holder.
-use Rattle.std.proofs.Common.{◌≡◌, ◌≢◌, ℕ, Bool, true, false, ◌==◌, suc, List, [], ◌∷◌, drop, None, Some, Ok, Option, ℤ, refl, sym, ap, subst, is_eq}
+use Rattle.std.proofs.Common.{◌≡◌, ◌≢◌, ℕ, Bool, true, false, ◌==◌, suc, List, [], ◌∷◌, map, drop, IsPermutation, None, Some, Ok, Option, ℤ, refl, sym, ap, subst, is_eq}
 use Rattle.std.proofs.lemmas.Bool.{eqb-true, eq-eqb, both_ways}
 use Rattle.sqlite.specs.Effect.{Database}
 use Rattle.sqlite.specs.Listing.{understood}
@@ -14,10 +14,12 @@ use Rattle.sqlite_schema.specs.declared.command.Command.{Command}
 use Rattle.sqlite_sql.specs.declared.ops.CompareOp.TheVariants.{Eq}
 use Rattle.sqlite_sql.specs.declared.ops.BinaryOp.TheVariants.{Compare}
 use Rattle.sqlite_sql.specs.Ops.{binary, is_true, from_truth}
+use Rattle.policy.specs.CharterSets.{CharterSets}
 use Rattle.policy.specs.Rows.{Rows}
 use Rattle.store.specs.Tables.{desk_schema}
+use Rattle.store.specs.Cells.{schema_row, operator_row, prefix_cells}
 use Rattle.store.specs.Edits.{contents, is_table, IsTree, AreTrees, Edits}
-use Rattle.store.specs.TablesHold.{Part, rows_if_any, holder_part, holding_part, granted_part, auth_part, HoldsPart, at_holder, EditsRows}
+use Rattle.store.specs.TablesHold.{Part, rows_if_any, holder_part, holding_part, granted_part, auth_part, HoldsPart, HoldsCharter, at_holder, EditsRows}
 use Rattle.store.specs.Steps.{IsReady, Done}
 use Rattle.store.proofs.PartLemmas.{IsLocal, EditsPart, turned_at, part_same, part_edited, part_kept}
 use Rattle.store.proofs.Texts.{Means}
@@ -72,6 +74,14 @@ sound_still tree by old new e sound t is = go (t == tree) refl
     go true same = let it : t ≡ tree = eqb-true _ _ same in subst (λ k. IsTree (new.trees k)) (sym it) (e.whole (subst (λ k. IsTree (old.trees k)) it (sound t is)))
     go false other = subst IsTree (sym (e.others t is (λ it. both_ways _ other (rw it (eqb_itself tree))))) (sound t is)
 
+-- the charter stays where another table is edited
+pub charter_still : (charter : CharterSets) (tree : ℕ) (by : List Row → List Row) (old new : Database) → Edits tree by old new → 0 ≢ tree → 2 ≢ tree → 4 ≢ tree → HoldsCharter charter old.trees → HoldsCharter charter new.trees
+charter_still charter tree by old new e meta operator pool was = record {
+  schema = subst (λ t. IsPermutation (schema_row ∷ []) (contents t)) (sym (e.others 0 refl meta)) was.schema;
+  operators = subst (λ t. IsPermutation (map operator_row charter.operators) (contents t)) (sym (e.others 2 refl operator)) was.operators;
+  pool = subst (λ t. IsPermutation (map prefix_cells charter.pool) (contents t)) (sym (e.others 4 refl pool)) was.pool;
+}
+
 -- the rows of a holder in a table that is not edited
 pub turned_still : (part : Part) (rows : List ℕ → Option Rows) (h : List ℕ) (to : Option Rows → Option Rows) (tree : ℕ) (by : List Row → List Row) (old new : Database)
     → Edits tree by old new → is_table part.tree ≡ true → part.tree ≢ tree → HoldsPart part rows (contents (old.trees part.tree)) → rows_if_any part h (rows h) ≡ rows_if_any part h (to (rows h))
@@ -91,7 +101,8 @@ Leaves part h edit = (r : Rows) → part.rows h (edit r) ≡ part.rows h r
 
 module _ (h : List ℕ) (edit : Rows → Rows) (by : List Row → List Row) (old new : Database) where
   pub edits_holder : Edits holder_part.tree by old new → IsLocal 0 h by → EditsPart holder_part h edit by → Leaves holding_part h edit → Leaves granted_part h edit → Leaves auth_part h edit → EditsRows h edit old new
-  edits_holder e local to holdings grants auths rows was some = record {
+  edits_holder e local to holdings grants auths charter rows was some = record {
+    charter_kept = charter_still charter holder_part.tree by old new e (λ same. cc) (λ same. cc) (λ same. cc) was.charter_kept;
     holders = part_edited holder_part rows h edit by _ _ was.holders local e.rows to some;
     holdings = stays holding_part rows h edit holder_part.tree by old new e refl (λ same. cc) was.holdings holdings;
     grants = stays granted_part rows h edit holder_part.tree by old new e refl (λ same. cc) was.grants grants;
@@ -100,7 +111,8 @@ module _ (h : List ℕ) (edit : Rows → Rows) (by : List Row → List Row) (old
   }
 
   pub edits_holdings : Edits holding_part.tree by old new → IsLocal 3 h by → EditsPart holding_part h edit by → Leaves holder_part h edit → Leaves granted_part h edit → Leaves auth_part h edit → EditsRows h edit old new
-  edits_holdings e local to holders grants auths rows was some = record {
+  edits_holdings e local to holders grants auths charter rows was some = record {
+    charter_kept = charter_still charter holding_part.tree by old new e (λ same. cc) (λ same. cc) (λ same. cc) was.charter_kept;
     holders = stays holder_part rows h edit holding_part.tree by old new e refl (λ same. cc) was.holders holders;
     holdings = part_edited holding_part rows h edit by _ _ was.holdings local e.rows to some;
     grants = stays granted_part rows h edit holding_part.tree by old new e refl (λ same. cc) was.grants grants;
@@ -109,7 +121,8 @@ module _ (h : List ℕ) (edit : Rows → Rows) (by : List Row → List Row) (old
   }
 
   pub edits_grants : Edits granted_part.tree by old new → IsLocal 0 h by → EditsPart granted_part h edit by → Leaves holder_part h edit → Leaves holding_part h edit → Leaves auth_part h edit → EditsRows h edit old new
-  edits_grants e local to holders holdings auths rows was some = record {
+  edits_grants e local to holders holdings auths charter rows was some = record {
+    charter_kept = charter_still charter granted_part.tree by old new e (λ same. cc) (λ same. cc) (λ same. cc) was.charter_kept;
     holders = stays holder_part rows h edit granted_part.tree by old new e refl (λ same. cc) was.holders holders;
     holdings = stays holding_part rows h edit granted_part.tree by old new e refl (λ same. cc) was.holdings holdings;
     grants = part_edited granted_part rows h edit by _ _ was.grants local e.rows to some;
@@ -118,7 +131,8 @@ module _ (h : List ℕ) (edit : Rows → Rows) (by : List Row → List Row) (old
   }
 
   pub edits_auths : Edits auth_part.tree by old new → IsLocal 0 h by → EditsPart auth_part h edit by → Leaves holder_part h edit → Leaves holding_part h edit → Leaves granted_part h edit → EditsRows h edit old new
-  edits_auths e local to holders holdings grants rows was some = record {
+  edits_auths e local to holders holdings grants charter rows was some = record {
+    charter_kept = charter_still charter auth_part.tree by old new e (λ same. cc) (λ same. cc) (λ same. cc) was.charter_kept;
     holders = stays holder_part rows h edit auth_part.tree by old new e refl (λ same. cc) was.holders holders;
     holdings = stays holding_part rows h edit auth_part.tree by old new e refl (λ same. cc) was.holdings holdings;
     grants = stays granted_part rows h edit auth_part.tree by old new e refl (λ same. cc) was.grants grants;

@@ -1,61 +1,92 @@
 -- What a change that was tried leaves of a store.
-use Rattle.std.proofs.Common.{◌≡◌, inl, inr, ℕ, List, Option, Result, Ok, Err, OnOk, OnErr, IsTrue, true, false, arith, sym, ap, subst, ◌∙◌}
+use Rattle.std.proofs.Common.{◌≡◌, inl, inr, ℕ, List, Option, Result, Ok, Err, OnOk, OnErr, IfOk, IsTrue, true, false, arith, refl, sym, ap, subst, ◌∙◌}
 use Rattle.sqlite.specs.Effect.{Database}
 use Rattle.sqlite.specs.Held.{Held, state}
-use Rattle.sqlite.specs.State.{State, HasCleanDisk, Survives, Shows}
+use Rattle.sqlite.specs.State.{State, HasCleanDisk, IsUnchanged, Survives, Shows}
 use Rattle.sqlite.proofs.Callers.{survives_begin}
 use Rattle.sqlite.proofs.StateLemmas.{survives_then}
 use Rattle.sqlite.specs.Store.{Ghosts}
 use Rattle.sqlite_trees.specs.Tree.{Trees}
+use Rattle.policy.specs.CharterSets.{CharterSets}
 use Rattle.policy.specs.Rows.{Rows}
-use Rattle.store.specs.StoreRows.{IsKept, Holds, MayLeave, LeavesOnly}
+use Rattle.store.specs.Queries.{IsAsBefore}
+use Rattle.store.specs.Loads.{IsOfAll}
+use Rattle.store.specs.StoreRows.{StoreView, IsKept, Holds, IsRead, MayLeave, LeavesOnly}
 use Rattle.store.specs.Steps.{IsMade, CommitsTo, Turned, Turns}
 use Rattle.store.specs.TablesHold.{TablesHold}
 
 abbrev pub Change : Type 0
 Change = (List ℕ → Option Rows) → List ℕ → Option Rows
 
--- nothing was committed, and what is shown is as it was
-abbrev pub IsAsBefore : State → State → Type 0
-IsAsBefore old new = IsTrue old.is_open × (new.now ≡ old.now) × (new.committed ≡ old.committed)
+pub kept_still : (old new : State) → (HasCleanDisk new → HasCleanDisk old) → (HasCleanDisk new → IsTrue new.is_open → IsAsBefore old new) → IsKept old → IsKept new
+kept_still old new before same kept clean opened =
+    let as_before = same clean opened in
+    let was = kept (before clean) as_before.0 in
+    record { schema = ap (λ (d : Database). d.schema) as_before.1 ∙ was.schema; settled = as_before.2 ∙ was.settled ∙ sym as_before.1 }
 
 pub kept_after : {X E : Type 0} (r : Result X E) (to : Change) (old new : State) → (HasCleanDisk new → HasCleanDisk old) → (HasCleanDisk new → OnOk r (IsMade to old new))
     → (HasCleanDisk new → IsTrue new.is_open → OnErr r (IsAsBefore old new)) → IsKept old → IsKept new
 kept_after (Ok a) to old new before ok err kept clean opened = let made = ok clean in record { schema = made.schema; settled = made.committed }
-kept_after (Err e) to old new before ok err kept clean opened =
-    let same = err clean opened in
-    let was = kept (before clean) same.0 in
-    record { schema = ap (λ (d : Database). d.schema) same.1 ∙ was.schema; settled = same.2 ∙ was.settled ∙ sym same.1 }
+kept_after (Err e) to old new before ok err kept clean opened = kept_still old new before err kept clean opened
 
-module _ {S X E : Type 0} (g : Ghosts S) (r : Result X E) (to : Change) (old new : Held S) (clean : HasCleanDisk (state g new)) (before : HasCleanDisk (state g new) → HasCleanDisk (state g old)) where
-  pub holds_ok : OnOk r (IsMade to (state g old) (state g new)) → OnOk r ((rows : List ℕ → Option Rows) → Holds g old rows → Holds g new (to rows))
+-- the store over a connection
+abbrev pub over : {S : Type 0} → CharterSets → Held S → StoreView S
+over charter connection = record { connection = connection; charter = charter }
+
+module _ {S X E : Type 0} (g : Ghosts S) (r : Result X E) (to : Change) (charter : CharterSets) (old new : Held S) (clean : HasCleanDisk (state g new)) (before : HasCleanDisk (state g new) → HasCleanDisk (state g old)) where
+  pub holds_ok : OnOk r (IsMade to (state g old) (state g new)) → OnOk r ((rows : List ℕ → Option Rows) → Holds g (over charter old) rows → Holds g (over charter new) (to rows))
   holds_ok = go r
     where
-      go : (r : Result X E) → OnOk r (IsMade to (state g old) (state g new)) → OnOk r ((rows : List ℕ → Option Rows) → Holds g old rows → Holds g new (to rows))
-      go (Ok a) made = λ rows holds _ opened. made.rows rows (holds (before clean) made.was_open)
+      go : (r : Result X E) → OnOk r (IsMade to (state g old) (state g new)) → OnOk r ((rows : List ℕ → Option Rows) → Holds g (over charter old) rows → Holds g (over charter new) (to rows))
+      go (Ok a) made = λ rows holds _ opened. made.rows charter rows (holds (before clean) made.was_open)
       go (Err e) made = tt
 
-  pub holds_err : (IsTrue (state g new).is_open → OnErr r (IsAsBefore (state g old) (state g new))) → OnErr r ((rows : List ℕ → Option Rows) → Holds g old rows → Holds g new rows)
+  pub holds_err : (IsTrue (state g new).is_open → OnErr r (IsAsBefore (state g old) (state g new))) → OnErr r ((rows : List ℕ → Option Rows) → Holds g (over charter old) rows → Holds g (over charter new) rows)
   holds_err = go r
     where
-      go : (r : Result X E) → (IsTrue (state g new).is_open → OnErr r (IsAsBefore (state g old) (state g new))) → OnErr r ((rows : List ℕ → Option Rows) → Holds g old rows → Holds g new rows)
+      go : (r : Result X E) → (IsTrue (state g new).is_open → OnErr r (IsAsBefore (state g old) (state g new))) → OnErr r ((rows : List ℕ → Option Rows) → Holds g (over charter old) rows → Holds g (over charter new) rows)
       go (Ok a) same = tt
-      go (Err e) same = λ rows holds _ opened. let was = same opened in subst (λ (d : Database). TablesHold rows d.trees) (sym was.1) (holds (before clean) was.0)
+      go (Err e) same = λ rows holds _ opened. let was = same opened in subst (λ (d : Database). TablesHold charter rows d.trees) (sym was.1) (holds (before clean) was.0)
 
-  pub may_leave : Survives (state g old) (state g new) (CommitsTo to (state g old)) → MayLeave g old new to
+  pub may_leave : Survives (state g old) (state g new) (CommitsTo to (state g old)) → MayLeave g (over charter old) (over charter new) to
   may_leave survives trees left = elim (survives.crash clean trees left) [
     | inl was ↦ inl was
-    | inr now ↦ inr (λ rows holds. subst (TablesHold (to rows)) (sym now.3) (now.2 rows (holds (before clean) now.1)))
+    | inr now ↦ inr (λ rows holds. subst (TablesHold charter (to rows)) (sym now.3) (now.2 charter rows (holds (before clean) now.1)))
   ]
 
   -- an open store leaves what it committed
-  pub leaves_only : ((trees : Trees) → IsTrue (state g new).is_open → (state g new).may_leave trees → trees ≡ (state g new).committed.trees) → OnOk r (IsMade to (state g old) (state g new)) → OnOk r (LeavesOnly g old new to)
+  pub leaves_only : ((trees : Trees) → IsTrue (state g new).is_open → (state g new).may_leave trees → trees ≡ (state g new).committed.trees) → OnOk r (IsMade to (state g old) (state g new)) → OnOk r (LeavesOnly g (over charter old) (over charter new) to)
   leaves_only settled = go r
     where
-      go : (r : Result X E) → OnOk r (IsMade to (state g old) (state g new)) → OnOk r (LeavesOnly g old new to)
+      go : (r : Result X E) → OnOk r (IsMade to (state g old) (state g new)) → OnOk r (LeavesOnly g (over charter old) (over charter new) to)
       go (Ok a) made = λ rows holds trees left.
-          subst (TablesHold (to rows)) (sym (settled trees made.is_open left ∙ ap (λ (d : Database). d.trees) made.committed)) (made.rows rows (holds (before clean) made.was_open))
+          subst (TablesHold charter (to rows)) (sym (settled trees made.is_open left ∙ ap (λ (d : Database). d.trees) made.committed)) (made.rows charter rows (holds (before clean) made.was_open))
       go (Err e) made = tt
+
+-- ---- a read
+
+pub is_read : {S : Type 0} (g : Ghosts S) (charter : CharterSets) (old new : Held S) → (HasCleanDisk (state g new) → HasCleanDisk (state g old))
+    → (HasCleanDisk (state g new) → IsTrue (state g new).is_open → IsAsBefore (state g old) (state g new)) → Survives (state g old) (state g new) (λ _. ⊥) → IsRead g (over charter old) (over charter new)
+is_read g charter old new before same survives = record {
+  clean = before;
+  charter = refl;
+  rows = λ clean rows holds _ opened. let was = same clean opened in subst (λ (d : Database). TablesHold charter rows d.trees) (sym was.1) (holds (before clean) was.0);
+  crash = λ clean trees left. elim (survives.crash clean trees left) [ inl was ↦ was | inr none ↦ absurd none ];
+}
+
+pub read_then : {S : Type 0} (g : Ghosts S) (a b c : StoreView S) → IsRead g a b → IsRead g b c → IsRead g a c
+read_then g a b c first second = record {
+  clean = λ clean. first.clean (second.clean clean);
+  charter = second.charter ∙ first.charter;
+  rows = λ clean rows holds. second.rows clean rows (first.rows (second.clean clean) rows holds);
+  crash = λ clean trees left. first.crash (second.clean clean) trees (second.crash clean trees left);
+}
+
+-- what was found in the tables is found of the rows that the store holds
+pub of_store : {S X E : Type 0} (g : Ghosts S) (charter : CharterSets) (old new : Held S) (r : Result X E) (so : X → (List ℕ → Option Rows) → Type 0) → HasCleanDisk (state g old) → OnOk r (IsUnchanged (state g old) (state g new))
+    → IfOk r (λ x. IsOfAll (so x) (state g old)) → IfOk r (λ x. (rows : List ℕ → Option Rows) → Holds g (over charter old) rows → so x rows)
+of_store g charter old new (Ok x) so clean same found = λ rows holds. found charter rows (holds clean same.0.was_open)
+of_store g charter old new (Err e) so clean same found = tt
 
 -- ---- a change within a transaction, and its commit
 
@@ -70,7 +101,7 @@ module _ {S : Type 0} (g : Ghosts S) (to : Change) (first begun mid last : Held 
         was_open = it.0;
         is_open = shown.is_open;
         schema = ap (λ (d : Database). d.schema) shown.now_is ∙ turned.ready.schema shown.was_open;
-        rows = λ rows was. subst (λ (d : Database). TablesHold (to rows) d.trees) (sym shown.now_is) (it.1 rows was);
+        rows = λ charter rows was. subst (λ (d : Database). TablesHold charter (to rows) d.trees) (sym shown.now_is) (it.1 charter rows was);
         committed = shown.committed_is ∙ sym shown.now_is;
       }
 

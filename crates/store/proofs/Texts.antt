@@ -2,7 +2,7 @@
 use Rattle.std.proofs.Common.{◌≡◌, ℕ, zero, suc, pos, List, [], ◌∷◌, codes, false, refl}
 use Rattle.sqlite_value.specs.declared.keys.Collation.TheVariants.{Binary}
 use Rattle.sqlite_value.specs.declared.keys.Key.{Key}
-use Rattle.sqlite_value.specs.declared.value.Value.TheVariants.{Null, Int}
+use Rattle.sqlite_value.specs.declared.value.Value.TheVariants.{Null, Int, Text}
 use Rattle.sqlite_schema.specs.declared.command.Source.TheVariants.{Values}
 use Rattle.sqlite_schema.specs.declared.command.Command.{Command}
 use Rattle.sqlite_schema.specs.declared.command.Command.TheVariants.{Insert, Update, Delete, Select}
@@ -36,6 +36,27 @@ put_terms n = lit Null ∷ from n 0
     from : ℕ → ℕ → List Term
     from zero at = []
     from (suc n) at = col 0 at ∷ from n (suc at)
+
+abbrev pub put_schema_text : List ℕ
+put_schema_text = codes "INSERT INTO meta (name, value) VALUES ('schema', 1)"
+
+pub put_schema_is : Means put_schema_text (Insert 0 (Values (lit Null ∷ lit (Text (codes "schema")) ∷ lit (Int (pos 1)) ∷ []) 3))
+unfolding understood everything
+put_schema_is = record { is = refl; plain = (refl, refl); unlisted = refl }
+
+abbrev pub put_operator_text : List ℕ
+put_operator_text = codes "INSERT INTO operator (name) VALUES (?1)"
+
+pub put_operator_is : Means put_operator_text (Insert 1 (Values (put_terms 1) 2))
+unfolding understood everything
+put_operator_is = record { is = refl; plain = (refl, refl); unlisted = refl }
+
+abbrev pub put_prefix_text : List ℕ
+put_prefix_text = codes "INSERT INTO pool (family, lo, len) VALUES (?1, ?2, ?3)"
+
+pub put_prefix_is : Means put_prefix_text (Insert 2 (Values (put_terms 3) 4))
+unfolding understood everything
+put_prefix_is = record { is = refl; plain = (refl, refl); unlisted = refl }
 
 abbrev pub put_holder_text : List ℕ
 put_holder_text = codes "INSERT INTO holder (name, grants, auths) VALUES (?1, 0, 0)"

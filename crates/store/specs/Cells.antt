@@ -1,5 +1,5 @@
 -- How the rows of a holder are written as rows of the tables, without their rowids.
-use Rattle.std.specs.Prelude.{ℕ, pos, List, [], ◌∷◌, ◌++◌}
+use Rattle.std.specs.Prelude.{ℕ, pos, List, [], ◌∷◌, ◌++◌, codes}
 use Rattle.std.specs.Int.{w128, to_be_bytes}
 use Rattle.sqlite_value.specs.declared.value.Value.{Value}
 use Rattle.sqlite_value.specs.declared.value.Value.TheVariants.{Null, Int, Text, Blob}
@@ -8,6 +8,7 @@ use Rattle.addr.specs.declared.family.Family.{Family}
 use Rattle.addr.specs.declared.family.Family.TheVariants.{V4, V6}
 use Rattle.addr.specs.declared.prefix.Prefix.{Prefix}
 use Rattle.addr.specs.declared.span.Span.{Span}
+use Rattle.addr.specs.declared.vrp.Vrp.{Vrp}
 use Rattle.policy.specs.declared.authorization.Auth.{Auth}
 use Rattle.policy.specs.declared.grant.Granted.{Granted}
 use Rattle.policy.specs.declared.grant.Role.{Role}
@@ -59,6 +60,16 @@ abbrev pub auth_cells : Auth → Row
 auth_cells x =
     number_cell x.number ∷ number_cell x.asn.0 ∷ prefix_cells x.prefix
     ++ number_cell x.max ∷ number_cell x.from ∷ number_cell x.until ∷ []
+
+-- the one row of the table `meta`, which tells the schema, and a row of the table `operator`
+abbrev pub schema_row : Row
+schema_row = Text (codes "schema") ∷ number_cell 1 ∷ []
+
+abbrev pub operator_row : List ℕ → Row
+operator_row name = Text name ∷ []
+
+abbrev pub vrp_cells : Vrp → Row
+vrp_cells v = number_cell v.asn.0 ∷ prefix_cells v.prefix ++ number_cell v.max ∷ []
 
 -- the rows of the tables `holder`, `holding`, `granted` and `auth`, with the holder's name
 abbrev pub holder_row : List ℕ → ℕ → ℕ → Row

@@ -3,6 +3,7 @@ use Rattle.std.specs.Prelude.{◌≡◌, ℕ, Bool, true, List, IsTrue, Option, 
 use Rattle.sqlite.specs.Effect.{Database}
 use Rattle.sqlite.specs.State.{State}
 use Rattle.sqlite_trees.specs.Tree.{Trees}
+use Rattle.policy.specs.CharterSets.{CharterSets}
 use Rattle.policy.specs.History.{same_name}
 use Rattle.policy.specs.Rows.{Rows, new_rows}
 use Rattle.store.specs.Tables.{desk_schema}
@@ -20,7 +21,8 @@ pub record Done (h : List ℕ) (edit : Rows → Rows) (old new : State) : Type 0
 
 -- the rows of every holder after a statement, from those before it
 abbrev pub Turns : ((List ℕ → Option Rows) → List ℕ → Option Rows) → Database → Database → Type 0
-Turns to old new = (rows : List ℕ → Option Rows) → TablesHold rows old.trees → TablesHold (to rows) new.trees
+Turns to old new =
+    (charter : CharterSets) (rows : List ℕ → Option Rows) → TablesHold charter rows old.trees → TablesHold charter (to rows) new.trees
 
 -- the transaction goes on, and the rows of every holder are turned so
 pub record Turned (to : (List ℕ → Option Rows) → List ℕ → Option Rows) (old new : State) : Type 0 where
@@ -33,7 +35,7 @@ pub record Tells (h : List ℕ) (told : Bool) (old new : State) : Type 0 where
   pub was_open : IsTrue old.is_open
   pub ready : IsReady new
   pub same : new.now ≡ old.now
-  pub answer : (rows : List ℕ → Option Rows) → TablesHold rows old.now.trees → told ≡ is_some (rows h)
+  pub answer : (charter : CharterSets) (rows : List ℕ → Option Rows) → TablesHold charter rows old.now.trees → told ≡ is_some (rows h)
 
 -- the rows where a holder is registered
 abbrev pub registered : List ℕ → (List ℕ → Option Rows) → List ℕ → Option Rows
@@ -42,7 +44,9 @@ registered h rows k = if same_name h k then Some new_rows else rows k
 -- the transaction goes on, and the holder is registered, if it was not
 pub record Registers (h : List ℕ) (old new : State) : Type 0 where
   pub ready : IsReady new
-  pub rows : (rows : List ℕ → Option Rows) → TablesHold rows old.now.trees → rows h ≡ None → TablesHold (registered h rows) new.now.trees
+  pub rows :
+      (charter : CharterSets) (rows : List ℕ → Option Rows) → TablesHold charter rows old.now.trees → rows h ≡ None
+      → TablesHold charter (registered h rows) new.now.trees
 
 -- the rows of every holder are turned so, and committed
 pub record IsMade (to : (List ℕ → Option Rows) → List ℕ → Option Rows) (old new : State) : Type 0 where

@@ -1,12 +1,28 @@
--- What a store holds, as it is and after a crash.
-use Rattle.std.specs.Prelude.{◌≡◌, ℕ, List, Option, IsTrue, ◌⊎◌}
-use Rattle.sqlite.specs.Held.{Held, state}
+-- What a store shows and holds, as it is and after a crash.
+use Rattle.std.specs.Prelude.{◌≡◌, ℕ, List, Option, IsTrue, ◌⊎◌, refl}
+use Rattle.std.specs.Coded.{Coded, code_by, coded×}
+use Rattle.sqlite.specs.Held.{Held, held_code, state}
 use Rattle.sqlite.specs.State.{State, HasCleanDisk}
 use Rattle.sqlite.specs.Store.{Ghosts}
 use Rattle.sqlite_trees.specs.Tree.{Trees}
+use Rattle.policy.specs.contracts.charter.Charter as charter
+use Rattle.policy.specs.CharterSets.{CharterSets}
 use Rattle.policy.specs.Rows.{Rows}
 use Rattle.store.specs.Tables.{desk_schema}
 use Rattle.store.specs.TablesHold.{TablesHold}
+
+-- a store as its connection and its charter
+pub record StoreView (S : Type 0) : Type 0 where
+  pub connection : Held S
+  pub charter : CharterSets
+
+abbrev pub view_code : {S : Type 0} → Coded S → Coded (StoreView S)
+view_code {S} store =
+    code_by (Held S × CharterSets) (coded× (held_code store) charter.the_row.coded)
+    (λ v. (v.connection, v.charter)) (λ p. record { connection = p.0; charter = p.1 }) (λ _. refl)
+
+abbrev pub state_of : {S : Type 0} → Ghosts S → StoreView S → State
+state_of g store = state g store.connection
 
 -- the database has the tables of a desk, and all that it shows is committed
 pub record IsDesk (s : State) : Type 0 where
@@ -16,18 +32,28 @@ pub record IsDesk (s : State) : Type 0 where
 abbrev pub IsKept : State → Type 0
 IsKept s = HasCleanDisk s → IsTrue s.is_open → IsDesk s
 
--- The store holds these rows. Nothing is said where the disk returned what was not written, or where a
+-- The tables hold the store's charter and these rows. Nothing is said where the disk returned what was not written, or where a
 -- failure of the disk shut the connection, which then answers nothing more.
-abbrev pub Holds : {S : Type 0} → Ghosts S → Held S → (List ℕ → Option Rows) → Type 0
-Holds g h rows = HasCleanDisk (state g h) → IsTrue (state g h).is_open → TablesHold rows (state g h).now.trees
+abbrev pub Holds : {S : Type 0} → Ghosts S → StoreView S → (List ℕ → Option Rows) → Type 0
+Holds g store rows =
+    HasCleanDisk (state_of g store) → IsTrue (state_of g store).is_open
+    → TablesHold store.charter rows (state_of g store).now.trees
 
 -- A crash leaves what it left before, or rows turned so.
-abbrev pub MayLeave : {S : Type 0} → Ghosts S → Held S → Held S → ((List ℕ → Option Rows) → List ℕ → Option Rows) → Type 0
+abbrev pub MayLeave : {S : Type 0} → Ghosts S → StoreView S → StoreView S → ((List ℕ → Option Rows) → List ℕ → Option Rows) → Type 0
 MayLeave g old new to =
-    (trees : Trees) → (state g new).may_leave trees
-    → (state g old).may_leave trees ⊎ ((rows : List ℕ → Option Rows) → Holds g old rows → TablesHold (to rows) trees)
+    (trees : Trees) → (state_of g new).may_leave trees
+    → (state_of g old).may_leave trees ⊎ ((rows : List ℕ → Option Rows) → Holds g old rows → TablesHold old.charter (to rows) trees)
 
 -- A crash leaves rows turned so, and nothing else.
-abbrev pub LeavesOnly : {S : Type 0} → Ghosts S → Held S → Held S → ((List ℕ → Option Rows) → List ℕ → Option Rows) → Type 0
+abbrev pub LeavesOnly : {S : Type 0} → Ghosts S → StoreView S → StoreView S → ((List ℕ → Option Rows) → List ℕ → Option Rows) → Type 0
 LeavesOnly g old new to =
-    (rows : List ℕ → Option Rows) → Holds g old rows → (trees : Trees) → (state g new).may_leave trees → TablesHold (to rows) trees
+    (rows : List ℕ → Option Rows) → Holds g old rows → (trees : Trees) → (state_of g new).may_leave trees → TablesHold old.charter (to rows) trees
+
+-- A read: the charter and the rows stay, and a crash leaves nothing else than before. A disk that returns what
+-- was written did so before.
+pub record IsRead {S : Type 0} (g : Ghosts S) (old new : StoreView S) : Type 0 where
+  pub clean : HasCleanDisk (state_of g new) → HasCleanDisk (state_of g old)
+  pub charter : new.charter ≡ old.charter
+  pub rows : HasCleanDisk (state_of g new) → (rows : List ℕ → Option Rows) → Holds g old rows → Holds g new rows
+  pub crash : HasCleanDisk (state_of g new) → (trees : Trees) → (state_of g new).may_leave trees → (state_of g old).may_leave trees

@@ -1,4 +1,4 @@
--- What the tables hold of the rows of every holder.
+-- What the tables hold: the charter, and the rows of every holder.
 use Rattle.std.specs.Prelude.{◌≡◌, ℕ, Bool, true, false, List, [], ◌∷◌, map, filter, Option, Some, None, option_map, IsPermutation, IsSome, if◌then◌else◌}
 use Rattle.std.specs.List.{AllByRecursion}
 use Rattle.std.specs.Ordering.{is_eq}
@@ -7,10 +7,11 @@ use Rattle.sqlite_value.specs.declared.value.Value.{Value}
 use Rattle.sqlite_value.specs.declared.value.Value.TheVariants.{Null, Int, Real, Text, Blob}
 use Rattle.sqlite_value.specs.Order.{Row, column, value_cmp}
 use Rattle.sqlite_trees.specs.Tree.{Trees}
+use Rattle.policy.specs.CharterSets.{CharterSets}
 use Rattle.policy.specs.History.{same_name}
 use Rattle.policy.specs.Rows.{Rows}
-use Rattle.store.specs.Tables.{holder, holding, granted, auth}
-use Rattle.store.specs.Cells.{holder_row, holding_row, granted_row, auth_row}
+use Rattle.store.specs.Tables.{meta, operator, pool, holder, holding, granted, auth}
+use Rattle.store.specs.Cells.{schema_row, operator_row, prefix_cells, holder_row, holding_row, granted_row, auth_row}
 use Rattle.store.specs.Edits.{contents, AreTrees}
 
 -- A table that has rows of holders: its tree, the column that names the holder, and the rows of one holder.
@@ -51,8 +52,15 @@ pub record HoldsPart (part : Part) (rows : List ℕ → Option Rows) (table : Li
   pub each : (h : List ℕ) → IsPermutation (rows_if_any part h (rows h)) (filter (λ c. is_name_of h (column c part.place)) table)
   pub named : AllByRecursion (λ c. is_text (column c part.place) ≡ true) table
 
--- the tables hold these rows
-pub record TablesHold (rows : List ℕ → Option Rows) (trees : Trees) : Type 0 where
+-- the tables have the number of the schema, the operators and the pool, in some order, and nothing else
+pub record HoldsCharter (charter : CharterSets) (trees : Trees) : Type 0 where
+  pub schema : IsPermutation (schema_row ∷ []) (contents (trees meta.tree))
+  pub operators : IsPermutation (map operator_row charter.operators) (contents (trees operator.tree))
+  pub pool : IsPermutation (map prefix_cells charter.pool) (contents (trees pool.tree))
+
+-- the tables hold this charter and these rows
+pub record TablesHold (charter : CharterSets) (rows : List ℕ → Option Rows) (trees : Trees) : Type 0 where
+  pub charter_kept : HoldsCharter charter trees
   pub holders : HoldsPart holder_part rows (contents (trees holder_part.tree))
   pub holdings : HoldsPart holding_part rows (contents (trees holding_part.tree))
   pub grants : HoldsPart granted_part rows (contents (trees granted_part.tree))
@@ -63,7 +71,9 @@ pub record TablesHold (rows : List ℕ → Option Rows) (trees : Trees) : Type 0
 abbrev pub at_holder : List ℕ → (Rows → Rows) → (List ℕ → Option Rows) → List ℕ → Option Rows
 at_holder h edit rows k = if same_name h k then option_map edit (rows k) else rows k
 
--- Where the holder is registered, its rows are edited, and those of every other holder stay.
+-- Where the holder is registered, its rows are edited, and those of every other holder stay, as the charter
+-- does.
 abbrev pub EditsRows : List ℕ → (Rows → Rows) → Database → Database → Type 0
 EditsRows h edit old new =
-    (rows : List ℕ → Option Rows) → TablesHold rows old.trees → IsSome (rows h) → TablesHold (at_holder h edit rows) new.trees
+    (charter : CharterSets) (rows : List ℕ → Option Rows) → TablesHold charter rows old.trees → IsSome (rows h)
+    → TablesHold charter (at_holder h edit rows) new.trees

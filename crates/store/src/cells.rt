@@ -1,9 +1,9 @@
 ghost use Rattle.std.specs.Prelude.{◌≡◌, [], ◌∷◌};
 ghost use Rattle.sqlite.specs.Values.{bound};
 ghost use Rattle.sqlite_value.specs.declared.value.Value.TheVariants.{Text};
-ghost use Rattle.store.specs.Cells.{address, number_cell, family_number, role_number, scope_first, scope_cells, holding_row, granted_row, auth_row};
+ghost use Rattle.store.specs.Cells.{address, number_cell, family_number, role_number, prefix_cells, scope_first, scope_cells, holding_row, granted_row, auth_row};
 
-use addr::{Family, Name, Span};
+use addr::{Family, Name, Prefix, Span};
 use policy::{Auth, Granted, Role, Scope};
 use sqlite::types::{ToSql, ValueRef};
 
@@ -15,7 +15,7 @@ pub fn address_bytes(number: u128) -> [u8; 16]
 }
 
 /// How the tables number the families.
-fn family_number(family: Family) -> u32
+pub fn family_number(family: Family) -> u32
     ensures { result ≡ family_number family }
 {
     match family {
@@ -75,17 +75,24 @@ pub fn holding_values<'a>(
     ]
 }
 
+pub fn prefix_values<'a>(prefix: &Prefix, first: &'a [u8]) -> [ValueRef<'a>; 3]
+    requires { first.now ≡ address prefix.now.first }
+    ensures { bound result ≡ prefix_cells prefix.now }
+{
+    [
+        family_number(prefix.family).to_sql(),
+        first.to_sql(),
+        u32::from(prefix.length).to_sql(),
+    ]
+}
+
 fn scope_values<'a>(scope: &Scope, first: &'a [u8]) -> [ValueRef<'a>; 3]
     requires { first.now ≡ address (scope_first scope.now) }
     ensures { bound result ≡ scope_cells scope.now }
 {
     match scope {
         Scope::All => [ValueRef::Null, ValueRef::Null, ValueRef::Null],
-        Scope::Only(prefix) => [
-            family_number(prefix.family).to_sql(),
-            first.to_sql(),
-            u32::from(prefix.length).to_sql(),
-        ],
+        Scope::Only(prefix) => prefix_values(prefix, first),
     }
 }
 

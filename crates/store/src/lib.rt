@@ -1,13 +1,19 @@
 //! The rows of a desk as tables of SQLite.
 #![tactic(auto)]
 
+mod across;
+mod ask;
 mod auth;
 mod cells;
 mod change;
+mod charter;
+mod decode;
 mod fault;
 mod granted;
 mod holder;
 mod holding;
+mod load;
+mod select;
 mod store;
 mod tables;
 

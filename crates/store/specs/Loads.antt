@@ -1,0 +1,89 @@
+-- What is loaded of the rows that the tables hold.
+use Rattle.std.specs.Prelude.{◌≡◌, ◌≤◌, ℕ, List, [], Option, Some, None, All, Contains, IsPermutation, IsSortedByKey, ⊤}
+use Rattle.std.specs.Ordering.{nat_cmp}
+use Rattle.sqlite.specs.State.{State}
+use Rattle.addr.specs.Address.{Address}
+use Rattle.addr.specs.Spans.{spans_have, HaveSome}
+use Rattle.addr.specs.declared.prefix.Prefix.{Prefix}
+use Rattle.addr.specs.declared.span.Span.{Span}
+use Rattle.addr.specs.declared.vrp.Vrp.{Vrp}
+use Rattle.policy.specs.CharterSets.{CharterSets}
+use Rattle.policy.specs.declared.authorization.Auth.{Auth}
+use Rattle.policy.specs.declared.grant.Granted.{Granted}
+use Rattle.policy.specs.declared.rows.HolderRows.{HolderRows}
+use Rattle.policy.specs.Rows.{Rows}
+use Rattle.policy.specs.Terms.{IsVrpOf}
+use Rattle.store.specs.declared.decode.Counters.{Counters}
+use Rattle.store.specs.Decode.{IsU32, AuthFits, GrantFits, VrpFits}
+use Rattle.store.specs.TablesHold.{TablesHold}
+
+-- the items of the rows; none where the holder is not registered
+abbrev pub items_if_any : {X : Type 0} → (Rows → List X) → Option Rows → List X
+items_if_any items None = []
+items_if_any items (Some r) = items r
+
+-- the same items, by rising number
+abbrev pub AreInOrder : {X : Type 0} → (X → ℕ) → List X → List X → Type 0
+AreInOrder number xs ys = IsPermutation xs ys × IsSortedByKey number nat_cmp ys
+
+-- the runs have the same addresses
+abbrev pub HaveSame : List Span → List Span → Type 0
+HaveSame spans other = (a : Address) → spans_have other a ≡ spans_have spans a
+
+-- the counters of the rows, where there are rows
+abbrev pub AreCounters : Option Rows → Option Counters → Type 0
+AreCounters None None = ⊤
+AreCounters None (Some c) = ⊥
+AreCounters (Some r) None = ⊥
+AreCounters (Some r) (Some c) = (c.granted ≡ r.granted) × (c.created ≡ r.created)
+
+-- The rows of a holder as they are loaded: its addresses as maximal runs, which `Holdings` promises, its
+-- grants and its authorizations by rising number, and its counters.
+pub record IsLoaded (r : Rows) (loaded : HolderRows) : Type 0 where
+  pub holdings : HaveSame r.holdings loaded.holdings
+  pub grants : AreInOrder (λ (g : Granted). g.number) r.grants loaded.grants.items
+  pub auths : AreInOrder (λ (x : Auth). x.number) r.auths loaded.auths.items
+  pub granted : loaded.granted ≡ r.granted
+  pub created : loaded.created ≡ r.created
+
+abbrev pub AreLoaded : Option Rows → Option HolderRows → Type 0
+AreLoaded None None = ⊤
+AreLoaded None (Some loaded) = ⊥
+AreLoaded (Some r) None = ⊥
+AreLoaded (Some r) (Some loaded) = IsLoaded r loaded
+
+-- each number of the rows fits its Rust type
+pub record RowsFit (r : Rows) : Type 0 where
+  pub granted : IsU32 r.granted
+  pub created : IsU32 r.created
+  pub grants : All GrantFits r.grants
+  pub auths : All AuthFits r.auths
+
+abbrev pub FitIfAny : Option Rows → Type 0
+FitIfAny None = ⊤
+FitIfAny (Some r) = RowsFit r
+
+-- it is so of the rows of every holder, and of those of one, whatever charter and rows the tables hold
+abbrev pub IsOfAll : ((List ℕ → Option Rows) → Type 0) → State → Type 0
+IsOfAll so s = (charter : CharterSets) (rows : List ℕ → Option Rows) → TablesHold charter rows s.now.trees → so rows
+
+abbrev pub IsOf : (Option Rows → Type 0) → List ℕ → State → Type 0
+IsOf so h s = IsOfAll (λ rows. so (rows h)) s
+
+-- ---- the rows of every holder
+
+-- some holder holds an address of the prefix
+abbrev pub IsTaken : (List ℕ → Option Rows) → Prefix → Type 0
+IsTaken rows p = (h : List ℕ) × (r : Rows) × (rows h ≡ Some r) × HaveSome r.holdings p
+
+-- an authorization of some holder is in force on the day and gives the VRP
+abbrev pub IsGivenOn : (List ℕ → Option Rows) → ℕ → Vrp → Type 0
+IsGivenOn rows day v =
+    (h : List ℕ) × (r : Rows) × (x : Auth)
+    × (rows h ≡ Some r) × Contains r.auths x × (x.from ≤ day) × (day ≤ x.until) × IsVrpOf x v
+
+-- each authorization that is in force on the day gives a VRP
+abbrev pub AllGiveOn : (List ℕ → Option Rows) → ℕ → Type 0
+AllGiveOn rows day =
+    (h : List ℕ) (r : Rows) (x : Auth) → rows h ≡ Some r → Contains r.auths x → x.from ≤ day → day ≤ x.until
+    → (v : Vrp) × IsVrpOf x v × VrpFits v
