@@ -111,6 +111,7 @@ has_charter charter a b c d made schema operators prefixes =
 -- what the transaction holds is committed
 pub new_after : (charter : CharterSets) (mid last : State) → HasCharter charter mid → Shows mid last mid.now mid.now false → IsNew charter last
 new_after charter mid last has shown = record {
+  is_open = shown.is_open;
   schema = ap (λ (d : Database). d.schema) shown.now_is ∙ has.ready.schema shown.was_open;
   settled = shown.committed_is ∙ sym shown.now_is;
   rows = subst (λ (d : Database). TablesHold charter (λ h. None) d.trees) (sym shown.now_is) has.rows;

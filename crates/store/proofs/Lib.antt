@@ -27,3 +27,4 @@ mod SomeRow
 mod Overlapping
 mod InForce
 mod Giving
+mod HistoryRows

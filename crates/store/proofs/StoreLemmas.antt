@@ -1,5 +1,5 @@
 -- What a change that was tried leaves of a store.
-use Rattle.std.proofs.Common.{◌≡◌, inl, inr, ℕ, List, Option, Result, Ok, Err, OnOk, OnErr, IfOk, IsTrue, true, false, arith, refl, sym, ap, subst, ◌∙◌}
+use Rattle.std.proofs.Common.{◌≡◌, inl, inr, ℕ, List, Option, None, Result, Ok, Err, OnOk, OnErr, IfOk, IsTrue, true, false, arith, refl, sym, ap, subst, ◌∙◌}
 use Rattle.sqlite.specs.Effect.{Database}
 use Rattle.sqlite.specs.Held.{Held, state}
 use Rattle.sqlite.specs.State.{State, HasCleanDisk, IsUnchanged, Survives, Shows}
@@ -11,6 +11,7 @@ use Rattle.policy.specs.CharterSets.{CharterSets}
 use Rattle.policy.specs.Rows.{Rows}
 use Rattle.store.specs.Queries.{IsAsBefore}
 use Rattle.store.specs.Loads.{IsOfAll}
+use Rattle.store.specs.Making.{IsNew}
 use Rattle.store.specs.StoreRows.{StoreView, IsKept, Holds, IsRead, MayLeave, LeavesOnly}
 use Rattle.store.specs.Steps.{IsMade, CommitsTo, Turned, Turns}
 use Rattle.store.specs.TablesHold.{TablesHold}
@@ -62,6 +63,11 @@ module _ {S X E : Type 0} (g : Ghosts S) (r : Result X E) (to : Change) (charter
       go (Ok a) made = λ rows holds trees left.
           subst (TablesHold charter (to rows)) (sym (settled trees made.is_open left ∙ ap (λ (d : Database). d.trees) made.committed)) (made.rows charter rows (holds (before clean) made.was_open))
       go (Err e) made = tt
+
+-- a new store leaves its charter and no holder
+pub leaves_new : {S : Type 0} (g : Ghosts S) (charter : CharterSets) (h : Held S) → ((trees : Trees) → IsTrue (state g h).is_open → (state g h).may_leave trees → trees ≡ (state g h).committed.trees) → IsNew charter (state g h)
+    → (trees : Trees) → (state g h).may_leave trees → TablesHold charter (λ h. None) trees
+leaves_new g charter h settled new trees left = subst (TablesHold charter (λ h. None)) (sym (settled trees new.is_open left ∙ ap (λ (d : Database). d.trees) new.settled)) new.rows
 
 -- ---- a read
 

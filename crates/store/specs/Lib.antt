@@ -10,3 +10,4 @@ pub mod StoreRows
 pub mod Making
 pub mod Queries
 pub mod Loads
+pub mod Laws

@@ -1,5 +1,5 @@
 -- The making of the tables, one after another, and their first rows.
-use Rattle.std.specs.Prelude.{◌≡◌, ℕ, suc, true, List, [], ◌++◌, None, Ok, take, nat_le, if◌then◌else◌}
+use Rattle.std.specs.Prelude.{◌≡◌, ℕ, suc, true, List, [], ◌++◌, None, Ok, IsTrue, take, nat_le, if◌then◌else◌}
 use Rattle.std.specs.List.{AllByRecursion}
 use Rattle.sqlite.specs.State.{State, ExecutesInside}
 use Rattle.sqlite_schema.specs.declared.schema.Schema.{Schema}
@@ -36,6 +36,7 @@ pub record HasCharter (charter : CharterSets) (s : State) : Type 0 where
 
 -- the tables hold the charter and no holder, and are committed
 pub record IsNew (charter : CharterSets) (s : State) : Type 0 where
+  pub is_open : IsTrue s.is_open
   pub schema : s.now.schema ≡ desk_schema
   pub settled : s.committed ≡ s.now
   pub rows : TablesHold charter (λ h. None) s.now.trees

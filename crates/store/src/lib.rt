@@ -12,6 +12,7 @@ mod fault;
 mod granted;
 mod holder;
 mod holding;
+pub mod laws;
 mod load;
 mod select;
 mod store;

@@ -1,4 +1,4 @@
-ghost use Rattle.std.specs.Prelude.{◌≡◌, false, Err, OnOk, OnErr, IfOk, IsTrue};
+ghost use Rattle.std.specs.Prelude.{◌≡◌, ◌≢◌, ◌↔◌, false, Err, OnOk, OnErr, IfOk, IsTrue};
 ghost use Rattle.sqlite.specs.Held.{state};
 ghost use Rattle.sqlite.specs.State.{HasCleanDisk, Survives};
 ghost use Rattle.policy.specs.Rows.{changed};
@@ -16,6 +16,7 @@ use crate::tables::{make_first_tables, make_other_tables};
 use addr::{Day, Name, Prefix, Vrp};
 use policy::{Change, Charter, HolderRows};
 use sqlite::{Alter, Connection, MemStore};
+use sqlite_schema::schema::Schema;
 use std::alloc::Global;
 use std::marker::Model;
 
@@ -35,12 +36,20 @@ fn commit_change<S: Alter>(conn: &mut Connection<S>, change: &Change) -> Result<
     Ok(())
 }
 
+/// Whether the database has no table, index or view.
+fn is_blank(schema: &Schema) -> bool
+    ensures { IsTrue result ↔ (schema.now ≡ so_far 0) }
+{
+    schema.tables.is_empty() && schema.indexes.is_empty() && schema.views.is_empty()
+}
+
 /// Makes the tables of a desk in a database that has none, with its charter, in one transaction.
 fn make_tables<S: Alter>(conn: &mut Connection<S>, charter: &Charter) -> Result<(), StoreFault>
     requires idle { conn.old.in_transaction ≡ false }
     requires blank { HasCleanDisk (state S.Store conn.old) → (state S.Store conn.old).now.schema ≡ so_far 0 }
     ensures idle { conn.new.in_transaction ≡ false }
     ensures made { HasCleanDisk (state S.Store conn.new) → OnOk result (IsNew charter.now (state S.Store conn.new)) }
+    ensures no_schema { result ≢ Err StoreFault.Schema }
 {
     let _idle = conn.is_autocommit();
     let mut tx = conn.transaction();
@@ -75,8 +84,36 @@ impl<S: Alter> Model for Store<S> {
     ghost invariant = { λ s. (s.conn.in_transaction ≡ false) × IsKept (state S.Store s.conn) };
 }
 
+impl<S: Alter + Drop> Store<S> {
+    ghost use Rattle.std.specs.Prelude.{None};
+    ghost use Rattle.sqlite_trees.specs.Tree.{Trees};
+    ghost use Rattle.store.specs.StoreRows.{state_of, Holds};
+    ghost use Rattle.store.specs.TablesHold.{TablesHold};
+
+    /// A store over a connection to a database that has no table yet, with this charter, where no
+    /// holder is registered. A connection in a transaction is refused, and a limit of its steps is
+    /// lifted.
+    pub fn create_on(mut conn: Connection<S>, charter: &Charter) -> Result<Self, StoreFault>
+        ensures charter { IfOk result (λ store. store.charter ≡ charter.now) }
+        ensures rows { IfOk result (λ store. Holds S.Store store (λ h. None)) }
+        ensures left { IfOk result (λ store. HasCleanDisk (state_of S.Store store) → (trees : Trees) → (state_of S.Store store).may_leave trees → TablesHold charter.now (λ h. None) trees) }
+        ensures no_schema { result ≢ Err StoreFault.Schema }
+    {
+        if !conn.is_autocommit() || !is_blank(conn.schema()) {
+            return Err(StoreFault::Database);
+        }
+        conn.set_step_limit(None);
+        let kept = charter.clone()?;
+        make_tables(&mut conn, charter)?;
+        Ok(Store {
+            conn,
+            charter: kept,
+        })
+    }
+}
+
 impl<S: Alter> Store<S> {
-    ghost use Rattle.std.specs.Prelude.{◌≢◌, ◌↔◌, ℕ, List, Option, Contains};
+    ghost use Rattle.std.specs.Prelude.{ℕ, List, Option, Contains};
     ghost use Rattle.addr.specs.declared.vrp.Vrp.{Vrp};
     ghost use Rattle.policy.specs.Rows.{Rows};
     ghost use Rattle.store.specs.Loads.{AreLoaded, FitIfAny, IsTaken, IsGivenOn, AllGiveOn};
@@ -167,9 +204,7 @@ impl Store<MemStore> {
         ensures charter { IfOk result (λ store. store.charter ≡ charter.now) }
         ensures rows { IfOk result (λ store. Holds over_memory store (λ h. None)) }
     {
-        let charter = charter.clone()?;
-        let mut conn = Connection::open_in_memory(alloc)?;
-        make_tables(&mut conn, &charter)?;
-        Ok(Store { conn, charter })
+        let conn = Connection::open_in_memory(alloc)?;
+        Store::create_on(conn, charter)
     }
 }

@@ -3,7 +3,7 @@
 use crate::{Store, StoreFault};
 use addr::{Asn, Day, Family, Holdings, Name, Prefix};
 use policy::{Auth, Change, Charter, Edit, Granted, HolderChange, Role, Scope};
-use sqlite::MemStore;
+use sqlite::{Connection, MemStore};
 use std::alloc::Global;
 use std::process::Abort;
 use std::test::Fail;
@@ -26,14 +26,17 @@ fn authorization(number: u32, prefix: Prefix, day: Day) -> Auth {
     }
 }
 
-/// A store with one operator and one prefix in the pool.
-fn open(rt: &impl Abort, alloc: Global) -> Result<Store<MemStore>, Fail> {
+/// A charter of one operator and one prefix in the pool.
+fn charter(rt: &impl Abort, alloc: Global) -> Result<Charter, Fail> {
     let mut operators = Vec::new(alloc);
     operators.push(Name::read(b"reg").expect(rt, "a name"))?;
     let mut pool = Vec::new(alloc);
     pool.push(Prefix::from_parts(Family::V4, 0xc000_0000, 16).expect(rt, "a prefix"))?;
-    let charter = Charter::make(operators, pool).expect(rt, "a charter");
-    Ok(Store::open_memory(alloc, &charter).expect(rt, "a store"))
+    Ok(Charter::make(operators, pool).expect(rt, "a charter"))
+}
+
+fn open(rt: &impl Abort, alloc: Global) -> Result<Store<MemStore>, Fail> {
+    Ok(Store::open_memory(alloc, &charter(rt, alloc)?).expect(rt, "a store"))
 }
 
 #[test]
@@ -109,5 +112,15 @@ fn what_breaks_a_key_is_refused(rt: HostRuntime) -> Result<(), Fail> {
     let second = authorization(2, prefix, day);
     let twice = store.apply(&one_edit(alpha, Edit::Create(second)));
     assert!(rt; matches!(twice, Err(StoreFault::Database)));
+    Ok(())
+}
+
+#[test]
+fn database_that_has_tables_is_refused(rt: HostRuntime) -> Result<(), Fail> {
+    let charter = charter(&rt, rt.alloc())?;
+    let conn = Connection::open_in_memory(rt.alloc()).expect(&rt, "a connection");
+    let store = Store::create_on(conn, &charter).expect(&rt, "a store");
+    let again = Store::create_on(store.close(), &charter);
+    assert!(rt; matches!(again, Err(StoreFault::Database)));
     Ok(())
 }
