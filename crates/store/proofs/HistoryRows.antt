@@ -1,5 +1,5 @@
 -- The rows of a history rise by number, so they are loaded as they are.
-use Rattle.std.proofs.Common.{◌≡◌, ℕ, ◌+◌, ◌<◌, ◌≤◌, ◌==◌, Bool, true, false, cond, not, List, [], ◌∷◌, ◌++◌, filter, Option, Some, None, Less, sym, subst, ◌∙◌, arith, nat_cmp}
+use Rattle.std.proofs.Common.{◌≡◌, ℕ, ◌+◌, ◌<◌, ◌≤◌, ◌==◌, Bool, true, false, cond, not, List, [], ◌∷◌, ◌++◌, filter, Some, None, Less, sym, subst, ◌∙◌, arith, nat_cmp}
 use Rattle.std.specs.Cmp.{nat_cmp_is, nat_cmp_total}
 use Rattle.std.specs.List.{AllByRecursion}
 use Rattle.std.specs.Ordering.{on}
@@ -92,12 +92,14 @@ loads_rows history h (Some r) (Some s) are maximal loaded =
     let grants_ascend = rise-ascending (λ (g : Granted). g.number) 0 (grant_terms history h) (grants_made history h) (grant_terms-rise history h) in
     let auths_ascend = rise-ascending (λ (x : Auth). x.number) 0 r.auths (authorizations_made history h) (auths-rise 0 r.auths (authorizations_made history h) (active-numbered history h r.auths rows.auths)) in
     let grants = in_order_same (λ (g : Granted). g.number) r.grants s.grants.items (subst (IsAscending (λ (g k : Granted). g.number < k.number)) (sym rows.grants) grants_ascend) loaded.grants in
-    let auths = in_order_same (λ (x : Auth). x.number) r.auths s.auths.items auths_ascend loaded.auths in
-    (are.0, record {
-      maximal = maximal;
-      holdings = λ a. loaded.holdings a ∙ rows.holdings a;
-      grants = grants ∙ rows.grants;
-      auths = subst (AreActive history h) (sym auths) rows.auths;
-      granted = loaded.granted ∙ rows.granted;
-      created = loaded.created ∙ rows.created;
-    })
+    let auths = in_order_same (λ (x : Auth). x.number) r.auths s.auths.items auths_ascend loaded.auths in (
+      are.0,
+      record {
+        maximal = maximal;
+        holdings = λ a. loaded.holdings a ∙ rows.holdings a;
+        grants = grants ∙ rows.grants;
+        auths = subst (AreActive history h) (sym auths) rows.auths;
+        granted = loaded.granted ∙ rows.granted;
+        created = loaded.created ∙ rows.created;
+      },
+    )
