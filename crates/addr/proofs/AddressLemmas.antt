@@ -1,5 +1,5 @@
 -- Intervals of addresses: what contains and overlaps say of each address.
-use Rattle.std.proofs.Common.{◌≡◌, ℕ, ◌+◌, ◌-◌, ◌*◌, ◌/◌, ◌%◌, ◌^◌, ◌≤◌, ◌<◌, true, ◌&&◌, nat_le, arith, ◌↔◌, IsTrue, inl, inr, ap, ◌∙◌, suc}
+use Rattle.std.proofs.Common.{◌≡◌, ℕ, ◌+◌, ◌-◌, ◌*◌, ◌/◌, ◌%◌, ◌^◌, ◌≤◌, ◌<◌, true, lit≤, ◌&&◌, nat_le, arith, ◌↔◌, IsTrue, inl, inr, ap, ◌∙◌, suc}
 use Rattle.std.proofs.lemmas.Bool.{cases_lt}
 use Rattle.std.proofs.lemmas.Bool.Decides.{nat_tests}
 use Rattle.std.proofs.lemmas.Nat.{pow_pos, pow-add, div-add-mod', div_below}
@@ -9,6 +9,18 @@ use Rattle.addr.specs.Address.{is_between, last_of, contains, overlaps, Contains
 use Rattle.addr.specs.declared.family.Family.{Family}
 use Rattle.addr.specs.declared.family.Family.TheVariants.{V4, V6}
 use Rattle.addr.specs.declared.prefix.Prefix.{Prefix}
+
+pub width_small : (f : Family) → width f ≤ 128
+width_small V4 = lit≤ tt
+width_small V6 = lit≤ tt
+
+-- every address of a family is below 2 ^ 128
+pub below_widest : (f : Family) (n : ℕ) → n < 2 ^ width f → n < 2 ^ 128
+below_widest V4 n below = omega arith
+below_widest V6 n below = below
+
+pub first_below : (p : Prefix) → p.first < 2 ^ width p.family
+first_below p = omega (arith, p.in_family, pow_pos (width p.family - p.length))
 
 -- an interval within another has only addresses of it
 pub between_within : (f g h : Family) (low high from to n : ℕ) → family_eq f g && (nat_le low from && nat_le to high) ≡ true → is_between g from to (record { family = h; number = n }) ≡ true → is_between f low high (record { family = h; number = n }) ≡ true

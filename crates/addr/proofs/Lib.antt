@@ -1,4 +1,5 @@
 pub mod AddressLemmas
+pub mod Equality
 pub mod OrderLemmas
 pub mod SpanLemmas
 pub mod SpanSteps

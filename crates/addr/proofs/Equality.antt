@@ -1,0 +1,27 @@
+-- Tests of equality that pass, and what they say.
+use Rattle.std.proofs.Common.{◌≡◌, true, refl, ◌&&◌, ◌==◌}
+use Rattle.std.proofs.lemmas.Bool.{and_parts, and_from, eqb-true, eq-eqb}
+use Rattle.addr.specs.Address.{prefix_eq, same_prefix}
+use Rattle.addr.specs.Family.{family_eq}
+use Rattle.addr.specs.declared.family.Family.{Family}
+use Rattle.addr.specs.declared.family.Family.TheVariants.{V4, V6}
+use Rattle.addr.specs.declared.prefix.Prefix.{Prefix}
+
+pub same_family : (f g : Family) → family_eq f g ≡ true → f ≡ g
+same_family V4 V4 is = refl
+same_family V4 V6 is = absurd cc
+same_family V6 V4 is = absurd cc
+same_family V6 V6 is = refl
+
+pub family_itself : (f : Family) → family_eq f f ≡ true
+family_itself V4 = refl
+family_itself V6 = refl
+
+pub equal_prefix : (p q : Prefix) → prefix_eq p q ≡ true → p ≡ q
+equal_prefix p q is =
+    let both = and_parts (family_eq p.family q.family) ((p.first == q.first) && (p.length == q.length)) is in
+    let ends = and_parts (p.first == q.first) (p.length == q.length) both.1 in
+    same_prefix p q (same_family p.family q.family both.0) (eqb-true p.first q.first ends.0) (eqb-true p.length q.length ends.1)
+
+pub prefix_itself : (p : Prefix) → prefix_eq p p ≡ true
+prefix_itself p = and_from _ _ (family_itself p.family) (and_from _ _ (eq-eqb p.first p.first refl) (eq-eqb p.length p.length refl))
