@@ -1,21 +1,6 @@
-pub mod LineSplits
-pub mod ReplyLemmas
-pub mod ScriptAlong
-pub mod ScriptLemmas
-pub mod StreamLemmas
-mod TrailMade
-pub mod RecordLemmas
-pub mod VrpLemmas
-pub mod RequestLemmas
-pub mod ContentLemmas
-pub mod DeskLemmas
-pub mod RunLemmas
-pub mod DailyLemmas
-pub mod ExportLemmas
 pub mod StateSteps
 pub mod CheckLemmas
 pub mod RecordSteps
 pub mod RecordsLeft
 pub mod RowLemmas
-pub mod SessionLemmas
 pub mod CharterSteps

@@ -5,8 +5,8 @@ use Rattle.cli.specs.declared.fault.FileFault.TheVariants as file
 use Rattle.cli.specs.declared.fault.InputFile.{InputFile}
 use Rattle.cli.specs.declared.fault.ProgramFault.{ProgramFault}
 use Rattle.cli.specs.declared.fault.ProgramFault.TheVariants.{Words, File, Stream, Memory, Header, Row, CharterCount}
-use Rattle.cli.specs.declared.web.script.ScriptFault.{ScriptFault}
-use Rattle.cli.specs.declared.web.script.ScriptFault.TheVariants as script
+use Rattle.web.specs.declared.script.ScriptFault.{ScriptFault}
+use Rattle.web.specs.declared.script.ScriptFault.TheVariants as script
 use Rattle.cli.specs.declared.words.WordsFault.{WordsFault}
 use Rattle.cli.specs.declared.words.WordsFault.TheVariants as words
 

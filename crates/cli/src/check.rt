@@ -8,9 +8,9 @@ ghost use Rattle.cli.specs.CsvRows.{file_fault, first_fault, route_fault, route_
 
 use crate::fault::{FileFault, InputFile, ProgramFault};
 use crate::files::{CsvRecords, RouteRow, read_payloads, read_route};
-use crate::web::stream::{Drain, write_all};
 use payload::{ListIndex, PayloadIndex, Validity};
 use std::alloc::{AllocError, Global};
+use web::{Drain, write_all};
 
 /// Judges the routes of a file on the VRPs of another, and writes a line `prefix,origin,state` for
 /// each (RFC 6811 section 2). Both are CSV files with a header, and both are read to their ends before

@@ -3,11 +3,11 @@ ghost use Rattle.std.specs.Prelude.{◌≡◌};
 ghost use Rattle.cli.specs.declared.fault.FileFault.TheVariants.{Memory};
 ghost use Rattle.cli.specs.ProgramFaults.{status_of, told_script, told_words, fault_of_file};
 
-use crate::web::script::ScriptFault;
 use crate::words::WordsFault;
 use addr::PrefixFault;
 use std::alloc::AllocError;
 use thiserror::Error;
+use web::ScriptFault;
 
 /// A file that the program reads, by what stands in it.
 #[derive(Clone, Copy, Debug, PartialEq, Eq, Error)]

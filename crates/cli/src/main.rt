@@ -1,13 +1,13 @@
 //! The program `roadesk`, a hosted route origin authorization desk.
 #![tactic(auto)]
 
-pub mod charter_file;
-pub mod check;
-pub mod desk;
-pub mod fault;
+mod charter_file;
+mod check;
+#[cfg(test)]
+mod fakes;
+mod fault;
 mod files;
-pub mod web;
-pub mod words;
+mod words;
 
 use charter_file::charter_from;
 use check::check_on;
@@ -17,8 +17,7 @@ use std::io::{self, ErrorKind};
 use std::process::ExitCode;
 use std::rt::HostRuntime;
 use std::{env, fs};
-use web::device::Device;
-use web::session::run_script;
+use web::{Device, run_script};
 use words::{Task, read_words};
 
 fn main(rt: HostRuntime) -> ExitCode {
@@ -54,7 +53,7 @@ fn run_script_task(rt: &HostRuntime, charter: &str) -> Result<(), ProgramFault> 
     let mut desk = Desk::open_memory(rt.alloc(), charter)?;
     let mut source = Device::new(rt.reader());
     let mut drain = Device::new(io::writer(rt));
-    run_script(&mut source, &mut drain, &mut desk).map_err(ProgramFault::from)
+    run_script(rt.alloc(), &mut source, &mut drain, &mut desk).map_err(ProgramFault::from)
 }
 
 // Both files are read before either is judged.

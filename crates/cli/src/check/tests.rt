@@ -1,9 +1,9 @@
 use super::check_on;
-use crate::web::device::Device;
-use crate::web::fakes::Sheet;
+use crate::fakes::Sheet;
 use std::alloc::{AllocError, Global};
 use std::process::Abort;
 use std::rt::HostRuntime;
+use web::Device;
 
 // How a check ended: what it wrote, the line of its fault (none: empty) and its status.
 #[derive(Drop)]

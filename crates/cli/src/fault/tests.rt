@@ -1,8 +1,8 @@
 use super::{FileFault, InputFile, ProgramFault, RowFault};
-use crate::web::script::ScriptFault;
 use crate::words::WordsFault;
 use addr::PrefixFault;
 use std::rt::HostRuntime;
+use web::ScriptFault;
 
 #[test]
 fn lines_and_statuses(rt: HostRuntime) {

@@ -1,9 +1,0 @@
-use Rattle.cli.specs.Desk.{charter_of, desk_rows}
-use Rattle.cli.specs.DeskRows.{rows_at}
-use Rattle.cli.proofs.DeskLemmas.{done_answered}
-use Rattle.cli.proofs.desk.handling.Desk.carry_out.Goals as goal
-
-pub returns-in-Ok-apply-clause-answered : goal.returns-in-Ok-apply-clause-answered
-returns-in-Ok-apply-clause-answered c = λ history legal has.
-    done_answered (charter_of c.args.self.now) history c.args.day c.args.caller.now c.args.command.now c.in-Ok.change c.number-number.result
-    (desk_rows c.args.self.now) (rows_at c.apply.new.self) legal has (c.in-Ok.ensures history legal has) c.number-number.ensures c.in-Ok-apply.ensures.ok

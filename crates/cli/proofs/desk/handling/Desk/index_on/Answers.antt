@@ -1,5 +1,0 @@
-use Rattle.cli.proofs.ExportLemmas.{from_list-has}
-use Rattle.cli.proofs.desk.handling.Desk.index_on.Goals as goal
-
-pub returns : goal.returns
-returns c = λ v. rw (c.from.ensures, from_list-has c.in_ok-vrps.vrps.items v) (c.in_ok-vrps.ensures v)

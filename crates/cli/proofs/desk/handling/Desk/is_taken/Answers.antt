@@ -1,7 +1,0 @@
-use Rattle.cli.specs.Desk.{charter_of, desk_rows}
-use Rattle.cli.proofs.DeskLemmas.{tells_taken}
-use Rattle.cli.proofs.desk.handling.Desk.is_taken.Goals as goal
-
-pub returns-in-Delegate : goal.returns-in-Delegate
-returns-in-Delegate c = λ history legal has.
-    rw c.in-Delegate.is (tells_taken (charter_of c.args.self.now) (desk_rows c.args.self.now) history legal has c.in-Delegate.prefix c.is_taken.result c.is_taken.ensures)

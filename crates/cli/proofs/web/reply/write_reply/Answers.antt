@@ -1,5 +1,0 @@
-use Rattle.cli.proofs.web.reply.write_reply.Goals as goal
-
-pub returns-in-Answers-clause-ok : goal.returns-in-Answers-clause-ok
-returns-in-Answers-clause-ok g c =
-    rw (c.in-Answers.is, ← c.as_slice-in-Answers.ensures.value) c.write_list-in-Answers.ensures.ok

@@ -1,7 +1,0 @@
-use Rattle.cli.proofs.RecordLemmas.{on_err}
-use Rattle.cli.specs.ScriptAnswer.{answer_text}
-use Rattle.cli.proofs.web.session.DeskAnswerLines.answer.Goals as goal
-
-pub returns-in_err-write-clause-err : goal.returns-in_err-write-clause-err
-returns-in_err-write-clause-err g c =
-    on_err c.from_residual.result (answer_text c.answer_to-answer.result, c.answer_to-answer.ensures, c.in_err-write.ensures.err)

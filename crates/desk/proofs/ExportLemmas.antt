@@ -1,0 +1,117 @@
+-- VRPs as an index has them, and the states of routes over them.
+use Rattle.std.proofs.Common.{◌≡◌, ℕ, ◌==◌, Bool, true, false, ◌&&◌, ◌↔◌, inl, inr, IsTrue, List, [], ◌∷◌, Option, refl, sym, ap, ◌∙◌, subst, map, Contains, if◌then◌else◌}
+use Rattle.std.specs.List.{list_any}
+use Rattle.std.proofs.lemmas.Bool.{cases_Bool, and_parts, and_from, false≢true, true≢false, eqb-true, eq-eqb}
+use Rattle.std.specs.Ordering.{is_eq}
+use Rattle.std.proofs.lemmas.Cmp.{tied_itself}
+use Rattle.addr.specs.Family.{family_eq}
+use Rattle.addr.specs.Address.{prefix_eq, same_prefix}
+use Rattle.addr.specs.OriginValidation.{covers, matches, Valid, Invalid, NotFound, HasState, validation_state}
+use Rattle.addr.specs.declared.asn.Asn.{Asn}
+use Rattle.addr.specs.declared.family.Family.{Family}
+use Rattle.addr.specs.declared.family.Family.TheVariants.{V4, V6}
+use Rattle.addr.specs.declared.route.Route.{Route}
+use Rattle.addr.specs.declared.vrp.Vrp.{Vrp}
+use Rattle.payload.specs.ValidityState.{state_of}
+use Rattle.addr.specs.Order.{same_vrp}
+use Rattle.addr.proofs.OrderLemmas.{vrp_total}
+use Rattle.payload.specs.VrpSet as set
+use Rattle.payload.specs.declared.validity.Validity.{Validity}
+use Rattle.payload.proofs.Sets.{is_vrp, same_vrp-equal, contains-from_list, contains-items}
+use Rattle.policy.specs.DailyVrps.{IsVrpOn}
+use Rattle.policy.specs.History.{History}
+use Rattle.desk.specs.Answer.{AreStatesOn}
+use Rattle.policy.specs.Rows.{Rows}
+use Rattle.policy.specs.Verdict.{IsLegal}
+use Rattle.policy.specs.declared.charter.Charter.{Charter}
+use Rattle.desk.specs.DeskRows.{vrp_eq, has_vrp, HasRows, IsGivenOn}
+use Rattle.desk.proofs.VrpLemmas.{family_same}
+use Rattle.desk.proofs.DailyLemmas.{given_on, any_among, among_any}
+
+family_itself : (f : Family) → family_eq f f ≡ true
+family_itself V4 = refl
+family_itself V6 = refl
+
+-- VRPs of one AS, prefix and maxLength are one
+vrp_eq-same : (w v : Vrp) → vrp_eq w v ≡ true → w ≡ v
+vrp_eq-same w v same =
+    let one = and_parts (w.asn.0 == v.asn.0) (prefix_eq w.prefix v.prefix && (w.max == v.max)) same in
+    let two = and_parts (prefix_eq w.prefix v.prefix) (w.max == v.max) one.1 in
+    let three = and_parts (family_eq w.prefix.family v.prefix.family) ((w.prefix.first == v.prefix.first) && (w.prefix.length == v.prefix.length)) two.0 in
+    let four = and_parts (w.prefix.first == v.prefix.first) (w.prefix.length == v.prefix.length) three.1 in
+    let asn : w.asn ≡ v.asn = ap (λ (n : ℕ). let a : Asn = record { 0 = n } in a) (eqb-true w.asn.0 v.asn.0 one.0) in
+    same_vrp w v (same_prefix w.prefix v.prefix (family_same w.prefix.family v.prefix.family three.0) (eqb-true w.prefix.first v.prefix.first four.0) (eqb-true w.prefix.length v.prefix.length four.1)) (eqb-true w.max v.max two.1) asn
+
+vrp_eq-itself : (v : Vrp) → vrp_eq v v ≡ true
+vrp_eq-itself v =
+    and_from _ _ (eq-eqb v.asn.0 v.asn.0 refl) (and_from _ _ (and_from _ _ (family_itself v.prefix.family) (and_from _ _ (eq-eqb v.prefix.first v.prefix.first refl) (eq-eqb v.prefix.length v.prefix.length refl))) (eq-eqb v.max v.max refl))
+
+is_vrp-itself : (v : Vrp) → is_vrp v v ≡ true
+is_vrp-itself v = ap is_eq (tied_itself vrp_total v)
+
+vrp_eq-is : (w v : Vrp) → vrp_eq w v ≡ is_vrp v w
+vrp_eq-is w v =
+    elim (cases_Bool (is_vrp v w)) [
+      | inl one ↦ subst (λ (u : Vrp). vrp_eq u v ≡ is_vrp v u) (same_vrp-equal v w one) (vrp_eq-itself v ∙ sym (is_vrp-itself v))
+      | inr two ↦ elim (cases_Bool (vrp_eq w v)) [
+        | inl same ↦ absurd (false≢true (sym two ∙ subst (λ (u : Vrp). is_vrp v u ≡ true) (sym (vrp_eq-same w v same)) (is_vrp-itself v)))
+        | inr other ↦ other ∙ sym two
+      ]
+    ]
+
+-- the set of a list has what the list has
+pub from_list-has : (vrps : List Vrp) (v : Vrp) → set.contains (set.from_list vrps) v ≡ has_vrp vrps v
+from_list-has vrps v = contains-from_list vrps v ∙ go vrps
+  where
+    go : (xs : List Vrp) → list_any (is_vrp v) xs ≡ has_vrp xs v
+    go [] = refl
+    go (x ∷ xs) = rw (vrp_eq-is x v, go xs) refl
+
+-- the VRPs of a set are those that it has
+pub items_contain : (s : set.VrpSet) (v : Vrp) → Contains (set.items s) v ↔ IsTrue (set.contains s v)
+items_contain s v = (
+  λ there. contains-items s v ∙ any_among (is_vrp v) (set.items s) v there (is_vrp-itself v),
+  λ has.
+      let found = among_any (is_vrp v) (set.items s) (sym (contains-items s v) ∙ has) in
+      subst (Contains (set.items s)) (sym (same_vrp-equal v found.0 found.2)) found.1,
+)
+
+-- the state over a list is the state over any set with the same VRPs
+pub state_has : (S : Vrp → Type 0) (items : List Vrp) → ((v : Vrp) → Contains items v ↔ S v) → (r : Route) → HasState S r (validation_state items r)
+state_has S items same r =
+    go (list_any (λ v. matches v r) items) (list_any (λ v. covers v r) items) refl refl
+  where
+    none : (p : Vrp → Bool) → list_any p items ≡ false → (v : Vrp) → S v → p v ≡ false
+    none p never v in_set =
+        elim (cases_Bool (p v)) [
+          | inl passes ↦ absurd (true≢false (sym (any_among p items v ((same v).1 in_set) passes) ∙ never))
+          | inr fails ↦ fails
+        ]
+
+    some : (p : Vrp → Bool) → list_any p items ≡ true → (v : Vrp) × S v × (p v ≡ true)
+    some p any =
+        let found = among_any p items any in
+        (found.0, (same found.0).0 found.1, found.2)
+
+    go : (m c : Bool) → list_any (λ v. matches v r) items ≡ m → list_any (λ v. covers v r) items ≡ c → HasState S r (if m then Valid else if c then Invalid else NotFound)
+    go true c matched covered = some (λ v. matches v r) matched
+    go false true matched covered = (some (λ v. covers v r) covered, none (λ v. matches v r) matched)
+    go false false matched covered = none (λ v. covers v r) covered
+
+-- states that are those over a list are those of the VRPs of the day, where the list has just these
+pub states_on : (history : History) (day : ℕ) (items : List Vrp) → ((v : Vrp) → Contains items v ↔ IsVrpOn history day v) → (routes : List Route) (states : List Validity) → map state_of states ≡ map (λ r. validation_state items r) routes → AreStatesOn history day routes states
+states_on history day items same [] [] equal = tt
+states_on history day items same [] (s ∷ states) equal = cc
+states_on history day items same (r ∷ routes) [] equal = cc
+states_on history day items same (r ∷ routes) (s ∷ states) equal =
+    let first : state_of s ≡ validation_state items r = cc in
+    let rest : map state_of states ≡ map (λ r. validation_state items r) routes = cc in
+    (subst (HasState (IsVrpOn history day) r) (sym first) (state_has (IsVrpOn history day) items same r), states_on history day items same routes states rest)
+
+-- an index that has just what the rows give lists just the VRPs of the day
+pub items_on : (charter : Charter) (rows : List ℕ → Option Rows) (history : History) → IsLegal charter history → HasRows rows history → (day : ℕ) (index : set.VrpSet) → ((v : Vrp) → IsTrue (set.contains index v) ↔ IsGivenOn rows day v) → (v : Vrp) → Contains (set.items index) v ↔ IsVrpOn history day v
+items_on charter rows history legal has day index given v =
+    let on = given_on charter rows history legal has day v in
+    let contains = items_contain index v in
+    let there = given v in
+    (λ among. on.0 (there.0 (contains.0 among)), λ is. contains.1 (there.1 (on.1 is)))

@@ -1,0 +1,8 @@
+pub mod Outcomes
+pub mod RecordLemmas
+pub mod VrpLemmas
+pub mod ContentLemmas
+pub mod DeskLemmas
+pub mod RunLemmas
+pub mod DailyLemmas
+pub mod ExportLemmas

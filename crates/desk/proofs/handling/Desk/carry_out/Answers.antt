@@ -1,0 +1,9 @@
+use Rattle.desk.specs.Desk.{charter_of, desk_rows}
+use Rattle.desk.specs.DeskRows.{rows_at}
+use Rattle.desk.proofs.DeskLemmas.{done_answered}
+use Rattle.desk.proofs.handling.Desk.carry_out.Goals as goal
+
+pub returns-in-Ok-apply-clause-answered : goal.returns-in-Ok-apply-clause-answered
+returns-in-Ok-apply-clause-answered c = λ history legal has.
+    done_answered (charter_of c.args.self.now) history c.args.day c.args.caller.now c.args.command.now c.in-Ok.change c.number-number.result
+    (desk_rows c.args.self.now) (rows_at c.apply.new.self) legal has (c.in-Ok.ensures history legal has) c.number-number.ensures c.in-Ok-apply.ensures.ok

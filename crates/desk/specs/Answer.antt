@@ -1,0 +1,142 @@
+-- What the desk may reply to a request on a history, and the history that this leaves: a command is
+-- accepted exactly where its rules hold on the commands accepted before it, else it changes nothing
+-- and is answered with the first rule that fails; what is shown, exported and judged is what the
+-- history defines. Where no memory is found the reply is Unavailable and nothing has changed.
+use Rattle.std.specs.Prelude.{◌≡◌, ℕ, Bool, true, false, List, [], ◌∷◌, Option, Some, None, ◌↔◌, Contains}
+use Rattle.std.specs.String.{string_bytes}
+use Rattle.addr.specs.OriginValidation.{HasState}
+use Rattle.addr.specs.declared.route.Route.{Route}
+use Rattle.addr.specs.declared.vrp.Vrp.{Vrp}
+use Rattle.payload.specs.Rising.{AreRising}
+use Rattle.payload.specs.ValidityState.{state_of}
+use Rattle.payload.specs.declared.validity.Validity.{Validity}
+use Rattle.policy.specs.Answer.{number_given, IsShown, IsListed}
+use Rattle.policy.specs.DailyVrps.{IsVrpOn}
+use Rattle.policy.specs.History.{History}
+use Rattle.policy.specs.Verdict.{Verdict, ShowVerdict, ListVerdict, IsLegal}
+use Rattle.policy.specs.Rows.{Rows}
+use Rattle.policy.specs.declared.authorization.Auth.{Auth}
+use Rattle.policy.specs.declared.charter.Charter.{Charter}
+use Rattle.policy.specs.declared.command.Command.{Command}
+use Rattle.policy.specs.declared.command.Query.{Query}
+use Rattle.policy.specs.declared.command.Query.TheVariants.{Show as ShowQuery, Content as ContentQuery, List as ListQuery, Payloads as PayloadsQuery, Validity as ValidityQuery}
+use Rattle.desk.specs.ContentText.{IsContentText}
+use Rattle.desk.specs.DeskRows.{HasRows}
+use Rattle.desk.specs.declared.asked.Request.{Request}
+use Rattle.desk.specs.declared.asked.Request.TheVariants.{Command as CommandRequest, Query as QueryRequest}
+use Rattle.desk.specs.declared.reply.Reply.{Reply}
+use Rattle.desk.specs.declared.reply.Reply.TheVariants.{Done, Shown, Content, Listed, Payloads, Answers as Validities, Denied, Unavailable}
+
+-- the VRPs of the day, rising
+abbrev pub AreVrpsOn : History → ℕ → List Vrp → Type 0
+AreVrpsOn history day vrps = AreRising vrps × ((v : Vrp) → Contains vrps v ↔ IsVrpOn history day v)
+
+-- the state of each route over the VRPs of the day, in the order of the routes
+abbrev pub AreStatesOn : History → ℕ → List Route → List Validity → Type 0
+AreStatesOn history day [] [] = Unit {0}
+AreStatesOn history day [] (s ∷ states) = ⊥
+AreStatesOn history day (r ∷ routes) [] = ⊥
+AreStatesOn history day (r ∷ routes) (s ∷ states) =
+    HasState (IsVrpOn history day) r (state_of s) × AreStatesOn history day routes states
+
+-- the reply says that a command was accepted
+abbrev pub is_done : Reply → Bool
+is_done (Done number) = true
+is_done (Shown x) = false
+is_done (Content text) = false
+is_done (Listed xs) = false
+is_done (Payloads vrps) = false
+is_done (Validities states) = false
+is_done (Denied rule row) = false
+is_done Unavailable = false
+
+-- the reply to a command, and the history after it
+abbrev pub AnswersCommand : Charter → History → ℕ → List ℕ → Command → Reply → History → Type 0
+AnswersCommand charter before day caller command (Done number) after =
+    Verdict charter before day caller command None
+    × (number ≡ number_given before command)
+    × (after ≡ record { day = day; caller = caller; command = command } ∷ before)
+AnswersCommand charter before day caller command (Denied rule row) after =
+    Verdict charter before day caller command (Some rule) × (row ≡ None) × (after ≡ before)
+AnswersCommand charter before day caller command Unavailable after = after ≡ before
+AnswersCommand charter before day caller command (Shown x) after = ⊥
+AnswersCommand charter before day caller command (Content text) after = ⊥
+AnswersCommand charter before day caller command (Listed xs) after = ⊥
+AnswersCommand charter before day caller command (Payloads vrps) after = ⊥
+AnswersCommand charter before day caller command (Validities states) after = ⊥
+
+-- the reply to a request to show an authorization
+abbrev pub AnswersShow : History → List ℕ → ℕ → List ℕ → ℕ → Reply → Type 0
+AnswersShow history h day caller n (Shown x) = IsShown history h day caller n x
+AnswersShow history h day caller n (Denied rule row) = ShowVerdict history h day caller n (Some rule) × (row ≡ None)
+AnswersShow history h day caller n Unavailable = Unit {0}
+AnswersShow history h day caller n (Done number) = ⊥
+AnswersShow history h day caller n (Content text) = ⊥
+AnswersShow history h day caller n (Listed xs) = ⊥
+AnswersShow history h day caller n (Payloads vrps) = ⊥
+AnswersShow history h day caller n (Validities states) = ⊥
+
+-- the reply to a request for the ROA content of an authorization: that of the terms that would be shown
+abbrev pub AnswersContent : History → List ℕ → ℕ → List ℕ → ℕ → Reply → Type 0
+AnswersContent history h day caller n (Content text) =
+    (x : Auth) × IsShown history h day caller n x × IsContentText x (string_bytes text)
+AnswersContent history h day caller n (Denied rule row) = ShowVerdict history h day caller n (Some rule) × (row ≡ None)
+AnswersContent history h day caller n Unavailable = Unit {0}
+AnswersContent history h day caller n (Done number) = ⊥
+AnswersContent history h day caller n (Shown x) = ⊥
+AnswersContent history h day caller n (Listed xs) = ⊥
+AnswersContent history h day caller n (Payloads vrps) = ⊥
+AnswersContent history h day caller n (Validities states) = ⊥
+
+-- the reply to a request to list authorizations
+abbrev pub AnswersList : History → List ℕ → ℕ → List ℕ → Reply → Type 0
+AnswersList history h day caller (Listed xs) = IsListed history h day caller xs.items
+AnswersList history h day caller (Denied rule row) = ListVerdict history h day caller (Some rule) × (row ≡ None)
+AnswersList history h day caller Unavailable = Unit {0}
+AnswersList history h day caller (Done number) = ⊥
+AnswersList history h day caller (Shown x) = ⊥
+AnswersList history h day caller (Content text) = ⊥
+AnswersList history h day caller (Payloads vrps) = ⊥
+AnswersList history h day caller (Validities states) = ⊥
+
+-- the reply to a request for the VRPs of a day
+abbrev pub AnswersPayloads : History → ℕ → Reply → Type 0
+AnswersPayloads history day (Payloads vrps) = AreVrpsOn history day vrps.items
+AnswersPayloads history day Unavailable = Unit {0}
+AnswersPayloads history day (Done number) = ⊥
+AnswersPayloads history day (Shown x) = ⊥
+AnswersPayloads history day (Content text) = ⊥
+AnswersPayloads history day (Listed xs) = ⊥
+AnswersPayloads history day (Denied rule row) = ⊥
+AnswersPayloads history day (Validities states) = ⊥
+
+-- the reply to a request to judge routes
+abbrev pub AnswersValidity : History → ℕ → List Route → Reply → Type 0
+AnswersValidity history day routes (Validities states) = AreStatesOn history day routes states.items
+AnswersValidity history day routes Unavailable = Unit {0}
+AnswersValidity history day routes (Done number) = ⊥
+AnswersValidity history day routes (Shown x) = ⊥
+AnswersValidity history day routes (Content text) = ⊥
+AnswersValidity history day routes (Listed xs) = ⊥
+AnswersValidity history day routes (Payloads vrps) = ⊥
+AnswersValidity history day routes (Denied rule row) = ⊥
+
+abbrev pub AnswersQuery : History → ℕ → List ℕ → Query → Reply → Type 0
+AnswersQuery history day caller (ShowQuery h n) reply = AnswersShow history h day caller n reply
+AnswersQuery history day caller (ContentQuery h n) reply = AnswersContent history h day caller n reply
+AnswersQuery history day caller (ListQuery h) reply = AnswersList history h day caller reply
+AnswersQuery history day caller PayloadsQuery reply = AnswersPayloads history day reply
+AnswersQuery history day caller (ValidityQuery routes) reply = AnswersValidity history day routes.items reply
+
+abbrev pub Answers : Charter → History → ℕ → List ℕ → Request → Reply → History → Type 0
+Answers charter before day caller (CommandRequest command) reply after =
+    AnswersCommand charter before day caller command reply after
+Answers charter before day caller (QueryRequest query) reply after =
+    AnswersQuery before day caller query reply × (after ≡ before)
+
+-- a request was answered: the rows are those of the history that the answer leaves, which is legal
+pub record IsAnswered (charter : Charter) (before : History) (day : ℕ) (caller : List ℕ) (request : Request) (reply : Reply) (rows : List ℕ → Option Rows) : Type 0 where
+  pub after : History
+  pub legal : IsLegal charter after
+  pub answers : Answers charter before day caller request reply after
+  pub rows_after : HasRows rows after

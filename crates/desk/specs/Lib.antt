@@ -1,0 +1,5 @@
+pub mod DeskRows
+pub mod Answer
+pub mod Run
+pub mod ContentText
+pub mod Desk

@@ -1,0 +1,66 @@
+ghost use Rattle.std.specs.Prelude.{◌≡◌, map, IfOk, ◌++◌, is_some};
+ghost use Rattle.std.specs.Option.{option_to_list};
+ghost use Rattle.addr.specs.OriginValidation.{validation_state};
+ghost use Rattle.payload.specs.Rising.{AreRising};
+ghost use Rattle.payload.specs.ValidityState.{state_of};
+ghost use Rattle.payload.specs.VrpSet as set;
+
+use addr::{Route, Vrp};
+use payload::{PayloadIndex, Sink, Stop, Validity};
+use std::alloc::{AllocError, Global};
+
+/// VRPs gathered in a vector, until one finds no room.
+#[derive(Drop)]
+struct Gathering {
+    vrps: Vec<Vrp>,
+    without_room: Option<Vrp>,
+}
+
+impl Sink for Gathering {
+    ghost given = { λ g. g.vrps.items ++ option_to_list g.without_room };
+
+    ghost has_stopped = { λ g. is_some g.without_room };
+
+    fn take(&mut self, vrp: &Vrp) -> Result<(), Stop> {
+        match self.vrps.push(*vrp) {
+            Ok(()) => {
+                self.without_room = None;
+                Ok(())
+            }
+            Err(_) => {
+                self.without_room = Some(*vrp);
+                Err(Stop)
+            }
+        }
+    }
+}
+
+/// The VRPs of an index, rising, each once.
+pub(crate) fn gather<I: PayloadIndex>(alloc: Global, index: &I) -> Result<Vec<Vrp>, AllocError>
+    ensures items { IfOk result (λ vrps. vrps.items ≡ set.items (I.vrps index.now)) }
+    ensures rising { IfOk result (λ vrps. AreRising vrps.items) }
+{
+    let mut gathering = Gathering {
+        vrps: Vec::new(alloc),
+        without_room: None,
+    };
+    match index.visit(&mut gathering) {
+        Ok(()) => Ok(gathering.vrps),
+        Err(Stop) => Err(AllocError),
+    }
+}
+
+/// The validation state of each route over the VRPs of an index.
+pub(crate) fn judge<I: PayloadIndex>(
+    alloc: Global,
+    index: &I,
+    routes: &[Route],
+) -> Result<Vec<Validity>, AllocError>
+    ensures { IfOk result (λ states. map state_of states.items ≡ map (λ r. validation_state (set.items (I.vrps index.now)) r) routes.now) }
+{
+    let mut states = Vec::with_capacity(alloc, routes.len())?;
+    for route in routes {
+        states.push(index.validity(route))?;
+    }
+    Ok(states)
+}

@@ -1,0 +1,13 @@
+//! The desk: what is asked of it, and what it replies.
+#![tactic(auto)]
+
+mod asked;
+mod content;
+mod gathering;
+mod handling;
+mod records;
+mod reply;
+
+pub use asked::{Asked, Request};
+pub use handling::Desk;
+pub use reply::Reply;

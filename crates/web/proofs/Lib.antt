@@ -1,0 +1,8 @@
+pub mod LineSplits
+pub mod ReplyLemmas
+pub mod ScriptAlong
+pub mod ScriptLemmas
+pub mod StreamLemmas
+mod TrailMade
+pub mod RequestLemmas
+pub mod SessionLemmas

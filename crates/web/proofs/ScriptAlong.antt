@@ -1,0 +1,41 @@
+-- A script over states is a script over what the states stand for, as histories: where each answer is
+-- one there, so are the replies to all lines.
+use Rattle.std.proofs.Common.{ℕ, List, [], ◌∷◌, Option, refl}
+use Rattle.web.specs.ScriptLines.{within_limit}
+use Rattle.web.specs.Script.{Replies, AnswersEach, BreaksOff}
+
+module _ {State History : Type 0}
+    (answers : State → Option (List ℕ) → List ℕ → State → Type 0)
+    (StandsFor : State → History → Type 0)
+    (answers_there : History → Option (List ℕ) → List ℕ → History → Type 0)
+    (each : (state next : State) (line : Option (List ℕ)) (reply : List ℕ) (history : History)
+    → StandsFor state history → answers state line reply next
+    → (later : History) × StandsFor next later × answers_there history line reply later) where
+  pub Replies-along : (old new : State) (lines : List (List ℕ)) (text : List ℕ) (history : History)
+      → StandsFor old history → Replies answers old lines text new
+      → (later : History) × StandsFor new later × Replies answers_there history lines text later
+  Replies-along old new [] text history stands script = (history, rw script.1 stands, (script.0, refl))
+  Replies-along old new (line ∷ lines) text history stands script =
+      let (reply, replies, next, is_text, acted, rest) = script in
+      let (between, stands_between, acted_there) = each old next (within_limit line) reply history stands acted in
+      let (later, stands_later, rest_there) = Replies-along next new lines replies between stands_between rest in
+      (later, stands_later, (reply, replies, between, is_text, acted_there, rest_there))
+
+  pub AnswersEach-along : (old new : State) (lines : List (List ℕ)) (w w' : List ℕ) (history : History)
+      → StandsFor old history → AnswersEach answers old new lines w w'
+      → (later : History) × StandsFor new later × AnswersEach answers_there history later lines w w'
+  AnswersEach-along old new lines w w' history stands (text, script, written) =
+      let (later, stands_later, script_there) = Replies-along old new lines text history stands script in
+      (later, stands_later, (text, script_there, written))
+
+  pub BreaksOff-along : (old new : State) (lines : List (List ℕ)) (w w' : List ℕ) (history : History)
+      → StandsFor old history → BreaksOff answers old new lines w w'
+      → (later : History) × StandsFor new later × BreaksOff answers_there history later lines w w'
+  BreaksOff-along old new lines w w' history stands broken =
+      let (before, after, line, text, reply, next, are, script, acted, written) = broken in
+      let (between, stands_between, script_there) = Replies-along old next before text history stands script in
+      let (later, stands_later, acted_there) = each next new (within_limit line) reply between stands_between acted in (
+        later,
+        stands_later,
+        (before, after, line, text, reply, between, are, script_there, acted_there, written),
+      )

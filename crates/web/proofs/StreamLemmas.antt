@@ -1,0 +1,18 @@
+-- Lemmas on what has passed a stream.
+use Rattle.std.proofs.Common.{◌≡◌, ℕ, List, ◌++◌, take, drop, sym, ◌∙◌, ap, append_assoc}
+use Rattle.std.proofs.lemmas.List.{append-nil, take-append-drop}
+use Rattle.web.specs.Streams.{AppendsBeginning}
+
+-- the first n bytes of a text are a beginning of it
+pub AppendsBeginning-take : (old new text : List ℕ) (n : ℕ) → new ≡ old ++ take n text → AppendsBeginning old new text
+AppendsBeginning-take old new text n is_out = (take n text, drop n text, is_out, sym (take-append-drop n text))
+
+-- two calls pass one list of bytes
+pub passes-more : (old xs middle ys new : List ℕ) → middle ≡ old ++ xs → new ≡ middle ++ ys → new ≡ old ++ (xs ++ ys)
+passes-more old xs middle ys new first second = second ∙ ap (λ u. u ++ ys) first ∙ append_assoc old xs ys
+
+-- a call that passes no byte
+pub passes-nothing : (old xs middle buffer : List ℕ) (n : ℕ) (new : List ℕ)
+    → middle ≡ old ++ xs → n ≡ 0 → new ≡ middle ++ take n buffer → new ≡ old ++ xs
+passes-nothing old xs middle buffer n new first is_none second =
+    second ∙ ap (λ k. middle ++ take k buffer) is_none ∙ append-nil middle ∙ first

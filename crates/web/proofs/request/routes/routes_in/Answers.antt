@@ -1,0 +1,23 @@
+use Rattle.std.proofs.Common.{refl}
+use Rattle.std.proofs.lemmas.List.{length-map}
+use Rattle.json_parts.proofs.PartsLemmas.{mapped-unless}
+use Rattle.json_parts.proofs.TreeLemmas.{list_of-items_view}
+use Rattle.web.specs.RequestFault.{fault_number}
+use Rattle.web.proofs.request.routes.routes_in.Goals as goal
+
+pub returns : goal.returns
+returns c =
+    rw (
+      c.unless.ensures,
+      mapped-unless fault_number (λ v. v.items) c.in_ok-routes.routes c.count_of.result,
+      c.in_ok-routes.ensures,
+      c.count_of.ensures,
+      c.as_slice.ensures.value,
+      ← c.in-Some.ensures,
+      ← c.in-Some-as_array.ensures,
+      list_of-items_view c.in-Some-as_array.values.now.items,
+      length-map,
+      c.len.ensures,
+      ← c.as_slice.ensures.len,
+      c.as_slice.ensures.value,
+    ) refl

@@ -1,0 +1,12 @@
+pub mod Devices
+pub mod LineSplitting
+pub mod ReplyItems
+pub mod ReplyText
+pub mod Script
+pub mod ScriptFault
+pub mod ScriptLines
+pub mod Streams
+pub mod Trail
+pub mod RequestFault
+pub mod RequestText
+pub mod ScriptAnswer

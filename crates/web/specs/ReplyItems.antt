@@ -1,0 +1,17 @@
+-- The items of a list in a reply, as they are written one after the other.
+use Rattle.std.specs.Prelude.{ℕ, Bool, true, false, List, [], ◌∷◌, ◌++◌}
+use Rattle.web.specs.ReplyText.{comma_joined}
+
+-- an item, behind a comma where it is not the first
+abbrev pub item_after : Bool → List ℕ → List ℕ
+item_after true text = text
+item_after false text = 44 ∷ text
+
+abbrev pub after_commas : List (List ℕ) → List ℕ
+after_commas [] = []
+after_commas (text ∷ texts) = item_after false text ++ after_commas texts
+
+-- the items that are left, of which the first is or is not the first of the list
+abbrev pub items_left : Bool → List (List ℕ) → List ℕ
+items_left true texts = comma_joined texts
+items_left false texts = after_commas texts

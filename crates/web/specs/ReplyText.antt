@@ -1,0 +1,102 @@
+-- The texts of replies: each a JSON object (RFC 8259) without spaces, with its members in the order
+-- of the format, and a line feed.
+use Rattle.std.specs.Prelude.{ℕ, List, ◌++◌, map, codes, decimal, Option, Some, None}
+use Rattle.std.specs.List.{join_with_byte}
+use Rattle.std.specs.String.{string_bytes}
+use Rattle.addr.specs.Day.{day_text}
+use Rattle.addr.specs.PrefixText.{spelling}
+use Rattle.addr.specs.declared.asn.Asn.{Asn}
+use Rattle.addr.specs.declared.prefix.Prefix.{Prefix}
+use Rattle.addr.specs.declared.vrp.Vrp.{Vrp}
+use Rattle.policy.specs.declared.authorization.Auth.{Auth}
+use Rattle.policy.specs.declared.rule.Rule.{Rule}
+use Rattle.policy.specs.Rule.{rule_name}
+use Rattle.desk.specs.declared.reply.Reply.{Reply}
+use Rattle.desk.specs.declared.reply.Reply.TheVariants.{Done, Shown, Content, Listed, Payloads, Answers, Denied, Unavailable}
+use Rattle.payload.specs.declared.validity.Validity.{Validity}
+use Rattle.payload.specs.declared.validity.Validity.TheVariants.{Valid, Invalid, NotFound}
+use Rattle.web.specs.declared.malformed.Malformed.{Malformed}
+
+-- ---- parts
+
+-- the members that authorizations and VRPs share
+abbrev pub terms_text : Asn → Prefix → ℕ → List ℕ
+terms_text asn prefix max =
+    codes "\"asn\":" ++ decimal asn.0
+    ++ codes ",\"prefix\":\"" ++ spelling prefix.family prefix.first prefix.length
+    ++ codes "\",\"max\":" ++ decimal max
+
+abbrev pub auth_text : Auth → List ℕ
+auth_text auth =
+    codes "{\"number\":" ++ decimal auth.number
+    ++ codes "," ++ terms_text auth.asn auth.prefix auth.max
+    ++ codes ",\"from\":\"" ++ day_text auth.from
+    ++ codes "\",\"until\":\"" ++ day_text auth.until
+    ++ codes "\"}"
+
+abbrev pub vrp_text : Vrp → List ℕ
+vrp_text vrp = codes "{" ++ terms_text vrp.asn vrp.prefix vrp.max ++ codes "}"
+
+-- a route origin validation state (RFC 6811 section 2)
+abbrev pub validity_text : Validity → List ℕ
+validity_text Valid = codes "\"Valid\""
+validity_text Invalid = codes "\"Invalid\""
+validity_text NotFound = codes "\"NotFound\""
+
+-- the texts with a comma between each two
+abbrev pub comma_joined : List (List ℕ) → List ℕ
+comma_joined texts = join_with_byte 44 texts
+
+-- ---- replies
+
+abbrev pub done_text : Option ℕ → List ℕ
+done_text None = codes "{\"done\":null}\n"
+done_text (Some number) = codes "{\"done\":" ++ decimal number ++ codes "}\n"
+
+abbrev pub denied_text : Rule → Option ℕ → List ℕ
+denied_text rule None = codes "{\"denied\":\"" ++ rule_name rule ++ codes "\"}\n"
+denied_text rule (Some row) = codes "{\"denied\":\"" ++ rule_name rule ++ codes "\",\"row\":" ++ decimal row ++ codes "}\n"
+
+abbrev pub unavailable_text : List ℕ
+unavailable_text = codes "{\"unavailable\":true}\n"
+
+-- the hex of a content
+abbrev pub content_text : List ℕ → List ℕ
+content_text hex = codes "{\"content\":\"" ++ hex ++ codes "\"}\n"
+
+-- an object with one member, a list, from its opening on
+abbrev pub list_text : List ℕ → List (List ℕ) → List ℕ
+list_text opening texts = opening ++ comma_joined texts ++ codes "]}\n"
+
+-- a reply
+abbrev pub line_text : Reply → List ℕ
+line_text (Done number) = done_text number
+line_text (Shown auth) = codes "{\"shown\":" ++ auth_text auth ++ codes "}\n"
+line_text (Content text) = content_text (string_bytes text)
+line_text (Listed auths) = list_text (codes "{\"listed\":[") (map auth_text auths.items)
+line_text (Payloads vrps) = list_text (codes "{\"payloads\":[") (map vrp_text vrps.items)
+line_text (Answers states) = list_text (codes "{\"answers\":[") (map validity_text states.items)
+line_text (Denied rule row) = denied_text rule row
+line_text Unavailable = unavailable_text
+
+-- the replies whose texts have a fixed bound
+abbrev pub short_text : Reply → Option (List ℕ)
+short_text (Done number) = Some (line_text (Done number))
+short_text (Shown auth) = None
+short_text (Content text) = None
+short_text (Listed auths) = None
+short_text (Payloads vrps) = None
+short_text (Answers states) = None
+short_text (Denied rule row) = Some (line_text (Denied rule row))
+short_text Unavailable = Some (line_text Unavailable)
+
+-- ---- malformed requests
+
+abbrev pub malformed_parts : ℕ → Option ℕ → List ℕ
+malformed_parts number None = codes "{\"malformed\":" ++ decimal number ++ codes "}\n"
+malformed_parts number (Some slurm) =
+    codes "{\"malformed\":" ++ decimal number ++ codes ",\"slurm\":" ++ decimal slurm ++ codes "}\n"
+
+-- the answer to a malformed request
+abbrev pub malformed_text : Malformed → List ℕ
+malformed_text malformed = malformed_parts malformed.number malformed.slurm

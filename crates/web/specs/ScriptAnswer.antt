@@ -1,0 +1,54 @@
+-- What a script's line is answered with, and the history that this leaves: a line that is no request
+-- has its malformed text, another the text of the desk's reply; a line for which no memory was found
+-- has the text of Unavailable and stands in no history.
+use Rattle.std.specs.Prelude.{◌≡◌, ℕ, List, Option, Some, None, ◌⊎◌}
+use Rattle.policy.specs.History.{History}
+use Rattle.policy.specs.declared.charter.Charter.{Charter}
+use Rattle.desk.specs.Answer.{Answers}
+use Rattle.desk.specs.Desk.{charter_of, StandsFor}
+use Rattle.web.specs.ReplyText.{line_text, malformed_text, unavailable_text}
+use Rattle.web.specs.RequestFault.{fault_number}
+use Rattle.web.specs.RequestText.{ReadsLine, request_fault}
+use Rattle.desk.specs.declared.asked.Asked.{Asked}
+use Rattle.desk.specs.declared.handling.Desk.{Desk}
+use Rattle.desk.specs.declared.reply.Reply.{Reply}
+use Rattle.web.specs.declared.malformed.Malformed.{Malformed}
+use Rattle.web.specs.declared.request.fault.Fault.TheVariants.{TooLong}
+use Rattle.web.specs.declared.session.LineAnswer.{LineAnswer}
+use Rattle.web.specs.declared.session.LineAnswer.TheVariants.{Refused, Replied}
+
+-- the fault of a line that is over the limit
+abbrev pub too_long : Malformed
+too_long = record { number = fault_number TooLong; slurm = None }
+
+-- the line is no request, and the text says why
+abbrev pub IsRefused : List ℕ → List ℕ → Type 0
+IsRefused line text = (m : Malformed) × (request_fault line ≡ Some m) × (text ≡ malformed_text m)
+
+-- the line is a request, and the text is the desk's reply to it
+abbrev pub IsReplied : Charter → History → List ℕ → List ℕ → History → Type 0
+IsReplied charter before line text after =
+    (asked : Asked) × (reply : Reply)
+    × ReadsLine line asked
+    × Answers charter before asked.day asked.caller asked.request reply after
+    × (text ≡ line_text reply)
+
+-- the answer to a line, `None` where it is over the limit
+abbrev pub AnswersLine : Charter → History → Option (List ℕ) → List ℕ → History → Type 0
+AnswersLine charter before None text after = (text ≡ malformed_text too_long) × (after ≡ before)
+AnswersLine charter before (Some line) text after =
+    (IsRefused line text × (after ≡ before))
+    ⊎ (IsReplied charter before line text after
+    ⊎ ((text ≡ unavailable_text) × (after ≡ before)))
+
+-- the answer to a line by a desk: that of every history that it stands for
+abbrev pub AnswersLineAt : Desk → Option (List ℕ) → List ℕ → Desk → Type 0
+AnswersLineAt old line text new =
+    (charter_of new ≡ charter_of old)
+    × ((history : History) → StandsFor (charter_of old) old history
+    → (after : History) × StandsFor (charter_of old) new after × AnswersLine (charter_of old) history line text after)
+
+-- the text of an answer to a line
+abbrev pub answer_text : LineAnswer → List ℕ
+answer_text (Refused malformed) = malformed_text malformed
+answer_text (Replied reply) = line_text reply

@@ -1,0 +1,85 @@
+//! The line that is being read.
+ghost use Rattle.std.specs.Prelude.{◌≡◌, ◌≤◌, ◌↔◌, ℕ, List, [], ◌∷◌, ◌++◌, Option, Some, None, IfOk, IsTrue, if◌then◌else◌, vec_len, vec_capacity};
+ghost use Rattle.std.specs.Option.{option_copied};
+ghost use Rattle.web.specs.ScriptLines.{within_limit};
+ghost use Rattle.web.specs.declared.lines.TheConstants.{LINE_LENGTH_LIMIT};
+
+use std::alloc::{AllocError, Global};
+use std::marker::Model;
+
+/// The longest line that is judged, in bytes without its line feed: 1 MiB.
+pub(crate) const LINE_LENGTH_LIMIT: usize = 1_048_576;
+
+/// The bytes of one line. Of a line that is too long nothing but that is known. The room for a line
+/// is taken once, when it is made.
+#[derive(Drop)]
+pub(crate) struct LineBuffer {
+    bytes: Vec<u8>,
+    is_too_long: bool,
+}
+
+impl Model for LineBuffer {
+    ghost Value = { Option (List ℕ) };
+
+    ghost view = { λ buffer. if buffer.is_too_long then None else Some buffer.bytes.items };
+
+    ghost invariant = { λ buffer.
+        (LINE_LENGTH_LIMIT ≤ vec_capacity buffer.bytes)
+        × (vec_len buffer.bytes ≤ LINE_LENGTH_LIMIT) };
+}
+
+#[tactic(auto, unfolding(crate::specs::ScriptLines::within_limit))]
+impl LineBuffer {
+    /// An empty line.
+    pub(crate) fn new(alloc: Global) -> Result<LineBuffer, AllocError>
+        ensures { IfOk result (λ buffer. buffer ≡ within_limit []) }
+    {
+        Ok(LineBuffer {
+            bytes: Vec::with_capacity(alloc, LINE_LENGTH_LIMIT)?,
+            is_too_long: false,
+        })
+    }
+
+    /// Puts a byte at the line's end.
+    pub(crate) fn push(&mut self, byte: u8)
+        ensures { (line : List ℕ) → self.old ≡ within_limit line
+            → self.new ≡ within_limit (line ++ byte ∷ []) }
+    {
+        if self.is_too_long {
+            return;
+        }
+        if self.bytes.len() == LINE_LENGTH_LIMIT {
+            self.is_too_long = true;
+            return;
+        }
+        let Ok(()) = self.bytes.push(byte) else {
+            unreachable!()
+        };
+    }
+
+    /// Begins the next line.
+    pub(crate) fn clear(&mut self)
+        ensures { self.new ≡ within_limit [] }
+    {
+        self.bytes.clear();
+        self.is_too_long = false;
+    }
+
+    /// Whether the line has no byte.
+    pub(crate) fn is_empty(&self) -> bool
+        ensures { IsTrue result ↔ (self.now ≡ within_limit []) }
+    {
+        !self.is_too_long && self.bytes.is_empty()
+    }
+
+    /// The line, or `None` where it is too long.
+    pub(crate) fn line(&self) -> Option<&[u8]>
+        ensures { option_copied result ≡ self.now }
+    {
+        if self.is_too_long {
+            None
+        } else {
+            Some(self.bytes.as_slice())
+        }
+    }
+}

@@ -1,0 +1,119 @@
+//! The texts of replies.
+ghost use Rattle.std.specs.Prelude.{◌≡◌, ◌++◌, true, codes, option_map, OnOk, OnErr};
+ghost use Rattle.web.specs.Streams.{AppendsBeginning};
+ghost use Rattle.web.specs.ReplyText.{auth_text, content_text, denied_text, done_text, line_text, short_text, unavailable_text};
+
+mod items;
+mod list;
+
+use crate::stream::{Drain, Failed, write_all};
+use addr::digits;
+use arrayvec::ArrayString;
+use desk::Reply;
+use items::ItemText;
+use list::write_list;
+use policy::{Auth, Rule};
+
+/// Writes the reply's text, with its line feed.
+pub fn write_reply<D: Drain>(reply: &Reply, drain: &mut D) -> Result<(), Failed>
+    ensures ok { OnOk result (D.written drain.new ≡ D.written drain.old ++ line_text reply.now) }
+    ensures err { OnErr result
+        (AppendsBeginning (D.written drain.old) (D.written drain.new) (line_text reply.now)) }
+    ensures failed { OnErr result (D.has_failed drain.new ≡ true) }
+{
+    match reply {
+        Reply::Done(number) => write_all(drain, done_text(*number).as_str().as_bytes()),
+        Reply::Shown(auth) => write_all(drain, shown_text(auth).as_str().as_bytes()),
+        Reply::Content(text) => write_content(text.as_str(), drain),
+        Reply::Listed(auths) => write_list(b"{\"listed\":[", auths.as_slice(), drain),
+        Reply::Payloads(vrps) => write_list(b"{\"payloads\":[", vrps.as_slice(), drain),
+        Reply::Answers(states) => write_list(b"{\"answers\":[", states.as_slice(), drain),
+        Reply::Denied(rule, row) => write_all(drain, denied_text(*rule, *row).as_str().as_bytes()),
+        Reply::Unavailable => write_all(drain, unavailable_text().as_str().as_bytes()),
+    }
+}
+
+/// The text of a reply that tells only whether something was done, with its line feed; `None` for
+/// the replies that show something.
+pub fn short_text(reply: &Reply) -> Option<ArrayString<128>>
+    ensures { option_map (λ text. text.bytes) result ≡ short_text reply.now }
+{
+    match reply {
+        Reply::Done(number) => Some(done_text(*number)),
+        Reply::Denied(rule, row) => Some(denied_text(*rule, *row)),
+        Reply::Unavailable => Some(unavailable_text()),
+        Reply::Shown(_)
+        | Reply::Content(_)
+        | Reply::Listed(_)
+        | Reply::Payloads(_)
+        | Reply::Answers(_) => None,
+    }
+}
+
+fn done_text(number: Option<u32>) -> ArrayString<128>
+    ensures { result.bytes ≡ done_text number }
+{
+    let mut text = ArrayString::new();
+    match number {
+        None => text.push_str("{\"done\":null}\n"),
+        Some(number) => {
+            text.push_str("{\"done\":");
+            text.push_str(digits(u64::from(number)).as_str());
+            text.push_str("}\n");
+        }
+    }
+    text
+}
+
+fn shown_text(auth: &Auth) -> ArrayString<280>
+    ensures { result.bytes ≡ codes "{\"shown\":" ++ auth_text auth.now ++ codes "}\n" }
+{
+    let mut text = ArrayString::new();
+    text.push_str("{\"shown\":");
+    text.push_str(auth.item_text().as_str());
+    text.push_str("}\n");
+    text
+}
+
+fn write_content<D: Drain>(hex: &str, drain: &mut D) -> Result<(), Failed>
+    ensures ok { OnOk result (D.written drain.new ≡ D.written drain.old ++ content_text hex.now) }
+    ensures err { OnErr result
+        (AppendsBeginning (D.written drain.old) (D.written drain.new) (content_text hex.now)) }
+    ensures failed { OnErr result (D.has_failed drain.new ≡ true) }
+{
+    let Ok(()) = write_all(drain, b"{\"content\":\"") else {
+        return Err(Failed);
+    };
+    let Ok(()) = write_all(drain, hex.as_bytes()) else {
+        return Err(Failed);
+    };
+    let Ok(()) = write_all(drain, b"\"}\n") else {
+        return Err(Failed);
+    };
+    Ok(())
+}
+
+fn denied_text(rule: Rule, row: Option<u64>) -> ArrayString<128>
+    ensures { result.bytes ≡ denied_text rule row }
+{
+    let mut text = ArrayString::new();
+    text.push_str("{\"denied\":\"");
+    text.push_str(rule.as_str());
+    match row {
+        None => text.push_str("\"}\n"),
+        Some(row) => {
+            text.push_str("\",\"row\":");
+            text.push_str(digits(row).as_str());
+            text.push_str("}\n");
+        }
+    }
+    text
+}
+
+fn unavailable_text() -> ArrayString<128>
+    ensures { result.bytes ≡ unavailable_text }
+{
+    let mut text = ArrayString::new();
+    text.push_str("{\"unavailable\":true}\n");
+    text
+}

@@ -1,0 +1,128 @@
+//! Reading requests from JSON lines.
+ghost use Rattle.std.specs.Prelude.{◌≡◌, Some, Err, IfOk};
+ghost use Rattle.serde_json.specs.View.{view};
+ghost use Rattle.json_parts.specs.Parts.{mapped};
+ghost use Rattle.json_parts.specs.Tree.{tree_of};
+ghost use Rattle.web.specs.RequestText.{action_in, asked_as, asked_by, asked_in, asked_terms, ReadsLine, request_fault, request_in, request_terms};
+
+mod action;
+mod commands;
+pub(crate) mod fault;
+pub(crate) mod members;
+mod routes;
+
+use crate::lines::LINE_LENGTH_LIMIT;
+use crate::malformed::Malformed;
+use action::{Action, action_in, only_members_of};
+use addr::{Day, Name};
+use desk::{Asked, Request};
+use fault::Fault;
+use json_parts::{both, tree_of, unless};
+use members::{caller_in, day_in};
+use policy::{Command, Query};
+use serde_json::Value;
+use std::alloc::{AllocError, Global};
+
+/// Why a line is no request.
+#[derive(Clone, Copy, Debug, PartialEq, Eq)]
+pub enum LineFault {
+    Malformed(Malformed),
+    /// A growth of memory was refused. Nothing is said of the line.
+    Memory,
+}
+
+/// Reads the request that a line is. A JSON number is taken where it is written in plain digits; of a
+/// repeated member the last value counts.
+pub fn read_line_request(alloc: Global, line: &[u8]) -> Result<Asked, LineFault>
+    ensures ok { IfOk result (ReadsLine line.now) }
+    ensures malformed { (m : Malformed) → result ≡ Err (LineFault.Malformed m)
+        → request_fault line.now ≡ Some m }
+{
+    match asked_in(alloc, line) {
+        Ok(Ok(asked)) => Ok(asked),
+        Ok(Err(fault)) => Err(LineFault::Malformed(fault.malformed())),
+        Err(_) => Err(LineFault::Memory),
+    }
+}
+
+// In what follows an outer error is want of memory.
+
+fn asked_in(alloc: Global, line: &[u8]) -> Result<Result<Asked, Fault>, AllocError>
+    ensures { IfOk result (λ asked. mapped asked_terms asked ≡ asked_in line.now) }
+{
+    if line.len() > LINE_LENGTH_LIMIT {
+        return Ok(Err(Fault::TooLong));
+    }
+    match tree_of(alloc, line)? {
+        Some(value) => asked_by(alloc, &value),
+        None => Ok(Err(Fault::Json)),
+    }
+}
+
+fn asked_by(alloc: Global, value: &Value) -> Result<Result<Asked, Fault>, AllocError>
+    ensures { IfOk result (λ asked. mapped asked_terms asked
+        ≡ asked_by (action_in (view value.now)) (view value.now)) }
+{
+    match action_in(value) {
+        Some(action) => asked_as(alloc, action, value),
+        None => Ok(Err(Fault::Members)),
+    }
+}
+
+fn asked_as(
+    alloc: Global,
+    action: Action,
+    value: &Value,
+) -> Result<Result<Asked, Fault>, AllocError>
+    ensures { IfOk result (λ asked. mapped asked_terms asked ≡ asked_as action (view value.now)) }
+{
+    let request = request_in(alloc, action, value)?;
+    let asked = asked_with(both(
+        day_in(value, "day"),
+        both(caller_in(value, "caller"), request),
+    ));
+    Ok(unless(asked, only_members_of(action, value)))
+}
+
+fn asked_with(parts: Result<(Day, (Name, Request)), Fault>) -> Result<Asked, Fault>
+    ensures { result ≡ mapped (λ p. record { day = p.0; caller = p.1.0; request = p.1.1 }) parts }
+{
+    let (day, (caller, request)) = parts?;
+    Ok(Asked {
+        day,
+        caller,
+        request,
+    })
+}
+
+fn request_in(
+    alloc: Global,
+    action: Action,
+    value: &Value,
+) -> Result<Result<Request, Fault>, AllocError>
+    ensures { IfOk result (λ request. mapped request_terms request
+        ≡ request_in action (view value.now)) }
+{
+    match action {
+        Action::Register => Ok(commanded(commands::register_in(value))),
+        Action::Delegate => Ok(commanded(commands::delegate_in(value))),
+        Action::Transfer => Ok(commanded(commands::transfer_in(value))),
+        Action::Reclaim => Ok(commanded(commands::reclaim_in(value))),
+        Action::Grant => Ok(commanded(commands::grant_in(value))),
+        Action::Revoke => Ok(commanded(commands::revoke_in(value))),
+        Action::Create => Ok(commanded(commands::create_in(value))),
+        Action::Amend => Ok(commanded(commands::amend_in(value))),
+        Action::Withdraw => Ok(commanded(commands::withdraw_in(value))),
+        Action::Show => Ok(commands::show_in(value)),
+        Action::Content => Ok(commands::content_in(value)),
+        Action::List => Ok(commands::list_in(value)),
+        Action::Payloads => Ok(Ok(Request::Query(Query::Payloads))),
+        Action::Validity => routes::validity_in(alloc, value),
+    }
+}
+
+fn commanded(command: Result<Command, Fault>) -> Result<Request, Fault>
+    ensures { result ≡ mapped (λ c. Request.Command c) command }
+{
+    Ok(Request::Command(command?))
+}

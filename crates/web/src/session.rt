@@ -1,0 +1,106 @@
+//! Scripts over a desk.
+ghost use Rattle.std.specs.Prelude.{◌≡◌, ◌++◌, ℕ, List, true, Err, OnOk, OnErr};
+ghost use Rattle.std.specs.Option.{option_copied};
+ghost use Rattle.policy.specs.History.{History};
+ghost use Rattle.desk.specs.Desk.{charter_of, StandsFor};
+ghost use Rattle.web.specs.Script.{AnswersEach, BreaksOff};
+ghost use Rattle.web.specs.ScriptAnswer.{AnswersLine, AnswersLineAt, answer_text};
+ghost use Rattle.web.specs.ScriptLines.{script_lines, whole_lines};
+ghost use Rattle.web.specs.Streams.{AppendsBeginning};
+
+use crate::malformed::Malformed;
+use crate::reply::write_reply;
+use crate::request::fault::Fault;
+use crate::request::{LineFault, read_line_request};
+use crate::script::{AnswerLines, ScriptFault, run_lines};
+use crate::stream::{Drain, Failed, Source, write_all};
+use desk::{Desk, Reply};
+use std::alloc::Global;
+
+/// What a line of a script is answered with.
+#[derive(Debug, Drop)]
+enum LineAnswer {
+    Refused(Malformed),
+    Replied(Reply),
+}
+
+impl LineAnswer {
+    fn write<D: Drain>(&self, drain: &mut D) -> Result<(), Failed>
+        ensures ok { OnOk result (D.written drain.new ≡ D.written drain.old ++ answer_text self.now) }
+        ensures err { OnErr result (AppendsBeginning (D.written drain.old) (D.written drain.new) (answer_text self.now)) }
+        ensures failed { OnErr result (D.has_failed drain.new ≡ true) }
+    {
+        match self {
+            LineAnswer::Refused(malformed) => write_all(
+                drain,
+                malformed.text().as_str().as_bytes(),
+            ),
+            LineAnswer::Replied(reply) => write_reply(reply, drain),
+        }
+    }
+}
+
+/// Asks the desk what a line says; `None` is a line that is over the limit.
+fn answer_to(alloc: Global, desk: &mut Desk, line: Option<&[u8]>) -> LineAnswer
+    ensures { AnswersLineAt desk.old (option_copied line.entry) (answer_text result) desk.new }
+{
+    let Some(line) = line else {
+        return LineAnswer::Refused(Fault::TooLong.malformed());
+    };
+    match read_line_request(alloc, line) {
+        Ok(asked) => LineAnswer::Replied(desk.handle(asked.day, &asked.caller, &asked.request)),
+        Err(LineFault::Malformed(malformed)) => LineAnswer::Refused(malformed),
+        Err(LineFault::Memory) => LineAnswer::Replied(Reply::Unavailable),
+    }
+}
+
+impl AnswerLines for Desk {
+    ghost answers = { AnswersLineAt };
+
+    fn answer<D: Drain>(
+        &mut self,
+        alloc: Global,
+        drain: &mut D,
+        line: Option<&[u8]>,
+    ) -> Result<(), Failed> {
+        let answer = answer_to(alloc, self, line);
+        answer.write(drain)?;
+        Ok(())
+    }
+}
+
+/// Answers the lines of the source on the desk, one after the other, and writes each reply before
+/// the next line is acted on. The last line may lack its line feed.
+pub fn run_script<S: Source, D: Drain>(
+    alloc: Global,
+    source: &mut S,
+    drain: &mut D,
+    desk: &mut Desk,
+) -> Result<(), ScriptFault>
+    ensures ok { OnOk result ((history : History) → StandsFor (charter_of desk.old) desk.old history
+        → (input : List ℕ) × (after : History)
+        × (S.handed_out source.new ≡ S.handed_out source.old ++ input)
+        × (S.has_ended source.new ≡ true)
+        × StandsFor (charter_of desk.old) desk.new after
+        × AnswersEach (AnswersLine (charter_of desk.old)) history after (script_lines input) (D.written drain.old) (D.written drain.new)) }
+
+    // What came after the last line feed is dropped.
+    ensures read { result ≡ Err ScriptFault.Read → (history : History) → StandsFor (charter_of desk.old) desk.old history
+        → (input : List ℕ) × (after : History)
+        × (S.handed_out source.new ≡ S.handed_out source.old ++ input)
+        × (S.has_failed source.new ≡ true)
+        × StandsFor (charter_of desk.old) desk.new after
+        × AnswersEach (AnswersLine (charter_of desk.old)) history after (whole_lines input) (D.written drain.old) (D.written drain.new) }
+
+    ensures write { result ≡ Err ScriptFault.Write → (history : History) → StandsFor (charter_of desk.old) desk.old history
+        → (input : List ℕ) × (after : History)
+        × (S.handed_out source.new ≡ S.handed_out source.old ++ input)
+        × (D.has_failed drain.new ≡ true)
+        × StandsFor (charter_of desk.old) desk.new after
+        × BreaksOff (AnswersLine (charter_of desk.old)) history after (script_lines input) (D.written drain.old) (D.written drain.new) }
+
+    ensures memory { result ≡ Err ScriptFault.Memory
+        → (source.new ≡ source.old) × (drain.new ≡ drain.old) × (desk.new ≡ desk.old) }
+{
+    run_lines(alloc, source, drain, desk)
+}
