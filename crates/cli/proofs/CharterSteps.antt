@@ -1,7 +1,8 @@
 -- The rows of a charter file, one after the other.
 use Rattle.std.proofs.Common.{◌≡◌, ◌+◌, ℕ, suc, List, [], ◌∷◌, ◌++◌, length, map, Option, Some, None, Bool, true, false, not, cond, refl, sym, ap, subst, ◌∙◌, append_assoc, arith, length-append, nat_eq}
 use Rattle.std.specs.Prelude.{◌&&◌, ◌||◌}
-use Rattle.std.proofs.lemmas.Bool.{or_parts, or_from, eqb-true}
+use Rattle.std.proofs.lemmas.Bool.{or_parts, or_from}
+use Rattle.std.proofs.lemmas.Option.{same_Some}
 use Rattle.std.proofs.lemmas.List.{map-append}
 use Rattle.std.proofs.lemmas.List.Folds.{list_any-append}
 use Rattle.std.proofs.lemmas.Map.Text.{is_eq-slice_cmp}
@@ -19,6 +20,7 @@ use Rattle.addr.specs.Family.{family_eq}
 use Rattle.addr.specs.declared.family.Family.{Family}
 use Rattle.addr.specs.declared.family.Family.TheVariants.{V4, V6}
 use Rattle.addr.specs.PrefixText.{Spells}
+use Rattle.addr.proofs.Equality.{equal_prefix, prefix_itself}
 use Rattle.addr.proofs.PrefixSpellingLemmas.{Spells_unique, faultless-Spells}
 use Rattle.addr.specs.contracts.prefix.PrefixOrd.TheImpl as prefix_order
 use Rattle.addr.specs.declared.prefix.Prefix.{Prefix}
@@ -39,27 +41,8 @@ use Rattle.cli.specs.declared.fault.RowFault.TheVariants as row
 
 -- ---- prefixes and their texts
 
-same_family : (f g : Family) → family_eq f g ≡ true → f ≡ g
-same_family V4 V4 e = refl
-same_family V4 V6 e = cc
-same_family V6 V4 e = cc
-same_family V6 V6 e = refl
-
-and_left : (a b : Bool) → (a && b) ≡ true → a ≡ true
-and_left true b e = refl
-and_left false b e = cc
-
-and_right : (a b : Bool) → (a && b) ≡ true → b ≡ true
-and_right true b e = e
-and_right false b e = cc
-
 same_text : (p q : Prefix) → prefix_eq p q ≡ true → prefix_text p ≡ prefix_text q
-same_text p q e =
-    let family = same_family p.family q.family (and_left _ _ e) in
-    let rest = and_right _ _ e in
-    let first = eqb-true p.first q.first (and_left _ _ rest) in
-    let size = eqb-true p.length q.length (and_right _ _ rest) in
-    rw (family, first, size) refl
+same_text p q e = ap prefix_text (equal_prefix p q e)
 
 family_ties : (f g : Family) → family_eq f g ≡ is_eq (family_cmp f g)
 family_ties V4 V4 = refl
@@ -72,19 +55,11 @@ prefix_ties : (p q : Prefix) → prefix_eq p q ≡ is_eq (prefix_cmp p q)
 prefix_ties p q =
     both_tied _ _ _ _ (family_ties p.family q.family) (both_tied _ _ _ _ (unsigned_ties p.first q.first) (unsigned_ties p.length q.length))
 
-family_eq-itself : (f : Family) → family_eq f f ≡ true
-family_eq-itself V4 = refl
-family_eq-itself V6 = refl
-
-prefix_eq-itself : (p : Prefix) → prefix_eq p p ≡ true
-prefix_eq-itself p =
-    rw (family_eq-itself p.family, (unsigned_Decides p.first p.first).1 refl, (unsigned_Decides p.length p.length).1 refl) refl
-
 -- texts are equal where the prefixes are
 texts_same : (p q : Prefix) → bytes_eq (prefix_text p) (prefix_text q) ≡ prefix_eq p q
 texts_same p q = both_ways _ _
     (λ e. let same = Spells_unique p q (prefix_text p) refl ((bytes_eq-Decides (prefix_text p) (prefix_text q)).0 e) in
-    subst (λ r. prefix_eq p r ≡ true) same (prefix_eq-itself p))
+    subst (λ r. prefix_eq p r ≡ true) same (prefix_itself p))
     (λ e. (bytes_eq-Decides (prefix_text p) (prefix_text q)).1 (same_text p q e))
 
 -- ---- rows that say the same
@@ -285,14 +260,11 @@ pool_value kind value p e spells =
     let same = (bytes_eq-Decides kind pool_kind).0 (sym e) in
     (same, spells, rw (same, faultless-Spells p value spells) refl)
 
-same_some : {T : Type 0} (a b : T) → Some a ≡ Some b → a ≡ b
-same_some a b e = cc
-
 two_fields : (xs : Fields) (a b : List ℕ) → Some (a, b) ≡ two_of xs → xs ≡ a ∷ b ∷ []
 two_fields [] a b e = cc
 two_fields (x ∷ []) a b e = cc
 two_fields (x ∷ y ∷ []) a b e =
-    let same = same_some (a, b) (x, y) e in
+    let same = same_Some (a, b) (x, y) e in
     rw (ap (λ (p : List ℕ × List ℕ). p.0) same, ap (λ (p : List ℕ × List ℕ). p.1) same) refl
 two_fields (x ∷ y ∷ z ∷ rest) a b e = cc
 

@@ -1,21 +1,19 @@
 -- The records of a text are its next record and those of the rest.
 use Rattle.std.proofs.Common.{◌≡◌, ◌≤◌, ◌<◌, ◌+◌, ◌⊎◌, inl, inr, ℕ, zero, suc, List, [], ◌∷◌, length, Option, Some, None, refl, sym, ap, arith}
 use Rattle.std.proofs.lemmas.Bool.{cases_Bool}
+use Rattle.std.proofs.lemmas.Option.{same_Some}
 use Rattle.csv.specs.Machine.{Read, next_record, step, is_end, fields_after, field_after, ends_at_end}
 use Rattle.csv.specs.Reading.{records_from}
 use Rattle.csv.specs.declared.parser.Config.{Config}
 use Rattle.csv.specs.declared.parser.State.{State}
 use Rattle.csv.specs.declared.parser.State.TheVariants as st
 
-same_some : {T : Type 0} (a b : T) → Some a ≡ Some b → a ≡ b
-same_some a b e = cc
-
 -- the end of a text leaves no bytes
 takes_last : (cfg : Config) (s : State) (fields : List (List ℕ)) (field : List ℕ) (r : Read)
     → next_record cfg s fields field [] ≡ Some r → (r.1 ≡ st.StartRecord) × (r.2 ≡ [])
 unfolding next_record
 takes_last cfg s fields field r e = elim (cases_Bool (ends_at_end s)) [
-  | inl ends ↦ let h = same_some _ _ (rw ends at e) in (sym (ap (λ (p : Read). p.1) h), sym (ap (λ (p : Read). p.2) h))
+  | inl ends ↦ let h = same_Some _ _ (rw ends at e) in (sym (ap (λ (p : Read). p.1) h), sym (ap (λ (p : Read). p.2) h))
   | inr goes ↦ let h = rw goes at e in cc
 ]
 
@@ -24,14 +22,14 @@ takes_some : (cfg : Config) (s : State) (fields : List (List ℕ)) (field : List
     → next_record cfg s fields field (c ∷ rest) ≡ Some r → length r.2 ≤ length rest
 unfolding next_record
 takes_some cfg s fields field c [] r e = elim (cases_Bool (is_end (step cfg s c).1)) [
-  | inl ends ↦ let h = same_some _ _ (rw ends at e) in let same = ap (λ (p : Read). length p.2) h in omega arith
+  | inl ends ↦ let h = same_Some _ _ (rw ends at e) in let same = ap (λ (p : Read). length p.2) h in omega arith
   | inr goes ↦
       let last = takes_last cfg (step cfg s c).0 (fields_after (step cfg s c).1 fields field) (field_after (step cfg s c).1 c field) r (rw goes at e) in
       let same = ap (λ (t : List ℕ). length t) last.1 in
       omega arith
 ]
 takes_some cfg s fields field c (d ∷ rest) r e = elim (cases_Bool (is_end (step cfg s c).1)) [
-  | inl ends ↦ let h = same_some _ _ (rw ends at e) in let same = ap (λ (p : Read). length p.2) h in omega arith
+  | inl ends ↦ let h = same_Some _ _ (rw ends at e) in let same = ap (λ (p : Read). length p.2) h in omega arith
   | inr goes ↦
       let more = takes_some cfg (step cfg s c).0 (fields_after (step cfg s c).1 fields field) (field_after (step cfg s c).1 c field) d rest r (rw goes at e) in
       omega arith

@@ -2,18 +2,17 @@
 use Rattle.std.proofs.Common.{◌≡◌, ◌^◌, ◌<◌, ◌+◌, ◌-◌, lit<, inl, inr, ℕ, zero, suc, List, [], ◌∷◌, length, drop, get_or, Bool, not, Option, Some, None, true, false, refl, sym, ap, ◌∙◌, arith}
 use Rattle.std.specs.Prelude.{◌&&◌}
 use Rattle.std.proofs.lemmas.Bool.{cases_Bool}
+use Rattle.std.proofs.lemmas.Option.{same_Some}
 use Rattle.std.proofs.lemmas.List.{get_or-map, length-map}
 use Rattle.std.specs.Borrow.{Bor}
 use Rattle.std.proofs.lemmas.Slice.Eq.{bytes_eq-Decides}
 use Rattle.std.specs.Str.{bytes_eq}
-use Rattle.std.proofs.lemmas.Nat.{pow_pos}
 use Rattle.csv.specs.Records.{field_at}
-use Rattle.addr.specs.declared.family.Family.{Family}
-use Rattle.addr.specs.declared.family.Family.TheVariants.{V4, V6}
 use Rattle.addr.specs.Family.{width}
 use Rattle.addr.specs.PrefixText.{Spells}
 use Rattle.addr.specs.Digits.{asn_in}
 use Rattle.addr.specs.declared.prefix.Prefix.{Prefix}
+use Rattle.addr.proofs.AddressLemmas.{first_below, width_small}
 use Rattle.addr.proofs.PrefixSpellingLemmas.{loose-spelling, faultless-Spells}
 use Rattle.cli.specs.CsvRecords.{Fields}
 use Rattle.cli.specs.CsvRows.{two_of, three_of, fields_eq, header_fault, length_and_width, number_between, payload_texts_fault, origin_fault, route_texts_fault, texts_of}
@@ -22,9 +21,6 @@ use Rattle.cli.specs.declared.fault.RowFault.{RowFault}
 use Rattle.cli.specs.declared.fault.RowFault.TheVariants as row
 
 -- ---- fields
-
-same_some : {T : Type 0} (a b : T) → Some a ≡ Some b → a ≡ b
-same_some a b e = cc
 
 pub three_of-no_first : (xs : Fields) → None ≡ field_at xs 0 → None ≡ three_of xs
 unfolding field_at
@@ -91,7 +87,7 @@ pub fields_eq-drop : (xs ys : Fields) (i : ℕ) (x : List ℕ) → Some x ≡ fi
 unfolding field_at
 fields_eq-drop [] ys i x e inside = cc
 fields_eq-drop (a ∷ xs) [] i x e inside = absurd (omega arith)
-fields_eq-drop (a ∷ xs) (b ∷ ys) zero x e inside = rw (same_some x a e) refl
+fields_eq-drop (a ∷ xs) (b ∷ ys) zero x e inside = rw (same_Some x a e) refl
 fields_eq-drop (a ∷ xs) (b ∷ ys) (suc i) x e inside =
     let next : suc i + 1 ≡ suc (i + 1) = omega arith in
     rw next (fields_eq-drop xs ys i x e (omega arith))
@@ -125,18 +121,11 @@ header-other header first all rest e other = rw (e, ← other) refl
 
 -- ---- payload rows
 
-prefix_below : (p : Prefix) → p.first < 2 ^ width p.family
-prefix_below p = let some = pow_pos (width p.family - p.length) in let inside = p.in_family in omega arith
-
-width_small : (family : Family) → width family < 1000
-width_small V4 = lit< tt
-width_small V6 = lit< tt
-
 prefix_short : (p : Prefix) → p.length < 1000
 prefix_short p = let small = width_small p.family in let fits = p.length_fits in omega arith
 
 pub length_and_width-Spells : (p : Prefix) (text : List ℕ) → Spells p text → length_and_width text ≡ Some (p.length, width p.family)
-length_and_width-Spells p text spelled = rw (spelled, loose-spelling p.family p.first p.length (prefix_below p) (prefix_short p)) refl
+length_and_width-Spells p text spelled = rw (spelled, loose-spelling p.family p.first p.length (first_below p) (prefix_short p)) refl
 
 pub faultless_payload : (asn prefix max : List ℕ) (n m : ℕ) (p : Prefix) → Some n ≡ asn_in asn → Spells p prefix → Some m ≡ number_between p.length (width p.family) max
     → payload_texts_fault asn prefix max ≡ None

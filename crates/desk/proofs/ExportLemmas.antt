@@ -4,16 +4,14 @@ use Rattle.std.specs.List.{list_any}
 use Rattle.std.proofs.lemmas.Bool.{cases_Bool, and_parts, and_from, false≢true, true≢false, eqb-true, eq-eqb}
 use Rattle.std.specs.Ordering.{is_eq}
 use Rattle.std.proofs.lemmas.Cmp.{tied_itself}
-use Rattle.addr.specs.Family.{family_eq}
-use Rattle.addr.specs.Address.{prefix_eq, same_prefix}
+use Rattle.addr.specs.Address.{prefix_eq}
 use Rattle.addr.specs.OriginValidation.{covers, matches, Valid, Invalid, NotFound, HasState, validation_state}
 use Rattle.addr.specs.declared.asn.Asn.{Asn}
-use Rattle.addr.specs.declared.family.Family.{Family}
-use Rattle.addr.specs.declared.family.Family.TheVariants.{V4, V6}
 use Rattle.addr.specs.declared.route.Route.{Route}
 use Rattle.addr.specs.declared.vrp.Vrp.{Vrp}
 use Rattle.payload.specs.ValidityState.{state_of}
 use Rattle.addr.specs.Order.{same_vrp}
+use Rattle.addr.proofs.Equality.{equal_prefix, prefix_itself}
 use Rattle.addr.proofs.OrderLemmas.{vrp_total}
 use Rattle.payload.specs.VrpSet as set
 use Rattle.payload.specs.declared.validity.Validity.{Validity}
@@ -25,26 +23,19 @@ use Rattle.policy.specs.Rows.{Rows}
 use Rattle.policy.specs.Verdict.{IsLegal}
 use Rattle.policy.specs.declared.charter.Charter.{Charter}
 use Rattle.desk.specs.DeskRows.{vrp_eq, has_vrp, HasRows, IsGivenOn}
-use Rattle.desk.proofs.VrpLemmas.{family_same}
 use Rattle.desk.proofs.DailyLemmas.{given_on, any_among, among_any}
-
-family_itself : (f : Family) → family_eq f f ≡ true
-family_itself V4 = refl
-family_itself V6 = refl
 
 -- VRPs of one AS, prefix and maxLength are one
 vrp_eq-same : (w v : Vrp) → vrp_eq w v ≡ true → w ≡ v
 vrp_eq-same w v same =
     let one = and_parts (w.asn.0 == v.asn.0) (prefix_eq w.prefix v.prefix && (w.max == v.max)) same in
     let two = and_parts (prefix_eq w.prefix v.prefix) (w.max == v.max) one.1 in
-    let three = and_parts (family_eq w.prefix.family v.prefix.family) ((w.prefix.first == v.prefix.first) && (w.prefix.length == v.prefix.length)) two.0 in
-    let four = and_parts (w.prefix.first == v.prefix.first) (w.prefix.length == v.prefix.length) three.1 in
     let asn : w.asn ≡ v.asn = ap (λ (n : ℕ). let a : Asn = record { 0 = n } in a) (eqb-true w.asn.0 v.asn.0 one.0) in
-    same_vrp w v (same_prefix w.prefix v.prefix (family_same w.prefix.family v.prefix.family three.0) (eqb-true w.prefix.first v.prefix.first four.0) (eqb-true w.prefix.length v.prefix.length four.1)) (eqb-true w.max v.max two.1) asn
+    same_vrp w v (equal_prefix w.prefix v.prefix two.0) (eqb-true w.max v.max two.1) asn
 
 vrp_eq-itself : (v : Vrp) → vrp_eq v v ≡ true
 vrp_eq-itself v =
-    and_from _ _ (eq-eqb v.asn.0 v.asn.0 refl) (and_from _ _ (and_from _ _ (family_itself v.prefix.family) (and_from _ _ (eq-eqb v.prefix.first v.prefix.first refl) (eq-eqb v.prefix.length v.prefix.length refl))) (eq-eqb v.max v.max refl))
+    and_from _ _ (eq-eqb v.asn.0 v.asn.0 refl) (and_from _ _ (prefix_itself v.prefix) (eq-eqb v.max v.max refl))
 
 is_vrp-itself : (v : Vrp) → is_vrp v v ≡ true
 is_vrp-itself v = ap is_eq (tied_itself vrp_total v)

@@ -1,34 +1,19 @@
 -- VRPs by AS, prefix and maxLength, and the authorizations that give them.
-use Rattle.std.proofs.Common.{◌≡◌, ℕ, ◌≤◌, ◌==◌, nat_le, Bool, true, false, ◌&&◌, ◌||◌, List, [], ◌∷◌, ◌++◌, refl, ap, ◌∙◌}
+use Rattle.std.proofs.Common.{◌≡◌, ℕ, ◌≤◌, ◌==◌, nat_le, Bool, true, false, ◌&&◌, ◌||◌, List, [], ◌∷◌, ◌++◌, refl, sym, ap, ◌∙◌}
 use Rattle.std.proofs.lemmas.Bool.{and_parts, eqb-true, le-leb}
+use Rattle.std.proofs.Math.Bool.{or-false}
 use Rattle.std.proofs.lemmas.List.Folds.{list_any-append}
-use Rattle.addr.specs.Family.{family_eq}
 use Rattle.addr.specs.Address.{prefix_eq}
-use Rattle.addr.specs.declared.family.Family.{Family}
-use Rattle.addr.specs.declared.family.Family.TheVariants.{V4, V6}
 use Rattle.addr.specs.declared.prefix.Prefix.{Prefix}
 use Rattle.addr.specs.declared.vrp.Vrp.{Vrp}
+use Rattle.addr.proofs.Equality.{equal_prefix}
 use Rattle.policy.specs.Terms.{gives_vrp, IsVrpOf}
 use Rattle.policy.specs.declared.authorization.Auth.{Auth}
 use Rattle.desk.specs.DeskRows.{vrp_eq, has_vrp, gives_on}
 
-or-false : (b : Bool) → (b || false) ≡ b
-or-false true = refl
-or-false false = refl
-
--- families that the test calls equal are one
-pub family_same : (f g : Family) → family_eq f g ≡ true → f ≡ g
-family_same V4 V4 same = refl
-family_same V6 V6 same = refl
-family_same V4 V6 same = cc
-family_same V6 V4 same = cc
-
--- prefixes of one family, first address and length are equal to the same prefixes
+-- equal prefixes are equal to the same prefixes
 prefix_eq-same : (p q r : Prefix) → prefix_eq p q ≡ true → prefix_eq q r ≡ prefix_eq p r
-prefix_eq-same p q r same =
-    let one = and_parts (family_eq p.family q.family) ((p.first == q.first) && (p.length == q.length)) same in
-    let two = and_parts (p.first == q.first) (p.length == q.length) one.1 in
-    rw (family_same p.family q.family one.0, eqb-true p.first q.first two.0, eqb-true p.length q.length two.1) refl
+prefix_eq-same p q r same = ap (λ (e : Prefix). prefix_eq e r) (sym (equal_prefix p q same))
 
 -- the VRP of some terms is equal to just the VRPs that the terms give
 pub vrp_eq-given : (x : Auth) (w v : Vrp) → IsVrpOf x w → vrp_eq w v ≡ gives_vrp x v.asn v.prefix v.max

@@ -42,13 +42,7 @@ AreStatesOn history day (r ∷ routes) (s ∷ states) =
 -- the reply says that a command was accepted
 abbrev pub is_done : Reply → Bool
 is_done (Done number) = true
-is_done (Shown x) = false
-is_done (Content text) = false
-is_done (Listed xs) = false
-is_done (Payloads vrps) = false
-is_done (Validities states) = false
-is_done (Denied rule row) = false
-is_done Unavailable = false
+is_done other = false
 
 -- the reply to a command, and the history after it
 abbrev pub AnswersCommand : Charter → History → ℕ → List ℕ → Command → Reply → History → Type 0
@@ -59,22 +53,14 @@ AnswersCommand charter before day caller command (Done number) after =
 AnswersCommand charter before day caller command (Denied rule row) after =
     Verdict charter before day caller command (Some rule) × (row ≡ None) × (after ≡ before)
 AnswersCommand charter before day caller command Unavailable after = after ≡ before
-AnswersCommand charter before day caller command (Shown x) after = ⊥
-AnswersCommand charter before day caller command (Content text) after = ⊥
-AnswersCommand charter before day caller command (Listed xs) after = ⊥
-AnswersCommand charter before day caller command (Payloads vrps) after = ⊥
-AnswersCommand charter before day caller command (Validities states) after = ⊥
+AnswersCommand charter before day caller command other after = ⊥
 
 -- the reply to a request to show an authorization
 abbrev pub AnswersShow : History → List ℕ → ℕ → List ℕ → ℕ → Reply → Type 0
 AnswersShow history h day caller n (Shown x) = IsShown history h day caller n x
 AnswersShow history h day caller n (Denied rule row) = ShowVerdict history h day caller n (Some rule) × (row ≡ None)
 AnswersShow history h day caller n Unavailable = Unit {0}
-AnswersShow history h day caller n (Done number) = ⊥
-AnswersShow history h day caller n (Content text) = ⊥
-AnswersShow history h day caller n (Listed xs) = ⊥
-AnswersShow history h day caller n (Payloads vrps) = ⊥
-AnswersShow history h day caller n (Validities states) = ⊥
+AnswersShow history h day caller n other = ⊥
 
 -- the reply to a request for the ROA content of an authorization: that of the terms that would be shown
 abbrev pub AnswersContent : History → List ℕ → ℕ → List ℕ → ℕ → Reply → Type 0
@@ -82,44 +68,26 @@ AnswersContent history h day caller n (Content text) =
     (x : Auth) × IsShown history h day caller n x × IsContentText x (string_bytes text)
 AnswersContent history h day caller n (Denied rule row) = ShowVerdict history h day caller n (Some rule) × (row ≡ None)
 AnswersContent history h day caller n Unavailable = Unit {0}
-AnswersContent history h day caller n (Done number) = ⊥
-AnswersContent history h day caller n (Shown x) = ⊥
-AnswersContent history h day caller n (Listed xs) = ⊥
-AnswersContent history h day caller n (Payloads vrps) = ⊥
-AnswersContent history h day caller n (Validities states) = ⊥
+AnswersContent history h day caller n other = ⊥
 
 -- the reply to a request to list authorizations
 abbrev pub AnswersList : History → List ℕ → ℕ → List ℕ → Reply → Type 0
 AnswersList history h day caller (Listed xs) = IsListed history h day caller xs.items
 AnswersList history h day caller (Denied rule row) = ListVerdict history h day caller (Some rule) × (row ≡ None)
 AnswersList history h day caller Unavailable = Unit {0}
-AnswersList history h day caller (Done number) = ⊥
-AnswersList history h day caller (Shown x) = ⊥
-AnswersList history h day caller (Content text) = ⊥
-AnswersList history h day caller (Payloads vrps) = ⊥
-AnswersList history h day caller (Validities states) = ⊥
+AnswersList history h day caller other = ⊥
 
 -- the reply to a request for the VRPs of a day
 abbrev pub AnswersPayloads : History → ℕ → Reply → Type 0
 AnswersPayloads history day (Payloads vrps) = AreVrpsOn history day vrps.items
 AnswersPayloads history day Unavailable = Unit {0}
-AnswersPayloads history day (Done number) = ⊥
-AnswersPayloads history day (Shown x) = ⊥
-AnswersPayloads history day (Content text) = ⊥
-AnswersPayloads history day (Listed xs) = ⊥
-AnswersPayloads history day (Denied rule row) = ⊥
-AnswersPayloads history day (Validities states) = ⊥
+AnswersPayloads history day other = ⊥
 
 -- the reply to a request to judge routes
 abbrev pub AnswersValidity : History → ℕ → List Route → Reply → Type 0
 AnswersValidity history day routes (Validities states) = AreStatesOn history day routes states.items
 AnswersValidity history day routes Unavailable = Unit {0}
-AnswersValidity history day routes (Done number) = ⊥
-AnswersValidity history day routes (Shown x) = ⊥
-AnswersValidity history day routes (Content text) = ⊥
-AnswersValidity history day routes (Listed xs) = ⊥
-AnswersValidity history day routes (Payloads vrps) = ⊥
-AnswersValidity history day routes (Denied rule row) = ⊥
+AnswersValidity history day routes other = ⊥
 
 abbrev pub AnswersQuery : History → ℕ → List ℕ → Query → Reply → Type 0
 AnswersQuery history day caller (ShowQuery h n) reply = AnswersShow history h day caller n reply
