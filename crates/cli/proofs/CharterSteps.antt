@@ -1,8 +1,9 @@
 -- The rows of a charter file, one after the other.
 use Rattle.std.proofs.Common.{◌≡◌, ◌+◌, ℕ, suc, List, [], ◌∷◌, ◌++◌, length, map, Option, Some, None, Bool, true, false, not, cond, refl, sym, ap, subst, ◌∙◌, append_assoc, arith, length-append, nat_eq}
 use Rattle.std.specs.Prelude.{◌&&◌, ◌||◌}
-use Rattle.std.proofs.lemmas.Bool.{or_parts, or_from}
+use Rattle.std.proofs.lemmas.Bool.{or_parts, or_from, not-true, not-false}
 use Rattle.std.proofs.lemmas.Option.{same_Some}
+use Rattle.std.proofs.Math.Bool.{and-true}
 use Rattle.std.proofs.lemmas.List.{map-append}
 use Rattle.std.proofs.lemmas.List.Folds.{list_any-append}
 use Rattle.std.proofs.lemmas.Map.Text.{is_eq-slice_cmp}
@@ -29,7 +30,6 @@ use Rattle.addr.specs.Order.{family_cmp, prefix_cmp}
 use Rattle.policy.specs.Repeats.{has_repeat}
 use Rattle.cli.specs.CharterFile.{charter_fault, charter_row, fault_of_pair, first_charter_fault, kind_and_value_fault, kind_of, operators_in, pool_in, pool_kind, is_noted, same_row, value_of, HoldsRows}
 use Rattle.cli.specs.CsvRecords.{Fields}
-use Rattle.cli.proofs.RowLemmas.{not_true, not_false}
 use Rattle.cli.specs.CsvRows.{at_row, fields_eq, prefix_text, two_of, IsTold}
 use Rattle.cli.specs.declared.charter_file.CharterRow.{CharterRow}
 use Rattle.cli.specs.declared.charter_file.CharterRow.TheVariants.{Operator, Pool}
@@ -64,15 +64,11 @@ texts_same p q = both_ways _ _
 
 -- ---- rows that say the same
 
-and_true : (b : Bool) → (b && true) ≡ b
-and_true true = refl
-and_true false = refl
-
 one_same : (e r : CharterRow) → fields_eq (charter_row e) (charter_row r) ≡ same_row e r
-one_same (Operator n) (Operator m) = and_true (bytes_eq n m)
+one_same (Operator n) (Operator m) = and-true (bytes_eq n m)
 one_same (Operator n) (Pool q) = refl
 one_same (Pool p) (Operator m) = refl
-one_same (Pool p) (Pool q) = and_true (bytes_eq (prefix_text p) (prefix_text q)) ∙ texts_same p q
+one_same (Pool p) (Pool q) = and-true (bytes_eq (prefix_text p) (prefix_text q)) ∙ texts_same p q
 
 rows_same : (rows : List CharterRow) (r : CharterRow)
     → list_any (λ before. fields_eq before (charter_row r)) (map charter_row rows) ≡ list_any (λ e. same_row e r) rows
@@ -281,7 +277,7 @@ pub row_taken : (old noted new : CharterRows) (r : CharterRow) (fields : Fields)
 row_taken old noted new r fields kind value pair read fresh updates names prefixes operators pool rows held =
     let same : fields ≡ charter_row r = two_fields fields kind value pair ∙ rw (read.0, read.1) refl in
     let plain : fault_of_pair (two_of fields) ≡ None = rw (← pair) read.2 in
-    let absent = not_true (is_noted old r) fresh in (
+    let absent = not-true (is_noted old r) (sym fresh) in (
       r,
       same,
       holds_more old new rows r held absent (λ other. noted-same noted new names prefixes other ∙ updates other) operators pool,
@@ -298,5 +294,5 @@ pub row_repeated : (old : CharterRows) (r : CharterRow) (fields : Fields) (kind 
 row_repeated old r fields kind value fault pair read known told rows held =
     let same : fields ≡ charter_row r = two_fields fields kind value pair ∙ rw (read.0, read.1) refl in
     let plain : fault_of_pair (two_of fields) ≡ None = rw (← pair) read.2 in
-    let again = charter_fault-noted old rows r fields true held same plain (not_false (is_noted old r) known) in
+    let again = charter_fault-noted old rows r fields true held same plain (not-false (is_noted old r) (sym known)) in
     rw (told, again, held.count) refl

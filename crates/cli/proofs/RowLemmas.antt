@@ -100,14 +100,6 @@ texts-next xs ts i x y d same e inside is eq =
     fields_eq-drop xs (texts_of ts) i x e (rw (length-map ts (λ text. text.now)) inside)
     ∙ rw (get_or-map (λ (text : Bor (List ℕ)). text.now) ts i d [] inside, ← is, eq) refl
 
-pub not_true : (b : Bool) → true ≡ not b → b ≡ false
-not_true true e = e
-not_true false e = refl
-
-pub not_false : (b : Bool) → false ≡ not b → b ≡ true
-not_false true e = refl
-not_false false e = e
-
 -- ---- headers
 
 pub header-same : (header first : Fields) (all rest : List Fields) → all ≡ first ∷ rest → true ≡ fields_eq first header

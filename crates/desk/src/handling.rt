@@ -86,10 +86,11 @@ impl Desk {
         }
     }
 
-    fn answer(&self, day: Day, caller: &Name, query: &Query) -> Reply
-        ensures answered { (history : History) → IsLegal (charter_of self.now) history → HasRows (desk_rows self.now) history
+    fn answer(&mut self, day: Day, caller: &Name, query: &Query) -> Reply
+        ensures answered { (history : History) → IsLegal (charter_of self.old) history → HasRows (desk_rows self.old) history
             → AnswersQuery history day caller.now query.now result }
         ensures never_done { is_done result ≡ false }
+        ensures kept { self.new ≡ self.old }
     {
         match query {
             Query::Show { holder, number } => self.show(holder, day, caller, *number),
@@ -100,10 +101,11 @@ impl Desk {
         }
     }
 
-    fn show(&self, holder: &Name, day: Day, caller: &Name, number: u32) -> Reply
-        ensures answered { (history : History) → IsLegal (charter_of self.now) history → HasRows (desk_rows self.now) history
+    fn show(&mut self, holder: &Name, day: Day, caller: &Name, number: u32) -> Reply
+        ensures answered { (history : History) → IsLegal (charter_of self.old) history → HasRows (desk_rows self.old) history
             → AnswersShow history holder.now day caller.now number result }
         ensures never_done { is_done result ≡ false }
+        ensures kept { self.new ≡ self.old }
     {
         let Ok(rows) = self.records.load(holder) else {
             return Reply::Unavailable;
@@ -114,10 +116,11 @@ impl Desk {
         }
     }
 
-    fn content(&self, holder: &Name, day: Day, caller: &Name, number: u32) -> Reply
-        ensures answered { (history : History) → IsLegal (charter_of self.now) history → HasRows (desk_rows self.now) history
+    fn content(&mut self, holder: &Name, day: Day, caller: &Name, number: u32) -> Reply
+        ensures answered { (history : History) → IsLegal (charter_of self.old) history → HasRows (desk_rows self.old) history
             → AnswersContent history holder.now day caller.now number result }
         ensures never_done { is_done result ≡ false }
+        ensures kept { self.new ≡ self.old }
     {
         let auth = match self.show(holder, day, caller, number) {
             Reply::Shown(auth) => auth,
@@ -130,10 +133,11 @@ impl Desk {
         Reply::Content(text)
     }
 
-    fn list(&self, holder: &Name, day: Day, caller: &Name) -> Reply
-        ensures answered { (history : History) → IsLegal (charter_of self.now) history → HasRows (desk_rows self.now) history
+    fn list(&mut self, holder: &Name, day: Day, caller: &Name) -> Reply
+        ensures answered { (history : History) → IsLegal (charter_of self.old) history → HasRows (desk_rows self.old) history
             → AnswersList history holder.now day caller.now result }
         ensures never_done { is_done result ≡ false }
+        ensures kept { self.new ≡ self.old }
     {
         let Ok(rows) = self.records.load(holder) else {
             return Reply::Unavailable;
@@ -145,10 +149,11 @@ impl Desk {
         }
     }
 
-    fn payloads(&self, day: Day) -> Reply
-        ensures answered { (history : History) → IsLegal (charter_of self.now) history → HasRows (desk_rows self.now) history
+    fn payloads(&mut self, day: Day) -> Reply
+        ensures answered { (history : History) → IsLegal (charter_of self.old) history → HasRows (desk_rows self.old) history
             → AnswersPayloads history day result }
         ensures never_done { is_done result ≡ false }
+        ensures kept { self.new ≡ self.old }
     {
         let Ok(index) = self.index_on(day) else {
             return Reply::Unavailable;
@@ -159,10 +164,11 @@ impl Desk {
         Reply::Payloads(vrps)
     }
 
-    fn validity(&self, day: Day, routes: &[Route]) -> Reply
-        ensures answered { (history : History) → IsLegal (charter_of self.now) history → HasRows (desk_rows self.now) history
+    fn validity(&mut self, day: Day, routes: &[Route]) -> Reply
+        ensures answered { (history : History) → IsLegal (charter_of self.old) history → HasRows (desk_rows self.old) history
             → AnswersValidity history day routes.now result }
         ensures never_done { is_done result ≡ false }
+        ensures kept { self.new ≡ self.old }
     {
         let Ok(index) = self.index_on(day) else {
             return Reply::Unavailable;
@@ -174,17 +180,20 @@ impl Desk {
     }
 
     /// The VRPs of the day.
-    fn index_on(&self, day: Day) -> Result<ListIndex, AllocError>
-        ensures { IfOk result (λ index. (v : Vrp) → IsTrue (set.contains index v) ↔ IsGivenOn (desk_rows self.now) day v) }
+    fn index_on(&mut self, day: Day) -> Result<ListIndex, AllocError>
+        ensures given { IfOk result (λ index. (v : Vrp) →
+            IsTrue (set.contains index v) ↔ IsGivenOn (desk_rows self.old) day v) }
+        ensures kept { self.new ≡ self.old }
     {
         let vrps = self.records.vrps_in_force(self.alloc, day)?;
         Ok(ListIndex::from(vrps))
     }
 
     /// What the command does, or why it is refused.
-    fn decide(&self, day: Day, caller: &Name, command: &Command) -> Result<Change, Refusal>
-        ensures { (history : History) → IsLegal (charter_of self.now) history → HasRows (desk_rows self.now) history
-            → IsAnswer (charter_of self.now) history day caller.now command.now result }
+    fn decide(&mut self, day: Day, caller: &Name, command: &Command) -> Result<Change, Refusal>
+        ensures answer { (history : History) → IsLegal (charter_of self.old) history → HasRows (desk_rows self.old) history
+            → IsAnswer (charter_of self.old) history day caller.now command.now result }
+        ensures kept { self.new ≡ self.old }
     {
         match command {
             Command::Transfer { giver, taker, .. } => {
@@ -207,9 +216,10 @@ impl Desk {
     }
 
     /// What the command is judged on.
-    fn view(&self, command: &Command) -> Result<View, AllocError>
-        ensures { IfOk result (λ view. (history : History) → IsLegal (charter_of self.now) history → HasRows (desk_rows self.now) history
+    fn view(&mut self, command: &Command) -> Result<View, AllocError>
+        ensures view { IfOk result (λ view. (history : History) → IsLegal (charter_of self.old) history → HasRows (desk_rows self.old) history
             → IsViewOf history command.now view) }
+        ensures kept { self.new ≡ self.old }
     {
         let holder = self.records.load(command.holder())?;
         let taken = self.is_taken(command);
@@ -217,9 +227,10 @@ impl Desk {
     }
 
     /// Whether some address of a delegation's prefix is held. Not asked of any other command.
-    fn is_taken(&self, command: &Command) -> bool
-        ensures { (history : History) → IsLegal (charter_of self.now) history → HasRows (desk_rows self.now) history
+    fn is_taken(&mut self, command: &Command) -> bool
+        ensures taken { (history : History) → IsLegal (charter_of self.old) history → HasRows (desk_rows self.old) history
             → TellsTaken history command.now result }
+        ensures kept { self.new ≡ self.old }
     {
         match command {
             Command::Delegate { prefix, .. } => self.records.is_taken(prefix),

@@ -1,9 +1,10 @@
 use Rattle.std.proofs.Common.{length, false, true, sym, ◌∙◌, arith}
+use Rattle.std.proofs.lemmas.Bool.{not-true, not-false}
 use Rattle.std.proofs.lemmas.List.{length-map}
 use Rattle.csv.proofs.RecordFacts.{field-there}
 use Rattle.csv.specs.Records.{fields_of}
 use Rattle.cli.specs.CsvRows.{texts_of}
-use Rattle.cli.proofs.RowLemmas.{fields_eq-length, texts-next, not_true, not_false}
+use Rattle.cli.proofs.RowLemmas.{fields_eq-length, texts-next}
 use Rattle.cli.proofs.files.fields.are_fields.Goals as goal
 
 pub returns-then-len-texts : goal.returns-then-len-texts
@@ -22,7 +23,7 @@ pub returns-then-ne : goal.returns-then-ne
 returns-then-ne c =
     sym (c.loop-place.invariant.rest
     ∙ texts-next (fields_of c.args.row.now) c.args.texts.now c.loop-place.place c.in-Some.field.now c.as_bytes.result.now _ false
-    c.in-Some.ensures.value c.loop-place-test.true c.as_bytes.ensures.value (not_true _ c.if-ne.ensures))
+    c.in-Some.ensures.value c.loop-place-test.true c.as_bytes.ensures.value (not-true _ (sym c.if-ne.ensures)))
 
 pub loop-place-preserved : goal.loop-place-preserved
 loop-place-preserved c =
@@ -32,5 +33,5 @@ loop-place-preserved c =
       rest =
           c.loop-place.invariant.rest
           ∙ texts-next (fields_of c.args.row.now) c.args.texts.now c.loop-place.place c.in-Some.field.now c.as_bytes.result.now _ true
-          c.in-Some.ensures.value c.loop-place-test.true c.as_bytes.ensures.value (not_false _ c.if-ne.ensures);
+          c.in-Some.ensures.value c.loop-place-test.true c.as_bytes.ensures.value (not-false _ (sym c.if-ne.ensures));
     }
