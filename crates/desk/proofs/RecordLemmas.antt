@@ -1,5 +1,5 @@
 -- The rows of the holders of a map, by name and as a list.
-use Rattle.std.proofs.Common.{◌≡◌, ℕ, Bool, true, false, ◌↔◌, IsTrue, List, Option, Some, None, refl, sym, ap, subst, cond, if◌then◌else◌, ◌∙◌, BTreeMap, Contains, Result, Ok, Err, OnOk, OnErr, IsSome}
+use Rattle.std.proofs.Common.{◌≡◌, ℕ, Bool, true, false, ◌↔◌, IsTrue, List, Option, Some, None, refl, sym, ap, subst, cond, if◌then◌else◌, ◌∙◌, BTreeMap, Contains, IsSome}
 use Rattle.std.specs.BTreeMap.{get, values, IsOrdered, is_at}
 use Rattle.std.specs.Cmp.Lexicographic.{slice_cmp}
 use Rattle.std.specs.Ordering.{nat_cmp}
