@@ -1,13 +1,13 @@
 //! The program `roadesk`, a hosted route origin authorization desk.
 #![tactic(auto)]
 
-mod charter_file;
-mod check;
+pub mod charter_file;
+pub mod check;
 #[cfg(test)]
 mod fakes;
-mod fault;
+pub mod fault;
 mod files;
-mod words;
+pub mod words;
 
 use charter_file::charter_from;
 use check::check_on;

@@ -1,4 +1,4 @@
-use Rattle.std.proofs.Common.{length, false, true, sym, ◌∙◌, arith}
+use Rattle.std.proofs.Common.{false, true, sym, ◌∙◌, arith}
 use Rattle.std.proofs.lemmas.Bool.{not-true, not-false}
 use Rattle.std.proofs.lemmas.List.{length-map}
 use Rattle.csv.proofs.RecordFacts.{field-there}
