@@ -367,6 +367,3 @@ pub fn decide_two(
         _ => unreachable!(),
     }
 }
-
-#[cfg(test)]
-mod tests;

@@ -103,33 +103,3 @@ impl From<AllocError> for Refusal {
         Refusal::Memory
     }
 }
-
-#[cfg(test)]
-mod tests {
-    use super::*;
-    use std::test::Fail;
-
-    #[test]
-    fn prints_each_rule(rt: HostRuntime) -> Result<(), Fail> {
-        for (rule, name) in [
-            (Rule::Operator, "operator"),
-            (Rule::Steward, "steward"),
-            (Rule::Grant, "grant"),
-            (Rule::Holder, "holder"),
-            (Rule::Fresh, "fresh"),
-            (Rule::Number, "number"),
-            (Rule::Scope, "scope"),
-            (Rule::Dates, "dates"),
-            (Rule::Length, "length"),
-            (Rule::Pool, "pool"),
-            (Rule::Free, "free"),
-            (Rule::Distinct, "distinct"),
-            (Rule::Held, "held"),
-            (Rule::Same, "same"),
-            (Rule::Room, "room"),
-        ] {
-            assert_eq!(rt; format!(in rt.alloc(); "{rule}")?.as_str(), name);
-        }
-        Ok(())
-    }
-}
