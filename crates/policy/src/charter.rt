@@ -137,7 +137,7 @@ impl Charter {
     }
 
     /// Whether every address of the prefix lies in some prefix of the pool.
-    pub fn has_in_pool(&self, prefix: &Prefix) -> bool
+    pub(crate) fn has_in_pool(&self, prefix: &Prefix) -> bool
         ensures { IsTrue result ↔ IsInPool (pool_of self.now) prefix.now }
     {
         is_in_pool(&self.pool, prefix)
