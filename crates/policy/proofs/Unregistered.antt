@@ -1,10 +1,9 @@
 -- In a legal history a holder that is not registered has nothing.
-use Rattle.std.proofs.Common.{◌≡◌, ℕ, ◌+◌, Bool, true, false, not, ◌||◌, cond, eqb, List, [], ◌∷◌, ◌++◌, inl, inr, Some, None, refl, sym, ap, ◌∙◌, map, filter}
-use Rattle.std.proofs.lemmas.Bool.{cases_Bool, false≢true}
+use Rattle.std.proofs.Common.{◌≡◌, ℕ, Bool, true, false, not, cond, eqb, List, [], ◌∷◌, inl, inr, Some, None, refl, sym, ap, ◌∙◌, map, filter}
+use Rattle.std.proofs.lemmas.Bool.{cases_Bool, cond-false, false≢true, or_parts}
 use Rattle.addr.specs.Address.{Address, has_address}
 use Rattle.policy.specs.declared.authorization.Auth.{Auth}
 use Rattle.policy.specs.declared.charter.Charter.{Charter}
-use Rattle.policy.specs.declared.grant.Granted.{Granted}
 use Rattle.policy.specs.declared.grant.Access.TheVariants.{Alter}
 use Rattle.policy.specs.declared.command.Command.{Command}
 use Rattle.policy.specs.declared.command.Command.TheVariants.{Register, Delegate, Transfer, Reclaim, Grant, Revoke, Create, Amend, Withdraw}
@@ -29,14 +28,6 @@ differ_by f g h yes_g no_h =
       | inl t ↦ absurd (false≢true (sym no_h ∙ ap f (sym (same_name-true g h t)) ∙ yes_g))
       | inr n ↦ n
     ]
-
-pub or_left : (a b : Bool) → a || b ≡ false → a ≡ false
-or_left true b is = is
-or_left false b is = refl
-
-pub or_right : (a b : Bool) → a || b ≡ false → b ≡ false
-or_right true b is = absurd (false≢true (sym is))
-or_right false b is = is
 
 filter_nothing : {T : Type 0} (b : Bool) (keep : T → Bool) (xs : List T) → xs ≡ [] → cond b (filter keep xs) xs ≡ []
 filter_nothing {T} true keep xs is = ap (filter keep) is
@@ -86,11 +77,10 @@ nothing_after charter before day caller (Reclaim holder p) h accepted unregister
 }
 nothing_after charter before day caller (Grant holder name role scope until) h accepted unregistered none =
     let differ = differ_by (is_registered before) holder h accepted.1.0 unregistered in
-    let g : Granted = record { number = grants_made before h + 1; caller = name; role = role; scope = scope; until = until } in
     record {
       holders = none.holders;
-      grants = ap (λ b. cond b (grant_terms before h ++ g ∷ []) (grant_terms before h)) differ ∙ none.grants;
-      granted = ap (λ b. cond b (grants_made before h + 1) (grants_made before h)) differ ∙ none.granted;
+      grants = cond-false _ _ _ differ ∙ none.grants;
+      granted = cond-false _ _ _ differ ∙ none.granted;
       terms = none.terms;
       created = none.created;
     }
@@ -105,13 +95,12 @@ nothing_after charter before day caller (Create holder asn p max from until) h a
     let no_access : has_access (grant_terms before h) day caller Alter ≡ false =
     ap (λ gs. has_access gs day caller Alter) none.grants in
     let differ = differ_by (λ g. has_access (grant_terms before g) day caller Alter) holder h accepted.0 no_access in
-    let x : Auth = record { number = authorizations_made before h + 1; asn = asn; prefix = p; max = max; from = from; until = until } in
     record {
       holders = none.holders;
       grants = none.grants;
       granted = none.granted;
-      terms = ap (λ b. cond b (authorization_terms before h ++ x ∷ []) (authorization_terms before h)) differ ∙ none.terms;
-      created = ap (λ b. cond b (authorizations_made before h + 1) (authorizations_made before h)) differ ∙ none.created;
+      terms = cond-false _ _ _ differ ∙ none.terms;
+      created = cond-false _ _ _ differ ∙ none.created;
     }
 nothing_after charter before day caller (Amend holder n max until) h accepted unregistered none = record {
   holders = none.holders;
@@ -131,5 +120,5 @@ nothing_after charter before day caller (Withdraw holder n) h accepted unregiste
 pub has_nothing : (charter : Charter) (history : History) (h : List ℕ) → IsLegal charter history → is_registered history h ≡ false → HasNothing history h
 has_nothing charter [] h legal unregistered = record { holders = λ a. refl; grants = refl; granted = refl; terms = refl; created = refl }
 has_nothing charter (e ∷ before) h legal unregistered =
-    let earlier = or_right (registers e.command h) (is_registered before h) unregistered in
+    let earlier = (or_parts (registers e.command h) (is_registered before h) unregistered).1 in
     nothing_after charter before e.day e.caller e.command h legal.0 earlier (has_nothing charter before h legal.1 earlier)
