@@ -17,7 +17,7 @@ use Rattle.policy.proofs.Names.{same_name-true, held_by_same}
 use Rattle.policy.proofs.Held.{active-kept}
 
 -- a command registers no holder but the one that it names, and changes no other's grants and terms
-stays : (c : Command) (h : List ℕ) (made count : ℕ) (grants : List Granted) (terms : List Auth) → same_name (holder_of c) h ≡ false
+pub stays : (c : Command) (h : List ℕ) (made count : ℕ) (grants : List Granted) (terms : List Auth) → same_name (holder_of c) h ≡ false
     → (registers c h ≡ false) × (grants_after c h made grants ≡ grants) × (granted_after c h made ≡ made)
     × (terms_after c h count terms ≡ terms) × (created_after c h count ≡ count)
 stays (Register holder) h made count grants terms other = (other, refl, refl, refl, refl)
