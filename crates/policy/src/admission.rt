@@ -30,8 +30,10 @@ pub(crate) fn require(holds: bool, rule: Rule) -> Result<(), Rule>
 
 /// The rows of a holder that is registered.
 pub(crate) fn registered(rows: Option<&HolderRows>) -> Result<&HolderRows, Rule>
-    ensures { (history : History) (h : List ℕ) → RowsIfAny history h (rows_if_any (option_copied rows.entry))
-        → MatchResult result (λ r. (is_registered history h ≡ true) × RowsOf history h (rows_of r.now))
+    ensures { (history : History) (h : List ℕ)
+        → RowsIfAny history h (rows_if_any (option_copied rows.entry))
+        → MatchResult result
+        (λ r. (is_registered history h ≡ true) × RowsOf history h (rows_of r.now))
         (λ rule. (is_registered history h ≡ false) × (rule ≡ Rule.Holder)) }
 {
     rows.ok_or(Rule::Holder)
@@ -53,7 +55,8 @@ pub(crate) fn is_steward(
     day: Day,
     caller: &Name,
 ) -> bool
-    ensures { (history : History) (h : List ℕ) → IsLegal charter.now history → RowsIfAny history h (rows_if_any (option_copied rows.entry))
+    ensures { (history : History) (h : List ℕ) → IsLegal charter.now history
+        → RowsIfAny history h (rows_if_any (option_copied rows.entry))
         → result ≡ is_steward charter.now history day caller.now h }
 {
     charter.is_operator(caller) || has_access(grants_of(rows), day, caller, Access::Manage)
@@ -69,8 +72,10 @@ pub(crate) fn rows_with_access<'a>(
     ensures { (charter : CharterValue) (history : History) (h : List ℕ) → IsLegal charter history
         → RowsIfAny history h (rows_if_any (option_copied rows.entry))
         → MatchResult result
-        (λ r. (has_access (grant_terms history h) day caller.now access ≡ true) × (is_registered history h ≡ true) × RowsOf history h (rows_of r.now))
-        (λ rule. (has_access (grant_terms history h) day caller.now access ≡ false) × (rule ≡ Rule.Grant)) }
+        (λ r. (has_access (grant_terms history h) day caller.now access ≡ true)
+        × (is_registered history h ≡ true) × RowsOf history h (rows_of r.now))
+        (λ rule. (has_access (grant_terms history h) day caller.now access ≡ false)
+        × (rule ≡ Rule.Grant)) }
 {
     if has_access(grants_of(rows), day, caller, access) {
         rows.ok_or(Rule::Grant)
@@ -81,7 +86,8 @@ pub(crate) fn rows_with_access<'a>(
 
 /// Whether every address of the prefix is held by the holder of the rows.
 pub(crate) fn holds(rows: &HolderRows, prefix: &Prefix) -> bool
-    ensures { (history : History) (h : List ℕ) → RowsOf history h (rows_of rows.now) → (IsTrue result ↔ HoldsPrefix history h prefix.now) }
+    ensures { (history : History) (h : List ℕ) → RowsOf history h (rows_of rows.now)
+        → (IsTrue result ↔ HoldsPrefix history h prefix.now) }
 {
     rows.holdings.holds(prefix)
 }
@@ -116,8 +122,10 @@ pub(crate) fn permitted<'a>(
     ensures { (history : History) (h : List ℕ) → RowsOf history h (rows_of rows.now)
         → MatchResult result
         (λ x. (numbered number rows.now.auths.items ≡ Some x.now)
-        × OfNumber history h number (λ x. is_permitted_terms (grant_terms history h) day caller.now access x ≡ true))
-        (λ rule. (OfNumber history h number (λ x. is_permitted_terms (grant_terms history h) day caller.now access x ≡ true) → ⊥)
+        × OfNumber history h number
+        (λ x. is_permitted_terms (grant_terms history h) day caller.now access x ≡ true))
+        (λ rule. (OfNumber history h number
+        (λ x. is_permitted_terms (grant_terms history h) day caller.now access x ≡ true) → ⊥)
         × (rule ≡ Rule.Number)) }
 {
     match numbered(&rows.auths, number) {
@@ -171,12 +179,15 @@ fn some_gives(auths: &[Auth], asn: Asn, prefix: &Prefix, max: u8) -> bool
 /// Whether no active authorization gives this AS, prefix and maxLength.
 pub(crate) fn is_new(rows: &HolderRows, asn: Asn, prefix: &Prefix, max: u8) -> bool
     ensures { (history : History) (h : List ℕ) → RowsOf history h (rows_of rows.now)
-        → (IsTrue result ↔ OfActive history h (λ active. list_any (λ y. gives_vrp y asn prefix.now max) active ≡ false)) }
+        → (IsTrue result
+        ↔ OfActive history h
+        (λ active. list_any (λ y. gives_vrp y asn prefix.now max) active ≡ false)) }
 {
     !some_gives(&rows.auths, asn, prefix, max)
 }
 
-/// Whether another grant may be made: fewer than 64 are unrevoked, and fewer than 999,999 were made.
+/// Whether another grant may be made: fewer than 64 are unrevoked, and fewer than 999,999 were
+/// made.
 pub(crate) fn has_room_for_grant(rows: &HolderRows) -> bool
     ensures { IsTrue result ↔ ((length rows.now.grants.items < 64) × (rows.now.granted < 999999)) }
 {
@@ -188,7 +199,9 @@ pub(crate) fn has_room_for_grant(rows: &HolderRows) -> bool
 pub(crate) fn has_room_for_authorization(rows: &HolderRows) -> bool
     ensures counter { IsTrue result → rows.now.created < 999999 }
     ensures room { (history : History) (h : List ℕ) → RowsOf history h (rows_of rows.now)
-        → (IsTrue result ↔ (OfActive history h (λ active. length active < 1000) × (authorizations_made history h < 999999))) }
+        → (IsTrue result
+        ↔ (OfActive history h (λ active. length active < 1000)
+        × (authorizations_made history h < 999999))) }
 {
     rows.auths.len() < MOST_AUTHORIZATIONS && rows.created < LAST_NUMBER
 }
@@ -201,7 +214,8 @@ fn is_other_sharing(auth: &Auth, other: &Auth) -> bool
 
 /// Whether an authorization of another number shares an AS, prefix and maxLength with these terms.
 pub(crate) fn shares_with_other(auths: &[Auth], auth: &Auth) -> bool
-    ensures { result ≡ list_any (λ y. not (y.number == auth.now.number) && share_vrp auth.now y) auths.now }
+    ensures { result
+        ≡ list_any (λ y. not (y.number == auth.now.number) && share_vrp auth.now y) auths.now }
 {
     auths.iter().any(|other| is_other_sharing(auth, other))
 }

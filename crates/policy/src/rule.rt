@@ -17,7 +17,8 @@ pub enum Rule {
     Holder,
     /// The holder is not registered yet.
     Fresh,
-    /// There is a grant of the number, or an authorization of the number that the caller has access to.
+    /// There is a grant of the number, or an authorization of the number that the caller has access
+    /// to.
     Number,
     /// Some grant gives the caller the access and has the prefix in its scope.
     Scope,
