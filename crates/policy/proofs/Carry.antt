@@ -1,28 +1,41 @@
 -- A change carries the rows of every holder from a history to the one with the command.
-use Rattle.std.proofs.Common.{◌≡◌, ℕ, Bool, true, false, cond, List, ◌∷◌, inl, inr, Option, Some, None, sym, ◌∙◌, subst}
-use Rattle.std.proofs.lemmas.Bool.{cases_Bool}
+use Rattle.std.proofs.Common.{◌≡◌, ℕ, Bool, true, false, ◌||◌, cond, List, ◌∷◌, inl, inr, Option, Some, None, refl, sym, ap, ◌∙◌, subst}
+use Rattle.std.proofs.lemmas.Bool.{cases_Bool, cond-false, false≢true}
+use Rattle.std.proofs.Math.Bool.{or-true}
 use Rattle.addr.specs.Address.{Address}
 use Rattle.policy.specs.declared.authorization.Auth.{Auth}
 use Rattle.policy.specs.declared.change.Edit.{Edit}
-use Rattle.policy.specs.History.{Entry, History, same_name, is_registered}
+use Rattle.policy.specs.declared.command.Command.{Command}
+use Rattle.policy.specs.declared.command.Command.TheVariants.{Register, Delegate, Transfer, Reclaim, Grant, Revoke, Create, Amend, Withdraw}
+use Rattle.policy.specs.declared.grant.Granted.{Granted}
+use Rattle.policy.specs.History.{Entry, History, same_name, registers, is_registered}
 use Rattle.policy.specs.Resources.{resource_holder, is_held_by}
-use Rattle.policy.specs.Terms.{grant_terms, grants_made, authorizations_made, authorization_terms, HeldSinceMade, Keeps, AreActive}
-use Rattle.policy.specs.Rows.{Rows, RowsIfAny, edited_if_any, Carries}
+use Rattle.policy.specs.Terms.{granted_after, grants_after, grants_made, grant_terms, created_after, terms_after, authorizations_made, authorization_terms, HeldSinceMade, Keeps, AreActive}
+use Rattle.policy.specs.Answer.{holder_of}
+use Rattle.policy.specs.Rows.{Rows, RowsOf, RowsIfAny, edited, edited_if_any, Carries}
 use Rattle.policy.proofs.Names.{same_name-true, held_by_same}
 use Rattle.policy.proofs.Held.{active-kept}
 
--- the command changes nothing of the holder
-pub record Leaves (e : Entry) (before : History) (h : List ℕ) : Type 0 where
-  pub registered : is_registered (e ∷ before) h ≡ is_registered before h
-  pub holders : (a : Address) → is_held_by h (resource_holder (e ∷ before) a) ≡ is_held_by h (resource_holder before a)
-  pub grants : grant_terms (e ∷ before) h ≡ grant_terms before h
-  pub granted : grants_made (e ∷ before) h ≡ grants_made before h
-  pub terms : authorization_terms (e ∷ before) h ≡ authorization_terms before h
-  pub created : authorizations_made (e ∷ before) h ≡ authorizations_made before h
+-- a command registers no holder but the one that it names, and changes no other's grants and terms
+pub stays : (c : Command) (h : List ℕ) (made count : ℕ) (grants : List Granted) (terms : List Auth) → same_name (holder_of c) h ≡ false
+    → (registers c h ≡ false) × (grants_after c h made grants ≡ grants) × (granted_after c h made ≡ made)
+    × (terms_after c h count terms ≡ terms) × (created_after c h count ≡ count)
+stays (Register holder) h made count grants terms other = (other, refl, refl, refl, refl)
+stays (Delegate holder p) h made count grants terms other = (refl, refl, refl, refl, refl)
+stays (Transfer p giver taker) h made count grants terms other = (refl, refl, refl, refl, refl)
+stays (Reclaim holder p) h made count grants terms other = (refl, refl, refl, refl, refl)
+stays (Grant holder name role scope until) h made count grants terms other = (refl, cond-false _ _ _ other, cond-false _ _ _ other, refl, refl)
+stays (Revoke holder n) h made count grants terms other = (refl, cond-false _ _ _ other, refl, refl, refl)
+stays (Create holder asn p max from until) h made count grants terms other = (refl, refl, refl, cond-false _ _ _ other, cond-false _ _ _ other)
+stays (Amend holder n max until) h made count grants terms other = (refl, refl, refl, cond-false _ _ _ other, refl)
+stays (Withdraw holder n) h made count grants terms other = (refl, refl, refl, cond-false _ _ _ other, refl)
+
+-- the command leaves who holds what, as far as this holder goes
+abbrev pub LeavesHeld : Entry → History → List ℕ → Type 0
+LeavesHeld e before h = (a : Address) → is_held_by h (resource_holder (e ∷ before) a) ≡ is_held_by h (resource_holder before a)
 
 -- where who holds what stays as it was for the holder, and its terms too, so do its active ones
-pub active-left : (e : Entry) (before : History) (h : List ℕ) (active : List Auth)
-    → ((a : Address) → is_held_by h (resource_holder (e ∷ before) a) ≡ is_held_by h (resource_holder before a))
+pub active-left : (e : Entry) (before : History) (h : List ℕ) (active : List Auth) → LeavesHeld e before h
     → authorization_terms (e ∷ before) h ≡ authorization_terms before h
     → AreActive before h active → AreActive (e ∷ before) h active
 active-left e before h active holders terms are =
@@ -30,43 +43,68 @@ active-left e before h active holders terms are =
     let P : List Auth → Type 0 = λ xs. Keeps (HeldSinceMade (e ∷ before) h) xs active in
     subst P (sym terms) kept
 
-pub left : (e : Entry) (before : History) (h : List ℕ) → Leaves e before h → (rows : Option Rows) → RowsIfAny before h rows → RowsIfAny (e ∷ before) h rows
-left e before h stays None are = stays.registered ∙ are
-left e before h stays (Some rows) are = (
-  stays.registered ∙ are.0,
-  record {
-    maximal = are.1.maximal;
-    holdings = λ a. are.1.holdings a ∙ sym (stays.holders a);
-    grants = are.1.grants ∙ sym stays.grants;
-    auths = active-left e before h rows.auths stays.holders stays.terms are.1.auths;
-    granted = are.1.granted ∙ sym stays.granted;
-    created = are.1.created ∙ sym stays.created;
-  },
-)
+-- the rows of a holder that the command does not name
+left : (e : Entry) (before : History) (h : List ℕ) → same_name (holder_of e.command) h ≡ false → LeavesHeld e before h
+    → (rows : Option Rows) → RowsIfAny before h rows → RowsIfAny (e ∷ before) h rows
+left e before h other holders rows are =
+    let same = stays e.command h (grants_made before h) (authorizations_made before h) (grant_terms before h) (authorization_terms before h) other in
+    let registered : is_registered (e ∷ before) h ≡ is_registered before h = ap (λ b. b || is_registered before h) same.0 in
+    elim rows as (λ r. RowsIfAny before h r → RowsIfAny (e ∷ before) h r) [
+      | None ↦ λ missing. registered ∙ missing
+      | Some r ↦ λ had. (
+        registered ∙ had.0,
+        record {
+          maximal = had.1.maximal;
+          holdings = λ a. had.1.holdings a ∙ sym (holders a);
+          grants = had.1.grants ∙ sym same.1;
+          auths = active-left e before h r.auths holders same.3 had.1.auths;
+          granted = had.1.granted ∙ sym same.2;
+          created = had.1.created ∙ sym same.4;
+        },
+      )
+    ] are
 
--- a change of one holder
-pub carries-one : (e : Entry) (before : History) (holder : List ℕ) (edit : Edit)
-    → ((rows : Option Rows) → RowsIfAny before holder rows → RowsIfAny (e ∷ before) holder (edited_if_any edit rows))
-    → ((h : List ℕ) → same_name holder h ≡ false → Leaves e before h)
-    → Carries (record { first = record { holder = holder; edit = edit }; second = None }) before (e ∷ before)
-carries-one e before holder edit named others h rows are =
+-- a change of the one holder that the command names
+pub carries-one : (e : Entry) (before : History) (edit : Edit)
+    → ((rows : Option Rows) → RowsIfAny before (holder_of e.command) rows → RowsIfAny (e ∷ before) (holder_of e.command) (edited_if_any edit rows))
+    → ((h : List ℕ) → same_name (holder_of e.command) h ≡ false → LeavesHeld e before h)
+    → Carries (record { first = record { holder = holder_of e.command; edit = edit }; second = None }) before (e ∷ before)
+carries-one e before edit named others h rows are =
+    let holder = holder_of e.command in
     let P : Bool → Type 0 = λ b. RowsIfAny (e ∷ before) h (cond b (edited_if_any edit rows) rows) in
     elim (cases_Bool (same_name holder h)) [
       | inl t ↦
           let same = same_name-true holder h t in
           let Q : List ℕ → Type 0 = λ g. RowsIfAny before g rows → RowsIfAny (e ∷ before) g (edited_if_any edit rows) in
           subst P (sym t) (subst Q same (named rows) are)
-      | inr f ↦ subst P (sym f) (left e before h (others h f) rows are)
+      | inr f ↦ subst P (sym f) (left e before h f (others h f) rows are)
     ]
 
--- a change of one holder and then of another
-pub carries-two : (e : Entry) (before : History) (one other : List ℕ) (edit_one edit_other : Edit)
-    → same_name other one ≡ false
-    → ((rows : Option Rows) → RowsIfAny before one rows → RowsIfAny (e ∷ before) one (edited_if_any edit_one rows))
-    → ((rows : Option Rows) → RowsIfAny before other rows → RowsIfAny (e ∷ before) other (edited_if_any edit_other rows))
-    → ((h : List ℕ) → same_name one h ≡ false → same_name other h ≡ false → Leaves e before h)
-    → Carries (record { first = record { holder = one; edit = edit_one }; second = Some (record { holder = other; edit = edit_other }) }) before (e ∷ before)
-carries-two e before one other edit_one edit_other differ named_one named_other others h rows are =
+-- an edit of a registered holder's rows
+rows-edited : (e : Entry) (before : History) (h : List ℕ) (edit : Edit) → is_registered before h ≡ true
+    → ((rows : Rows) → RowsOf before h rows → RowsOf (e ∷ before) h (edited edit rows))
+    → (rows : Option Rows) → RowsIfAny before h rows → RowsIfAny (e ∷ before) h (edited_if_any edit rows)
+rows-edited e before h edit registered step None are = absurd (false≢true (sym are ∙ registered))
+rows-edited e before h edit registered step (Some rows) are =
+    (ap (λ b. registers e.command h || b) registered ∙ or-true (registers e.command h), step rows are.1)
+
+-- a change of the one holder that the command names, which is registered
+pub carries-edit : (e : Entry) (before : History) (edit : Edit) → is_registered before (holder_of e.command) ≡ true
+    → ((rows : Rows) → RowsOf before (holder_of e.command) rows → RowsOf (e ∷ before) (holder_of e.command) (edited edit rows))
+    → ((h : List ℕ) → same_name (holder_of e.command) h ≡ false → LeavesHeld e before h)
+    → Carries (record { first = record { holder = holder_of e.command; edit = edit }; second = None }) before (e ∷ before)
+carries-edit e before edit registered step others =
+    carries-one e before edit (rows-edited e before (holder_of e.command) edit registered step) others
+
+-- a change of the holder that the command names and then of another, both registered
+pub carries-two : (e : Entry) (before : History) (other : List ℕ) (edit_one edit_other : Edit)
+    → is_registered before (holder_of e.command) ≡ true → is_registered before other ≡ true → same_name other (holder_of e.command) ≡ false
+    → ((rows : Rows) → RowsOf before (holder_of e.command) rows → RowsOf (e ∷ before) (holder_of e.command) (edited edit_one rows))
+    → ((rows : Rows) → RowsOf before other rows → RowsOf (e ∷ before) other (edited edit_other rows))
+    → ((h : List ℕ) → same_name (holder_of e.command) h ≡ false → same_name other h ≡ false → LeavesHeld e before h)
+    → Carries (record { first = record { holder = holder_of e.command; edit = edit_one }; second = Some (record { holder = other; edit = edit_other }) }) before (e ∷ before)
+carries-two e before other edit_one edit_other one_registered other_registered differ step_one step_other others h rows are =
+    let one = holder_of e.command in
     let P : Bool → Bool → Type 0 = λ b c.
     RowsIfAny (e ∷ before) h (cond c (edited_if_any edit_other (cond b (edited_if_any edit_one rows) rows)) (cond b (edited_if_any edit_one rows) rows)) in
     elim (cases_Bool (same_name one h)) [
@@ -74,7 +112,7 @@ carries-two e before one other edit_one edit_other differ named_one named_other 
           let same = same_name-true one h t in
           let Q : List ℕ → Type 0 = λ g. RowsIfAny before g rows → RowsIfAny (e ∷ before) g (edited_if_any edit_one rows) in
           let not_other : same_name other h ≡ false = subst (λ (g : List ℕ). same_name other g ≡ false) same differ in
-          let at : P true false = subst Q same (named_one rows) are in
+          let at : P true false = subst Q same (rows-edited e before one edit_one one_registered step_one rows) are in
           let with_first : P (same_name one h) false = subst (λ (b : Bool). P b false) (sym t) at in
           subst (λ (c : Bool). P (same_name one h) c) (sym not_other) with_first
       | inr f ↦
@@ -82,11 +120,11 @@ carries-two e before one other edit_one edit_other differ named_one named_other 
             | inl u ↦
                 let same = same_name-true other h u in
                 let Q : List ℕ → Type 0 = λ g. RowsIfAny before g rows → RowsIfAny (e ∷ before) g (edited_if_any edit_other rows) in
-                let at : P false true = subst Q same (named_other rows) are in
+                let at : P false true = subst Q same (rows-edited e before other edit_other other_registered step_other rows) are in
                 let with_first : P (same_name one h) true = subst (λ (b : Bool). P b true) (sym f) at in
                 subst (λ (c : Bool). P (same_name one h) c) (sym u) with_first
             | inr g ↦
-                let at : P false false = left e before h (others h f g) rows are in
+                let at : P false false = left e before h f (others h f g) rows are in
                 let with_first : P (same_name one h) false = subst (λ (b : Bool). P b false) (sym f) at in
                 subst (λ (c : Bool). P (same_name one h) c) (sym g) with_first
           ]

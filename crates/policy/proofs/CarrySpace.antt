@@ -1,6 +1,7 @@
 -- The changes of a registration, a delegation, a transfer and a reclaim carry every holder's rows.
-use Rattle.std.proofs.Common.{◌≡◌, ℕ, Bool, true, false, not, ◌||◌, ◌&&◌, cond, List, [], ◌∷◌, inl, inr, Option, Some, None, refl, sym, ap, ◌∙◌, subst, filter}
-use Rattle.std.proofs.lemmas.Bool.{cases_Bool, false≢true}
+use Rattle.std.proofs.Common.{◌≡◌, ℕ, Bool, true, false, not, ◌||◌, ◌&&◌, cond, List, [], ◌∷◌, inl, inr, Some, None, refl, sym, ap, ◌∙◌, subst, filter}
+use Rattle.std.proofs.lemmas.Bool.{cases_Bool, cond-true, cond-false, false≢true}
+use Rattle.std.proofs.Math.Bool.{or-true, or-false, and-true, and-false}
 use Rattle.std.specs.Global.{Vec}
 use Rattle.addr.specs.Address.{Address, has_address}
 use Rattle.addr.specs.declared.prefix.Prefix.{Prefix}
@@ -19,7 +20,7 @@ use Rattle.policy.proofs.Names.{same_name-same, held_by_itself}
 use Rattle.policy.proofs.Kept.{Keeps-unique}
 use Rattle.policy.proofs.Held.{active-kept, active-numbered, LosesNothing}
 use Rattle.policy.proofs.Ended.{LosesPrefix, active-ended, numbers_where, among, filter-numbers}
-use Rattle.policy.proofs.Carry.{carries-one, carries-two}
+use Rattle.policy.proofs.Carry.{carries-one, carries-edit, carries-two}
 use Rattle.policy.proofs.Unregistered.{has_nothing}
 
 -- a registration: a holder that was not registered has nothing yet
@@ -32,7 +33,7 @@ carries-register charter before day caller holder legal fresh =
     let registered : is_registered (e ∷ before) holder ≡ true = ap (λ b. b || is_registered before holder) (same_name-same holder) in
     let no_terms : AreActive (e ∷ before) holder [] =
     subst (λ (xs : List Auth). Keeps (HeldSinceMade (e ∷ before) holder) xs []) (sym none.terms) tt in
-    carries-one e before holder RegisterEdit
+    carries-one e before RegisterEdit
     (λ rows are. elim rows as (λ r. RowsIfAny before holder r → RowsIfAny (e ∷ before) holder (edited_if_any RegisterEdit r)) [
       | None ↦ λ _. (
         registered,
@@ -47,14 +48,7 @@ carries-register charter before day caller holder legal fresh =
       )
       | Some r ↦ λ had. absurd (false≢true (sym fresh ∙ had.0))
     ] are)
-    (λ h differ. record {
-      registered = ap (λ b. b || is_registered before h) differ;
-      holders = λ a. refl;
-      grants = refl;
-      granted = refl;
-      terms = refl;
-      created = refl;
-    })
+    (λ h other a. refl)
 
 -- a holder that gains addresses and loses none
 rows-gained : (e : Entry) (before : History) (h : List ℕ) (spans : List Span) (rows : Rows)
@@ -72,22 +66,6 @@ rows-gained e before h spans rows maximal holdings keeps grants granted terms cr
   granted = are.granted ∙ sym granted;
   created = are.created ∙ sym created;
 }
-
-or_true : (b : Bool) → b || true ≡ true
-or_true true = refl
-or_true false = refl
-
-or_false : (b : Bool) → b || false ≡ b
-or_false true = refl
-or_false false = refl
-
-and_true : (b : Bool) → b && true ≡ b
-and_true true = refl
-and_true false = refl
-
-and_false : (b : Bool) → b && false ≡ false
-and_false true = refl
-and_false false = refl
 
 filter_none : (xs : List Auth) → filter (λ x. not (among [] x)) xs ≡ xs
 filter_none [] = refl
@@ -109,7 +87,7 @@ receiver-rows e before h p spans ended v rows receives maximal united none grant
     let holdings = λ (a : Address).
     let at : (b : Bool) → (spans_have v.holdings a || b) ≡ is_held_by h (cond b (Some h) (resource_holder before a)) =
     λ b. elim b as (λ b. (spans_have v.holdings a || b) ≡ is_held_by h (cond b (Some h) (resource_holder before a)))
-    [ true ↦ or_true (spans_have v.holdings a) ∙ sym (held_by_itself h) | false ↦ or_false (spans_have v.holdings a) ∙ had.holdings a ] in
+    [ true ↦ or-true (spans_have v.holdings a) ∙ sym (held_by_itself h) | false ↦ or-false (spans_have v.holdings a) ∙ had.holdings a ] in
     united a ∙ at (has_address p a) ∙ ap (is_held_by h) (sym (receives a)) in
     let keeps : LosesNothing e before h = λ a is.
     receives a ∙ elim (has_address p a) as (λ b. cond b (Some h) (resource_holder before a) ≡ Some h) [ true ↦ refl | false ↦ is ] in
@@ -130,7 +108,7 @@ giver-rows e before h p spans ended v rows gives others maximal without numbers 
     let holdings = λ (a : Address).
     let at : (b : Bool) → (spans_have v.holdings a && not b) ≡ cond b false (is_held_by h (resource_holder before a)) =
     λ b. elim b as (λ b. (spans_have v.holdings a && not b) ≡ cond b false (is_held_by h (resource_holder before a)))
-    [ true ↦ and_false (spans_have v.holdings a) | false ↦ and_true (spans_have v.holdings a) ∙ had.holdings a ] in
+    [ true ↦ and-false (spans_have v.holdings a) | false ↦ and-true (spans_have v.holdings a) ∙ had.holdings a ] in
     without a ∙ at (has_address p a) ∙ sym (gives a) in
     let loses : LosesPrefix e before h p = record {
       lost = λ a has is.
@@ -153,33 +131,18 @@ giver-rows e before h p spans ended v rows gives others maximal without numbers 
       created = are.created ∙ sym created;
     }
 
--- rows of a holder that is registered
-with_rows : (e : Entry) (before : History) (h : List ℕ) (spans : List Span) (ended : Vec ℕ) → is_registered before h ≡ true → is_registered (e ∷ before) h ≡ is_registered before h
-    → ((rows : Rows) → RowsOf before h rows → RowsOf (e ∷ before) h (edited (Hold spans ended) rows))
-    → (rows : Option Rows) → RowsIfAny before h rows → RowsIfAny (e ∷ before) h (edited_if_any (Hold spans ended) rows)
-with_rows e before h spans ended registered same step None are = absurd (false≢true (sym are ∙ registered))
-with_rows e before h spans ended registered same step (Some rows) are = (same ∙ registered, step rows are.1)
-
 pub carries-delegate : (before : History) (day : ℕ) (caller holder : List ℕ) (p : Prefix) (spans : List Span) (ended : Vec ℕ) (v : Rows)
     → is_registered before holder ≡ true → IsFree before p → RowsOf before holder v
     → AreMaximal spans → ((a : Address) → spans_have spans a ≡ (spans_have v.holdings a || has_address p a)) → ended.items ≡ []
     → Carries (record { first = record { holder = holder; edit = Hold spans ended }; second = None }) before (record { day = day; caller = caller; command = Delegate holder p } ∷ before)
 carries-delegate before day caller holder p spans ended v registered free had maximal united none =
     let e : Entry = record { day = day; caller = caller; command = Delegate holder p } in
-    carries-one e before holder (Hold spans ended)
-    (with_rows e before holder spans ended registered refl
-    (λ rows are. receiver-rows e before holder p spans ended v rows (λ a. refl) maximal united none refl refl refl refl had are))
-    (λ h differ. record {
-      registered = refl;
-      holders = λ a. elim (cases_Bool (has_address p a)) [
-        | inl t ↦ ap (λ b. is_held_by h (cond b (Some holder) (resource_holder before a))) t ∙ differ ∙ ap (is_held_by h) (sym (free a t))
-        | inr f ↦ ap (λ b. is_held_by h (cond b (Some holder) (resource_holder before a))) f
-      ];
-      grants = refl;
-      granted = refl;
-      terms = refl;
-      created = refl;
-    })
+    carries-edit e before (Hold spans ended) registered
+    (λ rows are. receiver-rows e before holder p spans ended v rows (λ a. refl) maximal united none refl refl refl refl had are)
+    (λ h other a. elim (cases_Bool (has_address p a)) [
+      | inl t ↦ ap (is_held_by h) (cond-true _ _ _ t) ∙ other ∙ ap (is_held_by h) (sym (free a t))
+      | inr f ↦ ap (is_held_by h) (cond-false _ _ _ f)
+    ])
 
 pub carries-reclaim : (before : History) (day : ℕ) (caller holder : List ℕ) (p : Prefix) (spans : List Span) (ended : Vec ℕ) (v : Rows)
     → is_registered before holder ≡ true → HoldsPrefix before holder p → RowsOf before holder v
@@ -188,23 +151,15 @@ pub carries-reclaim : (before : History) (day : ℕ) (caller holder : List ℕ) 
     → Carries (record { first = record { holder = holder; edit = Hold spans ended }; second = None }) before (record { day = day; caller = caller; command = Reclaim holder p } ∷ before)
 carries-reclaim before day caller holder p spans ended v registered holds had maximal without numbers =
     let e : Entry = record { day = day; caller = caller; command = Reclaim holder p } in
-    carries-one e before holder (Hold spans ended)
-    (with_rows e before holder spans ended registered refl
+    carries-edit e before (Hold spans ended) registered
     (λ rows are. giver-rows e before holder p spans ended v rows
     (λ a. elim (has_address p a) as (λ b. is_held_by holder (cond b None (resource_holder before a)) ≡ cond b false (is_held_by holder (resource_holder before a))) [ true ↦ refl | false ↦ refl ])
-    (λ a f. ap (λ b. cond b None (resource_holder before a)) f)
-    maximal without numbers refl refl refl refl had are))
-    (λ h differ. record {
-      registered = refl;
-      holders = λ a. elim (cases_Bool (has_address p a)) [
-        | inl t ↦ ap (λ b. is_held_by h (cond b None (resource_holder before a))) t ∙ sym differ ∙ ap (is_held_by h) (sym (holds a t))
-        | inr f ↦ ap (λ b. is_held_by h (cond b None (resource_holder before a))) f
-      ];
-      grants = refl;
-      granted = refl;
-      terms = refl;
-      created = refl;
-    })
+    (λ a f. cond-false _ _ _ f)
+    maximal without numbers refl refl refl refl had are)
+    (λ h other a. elim (cases_Bool (has_address p a)) [
+      | inl t ↦ ap (is_held_by h) (cond-true _ _ _ t) ∙ sym other ∙ ap (is_held_by h) (sym (holds a t))
+      | inr f ↦ ap (is_held_by h) (cond-false _ _ _ f)
+    ])
 
 pub carries-transfer : (before : History) (day : ℕ) (caller giver taker : List ℕ) (p : Prefix) (less more : List Span) (ended none : Vec ℕ) (v w : Rows)
     → is_registered before giver ≡ true → is_registered before taker ≡ true → same_name taker giver ≡ false → HoldsPrefix before giver p
@@ -216,22 +171,13 @@ pub carries-transfer : (before : History) (day : ℕ) (caller giver taker : List
     (record { day = day; caller = caller; command = Transfer p giver taker } ∷ before)
 carries-transfer before day caller giver taker p less more ended none v w giver_registered taker_registered differ holds had_v had_w maximal_less without maximal_more united numbers nothing =
     let e : Entry = record { day = day; caller = caller; command = Transfer p giver taker } in
-    carries-two e before giver taker (Hold less ended) (Hold more none) differ
-    (with_rows e before giver less ended giver_registered refl
+    carries-two e before taker (Hold less ended) (Hold more none) giver_registered taker_registered differ
     (λ rows are. giver-rows e before giver p less ended v rows
     (λ a. elim (has_address p a) as (λ b. is_held_by giver (cond b (Some taker) (resource_holder before a)) ≡ cond b false (is_held_by giver (resource_holder before a))) [ true ↦ differ | false ↦ refl ])
-    (λ a f. ap (λ b. cond b (Some taker) (resource_holder before a)) f)
-    maximal_less without numbers refl refl refl refl had_v are))
-    (with_rows e before taker more none taker_registered refl
-    (λ rows are. receiver-rows e before taker p more none w rows (λ a. refl) maximal_more united nothing refl refl refl refl had_w are))
-    (λ h not_giver not_taker. record {
-      registered = refl;
-      holders = λ a. elim (cases_Bool (has_address p a)) [
-        | inl t ↦ ap (λ b. is_held_by h (cond b (Some taker) (resource_holder before a))) t ∙ not_taker ∙ sym not_giver ∙ ap (is_held_by h) (sym (holds a t))
-        | inr f ↦ ap (λ b. is_held_by h (cond b (Some taker) (resource_holder before a))) f
-      ];
-      grants = refl;
-      granted = refl;
-      terms = refl;
-      created = refl;
-    })
+    (λ a f. cond-false _ _ _ f)
+    maximal_less without numbers refl refl refl refl had_v are)
+    (λ rows are. receiver-rows e before taker p more none w rows (λ a. refl) maximal_more united nothing refl refl refl refl had_w are)
+    (λ h not_giver not_taker a. elim (cases_Bool (has_address p a)) [
+      | inl t ↦ ap (is_held_by h) (cond-true _ _ _ t) ∙ not_taker ∙ sym not_giver ∙ ap (is_held_by h) (sym (holds a t))
+      | inr f ↦ ap (is_held_by h) (cond-false _ _ _ f)
+    ])

@@ -1,6 +1,7 @@
 -- The changes of a create, an amend and a withdrawal carry every holder's rows.
-use Rattle.std.proofs.Common.{◌≡◌, ℕ, ◌+◌, ◌<◌, ◌≤◌, true, false, not, cond, eqb, List, [], ◌∷◌, ◌++◌, inl, inr, Some, None, refl, sym, ap, ◌∙◌, subst, arith, map, filter}
-use Rattle.std.proofs.lemmas.Bool.{cases_Bool, false≢true}
+use Rattle.std.proofs.Common.{◌≡◌, ℕ, ◌+◌, ◌<◌, ◌≤◌, true, false, not, eqb, List, [], ◌∷◌, ◌++◌, inl, inr, Some, None, refl, sym, ap, ◌∙◌, subst, arith, map, filter}
+use Rattle.std.proofs.lemmas.Bool.{cases_Bool, cond-true, cond-false}
+use Rattle.std.proofs.lemmas.Option.{same_Some, none-some}
 use Rattle.std.proofs.lemmas.Bool.Decides.{nat_tests}
 use Rattle.addr.specs.Address.{has_address}
 use Rattle.addr.specs.declared.asn.Asn.{Asn}
@@ -12,12 +13,12 @@ use Rattle.policy.specs.History.{Entry, History, is_registered}
 use Rattle.policy.specs.Resources.{HoldsPrefix}
 use Rattle.policy.specs.Terms.{authorizations_made, authorization_terms, amended, HeldSinceMade, Keeps}
 use Rattle.policy.specs.Verdict.{numbered}
-use Rattle.policy.specs.Rows.{Rows, RowsOf, RowsIfAny, replaced_by, edited_if_any, Carries}
+use Rattle.policy.specs.Rows.{Rows, RowsOf, replaced_by, Carries}
 use Rattle.policy.proofs.Names.{same_name-same}
 use Rattle.policy.proofs.Numbers.{Numbered}
 use Rattle.policy.proofs.Kept.{Keeps-unique, Keeps-append, Keeps-filtered, Keeps-map}
 use Rattle.policy.proofs.Held.{active-kept, active-numbered, not_yet_made, since_same, amended-number, amended-prefix}
-use Rattle.policy.proofs.Carry.{carries-one}
+use Rattle.policy.proofs.Carry.{carries-edit}
 
 pub carries-create : (before : History) (day : ℕ) (caller holder : List ℕ) (asn : Asn) (p : Prefix) (max from until : ℕ) (x : Auth)
     → is_registered before holder ≡ true → HoldsPrefix before holder p
@@ -26,40 +27,25 @@ pub carries-create : (before : History) (day : ℕ) (caller holder : List ℕ) (
     (record { day = day; caller = caller; command = Create holder asn p max from until } ∷ before)
 carries-create before day caller holder asn p max from until x registered holds is =
     let e : Entry = record { day = day; caller = caller; command = Create holder asn p max from until } in
-    let new = λ (h : List ℕ). let y : Auth = record { number = authorizations_made before h + 1; asn = asn; prefix = p; max = max; from = from; until = until } in y in
     let number : x.number ≡ authorizations_made before holder + 1 = ap (λ y. y.number) is in
     let since : HeldSinceMade (e ∷ before) holder x = (
       λ made. λ q same a has. holds a (subst (λ (r : Prefix). has_address r a ≡ true) (same ∙ ap (λ y. y.prefix) is) has),
       not_yet_made before holder x (omega arith),
     ) in
     let terms : authorization_terms before holder ++ x ∷ [] ≡ authorization_terms (e ∷ before) holder =
-    ap (λ y. authorization_terms before holder ++ y ∷ []) is
-    ∙ sym (ap (λ b. cond b (authorization_terms before holder ++ new holder ∷ []) (authorization_terms before holder)) (same_name-same holder)) in
-    carries-one e before holder (CreateEdit x)
-    (λ rows are. elim rows as (λ r. RowsIfAny before holder r → RowsIfAny (e ∷ before) holder (edited_if_any (CreateEdit x) r)) [
-      | None ↦ λ missing. absurd (false≢true (sym missing ∙ registered))
-      | Some r ↦ λ had. (
-        had.0,
-        record {
-          maximal = had.1.maximal;
-          holdings = had.1.holdings;
-          grants = had.1.grants;
-          auths = subst (λ (xs : List Auth). Keeps (HeldSinceMade (e ∷ before) holder) xs (r.auths ++ x ∷ [])) terms
-              (Keeps-append (HeldSinceMade (e ∷ before) holder) (authorization_terms before holder) r.auths x since
-              (active-kept e before holder r.auths (λ a held. held) had.1.auths));
-          granted = had.1.granted;
-          created = number ∙ sym (ap (λ b. cond b (authorizations_made before holder + 1) (authorizations_made before holder)) (same_name-same holder));
-        },
-      )
-    ] are)
-    (λ h differ. record {
-      registered = refl;
-      holders = λ a. refl;
-      grants = refl;
-      granted = refl;
-      terms = ap (λ b. cond b (authorization_terms before h ++ new h ∷ []) (authorization_terms before h)) differ;
-      created = ap (λ b. cond b (authorizations_made before h + 1) (authorizations_made before h)) differ;
+    ap (λ y. authorization_terms before holder ++ y ∷ []) is ∙ sym (cond-true _ _ _ (same_name-same holder)) in
+    carries-edit e before (CreateEdit x) registered
+    (λ rows had. record {
+      maximal = had.maximal;
+      holdings = had.holdings;
+      grants = had.grants;
+      auths = subst (λ (xs : List Auth). Keeps (HeldSinceMade (e ∷ before) holder) xs (rows.auths ++ x ∷ [])) terms
+          (Keeps-append (HeldSinceMade (e ∷ before) holder) (authorization_terms before holder) rows.auths x since
+          (active-kept e before holder rows.auths (λ a held. held) had.auths));
+      granted = had.granted;
+      created = number ∙ sym (cond-true _ _ _ (same_name-same holder));
     })
+    (λ h other a. refl)
 
 pub carries-withdraw : (before : History) (day : ℕ) (caller holder : List ℕ) (n : ℕ)
     → is_registered before holder ≡ true
@@ -69,49 +55,30 @@ carries-withdraw before day caller holder n registered =
     let e : Entry = record { day = day; caller = caller; command = Withdraw holder n } in
     let keep = λ (x : Auth). not (eqb x.number n) in
     let terms : filter keep (authorization_terms before holder) ≡ authorization_terms (e ∷ before) holder =
-    sym (ap (λ b. cond b (filter keep (authorization_terms before holder)) (authorization_terms before holder)) (same_name-same holder)) in
-    carries-one e before holder (WithdrawEdit n)
-    (λ rows are. elim rows as (λ r. RowsIfAny before holder r → RowsIfAny (e ∷ before) holder (edited_if_any (WithdrawEdit n) r)) [
-      | None ↦ λ missing. absurd (false≢true (sym missing ∙ registered))
-      | Some r ↦ λ had. (
-        had.0,
-        record {
-          maximal = had.1.maximal;
-          holdings = had.1.holdings;
-          grants = had.1.grants;
-          auths = subst (λ (xs : List Auth). Keeps (HeldSinceMade (e ∷ before) holder) xs (filter keep r.auths)) terms
-              (Keeps-filtered (HeldSinceMade (e ∷ before) holder) keep (authorization_terms before holder) r.auths
-              (active-kept e before holder r.auths (λ a held. held) had.1.auths));
-          granted = had.1.granted;
-          created = had.1.created;
-        },
-      )
-    ] are)
-    (λ h differ. record {
-      registered = refl;
-      holders = λ a. refl;
-      grants = refl;
-      granted = refl;
-      terms = ap (λ b. cond b (filter keep (authorization_terms before h)) (authorization_terms before h)) differ;
-      created = refl;
+    sym (cond-true _ _ _ (same_name-same holder)) in
+    carries-edit e before (WithdrawEdit n) registered
+    (λ rows had. record {
+      maximal = had.maximal;
+      holdings = had.holdings;
+      grants = had.grants;
+      auths = subst (λ (xs : List Auth). Keeps (HeldSinceMade (e ∷ before) holder) xs (filter keep rows.auths)) terms
+          (Keeps-filtered (HeldSinceMade (e ∷ before) holder) keep (authorization_terms before holder) rows.auths
+          (active-kept e before holder rows.auths (λ a held. held) had.auths));
+      granted = had.granted;
+      created = had.created;
     })
-
-pub some_same : {x y : Auth} → Some x ≡ Some y → x ≡ y
-some_same {x} {y} is = cc
+    (λ h other a. refl)
 
 -- what is found has the number
 pub found_number : (n : ℕ) (xs : List Auth) (x : Auth) → numbered n xs ≡ Some x → x.number ≡ n
-found_number n [] x found = absurd (none_some found)
-  where
-    none_some : None ≡ Some x → ⊥
-    none_some is = cc
+found_number n [] x found = absurd (none-some _ found)
 found_number n (z ∷ zs) x found =
     elim (cases_Bool (eqb z.number n)) [
       | inl t ↦
-          let same : z ≡ x = some_same (sym (ap (λ b. cond b (Some z) (numbered n zs)) t) ∙ found) in
+          let same : z ≡ x = same_Some _ _ (sym (cond-true _ _ _ t) ∙ found) in
           let number : z.number ≡ n = grind (arith, nat_tests) in
           ap (λ a. a.number) (sym same) ∙ number
-      | inr f ↦ found_number n zs x (sym (ap (λ b. cond b (Some z) (numbered n zs)) f) ∙ found)
+      | inr f ↦ found_number n zs x (sym (cond-false _ _ _ f) ∙ found)
     ]
 
 -- an authorization of a higher number stays
@@ -124,7 +91,7 @@ untouched low n (x ∷ xs) high max until y numbers below is =
     let not_y : eqb x.number y.number ≡ false = grind (arith, nat_tests) in
     let rest = untouched x.number n xs high max until y numbers.1 (omega arith) is in
     let one : replaced_by y x ≡ amended n max until x =
-    ap (λ b. cond b y x) not_y ∙ sym (ap (λ b. cond b (record x { max = max; until = until }) x) not_n) in
+    cond-false _ _ _ not_y ∙ sym (cond-false _ _ _ not_n) in
     ap (λ z. z ∷ map (replaced_by y) xs) one ∙ ap (λ zs. amended n max until x ∷ zs) rest
 
 -- the amended one put in the place of the one of its number
@@ -134,22 +101,22 @@ replaced-amended low n [] high max until x y numbers found is = refl
 replaced-amended low n (z ∷ zs) high max until x y numbers found is =
     elim (cases_Bool (eqb z.number n)) [
       | inl t ↦
-          let same : z ≡ x = some_same (sym (ap (λ b. cond b (Some z) (numbered n zs)) t) ∙ found) in
+          let same : z ≡ x = same_Some _ _ (sym (cond-true _ _ _ t) ∙ found) in
           let number : z.number ≡ n = grind (arith, nat_tests) in
           let number_y : y.number ≡ n = ap (λ a. a.number) is ∙ ap (λ a. a.number) (sym same) ∙ number in
           let same_number : eqb z.number y.number ≡ true = grind (arith, nat_tests) in
           let new : record z { max = max; until = until } ≡ y = ap (λ a. let b : Auth = record a { max = max; until = until } in b) same ∙ sym is in
           let one : replaced_by y z ≡ amended n max until z =
-          ap (λ b. cond b y z) same_number ∙ sym new ∙ sym (ap (λ b. cond b (record z { max = max; until = until }) z) t) in
+          cond-true _ _ _ same_number ∙ sym new ∙ sym (cond-true _ _ _ t) in
           let rest = untouched z.number n zs high max until y numbers.1 (omega arith) number_y in
           ap (λ a. a ∷ map (replaced_by y) zs) one ∙ ap (λ cs. amended n max until z ∷ cs) rest
       | inr f ↦
-          let later : numbered n zs ≡ Some x = sym (ap (λ b. cond b (Some z) (numbered n zs)) f) ∙ found in
+          let later : numbered n zs ≡ Some x = sym (cond-false _ _ _ f) ∙ found in
           let rest = replaced-amended z.number n zs high max until x y numbers.1 later is in
           let number_y : y.number ≡ n = ap (λ a. a.number) is ∙ found_number n zs x later in
           let differ : eqb z.number y.number ≡ false = ap (λ k. eqb z.number k) number_y ∙ f in
           let one : replaced_by y z ≡ amended n max until z =
-          ap (λ b. cond b y z) differ ∙ sym (ap (λ b. cond b (record z { max = max; until = until }) z) f) in
+          cond-false _ _ _ differ ∙ sym (cond-false _ _ _ f) in
           ap (λ a. a ∷ map (replaced_by y) zs) one ∙ ap (λ cs. amended n max until z ∷ cs) rest
     ]
 
@@ -161,36 +128,24 @@ carries-amend before day caller holder n max until v x y registered had_v found 
     let e : Entry = record { day = day; caller = caller; command = Amend holder n max until } in
     let f = amended n max until in
     let terms : map f (authorization_terms before holder) ≡ authorization_terms (e ∷ before) holder =
-    sym (ap (λ b. cond b (map f (authorization_terms before holder)) (authorization_terms before holder)) (same_name-same holder)) in
+    sym (cond-true _ _ _ (same_name-same holder)) in
     let to = λ (z : Auth) (since : HeldSinceMade (e ∷ before) holder z). since_same (e ∷ before) holder z (f z) (amended-number n max until z) (amended-prefix n max until z) since in
     let back = λ (z : Auth) (since : HeldSinceMade (e ∷ before) holder (f z)). since_same (e ∷ before) holder (f z) z (sym (amended-number n max until z)) (sym (amended-prefix n max until z)) since in
-    carries-one e before holder (AmendEdit y)
-    (λ rows are. elim rows as (λ r. RowsIfAny before holder r → RowsIfAny (e ∷ before) holder (edited_if_any (AmendEdit y) r)) [
-      | None ↦ λ missing. absurd (false≢true (sym missing ∙ registered))
-      | Some r ↦ λ had.
-          let same_auths : v.auths ≡ r.auths = Keeps-unique (HeldSinceMade before holder) (authorization_terms before holder) v.auths r.auths had_v.auths had.1.auths in
-          let found_r : numbered n r.auths ≡ Some x = ap (numbered n) (sym same_auths) ∙ found in
-          let mapped : map (replaced_by y) r.auths ≡ map f r.auths =
-          replaced-amended 0 n r.auths (authorizations_made before holder) max until x y (active-numbered before holder r.auths had.1.auths) found_r is in (
-            had.0,
-            record {
-              maximal = had.1.maximal;
-              holdings = had.1.holdings;
-              grants = had.1.grants;
-              auths = subst (λ (ys : List Auth). Keeps (HeldSinceMade (e ∷ before) holder) (authorization_terms (e ∷ before) holder) ys) (sym mapped)
-                  (subst (λ (xs : List Auth). Keeps (HeldSinceMade (e ∷ before) holder) xs (map f r.auths)) terms
-                  (Keeps-map (HeldSinceMade (e ∷ before) holder) f to back (authorization_terms before holder) r.auths
-                  (active-kept e before holder r.auths (λ a held. held) had.1.auths)));
-              granted = had.1.granted;
-              created = had.1.created;
-            },
-          )
-    ] are)
-    (λ h differ. record {
-      registered = refl;
-      holders = λ a. refl;
-      grants = refl;
-      granted = refl;
-      terms = ap (λ b. cond b (map f (authorization_terms before h)) (authorization_terms before h)) differ;
-      created = refl;
+    carries-edit e before (AmendEdit y) registered
+    (λ rows had.
+    let same_auths : v.auths ≡ rows.auths = Keeps-unique (HeldSinceMade before holder) (authorization_terms before holder) v.auths rows.auths had_v.auths had.auths in
+    let mapped : map (replaced_by y) rows.auths ≡ map f rows.auths =
+    replaced-amended 0 n rows.auths (authorizations_made before holder) max until x y (active-numbered before holder rows.auths had.auths)
+    (ap (numbered n) (sym same_auths) ∙ found) is in
+    record {
+      maximal = had.maximal;
+      holdings = had.holdings;
+      grants = had.grants;
+      auths = subst (λ (ys : List Auth). Keeps (HeldSinceMade (e ∷ before) holder) (authorization_terms (e ∷ before) holder) ys) (sym mapped)
+          (subst (λ (xs : List Auth). Keeps (HeldSinceMade (e ∷ before) holder) xs (map f rows.auths)) terms
+          (Keeps-map (HeldSinceMade (e ∷ before) holder) f to back (authorization_terms before holder) rows.auths
+          (active-kept e before holder rows.auths (λ a held. held) had.auths)));
+      granted = had.granted;
+      created = had.created;
     })
+    (λ h other a. refl)

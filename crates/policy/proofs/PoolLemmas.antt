@@ -1,57 +1,41 @@
 -- A prefix is in the pool where a walk along the pool's prefixes reaches its end.
-use Rattle.std.proofs.Common.{◌≡◌, ℕ, ◌<◌, ◌≤◌, Bool, true, false, ◌||◌, cond, List, [], ◌∷◌, inl, inr, Option, Some, None, Bor, option_copied, MatchOption, IsSomeAnd, IfNone, IfSome, refl, sym, ap, ◌∙◌, subst, arith}
+use Rattle.std.proofs.Common.{◌≡◌, ℕ, ◌<◌, ◌≤◌, Bool, true, false, ◌||◌, List, [], ◌∷◌, inl, inr, Option, Some, None, Bor, option_copied, MatchOption, IsSomeAnd, IfNone, IfSome, refl, sym, ap, ◌∙◌, subst, arith}
 use Rattle.std.specs.List.{list_any, find}
-use Rattle.std.proofs.lemmas.Bool.{cases_Bool, cases_lt, false≢true}
+use Rattle.std.proofs.lemmas.Bool.{cases_Bool, cases_lt, cond-true, cond-false, false≢true}
+use Rattle.std.proofs.lemmas.Option.{none-some, same_Some}
+use Rattle.std.proofs.Math.Bool.{or-true}
 use Rattle.std.proofs.lemmas.Bool.Decides.{nat_tests}
 use Rattle.addr.specs.Address.{is_between, has_address, last_of}
 use Rattle.addr.specs.declared.family.Family.{Family}
 use Rattle.addr.specs.declared.family.Family.TheVariants.{V4, V6}
 use Rattle.addr.specs.declared.prefix.Prefix.{Prefix}
+use Rattle.addr.proofs.AddressLemmas.{between_at}
 use Rattle.policy.specs.Pool.{pool_has, IsInPool, HasFromTo}
 
 find_none : (test : Prefix → Bool) (pool : List Prefix) → find test pool ≡ None → list_any test pool ≡ false
 find_none test [] is = refl
 find_none test (q ∷ pool) is =
     elim (cases_Bool (test q)) [
-      | inl t ↦ absurd (some_none (sym (ap (λ b. cond b (Some q) (find test pool)) t) ∙ is))
-      | inr f ↦ ap (λ b. b || list_any test pool) f ∙ find_none test pool (sym (ap (λ b. cond b (Some q) (find test pool)) f) ∙ is)
+      | inl t ↦ absurd (none-some q (sym is ∙ cond-true _ _ _ t))
+      | inr f ↦ ap (λ b. b || list_any test pool) f ∙ find_none test pool (sym (cond-false _ _ _ f) ∙ is)
     ]
-  where
-    some_none : Some q ≡ None → ⊥
-    some_none e = cc
 
 find_some : (test : Prefix → Bool) (pool : List Prefix) (p : Prefix) → find test pool ≡ Some p → test p ≡ true
-find_some test [] p is = absurd (none_some is)
-  where
-    none_some : None ≡ Some p → ⊥
-    none_some e = cc
+find_some test [] p is = absurd (none-some p is)
 find_some test (q ∷ pool) p is =
     elim (cases_Bool (test q)) [
-      | inl t ↦ ap test (sym (same (sym (ap (λ b. cond b (Some q) (find test pool)) t) ∙ is))) ∙ t
-      | inr f ↦ find_some test pool p (sym (ap (λ b. cond b (Some q) (find test pool)) f) ∙ is)
+      | inl t ↦ ap test (sym (same_Some q p (sym (cond-true _ _ _ t) ∙ is))) ∙ t
+      | inr f ↦ find_some test pool p (sym (cond-false _ _ _ f) ∙ is)
     ]
-  where
-    same : Some q ≡ Some p → q ≡ p
-    same e = cc
 
 -- what is found is in the pool
 found_has : (test other : Prefix → Bool) (pool : List Prefix) (p : Prefix) → find test pool ≡ Some p → other p ≡ true → list_any other pool ≡ true
-found_has test other [] p is has = absurd (none_some is)
-  where
-    none_some : None ≡ Some p → ⊥
-    none_some e = cc
+found_has test other [] p is has = absurd (none-some p is)
 found_has test other (q ∷ pool) p is has =
     elim (cases_Bool (test q)) [
-      | inl t ↦ ap (λ b. b || list_any other pool) (ap other (same (sym (ap (λ b. cond b (Some q) (find test pool)) t) ∙ is)) ∙ has)
-      | inr f ↦ or_later (other q) (list_any other pool) (found_has test other pool p (sym (ap (λ b. cond b (Some q) (find test pool)) f) ∙ is) has)
+      | inl t ↦ ap (λ b. b || list_any other pool) (ap other (same_Some q p (sym (cond-true _ _ _ t) ∙ is)) ∙ has)
+      | inr f ↦ ap (λ b. other q || b) (found_has test other pool p (sym (cond-false _ _ _ f) ∙ is) has) ∙ or-true (other q)
     ]
-  where
-    same : Some q ≡ Some p → q ≡ p
-    same e = cc
-
-    or_later : (a b : Bool) → b ≡ true → a || b ≡ true
-    or_later true b e = refl
-    or_later false b e = e
 
 between_end : (f g : Family) (low high m : ℕ) → is_between f low high (record { family = g; number = m }) ≡ true → m ≤ high
 between_end V4 V4 low high m is = grind (arith, nat_tests)
@@ -97,10 +81,7 @@ pub end-some : (pool : List Prefix) (family : Family) (m : ℕ) (found : Option 
     → MatchOption found (end ≡ None) (λ p. IsSomeAnd end (λ k. k ≡ last_of p.now))
     → IfSome end (λ k. (m ≤ k) × HasFromTo pool family m k)
 end-some pool family m None None is made = tt
-end-some pool family m None (Some k) is made = absurd (some_none made)
-  where
-    some_none : Some k ≡ None → ⊥
-    some_none e = cc
+end-some pool family m None (Some k) is made = absurd (none-some k (sym made))
 end-some pool family m (Some p) None is made = tt
 end-some pool family m (Some p) (Some k) is made =
     subst (λ (n : ℕ). (m ≤ n) × HasFromTo pool family m n) (sym made) (pool-end pool family m p.now (sym is), pool-some pool family m p.now (sym is))
@@ -123,12 +104,8 @@ pool-whole pool p next end reached passed rest a has =
     elim (cases_lt a.number next) [ inl before ↦ passed a.number above before | inr after ↦ rest a.number after (omega arith) ] in
     subst (λ (f : Family). pool_has pool (record { family = f; number = a.number }) ≡ true) parts.0 there
 
-between_here : (f : Family) (low high n : ℕ) → low ≤ n → n ≤ high → is_between f low high (record { family = f; number = n }) ≡ true
-between_here V4 low high n from to = grind (arith, nat_tests)
-between_here V6 low high n from to = grind (arith, nat_tests)
-
 -- an address of the prefix is in no prefix of the pool
 pub pool-hole : (pool : List Prefix) (p : Prefix) (next : ℕ) → p.first ≤ next → next ≤ last_of p
     → pool_has pool (record { family = p.family; number = next }) ≡ false → IsInPool pool p → ⊥
 pool-hole pool p next from to hole whole =
-    false≢true (sym hole ∙ whole (record { family = p.family; number = next }) (between_here p.family p.first (last_of p) next from to))
+    false≢true (sym hole ∙ whole (record { family = p.family; number = next }) (between_at p.family p.first (last_of p) next from to))

@@ -4,6 +4,7 @@ use Rattle.std.specs.List.{list_any, IsDistinct, AllByRecursion}
 use Rattle.std.specs.List.Sorted.{IsPermutation}
 use Rattle.std.proofs.lemmas.List.{take_all}
 use Rattle.std.proofs.lemmas.Map.Keys.{IsDistinct-IsPermutation}
+use Rattle.std.proofs.lemmas.Bool.{or_parts}
 use Rattle.std.proofs.lemmas.Bool.Decides.{nat_tests}
 use Rattle.addr.specs.Family.{family_eq}
 use Rattle.addr.specs.Address.{prefix_eq}
@@ -11,7 +12,6 @@ use Rattle.addr.specs.declared.family.Family.{Family}
 use Rattle.addr.specs.declared.family.Family.TheVariants.{V4, V6}
 use Rattle.addr.specs.declared.prefix.Prefix.{Prefix}
 use Rattle.policy.specs.Repeats.{has_repeat}
-use Rattle.policy.proofs.Unregistered.{or_left, or_right}
 
 -- the list without its first value, as a slice pattern has it
 pub rest_of : {T : Type 0} (y : T) (ys : List T) → take (length (y ∷ ys) - 1) (drop 1 (y ∷ ys)) ≡ ys
@@ -54,7 +54,9 @@ repeat_found same flips rest others x long is tail some =
 
 none_to : {T : Type 0} (test : T → Bool) (xs : List T) → list_any test xs ≡ false → AllByRecursion (λ y. test y ≡ false) xs
 none_to test [] none = tt
-none_to test (x ∷ xs) none = (or_left (test x) (list_any test xs) none, none_to test xs (or_right (test x) (list_any test xs) none))
+none_to test (x ∷ xs) none =
+    let both = or_parts (test x) (list_any test xs) none in
+    (both.0, none_to test xs both.1)
 
 none_from : {T : Type 0} (test : T → Bool) (xs : List T) → AllByRecursion (λ y. test y ≡ false) xs → list_any test xs ≡ false
 none_from test [] all = refl
@@ -64,7 +66,8 @@ distinct_to : {T : Type 0} (same : T → T → Bool) (xs : List T) → has_repea
 unfolding IsDistinct
 distinct_to same [] none = tt
 distinct_to same (x ∷ xs) none =
-    (none_to (λ y. same x y) xs (or_left (list_any (λ y. same x y) xs) (has_repeat same xs) none), distinct_to same xs (or_right (list_any (λ y. same x y) xs) (has_repeat same xs) none))
+    let both = or_parts (list_any (λ y. same x y) xs) (has_repeat same xs) none in
+    (none_to (λ y. same x y) xs both.0, distinct_to same xs both.1)
 
 distinct_from : {T : Type 0} (same : T → T → Bool) (xs : List T) → IsDistinct same xs → has_repeat same xs ≡ false
 unfolding IsDistinct

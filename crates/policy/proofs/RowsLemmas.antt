@@ -1,5 +1,5 @@
 -- What the rows that are handed in say of the holder.
-use Rattle.std.proofs.Common.{◌≡◌, ℕ, Bool, true, false, not, List, Option, Some, None, refl, sym, ap, ◌∙◌, subst, Bor, option_copied, is_some, IsSomeAnd}
+use Rattle.std.proofs.Common.{◌≡◌, ℕ, Bool, true, false, List, Option, Some, None, sym, ap, ◌∙◌, subst, Bor, option_copied, is_some, IsSomeAnd}
 use Rattle.std.specs.List.{list_any}
 use Rattle.std.proofs.lemmas.Bool.{false≢true}
 use Rattle.policy.specs.declared.charter.Charter.{Charter}
@@ -13,10 +13,6 @@ use Rattle.policy.specs.Terms.{grant_terms, authorization_terms, HeldSinceMade, 
 use Rattle.policy.specs.Verdict.{IsLegal, numbered, OfNumber}
 use Rattle.policy.proofs.Kept.{Keeps-unique}
 use Rattle.policy.proofs.Unregistered.{has_nothing}
-
-pub not_true : (b : Bool) → not b ≡ true → b ≡ false
-not_true true is = sym is
-not_true false is = refl
 
 pub unregistered : (history : History) (h : List ℕ) (rows : Option (Bor HolderRows)) → is_some rows ≡ false
     → RowsIfAny history h (rows_if_any (option_copied rows)) → is_registered history h ≡ false

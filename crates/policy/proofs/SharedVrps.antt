@@ -1,7 +1,8 @@
 -- No two active authorizations share a VRP.
 use Rattle.std.proofs.Common.{◌≡◌, ℕ, ◌+◌, ◌<◌, ◌≤◌, Bool, true, false, not, ◌&&◌, ◌||◌, cond, eqb, nat_le, List, [], ◌∷◌, ◌++◌, inl, inr, Option, Some, None, IsSomeAnd, refl, sym, ap, ◌∙◌, subst, arith, map, filter}
 use Rattle.std.specs.List.{list_any}
-use Rattle.std.proofs.lemmas.Bool.{cases_Bool, false≢true}
+use Rattle.std.proofs.lemmas.Bool.{cases_Bool, cond-true, cond-false, false≢true, and_parts, or_parts}
+use Rattle.std.proofs.lemmas.Option.{same_Some}
 use Rattle.std.proofs.lemmas.Bool.Decides.{nat_tests}
 use Rattle.addr.specs.Family.{family_eq}
 use Rattle.addr.specs.Address.{last_of, Overlaps, prefix_eq}
@@ -21,9 +22,8 @@ use Rattle.policy.specs.SharedVrps.{share_none, NoSharedVrp}
 use Rattle.policy.proofs.Names.{same_name-same, same_name-true}
 use Rattle.policy.proofs.Numbers.{Numbered, Numbered-high, later}
 use Rattle.policy.proofs.Held.{authorization_terms-numbered, held_now, since_same, amended-number, amended-prefix}
-use Rattle.policy.proofs.Unregistered.{or_left, or_right}
 use Rattle.policy.proofs.Repeats.{eqb-flips, prefix_eq-flips}
-use Rattle.policy.proofs.CarryTerms.{some_same}
+use Rattle.policy.proofs.AmendLemmas.{new_terms, shares_with_other}
 
 abbrev pub Each : (Auth → Type 0) → List Auth → Type 0
 Each P [] = Unit {0}
@@ -41,14 +41,6 @@ shared_address : (p q : Prefix) → prefix_eq p q ≡ true → Overlaps p q
 shared_address p q same =
     (overlaps_some p q).0 (overlap_of_equal p.family q.family p.first q.first p.length q.length (last_of p) (last_of q) same (first-last p) (first-last q))
 
-and_left : (a b : Bool) → a && b ≡ true → a ≡ true
-and_left true b is = refl
-and_left false b is = is
-
-and_right : (a b : Bool) → a && b ≡ true → b ≡ true
-and_right true b is = is
-and_right false b is = absurd (false≢true is)
-
 share_vrp-flips : (x y : Auth) → share_vrp x y ≡ share_vrp y x
 share_vrp-flips x y =
     let asn = eqb-flips x.asn.0 y.asn.0 in
@@ -61,15 +53,12 @@ two_holders : (history : History) (g h : List ℕ) (x y : Auth) → same_name g 
 two_holders history g h x y differ holds_x holds_y =
     elim (cases_Bool (share_vrp x y)) [
       | inl t ↦
-          let same = and_left (prefix_eq x.prefix y.prefix) (eqb x.max y.max) (and_right (eqb x.asn.0 y.asn.0) (prefix_eq x.prefix y.prefix && eqb x.max y.max) t) in
+          let same = (and_parts (prefix_eq x.prefix y.prefix) (eqb x.max y.max) (and_parts (eqb x.asn.0 y.asn.0) (prefix_eq x.prefix y.prefix && eqb x.max y.max) t).1).0 in
           let a = shared_address x.prefix y.prefix same in
-          let one : g ≡ h = some_name (sym (holds_x x.prefix refl a.0 a.1) ∙ holds_y y.prefix refl a.0 a.2) in
+          let one : g ≡ h = same_Some g h (sym (holds_x x.prefix refl a.0 a.1) ∙ holds_y y.prefix refl a.0 a.2) in
           absurd (false≢true (sym differ ∙ ap (same_name g) (sym one) ∙ same_name-same g))
       | inr f ↦ f
     ]
-  where
-    some_name : {k l : List ℕ} → Some k ≡ Some l → k ≡ l
-    some_name {k} {l} is = cc
 
 -- numbers above a greater one are above the lesser
 Each-low : (P : Auth → Type 0) (low low' : ℕ) (ys : List Auth) (high : ℕ) → low < low' → Each (λ y. P y × (low' < y.number) × (y.number ≤ high)) ys
@@ -116,7 +105,8 @@ each_of_kept : (P : Auth → Type 0) (test : Auth → Bool) (xs ys : List Auth) 
 each_of_kept P test [] ys k none = tt
 each_of_kept P test (x ∷ xs) [] k none = (λ p. absurd (k.0 p), each_of_kept P test xs [] k.1 none)
 each_of_kept P test (x ∷ xs) (y ∷ ys) (inl k) none =
-    (λ p. ap test (sym k.1) ∙ or_left (test y) (list_any test ys) none, each_of_kept P test xs ys k.2 (or_right (test y) (list_any test ys) none))
+    let both = or_parts (test y) (list_any test ys) none in
+    (λ p. ap test (sym k.1) ∙ both.0, each_of_kept P test xs ys k.2 both.1)
 each_of_kept P test (x ∷ xs) (y ∷ ys) (inr k) none = (λ p. absurd (k.0 p), each_of_kept P test xs (y ∷ ys) k.1 none)
 
 none_of_kept : (P : Auth → Type 0) (test : Auth → Bool) (xs ys : List Auth) → Keeps P xs ys → Each (λ x. P x → test x ≡ false) xs → list_any test ys ≡ false
@@ -175,19 +165,16 @@ PairsApart-append P [] z none pairs = (λ p. tt, tt)
 PairsApart-append P (x ∷ xs) z none pairs =
     (λ p. Each-append (λ y. P y → share_vrp x y ≡ false) xs z (λ q. none.0 p) (pairs.0 p), PairsApart-append P xs z none.1 pairs.1)
 
-abbrev with_terms : Auth → ℕ → ℕ → Auth
-with_terms x max until = record x { max = max; until = until }
-
 amended-other : (n max until : ℕ) (x : Auth) → eqb x.number n ≡ false → amended n max until x ≡ x
-amended-other n max until x differ = ap (λ b. cond b (with_terms x max until) x) differ
+amended-other n max until x differ = cond-false _ _ _ differ
 
-amended-it : (n max until : ℕ) (x z : Auth) → eqb x.number n ≡ true → x ≡ z → amended n max until x ≡ with_terms z max until
-amended-it n max until x z same is = ap (λ b. cond b (with_terms x max until) x) same ∙ ap (λ a. with_terms a max until) is
+amended-it : (n max until : ℕ) (x z : Auth) → eqb x.number n ≡ true → x ≡ z → amended n max until x ≡ new_terms z max until
+amended-it n max until x z same is = cond-true _ _ _ same ∙ ap (λ a. new_terms a max until) is
 
 -- what a list of rising numbers tells of one that is amended: it is the one found, and shares none of the new terms with another
 record Amends (P : Auth → Type 0) (n max until : ℕ) (z x : Auth) : Type 0 where
   pub found : P x → eqb x.number n ≡ true → x ≡ z
-  pub apart : P x → eqb x.number n ≡ false → share_vrp (with_terms z max until) x ≡ false
+  pub apart : P x → eqb x.number n ≡ false → share_vrp (new_terms z max until) x ≡ false
 
 numbered_later : (n low : ℕ) (xs : List Auth) (high : ℕ) (P : Auth → Type 0) (z : Auth) → n ≤ low → Numbered low xs high → Each (λ x. P x → eqb x.number n ≡ true → x ≡ z) xs
 numbered_later n low [] high P z below numbers = tt
@@ -205,23 +192,23 @@ found_one P n low (x ∷ xs) [] high z numbers k found =
 found_one P n low (x ∷ xs) (y ∷ ys) high z numbers (inl k) found =
     elim (cases_Bool (eqb y.number n)) [
       | inl t ↦
-          let same : y ≡ z = some_same (sym (ap (λ b. cond b (Some y) (numbered n ys)) t) ∙ found) in
+          let same : y ≡ z = same_Some y z (sym (cond-true _ _ _ t) ∙ found) in
           let number_x : x.number ≡ y.number = ap (λ a. a.number) (sym k.1) in
           let bound : n ≤ x.number = grind (arith, nat_tests) in
           (λ p is. sym k.1 ∙ same, numbered_later n x.number xs high P z bound numbers.1)
       | inr f ↦ (
         λ p is. absurd (false≢true (sym f ∙ ap (λ a. eqb a.number n) k.1 ∙ is)),
-        found_one P n x.number xs ys high z numbers.1 k.2 (sym (ap (λ b. cond b (Some y) (numbered n ys)) f) ∙ found),
+        found_one P n x.number xs ys high z numbers.1 k.2 (sym (cond-false _ _ _ f) ∙ found),
       )
     ]
 found_one P n low (x ∷ xs) (y ∷ ys) high z numbers (inr k) found =
     (λ p. absurd (k.0 p), found_one P n x.number xs (y ∷ ys) high z numbers.1 k.1 found)
 
 both-amends : (P : Auth → Type 0) (n max until : ℕ) (z : Auth) (xs : List Auth) → Each (λ x. P x → eqb x.number n ≡ true → x ≡ z) xs
-    → Each (λ x. P x → (not (eqb x.number n) && share_vrp (with_terms z max until) x) ≡ false) xs → Each (Amends P n max until z) xs
+    → Each (λ x. P x → (not (eqb x.number n) && share_vrp (new_terms z max until) x) ≡ false) xs → Each (Amends P n max until z) xs
 both-amends P n max until z [] founds aparts = tt
 both-amends P n max until z (x ∷ xs) founds aparts = (
-  record { found = founds.0; apart = λ p differ. sym (ap (λ b. not b && share_vrp (with_terms z max until) x) differ) ∙ aparts.0 p },
+  record { found = founds.0; apart = λ p differ. sym (ap (λ b. not b && share_vrp (new_terms z max until) x) differ) ∙ aparts.0 p },
   both-amends P n max until z xs founds.1 aparts.1,
 )
 
@@ -234,12 +221,12 @@ amended_pair P n max until z x y less at_x at_y p q apart =
         | inl ty ↦ absurd (grind (arith, nat_tests))
         | inr fy ↦
             ap (λ a. share_vrp a (amended n max until y)) (amended-it n max until x z tx (at_x.found p tx))
-            ∙ ap (share_vrp (with_terms z max until)) (amended-other n max until y fy) ∙ at_y.apart q fy
+            ∙ ap (share_vrp (new_terms z max until)) (amended-other n max until y fy) ∙ at_y.apart q fy
       ]
       | inr fx ↦ elim (cases_Bool (eqb y.number n)) [
         | inl ty ↦
             ap (λ a. share_vrp a (amended n max until y)) (amended-other n max until x fx)
-            ∙ ap (share_vrp x) (amended-it n max until y z ty (at_y.found q ty)) ∙ share_vrp-flips x (with_terms z max until) ∙ at_x.apart p fx
+            ∙ ap (share_vrp x) (amended-it n max until y z ty (at_y.found q ty)) ∙ share_vrp-flips x (new_terms z max until) ∙ at_x.apart p fx
         | inr fy ↦
             ap (λ a. share_vrp a (amended n max until y)) (amended-other n max until x fx)
             ∙ ap (share_vrp x) (amended-other n max until y fy) ∙ apart
@@ -266,19 +253,19 @@ PairsApart-amended P Q n max until z low (x ∷ xs) high to numbers amends pairs
 
 -- the one that an accepted amend finds
 amended_found : (before : History) (h : List ℕ) (n max until : ℕ) (active : List Auth) → AreActive before h active
-    → IsSomeAnd (numbered n active) (λ z. list_any (λ y. not (eqb y.number n) && share_vrp (with_terms z max until) y) active ≡ false)
+    → IsSomeAnd (numbered n active) (λ z. shares_with_other n (new_terms z max until) active ≡ false)
     → (z : Auth) × Each (Amends (HeldSinceMade before h) n max until z) (authorization_terms before h)
 amended_found before h n max until active are found = by_case (numbered n active) refl found
   where
     by_case : (o : Option Auth) → numbered n active ≡ o
-        → IsSomeAnd o (λ z. list_any (λ y. not (eqb y.number n) && share_vrp (with_terms z max until) y) active ≡ false)
+        → IsSomeAnd o (λ z. shares_with_other n (new_terms z max until) active ≡ false)
         → (z : Auth) × Each (Amends (HeldSinceMade before h) n max until z) (authorization_terms before h)
     by_case None is none = absurd none
     by_case (Some z) is alone = (
       z,
       both-amends (HeldSinceMade before h) n max until z (authorization_terms before h)
           (found_one (HeldSinceMade before h) n 0 (authorization_terms before h) active (authorizations_made before h) z (authorization_terms-numbered before h) are is)
-          (each_of_kept (HeldSinceMade before h) (λ y. not (eqb y.number n) && share_vrp (with_terms z max until) y) (authorization_terms before h) active are alone),
+          (each_of_kept (HeldSinceMade before h) (λ y. not (eqb y.number n) && share_vrp (new_terms z max until) y) (authorization_terms before h) active are alone),
     )
 
 -- after a command that was accepted

@@ -1,6 +1,7 @@
 -- In a legal history a holder that is not registered has nothing.
-use Rattle.std.proofs.Common.{◌≡◌, ℕ, ◌+◌, Bool, true, false, not, ◌||◌, cond, eqb, List, [], ◌∷◌, ◌++◌, inl, inr, Some, None, refl, sym, ap, ◌∙◌, map, filter}
-use Rattle.std.proofs.lemmas.Bool.{cases_Bool, false≢true}
+use Rattle.std.proofs.Common.{◌≡◌, ℕ, Bool, true, false, not, cond, eqb, List, [], ◌∷◌, inl, inr, Some, None, refl, sym, ap, ◌∙◌, map, filter}
+use Rattle.std.proofs.lemmas.Bool.{cases_Bool, cond-false, false≢true, or_parts}
+use Rattle.std.specs.List.{list_any}
 use Rattle.addr.specs.Address.{Address, has_address}
 use Rattle.policy.specs.declared.authorization.Auth.{Auth}
 use Rattle.policy.specs.declared.charter.Charter.{Charter}
@@ -8,12 +9,14 @@ use Rattle.policy.specs.declared.grant.Granted.{Granted}
 use Rattle.policy.specs.declared.grant.Access.TheVariants.{Alter}
 use Rattle.policy.specs.declared.command.Command.{Command}
 use Rattle.policy.specs.declared.command.Command.TheVariants.{Register, Delegate, Transfer, Reclaim, Grant, Revoke, Create, Amend, Withdraw}
-use Rattle.policy.specs.History.{History, same_name, registers, is_registered}
+use Rattle.policy.specs.History.{Entry, History, same_name, registers, is_registered}
 use Rattle.policy.specs.Resources.{resource_holder, is_held_by}
 use Rattle.policy.specs.Terms.{grant_terms, grants_made, authorizations_made, authorization_terms, amended}
 use Rattle.policy.specs.Permission.{has_access}
+use Rattle.policy.specs.Answer.{holder_of}
 use Rattle.policy.specs.Verdict.{Verdict, IsLegal}
 use Rattle.policy.proofs.Names.{same_name-true}
+use Rattle.policy.proofs.Carry.{stays}
 
 pub record HasNothing (history : History) (h : List ℕ) : Type 0 where
   pub holders : (a : Address) → is_held_by h (resource_holder history a) ≡ false
@@ -30,21 +33,24 @@ differ_by f g h yes_g no_h =
       | inr n ↦ n
     ]
 
-pub or_left : (a b : Bool) → a || b ≡ false → a ≡ false
-or_left true b is = is
-or_left false b is = refl
+-- a holder at which a caller may alter authorizations is none that has nothing
+without_access : (before : History) (day : ℕ) (caller holder h : List ℕ) → has_access (grant_terms before holder) day caller Alter ≡ true
+    → HasNothing before h → same_name holder h ≡ false
+without_access before day caller holder h has none =
+    differ_by (λ g. has_access (grant_terms before g) day caller Alter) holder h has (ap (λ gs. has_access gs day caller Alter) none.grants)
 
-pub or_right : (a b : Bool) → a || b ≡ false → b ≡ false
-or_right true b is = absurd (false≢true (sym is))
-or_right false b is = is
-
-filter_nothing : {T : Type 0} (b : Bool) (keep : T → Bool) (xs : List T) → xs ≡ [] → cond b (filter keep xs) xs ≡ []
-filter_nothing {T} true keep xs is = ap (filter keep) is
-filter_nothing false keep xs is = is
-
-map_nothing : (b : Bool) (f : Auth → Auth) (xs : List Auth) → xs ≡ [] → cond b (map f xs) xs ≡ []
-map_nothing true f xs is = ap (map f) is
-map_nothing false f xs is = is
+-- a command that does not name the holder, and gives it no address
+nothing_stays : (e : Entry) (before : History) (h : List ℕ) → same_name (holder_of e.command) h ≡ false
+    → ((a : Address) → is_held_by h (resource_holder (e ∷ before) a) ≡ false) → HasNothing before h → HasNothing (e ∷ before) h
+nothing_stays e before h other holders none =
+    let same = stays e.command h (grants_made before h) (authorizations_made before h) (grant_terms before h) (authorization_terms before h) other in
+    record {
+      holders = holders;
+      grants = same.1 ∙ none.grants;
+      granted = same.2 ∙ none.granted;
+      terms = same.3 ∙ none.terms;
+      created = same.4 ∙ none.created;
+    }
 
 pub nothing_after : (charter : Charter) (before : History) (day : ℕ) (caller : List ℕ) (c : Command) (h : List ℕ)
     → Verdict charter before day caller c None → is_registered before h ≡ false → HasNothing before h
@@ -57,79 +63,33 @@ nothing_after charter before day caller (Register holder) h accepted unregistere
   created = none.created;
 }
 nothing_after charter before day caller (Delegate holder p) h accepted unregistered none =
-    let differ = differ_by (is_registered before) holder h accepted.1.0 unregistered in
-    record {
-      holders = λ a. elim (has_address p a) as (λ b. is_held_by h (cond b (Some holder) (resource_holder before a)) ≡ false)
-          [ true ↦ differ | false ↦ none.holders a ];
-      grants = none.grants;
-      granted = none.granted;
-      terms = none.terms;
-      created = none.created;
-    }
+    let other = differ_by (is_registered before) holder h accepted.1.0 unregistered in
+    nothing_stays _ before h other
+    (λ a. elim (has_address p a) as (λ b. is_held_by h (cond b (Some holder) (resource_holder before a)) ≡ false)
+    [ true ↦ other | false ↦ none.holders a ]) none
 nothing_after charter before day caller (Transfer p giver taker) h accepted unregistered none =
-    let differ = differ_by (is_registered before) taker h accepted.1.0.1 unregistered in
-    record {
-      holders = λ a. elim (has_address p a) as (λ b. is_held_by h (cond b (Some taker) (resource_holder before a)) ≡ false)
-          [ true ↦ differ | false ↦ none.holders a ];
-      grants = none.grants;
-      granted = none.granted;
-      terms = none.terms;
-      created = none.created;
-    }
-nothing_after charter before day caller (Reclaim holder p) h accepted unregistered none = record {
-  holders = λ a. elim (has_address p a) as (λ b. is_held_by h (cond b None (resource_holder before a)) ≡ false)
-      [ true ↦ refl | false ↦ none.holders a ];
-  grants = none.grants;
-  granted = none.granted;
-  terms = none.terms;
-  created = none.created;
-}
+    let taken = differ_by (is_registered before) taker h accepted.1.0.1 unregistered in
+    nothing_stays _ before h (differ_by (is_registered before) giver h accepted.1.0.0 unregistered)
+    (λ a. elim (has_address p a) as (λ b. is_held_by h (cond b (Some taker) (resource_holder before a)) ≡ false)
+    [ true ↦ taken | false ↦ none.holders a ]) none
+nothing_after charter before day caller (Reclaim holder p) h accepted unregistered none =
+    nothing_stays _ before h (differ_by (is_registered before) holder h accepted.1.0 unregistered)
+    (λ a. elim (has_address p a) as (λ b. is_held_by h (cond b None (resource_holder before a)) ≡ false)
+    [ true ↦ refl | false ↦ none.holders a ]) none
 nothing_after charter before day caller (Grant holder name role scope until) h accepted unregistered none =
-    let differ = differ_by (is_registered before) holder h accepted.1.0 unregistered in
-    let g : Granted = record { number = grants_made before h + 1; caller = name; role = role; scope = scope; until = until } in
-    record {
-      holders = none.holders;
-      grants = ap (λ b. cond b (grant_terms before h ++ g ∷ []) (grant_terms before h)) differ ∙ none.grants;
-      granted = ap (λ b. cond b (grants_made before h + 1) (grants_made before h)) differ ∙ none.granted;
-      terms = none.terms;
-      created = none.created;
-    }
-nothing_after charter before day caller (Revoke holder n) h accepted unregistered none = record {
-  holders = none.holders;
-  grants = filter_nothing (same_name holder h) (λ g. not (eqb g.number n)) (grant_terms before h) none.grants;
-  granted = none.granted;
-  terms = none.terms;
-  created = none.created;
-}
+    nothing_stays _ before h (differ_by (is_registered before) holder h accepted.1.0 unregistered) none.holders none
+nothing_after charter before day caller (Revoke holder n) h accepted unregistered none =
+    let test = list_any (λ (g : Granted). eqb g.number n) in
+    nothing_stays _ before h (differ_by (λ g. test (grant_terms before g)) holder h accepted.1.0 (ap test none.grants)) none.holders none
 nothing_after charter before day caller (Create holder asn p max from until) h accepted unregistered none =
-    let no_access : has_access (grant_terms before h) day caller Alter ≡ false =
-    ap (λ gs. has_access gs day caller Alter) none.grants in
-    let differ = differ_by (λ g. has_access (grant_terms before g) day caller Alter) holder h accepted.0 no_access in
-    let x : Auth = record { number = authorizations_made before h + 1; asn = asn; prefix = p; max = max; from = from; until = until } in
-    record {
-      holders = none.holders;
-      grants = none.grants;
-      granted = none.granted;
-      terms = ap (λ b. cond b (authorization_terms before h ++ x ∷ []) (authorization_terms before h)) differ ∙ none.terms;
-      created = ap (λ b. cond b (authorizations_made before h + 1) (authorizations_made before h)) differ ∙ none.created;
-    }
-nothing_after charter before day caller (Amend holder n max until) h accepted unregistered none = record {
-  holders = none.holders;
-  grants = none.grants;
-  granted = none.granted;
-  terms = map_nothing (same_name holder h) (amended n max until) (authorization_terms before h) none.terms;
-  created = none.created;
-}
-nothing_after charter before day caller (Withdraw holder n) h accepted unregistered none = record {
-  holders = none.holders;
-  grants = none.grants;
-  granted = none.granted;
-  terms = filter_nothing (same_name holder h) (λ x. not (eqb x.number n)) (authorization_terms before h) none.terms;
-  created = none.created;
-}
+    nothing_stays _ before h (without_access before day caller holder h accepted.0 none) none.holders none
+nothing_after charter before day caller (Amend holder n max until) h accepted unregistered none =
+    nothing_stays _ before h (without_access before day caller holder h accepted.0 none) none.holders none
+nothing_after charter before day caller (Withdraw holder n) h accepted unregistered none =
+    nothing_stays _ before h (without_access before day caller holder h accepted.0 none) none.holders none
 
 pub has_nothing : (charter : Charter) (history : History) (h : List ℕ) → IsLegal charter history → is_registered history h ≡ false → HasNothing history h
 has_nothing charter [] h legal unregistered = record { holders = λ a. refl; grants = refl; granted = refl; terms = refl; created = refl }
 has_nothing charter (e ∷ before) h legal unregistered =
-    let earlier = or_right (registers e.command h) (is_registered before h) unregistered in
+    let earlier = (or_parts (registers e.command h) (is_registered before h) unregistered).1 in
     nothing_after charter before e.day e.caller e.command h legal.0 earlier (has_nothing charter before h legal.1 earlier)

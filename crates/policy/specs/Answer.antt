@@ -6,7 +6,7 @@ use Rattle.policy.specs.declared.command.Command.{Command}
 use Rattle.policy.specs.declared.command.Command.TheVariants.{Register, Delegate, Transfer, Reclaim, Grant, Revoke, Create, Amend, Withdraw}
 use Rattle.policy.specs.declared.change.Change.{Change}
 use Rattle.policy.specs.declared.change.Edit.{Edit}
-use Rattle.policy.specs.declared.change.Edit.TheVariants.{Register as RegisterEdit, Hold, Grant as GrantEdit, Revoke as RevokeEdit, Create as CreateEdit, Amend as AmendEdit, Withdraw as WithdrawEdit}
+use Rattle.policy.specs.declared.change.Edit.TheVariants.{Grant as GrantEdit, Create as CreateEdit}
 use Rattle.policy.specs.declared.grant.Access.TheVariants.{Look}
 use Rattle.policy.specs.declared.rows.View.{View}
 use Rattle.policy.specs.declared.rule.Refusal.{Refusal}
@@ -19,15 +19,8 @@ use Rattle.policy.specs.Verdict.{Verdict, ShowVerdict, ListVerdict, IsLegal, num
 use Rattle.policy.specs.Rows.{Rows, rows_if_any, RowsIfAny, Carries}
 
 abbrev pub is_transfer : Command → Bool
-is_transfer (Register holder) = false
-is_transfer (Delegate holder p) = false
 is_transfer (Transfer p giver taker) = true
-is_transfer (Reclaim holder p) = false
-is_transfer (Grant holder name role scope until) = false
-is_transfer (Revoke holder n) = false
-is_transfer (Create holder asn p max from until) = false
-is_transfer (Amend holder n max until) = false
-is_transfer (Withdraw holder n) = false
+is_transfer _ = false
 
 -- the holder that the command names; of a transfer the giver
 abbrev pub holder_of : Command → List ℕ
@@ -43,50 +36,26 @@ holder_of (Withdraw holder n) = holder
 
 -- the taker of a transfer; of another command its holder
 abbrev pub taker_of : Command → List ℕ
-taker_of (Register holder) = holder
-taker_of (Delegate holder p) = holder
 taker_of (Transfer p giver taker) = taker
-taker_of (Reclaim holder p) = holder
-taker_of (Grant holder name role scope until) = holder
-taker_of (Revoke holder n) = holder
-taker_of (Create holder asn p max from until) = holder
-taker_of (Amend holder n max until) = holder
-taker_of (Withdraw holder n) = holder
+taker_of command = holder_of command
 
 -- the number that the new grant or authorization gets; other commands answer none
 abbrev pub number_given : History → Command → Option ℕ
-number_given history (Register holder) = None
-number_given history (Delegate holder p) = None
-number_given history (Transfer p giver taker) = None
-number_given history (Reclaim holder p) = None
 number_given history (Grant holder name role scope until) = Some (grants_made history holder + 1)
-number_given history (Revoke holder n) = None
 number_given history (Create holder asn p max from until) = Some (authorizations_made history holder + 1)
-number_given history (Amend holder n max until) = None
-number_given history (Withdraw holder n) = None
+number_given history _ = None
 
 -- the number of the grant or authorization that a change makes
 abbrev pub number_made : Edit → Option ℕ
-number_made RegisterEdit = None
-number_made (Hold holdings ended) = None
 number_made (GrantEdit g) = Some g.number
-number_made (RevokeEdit n) = None
 number_made (CreateEdit x) = Some x.number
-number_made (AmendEdit x) = None
-number_made (WithdrawEdit n) = None
+number_made _ = None
 
 -- whether some address of a delegation's prefix has a resource holder is told rightly; of any other
 -- command it is not asked
 abbrev pub TellsTaken : History → Command → Bool → Type 0
-TellsTaken history (Register holder) taken = Unit {0}
 TellsTaken history (Delegate holder p) taken = MatchBool taken (IsFree history p → ⊥) (IsFree history p)
-TellsTaken history (Transfer p giver taker) taken = Unit {0}
-TellsTaken history (Reclaim holder p) taken = Unit {0}
-TellsTaken history (Grant holder name role scope until) taken = Unit {0}
-TellsTaken history (Revoke holder n) taken = Unit {0}
-TellsTaken history (Create holder asn p max from until) taken = Unit {0}
-TellsTaken history (Amend holder n max until) taken = Unit {0}
-TellsTaken history (Withdraw holder n) taken = Unit {0}
+TellsTaken history _ taken = Unit {0}
 
 -- what a command is judged on is that of the history
 pub record IsViewOf (history : History) (command : Command) (view : View) : Type 0 where

@@ -3,7 +3,7 @@
 use Rattle.std.specs.Prelude.{ℕ, Bool, false, ◌||◌, List, [], ◌∷◌, nat_eq}
 use Rattle.std.specs.Cmp.Lexicographic.{pointwise}
 use Rattle.policy.specs.declared.command.Command.{Command}
-use Rattle.policy.specs.declared.command.Command.TheVariants.{Register, Delegate, Transfer, Reclaim, Grant, Revoke, Create, Amend, Withdraw}
+use Rattle.policy.specs.declared.command.Command.TheVariants.{Register}
 
 pub record Entry : Type 0 where
   pub day : ℕ
@@ -20,14 +20,7 @@ same_name a b = pointwise nat_eq a b
 -- the command registers the holder
 abbrev pub registers : Command → List ℕ → Bool
 registers (Register holder) h = same_name holder h
-registers (Delegate holder p) h = false
-registers (Transfer p giver taker) h = false
-registers (Reclaim holder p) h = false
-registers (Grant holder name role scope until) h = false
-registers (Revoke holder n) h = false
-registers (Create holder asn p max from until) h = false
-registers (Amend holder n max until) h = false
-registers (Withdraw holder n) h = false
+registers _ h = false
 
 abbrev pub is_registered : History → List ℕ → Bool
 is_registered [] h = false

@@ -4,20 +4,15 @@ use Rattle.std.specs.Prelude.{◌≡◌, Bool, true, false, List, ℕ, [], ◌�
 use Rattle.addr.specs.Address.{Address, has_address}
 use Rattle.addr.specs.declared.prefix.Prefix.{Prefix}
 use Rattle.policy.specs.declared.command.Command.{Command}
-use Rattle.policy.specs.declared.command.Command.TheVariants.{Register, Delegate, Transfer, Reclaim, Grant, Revoke, Create, Amend, Withdraw}
+use Rattle.policy.specs.declared.command.Command.TheVariants.{Delegate, Transfer, Reclaim}
 use Rattle.policy.specs.History.{History, same_name}
 
 -- who holds the address after a command, from who held it before
 abbrev pub holder_after : Command → Address → Option (List ℕ) → Option (List ℕ)
-holder_after (Register holder) a held = held
 holder_after (Delegate holder p) a held = if has_address p a then Some holder else held
 holder_after (Transfer p giver taker) a held = if has_address p a then Some taker else held
 holder_after (Reclaim holder p) a held = if has_address p a then None else held
-holder_after (Grant holder name role scope until) a held = held
-holder_after (Revoke holder n) a held = held
-holder_after (Create holder asn p max from until) a held = held
-holder_after (Amend holder n max until) a held = held
-holder_after (Withdraw holder n) a held = held
+holder_after _ a held = held
 
 abbrev pub resource_holder : History → Address → Option (List ℕ)
 resource_holder [] a = None

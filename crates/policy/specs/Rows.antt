@@ -74,12 +74,7 @@ edited (Withdraw n) rows = record rows { auths = filter (λ x. not (x.number == 
 abbrev pub edited_if_any : Edit → Option Rows → Option Rows
 edited_if_any edit (Some rows) = Some (edited edit rows)
 edited_if_any Register None = Some new_rows
-edited_if_any (Hold holdings ended) None = None
-edited_if_any (Grant g) None = None
-edited_if_any (Revoke n) None = None
-edited_if_any (Create x) None = None
-edited_if_any (Amend x) None = None
-edited_if_any (Withdraw n) None = None
+edited_if_any _ None = None
 
 -- the rows of a holder after a change of one holder's
 abbrev pub changed_by_one : HolderChange → List ℕ → Option Rows → Option Rows

@@ -7,7 +7,7 @@ use Rattle.addr.specs.declared.asn.Asn.{Asn}
 use Rattle.addr.specs.declared.prefix.Prefix.{Prefix}
 use Rattle.addr.specs.declared.vrp.Vrp.{Vrp}
 use Rattle.policy.specs.declared.command.Command.{Command}
-use Rattle.policy.specs.declared.command.Command.TheVariants.{Register, Delegate, Transfer, Reclaim, Grant, Revoke, Create, Amend, Withdraw}
+use Rattle.policy.specs.declared.command.Command.TheVariants.{Grant, Revoke, Create, Amend, Withdraw}
 use Rattle.policy.specs.declared.authorization.Auth.{Auth}
 use Rattle.policy.specs.declared.grant.Granted.{Granted}
 use Rattle.policy.specs.History.{History, same_name}
@@ -39,15 +39,8 @@ HoldsTerms history h x = (p : Prefix) → IsPrefixOf x p → HoldsPrefix history
 
 -- how many grants were made at the holder
 abbrev pub granted_after : Command → List ℕ → ℕ → ℕ
-granted_after (Register holder) h made = made
-granted_after (Delegate holder p) h made = made
-granted_after (Transfer p giver taker) h made = made
-granted_after (Reclaim holder p) h made = made
 granted_after (Grant holder name role scope until) h made = if same_name holder h then made + 1 else made
-granted_after (Revoke holder n) h made = made
-granted_after (Create holder asn p max from until) h made = made
-granted_after (Amend holder n max until) h made = made
-granted_after (Withdraw holder n) h made = made
+granted_after _ h made = made
 
 abbrev pub grants_made : History → List ℕ → ℕ
 grants_made [] h = 0
@@ -55,15 +48,8 @@ grants_made (e ∷ before) h = granted_after e.command h (grants_made before h)
 
 -- how many authorizations were made at the holder
 abbrev pub created_after : Command → List ℕ → ℕ → ℕ
-created_after (Register holder) h made = made
-created_after (Delegate holder p) h made = made
-created_after (Transfer p giver taker) h made = made
-created_after (Reclaim holder p) h made = made
-created_after (Grant holder name role scope until) h made = made
-created_after (Revoke holder n) h made = made
 created_after (Create holder asn p max from until) h made = if same_name holder h then made + 1 else made
-created_after (Amend holder n max until) h made = made
-created_after (Withdraw holder n) h made = made
+created_after _ h made = made
 
 abbrev pub authorizations_made : History → List ℕ → ℕ
 authorizations_made [] h = 0
@@ -71,19 +57,13 @@ authorizations_made (e ∷ before) h = created_after e.command h (authorizations
 
 -- the grants after a command, from those before it and how many were made by then
 abbrev pub grants_after : Command → List ℕ → ℕ → List Granted → List Granted
-grants_after (Register holder) h made grants = grants
-grants_after (Delegate holder p) h made grants = grants
-grants_after (Transfer p giver taker) h made grants = grants
-grants_after (Reclaim holder p) h made grants = grants
 grants_after (Grant holder name role scope until) h made grants =
     if same_name holder h
     then grants ++ record { number = made + 1; caller = name; role = role; scope = scope; until = until } ∷ []
     else grants
 grants_after (Revoke holder n) h made grants =
     if same_name holder h then filter (λ g. not (g.number == n)) grants else grants
-grants_after (Create holder asn p max from until) h made grants = grants
-grants_after (Amend holder n max until) h made grants = grants
-grants_after (Withdraw holder n) h made grants = grants
+grants_after _ h made grants = grants
 
 -- the grants made at the holder and not revoked since, by rising number
 abbrev pub grant_terms : History → List ℕ → List Granted
@@ -96,12 +76,6 @@ amended n max until x = if x.number == n then record x { max = max; until = unti
 
 -- the authorizations after a command, from those before it and how many were made by then
 abbrev pub terms_after : Command → List ℕ → ℕ → List Auth → List Auth
-terms_after (Register holder) h made auths = auths
-terms_after (Delegate holder p) h made auths = auths
-terms_after (Transfer p giver taker) h made auths = auths
-terms_after (Reclaim holder p) h made auths = auths
-terms_after (Grant holder name role scope until) h made auths = auths
-terms_after (Revoke holder n) h made auths = auths
 terms_after (Create holder asn p max from until) h made auths =
     if same_name holder h
     then auths ++ record { number = made + 1; asn = asn; prefix = p; max = max; from = from; until = until } ∷ []
@@ -110,6 +84,7 @@ terms_after (Amend holder n max until) h made auths =
     if same_name holder h then map (amended n max until) auths else auths
 terms_after (Withdraw holder n) h made auths =
     if same_name holder h then filter (λ x. not (x.number == n)) auths else auths
+terms_after _ h made auths = auths
 
 -- the authorizations made at the holder and not withdrawn since, with their terms as last amended, by
 -- rising number

@@ -22,16 +22,18 @@ const MOST_AUTHORIZATIONS: usize = 1000;
 const LAST_NUMBER: u32 = 999_999;
 
 /// The rule where it does not hold.
-pub fn require(holds: bool, rule: Rule) -> Result<(), Rule>
+pub(crate) fn require(holds: bool, rule: Rule) -> Result<(), Rule>
     ensures { MatchResult result (λ _. holds ≡ true) (λ first. (holds ≡ false) × (first ≡ rule)) }
 {
     if holds { Ok(()) } else { Err(rule) }
 }
 
 /// The rows of a holder that is registered.
-pub fn registered(rows: Option<&HolderRows>) -> Result<&HolderRows, Rule>
-    ensures { (history : History) (h : List ℕ) → RowsIfAny history h (rows_if_any (option_copied rows.entry))
-        → MatchResult result (λ r. (is_registered history h ≡ true) × RowsOf history h (rows_of r.now))
+pub(crate) fn registered(rows: Option<&HolderRows>) -> Result<&HolderRows, Rule>
+    ensures { (history : History) (h : List ℕ)
+        → RowsIfAny history h (rows_if_any (option_copied rows.entry))
+        → MatchResult result
+        (λ r. (is_registered history h ≡ true) × RowsOf history h (rows_of r.now))
         (λ rule. (is_registered history h ≡ false) × (rule ≡ Rule.Holder)) }
 {
     rows.ok_or(Rule::Holder)
@@ -47,15 +49,21 @@ fn grants_of(rows: Option<&HolderRows>) -> &[Granted]
 }
 
 /// Whether the caller is an operator, or a manager at the holder.
-pub fn is_steward(charter: &Charter, rows: Option<&HolderRows>, day: Day, caller: &Name) -> bool
-    ensures { (history : History) (h : List ℕ) → IsLegal charter.now history → RowsIfAny history h (rows_if_any (option_copied rows.entry))
+pub(crate) fn is_steward(
+    charter: &Charter,
+    rows: Option<&HolderRows>,
+    day: Day,
+    caller: &Name,
+) -> bool
+    ensures { (history : History) (h : List ℕ) → IsLegal charter.now history
+        → RowsIfAny history h (rows_if_any (option_copied rows.entry))
         → result ≡ is_steward charter.now history day caller.now h }
 {
     charter.is_operator(caller) || has_access(grants_of(rows), day, caller, Access::Manage)
 }
 
 /// The rows of a holder at which the caller has the access, whatever the scope.
-pub fn rows_with_access<'a>(
+pub(crate) fn rows_with_access<'a>(
     rows: Option<&'a HolderRows>,
     day: Day,
     caller: &Name,
@@ -64,8 +72,10 @@ pub fn rows_with_access<'a>(
     ensures { (charter : CharterValue) (history : History) (h : List ℕ) → IsLegal charter history
         → RowsIfAny history h (rows_if_any (option_copied rows.entry))
         → MatchResult result
-        (λ r. (has_access (grant_terms history h) day caller.now access ≡ true) × (is_registered history h ≡ true) × RowsOf history h (rows_of r.now))
-        (λ rule. (has_access (grant_terms history h) day caller.now access ≡ false) × (rule ≡ Rule.Grant)) }
+        (λ r. (has_access (grant_terms history h) day caller.now access ≡ true)
+        × (is_registered history h ≡ true) × RowsOf history h (rows_of r.now))
+        (λ rule. (has_access (grant_terms history h) day caller.now access ≡ false)
+        × (rule ≡ Rule.Grant)) }
 {
     if has_access(grants_of(rows), day, caller, access) {
         rows.ok_or(Rule::Grant)
@@ -75,14 +85,21 @@ pub fn rows_with_access<'a>(
 }
 
 /// Whether every address of the prefix is held by the holder of the rows.
-pub fn holds(rows: &HolderRows, prefix: &Prefix) -> bool
-    ensures { (history : History) (h : List ℕ) → RowsOf history h (rows_of rows.now) → (IsTrue result ↔ HoldsPrefix history h prefix.now) }
+pub(crate) fn holds(rows: &HolderRows, prefix: &Prefix) -> bool
+    ensures { (history : History) (h : List ℕ) → RowsOf history h (rows_of rows.now)
+        → (IsTrue result ↔ HoldsPrefix history h prefix.now) }
 {
     rows.holdings.holds(prefix)
 }
 
 /// Whether for each prefix of the terms some one grant gives the caller the access to it.
-pub fn may_reach(grants: &[Granted], day: Day, caller: &Name, access: Access, auth: &Auth) -> bool
+pub(crate) fn may_reach(
+    grants: &[Granted],
+    day: Day,
+    caller: &Name,
+    access: Access,
+    auth: &Auth,
+) -> bool
     ensures { result ≡ is_permitted_terms grants.now day caller.now access auth.now }
 {
     is_permitted(grants, day, caller, access, &auth.prefix)
@@ -95,7 +112,7 @@ fn numbered(auths: &[Auth], number: u32) -> Option<&Auth>
 }
 
 /// The active authorization of the number, where the caller has the access to it.
-pub fn permitted<'a>(
+pub(crate) fn permitted<'a>(
     rows: &'a HolderRows,
     day: Day,
     caller: &Name,
@@ -105,8 +122,10 @@ pub fn permitted<'a>(
     ensures { (history : History) (h : List ℕ) → RowsOf history h (rows_of rows.now)
         → MatchResult result
         (λ x. (numbered number rows.now.auths.items ≡ Some x.now)
-        × OfNumber history h number (λ x. is_permitted_terms (grant_terms history h) day caller.now access x ≡ true))
-        (λ rule. (OfNumber history h number (λ x. is_permitted_terms (grant_terms history h) day caller.now access x ≡ true) → ⊥)
+        × OfNumber history h number
+        (λ x. is_permitted_terms (grant_terms history h) day caller.now access x ≡ true))
+        (λ rule. (OfNumber history h number
+        (λ x. is_permitted_terms (grant_terms history h) day caller.now access x ≡ true) → ⊥)
         × (rule ≡ Rule.Number)) }
 {
     match numbered(&rows.auths, number) {
@@ -122,14 +141,14 @@ pub fn permitted<'a>(
 }
 
 /// Whether the first day does not lie after the last, nor today.
-pub fn are_dates(today: Day, from: Day, until: Day) -> bool
+pub(crate) fn are_dates(today: Day, from: Day, until: Day) -> bool
     ensures { IsTrue result ↔ ((from ≤ until) × (today ≤ until)) }
 {
     from.number() <= until.number() && today.number() <= until.number()
 }
 
 /// Whether some grant of the rows has the number.
-pub fn has_grant(rows: Option<&HolderRows>, number: u32) -> bool
+pub(crate) fn has_grant(rows: Option<&HolderRows>, number: u32) -> bool
     ensures { (charter : CharterValue) (history : History) (h : List ℕ) → IsLegal charter history
         → RowsIfAny history h (rows_if_any (option_copied rows.entry))
         → result ≡ list_any (λ g. g.number == number) (grant_terms history h) }
@@ -144,7 +163,7 @@ fn is_among(grants: &[Granted], number: u32) -> bool
 }
 
 /// Whether the caller may alter an authorization of this prefix.
-pub fn may_alter(rows: &HolderRows, day: Day, caller: &Name, prefix: &Prefix) -> bool
+pub(crate) fn may_alter(rows: &HolderRows, day: Day, caller: &Name, prefix: &Prefix) -> bool
     ensures { (history : History) (h : List ℕ) → RowsOf history h (rows_of rows.now)
         → result ≡ is_permitted (grant_terms history h) day caller.now Access.Alter prefix.now }
 {
@@ -158,15 +177,18 @@ fn some_gives(auths: &[Auth], asn: Asn, prefix: &Prefix, max: u8) -> bool
 }
 
 /// Whether no active authorization gives this AS, prefix and maxLength.
-pub fn is_new(rows: &HolderRows, asn: Asn, prefix: &Prefix, max: u8) -> bool
+pub(crate) fn is_new(rows: &HolderRows, asn: Asn, prefix: &Prefix, max: u8) -> bool
     ensures { (history : History) (h : List ℕ) → RowsOf history h (rows_of rows.now)
-        → (IsTrue result ↔ OfActive history h (λ active. list_any (λ y. gives_vrp y asn prefix.now max) active ≡ false)) }
+        → (IsTrue result
+        ↔ OfActive history h
+        (λ active. list_any (λ y. gives_vrp y asn prefix.now max) active ≡ false)) }
 {
     !some_gives(&rows.auths, asn, prefix, max)
 }
 
-/// Whether another grant may be made: fewer than 64 are unrevoked, and fewer than 999,999 were made.
-pub fn has_room_for_grant(rows: &HolderRows) -> bool
+/// Whether another grant may be made: fewer than 64 are unrevoked, and fewer than 999,999 were
+/// made.
+pub(crate) fn has_room_for_grant(rows: &HolderRows) -> bool
     ensures { IsTrue result ↔ ((length rows.now.grants.items < 64) × (rows.now.granted < 999999)) }
 {
     rows.grants.len() < MOST_GRANTS && rows.granted < LAST_NUMBER
@@ -174,10 +196,12 @@ pub fn has_room_for_grant(rows: &HolderRows) -> bool
 
 /// Whether another authorization may be made: fewer than 1000 are active, and fewer than 999,999
 /// were made.
-pub fn has_room_for_authorization(rows: &HolderRows) -> bool
+pub(crate) fn has_room_for_authorization(rows: &HolderRows) -> bool
     ensures counter { IsTrue result → rows.now.created < 999999 }
     ensures room { (history : History) (h : List ℕ) → RowsOf history h (rows_of rows.now)
-        → (IsTrue result ↔ (OfActive history h (λ active. length active < 1000) × (authorizations_made history h < 999999))) }
+        → (IsTrue result
+        ↔ (OfActive history h (λ active. length active < 1000)
+        × (authorizations_made history h < 999999))) }
 {
     rows.auths.len() < MOST_AUTHORIZATIONS && rows.created < LAST_NUMBER
 }
@@ -189,8 +213,9 @@ fn is_other_sharing(auth: &Auth, other: &Auth) -> bool
 }
 
 /// Whether an authorization of another number shares an AS, prefix and maxLength with these terms.
-pub fn shares_with_other(auths: &[Auth], auth: &Auth) -> bool
-    ensures { result ≡ list_any (λ y. not (y.number == auth.now.number) && share_vrp auth.now y) auths.now }
+pub(crate) fn shares_with_other(auths: &[Auth], auth: &Auth) -> bool
+    ensures { result
+        ≡ list_any (λ y. not (y.number == auth.now.number) && share_vrp auth.now y) auths.now }
 {
     auths.iter().any(|other| is_other_sharing(auth, other))
 }

@@ -21,13 +21,13 @@ pub struct Auth {
 }
 
 /// Whether the maxLength lies from the prefix's length to the width of its family.
-pub fn fits_length(prefix: &Prefix, max: u8) -> bool
+pub(crate) fn fits_length(prefix: &Prefix, max: u8) -> bool
     ensures { result ≡ fits_length prefix.now max }
 {
     prefix.length <= max && max <= prefix.family.width()
 }
 
-pub fn is_same_prefix(prefix: &Prefix, other: &Prefix) -> bool
+fn is_same_prefix(prefix: &Prefix, other: &Prefix) -> bool
     ensures { result ≡ prefix_eq prefix.now other.now }
 {
     prefix.family.is(other.family) && prefix.first == other.first && prefix.length == other.length
@@ -35,28 +35,28 @@ pub fn is_same_prefix(prefix: &Prefix, other: &Prefix) -> bool
 
 impl Auth {
     /// Whether a prefix of the terms shares an address with `prefix`.
-    pub fn overlaps(&self, prefix: &Prefix) -> bool
+    pub(crate) fn overlaps(&self, prefix: &Prefix) -> bool
         ensures { result ≡ terms_overlap self.now prefix.now }
     {
         self.prefix.overlaps(prefix)
     }
 
     /// Whether the terms give this AS, prefix and maxLength.
-    pub fn gives_vrp(&self, asn: Asn, prefix: &Prefix, max: u8) -> bool
+    pub(crate) fn gives_vrp(&self, asn: Asn, prefix: &Prefix, max: u8) -> bool
         ensures { result ≡ gives_vrp self.now asn prefix.now max }
     {
         self.asn.0 == asn.0 && is_same_prefix(&self.prefix, prefix) && self.max == max
     }
 
     /// Whether some AS, prefix and maxLength is given by the terms of both.
-    pub fn shares_vrp(&self, other: &Auth) -> bool
+    pub(crate) fn shares_vrp(&self, other: &Auth) -> bool
         ensures { result ≡ share_vrp self.now other.now }
     {
         self.gives_vrp(other.asn, &other.prefix, other.max)
     }
 
     /// Whether the maxLength is one for all prefixes of the terms.
-    pub fn fits_length(&self, max: u8) -> bool
+    pub(crate) fn fits_length(&self, max: u8) -> bool
         ensures { result ≡ terms_fit_length self.now max }
     {
         fits_length(&self.prefix, max)

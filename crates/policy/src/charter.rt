@@ -52,7 +52,8 @@ impl Model for Charter {
 
     ghost view = { λ c. record { operators = c.operators.items; pool = c.pool.items } };
 
-    ghost invariant = { λ c. IsCharter (record { operators = c.operators.items; pool = c.pool.items }) };
+    ghost invariant = { λ c.
+        IsCharter (record { operators = c.operators.items; pool = c.pool.items }) };
 }
 
 impl Clone for Charter {
@@ -92,13 +93,18 @@ impl Charter {
     /// The charter of these operators and this pool, both in rising order. It takes no memory.
     #[tactic(auto, using(crate::proofs::PrefixEquality::derived_repeats))]
     pub fn make(mut operators: Vec<Name>, mut pool: Vec<Prefix>) -> Result<Charter, CharterFault>
-        ensures operators { IfOk result (λ charter. IsPermutation operators.items (operators_of charter)) }
+        ensures operators { IfOk result
+            (λ charter. IsPermutation operators.items (operators_of charter)) }
         ensures pool { IfOk result (λ charter. IsPermutation pool.items (pool_of charter)) }
-        ensures operators_rise { IfOk result (λ charter. IsSorted (slice_cmp nat_cmp) (operators_of charter)) }
+        ensures operators_rise { IfOk result
+            (λ charter. IsSorted (slice_cmp nat_cmp) (operators_of charter)) }
         ensures pool_rises { IfOk result (λ charter. IsSorted prefix_cmp (pool_of charter)) }
-        ensures count { (result ≡ Err CharterFault.Count) ↔ ¬ AreInNumber operators.items pool.items }
+        ensures count { (result ≡ Err CharterFault.Count)
+            ↔ ¬ AreInNumber operators.items pool.items }
         ensures repeated { (result ≡ Err CharterFault.Repeated)
-            ↔ (AreInNumber operators.items pool.items × (has_repeat (pointwise nat_eq) operators.items || has_repeat prefix_eq pool.items ≡ true)) }
+            ↔ (AreInNumber operators.items pool.items
+            × (has_repeat (pointwise nat_eq) operators.items
+            || has_repeat prefix_eq pool.items ≡ true)) }
     {
         if !are_in_number(&operators, &pool) {
             return Err(CharterFault::Count);
@@ -137,7 +143,7 @@ impl Charter {
     }
 
     /// Whether every address of the prefix lies in some prefix of the pool.
-    pub fn has_in_pool(&self, prefix: &Prefix) -> bool
+    pub(crate) fn has_in_pool(&self, prefix: &Prefix) -> bool
         ensures { IsTrue result ↔ IsInPool (pool_of self.now) prefix.now }
     {
         is_in_pool(&self.pool, prefix)
@@ -152,7 +158,8 @@ fn has_number(prefix: &Prefix, family: Family, number: u128) -> bool
 
 /// The first prefix of the pool that has the address.
 fn prefix_in_pool(pool: &[Prefix], family: Family, number: u128) -> Option<&Prefix>
-    ensures { option_copied result ≡ find (λ p. has_address p (record { family = family; number = number })) pool.now }
+    ensures { option_copied result
+        ≡ find (λ p. has_address p (record { family = family; number = number })) pool.now }
 {
     pool.iter()
         .find(|prefix| has_number(prefix, family, number))
@@ -160,7 +167,8 @@ fn prefix_in_pool(pool: &[Prefix], family: Family, number: u128) -> Option<&Pref
 
 /// The last address of a prefix of the pool that has the address.
 fn end_in_pool(pool: &[Prefix], family: Family, number: u128) -> Option<u128>
-    ensures none { IfNone result (pool_has pool.now (record { family = family; number = number }) ≡ false) }
+    ensures none { IfNone result
+        (pool_has pool.now (record { family = family; number = number }) ≡ false) }
     ensures some { IfSome result (λ end. (number ≤ end) × HasFromTo pool.now family number end) }
 {
     prefix_in_pool(pool, family, number).map(Prefix::last)

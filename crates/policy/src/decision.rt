@@ -39,7 +39,8 @@ struct Holder<'a> {
 }
 
 fn change_of(holder: &Name, edit: Edit) -> Change
-    ensures { result ≡ record { first = record { holder = holder.now; edit = edit }; second = None } }
+    ensures { result
+        ≡ record { first = record { holder = holder.now; edit = edit }; second = None } }
 {
     Change {
         first: HolderChange {
@@ -53,7 +54,8 @@ fn change_of(holder: &Name, edit: Edit) -> Change
 /// The holdings with the prefix.
 fn with_prefix(holdings: &Holdings, prefix: &Prefix) -> Result<Holdings, AllocError>
     ensures maximal { IfOk result AreMaximal }
-    ensures same { IfOk result (λ more. (a : Address) → spans_have more a ≡ (spans_have holdings.now a || has_address prefix.now a)) }
+    ensures same { IfOk result (λ more. (a : Address)
+        → spans_have more a ≡ (spans_have holdings.now a || has_address prefix.now a)) }
 {
     let mut more = holdings.clone()?;
     more.add(prefix)?;
@@ -65,7 +67,8 @@ fn with_prefix(holdings: &Holdings, prefix: &Prefix) -> Result<Holdings, AllocEr
 /// The holdings without the prefix.
 fn without_prefix(holdings: &Holdings, prefix: &Prefix) -> Result<Holdings, AllocError>
     ensures maximal { IfOk result AreMaximal }
-    ensures same { IfOk result (λ less. (a : Address) → spans_have less a ≡ (spans_have holdings.now a && not (has_address prefix.now a))) }
+    ensures same { IfOk result (λ less. (a : Address)
+        → spans_have less a ≡ (spans_have holdings.now a && not (has_address prefix.now a))) }
 {
     let mut less = holdings.clone()?;
     less.take(prefix)?;
@@ -80,7 +83,8 @@ fn numbers_overlapping(
     auths: &[Auth],
     prefix: &Prefix,
 ) -> Result<Vec<u32>, AllocError>
-    ensures { IfOk result (λ numbers. numbers.items ≡ map (λ x. x.number) (filter (λ x. terms_overlap x prefix.now) auths.now)) }
+    ensures { IfOk result (λ numbers. numbers.items
+        ≡ map (λ x. x.number) (filter (λ x. terms_overlap x prefix.now) auths.now)) }
 {
     auths
         .iter()
@@ -90,7 +94,8 @@ fn numbers_overlapping(
 }
 
 fn decide_register(basis: Basis<'_>, holder: Holder<'_>) -> Result<Change, Refusal>
-    ensures { Answers basis.entry.charter.now (rows_if_any (option_copied holder.entry.rows)) basis.entry.day basis.entry.caller.now
+    ensures { Answers basis.entry.charter.now (rows_if_any (option_copied holder.entry.rows))
+        basis.entry.day basis.entry.caller.now
         (Command.Register holder.entry.name.now) result }
 {
     require(basis.charter.is_operator(basis.caller), Rule::Operator)?;
@@ -108,7 +113,8 @@ fn decide_delegate(
     ensures { (history : History) → IsLegal basis.entry.charter.now history
         → RowsIfAny history holder.entry.name.now (rows_if_any (option_copied holder.entry.rows))
         → MatchBool taken (IsFree history prefix.now → ⊥) (IsFree history prefix.now)
-        → IsAnswer basis.entry.charter.now history basis.entry.day basis.entry.caller.now (Command.Delegate holder.entry.name.now prefix.now) result }
+        → IsAnswer basis.entry.charter.now history basis.entry.day basis.entry.caller.now
+        (Command.Delegate holder.entry.name.now prefix.now) result }
 {
     require(basis.charter.is_operator(basis.caller), Rule::Operator)?;
     let rows = registered(holder.rows)?;
@@ -125,7 +131,8 @@ fn decide_reclaim(
     holder: Holder<'_>,
     prefix: &Prefix,
 ) -> Result<Change, Refusal>
-    ensures { Answers basis.entry.charter.now (rows_if_any (option_copied holder.entry.rows)) basis.entry.day basis.entry.caller.now
+    ensures { Answers basis.entry.charter.now (rows_if_any (option_copied holder.entry.rows))
+        basis.entry.day basis.entry.caller.now
         (Command.Reclaim holder.entry.name.now prefix.now) result }
 {
     require(basis.charter.is_operator(basis.caller), Rule::Operator)?;
@@ -137,8 +144,10 @@ fn decide_reclaim(
 }
 
 fn decide_grant(basis: Basis<'_>, holder: Holder<'_>, terms: &GrantTerms) -> Result<Change, Refusal>
-    ensures { Answers basis.entry.charter.now (rows_if_any (option_copied holder.entry.rows)) basis.entry.day basis.entry.caller.now
-        (Command.Grant holder.entry.name.now terms.now.caller terms.now.role terms.now.scope terms.now.until) result }
+    ensures { Answers basis.entry.charter.now (rows_if_any (option_copied holder.entry.rows))
+        basis.entry.day basis.entry.caller.now
+        (Command.Grant holder.entry.name.now terms.now.caller terms.now.role
+        terms.now.scope terms.now.until) result }
 {
     let Basis {
         charter,
@@ -154,7 +163,8 @@ fn decide_grant(basis: Basis<'_>, holder: Holder<'_>, terms: &GrantTerms) -> Res
 }
 
 fn decide_revoke(basis: Basis<'_>, holder: Holder<'_>, number: u32) -> Result<Change, Refusal>
-    ensures { Answers basis.entry.charter.now (rows_if_any (option_copied holder.entry.rows)) basis.entry.day basis.entry.caller.now
+    ensures { Answers basis.entry.charter.now (rows_if_any (option_copied holder.entry.rows))
+        basis.entry.day basis.entry.caller.now
         (Command.Revoke holder.entry.name.now number) result }
 {
     require(
@@ -166,8 +176,11 @@ fn decide_revoke(basis: Basis<'_>, holder: Holder<'_>, number: u32) -> Result<Ch
 }
 
 fn decide_create(basis: Basis<'_>, holder: Holder<'_>, terms: &AuthTerms) -> Result<Change, Refusal>
-    ensures { (charter : CharterValue) → Answers charter (rows_if_any (option_copied holder.entry.rows)) basis.entry.day basis.entry.caller.now
-        (Command.Create holder.entry.name.now terms.now.asn terms.now.prefix terms.now.max terms.now.from terms.now.until) result }
+    ensures { (charter : CharterValue)
+        → Answers charter (rows_if_any (option_copied holder.entry.rows))
+        basis.entry.day basis.entry.caller.now
+        (Command.Create holder.entry.name.now terms.now.asn terms.now.prefix terms.now.max
+        terms.now.from terms.now.until) result }
 {
     let rows = rows_with_access(holder.rows, basis.day, basis.caller, Access::Alter)?;
     require(
@@ -193,7 +206,9 @@ fn decide_amend(
     max: u8,
     until: Day,
 ) -> Result<Change, Refusal>
-    ensures { (charter : CharterValue) → Answers charter (rows_if_any (option_copied holder.entry.rows)) basis.entry.day basis.entry.caller.now
+    ensures { (charter : CharterValue)
+        → Answers charter (rows_if_any (option_copied holder.entry.rows))
+        basis.entry.day basis.entry.caller.now
         (Command.Amend holder.entry.name.now number max until) result }
 {
     let rows = rows_with_access(holder.rows, basis.day, basis.caller, Access::Alter)?;
@@ -210,7 +225,9 @@ fn decide_amend(
 }
 
 fn decide_withdraw(basis: Basis<'_>, holder: Holder<'_>, number: u32) -> Result<Change, Refusal>
-    ensures { (charter : CharterValue) → Answers charter (rows_if_any (option_copied holder.entry.rows)) basis.entry.day basis.entry.caller.now
+    ensures { (charter : CharterValue)
+        → Answers charter (rows_if_any (option_copied holder.entry.rows))
+        basis.entry.day basis.entry.caller.now
         (Command.Withdraw holder.entry.name.now number) result }
 {
     let rows = rows_with_access(holder.rows, basis.day, basis.caller, Access::Alter)?;
@@ -229,7 +246,8 @@ fn decide_transfer(
     ensures { (history : History) (day : ℕ) → IsLegal charter.now history
         → RowsIfAny history giver.entry.name.now (rows_if_any (option_copied giver.entry.rows))
         → RowsIfAny history taker.entry.name.now (rows_if_any (option_copied taker.entry.rows))
-        → IsAnswer charter.now history day caller.now (Command.Transfer prefix.now giver.entry.name.now taker.entry.name.now) result }
+        → IsAnswer charter.now history day caller.now
+        (Command.Transfer prefix.now giver.entry.name.now taker.entry.name.now) result }
 {
     require(charter.is_operator(caller), Rule::Operator)?;
     let giving = registered(giver.rows)?;
@@ -270,7 +288,8 @@ pub fn decide(
     command: &Command,
 ) -> Result<Change, Refusal>
     requires { is_transfer command.now ≡ false }
-    ensures { (history : History) → IsLegal charter.now history → IsViewOf history command.now view.now
+    ensures { (history : History) → IsLegal charter.now history
+        → IsViewOf history command.now view.now
         → IsAnswer charter.now history day caller.now command.now result }
 {
     let basis = Basis {
@@ -332,8 +351,8 @@ pub fn decide(
     }
 }
 
-/// What a transfer does, or the first rule of its line that does not hold: the rows of the giver and
-/// of the taker are those handed in, of equal names the same rows twice.
+/// What a transfer does, or the first rule of its line that does not hold: the rows of the giver
+/// and of the taker are those handed in, of equal names the same rows twice.
 pub fn decide_two(
     alloc: Global,
     charter: &Charter,
@@ -367,6 +386,3 @@ pub fn decide_two(
         _ => unreachable!(),
     }
 }
-
-#[cfg(test)]
-mod tests;

@@ -65,7 +65,8 @@ fn withdraw(auths: &mut Vec<Auth>, number: u32)
 
 /// Takes away the authorizations of these numbers.
 fn end(auths: &mut Vec<Auth>, ended: &[u32])
-    ensures { auths.new.items ≡ filter (λ x. not (list_any (λ n. x.number == n) ended.now)) auths.old.items }
+    ensures { auths.new.items
+        ≡ filter (λ x. not (list_any (λ n. x.number == n) ended.now)) auths.old.items }
 {
     auths.retain(|auth| stays(auth, ended));
 }

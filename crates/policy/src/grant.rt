@@ -81,14 +81,14 @@ impl Granted {
 }
 
 /// Whether some grant gives the caller the access on the day, whatever its scope.
-pub fn has_access(grants: &[Granted], day: Day, caller: &Name, access: Access) -> bool
+pub(crate) fn has_access(grants: &[Granted], day: Day, caller: &Name, access: Access) -> bool
     ensures { result ≡ has_access grants.now day caller.now access }
 {
     grants.iter().any(|grant| grant.gives(day, caller, access))
 }
 
 /// Whether some one grant gives the caller the access on the day and has the prefix in its scope.
-pub fn is_permitted(
+pub(crate) fn is_permitted(
     grants: &[Granted],
     day: Day,
     caller: &Name,

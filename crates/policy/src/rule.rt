@@ -17,7 +17,8 @@ pub enum Rule {
     Holder,
     /// The holder is not registered yet.
     Fresh,
-    /// There is a grant of the number, or an authorization of the number that the caller has access to.
+    /// There is a grant of the number, or an authorization of the number that the caller has access
+    /// to.
     Number,
     /// Some grant gives the caller the access and has the prefix in its scope.
     Scope,
@@ -101,35 +102,5 @@ impl From<AllocError> for Refusal {
 
     fn from(_: AllocError) -> Refusal {
         Refusal::Memory
-    }
-}
-
-#[cfg(test)]
-mod tests {
-    use super::*;
-    use std::test::Fail;
-
-    #[test]
-    fn prints_each_rule(rt: HostRuntime) -> Result<(), Fail> {
-        for (rule, name) in [
-            (Rule::Operator, "operator"),
-            (Rule::Steward, "steward"),
-            (Rule::Grant, "grant"),
-            (Rule::Holder, "holder"),
-            (Rule::Fresh, "fresh"),
-            (Rule::Number, "number"),
-            (Rule::Scope, "scope"),
-            (Rule::Dates, "dates"),
-            (Rule::Length, "length"),
-            (Rule::Pool, "pool"),
-            (Rule::Free, "free"),
-            (Rule::Distinct, "distinct"),
-            (Rule::Held, "held"),
-            (Rule::Same, "same"),
-            (Rule::Room, "room"),
-        ] {
-            assert_eq!(rt; format!(in rt.alloc(); "{rule}")?.as_str(), name);
-        }
-        Ok(())
     }
 }

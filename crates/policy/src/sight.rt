@@ -35,7 +35,8 @@ fn permitted_auths(
     day: Day,
     caller: &Name,
 ) -> Result<Vec<Auth>, AllocError>
-    ensures { IfOk result (λ seen. seen.items ≡ filter (λ x. is_permitted_terms grants.now day caller.now Access.Look x) auths.now) }
+    ensures { IfOk result (λ seen. seen.items
+        ≡ filter (λ x. is_permitted_terms grants.now day caller.now Access.Look x) auths.now) }
 {
     auths
         .iter()

@@ -14,7 +14,13 @@ pub(super) struct GrantTerms {
 
 impl GrantTerms {
     pub(super) fn numbered(&self, number: u32) -> Granted
-        ensures { result ≡ record { number = number; caller = self.now.caller; role = self.now.role; scope = self.now.scope; until = self.now.until } }
+        ensures { result ≡ record {
+          number = number;
+          caller = self.now.caller;
+          role = self.now.role;
+          scope = self.now.scope;
+          until = self.now.until;
+        } }
     {
         Granted {
             number,
@@ -37,7 +43,14 @@ pub(super) struct AuthTerms {
 
 impl AuthTerms {
     pub(super) fn numbered(&self, number: u32) -> Auth
-        ensures { result ≡ record { number = number; asn = self.now.asn; prefix = self.now.prefix; max = self.now.max; from = self.now.from; until = self.now.until } }
+        ensures { result ≡ record {
+          number = number;
+          asn = self.now.asn;
+          prefix = self.now.prefix;
+          max = self.now.max;
+          from = self.now.from;
+          until = self.now.until;
+        } }
     {
         Auth {
             number,

@@ -1,8 +1,9 @@
 use Rattle.std.proofs.Common.{◌≡◌, false, not, sym, ◌∙◌, ap}
+use Rattle.std.proofs.lemmas.Bool.{not-true}
 use Rattle.std.specs.List.{list_any}
 use Rattle.policy.specs.Rows.{rows_of}
 use Rattle.policy.specs.Terms.{gives_vrp}
-use Rattle.policy.proofs.RowsLemmas.{active-to, active-from, not_true}
+use Rattle.policy.proofs.RowsLemmas.{active-to, active-from}
 use Rattle.policy.proofs.admission.is_new.Goals as goal
 
 pub returns : goal.returns
@@ -10,6 +11,6 @@ returns c history h are =
     let a = c.args in
     let test = list_any (λ y. gives_vrp y a.asn a.prefix.now a.max) in
     let same = c.some_gives.ensures ∙ ap test c.deref.ensures.value in (
-      λ is. active-to history h (rows_of a.rows.now) (λ active. test active ≡ false) are (sym same ∙ not_true c.some_gives.result is),
+      λ is. active-to history h (rows_of a.rows.now) (λ active. test active ≡ false) are (sym same ∙ not-true c.some_gives.result is),
       λ of. ap not (same ∙ active-from history h (rows_of a.rows.now) (λ active. test active ≡ false) are of),
     )

@@ -1,10 +1,10 @@
 use Rattle.std.proofs.Common.{refl, sym, ◌∙◌, ap}
+use Rattle.std.proofs.lemmas.Bool.{not-true}
 use Rattle.policy.specs.declared.command.Command.TheVariants.{Transfer}
 use Rattle.policy.specs.History.{Entry, same_name}
 use Rattle.policy.specs.Rows.{rows_of}
 use Rattle.policy.specs.Terms.{terms_overlap}
 use Rattle.policy.proofs.Names.{same_name-false}
-use Rattle.policy.proofs.RowsLemmas.{not_true}
 use Rattle.policy.proofs.Ended.{numbers_where}
 use Rattle.policy.proofs.CarrySpace.{carries-transfer}
 use Rattle.policy.proofs.decision.decide_transfer.Goals as goal
@@ -16,7 +16,7 @@ returns c history day legal giver_are taker_are =
     let e : Entry = record { day = day; caller = a.caller.now; command = Transfer p a.giver.name.now a.taker.name.now } in
     let gave = c.in_ok-giving.ensures history a.giver.name.now giver_are in
     let took = c.in_ok-taking.ensures history a.taker.name.now taker_are in
-    let differ = not_true (same_name a.giver.name.now a.taker.name.now) (sym c.ne.ensures ∙ c.in_ok-require-2.ensures) in
+    let differ = not-true (same_name a.giver.name.now a.taker.name.now) (sym c.ne.ensures ∙ c.in_ok-require-2.ensures) in
     let held = (c.holds.ensures history a.giver.name.now gave.1).0 c.in_ok-require-3.ensures in
     let numbers = c.in_ok-ended.ensures ∙ ap (numbers_where (λ x. terms_overlap x p)) c.deref.ensures.value in (
       (sym c.is_operator.ensures ∙ c.in_ok-require.ensures, ((gave.0, took.0), (differ, (held, tt)))),
