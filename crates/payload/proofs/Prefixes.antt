@@ -3,26 +3,17 @@ use Rattle.std.proofs.Common.{lit<, mod-eq_of_lt, bit_and, ◌≡◌, ℕ, suc, 
 use Rattle.std.specs.Ordering.{nat_cmp, ordering_then, is_le}
 use Rattle.std.specs.declared.cmp.Ordering.TheVariants.{Less, Equal, Greater}
 use Rattle.std.proofs.lemmas.Bool.{both_ways, and_parts, leb-true, le-leb, cases_lt, cases_order, lt-ltb, le-ltb, eq-eqb, ne_eqb}
-use Rattle.std.proofs.lemmas.Nat.{pow_pos, pow-add, div-add-mod', mod-pow-add, le-div, pow_below, one_shl, and_mask}
+use Rattle.std.proofs.lemmas.Nat.{pow_pos, pow-add, div-add-mod', le-div, pow_below, one_shl, and_mask}
 use Rattle.std.proofs.Math.Nat.{mul-le-mul_right, suc-mul, add-mul-mod_self_right, mul-mod_left, pow-le-pow_right}
 use Rattle.addr.specs.Family.{width, family_eq}
 use Rattle.addr.specs.Address.{last_of, contains}
 use Rattle.addr.specs.declared.family.Family.{Family}
 use Rattle.addr.specs.declared.family.Family.TheVariants.{V4, V6}
 use Rattle.addr.specs.declared.prefix.Prefix.{Prefix}
-use Rattle.addr.proofs.AddressLemmas.{multiple-fits}
+use Rattle.addr.proofs.AddressLemmas.{multiple-at_most, multiple-fits}
 use Rattle.addr.proofs.Equality.{same_family, equal_family}
 use Rattle.payload.specs.Search.{is_at_most}
 use Rattle.addr.specs.Order.{family_cmp}
-
--- a multiple of a power of two is one of a smaller power
-pub multiple-smaller : (n j k : ℕ) → n % 2 ^ (j + k) ≡ 0 → n % 2 ^ k ≡ 0
-multiple-smaller n j k h = omega (arith, mod-pow-add n j k)
-
-pub multiple-at_most : (n j k : ℕ) → k ≤ j → n % 2 ^ j ≡ 0 → n % 2 ^ k ≡ 0
-multiple-at_most n j k le h =
-    let e : j ≡ (j - k) + k = omega arith in
-    multiple-smaller n (j - k) k (rw (← e) h)
 
 -- of two multiples the greater is at least one step on
 pub next-multiple : (a b m : ℕ) → 0 < m → a % m ≡ 0 → b % m ≡ 0 → a < b → a + m ≤ b

@@ -5,12 +5,12 @@ use Rattle.std.specs.Option.{SomeIff}
 use Rattle.addr.specs.declared.prefix.Prefix.{Prefix}
 use Rattle.std.proofs.lemmas.Bool.{false≢true, cases_lt, cases_eq, cases_Bool, lt-ltb, le-ltb, eq-eqb, ne_eqb, ltb-true, eqb-true, and_parts, and_from}
 use Rattle.std.proofs.lemmas.Option.{same_Some}
-use Rattle.std.proofs.lemmas.Nat.{shl-shr, shr_split, mod-pow-add, shr_below, shl_below}
+use Rattle.std.proofs.lemmas.Nat.{shl-shr, shr_split, shr_below, shl_below}
 use Rattle.addr.specs.Family.{width}
 use Rattle.addr.specs.Address.{IsPrefix}
 use Rattle.addr.specs.declared.family.Family.{Family}
 use Rattle.addr.specs.declared.family.Family.TheVariants.{V4, V6}
-use Rattle.addr.proofs.AddressLemmas.{below_widest}
+use Rattle.addr.proofs.AddressLemmas.{below_widest, multiple-at_most}
 use Rattle.roa.specs.ContentOctets.{be_octets, integer_len, bit_octets, length_octets, bit_string}
 use Rattle.roa.specs.RoaContent.{be_value}
 use Rattle.roa.specs.Reading.{integer_of, prefix_of, Gives}
@@ -94,11 +94,7 @@ bit_contents family first length = (8 * bit_octets length - length) ∷ be_octet
 
 -- an address that is aligned to the prefix is one to the whole octets
 aligned_to_octets : (w n bits k : ℕ) → bits ≤ k → k ≤ w → n % 2 ^ (w - bits) ≡ 0 → n % 2 ^ (w - k) ≡ 0
-aligned_to_octets w n bits k h g e =
-    let split : w - bits ≡ (k - bits) + (w - k) = omega arith in
-    let parts : n % 2 ^ ((k - bits) + (w - k)) ≡ (n / 2 ^ (w - k) % 2 ^ (k - bits)) * 2 ^ (w - k) + n % 2 ^ (w - k) = mod-pow-add n (k - bits) (w - k) in
-    let none : n % 2 ^ ((k - bits) + (w - k)) ≡ 0 = ap (λ (m : ℕ). n % 2 ^ m) (sym split) ∙ e in
-    omega (arith, parts, none)
+aligned_to_octets w n bits k h g e = multiple-at_most n (w - bits) (w - k) (omega arith) e
 
 shifted_back : (w n k : ℕ) → n % 2 ^ (w - k) ≡ 0 → n / 2 ^ (w - k) * 2 ^ (w - k) ≡ n
 shifted_back w n k e = omega (arith, shr_split n (w - k), e)
