@@ -2,7 +2,7 @@
 use Rattle.std.proofs.Common.{◌≡◌, ℕ, ◌+◌, ◌-◌, ◌*◌, ◌/◌, ◌%◌, ◌^◌, ◌≤◌, ◌<◌, true, lit≤, ◌&&◌, nat_le, arith, ◌↔◌, IsTrue, inl, inr, ap, ◌∙◌, suc}
 use Rattle.std.proofs.lemmas.Bool.{cases_lt}
 use Rattle.std.proofs.lemmas.Bool.Decides.{nat_tests}
-use Rattle.std.proofs.lemmas.Nat.{pow_pos, pow-add, div-add-mod', div_below}
+use Rattle.std.proofs.lemmas.Nat.{pow_pos, pow-add, div-add-mod', div_below, mod-pow-add}
 use Rattle.std.proofs.Math.Nat.{mul-le-mul_right, suc-mul}
 use Rattle.addr.specs.Family.{width, family_eq}
 use Rattle.addr.specs.Address.{is_between, last_of, contains, overlaps, Contains, Overlaps}
@@ -99,6 +99,12 @@ overlaps_some p q = (
   shared_start p q,
   λ shared. overlap_by_shared p.family q.family shared.0.family p.first (last_of p) q.first (last_of q) shared.0.number shared.1 shared.2,
 )
+
+-- a multiple of a power of two is one of each smaller power
+pub multiple-at_most : (n j k : ℕ) → k ≤ j → n % 2 ^ j ≡ 0 → n % 2 ^ k ≡ 0
+multiple-at_most n j k le multiple =
+    let parts : n % 2 ^ (j - k + k) ≡ 0 = ap (λ e. n % 2 ^ e) (omega arith) ∙ multiple in
+    omega (arith, mod-pow-add n (j - k) k, parts)
 
 -- a multiple of a power of two below a greater one leaves room for one more
 pub multiple-fits : (n k w : ℕ) → k ≤ w → n < 2 ^ w → n % 2 ^ k ≡ 0 → n + 2 ^ k ≤ 2 ^ w

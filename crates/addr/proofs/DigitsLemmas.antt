@@ -6,6 +6,7 @@ use Rattle.std.specs.Str.Parse.{digits_value}
 use Rattle.std.specs.Cmp.Lexicographic.{pointwise, bytes_decides}
 use Rattle.std.proofs.lemmas.Fmt.{decimal_is_IsNumeral, IsAscii-decimal}
 use Rattle.std.proofs.lemmas.Str.{IsUtf8-from_ascii}
+use Rattle.std.proofs.lemmas.Option.{none-some, same_Some}
 use Rattle.std.proofs.lemmas.Bool.{and_parts, and_from, cases_Bool, ltb-true, lt-ltb}
 use Rattle.addr.specs.Digits.{writes, number_in}
 
@@ -39,22 +40,16 @@ number_in-none text never =
 abbrev pub Reads : List ℕ → Option ℕ → Type 0
 Reads text read = (n : ℕ) → n < 2 ^ 64 → text ≡ decimal n → read ≡ Some n
 
-some_is : (m n : ℕ) → Some m ≡ Some n → m ≡ n
-some_is m n e = cc
-
-none_is_not : (n : ℕ) → None ≡ Some n → ⊥
-none_is_not n e = cc
-
 pub number_in-unread : (text : List ℕ) (read : Option ℕ) → Reads text read → read ≡ None → number_in text ≡ None
 number_in-unread text read reads none =
-    number_in-none text (λ n h e. none_is_not n (sym none ∙ reads n h e))
+    number_in-none text (λ n h e. none-some n (sym none ∙ reads n h e))
 
 pub number_in-rewritten :
     (text written : List ℕ) (read : Option ℕ) (number : ℕ) → Reads text read → read ≡ Some number
     → written ≡ decimal number → pointwise nat_eq written text ≡ false → number_in text ≡ None
 number_in-rewritten text written read number reads some digits differs =
     number_in-none text (λ n h e.
-    let same : number ≡ n = some_is number n (sym some ∙ reads n h e) in
+    let same : number ≡ n = same_Some number n (sym some ∙ reads n h e) in
     let equal : pointwise nat_eq written text ≡ true =
     (bytes_decides written text).1 (digits ∙ ap decimal same ∙ sym e)
     in

@@ -1,5 +1,5 @@
 -- Tests of equality that pass, and what they say.
-use Rattle.std.proofs.Common.{◌≡◌, true, refl, ◌&&◌, ◌==◌}
+use Rattle.std.proofs.Common.{◌≡◌, true, refl, subst, ◌&&◌, ◌==◌}
 use Rattle.std.proofs.lemmas.Bool.{and_parts, and_from, eqb-true, eq-eqb}
 use Rattle.addr.specs.Address.{prefix_eq, same_prefix}
 use Rattle.addr.specs.Family.{family_eq}
@@ -16,6 +16,9 @@ same_family V6 V6 is = refl
 pub family_itself : (f : Family) → family_eq f f ≡ true
 family_itself V4 = refl
 family_itself V6 = refl
+
+pub equal_family : (f g : Family) → f ≡ g → family_eq f g ≡ true
+equal_family f g same = subst (λ (h : Family). family_eq f h ≡ true) same (family_itself f)
 
 pub equal_prefix : (p q : Prefix) → prefix_eq p q ≡ true → p ≡ q
 equal_prefix p q is =

@@ -10,5 +10,4 @@ mod NameLemmas
 pub mod PrefixTextLemmas
 pub mod PrefixGroupsLemmas
 pub mod PrefixSpellingLemmas
-mod PrefixTextSamples
 pub mod SpelledPrefixLemmas

@@ -1,7 +1,7 @@
 -- The order of families, prefixes and VRPs is total, what ties in it is one, and the derived `Ord` is it.
-use Rattle.std.proofs.Common.{◌≡◌, refl, ap, Ordering}
+use Rattle.std.proofs.Common.{◌≡◌, true, refl, ap, Ordering}
 use Rattle.std.specs.declared.cmp.Ordering.TheVariants.{Less, Equal, Greater}
-use Rattle.std.specs.Ordering.{nat_cmp, ordering_then, ordering_reverse}
+use Rattle.std.specs.Ordering.{nat_cmp, ordering_then, ordering_reverse, is_lt}
 use Rattle.std.specs.Cmp.{IsTotalOrder, nat_cmp_total, on_total, then_total}
 use Rattle.std.specs.FinMap.{IsAntisymmetric, nat_cmp-IsAntisymmetric}
 use Rattle.addr.specs.Address.{same_prefix}
@@ -46,6 +46,11 @@ prefix_total = then_total (on_total (λ p. p.family) family_total) (then_total (
 
 pub vrp_total : IsTotalOrder vrp_cmp
 vrp_total = then_total (on_total (λ v. v.prefix) prefix_total) (then_total (on_total (λ v. v.max) nat_cmp_total) (on_total (λ v. v.asn.0) nat_cmp_total))
+
+pub less_is : (o : Ordering) → is_lt o ≡ true → o ≡ Less
+less_is Less before = refl
+less_is Equal before = cc
+less_is Greater before = cc
 
 -- ---- what ties is one
 

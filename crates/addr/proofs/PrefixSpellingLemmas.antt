@@ -7,7 +7,6 @@ use Rattle.std.proofs.lemmas.Slice.Eq.{bytes_eq-Decides}
 use Rattle.std.proofs.lemmas.Fmt.{decimal_is_IsNumeral, length-decimal-le}
 use Rattle.std.proofs.lemmas.List.Elements.{All-head, All-tail}
 use Rattle.std.proofs.NetLemmas.Arrays.{four_items}
-use Rattle.std.proofs.lemmas.Nat.{pow_pos}
 use Rattle.std.specs.Result.{MatchResult}
 use Rattle.std.proofs.NetLemmas.Texts.{IsZeroRun-longest_zero_run, longest_zero_run_first, AllSegments, IsColonHex-hex_groups_text}
 use Rattle.std.proofs.NetLemmas.Alphabet.{IsHexOrColon, All-hex_groups_text}
@@ -25,7 +24,7 @@ use Rattle.addr.specs.declared.text.PrefixFault.TheVariants.{Shape, Spelling, Le
 use Rattle.addr.specs.declared.prefix.Prefix.{Prefix}
 use Rattle.addr.specs.PrefixText.{octets_of, groups_of, address_text, spelling, cut_at, short_number, octet, dotted_address, loose_address, loose_groups, loose, fault_of, is_aligned, prefix_text_fault, Spells, IsFirstLongestRun, PrefixTextLaw}
 use Rattle.addr.proofs.PrefixTextLemmas.{short_number_from, Lacks, Lacks-append, Lacks-digits, cut_at_here, cut_at_none, dotted_parts, length_digits_in, below-digits_in, number-digits_in, at_below, option_cases}
-use Rattle.addr.proofs.AddressLemmas.{multiple-fits}
+use Rattle.addr.proofs.AddressLemmas.{width_small, first_below, multiple-fits}
 use Rattle.addr.proofs.PrefixGroupsLemmas.{loose_groups_from, loose_groups_fit}
 
 -- ---- numbers
@@ -189,31 +188,22 @@ loose_fits text parts e =
 abbrev prefix_of : (family : Family) (first len : ℕ) → len ≤ width family → first % 2 ^ (width family - len) ≡ 0 → first + 2 ^ (width family - len) ≤ 2 ^ width family → Prefix
 prefix_of family first len fits aligned inside = record { family = family; first = first; length = len; length_fits = fits; aligned = aligned; in_family = inside }
 
-prefix_below : (p : Prefix) → p.first < 2 ^ width p.family
-prefix_below p = let some = pow_pos (width p.family - p.length) in let inside = p.in_family in omega arith
-
-width_small : (family : Family) → width family < 1000
-width_small V4 = lit< tt
-width_small V6 = lit< tt
-
 prefix_short : (p : Prefix) → p.length < 1000
-prefix_short p = let small = width_small p.family in let fits = p.length_fits in omega arith
+prefix_short p = omega (arith, width_small p.family, p.length_fits)
 
-parts_of : Prefix → PrefixParts
+abbrev pub parts_of : Prefix → PrefixParts
 parts_of p = record { family = p.family; address = p.first; length = p.length }
 
-loose-Spells : (p : Prefix) (text : List ℕ) → Spells p text → loose text ≡ Some (parts_of p)
-unfolding parts_of
-loose-Spells p text spelled = rw spelled (loose-spelling p.family p.first p.length (prefix_below p) (prefix_short p))
+pub loose-Spells : (p : Prefix) (text : List ℕ) → Spells p text → loose text ≡ Some (parts_of p)
+loose-Spells p text spelled = rw spelled (loose-spelling p.family p.first p.length (first_below p) (prefix_short p))
 
 pub Spells_unique : (p q : Prefix) (text : List ℕ) → Spells p text → Spells q text → p ≡ q
-unfolding parts_of
 Spells_unique p q text hp hq =
     let same = same_Some _ _ (sym (loose-Spells p text hp) ∙ loose-Spells q text hq) in
     same_prefix p q (ap (λ (parts : PrefixParts). parts.family) same) (ap (λ (parts : PrefixParts). parts.address) same) (ap (λ (parts : PrefixParts). parts.length) same)
 
 pub faultless-Spells : (p : Prefix) (text : List ℕ) → Spells p text → prefix_text_fault text ≡ None
-unfolding prefix_text_fault parts_of
+unfolding prefix_text_fault
 faultless-Spells p text spelled =
     rw (
       loose-Spells p text spelled,

@@ -5,6 +5,7 @@ use Rattle.std.specs.Option.{option_to_list}
 use Rattle.std.proofs.lemmas.Bool.{and_parts, and_from, false≢true, true≢false}
 use Rattle.std.proofs.lemmas.Bool.Decides.{nat_tests}
 use Rattle.std.proofs.lemmas.List.{take_more}
+use Rattle.std.proofs.Math.Bool.{or-false, and-false, or_assoc}
 use Rattle.std.proofs.Math.Seq.{drop-cons}
 use Rattle.std.proofs.lemmas.List.Folds.{list_all-append, list_any-append}
 use Rattle.addr.specs.Family.{family_eq}
@@ -29,10 +30,6 @@ all_true p xs all x one = rw (list_all-append p xs (x ∷ [])) (and_from (list_a
 
 pub have_more : (xs : List Span) (s : Span) (a : Address) → spans_have (xs ++ s ∷ []) a ≡ (spans_have xs a || span_has s a)
 have_more xs s a = list_any-append (λ t. span_has t a) xs (s ∷ []) ∙ ap (λ b. spans_have xs a || b) (or-false (span_has s a))
-  where
-    or-false : (b : Bool) → (b || false) ≡ b
-    or-false true = refl
-    or-false false = refl
 
 -- each is apart below the next one and all that follow
 pub apart_head : (kept : List Span) (s : Span) (rest : List Span) → AllApart kept (s ∷ rest) → (all_below kept s ≡ true) × AllApart kept rest
@@ -64,11 +61,7 @@ last_below xs last s maximal = go (is_apart_below last s) refl
         each (x ∷ xs) all =
             let below = list_all-append (λ t. is_apart_below x t) xs (last ∷ []) in
             and_from _ _ (apart_trans x last s (and_parts _ _ (and_parts _ _ (sym below ∙ all.0)).1).0 is) (each xs all.1)
-    go false is = list_all-append (λ t. is_apart_below t s) xs (last ∷ []) ∙ (λ i. all_below xs s && (is i && true)) ∙ never (all_below xs s)
-      where
-        never : (b : Bool) → (b && false) ≡ false
-        never true = refl
-        never false = refl
+    go false is = list_all-append (λ t. is_apart_below t s) xs (last ∷ []) ∙ (λ i. all_below xs s && (is i && true)) ∙ and-false (all_below xs s)
 
 swap_last : (w x y z n : Bool) → (x || y) ≡ (z || n) → ((x || w) || y) ≡ ((z || w) || n)
 swap_last true true y true n e = refl
@@ -76,15 +69,7 @@ swap_last true false y true n e = refl
 swap_last true true y false n e = refl
 swap_last true false y false n e = refl
 swap_last false true y z n e = e ∙ ap (λ b. b || n) (sym (or-false z))
-  where
-    or-false : (b : Bool) → (b || false) ≡ b
-    or-false true = refl
-    or-false false = refl
 swap_last false false y z n e = e ∙ ap (λ b. b || n) (sym (or-false z))
-  where
-    or-false : (b : Bool) → (b || false) ≡ b
-    or-false true = refl
-    or-false false = refl
 
 add_last : (w x y z n : Bool) → (x || y) ≡ (z || n) → ((x || y) || w) ≡ ((z || w) || n)
 add_last w x y z n e = ap (λ b. b || w) e ∙ turned z n w
@@ -97,11 +82,7 @@ add_last w x y z n e = ap (λ b. b || w) e ∙ turned z n w
     turned false false false = refl
 
 join_last : (w x y z n j : Bool) → j ≡ (y || w) → (x || y) ≡ (z || n) → (x || j) ≡ ((z || w) || n)
-join_last w x y z n j is e = ap (λ b. x || b) is ∙ grouped x y w ∙ add_last w x y z n e
-  where
-    grouped : (x y w : Bool) → (x || (y || w)) ≡ ((x || y) || w)
-    grouped true y w = refl
-    grouped false y w = refl
+join_last w x y z n j is e = ap (λ b. x || b) is ∙ sym (or_assoc x y w) ∙ add_last w x y z n e
 
 pub add_below : (done : List Span) (s : Span) (rest : List Span) (added : Span) (kept : List Span) (pending : Span) → is_apart_below s pending ≡ true → Adding done (s ∷ rest) added kept pending → Adding (done ++ s ∷ []) rest added (kept ++ s ∷ []) pending
 add_below done s rest added kept pending gap now =
@@ -190,10 +171,6 @@ cut_more done s rest gone kept parts are now =
     spread true false false = refl
     spread false y z = refl
 
-or_last : (b : Bool) → (b || false) ≡ b
-or_last true = refl
-or_last false = refl
-
 -- what lies after a run does not lie in it
 after_not_in : (f g : Family) (low high n : ℕ) → family_eq g f && nat_lt high n ≡ true → is_between f low high (record { family = g; number = n }) ≡ false
 after_not_in V4 V4 low high n past = grind (arith, nat_tests)
@@ -235,7 +212,7 @@ parts_of whole other None (Some y) in_before has_before in_after has_after = rec
   above = λ s gap. and_from _ _ (apart_to_part s whole y in_after.0 gap) refl;
   below = λ s gap. and_from _ _ (apart_from_part s whole y in_after.0 gap) refl;
   maximal = (refl, tt);
-  same = λ a. or_last (span_has y a) ∙ joined whole other a false (span_has y a) (has_before a) (has_after a);
+  same = λ a. or-false (span_has y a) ∙ joined whole other a false (span_has y a) (has_before a) (has_after a);
 }
 parts_of whole other (Some x) None in_before has_before in_after has_after = record {
   above = λ s gap. and_from _ _ (apart_to_part s whole x in_before.0 gap) refl;
@@ -247,7 +224,7 @@ parts_of whole other (Some x) (Some y) in_before has_before in_after has_after =
   above = λ s gap. and_from _ _ (apart_to_part s whole x in_before.0 gap) (and_from _ _ (apart_to_part s whole y in_after.0 gap) refl);
   below = λ s gap. and_from _ _ (apart_from_part s whole x in_before.0 gap) (and_from _ _ (apart_from_part s whole y in_after.0 gap) refl);
   maximal = (and_from _ _ (rw (in_before.0.family, in_after.0.family) (gap_same whole.family x.hi y.lo (apart_ends x.hi other.lo other.hi y.lo (in_before.1 in_after.1) other.ordered in_after.2))) refl, (refl, tt));
-  same = λ a. ap (λ b. span_has x a || b) (or_last (span_has y a)) ∙ joined whole other a (span_has x a) (span_has y a) (has_before a) (has_after a);
+  same = λ a. ap (λ b. span_has x a || b) (or-false (span_has y a)) ∙ joined whole other a (span_has x a) (span_has y a) (has_before a) (has_after a);
 }
 
 -- nothing looked at yet

@@ -1,19 +1,16 @@
 -- `spelled_prefix` is the inverse of the spelling: the prefix that a text spells, where it spells one.
-use Rattle.std.proofs.Common.{◌≡◌, ℕ, ◌+◌, ◌-◌, ◌^◌, ◌%◌, ◌≤◌, ◌<◌, ◌↔◌, lit<, List, Option, Some, None, Result, Ok, Err, refl, ap, sym, ◌∙◌, subst, arith}
+use Rattle.std.proofs.Common.{◌≡◌, ℕ, ◌+◌, ◌-◌, ◌^◌, ◌%◌, ◌≤◌, ◌↔◌, List, Option, Some, None, Result, Ok, Err, refl, sym, ◌∙◌, subst}
 use Rattle.std.proofs.Math.Bridge.{le_prop}
 use Rattle.std.proofs.Math.Nat.{ℕ_set}
-use Rattle.std.proofs.lemmas.Nat.{pow_pos}
 use Rattle.std.proofs.lemmas.Option.{none-some, same_Some}
 use Rattle.std.specs.Prelude.{IfErr}
 use Rattle.std.specs.Result.{MatchResult, result_ok}
 use Rattle.addr.specs.Family.{width}
-use Rattle.addr.specs.PrefixText.{loose, prefix_text_fault, Spells}
+use Rattle.addr.specs.PrefixText.{prefix_text_fault, Spells}
 use Rattle.addr.specs.SpelledPrefix.{prefix_if, spelled_prefix}
-use Rattle.addr.specs.declared.family.Family.{Family}
-use Rattle.addr.specs.declared.family.Family.TheVariants.{V4, V6}
 use Rattle.addr.specs.declared.prefix.Prefix.{Prefix}
 use Rattle.addr.specs.declared.text.PrefixFault.{PrefixFault}
-use Rattle.addr.proofs.PrefixSpellingLemmas.{prefix_text_law}
+use Rattle.addr.proofs.PrefixSpellingLemmas.{loose-Spells, prefix_text_law}
 
 -- the numbers of a prefix give it, whatever proves that they are a prefix's
 prefix_if-numbers : (p : Prefix) (fits : Dec (p.length ≤ width p.family)) (aligned : Dec (p.first % 2 ^ (width p.family - p.length) ≡ 0)) (inside : Dec (p.first + 2 ^ (width p.family - p.length) ≤ 2 ^ width p.family)) → prefix_if p.family p.first p.length fits aligned inside ≡ Some p
@@ -30,20 +27,10 @@ prefix_if-numbers p (yes fits) (yes aligned) (no outside) = absurd (outside p.in
 prefix_if-numbers p (yes fits) (no unaligned) inside = absurd (unaligned p.aligned)
 prefix_if-numbers p (no long) aligned inside = absurd (long p.length_fits)
 
-width_small : (family : Family) → width family < 1000
-width_small V4 = lit< tt
-width_small V6 = lit< tt
-
-loose-prefix : (p : Prefix) (text : List ℕ) → Spells p text → loose text ≡ Some (record { family = p.family; address = p.first; length = p.length })
-loose-prefix p text spelled =
-    let some = pow_pos (width p.family - p.length) in
-    let small = width_small p.family in
-    ap loose spelled ∙ prefix_text_law.read_back p.family p.first p.length (omega arith) (omega arith)
-
 pub spelled_prefix-Spells : (p : Prefix) (text : List ℕ) → Spells p text → spelled_prefix text ≡ Some p
 unfolding spelled_prefix
 spelled_prefix-Spells p text spelled =
-    rw ((prefix_text_law.faultless text).1 (p, spelled), loose-prefix p text spelled) (prefix_if-numbers p _ _ _)
+    rw ((prefix_text_law.faultless text).1 (p, spelled), loose-Spells p text spelled) (prefix_if-numbers p _ _ _)
 
 pub spelled_prefix-fault : (text : List ℕ) (fault : PrefixFault) → prefix_text_fault text ≡ Some fault → spelled_prefix text ≡ None
 unfolding spelled_prefix

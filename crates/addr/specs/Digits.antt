@@ -1,5 +1,5 @@
 -- Numbers in plain decimal digits, without leading zeros, as `decimal` of std writes them.
-use Rattle.std.specs.Prelude.{ℕ, ◌^◌, Bool, ◌&&◌, ◌==◌, if◌then◌else◌, nat_lt, List, [], ◌∷◌, ◌++◌, Option, Some, None, codes}
+use Rattle.std.specs.Prelude.{ℕ, ◌^◌, Bool, ◌&&◌, ◌==◌, if◌then◌else◌, nat_lt, List, ◌∷◌, ◌++◌, Option, Some, None, codes}
 use Rattle.std.specs.Option.{option_and_then}
 use Rattle.std.specs.Fmt.{decimal}
 use Rattle.std.specs.Cmp.Lexicographic.{pointwise}
@@ -22,6 +22,5 @@ abbrev pub asn_text : ℕ → List ℕ
 asn_text number = codes "AS" ++ decimal number
 
 abbrev pub asn_in : List ℕ → Option ℕ
-asn_in [] = None
-asn_in (a ∷ []) = None
 asn_in (a ∷ s ∷ digits) = if (a == 65) && (s == 83) then number_below (2 ^ 32) digits else None
+asn_in _ = None

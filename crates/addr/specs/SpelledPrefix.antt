@@ -12,9 +12,7 @@ abbrev pub prefix_if : (family : Family) (first len : ℕ) → Dec (len ≤ widt
     → Dec (first % 2 ^ (width family - len) ≡ 0) → Dec (first + 2 ^ (width family - len) ≤ 2 ^ width family) → Option Prefix
 prefix_if family first len (yes fits) (yes aligned) (yes inside) =
     Some (record { family = family; first = first; length = len; length_fits = fits; aligned = aligned; in_family = inside })
-prefix_if family first len (yes fits) (yes aligned) (no outside) = None
-prefix_if family first len (yes fits) (no unaligned) inside = None
-prefix_if family first len (no long) aligned inside = None
+prefix_if family first len _ _ _ = None
 
 -- the prefix of these parts, if there is one
 abbrev pub prefix_with : PrefixParts → Option Prefix

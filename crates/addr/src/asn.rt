@@ -34,6 +34,3 @@ impl fmt::Display for Asn {
         write!(f, "AS{number}")
     }
 }
-
-#[cfg(test)]
-mod tests;

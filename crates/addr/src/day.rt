@@ -169,6 +169,3 @@ fn four_digits(thousands: u8, hundreds: u8, tens: u8, ones: u8) -> Option<u16>
 {
     Some(100 * u16::from(two_digits(thousands, hundreds)?) + u16::from(two_digits(tens, ones)?))
 }
-
-#[cfg(test)]
-mod tests;

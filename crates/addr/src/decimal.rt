@@ -46,6 +46,3 @@ fn parse(text: &[u8]) -> Option<u64>
     };
     text.parse().ok()
 }
-
-#[cfg(test)]
-mod tests;

@@ -177,6 +177,3 @@ fn push_part(kept: &mut Vec<Span>, part: Option<Span>) -> Result<(), AllocError>
     }
     Ok(())
 }
-
-#[cfg(test)]
-mod tests;

@@ -149,6 +149,3 @@ impl fmt::Display for Name {
         f.write_str(self.as_str())
     }
 }
-
-#[cfg(test)]
-mod tests;

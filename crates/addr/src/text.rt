@@ -10,8 +10,6 @@ use arrayvec::ArrayString;
 use thiserror::Error;
 
 mod read;
-#[cfg(test)]
-mod tests;
 mod write;
 
 use read::read_prefix;

@@ -6,8 +6,6 @@ mod fault;
 mod lists;
 mod members;
 mod pairs;
-#[cfg(test)]
-mod tests;
 mod text;
 
 pub use fault::Fault;

@@ -1,7 +1,8 @@
 -- A search that has looked at the VRPs from some place on.
-use Rattle.std.proofs.Common.{lit<, ◌≡◌, Bool, true, false, ◌&&◌, ◌||◌, nat_le, List, [], ◌∷◌, ◌++◌, get_or, refl, sym, ap, ◌∙◌, subst}
+use Rattle.std.proofs.Common.{lit<, ◌≡◌, Bool, true, false, ◌&&◌, ◌||◌, nat_le, List, [], ◌∷◌, ◌++◌, get_or, sym, ap, ◌∙◌, subst}
 use Rattle.std.specs.List.{All, list_any}
 use Rattle.std.proofs.lemmas.Bool.{and_left}
+use Rattle.std.proofs.Math.Bool.{or-false, or-true, and-false}
 use Rattle.std.proofs.lemmas.List.Folds.{list_any-append, list_any_none}
 use Rattle.addr.specs.OriginValidation.{covers, matches, is_from}
 use Rattle.addr.specs.declared.route.Route.{Route}
@@ -18,14 +19,6 @@ pub record IsLeft (vrps rest : List Vrp) (route : Route) (is_covered : Bool) : T
   pub before : All (λ v. is_at_most v.prefix route.prefix ≡ true) rest
   pub matched : list_any (λ v. matches v route) vrps ≡ list_any (λ v. matches v route) rest
   pub covered : list_any (λ v. covers v route) vrps ≡ (list_any (λ v. covers v route) rest || is_covered)
-
-or-false : (b : Bool) → (b || false) ≡ b
-or-false true = refl
-or-false false = refl
-
-or-true : (b : Bool) → (b || true) ≡ true
-or-true true = refl
-or-true false = refl
 
 any-front : (p : Vrp → Bool) (front rest : List Vrp) → All (λ v. p v ≡ false) rest → list_any p (front ++ rest) ≡ list_any p front
 any-front p front rest none = list_any-append p front rest ∙ ap (λ b. list_any p front || b) (list_any_none p rest none) ∙ or-false _
@@ -81,10 +74,6 @@ left-covering vrps rest before front v route is_covered left split inside unlike
       covered = left.covered ∙ ap (λ b. b || is_covered) (ap (list_any (λ v. covers v route)) split ∙ any-last _ before v
           ∙ ap (λ b. list_any (λ v. covers v route) before || b) inside ∙ or-true _) ∙ sym (or-true _);
     }
-  where
-    and-false : (b : Bool) → (b && false) ≡ false
-    and-false true = refl
-    and-false false = refl
 
 -- the VRPs before the last one rise, and their prefixes sort at or before its own, and that at or before the route
 pub left-rising : (vrps rest before : List Vrp) (v : Vrp) (route : Route) (is_covered : Bool) → IsLeft vrps rest route is_covered → rest ≡ before ++ v ∷ [] → AreRising before

@@ -3,24 +3,17 @@ use Rattle.std.proofs.Common.{lit<, mod-eq_of_lt, bit_and, ◌≡◌, ℕ, suc, 
 use Rattle.std.specs.Ordering.{nat_cmp, ordering_then, is_le}
 use Rattle.std.specs.declared.cmp.Ordering.TheVariants.{Less, Equal, Greater}
 use Rattle.std.proofs.lemmas.Bool.{both_ways, and_parts, leb-true, le-leb, cases_lt, cases_order, lt-ltb, le-ltb, eq-eqb, ne_eqb}
-use Rattle.std.proofs.lemmas.Nat.{pow_pos, pow-add, div-add-mod', mod-pow-add, le-div, pow_below, one_shl, and_mask}
+use Rattle.std.proofs.lemmas.Nat.{pow_pos, pow-add, div-add-mod', le-div, pow_below, one_shl, and_mask}
 use Rattle.std.proofs.Math.Nat.{mul-le-mul_right, suc-mul, add-mul-mod_self_right, mul-mod_left, pow-le-pow_right}
 use Rattle.addr.specs.Family.{width, family_eq}
 use Rattle.addr.specs.Address.{last_of, contains}
 use Rattle.addr.specs.declared.family.Family.{Family}
 use Rattle.addr.specs.declared.family.Family.TheVariants.{V4, V6}
 use Rattle.addr.specs.declared.prefix.Prefix.{Prefix}
+use Rattle.addr.proofs.AddressLemmas.{multiple-at_most, multiple-fits}
+use Rattle.addr.proofs.Equality.{same_family, equal_family}
 use Rattle.payload.specs.Search.{is_at_most}
 use Rattle.addr.specs.Order.{family_cmp}
-
--- a multiple of a power of two is one of a smaller power
-pub multiple-smaller : (n j k : ℕ) → n % 2 ^ (j + k) ≡ 0 → n % 2 ^ k ≡ 0
-multiple-smaller n j k h = omega (arith, mod-pow-add n j k)
-
-pub multiple-at_most : (n j k : ℕ) → k ≤ j → n % 2 ^ j ≡ 0 → n % 2 ^ k ≡ 0
-multiple-at_most n j k le h =
-    let e : j ≡ (j - k) + k = omega arith in
-    multiple-smaller n (j - k) k (rw (← e) h)
 
 -- of two multiples the greater is at least one step on
 pub next-multiple : (a b m : ℕ) → 0 < m → a % m ≡ 0 → b % m ≡ 0 → a < b → a + m ≤ b
@@ -41,20 +34,10 @@ multiple-below a x m pos ma le =
     let whole : a / m * m ≤ x / m * m = mul-le-mul_right m quotients in
     omega (arith, div-add-mod' a m, div-add-mod' x m)
 
-power-split : (k w : ℕ) → k ≤ w → 2 ^ w ≡ 2 ^ (w - k) * 2 ^ k
-power-split k w le = ap (λ e. 2 ^ e) (omega arith) ∙ pow-add 2 (w - k) k
-
-power-multiple : (k w : ℕ) → k ≤ w → 2 ^ w % 2 ^ k ≡ 0
-power-multiple k w le = rw (power-split k w le) (mul-mod_left (2 ^ (w - k)) (2 ^ k))
-
 multiple-more : (x i j : ℕ) → j ≤ i → x % 2 ^ j ≡ 0 → (x + 2 ^ i) % 2 ^ j ≡ 0
-multiple-more x i j le h = rw (power-split j i le) (add-mul-mod_self_right x (2 ^ (i - j)) (2 ^ j) ∙ h)
-
--- a multiple of a power of two below a greater one leaves room for one more
-pub multiple-fits : (n k w : ℕ) → k ≤ w → n < 2 ^ w → n % 2 ^ k ≡ 0 → n + 2 ^ k ≤ 2 ^ w
-multiple-fits n k w fits below multiple =
-    let whole : 2 ^ w % 2 ^ k ≡ 0 = power-multiple k w fits in
-    next-multiple n (2 ^ w) (2 ^ k) (pow_pos k) multiple whole below
+multiple-more x i j le h =
+    let parts : 2 ^ i ≡ 2 ^ (i - j) * 2 ^ j = ap (λ e. 2 ^ e) (omega arith) ∙ pow-add 2 (i - j) j in
+    rw parts (add-mul-mod_self_right x (2 ^ (i - j)) (2 ^ j) ∙ h)
 
 -- an aligned block that begins in another, not after z, and not before x where both begin together, lies in it
 pub block-within : (x y z i j : ℕ) → x % 2 ^ i ≡ 0 → y % 2 ^ j ≡ 0 → x ≤ y → y ≤ z → z < x + 2 ^ i → (x ≡ y → j ≤ i) → y + 2 ^ j ≤ x + 2 ^ i
@@ -79,18 +62,6 @@ cmp-equal a b h = rw (le-ltb a b (omega arith), eq-eqb a b h)
 
 pub cmp-greater : (a b : ℕ) → b < a → nat_cmp a b ≡ Greater
 cmp-greater a b h = rw (le-ltb a b (omega arith), ne_eqb a b (omega arith))
-
-pub family_eq-same : (f g : Family) → family_eq f g ≡ true → f ≡ g
-family_eq-same V4 V4 h = refl
-family_eq-same V6 V6 h = refl
-family_eq-same V4 V6 h = cc
-family_eq-same V6 V4 h = cc
-
-same-family_eq : (f g : Family) → f ≡ g → family_eq f g ≡ true
-same-family_eq V4 V4 h = refl
-same-family_eq V6 V6 h = refl
-same-family_eq V4 V6 h = cc
-same-family_eq V6 V4 h = cc
 
 -- of prefixes in order the families are one, or IPv4 and IPv6
 order-families : (f g : Family) (o : Ordering) → is_le (ordering_then (family_cmp f g) o) ≡ true → ((f ≡ g) × (is_le o ≡ true)) ⊎ ((f ≡ V4) × (g ≡ V6))
@@ -149,13 +120,13 @@ contains-ends p q h =
     let parts = and_parts (family_eq p.family q.family) _ h in
     let numbers = and_parts (nat_le p.first q.first) _ parts.1 in
     record {
-      family = family_eq-same _ _ parts.0;
+      family = same_family _ _ parts.0;
       first = leb-true _ _ numbers.0;
       last = leb-true _ _ numbers.1;
     }
 
 pub ends-contains : (p q : Prefix) → p.family ≡ q.family → p.first ≤ q.first → last_of q ≤ last_of p → contains p q ≡ true
-ends-contains p q family first last = rw (same-family_eq p.family q.family family, le-leb p.first q.first first, le-leb (last_of q) (last_of p) last)
+ends-contains p q family first last = rw (equal_family p.family q.family family, le-leb p.first q.first first, le-leb (last_of q) (last_of p) last)
 
 -- how many addresses the prefix has
 abbrev size : Prefix → ℕ
@@ -259,9 +230,6 @@ pub cut-fits : (n r h w v : ℕ) → r ≡ n - n % 2 ^ h → v ≡ w → h ≤ w
 cut-fits n r h w v cut width fits below =
     let host : w - (v - h) ≡ h = omega arith in
     rw host (multiple-fits r h w fits (omega arith) (rw cut (rounded-aligned n (2 ^ h))))
-
-pub first-below : (p : Prefix) → p.first < 2 ^ width p.family
-first-below p = omega (arith, p.in_family, pow_pos (width p.family - p.length))
 
 -- where a prefix sorts before another of its family that it does not contain, it begins before it
 pub apart-before : (low high : Prefix) → low.family ≡ high.family → is_at_most low high ≡ true → contains low high ≡ false → low.first < high.first

@@ -1,9 +1,10 @@
 -- Sets of VRPs made from lists.
 use Rattle.std.proofs.Common.{T, zero, get_or, ◌<◌, ◌≡◌, ℕ, suc, Bool, true, false, cond, not, ◌&&◌, ◌||◌, Option, Some, None, is_some, List, [], ◌∷◌, map, length, refl, sym, ap, ◌∙◌, arith, Ordering, lit<}
+use Rattle.std.specs.Cmp.{Equal-is}
 use Rattle.std.specs.FinMap as maps
 use Rattle.std.specs.FinMap.Entries.{below_all, by_order, is_sorted, put}
 use Rattle.std.specs.List.{list_any, insert}
-use Rattle.std.specs.Ordering.{eq_by_cmp, is_eq, is_lt}
+use Rattle.std.specs.Ordering.{eq_by_cmp, is_lt}
 use Rattle.std.specs.declared.cmp.Ordering.TheVariants.{Less, Equal, Greater}
 use Rattle.std.proofs.lemmas.List.Sorted.{IsPermutation-insert, list_any-IsPermutation}
 use Rattle.addr.specs.declared.vrp.Vrp.{Vrp}
@@ -55,10 +56,6 @@ same_from_list xs ys each = same_set _ _ (λ v. contains-from_list xs v ∙ each
 pub contains-items : (s : set.VrpSet) (v : Vrp) → set.contains s v ≡ list_any (is_vrp v) (set.items s)
 contains-items s v = maps.contains_key-keys s v
 
-or_false : (b : Bool) → (b || false) ≡ b
-or_false true = refl
-or_false false = refl
-
 -- an insertion anywhere in the list is one into the set
 pub from_list-insert : (vrps : List Vrp) (at : ℕ) (v : Vrp) → set.from_list (insert vrps at v) ≡ set.insert (set.from_list vrps) v
 from_list-insert vrps at v = same_set _ _ (λ w.
@@ -68,12 +65,7 @@ from_list-insert vrps at v = same_set _ _ (λ w.
     ∙ sym (contains-insert (set.from_list vrps) v w))
 
 pub same_vrp-equal : (v w : Vrp) → is_vrp v w ≡ true → v ≡ w
-same_vrp-equal v w h = exact_vrp v w (equal _ h)
-  where
-    equal : (o : Ordering) → is_eq o ≡ true → o ≡ Equal
-    equal Less e = cc
-    equal Equal e = refl
-    equal Greater e = cc
+same_vrp-equal v w h = exact_vrp v w ((Equal-is (vrp_cmp v w)).0 h)
 
 -- a VRP that is there is inserted to no effect
 pub insert-present : (s : set.VrpSet) (v : Vrp) → set.contains s v ≡ true → s ≡ set.insert s v

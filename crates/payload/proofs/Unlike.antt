@@ -6,21 +6,17 @@ use Rattle.std.specs.Ordering.{nat_cmp, ordering_then, is_lt}
 use Rattle.std.specs.declared.cmp.Ordering.TheVariants.{Less, Equal, Greater}
 use Rattle.std.proofs.lemmas.Bool.{cases_lt, cases_order}
 use Rattle.std.proofs.lemmas.Bool.Decides.{nat_tests}
+use Rattle.std.proofs.Math.Bool.{and-false}
 use Rattle.std.proofs.lemmas.List.{take-append-drop, get_or-drop, length-drop}
 use Rattle.addr.specs.OriginValidation.{covers, matches, is_from}
 use Rattle.addr.specs.Order.{prefix_cmp, vrp_cmp}
-use Rattle.addr.proofs.OrderLemmas.{vrp_total}
+use Rattle.addr.proofs.OrderLemmas.{vrp_total, less_is}
 use Rattle.addr.specs.declared.asn.Asn.{Asn}
 use Rattle.addr.specs.declared.route.Route.{Route}
 use Rattle.addr.specs.declared.vrp.Vrp.{Vrp}
 use Rattle.payload.specs.Rising.{AreRising}
 use Rattle.payload.specs.Search.{is_below, HasAllMatching}
 use Rattle.payload.proofs.Prefixes.{cmp-less, cmp-equal, cmp-greater}
-
-less_is : (o : Ordering) → is_lt o ≡ true → o ≡ Less
-less_is Less h = refl
-less_is Equal h = cc
-less_is Greater h = cc
 
 less-numbers : (a b l m : ℕ) → ordering_then (nat_cmp a b) (nat_cmp l m) ≡ Less → (a < b) ⊎ ((a ≡ b) × (l < m))
 less-numbers a b l m h =
@@ -65,13 +61,9 @@ unlike-between v w route max asn top others less from =
     unmatched (covers v route) (nat_le route.prefix.length v.max) (is_from route.origin v.asn)
     (elim (cases_lt w.max route.prefix.length) [
       | inl long ↦ rw (too_short long)
-      | inr fits ↦ rw (other_as fits) (and_false (nat_le route.prefix.length v.max))
+      | inr fits ↦ rw (other_as fits) (and-false (nat_le route.prefix.length v.max))
     ])
   where
-    and_false : (b : Bool) → b && false ≡ false
-    and_false true = refl
-    and_false false = refl
-
     parts : (ordering_then (nat_cmp v.max w.max) (nat_cmp v.asn.0 w.asn.0) ≡ Less) × (is_lt (ordering_then (nat_cmp v.max max) (nat_cmp v.asn.0 asn)) ≡ false)
     parts = tied (prefix_cmp v.prefix w.prefix) _ _ less from
 

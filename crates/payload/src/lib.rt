@@ -12,6 +12,3 @@ pub use index::PayloadIndex;
 pub use list::ListIndex;
 pub use sink::{Sink, Stop};
 pub use validity::Validity;
-
-#[cfg(test)]
-mod tests;

@@ -22,7 +22,7 @@ use addr::{Asn, Origin, Prefix, Route, Vrp};
 /// Of the VRPs of a prefix that covers the route it looks at one or two for each maxLength. From a VRP
 /// that does not cover the route it goes past all that do not reach from that one to the route, and
 /// it ends where no prefix is short enough for that.
-pub fn validity(vrps: &[Vrp], shortest: Shortest, route: &Route) -> Validity
+pub(crate) fn validity(vrps: &[Vrp], shortest: Shortest, route: &Route) -> Validity
     requires rising { AreRising vrps.now }
     requires no_shorter { AreNoShorter shortest vrps.now }
     ensures { state_of result ≡ validation_state vrps.now route.now }

@@ -1,9 +1,9 @@
 -- The blocks of both families and the whole content: what is read is what is written.
-use Rattle.std.proofs.Common.{◌≡◌, ℕ, ◌+◌, ◌-◌, ◌*◌, ◌^◌, ◌<◌, ◌≤◌, true, false, cond, eqb, List, [], ◌∷◌, ◌++◌, length, Option, Some, None, refl, sym, ap, subst, ◌∙◌, inl, inr, arith}
+use Rattle.std.proofs.Common.{◌≡◌, ℕ, ◌+◌, ◌-◌, ◌*◌, ◌^◌, ◌<◌, ◌≤◌, false, cond, eqb, List, [], ◌∷◌, ◌++◌, length, Option, Some, None, refl, sym, ap, subst, ◌∙◌, inl, inr, arith}
 use Rattle.std.specs.Prelude.{nat_eq}
-use Rattle.std.specs.Cmp.Lexicographic.{pointwise}
+use Rattle.std.specs.Cmp.Lexicographic.{pointwise, bytes_decides}
 use Rattle.std.specs.List.{flat_map, AllByRecursion}
-use Rattle.std.proofs.lemmas.Bool.{cases_eq, cases_Bool, eq-eqb, ne_eqb, eqb-true, and_parts}
+use Rattle.std.proofs.lemmas.Bool.{cases_eq, cases_Bool, eq-eqb, ne_eqb}
 use Rattle.std.proofs.lemmas.Option.{same_Some, option_and_then_some}
 use Rattle.std.proofs.lemmas.List.{length-append, append-nil, nil_from_length}
 use Rattle.std.proofs.lemmas.List.Concat.{flat_map-cons}
@@ -38,21 +38,6 @@ spelled number four six = sequence (integer number ++ sequence (blocks_octets fo
 
 -- ---- one block
 
-same_octets : (family : Family) → pointwise nat_eq (family_octets family) (family_octets family) ≡ true
-same_octets V4 = refl
-same_octets V6 = refl
-
--- the octets that compare equal to a family's are the family's
-pointwise_is : (xs ys : List ℕ) → pointwise nat_eq xs ys ≡ true → xs ≡ ys
-pointwise_is [] [] e = refl
-pointwise_is [] (y ∷ ys) e = absurd cc
-pointwise_is (x ∷ xs) [] e = absurd cc
-pointwise_is (x ∷ xs) (y ∷ ys) e =
-    let both = and_parts (eqb x y) (pointwise nat_eq xs ys) e in
-    let first : x ≡ y = eqb-true x y both.0 in
-    let rest : xs ≡ ys = pointwise_is xs ys both.1 in
-    cc
-
 block_again : (family : Family) (n : Numbers) (ns : List Numbers) (rest : List ℕ) → AllByRecursion (IsEntry family) (n ∷ ns) → length (n ∷ ns) ≤ 64 → block_at family (block_octets family (n ∷ ns) ++ rest) ≡ Some (flat_map numbers_octets (n ∷ ns), rest)
 unfolding block_at
 block_again family n ns rest all few =
@@ -66,7 +51,7 @@ block_again family n ns rest all few =
     element_again 4 (family_octets family) (sequence (flat_map numbers_octets (n ∷ ns))) (omega (arith, length-family_octets family)) in
     let third : whole 48 (sequence (flat_map numbers_octets (n ∷ ns))) ≡ Some (flat_map numbers_octets (n ∷ ns)) = whole_again 48 (flat_map numbers_octets (n ∷ ns)) (omega (arith, size)) in
     let some : eqb (length (flat_map numbers_octets (n ∷ ns))) 0 ≡ false = ne_eqb _ 0 (λ z. omega (arith, ap length (flat_map-cons numbers_octets n ns), z)) in
-    rw (first, second, same_octets family, third, some) refl
+    rw (first, second, (bytes_decides (family_octets family) (family_octets family)).1 refl, third, some) refl
 
 -- a block of IPv6 is none of IPv4
 block_other : (n : Numbers) (ns : List Numbers) → AllByRecursion (IsEntry V6) (n ∷ ns) → length (n ∷ ns) ≤ 64 → block_at V4 (block_octets V6 (n ∷ ns)) ≡ None
@@ -106,7 +91,7 @@ block_only family bytes p are e =
             | inr some ↦
                 let e5 = rw (ne_eqb (length addresses) 0 some) at e4 in
                 let inner : b.0 ≡ octet_string (family_octets family) ++ sequence addresses =
-                f.0.parts ∙ ap (λ (x : List ℕ). element 4 x ++ octets.1) (pointwise_is octets.0 (family_octets family) same) ∙ ap (λ (x : List ℕ). octet_string (family_octets family) ++ x) w.0 in
+                f.0.parts ∙ ap (λ (x : List ℕ). element 4 x ++ octets.1) ((bytes_decides octets.0 (family_octets family)).0 same) ∙ ap (λ (x : List ℕ). octet_string (family_octets family) ++ x) w.0 in
                 let parts : Takes bytes (sequence (octet_string (family_octets family) ++ sequence addresses)) b.1 =
                 record { parts = t.0.parts ∙ ap (λ (x : List ℕ). element 48 x ++ b.1) inner; rest_octets = t.0.rest_octets } in
                 subst (λ (q : List ℕ × List ℕ). TakesBlock family bytes q) (same_Some (addresses, b.1) p e5) (parts, w.1, some)

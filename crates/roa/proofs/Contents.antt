@@ -1,9 +1,8 @@
 -- The two laws of a content: its octets are read as it, and what is read has these octets.
-use Rattle.std.proofs.Common.{◌≡◌, ℕ, suc, ◌+◌, ◌-◌, ◌^◌, ◌<◌, ◌≤◌, Bool, true, cond, leb, List, [], ◌∷◌, ◌++◌, length, map, Some, None, refl, sym, ap, subst, ◌∙◌, inl, inr, ◌⊎◌, arith}
+use Rattle.std.proofs.Common.{◌≡◌, ℕ, suc, ◌+◌, ◌<◌, ◌≤◌, Bool, true, cond, leb, List, [], ◌∷◌, ◌++◌, length, map, Some, None, refl, sym, ap, subst, ◌∙◌, inl, inr, ◌⊎◌, arith}
 use Rattle.std.specs.declared.cmp.Ordering.TheVariants.{Less}
 use Rattle.std.specs.List.{flat_map, list_all, AllByRecursion}
 use Rattle.std.proofs.lemmas.Bool.{leb-true, le-leb, and_parts, and_from}
-use Rattle.std.proofs.lemmas.Nat.{pow_pos}
 use Rattle.std.proofs.lemmas.Option.{none-some, some_pair_parts}
 use Rattle.std.proofs.lemmas.List.{map-append, length-append}
 use Rattle.std.proofs.lemmas.List.Concat.{flat_map-cons}
@@ -11,6 +10,7 @@ use Rattle.addr.specs.Family.{width, family_eq}
 use Rattle.addr.specs.declared.asn.Asn.{Asn}
 use Rattle.addr.specs.declared.family.Family.{Family}
 use Rattle.addr.specs.declared.family.Family.TheVariants.{V4, V6}
+use Rattle.addr.proofs.AddressLemmas.{first_below}
 use Rattle.roa.specs.declared.content.Entry.{Entry}
 use Rattle.roa.specs.RoaContent.{RouteOriginAttestation, IsContent, AreCanonical, Rises, entry_order, is_in_range, family_octets, of_family}
 use Rattle.roa.specs.ContentOctets.{AreOctetsOf, integer, sequence, octet_string, entry_octets, roa_ip_address_family, content_octets}
@@ -27,25 +27,12 @@ cases_family : (f : Family) → (f ≡ V4) ⊎ (f ≡ V6)
 cases_family V4 = inl refl
 cases_family V6 = inr refl
 
-family_is : (f g : Family) → family_eq f g ≡ true → g ≡ f
-family_is V4 V4 e = refl
-family_is V6 V6 e = refl
-family_is V4 V6 e = absurd cc
-family_is V6 V4 e = absurd cc
-
-family_same : (f g : Family) → g ≡ f → family_eq f g ≡ true
-family_same V4 V4 e = refl
-family_same V6 V6 e = refl
-family_same V4 V6 e = absurd cc
-family_same V6 V4 e = absurd cc
-
 -- ---- an entry with its facts
 
 pub entry_is : (e : Entry) → is_in_range e ≡ true → IsEntry e.prefix.family (numbers e)
 entry_is e h =
     let both = and_parts (leb e.prefix.length e.max) (leb e.max (width e.prefix.family)) h in
-    let below : e.prefix.first < 2 ^ width e.prefix.family = omega (arith, e.prefix.in_family, pow_pos (width e.prefix.family - e.prefix.length)) in
-    record { same = refl; is_prefix = (e.prefix.length_fits, below, e.prefix.aligned); long = leb-true e.prefix.length e.max both.0; fits = leb-true e.max (width e.prefix.family) both.1 }
+    record { same = refl; is_prefix = (e.prefix.length_fits, first_below e.prefix, e.prefix.aligned); long = leb-true e.prefix.length e.max both.0; fits = leb-true e.max (width e.prefix.family) both.1 }
 
 range_is : (f : Family) (e : Entry) → IsEntry f (numbers e) → is_in_range e ≡ true
 range_is f e h = and_from (leb e.prefix.length e.max) (leb e.max (width e.prefix.family)) (le-leb e.prefix.length e.max h.long) (rw h.same (le-leb e.max (width f) h.fits))

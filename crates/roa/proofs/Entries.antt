@@ -8,7 +8,7 @@ use Rattle.std.proofs.lemmas.List.Concat.{flat_map-cons}
 use Rattle.addr.specs.Family.{width}
 use Rattle.addr.specs.Address.{IsPrefix}
 use Rattle.addr.specs.declared.family.Family.{Family}
-use Rattle.addr.specs.declared.family.Family.TheVariants.{V4, V6}
+use Rattle.addr.proofs.AddressLemmas.{width_small}
 use Rattle.roa.specs.ContentOctets.{be_octets, integer_len, integer, element, bit_string, max_length, roa_ip_address}
 use Rattle.roa.specs.Reading.{Numbers, ◌>>=◌, element_at, whole, integer_of, prefix_of, max_of, entry_of, entry_at, entries_of}
 use Rattle.roa.specs.RoaContent.{AreOctets}
@@ -28,10 +28,6 @@ abbrev pub numbers_octets : Numbers → List ℕ
 numbers_octets n = roa_ip_address n.family n.first n.length n.max
 
 -- ---- maxLength
-
-width_small : (family : Family) → width family ≤ 128
-width_small V4 = omega arith
-width_small V6 = omega arith
 
 max_again : (family : Family) (bits max : ℕ) → bits ≤ max → max ≤ width family → max_of family bits (max_length bits max) ≡ Some max
 unfolding max_of

@@ -8,6 +8,7 @@ use Rattle.addr.specs.Family.{width, family_eq}
 use Rattle.addr.specs.Address.{IsPrefix}
 use Rattle.addr.specs.declared.family.Family.{Family}
 use Rattle.addr.specs.declared.family.Family.TheVariants.{V4, V6}
+use Rattle.addr.proofs.AddressLemmas.{width_small}
 use Rattle.roa.specs.declared.content.Entry.{Entry}
 use Rattle.roa.specs.RoaContent.{RouteOriginAttestation, IsContent, is_in_range, be_value, IsElement, IsInteger, AreFirstBits, IsBitString, IsMaxLength, IsRoaIpAddress, AreRoaIpAddresses, family_octets, IsBlock, of_family, Encodes}
 use Rattle.roa.specs.ContentOctets.{be_octets, length_octets, element, sequence, integer_len, integer, octet_string, bit_octets, bit_string, max_length, entry_octets, roa_ip_address_family, content_octets, AreOctetsOf}
@@ -83,12 +84,8 @@ is_max_length bits max small =
 
 -- ---- ROAIPAddress
 
-width_bound : (family : Family) → width family ≤ 128
-width_bound V4 = omega arith
-width_bound V6 = omega arith
-
 max_small : (e : Entry) → is_in_range e ≡ true → e.max < 2 ^ 32
-max_small e h = omega (arith, (entry_is e h).fits, width_bound e.prefix.family)
+max_small e h = omega (arith, (entry_is e h).fits, width_small e.prefix.family)
 
 entry_short : (e : Entry) → length (bit_string e.prefix.family e.prefix.first e.prefix.length ++ max_length e.prefix.length e.max) < 65536
 entry_short e = omega (arith, length-entry_contents e.prefix.family e.prefix.first e.prefix.length e.max e.prefix.length_fits)

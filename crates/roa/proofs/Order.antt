@@ -11,23 +11,16 @@ use Rattle.std.specs.FinMap.{nat_cmp-IsAntisymmetric}
 use Rattle.std.proofs.lemmas.List.Recursion.{is_count_by}
 use Rattle.std.proofs.lemmas.List.Sorted.{All-permutation, sum_by-IsPermutation}
 use Rattle.std.proofs.lemmas.List.Sums.{AllPass-from_list_all, list_all-from_AllPass}
-use Rattle.addr.specs.Family.{family_eq}
-use Rattle.addr.specs.declared.family.Family.{Family}
-use Rattle.addr.specs.declared.family.Family.TheVariants.{V4, V6}
 use Rattle.roa.specs.declared.content.Entry.{Entry}
 use Rattle.addr.specs.Order.{prefix_cmp}
-use Rattle.addr.proofs.OrderLemmas.{prefix_total, exact_prefix, both_equal}
+use Rattle.addr.proofs.Equality.{prefix_itself}
+use Rattle.addr.proofs.OrderLemmas.{prefix_total, exact_prefix, both_equal, less_is}
 use Rattle.roa.specs.RoaContent.{entry_order, entry_eq, is_in_range, Rises}
 
 -- ---- rising, by index and by recursion
 
 abbrev pub is_before : Entry → Entry → Bool
 is_before a b = is_lt (entry_order a b)
-
-less_from_before : (o : Ordering) → is_lt o ≡ true → o ≡ Less
-less_from_before Less e = refl
-less_from_before Equal e = absurd cc
-less_from_before Greater e = absurd cc
 
 Rises-from_index : (es : List Entry) → AllAdjacentBelow (λ a b. is_before a b ≡ true) es (length es) → Rises es
 Rises-from_index [] h = tt
@@ -37,7 +30,7 @@ Rises-from_index (a ∷ b ∷ rest) h =
     let e : suc k + 1 ≡ suc (k + 1) = omega arith in
     let at : is_before (get_or (b ∷ rest) k d) (get_or (a ∷ b ∷ rest) (suc k + 1) d) ≡ true = h (suc k) d (omega (arith, lt)) in
     subst (λ (j : ℕ). is_before (get_or (b ∷ rest) k d) (get_or (a ∷ b ∷ rest) j d) ≡ true) e at in
-    (less_from_before (entry_order a b) (h 0 a (omega arith)), Rises-from_index (b ∷ rest) tail)
+    (less_is (entry_order a b) (h 0 a (omega arith)), Rises-from_index (b ∷ rest) tail)
 
 Rises-at : (es : List Entry) (k : ℕ) (d : Entry) → Rises es → k + 1 < length es → entry_order (get_or es k d) (get_or es (k + 1) d) ≡ Less
 Rises-at [] k d h lt = absurd (omega (arith, lt))
@@ -65,13 +58,8 @@ rises_from_answer (e ∷ es) false h = (
 entry_order_total : IsTotalOrder entry_order
 entry_order_total = then_total (on_total (λ (a : Entry). a.prefix) prefix_total) (on_total (λ (a : Entry). a.max) nat_cmp_total)
 
-family_eq-itself : (f : Family) → family_eq f f ≡ true
-family_eq-itself V4 = refl
-family_eq-itself V6 = refl
-
 entry_eq-itself : (a : Entry) → entry_eq a a ≡ true
-entry_eq-itself a =
-    and_from _ _ (and_from _ _ (family_eq-itself a.prefix.family) (and_from _ _ (eq-eqb a.prefix.first a.prefix.first refl) (eq-eqb a.prefix.length a.prefix.length refl))) (eq-eqb a.max a.max refl)
+entry_eq-itself a = and_from _ _ (prefix_itself a.prefix) (eq-eqb a.max a.max refl)
 
 -- entries that the order takes for equal are equal
 same_from_order : (a b : Entry) → entry_order a b ≡ Equal → entry_eq a b ≡ true

@@ -5,11 +5,12 @@ use Rattle.std.specs.Option.{SomeIff}
 use Rattle.addr.specs.declared.prefix.Prefix.{Prefix}
 use Rattle.std.proofs.lemmas.Bool.{false≢true, cases_lt, cases_eq, cases_Bool, lt-ltb, le-ltb, eq-eqb, ne_eqb, ltb-true, eqb-true, and_parts, and_from}
 use Rattle.std.proofs.lemmas.Option.{same_Some}
-use Rattle.std.proofs.lemmas.Nat.{pow_pos, shl-shr, shr_split, mod-pow-add, shr_below, shl_below}
+use Rattle.std.proofs.lemmas.Nat.{shl-shr, shr_split, shr_below, shl_below}
 use Rattle.addr.specs.Family.{width}
 use Rattle.addr.specs.Address.{IsPrefix}
 use Rattle.addr.specs.declared.family.Family.{Family}
 use Rattle.addr.specs.declared.family.Family.TheVariants.{V4, V6}
+use Rattle.addr.proofs.AddressLemmas.{below_widest, multiple-at_most}
 use Rattle.roa.specs.ContentOctets.{be_octets, integer_len, bit_octets, length_octets, bit_string}
 use Rattle.roa.specs.RoaContent.{be_value}
 use Rattle.roa.specs.Reading.{integer_of, prefix_of, Gives}
@@ -93,11 +94,7 @@ bit_contents family first length = (8 * bit_octets length - length) ∷ be_octet
 
 -- an address that is aligned to the prefix is one to the whole octets
 aligned_to_octets : (w n bits k : ℕ) → bits ≤ k → k ≤ w → n % 2 ^ (w - bits) ≡ 0 → n % 2 ^ (w - k) ≡ 0
-aligned_to_octets w n bits k h g e =
-    let split : w - bits ≡ (k - bits) + (w - k) = omega arith in
-    let parts : n % 2 ^ ((k - bits) + (w - k)) ≡ (n / 2 ^ (w - k) % 2 ^ (k - bits)) * 2 ^ (w - k) + n % 2 ^ (w - k) = mod-pow-add n (k - bits) (w - k) in
-    let none : n % 2 ^ ((k - bits) + (w - k)) ≡ 0 = ap (λ (m : ℕ). n % 2 ^ m) (sym split) ∙ e in
-    omega (arith, parts, none)
+aligned_to_octets w n bits k h g e = multiple-at_most n (w - bits) (w - k) (omega arith) e
 
 shifted_back : (w n k : ℕ) → n % 2 ^ (w - k) ≡ 0 → n / 2 ^ (w - k) * 2 ^ (w - k) ≡ n
 shifted_back w n k e = omega (arith, shr_split n (w - k), e)
@@ -140,10 +137,6 @@ first_below family bs are fit =
     let whole_width : 8 * length bs + (width family - 8 * length bs) ≡ width family = omega arith in
     subst (λ (m : ℕ). first_of family bs < 2 ^ m) whole_width (shl_below (be_value bs) (8 * length bs) (width family - 8 * length bs) (be_value_below bs are))
 
-width_bound : (family : Family) → 2 ^ width family ≤ 2 ^ 128
-width_bound V4 = omega arith
-width_bound V6 = omega arith
-
 nothing_read : (family : Family) (bs : List ℕ) → (width family - 8 * length bs < 128 → ⊥) → first_of family bs ≡ 0
 nothing_read family [] h = omega arith
 nothing_read V4 (b ∷ bs) h = absurd (h (omega arith))
@@ -152,7 +145,7 @@ nothing_read V6 (b ∷ bs) h = absurd (h (omega arith))
 -- the octets shifted to the front of the address, in 128 bits
 pub shifted_is : (family : Family) (bs : List ℕ) (r : Option ℕ) → AreOctets bs → 8 * length bs ≤ width family → SomeIff r (width family - 8 * length bs < 128) (first_of family bs % 2 ^ 128) → unwrap_or r 0 ≡ first_of family bs
 shifted_is family bs (Some n) are fit h =
-    let small : first_of family bs < 2 ^ 128 = omega (arith, first_below family bs are fit, width_bound family) in
+    let small : first_of family bs < 2 ^ 128 = below_widest family (first_of family bs) (first_below family bs are fit) in
     omega (arith, h.1, small)
 shifted_is family bs None are fit h = sym (nothing_read family bs h)
 
@@ -222,6 +215,3 @@ pub bit_string_pushed : (out : List ℕ) (family : Family) (first bits : ℕ)
 bit_string_pushed out family first bits =
     let len : length (bit_contents family first bits) ≡ 1 + bit_octets bits = omega (arith, length-be_octets (bit_octets bits) (first / 2 ^ (width family - 8 * bit_octets bits))) in
     rw len (simp append_assoc)
-
-pub first_fits : (p : Prefix) → p.first < 2 ^ width p.family
-first_fits p = omega (arith, p.in_family, pow_pos (width p.family - p.length))

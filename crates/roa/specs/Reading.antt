@@ -32,9 +32,8 @@ one_octet_at [] = None
 one_octet_at (n ∷ rest) = if nat_lt n 128 then None else Some (n, rest)
 
 unfoldable pub two_octets_at : List ℕ → Option (ℕ × List ℕ)
-two_octets_at [] = None
-two_octets_at (a ∷ []) = None
 two_octets_at (a ∷ b ∷ rest) = if a == 0 then None else Some (256 * a + b, rest)
+two_octets_at _ = None
 
 unfoldable pub length_at : List ℕ → Option (ℕ × List ℕ)
 length_at [] = None

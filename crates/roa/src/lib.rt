@@ -12,6 +12,3 @@ pub use content::{Content, ContentFault, Entry};
 pub use fault::DecodeFault;
 pub use reading::decode;
 pub use writing::encode;
-
-#[cfg(test)]
-mod tests;

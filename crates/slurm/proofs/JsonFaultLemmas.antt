@@ -29,15 +29,12 @@ tree-both (Ok a) (Err n) h k = k
 tree-both (Err m) (Ok b) h k = h
 tree-both (Err m) (Err n) h k = tree-lower m n h k
 
-tree-unless : {A B : Type 0} (one : Result A SlurmFault) (other : Result B SlurmFault) → OfTree one → OfTree other → OfTree (unless fault_number one other)
-tree-unless (Ok a) (Ok b) h k = tt
-tree-unless (Ok a) (Err n) h k = k
-tree-unless (Err m) (Ok b) h k = h
-tree-unless (Err m) (Err n) h k = tree-lower m n h k
-
 tree-mapped : {A B : Type 0} (f : A → B) (r : Result A SlurmFault) → OfTree r → OfTree (mapped f r)
 tree-mapped f (Ok a) h = tt
 tree-mapped f (Err n) h = h
+
+tree-unless : {A B : Type 0} (one : Result A SlurmFault) (other : Result B SlurmFault) → OfTree one → OfTree other → OfTree (unless fault_number one other)
+tree-unless one other h k = tree-mapped (λ p. p.0) (both fault_number one other) (tree-both one other h k)
 
 tree-and_then : {A B : Type 0} (f : A → Result B SlurmFault) (r : Result A SlurmFault) → ((a : A) → OfTree (f a)) → OfTree r → OfTree (and_then f r)
 tree-and_then f (Ok a) next h = next a

@@ -309,68 +309,59 @@ told-file d =
 
 -- ---- the number of entries
 
-abbrev Counts : {A : Type 0} → Result (List A) SlurmFault → ℕ → Type 0
-Counts (Ok xs) n = length xs ≡ n
-Counts (Err e) n = Unit {0}
+-- what was read has this count
+abbrev Counts : {A : Type 0} → (A → ℕ) → Result A SlurmFault → ℕ → Type 0
+Counts count (Ok x) n = count x ≡ n
+Counts count (Err e) n = Unit {0}
 
-abbrev CountsFile : Result Exceptions SlurmFault → ℕ → Type 0
-CountsFile (Ok file) n = entry_count file ≡ n
-CountsFile (Err e) n = Unit {0}
-
-counts-more : {A : Type 0} (one : Result A SlurmFault) (others : Result (List A) SlurmFault) (n : ℕ) → Counts others n → Counts (mapped (λ p. p.0 ∷ p.1) (both fault_number one others)) (suc n)
+counts-more : {A : Type 0} (one : Result A SlurmFault) (others : Result (List A) SlurmFault) (n : ℕ) → Counts length others n → Counts length (mapped (λ p. p.0 ∷ p.1) (both fault_number one others)) (suc n)
 counts-more (Ok x) (Ok xs) n h = ap suc h
 counts-more (Ok x) (Err e) n h = tt
 counts-more (Err e) (Ok xs) n h = tt
 counts-more (Err e) (Err f) n h = tt
 
-counts-each : {A : Type 0} (reading : Data → Result A SlurmFault) (ds : List Data) → Counts (each fault_number reading ds) (length ds)
+counts-each : {A : Type 0} (reading : Data → Result A SlurmFault) (ds : List Data) → Counts length (each fault_number reading ds) (length ds)
 counts-each reading [] = refl
 counts-each reading (d ∷ ds) = counts-more (reading d) (each fault_number reading ds) (length ds) (counts-each reading ds)
 
-counts-unless : {A B : Type 0} (one : Result (List A) SlurmFault) (other : Result B SlurmFault) (n : ℕ) → Counts one n → Counts (unless fault_number one other) n
-counts-unless (Ok xs) (Ok b) n h = h
-counts-unless (Ok xs) (Err e) n h = tt
-counts-unless (Err e) (Ok b) n h = tt
-counts-unless (Err e) (Err f) n h = tt
+counts-unless : {A B : Type 0} (count : A → ℕ) (one : Result A SlurmFault) (other : Result B SlurmFault) (n : ℕ) → Counts count one n → Counts count (unless fault_number one other) n
+counts-unless count (Ok x) (Ok b) n h = h
+counts-unless count (Ok x) (Err e) n h = tt
+counts-unless count (Err e) (Ok b) n h = tt
+counts-unless count (Err e) (Err f) n h = tt
 
-counts-entries : {A : Type 0} (reading : Data → Result A SlurmFault) (items : Option Items) → Counts (entries_from reading items) (length (items_at items))
+counts-entries : {A : Type 0} (reading : Data → Result A SlurmFault) (items : Option Items) → Counts length (entries_from reading items) (length (items_at items))
 counts-entries reading None = tt
 counts-entries reading (Some items) = counts-each reading (list_of items)
 
-counts-part : {A : Type 0} (reading : Data → Result A SlurmFault) (entries bgpsec : List ℕ) (part : Option Data) → Counts (required Members (part_in reading entries bgpsec) part) (length (items_at (option_and_then (array_at entries) part)))
+counts-part : {A : Type 0} (reading : Data → Result A SlurmFault) (entries bgpsec : List ℕ) (part : Option Data) → Counts length (required Members (part_in reading entries bgpsec) part) (length (items_at (option_and_then (array_at entries) part)))
 counts-part reading entries bgpsec None = tt
 counts-part reading entries bgpsec (Some d) =
-    counts-unless (unless fault_number (entries_from reading (array_at entries d)) (only Members (entries ∷ bgpsec ∷ []) d)) (bgpsec_from (array_at bgpsec d)) _
-    (counts-unless (entries_from reading (array_at entries d)) (only Members (entries ∷ bgpsec ∷ []) d) _ (counts-entries reading (array_at entries d)))
+    counts-unless length (unless fault_number (entries_from reading (array_at entries d)) (only Members (entries ∷ bgpsec ∷ []) d)) (bgpsec_from (array_at bgpsec d)) _
+    (counts-unless length (entries_from reading (array_at entries d)) (only Members (entries ∷ bgpsec ∷ []) d) _ (counts-entries reading (array_at entries d)))
 
-counts-lists : (filters : Result (List Filter) SlurmFault) (assertions : Result (List Vrp) SlurmFault) (m n : ℕ) → Counts filters m → Counts assertions n → CountsFile (mapped exceptions_of (both fault_number filters assertions)) (m + n)
+counts-lists : (filters : Result (List Filter) SlurmFault) (assertions : Result (List Vrp) SlurmFault) (m n : ℕ) → Counts length filters m → Counts length assertions n → Counts entry_count (mapped exceptions_of (both fault_number filters assertions)) (m + n)
 counts-lists (Ok f) (Ok a) m n h k = rw (h, k) refl
 counts-lists (Ok f) (Err e) m n h k = tt
 counts-lists (Err e) (Ok a) m n h k = tt
 counts-lists (Err e) (Err f) m n h k = tt
 
-counts_file-unless : {B : Type 0} (one : Result Exceptions SlurmFault) (other : Result B SlurmFault) (n : ℕ) → CountsFile one n → CountsFile (unless fault_number one other) n
-counts_file-unless (Ok file) (Ok b) n h = h
-counts_file-unless (Ok file) (Err e) n h = tt
-counts_file-unless (Err e) (Ok b) n h = tt
-counts_file-unless (Err e) (Err f) n h = tt
-
-counts-file : (d : Data) → CountsFile (file_in d) (file_entries d)
+counts-file : (d : Data) → Counts entry_count (file_in d) (file_entries d)
 counts-file d =
     let filters = required Members filters_in (get (codes "validationOutputFilters") d) in
     let assertions = required Members assertions_in (get (codes "locallyAddedAssertions") d) in
     let names = codes "slurmVersion" ∷ codes "validationOutputFilters" ∷ codes "locallyAddedAssertions" ∷ [] in
     let lists = mapped exceptions_of (both fault_number filters assertions) in
-    counts_file-unless (unless fault_number (unless fault_number lists (object_in d)) (only Members names d)) (required Members version_in (get (codes "slurmVersion") d)) _
-    (counts_file-unless (unless fault_number lists (object_in d)) (only Members names d) _
-    (counts_file-unless lists (object_in d) _
+    counts-unless entry_count (unless fault_number (unless fault_number lists (object_in d)) (only Members names d)) (required Members version_in (get (codes "slurmVersion") d)) _
+    (counts-unless entry_count (unless fault_number lists (object_in d)) (only Members names d) _
+    (counts-unless entry_count lists (object_in d) _
     (counts-lists filters assertions _ _
     (counts-part filter_in (codes "prefixFilters") (codes "bgpsecFilters") (get (codes "validationOutputFilters") d))
     (counts-part assertion_in (codes "prefixAssertions") (codes "bgpsecAssertions") (get (codes "locallyAddedAssertions") d)))))
 
 -- ---- the whole
 
-told-within_limit : (file : Result Exceptions SlurmFault) (faults : List SlurmFault) (count : ℕ) → Told file faults → CountsFile file count → OfTree file →
+told-within_limit : (file : Result Exceptions SlurmFault) (faults : List SlurmFault) (count : ℕ) → Told file faults → Counts entry_count file count → OfTree file →
     result_err (and_then within_limit file) ≡ lowest (faults ++ fault_unless (nat_le count 4096) TooMany)
 told-within_limit (Ok file) faults count h counts low =
     rw (counts, lowest-append faults (fault_unless (nat_le count 4096) TooMany), ← h.is) (told-if (nat_le count 4096) file TooMany).is

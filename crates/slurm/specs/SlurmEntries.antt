@@ -1,5 +1,5 @@
 -- What the entries of a SLURM file say, member by member (RFC 8416 sections 3.3.1 and 3.4.1).
-use Rattle.std.specs.Prelude.{◌≡◌, ℕ, List, codes, Option, Some, None, option_and_then}
+use Rattle.std.specs.Prelude.{◌≡◌, ℕ, List, codes, Option, Some, None}
 use Rattle.std.specs.List.{AllZip}
 use Rattle.addr.specs.PrefixText.{Spells}
 use Rattle.addr.specs.declared.asn.Asn.{Asn}
@@ -8,7 +8,7 @@ use Rattle.addr.specs.declared.vrp.Vrp.{Vrp}
 use Rattle.serde_json.specs.Data.{Data, number, string, unsigned}
 use Rattle.serde_json.specs.Find.{get}
 use Rattle.slurm.specs.Exceptions.{Exceptions}
-use Rattle.slurm.specs.SlurmFaults.{array_at, items_at}
+use Rattle.slurm.specs.SlurmFaults.{entries_at}
 use Rattle.slurm.specs.declared.filter.Filter.{Filter}
 use Rattle.slurm.specs.declared.filter.Filter.TheVariants.{Under, By, Both}
 
@@ -38,10 +38,6 @@ abbrev pub SaysAssertion : Data → Vrp → Type 0
 SaysAssertion d v =
     IsPrefixMember (get (codes "prefix") d) v.prefix × IsAsnMember (get (codes "asn") d) v.asn
     × IsMaxLengthMember (get (codes "maxPrefixLength") d) v
-
--- the entries of that name in that part of the file
-abbrev pub entries_at : List ℕ → List ℕ → Data → List Data
-entries_at part entries d = items_at (option_and_then (array_at entries) (get part d))
 
 -- the file's entries, each and in order, say these filters and these assertions
 abbrev pub SaysExceptions : Option Data → Exceptions → Type 0

@@ -121,14 +121,14 @@ part_faults faults entries bgpsec d =
     ++ name_faults (entries ∷ bgpsec ∷ []) d
     ++ bgpsec_faults (array_at bgpsec d)
 
--- how many entries the array of that name in that part has
-abbrev pub entries_in_part : List ℕ → List ℕ → Data → ℕ
-entries_in_part part entries d = length (items_at (option_and_then (array_at entries) (get part d)))
+-- the entries of that name in that part of the file
+abbrev pub entries_at : List ℕ → List ℕ → Data → List Data
+entries_at part entries d = items_at (option_and_then (array_at entries) (get part d))
 
 abbrev pub file_entries : Data → ℕ
 file_entries d =
-    entries_in_part (codes "validationOutputFilters") (codes "prefixFilters") d
-    + entries_in_part (codes "locallyAddedAssertions") (codes "prefixAssertions") d
+    length (entries_at (codes "validationOutputFilters") (codes "prefixFilters") d)
+    + length (entries_at (codes "locallyAddedAssertions") (codes "prefixAssertions") d)
 
 abbrev pub file_faults : Data → List SlurmFault
 file_faults d =

@@ -71,8 +71,7 @@ filter_in d =
 abbrev pub vrp_if : (p : Prefix) (max : ℕ) (asn : Asn) → Dec (p.length ≤ max) → Dec (max ≤ width p.family) → Option Vrp
 vrp_if p max asn (yes low) (yes high) =
     Some (record { prefix = p; max = max; asn = asn; at_least_length = low; at_most_width = high })
-vrp_if p max asn (yes low) (no high) = None
-vrp_if p max asn (no low) high = None
+vrp_if p max asn _ _ = None
 
 abbrev pub vrp_with : Prefix → ℕ → Asn → Option Vrp
 vrp_with p max asn = vrp_if p max asn (dec_le p.length max) (dec_le max (width p.family))

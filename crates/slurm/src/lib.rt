@@ -9,8 +9,6 @@ mod file;
 mod filter;
 mod lists;
 mod members;
-#[cfg(test)]
-mod tests;
 
 pub use exceptions::Slurm;
 pub use fault::SlurmFault;

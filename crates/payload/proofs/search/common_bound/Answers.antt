@@ -1,6 +1,7 @@
 use Rattle.std.proofs.Common.{◌+◌, ◌-◌, ◌<◌, ◌≤◌, arith, refl, ap}
 use Rattle.addr.specs.Family.{width}
-use Rattle.payload.proofs.Prefixes.{top-fits, cut-aligned, cut-fits, first-below, round-both, round-length}
+use Rattle.addr.proofs.AddressLemmas.{first_below}
+use Rattle.payload.proofs.Prefixes.{top-fits, cut-aligned, cut-fits, round-both, round-length}
 use Rattle.payload.proofs.search.common_bound.Goals as goal
 
 pub overflow_sub-result : goal.overflow_sub-result
@@ -15,7 +16,7 @@ invariant_of-result c =
     record {
       length_fits = omega arith;
       aligned = cut-aligned c.args.low.now.first _ _ _ _ c.without_low_bits.ensures c.width.ensures fits;
-      in_family = cut-fits c.args.low.now.first _ _ _ _ c.without_low_bits.ensures c.width.ensures fits (first-below c.args.low.now);
+      in_family = cut-fits c.args.low.now.first _ _ _ _ c.without_low_bits.ensures c.width.ensures fits (first_below c.args.low.now);
     }
 
 pub returns-clause-order : goal.returns-clause-order

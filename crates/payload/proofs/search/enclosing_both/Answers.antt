@@ -1,12 +1,13 @@
 use Rattle.std.proofs.Common.{◌<◌, subst, sym}
 use Rattle.payload.proofs.Fronts.{enclosing-from_front}
 use Rattle.payload.proofs.Lengths.{none-so_short}
-use Rattle.payload.proofs.Prefixes.{apart-before, family_eq-same}
+use Rattle.payload.proofs.Prefixes.{apart-before}
+use Rattle.addr.proofs.Equality.{same_family}
 use Rattle.payload.proofs.search.enclosing_both.Goals as goal
 
 pub common_bound-bound-requires-clause-order : goal.common_bound-bound-requires-clause-order
 common_bound-bound-requires-clause-order c =
-    apart-before c.args.low.now c.args.high.now (family_eq-same _ _ (sym c.if-not-is.ensures)) c.requires.order c.requires.apart
+    apart-before c.args.low.now c.args.high.now (same_family _ _ (sym c.if-not-is.ensures)) c.requires.order c.requires.apart
 
 pub returns-then-bound-in_family : goal.returns-then-bound-in_family
 returns-then-bound-in_family c =
