@@ -108,7 +108,10 @@ fn edit_holder<S: Alter>(
 }
 
 /// Makes the change.
-pub fn make_change<S: Alter>(tx: &mut Transaction<'_, S>, change: &Change) -> Result<(), StoreFault>
+pub(crate) fn make_change<S: Alter>(
+    tx: &mut Transaction<'_, S>,
+    change: &Change,
+) -> Result<(), StoreFault>
     requires { HasCleanDisk (state S.Store tx.old.conn.now) → IsReady (state S.Store tx.old.conn.now) }
     ensures same_reference { tx.new.conn.ghost_name ≡ tx.old.conn.ghost_name }
     ensures done { HasCleanDisk (state S.Store tx.new.conn.now) → OnOk result (Turned (λ rows h. changed change.now h (rows h)) (state S.Store tx.old.conn.now) (state S.Store tx.new.conn.now)) }

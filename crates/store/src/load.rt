@@ -107,7 +107,7 @@ fn load_auths<S: Alter>(
 }
 
 /// The rows of the holder, if it is registered.
-pub fn load_rows<S: Alter>(
+pub(crate) fn load_rows<S: Alter>(
     conn: &mut Connection<S>,
     alloc: Global,
     holder: &Name,
@@ -137,7 +137,7 @@ pub fn load_rows<S: Alter>(
 }
 
 /// The VRPs of the authorizations of all holders that are in force on the day.
-pub fn load_vrps<S: Alter>(
+pub(crate) fn load_vrps<S: Alter>(
     conn: &mut Connection<S>,
     alloc: Global,
     day: Day,
