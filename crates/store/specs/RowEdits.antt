@@ -5,7 +5,7 @@ use Rattle.addr.specs.declared.span.Span.{Span}
 use Rattle.policy.specs.declared.authorization.Auth.{Auth}
 use Rattle.policy.specs.declared.grant.Granted.{Granted}
 use Rattle.policy.specs.declared.change.Edit.{Edit}
-use Rattle.policy.specs.declared.change.Edit.TheVariants.{Register, Hold, Grant, Revoke, Create, Amend, Withdraw}
+use Rattle.policy.specs.declared.change.Edit.TheVariants.{Register}
 use Rattle.policy.specs.Rows.{Rows, replaced_by}
 
 abbrev pub with_holding : Span → Rows → Rows
@@ -56,9 +56,4 @@ held spans ended r = record r { holdings = spans; auths = filter (λ x. not (lis
 
 abbrev pub is_registration : Edit → Bool
 is_registration Register = true
-is_registration (Hold holdings ended) = false
-is_registration (Grant g) = false
-is_registration (Revoke n) = false
-is_registration (Create x) = false
-is_registration (Amend x) = false
-is_registration (Withdraw n) = false
+is_registration edit = false

@@ -4,7 +4,7 @@ use Rattle.std.specs.List.{AllByRecursion}
 use Rattle.std.specs.Ordering.{is_eq}
 use Rattle.sqlite.specs.Effect.{Database}
 use Rattle.sqlite_value.specs.declared.value.Value.{Value}
-use Rattle.sqlite_value.specs.declared.value.Value.TheVariants.{Null, Int, Real, Text, Blob}
+use Rattle.sqlite_value.specs.declared.value.Value.TheVariants.{Text}
 use Rattle.sqlite_value.specs.Order.{Row, column, value_cmp}
 use Rattle.sqlite_trees.specs.Tree.{Trees}
 use Rattle.policy.specs.CharterSets.{CharterSets}
@@ -42,10 +42,7 @@ is_name_of h v = is_eq (value_cmp v (Text h))
 
 abbrev pub is_text : Value → Bool
 is_text (Text t) = true
-is_text Null = false
-is_text (Int n) = false
-is_text (Real x) = false
-is_text (Blob b) = false
+is_text v = false
 
 -- the table has the rows of every holder, in some order, and no others
 pub record HoldsPart (part : Part) (rows : List ℕ → Option Rows) (table : List Row) : Type 0 where
