@@ -3,6 +3,7 @@ use Rattle.std.proofs.Common.{◌≡◌, ◌≢◌, ℕ, pos, ◌+◌, ◌<◌, 
 use Rattle.std.proofs.lemmas.List.{map-append}
 use Rattle.std.proofs.lemmas.List.Sorted.{IsPermutation-refl, IsPermutation-trans, IsPermutation-cons, IsPermutation-middle}
 use Rattle.sqlite.specs.Effect.{Database}
+use Rattle.sqlite.proofs.InsideLemmas.{keeps_then}
 use Rattle.sqlite.specs.State.{State, HasCleanDisk, KeepsCommit, Shows, ExecutesInside}
 use Rattle.sqlite_value.specs.declared.value.Value.TheVariants.{Null, Int, Text}
 use Rattle.sqlite_value.specs.Order.{Row}
@@ -20,8 +21,9 @@ use Rattle.store.specs.Making.{IsMadeTo, Puts, HasCharter, IsNew}
 use Rattle.store.proofs.Inserting as inserting
 use Rattle.store.proofs.CellLemmas.{cast_schema, cast_prefix}
 use Rattle.store.proofs.StepLemmas.{has_schema, wrote, sound_still}
-use Rattle.store.proofs.RowSteps.{taken_more, commit_then}
-use Rattle.store.proofs.MakingSteps.{each_table, none_held}
+use Rattle.store.proofs.RowSteps.{taken_more}
+use Rattle.store.proofs.Inserting.{each_table}
+use Rattle.store.proofs.MakingSteps.{none_held}
 use Rattle.store.proofs.Texts.{put_terms, put_schema_text, put_schema_is, put_operator_text, put_operator_is, put_prefix_text, put_prefix_is}
 
 module _ (old new : State) (ready : IsReady old) (count : ℕ) where
@@ -77,7 +79,7 @@ module _ (tree : ℕ) where
       → KeepsCommit a c × Puts tree (map cells (take (i + 1) xs)) a c
   puts_along cells xs i x a b c low is before clean kept put =
       let more = ap (map cells) (taken_more xs i x low is) ∙ map-append cells (take i xs) (x ∷ []) in
-      (commit_then a b c (before clean).0 kept, subst (λ rows. Puts tree rows a c) (sym more) (puts_then (map cells (take i xs)) (cells x) a b c (before clean).1 put))
+      (keeps_then a b c (before clean).0 kept, subst (λ rows. Puts tree rows a c) (sym more) (puts_then (map cells (take i xs)) (cells x) a b c (before clean).1 put))
 
   -- rows that were put into an empty table are its rows
   first_rows : (rows : List Row) (a b : Database) → Edits tree (λ table. rows ++ table) a b → a.trees tree ≡ [] → IsPermutation rows (contents (b.trees tree))

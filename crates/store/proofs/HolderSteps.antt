@@ -9,7 +9,6 @@ use Rattle.sqlite_value.specs.declared.value.Value.TheVariants.{Null, Int, Text}
 use Rattle.sqlite_value.specs.Order.{Row, column}
 use Rattle.sqlite_trees.proofs.ListLemmas.{IsPermutation-same, filter-map}
 use Rattle.sqlite_sql.specs.Term.{Term, lit, col, eval_all}
-use Rattle.sqlite_schema.specs.declared.program.Program.{Program}
 use Rattle.sqlite_schema.specs.declared.command.Command.TheVariants.{Update, Insert, Select}
 use Rattle.sqlite_schema.specs.declared.command.Source.TheVariants.{Values}
 use Rattle.sqlite_schema.specs.declared.schema.Kind.TheVariants.{Integer, Text as Words}
@@ -30,7 +29,7 @@ use Rattle.store.proofs.PartLemmas.{names, name_of-true, name_of_itself, put_loc
 use Rattle.store.proofs.StepLemmas.{column_after, has_schema, wrote, done_by, edits_holder, charter_still, sound_still, turned_still}
 use Rattle.store.proofs.QueryLemmas.{shown_open, answered_inside}
 use Rattle.store.proofs.HoldingSteps.{holder_test}
-use Rattle.store.proofs.Texts.{equals, put_holder_text, put_holder_is, counters_text, counters_is, set_grants_text, set_grants_is, set_auths_text, set_auths_is}
+use Rattle.store.proofs.Texts.{equals, put_holder_text, put_holder_is, counters_text, counters_query, counters_is, set_grants_text, set_grants_is, set_auths_text, set_auths_is}
 
 abbrev grants_sets : List Term
 grants_sets = col 1 1 ∷ col 0 1 ∷ col 1 3 ∷ []
@@ -110,9 +109,6 @@ module _ (h : List ℕ) (old new : State) (ready : IsReady old) where
           whole = sound_still holder_part.tree _ old.now new.now e was.whole;
         };
       }
-
-  abbrev pub counters_query : Program
-  counters_query = record { lets = []; body = from_table 6 (equals 1 0 ∷ []) (col 1 2 ∷ col 1 3 ∷ []) [] no_limit }
 
   -- as many rows are found as the holder has in its table
   found : (rows : List Row) (charter : CharterSets) (all : List ℕ → Option Rows) → old.now.schema ≡ desk_schema → Shown counters_text (Text h ∷ []) old new rows → TablesHold charter all old.now.trees → length rows ≡ length (rows_if_any holder_part h (all h))
