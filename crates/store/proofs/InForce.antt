@@ -1,5 +1,5 @@
 -- The authorizations of all holders that are in force on a day.
-use Rattle.std.proofs.Common.{◌≡◌, ◌↔◌, ℕ, pos, false, ◌&&◌, List, [], ◌∷◌, filter, drop, Contains, Option, Result, IfOk, IsTrue, nat_le, codes, refl, sym, ap, subst, ◌∙◌, IsPermutation}
+use Rattle.std.proofs.Common.{◌≡◌, ◌↔◌, ℕ, pos, false, ◌&&◌, List, [], ◌∷◌, filter, drop, Contains, Option, Result, IfOk, IsTrue, nat_le, refl, sym, ap, subst, ◌∙◌, IsPermutation}
 use Rattle.std.proofs.lemmas.Bool.{and_parts, and_from, leb-true, le-leb}
 use Rattle.std.proofs.lemmas.List.Sorted.{IsPermutation-sym}
 use Rattle.std.proofs.lemmas.Result.{IfOk-weaker}
@@ -11,7 +11,6 @@ use Rattle.sqlite_value.specs.declared.value.Value.TheVariants.{Null}
 use Rattle.sqlite_value.specs.Order.{Row}
 use Rattle.sqlite_sql.specs.declared.ops.CompareOp.TheVariants.{Le, Ge}
 use Rattle.sqlite_sql.specs.Term.{eval_all}
-use Rattle.sqlite_schema.specs.declared.command.Command.TheVariants.{Select}
 use Rattle.sqlite_rules.proofs.ListLemmas.{has_filtered, has_kept, has_contained, contains_had}
 use Rattle.sqlite_rules.proofs.ProbeLemmas.{mapped_has, has_mapped}
 use Rattle.sqlite_typed.proofs.TestLemmas.{at_ints, then_term, last_term}
@@ -26,7 +25,7 @@ use Rattle.store.proofs.SomeRow.{has_permuted, of_some, in_table}
 use Rattle.store.proofs.Selecting.{picks, permuted}
 use Rattle.store.proofs.Finding.{shown_at, shown_columns, of_contents}
 use Rattle.store.proofs.QueryLemmas.{shown_open}
-use Rattle.store.proofs.Texts.{in_force_tests, in_force_text, in_force_query, in_force_is}
+use Rattle.store.proofs.Texts.{in_force_tests, in_force_text, in_force_is}
 
 abbrev payload_places : List ℕ
 payload_places = 2 ∷ 3 ∷ 4 ∷ 5 ∷ 6 ∷ []
@@ -39,7 +38,7 @@ module _ (day : ℕ) (old new : State) (has : IsTrue old.is_open → old.now.sch
   finds_in_force : (rows : List Row) → Shown in_force_text (number_cell day ∷ []) old new rows → FindsInForce day old.now rows
   finds_in_force rows shown =
       let params = number_cell day ∷ [] in
-      let read = reads_as in_force_text params old new desk_schema (has (shown_open in_force_text params old new rows shown)) (Select in_force_query (codes "asn" ∷ codes "family" ∷ codes "lo" ∷ codes "len" ∷ codes "max" ∷ [])) in_force_is.is in_force_is.plain in_force_is.unlisted rows shown in
+      let read = reads_as in_force_text params old new desk_schema (has (shown_open in_force_text params old new rows shown)) _ in_force_is.is in_force_is.plain in_force_is.unlisted rows shown in
       let same = of_contents (λ r. eval_all (shown_at payload_places) (params ∷ r ∷ [])) (columns payload_places) (picks params in_force_tests) (is_open_on day) (shown_columns payload_places params) (columns_alone day) (old.now.trees 12) in
       subst (λ l. IsPermutation l rows) same (permuted 12 in_force_tests (shown_at payload_places) [] old.now.trees params rows (read.answer Null))
 

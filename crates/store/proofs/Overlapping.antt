@@ -1,5 +1,5 @@
 -- Whether a run of some holder shares an address with a prefix.
-use Rattle.std.proofs.Common.{◌≡◌, ◌↔◌, ℕ, suc, pos, ◌-◌, ◌^◌, ◌<◌, ◌==◌, Bool, true, false, not, ◌||◌, cond, List, [], ◌∷◌, filter, drop, length, take, Option, IsTrue, nat_le, is_le, nat_cmp, int_eq, codes, refl, sym, ap, subst, ◌∙◌, arith, pow_pos}
+use Rattle.std.proofs.Common.{◌≡◌, ◌↔◌, ℕ, suc, pos, ◌-◌, ◌^◌, ◌<◌, ◌==◌, Bool, true, false, not, ◌||◌, cond, List, [], ◌∷◌, filter, drop, length, take, Option, IsTrue, nat_le, is_le, nat_cmp, int_eq, refl, sym, ap, subst, ◌∙◌, arith, pow_pos}
 use Rattle.std.specs.List.{list_any}
 use Rattle.std.proofs.lemmas.Bool.Decides.{nat_tests}
 use Rattle.sqlite.specs.State.{State, Shown}
@@ -11,7 +11,6 @@ use Rattle.sqlite_sql.specs.declared.ops.CompareOp.TheVariants.{Eq, Le, Ge}
 use Rattle.sqlite_sql.specs.declared.ops.BinaryOp.TheVariants.{Compare}
 use Rattle.sqlite_sql.specs.Ops.{binary, is_true}
 use Rattle.sqlite_sql.specs.Term.{lit}
-use Rattle.sqlite_schema.specs.declared.command.Command.TheVariants.{Select}
 use Rattle.sqlite_rules.proofs.ListLemmas.{some_has, some_from}
 use Rattle.sqlite_rules.proofs.ProbeLemmas.{mapped_has, has_mapped}
 use Rattle.sqlite_typed.proofs.TestLemmas.{at_ints, at_blobs, then_term, last_term}
@@ -33,7 +32,7 @@ use Rattle.store.proofs.Addresses.{addresses_in_order}
 use Rattle.store.proofs.SomeRow.{of_some, in_table}
 use Rattle.store.proofs.Selecting.{picks, first_shown}
 use Rattle.store.proofs.QueryLemmas.{shown_open}
-use Rattle.store.proofs.Texts.{overlap_tests, overlap_text, overlap_query, overlap_is}
+use Rattle.store.proofs.Texts.{overlap_tests, overlap_text, overlap_is}
 
 same_family : (f g : Family) → int_eq (pos (family_number f)) (pos (family_number g)) ≡ family_eq f g
 same_family V4 V4 = refl
@@ -105,7 +104,7 @@ module _ (p : Prefix) (old new : State) (has : IsTrue old.is_open → old.now.sc
   not_empty : not (length rows == 0) ≡ list_any (overlaps p) (contents (old.now.trees 8))
   not_empty =
       let of_run = subst (λ v. Shown overlap_text v old new rows) is shown in
-      let read = reads_as overlap_text (run_params p) old new desk_schema (has (shown_open overlap_text (run_params p) old new rows of_run)) (Select overlap_query (codes "1" ∷ [])) overlap_is.is overlap_is.plain overlap_is.unlisted rows of_run in
+      let read = reads_as overlap_text (run_params p) old new desk_schema (has (shown_open overlap_text (run_params p) old new rows of_run)) _ overlap_is.is overlap_is.plain overlap_is.unlisted rows of_run in
       let first = first_shown 8 overlap_tests (lit (Int (pos 1)) ∷ []) old.now.trees (run_params p) rows (read.answer Null) in
       ap not (ap (λ l. length l == 0) first.2 ∙ one_or_none first.0 _ first.1) ∙ some_pass (picks (run_params p) overlap_tests) (overlaps p) (columns_alone p) (old.now.trees 8)
 

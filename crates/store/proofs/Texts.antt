@@ -3,7 +3,6 @@ use Rattle.std.proofs.Common.{◌≡◌, ℕ, zero, suc, pos, List, [], ◌∷�
 use Rattle.sqlite_value.specs.declared.keys.Collation.TheVariants.{Binary}
 use Rattle.sqlite_value.specs.declared.keys.Key.{Key}
 use Rattle.sqlite_value.specs.declared.value.Value.TheVariants.{Null, Int, Text}
-use Rattle.sqlite_schema.specs.declared.program.Program.{Program}
 use Rattle.sqlite_schema.specs.declared.command.Source.TheVariants.{Values}
 use Rattle.sqlite_schema.specs.declared.command.Command.{Command}
 use Rattle.sqlite_schema.specs.declared.command.Command.TheVariants.{Insert, Update, Delete, Select}
@@ -135,10 +134,7 @@ amend_is = record { is = refl; plain = (refl, refl); unlisted = refl }
 abbrev pub counters_text : List ℕ
 counters_text = codes "SELECT grants, auths FROM holder WHERE name = ?1"
 
-abbrev pub counters_query : Program
-counters_query = record { lets = []; body = from_table 6 (equals 1 0 ∷ []) (col 1 2 ∷ col 1 3 ∷ []) [] no_limit }
-
-pub counters_is : Means counters_text (Select counters_query (codes "grants" ∷ codes "auths" ∷ []))
+pub counters_is : Means counters_text (Select (record { lets = []; body = from_table 6 (equals 1 0 ∷ []) (col 1 2 ∷ col 1 3 ∷ []) [] no_limit }) (codes "grants" ∷ codes "auths" ∷ []))
 unfolding understood everything
 counters_is = record { is = refl; plain = (refl, refl); unlisted = refl }
 
@@ -170,10 +166,7 @@ overlap_tests = equals 1 0 ∷ op2 (Compare Le Binary) (col 1 2) (col 0 2) ∷ o
 abbrev pub overlap_text : List ℕ
 overlap_text = codes "SELECT 1 FROM holding WHERE family = ?1 AND lo <= ?3 AND hi >= ?2 LIMIT 1"
 
-abbrev pub overlap_query : Program
-overlap_query = record { lets = []; body = from_table 8 overlap_tests (lit (Int (pos 1)) ∷ []) [] (lit (Int (pos 1))) }
-
-pub overlap_is : Means overlap_text (Select overlap_query (codes "1" ∷ []))
+pub overlap_is : Means overlap_text (Select (record { lets = []; body = from_table 8 overlap_tests (lit (Int (pos 1)) ∷ []) [] (lit (Int (pos 1))) }) (codes "1" ∷ []))
 unfolding understood everything
 overlap_is = record { is = refl; plain = (refl, refl); unlisted = refl }
 
@@ -184,9 +177,6 @@ in_force_tests = op2 (Compare Le Binary) (col 1 8) (col 0 0) ∷ op2 (Compare Ge
 abbrev pub in_force_text : List ℕ
 in_force_text = codes "SELECT asn, family, lo, len, max FROM auth WHERE opens <= ?1 AND ends >= ?1"
 
-abbrev pub in_force_query : Program
-in_force_query = record { lets = []; body = from_table 12 in_force_tests (col 1 3 ∷ col 1 4 ∷ col 1 5 ∷ col 1 6 ∷ col 1 7 ∷ []) [] no_limit }
-
-pub in_force_is : Means in_force_text (Select in_force_query (codes "asn" ∷ codes "family" ∷ codes "lo" ∷ codes "len" ∷ codes "max" ∷ []))
+pub in_force_is : Means in_force_text (Select (record { lets = []; body = from_table 12 in_force_tests (col 1 3 ∷ col 1 4 ∷ col 1 5 ∷ col 1 6 ∷ col 1 7 ∷ []) [] no_limit }) (codes "asn" ∷ codes "family" ∷ codes "lo" ∷ codes "len" ∷ codes "max" ∷ []))
 unfolding understood everything
 in_force_is = record { is = refl; plain = (refl, refl); unlisted = refl }
