@@ -56,20 +56,20 @@ name_kept h x c is = let named = name_of-true h (column c 0) (of_holder h x.numb
 module _ (h : List ℕ) (old new : State) (ready : IsReady old) (count : ℕ) where
   pub put_auth_done : (x : Auth) → ExecutesInside 0 put_auth_text (auth_row h x) old new (Ok count) → Done h (with_auth x) old new
   put_auth_done x ran =
-      let w = wrote put_auth_text (auth_row h x) _ put_auth_is old new ready count ran in
-      let has = has_schema put_auth_text (auth_row h x) _ put_auth_is old new ready count ran in
+      let w = wrote (auth_row h x) put_auth_is ready count ran in
+      let has = has_schema (auth_row h x) put_auth_is ready count ran in
       let e = inserting.puts 6 auth.name 12 auth.columns auth.primary auth.uniques auth.orders auth.references refl (put_terms 9) 10 (auth_row h x) old new _ (auth_row h x) count has refl (cast_auth h x) w in
-      done_by put_auth_text (auth_row h x) _ put_auth_is old new ready count ran h (with_auth x) (e.schema ∙ has)
+      done_by (auth_row h x) put_auth_is ready count ran h (with_auth x) (e.schema ∙ has)
       (edits_auths h (with_auth x) (λ rows. auth_row h x ∷ rows) old.now new.now e (put_local 0 h (auth_row h x) refl) (λ r. appended (auth_row h) r.auths x) (λ r. refl) (λ r. refl) (λ r. refl))
 
   pub take_auth_done : (n : ℕ) → ExecutesInside 0 take_auth_text (Text h ∷ number_cell n ∷ []) old new (Ok count) → Done h (without_auth n) old new
   take_auth_done n ran =
       let params : Row = Text h ∷ number_cell n ∷ [] in
       let tests = equals 1 0 ∷ equals 2 1 ∷ [] in
-      let w = wrote take_auth_text params _ take_auth_is old new ready count ran in
-      let has = has_schema take_auth_text params _ take_auth_is old new ready count ran in
+      let w = wrote params take_auth_is ready count ran in
+      let has = has_schema params take_auth_is ready count ran in
       let keeps = (deleting.applied 6 auth.name 12 auth.columns auth.primary auth.uniques auth.orders auth.references refl tests old new _ params count has w).2 in
-      done_by take_auth_text params _ take_auth_is old new ready count ran h (without_auth n) keeps (λ charter rows was some.
+      done_by params take_auth_is ready count ran h (without_auth n) keeps (λ charter rows was some.
       edits_auths h (without_auth n) (filter (λ c. not (is_of h n c))) old.now new.now
       (deleting.takes 6 auth.name 12 auth.columns auth.primary auth.uniques auth.orders auth.references refl tests (is_of h n) old new _ params count has (of_tests h n []) (was.whole 12 refl) w)
       (take_local 0 h (is_of h n) (of_holder h n)) (λ r. IsPermutation-same _ _ (taken r.auths)) (λ r. refl) (λ r. refl) (λ r. refl) charter rows was some)
@@ -81,10 +81,10 @@ module _ (h : List ℕ) (old new : State) (ready : IsReady old) (count : ℕ) wh
   amend_auth_done x ran =
       let params = auth_row h x in
       let tests = equals 1 0 ∷ equals 2 1 ∷ [] in
-      let w = wrote amend_text params _ amend_is old new ready count ran in
-      let has = has_schema amend_text params _ amend_is old new ready count ran in
+      let w = wrote params amend_is ready count ran in
+      let has = has_schema params amend_is ready count ran in
       let keeps = (updating.applied 6 auth.name 12 auth.columns auth.primary auth.uniques auth.orders auth.references refl tests amend_sets old new _ params count has w).2 in
-      done_by amend_text params _ amend_is old new ready count ran h (with_amended x) keeps (λ charter rows was some.
+      done_by params amend_is ready count ran h (with_amended x) keeps (λ charter rows was some.
       edits_auths h (with_amended x) (map (changed_if (is_of h x.number) (amended_row x))) old.now new.now
       (updating.changes 6 auth.name 12 auth.columns auth.primary auth.uniques auth.orders auth.references refl tests amend_sets (is_of h x.number) (amended_row x) old new _ params count has
       (of_tests h x.number (drop 1 (auth_cells x))) (amends h x) (was.whole 12 refl) w)

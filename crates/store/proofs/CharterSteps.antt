@@ -28,22 +28,22 @@ module _ (old new : State) (ready : IsReady old) (count : ℕ) where
   pub put_schema_done : ExecutesInside 0 put_schema_text [] old new (Ok count) → Puts meta.tree (schema_row ∷ []) old new
   put_schema_done ran =
       let terms = lit Null ∷ lit (Text (codes "schema")) ∷ lit (Int (pos 1)) ∷ [] in
-      let w = wrote put_schema_text [] _ put_schema_is old new ready count ran in
-      let has = has_schema put_schema_text [] _ put_schema_is old new ready count ran in
+      let w = wrote [] put_schema_is ready count ran in
+      let has = has_schema [] put_schema_is ready count ran in
       let e = inserting.puts 0 meta.name 0 meta.columns meta.primary meta.uniques meta.orders meta.references refl terms 3 schema_row old new _ [] count has refl cast_schema w in
       record { ready = record { schema = λ _. e.schema ∙ has; inside = ran.1.mode }; edits = e }
 
   pub put_operator_done : (name : List ℕ) → ExecutesInside 0 put_operator_text (operator_row name) old new (Ok count) → Puts operator.tree (operator_row name ∷ []) old new
   put_operator_done name ran =
-      let w = wrote put_operator_text (operator_row name) _ put_operator_is old new ready count ran in
-      let has = has_schema put_operator_text (operator_row name) _ put_operator_is old new ready count ran in
+      let w = wrote (operator_row name) put_operator_is ready count ran in
+      let has = has_schema (operator_row name) put_operator_is ready count ran in
       let e = inserting.puts 1 operator.name 2 operator.columns operator.primary operator.uniques operator.orders operator.references refl (put_terms 1) 2 (operator_row name) old new _ (operator_row name) count has refl refl w in
       record { ready = record { schema = λ _. e.schema ∙ has; inside = ran.1.mode }; edits = e }
 
   pub put_prefix_done : (p : Prefix) → ExecutesInside 0 put_prefix_text (prefix_cells p) old new (Ok count) → Puts pool.tree (prefix_cells p ∷ []) old new
   put_prefix_done p ran =
-      let w = wrote put_prefix_text (prefix_cells p) _ put_prefix_is old new ready count ran in
-      let has = has_schema put_prefix_text (prefix_cells p) _ put_prefix_is old new ready count ran in
+      let w = wrote (prefix_cells p) put_prefix_is ready count ran in
+      let has = has_schema (prefix_cells p) put_prefix_is ready count ran in
       let e = inserting.puts 2 pool.name 4 pool.columns pool.primary pool.uniques pool.orders pool.references refl (put_terms 3) 4 (prefix_cells p) old new _ (prefix_cells p) count has refl (cast_prefix p) w in
       record { ready = record { schema = λ _. e.schema ∙ has; inside = ran.1.mode }; edits = e }
 

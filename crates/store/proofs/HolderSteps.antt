@@ -54,10 +54,10 @@ module _ (h : List ℕ) (old new : State) (ready : IsReady old) (count : ℕ) (n
 
   pub set_grants_done : ExecutesInside 0 set_grants_text params old new (Ok count) → Done h (with_granted n) old new
   set_grants_done ran =
-      let w = wrote set_grants_text params _ set_grants_is old new ready count ran in
-      let has = has_schema set_grants_text params _ set_grants_is old new ready count ran in
+      let w = wrote params set_grants_is ready count ran in
+      let has = has_schema params set_grants_is ready count ran in
       let keeps = (updating.applied 3 holder.name 6 holder.columns holder.primary holder.uniques holder.orders holder.references refl tests grants_sets old new _ params count has w).2 in
-      done_by set_grants_text params _ set_grants_is old new ready count ran h (with_granted n) keeps (λ charter rows was some.
+      done_by params set_grants_is ready count ran h (with_granted n) keeps (λ charter rows was some.
       edits_holder h (with_granted n) (map (changed_if (names 0 h) (granted_set n))) old.now new.now
       (updating.changes 3 holder.name 6 holder.columns holder.primary holder.uniques holder.orders holder.references refl tests grants_sets (names 0 h) (granted_set n) old new _ params count has
       (holder_test 0 h (number_cell n ∷ [])) sets (was.whole 6 refl) w)
@@ -71,10 +71,10 @@ module _ (h : List ℕ) (old new : State) (ready : IsReady old) (count : ℕ) (n
 
   pub set_auths_done : ExecutesInside 0 set_auths_text params old new (Ok count) → Done h (with_created n) old new
   set_auths_done ran =
-      let w = wrote set_auths_text params _ set_auths_is old new ready count ran in
-      let has = has_schema set_auths_text params _ set_auths_is old new ready count ran in
+      let w = wrote params set_auths_is ready count ran in
+      let has = has_schema params set_auths_is ready count ran in
       let keeps = (updating.applied 3 holder.name 6 holder.columns holder.primary holder.uniques holder.orders holder.references refl tests auths_sets old new _ params count has w).2 in
-      done_by set_auths_text params _ set_auths_is old new ready count ran h (with_created n) keeps (λ charter rows was some.
+      done_by params set_auths_is ready count ran h (with_created n) keeps (λ charter rows was some.
       edits_holder h (with_created n) (map (changed_if (names 0 h) (created_set n))) old.now new.now
       (updating.changes 3 holder.name 6 holder.columns holder.primary holder.uniques holder.orders holder.references refl tests auths_sets (names 0 h) (created_set n) old new _ params count has
       (holder_test 0 h (number_cell n ∷ [])) sets (was.whole 6 refl) w)
@@ -90,8 +90,8 @@ module _ (h : List ℕ) (old new : State) (ready : IsReady old) where
   pub register_done : (count : ℕ) → ExecutesInside 0 put_holder_text (Text h ∷ []) old new (Ok count) → Registers h old new
   register_done count ran =
       let terms = lit Null ∷ col 0 0 ∷ lit (Int (pos 0)) ∷ lit (Int (pos 0)) ∷ [] in
-      let w = wrote put_holder_text (Text h ∷ []) _ put_holder_is old new ready count ran in
-      let has = has_schema put_holder_text (Text h ∷ []) _ put_holder_is old new ready count ran in
+      let w = wrote (Text h ∷ []) put_holder_is ready count ran in
+      let has = has_schema (Text h ∷ []) put_holder_is ready count ran in
       let e = inserting.puts 3 holder.name 6 holder.columns holder.primary holder.uniques holder.orders holder.references refl terms 4 (holder_row h 0 0) old new _ (Text h ∷ []) count has refl (cast_holder h 0 0) w in
       record {
         ready = record { schema = λ _. e.schema ∙ has; inside = ran.1.mode };

@@ -26,20 +26,20 @@ holder_test place h more r = last_term (equals_text (column r (suc place)) h ∙
 module _ (h : List ℕ) (old new : State) (ready : IsReady old) (count : ℕ) where
   pub put_holding_done : (s : Span) → ExecutesInside 0 put_holding_text (holding_row h s) old new (Ok count) → Done h (with_holding s) old new
   put_holding_done s ran =
-      let w = wrote put_holding_text (holding_row h s) _ put_holding_is old new ready count ran in
-      let has = has_schema put_holding_text (holding_row h s) _ put_holding_is old new ready count ran in
+      let w = wrote (holding_row h s) put_holding_is ready count ran in
+      let has = has_schema (holding_row h s) put_holding_is ready count ran in
       let e = inserting.puts 4 holding.name 8 holding.columns holding.primary holding.uniques holding.orders holding.references refl (put_terms 4) 5 (holding_row h s) old new _ (holding_row h s) count has refl (cast_holding h s) w in
-      done_by put_holding_text (holding_row h s) _ put_holding_is old new ready count ran h (with_holding s) (e.schema ∙ has)
+      done_by (holding_row h s) put_holding_is ready count ran h (with_holding s) (e.schema ∙ has)
       (edits_holdings h (with_holding s) (λ rows. holding_row h s ∷ rows) old.now new.now e (put_local 3 h (holding_row h s) refl) (λ r. appended (holding_row h) r.holdings s) (λ r. refl) (λ r. refl) (λ r. refl))
 
   pub take_holdings_done : ExecutesInside 0 take_holdings_text (Text h ∷ []) old new (Ok count) → Done h without_holdings old new
   take_holdings_done ran =
       let params : Row = Text h ∷ [] in
       let tests = equals 4 0 ∷ [] in
-      let w = wrote take_holdings_text params _ take_holdings_is old new ready count ran in
-      let has = has_schema take_holdings_text params _ take_holdings_is old new ready count ran in
+      let w = wrote params take_holdings_is ready count ran in
+      let has = has_schema params take_holdings_is ready count ran in
       let keeps = (deleting.applied 4 holding.name 8 holding.columns holding.primary holding.uniques holding.orders holding.references refl tests old new _ params count has w).2 in
-      done_by take_holdings_text params _ take_holdings_is old new ready count ran h without_holdings keeps (λ charter rows was some.
+      done_by params take_holdings_is ready count ran h without_holdings keeps (λ charter rows was some.
       edits_holdings h without_holdings (filter (λ c. not (names 3 h c))) old.now new.now
       (deleting.takes 4 holding.name 8 holding.columns holding.primary holding.uniques holding.orders holding.references refl tests (names 3 h) old new _ params count has (holder_test 3 h []) (was.whole 8 refl) w)
       (take_local 3 h (names 3 h) (λ c is. is)) (λ r. IsPermutation-same _ _ (none r.holdings)) (λ r. refl) (λ r. refl) (λ r. refl) charter rows was some)

@@ -22,13 +22,13 @@ use Rattle.policy.specs.declared.rows.HolderRows.{HolderRows}
 use Rattle.policy.specs.Rows.{Rows}
 use Rattle.store.specs.Cells.{number_cell, counter_cells}
 use Rattle.store.specs.Edits.{contents}
-use Rattle.store.specs.TablesHold.{HoldsPart, TablesHold}
-use Rattle.store.specs.Queries.{View, columns, by_column, cells_if_any, Finds}
+use Rattle.store.specs.TablesHold.{items_if_any, HoldsPart, TablesHold}
+use Rattle.store.specs.Queries.{View, columns, by_column, Finds}
 use Rattle.store.specs.declared.decode.Counters.{Counters}
 use Rattle.store.specs.Decode.{IsU32, GrantFits, AuthFits}
 use Rattle.store.specs.declared.fault.StoreFault.{StoreFault}
 use Rattle.store.specs.declared.fault.StoreFault.TheVariants.{Schema}
-use Rattle.store.specs.Loads.{items_if_any, AreInOrder, HaveSame, AreCounters, AreLoaded, FitIfAny, IsOf}
+use Rattle.store.specs.Loads.{AreInOrder, HaveSame, AreCounters, AreLoaded, FitIfAny, IsOf}
 use Rattle.store.proofs.CellsOnce.{values_shown}
 use Rattle.store.proofs.Finding.{cells_found, none_in}
 use Rattle.store.proofs.ReadLemmas.{all_show}
@@ -36,7 +36,7 @@ use Rattle.store.proofs.RowSteps.{taken_more}
 
 module _ {X : Type 0} (v : View) (items : Rows → List X) (cells : X → Row) (is_cells : (r : Rows) → v.cells r ≡ map cells (items r)) (shows : (h : List ℕ) (r : Rows) → map (columns v.places) (v.part.rows h r) ≡ v.cells r)
     (all : List ℕ → Option Rows) (h : List ℕ) (db : Database) (rows : List Row) (holds : HoldsPart v.part all (contents (db.trees v.part.tree))) (found : Finds v h db rows) where
-  cells_of_any : (o : Option Rows) → cells_if_any v o ≡ map cells (items_if_any items o)
+  cells_of_any : (o : Option Rows) → items_if_any v.cells o ≡ map cells (items_if_any items o)
   cells_of_any None = refl
   cells_of_any (Some r) = is_cells r
 

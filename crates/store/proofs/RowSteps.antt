@@ -1,6 +1,7 @@
 -- Steps of edits of a holder's rows, one after another.
 use Rattle.std.proofs.Common.{◌≡◌, ℕ, Bool, true, false, cond, not, ◌||◌, ◌==◌, List, [], ◌∷◌, ◌++◌, filter, Option, Some, None, option_map, is_some, if◌then◌else◌, IsSome, ◌+◌, ◌<◌, length, take, get_or, refl, sym, ap, subst, ◌∙◌, append-nil, append_assoc}
 use Rattle.std.proofs.Math.Bool.{or-false}
+use Rattle.std.proofs.lemmas.Bool.{cond-true, cond-false}
 use Rattle.std.proofs.lemmas.List.{take_more}
 use Rattle.std.proofs.lemmas.List.Folds.{list_any-append}
 use Rattle.sqlite.proofs.InsideLemmas.{keeps_then}
@@ -119,23 +120,14 @@ module _ (h : List ℕ) (edit : Edit) where
   none_there None is = refl
   none_there (Some r) is = absurd cc
 
-  registering : (e : Edit) → is_registration e ≡ true → Some new_rows ≡ edited_if_any e None
-  registering Register is = refl
-  registering (Hold holdings ended) is = absurd cc
-  registering (Grant g) is = absurd cc
-  registering (Revoke n) is = absurd cc
-  registering (Create x) is = absurd cc
-  registering (Amend x) is = absurd cc
-  registering (Withdraw n) is = absurd cc
-
-  leaving : (e : Edit) → is_registration e ≡ false → None ≡ edited_if_any e None
-  leaving Register is = absurd cc
-  leaving (Hold holdings ended) is = refl
-  leaving (Grant g) is = refl
-  leaving (Revoke n) is = refl
-  leaving (Create x) is = refl
-  leaving (Amend x) is = refl
-  leaving (Withdraw n) is = refl
+  from_none : (e : Edit) → edited_if_any e None ≡ (if is_registration e then Some new_rows else None)
+  from_none Register = refl
+  from_none (Hold holdings ended) = refl
+  from_none (Grant g) = refl
+  from_none (Revoke n) = refl
+  from_none (Create x) = refl
+  from_none (Amend x) = refl
+  from_none (Withdraw n) = refl
 
   pub turned_new : (told : Bool) (a b c : State) → Tells h told a b → told ≡ false → is_registration edit ≡ true → Registers h b c → Turned edited_at a c
   turned_new told a b c tells is registers done = record {
@@ -143,7 +135,7 @@ module _ (h : List ℕ) (edit : Edit) where
     ready = done.ready;
     rows = λ charter rows was.
         let none = none_there (rows h) (sym (tells.answer charter rows was) ∙ is) in
-        same_rows charter (registered h rows) (edited_at rows) c.now.trees (at_name (λ _. Some new_rows) rows (registering edit registers ∙ ap (edited_if_any edit) (sym none)))
+        same_rows charter (registered h rows) (edited_at rows) c.now.trees (at_name (λ _. Some new_rows) rows (sym (from_none edit ∙ cond-true _ _ _ registers) ∙ ap (edited_if_any edit) (sym none)))
         (done.rows charter rows (subst (λ (d : Database). TablesHold charter rows d.trees) (sym tells.same) was) none);
   }
 
@@ -153,7 +145,7 @@ module _ (h : List ℕ) (edit : Edit) where
     ready = tells.ready;
     rows = λ charter rows was.
         let none = none_there (rows h) (sym (tells.answer charter rows was) ∙ is) in
-        same_rows charter rows (edited_at rows) b.now.trees (λ k. kept (same_name h k) (rows k) ∙ at_name (λ o. o) rows (none ∙ leaving edit leaves ∙ ap (edited_if_any edit) (sym none)) k)
+        same_rows charter rows (edited_at rows) b.now.trees (λ k. kept (same_name h k) (rows k) ∙ at_name (λ o. o) rows (none ∙ sym (from_none edit ∙ cond-false _ _ _ leaves) ∙ ap (edited_if_any edit) (sym none)) k)
         (subst (λ (d : Database). TablesHold charter rows d.trees) (sym tells.same) was);
   }
     where

@@ -50,7 +50,7 @@ pub column_after : (r : Row) (at : ℕ) → column r (suc at) ≡ column (drop 1
 column_after [] at = refl
 column_after (v ∷ r) at = refl
 
-module _ (sql : List ℕ) (params : Row) (command : Command) (means : Means sql command) (old new : State) (ready : IsReady old) (count : ℕ) (h : ExecutesInside 0 sql params old new (Ok count)) where
+module _ {sql : List ℕ} (params : Row) {command : Command} (means : Means sql command) {old new : State} (ready : IsReady old) (count : ℕ) (h : ExecutesInside 0 sql params old new (Ok count)) where
   pub has_schema : old.now.schema ≡ desk_schema
   has_schema = ready.schema h.1.was_open
 

@@ -42,18 +42,10 @@ with_granted n r = record r { granted = n }
 abbrev pub with_created : ℕ → Rows → Rows
 with_created n r = record r { created = n }
 
--- a grant is made, and counted
-abbrev pub granted_more : Granted → Rows → Rows
-granted_more g r = record r { grants = r.grants ++ g ∷ []; granted = g.number }
-
--- an authorization is made, and counted
-abbrev pub created_more : Auth → Rows → Rows
-created_more x r = record r { auths = r.auths ++ x ∷ []; created = x.number }
-
 -- other runs are held, and these authorizations end
 abbrev pub held : List Span → List ℕ → Rows → Rows
 held spans ended r = record r { holdings = spans; auths = filter (λ x. not (list_any (λ n. x.number == n) ended)) r.auths }
 
 abbrev pub is_registration : Edit → Bool
 is_registration Register = true
-is_registration edit = false
+is_registration _ = false
