@@ -34,11 +34,11 @@ use Rattle.store.proofs.Selecting.{picks, first_shown}
 use Rattle.store.proofs.QueryLemmas.{shown_open}
 use Rattle.store.proofs.Texts.{overlap_tests, overlap_text, overlap_is}
 
-same_family : (f g : Family) → int_eq (pos (family_number f)) (pos (family_number g)) ≡ family_eq f g
-same_family V4 V4 = refl
-same_family V4 V6 = refl
-same_family V6 V4 = refl
-same_family V6 V6 = refl
+family_tested : (f g : Family) → int_eq (pos (family_number f)) (pos (family_number g)) ≡ family_eq f g
+family_tested V4 V4 = refl
+family_tested V4 V6 = refl
+family_tested V6 V4 = refl
+family_tested V6 V6 = refl
 
 le_is : (a b : ℕ) → is_le (nat_cmp a b) ≡ nat_le a b
 le_is a b = grind (arith, nat_tests)
@@ -68,7 +68,7 @@ overlaps_run p h s =
     let begins : p.first < 2 ^ 128 = below_widest p.family p.first (first_below p) in
     let high : s.hi < 2 ^ 128 = below_widest s.family s.hi s.in_family in
     let low : s.lo < 2 ^ 128 = omega (arith, s.ordered, high) in
-    then_term (at_ints false Eq (pos (family_number s.family)) (pos (family_number p.family)) ∙ same_family s.family p.family)
+    then_term (at_ints false Eq (pos (family_number s.family)) (pos (family_number p.family)) ∙ family_tested s.family p.family)
     (then_term (address_le s.lo (last_of p) low ends) (last_term (address_ge s.hi p.first high begins)))
 
 not_zero : (m : ℕ) → (suc m == 0) ≡ false
