@@ -7,12 +7,12 @@ use Rattle.std.proofs.lemmas.Nat.{div-mul-add, mod-mul-add}
 use Rattle.std.proofs.lemmas.List.{take_all}
 use Rattle.store.specs.Cells.{address}
 
-powers_positive : (k : ℕ) → 0 < 256 ^ k
+pub powers_positive : (k : ℕ) → 0 < 256 ^ k
 powers_positive zero = omega arith
 powers_positive (suc k) = let more : 256 ^ suc k ≡ 256 * 256 ^ k = pow-succ' 256 k in omega (arith, powers_positive k, more)
 
 -- the byte at place k, whatever k is
-byte_is : (k n : ℕ) → byte_at k n ≡ n / 256 ^ k % 256
+pub byte_is : (k n : ℕ) → byte_at k n ≡ n / 256 ^ k % 256
 byte_is zero n = grind arith
 byte_is (suc k) n = refl
 

@@ -1,5 +1,5 @@
 -- The order of addresses as bytes is the order of their numbers.
-use Rattle.std.proofs.Common.{◌≡◌, ℕ, zero, suc, ◌+◌, ◌-◌, ◌*◌, ◌/◌, ◌%◌, ◌^◌, ◌<◌, Ordering, Less, Equal, Greater, nat_cmp, refl, sym, ap, ap₂, ◌∙◌, arith, mod-lt, mod-eq_of_lt, div-one}
+use Rattle.std.proofs.Common.{◌≡◌, ℕ, zero, suc, ◌+◌, ◌-◌, ◌*◌, ◌%◌, ◌^◌, ◌<◌, Ordering, Less, Equal, Greater, nat_cmp, refl, sym, ap, ap₂, ◌∙◌, arith, mod-lt, mod-eq_of_lt}
 use Rattle.std.proofs.Math.Arith.{mod-mul}
 use Rattle.std.proofs.Math.Nat.{pow-succ'}
 use Rattle.std.specs.Int.{byte_at, bytes_high_first}
@@ -7,10 +7,7 @@ use Rattle.std.specs.Cmp.{ranks, nat_cmp_is}
 use Rattle.std.specs.Cmp.Lexicographic.{slice_cmp}
 use Rattle.std.specs.Ordering.{ordering_then, MatchOrdering}
 use Rattle.store.specs.Cells.{address}
-
-byte_is : (k n : ℕ) → byte_at k n ≡ n / 256 ^ k % 256
-byte_is zero n = ap (λ m. m % 256) (sym (div-one n))
-byte_is (suc k) n = refl
+use Rattle.store.proofs.AddressBytes.{powers_positive, byte_is}
 
 below_next : (p d c x y : ℕ) → x < c → p * c + x < (p + 1 + d) * c + y
 below_next p d c x y below = grind arith
@@ -32,10 +29,6 @@ two_digits c p q x y below_x below_y = nat_cmp_is (p * c + x) (q * c + y) _ (go 
     go Equal same = later same (nat_cmp x y) (ranks x y)
     go Greater more = below_far q p c y x more below_y
 
-positive : (k : ℕ) → 0 < 256 ^ k
-positive zero = omega arith
-positive (suc k) = let some = positive k in rw (pow-succ' 256 k) (omega (arith, some))
-
 none : (n : ℕ) → n % 1 ≡ 0
 none n = let low : n % 1 < 1 = mod-lt n (omega arith) in omega (arith, low)
 
@@ -43,7 +36,7 @@ bytes_in_order : (k a b : ℕ) → slice_cmp nat_cmp (bytes_high_first k a) (byt
 bytes_in_order zero a b = nat_cmp_is (a % 256 ^ 0) (b % 256 ^ 0) Equal (none a ∙ sym (none b))
 bytes_in_order (suc k) a b =
     let c = 256 ^ k in
-    let some : 0 < c = positive k in
+    let some : 0 < c = powers_positive k in
     let digits : (n : ℕ) → n % 256 ^ suc k ≡ byte_at k n * c + n % c = λ n. ap (λ m. n % m) (pow-succ' 256 k) ∙ mod-mul n (omega arith) some ∙ ap (λ d. d * c + n % c) (sym (byte_is k n)) in
     ap (ordering_then (nat_cmp (byte_at k a) (byte_at k b))) (bytes_in_order k a b) ∙ two_digits c (byte_at k a) (byte_at k b) (a % c) (b % c) (mod-lt a some) (mod-lt b some) ∙ sym (ap₂ nat_cmp (digits a) (digits b))
 

@@ -5,9 +5,7 @@ use Rattle.sqlite.specs.State.{State, ExecutesInside}
 use Rattle.sqlite_value.specs.declared.value.Value.TheVariants.{Text, Blob}
 use Rattle.sqlite_value.specs.Order.{Row, column}
 use Rattle.sqlite_trees.proofs.ListLemmas.{map-map, filter-map, IsPermutation-same}
-use Rattle.sqlite_sql.specs.Term.{col, eval_all}
-use Rattle.sqlite_schema.specs.declared.command.Command.TheVariants.{Insert, Update, Delete}
-use Rattle.sqlite_schema.specs.declared.command.Source.TheVariants.{Values}
+use Rattle.sqlite_sql.specs.Term.{eval_all}
 use Rattle.sqlite_schema.specs.declared.schema.Kind.TheVariants.{Integer, Text as Words}
 use Rattle.sqlite_rules.specs.Cast.{cast, cast_all}
 use Rattle.sqlite_typed.proofs.TestLemmas.{last_term}
@@ -22,7 +20,7 @@ use Rattle.store.proofs.Inserting as inserting
 use Rattle.store.proofs.Deleting as deleting
 use Rattle.store.proofs.Updating as updating
 use Rattle.store.proofs.Updating.{changed_if}
-use Rattle.store.proofs.Selecting.{picks, from_table, no_limit}
+use Rattle.store.proofs.Selecting.{picks}
 use Rattle.store.proofs.CellLemmas.{cast_number, cast_auth, is_number, number_of_number, appended}
 use Rattle.store.proofs.PartLemmas.{name_of-true, name_of_itself, put_local, take_local, change_local}
 use Rattle.store.proofs.StepLemmas.{equals_text, equals_int, column_after, has_schema, wrote, done_by, edits_auths}
@@ -58,22 +56,20 @@ name_kept h x c is = let named = name_of-true h (column c 0) (of_holder h x.numb
 module _ (h : List ℕ) (old new : State) (ready : IsReady old) (count : ℕ) where
   pub put_auth_done : (x : Auth) → ExecutesInside 0 put_auth_text (auth_row h x) old new (Ok count) → Done h (with_auth x) old new
   put_auth_done x ran =
-      let from = Values (put_terms 9) 10 in
-      let w = wrote put_auth_text (auth_row h x) (Insert 6 from) put_auth_is old new ready count ran in
-      let has = has_schema put_auth_text (auth_row h x) (Insert 6 from) put_auth_is old new ready count ran in
+      let w = wrote (auth_row h x) put_auth_is ready count ran in
+      let has = has_schema (auth_row h x) put_auth_is ready count ran in
       let e = inserting.puts 6 auth.name 12 auth.columns auth.primary auth.uniques auth.orders auth.references refl (put_terms 9) 10 (auth_row h x) old new _ (auth_row h x) count has refl (cast_auth h x) w in
-      done_by put_auth_text (auth_row h x) (Insert 6 from) put_auth_is old new ready count ran h (with_auth x) (e.schema ∙ has)
+      done_by (auth_row h x) put_auth_is ready count ran h (with_auth x) (e.schema ∙ has)
       (edits_auths h (with_auth x) (λ rows. auth_row h x ∷ rows) old.now new.now e (put_local 0 h (auth_row h x) refl) (λ r. appended (auth_row h) r.auths x) (λ r. refl) (λ r. refl) (λ r. refl))
 
   pub take_auth_done : (n : ℕ) → ExecutesInside 0 take_auth_text (Text h ∷ number_cell n ∷ []) old new (Ok count) → Done h (without_auth n) old new
   take_auth_done n ran =
       let params : Row = Text h ∷ number_cell n ∷ [] in
       let tests = equals 1 0 ∷ equals 2 1 ∷ [] in
-      let command = Delete 6 (record { lets = []; body = from_table 12 tests (col 1 0 ∷ []) [] no_limit }) in
-      let w = wrote take_auth_text params command take_auth_is old new ready count ran in
-      let has = has_schema take_auth_text params command take_auth_is old new ready count ran in
+      let w = wrote params take_auth_is ready count ran in
+      let has = has_schema params take_auth_is ready count ran in
       let keeps = (deleting.applied 6 auth.name 12 auth.columns auth.primary auth.uniques auth.orders auth.references refl tests old new _ params count has w).2 in
-      done_by take_auth_text params command take_auth_is old new ready count ran h (without_auth n) keeps (λ charter rows was some.
+      done_by params take_auth_is ready count ran h (without_auth n) keeps (λ charter rows was some.
       edits_auths h (without_auth n) (filter (λ c. not (is_of h n c))) old.now new.now
       (deleting.takes 6 auth.name 12 auth.columns auth.primary auth.uniques auth.orders auth.references refl tests (is_of h n) old new _ params count has (of_tests h n []) (was.whole 12 refl) w)
       (take_local 0 h (is_of h n) (of_holder h n)) (λ r. IsPermutation-same _ _ (taken r.auths)) (λ r. refl) (λ r. refl) (λ r. refl) charter rows was some)
@@ -85,11 +81,10 @@ module _ (h : List ℕ) (old new : State) (ready : IsReady old) (count : ℕ) wh
   amend_auth_done x ran =
       let params = auth_row h x in
       let tests = equals 1 0 ∷ equals 2 1 ∷ [] in
-      let command = Update 6 (record { lets = []; body = from_table 12 tests (col 1 0 ∷ col 1 0 ∷ amend_sets) [] no_limit }) in
-      let w = wrote amend_text params command amend_is old new ready count ran in
-      let has = has_schema amend_text params command amend_is old new ready count ran in
+      let w = wrote params amend_is ready count ran in
+      let has = has_schema params amend_is ready count ran in
       let keeps = (updating.applied 6 auth.name 12 auth.columns auth.primary auth.uniques auth.orders auth.references refl tests amend_sets old new _ params count has w).2 in
-      done_by amend_text params command amend_is old new ready count ran h (with_amended x) keeps (λ charter rows was some.
+      done_by params amend_is ready count ran h (with_amended x) keeps (λ charter rows was some.
       edits_auths h (with_amended x) (map (changed_if (is_of h x.number) (amended_row x))) old.now new.now
       (updating.changes 6 auth.name 12 auth.columns auth.primary auth.uniques auth.orders auth.references refl tests amend_sets (is_of h x.number) (amended_row x) old new _ params count has
       (of_tests h x.number (drop 1 (auth_cells x))) (amends h x) (was.whole 12 refl) w)

@@ -1,7 +1,6 @@
 -- Values of the same cells are equal.
-use Rattle.std.proofs.Common.{◌≡◌, ℕ, ◌-◌, ◌^◌, ◌<◌, ◌≤◌, List, [], ◌∷◌, ◌++◌, map, refl, sym, ap, subst, ◌∙◌, arith, IsPermutation}
+use Rattle.std.proofs.Common.{◌≡◌, ℕ, ◌^◌, ◌<◌, ◌≤◌, List, [], ◌∷◌, ◌++◌, map, refl, sym, ap, subst, ◌∙◌, arith, IsPermutation}
 use Rattle.std.specs.Coded.{le_prop}
-use Rattle.std.proofs.lemmas.Nat.{pow_pos}
 use mathlib.Core.HLevel.{is_prop→PathP}
 use Rattle.sqlite_value.specs.declared.value.Value.TheVariants.{Text, Blob}
 use Rattle.sqlite_value.specs.Order.{Row}
@@ -12,6 +11,7 @@ use Rattle.addr.specs.declared.family.Family.{Family}
 use Rattle.addr.specs.declared.family.Family.TheVariants.{V4, V6}
 use Rattle.addr.specs.declared.prefix.Prefix.{Prefix}
 use Rattle.addr.specs.declared.span.Span.{Span}
+use Rattle.addr.proofs.AddressLemmas.{below_widest, first_below}
 use Rattle.policy.specs.declared.authorization.Auth.{Auth}
 use Rattle.policy.specs.declared.grant.Granted.{Granted}
 use Rattle.policy.specs.declared.grant.Role.{Role}
@@ -24,7 +24,7 @@ use Rattle.store.proofs.AddressBytes.{address_once}
 one_number : (m n : ℕ) → number_cell m ≡ number_cell n → m ≡ n
 one_number m n is = cc
 
-one_family : (f g : Family) → number_cell (family_number f) ≡ number_cell (family_number g) → f ≡ g
+pub one_family : (f g : Family) → number_cell (family_number f) ≡ number_cell (family_number g) → f ≡ g
 one_family V4 V4 is = refl
 one_family V4 V6 is = absurd cc
 one_family V6 V4 is = absurd cc
@@ -41,16 +41,8 @@ one_role Auditor Manager is = absurd cc
 one_role Auditor Clerk is = absurd cc
 one_role Auditor Auditor is = refl
 
--- every address has 128 bits at most
-within : (f : Family) (n : ℕ) → n < 2 ^ width f → n < 2 ^ 128
-within V4 n below = omega arith
-within V6 n below = below
-
 one_address : (f g : Family) (m n : ℕ) → m < 2 ^ width f → n < 2 ^ width g → Blob (address m) ≡ Blob (address n) → m ≡ n
-one_address f g m n low below is = address_once m n (within f m low) (within g n below) cc
-
-first_below : (p : Prefix) → p.first < 2 ^ width p.family
-first_below p = omega (arith, p.in_family, pow_pos (width p.family - p.length))
+one_address f g m n low below is = address_once m n (below_widest f m low) (below_widest g n below) cc
 
 pub one_prefix : (p q : Prefix) → prefix_cells p ≡ prefix_cells q → p ≡ q
 one_prefix p q is = same_prefix p q (one_family p.family q.family cc) (one_address p.family q.family p.first q.first (first_below p) (first_below q) cc) (one_number p.length q.length cc)

@@ -3,11 +3,10 @@ use Rattle.std.proofs.Common.{◌≡◌, ◌≢◌, ℕ, pos, ◌+◌, ◌<◌, 
 use Rattle.std.proofs.lemmas.List.{map-append}
 use Rattle.std.proofs.lemmas.List.Sorted.{IsPermutation-refl, IsPermutation-trans, IsPermutation-cons, IsPermutation-middle}
 use Rattle.sqlite.specs.Effect.{Database}
+use Rattle.sqlite.proofs.InsideLemmas.{keeps_then}
 use Rattle.sqlite.specs.State.{State, HasCleanDisk, KeepsCommit, Shows, ExecutesInside}
 use Rattle.sqlite_value.specs.declared.value.Value.TheVariants.{Null, Int, Text}
 use Rattle.sqlite_value.specs.Order.{Row}
-use Rattle.sqlite_schema.specs.declared.command.Command.TheVariants.{Insert}
-use Rattle.sqlite_schema.specs.declared.command.Source.TheVariants.{Values}
 use Rattle.sqlite_sql.specs.Term.{lit}
 use Rattle.addr.specs.declared.prefix.Prefix.{Prefix}
 use Rattle.policy.specs.CharterSets.{CharterSets}
@@ -20,33 +19,31 @@ use Rattle.store.specs.Making.{IsMadeTo, Puts, HasCharter, IsNew}
 use Rattle.store.proofs.Inserting as inserting
 use Rattle.store.proofs.CellLemmas.{cast_schema, cast_prefix}
 use Rattle.store.proofs.StepLemmas.{has_schema, wrote, sound_still}
-use Rattle.store.proofs.RowSteps.{taken_more, commit_then}
-use Rattle.store.proofs.MakingSteps.{each_table, none_held}
+use Rattle.store.proofs.RowSteps.{taken_more}
+use Rattle.store.proofs.Inserting.{each_table}
+use Rattle.store.proofs.MakingSteps.{none_held}
 use Rattle.store.proofs.Texts.{put_terms, put_schema_text, put_schema_is, put_operator_text, put_operator_is, put_prefix_text, put_prefix_is}
 
 module _ (old new : State) (ready : IsReady old) (count : ℕ) where
   pub put_schema_done : ExecutesInside 0 put_schema_text [] old new (Ok count) → Puts meta.tree (schema_row ∷ []) old new
   put_schema_done ran =
       let terms = lit Null ∷ lit (Text (codes "schema")) ∷ lit (Int (pos 1)) ∷ [] in
-      let command = Insert 0 (Values terms 3) in
-      let w = wrote put_schema_text [] command put_schema_is old new ready count ran in
-      let has = has_schema put_schema_text [] command put_schema_is old new ready count ran in
+      let w = wrote [] put_schema_is ready count ran in
+      let has = has_schema [] put_schema_is ready count ran in
       let e = inserting.puts 0 meta.name 0 meta.columns meta.primary meta.uniques meta.orders meta.references refl terms 3 schema_row old new _ [] count has refl cast_schema w in
       record { ready = record { schema = λ _. e.schema ∙ has; inside = ran.1.mode }; edits = e }
 
   pub put_operator_done : (name : List ℕ) → ExecutesInside 0 put_operator_text (operator_row name) old new (Ok count) → Puts operator.tree (operator_row name ∷ []) old new
   put_operator_done name ran =
-      let command = Insert 1 (Values (put_terms 1) 2) in
-      let w = wrote put_operator_text (operator_row name) command put_operator_is old new ready count ran in
-      let has = has_schema put_operator_text (operator_row name) command put_operator_is old new ready count ran in
+      let w = wrote (operator_row name) put_operator_is ready count ran in
+      let has = has_schema (operator_row name) put_operator_is ready count ran in
       let e = inserting.puts 1 operator.name 2 operator.columns operator.primary operator.uniques operator.orders operator.references refl (put_terms 1) 2 (operator_row name) old new _ (operator_row name) count has refl refl w in
       record { ready = record { schema = λ _. e.schema ∙ has; inside = ran.1.mode }; edits = e }
 
   pub put_prefix_done : (p : Prefix) → ExecutesInside 0 put_prefix_text (prefix_cells p) old new (Ok count) → Puts pool.tree (prefix_cells p ∷ []) old new
   put_prefix_done p ran =
-      let command = Insert 2 (Values (put_terms 3) 4) in
-      let w = wrote put_prefix_text (prefix_cells p) command put_prefix_is old new ready count ran in
-      let has = has_schema put_prefix_text (prefix_cells p) command put_prefix_is old new ready count ran in
+      let w = wrote (prefix_cells p) put_prefix_is ready count ran in
+      let has = has_schema (prefix_cells p) put_prefix_is ready count ran in
       let e = inserting.puts 2 pool.name 4 pool.columns pool.primary pool.uniques pool.orders pool.references refl (put_terms 3) 4 (prefix_cells p) old new _ (prefix_cells p) count has refl (cast_prefix p) w in
       record { ready = record { schema = λ _. e.schema ∙ has; inside = ran.1.mode }; edits = e }
 
@@ -77,7 +74,7 @@ module _ (tree : ℕ) where
       → KeepsCommit a c × Puts tree (map cells (take (i + 1) xs)) a c
   puts_along cells xs i x a b c low is before clean kept put =
       let more = ap (map cells) (taken_more xs i x low is) ∙ map-append cells (take i xs) (x ∷ []) in
-      (commit_then a b c (before clean).0 kept, subst (λ rows. Puts tree rows a c) (sym more) (puts_then (map cells (take i xs)) (cells x) a b c (before clean).1 put))
+      (keeps_then a b c (before clean).0 kept, subst (λ rows. Puts tree rows a c) (sym more) (puts_then (map cells (take i xs)) (cells x) a b c (before clean).1 put))
 
   -- rows that were put into an empty table are its rows
   first_rows : (rows : List Row) (a b : Database) → Edits tree (λ table. rows ++ table) a b → a.trees tree ≡ [] → IsPermutation rows (contents (b.trees tree))

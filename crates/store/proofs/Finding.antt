@@ -21,8 +21,8 @@ use Rattle.policy.specs.Rows.{Rows}
 use Rattle.store.specs.Tables.{desk_schema}
 use Rattle.store.specs.Cells.{grant_cells, holding_row, granted_row, auth_row}
 use Rattle.store.specs.Edits.{contents}
-use Rattle.store.specs.TablesHold.{HoldsPart, rows_if_any, holder_part, holding_part, granted_part, auth_part}
-use Rattle.store.specs.Queries.{columns, View, Finds, cells_if_any, counters_view, spans_view, grants_view, auths_view}
+use Rattle.store.specs.TablesHold.{items_if_any, HoldsPart, rows_if_any, holder_part, holding_part, granted_part, auth_part}
+use Rattle.store.specs.Queries.{columns, View, Finds, counters_view, spans_view, grants_view, auths_view}
 use Rattle.store.proofs.Selecting.{from_table, no_limit, picks, permuted, sorted}
 use Rattle.store.proofs.HoldingSteps.{holder_test}
 use Rattle.store.proofs.StepLemmas.{column_after}
@@ -112,10 +112,10 @@ none_in (x ∷ xs) same = absurd (let e = length_permutation _ _ same in cc)
 
 module _ (v : View) (shows : (h : List ℕ) (r : Rows) → map (columns v.places) (v.part.rows h r) ≡ v.cells r)
     (all : List ℕ → Option Rows) (h : List ℕ) (db : Database) (rows : List Row) (holds : HoldsPart v.part all (contents (db.trees v.part.tree))) (found : Finds v h db rows) where
-  pub cells_found : (o : Option Rows) → all h ≡ o → IsPermutation (cells_if_any v o) rows
-  cells_found o is = subst (λ o. IsPermutation (cells_if_any v o) rows) is (go (all h) (IsPermutation-trans _ _ _ (IsPermutation-map (columns v.places) _ _ (holds.each h)) found))
+  pub cells_found : (o : Option Rows) → all h ≡ o → IsPermutation (items_if_any v.cells o) rows
+  cells_found o is = subst (λ o. IsPermutation (items_if_any v.cells o) rows) is (go (all h) (IsPermutation-trans _ _ _ (IsPermutation-map (columns v.places) _ _ (holds.each h)) found))
     where
-      go : (o : Option Rows) → IsPermutation (map (columns v.places) (rows_if_any v.part h o)) rows → IsPermutation (cells_if_any v o) rows
+      go : (o : Option Rows) → IsPermutation (map (columns v.places) (rows_if_any v.part h o)) rows → IsPermutation (items_if_any v.cells o) rows
       go None same = same
       go (Some r) same = subst (λ l. IsPermutation l rows) (shows h r) same
 

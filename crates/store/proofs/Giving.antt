@@ -3,12 +3,10 @@ use Rattle.std.proofs.Common.{◌≡◌, ◌↔◌, ◌≢◌, ℕ, true, ◌&&�
 use Rattle.std.proofs.lemmas.Bool.{and_parts, and_from, eqb-true, eq-eqb}
 use Rattle.sqlite_value.specs.Order.{Row}
 use Rattle.sqlite_rules.proofs.ListLemmas.{has_contained, contains_had}
-use Rattle.addr.specs.Address.{prefix_eq, same_prefix}
-use Rattle.addr.specs.Family.{family_eq}
+use Rattle.sqlite_rules.proofs.ProbeLemmas.{mapped_has, has_mapped}
+use Rattle.addr.specs.Address.{prefix_eq}
 use Rattle.addr.specs.Order.{same_vrp}
 use Rattle.addr.specs.declared.asn.Asn.{Asn}
-use Rattle.addr.specs.declared.family.Family.{Family}
-use Rattle.addr.specs.declared.family.Family.TheVariants.{V4, V6}
 use Rattle.addr.specs.declared.prefix.Prefix.{Prefix}
 use Rattle.addr.specs.declared.vrp.Vrp.{Vrp}
 use Rattle.policy.specs.declared.authorization.Auth.{Auth}
@@ -16,30 +14,11 @@ use Rattle.policy.specs.Rows.{Rows}
 use Rattle.policy.specs.Terms.{IsVrpOf}
 use Rattle.store.specs.Cells.{vrp_cells}
 use Rattle.store.specs.Decode.{VrpFits}
+use Rattle.addr.proofs.Equality.{equal_prefix, prefix_itself}
 use Rattle.addr.proofs.SpanLemmas.{met_iff}
 use Rattle.store.specs.Queries.{payload_cells, IsInForce, MeetsSome}
 use Rattle.store.specs.Loads.{IsGivenOn, AllGiveOn, IsTaken}
 use Rattle.store.proofs.CellsOnce.{one_prefix}
-use Rattle.store.proofs.SomeRow.{has_mapped, from_mapped}
-
-same_family : (f g : Family) → family_eq f g ≡ true → f ≡ g
-same_family V4 V4 is = refl
-same_family V4 V6 is = absurd cc
-same_family V6 V4 is = absurd cc
-same_family V6 V6 is = refl
-
-family_itself : (f : Family) → family_eq f f ≡ true
-family_itself V4 = refl
-family_itself V6 = refl
-
-equal_prefix : (p q : Prefix) → prefix_eq p q ≡ true → p ≡ q
-equal_prefix p q is =
-    let both = and_parts (family_eq p.family q.family) ((p.first == q.first) && (p.length == q.length)) is in
-    let ends = and_parts (p.first == q.first) (p.length == q.length) both.1 in
-    same_prefix p q (same_family p.family q.family both.0) (eqb-true p.first q.first ends.0) (eqb-true p.length q.length ends.1)
-
-prefix_itself : (p : Prefix) → prefix_eq p p ≡ true
-prefix_itself p = and_from _ _ (family_itself p.family) (and_from _ _ (eq-eqb p.first p.first refl) (eq-eqb p.length p.length refl))
 
 -- a VRP of the terms is shown as they are
 cells_of_vrp : (x : Auth) (v : Vrp) → IsVrpOf x v → vrp_cells v ≡ payload_cells x
@@ -67,14 +46,14 @@ one_vrp v w is =
 module _ (day : ℕ) (all : List ℕ → Option Rows) (rows : List Row) (each : (row : Row) → Contains rows row ↔ IsInForce all day row) where
   is_given : (vrps : List Vrp) → rows ≡ map vrp_cells vrps → (v : Vrp) → Contains vrps v → IsGivenOn all day v
   is_given vrps shown v there =
-      let row = subst (λ l. Contains l (vrp_cells v)) (sym shown) (contains_had (map vrp_cells vrps) (vrp_cells v) (has_mapped vrp_cells vrps v (has_contained vrps v there))) in
+      let row = subst (λ l. Contains l (vrp_cells v)) (sym shown) (contains_had (map vrp_cells vrps) (vrp_cells v) (mapped_has vrp_cells vrps v (has_contained vrps v there))) in
       let it = (each (vrp_cells v)).0 row in
       (it.0, it.1, it.2, it.3, it.4, it.5, it.6, vrp_of_cells it.2 v it.7)
 
   has_given : (vrps : List Vrp) → rows ≡ map vrp_cells vrps → (v : Vrp) → IsGivenOn all day v → Contains vrps v
   has_given vrps shown v it =
       let row = (each (vrp_cells v)).1 (it.0, it.1, it.2, it.3, it.4, it.5, it.6, cells_of_vrp it.2 v it.7) in
-      let from = from_mapped vrp_cells vrps (vrp_cells v) (has_contained (map vrp_cells vrps) (vrp_cells v) (subst (λ l. Contains l (vrp_cells v)) shown row)) in
+      let from = has_mapped vrp_cells vrps (vrp_cells v) (has_contained (map vrp_cells vrps) (vrp_cells v) (subst (λ l. Contains l (vrp_cells v)) shown row)) in
       subst (Contains vrps) (sym (one_vrp v from.0 from.2)) (contains_had vrps from.0 from.1)
 
   pub each_given : (vrps : List Vrp) → rows ≡ map vrp_cells vrps → (v : Vrp) → Contains vrps v ↔ IsGivenOn all day v

@@ -1,5 +1,5 @@
 -- What the statements on the counters of a holder do to its rows.
-use Rattle.std.proofs.Common.{◌≡◌, ℕ, pos, Bool, true, not, ◌==◌, List, [], ◌∷◌, map, filter, drop, length, codes, Ok, Option, Some, None, is_some, refl, sym, ap, ◌∙◌}
+use Rattle.std.proofs.Common.{◌≡◌, ℕ, pos, Bool, true, not, ◌==◌, List, [], ◌∷◌, map, filter, drop, length, Ok, Option, Some, None, is_some, refl, sym, ap, ◌∙◌}
 use Rattle.std.proofs.lemmas.List.{length-map}
 use Rattle.std.proofs.lemmas.List.Sorted.{IsPermutation-refl, length_permutation}
 use Rattle.sqlite.specs.Effect.{Database}
@@ -9,9 +9,6 @@ use Rattle.sqlite_value.specs.declared.value.Value.TheVariants.{Null, Int, Text}
 use Rattle.sqlite_value.specs.Order.{Row, column}
 use Rattle.sqlite_trees.proofs.ListLemmas.{IsPermutation-same, filter-map}
 use Rattle.sqlite_sql.specs.Term.{Term, lit, col, eval_all}
-use Rattle.sqlite_schema.specs.declared.program.Program.{Program}
-use Rattle.sqlite_schema.specs.declared.command.Command.TheVariants.{Update, Insert, Select}
-use Rattle.sqlite_schema.specs.declared.command.Source.TheVariants.{Values}
 use Rattle.sqlite_schema.specs.declared.schema.Kind.TheVariants.{Integer, Text as Words}
 use Rattle.sqlite_rules.specs.Cast.{cast, cast_all}
 use Rattle.policy.specs.CharterSets.{CharterSets}
@@ -24,7 +21,7 @@ use Rattle.store.specs.Steps.{IsReady, Done, Registers, Tells}
 use Rattle.store.proofs.Inserting as inserting
 use Rattle.store.proofs.Updating as updating
 use Rattle.store.proofs.Updating.{changed_if}
-use Rattle.store.proofs.Selecting.{from_table, no_limit, permuted}
+use Rattle.store.proofs.Selecting.{permuted}
 use Rattle.store.proofs.CellLemmas.{cast_number, cast_holder}
 use Rattle.store.proofs.PartLemmas.{names, name_of-true, name_of_itself, put_local, change_local, part_turned}
 use Rattle.store.proofs.StepLemmas.{column_after, has_schema, wrote, done_by, edits_holder, charter_still, sound_still, turned_still}
@@ -57,11 +54,10 @@ module _ (h : List ℕ) (old new : State) (ready : IsReady old) (count : ℕ) (n
 
   pub set_grants_done : ExecutesInside 0 set_grants_text params old new (Ok count) → Done h (with_granted n) old new
   set_grants_done ran =
-      let command = Update 3 (record { lets = []; body = from_table 6 tests (col 1 0 ∷ col 1 0 ∷ grants_sets) [] no_limit }) in
-      let w = wrote set_grants_text params command set_grants_is old new ready count ran in
-      let has = has_schema set_grants_text params command set_grants_is old new ready count ran in
+      let w = wrote params set_grants_is ready count ran in
+      let has = has_schema params set_grants_is ready count ran in
       let keeps = (updating.applied 3 holder.name 6 holder.columns holder.primary holder.uniques holder.orders holder.references refl tests grants_sets old new _ params count has w).2 in
-      done_by set_grants_text params command set_grants_is old new ready count ran h (with_granted n) keeps (λ charter rows was some.
+      done_by params set_grants_is ready count ran h (with_granted n) keeps (λ charter rows was some.
       edits_holder h (with_granted n) (map (changed_if (names 0 h) (granted_set n))) old.now new.now
       (updating.changes 3 holder.name 6 holder.columns holder.primary holder.uniques holder.orders holder.references refl tests grants_sets (names 0 h) (granted_set n) old new _ params count has
       (holder_test 0 h (number_cell n ∷ [])) sets (was.whole 6 refl) w)
@@ -75,11 +71,10 @@ module _ (h : List ℕ) (old new : State) (ready : IsReady old) (count : ℕ) (n
 
   pub set_auths_done : ExecutesInside 0 set_auths_text params old new (Ok count) → Done h (with_created n) old new
   set_auths_done ran =
-      let command = Update 3 (record { lets = []; body = from_table 6 tests (col 1 0 ∷ col 1 0 ∷ auths_sets) [] no_limit }) in
-      let w = wrote set_auths_text params command set_auths_is old new ready count ran in
-      let has = has_schema set_auths_text params command set_auths_is old new ready count ran in
+      let w = wrote params set_auths_is ready count ran in
+      let has = has_schema params set_auths_is ready count ran in
       let keeps = (updating.applied 3 holder.name 6 holder.columns holder.primary holder.uniques holder.orders holder.references refl tests auths_sets old new _ params count has w).2 in
-      done_by set_auths_text params command set_auths_is old new ready count ran h (with_created n) keeps (λ charter rows was some.
+      done_by params set_auths_is ready count ran h (with_created n) keeps (λ charter rows was some.
       edits_holder h (with_created n) (map (changed_if (names 0 h) (created_set n))) old.now new.now
       (updating.changes 3 holder.name 6 holder.columns holder.primary holder.uniques holder.orders holder.references refl tests auths_sets (names 0 h) (created_set n) old new _ params count has
       (holder_test 0 h (number_cell n ∷ [])) sets (was.whole 6 refl) w)
@@ -95,9 +90,8 @@ module _ (h : List ℕ) (old new : State) (ready : IsReady old) where
   pub register_done : (count : ℕ) → ExecutesInside 0 put_holder_text (Text h ∷ []) old new (Ok count) → Registers h old new
   register_done count ran =
       let terms = lit Null ∷ col 0 0 ∷ lit (Int (pos 0)) ∷ lit (Int (pos 0)) ∷ [] in
-      let command = Insert 3 (Values terms 4) in
-      let w = wrote put_holder_text (Text h ∷ []) command put_holder_is old new ready count ran in
-      let has = has_schema put_holder_text (Text h ∷ []) command put_holder_is old new ready count ran in
+      let w = wrote (Text h ∷ []) put_holder_is ready count ran in
+      let has = has_schema (Text h ∷ []) put_holder_is ready count ran in
       let e = inserting.puts 3 holder.name 6 holder.columns holder.primary holder.uniques holder.orders holder.references refl terms 4 (holder_row h 0 0) old new _ (Text h ∷ []) count has refl (cast_holder h 0 0) w in
       record {
         ready = record { schema = λ _. e.schema ∙ has; inside = ran.1.mode };
@@ -111,19 +105,16 @@ module _ (h : List ℕ) (old new : State) (ready : IsReady old) where
         };
       }
 
-  abbrev pub counters_query : Program
-  counters_query = record { lets = []; body = from_table 6 (equals 1 0 ∷ []) (col 1 2 ∷ col 1 3 ∷ []) [] no_limit }
-
   -- as many rows are found as the holder has in its table
   found : (rows : List Row) (charter : CharterSets) (all : List ℕ → Option Rows) → old.now.schema ≡ desk_schema → Shown counters_text (Text h ∷ []) old new rows → TablesHold charter all old.now.trees → length rows ≡ length (rows_if_any holder_part h (all h))
   found rows charter all has shown holds =
-      let read = reads_as counters_text (Text h ∷ []) old new desk_schema has (Select counters_query (codes "grants" ∷ codes "auths" ∷ [])) counters_is.is counters_is.plain counters_is.unlisted rows shown in
+      let read = reads_as counters_text (Text h ∷ []) old new desk_schema has _ counters_is.is counters_is.plain counters_is.unlisted rows shown in
       let same = permuted 6 (equals 1 0 ∷ []) (col 1 2 ∷ col 1 3 ∷ []) [] old.now.trees (Text h ∷ []) rows (read.answer Null) in
       let picked = filter-map (names 0 h) (drop 1) (old.now.trees 6) ∙ (λ i. map (drop 1) (filter (λ r. sym (holder_test 0 h [] r) i) (old.now.trees 6))) in
       length_permutation _ _ same ∙ length-map _ _ ∙ sym (ap length picked ∙ length-map _ _) ∙ length_permutation _ _ (holds.holders.each h)
 
   pub asked : (rows : List Row) → Shown counters_text (Text h ∷ []) old new rows → IsUnchanged old new
-  asked rows shown = answered_inside counters_text (Select counters_query (codes "grants" ∷ codes "auths" ∷ [])) counters_is (Text h ∷ []) old new rows ready shown
+  asked rows shown = answered_inside counters_text _ counters_is (Text h ∷ []) old new rows ready shown
 
   pub told : (rows : List Row) (empty : Bool) (count : ℕ) → count ≡ length rows → empty ≡ (count == 0) → Shown counters_text (Text h ∷ []) old new rows → Tells h (not empty) old new
   told rows empty count counted is shown =

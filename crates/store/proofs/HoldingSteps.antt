@@ -4,9 +4,6 @@ use Rattle.sqlite.specs.State.{State, ExecutesInside}
 use Rattle.sqlite_value.specs.declared.value.Value.TheVariants.{Text}
 use Rattle.sqlite_value.specs.Order.{Row, column}
 use Rattle.sqlite_trees.proofs.ListLemmas.{IsPermutation-same}
-use Rattle.sqlite_sql.specs.Term.{col}
-use Rattle.sqlite_schema.specs.declared.command.Command.TheVariants.{Insert, Delete}
-use Rattle.sqlite_schema.specs.declared.command.Source.TheVariants.{Values}
 use Rattle.sqlite_typed.proofs.TestLemmas.{last_term}
 use Rattle.addr.specs.declared.span.Span.{Span}
 use Rattle.store.specs.Tables.{holding}
@@ -16,7 +13,7 @@ use Rattle.store.specs.RowEdits.{with_holding, without_holdings}
 use Rattle.store.specs.Steps.{IsReady, Done}
 use Rattle.store.proofs.Inserting as inserting
 use Rattle.store.proofs.Deleting as deleting
-use Rattle.store.proofs.Selecting.{picks, from_table, no_limit}
+use Rattle.store.proofs.Selecting.{picks}
 use Rattle.store.proofs.CellLemmas.{cast_holding, appended}
 use Rattle.store.proofs.PartLemmas.{names, name_of_itself, put_local, take_local}
 use Rattle.store.proofs.StepLemmas.{equals_text, column_after, has_schema, wrote, done_by, edits_holdings}
@@ -29,22 +26,20 @@ holder_test place h more r = last_term (equals_text (column r (suc place)) h ∙
 module _ (h : List ℕ) (old new : State) (ready : IsReady old) (count : ℕ) where
   pub put_holding_done : (s : Span) → ExecutesInside 0 put_holding_text (holding_row h s) old new (Ok count) → Done h (with_holding s) old new
   put_holding_done s ran =
-      let from = Values (put_terms 4) 5 in
-      let w = wrote put_holding_text (holding_row h s) (Insert 4 from) put_holding_is old new ready count ran in
-      let has = has_schema put_holding_text (holding_row h s) (Insert 4 from) put_holding_is old new ready count ran in
+      let w = wrote (holding_row h s) put_holding_is ready count ran in
+      let has = has_schema (holding_row h s) put_holding_is ready count ran in
       let e = inserting.puts 4 holding.name 8 holding.columns holding.primary holding.uniques holding.orders holding.references refl (put_terms 4) 5 (holding_row h s) old new _ (holding_row h s) count has refl (cast_holding h s) w in
-      done_by put_holding_text (holding_row h s) (Insert 4 from) put_holding_is old new ready count ran h (with_holding s) (e.schema ∙ has)
+      done_by (holding_row h s) put_holding_is ready count ran h (with_holding s) (e.schema ∙ has)
       (edits_holdings h (with_holding s) (λ rows. holding_row h s ∷ rows) old.now new.now e (put_local 3 h (holding_row h s) refl) (λ r. appended (holding_row h) r.holdings s) (λ r. refl) (λ r. refl) (λ r. refl))
 
   pub take_holdings_done : ExecutesInside 0 take_holdings_text (Text h ∷ []) old new (Ok count) → Done h without_holdings old new
   take_holdings_done ran =
       let params : Row = Text h ∷ [] in
       let tests = equals 4 0 ∷ [] in
-      let command = Delete 4 (record { lets = []; body = from_table 8 tests (col 1 0 ∷ []) [] no_limit }) in
-      let w = wrote take_holdings_text params command take_holdings_is old new ready count ran in
-      let has = has_schema take_holdings_text params command take_holdings_is old new ready count ran in
+      let w = wrote params take_holdings_is ready count ran in
+      let has = has_schema params take_holdings_is ready count ran in
       let keeps = (deleting.applied 4 holding.name 8 holding.columns holding.primary holding.uniques holding.orders holding.references refl tests old new _ params count has w).2 in
-      done_by take_holdings_text params command take_holdings_is old new ready count ran h without_holdings keeps (λ charter rows was some.
+      done_by params take_holdings_is ready count ran h without_holdings keeps (λ charter rows was some.
       edits_holdings h without_holdings (filter (λ c. not (names 3 h c))) old.now new.now
       (deleting.takes 4 holding.name 8 holding.columns holding.primary holding.uniques holding.orders holding.references refl tests (names 3 h) old new _ params count has (holder_test 3 h []) (was.whole 8 refl) w)
       (take_local 3 h (names 3 h) (λ c is. is)) (λ r. IsPermutation-same _ _ (none r.holdings)) (λ r. refl) (λ r. refl) (λ r. refl) charter rows was some)

@@ -1,5 +1,5 @@
 -- The authorizations of all holders that are in force on a day.
-use Rattle.std.proofs.Common.{◌≡◌, ◌↔◌, ℕ, pos, false, ◌&&◌, List, [], ◌∷◌, filter, drop, Contains, Option, Result, IfOk, IsTrue, nat_le, codes, refl, sym, ap, subst, ◌∙◌, IsPermutation}
+use Rattle.std.proofs.Common.{◌≡◌, ◌↔◌, ℕ, pos, false, ◌&&◌, List, [], ◌∷◌, filter, drop, Contains, Option, Result, IfOk, IsTrue, nat_le, refl, sym, ap, subst, ◌∙◌, IsPermutation}
 use Rattle.std.proofs.lemmas.Bool.{and_parts, and_from, leb-true, le-leb}
 use Rattle.std.proofs.lemmas.List.Sorted.{IsPermutation-sym}
 use Rattle.std.proofs.lemmas.Result.{IfOk-weaker}
@@ -11,9 +11,8 @@ use Rattle.sqlite_value.specs.declared.value.Value.TheVariants.{Null}
 use Rattle.sqlite_value.specs.Order.{Row}
 use Rattle.sqlite_sql.specs.declared.ops.CompareOp.TheVariants.{Le, Ge}
 use Rattle.sqlite_sql.specs.Term.{eval_all}
-use Rattle.sqlite_schema.specs.declared.program.Program.{Program}
-use Rattle.sqlite_schema.specs.declared.command.Command.TheVariants.{Select}
 use Rattle.sqlite_rules.proofs.ListLemmas.{has_filtered, has_kept, has_contained, contains_had}
+use Rattle.sqlite_rules.proofs.ProbeLemmas.{mapped_has, has_mapped}
 use Rattle.sqlite_typed.proofs.TestLemmas.{at_ints, then_term, last_term}
 use Rattle.policy.specs.declared.authorization.Auth.{Auth}
 use Rattle.policy.specs.Rows.{Rows}
@@ -22,17 +21,14 @@ use Rattle.store.specs.Cells.{number_cell, auth_row}
 use Rattle.store.specs.Edits.{contents}
 use Rattle.store.specs.TablesHold.{HoldsPart, auth_part}
 use Rattle.store.specs.Queries.{columns, is_open_on, FindsInForce, IsInForce}
-use Rattle.store.proofs.SomeRow.{has_permuted, has_mapped, from_mapped, of_some, in_table}
-use Rattle.store.proofs.Selecting.{from_table, no_limit, picks, permuted}
+use Rattle.store.proofs.SomeRow.{has_permuted, of_some, in_table}
+use Rattle.store.proofs.Selecting.{picks, permuted}
 use Rattle.store.proofs.Finding.{shown_at, shown_columns, of_contents}
 use Rattle.store.proofs.QueryLemmas.{shown_open}
 use Rattle.store.proofs.Texts.{in_force_tests, in_force_text, in_force_is}
 
 abbrev payload_places : List ℕ
 payload_places = 2 ∷ 3 ∷ 4 ∷ 5 ∷ 6 ∷ []
-
-abbrev in_force_query : Program
-in_force_query = record { lets = []; body = from_table 12 in_force_tests (shown_at payload_places) [] no_limit }
 
 columns_alone : (day : ℕ) (r : Row) → picks (number_cell day ∷ []) in_force_tests r ≡ is_open_on day (drop 1 r)
 columns_alone day [] = refl
@@ -42,7 +38,7 @@ module _ (day : ℕ) (old new : State) (has : IsTrue old.is_open → old.now.sch
   finds_in_force : (rows : List Row) → Shown in_force_text (number_cell day ∷ []) old new rows → FindsInForce day old.now rows
   finds_in_force rows shown =
       let params = number_cell day ∷ [] in
-      let read = reads_as in_force_text params old new desk_schema (has (shown_open in_force_text params old new rows shown)) (Select in_force_query (codes "asn" ∷ codes "family" ∷ codes "lo" ∷ codes "len" ∷ codes "max" ∷ [])) in_force_is.is in_force_is.plain in_force_is.unlisted rows shown in
+      let read = reads_as in_force_text params old new desk_schema (has (shown_open in_force_text params old new rows shown)) _ in_force_is.is in_force_is.plain in_force_is.unlisted rows shown in
       let same = of_contents (λ r. eval_all (shown_at payload_places) (params ∷ r ∷ [])) (columns payload_places) (picks params in_force_tests) (is_open_on day) (shown_columns payload_places params) (columns_alone day) (old.now.trees 12) in
       subst (λ l. IsPermutation l rows) same (permuted 12 in_force_tests (shown_at payload_places) [] old.now.trees params rows (read.answer Null))
 
@@ -58,10 +54,10 @@ module _ (day : ℕ) (all : List ℕ → Option Rows) (db : Database) (rows : Li
   is_in_force : (v : Row) → Contains rows v → IsInForce all day v
   is_in_force v there =
       let table = contents (db.trees auth_part.tree) in
-      let shown = from_mapped (columns payload_places) (filter (is_open_on day) table) v (has_permuted _ _ v (IsPermutation-sym _ _ found) (has_contained rows v there)) in
+      let shown = has_mapped (columns payload_places) (filter (is_open_on day) table) v (has_permuted _ _ v (IsPermutation-sym _ _ found) (has_contained rows v there)) in
       let row = has_filtered (is_open_on day) table shown.0 shown.1 in
       let mine = of_some auth_part all table holds shown.0 row.0 in
-      let auth = from_mapped (auth_row mine.0) mine.1.auths shown.0 mine.3 in
+      let auth = has_mapped (auth_row mine.0) mine.1.auths shown.0 mine.3 in
       let days = and_parts _ _ (sym (open_is day mine.0 auth.0) ∙ ap (is_open_on day) (sym auth.2) ∙ row.1) in
       (mine.0, mine.1, auth.0, mine.2, contains_had mine.1.auths auth.0 auth.1, leb-true _ _ days.0, leb-true _ _ days.1, shown.2 ∙ ap (columns payload_places) auth.2)
 
@@ -69,9 +65,9 @@ module _ (day : ℕ) (all : List ℕ → Option Rows) (db : Database) (rows : Li
   has_in_force v it =
       let table = contents (db.trees auth_part.tree) in
       let c = auth_row it.0 it.2 in
-      let kept = in_table auth_part all table holds c it.0 it.1 it.3 (has_mapped (auth_row it.0) it.1.auths it.2 (has_contained it.1.auths it.2 it.4)) in
+      let kept = in_table auth_part all table holds c it.0 it.1 it.3 (mapped_has (auth_row it.0) it.1.auths it.2 (has_contained it.1.auths it.2 it.4)) in
       let picked = has_kept (is_open_on day) table c kept (open_is day it.0 it.2 ∙ and_from _ _ (le-leb _ _ it.5) (le-leb _ _ it.6)) in
-      subst (Contains rows) (sym it.7) (contains_had rows _ (has_permuted _ _ (columns payload_places c) found (has_mapped (columns payload_places) (filter (is_open_on day) table) c picked)))
+      subst (Contains rows) (sym it.7) (contains_had rows _ (has_permuted _ _ (columns payload_places c) found (mapped_has (columns payload_places) (filter (is_open_on day) table) c picked)))
 
   pub each_in_force : (v : Row) → Contains rows v ↔ IsInForce all day v
   each_in_force v = (is_in_force v, has_in_force v)

@@ -1,8 +1,8 @@
 -- What INSERT of one row does, whatever the table.
-use Rattle.std.proofs.Common.{◌≡◌, ◌≢◌, ◌⊎◌, inl, inr, ℕ, ◌/◌, ◌==◌, Bool, true, false, cond, ◌||◌, ◌&&◌, List, [], ◌∷◌, ◌++◌, drop, length, slice_get, Some, None, Ok, Err, Result, refl, sym, ap, not, true≢false, subst, ◌∙◌, append-nil, IsPermutation}
+use Rattle.std.proofs.Common.{◌≡◌, ◌≢◌, ◌⊎◌, inl, inr, ℕ, ◌/◌, ◌==◌, Bool, true, false, cond, ◌||◌, List, [], ◌∷◌, ◌++◌, drop, length, slice_get, Some, None, Ok, Err, Result, refl, sym, ap, not, subst, ◌∙◌, append-nil, IsPermutation}
 use Rattle.std.specs.List.{AllByRecursion, list_any, flat_map, filter_map}
 use Rattle.std.proofs.lemmas.List.Sorted.{IsPermutation-map}
-use Rattle.std.proofs.lemmas.Bool.{eqb-true}
+use Rattle.std.proofs.lemmas.Bool.{and_parts, not-true, eqb-true}
 use Rattle.sqlite.specs.Does.{Tally, Does, AtPlace, OnRows}
 use Rattle.sqlite.specs.Effect.{Database, value_rows, IsSource}
 use Rattle.sqlite.specs.Rows.{Written}
@@ -56,14 +56,18 @@ pub cast_null : cast Integer Null ≡ Null
 unfolding unary
 cast_null = either _ Null
 
--- what holds of each table by its tree
-pub at_table : (P : ℕ → Type 0) (tree : ℕ) (tables : List Table) → AllByRecursion (λ t. t.tree ≢ tree → P t.tree) tables → (t : ℕ) → list_any (λ table. table.tree == t) tables ≡ true → t ≢ tree → P t
-at_table P tree [] all t is other = absurd cc
-at_table P tree (x ∷ tables) all t is other = go (x.tree == t) refl is (λ later. at_table P tree tables all.1 t later other)
+-- each table of the list
+pub each_table : (P : ℕ → Type 0) (tables : List Table) → AllByRecursion (λ t. P t.tree) tables → (t : ℕ) → list_any (λ table. table.tree == t) tables ≡ true → P t
+each_table P [] all t is = absurd cc
+each_table P (x ∷ tables) all t is = go (x.tree == t) refl is (λ later. each_table P tables all.1 t later)
   where
     go : (b : Bool) → (x.tree == t) ≡ b → (b || list_any (λ table. table.tree == t) tables) ≡ true → (list_any (λ table. table.tree == t) tables ≡ true → P t) → P t
-    go true here is later = let same : x.tree ≡ t = eqb-true _ _ here in subst P same (all.0 (λ e. other (sym same ∙ e)))
+    go true here is later = subst P (eqb-true _ _ here) all.0
     go false there is later = later is
+
+-- each table but one
+pub at_table : (P : ℕ → Type 0) (tree : ℕ) (tables : List Table) → AllByRecursion (λ t. t.tree ≢ tree → P t.tree) tables → (t : ℕ) → list_any (λ table. table.tree == t) tables ≡ true → t ≢ tree → P t
+at_table P tree = each_table (λ t. t ≢ tree → P t)
 
 module _ (at : ℕ) (name : List ℕ) (tree : ℕ) (columns : List Column) (primary : List ℕ) (uniques : List (List ℕ)) (orders : List Order) (references : List Reference)
     (there : slice_get desk_tables at ≡ Some (strict name tree columns primary uniques orders references)) where
@@ -75,11 +79,7 @@ module _ (at : ℕ) (name : List ℕ) (tree : ℕ) (columns : List Column) (prim
       → (next tree ≡ put_row (Int (next_rowid (db tree)) ∷ cells) (db tree)) × (is_taken (db tree) (Int (next_rowid (db tree)) ∷ cells) ≡ false)
   placed db next cells typed made =
       let news : numbered Chosen (db tree) (cast_row table (Null ∷ cells) ∷ []) ≡ (Int (next_rowid (db tree)) ∷ cells) ∷ [] = ap (λ r. numbered Chosen (db tree) (r ∷ [])) typed in
-      (made.rows ∙ ap (put_all (db tree)) news, opposite (is_taken (db tree) (Int (next_rowid (db tree)) ∷ cells)) (ap (are_fresh (db tree)) (sym news) ∙ made.fresh))
-    where
-      opposite : (b : Bool) → (not b && true) ≡ true → b ≡ false
-      opposite true h = absurd (true≢false (sym h))
-      opposite false h = refl
+      (made.rows ∙ ap (put_all (db tree)) news, not-true _ (and_parts (not (is_taken (db tree) (Int (next_rowid (db tree)) ∷ cells))) true (ap (are_fresh (db tree)) (sym news) ∙ made.fresh)).0)
 
   inserted : (old next : Database) (cells : Row) → old.schema ≡ desk_schema → cast_row table (Null ∷ cells) ≡ Null ∷ cells → next.schema ≡ desk_schema
       → Applies desk_schema Enforced old.trees (edit_of old.trees table [] Chosen 0 ((Null ∷ cells) ∷ [])) next.trees → Edits tree (λ rows. cells ∷ rows) old next

@@ -1,6 +1,7 @@
 -- What is loaded from the rows that queries found.
-use Rattle.std.proofs.Common.{◌≡◌, ◌≢◌, ℕ, ◌+◌, ◌<◌, pos, Bool, true, false, ◌||◌, List, [], ◌∷◌, map, take, length, get_or, slice_get, All, Any, Option, Some, None, Result, Err, IsErrAnd, refl, sym, ap, subst, ◌∙◌, arith, is_lt, nat_cmp, int_cmp, IsPermutation, IsSorted, IsSortedByKey}
+use Rattle.std.proofs.Common.{◌≡◌, ◌≢◌, ℕ, ◌+◌, ◌<◌, pos, ◌||◌, List, [], ◌∷◌, map, take, length, get_or, slice_get, All, Any, Option, Some, None, Result, Err, IsErrAnd, refl, sym, ap, subst, ◌∙◌, arith, is_lt, nat_cmp, int_cmp, IsPermutation, IsSorted, IsSortedByKey}
 use Rattle.std.specs.Prelude.{⊤}
+use Rattle.std.proofs.Math.Bool.{or-false}
 use Rattle.std.proofs.lemmas.Int.{ints}
 use Rattle.std.proofs.lemmas.List.{get_or-map, length-map}
 use Rattle.std.proofs.lemmas.List.Elements.{All-nil, All-cons}
@@ -21,13 +22,13 @@ use Rattle.policy.specs.declared.rows.HolderRows.{HolderRows}
 use Rattle.policy.specs.Rows.{Rows}
 use Rattle.store.specs.Cells.{number_cell, counter_cells}
 use Rattle.store.specs.Edits.{contents}
-use Rattle.store.specs.TablesHold.{HoldsPart, TablesHold}
-use Rattle.store.specs.Queries.{View, columns, by_column, cells_if_any, Finds}
+use Rattle.store.specs.TablesHold.{items_if_any, HoldsPart, TablesHold}
+use Rattle.store.specs.Queries.{View, columns, by_column, Finds}
 use Rattle.store.specs.declared.decode.Counters.{Counters}
 use Rattle.store.specs.Decode.{IsU32, GrantFits, AuthFits}
 use Rattle.store.specs.declared.fault.StoreFault.{StoreFault}
 use Rattle.store.specs.declared.fault.StoreFault.TheVariants.{Schema}
-use Rattle.store.specs.Loads.{items_if_any, AreInOrder, HaveSame, AreCounters, AreLoaded, FitIfAny, IsOf}
+use Rattle.store.specs.Loads.{AreInOrder, HaveSame, AreCounters, AreLoaded, FitIfAny, IsOf}
 use Rattle.store.proofs.CellsOnce.{values_shown}
 use Rattle.store.proofs.Finding.{cells_found, none_in}
 use Rattle.store.proofs.ReadLemmas.{all_show}
@@ -35,7 +36,7 @@ use Rattle.store.proofs.RowSteps.{taken_more}
 
 module _ {X : Type 0} (v : View) (items : Rows → List X) (cells : X → Row) (is_cells : (r : Rows) → v.cells r ≡ map cells (items r)) (shows : (h : List ℕ) (r : Rows) → map (columns v.places) (v.part.rows h r) ≡ v.cells r)
     (all : List ℕ → Option Rows) (h : List ℕ) (db : Database) (rows : List Row) (holds : HoldsPart v.part all (contents (db.trees v.part.tree))) (found : Finds v h db rows) where
-  cells_of_any : (o : Option Rows) → cells_if_any v o ≡ map cells (items_if_any items o)
+  cells_of_any : (o : Option Rows) → items_if_any v.cells o ≡ map cells (items_if_any items o)
   cells_of_any None = refl
   cells_of_any (Some r) = is_cells r
 
@@ -63,16 +64,12 @@ by_number cells number is xs rows sorted shown k d low high =
     sym (numbers_rise (number later) (number earlier)) ∙ ap is_lt (sym numbers)
     ∙ (λ i. is_lt (by_column 0 (sym (get_or-map cells xs (k + 1) d (cells d) high) i) (sym (get_or-map cells xs k d (cells d) (omega (arith, high))) i))) ∙ at
 
-or_false : (b : Bool) → (b || false) ≡ b
-or_false true = refl
-or_false false = refl
-
 -- one more run in a loop
 pub one_run_more : (spans : List Span) (i : ℕ) (s : Span) (before after : List Span) → i < length spans → s ≡ get_or spans i s → HaveSame (take i spans) before
     → ((a : Address) → spans_have after a ≡ (spans_have before a || span_has s a)) → HaveSame (take (i + 1) spans) after
 one_run_more spans i s before after low is same added a =
     added a ∙ ap (λ b. b || span_has s a) (same a)
-    ∙ sym (ap (λ l. spans_have l a) (taken_more spans i s low is) ∙ list_any-append (λ t. span_has t a) (take i spans) (s ∷ []) ∙ ap (λ b. spans_have (take i spans) a || b) (or_false (span_has s a)))
+    ∙ sym (ap (λ l. spans_have l a) (taken_more spans i s low is) ∙ list_any-append (λ t. span_has t a) (take i spans) (s ∷ []) ∙ ap (λ b. spans_have (take i spans) a || b) (or-false (span_has s a)))
 
 -- ---- the runs in another order have the same addresses
 

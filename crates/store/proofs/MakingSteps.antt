@@ -1,7 +1,6 @@
 -- What each CREATE does to the tables that are made so far.
-use Rattle.std.proofs.Common.{◌≡◌, ℕ, suc, Bool, true, false, List, [], ◌∷◌, ◌++◌, take, ◌||◌, ◌==◌, None, Ok, refl, sym, ap, subst, ◌∙◌}
-use Rattle.std.specs.List.{AllByRecursion, list_any}
-use Rattle.std.proofs.lemmas.Bool.{eqb-true}
+use Rattle.std.proofs.Common.{◌≡◌, ℕ, suc, true, false, List, [], ◌∷◌, ◌++◌, take, None, Ok, sym, ap, subst, ◌∙◌}
+use Rattle.std.specs.List.{AllByRecursion}
 use Rattle.std.proofs.lemmas.List.Sorted.{IsPermutation-refl}
 use Rattle.sqlite_value.specs.Order.{Row}
 use Rattle.sqlite.specs.Change.{created, next_tree, KeepsRows}
@@ -48,15 +47,6 @@ makes n sql table d next old new count before h =
     let empty : first.0.trees table.tree ≡ [] = subst (λ t. first.0.trees t ≡ []) (ap next_tree before.schema ∙ d.place) made.empty in
     grown n table old new before next h.1.mode (ap (λ (d : Database). d.schema) now ∙ schema)
     (subst (λ (d : Database). KeepsRows (take n desk_tables) old.now.trees d.trees) (sym now) kept) (ap (λ (d : Database). d.trees table.tree) now ∙ empty)
-
--- each table of the list
-pub each_table : (P : ℕ → Type 0) (tables : List Table) → AllByRecursion (λ t. P t.tree) tables → (t : ℕ) → list_any (λ table. table.tree == t) tables ≡ true → P t
-each_table P [] all t is = absurd cc
-each_table P (x ∷ tables) all t is = go (x.tree == t) refl is (λ later. each_table P tables all.1 t later)
-  where
-    go : (b : Bool) → (x.tree == t) ≡ b → (b || list_any (λ table. table.tree == t) tables) ≡ true → (list_any (λ table. table.tree == t) tables ≡ true → P t) → P t
-    go true here is later = subst P (eqb-true _ _ here) all.0
-    go false there is later = later is
 
 -- an empty table has the rows of no holder
 pub none_held : (part : Part) (table : List Row) → table ≡ [] → HoldsPart part (λ h. None) (contents table)

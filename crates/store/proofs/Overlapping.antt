@@ -1,5 +1,5 @@
 -- Whether a run of some holder shares an address with a prefix.
-use Rattle.std.proofs.Common.{◌≡◌, ◌↔◌, ℕ, suc, pos, ◌-◌, ◌^◌, ◌<◌, ◌==◌, Bool, true, false, not, ◌||◌, cond, List, [], ◌∷◌, filter, drop, length, take, Option, IsTrue, nat_le, is_le, nat_cmp, int_eq, codes, refl, sym, ap, subst, ◌∙◌, arith, pow_pos}
+use Rattle.std.proofs.Common.{◌≡◌, ◌↔◌, ℕ, suc, pos, ◌-◌, ◌^◌, ◌<◌, ◌==◌, Bool, true, false, not, ◌||◌, cond, List, [], ◌∷◌, filter, drop, length, take, Option, IsTrue, nat_le, is_le, nat_cmp, int_eq, refl, sym, ap, subst, ◌∙◌, arith, pow_pos}
 use Rattle.std.specs.List.{list_any}
 use Rattle.std.proofs.lemmas.Bool.Decides.{nat_tests}
 use Rattle.sqlite.specs.State.{State, Shown}
@@ -11,9 +11,8 @@ use Rattle.sqlite_sql.specs.declared.ops.CompareOp.TheVariants.{Eq, Le, Ge}
 use Rattle.sqlite_sql.specs.declared.ops.BinaryOp.TheVariants.{Compare}
 use Rattle.sqlite_sql.specs.Ops.{binary, is_true}
 use Rattle.sqlite_sql.specs.Term.{lit}
-use Rattle.sqlite_schema.specs.declared.program.Program.{Program}
-use Rattle.sqlite_schema.specs.declared.command.Command.TheVariants.{Select}
 use Rattle.sqlite_rules.proofs.ListLemmas.{some_has, some_from}
+use Rattle.sqlite_rules.proofs.ProbeLemmas.{mapped_has, has_mapped}
 use Rattle.sqlite_typed.proofs.TestLemmas.{at_ints, at_blobs, then_term, last_term}
 use Rattle.addr.specs.Family.{width, family_eq}
 use Rattle.addr.specs.Address.{last_of}
@@ -22,6 +21,7 @@ use Rattle.addr.specs.declared.family.Family.{Family}
 use Rattle.addr.specs.declared.family.Family.TheVariants.{V4, V6}
 use Rattle.addr.specs.declared.prefix.Prefix.{Prefix}
 use Rattle.addr.specs.declared.span.Span.{Span}
+use Rattle.addr.proofs.AddressLemmas.{below_widest, first_below}
 use Rattle.policy.specs.Rows.{Rows}
 use Rattle.store.specs.Tables.{desk_schema}
 use Rattle.store.specs.Cells.{number_cell, family_number, address, holding_row}
@@ -29,23 +29,19 @@ use Rattle.store.specs.Edits.{contents}
 use Rattle.store.specs.TablesHold.{HoldsPart, holding_part}
 use Rattle.store.specs.Queries.{MeetsSome}
 use Rattle.store.proofs.Addresses.{addresses_in_order}
-use Rattle.store.proofs.SomeRow.{has_mapped, from_mapped, of_some, in_table}
-use Rattle.store.proofs.Selecting.{from_table, picks, first_shown}
+use Rattle.store.proofs.SomeRow.{of_some, in_table}
+use Rattle.store.proofs.Selecting.{picks, first_shown}
 use Rattle.store.proofs.QueryLemmas.{shown_open}
 use Rattle.store.proofs.Texts.{overlap_tests, overlap_text, overlap_is}
 
-same_family : (f g : Family) → int_eq (pos (family_number f)) (pos (family_number g)) ≡ family_eq f g
-same_family V4 V4 = refl
-same_family V4 V6 = refl
-same_family V6 V4 = refl
-same_family V6 V6 = refl
+family_tested : (f g : Family) → int_eq (pos (family_number f)) (pos (family_number g)) ≡ family_eq f g
+family_tested V4 V4 = refl
+family_tested V4 V6 = refl
+family_tested V6 V4 = refl
+family_tested V6 V6 = refl
 
 le_is : (a b : ℕ) → is_le (nat_cmp a b) ≡ nat_le a b
 le_is a b = grind (arith, nat_tests)
-
-in_width : (f : Family) (n : ℕ) → n < 2 ^ width f → n < 2 ^ 128
-in_width V4 n low = omega (arith, low)
-in_width V6 n low = low
 
 address_le : (a b : ℕ) → a < 2 ^ 128 → b < 2 ^ 128 → is_true (binary (Compare Le Binary) (Blob (address a)) (Blob (address b))) ≡ nat_le a b
 address_le a b low high = at_blobs false Le (address a) (address b) ∙ ap is_le (addresses_in_order a b low high) ∙ le_is a b
@@ -68,11 +64,11 @@ columns_alone p (v ∷ r) = refl
 
 overlaps_run : (p : Prefix) (h : List ℕ) (s : Span) → overlaps p (holding_row h s) ≡ span_meets s p
 overlaps_run p h s =
-    let ends : last_of p < 2 ^ 128 = in_width p.family (last_of p) (omega (arith, p.in_family, pow_pos (width p.family - p.length))) in
-    let begins : p.first < 2 ^ 128 = omega (arith, ends) in
-    let high : s.hi < 2 ^ 128 = in_width s.family s.hi s.in_family in
+    let ends : last_of p < 2 ^ 128 = below_widest p.family (last_of p) (omega (arith, p.in_family, pow_pos (width p.family - p.length))) in
+    let begins : p.first < 2 ^ 128 = below_widest p.family p.first (first_below p) in
+    let high : s.hi < 2 ^ 128 = below_widest s.family s.hi s.in_family in
     let low : s.lo < 2 ^ 128 = omega (arith, s.ordered, high) in
-    then_term (at_ints false Eq (pos (family_number s.family)) (pos (family_number p.family)) ∙ same_family s.family p.family)
+    then_term (at_ints false Eq (pos (family_number s.family)) (pos (family_number p.family)) ∙ family_tested s.family p.family)
     (then_term (address_le s.lo (last_of p) low ends) (last_term (address_ge s.hi p.first high begins)))
 
 not_zero : (m : ℕ) → (suc m == 0) ≡ false
@@ -96,22 +92,19 @@ module _ (p : Prefix) (all : List ℕ → Option Rows) (table : List Row) (holds
   meets_some any =
       let found = some_has (overlaps p) table any in
       let mine = of_some holding_part all table holds found.0 found.1 in
-      let run = from_mapped (holding_row mine.0) mine.1.holdings found.0 mine.3 in
+      let run = has_mapped (holding_row mine.0) mine.1.holdings found.0 mine.3 in
       (mine.0, mine.1, mine.2, some_from (λ s. span_meets s p) mine.1.holdings run.0 run.1 (sym (overlaps_run p mine.0 run.0) ∙ ap (overlaps p) (sym run.2) ∙ found.2))
 
   some_meets : MeetsSome all p → list_any (overlaps p) table ≡ true
   some_meets it =
       let run = some_has (λ s. span_meets s p) it.1.holdings it.3 in
-      some_from (overlaps p) table (holding_row it.0 run.0) (in_table holding_part all table holds (holding_row it.0 run.0) it.0 it.1 it.2 (has_mapped (holding_row it.0) it.1.holdings run.0 run.1)) (overlaps_run p it.0 run.0 ∙ run.2)
-
-abbrev overlap_query : Program
-overlap_query = record { lets = []; body = from_table 8 overlap_tests (lit (Int (pos 1)) ∷ []) [] (lit (Int (pos 1))) }
+      some_from (overlaps p) table (holding_row it.0 run.0) (in_table holding_part all table holds (holding_row it.0 run.0) it.0 it.1 it.2 (mapped_has (holding_row it.0) it.1.holdings run.0 run.1)) (overlaps_run p it.0 run.0 ∙ run.2)
 
 module _ (p : Prefix) (old new : State) (has : IsTrue old.is_open → old.now.schema ≡ desk_schema) (params : Row) (is : params ≡ run_params p) (rows : List Row) (shown : Shown overlap_text params old new rows) where
   not_empty : not (length rows == 0) ≡ list_any (overlaps p) (contents (old.now.trees 8))
   not_empty =
       let of_run = subst (λ v. Shown overlap_text v old new rows) is shown in
-      let read = reads_as overlap_text (run_params p) old new desk_schema (has (shown_open overlap_text (run_params p) old new rows of_run)) (Select overlap_query (codes "1" ∷ [])) overlap_is.is overlap_is.plain overlap_is.unlisted rows of_run in
+      let read = reads_as overlap_text (run_params p) old new desk_schema (has (shown_open overlap_text (run_params p) old new rows of_run)) _ overlap_is.is overlap_is.plain overlap_is.unlisted rows of_run in
       let first = first_shown 8 overlap_tests (lit (Int (pos 1)) ∷ []) old.now.trees (run_params p) rows (read.answer Null) in
       ap not (ap (λ l. length l == 0) first.2 ∙ one_or_none first.0 _ first.1) ∙ some_pass (picks (run_params p) overlap_tests) (overlaps p) (columns_alone p) (old.now.trees 8)
 

@@ -1,6 +1,7 @@
 -- An edit of the rows of one holder in one table.
-use Rattle.std.proofs.Common.{◌≡◌, ℕ, Bool, true, false, cond, if◌then◌else◌, not, List, [], ◌∷◌, map, filter, Option, Some, None, option_map, IsSome, refl, sym, ap, subst, ◌∙◌, IsPermutation, is_eq}
+use Rattle.std.proofs.Common.{◌≡◌, ℕ, Bool, true, false, cond, if◌then◌else◌, not, ◌&&◌, List, [], ◌∷◌, map, filter, Option, Some, None, option_map, IsSome, refl, sym, ap, subst, ◌∙◌, IsPermutation, is_eq}
 use Rattle.std.specs.List.{AllByRecursion}
+use Rattle.std.proofs.Math.Bool.{and_comm}
 use Rattle.std.proofs.lemmas.Bool.{both_ways}
 use Rattle.std.proofs.lemmas.List.Sorted.{IsPermutation-trans, IsPermutation-cons, IsPermutation-map}
 use Rattle.sqlite_value.specs.declared.value.Value.{Value}
@@ -57,23 +58,17 @@ module _ (place : ℕ) (h : List ℕ) where
     texts = λ rows all. (ap is_text is, all);
   }
 
-  both_orders : (a b : Bool) → cond a b false ≡ cond b a false
-  both_orders true true = refl
-  both_orders true false = refl
-  both_orders false true = refl
-  both_orders false false = refl
-
   module _ (goes : Row → Bool) (own : (c : Row) → goes c ≡ true → names place h c ≡ true) where
-    not_other : (k : List ℕ) → same_name h k ≡ false → (c : Row) → cond (not (goes c)) (names place k c) false ≡ names place k c
+    not_other : (k : List ℕ) → same_name h k ≡ false → (c : Row) → (not (goes c) && names place k c) ≡ names place k c
     not_other k differ c = go (goes c) refl
       where
-        go : (b : Bool) → goes c ≡ b → cond (not b) (names place k c) false ≡ names place k c
+        go : (b : Bool) → goes c ≡ b → (not b && names place k c) ≡ names place k c
         go true is = sym (one_name h k (column c place) differ (own c is))
         go false is = refl
 
     pub take_local : IsLocal place h (filter (λ c. not (goes c)))
     take_local = record {
-      mine = λ rows. filter_twice (names place h) (λ c. not (goes c)) rows ∙ (λ i. filter (λ c. both_orders (not (goes c)) (names place h c) i) rows) ∙ sym (filter_twice (λ c. not (goes c)) (names place h) rows);
+      mine = λ rows. filter_twice (names place h) (λ c. not (goes c)) rows ∙ (λ i. filter (λ c. and_comm (not (goes c)) (names place h c) i) rows) ∙ sym (filter_twice (λ c. not (goes c)) (names place h) rows);
       others = λ k differ rows. filter_twice (names place k) (λ c. not (goes c)) rows ∙ (λ i. filter (λ c. not_other k differ c i) rows);
       permutes = λ xs ys same. IsPermutation-filter (λ c. not (goes c)) xs ys same;
       texts = λ rows all. all-filter _ (λ c. not (goes c)) rows all;

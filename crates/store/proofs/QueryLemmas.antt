@@ -7,6 +7,7 @@ use Rattle.sqlite.specs.Listing.{understood, reads_listing, IsSourceOf}
 use Rattle.sqlite.specs.State.{State, KeepsCommit, IsUnchanged, IsRolledBack, IsNotRun, Shown, ShowsRows, FailsToQuery, FailsToShow, IsTooLate, CommitsShowing, HasCleanDisk, Survives}
 use Rattle.sqlite.specs.Clock.{timed}
 use Rattle.sqlite.proofs.Callers.{IsPlain, unchanged_then, never_commits}
+use Rattle.sqlite.proofs.InsideLemmas.{unchanged_keeps}
 use Rattle.sqlite.proofs.StateLemmas.{survives_then}
 use Rattle.sqlite_value.specs.Order.{Row}
 use Rattle.sqlite_trees.specs.Tree.{Trees}
@@ -45,16 +46,9 @@ failed_to_query sql params old new e (inr ran) = go ran.0.returning ran.2
     go (Some what) (inl refused) = inl refused.1
     go (Some what) (inr fails) = inr fails.3
 
-pub unchanged_keeps : (old new : State) → IsUnchanged old new → KeepsCommit old new
-unchanged_keeps old new same = record { was_open = λ _. same.0.was_open; committed = λ _. same.0.committed_is }
-
-pub kept_either : (old new : State) → IsUnchanged old new ⊎ IsRolledBack old new → KeepsCommit old new
-kept_either old new (inl same) = unchanged_keeps old new same
-kept_either old new (inr back) = record { was_open = back.was_open; committed = λ opened. (back.undone opened).1 }
-
 pub kept_inside : (sql : List ℕ) (params : Row) (old new : State) (e : Error) → FailsToQuery sql params old new e ⊎ IsTooLate sql params old new e → KeepsCommit old new
-kept_inside sql params old new e (inl failed) = kept_either old new (failed_to_query sql params old new e failed)
-kept_inside sql params old new e (inr late) = unchanged_keeps old new late.5
+kept_inside sql params old new e (inl failed) = unchanged_keeps old new (failed_to_query sql params old new e failed)
+kept_inside sql params old new e (inr late) = unchanged_keeps old new (inl late.5)
 
 pub answered_inside : (sql : List ℕ) (command : Command) → Means sql command → (params : Row) (old new : State) (rows : List Row) → IsReady old → Shown sql params old new rows → IsUnchanged old new
 answered_inside sql command means params old new rows ready shown = asked_same sql command means params old new rows (ready.schema (shown_open sql params old new rows shown)) shown

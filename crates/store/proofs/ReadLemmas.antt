@@ -1,22 +1,22 @@
 -- The parts of typed values in the cells that show them.
-use Rattle.std.proofs.Common.{◌≡◌, ◌≢◌, ℕ, ◌-◌, ◌^◌, ◌<◌, ◌≤◌, ◌↔◌, List, [], ◌∷◌, length, get_or, arith, ap, sym, ◌∙◌, refl, subst}
+use Rattle.std.proofs.Common.{◌≡◌, ◌≢◌, ℕ, ◌^◌, ◌<◌, ◌≤◌, ◌↔◌, List, [], ◌∷◌, length, get_or, arith, ap, sym, ◌∙◌, refl, subst}
 use Rattle.std.specs.Prelude.{Option, Some, None, IsSome, IfSome, ⊤, map, All, Any}
 use Rattle.std.specs.List.Sorted.{IsPermutation}
 use Rattle.std.proofs.lemmas.List.Elements.{All-map}
 use Rattle.std.proofs.lemmas.List.Sorted.{All-permutation}
 use Rattle.std.proofs.lemmas.List.FromFn.{fill_by_all}
-use Rattle.std.proofs.lemmas.Nat.{pow_pos}
 use Rattle.sqlite_value.specs.declared.value.Value.TheVariants.{Null, Blob}
 use Rattle.sqlite_value.specs.Order.{Row, column}
 use Rattle.addr.specs.declared.family.Family.{Family}
-use Rattle.addr.specs.declared.family.Family.TheVariants.{V4, V6}
 use Rattle.addr.specs.declared.prefix.Prefix.{Prefix}
 use Rattle.addr.specs.declared.span.Span.{Span}
 use Rattle.addr.specs.Family.{width}
 use Rattle.addr.specs.Address.{IsPrefix}
+use Rattle.addr.proofs.AddressLemmas.{below_widest, first_below}
 use Rattle.store.specs.Cells.{address, number_cell, family_number, prefix_cells, span_cells}
 use Rattle.store.specs.Decode.{Reads, first_columns}
 use Rattle.store.proofs.AddressBytes.{address_once, length-address}
+use Rattle.store.proofs.CellsOnce.{one_family}
 
 pub all_columns : (count : ℕ) (row : Row) → length row ≡ count → row ≡ first_columns count row
 all_columns count row whole = fill_by_all (column row) row count Null whole (λ k within. refl)
@@ -27,28 +27,16 @@ pub address_reads :
 address_reads bytes None some none = λ n _ same. none refl (let e : address n ≡ bytes = cc in sym (ap length e) ∙ length-address n)
 address_reads bytes (Some n) some none = (tt, ap Blob some)
 
-family_once : (f g : Family) → number_cell (family_number f) ≡ number_cell (family_number g) → f ≡ g
-family_once V4 V4 same = refl
-family_once V6 V6 same = refl
-family_once V4 V6 same = cc
-family_once V6 V4 same = cc
-
-width_most : (f : Family) → 2 ^ width f ≤ 2 ^ 128
-width_most V4 = omega arith
-width_most V6 = omega arith
-
 prefix_of_parts :
     (p : Prefix) (family : Family) (first length : ℕ) → first < 2 ^ 128
     → prefix_cells p ≡ number_cell (family_number family) ∷ Blob (address first) ∷ number_cell length ∷ []
     → IsPrefix family first length
 prefix_of_parts p family first length fits same =
-    let f : p.family ≡ family = family_once p.family family (cc) in
-    let some : 0 < 2 ^ (width p.family - p.length) = pow_pos (width p.family - p.length) in
-    let most : 2 ^ width p.family ≤ 2 ^ 128 = width_most p.family in
+    let f : p.family ≡ family = one_family p.family family (cc) in
+    let inside : p.first < 2 ^ width p.family = first_below p in
     let bytes : address p.first ≡ address first = cc in
-    let a : p.first ≡ first = address_once p.first first (omega arith) fits bytes in
+    let a : p.first ≡ first = address_once p.first first (below_widest p.family p.first inside) fits bytes in
     let l : p.length ≡ length = cc in
-    let inside : p.first < 2 ^ width p.family = omega arith in
     subst (λ g. IsPrefix g first length) f
     (subst (λ n. IsPrefix p.family n length) a
     (subst (λ n. IsPrefix p.family p.first n) l (p.length_fits, inside, p.aligned)))
@@ -67,12 +55,12 @@ span_of_parts :
     → span_cells s ≡ number_cell (family_number family) ∷ Blob (address lo) ∷ Blob (address hi) ∷ []
     → (lo ≤ hi) × (hi < 2 ^ width family)
 span_of_parts s family lo hi lo_fits hi_fits same =
-    let f : s.family ≡ family = family_once s.family family (cc) in
-    let most : 2 ^ width s.family ≤ 2 ^ 128 = width_most s.family in
+    let f : s.family ≡ family = one_family s.family family (cc) in
+    let low : s.hi < 2 ^ 128 = below_widest s.family s.hi s.in_family in
     let first : address s.lo ≡ address lo = cc in
     let last : address s.hi ≡ address hi = cc in
     let l : s.lo ≡ lo = address_once s.lo lo (omega arith) lo_fits first in
-    let h : s.hi ≡ hi = address_once s.hi hi (omega arith) hi_fits last in
+    let h : s.hi ≡ hi = address_once s.hi hi low hi_fits last in
     let w : 2 ^ width s.family ≡ 2 ^ width family = ap (λ g. 2 ^ width g) f in
     (omega arith, omega arith)
 

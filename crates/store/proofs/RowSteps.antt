@@ -1,6 +1,10 @@
 -- Steps of edits of a holder's rows, one after another.
-use Rattle.std.proofs.Common.{◌≡◌, ℕ, Bool, true, false, cond, not, ◌||◌, ◌==◌, List, [], ◌∷◌, ◌++◌, filter, Option, Some, None, option_map, is_some, if◌then◌else◌, Result, Ok, Err, OnOk, IsSome, ◌+◌, ◌<◌, length, take, get_or, refl, sym, ap, subst, ◌∙◌, append-nil, append_assoc}
+use Rattle.std.proofs.Common.{◌≡◌, ℕ, Bool, true, false, cond, not, ◌||◌, ◌==◌, List, [], ◌∷◌, ◌++◌, filter, Option, Some, None, option_map, is_some, if◌then◌else◌, IsSome, ◌+◌, ◌<◌, length, take, get_or, refl, sym, ap, subst, ◌∙◌, append-nil, append_assoc}
+use Rattle.std.proofs.Math.Bool.{or-false}
+use Rattle.std.proofs.lemmas.Bool.{cond-true, cond-false}
 use Rattle.std.proofs.lemmas.List.{take_more}
+use Rattle.std.proofs.lemmas.List.Folds.{list_any-append}
+use Rattle.sqlite.proofs.InsideLemmas.{keeps_then}
 use Rattle.sqlite.proofs.StateLemmas.{survives_then}
 use Rattle.std.specs.List.{list_any}
 use Rattle.sqlite.specs.Effect.{Database}
@@ -17,7 +21,7 @@ use Rattle.policy.proofs.Names.{same_name-true}
 use Rattle.store.specs.TablesHold.{TablesHold, at_holder, EditsRows}
 use Rattle.store.specs.RowEdits.{with_holding, with_holdings, without_auth, without_auths, is_registration}
 use Rattle.store.specs.Steps.{IsReady, Done, Tells, Registers, Turned, registered}
-use Rattle.store.proofs.TreeRows.{filter_twice}
+use Rattle.store.proofs.TreeRows.{filter_twice, all_kept, neither}
 
 -- equal rows of every holder
 pub same_rows : (charter : CharterSets) (rows other : List ℕ → Option Rows) (trees : Trees) → ((k : List ℕ) → rows k ≡ other k) → TablesHold charter rows trees → TablesHold charter other trees
@@ -62,28 +66,13 @@ no_holdings r = λ i. record r { holdings = append-nil r.holdings i }
 pub one_more_holding : (spans : List Span) (s : Span) (r : Rows) → with_holding s (with_holdings spans r) ≡ with_holdings (spans ++ s ∷ []) r
 one_more_holding spans s r = λ i. record r { holdings = append_assoc r.holdings spans (s ∷ []) i }
 
-all_kept : (auths : List Auth) → filter (λ x. true) auths ≡ auths
-all_kept [] = refl
-all_kept (x ∷ auths) = ap (λ l. x ∷ l) (all_kept auths)
-
 pub no_auths : (r : Rows) → without_auths [] r ≡ r
 no_auths r = λ i. record r { auths = all_kept r.auths i }
 
-any_more : {A : Type 0} (p : A → Bool) (xs : List A) (y : A) → list_any p (xs ++ y ∷ []) ≡ (list_any p xs || p y)
-any_more p [] y = elim (p y) as (λ b. (b || false) ≡ b) [ true ↦ refl | false ↦ refl ]
-any_more p (x ∷ xs) y = ap (λ b. p x || b) (any_more p xs y) ∙ regroup (p x) (list_any p xs) (p y)
-  where
-    regroup : (a b c : Bool) → (a || (b || c)) ≡ ((a || b) || c)
-    regroup true b c = refl
-    regroup false b c = refl
-
-both_out : (a b : Bool) → cond (not a) (not b) false ≡ not (a || b)
-both_out true b = refl
-both_out false b = refl
-
 pub one_auth_less : (ns : List ℕ) (n : ℕ) (r : Rows) → without_auth n (without_auths ns r) ≡ without_auths (ns ++ n ∷ []) r
 one_auth_less ns n r =
-    let at = λ (x : Auth). both_out (list_any (λ k. x.number == k) ns) (x.number == n) ∙ ap not (sym (any_more (λ k. x.number == k) ns n)) in
+    let at = λ (x : Auth). neither (list_any (λ k. x.number == k) ns) (x.number == n)
+    ∙ ap not (sym (list_any-append (λ k. x.number == k) ns (n ∷ []) ∙ ap (λ b. list_any (λ k. x.number == k) ns || b) (or-false (x.number == n)))) in
     let out = filter_twice (λ x. not (x.number == n)) (λ x. not (list_any (λ k. x.number == k) ns)) r.auths ∙ (λ i. filter (λ x. at x i) r.auths) in
     λ i. record r { auths = out i }
 
@@ -94,20 +83,10 @@ taken_more xs i x low is = take_more xs i x low ∙ ap (λ y. take i xs ++ y ∷
 pub quiet_then : (a b c : State) → Survives a b (λ _. ⊥) → Survives b c (λ _. ⊥) → Survives a c (λ _. ⊥)
 quiet_then a b c = survives_then a b c (λ _. ⊥) (λ _. ⊥) (λ _. ⊥) (λ _ db none. none) (λ _ db none. none)
 
-pub commit_then : (a b c : State) → KeepsCommit a b → KeepsCommit b c → KeepsCommit a c
-commit_then a b c first second = record {
-  was_open = λ opened. first.was_open (second.was_open opened);
-  committed = λ opened. second.committed opened ∙ first.committed (second.was_open opened);
-}
-
 -- one more step of a loop
 pub along : (h : List ℕ) (f g e : Rows → Rows) (a b c : State) → ((r : Rows) → g (f r) ≡ e r) → (HasCleanDisk b → KeepsCommit a b × Done h f a b) → HasCleanDisk b
     → KeepsCommit b c → Done h g b c → KeepsCommit a c × Done h e a c
-along h f g e a b c same before clean kept done = (commit_then a b c (before clean).0 kept, done_then h f g e a b c same (before clean).1 done)
-
-pub on_ok : {A E P Q : Type 0} (r : Result A E) → (P → Q) → OnOk r P → OnOk r Q
-on_ok (Ok a) f p = f p
-on_ok (Err e) f p = tt
+along h f g e a b c same before clean kept done = (keeps_then a b c (before clean).0 kept, done_then h f g e a b c same (before clean).1 done)
 
 -- ---- a change
 
@@ -141,23 +120,14 @@ module _ (h : List ℕ) (edit : Edit) where
   none_there None is = refl
   none_there (Some r) is = absurd cc
 
-  registering : (e : Edit) → is_registration e ≡ true → Some new_rows ≡ edited_if_any e None
-  registering Register is = refl
-  registering (Hold holdings ended) is = absurd cc
-  registering (Grant g) is = absurd cc
-  registering (Revoke n) is = absurd cc
-  registering (Create x) is = absurd cc
-  registering (Amend x) is = absurd cc
-  registering (Withdraw n) is = absurd cc
-
-  leaving : (e : Edit) → is_registration e ≡ false → None ≡ edited_if_any e None
-  leaving Register is = absurd cc
-  leaving (Hold holdings ended) is = refl
-  leaving (Grant g) is = refl
-  leaving (Revoke n) is = refl
-  leaving (Create x) is = refl
-  leaving (Amend x) is = refl
-  leaving (Withdraw n) is = refl
+  from_none : (e : Edit) → edited_if_any e None ≡ (if is_registration e then Some new_rows else None)
+  from_none Register = refl
+  from_none (Hold holdings ended) = refl
+  from_none (Grant g) = refl
+  from_none (Revoke n) = refl
+  from_none (Create x) = refl
+  from_none (Amend x) = refl
+  from_none (Withdraw n) = refl
 
   pub turned_new : (told : Bool) (a b c : State) → Tells h told a b → told ≡ false → is_registration edit ≡ true → Registers h b c → Turned edited_at a c
   turned_new told a b c tells is registers done = record {
@@ -165,7 +135,7 @@ module _ (h : List ℕ) (edit : Edit) where
     ready = done.ready;
     rows = λ charter rows was.
         let none = none_there (rows h) (sym (tells.answer charter rows was) ∙ is) in
-        same_rows charter (registered h rows) (edited_at rows) c.now.trees (at_name (λ _. Some new_rows) rows (registering edit registers ∙ ap (edited_if_any edit) (sym none)))
+        same_rows charter (registered h rows) (edited_at rows) c.now.trees (at_name (λ _. Some new_rows) rows (sym (from_none edit ∙ cond-true _ _ _ registers) ∙ ap (edited_if_any edit) (sym none)))
         (done.rows charter rows (subst (λ (d : Database). TablesHold charter rows d.trees) (sym tells.same) was) none);
   }
 
@@ -175,7 +145,7 @@ module _ (h : List ℕ) (edit : Edit) where
     ready = tells.ready;
     rows = λ charter rows was.
         let none = none_there (rows h) (sym (tells.answer charter rows was) ∙ is) in
-        same_rows charter rows (edited_at rows) b.now.trees (λ k. kept (same_name h k) (rows k) ∙ at_name (λ o. o) rows (none ∙ leaving edit leaves ∙ ap (edited_if_any edit) (sym none)) k)
+        same_rows charter rows (edited_at rows) b.now.trees (λ k. kept (same_name h k) (rows k) ∙ at_name (λ o. o) rows (none ∙ sym (from_none edit ∙ cond-false _ _ _ leaves) ∙ ap (edited_if_any edit) (sym none)) k)
         (subst (λ (d : Database). TablesHold charter rows d.trees) (sym tells.same) was);
   }
     where

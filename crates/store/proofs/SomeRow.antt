@@ -1,5 +1,5 @@
 -- A row of a table is one of some holder, and a row of a holder is one of the table.
-use Rattle.std.proofs.Common.{◌≡◌, ℕ, true, List, [], ◌∷◌, map, Option, Some, None, inl, inr, refl, sym, ap, subst, IsPermutation}
+use Rattle.std.proofs.Common.{◌≡◌, ℕ, true, List, Option, Some, None, refl, sym, subst, IsPermutation}
 use Rattle.std.proofs.lemmas.List.Sorted.{IsPermutation-sym, Contains-permutation}
 use Rattle.sqlite_value.specs.declared.value.Value.{Value}
 use Rattle.sqlite_value.specs.declared.value.Value.TheVariants.{Null, Int, Real, Text, Blob}
@@ -10,19 +10,8 @@ use Rattle.policy.specs.Rows.{Rows}
 use Rattle.store.specs.TablesHold.{Part, HoldsPart, rows_if_any, is_text}
 use Rattle.store.proofs.PartLemmas.{names, name_of_itself}
 
-module _ {X : Type 0} where
-  pub has_permuted : (xs ys : List X) (x : X) → IsPermutation xs ys → Has xs x → Has ys x
-  has_permuted xs ys x same has = has_contained ys x (Contains-permutation xs ys x same (contains_had xs x has))
-
-  pub has_mapped : {Y : Type 0} (f : X → Y) (xs : List X) (x : X) → Has xs x → Has (map f xs) (f x)
-  has_mapped f [] x has = absurd has
-  has_mapped f (y ∷ xs) x (inl is) = inl (ap f is)
-  has_mapped f (y ∷ xs) x (inr more) = inr (has_mapped f xs x more)
-
-  pub from_mapped : {Y : Type 0} (f : X → Y) (xs : List X) (y : Y) → Has (map f xs) y → (x : X) × Has xs x × (y ≡ f x)
-  from_mapped f [] y has = absurd has
-  from_mapped f (x ∷ xs) y (inl is) = (x, inl refl, is)
-  from_mapped f (x ∷ xs) y (inr more) = let it = from_mapped f xs y more in (it.0, inr it.1, it.2)
+pub has_permuted : {X : Type 0} (xs ys : List X) (x : X) → IsPermutation xs ys → Has xs x → Has ys x
+has_permuted xs ys x same has = has_contained ys x (Contains-permutation xs ys x same (contains_had xs x has))
 
 text_in : (v : Value) → is_text v ≡ true → (t : List ℕ) × (v ≡ Text t)
 text_in Null is = absurd cc

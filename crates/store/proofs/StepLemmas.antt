@@ -50,7 +50,7 @@ pub column_after : (r : Row) (at : ℕ) → column r (suc at) ≡ column (drop 1
 column_after [] at = refl
 column_after (v ∷ r) at = refl
 
-module _ (sql : List ℕ) (params : Row) (command : Command) (means : Means sql command) (old new : State) (ready : IsReady old) (count : ℕ) (h : ExecutesInside 0 sql params old new (Ok count)) where
+module _ {sql : List ℕ} (params : Row) {command : Command} (means : Means sql command) {old new : State} (ready : IsReady old) (count : ℕ) (h : ExecutesInside 0 sql params old new (Ok count)) where
   pub has_schema : old.now.schema ≡ desk_schema
   has_schema = ready.schema h.1.was_open
 
@@ -63,16 +63,13 @@ module _ (sql : List ℕ) (params : Row) (command : Command) (means : Means sql 
     rows = rows;
   }
 
-eqb_itself : (n : ℕ) → (n == n) ≡ true
-eqb_itself n = eq-eqb n n refl
-
 -- every other table stays sound
 pub sound_still : (tree : ℕ) (by : List Row → List Row) (old new : Database) → Edits tree by old new → AreTrees old.trees → AreTrees new.trees
 sound_still tree by old new e sound t is = go (t == tree) refl
   where
     go : (b : Bool) → (t == tree) ≡ b → IsTree (new.trees t)
     go true same = let it : t ≡ tree = eqb-true _ _ same in subst (λ k. IsTree (new.trees k)) (sym it) (e.whole (subst (λ k. IsTree (old.trees k)) it (sound t is)))
-    go false other = subst IsTree (sym (e.others t is (λ it. both_ways _ other (rw it (eqb_itself tree))))) (sound t is)
+    go false other = subst IsTree (sym (e.others t is (λ it. both_ways _ other (rw it (eq-eqb tree tree refl))))) (sound t is)
 
 -- the charter stays where another table is edited
 pub charter_still : (charter : CharterSets) (tree : ℕ) (by : List Row → List Row) (old new : Database) → Edits tree by old new → 0 ≢ tree → 2 ≢ tree → 4 ≢ tree → HoldsCharter charter old.trees → HoldsCharter charter new.trees

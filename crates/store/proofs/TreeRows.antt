@@ -1,10 +1,10 @@
 -- What putting and removing rows does to the rows of a tree.
-use Rattle.std.proofs.Common.{◌≡◌, ℤ, Bool, true, false, not, ◌||◌, ◌&&◌, cond, List, [], ◌∷◌, ◌++◌, map, filter, refl, sym, ap, ◌∙◌, Ordering, Less, Equal, Greater, is_eq, true≢false, IsPermutation, inl, inr}
+use Rattle.std.proofs.Common.{◌≡◌, ℤ, Bool, true, false, not, ◌||◌, ◌&&◌, cond, List, [], ◌∷◌, ◌++◌, map, filter, refl, sym, ap, ◌∙◌, Ordering, Less, Equal, Greater, is_eq, IsPermutation, inl, inr}
 use Rattle.std.specs.List.{AllByRecursion, list_any}
-use Rattle.std.specs.Ordering.{ordering_reverse, match_ordering}
-use Rattle.std.proofs.lemmas.Bool.{or_parts, both_ways, false_from_ne_true}
+use Rattle.std.specs.Ordering.{match_ordering}
+use Rattle.std.proofs.lemmas.Bool.{and_parts, or_parts, not-true, both_ways, false_from_ne_true}
 use Rattle.std.proofs.lemmas.Cmp.{tied_itself}
-use Rattle.std.proofs.lemmas.List.Sorted.{list_any-IsPermutation, IsPermutation-refl, IsPermutation-cons, IsPermutation-middle, IsPermutation-trans}
+use Rattle.std.proofs.lemmas.List.Sorted.{list_any-IsPermutation, IsPermutation-refl, IsPermutation-cons, IsPermutation-middle, IsPermutation-trans, IsPermutation-sym, IsPermutation-append_right}
 use Rattle.sqlite_value.specs.declared.value.Value.{Value}
 use Rattle.sqlite_value.specs.declared.value.Value.TheVariants.{Int}
 use Rattle.sqlite_value.specs.Order.{Row, value_cmp}
@@ -17,15 +17,11 @@ use Rattle.sqlite_rules.specs.Edit.{id_in, is_taken, are_fresh, put_all, without
 use Rattle.sqlite_rules.specs.Lists.{Has}
 use Rattle.sqlite_rules.proofs.TableLemmas.{int_is}
 use Rattle.sqlite_rules.proofs.ListLemmas.{all_has, all_from, some_has, some_from, has_filtered, has_kept}
+use Rattle.sqlite_typed.proofs.TestLemmas.{turn_eq}
 use Rattle.store.specs.Edits.{IsTree}
 
-reversed : (o : Ordering) → is_eq (ordering_reverse o) ≡ is_eq o
-reversed Less = refl
-reversed Equal = refl
-reversed Greater = refl
-
 pub alike_flip : (a b : Value) → is_eq (value_cmp a b) ≡ is_eq (value_cmp b a)
-alike_flip a b = ap is_eq (value_cmp_total.antisymm a b) ∙ reversed _
+alike_flip = turn_eq value_cmp value_cmp_total
 
 abbrev IsOther : Row → Row → Type 0
 IsOther a b = is_eq (value_cmp (rowid a) (rowid b)) ≡ false
@@ -60,57 +56,33 @@ put_tree new rows keyed free tree = (up rows free tree.0, all-put_row _ new rows
 pub put_all_permutes : (news rows : List Row) → are_fresh rows news ≡ true → IsPermutation (news ++ rows) (put_all rows news)
 put_all_permutes [] rows fresh = IsPermutation-refl _
 put_all_permutes (r ∷ news) rows fresh =
-    let free : is_taken rows r ≡ false = first_free (is_taken rows r) (are_fresh (put_row r rows) news) fresh in
-    let later : are_fresh (put_row r rows) news ≡ true = rest_fresh (is_taken rows r) (are_fresh (put_row r rows) news) fresh in
-    IsPermutation-trans _ _ _ (moved r news rows) (IsPermutation-trans _ _ _ (under news _ _ (put_permutes r rows free)) (put_all_permutes news (put_row r rows) later))
-  where
-    first_free : (a b : Bool) → (not a && b) ≡ true → a ≡ false
-    first_free true b h = absurd (true≢false (sym h))
-    first_free false b h = refl
-
-    rest_fresh : (a b : Bool) → (not a && b) ≡ true → b ≡ true
-    rest_fresh true b h = absurd (true≢false (sym h))
-    rest_fresh false b h = h
-
-    moved : (r : Row) (news rows : List Row) → IsPermutation (r ∷ news ++ rows) (news ++ r ∷ rows)
-    moved r [] rows = IsPermutation-refl _
-    moved r (n ∷ news) rows = IsPermutation-trans _ _ _ (IsPermutation-middle (r ∷ []) n (news ++ rows)) (IsPermutation-cons n _ _ (moved r news rows))
-
-    under : (front xs ys : List Row) → IsPermutation xs ys → IsPermutation (front ++ xs) (front ++ ys)
-    under [] xs ys h = h
-    under (x ∷ front) xs ys h = IsPermutation-cons x _ _ (under front xs ys h)
+    let parts = and_parts (not (is_taken rows r)) (are_fresh (put_row r rows) news) fresh in
+    IsPermutation-trans _ _ _ (IsPermutation-sym _ _ (IsPermutation-middle news r rows))
+    (IsPermutation-trans _ _ _ (IsPermutation-append_right news _ _ (put_permutes r rows (not-true _ parts.0))) (put_all_permutes news (put_row r rows) parts.1))
 
 pub put_all_tree : (news rows : List Row) → have_rowids news ≡ true → are_fresh rows news ≡ true → IsTree rows → IsTree (put_all rows news)
 put_all_tree [] rows keyed fresh tree = tree
 put_all_tree (r ∷ news) rows keyed fresh tree =
-    let key = both_true (is_int (rowid r)) (have_rowids news) keyed in
-    let free = both_true (not (is_taken rows r)) (are_fresh (put_row r rows) news) fresh in
-    put_all_tree news (put_row r rows) key.1 free.1 (put_tree r rows key.0 (opposite (is_taken rows r) free.0) tree)
-  where
-    both_true : (a b : Bool) → (a && b) ≡ true → (a ≡ true) × (b ≡ true)
-    both_true true b h = (refl, h)
-    both_true false b h = absurd (true≢false (sym h))
+    let key = and_parts (is_int (rowid r)) (have_rowids news) keyed in
+    let free = and_parts (not (is_taken rows r)) (are_fresh (put_row r rows) news) fresh in
+    put_all_tree news (put_row r rows) key.1 free.1 (put_tree r rows key.0 (not-true _ free.0) tree)
 
-    opposite : (a : Bool) → not a ≡ true → a ≡ false
-    opposite true h = absurd (true≢false (sym h))
-    opposite false h = refl
-
-pub filter_twice : {A : Type 0} (p q : A → Bool) (xs : List A) → filter p (filter q xs) ≡ filter (λ x. cond (q x) (p x) false) xs
+pub filter_twice : {A : Type 0} (p q : A → Bool) (xs : List A) → filter p (filter q xs) ≡ filter (λ x. q x && p x) xs
 filter_twice p q [] = refl
 filter_twice p q (x ∷ xs) =
-    elim (q x) as (λ b. filter p (cond b (x ∷ filter q xs) (filter q xs)) ≡ cond (cond b (p x) false) (x ∷ filter (λ y. cond (q y) (p y) false) xs) (filter (λ y. cond (q y) (p y) false) xs))
+    elim (q x) as (λ b. filter p (cond b (x ∷ filter q xs) (filter q xs)) ≡ cond (b && p x) (x ∷ filter (λ y. q y && p y) xs) (filter (λ y. q y && p y) xs))
     [ true ↦ ap (λ l. cond (p x) (x ∷ l) l) (filter_twice p q xs) | false ↦ filter_twice p q xs ]
 
-neither : (a b : Bool) → cond (not a) (not b) false ≡ not (a || b)
+pub neither : (a b : Bool) → (not a && not b) ≡ not (a || b)
 neither true b = refl
 neither false b = refl
 
+pub all_kept : {A : Type 0} (xs : List A) → filter (λ x. true) xs ≡ xs
+all_kept [] = refl
+all_kept (x ∷ xs) = ap (λ l. x ∷ l) (all_kept xs)
+
 pub without_all-filter : (gone : List ℤ) (rows : List Row) → without_all rows gone ≡ filter (λ r. not (list_any (λ id. has_rowid id r) gone)) rows
-without_all-filter [] rows = sym (every rows)
-  where
-    every : (rows : List Row) → filter (λ r. true) rows ≡ rows
-    every [] = refl
-    every (r ∷ rows) = ap (λ l. r ∷ l) (every rows)
+without_all-filter [] rows = sym (all_kept rows)
 without_all-filter (id ∷ gone) rows =
     without_all-filter gone (without_rowid id rows)
     ∙ filter_twice (λ r. not (list_any (λ other. has_rowid other r) gone)) (λ r. not (has_rowid id r)) rows

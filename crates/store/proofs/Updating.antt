@@ -10,7 +10,6 @@ use Rattle.sqlite.proofs.Callers.{one_step}
 use Rattle.sqlite_value.specs.declared.value.Value.TheVariants.{Null}
 use Rattle.sqlite_value.specs.declared.keys.Order.{Order}
 use Rattle.sqlite_value.specs.Order.{Row}
-use Rattle.sqlite_trees.specs.Tree.{put_row}
 use Rattle.sqlite_trees.proofs.ListLemmas.{map-map, ascending-filter, all-filter}
 use Rattle.sqlite_sql.specs.Term.{Term, col, eval_all}
 use Rattle.sqlite_schema.specs.declared.schema.Column.{Column}
@@ -22,7 +21,8 @@ use Rattle.sqlite_schema.specs.declared.command.Command.TheVariants.{Update}
 use Rattle.sqlite_rules.specs.declared.error.Rowids.TheVariants.{Given}
 use Rattle.sqlite_rules.specs.Calls.{ids_of}
 use Rattle.sqlite_rules.specs.Cast.{cast_all, cast_row}
-use Rattle.sqlite_rules.specs.Edit.{Applies, edit_of, numbered, put_all, without_all, have_rowids, are_fresh, taken_by, with_rowid}
+use Rattle.sqlite_rules.specs.Edit.{Applies, edit_of, numbered, put_all, without_all, have_rowids, are_fresh, taken_by}
+use Rattle.sqlite_rules.proofs.PlaceLemmas.{given}
 use Rattle.store.specs.Tables.{strict, desk_schema, desk_tables}
 use Rattle.store.specs.Edits.{contents, IsTree, Edits}
 use Rattle.store.proofs.TreeRows.{without_picked, put_all_permutes, put_all_tree}
@@ -33,10 +33,6 @@ use Rattle.store.proofs.Deleting.{shown_ids}
 -- the row as it is changed, where the test passes
 abbrev pub changed_if : (Row → Bool) → (Row → Row) → Row → Row
 changed_if goes change c = if goes c then change c else c
-
-given_rows : (rows news : List Row) → numbered Given rows news ≡ news
-given_rows rows [] = refl
-given_rows rows (r ∷ news) = ap (λ l. r ∷ l) (given_rows (put_row (with_rowid Given rows r) rows) news)
 
 picked_changed : {A B : Type 0} (p : A → Bool) (f g : A → B) (xs : List A) → map (λ x. cond (p x) (f x) (g x)) (filter p xs) ≡ map f (filter p xs)
 picked_changed p f g [] = refl
@@ -115,7 +111,7 @@ module _ (at : ℕ) (name : List ℕ) (tree : ℕ) (columns : List Column) (prim
       let news : List Row = map (λ s. cast_row table (drop 1 s)) rows in
       let rest : List Row = filter (λ r. not (picks params tests r)) was in
       let left : without_all was (ids_of rows) ≡ rest = without_picked was sound (picks params tests) (ids_of rows) (shown_ids tests (col 1 0 ∷ sets) was rows params shown) in
-      let numbers : numbered Given (without_all was (ids_of rows)) news ≡ news = given_rows (without_all was (ids_of rows)) news in
+      let numbers : numbered Given (without_all was (ids_of rows)) news ≡ news = given (without_all was (ids_of rows)) news in
       let now : next.trees tree ≡ put_all rest news = made.rows ∙ (λ i. put_all (left i) (numbers i)) in
       let keyed : have_rowids news ≡ true = ap have_rowids (sym numbers) ∙ made.keyed in
       let fresh : are_fresh rest news ≡ true = (λ i. are_fresh (sym left i) (sym numbers i)) ∙ made.fresh in

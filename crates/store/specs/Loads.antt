@@ -1,5 +1,5 @@
 -- What is loaded of the rows that the tables hold.
-use Rattle.std.specs.Prelude.{◌≡◌, ◌≤◌, ℕ, List, [], Option, Some, None, All, Contains, IsPermutation, IsSortedByKey, ⊤}
+use Rattle.std.specs.Prelude.{◌≡◌, ◌≤◌, ℕ, List, Option, Some, None, All, Contains, IsPermutation, IsSortedByKey, ⊤}
 use Rattle.std.specs.Ordering.{nat_cmp}
 use Rattle.sqlite.specs.State.{State}
 use Rattle.addr.specs.Address.{Address}
@@ -16,11 +16,6 @@ use Rattle.policy.specs.Terms.{IsVrpOf}
 use Rattle.store.specs.declared.decode.Counters.{Counters}
 use Rattle.store.specs.Decode.{IsU32, AuthFits, GrantFits, VrpFits}
 use Rattle.store.specs.TablesHold.{TablesHold}
-
--- the items of the rows; none where the holder is not registered
-abbrev pub items_if_any : {X : Type 0} → (Rows → List X) → Option Rows → List X
-items_if_any items None = []
-items_if_any items (Some r) = items r
 
 -- the same items, by rising number
 abbrev pub AreInOrder : {X : Type 0} → (X → ℕ) → List X → List X → Type 0

@@ -1,5 +1,5 @@
 -- What the queries of a store answer, as raw rows.
-use Rattle.std.specs.Prelude.{◌≡◌, ℕ, ◌≤◌, Bool, true, ◌&&◌, List, [], ◌∷◌, ◌++◌, map, filter, Contains, Option, Some, None, IsTrue, IsPermutation}
+use Rattle.std.specs.Prelude.{◌≡◌, ℕ, ◌≤◌, Bool, true, ◌&&◌, List, [], ◌∷◌, ◌++◌, map, filter, Contains, Option, Some, IsTrue, IsPermutation}
 use Rattle.std.specs.List.{list_any}
 use Rattle.std.specs.declared.cmp.Ordering.{Ordering}
 use Rattle.std.specs.Ordering.{on}
@@ -45,11 +45,6 @@ grants_view = record { part = granted_part; places = 1 ∷ 2 ∷ 3 ∷ 4 ∷ 5 �
 
 abbrev pub auths_view : View
 auths_view = record { part = auth_part; places = 1 ∷ 2 ∷ 3 ∷ 4 ∷ 5 ∷ 6 ∷ 7 ∷ 8 ∷ []; cells = λ r. map auth_cells r.auths }
-
--- a holder that is not registered has none
-abbrev pub cells_if_any : View → Option Rows → List Row
-cells_if_any v None = []
-cells_if_any v (Some r) = v.cells r
 
 -- the rows of the holder are found, in some order
 abbrev pub Finds : View → List ℕ → Database → List Row → Type 0

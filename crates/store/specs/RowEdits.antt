@@ -5,7 +5,7 @@ use Rattle.addr.specs.declared.span.Span.{Span}
 use Rattle.policy.specs.declared.authorization.Auth.{Auth}
 use Rattle.policy.specs.declared.grant.Granted.{Granted}
 use Rattle.policy.specs.declared.change.Edit.{Edit}
-use Rattle.policy.specs.declared.change.Edit.TheVariants.{Register, Hold, Grant, Revoke, Create, Amend, Withdraw}
+use Rattle.policy.specs.declared.change.Edit.TheVariants.{Register}
 use Rattle.policy.specs.Rows.{Rows, replaced_by}
 
 abbrev pub with_holding : Span → Rows → Rows
@@ -42,23 +42,10 @@ with_granted n r = record r { granted = n }
 abbrev pub with_created : ℕ → Rows → Rows
 with_created n r = record r { created = n }
 
--- a grant is made, and counted
-abbrev pub granted_more : Granted → Rows → Rows
-granted_more g r = record r { grants = r.grants ++ g ∷ []; granted = g.number }
-
--- an authorization is made, and counted
-abbrev pub created_more : Auth → Rows → Rows
-created_more x r = record r { auths = r.auths ++ x ∷ []; created = x.number }
-
 -- other runs are held, and these authorizations end
 abbrev pub held : List Span → List ℕ → Rows → Rows
 held spans ended r = record r { holdings = spans; auths = filter (λ x. not (list_any (λ n. x.number == n) ended)) r.auths }
 
 abbrev pub is_registration : Edit → Bool
 is_registration Register = true
-is_registration (Hold holdings ended) = false
-is_registration (Grant g) = false
-is_registration (Revoke n) = false
-is_registration (Create x) = false
-is_registration (Amend x) = false
-is_registration (Withdraw n) = false
+is_registration _ = false

@@ -4,7 +4,7 @@ use Rattle.std.specs.List.{AllByRecursion}
 use Rattle.std.specs.Ordering.{is_eq}
 use Rattle.sqlite.specs.Effect.{Database}
 use Rattle.sqlite_value.specs.declared.value.Value.{Value}
-use Rattle.sqlite_value.specs.declared.value.Value.TheVariants.{Null, Int, Real, Text, Blob}
+use Rattle.sqlite_value.specs.declared.value.Value.TheVariants.{Text}
 use Rattle.sqlite_value.specs.Order.{Row, column, value_cmp}
 use Rattle.sqlite_trees.specs.Tree.{Trees}
 use Rattle.policy.specs.CharterSets.{CharterSets}
@@ -32,9 +32,13 @@ granted_part = record { tree = granted.tree; place = 0; rows = λ h r. map (gran
 abbrev pub auth_part : Part
 auth_part = record { tree = auth.tree; place = 0; rows = λ h r. map (auth_row h) r.auths }
 
+-- the items of the rows; none where the holder is not registered
+abbrev pub items_if_any : {X : Type 0} → (Rows → List X) → Option Rows → List X
+items_if_any _ None = []
+items_if_any items (Some r) = items r
+
 abbrev pub rows_if_any : Part → List ℕ → Option Rows → List Row
-rows_if_any part h None = []
-rows_if_any part h (Some r) = part.rows h r
+rows_if_any part h = items_if_any (part.rows h)
 
 -- the value is this name
 abbrev pub is_name_of : List ℕ → Value → Bool
@@ -42,10 +46,7 @@ is_name_of h v = is_eq (value_cmp v (Text h))
 
 abbrev pub is_text : Value → Bool
 is_text (Text t) = true
-is_text Null = false
-is_text (Int n) = false
-is_text (Real x) = false
-is_text (Blob b) = false
+is_text _ = false
 
 -- the table has the rows of every holder, in some order, and no others
 pub record HoldsPart (part : Part) (rows : List ℕ → Option Rows) (table : List Row) : Type 0 where

@@ -35,7 +35,10 @@ fn day_values<'a>(day: Day) -> [ValueRef<'a>; 1]
 }
 
 /// Whether some holder holds an address of the prefix.
-pub fn some_overlap<S: Alter>(conn: &mut Connection<S>, prefix: &Prefix) -> Result<bool, Error>
+pub(crate) fn some_overlap<S: Alter>(
+    conn: &mut Connection<S>,
+    prefix: &Prefix,
+) -> Result<bool, Error>
     requires idle { conn.old.in_transaction ≡ false }
     requires schema { HasCleanDisk (state S.Store conn.old) → IsTrue (state S.Store conn.old).is_open → (state S.Store conn.old).now.schema ≡ desk_schema }
     ensures idle { conn.new.in_transaction ≡ false }
@@ -55,7 +58,7 @@ pub fn some_overlap<S: Alter>(conn: &mut Connection<S>, prefix: &Prefix) -> Resu
 }
 
 /// The payloads of the authorizations of all holders that are in force on the day.
-pub fn in_force_rows<S: Alter>(conn: &mut Connection<S>, day: Day) -> Result<Vec<Row>, Error>
+pub(crate) fn in_force_rows<S: Alter>(conn: &mut Connection<S>, day: Day) -> Result<Vec<Row>, Error>
     requires idle { conn.old.in_transaction ≡ false }
     requires schema { HasCleanDisk (state S.Store conn.old) → IsTrue (state S.Store conn.old).is_open → (state S.Store conn.old).now.schema ≡ desk_schema }
     ensures idle { conn.new.in_transaction ≡ false }

@@ -14,7 +14,7 @@ use sqlite::{Alter, Connection, Error, Row};
 ///
 /// The text is compiled first, since only a connection that compiled it is known to be open, and of
 /// one that is shut it is not known that the text commits nothing.
-pub fn ask<S: Alter>(
+pub(crate) fn ask<S: Alter>(
     conn: &mut Connection<S>,
     sql: &str,
     values: &[ValueRef<'_>],

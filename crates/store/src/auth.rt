@@ -10,7 +10,7 @@ use policy::Auth;
 use sqlite::{Alter, Error, Transaction};
 
 /// Puts an authorization of the holder.
-pub fn put_auth<S: Alter>(
+pub(crate) fn put_auth<S: Alter>(
     tx: &mut Transaction<'_, S>,
     holder: &Name,
     auth: &Auth,
@@ -30,7 +30,7 @@ pub fn put_auth<S: Alter>(
 }
 
 /// Puts an authorization in the place of the one of its number, where there is one.
-pub fn amend_auth<S: Alter>(
+pub(crate) fn amend_auth<S: Alter>(
     tx: &mut Transaction<'_, S>,
     holder: &Name,
     auth: &Auth,
@@ -50,7 +50,7 @@ pub fn amend_auth<S: Alter>(
 }
 
 /// Takes away the authorization of this number, where there is one.
-pub fn take_auth<S: Alter>(
+pub(crate) fn take_auth<S: Alter>(
     tx: &mut Transaction<'_, S>,
     holder: &Name,
     number: u32,
@@ -69,7 +69,7 @@ pub fn take_auth<S: Alter>(
 }
 
 /// Takes away the authorizations of these numbers.
-pub fn take_auths<S: Alter>(
+pub(crate) fn take_auths<S: Alter>(
     tx: &mut Transaction<'_, S>,
     holder: &Name,
     numbers: &[u32],

@@ -8,14 +8,14 @@ use policy::{Auth, Granted, Role, Scope};
 use sqlite::types::{ToSql, ValueRef};
 
 /// The bytes of an address, the greatest first.
-pub fn address_bytes(number: u128) -> [u8; 16]
+pub(crate) fn address_bytes(number: u128) -> [u8; 16]
     ensures { result ≡ address number }
 {
     number.to_be_bytes()
 }
 
 /// How the tables number the families.
-pub fn family_number(family: Family) -> u32
+pub(crate) fn family_number(family: Family) -> u32
     ensures { result ≡ family_number family }
 {
     match family {
@@ -36,7 +36,7 @@ fn role_number(role: Role) -> u32
 }
 
 /// The first address of the scope's prefix, as a number; 0 where the scope is all prefixes.
-pub fn scope_first(scope: &Scope) -> u128
+pub(crate) fn scope_first(scope: &Scope) -> u128
     ensures { result ≡ scope_first scope.now }
 {
     match scope {
@@ -45,19 +45,19 @@ pub fn scope_first(scope: &Scope) -> u128
     }
 }
 
-pub fn name_values<'a>(holder: &'a Name) -> [ValueRef<'a>; 1]
+pub(crate) fn name_values<'a>(holder: &'a Name) -> [ValueRef<'a>; 1]
     ensures { bound result ≡ Text holder.now ∷ [] }
 {
     [holder.as_str().to_sql()]
 }
 
-pub fn number_values<'a>(holder: &'a Name, number: u32) -> [ValueRef<'a>; 2]
+pub(crate) fn number_values<'a>(holder: &'a Name, number: u32) -> [ValueRef<'a>; 2]
     ensures { bound result ≡ Text holder.now ∷ number_cell number ∷ [] }
 {
     [holder.as_str().to_sql(), number.to_sql()]
 }
 
-pub fn holding_values<'a>(
+pub(crate) fn holding_values<'a>(
     holder: &'a Name,
     span: &Span,
     first: &'a [u8],
@@ -75,7 +75,7 @@ pub fn holding_values<'a>(
     ]
 }
 
-pub fn prefix_values<'a>(prefix: &Prefix, first: &'a [u8]) -> [ValueRef<'a>; 3]
+pub(crate) fn prefix_values<'a>(prefix: &Prefix, first: &'a [u8]) -> [ValueRef<'a>; 3]
     requires { first.now ≡ address prefix.now.first }
     ensures { bound result ≡ prefix_cells prefix.now }
 {
@@ -96,7 +96,7 @@ fn scope_values<'a>(scope: &Scope, first: &'a [u8]) -> [ValueRef<'a>; 3]
     }
 }
 
-pub fn granted_values<'a>(
+pub(crate) fn granted_values<'a>(
     holder: &'a Name,
     grant: &'a Granted,
     first: &'a [u8],
@@ -117,7 +117,7 @@ pub fn granted_values<'a>(
     ]
 }
 
-pub fn auth_values<'a>(holder: &'a Name, auth: &Auth, first: &'a [u8]) -> [ValueRef<'a>; 9]
+pub(crate) fn auth_values<'a>(holder: &'a Name, auth: &Auth, first: &'a [u8]) -> [ValueRef<'a>; 9]
     requires { first.now ≡ address auth.now.prefix.first }
     ensures { bound result ≡ auth_row holder.now auth.now }
 {

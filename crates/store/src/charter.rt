@@ -83,7 +83,10 @@ fn put_pool<S: Alter>(tx: &mut Transaction<'_, S>, prefixes: &[Prefix]) -> Resul
 }
 
 /// Puts the number of the schema and the charter into tables that were just made.
-pub fn put_charter<S: Alter>(tx: &mut Transaction<'_, S>, charter: &Charter) -> Result<(), Error>
+pub(crate) fn put_charter<S: Alter>(
+    tx: &mut Transaction<'_, S>,
+    charter: &Charter,
+) -> Result<(), Error>
     requires { HasCleanDisk (state S.Store tx.old.conn.now) → IsMadeTo 8 (state S.Store tx.old.conn.now) }
     ensures same_reference { tx.new.conn.ghost_name ≡ tx.old.conn.ghost_name }
     ensures put { HasCleanDisk (state S.Store tx.new.conn.now) → OnOk result (HasCharter charter.now (state S.Store tx.new.conn.now)) }

@@ -17,7 +17,7 @@ use sqlite::types::ValueRef;
 use std::alloc::Global;
 
 /// A value that a row shows.
-pub trait FromRow: Drop {
+pub(crate) trait FromRow: Drop {
     ghost cells: { Self → Cells };
 
     // The value is one of its Rust type, as a number below 2 ^ 32 is one of `u32`. Each such value
@@ -40,7 +40,7 @@ pub trait FromRow: Drop {
 }
 
 /// The values that the rows show, in their order.
-pub fn read_all<T: FromRow>(alloc: Global, rows: &[Row]) -> Result<Vec<T>, StoreFault>
+pub(crate) fn read_all<T: FromRow>(alloc: Global, rows: &[Row]) -> Result<Vec<T>, StoreFault>
     ensures shown { IfOk result (λ values. rows.now ≡ map T.cells values.items) }
     ensures fits { IfOk result (λ values. All T.fits values.items) }
     ensures schema { result ≡ Err StoreFault.Schema → Any (λ row. (x : T) → T.fits x → T.cells x ≢ row) rows.now }
@@ -216,9 +216,9 @@ impl FromRow for Span {
 
 /// How many grants and authorizations a resource holder has made.
 #[derive(Clone, Copy, Debug, PartialEq, Eq)]
-pub struct Counters {
-    pub granted: u32,
-    pub created: u32,
+pub(crate) struct Counters {
+    pub(crate) granted: u32,
+    pub(crate) created: u32,
 }
 
 impl FromRow for Counters {

@@ -10,7 +10,7 @@ use policy::Granted;
 use sqlite::{Alter, Error, Transaction};
 
 /// Puts a grant at the holder.
-pub fn put_grant<S: Alter>(
+pub(crate) fn put_grant<S: Alter>(
     tx: &mut Transaction<'_, S>,
     holder: &Name,
     grant: &Granted,
@@ -30,7 +30,7 @@ pub fn put_grant<S: Alter>(
 }
 
 /// Takes away the grant of this number, where there is one.
-pub fn take_grant<S: Alter>(
+pub(crate) fn take_grant<S: Alter>(
     tx: &mut Transaction<'_, S>,
     holder: &Name,
     number: u32,

@@ -9,7 +9,7 @@ use addr::Name;
 use sqlite::{Alter, Error, Transaction};
 
 /// Sets how many grants were made at the holder.
-pub fn set_granted<S: Alter>(
+pub(crate) fn set_granted<S: Alter>(
     tx: &mut Transaction<'_, S>,
     holder: &Name,
     number: u32,
@@ -28,7 +28,7 @@ pub fn set_granted<S: Alter>(
 }
 
 /// Sets how many authorizations were made at the holder.
-pub fn set_created<S: Alter>(
+pub(crate) fn set_created<S: Alter>(
     tx: &mut Transaction<'_, S>,
     holder: &Name,
     number: u32,
@@ -47,7 +47,10 @@ pub fn set_created<S: Alter>(
 }
 
 /// Whether the holder is registered.
-pub fn is_registered<S: Alter>(tx: &mut Transaction<'_, S>, holder: &Name) -> Result<bool, Error>
+pub(crate) fn is_registered<S: Alter>(
+    tx: &mut Transaction<'_, S>,
+    holder: &Name,
+) -> Result<bool, Error>
     requires { HasCleanDisk (state S.Store tx.old.conn.now) → IsReady (state S.Store tx.old.conn.now) }
     ensures same_reference { tx.new.conn.ghost_name ≡ tx.old.conn.ghost_name }
     ensures told { HasCleanDisk (state S.Store tx.new.conn.now) → IfOk result (λ is. Tells holder.now is (state S.Store tx.old.conn.now) (state S.Store tx.new.conn.now)) }
@@ -62,7 +65,7 @@ pub fn is_registered<S: Alter>(tx: &mut Transaction<'_, S>, holder: &Name) -> Re
 }
 
 /// Registers a holder that is not registered.
-pub fn register<S: Alter>(tx: &mut Transaction<'_, S>, holder: &Name) -> Result<(), Error>
+pub(crate) fn register<S: Alter>(tx: &mut Transaction<'_, S>, holder: &Name) -> Result<(), Error>
     requires { HasCleanDisk (state S.Store tx.old.conn.now) → IsReady (state S.Store tx.old.conn.now) }
     ensures same_reference { tx.new.conn.ghost_name ≡ tx.old.conn.ghost_name }
     ensures done { HasCleanDisk (state S.Store tx.new.conn.now) → OnOk result (Registers holder.now (state S.Store tx.old.conn.now) (state S.Store tx.new.conn.now)) }

@@ -9,7 +9,7 @@ use addr::{Name, Span};
 use sqlite::{Alter, Error, Transaction};
 
 /// Puts a run of addresses that the holder holds.
-pub fn put_holding<S: Alter>(
+fn put_holding<S: Alter>(
     tx: &mut Transaction<'_, S>,
     holder: &Name,
     span: &Span,
@@ -30,7 +30,7 @@ pub fn put_holding<S: Alter>(
 }
 
 /// Puts runs of addresses that the holder holds.
-pub fn put_holdings<S: Alter>(
+pub(crate) fn put_holdings<S: Alter>(
     tx: &mut Transaction<'_, S>,
     holder: &Name,
     spans: &[Span],
@@ -48,7 +48,10 @@ pub fn put_holdings<S: Alter>(
 }
 
 /// Takes away all that the holder holds.
-pub fn take_holdings<S: Alter>(tx: &mut Transaction<'_, S>, holder: &Name) -> Result<(), Error>
+pub(crate) fn take_holdings<S: Alter>(
+    tx: &mut Transaction<'_, S>,
+    holder: &Name,
+) -> Result<(), Error>
     requires { HasCleanDisk (state S.Store tx.old.conn.now) → IsReady (state S.Store tx.old.conn.now) }
     ensures same_reference { tx.new.conn.ghost_name ≡ tx.old.conn.ghost_name }
     ensures done { HasCleanDisk (state S.Store tx.new.conn.now) → OnOk result (Done holder.now without_holdings (state S.Store tx.old.conn.now) (state S.Store tx.new.conn.now)) }

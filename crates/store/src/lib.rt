@@ -20,6 +20,3 @@ mod tables;
 
 pub use fault::StoreFault;
 pub use store::Store;
-
-#[cfg(test)]
-mod tests;

@@ -4,8 +4,9 @@ ghost use Rattle.sqlite.specs.State.{HasCleanDisk, IsUnchanged, Survives};
 ghost use Rattle.addr.specs.declared.vrp.Vrp.{Vrp};
 ghost use Rattle.policy.specs.declared.authorization.Auth.{Auth};
 ghost use Rattle.policy.specs.declared.grant.Granted.{Granted};
-ghost use Rattle.store.specs.Loads.{items_if_any, AreInOrder, HaveSame, AreCounters, AreLoaded, FitIfAny, IsGivenOn, AllGiveOn, IsOf, IsOfAll};
+ghost use Rattle.store.specs.Loads.{AreInOrder, HaveSame, AreCounters, AreLoaded, FitIfAny, IsGivenOn, AllGiveOn, IsOf, IsOfAll};
 ghost use Rattle.store.specs.Queries.{IsAsBefore};
+ghost use Rattle.store.specs.TablesHold.{items_if_any};
 ghost use Rattle.store.specs.Tables.{desk_schema};
 
 use crate::StoreFault;
@@ -107,7 +108,7 @@ fn load_auths<S: Alter>(
 }
 
 /// The rows of the holder, if it is registered.
-pub fn load_rows<S: Alter>(
+pub(crate) fn load_rows<S: Alter>(
     conn: &mut Connection<S>,
     alloc: Global,
     holder: &Name,
@@ -137,7 +138,7 @@ pub fn load_rows<S: Alter>(
 }
 
 /// The VRPs of the authorizations of all holders that are in force on the day.
-pub fn load_vrps<S: Alter>(
+pub(crate) fn load_vrps<S: Alter>(
     conn: &mut Connection<S>,
     alloc: Global,
     day: Day,

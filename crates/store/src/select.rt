@@ -12,7 +12,10 @@ use sqlite::{Alter, Connection, Error, Row};
 
 /// How many grants and authorizations were made at the holder, in one row; no row where it is not
 /// registered.
-pub fn counters_of<S: Alter>(conn: &mut Connection<S>, holder: &Name) -> Result<Vec<Row>, Error>
+pub(crate) fn counters_of<S: Alter>(
+    conn: &mut Connection<S>,
+    holder: &Name,
+) -> Result<Vec<Row>, Error>
     requires idle { conn.old.in_transaction ≡ false }
     requires schema { HasCleanDisk (state S.Store conn.old) → IsTrue (state S.Store conn.old).is_open → (state S.Store conn.old).now.schema ≡ desk_schema }
     ensures idle { conn.new.in_transaction ≡ false }
@@ -29,7 +32,7 @@ pub fn counters_of<S: Alter>(conn: &mut Connection<S>, holder: &Name) -> Result<
 }
 
 /// The runs of addresses that the holder holds, upwards.
-pub fn spans_of<S: Alter>(conn: &mut Connection<S>, holder: &Name) -> Result<Vec<Row>, Error>
+pub(crate) fn spans_of<S: Alter>(conn: &mut Connection<S>, holder: &Name) -> Result<Vec<Row>, Error>
     requires idle { conn.old.in_transaction ≡ false }
     requires schema { HasCleanDisk (state S.Store conn.old) → IsTrue (state S.Store conn.old).is_open → (state S.Store conn.old).now.schema ≡ desk_schema }
     ensures idle { conn.new.in_transaction ≡ false }
@@ -47,7 +50,10 @@ pub fn spans_of<S: Alter>(conn: &mut Connection<S>, holder: &Name) -> Result<Vec
 }
 
 /// The grants of the holder that are not revoked, upwards by their numbers.
-pub fn grants_of<S: Alter>(conn: &mut Connection<S>, holder: &Name) -> Result<Vec<Row>, Error>
+pub(crate) fn grants_of<S: Alter>(
+    conn: &mut Connection<S>,
+    holder: &Name,
+) -> Result<Vec<Row>, Error>
     requires idle { conn.old.in_transaction ≡ false }
     requires schema { HasCleanDisk (state S.Store conn.old) → IsTrue (state S.Store conn.old).is_open → (state S.Store conn.old).now.schema ≡ desk_schema }
     ensures idle { conn.new.in_transaction ≡ false }
@@ -65,7 +71,7 @@ pub fn grants_of<S: Alter>(conn: &mut Connection<S>, holder: &Name) -> Result<Ve
 }
 
 /// The active authorizations of the holder, upwards by their numbers.
-pub fn auths_of<S: Alter>(conn: &mut Connection<S>, holder: &Name) -> Result<Vec<Row>, Error>
+pub(crate) fn auths_of<S: Alter>(conn: &mut Connection<S>, holder: &Name) -> Result<Vec<Row>, Error>
     requires idle { conn.old.in_transaction ≡ false }
     requires schema { HasCleanDisk (state S.Store conn.old) → IsTrue (state S.Store conn.old).is_open → (state S.Store conn.old).now.schema ≡ desk_schema }
     ensures idle { conn.new.in_transaction ≡ false }

@@ -18,7 +18,7 @@ fn run<S: Alter>(tx: &mut Transaction<'_, S>, sql: &str) -> Result<(), Error>
 }
 
 /// Makes the tables `meta`, `operator`, `pool` and `holder` in a database that has no table.
-pub fn make_first_tables<S: Alter>(tx: &mut Transaction<'_, S>) -> Result<(), Error>
+pub(crate) fn make_first_tables<S: Alter>(tx: &mut Transaction<'_, S>) -> Result<(), Error>
     requires { HasCleanDisk (state S.Store tx.old.conn.now) → IsMadeTo 0 (state S.Store tx.old.conn.now) }
     ensures same_reference { tx.new.conn.ghost_name ≡ tx.old.conn.ghost_name }
     ensures made { HasCleanDisk (state S.Store tx.new.conn.now) → OnOk result (IsMadeTo 4 (state S.Store tx.new.conn.now)) }
@@ -45,7 +45,7 @@ pub fn make_first_tables<S: Alter>(tx: &mut Transaction<'_, S>) -> Result<(), Er
 }
 
 /// Makes the tables `holding`, `granted`, `auth` and `slurm` after those.
-pub fn make_other_tables<S: Alter>(tx: &mut Transaction<'_, S>) -> Result<(), Error>
+pub(crate) fn make_other_tables<S: Alter>(tx: &mut Transaction<'_, S>) -> Result<(), Error>
     requires { HasCleanDisk (state S.Store tx.old.conn.now) → IsMadeTo 4 (state S.Store tx.old.conn.now) }
     ensures same_reference { tx.new.conn.ghost_name ≡ tx.old.conn.ghost_name }
     ensures made { HasCleanDisk (state S.Store tx.new.conn.now) → OnOk result (IsMadeTo 8 (state S.Store tx.new.conn.now)) }

@@ -1,6 +1,7 @@
 use Rattle.std.proofs.Common.{arith, sym, ◌∙◌}
 use Rattle.sqlite.specs.Held.{state}
-use Rattle.store.proofs.RowSteps.{on_ok, turned_registered, turned_new, turned_none}
+use Rattle.std.proofs.lemmas.Result.{on_ok_weaker}
+use Rattle.store.proofs.RowSteps.{turned_registered, turned_new, turned_none}
 use Rattle.store.proofs.change.edit_holder.Goals as goal
 
 pub returns-then-branch-clause-done : goal.returns-then-branch-clause-done
@@ -9,7 +10,7 @@ returns-then-branch-clause-done g c clean =
     let mid = state g.S.Store c.is_registered.new.tx.conn.now in
     let new = state g.S.Store c.edit_rows.new.tx.conn.now in
     let told = c.in_ok-is_registered.ensures.told (omega (arith, c.edit_rows.ensures.survives.clean)) in
-    on_ok c.edit_rows.result (turned_registered c.args.change.now.holder c.args.change.now.edit c.in_ok-is_registered.field-0 old mid new told c.if-branch.true) (c.edit_rows.ensures.done clean)
+    on_ok_weaker c.edit_rows.result (turned_registered c.args.change.now.holder c.args.change.now.edit c.in_ok-is_registered.field-0 old mid new told c.if-branch.true) (c.edit_rows.ensures.done clean)
 
 pub returns-in_ok-register-clause-done : goal.returns-in_ok-register-clause-done
 returns-in_ok-register-clause-done g c clean =

@@ -2,7 +2,8 @@ use Rattle.std.proofs.Common.{arith, refl}
 use Rattle.policy.specs.Rows.{Rows}
 use Rattle.sqlite.specs.Held.{state}
 use Rattle.store.specs.RowEdits.{with_holdings, without_holdings, without_auths, held}
-use Rattle.store.proofs.RowSteps.{on_ok, done_then}
+use Rattle.std.proofs.lemmas.Result.{on_ok_weaker}
+use Rattle.store.proofs.RowSteps.{done_then}
 use Rattle.store.proofs.change.hold.Goals as goal
 
 pub returns-clause-done : goal.returns-clause-done
@@ -16,6 +17,6 @@ returns-clause-done g c clean =
     let first = c.in_ok-take_holdings.ensures.done (omega (arith, c.put_holdings.ensures.survives.clean, c.take_auths.ensures.survives.clean)) in
     let second = c.in_ok-put_holdings.ensures.done (omega (arith, c.take_auths.ensures.survives.clean)) in
     let other : Rows → Rows = λ r. with_holdings spans (without_holdings r) in
-    on_ok c.take_auths.result
+    on_ok_weaker c.take_auths.result
     (done_then h other (without_auths c.args.ended.now) (held spans c.args.ended.now) old mid new (λ r. refl) (done_then h without_holdings (with_holdings spans) other old bare mid (λ r. refl) first second))
     (c.take_auths.ensures.done clean)

@@ -1,7 +1,8 @@
-use Rattle.std.proofs.Common.{arith}
+use Rattle.std.proofs.Common.{arith, inl}
 use Rattle.sqlite.specs.Held.{state}
 use Rattle.store.proofs.HolderSteps.{asked, told}
-use Rattle.store.proofs.QueryLemmas.{kept_inside, unchanged_keeps}
+use Rattle.sqlite.proofs.InsideLemmas.{unchanged_keeps}
+use Rattle.store.proofs.QueryLemmas.{kept_inside}
 use Rattle.store.proofs.holder.is_registered.Goals as goal
 
 pub returns-in_err-found-clause-kept : goal.returns-in_err-found-clause-kept
@@ -19,4 +20,4 @@ returns-clause-kept g c clean =
     let ready = c.requires (omega (arith, c.query_all.ensures.survives.clean)) in
     let old = state g.S.Store c.args.tx.now.conn.now in
     let new = state g.S.Store c.query_all.new.self.conn.now in
-    unchanged_keeps old new (asked c.args.holder.now old new ready c.in_ok-found.found.items (rw c.name_values.ensures at (c.in_ok-found.ensures.ok clean)))
+    unchanged_keeps old new (inl (asked c.args.holder.now old new ready c.in_ok-found.found.items (rw c.name_values.ensures at (c.in_ok-found.ensures.ok clean))))

@@ -3,7 +3,8 @@ use Rattle.sqlite.specs.Held.{state}
 use Rattle.sqlite.specs.State.{HasCleanDisk}
 use Rattle.policy.specs.declared.authorization.Auth.{Auth}
 use Rattle.policy.specs.declared.grant.Granted.{Granted}
-use Rattle.store.specs.Loads.{items_if_any, AreInOrder, HaveSame, AreCounters, FitIfAny}
+use Rattle.store.specs.TablesHold.{items_if_any}
+use Rattle.store.specs.Loads.{AreInOrder, HaveSame, AreCounters, FitIfAny}
 use Rattle.store.proofs.Loading.{so_before, refused_by, none_loaded, all_loaded}
 use Rattle.store.proofs.load.load_rows.Goals as goal
 
