@@ -3,10 +3,10 @@ use std::io::{Error, ErrorKind, Result, Write};
 
 // Takes `room` bytes, at most three a write, and then fails. Every second call is interrupted.
 #[derive(Drop)]
-pub struct Sheet {
-    pub bytes: Vec<u8>,
-    pub room: usize,
-    pub is_interrupted: bool,
+pub(crate) struct Sheet {
+    pub(crate) bytes: Vec<u8>,
+    pub(crate) room: usize,
+    pub(crate) is_interrupted: bool,
 }
 
 impl Write for Sheet {

@@ -51,7 +51,7 @@ pub enum RowFault {
 
 /// Why the bytes of a file were not read.
 #[derive(Clone, Copy, Debug, PartialEq, Eq)]
-pub enum FileFault {
+pub(crate) enum FileFault {
     /// No memory was found.
     Memory,
     /// The first record is not the header.
@@ -141,7 +141,7 @@ impl From<AllocError> for ProgramFault {
 
 impl FileFault {
     /// The program's fault where this is one of the file.
-    pub fn of(self, file: InputFile) -> ProgramFault
+    pub(crate) fn of(self, file: InputFile) -> ProgramFault
         ensures { result ≡ fault_of_file file self }
     {
         match self {
