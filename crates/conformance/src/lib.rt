@@ -1,0 +1,20 @@
+//! What the libraries do from outside: vectors of other programs and of the standards, and scripts
+//! with their replies. Each table has named rows, and one small function goes over it.
+#![tactic(auto)]
+
+#[cfg(test)]
+mod contents;
+#[cfg(test)]
+mod memory;
+#[cfg(test)]
+mod prefixes;
+#[cfg(test)]
+mod rows;
+#[cfg(test)]
+mod slurm_files;
+#[cfg(test)]
+mod tables;
+#[cfg(test)]
+mod values;
+#[cfg(test)]
+mod vrps;

@@ -1,0 +1,376 @@
+//! SLURM files: the lowest fault of each text, and what a file filters and asserts.
+use crate::rows::{nested, parts_of};
+use crate::vrps::{Terms, vrp_of};
+use addr::{Asn, Prefix};
+use serde_json::Value;
+use slurm::{Filter, Slurm, SlurmFault};
+use std::alloc::{AllocError, Global};
+use std::test::Fail;
+
+/// The example of RFC 8416 section 3.5 without its BGPsec entries, and with its IPv6 prefix in the
+/// spelling of RFC 5952.
+pub const SAMPLE: &str = r#"{
+    "slurmVersion": 1,
+    "validationOutputFilters": {
+        "prefixFilters": [
+            {"prefix": "192.0.2.0/24", "comment": "All VRPs encompassed by prefix"},
+            {"asn": 64496, "comment": "All VRPs matching ASN"},
+            {"prefix": "198.51.100.0/24", "asn": 64497,
+             "comment": "All VRPs encompassed by prefix, matching ASN"}
+        ],
+        "bgpsecFilters": []
+    },
+    "locallyAddedAssertions": {
+        "prefixAssertions": [
+            {"asn": 64496, "prefix": "198.51.100.0/24", "comment": "My other important route"},
+            {"asn": 64496, "prefix": "2001:db8::/32", "maxPrefixLength": 48,
+             "comment": "My other important de-aggregated routes"}
+        ],
+        "bgpsecAssertions": []
+    }
+}"#;
+
+/// The parts of a file, of which the last ones may be missing, and the number of its fault, 0 where
+/// there is none: `slurmVersion`, the prefix filters, the prefix assertions, and what follows in the
+/// outermost object.
+const PARTS: [(&str, &str); 7] = [
+    (
+        "empty_file_is_read",
+        r#"
+1 => 0
+"#,
+    ),
+    (
+        "filter_of_comment_alone",
+        r#"
+1 | {"comment":"x"} => 9
+"#,
+    ),
+    (
+        "unknown_member_before_version",
+        r#"
+2 | | | ,"notes":"x" => 3
+"#,
+    ),
+    (
+        "lowest_fault_is_told",
+        r#"
+1 | | | ,"notes":1 => 3
+2 | | | ,"notes":1 => 3
+2 => 4
+1 | {"prefix":"192.0.2.0"} => 6
+1 | {"asn":-1},{"prefix":"192.0.2.0"} => 6
+1 | {"asn":-1} => 7
+1 | | {"prefix":"::/8","asn":1,"maxPrefixLength":7},{"prefix":"::/8","asn":"1"} => 7
+1 | | {"prefix":"::/8","asn":1,"maxPrefixLength":7} => 8
+1 | {} | {"prefix":"::/8","asn":1,"maxPrefixLength":7} => 8
+1 | {} => 9
+1 | {"asn":1,"comment":1},{} => 9
+1 | {"asn":1,"comment":1} => 10
+1 | {"asn":1,"comment":"1"} => 0
+"#,
+    ),
+    (
+        "shape_of_a_file",
+        r#"
+1 | "hello" => 3
+1 | [] => 3
+1 | {"prefix":"::/8","maxPrefixLength":9} => 3
+1 | | {"prefix":"::/8"} => 3
+1 | | {"asn":1} => 3
+1 | | {"prefix":"::/8","asn":1,"SKI":""} => 3
+1 | | null => 3
+"#,
+    ),
+    (
+        "numbers_are_plain_digits",
+        r#"
+0 => 4
+"1" => 4
+1.0 => 4
+1e0 => 4
+-0 => 4
+10000000000000000001 => 4
+null => 4
+01 => 1
+1e999 => 1
+1 | {"asn":0} => 0
+1 | {"asn":4294967295} => 0
+1 | {"asn":4294967296} => 7
+1 | {"asn":99999999999999999999} => 7
+1 | {"asn":24.0} => 7
+1 | {"asn":1e0} => 7
+1 | {"asn":-0} => 7
+1 | {"asn":"AS1"} => 7
+1 | {"asn":null} => 7
+1 | | {"asn":1,"prefix":"192.0.2.0/24","maxPrefixLength":24} => 0
+1 | | {"asn":1,"prefix":"192.0.2.0/24","maxPrefixLength":32} => 0
+1 | | {"asn":1,"prefix":"192.0.2.0/24","maxPrefixLength":33} => 8
+1 | | {"asn":1,"prefix":"192.0.2.0/24","maxPrefixLength":23} => 8
+1 | | {"asn":1,"prefix":"2001:db8::/32","maxPrefixLength":128} => 0
+1 | | {"asn":1,"prefix":"2001:db8::/32","maxPrefixLength":129} => 8
+1 | | {"asn":1,"prefix":"2001:db8::/32","maxPrefixLength":288} => 8
+1 | | {"asn":1,"prefix":"2001:db8::/32","maxPrefixLength":32.0} => 8
+1 | | {"asn":1,"prefix":"2001:db8::/32","maxPrefixLength":32e0} => 8
+1 | | {"asn":1,"prefix":"::/0","maxPrefixLength":0} => 0
+1 | | {"asn":1,"prefix":"::/0","maxPrefixLength":-0} => 8
+1 | | {"asn":1,"prefix":"::/0","maxPrefixLength":18446744073709551616} => 8
+1 | | {"asn":1,"prefix":"::/0","maxPrefixLength":null} => 8
+1 | | {"asn":1,"prefix":"2001:DB8::/32","maxPrefixLength":129} => 6
+"#,
+    ),
+    (
+        "loose_spellings_are_refused",
+        r#"
+1 | {"prefix":"192.0.2.1/24"} => 6
+1 | {"prefix":"192.0.2/24"} => 6
+1 | {"prefix":"2001:DB8::/32"} => 6
+1 | {"prefix":" 192.0.2.0/24"} => 6
+1 | {"prefix":7} => 6
+1 | {"prefix":null,"asn":1} => 6
+1 | {"asn":"64496"} => 7
+1 | {"asn":1,"comment":null} => 10
+"#,
+    ),
+];
+
+/// Whole texts, and their faults.
+const TEXTS: [(&str, &str); 4] = [
+    (
+        "texts_that_are_not_json",
+        r#"
+{ => 1
+ => 1
+[{] => 1
+{}{} => 1
+"#,
+    ),
+    (
+        "lowest_fault_is_told",
+        r#"
+7 => 2
+[] => 2
+"#,
+    ),
+    (
+        "shape_of_a_file",
+        r#"
+{} => 3
+{"slurmVersion":1} => 3
+{"slurmVersion":1,"validationOutputFilters":[],"locallyAddedAssertions":[]} => 3
+{"slurmVersion":1,"validationOutputFilters":{},"locallyAddedAssertions":{}} => 3
+{"slurmVersion":1,"validationOutputFilters":{"prefixFilters":[],"bgpsecFilters":[]}} => 3
+{"validationOutputFilters":{"prefixFilters":[],"bgpsecFilters":[]},"locallyAddedAssertions":{"prefixAssertions":[],"bgpsecAssertions":[]}} => 3
+{"slurmVersion":1,"validationOutputFilters":{"prefixFilters":[],"bgpsecFilters":[]},"locallyAddedAssertions":{"prefixAssertions":[]}} => 3
+{"slurmVersion":1,"validationOutputFilters":{"prefixFilters":{},"bgpsecFilters":[]},"locallyAddedAssertions":{"prefixAssertions":[],"bgpsecAssertions":[]}} => 3
+{"slurmVersion":1,"validationOutputFilters":{"prefixFilters":[],"bgpsecFilters":[],"aspaFilters":[]},"locallyAddedAssertions":{"prefixAssertions":[],"bgpsecAssertions":[]}} => 3
+"#,
+    ),
+    (
+        "lowest_fault_is_told",
+        r#"
+{"slurmVersion":2,"validationOutputFilters":{"prefixFilters":[],"bgpsecFilters":[1]},"locallyAddedAssertions":{"prefixAssertions":[],"bgpsecAssertions":[]}} => 4
+{"slurmVersion":1,"validationOutputFilters":{"prefixFilters":[],"bgpsecFilters":[1]},"locallyAddedAssertions":{"prefixAssertions":[],"bgpsecAssertions":[]}} => 5
+{"slurmVersion":1,"validationOutputFilters":{"prefixFilters":[{"prefix":null}],"bgpsecFilters":[null]},"locallyAddedAssertions":{"prefixAssertions":[],"bgpsecAssertions":[]}} => 5
+{"slurmVersion":1,"validationOutputFilters":{"prefixFilters":[],"bgpsecFilters":{}},"locallyAddedAssertions":{"prefixAssertions":[],"bgpsecAssertions":[]}} => 3
+{"slurmVersion":1,"validationOutputFilters":{"prefixFilters":[],"bgpsecFilters":null},"locallyAddedAssertions":{"prefixAssertions":[],"bgpsecAssertions":[]}} => 3
+"#,
+    ),
+];
+
+/// Whether the filters of a file match the VRPs that it asserts, in their order.
+const FILTERINGS: [(&str, &str); 4] = [
+    (
+        "filters_of_the_sample_match",
+        r#"
+1 | {"prefix":"192.0.2.0/24"},{"asn":64496},{"prefix":"198.51.100.0/24","asn":64497} | {"asn":1,"prefix":"192.0.2.0/24"},{"asn":1,"prefix":"192.0.2.128/25","maxPrefixLength":32},{"asn":1,"prefix":"192.0.0.0/16","maxPrefixLength":24} => yes yes no
+1 | {"prefix":"192.0.2.0/24"},{"asn":64496},{"prefix":"198.51.100.0/24","asn":64497} | {"asn":64496,"prefix":"2001:db8::/32"},{"asn":64497,"prefix":"198.51.100.0/25"},{"asn":64498,"prefix":"198.51.100.0/25"},{"asn":64497,"prefix":"203.0.113.0/24"} => yes yes no no
+"#,
+    ),
+    (
+        "empty_file_is_read",
+        r#"
+1 | | {"asn":64496,"prefix":"192.0.2.0/24"} => no
+"#,
+    ),
+    (
+        "shorter_prefix_filter_removes_vrp",
+        r#"
+1 | {"prefix":"192.0.0.0/16"} | {"asn":64496,"prefix":"192.0.2.0/24"} => yes
+"#,
+    ),
+    (
+        "filters_that_do_not_match",
+        r#"
+1 | {"prefix":"192.0.2.0/25"},{"prefix":"192.0.2.0/24","asn":64497} | {"asn":64496,"prefix":"192.0.2.0/24"},{"asn":64497,"prefix":"192.0.2.0/24"} => no yes
+"#,
+    ),
+];
+
+// The number of the fault, 0 where the text is a file.
+fn fault(alloc: Global, text: &str) -> u8 {
+    match Slurm::read(alloc, text.as_bytes()) {
+        Ok(_) => 0,
+        Err(fault) => fault.number(),
+    }
+}
+
+// A file of these entries; `more` follows the other members of the outermost object.
+fn file(
+    alloc: Global,
+    version: &str,
+    filters: &str,
+    assertions: &str,
+    more: &str,
+) -> Result<String, AllocError> {
+    format!(in alloc;
+        "{{\"slurmVersion\":{version},\
+        \"validationOutputFilters\":{{\"prefixFilters\":[{filters}],\"bgpsecFilters\":[]}},\
+        \"locallyAddedAssertions\":{{\"prefixAssertions\":[{assertions}],\"bgpsecAssertions\":[]}}{more}}}"
+    )
+}
+
+// A file by its parts, which ` | ` parts.
+fn file_of(alloc: Global, parts: &str) -> Result<String, AllocError> {
+    let mut parts = parts.split('|');
+    let version = parts.next().unwrap_or("").trim();
+    let filters = parts.next().unwrap_or("").trim();
+    let assertions = parts.next().unwrap_or("").trim();
+    let more = parts.next().unwrap_or("").trim();
+    file(alloc, version, filters, assertions, more)
+}
+
+#[test]
+fn lowest_slurm_fault_is_told(rt: HostRuntime) -> Result<(), Fail> {
+    let alloc = rt.alloc();
+    for (name, rows) in PARTS {
+        for row in rows.trim().lines() {
+            let (input, output) = parts_of(row)?;
+            let text = file_of(alloc, input)?;
+            let found = fault(alloc, &text).to_string(alloc)?;
+            assert_eq!(rt; found.as_str(), output, "{name}: {input}");
+        }
+    }
+    for (name, rows) in TEXTS {
+        for row in rows.trim().lines() {
+            let (input, output) = parts_of(row)?;
+            let found = fault(alloc, input).to_string(alloc)?;
+            assert_eq!(rt; found.as_str(), output, "{name}: {input}");
+        }
+    }
+    let marked = format!(in alloc; "\u{feff}{SAMPLE}")?;
+    assert_eq!(rt; fault(alloc, &marked), 1, "a byte order mark");
+    assert!(rt; matches!(Slurm::read(alloc, b"\"\xff\""), Err(SlurmFault::NotJson)));
+    Ok(())
+}
+
+#[test]
+fn filters_match_vrps(rt: HostRuntime) -> Result<(), Fail> {
+    let alloc = rt.alloc();
+    for (name, rows) in FILTERINGS {
+        for row in rows.trim().lines() {
+            let (input, output) = parts_of(row)?;
+            let text = file_of(alloc, input)?;
+            let slurm = Slurm::read(alloc, text.as_bytes())?;
+            let mut answers = String::new(alloc);
+            for vrp in slurm.assertions() {
+                answers.push_str(if slurm.filtered(vrp) { " yes" } else { " no" })?;
+            }
+            assert_eq!(rt; answers.as_str().trim(), output, "{name}: {input}");
+        }
+    }
+    Ok(())
+}
+
+/// Reads the example as a text and as a value.
+#[test]
+fn sample_has_its_filters_and_assertions(rt: HostRuntime) -> Result<(), Fail> {
+    let alloc = rt.alloc();
+    let filters = [
+        Filter::Under(Prefix::read(b"192.0.2.0/24")?),
+        Filter::By(Asn(64496)),
+        Filter::Both(Prefix::read(b"198.51.100.0/24")?, Asn(64497)),
+    ];
+    let assertions = [
+        vrp_of(&Terms(64496, "198.51.100.0/24", 24))?,
+        vrp_of(&Terms(64496, "2001:db8::/32", 48))?,
+    ];
+    let value = Value::from_str(alloc, SAMPLE)?;
+    for slurm in [
+        Slurm::read(alloc, SAMPLE.as_bytes())?,
+        Slurm::of(alloc, &value)?,
+    ] {
+        assert_eq!(rt; slurm.filters(), filters.as_slice());
+        assert_eq!(rt; slurm.assertions(), assertions.as_slice());
+    }
+    Ok(())
+}
+
+// 127 levels are JSON, which is then no file, and 128 are none.
+#[test]
+fn nesting_limit(rt: HostRuntime) -> Result<(), Fail> {
+    for (depth, number) in [(127, 2), (128, 1)] {
+        let text = nested(rt.alloc(), depth)?;
+        assert_eq!(rt; fault(rt.alloc(), &text), number, "{depth} levels");
+    }
+    Ok(())
+}
+
+// So many filters and then this one, after one assertion.
+fn file_of_filters(alloc: Global, count: u32, last: &str) -> Result<String, AllocError> {
+    let mut filters = String::new(alloc);
+    for _ in 0..count {
+        filters.push_str("{\"asn\":1},")?;
+    }
+    filters.push_str(last)?;
+    file(alloc, "1", &filters, "{\"prefix\":\"::/8\",\"asn\":1}", "")
+}
+
+// A fault in the last of too many entries is the lower one.
+#[test]
+fn limit_of_entries(rt: HostRuntime) -> Result<(), Fail> {
+    let alloc = rt.alloc();
+    for (name, before, last, number) in [
+        ("limit_of_entries", 4094, "{\"asn\":1}", 0),
+        ("limit_of_entries", 4095, "{\"asn\":1}", 11),
+        (
+            "faulty_entry_past_the_limit",
+            4096,
+            "{\"asn\":1,\"comment\":0}",
+            10,
+        ),
+    ] {
+        let text = file_of_filters(alloc, before, last)?;
+        assert_eq!(rt; fault(alloc, &text), number, "{name}");
+        let value = Value::from_str(alloc, &text)?;
+        let read = match Slurm::of(alloc, &value) {
+            Ok(slurm) => slurm.filters().len() + slurm.assertions().len(),
+            Err(_) => 0,
+        };
+        assert_eq!(rt; read, if number == 0 { 4096 } else { 0 }, "{name}");
+    }
+    for (count, fault) in [(4096, None), (4097, Some(SlurmFault::TooMany))] {
+        let filters = vec![in alloc; Filter::By(Asn(1)); count]?;
+        assert_eq!(rt;
+            Slurm::make(filters, Vec::new(alloc)).err(),
+            fault,
+            "{count} filters"
+        );
+    }
+    Ok(())
+}
+
+#[test]
+fn prints_slurm_faults(rt: HostRuntime) -> Result<(), Fail> {
+    for (fault, text) in [
+        (SlurmFault::NotJson, "the text is not JSON"),
+        (
+            SlurmFault::Members,
+            "an object or array is wanted, or a member is missing or unknown",
+        ),
+        (SlurmFault::Memory, "out of memory"),
+    ] {
+        assert_eq!(rt; format!(in rt.alloc(); "{fault}")?.as_str(), text);
+    }
+    Ok(())
+}

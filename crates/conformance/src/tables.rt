@@ -1,0 +1,155 @@
+//! The store: what was applied is loaded, and what breaks a key is refused.
+use addr::{Asn, Day, Holdings, Name, Prefix};
+use policy::{Auth, Change, Charter, Edit, Granted, HolderChange, Role, Scope};
+use sqlite::{Connection, MemStore};
+use std::alloc::Global;
+use std::process::Abort;
+use std::test::Fail;
+use store::{Store, StoreFault};
+
+fn name(text: &str) -> Result<Name, Fail> {
+    Ok(Name::read(text.as_bytes()).ok_or("a name")?)
+}
+
+fn first_of_march() -> Result<Day, Fail> {
+    Ok(Day::read(b"2026-03-01").ok_or("a day")?)
+}
+
+/// A charter of one operator and one prefix in the pool.
+fn charter(alloc: Global) -> Result<Charter, Fail> {
+    let mut operators = Vec::new(alloc);
+    operators.push(name("reg")?)?;
+    let mut pool = Vec::new(alloc);
+    pool.push(Prefix::read(b"192.0.0.0/16")?)?;
+    Ok(Charter::make(operators, pool)?)
+}
+
+/// A store that has the holder `alpha`.
+fn registered_holder(alloc: Global) -> Result<Store<MemStore>, Fail> {
+    let Ok(mut store) = Store::open_memory(alloc, &charter(alloc)?) else {
+        return Err("no store".into());
+    };
+    apply(&mut store, Edit::Register)?;
+    Ok(store)
+}
+
+// Changes the rows of `alpha`.
+fn change(store: &mut Store<MemStore>, edit: Edit) -> Result<Result<(), StoreFault>, Fail> {
+    let holder = name("alpha")?;
+    let change = Change {
+        first: HolderChange { holder, edit },
+        second: None,
+    };
+    Ok(store.apply(&change))
+}
+
+fn apply(store: &mut Store<MemStore>, edit: Edit) -> Result<(), Fail> {
+    match change(store, edit)? {
+        Ok(()) => Ok(()),
+        Err(_) => Err("the change is refused".into()),
+    }
+}
+
+fn authorization(number: u32) -> Result<Auth, Fail> {
+    Ok(Auth {
+        number,
+        asn: Asn(64_496),
+        prefix: Prefix::read(b"192.0.2.0/24")?,
+        max: 24,
+        from: first_of_march()?,
+        until: first_of_march()?,
+    })
+}
+
+fn grant() -> Result<Granted, Fail> {
+    Ok(Granted {
+        number: 1,
+        caller: name("ann")?,
+        role: Role::Manager,
+        scope: Scope::Only(Prefix::read(b"192.0.2.0/24")?),
+        until: first_of_march()?,
+    })
+}
+
+// That the holder has exactly 192.0.2.0/24 but for this prefix.
+fn hold(alloc: Global, without: Option<&Prefix>) -> Result<Edit, Fail> {
+    let mut holdings = Holdings::new(alloc);
+    holdings.add(&Prefix::read(b"192.0.2.0/24")?)?;
+    if let Some(prefix) = without {
+        holdings.take(prefix)?;
+    }
+    Ok(Edit::Hold {
+        holdings,
+        ended: Vec::new(alloc),
+    })
+}
+
+#[test]
+fn each_edit_runs_in_memory(rt: HostRuntime) -> Result<(), Fail> {
+    let mut store = registered_holder(rt.alloc())?;
+    apply(&mut store, Edit::Grant(grant()?))?;
+    apply(&mut store, hold(rt.alloc(), None)?)?;
+    apply(&mut store, Edit::Create(authorization(1)?))?;
+    apply(&mut store, Edit::Amend(authorization(1)?))?;
+    apply(&mut store, Edit::Withdraw(1))?;
+    apply(&mut store, Edit::Revoke(1))
+}
+
+#[test]
+fn what_was_applied_is_loaded(rt: HostRuntime) -> Result<(), Fail> {
+    let mut store = registered_holder(rt.alloc())?;
+    assert_eq!(rt; store.charter().operators().len(), 1);
+    apply(&mut store, hold(rt.alloc(), None)?)?;
+    apply(&mut store, Edit::Create(authorization(1)?))?;
+    let loaded = store.load_holder(rt.alloc(), &name("alpha")?);
+    assert!(rt; matches!(loaded, Ok(Some(_))));
+    let both = store.load_two(rt.alloc(), &name("alpha")?, &name("beta")?);
+    assert!(rt; matches!(both, Ok((Some(_), None))));
+    let Ok(vrps) = store.all_auths_on(rt.alloc(), first_of_march()?) else {
+        return Err("no VRPs".into());
+    };
+    assert_eq!(rt; vrps.len(), 1);
+    Ok(())
+}
+
+#[test]
+fn overlapping_after_reclaim(rt: HostRuntime) -> Result<(), Fail> {
+    let mut store = registered_holder(rt.alloc())?;
+    apply(&mut store, hold(rt.alloc(), None)?)?;
+    let reclaimed = Prefix::read(b"192.0.2.0/26")?;
+    apply(&mut store, hold(rt.alloc(), Some(&reclaimed))?)?;
+    for (text, overlaps) in [
+        ("192.0.2.0/26", false),
+        ("192.0.2.0/25", true),
+        ("192.0.2.0/24", true),
+        ("::/0", false),
+    ] {
+        let found = store.overlapping(&Prefix::read(text.as_bytes())?);
+        assert!(rt; matches!(found, Ok(found) if found == overlaps), "{text}");
+    }
+    Ok(())
+}
+
+#[test]
+fn what_breaks_a_key_is_refused(rt: HostRuntime) -> Result<(), Fail> {
+    let mut store = registered_holder(rt.alloc())?;
+    let again = change(&mut store, Edit::Register)?;
+    assert!(rt; matches!(again, Err(StoreFault::Database)));
+    apply(&mut store, Edit::Create(authorization(1)?))?;
+    // The same AS, prefix and maxLength under another number.
+    let second = change(&mut store, Edit::Create(authorization(2)?))?;
+    assert!(rt; matches!(second, Err(StoreFault::Database)));
+    Ok(())
+}
+
+#[test]
+fn database_that_has_tables_is_refused(rt: HostRuntime) -> Result<(), Fail> {
+    let charter = charter(rt.alloc())?;
+    let conn = Connection::open_in_memory(rt.alloc()).expect(&rt, "a connection");
+    let Ok(store) = Store::create_on(conn, &charter) else {
+        return Err("no store".into());
+    };
+    let again = Store::create_on(store.close(), &charter);
+    assert!(rt; matches!(again, Err(StoreFault::Database)));
+    Ok(())
+}

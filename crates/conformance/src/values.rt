@@ -1,0 +1,241 @@
+//! Names, days, AS numbers, plain numbers, holdings and charters.
+use crate::rows::parts_of;
+use addr::{Asn, Day, Family, Holdings, Name, Prefix, PrefixFault, Span, digits, number_from_text};
+use arrayvec::ArrayString;
+use policy::{Charter, CharterFault};
+use std::alloc::Global;
+use std::process::Abort;
+use std::test::Fail;
+
+/// Each text, and the name that it is.
+const NAMES: &str = r#" => none
+a => a
+7 => 7
+- => none
+-a => none
+a- => a-
+a--b => a--b
+64496-lir => 64496-lir
+Acme => none
+acme_net => none
+acme.net => none
+a b => none
+abcdefghijklmnopqrstuvwxyz012345 => abcdefghijklmnopqrstuvwxyz012345
+abcdefghijklmnopqrstuvwxyz0123456 => none"#;
+
+/// Each text, and the number of the day that it names: the difference in days from 1970-01-01, as
+/// Python's `datetime.date` gives it.
+const DAYS: &str = r#"1970-01-01 => 0
+1999-12-31 => 10956
+2000-02-29 => 11016
+2024-02-29 => 19782
+2026-11-22 => 20779
+2100-02-28 => 47540
+9999-12-31 => 2932896
+1900-01-01 => none
+1969-12-31 => none
+2023-02-29 => none
+2100-02-29 => none
+2026-13-01 => none
+2026-00-01 => none
+2026-04-31 => none
+2026-1-01 => none
+2026-01-011 => none
+2026/01/01 => none
+2026-01-0a => none
++026-01-01 => none
+ => none"#;
+
+/// Each text, and the AS number that it writes.
+const AS_TEXTS: &str = r#"AS0 => 0
+AS64496 => 64496
+AS4294967295 => 4294967295
+AS4294967296 => none
+AS00 => none
+AS064496 => none
+as1 => none
+AS => none
+1 => none
+AS+1 => none
+AS1  => none
+A => none
+ => none"#;
+
+/// Each text, and the number that it writes.
+const NUMBERS: &str = r#"0 => 0
+10000 => 10000
+18446744073709551615 => 18446744073709551615
+18446744073709551616 => none
+007 => none
++7 => none
+-7 => none
+7.0 => none
+ => none"#;
+
+/// How many operators and pool prefixes, all equal, and the fault of that charter.
+const CHARTERS: [(u32, u32, CharterFault); 6] = [
+    (0, 1, CharterFault::Count),
+    (1, 0, CharterFault::Count),
+    (17, 1, CharterFault::Count),
+    (1, 65, CharterFault::Count),
+    (16, 1, CharterFault::Repeated),
+    (16, 64, CharterFault::Repeated),
+];
+
+#[test]
+fn reads_names_alone(rt: HostRuntime) -> Result<(), Fail> {
+    for row in NAMES.lines() {
+        let (text, expected) = parts_of(row)?;
+        match Name::read(text.as_bytes()) {
+            Some(name) => assert_eq!(rt; name.as_str(), expected, "{text:?}"),
+            None => assert_eq!(rt; "none", expected, "{text:?}"),
+        }
+    }
+    Ok(())
+}
+
+fn assert_written(rt: &impl Abort, day: &Day, text: &str) {
+    let mut written = ArrayString::new();
+    day.write_to(&mut written);
+    assert_eq!(rt; written.as_str(), text);
+}
+
+// Each day is written as it was read.
+#[test]
+fn reads_days_alone(rt: HostRuntime) -> Result<(), Fail> {
+    for row in DAYS.lines() {
+        let (text, expected) = parts_of(row)?;
+        match Day::read(text.as_bytes()) {
+            Some(day) => {
+                assert_written(&rt, &day, text);
+                assert_eq!(rt;
+                    digits(u64::from(day.number())).as_str(),
+                    expected,
+                    "{text:?}"
+                );
+            }
+            None => assert_eq!(rt; "none", expected, "{text:?}"),
+        }
+    }
+    Ok(())
+}
+
+#[test]
+fn reads_as_numbers_alone(rt: HostRuntime) -> Result<(), Fail> {
+    for row in AS_TEXTS.lines() {
+        let (text, expected) = parts_of(row)?;
+        match Asn::from_text(text.as_bytes()) {
+            Some(asn) => assert_eq!(rt; digits(u64::from(asn.0)).as_str(), expected, "{text:?}"),
+            None => assert_eq!(rt; "none", expected, "{text:?}"),
+        }
+    }
+    Ok(())
+}
+
+// Each number is written as it was read.
+#[test]
+fn reads_plain_numbers_alone(rt: HostRuntime) -> Result<(), Fail> {
+    for row in NUMBERS.lines() {
+        let (text, expected) = parts_of(row)?;
+        match number_from_text(text.as_bytes()) {
+            Some(number) => assert_eq!(rt; digits(number).as_str(), expected, "{text:?}"),
+            None => assert_eq!(rt; "none", expected, "{text:?}"),
+        }
+    }
+    Ok(())
+}
+
+#[test]
+fn prints_values_and_faults(rt: HostRuntime) -> Result<(), Fail> {
+    let alloc = rt.alloc();
+    let name = Name::read(b"acme-2").ok_or("a name")?;
+    assert_eq!(rt;
+        format!(in alloc; "{name} {name:?}")?.as_str(),
+        "acme-2 \"acme-2\""
+    );
+    let asn = Asn(64496);
+    assert_eq!(rt; format!(in alloc; "{asn}")?.as_str(), "AS64496");
+    let day = Day::read(b"2000-02-29").ok_or("a day")?;
+    assert_eq!(rt;
+        format!(in alloc; "{day:?}")?.as_str(),
+        "Day { number: 11016 }"
+    );
+    for (fault, text) in [
+        (PrefixFault::Shape, "not an address, a slash and a length"),
+        (
+            PrefixFault::Spelling,
+            "the address or the length is not in its one spelling",
+        ),
+        (
+            PrefixFault::Length,
+            "the length is greater than the addresses have bits",
+        ),
+        (PrefixFault::HostBits, "a bit past the length is set"),
+    ] {
+        assert_eq!(rt; format!(in alloc; "{fault}")?.as_str(), text);
+    }
+    Ok(())
+}
+
+/// The prefix of IPv6 with this first address and length.
+fn v6(first: u128, length: u8) -> Result<Prefix, Fail> {
+    Ok(Prefix::from_parts(Family::V6, first, length).ok_or("a prefix of IPv6")?)
+}
+
+/// What is done with a prefix of IPv6, and the last address that is then held from `::` on.
+#[derive(Clone, Copy)]
+enum Step {
+    Add(u128, u8),
+    Take(u128, u8),
+}
+
+const STEPS: [(Step, u128); 4] = [
+    (Step::Add(0, 1), u128::MAX >> 1),
+    (Step::Add(1 << 127, 1), u128::MAX),
+    (Step::Add(0, 0), u128::MAX),
+    (Step::Take(u128::MAX, 128), u128::MAX - 1),
+];
+
+#[test]
+fn holdings_reach_the_last_ipv6_address(rt: HostRuntime) -> Result<(), Fail> {
+    let whole = v6(0, 0)?;
+    let whole_v4 = Prefix::from_parts(Family::V4, 0, 0).ok_or("0.0.0.0/0")?;
+    let mut holdings = Holdings::new(rt.alloc());
+    for (step, last) in STEPS {
+        match step {
+            Step::Add(first, length) => holdings.add(&v6(first, length)?)?,
+            Step::Take(first, length) => holdings.take(&v6(first, length)?)?,
+        }
+        let span = Span::from_parts(Family::V6, 0, last).ok_or("a span of IPv6")?;
+        assert!(rt; holdings.spans() == [span].as_slice(), "to {last}");
+        assert_eq!(rt; holdings.holds(&whole), last == u128::MAX);
+        assert!(rt; !holdings.touches(&whole_v4));
+    }
+    Ok(())
+}
+
+// A charter of that many equal operators and pool prefixes.
+fn charter_of(
+    alloc: Global,
+    operators: u32,
+    pool: u32,
+) -> Result<Result<Charter, CharterFault>, Fail> {
+    let mut names = Vec::new(alloc);
+    for _ in 0..operators {
+        names.push(Name::read(b"reg").ok_or("a name")?)?;
+    }
+    let mut prefixes = Vec::new(alloc);
+    for _ in 0..pool {
+        prefixes.push(v6(0, 0)?)?;
+    }
+    Ok(Charter::make(names, prefixes))
+}
+
+#[test]
+fn charters_of_wrong_counts_or_repeats(rt: HostRuntime) -> Result<(), Fail> {
+    for (operators, pool, fault) in CHARTERS {
+        let made = charter_of(rt.alloc(), operators, pool)?;
+        assert_eq!(rt; made.err(), Some(fault), "{operators} and {pool}");
+    }
+    Ok(())
+}
