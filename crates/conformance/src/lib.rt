@@ -5,13 +5,23 @@
 #[cfg(test)]
 mod contents;
 #[cfg(test)]
+mod fakes;
+#[cfg(test)]
 mod memory;
 #[cfg(test)]
 mod prefixes;
 #[cfg(test)]
+mod replies;
+#[cfg(test)]
+mod requests;
+#[cfg(test)]
 mod rows;
 #[cfg(test)]
+mod scripts;
+#[cfg(test)]
 mod slurm_files;
+#[cfg(test)]
+mod streams;
 #[cfg(test)]
 mod tables;
 #[cfg(test)]

@@ -1,0 +1,118 @@
+//! The texts of replies, and writes that fail.
+use crate::fakes::Sheet;
+use crate::vrps::{Terms, vrps_of};
+use addr::{Asn, Day, Prefix};
+use desk::Reply;
+use payload::Validity;
+use policy::{Auth, Rule};
+use std::alloc::Global;
+use std::test::Fail;
+use web::{Device, Failed, Malformed, short_text, write_reply};
+
+fn auth(number: u32, prefix: &str) -> Result<Auth, Fail> {
+    let prefix = Prefix::read(prefix.as_bytes())?;
+    Ok(Auth {
+        number,
+        asn: Asn(64496),
+        prefix,
+        max: prefix.length,
+        from: Day::read(b"2026-01-01").ok_or("no day")?,
+        until: Day::read(b"2026-12-31").ok_or("no day")?,
+    })
+}
+
+// What the reply writes to a device that takes `room` bytes.
+fn written(alloc: Global, reply: &Reply, room: usize) -> (Result<(), Failed>, Vec<u8>) {
+    let mut sheet = Sheet {
+        bytes: Vec::new(alloc),
+        room,
+        is_interrupted: false,
+    };
+    let result = {
+        let mut drain = Device::new(&mut sheet);
+        write_reply(reply, &mut drain)
+    };
+    (result, sheet.bytes)
+}
+
+const VRPS: &[Terms] = &[
+    Terms(64496, "192.0.2.0/24", 24),
+    Terms(4_294_967_295, "::/0", 128),
+];
+
+#[test]
+fn prints_each_reply(rt: HostRuntime) -> Result<(), Fail> {
+    let alloc = rt.alloc();
+    let one = auth(1, "192.0.2.0/24")?;
+    let other = auth(4_294_967_295, "2001:db8::/32")?;
+    let states = [Validity::Valid, Validity::NotFound, Validity::Invalid];
+    let table = [
+        (Reply::Done(None), "{\"done\":null}\n"),
+        (Reply::Done(Some(7)), "{\"done\":7}\n"),
+        (
+            Reply::Shown(one),
+            "{\"shown\":{\"number\":1,\"asn\":64496,\"prefix\":\"192.0.2.0/24\",\"max\":24,\"from\":\"2026-01-01\",\"until\":\"2026-12-31\"}}\n",
+        ),
+        (
+            Reply::Content(String::from_str(alloc, "3017c0")?),
+            "{\"content\":\"3017c0\"}\n",
+        ),
+        (Reply::Listed(Vec::new(alloc)), "{\"listed\":[]}\n"),
+        (
+            Reply::Listed(vec![in alloc; one, other]?),
+            "{\"listed\":[{\"number\":1,\"asn\":64496,\"prefix\":\"192.0.2.0/24\",\"max\":24,\"from\":\"2026-01-01\",\"until\":\"2026-12-31\"},{\"number\":4294967295,\"asn\":64496,\"prefix\":\"2001:db8::/32\",\"max\":32,\"from\":\"2026-01-01\",\"until\":\"2026-12-31\"}]}\n",
+        ),
+        (Reply::Payloads(Vec::new(alloc)), "{\"payloads\":[]}\n"),
+        (
+            Reply::Payloads(vrps_of(alloc, VRPS)?),
+            "{\"payloads\":[{\"asn\":64496,\"prefix\":\"192.0.2.0/24\",\"max\":24},{\"asn\":4294967295,\"prefix\":\"::/0\",\"max\":128}]}\n",
+        ),
+        (
+            Reply::Answers(Vec::from_slice(alloc, &states)?),
+            "{\"answers\":[\"Valid\",\"NotFound\",\"Invalid\"]}\n",
+        ),
+        (Reply::Denied(Rule::Grant, None), "{\"denied\":\"grant\"}\n"),
+        (
+            Reply::Denied(Rule::Held, Some(2)),
+            "{\"denied\":\"held\",\"row\":2}\n",
+        ),
+        (Reply::Unavailable, "{\"unavailable\":true}\n"),
+    ];
+    for (reply, text) in table {
+        let (result, bytes) = written(alloc, &reply, usize::MAX);
+        assert_eq!(rt; result, Ok(()), "of {text}");
+        assert_eq!(rt; bytes.as_slice(), text.as_bytes(), "of {text}");
+        if let Some(short) = short_text(&reply) {
+            assert_eq!(rt; short.as_str(), text);
+        }
+    }
+    Ok(())
+}
+
+#[test]
+fn write_that_fails_leaves_a_beginning(rt: HostRuntime) -> Result<(), Fail> {
+    let alloc = rt.alloc();
+    let auths = vec![in alloc; auth(1, "192.0.2.0/24")?, auth(2, "192.0.2.0/25")?]?;
+    let reply = Reply::Listed(auths);
+    let (_, whole) = written(alloc, &reply, usize::MAX);
+    for room in 0..whole.len() {
+        let (result, bytes) = written(alloc, &reply, room);
+        assert_eq!(rt; result, Err(Failed), "after {room} bytes");
+        assert_eq!(rt;
+            bytes.as_slice(),
+            &whole.as_slice()[..room],
+            "after {room} bytes"
+        );
+    }
+    Ok(())
+}
+
+#[test]
+fn prints_malformed_requests(rt: HostRuntime) {
+    for (number, slurm, text) in [
+        (5, None, "{\"malformed\":5}\n"),
+        (11, Some(3), "{\"malformed\":11,\"slurm\":3}\n"),
+    ] {
+        assert_eq!(rt; Malformed { number, slurm }.text().as_str(), text);
+    }
+}

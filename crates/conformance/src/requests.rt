@@ -1,0 +1,216 @@
+//! Lines of a script: the number that is reported of a malformed one, 0 where it is a request.
+use crate::rows::{line_of, nested, parts_of};
+use std::alloc::Global;
+use std::test::Fail;
+use web::{LineFault, read_line_request};
+
+const REGISTER: &str = r#"{"day":"2026-03-01","caller":"reg","do":"register","holder":"alpha"}"#;
+
+const LINE_LENGTH_LIMIT: usize = 1_048_576;
+
+/// Bytes that are no JSON.
+const NOT_JSON: [&[u8]; 9] = [
+    b"",
+    b"   ",
+    b"\r",
+    b"\0",
+    b"{",
+    b"{} {}",
+    b"\xff",
+    b"\xef\xbb\xbf{}",
+    b"{\"day\":\"\xc0\"}",
+];
+
+const LINES: [(&str, &str); 2] = [
+    // Of a repeated member the last value counts, and a text may be escaped.
+    (
+        "tells_what_a_line_is_refused_for",
+        r#"
+{"day":"2026-03-01","caller":"reg","do":"register","holder":"alpha"} => 0
+ { "holder" : "alpha" , "do" : "register" , "caller" : "reg" , "day" : "2026-03-01" }  => 0
+{"day":"2026-03-01","caller":"reg","do":"register","holder":"Alpha","holder":"alpha"} => 0
+{"day":"2026-03-01","caller":"reg","do":"register","holder":"\u0061lpha"} => 0
+[] => 2
+null => 2
+{} => 2
+{"day":"2026-03-01","caller":"reg","do":"register"} => 2
+{"day":"2026-03-01","caller":"reg","do":"register","holder":"alpha","prefix":"192.0.2.0/24"} => 2
+{"day":"2026-03-01","caller":"reg","do":"Register","holder":"alpha"} => 2
+{"day":"2026-03-01","caller":"reg","do":7,"holder":"alpha"} => 2
+{"day":"2026-03-01","caller":"reg","holder":"alpha"} => 2
+{"day":"2026-03-01","caller":"reg","do":"register","holder":7} => 3
+{"day":"2026-03-01","caller":null,"do":"register","holder":"alpha"} => 4
+{"day":"2026-02-29","caller":"reg","do":"register","holder":"alpha"} => 8
+"#,
+    ),
+    (
+        "lowest_malformed_number_is_told",
+        r#"
+{"day":"2026-03-01","caller":"Reg","do":"delegate","holder":"alpha","prefix":"192.0.2.1/24"} => 4
+{"day":"2026-02-30","caller":"reg","do":"delegate","holder":"alpha","prefix":"192.0.2.1/24"} => 5
+{"day":"","caller":"","do":"register","holder":""} => 3
+{"day":"2026-03-01","caller":"reg","do":"delegate","holder":""} => 2
+{"day":"2026-03-01","caller":"reg","do":"register","holder":"","zone":1} => 2
+{"day":"2026-03-01","caller":"reg","do":"amend","holder":"alpha","number":0,"max":256,"until":"2026-12-31"} => 7
+{"day":"2026-03-01","caller":"reg","do":"grant","holder":"alpha","name":"ann","role":"owner","scope":"all","until":""} => 8
+{"day":"","caller":"reg","do":"validity","routes":[]} => 8
+{"day":"2026-03-01","caller":"reg","do":"validity","routes":[{"prefix":"::/0","origin":-1},{"prefix":"::/129","origin":1}]} => 5
+{"day":"","caller":"","do":"reject","holder":""} => 2
+"#,
+    ),
+];
+
+const REQUESTS: [(&str, &str); 2] = [
+    (
+        "tells_the_number_of_each_member",
+        r#"
+reg {"do":"delegate","holder":"alpha","prefix":"192.0.2.0/24"} => 0
+reg {"do":"delegate","holder":"alpha","prefix":"192.0.2.1/24"} => 5
+reg {"do":"delegate","holder":"alpha","prefix":24} => 5
+reg {"do":"reclaim","holder":"alpha","prefix":"2001:db8::/32"} => 0
+reg {"do":"reclaim","holder":"-alpha","prefix":"2001:DB8::/32"} => 3
+reg {"do":"transfer","prefix":"192.0.2.0/24","giver":"alpha","taker":"beta"} => 0
+reg {"do":"transfer","prefix":"192.0.2.0/24","giver":"","taker":"beta"} => 3
+reg {"do":"transfer","prefix":"192.0.2.0/24","giver":"alpha","taker":"Beta"} => 3
+reg {"do":"grant","holder":"alpha","name":"ann","role":"clerk","scope":"192.0.2.0/24","until":"2026-12-31"} => 0
+reg {"do":"grant","holder":"alpha","name":"ann","role":"manager","scope":"all","until":"2026-12-31"} => 0
+reg {"do":"grant","holder":"alpha","name":"Ann","role":"manager","scope":"all","until":"2026-12-31"} => 4
+reg {"do":"grant","holder":"alpha","name":"ann","role":"manager","scope":"192.0.2.0/24","until":"2026-12-31"} => 9
+reg {"do":"grant","holder":"alpha","name":"ann","role":"auditor","scope":"192.0.2.1/24","until":"2026-12-31"} => 9
+reg {"do":"grant","holder":"alpha","name":"ann","role":"auditor","scope":null,"until":"2026-12-31"} => 9
+reg {"do":"grant","holder":"alpha","name":"ann","role":"owner","scope":"all","until":"2026-12-31"} => 9
+reg {"do":"grant","holder":"alpha","name":"ann","role":"manager","scope":"192.0.2.0/24","until":"2026-13-01"} => 8
+reg {"do":"revoke","holder":"alpha","number":1} => 0
+reg {"do":"revoke","holder":"alpha","number":0} => 10
+reg {"do":"withdraw","holder":"alpha","number":999999} => 0
+reg {"do":"show","holder":"alpha","number":1000000} => 10
+reg {"do":"show","holder":"alpha","number":"1"} => 10
+reg {"do":"content","holder":"alpha","number":1} => 0
+reg {"do":"content","holder":"alpha","number":0} => 10
+reg {"do":"content","holder":"alpha"} => 2
+reg {"do":"create","holder":"alpha","asn":64496,"prefix":"192.0.2.0/24","max":24,"from":"2026-01-01","until":"2026-12-31"} => 0
+reg {"do":"create","holder":"alpha","asn":4294967295,"prefix":"192.0.2.0/24","max":255,"from":"1970-01-01","until":"9999-12-31"} => 0
+reg {"do":"create","holder":"alpha","asn":4294967296,"prefix":"192.0.2.0/24","max":24,"from":"2026-01-01","until":"2026-12-31"} => 6
+reg {"do":"create","holder":"alpha","asn":64496,"prefix":"192.0.2.0/24","max":256,"from":"2026-01-01","until":"2026-12-31"} => 7
+reg {"do":"create","holder":"alpha","asn":64496,"prefix":"192.0.2.0/24","max":24,"from":"2026-1-1","until":"2026-12-31"} => 8
+reg {"do":"amend","holder":"alpha","number":1,"max":0,"until":"2026-12-31"} => 0
+reg {"do":"amend","holder":"alpha","number":1,"max":-1,"until":"2026-12-31"} => 7
+reg {"do":"list","holder":"alpha"} => 0
+reg {"do":"payloads"} => 0
+reg {"do":"payloads","holder":"alpha"} => 2
+reg {"do":"validity","routes":[{"prefix":"192.0.2.0/24","origin":64496},{"origin":null,"prefix":"::/0"}]} => 0
+reg {"do":"validity","routes":[]} => 12
+reg {"do":"validity","routes":{}} => 2
+reg {"do":"validity","routes":[7]} => 2
+reg {"do":"validity","routes":[{"prefix":"192.0.2.0/24"}]} => 2
+reg {"do":"validity","routes":[{"prefix":"192.0.2.0/24","origin":1,"max":24}]} => 2
+reg {"do":"validity","routes":[{"prefix":"192.0.2.0/24","origin":"AS1"}]} => 6
+reg {"do":"validity","routes":[{"prefix":"192.0.2.0/24","origin":"AS1"},{"prefix":"all","origin":1}]} => 5
+reg {"do":"import","holder":"alpha","rows":[]} => 2
+reg {"do":"slurm","file":{}} => 2
+reg {"do":"whatif","holder":"alpha","changes":[],"routes":[]} => 2
+"#,
+    ),
+    (
+        "takes_numbers_in_plain_digits_alone",
+        r#"
+reg {"do":"amend","holder":"alpha","number":1,"max":24,"until":"2026-12-31"} => 0
+reg {"do":"amend","holder":"alpha","number":1,"max":24.0,"until":"2026-12-31"} => 7
+reg {"do":"amend","holder":"alpha","number":1,"max":1e2,"until":"2026-12-31"} => 7
+reg {"do":"amend","holder":"alpha","number":1,"max":-0,"until":"2026-12-31"} => 7
+reg {"do":"amend","holder":"alpha","number":1,"max":10000000000000000000,"until":"2026-12-31"} => 7
+reg {"do":"amend","holder":"alpha","number":1,"max":99999999999999999999,"until":"2026-12-31"} => 7
+reg {"do":"amend","holder":"alpha","number":1,"max":"24","until":"2026-12-31"} => 7
+reg {"do":"amend","holder":"alpha","number":1,"max":024,"until":"2026-12-31"} => 1
+reg {"do":"amend","holder":"alpha","number":1,"max":+24,"until":"2026-12-31"} => 1
+reg {"do":"amend","holder":"alpha","number":1,"max":1e999,"until":"2026-12-31"} => 1
+"#,
+    ),
+];
+
+fn reported(alloc: Global, line: &[u8]) -> u8 {
+    match read_line_request(alloc, line) {
+        Ok(_) => 0,
+        Err(LineFault::Malformed(malformed)) => malformed.number,
+        Err(LineFault::Memory) => 255,
+    }
+}
+
+#[test]
+fn tells_what_a_line_is_refused_for(rt: HostRuntime) -> Result<(), Fail> {
+    let alloc = rt.alloc();
+    for line in NOT_JSON {
+        assert_eq!(rt; reported(alloc, line), 1, "{line:?}");
+    }
+    for (name, rows) in LINES {
+        for row in rows.trim().lines() {
+            let (input, output) = parts_of(row)?;
+            let number = reported(alloc, input.as_bytes()).to_string(alloc)?;
+            assert_eq!(rt; number.as_str(), output, "{name}: {input}");
+        }
+    }
+    for (name, rows) in REQUESTS {
+        for row in rows.trim().lines() {
+            let (input, output) = parts_of(row)?;
+            let line = line_of(alloc, "2026-03-01", input)?;
+            let number = reported(alloc, line.as_bytes()).to_string(alloc)?;
+            assert_eq!(rt; number.as_str(), output, "{name}: {input}");
+        }
+    }
+    Ok(())
+}
+
+// A validity line with that many routes, the last of which has this prefix.
+fn many_routes(alloc: Global, count: u32, last: &str) -> Result<String, Fail> {
+    let mut request = String::from_str(alloc, r#"reg {"do":"validity","routes":["#)?;
+    for _ in 1..count {
+        request.push_str(r#"{"prefix":"::/0","origin":1},"#)?;
+    }
+    request.push_str(r#"{"origin":1,"prefix":""#)?;
+    request.push_str(last)?;
+    request.push_str(r#""}]}"#)?;
+    line_of(alloc, "2026-03-01", &request)
+}
+
+#[test]
+fn limits_of_routes(rt: HostRuntime) -> Result<(), Fail> {
+    for (count, last, number) in [
+        (1, "::/0", 0),
+        (10_000, "::/0", 0),
+        (10_001, "::/0", 12),
+        (10_001, "::", 5),
+    ] {
+        let line = many_routes(rt.alloc(), count, last)?;
+        assert_eq!(rt;
+            reported(rt.alloc(), line.as_bytes()),
+            number,
+            "{count} routes"
+        );
+    }
+    Ok(())
+}
+
+#[test]
+fn nesting_over_127_is_no_json(rt: HostRuntime) -> Result<(), Fail> {
+    for (depth, number) in [(127, 2), (128, 1)] {
+        let line = nested(rt.alloc(), depth)?;
+        assert_eq!(rt;
+            reported(rt.alloc(), line.as_bytes()),
+            number,
+            "{depth} deep"
+        );
+    }
+    Ok(())
+}
+
+#[test]
+fn length_is_tested_before_anything_else(rt: HostRuntime) -> Result<(), Fail> {
+    let mut line = String::from_str(rt.alloc(), REGISTER)?;
+    for _ in REGISTER.len()..LINE_LENGTH_LIMIT {
+        line.push(' ')?;
+    }
+    assert_eq!(rt; reported(rt.alloc(), line.as_bytes()), 0);
+    line.push('{')?;
+    assert_eq!(rt; reported(rt.alloc(), line.as_bytes()), 13);
+    Ok(())
+}

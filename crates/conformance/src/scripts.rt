@@ -1,0 +1,242 @@
+//! Scripts over a new desk, from their first line to their last reply. The expected replies follow
+//! from the rules and formats of the desk.
+use crate::fakes::{Sheet, Tape};
+use crate::rows::line_of;
+use addr::{Name, Prefix};
+use desk::Desk;
+use policy::Charter;
+use std::alloc::Global;
+use std::process::Abort;
+use std::test::Fail;
+use web::{Device, read_line_request, run_script, write_reply};
+
+mod amendments;
+mod authorizations;
+mod contents;
+mod grants;
+mod resources;
+mod vrps;
+
+/// A script after its set-up. In both a line is `CALLER {"do":..} => REPLY`, asked on the first of
+/// March, or `day DAY`, the day of the lines that follow it.
+pub struct Script {
+    pub name: &'static str,
+    pub after: &'static [&'static str],
+    pub lines: &'static str,
+}
+
+/// `alpha` has 192.0.2.0/24, and `ann` is its manager.
+pub const REGISTERED_HOLDER: &[&str] = &[ALPHA];
+
+/// Beyond that, AS 64496 is authorized for all of it.
+pub const ONE_AUTHORIZATION: &[&str] = &[ALPHA, AUTHORIZATION];
+
+pub const ALPHA: &str = r#"
+reg {"do":"register","holder":"alpha"} => {"done":null}
+reg {"do":"delegate","holder":"alpha","prefix":"192.0.2.0/24"} => {"done":null}
+reg {"do":"grant","holder":"alpha","name":"ann","role":"manager","scope":"all","until":"2026-12-31"} => {"done":1}
+"#;
+
+pub const AUTHORIZATION: &str = r#"
+ann {"do":"create","holder":"alpha","asn":64496,"prefix":"192.0.2.0/24","max":24,"from":"2026-01-01","until":"2026-12-31"} => {"done":1}
+"#;
+
+/// Every kind of request once. A reply of Unavailable would say that an allocation failed.
+const EVERY_REQUEST: &str = r#"
+ann {"do":"amend","holder":"alpha","number":1,"max":26,"until":"2026-06-30"} => {"done":null}
+ann {"do":"show","holder":"alpha","number":1} => {"shown":{"number":1,"asn":64496,"prefix":"192.0.2.0/24","max":26,"from":"2026-01-01","until":"2026-06-30"}}
+ann {"do":"content","holder":"alpha","number":1} => {"content":"301a020300fbf03013301104020001300b3009030400c0000202011a"}
+ann {"do":"list","holder":"alpha"} => {"listed":[{"number":1,"asn":64496,"prefix":"192.0.2.0/24","max":26,"from":"2026-01-01","until":"2026-06-30"}]}
+bob {"do":"payloads"} => {"payloads":[{"asn":64496,"prefix":"192.0.2.0/24","max":26}]}
+bob {"do":"validity","routes":[{"prefix":"192.0.2.64/26","origin":64496}]} => {"answers":["Valid"]}
+ann {"do":"withdraw","holder":"alpha","number":1} => {"done":null}
+reg {"do":"register","holder":"beta"} => {"done":null}
+reg {"do":"transfer","prefix":"192.0.2.0/25","giver":"alpha","taker":"beta"} => {"done":null}
+reg {"do":"reclaim","holder":"beta","prefix":"192.0.2.0/26"} => {"done":null}
+reg {"do":"revoke","holder":"alpha","number":1} => {"done":null}
+"#;
+
+/// The pool of the scripts that name no other.
+const EXAMPLE_POOL: &[&str] = &["192.0.2.0/24", "198.51.100.0/24", "2001:db8::/32"];
+
+const HALVES: &[&str] = &["192.0.2.0/25", "192.0.2.128/25"];
+
+/// A new desk with the operator `reg` and this pool.
+pub fn desk_of(alloc: Global, pool: &[&str]) -> Result<Desk, Fail> {
+    let mut operators = Vec::new(alloc);
+    operators.push(Name::read(b"reg").ok_or("a name")?)?;
+    let mut prefixes = Vec::new(alloc);
+    for text in pool {
+        prefixes.push(Prefix::read(text.as_bytes())?)?;
+    }
+    Ok(Desk::open_memory(alloc, Charter::make(operators, prefixes)?)?)
+}
+
+pub fn example_desk(alloc: Global) -> Result<Desk, Fail> {
+    desk_of(alloc, EXAMPLE_POOL)
+}
+
+// The lines of a script, and the replies that are expected.
+#[derive(Drop)]
+struct Dialogue {
+    alloc: Global,
+    script: String,
+    expected: String,
+}
+
+impl Dialogue {
+    fn new(alloc: Global) -> Dialogue {
+        Dialogue {
+            alloc,
+            script: String::new(alloc),
+            expected: String::new(alloc),
+        }
+    }
+
+    fn add(&mut self, text: &str) -> Result<(), Fail> {
+        let mut day = String::from_str(self.alloc, "2026-03-01")?;
+        for line in text.lines() {
+            if let Some(next) = line.strip_prefix("day ") {
+                day.clear();
+                day.push_str(next)?;
+            } else if let Some((request, reply)) = line.split_once(" => ") {
+                let line = line_of(self.alloc, &day, request)?;
+                self.script.push_str(&line)?;
+                self.script.push('\n')?;
+                self.expected.push_str(reply)?;
+                self.expected.push('\n')?;
+            } else if !line.is_empty() {
+                return Err("a line that is no row".into());
+            }
+        }
+        Ok(())
+    }
+
+    // What the desk writes to the script, which a source gives few bytes at a time.
+    fn replies(&self, desk: &mut Desk) -> Result<Vec<u8>, Fail> {
+        let mut source = Device::new(Tape {
+            bytes: self.script.as_bytes(),
+            piece: 7,
+            fails: false,
+            is_interrupted: false,
+        });
+        let mut sheet = Sheet {
+            bytes: Vec::new(self.alloc),
+            room: usize::MAX,
+            is_interrupted: false,
+        };
+        let result = {
+            let mut drain = Device::new(&mut sheet);
+            run_script(self.alloc, &mut source, &mut drain, desk)
+        };
+        result?;
+        Ok(sheet.bytes)
+    }
+
+    // The lines that are requests, asked as one list, have the same replies.
+    fn assert_replies_of_run(
+        &self,
+        rt: &impl Abort,
+        name: &str,
+        desk: &mut Desk,
+    ) -> Result<(), Fail> {
+        let mut asked = Vec::new(self.alloc);
+        let mut expected = String::new(self.alloc);
+        for (line, reply) in self.script.lines().zip(self.expected.lines()) {
+            if let Ok(one) = read_line_request(self.alloc, line.as_bytes()) {
+                asked.push(one)?;
+                expected.push_str(reply)?;
+                expected.push('\n')?;
+            }
+        }
+        let replies = desk.run(asked.as_slice())?;
+        let mut sheet = Sheet {
+            bytes: Vec::new(self.alloc),
+            room: usize::MAX,
+            is_interrupted: false,
+        };
+        for reply in &replies {
+            let mut drain = Device::new(&mut sheet);
+            let Ok(()) = write_reply(reply, &mut drain) else {
+                return Err("a reply was not written".into());
+            };
+        }
+        let written = String::from_utf8(sheet.bytes)?;
+        assert_eq!(rt; written.as_str(), expected.as_str(), "{name} as one list");
+        Ok(())
+    }
+}
+
+// The script has these replies, line by line and as one list.
+fn assert_replies(
+    rt: &impl Abort,
+    alloc: Global,
+    pool: &[&str],
+    name: &str,
+    texts: &[&str],
+    lines: &str,
+) -> Result<(), Fail> {
+    let mut dialogue = Dialogue::new(alloc);
+    for text in texts {
+        dialogue.add(text)?;
+    }
+    dialogue.add(lines)?;
+    let written = dialogue.replies(&mut desk_of(alloc, pool)?)?;
+    let written = String::from_utf8(written)?;
+    assert_eq!(rt; written.as_str(), dialogue.expected.as_str(), "{name}");
+    dialogue.assert_replies_of_run(rt, name, &mut desk_of(alloc, pool)?)
+}
+
+fn assert_all(rt: &impl Abort, alloc: Global, scripts: &[Script]) -> Result<(), Fail> {
+    for script in scripts {
+        let Script { name, after, lines } = script;
+        assert_replies(rt, alloc, EXAMPLE_POOL, name, after, lines)?;
+    }
+    Ok(())
+}
+
+#[test]
+fn scripts_have_their_replies(rt: HostRuntime) -> Result<(), Fail> {
+    for scripts in [
+        resources::SCRIPTS,
+        grants::SCRIPTS,
+        authorizations::SCRIPTS,
+        amendments::SCRIPTS,
+        contents::SCRIPTS,
+        vrps::SCRIPTS,
+    ] {
+        assert_all(&rt, rt.alloc(), scripts)?;
+    }
+    Ok(())
+}
+
+#[test]
+fn answers_without_want_of_memory_in_ample_memory(rt: HostRuntime) -> Result<(), Fail> {
+    let name = "answers_without_want_of_memory_in_ample_memory";
+    assert_replies(
+        &rt,
+        rt.alloc(),
+        EXAMPLE_POOL,
+        name,
+        ONE_AUTHORIZATION,
+        EVERY_REQUEST,
+    )
+}
+
+#[test]
+fn delegate_over_two_prefixes_of_the_pool(rt: HostRuntime) -> Result<(), Fail> {
+    let name = "delegate_over_two_prefixes_of_the_pool";
+    assert_replies(&rt, rt.alloc(), HALVES, name, REGISTERED_HOLDER, "")
+}
+
+#[test]
+fn unrevoked_grants_fill_the_room(rt: HostRuntime) -> Result<(), Fail> {
+    let mut filling = String::new(rt.alloc());
+    for number in 2u32..=64 {
+        let row = format!(in rt.alloc(); "{} => {{\"done\":{number}}}\n", grants::SHORT_GRANT)?;
+        filling.push_str(&row)?;
+    }
+    let texts = [ALPHA, filling.as_str()];
+    let name = "unrevoked_grants_fill_the_room";
+    assert_replies(&rt, rt.alloc(), EXAMPLE_POOL, name, &texts, grants::NO_ROOM)
+}

@@ -1,0 +1,37 @@
+//! Authorizations that are created and withdrawn.
+use super::{ONE_AUTHORIZATION, REGISTERED_HOLDER, Script};
+
+pub const SCRIPTS: &[Script] = &[
+    Script {
+        name: "create_over_width_is_denied_length_before_held",
+        after: REGISTERED_HOLDER,
+        lines: r#"
+ann {"do":"create","holder":"alpha","asn":64496,"prefix":"198.51.100.0/24","max":33,"from":"2026-01-01","until":"2026-12-31"} => {"denied":"length"}
+ann {"do":"create","holder":"alpha","asn":64496,"prefix":"198.51.100.0/24","max":24,"from":"2026-01-01","until":"2026-12-31"} => {"denied":"held"}
+"#,
+    },
+    Script {
+        name: "as_0_is_authorized_and_never_valid",
+        after: REGISTERED_HOLDER,
+        lines: r#"
+ann {"do":"create","holder":"alpha","asn":0,"prefix":"192.0.2.0/24","max":24,"from":"2026-01-01","until":"2026-12-31"} => {"done":1}
+bob {"do":"validity","routes":[{"prefix":"192.0.2.0/24","origin":0}]} => {"answers":["Invalid"]}
+"#,
+    },
+    Script {
+        name: "create_of_an_active_one_is_same",
+        after: ONE_AUTHORIZATION,
+        lines: r#"
+ann {"do":"create","holder":"alpha","asn":64496,"prefix":"192.0.2.0/24","max":24,"from":"2026-06-01","until":"2026-06-30"} => {"denied":"same"}
+"#,
+    },
+    Script {
+        name: "withdraw_twice_is_denied_number",
+        after: ONE_AUTHORIZATION,
+        lines: r#"
+ann {"do":"withdraw","holder":"alpha","number":1} => {"done":null}
+ann {"do":"withdraw","holder":"alpha","number":1} => {"denied":"number"}
+ann {"do":"list","holder":"alpha"} => {"listed":[]}
+"#,
+    },
+];

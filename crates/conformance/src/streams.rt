@@ -1,0 +1,187 @@
+//! How a script is read and its replies are written: pieces, ends, failures and the limit of a line.
+use crate::fakes::{Peer, Sheet, Tape};
+use crate::scripts::example_desk;
+use desk::Desk;
+use std::alloc::Global;
+use std::cell::Cell;
+use std::io::BufWriter;
+use std::test::Fail;
+use web::{Device, ScriptFault, run_script};
+
+#[derive(Drop)]
+struct Outcome {
+    result: Result<(), ScriptFault>,
+    written: Vec<u8>,
+}
+
+// Runs a script that comes in pieces, and then ends or fails, into a device that takes `room` bytes.
+fn run(
+    alloc: Global,
+    desk: &mut Desk,
+    bytes: &[u8],
+    fails: bool,
+    piece: usize,
+    room: usize,
+) -> Outcome {
+    let mut source = Device::new(Tape {
+        bytes,
+        piece,
+        fails,
+        is_interrupted: false,
+    });
+    let mut sheet = Sheet {
+        bytes: Vec::new(alloc),
+        room,
+        is_interrupted: false,
+    };
+    let result = {
+        let mut drain = Device::new(&mut sheet);
+        run_script(alloc, &mut source, &mut drain, desk)
+    };
+    Outcome {
+        result,
+        written: sheet.bytes,
+    }
+}
+
+/// An input, whether the source then fails, the answer and the replies. A line that is empty or a
+/// word is malformed 1, and a list malformed 2.
+const LINES: [(&str, bool, Result<(), ScriptFault>, &str); 7] = [
+    ("", false, Ok(()), ""),
+    ("\n", false, Ok(()), "{\"malformed\":1}\n"),
+    (
+        "ab\r\n[]\n c",
+        false,
+        Ok(()),
+        "{\"malformed\":1}\n{\"malformed\":2}\n{\"malformed\":1}\n",
+    ),
+    (
+        "[]\nc\n",
+        false,
+        Ok(()),
+        "{\"malformed\":2}\n{\"malformed\":1}\n",
+    ),
+    ("", true, Err(ScriptFault::Read), ""),
+    (
+        "[]\ncd",
+        true,
+        Err(ScriptFault::Read),
+        "{\"malformed\":2}\n",
+    ),
+    (
+        "[]\ncd\n",
+        true,
+        Err(ScriptFault::Read),
+        "{\"malformed\":2}\n{\"malformed\":1}\n",
+    ),
+];
+
+#[test]
+fn answers_each_line(rt: HostRuntime) -> Result<(), Fail> {
+    for (input, fails, result, replies) in LINES {
+        for piece in [1, 2, 10_000] {
+            let mut desk = example_desk(rt.alloc())?;
+            let bytes = input.as_bytes();
+            let outcome = run(rt.alloc(), &mut desk, bytes, fails, piece, usize::MAX);
+            assert_eq!(rt; outcome.result, result, "of {input:?}");
+            assert_eq!(rt;
+                outcome.written.as_slice(),
+                replies.as_bytes(),
+                "of {input:?}"
+            );
+        }
+    }
+    Ok(())
+}
+
+/// Three commands whose replies have 14 bytes each.
+const REGISTER_THREE: &str = r#"{"day":"2026-03-01","caller":"reg","do":"register","holder":"alpha"}
+{"day":"2026-03-01","caller":"reg","do":"register","holder":"beta"}
+{"day":"2026-03-01","caller":"reg","do":"register","holder":"gamma"}
+"#;
+
+const DONE_THREE: &str = "{\"done\":null}\n{\"done\":null}\n{\"done\":null}\n";
+
+// Asked again, the commands that were acted on are denied: the one whose reply was cut short, and
+// none after it.
+#[test]
+fn write_that_fails_cuts_the_replies_short(rt: HostRuntime) -> Result<(), Fail> {
+    let alloc = rt.alloc();
+    let script = REGISTER_THREE.as_bytes();
+    for room in 0..DONE_THREE.len() {
+        let mut desk = example_desk(alloc)?;
+        let outcome = run(alloc, &mut desk, script, false, 10_000, room);
+        assert_eq!(rt;
+            outcome.result,
+            Err(ScriptFault::Write),
+            "after {room} bytes"
+        );
+        assert_eq!(rt;
+            outcome.written.as_slice(),
+            &DONE_THREE.as_bytes()[..room],
+            "after {room} bytes"
+        );
+        let again = run(alloc, &mut desk, script, false, 10_000, usize::MAX);
+        let again = String::from_utf8(again.written)?;
+        let denied = again
+            .lines()
+            .filter(|line| *line == "{\"denied\":\"fresh\"}")
+            .count();
+        assert_eq!(rt; denied, room / 14 + 1, "after {room} bytes");
+    }
+    Ok(())
+}
+
+/// What follows the longest line that is judged, whether the source then fails, the answer and the
+/// replies.
+const LONG_LINES: [(&str, bool, Result<(), ScriptFault>, &str); 4] = [
+    ("", false, Ok(()), "{\"malformed\":1}\n"),
+    ("x", false, Ok(()), "{\"malformed\":13}\n"),
+    ("x", true, Err(ScriptFault::Read), ""),
+    (
+        "x\n[]\n",
+        false,
+        Ok(()),
+        "{\"malformed\":13}\n{\"malformed\":2}\n",
+    ),
+];
+
+#[test]
+fn limit_of_a_line(rt: HostRuntime) -> Result<(), Fail> {
+    for (end, fails, result, replies) in LONG_LINES {
+        let mut input = vec![in rt.alloc(); b'x'; 1_048_576]?;
+        input.extend_from_slice(end.as_bytes())?;
+        let mut desk = example_desk(rt.alloc())?;
+        let outcome = run(
+            rt.alloc(),
+            &mut desk,
+            input.as_slice(),
+            fails,
+            10_000,
+            usize::MAX,
+        );
+        assert_eq!(rt; outcome.result, result, "then {end:?}");
+        assert_eq!(rt;
+            outcome.written.as_slice(),
+            replies.as_bytes(),
+            "then {end:?}"
+        );
+    }
+    Ok(())
+}
+
+#[test]
+fn reply_reaches_the_peer_before_the_next_line_is_read(rt: HostRuntime) -> Result<(), Fail> {
+    let peer = Peer {
+        lines: Cell::new(3),
+        sent: Cell::new(0),
+        replies: Cell::new(0),
+    };
+    let mut source = Device::new(&peer);
+    let mut drain = Device::new(BufWriter::new(rt.alloc(), &peer)?);
+    let mut desk = example_desk(rt.alloc())?;
+    let result = run_script(rt.alloc(), &mut source, &mut drain, &mut desk);
+    assert_eq!(rt; result, Ok(()));
+    assert_eq!(rt; peer.replies.get(), 3);
+    Ok(())
+}
