@@ -201,7 +201,7 @@ fn content_of(alloc: Global, vector: &Vector) -> Result<Content, Fail> {
 }
 
 /// So many prefixes from 192.0.2.0/32 on.
-pub fn host_prefixes(alloc: Global, count: u8) -> Result<Vec<Entry>, Fail> {
+pub(crate) fn host_prefixes(alloc: Global, count: u8) -> Result<Vec<Entry>, Fail> {
     let mut entries = Vec::new(alloc);
     for i in 0..count {
         let address = 0xc000_0200 + u128::from(i);

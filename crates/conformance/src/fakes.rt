@@ -5,11 +5,11 @@ use std::io::{Error, ErrorKind, Read, Result, Write};
 /// Gives its bytes, at most `piece` of them a read, and then ends or fails. Every second call is
 /// interrupted.
 #[derive(Drop)]
-pub struct Tape<'a> {
-    pub bytes: &'a [u8],
-    pub piece: usize,
-    pub fails: bool,
-    pub is_interrupted: bool,
+pub(crate) struct Tape<'a> {
+    pub(crate) bytes: &'a [u8],
+    pub(crate) piece: usize,
+    pub(crate) fails: bool,
+    pub(crate) is_interrupted: bool,
 }
 
 impl Read for Tape<'_> {
@@ -30,10 +30,10 @@ impl Read for Tape<'_> {
 
 /// Takes `room` bytes, at most three a write, and then fails. Every second call is interrupted.
 #[derive(Drop)]
-pub struct Sheet {
-    pub bytes: Vec<u8>,
-    pub room: usize,
-    pub is_interrupted: bool,
+pub(crate) struct Sheet {
+    pub(crate) bytes: Vec<u8>,
+    pub(crate) room: usize,
+    pub(crate) is_interrupted: bool,
 }
 
 impl Write for Sheet {
@@ -58,10 +58,10 @@ impl Write for Sheet {
 
 /// A peer that sends its next line, which is empty, only when it has the reply to the one before.
 #[derive(Drop)]
-pub struct Peer {
-    pub lines: Cell<usize>,
-    pub sent: Cell<usize>,
-    pub replies: Cell<usize>,
+pub(crate) struct Peer {
+    pub(crate) lines: Cell<usize>,
+    pub(crate) sent: Cell<usize>,
+    pub(crate) replies: Cell<usize>,
 }
 
 impl Read for &Peer {

@@ -19,25 +19,25 @@ mod vrps;
 
 /// A script after its set-up. In both a line is `CALLER {"do":..} => REPLY`, asked on the first of
 /// March, or `day DAY`, the day of the lines that follow it.
-pub struct Script {
-    pub name: &'static str,
-    pub after: &'static [&'static str],
-    pub lines: &'static str,
+pub(crate) struct Script {
+    pub(crate) name: &'static str,
+    pub(crate) after: &'static [&'static str],
+    pub(crate) lines: &'static str,
 }
 
 /// `alpha` has 192.0.2.0/24, and `ann` is its manager.
-pub const REGISTERED_HOLDER: &[&str] = &[ALPHA];
+pub(crate) const REGISTERED_HOLDER: &[&str] = &[ALPHA];
 
 /// Beyond that, AS 64496 is authorized for all of it.
-pub const ONE_AUTHORIZATION: &[&str] = &[ALPHA, AUTHORIZATION];
+pub(crate) const ONE_AUTHORIZATION: &[&str] = &[ALPHA, AUTHORIZATION];
 
-pub const ALPHA: &str = r#"
+pub(crate) const ALPHA: &str = r#"
 reg {"do":"register","holder":"alpha"} => {"done":null}
 reg {"do":"delegate","holder":"alpha","prefix":"192.0.2.0/24"} => {"done":null}
 reg {"do":"grant","holder":"alpha","name":"ann","role":"manager","scope":"all","until":"2026-12-31"} => {"done":1}
 "#;
 
-pub const AUTHORIZATION: &str = r#"
+pub(crate) const AUTHORIZATION: &str = r#"
 ann {"do":"create","holder":"alpha","asn":64496,"prefix":"192.0.2.0/24","max":24,"from":"2026-01-01","until":"2026-12-31"} => {"done":1}
 "#;
 
@@ -62,7 +62,7 @@ const EXAMPLE_POOL: &[&str] = &["192.0.2.0/24", "198.51.100.0/24", "2001:db8::/3
 const HALVES: &[&str] = &["192.0.2.0/25", "192.0.2.128/25"];
 
 /// A new desk with the operator `reg` and this pool.
-pub fn desk_of(alloc: Global, pool: &[&str]) -> Result<Desk, Fail> {
+pub(crate) fn desk_of(alloc: Global, pool: &[&str]) -> Result<Desk, Fail> {
     let mut operators = Vec::new(alloc);
     operators.push(Name::read(b"reg").ok_or("a name")?)?;
     let mut prefixes = Vec::new(alloc);
@@ -72,7 +72,7 @@ pub fn desk_of(alloc: Global, pool: &[&str]) -> Result<Desk, Fail> {
     Ok(Desk::open_memory(alloc, Charter::make(operators, prefixes)?)?)
 }
 
-pub fn example_desk(alloc: Global) -> Result<Desk, Fail> {
+pub(crate) fn example_desk(alloc: Global) -> Result<Desk, Fail> {
     desk_of(alloc, EXAMPLE_POOL)
 }
 

@@ -9,7 +9,7 @@ use std::test::Fail;
 
 /// The example of RFC 8416 section 3.5 without its BGPsec entries, and with its IPv6 prefix in the
 /// spelling of RFC 5952.
-pub const SAMPLE: &str = r#"{
+pub(crate) const SAMPLE: &str = r#"{
     "slurmVersion": 1,
     "validationOutputFilters": {
         "prefixFilters": [

@@ -147,7 +147,7 @@ const LONG_LINES: [(&str, bool, Result<(), ScriptFault>, &str); 4] = [
 ];
 
 #[test]
-fn limit_of_a_line(rt: HostRuntime) -> Result<(), Fail> {
+fn line_length_limit(rt: HostRuntime) -> Result<(), Fail> {
     for (end, fails, result, replies) in LONG_LINES {
         let mut input = vec![in rt.alloc(); b'x'; 1_048_576]?;
         input.extend_from_slice(end.as_bytes())?;

@@ -8,10 +8,10 @@ use std::test::Fail;
 
 /// A VRP by its AS, prefix and maxLength.
 #[derive(Clone, Copy)]
-pub struct Terms(pub u32, pub &'static str, pub u8);
+pub(crate) struct Terms(pub(crate) u32, pub(crate) &'static str, pub(crate) u8);
 
 /// A VRP of AS 64496 for a /22 and one of another AS for a /24 in it, the first twice.
-pub const NESTED: &[Terms] = &[
+pub(crate) const NESTED: &[Terms] = &[
     Terms(64497, "198.51.100.0/24", 24),
     Terms(64496, "198.51.100.0/22", 24),
     Terms(64496, "198.51.100.0/22", 24),
@@ -49,13 +49,13 @@ const VISITS: [(usize, usize, Result<(), Stop>); 3] = [
     (0, 0, Err(Stop)),
 ];
 
-pub fn vrp_of(terms: &Terms) -> Result<Vrp, Fail> {
+pub(crate) fn vrp_of(terms: &Terms) -> Result<Vrp, Fail> {
     let Terms(asn, prefix, max) = terms;
     let prefix = Prefix::read(prefix.as_bytes())?;
     Ok(Vrp::from_parts(prefix, *max, Asn(*asn)).ok_or("a VRP")?)
 }
 
-pub fn vrps_of(alloc: Global, terms: &[Terms]) -> Result<Vec<Vrp>, Fail> {
+pub(crate) fn vrps_of(alloc: Global, terms: &[Terms]) -> Result<Vec<Vrp>, Fail> {
     let mut vrps = Vec::new(alloc);
     for one in terms {
         vrps.push(vrp_of(one)?)?;
@@ -65,7 +65,7 @@ pub fn vrps_of(alloc: Global, terms: &[Terms]) -> Result<Vec<Vrp>, Fail> {
 
 /// A set by one call for each VRP, of which the last is taken out and put in again, and how many
 /// calls put one in.
-pub fn fill<I: PayloadIndex>(index: &mut I, vrps: &[Vrp]) -> Result<usize, Fail> {
+pub(crate) fn fill<I: PayloadIndex>(index: &mut I, vrps: &[Vrp]) -> Result<usize, Fail> {
     let mut count: usize = 0;
     for vrp in vrps {
         if index.insert(*vrp)? {

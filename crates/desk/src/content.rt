@@ -7,9 +7,11 @@ use policy::Auth;
 use roa::{Content, Entry, encode};
 use std::alloc::{AllocError, Global};
 
-/// The ROA content of the authorization; `None` where its maxLength is out of range, as in no history.
+/// The ROA content of the authorization; `None` where its maxLength is out of range, which no
+/// history has.
 fn content_of(alloc: Global, auth: &Auth) -> Result<Option<Content>, AllocError>
-    ensures some { IfOk result (λ found. IsSome found ↔ (terms_fit_length auth.now auth.now.max ≡ true)) }
+    ensures some { IfOk result (λ found.
+        IsSome found ↔ (terms_fit_length auth.now auth.now.max ≡ true)) }
     ensures value { IfOk result (λ found. IfSome found (λ content. content ≡ content_of auth.now)) }
 {
     let entry = Entry {
@@ -20,11 +22,13 @@ fn content_of(alloc: Global, auth: &Auth) -> Result<Option<Content>, AllocError>
     Ok(Content::make(auth.asn, entries).ok())
 }
 
-/// The octets of the authorization's ROA content in lower-case hex; `None` where its maxLength is out
-/// of range, as in no history.
+/// The octets of the authorization's ROA content in lower-case hex; `None` where its maxLength is
+/// out of range, which no history has.
 pub(crate) fn content_text(alloc: Global, auth: &Auth) -> Result<Option<String>, AllocError>
-    ensures some { IfOk result (λ found. IsSome found ↔ (terms_fit_length auth.now auth.now.max ≡ true)) }
-    ensures text { IfOk result (λ found. IfSome found (λ text. IsContentText auth.now (string_bytes text))) }
+    ensures some { IfOk result (λ found.
+        IsSome found ↔ (terms_fit_length auth.now auth.now.max ≡ true)) }
+    ensures text { IfOk result (λ found.
+        IfSome found (λ text. IsContentText auth.now (string_bytes text))) }
 {
     let Some(content) = content_of(alloc, auth)? else {
         return Ok(None);

@@ -56,7 +56,8 @@ pub(crate) fn judge<I: PayloadIndex>(
     index: &I,
     routes: &[Route],
 ) -> Result<Vec<Validity>, AllocError>
-    ensures { IfOk result (λ states. map state_of states.items ≡ map (λ r. validation_state (set.items (I.vrps index.now)) r) routes.now) }
+    ensures { IfOk result (λ states. map state_of states.items
+        ≡ map (λ r. validation_state (set.items (I.vrps index.now)) r) routes.now) }
 {
     let mut states = Vec::with_capacity(alloc, routes.len())?;
     for route in routes {

@@ -41,8 +41,10 @@ impl Desk {
 
     /// Replies to a request of the caller on the day. Only a reply of `Done` changes anything.
     pub fn handle(&mut self, day: Day, caller: &Name, request: &Request) -> Reply
-        ensures answered { (history : History) → IsLegal (charter_of self.old) history → HasRows (desk_rows self.old) history
-            → IsAnswered (charter_of self.old) history day caller.now request.now result (desk_rows self.new) }
+        ensures answered { (history : History) → IsLegal (charter_of self.old) history
+            → HasRows (desk_rows self.old) history
+            → IsAnswered (charter_of self.old) history day caller.now request.now
+            result (desk_rows self.new) }
         ensures charter { charter_of self.new ≡ charter_of self.old }
         ensures kept { is_done result ≡ false → IsKept self.old self.new }
     {
@@ -55,7 +57,9 @@ impl Desk {
     /// Replies to each of the requests, in their order. Room is made for all replies first; where there
     /// is none, nothing is acted on.
     pub fn run(&mut self, asked: &[Asked]) -> Result<Vec<Reply>, AllocError>
-        ensures answered { IfOk result (λ replies. (history : History) → IsLegal (charter_of self.old) history → HasRows (desk_rows self.old) history
+        ensures answered { IfOk result (λ replies. (history : History)
+            → IsLegal (charter_of self.old) history
+            → HasRows (desk_rows self.old) history
             → AreAnswered (charter_of self.old) history asked.now replies.items (desk_rows self.new)) }
         ensures charter { charter_of self.new ≡ charter_of self.old }
         ensures err { OnErr result (IsKept self.old self.new) }
@@ -69,8 +73,10 @@ impl Desk {
     }
 
     fn carry_out(&mut self, day: Day, caller: &Name, command: &Command) -> Reply
-        ensures answered { (history : History) → IsLegal (charter_of self.old) history → HasRows (desk_rows self.old) history
-            → IsAnswered (charter_of self.old) history day caller.now (Request.Command command.now) result (desk_rows self.new) }
+        ensures answered { (history : History) → IsLegal (charter_of self.old) history
+            → HasRows (desk_rows self.old) history
+            → IsAnswered (charter_of self.old) history day caller.now
+            (Request.Command command.now) result (desk_rows self.new) }
         ensures charter { charter_of self.new ≡ charter_of self.old }
         ensures kept { is_done result ≡ false → IsKept self.old self.new }
     {
@@ -87,7 +93,8 @@ impl Desk {
     }
 
     fn answer(&mut self, day: Day, caller: &Name, query: &Query) -> Reply
-        ensures answered { (history : History) → IsLegal (charter_of self.old) history → HasRows (desk_rows self.old) history
+        ensures answered { (history : History) → IsLegal (charter_of self.old) history
+            → HasRows (desk_rows self.old) history
             → AnswersQuery history day caller.now query.now result }
         ensures never_done { is_done result ≡ false }
         ensures kept { self.new ≡ self.old }
@@ -102,7 +109,8 @@ impl Desk {
     }
 
     fn show(&mut self, holder: &Name, day: Day, caller: &Name, number: u32) -> Reply
-        ensures answered { (history : History) → IsLegal (charter_of self.old) history → HasRows (desk_rows self.old) history
+        ensures answered { (history : History) → IsLegal (charter_of self.old) history
+            → HasRows (desk_rows self.old) history
             → AnswersShow history holder.now day caller.now number result }
         ensures never_done { is_done result ≡ false }
         ensures kept { self.new ≡ self.old }
@@ -117,7 +125,8 @@ impl Desk {
     }
 
     fn content(&mut self, holder: &Name, day: Day, caller: &Name, number: u32) -> Reply
-        ensures answered { (history : History) → IsLegal (charter_of self.old) history → HasRows (desk_rows self.old) history
+        ensures answered { (history : History) → IsLegal (charter_of self.old) history
+            → HasRows (desk_rows self.old) history
             → AnswersContent history holder.now day caller.now number result }
         ensures never_done { is_done result ≡ false }
         ensures kept { self.new ≡ self.old }
@@ -134,7 +143,8 @@ impl Desk {
     }
 
     fn list(&mut self, holder: &Name, day: Day, caller: &Name) -> Reply
-        ensures answered { (history : History) → IsLegal (charter_of self.old) history → HasRows (desk_rows self.old) history
+        ensures answered { (history : History) → IsLegal (charter_of self.old) history
+            → HasRows (desk_rows self.old) history
             → AnswersList history holder.now day caller.now result }
         ensures never_done { is_done result ≡ false }
         ensures kept { self.new ≡ self.old }
@@ -150,7 +160,8 @@ impl Desk {
     }
 
     fn payloads(&mut self, day: Day) -> Reply
-        ensures answered { (history : History) → IsLegal (charter_of self.old) history → HasRows (desk_rows self.old) history
+        ensures answered { (history : History) → IsLegal (charter_of self.old) history
+            → HasRows (desk_rows self.old) history
             → AnswersPayloads history day result }
         ensures never_done { is_done result ≡ false }
         ensures kept { self.new ≡ self.old }
@@ -165,7 +176,8 @@ impl Desk {
     }
 
     fn validity(&mut self, day: Day, routes: &[Route]) -> Reply
-        ensures answered { (history : History) → IsLegal (charter_of self.old) history → HasRows (desk_rows self.old) history
+        ensures answered { (history : History) → IsLegal (charter_of self.old) history
+            → HasRows (desk_rows self.old) history
             → AnswersValidity history day routes.now result }
         ensures never_done { is_done result ≡ false }
         ensures kept { self.new ≡ self.old }
@@ -191,7 +203,8 @@ impl Desk {
 
     /// What the command does, or why it is refused.
     fn decide(&mut self, day: Day, caller: &Name, command: &Command) -> Result<Change, Refusal>
-        ensures answer { (history : History) → IsLegal (charter_of self.old) history → HasRows (desk_rows self.old) history
+        ensures answer { (history : History) → IsLegal (charter_of self.old) history
+            → HasRows (desk_rows self.old) history
             → IsAnswer (charter_of self.old) history day caller.now command.now result }
         ensures kept { self.new ≡ self.old }
     {
@@ -217,7 +230,9 @@ impl Desk {
 
     /// What the command is judged on.
     fn view(&mut self, command: &Command) -> Result<View, AllocError>
-        ensures view { IfOk result (λ view. (history : History) → IsLegal (charter_of self.old) history → HasRows (desk_rows self.old) history
+        ensures view { IfOk result (λ view. (history : History)
+            → IsLegal (charter_of self.old) history
+            → HasRows (desk_rows self.old) history
             → IsViewOf history command.now view) }
         ensures kept { self.new ≡ self.old }
     {
@@ -228,7 +243,8 @@ impl Desk {
 
     /// Whether some address of a delegation's prefix is held. Not asked of any other command.
     fn is_taken(&mut self, command: &Command) -> bool
-        ensures taken { (history : History) → IsLegal (charter_of self.old) history → HasRows (desk_rows self.old) history
+        ensures taken { (history : History) → IsLegal (charter_of self.old) history
+            → HasRows (desk_rows self.old) history
             → TellsTaken history command.now result }
         ensures kept { self.new ≡ self.old }
     {

@@ -42,7 +42,8 @@ impl Records {
 
     /// Changes the rows. On an error they stay as they were.
     pub(crate) fn apply(&mut self, alloc: Global, change: Change) -> Result<(), AllocError>
-        ensures ok { OnOk result ((h : List ℕ) → rows_at self.new h ≡ changed change h (rows_at self.old h)) }
+        ensures ok { OnOk result ((h : List ℕ)
+            → rows_at self.new h ≡ changed change h (rows_at self.old h)) }
         ensures err { OnErr result ((h : List ℕ) → rows_at self.new h ≡ rows_at self.old h) }
     {
         let Change { first, second } = change;
@@ -64,7 +65,8 @@ impl Records {
     /// Puts the rows that a holder had in the place of those that it has.
     fn put_back(&mut self, holder: Name, rows: Option<HolderRows>)
         requires { IsSome (rows_if_any rows) → IsSome (rows_at self.old holder) }
-        ensures { (h : List ℕ) → rows_at self.new h ≡ (if same_name holder h then rows_if_any rows else rows_at self.old h) }
+        ensures { (h : List ℕ) → rows_at self.new h
+            ≡ (if same_name holder h then rows_if_any rows else rows_at self.old h) }
     {
         match rows {
             Some(rows) => {
@@ -78,7 +80,8 @@ impl Records {
 
     /// Edits the rows of one holder. On an error they stay as they were.
     fn apply_one(&mut self, alloc: Global, change: HolderChange) -> Result<(), AllocError>
-        ensures ok { OnOk result ((h : List ℕ) → rows_at self.new h ≡ changed_by_one change h (rows_at self.old h)) }
+        ensures ok { OnOk result ((h : List ℕ)
+            → rows_at self.new h ≡ changed_by_one change h (rows_at self.old h)) }
         ensures err { OnErr result ((h : List ℕ) → rows_at self.new h ≡ rows_at self.old h) }
     {
         let HolderChange { holder, edit } = change;
@@ -94,7 +97,8 @@ impl Records {
 
     /// Puts the rows of a holder that has none. On an error nothing changes.
     fn register(&mut self, alloc: Global, holder: Name) -> Result<(), AllocError>
-        ensures ok { OnOk result ((h : List ℕ) → rows_at self.new h ≡ (if same_name holder h then Some new_rows else rows_at self.old h)) }
+        ensures ok { OnOk result ((h : List ℕ) → rows_at self.new h
+            ≡ (if same_name holder h then Some new_rows else rows_at self.old h)) }
         ensures err { OnErr result ((h : List ℕ) → rows_at self.new h ≡ rows_at self.old h) }
     {
         self.holders.insert(holder, HolderRows::new(alloc))?;
@@ -110,7 +114,8 @@ impl Records {
 
     /// The VRPs of all authorizations in force on the day, in any order.
     pub(crate) fn vrps_in_force(&self, alloc: Global, day: Day) -> Result<Vec<Vrp>, AllocError>
-        ensures { IfOk result (λ vrps. (v : Vrp) → IsTrue (has_vrp vrps.items v) ↔ IsGivenOn (rows_at self.now) day v) }
+        ensures { IfOk result (λ vrps. (v : Vrp)
+            → IsTrue (has_vrp vrps.items v) ↔ IsGivenOn (rows_at self.now) day v) }
     {
         let vrps = all_in_force(alloc, &self.holders, day)?;
         Ok(vrps)
@@ -122,7 +127,8 @@ fn all_in_force(
     holders: &BTreeMap<Name, HolderRows>,
     day: Day,
 ) -> Result<Vec<Vrp>, AllocError>
-    ensures any { IfOk result (λ vrps. (v : Vrp) → has_vrp vrps.items v ≡ list_any (rows_give_on day v) (values holders.now)) }
+    ensures any { IfOk result (λ vrps. (v : Vrp)
+        → has_vrp vrps.items v ≡ list_any (rows_give_on day v) (values holders.now)) }
     ensures ordered { IsOrdered (slice_cmp nat_cmp) holders.now }
 {
     let mut vrps = Vec::new(alloc);
@@ -134,7 +140,8 @@ fn all_in_force(
 
 /// Appends the VRPs of the authorizations that are in force on the day.
 fn push_in_force(vrps: &mut Vec<Vrp>, auths: &[Auth], day: Day) -> Result<(), AllocError>
-    ensures { OnOk result ((v : Vrp) → has_vrp vrps.new.items v ≡ (has_vrp vrps.old.items v || list_any (gives_on day v) auths.now)) }
+    ensures { OnOk result ((v : Vrp) → has_vrp vrps.new.items v
+        ≡ (has_vrp vrps.old.items v || list_any (gives_on day v) auths.now)) }
 {
     for auth in auths {
         push_if_in_force(vrps, auth, day)?;
@@ -143,7 +150,8 @@ fn push_in_force(vrps: &mut Vec<Vrp>, auths: &[Auth], day: Day) -> Result<(), Al
 }
 
 fn push_if_in_force(vrps: &mut Vec<Vrp>, auth: &Auth, day: Day) -> Result<(), AllocError>
-    ensures { OnOk result ((v : Vrp) → has_vrp vrps.new.items v ≡ (has_vrp vrps.old.items v || gives_on day v auth.now)) }
+    ensures { OnOk result ((v : Vrp) → has_vrp vrps.new.items v
+        ≡ (has_vrp vrps.old.items v || gives_on day v auth.now)) }
 {
     if !auth.is_in_force(day) {
         return Ok(());
@@ -156,7 +164,8 @@ fn push_if_in_force(vrps: &mut Vec<Vrp>, auth: &Auth, day: Day) -> Result<(), Al
 
 /// Whether the rows of some holder have an address of the prefix.
 fn touch(holders: &BTreeMap<Name, HolderRows>, prefix: &Prefix) -> bool
-    ensures any { result ≡ list_any (λ r. list_any (λ s. span_meets s prefix.now) r.holdings) (values holders.now) }
+    ensures any { result
+        ≡ list_any (λ r. list_any (λ s. span_meets s prefix.now) r.holdings) (values holders.now) }
     ensures ordered { IsOrdered (slice_cmp nat_cmp) holders.now }
 {
     holders.values().any(|rows| rows.holdings.touches(prefix))

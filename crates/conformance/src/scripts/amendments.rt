@@ -8,7 +8,7 @@ ann {"do":"amend","holder":"alpha","number":1,"max":25,"until":"2026-06-30"} => 
 
 const AMENDED_AUTHORIZATION: &[&str] = &[ALPHA, AUTHORIZATION, AMENDMENT];
 
-pub const SCRIPTS: &[Script] = &[
+pub(crate) const SCRIPTS: &[Script] = &[
     Script {
         name: "amend_length_and_last_day",
         after: AMENDED_AUTHORIZATION,

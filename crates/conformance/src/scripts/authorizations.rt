@@ -1,7 +1,7 @@
 //! Authorizations that are created and withdrawn.
 use super::{ONE_AUTHORIZATION, REGISTERED_HOLDER, Script};
 
-pub const SCRIPTS: &[Script] = &[
+pub(crate) const SCRIPTS: &[Script] = &[
     Script {
         name: "create_over_width_is_denied_length_before_held",
         after: REGISTERED_HOLDER,

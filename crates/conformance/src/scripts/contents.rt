@@ -1,7 +1,7 @@
 //! The ROA content of authorizations.
 use super::{ONE_AUTHORIZATION, REGISTERED_HOLDER, Script};
 
-pub const SCRIPTS: &[Script] = &[
+pub(crate) const SCRIPTS: &[Script] = &[
     Script {
         name: "content_of_one_ipv4_prefix",
         after: ONE_AUTHORIZATION,

@@ -2,11 +2,11 @@
 use super::{ALPHA, ONE_AUTHORIZATION, REGISTERED_HOLDER, Script};
 
 /// A grant that ends with the day on which it is made.
-pub const SHORT_GRANT: &str =
+pub(crate) const SHORT_GRANT: &str =
     r#"reg {"do":"grant","holder":"alpha","name":"eve","role":"clerk","scope":"all","until":"2026-03-01"}"#;
 
 /// What is answered where 64 grants are not revoked, of which 63 are past their last day.
-pub const NO_ROOM: &str = r#"
+pub(crate) const NO_ROOM: &str = r#"
 day 2026-03-02
 reg {"do":"grant","holder":"alpha","name":"eve","role":"clerk","scope":"all","until":"2026-12-31"} => {"denied":"room"}
 reg {"do":"revoke","holder":"alpha","number":64} => {"done":null}
@@ -21,7 +21,7 @@ cleo {"do":"show","holder":"alpha","number":1} => {"denied":"number"}
 cleo {"do":"show","holder":"alpha","number":9} => {"denied":"number"}
 "#;
 
-pub const SCRIPTS: &[Script] = &[
+pub(crate) const SCRIPTS: &[Script] = &[
     Script {
         name: "grant_ends_after_its_last_day",
         after: REGISTERED_HOLDER,

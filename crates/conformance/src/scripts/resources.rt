@@ -1,7 +1,7 @@
 //! Registration, delegation, transfer and reclaim.
 use super::{ALPHA, AUTHORIZATION, ONE_AUTHORIZATION, REGISTERED_HOLDER, Script};
 
-pub const SCRIPTS: &[Script] = &[
+pub(crate) const SCRIPTS: &[Script] = &[
     Script {
         name: "empty_script_writes_nothing",
         after: &[],

@@ -1,7 +1,7 @@
 //! The VRPs of a day, and routes that are validated by them.
 use super::{ONE_AUTHORIZATION, Script};
 
-pub const SCRIPTS: &[Script] = &[
+pub(crate) const SCRIPTS: &[Script] = &[
     Script {
         name: "validity_of_equal_longer_and_shorter_route",
         after: ONE_AUTHORIZATION,
