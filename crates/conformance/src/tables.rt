@@ -153,3 +153,15 @@ fn database_that_has_tables_is_refused(rt: HostRuntime) -> Result<(), Fail> {
     assert!(rt; matches!(again, Err(StoreFault::Database)));
     Ok(())
 }
+
+// A maxLength below the length of its prefix: the columns hold it, and no VRP has it.
+#[test]
+fn authorization_that_gives_no_vrp_is_another_schema(rt: HostRuntime) -> Result<(), Fail> {
+    let mut store = registered_holder(rt.alloc())?;
+    let mut auth = authorization(1)?;
+    auth.max = 23;
+    apply(&mut store, Edit::Create(auth))?;
+    let vrps = store.all_auths_on(rt.alloc(), first_of_march()?);
+    assert!(rt; matches!(vrps, Err(StoreFault::Schema)));
+    Ok(())
+}
