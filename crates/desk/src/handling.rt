@@ -4,7 +4,7 @@ ghost use Rattle.policy.specs.Answer.{IsViewOf, IsAnswer, TellsTaken};
 ghost use Rattle.policy.specs.History.{History};
 ghost use Rattle.policy.specs.Verdict.{IsLegal};
 ghost use Rattle.desk.specs.Answer.{is_done, AnswersQuery, AnswersShow, AnswersContent, AnswersList, AnswersPayloads, AnswersValidity, IsAnswered};
-ghost use Rattle.desk.specs.DeskRows.{HasRows, IsGivenOn};
+ghost use Rattle.policy.specs.RowsOfAll.{HasRows, IsGivenOn};
 ghost use Rattle.desk.specs.Run.{AreAnswered};
 ghost use Rattle.payload.specs.VrpSet as set;
 ghost use Rattle.desk.specs.Desk.{charter_of, desk_rows, IsKept};

@@ -1,9 +1,8 @@
 -- In a legal history a holder that is not registered has nothing.
-use Rattle.std.proofs.Common.{◌≡◌, ℕ, Bool, true, false, not, cond, eqb, List, [], ◌∷◌, inl, inr, Some, None, refl, sym, ap, ◌∙◌, map, filter}
-use Rattle.std.proofs.lemmas.Bool.{cases_Bool, cond-false, false≢true, or_parts}
+use Rattle.std.proofs.Common.{◌≡◌, ℕ, Bool, true, false, cond, eqb, List, [], ◌∷◌, inl, inr, Some, None, refl, sym, ap, ◌∙◌}
+use Rattle.std.proofs.lemmas.Bool.{cases_Bool, false≢true, or_parts}
 use Rattle.std.specs.List.{list_any}
 use Rattle.addr.specs.Address.{Address, has_address}
-use Rattle.policy.specs.declared.authorization.Auth.{Auth}
 use Rattle.policy.specs.declared.charter.Charter.{Charter}
 use Rattle.policy.specs.declared.grant.Granted.{Granted}
 use Rattle.policy.specs.declared.grant.Access.TheVariants.{Alter}
@@ -11,7 +10,7 @@ use Rattle.policy.specs.declared.command.Command.{Command}
 use Rattle.policy.specs.declared.command.Command.TheVariants.{Register, Delegate, Transfer, Reclaim, Grant, Revoke, Create, Amend, Withdraw}
 use Rattle.policy.specs.History.{Entry, History, same_name, registers, is_registered}
 use Rattle.policy.specs.Resources.{resource_holder, is_held_by}
-use Rattle.policy.specs.Terms.{grant_terms, grants_made, authorizations_made, authorization_terms, amended}
+use Rattle.policy.specs.Terms.{grant_terms, grants_made, authorizations_made, authorization_terms}
 use Rattle.policy.specs.Permission.{has_access}
 use Rattle.policy.specs.Answer.{holder_of}
 use Rattle.policy.specs.Verdict.{Verdict, IsLegal}
