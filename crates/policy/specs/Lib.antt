@@ -14,3 +14,5 @@ pub mod RowsOfAll
 pub mod Answer
 pub mod DailyVrps
 pub mod SharedVrps
+pub mod Unregistered
+pub mod Ended
