@@ -27,14 +27,14 @@ pub struct Desk {
 }
 
 impl Desk {
-    /// A desk on which nothing was accepted yet.
-    pub fn open_memory(alloc: Global, charter: Charter) -> Result<Desk, AllocError>
-        ensures charter { IfOk result (λ desk. charter_of desk ≡ charter) }
+    /// A desk of this charter on which nothing was accepted yet.
+    pub fn open_memory(alloc: Global, charter: &Charter) -> Result<Desk, AllocError>
+        ensures charter { IfOk result (λ desk. charter_of desk ≡ charter.now) }
         ensures empty { IfOk result (λ desk. (h : List ℕ) → desk_rows desk h ≡ None) }
     {
         Ok(Desk {
             alloc,
-            charter,
+            charter: charter.clone()?,
             records: Records::new(alloc),
         })
     }
