@@ -77,7 +77,8 @@ impl Content {
     /// over all entries.
     pub fn make(asn: Asn, mut entries: Vec<Entry>) -> Result<Content, ContentFault>
         ensures asn { IfOk result (λ content. content.asn ≡ asn) }
-        ensures same_entries { IfOk result (λ content. IsPermutation entries.items content.entries) }
+        ensures same_entries { IfOk result
+            (λ content. IsPermutation entries.items content.entries) }
         ensures content { IfOk result IsContent }
         ensures fault { IfErr result (IsLowestFault entries.items) }
     {
@@ -101,7 +102,8 @@ impl Content {
     pub(crate) fn from_rising(asn: Asn, entries: Vec<Entry>) -> Option<Content>
         requires few { length entries.items ≤ 64 }
         requires in_range { list_all is_in_range entries.items ≡ true }
-        ensures some { IfSome result (λ content. (content.asn ≡ asn) × (content.entries ≡ entries.items)) }
+        ensures some { IfSome result
+            (λ content. (content.asn ≡ asn) × (content.entries ≡ entries.items)) }
         ensures content { IfSome result IsContent }
         ensures none { IfNone result (AreCanonical entries.items → ⊥) }
     {

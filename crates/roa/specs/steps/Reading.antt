@@ -161,8 +161,3 @@ abbrev pub Reads : {X Y : Type 0} → (X → Y) → Result X DecodeFault → Opt
 Reads view (Ok x) read = read ≡ Some (view x)
 Reads view (Err NotContent) read = read ≡ None
 Reads view (Err Memory) read = Unit {0}
-
--- the number of a reason, from 1
-abbrev pub decode_fault_number : DecodeFault → ℕ
-decode_fault_number NotContent = 1
-decode_fault_number Memory = 2
