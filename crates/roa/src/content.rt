@@ -1,5 +1,6 @@
 ghost use Rattle.std.specs.Prelude.{◌≡◌, ◌<◌, ◌≤◌, ◌↔◌, true, length, IsTrue, IfOk, IfErr, IfSome, IfNone, IsPermutation};
 ghost use Rattle.std.specs.List.{list_all};
+ghost use Rattle.roa.specs.declared.content.TheConstants.Content.{MAX_ENTRIES};
 
 use addr::{Asn, Prefix};
 use std::marker::Model;
@@ -100,7 +101,7 @@ impl Content {
 
     /// None where there is no entry, or where the entries do not rise strictly.
     pub(crate) fn from_rising(asn: Asn, entries: Vec<Entry>) -> Option<Content>
-        requires few { length entries.items ≤ 64 }
+        requires few { length entries.items ≤ MAX_ENTRIES }
         requires in_range { list_all is_in_range entries.items ≡ true }
         ensures some { IfSome result
             (λ content. (content.asn ≡ asn) × (content.entries ≡ entries.items)) }

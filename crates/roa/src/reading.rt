@@ -2,6 +2,7 @@ ghost use Rattle.std.specs.Prelude.{◌≡◌, ◌<◌, ◌≤◌, ◌*◌, ◌-
 ghost use Rattle.addr.specs.Family.{width};
 ghost use Rattle.roa.specs.steps.Reading.{Gives, length_at, contents_at, element_at, whole, integer_of, prefix_of, max_of, entry_of, entry_at, entries_of, block_at, family_at, blocks_of, fields_of, content_of, numbers, Adds, AddsThen, Reads};
 ghost use Rattle.roa.specs.RoaContent.{RouteOriginAttestation, IsContent, Encodes, be_value};
+ghost use Rattle.roa.specs.declared.content.TheConstants.Content.{MAX_ENTRIES};
 
 use crate::der::{
     BIT_STRING, INTEGER, OCTET_STRING, ONE_OCTET_LENGTH, SEQUENCE, TWO_OCTET_LENGTH, family_octets,
@@ -155,10 +156,10 @@ fn take_entry(family: Family, octets: &[u8]) -> Option<(Entry, &[u8])>
 
 /// Adds the entries of a family, which are all of the octets.
 fn read_entries(family: Family, octets: &[u8], entries: &mut Vec<Entry>) -> Result<(), DecodeFault>
-    requires { length entries.old.items ≤ 64 }
+    requires { length entries.old.items ≤ MAX_ENTRIES }
     ensures adds { Adds result entries.old.items entries.new.items
-        (entries_of (64 - length entries.old.items) family octets.now) }
-    ensures few { length entries.new.items ≤ 64 }
+        (entries_of (MAX_ENTRIES - length entries.old.items) family octets.now) }
+    ensures few { length entries.new.items ≤ MAX_ENTRIES }
 {
     let mut rest = octets;
     while !rest.is_empty() {
@@ -196,10 +197,10 @@ fn read_family<'a>(
     octets: &'a [u8],
     entries: &mut Vec<Entry>,
 ) -> Result<&'a [u8], DecodeFault>
-    requires { length entries.old.items ≤ 64 }
+    requires { length entries.old.items ≤ MAX_ENTRIES }
     ensures adds { AddsThen result entries.old.items entries.new.items
-        (family_at (64 - length entries.old.items) family octets.now) }
-    ensures few { length entries.new.items ≤ 64 }
+        (family_at (MAX_ENTRIES - length entries.old.items) family octets.now) }
+    ensures few { length entries.new.items ≤ MAX_ENTRIES }
 {
     match take_block(family, octets) {
         None => Ok(octets),
