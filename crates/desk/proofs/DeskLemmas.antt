@@ -17,7 +17,7 @@ use Rattle.policy.specs.Verdict.{IsLegal}
 use Rattle.policy.specs.declared.charter.Charter.{Charter}
 use Rattle.policy.proofs.Names.{held_by_itself}
 use Rattle.policy.proofs.Unregistered.{has_nothing}
-use Rattle.desk.specs.DeskRows.{IsTaken, HasRows}
+use Rattle.policy.specs.RowsOfAll.{IsTaken, HasRows}
 
 -- the rows of a registered holder
 pub rows_present : (rows : List ℕ → Option Rows) (history : History) → HasRows rows history → (h : List ℕ) (r : Rows) → rows h ≡ Some r → (is_registered history h ≡ true) × RowsOf history h r

@@ -22,7 +22,8 @@ use Rattle.desk.specs.Answer.{AreStatesOn}
 use Rattle.policy.specs.Rows.{Rows}
 use Rattle.policy.specs.Verdict.{IsLegal}
 use Rattle.policy.specs.declared.charter.Charter.{Charter}
-use Rattle.desk.specs.DeskRows.{vrp_eq, has_vrp, HasRows, IsGivenOn}
+use Rattle.desk.specs.steps.InForce.{vrp_eq, has_vrp}
+use Rattle.policy.specs.RowsOfAll.{HasRows, IsGivenOn}
 use Rattle.desk.proofs.DailyLemmas.{given_on, any_among, among_any}
 
 -- VRPs of one AS, prefix and maxLength are one

@@ -6,7 +6,7 @@ use Rattle.policy.specs.Rows.{Rows}
 use Rattle.policy.specs.Verdict.{IsLegal}
 use Rattle.policy.specs.declared.charter.Charter.{Charter}
 use Rattle.desk.specs.Answer.{Answers, IsAnswered}
-use Rattle.desk.specs.DeskRows.{HasRows}
+use Rattle.policy.specs.RowsOfAll.{HasRows}
 use Rattle.desk.specs.Run.{Runs, AreAnswered}
 use Rattle.desk.specs.declared.asked.Asked.{Asked}
 use Rattle.desk.specs.declared.reply.Reply.{Reply}

@@ -4,7 +4,8 @@ use Rattle.policy.specs.History.{History}
 use Rattle.policy.specs.Rows.{Rows}
 use Rattle.policy.specs.Verdict.{IsLegal}
 use Rattle.policy.specs.declared.charter.Charter.{Charter}
-use Rattle.desk.specs.DeskRows.{rows_at, HasRows}
+use Rattle.desk.specs.DeskRows.{rows_at}
+use Rattle.policy.specs.RowsOfAll.{HasRows}
 use Rattle.desk.specs.declared.handling.Desk.{Desk}
 
 abbrev pub charter_of : Desk → Charter

@@ -5,7 +5,7 @@ use Rattle.policy.specs.Rows.{Rows}
 use Rattle.policy.specs.Verdict.{IsLegal}
 use Rattle.policy.specs.declared.charter.Charter.{Charter}
 use Rattle.desk.specs.Answer.{Answers}
-use Rattle.desk.specs.DeskRows.{HasRows}
+use Rattle.policy.specs.RowsOfAll.{HasRows}
 use Rattle.desk.specs.declared.asked.Asked.{Asked}
 use Rattle.desk.specs.declared.reply.Reply.{Reply}
 

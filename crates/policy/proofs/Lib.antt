@@ -14,3 +14,4 @@ pub mod AmendLemmas
 pub mod Repeats
 mod PrefixEquality
 pub mod SharedVrps
+pub mod Moved
