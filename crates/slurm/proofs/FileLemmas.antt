@@ -1,7 +1,7 @@
 -- The whole file: its two lists, and what BGPsec adds, of which there must be nothing.
 use Rattle.std.proofs.Common.{◌≡◌, ◌==◌, false, length, List, [], ◌∷◌, Vec, Global, Some, Result, Ok, Err, refl}
 use Rattle.addr.specs.declared.vrp.Vrp.{Vrp}
-use Rattle.json_parts.specs.Parts.{both, mapped}
+use Rattle.json_values.specs.Parts.{both, mapped}
 use Rattle.serde_json.specs.View.{items_view}
 use Rattle.serde_json.specs.declared.value.Value.{Value}
 use Rattle.slurm.specs.Exceptions.{Exceptions}

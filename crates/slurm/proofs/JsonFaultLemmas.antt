@@ -1,16 +1,17 @@
 -- The faults of a JSON tree are neither that of a text that is no JSON nor want of memory.
-use Rattle.std.proofs.Common.{◌≡◌, ◌≢◌, ℕ, ◌<◌, Bool, true, false, if◌then◌else◌, List, [], ◌∷◌, Option, Some, None, is_some, nat_le, nat_lt, ◌==◌, ◌^◌, codes, Result, Ok, Err, subst, arith, lit<}
+use Rattle.std.proofs.Common.{◌≡◌, ◌≢◌, ℕ, ◌<◌, Bool, true, false, if◌then◌else◌, List, [], ◌∷◌, Option, Some, None, is_some, nat_le, ◌==◌, codes, Result, Ok, Err, subst, arith, lit<}
 use Rattle.std.specs.Prelude.{IfErr}
 use Rattle.std.specs.Option.{ok_or}
 use Rattle.std.specs.Result.{result_err}
 use Rattle.serde_json.specs.Data.{Data, Items, no_items, item, Members as JsonMembers}
 use Rattle.serde_json.specs.Find.{get, as_object, as_str}
-use Rattle.json_parts.proofs.PartsLemmas.{lower-each}
-use Rattle.json_parts.specs.Parts.{lower, both, mapped, and_then, unless, each}
-use Rattle.json_parts.specs.Tree.{whole_number, required, optional, has_only, only_of}
+use Rattle.json_values.proofs.PartsLemmas.{lower-each}
+use Rattle.json_values.specs.Parts.{lower, both, mapped, and_then, unless, each}
+use Rattle.json_values.specs.Tree.{required, optional, has_only, only_of}
+use Rattle.json_values.specs.Values.{whole_number}
 use Rattle.slurm.specs.Exceptions.{Exceptions, entry_count}
 use Rattle.slurm.specs.Fault.{fault_number}
-use Rattle.slurm.specs.SlurmFile.{asn_from, asn_in, prefix_in, comment_in, length_in, version_from, version_in, filter_of, filter_in, assertion_of, vrp_with, max_length, assertion_in, entries_from, bgpsec_from, part_in, filters_in, assertions_in, exceptions_of, file_in, within_limit, slurm_in}
+use Rattle.slurm.specs.SlurmFile.{asn_in, prefix_in, comment_in, length_in, version_from, version_in, filter_of, filter_in, assertion_of, vrp_with, max_length, assertion_in, entries_from, bgpsec_from, part_in, filters_in, assertions_in, exceptions_of, file_in, within_limit, slurm_in}
 use Rattle.slurm.specs.declared.fault.SlurmFault.{SlurmFault}
 use Rattle.slurm.specs.declared.fault.SlurmFault.TheVariants.{NotJson, NotObject, Members, TooMany, Memory}
 use Rattle.addr.specs.declared.prefix.Prefix.{Prefix}
@@ -67,9 +68,8 @@ tree-only names (Some ms) = tree-if (has_only names ms) _ _ tt (lit< tt, lit< tt
 tree-prefix : (d : Data) → OfTree (prefix_in d)
 tree-prefix d = tree-ok_or _ _ (lit< tt, lit< tt)
 
-tree-asn_from : (n : Option ℕ) → OfTree (asn_from n)
-tree-asn_from None = (lit< tt, lit< tt)
-tree-asn_from (Some n) = tree-if (nat_lt n (2 ^ 32)) _ _ tt (lit< tt, lit< tt)
+tree-asn : (d : Data) → OfTree (asn_in d)
+tree-asn d = tree-ok_or _ _ (lit< tt, lit< tt)
 
 tree-comment : (d : Data) → OfTree (comment_in d)
 tree-comment d = tree-if (is_some (as_str d)) _ _ tt (lit< tt, lit< tt)
@@ -90,7 +90,7 @@ tree-filter_of (None, None) = (lit< tt, lit< tt)
 tree-filter : (d : Data) → OfTree (filter_in d)
 tree-filter d =
     tree-unless _ _ (tree-unless _ _ (tree-and_then filter_of _ tree-filter_of
-    (tree-both _ _ (tree-optional prefix_in _ tree-prefix) (tree-optional asn_in (get (codes "asn") d) (λ e. tree-asn_from (whole_number e)))))
+    (tree-both _ _ (tree-optional prefix_in _ tree-prefix) (tree-optional asn_in (get (codes "asn") d) tree-asn)))
     (tree-only (codes "prefix" ∷ codes "asn" ∷ codes "comment" ∷ []) (as_object d)))
     (tree-optional comment_in _ tree-comment)
 
@@ -98,7 +98,7 @@ tree-assertion : (d : Data) → OfTree (assertion_in d)
 tree-assertion d =
     tree-unless _ _ (tree-unless _ _ (tree-and_then assertion_of _ (λ m. tree-ok_or (vrp_with m.0 (max_length m.0 m.1.1) m.1.0) _ (lit< tt, lit< tt))
     (tree-both _ _ (tree-required prefix_in _ tree-prefix)
-    (tree-both _ _ (tree-required asn_in (get (codes "asn") d) (λ e. tree-asn_from (whole_number e))) (tree-optional length_in _ tree-length))))
+    (tree-both _ _ (tree-required asn_in (get (codes "asn") d) tree-asn) (tree-optional length_in _ tree-length))))
     (tree-only (codes "prefix" ∷ codes "asn" ∷ codes "maxPrefixLength" ∷ codes "comment" ∷ []) (as_object d)))
     (tree-optional comment_in _ tree-comment)
 

@@ -12,8 +12,9 @@ use Rattle.addr.specs.declared.prefix.Prefix.{Prefix}
 use Rattle.addr.specs.declared.vrp.Vrp.{Vrp}
 use Rattle.serde_json.specs.Data.{Data, null, boolean, number, string, array, object, unsigned, negative, float, Items}
 use Rattle.serde_json.specs.Find.{get}
-use Rattle.json_parts.specs.Parts.{both, mapped, and_then, unless, each}
-use Rattle.json_parts.specs.Tree.{required, optional, only, list_of}
+use Rattle.json_values.specs.Parts.{both, mapped, and_then, unless, each}
+use Rattle.json_values.specs.Tree.{required, optional, only, list_of}
+use Rattle.json_values.specs.Values.{as_asn, asn_of}
 use Rattle.slurm.specs.Exceptions.{Exceptions, entry_count}
 use Rattle.slurm.specs.Fault.{fault_number}
 use Rattle.slurm.specs.SlurmEntries.{IsPrefixMember, IsAsnMember, IsFilterOf, SaysFilter, IsMaxLengthMember, SaysAssertion, SaysExceptions}
@@ -61,19 +62,25 @@ prefix-said (string text) p e = (text, refl, Spells-spelled_prefix p text (ok_or
 prefix-said (array ds) p e = cc
 prefix-said (object ms) p e = cc
 
-asn-said : (d : Data) (asn : Asn) → asn_in d ≡ Ok asn → IsAsnMember (Some d) asn
-asn-said null asn e = cc
-asn-said (boolean b) asn e = cc
-asn-said (number (unsigned n)) asn e = here (nat_lt n (2 ^ 32)) e
+asn_of-said : (n : ℕ) (asn : Asn) → asn_of n ≡ Some asn → asn.0 ≡ n
+asn_of-said n asn e = here (nat_lt n (2 ^ 32)) e
   where
-    here : (b : Bool) → (if b then Ok (record { 0 = n }) else Err AsnFault) ≡ Ok asn → IsAsnMember (Some (number (unsigned n))) asn
-    here true e = let same : record { 0 = n } ≡ asn = cc in ap (λ (a : Asn). Some (number (unsigned a.0))) same
+    here : (b : Bool) → (if b then Some (record { 0 = n }) else None) ≡ Some asn → asn.0 ≡ n
+    here true e = let same : record { 0 = n } ≡ asn = cc in sym (ap (λ (a : Asn). a.0) same)
     here false e = cc
-asn-said (number (negative z)) asn e = cc
-asn-said (number (float x)) asn e = cc
-asn-said (string s) asn e = cc
-asn-said (array ds) asn e = cc
-asn-said (object ms) asn e = cc
+
+as_asn-said : (d : Data) (asn : Asn) → as_asn d ≡ Some asn → IsAsnMember (Some d) asn
+as_asn-said null asn e = cc
+as_asn-said (boolean b) asn e = cc
+as_asn-said (number (unsigned n)) asn e = ap (λ (m : ℕ). Some (number (unsigned m))) (sym (asn_of-said n asn e))
+as_asn-said (number (negative z)) asn e = cc
+as_asn-said (number (float x)) asn e = cc
+as_asn-said (string s) asn e = cc
+as_asn-said (array ds) asn e = cc
+as_asn-said (object ms) asn e = cc
+
+asn-said : (d : Data) (asn : Asn) → asn_in d ≡ Ok asn → IsAsnMember (Some d) asn
+asn-said d asn e = as_asn-said d asn (ok_or-Ok (as_asn d) AsnFault asn e)
 
 length-said : (d : Data) (max : LengthRead) → length_in d ≡ Ok max → d ≡ number (unsigned max.0)
 length-said null max e = cc

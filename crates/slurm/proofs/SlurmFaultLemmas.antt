@@ -1,5 +1,5 @@
 -- What the readings tell is the lowest of all faults of the tree.
-use Rattle.std.proofs.Common.{◌≡◌, ℕ, suc, ◌+◌, ◌≤◌, ◌^◌, inl, inr, Bool, true, false, ◌&&◌, ◌||◌, ◌==◌, if◌then◌else◌, nat_le, nat_lt, List, [], ◌∷◌, ◌++◌, length, codes, Option, Some, None, is_some, option_and_then, option_map, Result, Ok, Err, refl, ap, sym, ◌∙◌, arith, lit≤}
+use Rattle.std.proofs.Common.{◌≡◌, ℕ, suc, ◌+◌, ◌≤◌, inl, inr, Bool, true, false, ◌&&◌, ◌||◌, ◌==◌, if◌then◌else◌, nat_le, List, [], ◌∷◌, ◌++◌, length, codes, Option, Some, None, is_some, option_and_then, option_map, Result, Ok, Err, refl, ap, sym, ◌∙◌, arith, lit≤}
 use Rattle.std.proofs.lemmas.Bool.{le-leb}
 use Rattle.std.proofs.lemmas.Bool.Decides.{leb_tells}
 use Rattle.std.proofs.lemmas.List.{append-nil}
@@ -14,13 +14,14 @@ use Rattle.addr.specs.declared.prefix.Prefix.{Prefix}
 use Rattle.addr.specs.declared.vrp.Vrp.{Vrp}
 use Rattle.serde_json.specs.Data.{Data, Items, no_items, item, Members as JsonMembers}
 use Rattle.serde_json.specs.Find.{get, as_object, as_str}
-use Rattle.json_parts.proofs.PartsLemmas.{lower-first, lower_assoc}
-use Rattle.json_parts.specs.Parts.{both, mapped, and_then, unless, each}
-use Rattle.json_parts.specs.Tree.{whole_number, required, optional, has_only, only_of, only, list_of}
+use Rattle.json_values.proofs.PartsLemmas.{lower-first, lower_assoc}
+use Rattle.json_values.specs.Parts.{both, mapped, and_then, unless, each}
+use Rattle.json_values.specs.Tree.{required, optional, has_only, only_of, only, list_of}
+use Rattle.json_values.specs.Values.{as_asn, as_prefix, whole_number}
 use Rattle.slurm.specs.Exceptions.{Exceptions, entry_count}
 use Rattle.slurm.specs.Fault.{fault_number}
-use Rattle.slurm.specs.SlurmFile.{prefix_in, asn_from, asn_in, comment_in, length_in, version_from, version_in, filter_of, filter_in, vrp_if, vrp_with, max_length, assertion_of, assertion_in, entries_from, bgpsec_from, part_in, filters_in, assertions_in, object_in, within_limit, exceptions_of, file_in, slurm_in, IsSlurmFile}
-use Rattle.slurm.specs.SlurmFaults.{lower_of, lowest, fault_unless, required_faults, optional_faults, is_object_of, name_faults, prefix_at, prefix_faults, is_asn, asn_faults, comment_faults, is_one, version_faults, is_max_length, max_length_faults, filter_faults, assertion_faults, array_at, items_at, entries_faults, bgpsec_faults, part_faults, file_entries, slurm_fault}
+use Rattle.slurm.specs.SlurmFile.{prefix_in, asn_in, comment_in, length_in, version_from, version_in, filter_of, filter_in, vrp_if, vrp_with, max_length, assertion_of, assertion_in, entries_from, bgpsec_from, part_in, filters_in, assertions_in, object_in, within_limit, exceptions_of, file_in, slurm_in, IsSlurmFile}
+use Rattle.slurm.specs.SlurmFaults.{lower_of, lowest, fault_unless, required_faults, optional_faults, is_object_of, name_faults, prefix_faults, asn_faults, comment_faults, is_one, version_faults, is_max_length, max_length_faults, filter_faults, assertion_faults, array_at, items_at, entries_faults, bgpsec_faults, part_faults, file_entries, slurm_fault}
 use Rattle.slurm.specs.declared.fault.SlurmFault.{SlurmFault}
 use Rattle.slurm.specs.declared.fault.SlurmFault.TheVariants.{NotObject, Members, Version, Prefix as PrefixFault, Asn as AsnFault, MaxPrefixLength, EmptyFilter, Comment, TooMany}
 use Rattle.slurm.specs.declared.filter.Filter.{Filter}
@@ -95,14 +96,10 @@ told-each reading faults (d ∷ ds) h = told-mapped (λ p. p.0 ∷ p.1) (told-bo
 -- ---- single members
 
 told-prefix : (d : Data) → Told (prefix_in d) (prefix_faults d)
-told-prefix d = told-ok_or (prefix_at d) PrefixFault
-
-told-asn_from : (n : Option ℕ) → Told (asn_from n) (fault_unless (is_asn n) AsnFault)
-told-asn_from None = record { is = refl }
-told-asn_from (Some n) = told-if (nat_lt n (2 ^ 32)) (record { 0 = n }) AsnFault
+told-prefix d = told-ok_or (as_prefix d) PrefixFault
 
 told-asn : (d : Data) → Told (asn_in d) (asn_faults d)
-told-asn d = told-asn_from (whole_number d)
+told-asn d = told-ok_or (as_asn d) AsnFault
 
 told-comment : (d : Data) → Told (comment_in d) (comment_faults d)
 told-comment d = told-if (is_some (as_str d)) (record {}) Comment
@@ -172,17 +169,13 @@ abbrev OfAsn : Result Asn SlurmFault → Type 0
 OfAsn (Ok asn) = Unit {0}
 OfAsn (Err n) = fault_number n ≤ 8
 
-asn_from-low : (n : Option ℕ) → OfAsn (asn_from n)
-asn_from-low None = lit≤ tt
-asn_from-low (Some n) = low (nat_lt n (2 ^ 32))
-  where
-    low : (b : Bool) → OfAsn (if b then Ok (record { 0 = n }) else Err AsnFault)
-    low true = tt
-    low false = lit≤ tt
+ok_or-low : (asn : Option Asn) → OfAsn (ok_or asn AsnFault)
+ok_or-low None = lit≤ tt
+ok_or-low (Some asn) = tt
 
 asn-low : (asn : Option Data) → OfAsn (required Members asn_in asn)
 asn-low None = lit≤ tt
-asn-low (Some d) = asn_from-low (whole_number d)
+asn-low (Some d) = ok_or-low (as_asn d)
 
 lower_of-low : (m : SlurmFault) (b : Bool) → fault_number m ≤ 8 → Some m ≡ lower_of (Some m) (lowest (fault_unless b MaxPrefixLength))
 lower_of-low m true low = refl
@@ -263,9 +256,9 @@ told-read_prefix (Some p) asn max = told-with_prefix p asn max
 
 told-assertion_of : (p asn max : Option Data) →
     Told (and_then assertion_of (both fault_number (required Members prefix_in p) (both fault_number (required Members asn_in asn) (optional length_in max))))
-    (required_faults prefix_faults p ++ required_faults asn_faults asn ++ optional_faults (max_length_faults (option_and_then prefix_at p)) max)
+    (required_faults prefix_faults p ++ required_faults asn_faults asn ++ optional_faults (max_length_faults (option_and_then as_prefix p)) max)
 told-assertion_of None asn max = told-no_prefix Members asn max
-told-assertion_of (Some p) asn max = told-read_prefix (prefix_at p) asn max
+told-assertion_of (Some p) asn max = told-read_prefix (as_prefix p) asn max
 
 told-assertion : (d : Data) → Told (assertion_in d) (assertion_faults d)
 told-assertion d =

@@ -1,13 +1,13 @@
 -- Every fault of a JSON tree as a SLURM file, wherever it stands in the tree. The lowest of all is told.
-use Rattle.std.specs.Prelude.{ℕ, ◌+◌, ◌^◌, ◌&&◌, ◌||◌, ◌==◌, nat_le, nat_lt, Bool, true, false, List, [], ◌∷◌, ◌++◌, length, codes, Option, Some, None, is_some, option_and_then}
+use Rattle.std.specs.Prelude.{ℕ, ◌+◌, ◌&&◌, ◌||◌, ◌==◌, nat_le, Bool, true, false, List, [], ◌∷◌, ◌++◌, length, codes, Option, Some, None, is_some, option_and_then}
 use Rattle.std.specs.List.{flat_map}
 use Rattle.addr.specs.Family.{width}
-use Rattle.addr.specs.SpelledPrefix.{spelled_prefix}
 use Rattle.addr.specs.declared.prefix.Prefix.{Prefix}
 use Rattle.serde_json.specs.Data.{Data, Items, no_items, item, Members as JsonMembers}
 use Rattle.serde_json.specs.Find.{get, as_object, as_array, as_str}
-use Rattle.json_parts.specs.Parts.{lower}
-use Rattle.json_parts.specs.Tree.{whole_number, has_only, list_of}
+use Rattle.json_values.specs.Parts.{lower}
+use Rattle.json_values.specs.Tree.{has_only, list_of}
+use Rattle.json_values.specs.Values.{as_asn, as_prefix, whole_number}
 use Rattle.slurm.specs.Fault.{fault_number}
 use Rattle.slurm.specs.declared.fault.SlurmFault.{SlurmFault}
 use Rattle.slurm.specs.declared.fault.SlurmFault.TheVariants.{NotJson, NotObject, Members, Version, Bgpsec, Prefix as PrefixFault, Asn as AsnFault, MaxPrefixLength, EmptyFilter, Comment, TooMany}
@@ -46,18 +46,11 @@ is_object_of names (Some ms) = has_only names ms
 abbrev pub name_faults : List (List ℕ) → Data → List SlurmFault
 name_faults names d = fault_unless (is_object_of names (as_object d)) Members
 
-abbrev pub prefix_at : Data → Option Prefix
-prefix_at d = option_and_then spelled_prefix (as_str d)
-
 abbrev pub prefix_faults : Data → List SlurmFault
-prefix_faults d = fault_unless (is_some (prefix_at d)) PrefixFault
-
-abbrev pub is_asn : Option ℕ → Bool
-is_asn None = false
-is_asn (Some n) = nat_lt n (2 ^ 32)
+prefix_faults d = fault_unless (is_some (as_prefix d)) PrefixFault
 
 abbrev pub asn_faults : Data → List SlurmFault
-asn_faults d = fault_unless (is_asn (whole_number d)) AsnFault
+asn_faults d = fault_unless (is_some (as_asn d)) AsnFault
 
 abbrev pub comment_faults : Data → List SlurmFault
 comment_faults d = fault_unless (is_some (as_str d)) Comment
@@ -92,7 +85,7 @@ abbrev pub assertion_faults : Data → List SlurmFault
 assertion_faults d =
     required_faults prefix_faults (get (codes "prefix") d)
     ++ required_faults asn_faults (get (codes "asn") d)
-    ++ optional_faults (max_length_faults (option_and_then prefix_at (get (codes "prefix") d))) (get (codes "maxPrefixLength") d)
+    ++ optional_faults (max_length_faults (option_and_then as_prefix (get (codes "prefix") d))) (get (codes "maxPrefixLength") d)
     ++ name_faults (codes "prefix" ∷ codes "asn" ∷ codes "maxPrefixLength" ∷ codes "comment" ∷ []) d
     ++ optional_faults comment_faults (get (codes "comment") d)
 

@@ -1,18 +1,18 @@
 -- Which JSON trees are SLURM files, and what they say (RFC 8416 sections 3 and 4): the filters and
 -- assertions of a tree, or the fault that is told of it. Which faults a tree has stands in `SlurmFaults`.
 -- A file is read from all of its parts at once (`both`, `unless`, `each`), so that the fault is the lowest.
-use Rattle.std.specs.Prelude.{◌≡◌, ℕ, ◌^◌, ◌≤◌, nat_le, nat_lt, ◌==◌, List, [], ◌∷◌, codes, if◌then◌else◌, Option, Some, None, is_some, option_map, option_and_then, Result, Ok, Err}
+use Rattle.std.specs.Prelude.{◌≡◌, ℕ, ◌≤◌, nat_le, ◌==◌, List, [], ◌∷◌, codes, if◌then◌else◌, Option, Some, None, is_some, option_map, option_and_then, Result, Ok, Err}
 use Rattle.std.specs.Option.{ok_or}
 use Rattle.std.proofs.Math.Decide.{dec_le}
 use Rattle.addr.specs.Family.{width}
-use Rattle.addr.specs.SpelledPrefix.{spelled_prefix}
 use Rattle.addr.specs.declared.prefix.Prefix.{Prefix}
 use Rattle.addr.specs.declared.asn.Asn.{Asn}
 use Rattle.addr.specs.declared.vrp.Vrp.{Vrp}
 use Rattle.serde_json.specs.Data.{Data, Items, no_items, item}
 use Rattle.serde_json.specs.Find.{get, as_object, as_array, as_str}
-use Rattle.json_parts.specs.Parts.{both, mapped, and_then, unless, each}
-use Rattle.json_parts.specs.Tree.{whole_number, required, optional, only, list_of}
+use Rattle.json_values.specs.Parts.{both, mapped, and_then, unless, each}
+use Rattle.json_values.specs.Tree.{required, optional, only, list_of}
+use Rattle.json_values.specs.Values.{as_asn, as_prefix, whole_number}
 use Rattle.slurm.specs.Exceptions.{Exceptions, entry_count}
 use Rattle.slurm.specs.Fault.{fault_number}
 use Rattle.slurm.specs.declared.fault.SlurmFault.{SlurmFault}
@@ -26,14 +26,10 @@ use Rattle.slurm.specs.declared.filter.Filter.TheVariants.{Under, By, Both}
 -- ---- single members
 
 abbrev pub prefix_in : Data → Result Prefix SlurmFault
-prefix_in d = ok_or (option_and_then spelled_prefix (as_str d)) PrefixFault
-
-abbrev pub asn_from : Option ℕ → Result Asn SlurmFault
-asn_from None = Err AsnFault
-asn_from (Some n) = if nat_lt n (2 ^ 32) then Ok (record { 0 = n }) else Err AsnFault
+prefix_in d = ok_or (as_prefix d) PrefixFault
 
 abbrev pub asn_in : Data → Result Asn SlurmFault
-asn_in d = asn_from (whole_number d)
+asn_in d = ok_or (as_asn d) AsnFault
 
 abbrev pub comment_in : Data → Result CommentRead SlurmFault
 comment_in d = if is_some (as_str d) then Ok (record {}) else Err Comment

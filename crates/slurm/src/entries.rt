@@ -1,13 +1,13 @@
 //! Reading one prefix filter or prefix assertion.
 ghost use Rattle.std.specs.Prelude.{◌≡◌};
 ghost use Rattle.std.specs.Option.{ok_or};
-ghost use Rattle.json_parts.specs.Parts.{and_then};
+ghost use Rattle.json_values.specs.Parts.{and_then};
 ghost use Rattle.slurm.specs.SlurmFile.{filter_of, assertion_of, vrp_with};
 
 use crate::members::{Comment, MaxPrefixLength};
 use crate::{Filter, SlurmFault};
 use addr::{Asn, Prefix, Vrp};
-use json_parts::{FromJson, both, only, optional, required, unless};
+use json_values::{FromJson, both, only, optional, required, unless};
 use serde_json::Value;
 
 impl FromJson<SlurmFault> for Filter {

@@ -7,7 +7,7 @@ use crate::file::read_file;
 use crate::filter::some_matches;
 use crate::{Filter, SlurmFault};
 use addr::Vrp;
-use json_parts::tree_of;
+use json_values::tree_of;
 use serde_json::Value;
 use std::alloc::Global;
 use std::marker::Model;
@@ -32,7 +32,7 @@ impl Model for Slurm {
 
 impl Slurm {
     ghost use Rattle.slurm.specs.Filter.{FilterMatches, filter_matches};
-    ghost use Rattle.json_parts.specs.Tree.{tree_of};
+    ghost use Rattle.json_values.specs.Tree.{tree_of};
     ghost use Rattle.slurm.specs.SlurmFile.{within_limit};
     ghost use Rattle.slurm.specs.SlurmEntries.{SaysExceptions};
     ghost use Rattle.slurm.specs.SlurmFaults.{slurm_fault};

@@ -1,7 +1,7 @@
 ghost use Rattle.std.specs.Prelude.{◌≡◌};
 ghost use Rattle.slurm.specs.Fault.{fault_number};
 
-use json_parts::Fault;
+use json_values::Fault;
 use std::alloc::AllocError;
 use thiserror::Error;
 

@@ -2,14 +2,14 @@
 ghost use Rattle.std.specs.Prelude.{◌≡◌, ◌≢◌, Some, IfOk, IfErr};
 ghost use Rattle.std.specs.Result.{result_err};
 ghost use Rattle.serde_json.specs.View.{view};
-ghost use Rattle.json_parts.specs.Parts.{mapped};
+ghost use Rattle.json_values.specs.Parts.{mapped};
 ghost use Rattle.slurm.specs.SlurmFile.{IsSlurmFile, slurm_in, file_of, object_in};
 
 use crate::lists::required_part;
 use crate::members::Version;
 use crate::{Filter, Slurm, SlurmFault};
 use addr::Vrp;
-use json_parts::{both, only, required, unless};
+use json_values::{both, only, required, unless};
 use serde_json::Value;
 use std::alloc::Global;
 

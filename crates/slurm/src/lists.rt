@@ -2,12 +2,12 @@
 ghost use Rattle.std.specs.Prelude.{◌≡◌, IfOk, option_and_then, option_map};
 ghost use Rattle.serde_json.specs.Find.{as_array, get};
 ghost use Rattle.serde_json.specs.View.{items_view, view};
-ghost use Rattle.json_parts.specs.Parts.{mapped};
-ghost use Rattle.json_parts.specs.Tree.{required};
+ghost use Rattle.json_values.specs.Parts.{mapped};
+ghost use Rattle.json_values.specs.Tree.{required};
 ghost use Rattle.slurm.specs.SlurmFile.{bgpsec_from, entries_from, part_in};
 
 use crate::SlurmFault;
-use json_parts::{FromJson, each, only, unless};
+use json_values::{FromJson, each, only, unless};
 use serde_json::Value;
 use std::alloc::{AllocError, Global};
 

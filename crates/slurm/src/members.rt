@@ -1,10 +1,8 @@
 //! Reading the members of an object.
-ghost use Rattle.std.specs.Prelude.{◌≡◌};
-ghost use Rattle.addr.specs.SpelledPrefix.{spelled_prefix};
 
 use crate::SlurmFault;
 use addr::{Asn, Prefix};
-use json_parts::FromJson;
+use json_values::{FromJson, as_asn, as_prefix};
 use serde_json::Value;
 
 impl FromJson<SlurmFault> for Prefix {
@@ -13,17 +11,8 @@ impl FromJson<SlurmFault> for Prefix {
     ghost reading = { prefix_in };
 
     fn from_json(value: &Value) -> Result<Prefix, SlurmFault> {
-        let Some(text) = value.as_str() else {
-            return Err(SlurmFault::Prefix);
-        };
-        spelled_prefix(text.as_bytes()).ok_or(SlurmFault::Prefix)
+        as_prefix(value).ok_or(SlurmFault::Prefix)
     }
-}
-
-fn spelled_prefix(text: &[u8]) -> Option<Prefix>
-    ensures { result ≡ spelled_prefix text.now }
-{
-    Prefix::read(text).ok()
 }
 
 impl FromJson<SlurmFault> for Asn {
@@ -32,10 +21,7 @@ impl FromJson<SlurmFault> for Asn {
     ghost reading = { asn_in };
 
     fn from_json(value: &Value) -> Result<Asn, SlurmFault> {
-        match value.as_u64() {
-            Some(number) if number <= u64::from(u32::MAX) => Ok(Asn(number as u32)),
-            _ => Err(SlurmFault::Asn),
-        }
+        as_asn(value).ok_or(SlurmFault::Asn)
     }
 }
 

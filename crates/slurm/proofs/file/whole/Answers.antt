@@ -1,6 +1,6 @@
 use Rattle.std.proofs.Common.{refl}
 use Rattle.slurm.proofs.FileLemmas.{exceptions-both}
-use Rattle.json_parts.proofs.PartsLemmas.{mapped-unless}
+use Rattle.json_values.proofs.PartsLemmas.{mapped-unless}
 use Rattle.slurm.specs.Fault.{fault_number}
 use Rattle.slurm.proofs.file.whole.Goals as goal
 

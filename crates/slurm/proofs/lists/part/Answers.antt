@@ -1,5 +1,5 @@
 use Rattle.std.proofs.Common.{refl}
-use Rattle.json_parts.proofs.PartsLemmas.{mapped-unless}
+use Rattle.json_values.proofs.PartsLemmas.{mapped-unless}
 use Rattle.slurm.specs.Fault.{fault_number}
 use Rattle.slurm.proofs.lists.part.Goals as goal
 

@@ -1,6 +1,6 @@
 use Rattle.std.proofs.Common.{true, false, sym, ◌∙◌}
-use Rattle.json_parts.proofs.TreeLemmas.{only-tested}
-use Rattle.json_parts.proofs.members.only.Goals as goal
+use Rattle.json_values.proofs.TreeLemmas.{only-tested}
+use Rattle.json_values.proofs.members.only.Goals as goal
 
 pub returns-then-has_only : goal.returns-then-has_only
 returns-then-has_only g c =

@@ -1,5 +1,5 @@
-use Rattle.json_parts.proofs.TreeLemmas.{each-more}
-use Rattle.json_parts.proofs.lists.each.Goals as goal
+use Rattle.json_values.proofs.TreeLemmas.{each-more}
+use Rattle.json_values.proofs.lists.each.Goals as goal
 
 pub loop-value-preserved : goal.loop-value-preserved
 loop-value-preserved g c =

@@ -1,5 +1,5 @@
 ghost use Rattle.std.specs.Prelude.{◌≡◌};
-ghost use Rattle.json_parts.specs.Parts.{both, unless};
+ghost use Rattle.json_values.specs.Parts.{both, unless};
 
 use crate::Fault;
 use crate::fault::lower;

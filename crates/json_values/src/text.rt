@@ -1,6 +1,6 @@
 ghost use Rattle.std.specs.Prelude.{◌≡◌, IfOk, option_map};
 ghost use Rattle.serde_json.specs.View.{view};
-ghost use Rattle.json_parts.specs.Tree.{tree_of};
+ghost use Rattle.json_values.specs.Tree.{tree_of};
 
 use serde_json::{Category, Value};
 use std::alloc::{AllocError, Global};

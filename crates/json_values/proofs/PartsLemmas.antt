@@ -1,7 +1,7 @@
 -- The lower of two faults, and the lowest fault of a list that is read from its front.
 use Rattle.std.proofs.Common.{◌≡◌, ℕ, ◌≤◌, ◌<◌, inl, inr, List, [], ◌∷◌, ◌++◌, Result, Ok, Err, refl, ap, sym, ◌∙◌, arith}
 use Rattle.std.proofs.lemmas.Bool.Decides.{leb_tells, nat_tests}
-use Rattle.json_parts.specs.Parts.{both, each, lower, mapped, unless}
+use Rattle.json_values.specs.Parts.{both, each, lower, mapped, unless}
 
 pub lower-first : {F : Type 0} (number : F → ℕ) (one other : F) → number one ≤ number other → lower number one other ≡ one
 unfolding lower

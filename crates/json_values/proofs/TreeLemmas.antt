@@ -12,9 +12,9 @@ use Rattle.serde_json.specs.Find.{as_object}
 use Rattle.serde_json.specs.Read.{read}
 use Rattle.serde_json.specs.View.{view, items_of, items_view, members_view}
 use Rattle.serde_json.specs.declared.value.Value.{Value}
-use Rattle.json_parts.specs.Parts.{both, each, mapped}
-use Rattle.json_parts.specs.Tree.{has_only, is_among, list_of, only, tree_of}
-use Rattle.json_parts.proofs.PartsLemmas.{each-append}
+use Rattle.json_values.specs.Parts.{both, each, mapped}
+use Rattle.json_values.specs.Tree.{has_only, is_among, list_of, only, tree_of}
+use Rattle.json_values.proofs.PartsLemmas.{each-append}
 
 -- ---- objects
 

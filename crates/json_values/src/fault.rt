@@ -1,5 +1,5 @@
 ghost use Rattle.std.specs.Prelude.{◌≡◌, ℕ};
-ghost use Rattle.json_parts.specs.Parts.{lower};
+ghost use Rattle.json_values.specs.Parts.{lower};
 
 /// What may be wrong with a JSON text.
 pub trait Fault: Copy {

@@ -1,6 +1,6 @@
 use Rattle.std.proofs.Common.{sym, ◌∙◌}
-use Rattle.json_parts.proofs.TreeLemmas.{tree_of-text, tree_of-none}
-use Rattle.json_parts.proofs.text.tree_of.Goals as goal
+use Rattle.json_values.proofs.TreeLemmas.{tree_of-text, tree_of-none}
+use Rattle.json_values.proofs.text.tree_of.Goals as goal
 
 pub returns-in-Ok : goal.returns-in-Ok
 returns-in-Ok c =

@@ -1,20 +1,16 @@
 -- The parts of a JSON tree. The tree is the one that the JSON reader gives: of a repeated member it has
--- the last value, and a number is unsigned there exactly where it is written as plain decimal digits and
--- is below 2 ^ 64.
-use Rattle.std.specs.Prelude.{ℕ, List, [], ◌∷◌, Bool, true, ◌&&◌, if◌then◌else◌, Option, Some, None, option_and_then, Result, Ok, Err}
+-- the last value.
+use Rattle.std.specs.Prelude.{ℕ, List, [], ◌∷◌, Bool, true, ◌&&◌, if◌then◌else◌, Option, Some, None, Result, Ok, Err}
 use Rattle.std.specs.List.{list_any}
 use Rattle.std.specs.Str.{bytes_eq, is_utf8}
 use Rattle.serde_json.specs.Data.{Data, Items, no_items, item, Members, no_members, member}
-use Rattle.serde_json.specs.Find.{as_number, as_object, as_u64}
+use Rattle.serde_json.specs.Find.{as_object}
 use Rattle.serde_json.specs.Read.{read}
-use Rattle.json_parts.specs.Parts.{mapped}
+use Rattle.json_values.specs.Parts.{mapped}
 
 -- no tree for bytes that are no JSON text
 abbrev pub tree_of : List ℕ → Option Data
 tree_of bytes = if is_utf8 bytes then read bytes else None
-
-abbrev pub whole_number : Data → Option ℕ
-whole_number d = option_and_then as_u64 (as_number d)
 
 -- of a member that has to be there; where it is missing, this fault
 abbrev pub required : {A F : Type 0} → F → (Data → Result A F) → Option Data → Result A F

@@ -1,7 +1,7 @@
 use Rattle.std.proofs.Common.{◌≡◌, map, take}
 use Rattle.serde_json.specs.View.{view}
-use Rattle.json_parts.specs.Parts.{each, gathered}
-use Rattle.json_parts.proofs.lists.each.Given as goal
+use Rattle.json_values.specs.Parts.{each, gathered}
+use Rattle.json_values.proofs.lists.each.Given as goal
 
 abbrev pub invariant-loop-value : goal.invariant-loop-value
 invariant-loop-value g l =

@@ -1,6 +1,6 @@
 ghost use Rattle.std.specs.Prelude.{◌≡◌, ◌++◌, ◌∷◌, [], map, IfOk, OnOk};
 ghost use Rattle.serde_json.specs.View.{view};
-ghost use Rattle.json_parts.specs.Parts.{both, each, gathered, mapped};
+ghost use Rattle.json_values.specs.Parts.{both, each, gathered, mapped};
 
 use crate::fault::lower;
 use crate::{Fault, FromJson};

@@ -6,8 +6,8 @@ ghost use Rattle.std.specs.Str.{bytes_eq};
 ghost use Rattle.serde_json.specs.Data.{Data};
 ghost use Rattle.serde_json.specs.Find.{get};
 ghost use Rattle.serde_json.specs.View.{view};
-ghost use Rattle.json_parts.specs.Parts.{mapped};
-ghost use Rattle.json_parts.specs.Tree.{only, optional, required};
+ghost use Rattle.json_values.specs.Parts.{mapped};
+ghost use Rattle.json_values.specs.Tree.{only, optional, required};
 
 use crate::Fault;
 use serde_json::{Map, Value};
