@@ -10,7 +10,7 @@ use Rattle.json_values.specs.Parts.{lower, both, mapped, and_then, unless, each}
 use Rattle.json_values.specs.Tree.{required, optional, has_only, only_of}
 use Rattle.json_values.specs.Values.{whole_number}
 use Rattle.slurm.specs.Exceptions.{Exceptions, entry_count}
-use Rattle.slurm.specs.Fault.{fault_number}
+use Rattle.slurm.specs.Fault.{slurm_fault_number}
 use Rattle.slurm.specs.SlurmFile.{asn_in, prefix_in, comment_in, length_in, version_from, version_in, filter_of, filter_in, assertion_of, vrp_with, max_length, assertion_in, entries_from, bgpsec_from, part_in, filters_in, assertions_in, exceptions_of, file_in, within_limit, slurm_in}
 use Rattle.slurm.specs.declared.fault.SlurmFault.{SlurmFault}
 use Rattle.slurm.specs.declared.fault.SlurmFault.TheVariants.{NotJson, NotObject, Members, TooMany, Memory}
@@ -19,12 +19,12 @@ use Rattle.addr.specs.declared.asn.Asn.{Asn}
 
 abbrev pub OfTree : {A : Type 0} → Result A SlurmFault → Type 0
 OfTree (Ok a) = Unit {0}
-OfTree (Err n) = (1 < fault_number n) × (fault_number n < 12)
+OfTree (Err n) = (1 < slurm_fault_number n) × (slurm_fault_number n < 12)
 
-tree-lower : (a b : SlurmFault) → OfTree {A = Unit {0}} (Err a) → OfTree {A = Unit {0}} (Err b) → OfTree {A = Unit {0}} (Err (lower fault_number a b))
-tree-lower a b one other = lower-each fault_number (λ n. OfTree {A = Unit {0}} (Err n)) a b one other
+tree-lower : (a b : SlurmFault) → OfTree {A = Unit {0}} (Err a) → OfTree {A = Unit {0}} (Err b) → OfTree {A = Unit {0}} (Err (lower slurm_fault_number a b))
+tree-lower a b one other = lower-each slurm_fault_number (λ n. OfTree {A = Unit {0}} (Err n)) a b one other
 
-tree-both : {A B : Type 0} (one : Result A SlurmFault) (other : Result B SlurmFault) → OfTree one → OfTree other → OfTree (both fault_number one other)
+tree-both : {A B : Type 0} (one : Result A SlurmFault) (other : Result B SlurmFault) → OfTree one → OfTree other → OfTree (both slurm_fault_number one other)
 tree-both (Ok a) (Ok b) h k = tt
 tree-both (Ok a) (Err n) h k = k
 tree-both (Err m) (Ok b) h k = h
@@ -34,8 +34,8 @@ tree-mapped : {A B : Type 0} (f : A → B) (r : Result A SlurmFault) → OfTree 
 tree-mapped f (Ok a) h = tt
 tree-mapped f (Err n) h = h
 
-tree-unless : {A B : Type 0} (one : Result A SlurmFault) (other : Result B SlurmFault) → OfTree one → OfTree other → OfTree (unless fault_number one other)
-tree-unless one other h k = tree-mapped (λ p. p.0) (both fault_number one other) (tree-both one other h k)
+tree-unless : {A B : Type 0} (one : Result A SlurmFault) (other : Result B SlurmFault) → OfTree one → OfTree other → OfTree (unless slurm_fault_number one other)
+tree-unless one other h k = tree-mapped (λ p. p.0) (both slurm_fault_number one other) (tree-both one other h k)
 
 tree-and_then : {A B : Type 0} (f : A → Result B SlurmFault) (r : Result A SlurmFault) → ((a : A) → OfTree (f a)) → OfTree r → OfTree (and_then f r)
 tree-and_then f (Ok a) next h = next a
@@ -49,15 +49,15 @@ tree-optional : {A : Type 0} (reading : Data → Result A SlurmFault) (d : Optio
 tree-optional reading None h = tt
 tree-optional reading (Some d) h = tree-mapped Some (reading d) (h d)
 
-tree-each : {A : Type 0} (reading : Data → Result A SlurmFault) (ds : List Data) → ((d : Data) → OfTree (reading d)) → OfTree (each fault_number reading ds)
+tree-each : {A : Type 0} (reading : Data → Result A SlurmFault) (ds : List Data) → ((d : Data) → OfTree (reading d)) → OfTree (each slurm_fault_number reading ds)
 tree-each reading [] h = tt
-tree-each reading (d ∷ ds) h = tree-mapped _ (both fault_number (reading d) (each fault_number reading ds)) (tree-both (reading d) (each fault_number reading ds) (h d) (tree-each reading ds h))
+tree-each reading (d ∷ ds) h = tree-mapped _ (both slurm_fault_number (reading d) (each slurm_fault_number reading ds)) (tree-both (reading d) (each slurm_fault_number reading ds) (h d) (tree-each reading ds h))
 
 tree-if : {A : Type 0} (b : Bool) (one other : Result A SlurmFault) → OfTree one → OfTree other → OfTree (if b then one else other)
 tree-if true one other h k = h
 tree-if false one other h k = k
 
-tree-ok_or : {A : Type 0} (o : Option A) (n : SlurmFault) → (1 < fault_number n) × (fault_number n < 12) → OfTree (ok_or o n)
+tree-ok_or : {A : Type 0} (o : Option A) (n : SlurmFault) → (1 < slurm_fault_number n) × (slurm_fault_number n < 12) → OfTree (ok_or o n)
 tree-ok_or None n h = h
 tree-ok_or (Some a) n h = tt
 
@@ -115,7 +115,7 @@ tree-part : {A : Type 0} (reading : Data → Result A SlurmFault) (entries bgpse
 tree-part reading entries bgpsec h d =
     tree-unless _ _ (tree-unless _ _ (tree-entries reading _ h) (tree-only (entries ∷ bgpsec ∷ []) (as_object d))) (tree-bgpsec _)
 
-tree-lists : (d : Data) → OfTree (mapped exceptions_of (both fault_number (required Members filters_in (get (codes "validationOutputFilters") d)) (required Members assertions_in (get (codes "locallyAddedAssertions") d))))
+tree-lists : (d : Data) → OfTree (mapped exceptions_of (both slurm_fault_number (required Members filters_in (get (codes "validationOutputFilters") d)) (required Members assertions_in (get (codes "locallyAddedAssertions") d))))
 tree-lists d =
     tree-mapped exceptions_of _ (tree-both _ _
     (tree-required filters_in (get (codes "validationOutputFilters") d) (tree-part filter_in (codes "prefixFilters") (codes "bgpsecFilters") tree-filter))
@@ -134,7 +134,7 @@ tree-whole d =
 
 told-above : (r : Result Exceptions SlurmFault) → OfTree r → result_err r ≡ Some NotJson → ⊥
 told-above (Ok file) h told = cc
-told-above (Err n) h told = let is : n ≡ NotJson = cc in let above : 1 < fault_number NotJson = subst (λ (m : SlurmFault). 1 < fault_number m) is h.0 in absurd (omega arith)
+told-above (Err n) h told = let is : n ≡ NotJson = cc in let above : 1 < slurm_fault_number NotJson = subst (λ (m : SlurmFault). 1 < slurm_fault_number m) is h.0 in absurd (omega arith)
 
 pub tree_is_json : (d : Data) (r : Result Exceptions SlurmFault) → IfErr r (λ e. e ≢ Memory → result_err (slurm_in (Some d)) ≡ Some e) → r ≢ Err NotJson
 tree_is_json d (Ok file) fault told = cc

@@ -16,7 +16,7 @@ use Rattle.json_values.specs.Parts.{both, mapped, and_then, unless, each}
 use Rattle.json_values.specs.Tree.{required, optional, only, list_of}
 use Rattle.json_values.specs.Values.{as_asn, asn_of}
 use Rattle.slurm.specs.Exceptions.{Exceptions, entry_count}
-use Rattle.slurm.specs.Fault.{fault_number}
+use Rattle.slurm.specs.Fault.{slurm_fault_number}
 use Rattle.slurm.specs.SlurmEntries.{IsPrefixMember, IsAsnMember, IsFilterOf, SaysFilter, IsMaxLengthMember, SaysAssertion, SaysExceptions}
 use Rattle.slurm.specs.SlurmFaults.{array_at, items_at}
 use Rattle.slurm.specs.SlurmFile.{prefix_in, asn_in, length_in, version_in, filter_of, filter_in, vrp_if, max_length, assertion_of, assertion_in, entries_from, bgpsec_from, part_in, filters_in, assertions_in, object_in, within_limit, exceptions_of, file_in, slurm_in}
@@ -28,7 +28,7 @@ use Rattle.slurm.specs.declared.members.MaxPrefixLength.{MaxPrefixLength as Leng
 
 -- ---- values that were read
 
-beside-Ok : {A B : Type 0} (one : Result A SlurmFault) (other : Result B SlurmFault) (a : A) → unless fault_number one other ≡ Ok a → one ≡ Ok a
+beside-Ok : {A B : Type 0} (one : Result A SlurmFault) (other : Result B SlurmFault) (a : A) → unless slurm_fault_number one other ≡ Ok a → one ≡ Ok a
 beside-Ok (Ok x) (Ok y) a e = e
 beside-Ok (Ok x) (Err n) a e = cc
 beside-Ok (Err m) (Ok y) a e = cc
@@ -39,12 +39,12 @@ ok_or-Ok None n a e = cc
 ok_or-Ok (Some x) n a e = let same : x ≡ a = cc in ap Some same
 
 each-said : {A : Type 0} (reading : Data → Result A SlurmFault) (Says : Data → A → Type 0) → ((d : Data) (a : A) → reading d ≡ Ok a → Says d a) →
-    (ds : List Data) (xs : List A) → each fault_number reading ds ≡ Ok xs → AllZip Says ds xs
+    (ds : List Data) (xs : List A) → each slurm_fault_number reading ds ≡ Ok xs → AllZip Says ds xs
 each-said reading Says said [] [] e = tt
 each-said reading Says said [] (x ∷ xs) e = let same : [] ≡ x ∷ xs = cc in absurd (cc)
-each-said {A} reading Says said (d ∷ ds) xs e = more (reading d) (each fault_number reading ds) refl (λ rest others. each-said reading Says said ds rest others) e
+each-said {A} reading Says said (d ∷ ds) xs e = more (reading d) (each slurm_fault_number reading ds) refl (λ rest others. each-said reading Says said ds rest others) e
   where
-    more : (one : Result A SlurmFault) (others : Result (List A) SlurmFault) → reading d ≡ one → ((rest : List A) → others ≡ Ok rest → AllZip Says ds rest) → mapped (λ p. p.0 ∷ p.1) (both fault_number one others) ≡ Ok xs → AllZip Says (d ∷ ds) xs
+    more : (one : Result A SlurmFault) (others : Result (List A) SlurmFault) → reading d ≡ one → ((rest : List A) → others ≡ Ok rest → AllZip Says ds rest) → mapped (λ p. p.0 ∷ p.1) (both slurm_fault_number one others) ≡ Ok xs → AllZip Says (d ∷ ds) xs
     more (Ok a) (Ok rest) one others e =
         let same : a ∷ rest ≡ xs = cc in
         subst (λ (all : List A). AllZip Says (d ∷ ds) all) same (said d a one, others rest refl)
@@ -94,21 +94,21 @@ length-said (object ms) max e = cc
 
 -- ---- filters
 
-filter_of-said : (prefix asn : Option Data) (f : Filter) → and_then filter_of (both fault_number (optional prefix_in prefix) (optional asn_in asn)) ≡ Ok f → IsFilterOf prefix asn f
+filter_of-said : (prefix asn : Option Data) (f : Filter) → and_then filter_of (both slurm_fault_number (optional prefix_in prefix) (optional asn_in asn)) ≡ Ok f → IsFilterOf prefix asn f
 filter_of-said None None f e = cc
 filter_of-said (Some d) None f e = here (prefix_in d) refl e
   where
-    here : (r : Result Prefix SlurmFault) → prefix_in d ≡ r → and_then filter_of (both fault_number (mapped Some r) (Ok None)) ≡ Ok f → IsFilterOf (Some d) None f
+    here : (r : Result Prefix SlurmFault) → prefix_in d ≡ r → and_then filter_of (both slurm_fault_number (mapped Some r) (Ok None)) ≡ Ok f → IsFilterOf (Some d) None f
     here (Ok p) read e = let same : Under p ≡ f = cc in subst (IsFilterOf (Some d) None) same (prefix-said d p read, refl)
     here (Err n) read e = cc
 filter_of-said None (Some d) f e = here (asn_in d) refl e
   where
-    here : (r : Result Asn SlurmFault) → asn_in d ≡ r → and_then filter_of (both fault_number (Ok None) (mapped Some r)) ≡ Ok f → IsFilterOf None (Some d) f
+    here : (r : Result Asn SlurmFault) → asn_in d ≡ r → and_then filter_of (both slurm_fault_number (Ok None) (mapped Some r)) ≡ Ok f → IsFilterOf None (Some d) f
     here (Ok asn) read e = let same : By asn ≡ f = cc in subst (IsFilterOf None (Some d)) same (refl, asn-said d asn read)
     here (Err n) read e = cc
 filter_of-said (Some d) (Some c) f e = here (prefix_in d) (asn_in c) refl refl e
   where
-    here : (r : Result Prefix SlurmFault) (s : Result Asn SlurmFault) → prefix_in d ≡ r → asn_in c ≡ s → and_then filter_of (both fault_number (mapped Some r) (mapped Some s)) ≡ Ok f → IsFilterOf (Some d) (Some c) f
+    here : (r : Result Prefix SlurmFault) (s : Result Asn SlurmFault) → prefix_in d ≡ r → asn_in c ≡ s → and_then filter_of (both slurm_fault_number (mapped Some r) (mapped Some s)) ≡ Ok f → IsFilterOf (Some d) (Some c) f
     here (Ok p) (Ok asn) read also e = let same : Both p asn ≡ f = cc in subst (IsFilterOf (Some d) (Some c)) same (prefix-said d p read, asn-said c asn also)
     here (Ok p) (Err n) read also e = cc
     here (Err m) (Ok asn) read also e = cc
@@ -149,12 +149,12 @@ required-said : {A : Type 0} (reading : Data → Result A SlurmFault) (o : Optio
 required-said reading None a e = cc
 required-said reading (Some d) a e = (d, refl, e)
 
-assertion_of-said : (prefix asn max : Option Data) (v : Vrp) → and_then assertion_of (both fault_number (required Members prefix_in prefix) (both fault_number (required Members asn_in asn) (optional length_in max))) ≡ Ok v →
+assertion_of-said : (prefix asn max : Option Data) (v : Vrp) → and_then assertion_of (both slurm_fault_number (required Members prefix_in prefix) (both slurm_fault_number (required Members asn_in asn) (optional length_in max))) ≡ Ok v →
     IsPrefixMember prefix v.prefix × IsAsnMember asn v.asn × IsMaxLengthMember max v
 assertion_of-said prefix asn max v e = here (required Members prefix_in prefix) (required Members asn_in asn) (optional length_in max) refl refl refl e
   where
     here : (r : Result Prefix SlurmFault) (s : Result Asn SlurmFault) (t : Result (Option LengthRead) SlurmFault) → required Members prefix_in prefix ≡ r → required Members asn_in asn ≡ s → optional length_in max ≡ t →
-        and_then assertion_of (both fault_number r (both fault_number s t)) ≡ Ok v → IsPrefixMember prefix v.prefix × IsAsnMember asn v.asn × IsMaxLengthMember max v
+        and_then assertion_of (both slurm_fault_number r (both slurm_fault_number s t)) ≡ Ok v → IsPrefixMember prefix v.prefix × IsAsnMember asn v.asn × IsMaxLengthMember max v
     here (Ok p) (Ok a) (Ok m) read also last e =
         let parts = vrp_if-said p (max_length p m) a (dec_le p.length (max_length p m)) (dec_le (max_length p m) (width p.family)) v (ok_or-Ok _ MaxPrefixLength v e) in
         let of = required-said prefix_in prefix p read in
@@ -188,9 +188,9 @@ part-said reading Says said entries bgpsec None xs e = cc
 part-said reading Says said entries bgpsec (Some d) xs e =
     entries-said reading Says said (array_at entries d) xs
     (beside-Ok (entries_from reading (array_at entries d)) (only Members (entries ∷ bgpsec ∷ []) d) xs
-    (beside-Ok (unless fault_number (entries_from reading (array_at entries d)) (only Members (entries ∷ bgpsec ∷ []) d)) (bgpsec_from (array_at bgpsec d)) xs e))
+    (beside-Ok (unless slurm_fault_number (entries_from reading (array_at entries d)) (only Members (entries ∷ bgpsec ∷ []) d)) (bgpsec_from (array_at bgpsec d)) xs e))
 
-lists-said : (filters : Result (List Filter) SlurmFault) (assertions : Result (List Vrp) SlurmFault) (file : Exceptions) → mapped exceptions_of (both fault_number filters assertions) ≡ Ok file → (filters ≡ Ok file.filters) × (assertions ≡ Ok file.assertions)
+lists-said : (filters : Result (List Filter) SlurmFault) (assertions : Result (List Vrp) SlurmFault) (file : Exceptions) → mapped exceptions_of (both slurm_fault_number filters assertions) ≡ Ok file → (filters ≡ Ok file.filters) × (assertions ≡ Ok file.assertions)
 lists-said (Ok f) (Ok a) file e =
     let same : exceptions_of (f, a) ≡ file = cc in (ap (λ (x : Exceptions). Ok x.filters) same, ap (λ (x : Exceptions). Ok x.assertions) same)
 lists-said (Ok f) (Err n) file e = cc
@@ -211,12 +211,12 @@ slurm_in-said (Some d) file e =
     let filters = required Members filters_in (get (codes "validationOutputFilters") d) in
     let assertions = required Members assertions_in (get (codes "locallyAddedAssertions") d) in
     let names = codes "slurmVersion" ∷ codes "validationOutputFilters" ∷ codes "locallyAddedAssertions" ∷ [] in
-    let lists = mapped exceptions_of (both fault_number filters assertions) in
+    let lists = mapped exceptions_of (both slurm_fault_number filters assertions) in
     let read = within_limit-said (file_in d) file e in
     let parts = lists-said filters assertions file
     (beside-Ok lists (object_in d) file
-    (beside-Ok (unless fault_number lists (object_in d)) (only Members names d) file
-    (beside-Ok (unless fault_number (unless fault_number lists (object_in d)) (only Members names d)) (required Members version_in (get (codes "slurmVersion") d)) file read))) in (
+    (beside-Ok (unless slurm_fault_number lists (object_in d)) (only Members names d) file
+    (beside-Ok (unless slurm_fault_number (unless slurm_fault_number lists (object_in d)) (only Members names d)) (required Members version_in (get (codes "slurmVersion") d)) file read))) in (
       part-said filter_in SaysFilter filter-said (codes "prefixFilters") (codes "bgpsecFilters") (get (codes "validationOutputFilters") d) file.filters parts.0,
       part-said assertion_in SaysAssertion assertion-said (codes "prefixAssertions") (codes "bgpsecAssertions") (get (codes "locallyAddedAssertions") d) file.assertions parts.1,
     )

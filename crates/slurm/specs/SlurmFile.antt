@@ -14,7 +14,7 @@ use Rattle.json_values.specs.Parts.{both, mapped, and_then, unless, each}
 use Rattle.json_values.specs.Tree.{required, optional, only, list_of}
 use Rattle.json_values.specs.Values.{as_asn, as_prefix, whole_number}
 use Rattle.slurm.specs.Exceptions.{Exceptions, entry_count}
-use Rattle.slurm.specs.Fault.{fault_number}
+use Rattle.slurm.specs.Fault.{slurm_fault_number}
 use Rattle.slurm.specs.declared.fault.SlurmFault.{SlurmFault}
 use Rattle.slurm.specs.declared.fault.SlurmFault.TheVariants.{NotJson, NotObject, Members, Version, Bgpsec, Prefix as PrefixFault, Asn as AsnFault, MaxPrefixLength, EmptyFilter, Comment, TooMany}
 use Rattle.slurm.specs.declared.members.Comment.{Comment as CommentRead}
@@ -56,8 +56,8 @@ filter_of (None, None) = Err EmptyFilter
 
 abbrev pub filter_in : Data → Result Filter SlurmFault
 filter_in d =
-    unless fault_number (unless fault_number (and_then filter_of
-    (both fault_number (optional prefix_in (get (codes "prefix") d)) (optional asn_in (get (codes "asn") d))))
+    unless slurm_fault_number (unless slurm_fault_number (and_then filter_of
+    (both slurm_fault_number (optional prefix_in (get (codes "prefix") d)) (optional asn_in (get (codes "asn") d))))
     (only Members (codes "prefix" ∷ codes "asn" ∷ codes "comment" ∷ []) d))
     (optional comment_in (get (codes "comment") d))
 
@@ -82,9 +82,9 @@ assertion_of (p, (asn, max)) = ok_or (vrp_with p (max_length p max) asn) MaxPref
 
 abbrev pub assertion_in : Data → Result Vrp SlurmFault
 assertion_in d =
-    unless fault_number (unless fault_number (and_then assertion_of
-    (both fault_number (required Members prefix_in (get (codes "prefix") d))
-    (both fault_number (required Members asn_in (get (codes "asn") d)) (optional length_in (get (codes "maxPrefixLength") d)))))
+    unless slurm_fault_number (unless slurm_fault_number (and_then assertion_of
+    (both slurm_fault_number (required Members prefix_in (get (codes "prefix") d))
+    (both slurm_fault_number (required Members asn_in (get (codes "asn") d)) (optional length_in (get (codes "maxPrefixLength") d)))))
     (only Members (codes "prefix" ∷ codes "asn" ∷ codes "maxPrefixLength" ∷ codes "comment" ∷ []) d))
     (optional comment_in (get (codes "comment") d))
 
@@ -93,7 +93,7 @@ assertion_in d =
 -- what is missing is no array
 abbrev pub entries_from : {A : Type 0} → (Data → Result A SlurmFault) → Option Items → Result (List A) SlurmFault
 entries_from reading None = Err Members
-entries_from reading (Some items) = each fault_number reading (list_of items)
+entries_from reading (Some items) = each slurm_fault_number reading (list_of items)
 
 abbrev pub bgpsec_from : Option Items → Result (Unit {0}) SlurmFault
 bgpsec_from None = Err Members
@@ -103,7 +103,7 @@ bgpsec_from (Some (item d ds)) = Err Bgpsec
 -- an object of two arrays: the entries, and what BGPsec adds, of which there must be nothing
 abbrev pub part_in : {A : Type 0} → (Data → Result A SlurmFault) → List ℕ → List ℕ → Data → Result (List A) SlurmFault
 part_in reading entries bgpsec d =
-    unless fault_number (unless fault_number (entries_from reading (option_and_then as_array (get entries d)))
+    unless slurm_fault_number (unless slurm_fault_number (entries_from reading (option_and_then as_array (get entries d)))
     (only Members (entries ∷ bgpsec ∷ []) d))
     (bgpsec_from (option_and_then as_array (get bgpsec d)))
 
@@ -126,7 +126,7 @@ exceptions_of (filters, assertions) = record { filters = filters; assertions = a
 -- the file of these two parts
 abbrev pub file_of : Result (List Filter) SlurmFault → Result (List Vrp) SlurmFault → Data → Result Exceptions SlurmFault
 file_of filters assertions d =
-    unless fault_number (unless fault_number (unless fault_number (mapped exceptions_of (both fault_number filters assertions))
+    unless slurm_fault_number (unless slurm_fault_number (unless slurm_fault_number (mapped exceptions_of (both slurm_fault_number filters assertions))
     (object_in d))
     (only Members (codes "slurmVersion" ∷ codes "validationOutputFilters" ∷ codes "locallyAddedAssertions" ∷ []) d))
     (required Members version_in (get (codes "slurmVersion") d))

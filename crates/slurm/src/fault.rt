@@ -1,5 +1,5 @@
 ghost use Rattle.std.specs.Prelude.{◌≡◌};
-ghost use Rattle.slurm.specs.Fault.{fault_number};
+ghost use Rattle.slurm.specs.Fault.{slurm_fault_number};
 
 use json_values::Fault;
 use std::alloc::AllocError;
@@ -39,7 +39,7 @@ pub enum SlurmFault {
 impl SlurmFault {
     /// 1 for `NotJson` to 12 for `Memory`.
     pub fn number(self) -> u8
-        ensures { result ≡ fault_number self }
+        ensures { result ≡ slurm_fault_number self }
     {
         self as u8
     }
@@ -48,7 +48,7 @@ impl SlurmFault {
 impl Fault for SlurmFault {
     ghost use Rattle.slurm.specs.declared.fault.SlurmFault.TheVariants.{Members};
 
-    ghost number = { fault_number };
+    ghost number = { slurm_fault_number };
 
     ghost members = { Members };
 
