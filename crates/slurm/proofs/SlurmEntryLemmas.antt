@@ -1,24 +1,26 @@
 -- What was read of a file is what its entries say.
-use Rattle.std.proofs.Common.{◌≡◌, ℕ, ◌≤◌, ◌^◌, Bool, true, false, if◌then◌else◌, nat_le, nat_lt, List, [], ◌∷◌, codes, Option, Some, None, option_and_then, Result, Ok, Err, refl, ap, sym, ◌∙◌, subst}
+use Rattle.std.proofs.Common.{◌≡◌, ℕ, ◌≤◌, ◌^◌, Bool, true, false, if◌then◌else◌, nat_le, nat_lt, List, [], ◌∷◌, length, ◌+◌, codes, Option, Some, None, option_and_then, Result, Ok, Err, refl, ap, sym, ◌∙◌, subst}
 use Rattle.std.proofs.Math.Decide.{dec_le}
 use Rattle.std.specs.Prelude.{IfOk}
 use Rattle.std.specs.List.{AllZip}
 use Rattle.std.specs.Option.{ok_or}
 use Rattle.addr.proofs.SpelledPrefixLemmas.{Spells-spelled_prefix}
 use Rattle.addr.specs.Family.{width}
-use Rattle.addr.specs.SpelledPrefix.{spelled_prefix}
+use Rattle.addr.specs.PrefixText.{spelled_prefix}
 use Rattle.addr.specs.declared.asn.Asn.{Asn}
 use Rattle.addr.specs.declared.prefix.Prefix.{Prefix}
 use Rattle.addr.specs.declared.vrp.Vrp.{Vrp}
 use Rattle.serde_json.specs.Data.{Data, null, boolean, number, string, array, object, unsigned, negative, float, Items}
 use Rattle.serde_json.specs.Find.{get}
-use Rattle.json_parts.specs.Parts.{both, mapped, and_then, unless, each}
-use Rattle.json_parts.specs.Tree.{required, optional, only, list_of}
-use Rattle.slurm.specs.Exceptions.{Exceptions, entry_count}
-use Rattle.slurm.specs.Fault.{fault_number}
+use Rattle.json_values.specs.Parts.{both, mapped, and_then, unless, each}
+use Rattle.json_values.specs.Tree.{required, optional, only, list_of}
+use Rattle.json_values.specs.Values.{as_asn, asn_of}
+use Rattle.slurm.specs.Exceptions.{Exceptions, exceptions_of}
+use Rattle.slurm.specs.Fault.{slurm_fault_number}
 use Rattle.slurm.specs.SlurmEntries.{IsPrefixMember, IsAsnMember, IsFilterOf, SaysFilter, IsMaxLengthMember, SaysAssertion, SaysExceptions}
-use Rattle.slurm.specs.SlurmFaults.{array_at, items_at}
-use Rattle.slurm.specs.SlurmFile.{prefix_in, asn_in, length_in, version_in, filter_of, filter_in, vrp_if, max_length, assertion_of, assertion_in, entries_from, bgpsec_from, part_in, filters_in, assertions_in, object_in, within_limit, exceptions_of, file_in, slurm_in}
+use Rattle.slurm.specs.SlurmFaults.{array_at, assertions_at, filters_at, items_at}
+use Rattle.slurm.specs.steps.SlurmFile.{prefix_in, asn_in, length_in, filter_of, filter_in, vrp_if, max_length, assertion_of, assertion_in, entries_from, bgpsec_from, part_in, filters_in, assertions_in, lists_in, slurm_in}
+use Rattle.slurm.specs.declared.exceptions.TheConstants.{MOST_ENTRIES}
 use Rattle.slurm.specs.declared.fault.SlurmFault.{SlurmFault}
 use Rattle.slurm.specs.declared.fault.SlurmFault.TheVariants.{Members, Prefix as PrefixFault, Asn as AsnFault, MaxPrefixLength, TooMany}
 use Rattle.slurm.specs.declared.filter.Filter.{Filter}
@@ -27,7 +29,7 @@ use Rattle.slurm.specs.declared.members.MaxPrefixLength.{MaxPrefixLength as Leng
 
 -- ---- values that were read
 
-beside-Ok : {A B : Type 0} (one : Result A SlurmFault) (other : Result B SlurmFault) (a : A) → unless fault_number one other ≡ Ok a → one ≡ Ok a
+beside-Ok : {A B : Type 0} (one : Result A SlurmFault) (other : Result B SlurmFault) (a : A) → unless slurm_fault_number one other ≡ Ok a → one ≡ Ok a
 beside-Ok (Ok x) (Ok y) a e = e
 beside-Ok (Ok x) (Err n) a e = cc
 beside-Ok (Err m) (Ok y) a e = cc
@@ -38,12 +40,12 @@ ok_or-Ok None n a e = cc
 ok_or-Ok (Some x) n a e = let same : x ≡ a = cc in ap Some same
 
 each-said : {A : Type 0} (reading : Data → Result A SlurmFault) (Says : Data → A → Type 0) → ((d : Data) (a : A) → reading d ≡ Ok a → Says d a) →
-    (ds : List Data) (xs : List A) → each fault_number reading ds ≡ Ok xs → AllZip Says ds xs
+    (ds : List Data) (xs : List A) → each slurm_fault_number reading ds ≡ Ok xs → AllZip Says ds xs
 each-said reading Says said [] [] e = tt
 each-said reading Says said [] (x ∷ xs) e = let same : [] ≡ x ∷ xs = cc in absurd (cc)
-each-said {A} reading Says said (d ∷ ds) xs e = more (reading d) (each fault_number reading ds) refl (λ rest others. each-said reading Says said ds rest others) e
+each-said {A} reading Says said (d ∷ ds) xs e = more (reading d) (each slurm_fault_number reading ds) refl (λ rest others. each-said reading Says said ds rest others) e
   where
-    more : (one : Result A SlurmFault) (others : Result (List A) SlurmFault) → reading d ≡ one → ((rest : List A) → others ≡ Ok rest → AllZip Says ds rest) → mapped (λ p. p.0 ∷ p.1) (both fault_number one others) ≡ Ok xs → AllZip Says (d ∷ ds) xs
+    more : (one : Result A SlurmFault) (others : Result (List A) SlurmFault) → reading d ≡ one → ((rest : List A) → others ≡ Ok rest → AllZip Says ds rest) → mapped (λ p. p.0 ∷ p.1) (both slurm_fault_number one others) ≡ Ok xs → AllZip Says (d ∷ ds) xs
     more (Ok a) (Ok rest) one others e =
         let same : a ∷ rest ≡ xs = cc in
         subst (λ (all : List A). AllZip Says (d ∷ ds) all) same (said d a one, others rest refl)
@@ -61,19 +63,25 @@ prefix-said (string text) p e = (text, refl, Spells-spelled_prefix p text (ok_or
 prefix-said (array ds) p e = cc
 prefix-said (object ms) p e = cc
 
-asn-said : (d : Data) (asn : Asn) → asn_in d ≡ Ok asn → IsAsnMember (Some d) asn
-asn-said null asn e = cc
-asn-said (boolean b) asn e = cc
-asn-said (number (unsigned n)) asn e = here (nat_lt n (2 ^ 32)) e
+asn_of-said : (n : ℕ) (asn : Asn) → asn_of n ≡ Some asn → asn.0 ≡ n
+asn_of-said n asn e = here (nat_lt n (2 ^ 32)) e
   where
-    here : (b : Bool) → (if b then Ok (record { 0 = n }) else Err AsnFault) ≡ Ok asn → IsAsnMember (Some (number (unsigned n))) asn
-    here true e = let same : record { 0 = n } ≡ asn = cc in ap (λ (a : Asn). Some (number (unsigned a.0))) same
+    here : (b : Bool) → (if b then Some (record { 0 = n }) else None) ≡ Some asn → asn.0 ≡ n
+    here true e = let same : record { 0 = n } ≡ asn = cc in sym (ap (λ (a : Asn). a.0) same)
     here false e = cc
-asn-said (number (negative z)) asn e = cc
-asn-said (number (float x)) asn e = cc
-asn-said (string s) asn e = cc
-asn-said (array ds) asn e = cc
-asn-said (object ms) asn e = cc
+
+as_asn-said : (d : Data) (asn : Asn) → as_asn d ≡ Some asn → IsAsnMember (Some d) asn
+as_asn-said null asn e = cc
+as_asn-said (boolean b) asn e = cc
+as_asn-said (number (unsigned n)) asn e = ap (λ (m : ℕ). Some (number (unsigned m))) (sym (asn_of-said n asn e))
+as_asn-said (number (negative z)) asn e = cc
+as_asn-said (number (float x)) asn e = cc
+as_asn-said (string s) asn e = cc
+as_asn-said (array ds) asn e = cc
+as_asn-said (object ms) asn e = cc
+
+asn-said : (d : Data) (asn : Asn) → asn_in d ≡ Ok asn → IsAsnMember (Some d) asn
+asn-said d asn e = as_asn-said d asn (ok_or-Ok (as_asn d) AsnFault asn e)
 
 length-said : (d : Data) (max : LengthRead) → length_in d ≡ Ok max → d ≡ number (unsigned max.0)
 length-said null max e = cc
@@ -87,21 +95,21 @@ length-said (object ms) max e = cc
 
 -- ---- filters
 
-filter_of-said : (prefix asn : Option Data) (f : Filter) → and_then filter_of (both fault_number (optional prefix_in prefix) (optional asn_in asn)) ≡ Ok f → IsFilterOf prefix asn f
+filter_of-said : (prefix asn : Option Data) (f : Filter) → and_then filter_of (both slurm_fault_number (optional prefix_in prefix) (optional asn_in asn)) ≡ Ok f → IsFilterOf prefix asn f
 filter_of-said None None f e = cc
 filter_of-said (Some d) None f e = here (prefix_in d) refl e
   where
-    here : (r : Result Prefix SlurmFault) → prefix_in d ≡ r → and_then filter_of (both fault_number (mapped Some r) (Ok None)) ≡ Ok f → IsFilterOf (Some d) None f
+    here : (r : Result Prefix SlurmFault) → prefix_in d ≡ r → and_then filter_of (both slurm_fault_number (mapped Some r) (Ok None)) ≡ Ok f → IsFilterOf (Some d) None f
     here (Ok p) read e = let same : Under p ≡ f = cc in subst (IsFilterOf (Some d) None) same (prefix-said d p read, refl)
     here (Err n) read e = cc
 filter_of-said None (Some d) f e = here (asn_in d) refl e
   where
-    here : (r : Result Asn SlurmFault) → asn_in d ≡ r → and_then filter_of (both fault_number (Ok None) (mapped Some r)) ≡ Ok f → IsFilterOf None (Some d) f
+    here : (r : Result Asn SlurmFault) → asn_in d ≡ r → and_then filter_of (both slurm_fault_number (Ok None) (mapped Some r)) ≡ Ok f → IsFilterOf None (Some d) f
     here (Ok asn) read e = let same : By asn ≡ f = cc in subst (IsFilterOf None (Some d)) same (refl, asn-said d asn read)
     here (Err n) read e = cc
 filter_of-said (Some d) (Some c) f e = here (prefix_in d) (asn_in c) refl refl e
   where
-    here : (r : Result Prefix SlurmFault) (s : Result Asn SlurmFault) → prefix_in d ≡ r → asn_in c ≡ s → and_then filter_of (both fault_number (mapped Some r) (mapped Some s)) ≡ Ok f → IsFilterOf (Some d) (Some c) f
+    here : (r : Result Prefix SlurmFault) (s : Result Asn SlurmFault) → prefix_in d ≡ r → asn_in c ≡ s → and_then filter_of (both slurm_fault_number (mapped Some r) (mapped Some s)) ≡ Ok f → IsFilterOf (Some d) (Some c) f
     here (Ok p) (Ok asn) read also e = let same : Both p asn ≡ f = cc in subst (IsFilterOf (Some d) (Some c)) same (prefix-said d p read, asn-said c asn also)
     here (Ok p) (Err n) read also e = cc
     here (Err m) (Ok asn) read also e = cc
@@ -142,12 +150,12 @@ required-said : {A : Type 0} (reading : Data → Result A SlurmFault) (o : Optio
 required-said reading None a e = cc
 required-said reading (Some d) a e = (d, refl, e)
 
-assertion_of-said : (prefix asn max : Option Data) (v : Vrp) → and_then assertion_of (both fault_number (required Members prefix_in prefix) (both fault_number (required Members asn_in asn) (optional length_in max))) ≡ Ok v →
+assertion_of-said : (prefix asn max : Option Data) (v : Vrp) → and_then assertion_of (both slurm_fault_number (required Members prefix_in prefix) (both slurm_fault_number (required Members asn_in asn) (optional length_in max))) ≡ Ok v →
     IsPrefixMember prefix v.prefix × IsAsnMember asn v.asn × IsMaxLengthMember max v
 assertion_of-said prefix asn max v e = here (required Members prefix_in prefix) (required Members asn_in asn) (optional length_in max) refl refl refl e
   where
     here : (r : Result Prefix SlurmFault) (s : Result Asn SlurmFault) (t : Result (Option LengthRead) SlurmFault) → required Members prefix_in prefix ≡ r → required Members asn_in asn ≡ s → optional length_in max ≡ t →
-        and_then assertion_of (both fault_number r (both fault_number s t)) ≡ Ok v → IsPrefixMember prefix v.prefix × IsAsnMember asn v.asn × IsMaxLengthMember max v
+        and_then assertion_of (both slurm_fault_number r (both slurm_fault_number s t)) ≡ Ok v → IsPrefixMember prefix v.prefix × IsAsnMember asn v.asn × IsMaxLengthMember max v
     here (Ok p) (Ok a) (Ok m) read also last e =
         let parts = vrp_if-said p (max_length p m) a (dec_le p.length (max_length p m)) (dec_le (max_length p m) (width p.family)) v (ok_or-Ok _ MaxPrefixLength v e) in
         let of = required-said prefix_in prefix p read in
@@ -181,40 +189,41 @@ part-said reading Says said entries bgpsec None xs e = cc
 part-said reading Says said entries bgpsec (Some d) xs e =
     entries-said reading Says said (array_at entries d) xs
     (beside-Ok (entries_from reading (array_at entries d)) (only Members (entries ∷ bgpsec ∷ []) d) xs
-    (beside-Ok (unless fault_number (entries_from reading (array_at entries d)) (only Members (entries ∷ bgpsec ∷ []) d)) (bgpsec_from (array_at bgpsec d)) xs e))
+    (beside-Ok (unless slurm_fault_number (entries_from reading (array_at entries d)) (only Members (entries ∷ bgpsec ∷ []) d)) (bgpsec_from (array_at bgpsec d)) xs e))
 
-lists-said : (filters : Result (List Filter) SlurmFault) (assertions : Result (List Vrp) SlurmFault) (file : Exceptions) → mapped exceptions_of (both fault_number filters assertions) ≡ Ok file → (filters ≡ Ok file.filters) × (assertions ≡ Ok file.assertions)
-lists-said (Ok f) (Ok a) file e =
-    let same : exceptions_of (f, a) ≡ file = cc in (ap (λ (x : Exceptions). Ok x.filters) same, ap (λ (x : Exceptions). Ok x.assertions) same)
-lists-said (Ok f) (Err n) file e = cc
-lists-said (Err m) (Ok a) file e = cc
-lists-said (Err m) (Err n) file e = cc
+both-said : (filters : Result (List Filter) SlurmFault) (assertions : Result (List Vrp) SlurmFault) (lists : List Filter × List Vrp) → both slurm_fault_number filters assertions ≡ Ok lists → (filters ≡ Ok lists.0) × (assertions ≡ Ok lists.1)
+both-said (Ok f) (Ok a) lists e =
+    let same : (f, a) ≡ lists = cc in (ap (λ (p : List Filter × List Vrp). Ok p.0) same, ap (λ (p : List Filter × List Vrp). Ok p.1) same)
+both-said (Ok f) (Err n) lists e = cc
+both-said (Err m) (Ok a) lists e = cc
+both-said (Err m) (Err n) lists e = cc
 
-within_limit-said : (read : Result Exceptions SlurmFault) (file : Exceptions) → and_then within_limit read ≡ Ok file → read ≡ Ok file
-within_limit-said (Ok x) file e = ap Ok (here (nat_le (entry_count x) 4096) e)
-  where
-    here : (b : Bool) → (if b then Ok x else Err TooMany) ≡ Ok file → x ≡ file
-    here true e = cc
-    here false e = cc
-within_limit-said (Err n) file e = cc
-
-pub slurm_in-said : (tree : Option Data) (file : Exceptions) → slurm_in tree ≡ Ok file → SaysExceptions tree file
-slurm_in-said None file e = cc
-slurm_in-said (Some d) file e =
+lists-said : (d : Data) (lists : List Filter × List Vrp) → lists_in d ≡ Ok lists →
+    AllZip SaysFilter (filters_at d) lists.0
+    × AllZip SaysAssertion (assertions_at d) lists.1
+lists-said d lists e =
     let filters = required Members filters_in (get (codes "validationOutputFilters") d) in
     let assertions = required Members assertions_in (get (codes "locallyAddedAssertions") d) in
-    let names = codes "slurmVersion" ∷ codes "validationOutputFilters" ∷ codes "locallyAddedAssertions" ∷ [] in
-    let lists = mapped exceptions_of (both fault_number filters assertions) in
-    let read = within_limit-said (file_in d) file e in
-    let parts = lists-said filters assertions file
-    (beside-Ok lists (object_in d) file
-    (beside-Ok (unless fault_number lists (object_in d)) (only Members names d) file
-    (beside-Ok (unless fault_number (unless fault_number lists (object_in d)) (only Members names d)) (required Members version_in (get (codes "slurmVersion") d)) file read))) in (
-      part-said filter_in SaysFilter filter-said (codes "prefixFilters") (codes "bgpsecFilters") (get (codes "validationOutputFilters") d) file.filters parts.0,
-      part-said assertion_in SaysAssertion assertion-said (codes "prefixAssertions") (codes "bgpsecAssertions") (get (codes "locallyAddedAssertions") d) file.assertions parts.1,
+    let parts = both-said filters assertions lists (beside-Ok _ _ lists (beside-Ok _ _ lists (beside-Ok _ _ lists e))) in (
+      part-said filter_in SaysFilter filter-said (codes "prefixFilters") (codes "bgpsecFilters") (get (codes "validationOutputFilters") d) lists.0 parts.0,
+      part-said assertion_in SaysAssertion assertion-said (codes "prefixAssertions") (codes "bgpsecAssertions") (get (codes "locallyAddedAssertions") d) lists.1 parts.1,
     )
 
+slurm_in-said : (d : Data) (file : Exceptions) → slurm_in d ≡ Ok file → SaysExceptions (Some d) file
+slurm_in-said d file e = here (lists_in d) refl e
+  where
+    kept : (lists : List Filter × List Vrp) (b : Bool) → (if b then Ok (record { filters = lists.0; assertions = lists.1 }) else Err TooMany) ≡ Ok file → (lists.0 ≡ file.filters) × (lists.1 ≡ file.assertions)
+    kept lists true e =
+        let same : record { filters = lists.0; assertions = lists.1 } ≡ file = cc in (ap (λ (x : Exceptions). x.filters) same, ap (λ (x : Exceptions). x.assertions) same)
+    kept lists false e = cc
+
+    here : (r : Result (List Filter × List Vrp) SlurmFault) → lists_in d ≡ r → and_then (λ p. exceptions_of p.0 p.1) r ≡ Ok file → SaysExceptions (Some d) file
+    here (Ok lists) read e =
+        let same = kept lists (nat_le (length lists.0 + length lists.1) MOST_ENTRIES) e in
+        rw (← same.0, ← same.1) (lists-said d lists read)
+    here (Err n) read e = cc
+
 -- of what was answered
-pub answer-said : (tree : Option Data) (answer : Result Exceptions SlurmFault) → IfOk answer (λ file. slurm_in tree ≡ Ok file) → IfOk answer (SaysExceptions tree)
-answer-said tree (Ok file) e = slurm_in-said tree file e
-answer-said tree (Err n) e = tt
+pub answer-said : (d : Data) (answer : Result Exceptions SlurmFault) → IfOk answer (λ file. slurm_in d ≡ Ok file) → IfOk answer (SaysExceptions (Some d))
+answer-said d (Ok file) e = slurm_in-said d file e
+answer-said d (Err n) e = tt

@@ -1,311 +1,289 @@
 -- What the readings tell is the lowest of all faults of the tree.
-use Rattle.std.proofs.Common.{◌≡◌, ℕ, suc, ◌+◌, ◌≤◌, ◌^◌, inl, inr, Bool, true, false, ◌&&◌, ◌||◌, ◌==◌, if◌then◌else◌, nat_le, nat_lt, List, [], ◌∷◌, ◌++◌, length, codes, Option, Some, None, is_some, option_and_then, option_map, Result, Ok, Err, refl, ap, sym, ◌∙◌, arith, lit≤}
-use Rattle.std.proofs.lemmas.Bool.{le-leb}
+use Rattle.std.proofs.Common.{◌≡◌, ◌≢◌, ℕ, suc, ◌+◌, ◌≤◌, inl, inr, Bool, true, false, ◌&&◌, ◌||◌, ◌==◌, nat_le, nat_lt, List, [], ◌∷◌, ◌++◌, length, codes, Option, Some, None, is_some, option_and_then, option_map, Result, Ok, Err, refl, ap, sym, subst, ◌∙◌, arith, lit≤}
+use Rattle.std.proofs.lemmas.Bool.{and_parts, le-leb, leb-true}
 use Rattle.std.proofs.lemmas.Bool.Decides.{leb_tells}
 use Rattle.std.proofs.lemmas.List.{append-nil}
 use Rattle.std.proofs.Math.Decide.{dec_le}
-use Rattle.std.specs.Prelude.{IfOk, OnOk}
-use Rattle.std.specs.List.{flat_map}
+use Rattle.std.specs.Prelude.{IfOk, IfErr, OnOk}
 use Rattle.std.specs.Option.{ok_or}
 use Rattle.std.specs.Result.{result_err}
+use Rattle.addr.specs.Address.{fits_max_length}
 use Rattle.addr.specs.Family.{width}
 use Rattle.addr.specs.declared.asn.Asn.{Asn}
 use Rattle.addr.specs.declared.prefix.Prefix.{Prefix}
 use Rattle.addr.specs.declared.vrp.Vrp.{Vrp}
-use Rattle.serde_json.specs.Data.{Data, Items, no_items, item, Members as JsonMembers}
+use Rattle.serde_json.specs.Data.{Data, Items, no_items, item}
 use Rattle.serde_json.specs.Find.{get, as_object, as_str}
-use Rattle.json_parts.proofs.PartsLemmas.{lower-first, lower_assoc}
-use Rattle.json_parts.specs.Parts.{both, mapped, and_then, unless, each}
-use Rattle.json_parts.specs.Tree.{whole_number, required, optional, has_only, only_of, only, list_of}
-use Rattle.slurm.specs.Exceptions.{Exceptions, entry_count}
-use Rattle.slurm.specs.Fault.{fault_number}
-use Rattle.slurm.specs.SlurmFile.{prefix_in, asn_from, asn_in, comment_in, length_in, version_from, version_in, filter_of, filter_in, vrp_if, vrp_with, max_length, assertion_of, assertion_in, entries_from, bgpsec_from, part_in, filters_in, assertions_in, object_in, within_limit, exceptions_of, file_in, slurm_in, IsSlurmFile}
-use Rattle.slurm.specs.SlurmFaults.{lower_of, lowest, fault_unless, required_faults, optional_faults, is_object_of, name_faults, prefix_at, prefix_faults, is_asn, asn_faults, comment_faults, is_one, version_faults, is_max_length, max_length_faults, filter_faults, assertion_faults, array_at, items_at, entries_faults, bgpsec_faults, part_faults, file_entries, slurm_fault}
+use Rattle.json_values.proofs.FaultLemmas.{Pass, Told, err-both, lowest-append, lowest-passes, pass-append, pass-flat_map, pass-optional, pass-required, pass-unless, told-both, told-each, told-if, told-mapped, told-ok_or, told-only, told-optional, told-required, told-unless}
+use Rattle.json_values.proofs.PartsLemmas.{lower-first}
+use Rattle.json_values.specs.Faults.{fault_unless, lower_of, lowest, name_faults, optional_faults, reading_faults, required_faults}
+use Rattle.json_values.specs.Parts.{both, mapped, and_then, unless, each}
+use Rattle.json_values.specs.Tree.{required, optional, only, list_of}
+use Rattle.json_values.specs.Values.{as_asn, as_prefix, whole_number}
+use Rattle.slurm.specs.Exceptions.{Exceptions, exceptions_of}
+use Rattle.slurm.specs.Fault.{slurm_fault_number}
+use Rattle.slurm.specs.steps.SlurmFile.{prefix_in, asn_in, comment_in, length_in, version_from, version_in, filter_of, filter_in, vrp_if, vrp_with, max_length, assertion_of, assertion_in, entries_from, bgpsec_from, part_in, filters_in, assertions_in, object_in, lists_in, slurm_in}
+use Rattle.slurm.specs.SlurmFaults.{assertion_names, file_names, filter_names, filters_faults, assertions_faults, prefix_of, prefix_faults, asn_faults, comment_faults, is_one, version_faults, is_max_length, max_length_faults, filter_faults, assertion_faults, array_at, items_at, entries_faults, bgpsec_faults, part_faults, entry_count, file_faults, slurm_fault}
+use Rattle.slurm.specs.declared.exceptions.TheConstants.{MOST_ENTRIES}
 use Rattle.slurm.specs.declared.fault.SlurmFault.{SlurmFault}
-use Rattle.slurm.specs.declared.fault.SlurmFault.TheVariants.{NotObject, Members, Version, Prefix as PrefixFault, Asn as AsnFault, MaxPrefixLength, EmptyFilter, Comment, TooMany}
+use Rattle.slurm.specs.declared.fault.SlurmFault.TheVariants.{NotJson, NotObject, Members, Version, Prefix as PrefixFault, Asn as AsnFault, MaxPrefixLength, EmptyFilter, Comment, TooMany, Memory}
 use Rattle.slurm.specs.declared.filter.Filter.{Filter}
 use Rattle.slurm.specs.declared.members.MaxPrefixLength.{MaxPrefixLength as LengthRead}
-use Rattle.slurm.proofs.JsonFaultLemmas.{OfTree, tree-file}
-
--- ---- the lowest of two lists
-
-lower_of-assoc : (a b c : Option SlurmFault) → lower_of (lower_of a b) c ≡ lower_of a (lower_of b c)
-lower_of-assoc None b c = refl
-lower_of-assoc (Some a) None c = refl
-lower_of-assoc (Some a) (Some b) None = refl
-lower_of-assoc (Some a) (Some b) (Some c) = ap Some (lower_assoc fault_number a b c)
-
-lowest-append : (xs ys : List SlurmFault) → lowest (xs ++ ys) ≡ lower_of (lowest xs) (lowest ys)
-lowest-append [] ys = refl
-lowest-append (n ∷ xs) ys =
-    ap (lower_of (Some n)) (lowest-append xs ys) ∙ sym (lower_of-assoc (Some n) (lowest xs) (lowest ys))
-
--- ---- the combinators
-
--- the reading tells the lowest of these faults, and a value where there are none
-pub record Told {A : Type 0} (r : Result A SlurmFault) (faults : List SlurmFault) : Type 0 where
-  pub is : result_err r ≡ lowest faults
-
-err-both : {A B : Type 0} (a : Result A SlurmFault) (b : Result B SlurmFault) → result_err (both fault_number a b) ≡ lower_of (result_err a) (result_err b)
-err-both (Ok a) (Ok b) = refl
-err-both (Ok a) (Err n) = refl
-err-both (Err m) (Ok b) = refl
-err-both (Err m) (Err n) = refl
-
-err-mapped : {A B : Type 0} (f : A → B) (r : Result A SlurmFault) → result_err (mapped f r) ≡ result_err r
-err-mapped f (Ok a) = refl
-err-mapped f (Err n) = refl
-
-told-both : {A B : Type 0} {a : Result A SlurmFault} {b : Result B SlurmFault} {xs ys : List SlurmFault} → Told a xs → Told b ys → Told (both fault_number a b) (xs ++ ys)
-told-both {a = a} {b = b} {xs = xs} {ys = ys} h k = record { is = rw (err-both a b, h.is, k.is) (sym (lowest-append xs ys)) }
-
-told-mapped : {A B : Type 0} (f : A → B) {r : Result A SlurmFault} {xs : List SlurmFault} → Told r xs → Told (mapped f r) xs
-told-mapped f {r = r} h = record { is = err-mapped f r ∙ h.is }
-
-told-unless : {A B : Type 0} {a : Result A SlurmFault} {b : Result B SlurmFault} {xs ys : List SlurmFault} → Told a xs → Told b ys → Told (unless fault_number a b) (xs ++ ys)
-told-unless h k = told-mapped (λ p. p.0) (told-both h k)
-
-told-if : {A : Type 0} (b : Bool) (a : A) (n : SlurmFault) → Told (if b then Ok a else Err n) (fault_unless b n)
-told-if true a n = record { is = refl }
-told-if false a n = record { is = refl }
-
-told-ok_or : {A : Type 0} (o : Option A) (n : SlurmFault) → Told (ok_or o n) (fault_unless (is_some o) n)
-told-ok_or None n = record { is = refl }
-told-ok_or (Some a) n = record { is = refl }
-
-told-only_of : (names : List (List ℕ)) (members : Option JsonMembers) → Told (only_of Members names members) (fault_unless (is_object_of names members) Members)
-told-only_of names None = record { is = refl }
-told-only_of names (Some ms) = told-if (has_only names ms) tt Members
-
-told-only : (names : List (List ℕ)) (d : Data) → Told (only Members names d) (name_faults names d)
-told-only names d = told-only_of names (as_object d)
-
-told-required : {A : Type 0} (reading : Data → Result A SlurmFault) (faults : Data → List SlurmFault) (o : Option Data) → ((d : Data) → Told (reading d) (faults d)) → Told (required Members reading o) (required_faults faults o)
-told-required reading faults None h = record { is = refl }
-told-required reading faults (Some d) h = h d
-
-told-optional : {A : Type 0} (reading : Data → Result A SlurmFault) (faults : Data → List SlurmFault) (o : Option Data) → ((d : Data) → Told (reading d) (faults d)) → Told (optional reading o) (optional_faults faults o)
-told-optional reading faults None h = record { is = refl }
-told-optional reading faults (Some d) h = told-mapped Some (h d)
-
-told-each : {A : Type 0} (reading : Data → Result A SlurmFault) (faults : Data → List SlurmFault) (ds : List Data) → ((d : Data) → Told (reading d) (faults d)) → Told (each fault_number reading ds) (flat_map faults ds)
-told-each reading faults [] h = record { is = refl }
-told-each reading faults (d ∷ ds) h = told-mapped (λ p. p.0 ∷ p.1) (told-both (h d) (told-each reading faults ds h))
 
 -- ---- single members
 
-told-prefix : (d : Data) → Told (prefix_in d) (prefix_faults d)
-told-prefix d = told-ok_or (prefix_at d) PrefixFault
+told-prefix : (d : Data) → Told slurm_fault_number (prefix_in d) (prefix_faults d)
+told-prefix d = told-ok_or slurm_fault_number (as_prefix d) PrefixFault
 
-told-asn_from : (n : Option ℕ) → Told (asn_from n) (fault_unless (is_asn n) AsnFault)
-told-asn_from None = record { is = refl }
-told-asn_from (Some n) = told-if (nat_lt n (2 ^ 32)) (record { 0 = n }) AsnFault
+told-asn : (d : Data) → Told slurm_fault_number (asn_in d) (asn_faults d)
+told-asn d = told-ok_or slurm_fault_number (as_asn d) AsnFault
 
-told-asn : (d : Data) → Told (asn_in d) (asn_faults d)
-told-asn d = told-asn_from (whole_number d)
+told-comment : (d : Data) → Told slurm_fault_number (comment_in d) (comment_faults d)
+told-comment d = told-if slurm_fault_number (is_some (as_str d)) (record {}) Comment
 
-told-comment : (d : Data) → Told (comment_in d) (comment_faults d)
-told-comment d = told-if (is_some (as_str d)) (record {}) Comment
-
-told-version_from : (n : Option ℕ) → Told (version_from n) (fault_unless (is_one n) Version)
+told-version_from : (n : Option ℕ) → Told slurm_fault_number (version_from n) (fault_unless (is_one n) Version)
 told-version_from None = record { is = refl }
-told-version_from (Some n) = told-if (n == 1) (record {}) Version
+told-version_from (Some n) = told-if slurm_fault_number (n == 1) (record {}) Version
 
-told-version : (d : Data) → Told (version_in d) (version_faults d)
+told-version : (d : Data) → Told slurm_fault_number (version_in d) (version_faults d)
 told-version d = told-version_from (whole_number d)
 
 -- ---- filters
 
-err-filter_prefix : (p : Result Prefix SlurmFault) (asn : Result (Option Asn) SlurmFault) → result_err (and_then filter_of (both fault_number (mapped Some p) asn)) ≡ result_err (both fault_number (mapped {B = Option Prefix} Some p) asn)
+err-filter_prefix : (p : Result Prefix SlurmFault) (asn : Result (Option Asn) SlurmFault) → result_err (and_then filter_of (both slurm_fault_number (mapped Some p) asn)) ≡ result_err (both slurm_fault_number (mapped {B = Option Prefix} Some p) asn)
 err-filter_prefix (Ok p) (Ok (Some asn)) = refl
 err-filter_prefix (Ok p) (Ok None) = refl
 err-filter_prefix (Ok p) (Err n) = refl
 err-filter_prefix (Err m) (Ok asn) = refl
 err-filter_prefix (Err m) (Err n) = refl
 
-err-filter_asn : (asn : Result Asn SlurmFault) → result_err (and_then filter_of (both fault_number (Ok None) (mapped Some asn))) ≡ result_err (both {A = Option Prefix} fault_number (Ok None) (mapped {B = Option Asn} Some asn))
+err-filter_asn : (asn : Result Asn SlurmFault) → result_err (and_then filter_of (both slurm_fault_number (Ok None) (mapped Some asn))) ≡ result_err (both {A = Option Prefix} slurm_fault_number (Ok None) (mapped {B = Option Asn} Some asn))
 err-filter_asn (Ok asn) = refl
 err-filter_asn (Err n) = refl
 
 told-filter_of : (p asn : Option Data) →
-    Told (and_then filter_of (both fault_number (optional prefix_in p) (optional asn_in asn)))
+    Told slurm_fault_number (and_then filter_of (both slurm_fault_number (optional prefix_in p) (optional asn_in asn)))
     (optional_faults prefix_faults p ++ optional_faults asn_faults asn ++ fault_unless (is_some p || is_some asn) EmptyFilter)
 told-filter_of (Some p) asn = record {
   is =
       err-filter_prefix (prefix_in p) (optional asn_in asn)
-      ∙ (told-both (told-mapped Some (told-prefix p)) (told-optional asn_in asn_faults asn told-asn)).is
-      ∙ ap lowest (sym (append-nil (prefix_faults p ++ optional_faults asn_faults asn)));
+      ∙ (told-both (told-mapped Some (told-prefix p)) (told-optional slurm_fault_number asn_in asn_faults asn told-asn)).is
+      ∙ ap (lowest slurm_fault_number) (sym (append-nil (prefix_faults p ++ optional_faults asn_faults asn)));
 }
 told-filter_of None (Some asn) = record {
   is =
       err-filter_asn (asn_in asn)
-      ∙ err-both {A = Option Prefix} (Ok None) (mapped Some (asn_in asn))
+      ∙ err-both {A = Option Prefix} slurm_fault_number (Ok None) (mapped Some (asn_in asn))
       ∙ (told-mapped {B = Option Asn} Some (told-asn asn)).is
-      ∙ ap lowest (sym (append-nil (asn_faults asn)));
+      ∙ ap (lowest slurm_fault_number) (sym (append-nil (asn_faults asn)));
 }
 told-filter_of None None = record { is = refl }
 
-told-filter : (d : Data) → Told (filter_in d) (filter_faults d)
+told-filter : (d : Data) → Told slurm_fault_number (filter_in d) (filter_faults d)
 told-filter d =
     told-unless (told-unless (told-filter_of (get (codes "prefix") d) (get (codes "asn") d))
-    (told-only (codes "prefix" ∷ codes "asn" ∷ codes "comment" ∷ []) d))
-    (told-optional comment_in comment_faults (get (codes "comment") d) told-comment)
+    (told-only slurm_fault_number Members filter_names d))
+    (told-optional slurm_fault_number comment_in comment_faults (get (codes "comment") d) told-comment)
 
 -- ---- assertions
-
-abbrev is_in_range : Prefix → ℕ → Bool
-is_in_range p max = nat_le p.length max && nat_le max (width p.family)
 
 le-no : (a b : ℕ) → (a ≤ b → ⊥) → nat_le a b ≡ false
 le-no a b over = elim (leb_tells a b) [ inl there ↦ absurd (over there.1) | inr here ↦ here.0 ]
 
-is_some-vrp_if : (p : Prefix) (max : ℕ) (asn : Asn) (low : Dec (p.length ≤ max)) (high : Dec (max ≤ width p.family)) → is_some (vrp_if p max asn low high) ≡ is_in_range p max
+is_some-vrp_if : (p : Prefix) (max : ℕ) (asn : Asn) (low : Dec (p.length ≤ max)) (high : Dec (max ≤ width p.family)) → is_some (vrp_if p max asn low high) ≡ fits_max_length p max
 is_some-vrp_if p max asn (yes low) (yes high) = rw (le-leb p.length max low, le-leb max (width p.family) high) refl
 is_some-vrp_if p max asn (yes low) (no high) = rw (le-leb p.length max low, le-no max (width p.family) high) refl
 is_some-vrp_if p max asn (no low) high = rw (le-no p.length max low) refl
 
-is_some-vrp_with : (p : Prefix) (max : ℕ) (asn : Asn) → is_some (vrp_with p max asn) ≡ is_in_range p max
+is_some-vrp_with : (p : Prefix) (max : ℕ) (asn : Asn) → is_some (vrp_with p max asn) ≡ fits_max_length p max
 is_some-vrp_with p max asn = is_some-vrp_if p max asn (dec_le p.length max) (dec_le max (width p.family))
 
 -- an AS number's faults have lower numbers than a maxPrefixLength's
 abbrev OfAsn : Result Asn SlurmFault → Type 0
 OfAsn (Ok asn) = Unit {0}
-OfAsn (Err n) = fault_number n ≤ 8
+OfAsn (Err n) = slurm_fault_number n ≤ 8
 
-asn_from-low : (n : Option ℕ) → OfAsn (asn_from n)
-asn_from-low None = lit≤ tt
-asn_from-low (Some n) = low (nat_lt n (2 ^ 32))
-  where
-    low : (b : Bool) → OfAsn (if b then Ok (record { 0 = n }) else Err AsnFault)
-    low true = tt
-    low false = lit≤ tt
+ok_or-low : (asn : Option Asn) → OfAsn (ok_or asn AsnFault)
+ok_or-low None = lit≤ tt
+ok_or-low (Some asn) = tt
 
 asn-low : (asn : Option Data) → OfAsn (required Members asn_in asn)
 asn-low None = lit≤ tt
-asn-low (Some d) = asn_from-low (whole_number d)
+asn-low (Some d) = ok_or-low (as_asn d)
 
-lower_of-low : (m : SlurmFault) (b : Bool) → fault_number m ≤ 8 → Some m ≡ lower_of (Some m) (lowest (fault_unless b MaxPrefixLength))
+lower_of-low : (m : SlurmFault) (b : Bool) → slurm_fault_number m ≤ 8 → Some m ≡ lower_of slurm_fault_number (Some m) (lowest slurm_fault_number (fault_unless b MaxPrefixLength))
 lower_of-low m true low = refl
-lower_of-low m false low = ap Some (sym (lower-first fault_number m MaxPrefixLength low))
+lower_of-low m false low = ap Some (sym (lower-first slurm_fault_number m MaxPrefixLength low))
 
 -- a prefix and a number: the VRP is there where the number is in its range
-told-in_range : (p : Prefix) (max : Option LengthRead) (asn : Result Asn SlurmFault) (xs : List SlurmFault) → Told asn xs → OfAsn asn →
-    Told (and_then assertion_of (both fault_number (Ok p) (both fault_number asn (Ok max)))) (xs ++ fault_unless (is_in_range p (max_length p max)) MaxPrefixLength)
+told-in_range : (p : Prefix) (max : Option LengthRead) (asn : Result Asn SlurmFault) (xs : List SlurmFault) → Told slurm_fault_number asn xs → OfAsn asn →
+    Told slurm_fault_number (and_then assertion_of (both slurm_fault_number (Ok p) (both slurm_fault_number asn (Ok max)))) (xs ++ fault_unless (fits_max_length p (max_length p max)) MaxPrefixLength)
 told-in_range p max (Ok asn) xs h low =
-    let range = is_in_range p (max_length p max) in
+    let range = fits_max_length p (max_length p max) in
     record {
       is =
-          (told-ok_or (vrp_with p (max_length p max) asn) MaxPrefixLength).is
-          ∙ ap (λ (b : Bool). lowest (fault_unless b MaxPrefixLength)) (is_some-vrp_with p (max_length p max) asn)
-          ∙ ap (λ (o : Option SlurmFault). lower_of o (lowest (fault_unless range MaxPrefixLength))) h.is
-          ∙ sym (lowest-append xs (fault_unless range MaxPrefixLength));
+          (told-ok_or slurm_fault_number (vrp_with p (max_length p max) asn) MaxPrefixLength).is
+          ∙ ap (λ (b : Bool). lowest slurm_fault_number (fault_unless b MaxPrefixLength)) (is_some-vrp_with p (max_length p max) asn)
+          ∙ ap (λ (o : Option SlurmFault). lower_of slurm_fault_number o (lowest slurm_fault_number (fault_unless range MaxPrefixLength))) h.is
+          ∙ sym (lowest-append slurm_fault_number xs (fault_unless range MaxPrefixLength));
     }
 told-in_range p max (Err m) xs h low =
-    let range = is_in_range p (max_length p max) in
+    let range = fits_max_length p (max_length p max) in
     record {
       is =
           lower_of-low m range low
-          ∙ ap (λ (o : Option SlurmFault). lower_of o (lowest (fault_unless range MaxPrefixLength))) h.is
-          ∙ sym (lowest-append xs (fault_unless range MaxPrefixLength));
+          ∙ ap (λ (o : Option SlurmFault). lower_of slurm_fault_number o (lowest slurm_fault_number (fault_unless range MaxPrefixLength))) h.is
+          ∙ sym (lowest-append slurm_fault_number xs (fault_unless range MaxPrefixLength));
     }
 
 -- no number
-err-no_number : (p : Prefix) (asn : Result Asn SlurmFault) → result_err (and_then assertion_of (both fault_number (Ok p) (both fault_number asn (Err MaxPrefixLength)))) ≡ result_err (both {B = Option LengthRead} fault_number asn (Err MaxPrefixLength))
+err-no_number : (p : Prefix) (asn : Result Asn SlurmFault) → result_err (and_then assertion_of (both slurm_fault_number (Ok p) (both slurm_fault_number asn (Err MaxPrefixLength)))) ≡ result_err (both {B = Option LengthRead} slurm_fault_number asn (Err MaxPrefixLength))
 err-no_number p (Ok asn) = refl
 err-no_number p (Err m) = refl
 
-own_length : (p : Prefix) → is_in_range p p.length ≡ true
+own_length : (p : Prefix) → fits_max_length p p.length ≡ true
 own_length p = rw (le-leb p.length p.length (omega arith), le-leb p.length (width p.family) p.length_fits) refl
 
-told-max : (p : Prefix) (asn : Result Asn SlurmFault) (xs : List SlurmFault) (number : Option ℕ) → Told asn xs → OfAsn asn →
-    Told (and_then assertion_of (both fault_number (Ok p) (both fault_number asn (mapped {B = Option LengthRead} Some (ok_or (option_map (λ n. record { 0 = n }) number) MaxPrefixLength)))))
+told-max : (p : Prefix) (asn : Result Asn SlurmFault) (xs : List SlurmFault) (number : Option ℕ) → Told slurm_fault_number asn xs → OfAsn asn →
+    Told slurm_fault_number (and_then assertion_of (both slurm_fault_number (Ok p) (both slurm_fault_number asn (mapped {B = Option LengthRead} Some (ok_or (option_map (λ n. record { 0 = n }) number) MaxPrefixLength)))))
     (xs ++ fault_unless (is_max_length (Some p) number) MaxPrefixLength)
 told-max p asn xs None h low = record {
   is =
-      err-no_number p asn ∙ err-both {B = Option LengthRead} asn (Err MaxPrefixLength)
-      ∙ ap (λ (o : Option SlurmFault). lower_of o (Some MaxPrefixLength)) h.is ∙ sym (lowest-append xs (MaxPrefixLength ∷ []));
+      err-no_number p asn ∙ err-both {B = Option LengthRead} slurm_fault_number asn (Err MaxPrefixLength)
+      ∙ ap (λ (o : Option SlurmFault). lower_of slurm_fault_number o (Some MaxPrefixLength)) h.is ∙ sym (lowest-append slurm_fault_number xs (MaxPrefixLength ∷ []));
 }
 told-max p asn xs (Some n) h low = told-in_range p (Some (record { 0 = n })) asn xs h low
 
 told-with_prefix : (p : Prefix) (asn max : Option Data) →
-    Told (and_then assertion_of (both fault_number (Ok p) (both fault_number (required Members asn_in asn) (optional length_in max))))
-    (required_faults asn_faults asn ++ optional_faults (max_length_faults (Some p)) max)
+    Told slurm_fault_number (and_then assertion_of (both slurm_fault_number (Ok p) (both slurm_fault_number (required Members asn_in asn) (optional length_in max))))
+    (required_faults Members asn_faults asn ++ optional_faults (max_length_faults (Some p)) max)
 told-with_prefix p asn None =
-    let own = told-in_range p None (required Members asn_in asn) (required_faults asn_faults asn) (told-required asn_in asn_faults asn told-asn) (asn-low asn) in
-    record { is = own.is ∙ ap (λ (b : Bool). lowest (required_faults asn_faults asn ++ fault_unless b MaxPrefixLength)) (own_length p) }
+    let own = told-in_range p None (required Members asn_in asn) (required_faults Members asn_faults asn) (told-required slurm_fault_number Members asn_in asn_faults asn told-asn) (asn-low asn) in
+    record { is = own.is ∙ ap (λ (b : Bool). lowest slurm_fault_number (required_faults Members asn_faults asn ++ fault_unless b MaxPrefixLength)) (own_length p) }
 told-with_prefix p asn (Some max) =
-    told-max p (required Members asn_in asn) (required_faults asn_faults asn) (whole_number max) (told-required asn_in asn_faults asn told-asn) (asn-low asn)
+    told-max p (required Members asn_in asn) (required_faults Members asn_faults asn) (whole_number max) (told-required slurm_fault_number Members asn_in asn_faults asn told-asn) (asn-low asn)
 
 -- without a prefix
-told-length : (d : Data) → Told (length_in d) (max_length_faults None d)
+told-length : (d : Data) → Told slurm_fault_number (length_in d) (max_length_faults None d)
 told-length d = told-number (whole_number d)
   where
-    told-number : (n : Option ℕ) → Told {A = LengthRead} (ok_or (option_map (λ k. record { 0 = k }) n) MaxPrefixLength) (fault_unless (is_max_length None n) MaxPrefixLength)
+    told-number : (n : Option ℕ) → Told {A = LengthRead} slurm_fault_number (ok_or (option_map (λ k. record { 0 = k }) n) MaxPrefixLength) (fault_unless (is_max_length None n) MaxPrefixLength)
     told-number None = record { is = refl }
     told-number (Some n) = record { is = refl }
 
-err-no_prefix : (m : SlurmFault) (others : Result (Asn × Option LengthRead) SlurmFault) → result_err (and_then assertion_of (both fault_number (Err m) others)) ≡ lower_of (Some m) (result_err others)
+err-no_prefix : (m : SlurmFault) (others : Result (Asn × Option LengthRead) SlurmFault) → result_err (and_then assertion_of (both slurm_fault_number (Err m) others)) ≡ lower_of slurm_fault_number (Some m) (result_err others)
 err-no_prefix m (Ok others) = refl
 err-no_prefix m (Err n) = refl
 
 told-no_prefix : (m : SlurmFault) (asn max : Option Data) →
-    Told (and_then assertion_of (both fault_number (Err m) (both fault_number (required Members asn_in asn) (optional length_in max))))
-    (m ∷ [] ++ required_faults asn_faults asn ++ optional_faults (max_length_faults None) max)
+    Told slurm_fault_number (and_then assertion_of (both slurm_fault_number (Err m) (both slurm_fault_number (required Members asn_in asn) (optional length_in max))))
+    (m ∷ [] ++ required_faults Members asn_faults asn ++ optional_faults (max_length_faults None) max)
 told-no_prefix m asn max =
-    let others = told-both (told-required asn_in asn_faults asn told-asn) (told-optional length_in (max_length_faults None) max told-length) in
-    record { is = err-no_prefix m (both fault_number (required Members asn_in asn) (optional length_in max)) ∙ ap (lower_of (Some m)) others.is }
+    let others = told-both (told-required slurm_fault_number Members asn_in asn_faults asn told-asn) (told-optional slurm_fault_number length_in (max_length_faults None) max told-length) in
+    record { is = err-no_prefix m (both slurm_fault_number (required Members asn_in asn) (optional length_in max)) ∙ ap (lower_of slurm_fault_number (Some m)) others.is }
 
 told-read_prefix : (p : Option Prefix) (asn max : Option Data) →
-    Told (and_then assertion_of (both fault_number (ok_or p PrefixFault) (both fault_number (required Members asn_in asn) (optional length_in max))))
-    (fault_unless (is_some p) PrefixFault ++ required_faults asn_faults asn ++ optional_faults (max_length_faults p) max)
+    Told slurm_fault_number (and_then assertion_of (both slurm_fault_number (ok_or p PrefixFault) (both slurm_fault_number (required Members asn_in asn) (optional length_in max))))
+    (fault_unless (is_some p) PrefixFault ++ required_faults Members asn_faults asn ++ optional_faults (max_length_faults p) max)
 told-read_prefix None asn max = told-no_prefix PrefixFault asn max
 told-read_prefix (Some p) asn max = told-with_prefix p asn max
 
 told-assertion_of : (p asn max : Option Data) →
-    Told (and_then assertion_of (both fault_number (required Members prefix_in p) (both fault_number (required Members asn_in asn) (optional length_in max))))
-    (required_faults prefix_faults p ++ required_faults asn_faults asn ++ optional_faults (max_length_faults (option_and_then prefix_at p)) max)
+    Told slurm_fault_number (and_then assertion_of (both slurm_fault_number (required Members prefix_in p) (both slurm_fault_number (required Members asn_in asn) (optional length_in max))))
+    (required_faults Members prefix_faults p ++ required_faults Members asn_faults asn ++ optional_faults (max_length_faults (option_and_then as_prefix p)) max)
 told-assertion_of None asn max = told-no_prefix Members asn max
-told-assertion_of (Some p) asn max = told-read_prefix (prefix_at p) asn max
+told-assertion_of (Some p) asn max = told-read_prefix (as_prefix p) asn max
 
-told-assertion : (d : Data) → Told (assertion_in d) (assertion_faults d)
+told-assertion : (d : Data) → Told slurm_fault_number (assertion_in d) (assertion_faults d)
 told-assertion d =
     told-unless (told-unless (told-assertion_of (get (codes "prefix") d) (get (codes "asn") d) (get (codes "maxPrefixLength") d))
-    (told-only (codes "prefix" ∷ codes "asn" ∷ codes "maxPrefixLength" ∷ codes "comment" ∷ []) d))
-    (told-optional comment_in comment_faults (get (codes "comment") d) told-comment)
+    (told-only slurm_fault_number Members assertion_names d))
+    (told-optional slurm_fault_number comment_in comment_faults (get (codes "comment") d) told-comment)
 
 -- ---- the file
 
-told-entries : {A : Type 0} (reading : Data → Result A SlurmFault) (faults : Data → List SlurmFault) (items : Option Items) → ((d : Data) → Told (reading d) (faults d)) → Told (entries_from reading items) (entries_faults faults items)
+told-entries : {A : Type 0} (reading : Data → Result A SlurmFault) (faults : Data → List SlurmFault) (items : Option Items) → ((d : Data) → Told slurm_fault_number (reading d) (faults d)) → Told slurm_fault_number (entries_from reading items) (entries_faults faults items)
 told-entries reading faults None h = record { is = refl }
-told-entries reading faults (Some items) h = told-each reading faults (list_of items) h
+told-entries reading faults (Some items) h = told-each slurm_fault_number reading faults (list_of items) h
 
-told-bgpsec : (items : Option Items) → Told (bgpsec_from items) (bgpsec_faults items)
+told-bgpsec : (items : Option Items) → Told slurm_fault_number (bgpsec_from items) (bgpsec_faults items)
 told-bgpsec None = record { is = refl }
 told-bgpsec (Some no_items) = record { is = refl }
 told-bgpsec (Some (item d ds)) = record { is = refl }
 
-told-part : {A : Type 0} (reading : Data → Result A SlurmFault) (faults : Data → List SlurmFault) (entries bgpsec : List ℕ) → ((d : Data) → Told (reading d) (faults d)) → (d : Data) → Told (part_in reading entries bgpsec d) (part_faults faults entries bgpsec d)
+told-part : {A : Type 0} (reading : Data → Result A SlurmFault) (faults : Data → List SlurmFault) (entries bgpsec : List ℕ) → ((d : Data) → Told slurm_fault_number (reading d) (faults d)) → (d : Data) → Told slurm_fault_number (part_in reading entries bgpsec d) (part_faults faults entries bgpsec d)
 told-part reading faults entries bgpsec h d =
-    told-unless (told-unless (told-entries reading faults (array_at entries d) h) (told-only (entries ∷ bgpsec ∷ []) d)) (told-bgpsec (array_at bgpsec d))
+    told-unless (told-unless (told-entries reading faults (array_at entries d) h) (told-only slurm_fault_number Members (entries ∷ bgpsec ∷ []) d)) (told-bgpsec (array_at bgpsec d))
 
-abbrev parts_faults : Data → List SlurmFault
-parts_faults d =
-    required_faults (part_faults filter_faults (codes "prefixFilters") (codes "bgpsecFilters")) (get (codes "validationOutputFilters") d)
-    ++ required_faults (part_faults assertion_faults (codes "prefixAssertions") (codes "bgpsecAssertions")) (get (codes "locallyAddedAssertions") d)
+abbrev lists_faults : Data → List SlurmFault
+lists_faults d =
+    required_faults Members filters_faults (get (codes "validationOutputFilters") d)
+    ++ required_faults Members assertions_faults (get (codes "locallyAddedAssertions") d)
     ++ fault_unless (is_some (as_object d)) NotObject
-    ++ name_faults (codes "slurmVersion" ∷ codes "validationOutputFilters" ∷ codes "locallyAddedAssertions" ∷ []) d
-    ++ required_faults version_faults (get (codes "slurmVersion") d)
+    ++ name_faults Members file_names d
+    ++ required_faults Members version_faults (get (codes "slurmVersion") d)
 
-told-file : (d : Data) → Told (file_in d) (parts_faults d)
-told-file d =
-    told-unless (told-unless (told-unless (told-mapped exceptions_of (told-both
-    (told-required filters_in (part_faults filter_faults (codes "prefixFilters") (codes "bgpsecFilters")) (get (codes "validationOutputFilters") d)
+told-lists : (d : Data) → Told slurm_fault_number (lists_in d) (lists_faults d)
+told-lists d =
+    told-unless (told-unless (told-unless (told-both
+    (told-required slurm_fault_number Members filters_in filters_faults (get (codes "validationOutputFilters") d)
     (told-part filter_in filter_faults (codes "prefixFilters") (codes "bgpsecFilters") told-filter))
-    (told-required assertions_in (part_faults assertion_faults (codes "prefixAssertions") (codes "bgpsecAssertions")) (get (codes "locallyAddedAssertions") d)
-    (told-part assertion_in assertion_faults (codes "prefixAssertions") (codes "bgpsecAssertions") told-assertion))))
-    (told-if (is_some (as_object d)) tt NotObject))
-    (told-only (codes "slurmVersion" ∷ codes "validationOutputFilters" ∷ codes "locallyAddedAssertions" ∷ []) d))
-    (told-required version_in version_faults (get (codes "slurmVersion") d) told-version)
+    (told-required slurm_fault_number Members assertions_in assertions_faults (get (codes "locallyAddedAssertions") d)
+    (told-part assertion_in assertion_faults (codes "prefixAssertions") (codes "bgpsecAssertions") told-assertion)))
+    (told-if slurm_fault_number (is_some (as_object d)) tt NotObject))
+    (told-only slurm_fault_number Members file_names d))
+    (told-required slurm_fault_number Members version_in version_faults (get (codes "slurmVersion") d) told-version)
+
+-- ---- no fault of a tree is `NotJson` or over `TooMany`
+
+abbrev is_tree_fault : SlurmFault → Bool
+is_tree_fault n = nat_lt 1 (slurm_fault_number n) && nat_le (slurm_fault_number n) 11
+
+pass-reading : {A : Type 0} (reading : Data → Option A) (n : SlurmFault) → is_tree_fault n ≡ true → (d : Data) → Pass is_tree_fault (reading_faults reading n d)
+pass-reading reading n h d = pass-unless (is_some (reading d)) n h
+
+pass-filter : (d : Data) → Pass is_tree_fault (filter_faults d)
+pass-filter d =
+    pass-append (pass-append (pass-append (pass-append
+    (pass-optional prefix_faults (get (codes "prefix") d) (pass-reading as_prefix PrefixFault refl))
+    (pass-optional asn_faults (get (codes "asn") d) (pass-reading as_asn AsnFault refl)))
+    (pass-unless (is_some (get (codes "prefix") d) || is_some (get (codes "asn") d)) EmptyFilter refl))
+    (pass-unless _ Members refl))
+    (pass-optional comment_faults (get (codes "comment") d) (pass-reading as_str Comment refl))
+
+pass-assertion : (d : Data) → Pass is_tree_fault (assertion_faults d)
+pass-assertion d =
+    let p = prefix_of d in
+    pass-append (pass-append (pass-append (pass-append
+    (pass-required Members prefix_faults (get (codes "prefix") d) refl (pass-reading as_prefix PrefixFault refl))
+    (pass-required Members asn_faults (get (codes "asn") d) refl (pass-reading as_asn AsnFault refl)))
+    (pass-optional (max_length_faults p) (get (codes "maxPrefixLength") d) (λ max. pass-unless (is_max_length p (whole_number max)) MaxPrefixLength refl)))
+    (pass-unless _ Members refl))
+    (pass-optional comment_faults (get (codes "comment") d) (pass-reading as_str Comment refl))
+
+pass-entries : (faults : Data → List SlurmFault) (items : Option Items) → ((d : Data) → Pass is_tree_fault (faults d)) → Pass is_tree_fault (entries_faults faults items)
+pass-entries faults None k = record { each = refl }
+pass-entries faults (Some items) k = pass-flat_map faults (list_of items) k
+
+pass-bgpsec : (items : Option Items) → Pass is_tree_fault (bgpsec_faults items)
+pass-bgpsec None = record { each = refl }
+pass-bgpsec (Some no_items) = record { each = refl }
+pass-bgpsec (Some (item d ds)) = record { each = refl }
+
+pass-part : (faults : Data → List SlurmFault) (entries bgpsec : List ℕ) → ((d : Data) → Pass is_tree_fault (faults d)) → (d : Data) → Pass is_tree_fault (part_faults faults entries bgpsec d)
+pass-part faults entries bgpsec k d =
+    pass-append (pass-append (pass-entries faults (array_at entries d) k) (pass-unless _ Members refl)) (pass-bgpsec (array_at bgpsec d))
+
+pass-lists : (d : Data) → Pass is_tree_fault (lists_faults d)
+pass-lists d =
+    pass-append (pass-append (pass-append (pass-append
+    (pass-required Members filters_faults (get (codes "validationOutputFilters") d) refl
+    (pass-part filter_faults (codes "prefixFilters") (codes "bgpsecFilters") pass-filter))
+    (pass-required Members assertions_faults (get (codes "locallyAddedAssertions") d) refl
+    (pass-part assertion_faults (codes "prefixAssertions") (codes "bgpsecAssertions") pass-assertion)))
+    (pass-unless (is_some (as_object d)) NotObject refl))
+    (pass-unless _ Members refl))
+    (pass-required Members version_faults (get (codes "slurmVersion") d) refl (λ version. pass-unless (is_one (whole_number version)) Version refl))
 
 -- ---- the number of entries
 
@@ -314,17 +292,17 @@ abbrev Counts : {A : Type 0} → (A → ℕ) → Result A SlurmFault → ℕ →
 Counts count (Ok x) n = count x ≡ n
 Counts count (Err e) n = Unit {0}
 
-counts-more : {A : Type 0} (one : Result A SlurmFault) (others : Result (List A) SlurmFault) (n : ℕ) → Counts length others n → Counts length (mapped (λ p. p.0 ∷ p.1) (both fault_number one others)) (suc n)
+counts-more : {A : Type 0} (one : Result A SlurmFault) (others : Result (List A) SlurmFault) (n : ℕ) → Counts length others n → Counts length (mapped (λ p. p.0 ∷ p.1) (both slurm_fault_number one others)) (suc n)
 counts-more (Ok x) (Ok xs) n h = ap suc h
 counts-more (Ok x) (Err e) n h = tt
 counts-more (Err e) (Ok xs) n h = tt
 counts-more (Err e) (Err f) n h = tt
 
-counts-each : {A : Type 0} (reading : Data → Result A SlurmFault) (ds : List Data) → Counts length (each fault_number reading ds) (length ds)
+counts-each : {A : Type 0} (reading : Data → Result A SlurmFault) (ds : List Data) → Counts length (each slurm_fault_number reading ds) (length ds)
 counts-each reading [] = refl
-counts-each reading (d ∷ ds) = counts-more (reading d) (each fault_number reading ds) (length ds) (counts-each reading ds)
+counts-each reading (d ∷ ds) = counts-more (reading d) (each slurm_fault_number reading ds) (length ds) (counts-each reading ds)
 
-counts-unless : {A B : Type 0} (count : A → ℕ) (one : Result A SlurmFault) (other : Result B SlurmFault) (n : ℕ) → Counts count one n → Counts count (unless fault_number one other) n
+counts-unless : {A B : Type 0} (count : A → ℕ) (one : Result A SlurmFault) (other : Result B SlurmFault) (n : ℕ) → Counts count one n → Counts count (unless slurm_fault_number one other) n
 counts-unless count (Ok x) (Ok b) n h = h
 counts-unless count (Ok x) (Err e) n h = tt
 counts-unless count (Err e) (Ok b) n h = tt
@@ -337,45 +315,66 @@ counts-entries reading (Some items) = counts-each reading (list_of items)
 counts-part : {A : Type 0} (reading : Data → Result A SlurmFault) (entries bgpsec : List ℕ) (part : Option Data) → Counts length (required Members (part_in reading entries bgpsec) part) (length (items_at (option_and_then (array_at entries) part)))
 counts-part reading entries bgpsec None = tt
 counts-part reading entries bgpsec (Some d) =
-    counts-unless length (unless fault_number (entries_from reading (array_at entries d)) (only Members (entries ∷ bgpsec ∷ []) d)) (bgpsec_from (array_at bgpsec d)) _
+    counts-unless length (unless slurm_fault_number (entries_from reading (array_at entries d)) (only Members (entries ∷ bgpsec ∷ []) d)) (bgpsec_from (array_at bgpsec d)) _
     (counts-unless length (entries_from reading (array_at entries d)) (only Members (entries ∷ bgpsec ∷ []) d) _ (counts-entries reading (array_at entries d)))
 
-counts-lists : (filters : Result (List Filter) SlurmFault) (assertions : Result (List Vrp) SlurmFault) (m n : ℕ) → Counts length filters m → Counts length assertions n → Counts entry_count (mapped exceptions_of (both fault_number filters assertions)) (m + n)
-counts-lists (Ok f) (Ok a) m n h k = rw (h, k) refl
-counts-lists (Ok f) (Err e) m n h k = tt
-counts-lists (Err e) (Ok a) m n h k = tt
-counts-lists (Err e) (Err f) m n h k = tt
+abbrev Lists : Type 0
+Lists = List Filter × List Vrp
 
-counts-file : (d : Data) → Counts entry_count (file_in d) (file_entries d)
-counts-file d =
+abbrev total : Lists → ℕ
+total lists = length lists.0 + length lists.1
+
+counts-both : (filters : Result (List Filter) SlurmFault) (assertions : Result (List Vrp) SlurmFault) (m n : ℕ) → Counts length filters m → Counts length assertions n → Counts total (both slurm_fault_number filters assertions) (m + n)
+counts-both (Ok f) (Ok a) m n h k = rw (h, k) refl
+counts-both (Ok f) (Err e) m n h k = tt
+counts-both (Err e) (Ok a) m n h k = tt
+counts-both (Err e) (Err f) m n h k = tt
+
+counts-lists : (d : Data) → Counts total (lists_in d) (entry_count d)
+counts-lists d =
     let filters = required Members filters_in (get (codes "validationOutputFilters") d) in
     let assertions = required Members assertions_in (get (codes "locallyAddedAssertions") d) in
-    let names = codes "slurmVersion" ∷ codes "validationOutputFilters" ∷ codes "locallyAddedAssertions" ∷ [] in
-    let lists = mapped exceptions_of (both fault_number filters assertions) in
-    counts-unless entry_count (unless fault_number (unless fault_number lists (object_in d)) (only Members names d)) (required Members version_in (get (codes "slurmVersion") d)) _
-    (counts-unless entry_count (unless fault_number lists (object_in d)) (only Members names d) _
-    (counts-unless entry_count lists (object_in d) _
-    (counts-lists filters assertions _ _
+    let lists = both slurm_fault_number filters assertions in
+    counts-unless total (unless slurm_fault_number (unless slurm_fault_number lists (object_in d)) (only Members file_names d)) (required Members version_in (get (codes "slurmVersion") d)) _
+    (counts-unless total (unless slurm_fault_number lists (object_in d)) (only Members file_names d) _
+    (counts-unless total lists (object_in d) _
+    (counts-both filters assertions _ _
     (counts-part filter_in (codes "prefixFilters") (codes "bgpsecFilters") (get (codes "validationOutputFilters") d))
     (counts-part assertion_in (codes "prefixAssertions") (codes "bgpsecAssertions") (get (codes "locallyAddedAssertions") d)))))
 
 -- ---- the whole
 
-told-within_limit : (file : Result Exceptions SlurmFault) (faults : List SlurmFault) (count : ℕ) → Told file faults → Counts entry_count file count → OfTree file →
-    result_err (and_then within_limit file) ≡ lowest (faults ++ fault_unless (nat_le count 4096) TooMany)
-told-within_limit (Ok file) faults count h counts low =
-    rw (counts, lowest-append faults (fault_unless (nat_le count 4096) TooMany), ← h.is) (told-if (nat_le count 4096) file TooMany).is
-told-within_limit (Err n) faults count h counts low =
-    rw (lowest-append faults (fault_unless (nat_le count 4096) TooMany), ← h.is) (last (nat_le count 4096))
+err-exceptions_of : (lists : Result Lists SlurmFault) (faults : List SlurmFault) (count : ℕ) → Told slurm_fault_number lists faults → Counts total lists count → Pass is_tree_fault faults →
+    result_err (and_then (λ p. exceptions_of p.0 p.1) lists) ≡ lowest slurm_fault_number (faults ++ fault_unless (nat_le count MOST_ENTRIES) TooMany)
+err-exceptions_of (Ok lists) faults count h counts low =
+    rw (counts, lowest-append slurm_fault_number faults (fault_unless (nat_le count MOST_ENTRIES) TooMany), ← h.is)
+    (told-if {A = Exceptions} slurm_fault_number (nat_le count MOST_ENTRIES) (record { filters = lists.0; assertions = lists.1 }) TooMany).is
+err-exceptions_of (Err n) faults count h counts low =
+    rw (lowest-append slurm_fault_number faults (fault_unless (nat_le count MOST_ENTRIES) TooMany), ← h.is) (last (nat_le count MOST_ENTRIES))
   where
-    last : (b : Bool) → Some n ≡ lower_of (Some n) (lowest (fault_unless b TooMany))
-    last true = refl
-    last false = ap Some (sym (lower-first fault_number n TooMany (omega (arith, low.1))))
+    below : slurm_fault_number n ≤ 11
+    below =
+        leb-true (slurm_fault_number n) 11
+        (and_parts (nat_lt 1 (slurm_fault_number n)) (nat_le (slurm_fault_number n) 11) (lowest-passes slurm_fault_number is_tree_fault faults n low (sym h.is))).1
 
-pub slurm_fault-told : (d : Data) → result_err (slurm_in (Some d)) ≡ slurm_fault (Some d)
-slurm_fault-told d = told-within_limit (file_in d) (parts_faults d) (file_entries d) (told-file d) (counts-file d) (tree-file d)
+    last : (b : Bool) → Some n ≡ lower_of slurm_fault_number (Some n) (lowest slurm_fault_number (fault_unless b TooMany))
+    last true = refl
+    last false = ap Some (sym (lower-first slurm_fault_number n TooMany below))
+
+pub slurm_fault-told : (d : Data) → result_err (slurm_in d) ≡ slurm_fault (Some d)
+slurm_fault-told d = err-exceptions_of (lists_in d) (lists_faults d) (entry_count d) (told-lists d) (counts-lists d) (pass-lists d)
 
 -- a tree that was read as a file has no fault
-pub slurm_fault-none : (d : Data) (answer : Result Exceptions SlurmFault) → IfOk answer (IsSlurmFile (Some d)) → OnOk answer (slurm_fault (Some d) ≡ None)
+pub slurm_fault-none : (d : Data) (answer : Result Exceptions SlurmFault) → IfOk answer (λ file. slurm_in d ≡ Ok file) → OnOk answer (slurm_fault (Some d) ≡ None)
 slurm_fault-none d (Ok file) read = sym (slurm_fault-told d) ∙ ap result_err read
 slurm_fault-none d (Err n) read = tt
+
+-- the fault of a tree is another than that there is none
+pub tree_is_json : (d : Data) (answer : Result Exceptions SlurmFault) → IfErr answer (λ fault. fault ≢ Memory → slurm_fault (Some d) ≡ Some fault) → answer ≢ Err NotJson
+tree_is_json d (Ok file) fault told = cc
+tree_is_json d (Err n) fault told =
+    let is : n ≡ NotJson = cc in
+    let lowest_is = subst (λ (m : SlurmFault). m ≢ Memory → slurm_fault (Some d) ≡ Some m) is fault (λ same. cc) in
+    let all = pass-append (pass-lists d) (pass-unless (nat_le (entry_count d) MOST_ENTRIES) TooMany refl) in
+    let passes : is_tree_fault NotJson ≡ true = lowest-passes slurm_fault_number is_tree_fault (file_faults d) NotJson all lowest_is in
+    cc

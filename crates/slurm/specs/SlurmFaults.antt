@@ -1,66 +1,29 @@
--- Every fault of a JSON tree as a SLURM file, wherever it stands in the tree. The lowest of all is told.
-use Rattle.std.specs.Prelude.{ℕ, ◌+◌, ◌^◌, ◌&&◌, ◌||◌, ◌==◌, nat_le, nat_lt, Bool, true, false, List, [], ◌∷◌, ◌++◌, length, codes, Option, Some, None, is_some, option_and_then}
+-- Every fault of a JSON tree as a SLURM file, wherever it stands in the tree. The lowest of all is
+-- told.
+use Rattle.std.specs.Prelude.{ℕ, ◌+◌, ◌||◌, ◌==◌, nat_le, Bool, true, false, List, [], ◌∷◌, ◌++◌, length, codes, Option, Some, None, is_some, option_and_then}
 use Rattle.std.specs.List.{flat_map}
-use Rattle.addr.specs.Family.{width}
-use Rattle.addr.specs.SpelledPrefix.{spelled_prefix}
+use Rattle.addr.specs.Address.{fits_max_length}
 use Rattle.addr.specs.declared.prefix.Prefix.{Prefix}
-use Rattle.serde_json.specs.Data.{Data, Items, no_items, item, Members as JsonMembers}
+use Rattle.serde_json.specs.Data.{Data, Items, no_items, item}
 use Rattle.serde_json.specs.Find.{get, as_object, as_array, as_str}
-use Rattle.json_parts.specs.Parts.{lower}
-use Rattle.json_parts.specs.Tree.{whole_number, has_only, list_of}
-use Rattle.slurm.specs.Fault.{fault_number}
+use Rattle.json_values.specs.Faults.{fault_unless, lowest, name_faults, optional_faults, reading_faults, required_faults}
+use Rattle.json_values.specs.Tree.{list_of}
+use Rattle.json_values.specs.Values.{as_asn, as_prefix, whole_number}
+use Rattle.slurm.specs.Fault.{slurm_fault_number}
+use Rattle.slurm.specs.declared.exceptions.TheConstants.{MOST_ENTRIES}
 use Rattle.slurm.specs.declared.fault.SlurmFault.{SlurmFault}
 use Rattle.slurm.specs.declared.fault.SlurmFault.TheVariants.{NotJson, NotObject, Members, Version, Bgpsec, Prefix as PrefixFault, Asn as AsnFault, MaxPrefixLength, EmptyFilter, Comment, TooMany}
 
-abbrev pub lower_of : Option SlurmFault → Option SlurmFault → Option SlurmFault
-lower_of None other = other
-lower_of (Some m) None = Some m
-lower_of (Some m) (Some n) = Some (lower fault_number m n)
-
--- the lowest of some faults
-abbrev pub lowest : List SlurmFault → Option SlurmFault
-lowest [] = None
-lowest (n ∷ ns) = lower_of (Some n) (lowest ns)
-
-abbrev pub fault_unless : Bool → SlurmFault → List SlurmFault
-fault_unless true n = []
-fault_unless false n = n ∷ []
-
 -- ---- members
 
--- of a member that has to be there
-abbrev pub required_faults : (Data → List SlurmFault) → Option Data → List SlurmFault
-required_faults faults None = Members ∷ []
-required_faults faults (Some d) = faults d
-
--- of a member that may be missing
-abbrev pub optional_faults : (Data → List SlurmFault) → Option Data → List SlurmFault
-optional_faults faults None = []
-optional_faults faults (Some d) = faults d
-
-abbrev pub is_object_of : List (List ℕ) → Option JsonMembers → Bool
-is_object_of names None = false
-is_object_of names (Some ms) = has_only names ms
-
--- of a value that is no object, or has a member of another name
-abbrev pub name_faults : List (List ℕ) → Data → List SlurmFault
-name_faults names d = fault_unless (is_object_of names (as_object d)) Members
-
-abbrev pub prefix_at : Data → Option Prefix
-prefix_at d = option_and_then spelled_prefix (as_str d)
-
 abbrev pub prefix_faults : Data → List SlurmFault
-prefix_faults d = fault_unless (is_some (prefix_at d)) PrefixFault
-
-abbrev pub is_asn : Option ℕ → Bool
-is_asn None = false
-is_asn (Some n) = nat_lt n (2 ^ 32)
+prefix_faults = reading_faults as_prefix PrefixFault
 
 abbrev pub asn_faults : Data → List SlurmFault
-asn_faults d = fault_unless (is_asn (whole_number d)) AsnFault
+asn_faults = reading_faults as_asn AsnFault
 
 abbrev pub comment_faults : Data → List SlurmFault
-comment_faults d = fault_unless (is_some (as_str d)) Comment
+comment_faults = reading_faults as_str Comment
 
 abbrev pub is_one : Option ℕ → Bool
 is_one None = false
@@ -69,31 +32,40 @@ is_one (Some n) = n == 1
 abbrev pub version_faults : Data → List SlurmFault
 version_faults d = fault_unless (is_one (whole_number d)) Version
 
--- from the prefix's length to the family's width; of a prefix that cannot be read, any whole number
+-- one that fits the prefix; of a prefix that cannot be read, any whole number
 abbrev pub is_max_length : Option Prefix → Option ℕ → Bool
 is_max_length p None = false
 is_max_length None (Some n) = true
-is_max_length (Some p) (Some n) = nat_le p.length n && nat_le n (width p.family)
+is_max_length (Some p) (Some n) = fits_max_length p n
 
 abbrev pub max_length_faults : Option Prefix → Data → List SlurmFault
 max_length_faults p d = fault_unless (is_max_length p (whole_number d)) MaxPrefixLength
 
 -- ---- entries
 
+abbrev pub filter_names : List (List ℕ)
+filter_names = codes "prefix" ∷ codes "asn" ∷ codes "comment" ∷ []
+
 abbrev pub filter_faults : Data → List SlurmFault
 filter_faults d =
     optional_faults prefix_faults (get (codes "prefix") d)
     ++ optional_faults asn_faults (get (codes "asn") d)
     ++ fault_unless (is_some (get (codes "prefix") d) || is_some (get (codes "asn") d)) EmptyFilter
-    ++ name_faults (codes "prefix" ∷ codes "asn" ∷ codes "comment" ∷ []) d
+    ++ name_faults Members filter_names d
     ++ optional_faults comment_faults (get (codes "comment") d)
+
+abbrev pub assertion_names : List (List ℕ)
+assertion_names = codes "prefix" ∷ codes "asn" ∷ codes "maxPrefixLength" ∷ codes "comment" ∷ []
+
+abbrev pub prefix_of : Data → Option Prefix
+prefix_of d = option_and_then as_prefix (get (codes "prefix") d)
 
 abbrev pub assertion_faults : Data → List SlurmFault
 assertion_faults d =
-    required_faults prefix_faults (get (codes "prefix") d)
-    ++ required_faults asn_faults (get (codes "asn") d)
-    ++ optional_faults (max_length_faults (option_and_then prefix_at (get (codes "prefix") d))) (get (codes "maxPrefixLength") d)
-    ++ name_faults (codes "prefix" ∷ codes "asn" ∷ codes "maxPrefixLength" ∷ codes "comment" ∷ []) d
+    required_faults Members prefix_faults (get (codes "prefix") d)
+    ++ required_faults Members asn_faults (get (codes "asn") d)
+    ++ optional_faults (max_length_faults (prefix_of d)) (get (codes "maxPrefixLength") d)
+    ++ name_faults Members assertion_names d
     ++ optional_faults comment_faults (get (codes "comment") d)
 
 -- ---- the file
@@ -118,28 +90,43 @@ bgpsec_faults (Some (item d ds)) = Bgpsec ∷ []
 abbrev pub part_faults : (Data → List SlurmFault) → List ℕ → List ℕ → Data → List SlurmFault
 part_faults faults entries bgpsec d =
     entries_faults faults (array_at entries d)
-    ++ name_faults (entries ∷ bgpsec ∷ []) d
+    ++ name_faults Members (entries ∷ bgpsec ∷ []) d
     ++ bgpsec_faults (array_at bgpsec d)
+
+abbrev pub filters_faults : Data → List SlurmFault
+filters_faults = part_faults filter_faults (codes "prefixFilters") (codes "bgpsecFilters")
+
+abbrev pub assertions_faults : Data → List SlurmFault
+assertions_faults =
+    part_faults assertion_faults (codes "prefixAssertions") (codes "bgpsecAssertions")
 
 -- the entries of that name in that part of the file
 abbrev pub entries_at : List ℕ → List ℕ → Data → List Data
 entries_at part entries d = items_at (option_and_then (array_at entries) (get part d))
 
-abbrev pub file_entries : Data → ℕ
-file_entries d =
-    length (entries_at (codes "validationOutputFilters") (codes "prefixFilters") d)
-    + length (entries_at (codes "locallyAddedAssertions") (codes "prefixAssertions") d)
+abbrev pub filters_at : Data → List Data
+filters_at = entries_at (codes "validationOutputFilters") (codes "prefixFilters")
+
+abbrev pub assertions_at : Data → List Data
+assertions_at = entries_at (codes "locallyAddedAssertions") (codes "prefixAssertions")
+
+abbrev pub entry_count : Data → ℕ
+entry_count d = length (filters_at d) + length (assertions_at d)
+
+abbrev pub file_names : List (List ℕ)
+file_names =
+    codes "slurmVersion" ∷ codes "validationOutputFilters" ∷ codes "locallyAddedAssertions" ∷ []
 
 abbrev pub file_faults : Data → List SlurmFault
 file_faults d =
-    required_faults (part_faults filter_faults (codes "prefixFilters") (codes "bgpsecFilters")) (get (codes "validationOutputFilters") d)
-    ++ required_faults (part_faults assertion_faults (codes "prefixAssertions") (codes "bgpsecAssertions")) (get (codes "locallyAddedAssertions") d)
+    required_faults Members filters_faults (get (codes "validationOutputFilters") d)
+    ++ required_faults Members assertions_faults (get (codes "locallyAddedAssertions") d)
     ++ fault_unless (is_some (as_object d)) NotObject
-    ++ name_faults (codes "slurmVersion" ∷ codes "validationOutputFilters" ∷ codes "locallyAddedAssertions" ∷ []) d
-    ++ required_faults version_faults (get (codes "slurmVersion") d)
-    ++ fault_unless (nat_le (file_entries d) 4096) TooMany
+    ++ name_faults Members file_names d
+    ++ required_faults Members version_faults (get (codes "slurmVersion") d)
+    ++ fault_unless (nat_le (entry_count d) MOST_ENTRIES) TooMany
 
 -- the lowest fault, if there is one; bytes that are no JSON text have no tree
 abbrev pub slurm_fault : Option Data → Option SlurmFault
 slurm_fault None = Some NotJson
-slurm_fault (Some d) = lowest (file_faults d)
+slurm_fault (Some d) = lowest slurm_fault_number (file_faults d)

@@ -1,11 +1,12 @@
 ghost use Rattle.std.specs.Prelude.{◌≡◌};
-ghost use Rattle.slurm.specs.Fault.{fault_number};
+ghost use Rattle.slurm.specs.Fault.{slurm_fault_number};
 
-use json_parts::Fault;
+use json_values::Fault;
 use std::alloc::AllocError;
 use thiserror::Error;
 
-/// Why something is no SLURM file. Where several faults apply, the one of the lowest number is told.
+/// Why something is no SLURM file. Where several faults apply, the one of the lowest number is
+/// told.
 #[derive(Clone, Copy, Debug, PartialEq, Eq, Error)]
 pub enum SlurmFault {
     /// The bytes are no JSON text: so also where arrays and objects nest deeper than 127.
@@ -39,7 +40,7 @@ pub enum SlurmFault {
 impl SlurmFault {
     /// 1 for `NotJson` to 12 for `Memory`.
     pub fn number(self) -> u8
-        ensures { result ≡ fault_number self }
+        ensures { result ≡ slurm_fault_number self }
     {
         self as u8
     }
@@ -48,7 +49,7 @@ impl SlurmFault {
 impl Fault for SlurmFault {
     ghost use Rattle.slurm.specs.declared.fault.SlurmFault.TheVariants.{Members};
 
-    ghost number = { fault_number };
+    ghost number = { slurm_fault_number };
 
     ghost members = { Members };
 

@@ -1,41 +1,27 @@
 //! Reading the members of an object.
-ghost use Rattle.std.specs.Prelude.{◌≡◌};
-ghost use Rattle.addr.specs.SpelledPrefix.{spelled_prefix};
 
 use crate::SlurmFault;
 use addr::{Asn, Prefix};
-use json_parts::FromJson;
+use json_values::{FromJson, as_asn, as_prefix};
 use serde_json::Value;
 
 impl FromJson<SlurmFault> for Prefix {
-    ghost use Rattle.slurm.specs.SlurmFile.{prefix_in};
+    ghost use Rattle.slurm.specs.steps.SlurmFile.{prefix_in};
 
     ghost reading = { prefix_in };
 
     fn from_json(value: &Value) -> Result<Prefix, SlurmFault> {
-        let Some(text) = value.as_str() else {
-            return Err(SlurmFault::Prefix);
-        };
-        spelled_prefix(text.as_bytes()).ok_or(SlurmFault::Prefix)
+        as_prefix(value).ok_or(SlurmFault::Prefix)
     }
 }
 
-fn spelled_prefix(text: &[u8]) -> Option<Prefix>
-    ensures { result ≡ spelled_prefix text.now }
-{
-    Prefix::read(text).ok()
-}
-
 impl FromJson<SlurmFault> for Asn {
-    ghost use Rattle.slurm.specs.SlurmFile.{asn_in};
+    ghost use Rattle.slurm.specs.steps.SlurmFile.{asn_in};
 
     ghost reading = { asn_in };
 
     fn from_json(value: &Value) -> Result<Asn, SlurmFault> {
-        match value.as_u64() {
-            Some(number) if number <= u64::from(u32::MAX) => Ok(Asn(number as u32)),
-            _ => Err(SlurmFault::Asn),
-        }
+        as_asn(value).ok_or(SlurmFault::Asn)
     }
 }
 
@@ -44,7 +30,7 @@ impl FromJson<SlurmFault> for Asn {
 pub(crate) struct MaxPrefixLength(pub(crate) u64);
 
 impl FromJson<SlurmFault> for MaxPrefixLength {
-    ghost use Rattle.slurm.specs.SlurmFile.{length_in};
+    ghost use Rattle.slurm.specs.steps.SlurmFile.{length_in};
 
     ghost reading = { length_in };
 
@@ -61,7 +47,7 @@ impl FromJson<SlurmFault> for MaxPrefixLength {
 pub(crate) struct Comment;
 
 impl FromJson<SlurmFault> for Comment {
-    ghost use Rattle.slurm.specs.SlurmFile.{comment_in};
+    ghost use Rattle.slurm.specs.steps.SlurmFile.{comment_in};
 
     ghost reading = { comment_in };
 
@@ -79,7 +65,7 @@ impl FromJson<SlurmFault> for Comment {
 pub(crate) struct Version;
 
 impl FromJson<SlurmFault> for Version {
-    ghost use Rattle.slurm.specs.SlurmFile.{version_in};
+    ghost use Rattle.slurm.specs.steps.SlurmFile.{version_in};
 
     ghost reading = { version_in };
 

@@ -1,6 +1,6 @@
 -- What is asked, from its parts.
 use Rattle.std.proofs.Common.{◌≡◌, ℕ, List, Result, Ok, Err, refl}
-use Rattle.json_parts.specs.Parts.{both, mapped, unless}
+use Rattle.json_values.specs.Parts.{both, mapped, unless}
 use Rattle.web.specs.RequestFault.{fault_number}
 use Rattle.web.specs.RequestText.{asked_terms, asked_with, request_terms}
 use Rattle.desk.specs.declared.asked.Asked.{Asked}

@@ -6,7 +6,7 @@ use Rattle.std.specs.Option.{ok_or}
 use Rattle.std.specs.Str.{bytes_eq}
 use Rattle.addr.specs.Day.{day_in}
 use Rattle.addr.specs.Name.{name_in}
-use Rattle.addr.specs.SpelledPrefix.{spelled_prefix}
+use Rattle.addr.specs.PrefixText.{spelled_prefix}
 use Rattle.addr.specs.declared.asn.Asn.{Asn}
 use Rattle.addr.specs.declared.prefix.Prefix.{Prefix}
 use Rattle.addr.specs.declared.route.Origin.{Origin}
@@ -22,8 +22,9 @@ use Rattle.policy.specs.declared.grant.Scope.{Scope}
 use Rattle.policy.specs.declared.grant.Scope.TheVariants.{All, Only}
 use Rattle.serde_json.specs.Data.{Data, null, boolean, number, string, array, object, Items}
 use Rattle.serde_json.specs.Find.{get, as_array, as_str}
-use Rattle.json_parts.specs.Parts.{both, mapped, and_then, unless, each}
-use Rattle.json_parts.specs.Tree.{tree_of, whole_number, required, only, list_of}
+use Rattle.json_values.specs.Parts.{both, mapped, and_then, unless, each}
+use Rattle.json_values.specs.Tree.{tree_of, required, only, list_of}
+use Rattle.json_values.specs.Values.{whole_number}
 use Rattle.web.specs.RequestFault.{fault_number}
 use Rattle.desk.specs.declared.asked.Asked.{Asked}
 use Rattle.desk.specs.declared.asked.Request.{Request}

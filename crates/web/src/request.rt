@@ -1,8 +1,8 @@
 //! Reading requests from JSON lines.
 ghost use Rattle.std.specs.Prelude.{◌≡◌, Some, Err, IfOk};
 ghost use Rattle.serde_json.specs.View.{view};
-ghost use Rattle.json_parts.specs.Parts.{mapped};
-ghost use Rattle.json_parts.specs.Tree.{tree_of};
+ghost use Rattle.json_values.specs.Parts.{mapped};
+ghost use Rattle.json_values.specs.Tree.{tree_of};
 ghost use Rattle.web.specs.RequestText.{action_in, asked_as, asked_by, asked_in, asked_terms, ReadsLine, request_fault, request_in, request_terms};
 
 mod action;
@@ -17,7 +17,7 @@ use action::{Action, action_in, only_members_of};
 use addr::{Day, Name};
 use desk::{Asked, Request};
 use fault::Fault;
-use json_parts::{both, tree_of, unless};
+use json_values::{both, tree_of, unless};
 use members::{caller_in, day_in};
 use policy::{Command, Query};
 use serde_json::Value;

@@ -1,11 +1,11 @@
 // What a request's `do` says.
 ghost use Rattle.std.specs.Prelude.{◌≡◌};
 ghost use Rattle.serde_json.specs.View.{view};
-ghost use Rattle.json_parts.specs.Tree.{only};
+ghost use Rattle.json_values.specs.Tree.{only};
 ghost use Rattle.web.specs.RequestText.{action_in, action_of, members_of};
 
 use super::fault::Fault;
-use json_parts::only;
+use json_values::only;
 use serde_json::Value;
 
 #[derive(Clone, Copy, Debug, PartialEq, Eq)]

@@ -1,7 +1,7 @@
 // One reader for each request, of the members that are its own.
 ghost use Rattle.std.specs.Prelude.{◌≡◌};
 ghost use Rattle.serde_json.specs.View.{view};
-ghost use Rattle.json_parts.specs.Parts.{mapped};
+ghost use Rattle.json_values.specs.Parts.{mapped};
 ghost use Rattle.web.specs.RequestText.{amend_in, content_in, create_in, create_terms_in, delegate_in, grant_in, list_in, reclaim_in, register_in, request_terms, revoke_in, show_in, transfer_in, withdraw_in};
 
 use super::fault::Fault;
@@ -9,7 +9,7 @@ use super::members::{
     CreateTerms, access_in, asn_in, caller_in, day_in, holder_in, max_in, number_in, prefix_in,
 };
 use desk::Request;
-use json_parts::both;
+use json_values::both;
 use policy::{Command, Query};
 use serde_json::Value;
 

@@ -60,7 +60,7 @@ impl Fault {
     }
 }
 
-impl json_parts::Fault for Fault {
+impl json_values::Fault for Fault {
     ghost use Rattle.web.specs.declared.request.fault.Fault.TheVariants.{Members};
 
     ghost number = { fault_number };

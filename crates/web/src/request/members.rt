@@ -1,13 +1,13 @@
 // The members of requests: each reader asks one member, which has to be there.
 ghost use Rattle.std.specs.Prelude.{◌≡◌, codes};
-ghost use Rattle.addr.specs.SpelledPrefix.{spelled_prefix};
+ghost use Rattle.addr.specs.PrefixText.{spelled_prefix};
 ghost use Rattle.serde_json.specs.View.{view};
-ghost use Rattle.json_parts.specs.Parts.{and_then};
+ghost use Rattle.json_values.specs.Parts.{and_then};
 ghost use Rattle.web.specs.RequestText.{access_in, access_of, asn_in, asn_read, caller_in, day_in_member, day_read, holder_in, max_in, max_read, member_in, name_read, number_in, number_read, origin_in, origin_read, prefix_in, prefix_read, role_of, role_read, scope_of, scope_read};
 
 use super::fault::Fault;
 use addr::{Asn, Day, Name, Origin, Prefix};
-use json_parts::{both, member};
+use json_values::{both, member};
 use policy::{Role, Scope};
 use serde_json::Value;
 

@@ -1,14 +1,14 @@
 // Lists of routes.
 ghost use Rattle.std.specs.Prelude.{◌≡◌, IfOk};
 ghost use Rattle.serde_json.specs.View.{view};
-ghost use Rattle.json_parts.specs.Parts.{mapped};
+ghost use Rattle.json_values.specs.Parts.{mapped};
 ghost use Rattle.web.specs.RequestText.{count_of, request_terms, routes_in, validity};
 
 use super::fault::Fault;
 use super::members::{origin_in, prefix_in};
 use addr::{Origin, Prefix, Route};
 use desk::Request;
-use json_parts::{FromJson, both, each, only, unless};
+use json_values::{FromJson, both, each, only, unless};
 use policy::Query;
 use serde_json::Value;
 use std::alloc::{AllocError, Global};

@@ -1,20 +1,20 @@
 use Rattle.std.proofs.Common.{refl}
-use Rattle.slurm.proofs.FileLemmas.{exceptions-both}
-use Rattle.json_parts.proofs.PartsLemmas.{mapped-unless}
-use Rattle.slurm.specs.Fault.{fault_number}
+use Rattle.slurm.proofs.FileLemmas.{items-both}
+use Rattle.json_values.proofs.PartsLemmas.{mapped-unless}
+use Rattle.slurm.specs.Fault.{slurm_fault_number}
 use Rattle.slurm.proofs.file.whole.Goals as goal
 
 pub returns : goal.returns
 returns c =
     rw (
       c.unless-2.ensures,
-      mapped-unless fault_number _ c.unless.result c.required.result,
+      mapped-unless slurm_fault_number _ c.unless.result c.required.result,
       c.unless.ensures,
-      mapped-unless fault_number _ c.unless-lists.result c.only-known.result,
+      mapped-unless slurm_fault_number _ c.unless-lists.result c.only-known.result,
       c.unless-lists.ensures,
-      mapped-unless fault_number _ c.both.result c.object_in.result,
+      mapped-unless slurm_fault_number _ c.both.result c.object_in.result,
       c.both.ensures,
-      exceptions-both c.args.filters c.args.assertions,
+      items-both c.args.filters c.args.assertions,
       c.object_in.ensures,
       c.only-known.ensures,
       c.required.ensures,

@@ -1,4 +1,4 @@
-use Rattle.json_parts.proofs.TreeLemmas.{list_of-items_view}
+use Rattle.json_values.proofs.TreeLemmas.{list_of-items_view}
 use Rattle.slurm.proofs.lists.entries_in.Goals as goal
 
 pub returns-in-Some : goal.returns-in-Some

@@ -1,15 +1,15 @@
 use Rattle.std.proofs.Common.{refl}
-use Rattle.json_parts.proofs.PartsLemmas.{mapped-unless}
-use Rattle.slurm.specs.Fault.{fault_number}
+use Rattle.json_values.proofs.PartsLemmas.{mapped-unless}
+use Rattle.slurm.specs.Fault.{slurm_fault_number}
 use Rattle.slurm.proofs.lists.part.Goals as goal
 
 pub returns : goal.returns
 returns g c =
     rw (
       c.unless-2.ensures,
-      mapped-unless fault_number (λ v. v.items) c.unless.result c.bgpsec_in-unused.result,
+      mapped-unless slurm_fault_number (λ v. v.items) c.unless.result c.bgpsec_in-unused.result,
       c.unless.ensures,
-      mapped-unless fault_number (λ v. v.items) c.in_ok-listed.listed c.only-known.result,
+      mapped-unless slurm_fault_number (λ v. v.items) c.in_ok-listed.listed c.only-known.result,
       c.in_ok-listed.ensures,
       c.only-known.ensures,
       c.bgpsec_in-unused.ensures,

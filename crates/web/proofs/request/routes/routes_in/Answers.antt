@@ -1,7 +1,7 @@
 use Rattle.std.proofs.Common.{refl}
 use Rattle.std.proofs.lemmas.List.{length-map}
-use Rattle.json_parts.proofs.PartsLemmas.{mapped-unless}
-use Rattle.json_parts.proofs.TreeLemmas.{list_of-items_view}
+use Rattle.json_values.proofs.PartsLemmas.{mapped-unless}
+use Rattle.json_values.proofs.TreeLemmas.{list_of-items_view}
 use Rattle.web.specs.RequestFault.{fault_number}
 use Rattle.web.proofs.request.routes.routes_in.Goals as goal
 

@@ -1,2 +1,0 @@
-pub mod PartsLemmas
-pub mod TreeLemmas

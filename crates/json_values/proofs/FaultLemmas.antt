@@ -1,0 +1,111 @@
+-- What a reading tells is the lowest of all faults, combinator by combinator.
+use Rattle.std.proofs.Common.{◌≡◌, ℕ, Bool, true, false, if◌then◌else◌, List, [], ◌∷◌, ◌++◌, Option, Some, None, is_some, Result, Ok, Err, refl, ap, sym, ◌∙◌}
+use Rattle.std.proofs.lemmas.Bool.{and_parts}
+use Rattle.std.proofs.lemmas.List.Folds.{list_all-append}
+use Rattle.std.specs.List.{flat_map, list_all}
+use Rattle.std.specs.Option.{ok_or}
+use Rattle.std.specs.Result.{result_err}
+use Rattle.serde_json.specs.Data.{Data, Members}
+use Rattle.serde_json.specs.Find.{as_object}
+use Rattle.json_values.specs.Faults.{fault_unless, is_object_of, lower_of, lowest, name_faults, optional_faults, required_faults}
+use Rattle.json_values.specs.Parts.{both, each, lower, mapped, unless}
+use Rattle.json_values.specs.Tree.{has_only, only, only_of, optional, required}
+use Rattle.json_values.proofs.PartsLemmas.{lower-each, lower_assoc}
+
+lower_of-assoc : {F : Type 0} (number : F → ℕ) (a b c : Option F) → lower_of number (lower_of number a b) c ≡ lower_of number a (lower_of number b c)
+lower_of-assoc number None b c = refl
+lower_of-assoc number (Some a) None c = refl
+lower_of-assoc number (Some a) (Some b) None = refl
+lower_of-assoc number (Some a) (Some b) (Some c) = ap Some (lower_assoc number a b c)
+
+pub lowest-append : {F : Type 0} (number : F → ℕ) (xs ys : List F) → lowest number (xs ++ ys) ≡ lower_of number (lowest number xs) (lowest number ys)
+lowest-append number [] ys = refl
+lowest-append number (n ∷ xs) ys =
+    ap (lower_of number (Some n)) (lowest-append number xs ys) ∙ sym (lower_of-assoc number (Some n) (lowest number xs) (lowest number ys))
+
+-- the reading tells the lowest of these faults, and a value where there are none
+pub record Told {A F : Type 0} (number : F → ℕ) (r : Result A F) (faults : List F) : Type 0 where
+  pub is : result_err r ≡ lowest number faults
+
+pub err-both : {A B F : Type 0} (number : F → ℕ) (a : Result A F) (b : Result B F) → result_err (both number a b) ≡ lower_of number (result_err a) (result_err b)
+err-both number (Ok a) (Ok b) = refl
+err-both number (Ok a) (Err n) = refl
+err-both number (Err m) (Ok b) = refl
+err-both number (Err m) (Err n) = refl
+
+pub err-mapped : {A B F : Type 0} (f : A → B) (r : Result A F) → result_err (mapped f r) ≡ result_err r
+err-mapped f (Ok a) = refl
+err-mapped f (Err n) = refl
+
+pub told-both : {A B F : Type 0} {number : F → ℕ} {a : Result A F} {b : Result B F} {xs ys : List F} → Told number a xs → Told number b ys → Told number (both number a b) (xs ++ ys)
+told-both {number = number} {a = a} {b = b} {xs = xs} {ys = ys} h k = record { is = rw (err-both number a b, h.is, k.is) (sym (lowest-append number xs ys)) }
+
+pub told-mapped : {A B F : Type 0} {number : F → ℕ} (f : A → B) {r : Result A F} {xs : List F} → Told number r xs → Told number (mapped f r) xs
+told-mapped f {r = r} h = record { is = err-mapped f r ∙ h.is }
+
+pub told-unless : {A B F : Type 0} {number : F → ℕ} {a : Result A F} {b : Result B F} {xs ys : List F} → Told number a xs → Told number b ys → Told number (unless number a b) (xs ++ ys)
+told-unless h k = told-mapped (λ p. p.0) (told-both h k)
+
+pub told-if : {A F : Type 0} (number : F → ℕ) (b : Bool) (a : A) (n : F) → Told number (if b then Ok a else Err n) (fault_unless b n)
+told-if number true a n = record { is = refl }
+told-if number false a n = record { is = refl }
+
+pub told-ok_or : {A F : Type 0} (number : F → ℕ) (o : Option A) (n : F) → Told number (ok_or o n) (fault_unless (is_some o) n)
+told-ok_or number None n = record { is = refl }
+told-ok_or number (Some a) n = record { is = refl }
+
+told-only_of : {F : Type 0} (number : F → ℕ) (fault : F) (names : List (List ℕ)) (members : Option Members) → Told number (only_of fault names members) (fault_unless (is_object_of names members) fault)
+told-only_of number fault names None = record { is = refl }
+told-only_of number fault names (Some ms) = told-if number (has_only names ms) tt fault
+
+pub told-only : {F : Type 0} (number : F → ℕ) (fault : F) (names : List (List ℕ)) (d : Data) → Told number (only fault names d) (name_faults fault names d)
+told-only number fault names d = told-only_of number fault names (as_object d)
+
+pub told-required : {A F : Type 0} (number : F → ℕ) (missing : F) (reading : Data → Result A F) (faults : Data → List F) (o : Option Data) → ((d : Data) → Told number (reading d) (faults d)) → Told number (required missing reading o) (required_faults missing faults o)
+told-required number missing reading faults None h = record { is = refl }
+told-required number missing reading faults (Some d) h = h d
+
+pub told-optional : {A F : Type 0} (number : F → ℕ) (reading : Data → Result A F) (faults : Data → List F) (o : Option Data) → ((d : Data) → Told number (reading d) (faults d)) → Told number (optional reading o) (optional_faults faults o)
+told-optional number reading faults None h = record { is = refl }
+told-optional number reading faults (Some d) h = told-mapped Some (h d)
+
+pub told-each : {A F : Type 0} (number : F → ℕ) (reading : Data → Result A F) (faults : Data → List F) (ds : List Data) → ((d : Data) → Told number (reading d) (faults d)) → Told number (each number reading ds) (flat_map faults ds)
+told-each number reading faults [] h = record { is = refl }
+told-each number reading faults (d ∷ ds) h = told-mapped (λ p. p.0 ∷ p.1) (told-both (h d) (told-each number reading faults ds h))
+
+-- ---- a test that all faults of a list pass
+
+pub record Pass {F : Type 0} (p : F → Bool) (faults : List F) : Type 0 where
+  pub each : list_all p faults ≡ true
+
+pub pass-append : {F : Type 0} {p : F → Bool} {xs ys : List F} → Pass p xs → Pass p ys → Pass p (xs ++ ys)
+pass-append {p = p} {xs = xs} {ys = ys} h k = record { each = rw (list_all-append p xs ys, h.each, k.each) refl }
+
+pub pass-unless : {F : Type 0} {p : F → Bool} (b : Bool) (n : F) → p n ≡ true → Pass p (fault_unless b n)
+pass-unless true n h = record { each = refl }
+pass-unless false n h = record { each = rw h refl }
+
+pub pass-required : {F : Type 0} {p : F → Bool} (missing : F) (faults : Data → List F) (o : Option Data) → p missing ≡ true → ((d : Data) → Pass p (faults d)) → Pass p (required_faults missing faults o)
+pass-required missing faults None h k = record { each = rw h refl }
+pass-required missing faults (Some d) h k = k d
+
+pub pass-optional : {F : Type 0} {p : F → Bool} (faults : Data → List F) (o : Option Data) → ((d : Data) → Pass p (faults d)) → Pass p (optional_faults faults o)
+pass-optional faults None k = record { each = refl }
+pass-optional faults (Some d) k = k d
+
+pub pass-flat_map : {F : Type 0} {p : F → Bool} (faults : Data → List F) (ds : List Data) → ((d : Data) → Pass p (faults d)) → Pass p (flat_map faults ds)
+pass-flat_map faults [] k = record { each = refl }
+pass-flat_map faults (d ∷ ds) k = pass-append (k d) (pass-flat_map faults ds k)
+
+lower_of-passes : {F : Type 0} (number : F → ℕ) (p : F → Bool) (m : F) (o : Option F) (n : F) → p m ≡ true → ((k : F) → o ≡ Some k → p k ≡ true) → lower_of number (Some m) o ≡ Some n → p n ≡ true
+lower_of-passes number p m None n first others told = let same : m ≡ n = cc in rw (← same) first
+lower_of-passes number p m (Some k) n first others told =
+    let same : lower number m k ≡ n = cc in
+    rw (← same) (lower-each number (λ f. p f ≡ true) m k first (others k refl))
+
+-- then the lowest passes it
+pub lowest-passes : {F : Type 0} (number : F → ℕ) (p : F → Bool) (faults : List F) (n : F) → Pass p faults → lowest number faults ≡ Some n → p n ≡ true
+lowest-passes number p [] n h told = cc
+lowest-passes number p (m ∷ faults) n h told =
+    let both = and_parts (p m) (list_all p faults) h.each in
+    lower_of-passes number p m (lowest number faults) n both.0 (λ k is. lowest-passes number p faults k (record { each = both.1 }) is) told

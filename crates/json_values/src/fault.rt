@@ -1,0 +1,28 @@
+ghost use Rattle.std.specs.Prelude.{◌≡◌, ℕ};
+ghost use Rattle.json_values.specs.Parts.{lower};
+
+/// What may be wrong with a JSON text.
+pub trait Fault: Copy {
+    ghost number: { Self → ℕ };
+
+    ghost members: { Self };
+
+    /// Where several faults apply, the one of the lowest number is told.
+    fn number(self) -> u8
+        ensures { result ≡ number self };
+
+    /// Of what is no object or array, and where a member is missing or unknown.
+    fn members() -> Self
+        ensures { result ≡ members };
+}
+
+#[tactic(auto, unfolding(crate::specs::Parts::lower))]
+pub(crate) fn lower<F: Fault>(one: F, other: F) -> F
+    ensures { result ≡ lower F.number one other }
+{
+    if one.number() <= other.number() {
+        one
+    } else {
+        other
+    }
+}
