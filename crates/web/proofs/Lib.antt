@@ -4,5 +4,7 @@ pub mod ScriptAlong
 pub mod ScriptLemmas
 pub mod StreamLemmas
 mod TrailMade
+pub mod RequestFaultLemmas
 pub mod RequestLemmas
+pub mod RequestReadLemmas
 pub mod SessionLemmas

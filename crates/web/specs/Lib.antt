@@ -7,6 +7,8 @@ pub mod ScriptFault
 pub mod ScriptLines
 pub mod Streams
 pub mod Trail
-pub mod RequestFault
+pub mod RequestFaults
 pub mod RequestText
+pub mod RequestValues
 pub mod ScriptAnswer
+pub mod steps

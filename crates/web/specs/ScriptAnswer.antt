@@ -7,8 +7,8 @@ use Rattle.policy.specs.declared.charter.Charter.{Charter}
 use Rattle.desk.specs.Answer.{Answers}
 use Rattle.desk.specs.Desk.{charter_of, StandsFor}
 use Rattle.web.specs.ReplyText.{line_text, malformed_text, unavailable_text}
-use Rattle.web.specs.RequestFault.{fault_number}
-use Rattle.web.specs.RequestText.{ReadsLine, request_fault}
+use Rattle.web.specs.RequestFaults.{malformed_number, request_fault}
+use Rattle.web.specs.RequestText.{ReadsLine}
 use Rattle.desk.specs.declared.asked.Asked.{Asked}
 use Rattle.desk.specs.declared.handling.Desk.{Desk}
 use Rattle.desk.specs.declared.reply.Reply.{Reply}
@@ -19,7 +19,7 @@ use Rattle.web.specs.declared.session.LineAnswer.TheVariants.{Refused, Replied}
 
 -- the fault of a line that is over the limit
 abbrev pub too_long : Malformed
-too_long = record { number = fault_number TooLong; slurm = None }
+too_long = record { number = malformed_number TooLong; slurm = None }
 
 -- the line is no request, and the text says why
 abbrev pub IsRefused : List ℕ → List ℕ → Type 0

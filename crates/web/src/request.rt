@@ -3,7 +3,9 @@ ghost use Rattle.std.specs.Prelude.{◌≡◌, Some, Err, IfOk};
 ghost use Rattle.serde_json.specs.View.{view};
 ghost use Rattle.json_values.specs.Parts.{mapped};
 ghost use Rattle.json_values.specs.Tree.{tree_of};
-ghost use Rattle.web.specs.RequestText.{action_in, asked_as, asked_by, asked_in, asked_terms, ReadsLine, request_fault, request_in, request_terms};
+ghost use Rattle.web.specs.RequestFaults.{action_in, request_fault};
+ghost use Rattle.web.specs.RequestText.{ReadsLine};
+ghost use Rattle.web.specs.steps.RequestReading.{asked_as, asked_by, asked_in, asked_terms, request_in, request_terms};
 
 mod action;
 mod commands;
@@ -19,7 +21,7 @@ use desk::{Asked, Request};
 use fault::Fault;
 use json_values::{both, tree_of, unless};
 use members::{caller_in, day_in};
-use policy::{Command, Query};
+use policy::Query;
 use serde_json::Value;
 use std::alloc::{AllocError, Global};
 
@@ -104,25 +106,19 @@ fn request_in(
         ≡ request_in action (view value.now)) }
 {
     match action {
-        Action::Register => Ok(commanded(commands::register_in(value))),
-        Action::Delegate => Ok(commanded(commands::delegate_in(value))),
-        Action::Transfer => Ok(commanded(commands::transfer_in(value))),
-        Action::Reclaim => Ok(commanded(commands::reclaim_in(value))),
-        Action::Grant => Ok(commanded(commands::grant_in(value))),
-        Action::Revoke => Ok(commanded(commands::revoke_in(value))),
-        Action::Create => Ok(commanded(commands::create_in(value))),
-        Action::Amend => Ok(commanded(commands::amend_in(value))),
-        Action::Withdraw => Ok(commanded(commands::withdraw_in(value))),
+        Action::Register => Ok(commands::register_in(value)),
+        Action::Delegate => Ok(commands::delegate_in(value)),
+        Action::Transfer => Ok(commands::transfer_in(value)),
+        Action::Reclaim => Ok(commands::reclaim_in(value)),
+        Action::Grant => Ok(commands::grant_in(value)),
+        Action::Revoke => Ok(commands::revoke_in(value)),
+        Action::Create => Ok(commands::create_in(value)),
+        Action::Amend => Ok(commands::amend_in(value)),
+        Action::Withdraw => Ok(commands::withdraw_in(value)),
         Action::Show => Ok(commands::show_in(value)),
         Action::Content => Ok(commands::content_in(value)),
         Action::List => Ok(commands::list_in(value)),
         Action::Payloads => Ok(Ok(Request::Query(Query::Payloads))),
         Action::Validity => routes::validity_in(alloc, value),
     }
-}
-
-fn commanded(command: Result<Command, Fault>) -> Result<Request, Fault>
-    ensures { result ≡ mapped (λ c. Request.Command c) command }
-{
-    Ok(Request::Command(command?))
 }

@@ -1,6 +1,6 @@
 // What may be wrong with a request.
 ghost use Rattle.std.specs.Prelude.{◌≡◌, None};
-ghost use Rattle.web.specs.RequestFault.{fault_number};
+ghost use Rattle.web.specs.RequestFaults.{malformed_number};
 
 use crate::malformed::Malformed;
 
@@ -32,7 +32,7 @@ pub(crate) enum Fault {
 
 impl Fault {
     pub(crate) fn number(self) -> u8
-        ensures { result ≡ fault_number self }
+        ensures { result ≡ malformed_number self }
     {
         match self {
             Fault::Json => 1,
@@ -51,7 +51,7 @@ impl Fault {
     }
 
     pub(crate) fn malformed(self) -> Malformed
-        ensures { result ≡ record { number = fault_number self; slurm = None } }
+        ensures { result ≡ record { number = malformed_number self; slurm = None } }
     {
         Malformed {
             number: self.number(),
@@ -63,7 +63,7 @@ impl Fault {
 impl json_values::Fault for Fault {
     ghost use Rattle.web.specs.declared.request.fault.Fault.TheVariants.{Members};
 
-    ghost number = { fault_number };
+    ghost number = { malformed_number };
 
     ghost members = { Members };
 

@@ -2,7 +2,8 @@
 ghost use Rattle.std.specs.Prelude.{◌≡◌, IfOk};
 ghost use Rattle.serde_json.specs.View.{view};
 ghost use Rattle.json_values.specs.Parts.{mapped};
-ghost use Rattle.web.specs.RequestText.{count_of, request_terms, routes_in, validity};
+ghost use Rattle.web.specs.steps.RequestReading.{count_of, request_in, request_terms, routes_in};
+ghost use Rattle.web.specs.declared.request.action.Action.TheVariants.{Validity};
 
 use super::fault::Fault;
 use super::members::{origin_in, prefix_in};
@@ -22,7 +23,7 @@ pub(crate) fn validity_in(
     value: &Value,
 ) -> Result<Result<Request, Fault>, AllocError>
     ensures { IfOk result (λ request. mapped request_terms request
-        ≡ mapped validity (routes_in (view value.now))) }
+        ≡ request_in Validity (view value.now)) }
 {
     let routes = routes_in(alloc, value)?;
     Ok(asked_validity(routes))
@@ -59,7 +60,7 @@ fn count_of(count: usize) -> Result<(), Fault>
 }
 
 impl FromJson<Fault> for Route {
-    ghost use Rattle.web.specs.RequestText.{route_in};
+    ghost use Rattle.web.specs.steps.RequestReading.{route_in};
 
     ghost reading = { route_in };
 

@@ -2,14 +2,14 @@ use Rattle.std.proofs.Common.{refl}
 use Rattle.std.proofs.lemmas.List.{length-map}
 use Rattle.json_values.proofs.PartsLemmas.{mapped-unless}
 use Rattle.json_values.proofs.TreeLemmas.{list_of-items_view}
-use Rattle.web.specs.RequestFault.{fault_number}
+use Rattle.web.specs.RequestFaults.{malformed_number}
 use Rattle.web.proofs.request.routes.routes_in.Goals as goal
 
 pub returns : goal.returns
 returns c =
     rw (
       c.unless.ensures,
-      mapped-unless fault_number (λ v. v.items) c.in_ok-routes.routes c.count_of.result,
+      mapped-unless malformed_number (λ v. v.items) c.in_ok-routes.routes c.count_of.result,
       c.in_ok-routes.ensures,
       c.count_of.ensures,
       c.as_slice.ensures.value,

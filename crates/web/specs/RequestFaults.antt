@@ -1,0 +1,171 @@
+-- Every fault of a line as a request, wherever it stands in the line: the lowest of all is told. A line is
+-- judged by the tree that the JSON reader gives: of a repeated member it has the last value.
+use Rattle.std.specs.Prelude.{ℕ, nat_le, nat_lt, ◌&&◌, Bool, List, [], ◌∷◌, ◌++◌, map, length, codes, if◌then◌else◌, Option, Some, None, option_map, option_and_then}
+use Rattle.std.specs.List.{flat_map}
+use Rattle.std.specs.Str.{bytes_eq}
+use Rattle.policy.specs.declared.grant.Role.{Role}
+use Rattle.serde_json.specs.Data.{Data, Items}
+use Rattle.serde_json.specs.Find.{get, as_array, as_str}
+use Rattle.json_values.specs.Faults.{fault_unless, lowest, name_faults, reading_faults, required_faults}
+use Rattle.json_values.specs.Tree.{tree_of, list_of}
+use Rattle.json_values.specs.Values.{as_name, as_prefix, as_day, as_asn}
+use Rattle.web.specs.RequestValues.{as_origin, as_max, as_number, as_role, as_scope}
+use Rattle.web.specs.declared.lines.TheConstants.{LINE_LENGTH_LIMIT}
+use Rattle.web.specs.declared.malformed.Malformed.{Malformed}
+use Rattle.web.specs.declared.request.action.Action.{Action}
+use Rattle.web.specs.declared.request.action.Action.TheVariants.{Register, Delegate, Transfer, Reclaim, Grant, Revoke, Create, Amend, Withdraw, Show, Content, List as ListAction, Payloads, Validity}
+use Rattle.web.specs.declared.request.fault.Fault.{Fault}
+use Rattle.web.specs.declared.request.fault.Fault.TheVariants.{Json, Members, Holder, Caller, Prefix, Asn, Max, Day, Role as RoleFault, Number, Count, TooLong}
+use Rattle.web.specs.declared.request.routes.TheConstants.{MOST_ROUTES}
+
+-- ---- their numbers
+
+abbrev pub malformed_number : Fault → ℕ
+malformed_number Json = 1
+malformed_number Members = 2
+malformed_number Holder = 3
+malformed_number Caller = 4
+malformed_number Prefix = 5
+malformed_number Asn = 6
+malformed_number Max = 7
+malformed_number Day = 8
+malformed_number RoleFault = 9
+malformed_number Number = 10
+malformed_number Count = 12
+malformed_number TooLong = 13
+
+-- ---- kinds of members: the faults of a value, by the object that it stands in
+
+abbrev pub Kind : Type 0
+Kind = Data → Data → List Fault
+
+abbrev pub holder_name : Kind
+holder_name d = reading_faults as_name Holder
+
+abbrev pub caller_name : Kind
+caller_name d = reading_faults as_name Caller
+
+abbrev pub prefix : Kind
+prefix d = reading_faults as_prefix Prefix
+
+abbrev pub asn : Kind
+asn d = reading_faults as_asn Asn
+
+abbrev pub origin : Kind
+origin d = reading_faults as_origin Asn
+
+abbrev pub max_length : Kind
+max_length d = reading_faults as_max Max
+
+abbrev pub day : Kind
+day d = reading_faults as_day Day
+
+abbrev pub role : Kind
+role d = reading_faults as_role RoleFault
+
+-- the role that an object names
+abbrev pub role_at : Data → Option Role
+role_at d = option_and_then as_role (get (codes "role") d)
+
+abbrev pub scope : Kind
+scope d = reading_faults (as_scope (role_at d)) RoleFault
+
+abbrev pub number : Kind
+number d = reading_faults as_number Number
+
+-- ---- members of objects: each of these has to be there, and there is no other
+
+abbrev pub member_faults : List (List ℕ × Kind) → Data → List Fault
+member_faults members d = flat_map (λ m. required_faults Members (m.1 d) (get m.0 d)) members
+
+abbrev pub names_of : List (List ℕ × Kind) → List (List ℕ)
+names_of members = map (λ m. m.0) members
+
+-- ---- routes
+
+abbrev pub route_members : List (List ℕ × Kind)
+route_members = (codes "prefix", prefix) ∷ (codes "origin", origin) ∷ []
+
+abbrev pub route_faults : Data → List Fault
+route_faults d = member_faults route_members d ++ name_faults Members (names_of route_members) d
+
+abbrev pub is_route_count : ℕ → Bool
+is_route_count n = nat_le 1 n && nat_le n MOST_ROUTES
+
+abbrev pub routes_faults : Option Items → List Fault
+routes_faults None = Members ∷ []
+routes_faults (Some items) =
+    flat_map route_faults (list_of items) ++ fault_unless (is_route_count (length (list_of items))) Count
+
+abbrev pub routes : Kind
+routes d value = routes_faults (as_array value)
+
+-- ---- requests
+
+-- what a member `do` says
+abbrev pub action_of : List ℕ → Option Action
+action_of text =
+    if bytes_eq text (codes "register") then Some Register
+    else (if bytes_eq text (codes "delegate") then Some Delegate
+    else (if bytes_eq text (codes "transfer") then Some Transfer
+    else (if bytes_eq text (codes "reclaim") then Some Reclaim
+    else (if bytes_eq text (codes "grant") then Some Grant
+    else (if bytes_eq text (codes "revoke") then Some Revoke
+    else (if bytes_eq text (codes "create") then Some Create
+    else (if bytes_eq text (codes "amend") then Some Amend
+    else (if bytes_eq text (codes "withdraw") then Some Withdraw
+    else (if bytes_eq text (codes "show") then Some Show
+    else (if bytes_eq text (codes "content") then Some Content
+    else (if bytes_eq text (codes "list") then Some ListAction
+    else (if bytes_eq text (codes "payloads") then Some Payloads
+    else (if bytes_eq text (codes "validity") then Some Validity
+    else None)))))))))))))
+
+abbrev pub action_in : Data → Option Action
+action_in d = option_and_then action_of (option_and_then as_str (get (codes "do") d))
+
+-- the members of a request beside `day`, `caller` and `do`
+abbrev pub own_members : Action → List (List ℕ × Kind)
+own_members Register = (codes "holder", holder_name) ∷ []
+own_members Delegate = (codes "holder", holder_name) ∷ (codes "prefix", prefix) ∷ []
+own_members Transfer =
+    (codes "prefix", prefix) ∷ (codes "giver", holder_name) ∷ (codes "taker", holder_name) ∷ []
+own_members Reclaim = (codes "holder", holder_name) ∷ (codes "prefix", prefix) ∷ []
+own_members Grant =
+    (codes "holder", holder_name) ∷ (codes "name", caller_name) ∷ (codes "role", role)
+    ∷ (codes "scope", scope) ∷ (codes "until", day) ∷ []
+own_members Revoke = (codes "holder", holder_name) ∷ (codes "number", number) ∷ []
+own_members Create =
+    (codes "holder", holder_name) ∷ (codes "asn", asn) ∷ (codes "prefix", prefix)
+    ∷ (codes "max", max_length) ∷ (codes "from", day) ∷ (codes "until", day) ∷ []
+own_members Amend =
+    (codes "holder", holder_name) ∷ (codes "number", number) ∷ (codes "max", max_length)
+    ∷ (codes "until", day) ∷ []
+own_members Withdraw = (codes "holder", holder_name) ∷ (codes "number", number) ∷ []
+own_members Show = (codes "holder", holder_name) ∷ (codes "number", number) ∷ []
+own_members Content = (codes "holder", holder_name) ∷ (codes "number", number) ∷ []
+own_members ListAction = (codes "holder", holder_name) ∷ []
+own_members Payloads = []
+own_members Validity = (codes "routes", routes) ∷ []
+
+abbrev pub members_of : Action → List (List ℕ × Kind)
+members_of action = (codes "day", day) ∷ (codes "caller", caller_name) ∷ own_members action
+
+abbrev pub action_faults : Option Action → Data → List Fault
+action_faults None d = Members ∷ []
+action_faults (Some action) d =
+    member_faults (members_of action) d ++ name_faults Members (codes "do" ∷ names_of (members_of action)) d
+
+abbrev pub tree_faults : Option Data → List Fault
+tree_faults None = Json ∷ []
+tree_faults (Some d) = action_faults (action_in d) d
+
+-- the faults of a line; one that is too long has that fault alone
+abbrev pub request_faults : List ℕ → List Fault
+request_faults line =
+    if nat_lt LINE_LENGTH_LIMIT (length line) then TooLong ∷ [] else tree_faults (tree_of line)
+
+-- why a line is no request
+abbrev pub request_fault : List ℕ → Option Malformed
+request_fault line =
+    option_map (λ fault. record { number = malformed_number fault; slurm = None }) (lowest malformed_number (request_faults line))

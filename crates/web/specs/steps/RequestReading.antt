@@ -1,0 +1,160 @@
+-- How the code reads a request: from all of its parts at once (`both`, `unless`, `each`), so that the
+-- fault is the lowest. Which faults a line has stands in `RequestFaults`, what it asks in `RequestText`.
+use Rattle.std.specs.Prelude.{ℕ, nat_lt, List, ◌∷◌, length, codes, if◌then◌else◌, Option, Some, None, option_and_then, Result, Ok, Err}
+use Rattle.std.specs.Option.{ok_or}
+use Rattle.addr.specs.declared.prefix.Prefix.{Prefix}
+use Rattle.addr.specs.declared.route.Route.{Route}
+use Rattle.policy.specs.declared.command.Command.TheVariants.{Register, Delegate, Transfer, Reclaim, Grant, Revoke, Create, Amend, Withdraw}
+use Rattle.policy.specs.declared.command.Query.TheVariants.{Show, Content, List as ListQuery, Payloads, Validity}
+use Rattle.serde_json.specs.Data.{Data, Items}
+use Rattle.serde_json.specs.Find.{get, as_array}
+use Rattle.json_values.specs.Parts.{both, mapped, unless, each}
+use Rattle.json_values.specs.Tree.{tree_of, required, only, list_of}
+use Rattle.desk.specs.declared.asked.Asked.{Asked}
+use Rattle.desk.specs.declared.asked.Request.{Request}
+use Rattle.desk.specs.declared.asked.Request.TheVariants.{Command as CommandRequest, Query as QueryRequest}
+use Rattle.web.specs.RequestFaults.{malformed_number, role_at, route_members, names_of, is_route_count, action_in, members_of}
+use Rattle.json_values.specs.Values.{as_name, as_prefix, as_day, as_asn}
+use Rattle.web.specs.RequestValues.{as_origin, as_max, as_number, as_role, as_scope}
+use Rattle.web.specs.declared.lines.TheConstants.{LINE_LENGTH_LIMIT}
+use Rattle.web.specs.declared.request.action.Action.{Action}
+use Rattle.web.specs.declared.request.action.Action.TheVariants.{Register as AskRegister, Delegate as AskDelegate, Transfer as AskTransfer, Reclaim as AskReclaim, Grant as AskGrant, Revoke as AskRevoke, Create as AskCreate, Amend as AskAmend, Withdraw as AskWithdraw, Show as AskShow, Content as AskContent, List as AskList, Payloads as AskPayloads, Validity as AskValidity}
+use Rattle.web.specs.declared.request.fault.Fault.{Fault}
+use Rattle.web.specs.declared.request.fault.Fault.TheVariants.{Json, Members, Holder, Caller, Prefix as PrefixFault, Asn, Max, Day, Role, Number, Count, TooLong}
+
+-- ---- what is asked, with its routes as a list
+
+pub data RequestTerms : Type 0 where
+  request : Request → RequestTerms
+  validity : List Route → RequestTerms
+
+pub record AskedTerms : Type 0 where
+  pub day : ℕ
+  pub caller : List ℕ
+  pub request : RequestTerms
+
+abbrev pub request_terms : Request → RequestTerms
+request_terms (CommandRequest c) = request (CommandRequest c)
+request_terms (QueryRequest (Show holder n)) = request (QueryRequest (Show holder n))
+request_terms (QueryRequest (Content holder n)) = request (QueryRequest (Content holder n))
+request_terms (QueryRequest (ListQuery holder)) = request (QueryRequest (ListQuery holder))
+request_terms (QueryRequest Payloads) = request (QueryRequest Payloads)
+request_terms (QueryRequest (Validity routes)) = validity routes.items
+
+abbrev pub asked_terms : Asked → AskedTerms
+asked_terms asked =
+    record { day = asked.day; caller = asked.caller; request = request_terms asked.request }
+
+-- ---- members
+
+-- the member of this name, which has to be there: the value that is read of it, or its fault
+abbrev pub member_in : {A : Type 0} → (Data → Option A) → Fault → List ℕ → Data → Result A Fault
+member_in reading fault name d =
+    required Members (λ found. ok_or (reading found) fault) (get name d)
+
+abbrev pub holder_in : List ℕ → Data → Result (List ℕ) Fault
+holder_in = member_in as_name Holder
+
+abbrev pub caller_in : List ℕ → Data → Result (List ℕ) Fault
+caller_in = member_in as_name Caller
+
+abbrev pub prefix_in : Data → Result Prefix Fault
+prefix_in = member_in as_prefix PrefixFault (codes "prefix")
+
+abbrev pub max_in : Data → Result ℕ Fault
+max_in = member_in as_max Max (codes "max")
+
+abbrev pub number_in : Data → Result ℕ Fault
+number_in = member_in as_number Number (codes "number")
+
+abbrev pub day_in : List ℕ → Data → Result ℕ Fault
+day_in = member_in as_day Day
+
+abbrev pub route_in : Data → Result Route Fault
+route_in d =
+    unless malformed_number (mapped (λ p. record { prefix = p.0; origin = p.1 })
+    (both malformed_number (prefix_in d) (member_in as_origin Asn (codes "origin") d)))
+    (only Members (names_of route_members) d)
+
+abbrev pub count_of : ℕ → Result (Unit {0}) Fault
+count_of n = if is_route_count n then Ok tt else Err Count
+
+abbrev pub routes_of : Option Items → Result (List Route) Fault
+routes_of None = Err Members
+routes_of (Some items) =
+    unless malformed_number (each malformed_number route_in (list_of items)) (count_of (length (list_of items)))
+
+abbrev pub routes_in : Data → Result (List Route) Fault
+routes_in d = routes_of (option_and_then as_array (get (codes "routes") d))
+
+-- ---- requests
+
+abbrev pub holder_and_prefix : Data → Result (List ℕ × Prefix) Fault
+holder_and_prefix d = both malformed_number (holder_in (codes "holder") d) (prefix_in d)
+
+abbrev pub holder_and_number : Data → Result (List ℕ × ℕ) Fault
+holder_and_number d = both malformed_number (holder_in (codes "holder") d) (number_in d)
+
+abbrev pub request_in : Action → Data → Result RequestTerms Fault
+request_in AskRegister d =
+    mapped (λ p. request (CommandRequest (Register p))) (holder_in (codes "holder") d)
+request_in AskDelegate d =
+    mapped (λ p. request (CommandRequest (Delegate p.0 p.1))) (holder_and_prefix d)
+request_in AskTransfer d =
+    mapped (λ p. request (CommandRequest (Transfer p.0 p.1.0 p.1.1)))
+    (both malformed_number (prefix_in d)
+    (both malformed_number (holder_in (codes "giver") d) (holder_in (codes "taker") d)))
+request_in AskReclaim d =
+    mapped (λ p. request (CommandRequest (Reclaim p.0 p.1))) (holder_and_prefix d)
+request_in AskGrant d =
+    mapped (λ p. request (CommandRequest (Grant p.0 p.1.0 p.1.1.0 p.1.1.1.0 p.1.1.1.1)))
+    (both malformed_number (holder_in (codes "holder") d)
+    (both malformed_number (caller_in (codes "name") d)
+    (both malformed_number (member_in as_role Role (codes "role") d)
+    (both malformed_number (member_in (as_scope (role_at d)) Role (codes "scope") d)
+    (day_in (codes "until") d)))))
+request_in AskRevoke d =
+    mapped (λ p. request (CommandRequest (Revoke p.0 p.1))) (holder_and_number d)
+request_in AskCreate d =
+    mapped (λ p. request (CommandRequest (Create p.0 p.1.0 p.1.1.0 p.1.1.1.0 p.1.1.1.1.0 p.1.1.1.1.1)))
+    (both malformed_number (holder_in (codes "holder") d)
+    (both malformed_number (member_in as_asn Asn (codes "asn") d)
+    (both malformed_number (prefix_in d)
+    (both malformed_number (max_in d)
+    (both malformed_number (day_in (codes "from") d) (day_in (codes "until") d))))))
+request_in AskAmend d =
+    mapped (λ p. request (CommandRequest (Amend p.0 p.1.0 p.1.1.0 p.1.1.1)))
+    (both malformed_number (holder_in (codes "holder") d)
+    (both malformed_number (number_in d) (both malformed_number (max_in d) (day_in (codes "until") d))))
+request_in AskWithdraw d =
+    mapped (λ p. request (CommandRequest (Withdraw p.0 p.1))) (holder_and_number d)
+request_in AskShow d = mapped (λ p. request (QueryRequest (Show p.0 p.1))) (holder_and_number d)
+request_in AskContent d = mapped (λ p. request (QueryRequest (Content p.0 p.1))) (holder_and_number d)
+request_in AskList d = mapped (λ p. request (QueryRequest (ListQuery p))) (holder_in (codes "holder") d)
+request_in AskPayloads d = Ok (request (QueryRequest Payloads))
+request_in AskValidity d = mapped validity (routes_in d)
+
+-- ---- lines
+
+abbrev pub asked_with : ℕ × (List ℕ × RequestTerms) → AskedTerms
+asked_with p = record { day = p.0; caller = p.1.0; request = p.1.1 }
+
+abbrev pub asked_as : Action → Data → Result AskedTerms Fault
+asked_as action d =
+    unless malformed_number (mapped asked_with
+    (both malformed_number (day_in (codes "day") d)
+    (both malformed_number (caller_in (codes "caller") d) (request_in action d))))
+    (only Members (codes "do" ∷ names_of (members_of action)) d)
+
+abbrev pub asked_by : Option Action → Data → Result AskedTerms Fault
+asked_by None d = Err Members
+asked_by (Some action) d = asked_as action d
+
+abbrev pub asked_from : Option Data → Result AskedTerms Fault
+asked_from None = Err Json
+asked_from (Some d) = asked_by (action_in d) d
+
+-- the request that a line is, or its lowest fault; the length is tested first
+abbrev pub asked_in : List ℕ → Result AskedTerms Fault
+asked_in line =
+    if nat_lt LINE_LENGTH_LIMIT (length line) then Err TooLong else asked_from (tree_of line)
