@@ -4,9 +4,9 @@ use crate::scripts::example_desk;
 use desk::Desk;
 use std::alloc::Global;
 use std::cell::Cell;
-use std::io::BufWriter;
+use std::io::{BufWriter, Error, ErrorKind, Read, Write};
 use std::test::Fail;
-use web::{Device, ScriptFault, run_script};
+use web::{Device, Drain, ScriptFault, Source, run_script};
 
 #[derive(Drop)]
 struct Outcome {
@@ -183,5 +183,108 @@ fn reply_reaches_the_peer_before_the_next_line_is_read(rt: HostRuntime) -> Resul
     let result = run_script(rt.alloc(), &mut source, &mut drain, &mut desk);
     assert_eq!(rt; result, Ok(()));
     assert_eq!(rt; peer.replies.get(), 3);
+    Ok(())
+}
+
+/// Counts the calls that are made of it. The first ones are interrupted, and then each of the kinds
+/// that are named fails.
+#[derive(Drop)]
+struct Counter {
+    interruptions: Cell<usize>,
+    fails: bool,
+    flush_fails: bool,
+    calls: Cell<usize>,
+    flushes: Cell<usize>,
+}
+
+impl Counter {
+    fn new(interruptions: usize, fails: bool, flush_fails: bool) -> Counter {
+        Counter {
+            interruptions: Cell::new(interruptions),
+            fails,
+            flush_fails,
+            calls: Cell::new(0),
+            flushes: Cell::new(0),
+        }
+    }
+
+    fn answer(&self, fails: bool) -> std::io::Result<()> {
+        let interruptions = self.interruptions.get();
+        if interruptions > 0 {
+            self.interruptions.set(interruptions - 1);
+            return Err(Error::new(ErrorKind::Interrupted, "interrupted"));
+        }
+        if fails {
+            return Err(Error::new(ErrorKind::ConnectionReset, "torn"));
+        }
+        Ok(())
+    }
+}
+
+impl Read for &Counter {
+    fn read(&mut self, buffer: &mut [u8]) -> std::io::Result<usize> {
+        self.calls.set(self.calls.get().saturating_add(1));
+        self.answer(self.fails)?;
+        Ok(buffer.len())
+    }
+}
+
+impl Write for &Counter {
+    fn write(&mut self, bytes: &[u8]) -> std::io::Result<usize> {
+        self.calls.set(self.calls.get().saturating_add(1));
+        self.answer(self.fails)?;
+        Ok(bytes.len())
+    }
+
+    fn flush(&mut self) -> std::io::Result<()> {
+        self.flushes.set(self.flushes.get().saturating_add(1));
+        self.answer(self.flush_fails)
+    }
+}
+
+/// A reader's interruptions, whether it then fails, and the calls that two reads of its device make.
+const READS: [(&str, usize, bool, usize); 4] = [
+    ("each_read_is_one_call", 0, false, 2),
+    ("interrupted_read_is_made_again", 3, false, 5),
+    ("failed_read_is_not_made_again", 0, true, 1),
+    ("read_that_fails_after_interruptions_is_the_last", 3, true, 4),
+];
+
+#[test]
+fn device_reads(rt: HostRuntime) -> Result<(), Fail> {
+    for (name, interruptions, fails, calls) in READS {
+        let counter = Counter::new(interruptions, fails, false);
+        let mut device = Device::new(&counter);
+        for _ in 0..2 {
+            let result = device.read(&mut [0; 8]);
+            assert_eq!(rt; result.is_err(), fails, "{name}");
+        }
+        assert_eq!(rt; counter.calls.get(), calls, "{name}");
+    }
+    Ok(())
+}
+
+/// A writer's interruptions, whether its writes and its flushes then fail, and the writes and the
+/// flushes that two writes of its device make.
+const WRITES: [(&str, usize, bool, bool, usize, usize); 5] = [
+    ("each_write_is_flushed", 0, false, false, 2, 2),
+    ("interrupted_write_is_made_again", 3, false, false, 5, 2),
+    ("failed_write_is_not_made_again", 0, true, false, 1, 0),
+    ("failed_flush_is_not_made_again", 0, false, true, 1, 1),
+    ("write_that_fails_after_interruptions_is_the_last", 3, true, false, 4, 0),
+];
+
+#[test]
+fn device_writes(rt: HostRuntime) -> Result<(), Fail> {
+    for (name, interruptions, fails, flush_fails, calls, flushes) in WRITES {
+        let counter = Counter::new(interruptions, fails, flush_fails);
+        let mut device = Device::new(&counter);
+        for _ in 0..2 {
+            let result = device.write(b"reply");
+            assert_eq!(rt; result.is_err(), fails || flush_fails, "{name}");
+        }
+        assert_eq!(rt; counter.calls.get(), calls, "{name}");
+        assert_eq!(rt; counter.flushes.get(), flushes, "{name}");
+    }
     Ok(())
 }

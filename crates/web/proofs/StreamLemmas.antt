@@ -1,6 +1,8 @@
 -- Lemmas on what has passed a stream.
-use Rattle.std.proofs.Common.{◌≡◌, ℕ, List, ◌++◌, take, drop, sym, ◌∙◌, ap, append_assoc}
+use Rattle.std.proofs.Common.{◌≡◌, ℕ, List, ◌++◌, length, take, drop, sym, ◌∙◌, ap, append_assoc}
 use Rattle.std.proofs.lemmas.List.{append-nil, take-append-drop}
+use Rattle.std.proofs.Math.Seq.{drop-append_seam}
+use Rattle.std.specs.Io.{appended_bytes}
 use Rattle.web.specs.Streams.{AppendsBeginning}
 
 -- the first n bytes of a text are a beginning of it
@@ -16,3 +18,7 @@ pub passes-nothing : (old xs middle buffer : List ℕ) (n : ℕ) (new : List ℕ
     → middle ≡ old ++ xs → n ≡ 0 → new ≡ middle ++ take n buffer → new ≡ old ++ xs
 passes-nothing old xs middle buffer n new first is_none second =
     second ∙ ap (λ k. middle ++ take k buffer) is_none ∙ append-nil middle ∙ first
+
+-- what has passed since the old bytes
+pub appended_bytes-append : (old more new : List ℕ) → new ≡ old ++ more → appended_bytes old new ≡ more
+appended_bytes-append old more new is = ap (drop (length old)) is ∙ drop-append_seam old more

@@ -9,6 +9,7 @@ use Rattle.desk.specs.Desk.{charter_of, StandsFor}
 use Rattle.web.specs.ReplyText.{line_text, malformed_text, unavailable_text}
 use Rattle.web.specs.RequestFaults.{malformed_number, request_fault}
 use Rattle.web.specs.RequestText.{ReadsLine}
+use Rattle.web.specs.Script.{AnswersEach, BreaksOff}
 use Rattle.desk.specs.declared.asked.Asked.{Asked}
 use Rattle.desk.specs.declared.handling.Desk.{Desk}
 use Rattle.desk.specs.declared.reply.Reply.{Reply}
@@ -41,12 +42,25 @@ AnswersLine charter before (Some line) text after =
     ⊎ (IsReplied charter before line text after
     ⊎ ((text ≡ unavailable_text) × (after ≡ before)))
 
+-- each history that the old desk stands for goes on to one that the new desk stands for
+abbrev pub OnHistories : Desk → Desk → (History → History → Type 0) → Type 0
+OnHistories old new goes_on = (history : History) → StandsFor (charter_of old) old history
+    → (after : History) × StandsFor (charter_of old) new after × goes_on history after
+
 -- the answer to a line by a desk: that of every history that it stands for
 abbrev pub AnswersLineAt : Desk → Option (List ℕ) → List ℕ → Desk → Type 0
-AnswersLineAt old line text new =
-    (charter_of new ≡ charter_of old)
-    × ((history : History) → StandsFor (charter_of old) old history
-    → (after : History) × StandsFor (charter_of old) new after × AnswersLine (charter_of old) history line text after)
+AnswersLineAt old line text new = (charter_of new ≡ charter_of old)
+    × OnHistories old new (λ before after. AnswersLine (charter_of old) before line text after)
+
+-- the replies of a desk to the lines were written
+abbrev pub AnswersLines : Desk → Desk → List (List ℕ) → List ℕ → List ℕ → Type 0
+AnswersLines old new lines written_old written_new = OnHistories old new (λ before after.
+    AnswersEach (AnswersLine (charter_of old)) before after lines written_old written_new)
+
+-- the replies of a desk were written up to within the one to some line, the last that was acted on
+abbrev pub BreaksOffLines : Desk → Desk → List (List ℕ) → List ℕ → List ℕ → Type 0
+BreaksOffLines old new lines written_old written_new = OnHistories old new (λ before after.
+    BreaksOff (AnswersLine (charter_of old)) before after lines written_old written_new)
 
 -- the text of an answer to a line
 abbrev pub answer_text : LineAnswer → List ℕ

@@ -1,5 +1,5 @@
 -- The lines of a script.
-use Rattle.std.specs.Prelude.{ℕ, List, [], ◌∷◌, Option, Some, None, ◌-◌, ◌==◌, nat_le, if◌then◌else◌, length, take}
+use Rattle.std.specs.Prelude.{ℕ, Bool, true, false, List, [], ◌∷◌, Option, Some, None, ◌-◌, ◌==◌, nat_le, if◌then◌else◌, length, take}
 use Rattle.std.specs.List.{slice_split}
 
 -- what stands before, between and after the line feeds of a text
@@ -24,6 +24,11 @@ without_empty_last (piece ∷ next ∷ more) = piece ∷ without_empty_last (nex
 -- Nothing is trimmed
 abbrev pub script_lines : List ℕ → List (List ℕ)
 script_lines text = without_empty_last (pieces text)
+
+-- the lines of what was read so far: a last piece is a line only where the source has ended
+abbrev pub lines_read : Bool → List ℕ → List (List ℕ)
+lines_read true text = script_lines text
+lines_read false text = whole_lines text
 
 -- a line as it is asked: its bytes, or nothing where it is over 1,048,576 bytes long
 unfoldable pub within_limit : List ℕ → Option (List ℕ)

@@ -1,12 +1,14 @@
 //! Readers and writers of std as sources and drains.
-ghost use Rattle.std.specs.Prelude.{◌≡◌, ◌++◌, ◌-◌, ◌^◌, ◌<◌, ◌≤◌, ◌&&◌, ◌==◌, nat_lt, [], true, false, length, take, is_err, IsErr, IfOk, OnOk, OnErr};
-ghost use Rattle.std.specs.Io.KnownBytes.{Appends, Keeps, ReadConsumes};
-ghost use Rattle.web.specs.Devices.{device_inner, device_bytes, device_has_ended, device_has_failed, device_calls_left};
+ghost use Rattle.std.specs.Prelude.{◌≡◌, ◌≢◌, ◌++◌, ◌-◌, ◌^◌, ◌<◌, ◌≤◌, ◌&&◌, ◌==◌, nat_lt, [], true, false, length, take, is_err, IsErr, IfErr, IfOk, OnOk, OnErr};
+ghost use Rattle.std.specs.Io.{ReadsAtMost, WritesAtMost, appended_bytes};
+ghost use Rattle.std.specs.Io.KnownBytes.{Appends, Keeps, ReadConsumes, WriteAppends};
+ghost use Rattle.std.specs.IoError.{error_kind};
+ghost use Rattle.web.specs.Devices.{IsCalled, device_inner, device_bytes, device_has_ended, device_has_failed, device_calls_left};
 ghost use Rattle.web.specs.Streams.{AppendsBeginning};
 
 use crate::stream::{Drain, Failed, Source};
 use crate::trail::{Piece, Trail};
-use std::io::{ErrorKind, Read, Write};
+use std::io::{self, ErrorKind, Read, Write};
 
 /// A reader or a writer of std as a [`Source`] or a [`Drain`]. A call that was interrupted is made
 /// again, and any other error is a failure. What was written is flushed before the call returns, so
@@ -66,21 +68,40 @@ impl<T: Read> Source for Device<T> {
         ensures reads { ReadConsumes (T.remaining (device_inner self.old))
             (T.remaining (device_inner self.new)) result buffer.new }
     {
-        while !self.has_failed && self.calls < u64::MAX {
+        if self.has_failed {
+            return Err(Failed);
+        }
+        let Ok(count) = self.read_uninterrupted(buffer) else {
+            self.has_failed = true;
+            return Err(Failed);
+        };
+        self.trail = self.trail.then(&Piece {
+            bytes: &buffer[..count],
+        });
+        self.has_ended = count == 0 && !buffer.is_empty();
+        Ok(count)
+    }
+}
+
+impl<T: Read> Device<T> {
+    // A read, made again where it was interrupted.
+    fn read_uninterrupted(&mut self, buffer: &mut [u8]) -> io::Result<usize>
+        ensures bound { ReadsAtMost result buffer.new }
+        ensures reads { ReadConsumes (T.remaining (device_inner self.old))
+            (T.remaining (device_inner self.new)) result buffer.new }
+        ensures retried { IfErr result (λ error. error_kind error ≢ ErrorKind.Interrupted) }
+        ensures counted { OnOk result (device_calls_left self.new < device_calls_left self.old) }
+        ensures kept { IsCalled self.old self.new }
+    {
+        while self.calls < u64::MAX {
             self.calls += 1;
             match self.inner.read(buffer) {
-                Ok(count) => {
-                    self.trail = self.trail.then(&Piece {
-                        bytes: &buffer[..count],
-                    });
-                    self.has_ended = count == 0 && !buffer.is_empty();
-                    return Ok(count);
-                }
-                Err(error) => self.has_failed = error.kind() != ErrorKind::Interrupted,
+                Ok(count) => return Ok(count),
+                Err(error) if error.kind() == ErrorKind::Interrupted => {}
+                Err(error) => return Err(error),
             }
         }
-        self.has_failed = true;
-        Err(Failed)
+        Err(ErrorKind::TimedOut.into())
     }
 }
 
@@ -102,9 +123,10 @@ impl<T: Write> Drain for Device<T> {
         ensures ended { device_has_ended self.new ≡ device_has_ended self.old }
         ensures calls { device_calls_left self.new ≤ device_calls_left self.old }
 
-        // The writer has the bytes, where what it has is known.
-        ensures writes { IfOk result (λ n. Appends (T.contents (device_inner self.old))
-            (T.contents (device_inner self.new)) (take n bytes.now)) }
+        // The writer has what passed, whether the call failed or not, where what it has is known.
+        ensures writes { Appends (T.contents (device_inner self.old))
+            (T.contents (device_inner self.new))
+            (appended_bytes (device_bytes self.old) (device_bytes self.new)) }
     {
         let count = self.write_some(bytes)?;
         self.flush()?;
@@ -113,7 +135,7 @@ impl<T: Write> Drain for Device<T> {
 }
 
 impl<T: Write> Device<T> {
-    // One write that was not interrupted.
+    // Writes a beginning of the bytes, which is not flushed yet.
     fn write_some(&mut self, bytes: &[u8]) -> Result<usize, Failed>
         ensures bound { IfOk result (λ n. n ≤ length bytes.now) }
         ensures some { IfOk result (λ n. 0 < length bytes.now → 0 < n) }
@@ -124,42 +146,80 @@ impl<T: Write> Device<T> {
         ensures stays_failed { device_has_failed self.old ≡ true → IsErr result }
         ensures ended { device_has_ended self.new ≡ device_has_ended self.old }
         ensures calls { device_calls_left self.new ≤ device_calls_left self.old }
-        ensures writes { IfOk result (λ n. Appends (T.contents (device_inner self.old))
-            (T.contents (device_inner self.new)) (take n bytes.now)) }
+        ensures writes { Appends (T.contents (device_inner self.old))
+            (T.contents (device_inner self.new))
+            (appended_bytes (device_bytes self.old) (device_bytes self.new)) }
     {
-        while !self.has_failed && self.calls < u64::MAX {
-            self.calls += 1;
-            match self.inner.write(bytes) {
-                Ok(0) if !bytes.is_empty() => self.has_failed = true,
-                Ok(count) => {
-                    self.trail = self.trail.then(&Piece {
-                        bytes: &bytes[..count],
-                    });
-                    return Ok(count);
-                }
-                Err(error) => self.has_failed = error.kind() != ErrorKind::Interrupted,
+        if self.has_failed {
+            return Err(Failed);
+        }
+        match self.write_uninterrupted(bytes) {
+            Ok(count) if count > 0 || bytes.is_empty() => {
+                self.trail = self.trail.then(&Piece {
+                    bytes: &bytes[..count],
+                });
+                Ok(count)
+            }
+            _ => {
+                self.has_failed = true;
+                Err(Failed)
             }
         }
-        self.has_failed = true;
-        Err(Failed)
+    }
+
+    // A write, made again where it was interrupted.
+    fn write_uninterrupted(&mut self, bytes: &[u8]) -> io::Result<usize>
+        ensures bound { WritesAtMost result bytes.now }
+        ensures writes { WriteAppends (T.contents (device_inner self.old))
+            (T.contents (device_inner self.new)) result bytes.now }
+        ensures retried { IfErr result (λ error. error_kind error ≢ ErrorKind.Interrupted) }
+        ensures kept { IsCalled self.old self.new }
+    {
+        while self.calls < u64::MAX {
+            self.calls += 1;
+            match self.inner.write(bytes) {
+                Ok(count) => return Ok(count),
+                Err(error) if error.kind() == ErrorKind::Interrupted => {}
+                Err(error) => return Err(error),
+            }
+        }
+        Err(ErrorKind::TimedOut.into())
     }
 
     fn flush(&mut self) -> Result<(), Failed>
         ensures bytes { device_bytes self.new ≡ device_bytes self.old }
-        ensures kept { Keeps (T.contents (device_inner self.old)) (T.contents (device_inner self.new)) }
+        ensures kept { Keeps (T.contents (device_inner self.old))
+            (T.contents (device_inner self.new)) }
         ensures failed { device_has_failed self.new ≡ is_err result }
         ensures stays_failed { device_has_failed self.old ≡ true → IsErr result }
         ensures ended { device_has_ended self.new ≡ device_has_ended self.old }
         ensures calls { device_calls_left self.new ≤ device_calls_left self.old }
     {
-        while !self.has_failed && self.calls < u64::MAX {
+        if self.has_failed {
+            return Err(Failed);
+        }
+        let Ok(()) = self.flush_uninterrupted() else {
+            self.has_failed = true;
+            return Err(Failed);
+        };
+        Ok(())
+    }
+
+    // A flush, made again where it was interrupted.
+    fn flush_uninterrupted(&mut self) -> io::Result<()>
+        ensures writes { Keeps (T.contents (device_inner self.old))
+            (T.contents (device_inner self.new)) }
+        ensures retried { IfErr result (λ error. error_kind error ≢ ErrorKind.Interrupted) }
+        ensures kept { IsCalled self.old self.new }
+    {
+        while self.calls < u64::MAX {
             self.calls += 1;
             match self.inner.flush() {
                 Ok(()) => return Ok(()),
-                Err(error) => self.has_failed = error.kind() != ErrorKind::Interrupted,
+                Err(error) if error.kind() == ErrorKind::Interrupted => {}
+                Err(error) => return Err(error),
             }
         }
-        self.has_failed = true;
-        Err(Failed)
+        Err(ErrorKind::TimedOut.into())
     }
 }

@@ -1,8 +1,9 @@
 //! Scripts: lines in and replies out.
 ghost use Rattle.std.specs.Prelude.{◌≡◌, ◌++◌, ◌∷◌, ℕ, List, [], Option, Err, true, OnOk, OnErr};
+ghost use Rattle.std.specs.Io.{StartsWith, appended_bytes};
 ghost use Rattle.std.specs.Option.{option_copied};
 ghost use Rattle.web.specs.Streams.{AppendsBeginning};
-ghost use Rattle.web.specs.ScriptLines.{whole_lines, script_lines, unless_empty, within_limit};
+ghost use Rattle.web.specs.ScriptLines.{lines_read, script_lines, unless_empty, whole_lines, within_limit};
 ghost use Rattle.web.specs.LineSplitting.{completed_lines, unfinished_line};
 ghost use Rattle.web.specs.Script.{AnswersEach, BreaksOff};
 
@@ -129,8 +130,8 @@ fn answer_last<D: Drain, E: AnswerLines>(
     Ok(())
 }
 
-/// Answers the lines of the source, each as soon as it is whole and before more is read. A line that
-/// is too long is answered at its end. A last line without a line feed is answered where the source
+/// Answers the lines of the source, each as soon as it is whole and before more is read. A line
+/// that is too long is answered at its end. A last line without a line feed is answered where the source
 /// ends, and dropped where it fails.
 pub(crate) fn run_lines<S: Source, D: Drain, E: AnswerLines>(
     alloc: Global,
@@ -138,24 +139,25 @@ pub(crate) fn run_lines<S: Source, D: Drain, E: AnswerLines>(
     drain: &mut D,
     engine: &mut E,
 ) -> Result<(), ScriptFault>
-    ensures ok { OnOk result ((input : List ℕ)
-        × (S.handed_out source.new ≡ S.handed_out source.old ++ input)
-        × (S.has_ended source.new ≡ true)
-        × AnswersEach E.answers engine.old engine.new
-        (script_lines input) (D.written drain.old) (D.written drain.new)) }
+    ensures reads { StartsWith (S.handed_out source.new) (S.handed_out source.old) }
+    ensures ended { OnOk result (S.has_ended source.new ≡ true) }
+    ensures read_failed { result ≡ Err ScriptFault.Read → S.has_failed source.new ≡ true }
+    ensures write_failed { result ≡ Err ScriptFault.Write → D.has_failed drain.new ≡ true }
+
+    ensures ok { OnOk result (AnswersEach E.answers engine.old engine.new
+        (script_lines (appended_bytes (S.handed_out source.old) (S.handed_out source.new)))
+        (D.written drain.old) (D.written drain.new)) }
 
     // What came after the last line feed is dropped.
-    ensures read { result ≡ Err ScriptFault.Read → (input : List ℕ)
-        × (S.handed_out source.new ≡ S.handed_out source.old ++ input)
-        × (S.has_failed source.new ≡ true)
-        × AnswersEach E.answers engine.old engine.new
-        (whole_lines input) (D.written drain.old) (D.written drain.new) }
+    ensures read { result ≡ Err ScriptFault.Read → AnswersEach E.answers engine.old engine.new
+        (whole_lines (appended_bytes (S.handed_out source.old) (S.handed_out source.new)))
+        (D.written drain.old) (D.written drain.new) }
 
-    ensures write { result ≡ Err ScriptFault.Write → (input : List ℕ)
-        × (S.handed_out source.new ≡ S.handed_out source.old ++ input)
-        × (D.has_failed drain.new ≡ true)
-        × BreaksOff E.answers engine.old engine.new
-        (script_lines input) (D.written drain.old) (D.written drain.new) }
+    // A line without its line feed was acted on only after the end.
+    ensures write { result ≡ Err ScriptFault.Write → BreaksOff E.answers engine.old engine.new
+        (lines_read (S.has_ended source.new)
+        (appended_bytes (S.handed_out source.old) (S.handed_out source.new)))
+        (D.written drain.old) (D.written drain.new) }
 
     ensures memory { result ≡ Err ScriptFault.Memory
         → (source.new ≡ source.old) × (drain.new ≡ drain.old) × (engine.new ≡ engine.old) }

@@ -1,11 +1,9 @@
 //! Scripts over a desk.
-ghost use Rattle.std.specs.Prelude.{◌≡◌, ◌++◌, ℕ, List, true, Err, OnOk, OnErr};
+ghost use Rattle.std.specs.Prelude.{◌≡◌, ◌++◌, true, Err, OnOk, OnErr};
+ghost use Rattle.std.specs.Io.{StartsWith, appended_bytes};
 ghost use Rattle.std.specs.Option.{option_copied};
-ghost use Rattle.policy.specs.History.{History};
-ghost use Rattle.desk.specs.Desk.{charter_of, StandsFor};
-ghost use Rattle.web.specs.Script.{AnswersEach, BreaksOff};
-ghost use Rattle.web.specs.ScriptAnswer.{AnswersLine, AnswersLineAt, answer_text};
-ghost use Rattle.web.specs.ScriptLines.{script_lines, whole_lines};
+ghost use Rattle.web.specs.ScriptAnswer.{AnswersLineAt, AnswersLines, BreaksOffLines, answer_text};
+ghost use Rattle.web.specs.ScriptLines.{lines_read, script_lines, whole_lines};
 ghost use Rattle.web.specs.Streams.{AppendsBeginning};
 
 use crate::malformed::Malformed;
@@ -26,8 +24,10 @@ enum LineAnswer {
 
 impl LineAnswer {
     fn write<D: Drain>(&self, drain: &mut D) -> Result<(), Failed>
-        ensures ok { OnOk result (D.written drain.new ≡ D.written drain.old ++ answer_text self.now) }
-        ensures err { OnErr result (AppendsBeginning (D.written drain.old) (D.written drain.new) (answer_text self.now)) }
+        ensures ok { OnOk result
+            (D.written drain.new ≡ D.written drain.old ++ answer_text self.now) }
+        ensures err { OnErr result
+            (AppendsBeginning (D.written drain.old) (D.written drain.new) (answer_text self.now)) }
         ensures failed { OnErr result (D.has_failed drain.new ≡ true) }
     {
         match self {
@@ -77,27 +77,25 @@ pub fn run_script<S: Source, D: Drain>(
     drain: &mut D,
     desk: &mut Desk,
 ) -> Result<(), ScriptFault>
-    ensures ok { OnOk result ((history : History) → StandsFor (charter_of desk.old) desk.old history
-        → (input : List ℕ) × (after : History)
-        × (S.handed_out source.new ≡ S.handed_out source.old ++ input)
-        × (S.has_ended source.new ≡ true)
-        × StandsFor (charter_of desk.old) desk.new after
-        × AnswersEach (AnswersLine (charter_of desk.old)) history after (script_lines input) (D.written drain.old) (D.written drain.new)) }
+    ensures reads { StartsWith (S.handed_out source.new) (S.handed_out source.old) }
+    ensures ended { OnOk result (S.has_ended source.new ≡ true) }
+    ensures read_failed { result ≡ Err ScriptFault.Read → S.has_failed source.new ≡ true }
+    ensures write_failed { result ≡ Err ScriptFault.Write → D.has_failed drain.new ≡ true }
+
+    ensures ok { OnOk result (AnswersLines desk.old desk.new
+        (script_lines (appended_bytes (S.handed_out source.old) (S.handed_out source.new)))
+        (D.written drain.old) (D.written drain.new)) }
 
     // What came after the last line feed is dropped.
-    ensures read { result ≡ Err ScriptFault.Read → (history : History) → StandsFor (charter_of desk.old) desk.old history
-        → (input : List ℕ) × (after : History)
-        × (S.handed_out source.new ≡ S.handed_out source.old ++ input)
-        × (S.has_failed source.new ≡ true)
-        × StandsFor (charter_of desk.old) desk.new after
-        × AnswersEach (AnswersLine (charter_of desk.old)) history after (whole_lines input) (D.written drain.old) (D.written drain.new) }
+    ensures read { result ≡ Err ScriptFault.Read → AnswersLines desk.old desk.new
+        (whole_lines (appended_bytes (S.handed_out source.old) (S.handed_out source.new)))
+        (D.written drain.old) (D.written drain.new) }
 
-    ensures write { result ≡ Err ScriptFault.Write → (history : History) → StandsFor (charter_of desk.old) desk.old history
-        → (input : List ℕ) × (after : History)
-        × (S.handed_out source.new ≡ S.handed_out source.old ++ input)
-        × (D.has_failed drain.new ≡ true)
-        × StandsFor (charter_of desk.old) desk.new after
-        × BreaksOff (AnswersLine (charter_of desk.old)) history after (script_lines input) (D.written drain.old) (D.written drain.new) }
+    // A line without its line feed was acted on only after the end.
+    ensures write { result ≡ Err ScriptFault.Write → BreaksOffLines desk.old desk.new
+        (lines_read (S.has_ended source.new)
+        (appended_bytes (S.handed_out source.old) (S.handed_out source.new)))
+        (D.written drain.old) (D.written drain.new) }
 
     ensures memory { result ≡ Err ScriptFault.Memory
         → (source.new ≡ source.old) × (drain.new ≡ drain.old) × (desk.new ≡ desk.old) }

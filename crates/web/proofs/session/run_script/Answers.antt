@@ -5,19 +5,13 @@ use Rattle.web.proofs.session.run_script.Goals as goal
 
 pub returns-clause-ok : goal.returns-clause-ok
 returns-clause-ok g c = on_ok_map c.run_lines.result
-    (λ (input, handed, ended, each) history stands.
-    let along = each_along (charter_of c.args.desk.now) c.args.desk.now c.run_lines.new.engine _ _ _ history stands each in
-    (input, along.0, handed, ended, along.1, along.2))
+    (λ each history stands. each_along (charter_of c.args.desk.now) c.args.desk.now c.run_lines.new.engine _ _ _ history stands each)
     c.run_lines.ensures.ok
 
 pub returns-clause-read : goal.returns-clause-read
 returns-clause-read g c = λ is history stands.
-    let of = c.run_lines.ensures.read is in
-    let along = each_along (charter_of c.args.desk.now) c.args.desk.now c.run_lines.new.engine _ _ _ history stands of.3 in
-    (of.0, along.0, of.1, of.2, along.1, along.2)
+    each_along (charter_of c.args.desk.now) c.args.desk.now c.run_lines.new.engine _ _ _ history stands (c.run_lines.ensures.read is)
 
 pub returns-clause-write : goal.returns-clause-write
 returns-clause-write g c = λ is history stands.
-    let of = c.run_lines.ensures.write is in
-    let along = broken_along (charter_of c.args.desk.now) c.args.desk.now c.run_lines.new.engine _ _ _ history stands of.3 in
-    (of.0, along.0, of.1, of.2, along.1, along.2)
+    broken_along (charter_of c.args.desk.now) c.args.desk.now c.run_lines.new.engine _ _ _ history stands (c.run_lines.ensures.write is)
