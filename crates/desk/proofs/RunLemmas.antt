@@ -34,6 +34,7 @@ answered_next charter history asked index a replies reply old new below here so_
     record {
       after = is.after;
       legal = is.legal;
+      values = λ fit. is.values (so_far.values fit);
       runs = rw grown (Runs-append charter history so_far.after is.after (take index asked) replies a reply so_far.runs is.answers);
       rows_after = is.rows_after;
     }

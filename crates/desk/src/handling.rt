@@ -80,6 +80,7 @@ impl Desk {
         ensures charter { charter_of self.new ≡ charter_of self.old }
         ensures kept { is_done result ≡ false → IsKept self.old self.new }
     {
+        policy::tell_values(day, caller, command);
         let change = match self.decide(day, caller, command) {
             Ok(change) => change,
             Err(Refusal::Denied(rule, row)) => return Reply::Denied(rule, row),
