@@ -17,8 +17,8 @@ abbrev pub desk_rows : Desk → List ℕ → Option Rows
 desk_rows desk h = rows_at desk.records h
 
 -- nothing that the desk keeps has changed
-abbrev pub IsKept : Desk → Desk → Type 0
-IsKept old new = (h : List ℕ) → desk_rows new h ≡ desk_rows old h
+abbrev pub KeepsRows : Desk → Desk → Type 0
+KeepsRows old new = (h : List ℕ) → desk_rows new h ≡ desk_rows old h
 
 -- the desk has the rows of the history, which is legal for its charter and of values of their types
 pub record StandsFor (charter : Charter) (desk : Desk) (history : History) : Type 0 where

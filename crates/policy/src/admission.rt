@@ -5,7 +5,7 @@ ghost use Rattle.policy.specs.declared.charter.Charter.{Charter as CharterValue}
 ghost use Rattle.policy.specs.History.{History, is_registered};
 ghost use Rattle.policy.specs.Resources.{HoldsPrefix};
 ghost use Rattle.policy.specs.Terms.{grant_terms, authorizations_made, OfActive, gives_vrp, share_vrp};
-ghost use Rattle.policy.specs.Permission.{has_access, is_permitted, is_permitted_terms};
+ghost use Rattle.policy.specs.Permission.{has_access, is_permitted_terms};
 ghost use Rattle.policy.specs.Verdict.{IsLegal, is_steward, numbered, OfNumber};
 ghost use Rattle.policy.specs.Rows.{rows_of, rows_if_any, RowsOf, RowsIfAny, grants_if_any};
 
@@ -93,19 +93,6 @@ pub(crate) fn holds(rows: &HolderRows, prefix: &Prefix) -> bool
     rows.holdings.holds(prefix)
 }
 
-/// Whether for each prefix of the terms some one grant gives the caller the access to it.
-pub(crate) fn may_reach(
-    grants: &[Granted],
-    day: Day,
-    caller: &Name,
-    access: Access,
-    auth: &Auth,
-) -> bool
-    ensures { result ≡ is_permitted_terms grants.now day caller.now access auth.now }
-{
-    is_permitted(grants, day, caller, access, &auth.prefix)
-}
-
 fn numbered(auths: &[Auth], number: u32) -> Option<&Auth>
     ensures { option_copied result ≡ numbered number auths.now }
 {
@@ -113,7 +100,7 @@ fn numbered(auths: &[Auth], number: u32) -> Option<&Auth>
 }
 
 /// The active authorization of the number, where the caller has the access to it.
-pub(crate) fn permitted<'a>(
+pub(crate) fn auth_with_access<'a>(
     rows: &'a HolderRows,
     day: Day,
     caller: &Name,
@@ -131,7 +118,7 @@ pub(crate) fn permitted<'a>(
 {
     match numbered(&rows.auths, number) {
         Some(auth) => {
-            if may_reach(&rows.grants, day, caller, access, auth) {
+            if is_permitted(&rows.grants, day, caller, access, &auth.prefix) {
                 Ok(auth)
             } else {
                 Err(Rule::Number)
@@ -163,14 +150,6 @@ fn is_among(grants: &[Granted], number: u32) -> bool
     grants.iter().any(|grant| grant.number == number)
 }
 
-/// Whether the caller may alter an authorization of this prefix.
-pub(crate) fn may_alter(rows: &HolderRows, day: Day, caller: &Name, prefix: &Prefix) -> bool
-    ensures { (history : History) (h : List ℕ) → RowsOf history h (rows_of rows.now)
-        → result ≡ is_permitted (grant_terms history h) day caller.now Access.Alter prefix.now }
-{
-    is_permitted(&rows.grants, day, caller, Access::Alter, prefix)
-}
-
 fn some_gives(auths: &[Auth], asn: Asn, prefix: &Prefix, max: u8) -> bool
     ensures { result ≡ list_any (λ y. gives_vrp y asn prefix.now max) auths.now }
 {
@@ -189,7 +168,8 @@ pub(crate) fn is_new(rows: &HolderRows, asn: Asn, prefix: &Prefix, max: u8) -> b
 
 /// Whether another grant may be made: neither too many are unrevoked, nor were too many made.
 pub(crate) fn has_room_for_grant(rows: &HolderRows) -> bool
-    ensures { IsTrue result ↔ ((length rows.now.grants.items < MOST_GRANTS) × (rows.now.granted < LAST_NUMBER)) }
+    ensures { IsTrue result
+        ↔ ((length rows.now.grants.items < MOST_GRANTS) × (rows.now.granted < LAST_NUMBER)) }
 {
     rows.grants.len() < MOST_GRANTS && rows.granted < LAST_NUMBER
 }
