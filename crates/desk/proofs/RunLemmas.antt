@@ -5,7 +5,7 @@ use Rattle.policy.specs.History.{History}
 use Rattle.policy.specs.Rows.{Rows}
 use Rattle.policy.specs.Verdict.{IsLegal}
 use Rattle.policy.specs.declared.charter.Charter.{Charter}
-use Rattle.desk.specs.Answer.{Answers, IsAnswered}
+use Rattle.desk.specs.Answer.{AnswersRequest, IsAnswered}
 use Rattle.policy.specs.RowsOfAll.{HasRows}
 use Rattle.desk.specs.Run.{Runs, AreAnswered}
 use Rattle.desk.specs.declared.asked.Asked.{Asked}
@@ -13,10 +13,10 @@ use Rattle.desk.specs.declared.reply.Reply.{Reply}
 
 -- one more request at the end
 Runs-append : (charter : Charter) (before middle after : History) (asked : List Asked) (replies : List Reply) (a : Asked) (reply : Reply)
-    → Runs charter before asked replies middle → Answers charter middle a.day a.caller a.request reply after
+    → Runs charter before asked replies middle → AnswersRequest charter middle a.day a.caller a.request reply after
     → Runs charter before (asked ++ a ∷ []) (replies ++ reply ∷ []) after
 Runs-append charter before middle after [] [] a reply runs answers =
-    (after, subst (λ (h : History). Answers charter h a.day a.caller a.request reply after) runs answers, refl)
+    (after, subst (λ (h : History). AnswersRequest charter h a.day a.caller a.request reply after) runs answers, refl)
 Runs-append charter before middle after [] (r ∷ replies) a reply runs answers = absurd runs
 Runs-append charter before middle after (x ∷ asked) [] a reply runs answers = absurd runs
 Runs-append charter before middle after (x ∷ asked) (r ∷ replies) a reply runs answers =
@@ -34,6 +34,7 @@ answered_next charter history asked index a replies reply old new below here so_
     record {
       after = is.after;
       legal = is.legal;
+      values = λ fit. is.values (so_far.values fit);
       runs = rw grown (Runs-append charter history so_far.after is.after (take index asked) replies a reply so_far.runs is.answers);
       rows_after = is.rows_after;
     }

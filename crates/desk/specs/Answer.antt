@@ -13,6 +13,7 @@ use Rattle.payload.specs.declared.validity.Validity.{Validity}
 use Rattle.policy.specs.Answer.{number_given, IsShown, IsListed}
 use Rattle.policy.specs.DailyVrps.{IsVrpOn}
 use Rattle.policy.specs.History.{History}
+use Rattle.policy.specs.Values.{HistoryFits}
 use Rattle.policy.specs.Verdict.{Verdict, ShowVerdict, ListVerdict, IsLegal}
 use Rattle.policy.specs.Rows.{Rows}
 use Rattle.policy.specs.declared.authorization.Auth.{Auth}
@@ -96,15 +97,19 @@ AnswersQuery history day caller (ListQuery h) reply = AnswersList history h day 
 AnswersQuery history day caller PayloadsQuery reply = AnswersPayloads history day reply
 AnswersQuery history day caller (ValidityQuery routes) reply = AnswersValidity history day routes.items reply
 
-abbrev pub Answers : Charter → History → ℕ → List ℕ → Request → Reply → History → Type 0
-Answers charter before day caller (CommandRequest command) reply after =
+abbrev pub AnswersRequest : Charter → History → ℕ → List ℕ → Request → Reply → History → Type 0
+AnswersRequest charter before day caller (CommandRequest command) reply after =
     AnswersCommand charter before day caller command reply after
-Answers charter before day caller (QueryRequest query) reply after =
+AnswersRequest charter before day caller (QueryRequest query) reply after =
     AnswersQuery before day caller query reply × (after ≡ before)
 
--- a request was answered: the rows are those of the history that the answer leaves, which is legal
-pub record IsAnswered (charter : Charter) (before : History) (day : ℕ) (caller : List ℕ) (request : Request) (reply : Reply) (rows : List ℕ → Option Rows) : Type 0 where
+-- a request was answered: the rows are those of the history that the answer leaves, which is legal and,
+-- where it was so before, of values of their types
+pub record IsAnswered (charter : Charter) (before : History)
+    (day : ℕ) (caller : List ℕ) (request : Request) (reply : Reply)
+    (rows : List ℕ → Option Rows) : Type 0 where
   pub after : History
   pub legal : IsLegal charter after
-  pub answers : Answers charter before day caller request reply after
+  pub values : HistoryFits before → HistoryFits after
+  pub answers : AnswersRequest charter before day caller request reply after
   pub rows_after : HasRows rows after

@@ -7,7 +7,7 @@ ghost use Rattle.desk.specs.Answer.{is_done, AnswersQuery, AnswersShow, AnswersC
 ghost use Rattle.policy.specs.RowsOfAll.{HasRows, IsGivenOn};
 ghost use Rattle.desk.specs.Run.{AreAnswered};
 ghost use Rattle.payload.specs.VrpSet as set;
-ghost use Rattle.desk.specs.Desk.{charter_of, desk_rows, IsKept};
+ghost use Rattle.desk.specs.Desk.{charter_of, desk_rows, KeepsRows};
 
 use crate::content::content_text;
 use crate::gathering::{gather, judge};
@@ -46,7 +46,7 @@ impl Desk {
             → IsAnswered (charter_of self.old) history day caller.now request.now
             result (desk_rows self.new) }
         ensures charter { charter_of self.new ≡ charter_of self.old }
-        ensures kept { is_done result ≡ false → IsKept self.old self.new }
+        ensures kept { is_done result ≡ false → KeepsRows self.old self.new }
     {
         match request {
             Request::Command(command) => self.carry_out(day, caller, command),
@@ -54,15 +54,16 @@ impl Desk {
         }
     }
 
-    /// Replies to each of the requests, in their order. Room is made for all replies first; where there
-    /// is none, nothing is acted on.
+    /// Replies to each of the requests, in their order. Room is made for all replies first; where
+    /// there is none, nothing is acted on.
     pub fn run(&mut self, asked: &[Asked]) -> Result<Vec<Reply>, AllocError>
         ensures answered { IfOk result (λ replies. (history : History)
             → IsLegal (charter_of self.old) history
             → HasRows (desk_rows self.old) history
-            → AreAnswered (charter_of self.old) history asked.now replies.items (desk_rows self.new)) }
+            → AreAnswered (charter_of self.old) history asked.now replies.items
+            (desk_rows self.new)) }
         ensures charter { charter_of self.new ≡ charter_of self.old }
-        ensures err { OnErr result (IsKept self.old self.new) }
+        ensures err { OnErr result (KeepsRows self.old self.new) }
     {
         let mut replies = Vec::with_capacity(self.alloc, asked.len())?;
         for one in asked {
@@ -78,8 +79,9 @@ impl Desk {
             → IsAnswered (charter_of self.old) history day caller.now
             (Request.Command command.now) result (desk_rows self.new) }
         ensures charter { charter_of self.new ≡ charter_of self.old }
-        ensures kept { is_done result ≡ false → IsKept self.old self.new }
+        ensures kept { is_done result ≡ false → KeepsRows self.old self.new }
     {
+        policy::tell_values(day, caller, command);
         let change = match self.decide(day, caller, command) {
             Ok(change) => change,
             Err(Refusal::Denied(rule, row)) => return Reply::Denied(rule, row),

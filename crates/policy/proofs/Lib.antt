@@ -15,3 +15,4 @@ pub mod Repeats
 mod PrefixEquality
 pub mod SharedVrps
 pub mod Moved
+pub mod Fitting

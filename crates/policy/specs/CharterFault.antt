@@ -4,6 +4,6 @@ use Rattle.policy.specs.declared.charter.CharterFault.{CharterFault}
 use Rattle.policy.specs.declared.charter.CharterFault.TheVariants.{Count, Repeated}
 
 -- the number of a fault, from 1 in the order in which they are looked for
-abbrev pub fault_number : CharterFault → ℕ
-fault_number Count = 1
-fault_number Repeated = 2
+abbrev pub charter_fault_number : CharterFault → ℕ
+charter_fault_number Count = 1
+charter_fault_number Repeated = 2

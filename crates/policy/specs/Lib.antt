@@ -11,6 +11,7 @@ pub mod Permission
 pub mod Verdict
 pub mod Rows
 pub mod RowsOfAll
+pub mod Values
 pub mod Answer
 pub mod DailyVrps
 pub mod SharedVrps

@@ -1,10 +1,11 @@
 ghost use Rattle.std.specs.Prelude.{◌≡◌, ℕ, ◌<◌, ◌==◌, ◌&&◌, not, length, List, true, false, ◌↔◌, IsTrue, Some, ◌≤◌, option_copied, MatchResult};
 ghost use Rattle.std.specs.List.{list_any};
+ghost use Rattle.policy.specs.declared.admission.TheConstants.{MOST_GRANTS, MOST_AUTHORIZATIONS, LAST_NUMBER};
 ghost use Rattle.policy.specs.declared.charter.Charter.{Charter as CharterValue};
 ghost use Rattle.policy.specs.History.{History, is_registered};
 ghost use Rattle.policy.specs.Resources.{HoldsPrefix};
 ghost use Rattle.policy.specs.Terms.{grant_terms, authorizations_made, OfActive, gives_vrp, share_vrp};
-ghost use Rattle.policy.specs.Permission.{has_access, is_permitted, is_permitted_terms};
+ghost use Rattle.policy.specs.Permission.{has_access, is_permitted_terms};
 ghost use Rattle.policy.specs.Verdict.{IsLegal, is_steward, numbered, OfNumber};
 ghost use Rattle.policy.specs.Rows.{rows_of, rows_if_any, RowsOf, RowsIfAny, grants_if_any};
 
@@ -13,13 +14,13 @@ use crate::{Access, Auth, Charter, Granted, HolderRows, Rule};
 use addr::{Asn, Day, Name, Prefix};
 
 /// How many grants that are not revoked a holder may have.
-const MOST_GRANTS: usize = 64;
+pub(crate) const MOST_GRANTS: usize = 64;
 
 /// How many active authorizations a holder may have.
-const MOST_AUTHORIZATIONS: usize = 1000;
+pub(crate) const MOST_AUTHORIZATIONS: usize = 1000;
 
 /// The last number that a grant or an authorization of a holder gets.
-const LAST_NUMBER: u32 = 999_999;
+pub(crate) const LAST_NUMBER: u32 = 999_999;
 
 /// The rule where it does not hold.
 pub(crate) fn require(holds: bool, rule: Rule) -> Result<(), Rule>
@@ -92,19 +93,6 @@ pub(crate) fn holds(rows: &HolderRows, prefix: &Prefix) -> bool
     rows.holdings.holds(prefix)
 }
 
-/// Whether for each prefix of the terms some one grant gives the caller the access to it.
-pub(crate) fn may_reach(
-    grants: &[Granted],
-    day: Day,
-    caller: &Name,
-    access: Access,
-    auth: &Auth,
-) -> bool
-    ensures { result ≡ is_permitted_terms grants.now day caller.now access auth.now }
-{
-    is_permitted(grants, day, caller, access, &auth.prefix)
-}
-
 fn numbered(auths: &[Auth], number: u32) -> Option<&Auth>
     ensures { option_copied result ≡ numbered number auths.now }
 {
@@ -112,7 +100,7 @@ fn numbered(auths: &[Auth], number: u32) -> Option<&Auth>
 }
 
 /// The active authorization of the number, where the caller has the access to it.
-pub(crate) fn permitted<'a>(
+pub(crate) fn auth_with_access<'a>(
     rows: &'a HolderRows,
     day: Day,
     caller: &Name,
@@ -130,7 +118,7 @@ pub(crate) fn permitted<'a>(
 {
     match numbered(&rows.auths, number) {
         Some(auth) => {
-            if may_reach(&rows.grants, day, caller, access, auth) {
+            if is_permitted(&rows.grants, day, caller, access, &auth.prefix) {
                 Ok(auth)
             } else {
                 Err(Rule::Number)
@@ -162,14 +150,6 @@ fn is_among(grants: &[Granted], number: u32) -> bool
     grants.iter().any(|grant| grant.number == number)
 }
 
-/// Whether the caller may alter an authorization of this prefix.
-pub(crate) fn may_alter(rows: &HolderRows, day: Day, caller: &Name, prefix: &Prefix) -> bool
-    ensures { (history : History) (h : List ℕ) → RowsOf history h (rows_of rows.now)
-        → result ≡ is_permitted (grant_terms history h) day caller.now Access.Alter prefix.now }
-{
-    is_permitted(&rows.grants, day, caller, Access::Alter, prefix)
-}
-
 fn some_gives(auths: &[Auth], asn: Asn, prefix: &Prefix, max: u8) -> bool
     ensures { result ≡ list_any (λ y. gives_vrp y asn prefix.now max) auths.now }
 {
@@ -186,22 +166,21 @@ pub(crate) fn is_new(rows: &HolderRows, asn: Asn, prefix: &Prefix, max: u8) -> b
     !some_gives(&rows.auths, asn, prefix, max)
 }
 
-/// Whether another grant may be made: fewer than 64 are unrevoked, and fewer than 999,999 were
-/// made.
+/// Whether another grant may be made: neither too many are unrevoked, nor were too many made.
 pub(crate) fn has_room_for_grant(rows: &HolderRows) -> bool
-    ensures { IsTrue result ↔ ((length rows.now.grants.items < 64) × (rows.now.granted < 999999)) }
+    ensures { IsTrue result
+        ↔ ((length rows.now.grants.items < MOST_GRANTS) × (rows.now.granted < LAST_NUMBER)) }
 {
     rows.grants.len() < MOST_GRANTS && rows.granted < LAST_NUMBER
 }
 
-/// Whether another authorization may be made: fewer than 1000 are active, and fewer than 999,999
-/// were made.
+/// Whether another authorization may be made: neither too many are active, nor were too many made.
 pub(crate) fn has_room_for_authorization(rows: &HolderRows) -> bool
-    ensures counter { IsTrue result → rows.now.created < 999999 }
+    ensures counter { IsTrue result → rows.now.created < LAST_NUMBER }
     ensures room { (history : History) (h : List ℕ) → RowsOf history h (rows_of rows.now)
         → (IsTrue result
-        ↔ (OfActive history h (λ active. length active < 1000)
-        × (authorizations_made history h < 999999))) }
+        ↔ (OfActive history h (λ active. length active < MOST_AUTHORIZATIONS)
+        × (authorizations_made history h < LAST_NUMBER))) }
 {
     rows.auths.len() < MOST_AUTHORIZATIONS && rows.created < LAST_NUMBER
 }

@@ -21,11 +21,11 @@ pub enum CharterFault {
 }
 
 impl CharterFault {
-    ghost use Rattle.policy.specs.CharterFault.{fault_number};
+    ghost use Rattle.policy.specs.CharterFault.{charter_fault_number};
 
     /// The number of the fault, from 1 in the order above.
     pub fn number(self) -> u8
-        ensures { result ≡ fault_number self }
+        ensures { result ≡ charter_fault_number self }
     {
         match self {
             CharterFault::Count => 1,

@@ -11,10 +11,11 @@ ghost use Rattle.policy.specs.Answer.{AnswersRows, JudgesRows, IsAnswer, IsViewO
 mod terms;
 
 use crate::admission::{
-    are_dates, has_grant, has_room_for_authorization, has_room_for_grant, holds, is_new,
-    is_steward, may_alter, permitted, registered, require, rows_with_access, shares_with_other,
+    are_dates, auth_with_access, has_grant, has_room_for_authorization, has_room_for_grant, holds,
+    is_new, is_steward, registered, require, rows_with_access, shares_with_other,
 };
 use crate::authorization::fits_length;
+use crate::grant::is_permitted;
 use crate::{
     Access, Auth, Change, Charter, Command, Edit, HolderChange, HolderRows, Refusal, Rule, View,
 };
@@ -182,7 +183,13 @@ fn decide_create(basis: Basis<'_>, holder: Holder<'_>, terms: &AuthTerms) -> Res
 {
     let rows = rows_with_access(holder.rows, basis.day, basis.caller, Access::Alter)?;
     require(
-        may_alter(rows, basis.day, basis.caller, &terms.prefix),
+        is_permitted(
+            &rows.grants,
+            basis.day,
+            basis.caller,
+            Access::Alter,
+            &terms.prefix,
+        ),
         Rule::Scope,
     )?;
     require(are_dates(basis.day, terms.from, terms.until), Rule::Dates)?;
@@ -209,7 +216,7 @@ fn decide_amend(
         (Command.Amend holder.entry.name.now number max until) result }
 {
     let rows = rows_with_access(holder.rows, basis.day, basis.caller, Access::Alter)?;
-    let auth = permitted(rows, basis.day, basis.caller, Access::Alter, number)?;
+    let auth = auth_with_access(rows, basis.day, basis.caller, Access::Alter, number)?;
     require(are_dates(basis.day, auth.from, until), Rule::Dates)?;
     require(auth.fits_length(max), Rule::Length)?;
     let amended = Auth {
@@ -227,7 +234,7 @@ fn decide_withdraw(basis: Basis<'_>, holder: Holder<'_>, number: u32) -> Result<
         (Command.Withdraw holder.entry.name.now number) result }
 {
     let rows = rows_with_access(holder.rows, basis.day, basis.caller, Access::Alter)?;
-    permitted(rows, basis.day, basis.caller, Access::Alter, number)?;
+    auth_with_access(rows, basis.day, basis.caller, Access::Alter, number)?;
     Ok(change_of(holder.name, Edit::Withdraw(number)))
 }
 

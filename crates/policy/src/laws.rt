@@ -3,6 +3,7 @@
 ghost use Rattle.policy.specs.Ended.{EndsJustOverlapping};
 ghost use Rattle.policy.specs.SharedVrps.{NoSharedVrp};
 ghost use Rattle.policy.specs.Unregistered.{UnregisteredHaveNothing};
+ghost use Rattle.policy.specs.Values.{LegalRowsFit};
 
 /// Over a legal history no two active authorizations, of whatever holders, give the same AS, prefix
 /// and maxLength.
@@ -21,4 +22,10 @@ pub fn unregistered_have_nothing()
 /// share an address with its prefix, and no authorization of another holder.
 pub fn ends_just_overlapping()
     ensures { EndsJustOverlapping }
+{}
+
+/// The rows of a holder after a legal history whose values are those of their types have such
+/// values too, and at most 999,999 grants and as many authorizations were made.
+pub fn legal_rows_fit()
+    ensures { LegalRowsFit }
 {}

@@ -6,7 +6,8 @@ ghost use Rattle.policy.specs.Rows.{rows_if_any, RowsIfAny};
 ghost use Rattle.policy.specs.Verdict.{IsLegal, ShowVerdict};
 ghost use Rattle.policy.specs.Answer.{IsShown, IsListed, IsListRefusal};
 
-use crate::admission::{may_reach, permitted, rows_with_access};
+use crate::admission::{auth_with_access, rows_with_access};
+use crate::grant::is_permitted;
 use crate::{Access, Auth, Granted, HolderRows, Refusal, Rule};
 use addr::{Day, Name};
 use std::alloc::{AllocError, Global};
@@ -25,7 +26,7 @@ pub fn see<'a>(
         (λ rule. ShowVerdict history h day caller.now number (Some rule)) }
 {
     let rows = rows_with_access(rows, day, caller, Access::Look)?;
-    permitted(rows, day, caller, Access::Look, number)
+    auth_with_access(rows, day, caller, Access::Look, number)
 }
 
 fn permitted_auths(
@@ -40,7 +41,7 @@ fn permitted_auths(
 {
     auths
         .iter()
-        .filter(|auth| may_reach(grants, day, caller, Access::Look, auth))
+        .filter(|auth| is_permitted(grants, day, caller, Access::Look, &auth.prefix))
         .copied()
         .collect(alloc)
 }

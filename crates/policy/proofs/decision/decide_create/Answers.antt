@@ -2,7 +2,9 @@ use Rattle.std.proofs.Common.{ℕ, ◌+◌, ◌∷◌, sym, ◌∙◌, ap, Some}
 use Rattle.policy.specs.declared.authorization.Auth.{Auth}
 use Rattle.policy.specs.declared.command.Command.TheVariants.{Create}
 use Rattle.policy.specs.Answer.{number_made}
+use Rattle.policy.specs.declared.grant.Access.TheVariants.{Alter}
 use Rattle.policy.specs.History.{Entry}
+use Rattle.policy.specs.Permission.{is_permitted}
 use Rattle.policy.proofs.RowsLemmas.{carried}
 use Rattle.policy.proofs.CarryTerms.{carries-create}
 use Rattle.policy.proofs.decision.decide_create.Goals as goal
@@ -14,7 +16,8 @@ returns c history legal are =
     let t = a.terms.now in
     let e : Entry = record { day = a.basis.day; caller = a.basis.caller.now; command = Create h t.asn t.prefix t.max t.from t.until } in
     let had = c.in_ok-rows.ensures a.basis.charter.now history h legal are in
-    let scope = sym (c.may_alter.ensures history h had.2) ∙ c.in_ok-require.ensures in
+    let permitted = ap (λ gs. is_permitted gs a.basis.day a.basis.caller.now Alter t.prefix) (c.deref.ensures.value ∙ had.2.grants) in
+    let scope = sym (c.is_permitted.ensures ∙ permitted) ∙ c.in_ok-require.ensures in
     let dates = c.are_dates.ensures.0 c.in_ok-require-2.ensures in
     let length = sym c.fits_length.ensures ∙ c.in_ok-require-3.ensures in
     let held = (c.holds.ensures history h had.2).0 c.in_ok-require-4.ensures in

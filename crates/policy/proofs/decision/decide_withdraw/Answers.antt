@@ -12,7 +12,7 @@ returns c history legal are =
     let h = a.holder.name.now in
     let e : Entry = record { day = a.basis.day; caller = a.basis.caller.now; command = Withdraw h a.number } in
     let had = c.in_ok-rows.ensures a.basis.charter.now history h legal are in
-    let number = c.in_ok-permitted.ensures history h had.2 in (
+    let number = c.in_ok-auth_with_access.ensures history h had.2 in (
       (had.0, (number.1, tt)),
       ap (λ ch. number_made ch.first.edit) c.change_of.ensures,
       carried history (e ∷ history) c.change_of.result _ c.change_of.ensures

@@ -5,10 +5,10 @@ use Rattle.policy.specs.Rows.{rows_of}
 use Rattle.policy.specs.Terms.{grant_terms}
 use Rattle.policy.specs.Verdict.{numbered}
 use Rattle.policy.proofs.RowsLemmas.{number-from, number-none}
-use Rattle.policy.proofs.admission.permitted.Goals as goal
+use Rattle.policy.proofs.admission.auth_with_access.Goals as goal
 
-pub returns-else-may_reach : goal.returns-else-may_reach
-returns-else-may_reach c history h are =
+pub returns-else-is_permitted : goal.returns-else-is_permitted
+returns-else-is_permitted c history h are =
     let a = c.args in
     let x = c.in-Some.auth.now in
     let found = ap (numbered a.number) (sym c.deref.ensures.value) ∙ sym c.in-Some.ensures in (
@@ -16,7 +16,7 @@ returns-else-may_reach c history h are =
           let reached = number-from history h (rows_of a.rows.now) a.number x
           (λ y. is_permitted_terms (grant_terms history h) a.day a.caller.now a.access y ≡ true) are found of in
           let same = ap (λ gs. is_permitted_terms gs a.day a.caller.now a.access x) (c.deref-in-Some.ensures.value ∙ are.grants) in
-          false≢true (sym c.if-may_reach.false ∙ c.may_reach.ensures ∙ same ∙ reached),
+          false≢true (sym c.if-is_permitted.false ∙ c.is_permitted.ensures ∙ same ∙ reached),
       refl,
     )
 
