@@ -1,5 +1,5 @@
--- Every fault of a line as a request, wherever it stands in the line: the lowest of all is told. A line is
--- judged by the tree that the JSON reader gives: of a repeated member it has the last value.
+-- Every fault of a line as a request, wherever it stands in the line: the lowest of all is told. A line
+-- is judged by the tree that the JSON reader gives: of a repeated member it has the last value.
 use Rattle.std.specs.Prelude.{ℕ, nat_le, nat_lt, ◌&&◌, Bool, List, [], ◌∷◌, ◌++◌, map, length, codes, if◌then◌else◌, Option, Some, None, option_map, option_and_then}
 use Rattle.std.specs.List.{flat_map}
 use Rattle.std.specs.Str.{bytes_eq}
@@ -18,8 +18,7 @@ use Rattle.web.specs.declared.request.fault.Fault.{Fault}
 use Rattle.web.specs.declared.request.fault.Fault.TheVariants.{Json, Members, Holder, Caller, Prefix, Asn, Max, Day, Role as RoleFault, Number, Count, TooLong}
 use Rattle.web.specs.declared.request.routes.TheConstants.{MOST_ROUTES}
 
--- ---- their numbers
-
+-- where several faults apply, the one of the lowest number is told
 abbrev pub malformed_number : Fault → ℕ
 malformed_number Json = 1
 malformed_number Members = 2
@@ -34,8 +33,9 @@ malformed_number Number = 10
 malformed_number Count = 12
 malformed_number TooLong = 13
 
--- ---- kinds of members: the faults of a value, by the object that it stands in
+-- ---- kinds of members
 
+-- the faults of a value that is to be of a kind, by the object that it stands in
 abbrev pub Kind : Type 0
 Kind = Data → Data → List Fault
 
@@ -73,8 +73,9 @@ scope d = reading_faults (as_scope (role_at d)) RoleFault
 abbrev pub number : Kind
 number d = reading_faults as_number Number
 
--- ---- members of objects: each of these has to be there, and there is no other
+-- ---- members
 
+-- of an object, in which each of these members has to be
 abbrev pub member_faults : List (List ℕ × Kind) → Data → List Fault
 member_faults members d = flat_map (λ m. required_faults Members (m.1 d) (get m.0 d)) members
 
@@ -95,7 +96,8 @@ is_route_count n = nat_le 1 n && nat_le n MOST_ROUTES
 abbrev pub routes_faults : Option Items → List Fault
 routes_faults None = Members ∷ []
 routes_faults (Some items) =
-    flat_map route_faults (list_of items) ++ fault_unless (is_route_count (length (list_of items))) Count
+    flat_map route_faults (list_of items)
+    ++ fault_unless (is_route_count (length (list_of items))) Count
 
 abbrev pub routes : Kind
 routes d value = routes_faults (as_array value)
@@ -154,7 +156,8 @@ members_of action = (codes "day", day) ∷ (codes "caller", caller_name) ∷ own
 abbrev pub action_faults : Option Action → Data → List Fault
 action_faults None d = Members ∷ []
 action_faults (Some action) d =
-    member_faults (members_of action) d ++ name_faults Members (codes "do" ∷ names_of (members_of action)) d
+    member_faults (members_of action) d
+    ++ name_faults Members (codes "do" ∷ names_of (members_of action)) d
 
 abbrev pub tree_faults : Option Data → List Fault
 tree_faults None = Json ∷ []
@@ -168,4 +171,5 @@ request_faults line =
 -- why a line is no request
 abbrev pub request_fault : List ℕ → Option Malformed
 request_fault line =
-    option_map (λ fault. record { number = malformed_number fault; slurm = None }) (lowest malformed_number (request_faults line))
+    option_map (λ fault. record { number = malformed_number fault; slurm = None })
+    (lowest malformed_number (request_faults line))

@@ -1,5 +1,6 @@
--- How the code reads a request: from all of its parts at once (`both`, `unless`, `each`), so that the
--- fault is the lowest. Which faults a line has stands in `RequestFaults`, what it asks in `RequestText`.
+-- A step of the code, not a definition: how it reads a request, from all of its parts at once, so that
+-- it finds the lowest fault. Which faults a line has stands in `RequestFaults`, what it asks in
+-- `RequestText`.
 use Rattle.std.specs.Prelude.{ℕ, nat_lt, List, ◌∷◌, length, codes, if◌then◌else◌, Option, Some, None, option_and_then, Result, Ok, Err}
 use Rattle.std.specs.Option.{ok_or}
 use Rattle.addr.specs.declared.prefix.Prefix.{Prefix}
@@ -28,10 +29,9 @@ pub data RequestTerms : Type 0 where
   request : Request → RequestTerms
   validity : List Route → RequestTerms
 
-pub record AskedTerms : Type 0 where
-  pub day : ℕ
-  pub caller : List ℕ
-  pub request : RequestTerms
+-- the day, the caller and the request
+abbrev pub AskedTerms : Type 0
+AskedTerms = ℕ × (List ℕ × RequestTerms)
 
 abbrev pub request_terms : Request → RequestTerms
 request_terms (CommandRequest c) = request (CommandRequest c)
@@ -42,8 +42,7 @@ request_terms (QueryRequest Payloads) = request (QueryRequest Payloads)
 request_terms (QueryRequest (Validity routes)) = validity routes.items
 
 abbrev pub asked_terms : Asked → AskedTerms
-asked_terms asked =
-    record { day = asked.day; caller = asked.caller; request = request_terms asked.request }
+asked_terms asked = (asked.day, (asked.caller, request_terms asked.request))
 
 -- ---- members
 
@@ -82,7 +81,8 @@ count_of n = if is_route_count n then Ok tt else Err Count
 abbrev pub routes_of : Option Items → Result (List Route) Fault
 routes_of None = Err Members
 routes_of (Some items) =
-    unless malformed_number (each malformed_number route_in (list_of items)) (count_of (length (list_of items)))
+    unless malformed_number (each malformed_number route_in (list_of items))
+    (count_of (length (list_of items)))
 
 abbrev pub routes_in : Data → Result (List Route) Fault
 routes_in d = routes_of (option_and_then as_array (get (codes "routes") d))
@@ -116,7 +116,8 @@ request_in AskGrant d =
 request_in AskRevoke d =
     mapped (λ p. request (CommandRequest (Revoke p.0 p.1))) (holder_and_number d)
 request_in AskCreate d =
-    mapped (λ p. request (CommandRequest (Create p.0 p.1.0 p.1.1.0 p.1.1.1.0 p.1.1.1.1.0 p.1.1.1.1.1)))
+    mapped (λ p. request
+    (CommandRequest (Create p.0 p.1.0 p.1.1.0 p.1.1.1.0 p.1.1.1.1.0 p.1.1.1.1.1)))
     (both malformed_number (holder_in (codes "holder") d)
     (both malformed_number (member_in as_asn Asn (codes "asn") d)
     (both malformed_number (prefix_in d)
@@ -125,25 +126,25 @@ request_in AskCreate d =
 request_in AskAmend d =
     mapped (λ p. request (CommandRequest (Amend p.0 p.1.0 p.1.1.0 p.1.1.1)))
     (both malformed_number (holder_in (codes "holder") d)
-    (both malformed_number (number_in d) (both malformed_number (max_in d) (day_in (codes "until") d))))
+    (both malformed_number (number_in d)
+    (both malformed_number (max_in d) (day_in (codes "until") d))))
 request_in AskWithdraw d =
     mapped (λ p. request (CommandRequest (Withdraw p.0 p.1))) (holder_and_number d)
 request_in AskShow d = mapped (λ p. request (QueryRequest (Show p.0 p.1))) (holder_and_number d)
-request_in AskContent d = mapped (λ p. request (QueryRequest (Content p.0 p.1))) (holder_and_number d)
-request_in AskList d = mapped (λ p. request (QueryRequest (ListQuery p))) (holder_in (codes "holder") d)
+request_in AskContent d =
+    mapped (λ p. request (QueryRequest (Content p.0 p.1))) (holder_and_number d)
+request_in AskList d =
+    mapped (λ p. request (QueryRequest (ListQuery p))) (holder_in (codes "holder") d)
 request_in AskPayloads d = Ok (request (QueryRequest Payloads))
 request_in AskValidity d = mapped validity (routes_in d)
 
 -- ---- lines
 
-abbrev pub asked_with : ℕ × (List ℕ × RequestTerms) → AskedTerms
-asked_with p = record { day = p.0; caller = p.1.0; request = p.1.1 }
-
 abbrev pub asked_as : Action → Data → Result AskedTerms Fault
 asked_as action d =
-    unless malformed_number (mapped asked_with
+    unless malformed_number
     (both malformed_number (day_in (codes "day") d)
-    (both malformed_number (caller_in (codes "caller") d) (request_in action d))))
+    (both malformed_number (caller_in (codes "caller") d) (request_in action d)))
     (only Members (codes "do" ∷ names_of (members_of action)) d)
 
 abbrev pub asked_by : Option Action → Data → Result AskedTerms Fault
