@@ -1,14 +1,16 @@
 -- What a reading tells is the lowest of all faults, combinator by combinator.
 use Rattle.std.proofs.Common.{◌≡◌, ℕ, Bool, true, false, if◌then◌else◌, List, [], ◌∷◌, ◌++◌, Option, Some, None, is_some, Result, Ok, Err, refl, ap, sym, ◌∙◌}
-use Rattle.std.specs.List.{flat_map}
+use Rattle.std.proofs.lemmas.Bool.{and_parts}
+use Rattle.std.proofs.lemmas.List.Folds.{list_all-append}
+use Rattle.std.specs.List.{flat_map, list_all}
 use Rattle.std.specs.Option.{ok_or}
 use Rattle.std.specs.Result.{result_err}
 use Rattle.serde_json.specs.Data.{Data, Members}
 use Rattle.serde_json.specs.Find.{as_object}
 use Rattle.json_values.specs.Faults.{fault_unless, is_object_of, lower_of, lowest, name_faults, optional_faults, required_faults}
-use Rattle.json_values.specs.Parts.{both, each, mapped, unless}
+use Rattle.json_values.specs.Parts.{both, each, lower, mapped, unless}
 use Rattle.json_values.specs.Tree.{has_only, only, only_of, optional, required}
-use Rattle.json_values.proofs.PartsLemmas.{lower_assoc}
+use Rattle.json_values.proofs.PartsLemmas.{lower-each, lower_assoc}
 
 lower_of-assoc : {F : Type 0} (number : F → ℕ) (a b c : Option F) → lower_of number (lower_of number a b) c ≡ lower_of number a (lower_of number b c)
 lower_of-assoc number None b c = refl
@@ -70,3 +72,40 @@ told-optional number reading faults (Some d) h = told-mapped Some (h d)
 pub told-each : {A F : Type 0} (number : F → ℕ) (reading : Data → Result A F) (faults : Data → List F) (ds : List Data) → ((d : Data) → Told number (reading d) (faults d)) → Told number (each number reading ds) (flat_map faults ds)
 told-each number reading faults [] h = record { is = refl }
 told-each number reading faults (d ∷ ds) h = told-mapped (λ p. p.0 ∷ p.1) (told-both (h d) (told-each number reading faults ds h))
+
+-- ---- a test that all faults of a list pass
+
+pub record Pass {F : Type 0} (p : F → Bool) (faults : List F) : Type 0 where
+  pub each : list_all p faults ≡ true
+
+pub pass-append : {F : Type 0} {p : F → Bool} {xs ys : List F} → Pass p xs → Pass p ys → Pass p (xs ++ ys)
+pass-append {p = p} {xs = xs} {ys = ys} h k = record { each = rw (list_all-append p xs ys, h.each, k.each) refl }
+
+pub pass-unless : {F : Type 0} {p : F → Bool} (b : Bool) (n : F) → p n ≡ true → Pass p (fault_unless b n)
+pass-unless true n h = record { each = refl }
+pass-unless false n h = record { each = rw h refl }
+
+pub pass-required : {F : Type 0} {p : F → Bool} (missing : F) (faults : Data → List F) (o : Option Data) → p missing ≡ true → ((d : Data) → Pass p (faults d)) → Pass p (required_faults missing faults o)
+pass-required missing faults None h k = record { each = rw h refl }
+pass-required missing faults (Some d) h k = k d
+
+pub pass-optional : {F : Type 0} {p : F → Bool} (faults : Data → List F) (o : Option Data) → ((d : Data) → Pass p (faults d)) → Pass p (optional_faults faults o)
+pass-optional faults None k = record { each = refl }
+pass-optional faults (Some d) k = k d
+
+pub pass-flat_map : {F : Type 0} {p : F → Bool} (faults : Data → List F) (ds : List Data) → ((d : Data) → Pass p (faults d)) → Pass p (flat_map faults ds)
+pass-flat_map faults [] k = record { each = refl }
+pass-flat_map faults (d ∷ ds) k = pass-append (k d) (pass-flat_map faults ds k)
+
+lower_of-passes : {F : Type 0} (number : F → ℕ) (p : F → Bool) (m : F) (o : Option F) (n : F) → p m ≡ true → ((k : F) → o ≡ Some k → p k ≡ true) → lower_of number (Some m) o ≡ Some n → p n ≡ true
+lower_of-passes number p m None n first others told = let same : m ≡ n = cc in rw (← same) first
+lower_of-passes number p m (Some k) n first others told =
+    let same : lower number m k ≡ n = cc in
+    rw (← same) (lower-each number (λ f. p f ≡ true) m k first (others k refl))
+
+-- then the lowest passes it
+pub lowest-passes : {F : Type 0} (number : F → ℕ) (p : F → Bool) (faults : List F) (n : F) → Pass p faults → lowest number faults ≡ Some n → p n ≡ true
+lowest-passes number p [] n h told = cc
+lowest-passes number p (m ∷ faults) n h told =
+    let both = and_parts (p m) (list_all p faults) h.each in
+    lower_of-passes number p m (lowest number faults) n both.0 (λ k is. lowest-passes number p faults k (record { each = both.1 }) is) told

@@ -1,7 +1,7 @@
 -- The lower of two faults, and the lowest fault of a list that is read from its front.
 use Rattle.std.proofs.Common.{◌≡◌, ℕ, ◌≤◌, ◌<◌, inl, inr, List, [], ◌∷◌, ◌++◌, Result, Ok, Err, refl, ap, sym, ◌∙◌, arith}
 use Rattle.std.proofs.lemmas.Bool.Decides.{leb_tells, nat_tests}
-use Rattle.json_values.specs.Parts.{both, each, lower, mapped, unless}
+use Rattle.json_values.specs.Parts.{both, each, lower, mapped, unless, with_last}
 
 pub lower-first : {F : Type 0} (number : F → ℕ) (one other : F) → number one ≤ number other → lower number one other ≡ one
 unfolding lower
@@ -39,8 +39,8 @@ mapped-unless number f (Err m) (Err n) = refl
 
 -- an item at the front and one at the end of a list, read in either order
 both-ends : {A F : Type 0} (number : F → ℕ) (first : Result A F) (middle : Result (List A) F) (last : Result A F) →
-    mapped (λ p. p.0 ∷ p.1) (both number first (mapped (λ p. p.0 ++ p.1 ∷ []) (both number middle last)))
-    ≡ mapped (λ p. p.0 ++ p.1 ∷ []) (both number (mapped (λ p. p.0 ∷ p.1) (both number first middle)) last)
+    mapped (λ p. p.0 ∷ p.1) (both number first (with_last number middle last))
+    ≡ with_last number (mapped (λ p. p.0 ∷ p.1) (both number first middle)) last
 both-ends number (Ok a) (Ok m) (Ok z) = refl
 both-ends number (Ok a) (Ok m) (Err z) = refl
 both-ends number (Ok a) (Err m) (Ok z) = refl
@@ -51,10 +51,10 @@ both-ends number (Err a) (Err m) (Ok z) = refl
 both-ends number (Err a) (Err m) (Err z) = ap Err (sym (lower_assoc number a m z))
 
 pub each-append : {A D F : Type 0} (number : F → ℕ) (reading : D → Result A F) (ds : List D) (d : D) →
-    each number reading (ds ++ d ∷ []) ≡ mapped (λ p. p.0 ++ p.1 ∷ []) (both number (each number reading ds) (reading d))
+    each number reading (ds ++ d ∷ []) ≡ with_last number (each number reading ds) (reading d)
 each-append {A} {D} {F} number reading [] d = alone (reading d)
   where
-    alone : (r : Result A F) → mapped {B = List A} (λ p. p.0 ∷ p.1) (both number r (Ok [])) ≡ mapped (λ p. p.0 ++ p.1 ∷ []) (both number (Ok []) r)
+    alone : (r : Result A F) → mapped {B = List A} (λ p. p.0 ∷ p.1) (both number r (Ok [])) ≡ with_last number (Ok []) r
     alone (Ok a) = refl
     alone (Err n) = refl
 each-append number reading (x ∷ ds) d =

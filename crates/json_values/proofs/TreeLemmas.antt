@@ -12,7 +12,7 @@ use Rattle.serde_json.specs.Find.{as_object}
 use Rattle.serde_json.specs.Read.{read}
 use Rattle.serde_json.specs.View.{view, items_of, items_view, members_view}
 use Rattle.serde_json.specs.declared.value.Value.{Value}
-use Rattle.json_values.specs.Parts.{both, each, mapped}
+use Rattle.json_values.specs.Parts.{each, with_last}
 use Rattle.json_values.specs.Tree.{has_only, is_among, list_of, only, tree_of}
 use Rattle.json_values.proofs.PartsLemmas.{each-append}
 
@@ -47,7 +47,7 @@ list_of-items_view values = list_of-items_of (map view values)
 -- one more item is read
 pub each-more : {A F : Type 0} (number : F → ℕ) (reading : Data → Result A F) (values : List Value) (i : ℕ) (value : Value) (before after : Result (List A) F) (entry : Result A F) →
     i < length values → value ≡ get_or values i value → before ≡ each number reading (map view (take i values)) → entry ≡ reading (view value) →
-    after ≡ mapped (λ p. p.0 ++ p.1 ∷ []) (both number before entry) → after ≡ each number reading (map view (take (i + 1) values))
+    after ≡ with_last number before entry → after ≡ each number reading (map view (take (i + 1) values))
 each-more number reading values i value before after entry below here so_far read added =
     let grown : take (i + 1) values ≡ take i values ++ value ∷ [] =
     take_more values i value below ∙ ap (λ v. take i values ++ v ∷ []) (sym here) in

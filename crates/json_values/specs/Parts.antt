@@ -1,6 +1,6 @@
--- Values that are read of several parts. A whole is read from all of its parts, so that its fault is
--- the lowest of all of theirs, wherever they stand: faults are compared by `number`.
-use Rattle.std.specs.Prelude.{ℕ, nat_le, if◌then◌else◌, List, [], ◌∷◌, Option, Some, None, Result, Ok, Err}
+-- Steps of readers: values that are read of several parts. A whole is read from all of its parts, so
+-- that its fault is the lowest of all of theirs, wherever they stand: faults are compared by `number`.
+use Rattle.std.specs.Prelude.{ℕ, nat_le, if◌then◌else◌, List, [], ◌∷◌, ◌++◌, Option, Some, None, Result, Ok, Err}
 
 -- the one of the lower number
 unfoldable pub lower : {F : Type 0} → (F → ℕ) → F → F → F
@@ -30,6 +30,11 @@ unless number value other = mapped (λ p. p.0) (both number value other)
 abbrev pub each : {A D F : Type 0} → (F → ℕ) → (D → Result A F) → List D → Result (List A) F
 each number reading [] = Ok []
 each number reading (d ∷ ds) = mapped (λ p. p.0 ∷ p.1) (both number (reading d) (each number reading ds))
+
+-- the values and one more after them, or the lowest fault of any
+abbrev pub with_last : {A F : Type 0}
+    → (F → ℕ) → Result (List A) F → Result A F → Result (List A) F
+with_last number values last = mapped (λ p. p.0 ++ p.1 ∷ []) (both number values last)
 
 -- what was read of some items so far: all of their values, or the lowest fault of any
 abbrev pub gathered : {A F : Type 0} → Option F → List A → Result (List A) F

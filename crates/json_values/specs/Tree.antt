@@ -1,5 +1,5 @@
--- The parts of a JSON tree. The tree is the one that the JSON reader gives: of a repeated member it has
--- the last value.
+-- The parts of a JSON tree. The tree is the one that the JSON reader gives: of a repeated member it
+-- has the last value.
 use Rattle.std.specs.Prelude.{ℕ, List, [], ◌∷◌, Bool, true, ◌&&◌, if◌then◌else◌, Option, Some, None, Result, Ok, Err}
 use Rattle.std.specs.List.{list_any}
 use Rattle.std.specs.Str.{bytes_eq, is_utf8}

@@ -1,6 +1,6 @@
--- The values that lines and SLURM files write in JSON: texts as addr reads them, and whole numbers. A
--- number is unsigned in a JSON tree exactly where it is written as plain decimal digits and is below
--- 2 ^ 64.
+-- The values that lines and SLURM files write in JSON: texts as addr reads them, and whole numbers.
+-- A number is unsigned in a JSON tree exactly where it is written as plain decimal digits and is
+-- below 2 ^ 64.
 use Rattle.std.specs.Prelude.{ℕ, ◌^◌, nat_le, nat_lt, ◌&&◌, if◌then◌else◌, List, Option, Some, None, option_and_then}
 use Rattle.addr.specs.Day.{day_in}
 use Rattle.addr.specs.Name.{name_in}

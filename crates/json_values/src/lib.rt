@@ -1,4 +1,4 @@
-//! Reading JSON values: the values that lines and SLURM files have in common, and the parts of a value.
+//! Reading JSON values: those that lines and SLURM files have in common, and the parts of a value.
 //! All parts are read, and of all their faults the one of the lowest number is told.
 #![tactic(auto)]
 

@@ -1,6 +1,6 @@
-ghost use Rattle.std.specs.Prelude.{◌≡◌, ◌++◌, ◌∷◌, [], map, IfOk, OnOk};
+ghost use Rattle.std.specs.Prelude.{◌≡◌, map, IfOk, OnOk};
 ghost use Rattle.serde_json.specs.View.{view};
-ghost use Rattle.json_values.specs.Parts.{both, each, gathered, mapped};
+ghost use Rattle.json_values.specs.Parts.{each, gathered, mapped, with_last};
 
 use crate::fault::lower;
 use crate::{Fault, FromJson};
@@ -17,7 +17,7 @@ struct Gathered<T, F> {
 impl<T: Drop, F: Fault> Gathered<T, F> {
     fn add(&mut self, value: Result<T, F>) -> Result<(), AllocError>
         ensures { OnOk result (gathered self.new.fault self.new.values.items
-            ≡ mapped (λ p. p.0 ++ p.1 ∷ []) (both F.number (gathered self.old.fault self.old.values.items) value)) }
+            ≡ with_last F.number (gathered self.old.fault self.old.values.items) value) }
     {
         match (value, self.fault) {
             (Ok(value), None) => self.values.push(value)?,
@@ -43,7 +43,8 @@ pub fn each<T: FromJson<F>, F: Fault>(
     alloc: Global,
     values: &[Value],
 ) -> Result<Result<Vec<T>, F>, AllocError>
-    ensures { IfOk result (λ read. mapped (λ v. v.items) read ≡ each F.number T.reading (map view values.now)) }
+    ensures { IfOk result (λ read. mapped (λ v. v.items) read
+        ≡ each F.number T.reading (map view values.now)) }
 {
     let mut gathered = Gathered {
         values: Vec::new(alloc),

@@ -22,7 +22,8 @@ pub trait FromJson<F: Fault>: Drop {
 
 /// The member of that name, which has to be there.
 pub fn member<'a, F: Fault>(value: &'a Value, name: &str) -> Result<&'a Value, F>
-    ensures { mapped (λ found. view found.now) result ≡ ok_or (get name.now (view value.now)) F.members }
+    ensures { mapped (λ found. view found.now) result
+        ≡ ok_or (get name.now (view value.now)) F.members }
 {
     value.get(name).ok_or(F::members())
 }
@@ -62,7 +63,9 @@ pub fn only<F: Fault>(value: &Value, names: &[&str]) -> Result<(), F>
 }
 
 fn has_only(members: &Map<String, Value>, names: &[&str]) -> bool
-    ensures { result ≡ list_all (λ key. list_any (λ known. bytes_eq known.now (string_bytes key)) names.now) (keys members.now) }
+    ensures { result
+        ≡ list_all (λ key. list_any (λ known. bytes_eq known.now (string_bytes key)) names.now)
+        (keys members.now) }
 {
     members.keys().all(|name| is_among(name.as_str(), names))
 }

@@ -1,5 +1,5 @@
 -- What was read of a file is what its entries say.
-use Rattle.std.proofs.Common.{◌≡◌, ℕ, ◌≤◌, ◌^◌, Bool, true, false, if◌then◌else◌, nat_le, nat_lt, List, [], ◌∷◌, codes, Option, Some, None, option_and_then, Result, Ok, Err, refl, ap, sym, ◌∙◌, subst}
+use Rattle.std.proofs.Common.{◌≡◌, ℕ, ◌≤◌, ◌^◌, Bool, true, false, if◌then◌else◌, nat_le, nat_lt, List, [], ◌∷◌, length, ◌+◌, codes, Option, Some, None, option_and_then, Result, Ok, Err, refl, ap, sym, ◌∙◌, subst}
 use Rattle.std.proofs.Math.Decide.{dec_le}
 use Rattle.std.specs.Prelude.{IfOk}
 use Rattle.std.specs.List.{AllZip}
@@ -15,11 +15,12 @@ use Rattle.serde_json.specs.Find.{get}
 use Rattle.json_values.specs.Parts.{both, mapped, and_then, unless, each}
 use Rattle.json_values.specs.Tree.{required, optional, only, list_of}
 use Rattle.json_values.specs.Values.{as_asn, asn_of}
-use Rattle.slurm.specs.Exceptions.{Exceptions, entry_count}
+use Rattle.slurm.specs.Exceptions.{Exceptions, exceptions_of}
 use Rattle.slurm.specs.Fault.{slurm_fault_number}
 use Rattle.slurm.specs.SlurmEntries.{IsPrefixMember, IsAsnMember, IsFilterOf, SaysFilter, IsMaxLengthMember, SaysAssertion, SaysExceptions}
-use Rattle.slurm.specs.SlurmFaults.{array_at, items_at}
-use Rattle.slurm.specs.SlurmFile.{prefix_in, asn_in, length_in, version_in, filter_of, filter_in, vrp_if, max_length, assertion_of, assertion_in, entries_from, bgpsec_from, part_in, filters_in, assertions_in, object_in, within_limit, exceptions_of, file_in, slurm_in}
+use Rattle.slurm.specs.SlurmFaults.{array_at, assertions_at, filters_at, items_at}
+use Rattle.slurm.specs.steps.SlurmFile.{prefix_in, asn_in, length_in, filter_of, filter_in, vrp_if, max_length, assertion_of, assertion_in, entries_from, bgpsec_from, part_in, filters_in, assertions_in, lists_in, slurm_in}
+use Rattle.slurm.specs.declared.exceptions.TheConstants.{MOST_ENTRIES}
 use Rattle.slurm.specs.declared.fault.SlurmFault.{SlurmFault}
 use Rattle.slurm.specs.declared.fault.SlurmFault.TheVariants.{Members, Prefix as PrefixFault, Asn as AsnFault, MaxPrefixLength, TooMany}
 use Rattle.slurm.specs.declared.filter.Filter.{Filter}
@@ -190,38 +191,39 @@ part-said reading Says said entries bgpsec (Some d) xs e =
     (beside-Ok (entries_from reading (array_at entries d)) (only Members (entries ∷ bgpsec ∷ []) d) xs
     (beside-Ok (unless slurm_fault_number (entries_from reading (array_at entries d)) (only Members (entries ∷ bgpsec ∷ []) d)) (bgpsec_from (array_at bgpsec d)) xs e))
 
-lists-said : (filters : Result (List Filter) SlurmFault) (assertions : Result (List Vrp) SlurmFault) (file : Exceptions) → mapped exceptions_of (both slurm_fault_number filters assertions) ≡ Ok file → (filters ≡ Ok file.filters) × (assertions ≡ Ok file.assertions)
-lists-said (Ok f) (Ok a) file e =
-    let same : exceptions_of (f, a) ≡ file = cc in (ap (λ (x : Exceptions). Ok x.filters) same, ap (λ (x : Exceptions). Ok x.assertions) same)
-lists-said (Ok f) (Err n) file e = cc
-lists-said (Err m) (Ok a) file e = cc
-lists-said (Err m) (Err n) file e = cc
+both-said : (filters : Result (List Filter) SlurmFault) (assertions : Result (List Vrp) SlurmFault) (lists : List Filter × List Vrp) → both slurm_fault_number filters assertions ≡ Ok lists → (filters ≡ Ok lists.0) × (assertions ≡ Ok lists.1)
+both-said (Ok f) (Ok a) lists e =
+    let same : (f, a) ≡ lists = cc in (ap (λ (p : List Filter × List Vrp). Ok p.0) same, ap (λ (p : List Filter × List Vrp). Ok p.1) same)
+both-said (Ok f) (Err n) lists e = cc
+both-said (Err m) (Ok a) lists e = cc
+both-said (Err m) (Err n) lists e = cc
 
-within_limit-said : (read : Result Exceptions SlurmFault) (file : Exceptions) → and_then within_limit read ≡ Ok file → read ≡ Ok file
-within_limit-said (Ok x) file e = ap Ok (here (nat_le (entry_count x) 4096) e)
-  where
-    here : (b : Bool) → (if b then Ok x else Err TooMany) ≡ Ok file → x ≡ file
-    here true e = cc
-    here false e = cc
-within_limit-said (Err n) file e = cc
-
-pub slurm_in-said : (tree : Option Data) (file : Exceptions) → slurm_in tree ≡ Ok file → SaysExceptions tree file
-slurm_in-said None file e = cc
-slurm_in-said (Some d) file e =
+lists-said : (d : Data) (lists : List Filter × List Vrp) → lists_in d ≡ Ok lists →
+    AllZip SaysFilter (filters_at d) lists.0
+    × AllZip SaysAssertion (assertions_at d) lists.1
+lists-said d lists e =
     let filters = required Members filters_in (get (codes "validationOutputFilters") d) in
     let assertions = required Members assertions_in (get (codes "locallyAddedAssertions") d) in
-    let names = codes "slurmVersion" ∷ codes "validationOutputFilters" ∷ codes "locallyAddedAssertions" ∷ [] in
-    let lists = mapped exceptions_of (both slurm_fault_number filters assertions) in
-    let read = within_limit-said (file_in d) file e in
-    let parts = lists-said filters assertions file
-    (beside-Ok lists (object_in d) file
-    (beside-Ok (unless slurm_fault_number lists (object_in d)) (only Members names d) file
-    (beside-Ok (unless slurm_fault_number (unless slurm_fault_number lists (object_in d)) (only Members names d)) (required Members version_in (get (codes "slurmVersion") d)) file read))) in (
-      part-said filter_in SaysFilter filter-said (codes "prefixFilters") (codes "bgpsecFilters") (get (codes "validationOutputFilters") d) file.filters parts.0,
-      part-said assertion_in SaysAssertion assertion-said (codes "prefixAssertions") (codes "bgpsecAssertions") (get (codes "locallyAddedAssertions") d) file.assertions parts.1,
+    let parts = both-said filters assertions lists (beside-Ok _ _ lists (beside-Ok _ _ lists (beside-Ok _ _ lists e))) in (
+      part-said filter_in SaysFilter filter-said (codes "prefixFilters") (codes "bgpsecFilters") (get (codes "validationOutputFilters") d) lists.0 parts.0,
+      part-said assertion_in SaysAssertion assertion-said (codes "prefixAssertions") (codes "bgpsecAssertions") (get (codes "locallyAddedAssertions") d) lists.1 parts.1,
     )
 
+slurm_in-said : (d : Data) (file : Exceptions) → slurm_in d ≡ Ok file → SaysExceptions (Some d) file
+slurm_in-said d file e = here (lists_in d) refl e
+  where
+    kept : (lists : List Filter × List Vrp) (b : Bool) → (if b then Ok (record { filters = lists.0; assertions = lists.1 }) else Err TooMany) ≡ Ok file → (lists.0 ≡ file.filters) × (lists.1 ≡ file.assertions)
+    kept lists true e =
+        let same : record { filters = lists.0; assertions = lists.1 } ≡ file = cc in (ap (λ (x : Exceptions). x.filters) same, ap (λ (x : Exceptions). x.assertions) same)
+    kept lists false e = cc
+
+    here : (r : Result (List Filter × List Vrp) SlurmFault) → lists_in d ≡ r → and_then (λ p. exceptions_of p.0 p.1) r ≡ Ok file → SaysExceptions (Some d) file
+    here (Ok lists) read e =
+        let same = kept lists (nat_le (length lists.0 + length lists.1) MOST_ENTRIES) e in
+        rw (← same.0, ← same.1) (lists-said d lists read)
+    here (Err n) read e = cc
+
 -- of what was answered
-pub answer-said : (tree : Option Data) (answer : Result Exceptions SlurmFault) → IfOk answer (λ file. slurm_in tree ≡ Ok file) → IfOk answer (SaysExceptions tree)
-answer-said tree (Ok file) e = slurm_in-said tree file e
-answer-said tree (Err n) e = tt
+pub answer-said : (d : Data) (answer : Result Exceptions SlurmFault) → IfOk answer (λ file. slurm_in d ≡ Ok file) → IfOk answer (SaysExceptions (Some d))
+answer-said d (Ok file) e = slurm_in-said d file e
+answer-said d (Err n) e = tt

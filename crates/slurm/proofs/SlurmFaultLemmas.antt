@@ -1,10 +1,10 @@
 -- What the readings tell is the lowest of all faults of the tree.
-use Rattle.std.proofs.Common.{◌≡◌, ℕ, suc, ◌+◌, ◌≤◌, inl, inr, Bool, true, false, ◌||◌, ◌==◌, nat_le, List, [], ◌∷◌, ◌++◌, length, codes, Option, Some, None, is_some, option_and_then, option_map, Result, Ok, Err, refl, ap, sym, ◌∙◌, arith, lit≤}
-use Rattle.std.proofs.lemmas.Bool.{le-leb}
+use Rattle.std.proofs.Common.{◌≡◌, ◌≢◌, ℕ, suc, ◌+◌, ◌≤◌, inl, inr, Bool, true, false, ◌&&◌, ◌||◌, ◌==◌, nat_le, nat_lt, List, [], ◌∷◌, ◌++◌, length, codes, Option, Some, None, is_some, option_and_then, option_map, Result, Ok, Err, refl, ap, sym, subst, ◌∙◌, arith, lit≤}
+use Rattle.std.proofs.lemmas.Bool.{and_parts, le-leb, leb-true}
 use Rattle.std.proofs.lemmas.Bool.Decides.{leb_tells}
 use Rattle.std.proofs.lemmas.List.{append-nil}
 use Rattle.std.proofs.Math.Decide.{dec_le}
-use Rattle.std.specs.Prelude.{IfOk, OnOk}
+use Rattle.std.specs.Prelude.{IfOk, IfErr, OnOk}
 use Rattle.std.specs.Option.{ok_or}
 use Rattle.std.specs.Result.{result_err}
 use Rattle.addr.specs.Address.{fits_max_length}
@@ -14,21 +14,21 @@ use Rattle.addr.specs.declared.prefix.Prefix.{Prefix}
 use Rattle.addr.specs.declared.vrp.Vrp.{Vrp}
 use Rattle.serde_json.specs.Data.{Data, Items, no_items, item}
 use Rattle.serde_json.specs.Find.{get, as_object, as_str}
-use Rattle.json_values.proofs.FaultLemmas.{Told, err-both, lowest-append, told-both, told-each, told-if, told-mapped, told-ok_or, told-only, told-optional, told-required, told-unless}
+use Rattle.json_values.proofs.FaultLemmas.{Pass, Told, err-both, lowest-append, lowest-passes, pass-append, pass-flat_map, pass-optional, pass-required, pass-unless, told-both, told-each, told-if, told-mapped, told-ok_or, told-only, told-optional, told-required, told-unless}
 use Rattle.json_values.proofs.PartsLemmas.{lower-first}
-use Rattle.json_values.specs.Faults.{fault_unless, lower_of, lowest, name_faults, optional_faults, required_faults}
+use Rattle.json_values.specs.Faults.{fault_unless, lower_of, lowest, name_faults, optional_faults, reading_faults, required_faults}
 use Rattle.json_values.specs.Parts.{both, mapped, and_then, unless, each}
 use Rattle.json_values.specs.Tree.{required, optional, only, list_of}
 use Rattle.json_values.specs.Values.{as_asn, as_prefix, whole_number}
-use Rattle.slurm.specs.Exceptions.{Exceptions, entry_count}
+use Rattle.slurm.specs.Exceptions.{Exceptions, exceptions_of}
 use Rattle.slurm.specs.Fault.{slurm_fault_number}
-use Rattle.slurm.specs.SlurmFile.{prefix_in, asn_in, comment_in, length_in, version_from, version_in, filter_of, filter_in, vrp_if, vrp_with, max_length, assertion_of, assertion_in, entries_from, bgpsec_from, part_in, filters_in, assertions_in, object_in, within_limit, exceptions_of, file_in, slurm_in, IsSlurmFile}
-use Rattle.slurm.specs.SlurmFaults.{prefix_faults, asn_faults, comment_faults, is_one, version_faults, is_max_length, max_length_faults, filter_faults, assertion_faults, array_at, items_at, entries_faults, bgpsec_faults, part_faults, file_entries, slurm_fault}
+use Rattle.slurm.specs.steps.SlurmFile.{prefix_in, asn_in, comment_in, length_in, version_from, version_in, filter_of, filter_in, vrp_if, vrp_with, max_length, assertion_of, assertion_in, entries_from, bgpsec_from, part_in, filters_in, assertions_in, object_in, lists_in, slurm_in}
+use Rattle.slurm.specs.SlurmFaults.{assertion_names, file_names, filter_names, filters_faults, assertions_faults, prefix_of, prefix_faults, asn_faults, comment_faults, is_one, version_faults, is_max_length, max_length_faults, filter_faults, assertion_faults, array_at, items_at, entries_faults, bgpsec_faults, part_faults, entry_count, file_faults, slurm_fault}
+use Rattle.slurm.specs.declared.exceptions.TheConstants.{MOST_ENTRIES}
 use Rattle.slurm.specs.declared.fault.SlurmFault.{SlurmFault}
-use Rattle.slurm.specs.declared.fault.SlurmFault.TheVariants.{NotObject, Members, Version, Prefix as PrefixFault, Asn as AsnFault, MaxPrefixLength, EmptyFilter, Comment, TooMany}
+use Rattle.slurm.specs.declared.fault.SlurmFault.TheVariants.{NotJson, NotObject, Members, Version, Prefix as PrefixFault, Asn as AsnFault, MaxPrefixLength, EmptyFilter, Comment, TooMany, Memory}
 use Rattle.slurm.specs.declared.filter.Filter.{Filter}
 use Rattle.slurm.specs.declared.members.MaxPrefixLength.{MaxPrefixLength as LengthRead}
-use Rattle.slurm.proofs.JsonFaultLemmas.{OfTree, tree-file}
 
 -- ---- single members
 
@@ -82,7 +82,7 @@ told-filter_of None None = record { is = refl }
 told-filter : (d : Data) → Told slurm_fault_number (filter_in d) (filter_faults d)
 told-filter d =
     told-unless (told-unless (told-filter_of (get (codes "prefix") d) (get (codes "asn") d))
-    (told-only slurm_fault_number Members (codes "prefix" ∷ codes "asn" ∷ codes "comment" ∷ []) d))
+    (told-only slurm_fault_number Members filter_names d))
     (told-optional slurm_fault_number comment_in comment_faults (get (codes "comment") d) told-comment)
 
 -- ---- assertions
@@ -197,7 +197,7 @@ told-assertion_of (Some p) asn max = told-read_prefix (as_prefix p) asn max
 told-assertion : (d : Data) → Told slurm_fault_number (assertion_in d) (assertion_faults d)
 told-assertion d =
     told-unless (told-unless (told-assertion_of (get (codes "prefix") d) (get (codes "asn") d) (get (codes "maxPrefixLength") d))
-    (told-only slurm_fault_number Members (codes "prefix" ∷ codes "asn" ∷ codes "maxPrefixLength" ∷ codes "comment" ∷ []) d))
+    (told-only slurm_fault_number Members assertion_names d))
     (told-optional slurm_fault_number comment_in comment_faults (get (codes "comment") d) told-comment)
 
 -- ---- the file
@@ -215,24 +215,75 @@ told-part : {A : Type 0} (reading : Data → Result A SlurmFault) (faults : Data
 told-part reading faults entries bgpsec h d =
     told-unless (told-unless (told-entries reading faults (array_at entries d) h) (told-only slurm_fault_number Members (entries ∷ bgpsec ∷ []) d)) (told-bgpsec (array_at bgpsec d))
 
-abbrev parts_faults : Data → List SlurmFault
-parts_faults d =
-    required_faults Members (part_faults filter_faults (codes "prefixFilters") (codes "bgpsecFilters")) (get (codes "validationOutputFilters") d)
-    ++ required_faults Members (part_faults assertion_faults (codes "prefixAssertions") (codes "bgpsecAssertions")) (get (codes "locallyAddedAssertions") d)
+abbrev lists_faults : Data → List SlurmFault
+lists_faults d =
+    required_faults Members filters_faults (get (codes "validationOutputFilters") d)
+    ++ required_faults Members assertions_faults (get (codes "locallyAddedAssertions") d)
     ++ fault_unless (is_some (as_object d)) NotObject
-    ++ name_faults Members (codes "slurmVersion" ∷ codes "validationOutputFilters" ∷ codes "locallyAddedAssertions" ∷ []) d
+    ++ name_faults Members file_names d
     ++ required_faults Members version_faults (get (codes "slurmVersion") d)
 
-told-file : (d : Data) → Told slurm_fault_number (file_in d) (parts_faults d)
-told-file d =
-    told-unless (told-unless (told-unless (told-mapped exceptions_of (told-both
-    (told-required slurm_fault_number Members filters_in (part_faults filter_faults (codes "prefixFilters") (codes "bgpsecFilters")) (get (codes "validationOutputFilters") d)
+told-lists : (d : Data) → Told slurm_fault_number (lists_in d) (lists_faults d)
+told-lists d =
+    told-unless (told-unless (told-unless (told-both
+    (told-required slurm_fault_number Members filters_in filters_faults (get (codes "validationOutputFilters") d)
     (told-part filter_in filter_faults (codes "prefixFilters") (codes "bgpsecFilters") told-filter))
-    (told-required slurm_fault_number Members assertions_in (part_faults assertion_faults (codes "prefixAssertions") (codes "bgpsecAssertions")) (get (codes "locallyAddedAssertions") d)
-    (told-part assertion_in assertion_faults (codes "prefixAssertions") (codes "bgpsecAssertions") told-assertion))))
+    (told-required slurm_fault_number Members assertions_in assertions_faults (get (codes "locallyAddedAssertions") d)
+    (told-part assertion_in assertion_faults (codes "prefixAssertions") (codes "bgpsecAssertions") told-assertion)))
     (told-if slurm_fault_number (is_some (as_object d)) tt NotObject))
-    (told-only slurm_fault_number Members (codes "slurmVersion" ∷ codes "validationOutputFilters" ∷ codes "locallyAddedAssertions" ∷ []) d))
+    (told-only slurm_fault_number Members file_names d))
     (told-required slurm_fault_number Members version_in version_faults (get (codes "slurmVersion") d) told-version)
+
+-- ---- no fault of a tree is `NotJson` or over `TooMany`
+
+abbrev is_tree_fault : SlurmFault → Bool
+is_tree_fault n = nat_lt 1 (slurm_fault_number n) && nat_le (slurm_fault_number n) 11
+
+pass-reading : {A : Type 0} (reading : Data → Option A) (n : SlurmFault) → is_tree_fault n ≡ true → (d : Data) → Pass is_tree_fault (reading_faults reading n d)
+pass-reading reading n h d = pass-unless (is_some (reading d)) n h
+
+pass-filter : (d : Data) → Pass is_tree_fault (filter_faults d)
+pass-filter d =
+    pass-append (pass-append (pass-append (pass-append
+    (pass-optional prefix_faults (get (codes "prefix") d) (pass-reading as_prefix PrefixFault refl))
+    (pass-optional asn_faults (get (codes "asn") d) (pass-reading as_asn AsnFault refl)))
+    (pass-unless (is_some (get (codes "prefix") d) || is_some (get (codes "asn") d)) EmptyFilter refl))
+    (pass-unless _ Members refl))
+    (pass-optional comment_faults (get (codes "comment") d) (pass-reading as_str Comment refl))
+
+pass-assertion : (d : Data) → Pass is_tree_fault (assertion_faults d)
+pass-assertion d =
+    let p = prefix_of d in
+    pass-append (pass-append (pass-append (pass-append
+    (pass-required Members prefix_faults (get (codes "prefix") d) refl (pass-reading as_prefix PrefixFault refl))
+    (pass-required Members asn_faults (get (codes "asn") d) refl (pass-reading as_asn AsnFault refl)))
+    (pass-optional (max_length_faults p) (get (codes "maxPrefixLength") d) (λ max. pass-unless (is_max_length p (whole_number max)) MaxPrefixLength refl)))
+    (pass-unless _ Members refl))
+    (pass-optional comment_faults (get (codes "comment") d) (pass-reading as_str Comment refl))
+
+pass-entries : (faults : Data → List SlurmFault) (items : Option Items) → ((d : Data) → Pass is_tree_fault (faults d)) → Pass is_tree_fault (entries_faults faults items)
+pass-entries faults None k = record { each = refl }
+pass-entries faults (Some items) k = pass-flat_map faults (list_of items) k
+
+pass-bgpsec : (items : Option Items) → Pass is_tree_fault (bgpsec_faults items)
+pass-bgpsec None = record { each = refl }
+pass-bgpsec (Some no_items) = record { each = refl }
+pass-bgpsec (Some (item d ds)) = record { each = refl }
+
+pass-part : (faults : Data → List SlurmFault) (entries bgpsec : List ℕ) → ((d : Data) → Pass is_tree_fault (faults d)) → (d : Data) → Pass is_tree_fault (part_faults faults entries bgpsec d)
+pass-part faults entries bgpsec k d =
+    pass-append (pass-append (pass-entries faults (array_at entries d) k) (pass-unless _ Members refl)) (pass-bgpsec (array_at bgpsec d))
+
+pass-lists : (d : Data) → Pass is_tree_fault (lists_faults d)
+pass-lists d =
+    pass-append (pass-append (pass-append (pass-append
+    (pass-required Members filters_faults (get (codes "validationOutputFilters") d) refl
+    (pass-part filter_faults (codes "prefixFilters") (codes "bgpsecFilters") pass-filter))
+    (pass-required Members assertions_faults (get (codes "locallyAddedAssertions") d) refl
+    (pass-part assertion_faults (codes "prefixAssertions") (codes "bgpsecAssertions") pass-assertion)))
+    (pass-unless (is_some (as_object d)) NotObject refl))
+    (pass-unless _ Members refl))
+    (pass-required Members version_faults (get (codes "slurmVersion") d) refl (λ version. pass-unless (is_one (whole_number version)) Version refl))
 
 -- ---- the number of entries
 
@@ -267,42 +318,63 @@ counts-part reading entries bgpsec (Some d) =
     counts-unless length (unless slurm_fault_number (entries_from reading (array_at entries d)) (only Members (entries ∷ bgpsec ∷ []) d)) (bgpsec_from (array_at bgpsec d)) _
     (counts-unless length (entries_from reading (array_at entries d)) (only Members (entries ∷ bgpsec ∷ []) d) _ (counts-entries reading (array_at entries d)))
 
-counts-lists : (filters : Result (List Filter) SlurmFault) (assertions : Result (List Vrp) SlurmFault) (m n : ℕ) → Counts length filters m → Counts length assertions n → Counts entry_count (mapped exceptions_of (both slurm_fault_number filters assertions)) (m + n)
-counts-lists (Ok f) (Ok a) m n h k = rw (h, k) refl
-counts-lists (Ok f) (Err e) m n h k = tt
-counts-lists (Err e) (Ok a) m n h k = tt
-counts-lists (Err e) (Err f) m n h k = tt
+abbrev Lists : Type 0
+Lists = List Filter × List Vrp
 
-counts-file : (d : Data) → Counts entry_count (file_in d) (file_entries d)
-counts-file d =
+abbrev total : Lists → ℕ
+total lists = length lists.0 + length lists.1
+
+counts-both : (filters : Result (List Filter) SlurmFault) (assertions : Result (List Vrp) SlurmFault) (m n : ℕ) → Counts length filters m → Counts length assertions n → Counts total (both slurm_fault_number filters assertions) (m + n)
+counts-both (Ok f) (Ok a) m n h k = rw (h, k) refl
+counts-both (Ok f) (Err e) m n h k = tt
+counts-both (Err e) (Ok a) m n h k = tt
+counts-both (Err e) (Err f) m n h k = tt
+
+counts-lists : (d : Data) → Counts total (lists_in d) (entry_count d)
+counts-lists d =
     let filters = required Members filters_in (get (codes "validationOutputFilters") d) in
     let assertions = required Members assertions_in (get (codes "locallyAddedAssertions") d) in
-    let names = codes "slurmVersion" ∷ codes "validationOutputFilters" ∷ codes "locallyAddedAssertions" ∷ [] in
-    let lists = mapped exceptions_of (both slurm_fault_number filters assertions) in
-    counts-unless entry_count (unless slurm_fault_number (unless slurm_fault_number lists (object_in d)) (only Members names d)) (required Members version_in (get (codes "slurmVersion") d)) _
-    (counts-unless entry_count (unless slurm_fault_number lists (object_in d)) (only Members names d) _
-    (counts-unless entry_count lists (object_in d) _
-    (counts-lists filters assertions _ _
+    let lists = both slurm_fault_number filters assertions in
+    counts-unless total (unless slurm_fault_number (unless slurm_fault_number lists (object_in d)) (only Members file_names d)) (required Members version_in (get (codes "slurmVersion") d)) _
+    (counts-unless total (unless slurm_fault_number lists (object_in d)) (only Members file_names d) _
+    (counts-unless total lists (object_in d) _
+    (counts-both filters assertions _ _
     (counts-part filter_in (codes "prefixFilters") (codes "bgpsecFilters") (get (codes "validationOutputFilters") d))
     (counts-part assertion_in (codes "prefixAssertions") (codes "bgpsecAssertions") (get (codes "locallyAddedAssertions") d)))))
 
 -- ---- the whole
 
-told-within_limit : (file : Result Exceptions SlurmFault) (faults : List SlurmFault) (count : ℕ) → Told slurm_fault_number file faults → Counts entry_count file count → OfTree file →
-    result_err (and_then within_limit file) ≡ lowest slurm_fault_number (faults ++ fault_unless (nat_le count 4096) TooMany)
-told-within_limit (Ok file) faults count h counts low =
-    rw (counts, lowest-append slurm_fault_number faults (fault_unless (nat_le count 4096) TooMany), ← h.is) (told-if slurm_fault_number (nat_le count 4096) file TooMany).is
-told-within_limit (Err n) faults count h counts low =
-    rw (lowest-append slurm_fault_number faults (fault_unless (nat_le count 4096) TooMany), ← h.is) (last (nat_le count 4096))
+err-exceptions_of : (lists : Result Lists SlurmFault) (faults : List SlurmFault) (count : ℕ) → Told slurm_fault_number lists faults → Counts total lists count → Pass is_tree_fault faults →
+    result_err (and_then (λ p. exceptions_of p.0 p.1) lists) ≡ lowest slurm_fault_number (faults ++ fault_unless (nat_le count MOST_ENTRIES) TooMany)
+err-exceptions_of (Ok lists) faults count h counts low =
+    rw (counts, lowest-append slurm_fault_number faults (fault_unless (nat_le count MOST_ENTRIES) TooMany), ← h.is)
+    (told-if {A = Exceptions} slurm_fault_number (nat_le count MOST_ENTRIES) (record { filters = lists.0; assertions = lists.1 }) TooMany).is
+err-exceptions_of (Err n) faults count h counts low =
+    rw (lowest-append slurm_fault_number faults (fault_unless (nat_le count MOST_ENTRIES) TooMany), ← h.is) (last (nat_le count MOST_ENTRIES))
   where
+    below : slurm_fault_number n ≤ 11
+    below =
+        leb-true (slurm_fault_number n) 11
+        (and_parts (nat_lt 1 (slurm_fault_number n)) (nat_le (slurm_fault_number n) 11) (lowest-passes slurm_fault_number is_tree_fault faults n low (sym h.is))).1
+
     last : (b : Bool) → Some n ≡ lower_of slurm_fault_number (Some n) (lowest slurm_fault_number (fault_unless b TooMany))
     last true = refl
-    last false = ap Some (sym (lower-first slurm_fault_number n TooMany (omega (arith, low.1))))
+    last false = ap Some (sym (lower-first slurm_fault_number n TooMany below))
 
-pub slurm_fault-told : (d : Data) → result_err (slurm_in (Some d)) ≡ slurm_fault (Some d)
-slurm_fault-told d = told-within_limit (file_in d) (parts_faults d) (file_entries d) (told-file d) (counts-file d) (tree-file d)
+pub slurm_fault-told : (d : Data) → result_err (slurm_in d) ≡ slurm_fault (Some d)
+slurm_fault-told d = err-exceptions_of (lists_in d) (lists_faults d) (entry_count d) (told-lists d) (counts-lists d) (pass-lists d)
 
 -- a tree that was read as a file has no fault
-pub slurm_fault-none : (d : Data) (answer : Result Exceptions SlurmFault) → IfOk answer (IsSlurmFile (Some d)) → OnOk answer (slurm_fault (Some d) ≡ None)
+pub slurm_fault-none : (d : Data) (answer : Result Exceptions SlurmFault) → IfOk answer (λ file. slurm_in d ≡ Ok file) → OnOk answer (slurm_fault (Some d) ≡ None)
 slurm_fault-none d (Ok file) read = sym (slurm_fault-told d) ∙ ap result_err read
 slurm_fault-none d (Err n) read = tt
+
+-- the fault of a tree is another than that there is none
+pub tree_is_json : (d : Data) (answer : Result Exceptions SlurmFault) → IfErr answer (λ fault. fault ≢ Memory → slurm_fault (Some d) ≡ Some fault) → answer ≢ Err NotJson
+tree_is_json d (Ok file) fault told = cc
+tree_is_json d (Err n) fault told =
+    let is : n ≡ NotJson = cc in
+    let lowest_is = subst (λ (m : SlurmFault). m ≢ Memory → slurm_fault (Some d) ≡ Some m) is fault (λ same. cc) in
+    let all = pass-append (pass-lists d) (pass-unless (nat_le (entry_count d) MOST_ENTRIES) TooMany refl) in
+    let passes : is_tree_fault NotJson ≡ true = lowest-passes slurm_fault_number is_tree_fault (file_faults d) NotJson all lowest_is in
+    cc

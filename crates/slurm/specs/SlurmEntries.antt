@@ -8,7 +8,7 @@ use Rattle.addr.specs.declared.vrp.Vrp.{Vrp}
 use Rattle.serde_json.specs.Data.{Data, number, string, unsigned}
 use Rattle.serde_json.specs.Find.{get}
 use Rattle.slurm.specs.Exceptions.{Exceptions}
-use Rattle.slurm.specs.SlurmFaults.{entries_at}
+use Rattle.slurm.specs.SlurmFaults.{assertions_at, filters_at}
 use Rattle.slurm.specs.declared.filter.Filter.{Filter}
 use Rattle.slurm.specs.declared.filter.Filter.TheVariants.{Under, By, Both}
 
@@ -43,5 +43,5 @@ SaysAssertion d v =
 abbrev pub SaysExceptions : Option Data → Exceptions → Type 0
 SaysExceptions None file = ⊥
 SaysExceptions (Some d) file =
-    AllZip SaysFilter (entries_at (codes "validationOutputFilters") (codes "prefixFilters") d) file.filters
-    × AllZip SaysAssertion (entries_at (codes "locallyAddedAssertions") (codes "prefixAssertions") d) file.assertions
+    AllZip SaysFilter (filters_at d) file.filters
+    × AllZip SaysAssertion (assertions_at d) file.assertions

@@ -1,4 +1,5 @@
--- Every fault of a JSON tree as a SLURM file, wherever it stands in the tree. The lowest of all is told.
+-- Every fault of a JSON tree as a SLURM file, wherever it stands in the tree. The lowest of all is
+-- told.
 use Rattle.std.specs.Prelude.{ℕ, ◌+◌, ◌||◌, ◌==◌, nat_le, Bool, true, false, List, [], ◌∷◌, ◌++◌, length, codes, Option, Some, None, is_some, option_and_then}
 use Rattle.std.specs.List.{flat_map}
 use Rattle.addr.specs.Address.{fits_max_length}
@@ -9,6 +10,7 @@ use Rattle.json_values.specs.Faults.{fault_unless, lowest, name_faults, optional
 use Rattle.json_values.specs.Tree.{list_of}
 use Rattle.json_values.specs.Values.{as_asn, as_prefix, whole_number}
 use Rattle.slurm.specs.Fault.{slurm_fault_number}
+use Rattle.slurm.specs.declared.exceptions.TheConstants.{MOST_ENTRIES}
 use Rattle.slurm.specs.declared.fault.SlurmFault.{SlurmFault}
 use Rattle.slurm.specs.declared.fault.SlurmFault.TheVariants.{NotJson, NotObject, Members, Version, Bgpsec, Prefix as PrefixFault, Asn as AsnFault, MaxPrefixLength, EmptyFilter, Comment, TooMany}
 
@@ -41,20 +43,29 @@ max_length_faults p d = fault_unless (is_max_length p (whole_number d)) MaxPrefi
 
 -- ---- entries
 
+abbrev pub filter_names : List (List ℕ)
+filter_names = codes "prefix" ∷ codes "asn" ∷ codes "comment" ∷ []
+
 abbrev pub filter_faults : Data → List SlurmFault
 filter_faults d =
     optional_faults prefix_faults (get (codes "prefix") d)
     ++ optional_faults asn_faults (get (codes "asn") d)
     ++ fault_unless (is_some (get (codes "prefix") d) || is_some (get (codes "asn") d)) EmptyFilter
-    ++ name_faults Members (codes "prefix" ∷ codes "asn" ∷ codes "comment" ∷ []) d
+    ++ name_faults Members filter_names d
     ++ optional_faults comment_faults (get (codes "comment") d)
+
+abbrev pub assertion_names : List (List ℕ)
+assertion_names = codes "prefix" ∷ codes "asn" ∷ codes "maxPrefixLength" ∷ codes "comment" ∷ []
+
+abbrev pub prefix_of : Data → Option Prefix
+prefix_of d = option_and_then as_prefix (get (codes "prefix") d)
 
 abbrev pub assertion_faults : Data → List SlurmFault
 assertion_faults d =
     required_faults Members prefix_faults (get (codes "prefix") d)
     ++ required_faults Members asn_faults (get (codes "asn") d)
-    ++ optional_faults (max_length_faults (option_and_then as_prefix (get (codes "prefix") d))) (get (codes "maxPrefixLength") d)
-    ++ name_faults Members (codes "prefix" ∷ codes "asn" ∷ codes "maxPrefixLength" ∷ codes "comment" ∷ []) d
+    ++ optional_faults (max_length_faults (prefix_of d)) (get (codes "maxPrefixLength") d)
+    ++ name_faults Members assertion_names d
     ++ optional_faults comment_faults (get (codes "comment") d)
 
 -- ---- the file
@@ -82,23 +93,38 @@ part_faults faults entries bgpsec d =
     ++ name_faults Members (entries ∷ bgpsec ∷ []) d
     ++ bgpsec_faults (array_at bgpsec d)
 
+abbrev pub filters_faults : Data → List SlurmFault
+filters_faults = part_faults filter_faults (codes "prefixFilters") (codes "bgpsecFilters")
+
+abbrev pub assertions_faults : Data → List SlurmFault
+assertions_faults =
+    part_faults assertion_faults (codes "prefixAssertions") (codes "bgpsecAssertions")
+
 -- the entries of that name in that part of the file
 abbrev pub entries_at : List ℕ → List ℕ → Data → List Data
 entries_at part entries d = items_at (option_and_then (array_at entries) (get part d))
 
-abbrev pub file_entries : Data → ℕ
-file_entries d =
-    length (entries_at (codes "validationOutputFilters") (codes "prefixFilters") d)
-    + length (entries_at (codes "locallyAddedAssertions") (codes "prefixAssertions") d)
+abbrev pub filters_at : Data → List Data
+filters_at = entries_at (codes "validationOutputFilters") (codes "prefixFilters")
+
+abbrev pub assertions_at : Data → List Data
+assertions_at = entries_at (codes "locallyAddedAssertions") (codes "prefixAssertions")
+
+abbrev pub entry_count : Data → ℕ
+entry_count d = length (filters_at d) + length (assertions_at d)
+
+abbrev pub file_names : List (List ℕ)
+file_names =
+    codes "slurmVersion" ∷ codes "validationOutputFilters" ∷ codes "locallyAddedAssertions" ∷ []
 
 abbrev pub file_faults : Data → List SlurmFault
 file_faults d =
-    required_faults Members (part_faults filter_faults (codes "prefixFilters") (codes "bgpsecFilters")) (get (codes "validationOutputFilters") d)
-    ++ required_faults Members (part_faults assertion_faults (codes "prefixAssertions") (codes "bgpsecAssertions")) (get (codes "locallyAddedAssertions") d)
+    required_faults Members filters_faults (get (codes "validationOutputFilters") d)
+    ++ required_faults Members assertions_faults (get (codes "locallyAddedAssertions") d)
     ++ fault_unless (is_some (as_object d)) NotObject
-    ++ name_faults Members (codes "slurmVersion" ∷ codes "validationOutputFilters" ∷ codes "locallyAddedAssertions" ∷ []) d
+    ++ name_faults Members file_names d
     ++ required_faults Members version_faults (get (codes "slurmVersion") d)
-    ++ fault_unless (nat_le (file_entries d) 4096) TooMany
+    ++ fault_unless (nat_le (entry_count d) MOST_ENTRIES) TooMany
 
 -- the lowest fault, if there is one; bytes that are no JSON text have no tree
 abbrev pub slurm_fault : Option Data → Option SlurmFault

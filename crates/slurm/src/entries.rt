@@ -2,7 +2,7 @@
 ghost use Rattle.std.specs.Prelude.{◌≡◌};
 ghost use Rattle.std.specs.Option.{ok_or};
 ghost use Rattle.json_values.specs.Parts.{and_then};
-ghost use Rattle.slurm.specs.SlurmFile.{filter_of, assertion_of, vrp_with};
+ghost use Rattle.slurm.specs.steps.SlurmFile.{filter_of, assertion_of, vrp_with};
 
 use crate::members::{Comment, MaxPrefixLength};
 use crate::{Filter, SlurmFault};
@@ -11,7 +11,7 @@ use json_values::{FromJson, both, only, optional, required, unless};
 use serde_json::Value;
 
 impl FromJson<SlurmFault> for Filter {
-    ghost use Rattle.slurm.specs.SlurmFile.{filter_in};
+    ghost use Rattle.slurm.specs.steps.SlurmFile.{filter_in};
 
     ghost reading = { filter_in };
 
@@ -41,7 +41,7 @@ fn filter_of(
 }
 
 impl FromJson<SlurmFault> for Vrp {
-    ghost use Rattle.slurm.specs.SlurmFile.{assertion_in};
+    ghost use Rattle.slurm.specs.steps.SlurmFile.{assertion_in};
 
     ghost reading = { assertion_in };
 

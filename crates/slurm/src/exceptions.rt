@@ -2,6 +2,7 @@ ghost use Rattle.std.specs.Prelude.{◌≡◌, ◌≢◌, ◌+◌, ◌≤◌, �
 ghost use Rattle.std.specs.List.{list_any};
 ghost use Rattle.serde_json.specs.View.{view};
 ghost use Rattle.slurm.specs.Exceptions.{Exceptions};
+ghost use Rattle.slurm.specs.declared.exceptions.TheConstants.{MOST_ENTRIES};
 
 use crate::file::read_file;
 use crate::filter::some_matches;
@@ -27,20 +28,20 @@ impl Model for Slurm {
 
     ghost view = { λ s. record { filters = s.filters.items; assertions = s.assertions.items } };
 
-    ghost invariant = { λ s. length s.filters.items + length s.assertions.items ≤ 4096 };
+    ghost invariant = { λ s. length s.filters.items + length s.assertions.items ≤ MOST_ENTRIES };
 }
 
 impl Slurm {
+    ghost use Rattle.slurm.specs.Exceptions.{exceptions_of};
     ghost use Rattle.slurm.specs.Filter.{FilterMatches, filter_matches};
     ghost use Rattle.json_values.specs.Tree.{tree_of};
-    ghost use Rattle.slurm.specs.SlurmFile.{within_limit};
     ghost use Rattle.slurm.specs.SlurmEntries.{SaysExceptions};
     ghost use Rattle.slurm.specs.SlurmFaults.{slurm_fault};
 
-    /// The exceptions of these lists, which are kept as they are; `TooMany` where they have more than
-    /// 4096 entries together.
+    /// The exceptions of these lists, which are kept as they are; `TooMany` where they have more
+    /// than 4096 entries together.
     pub fn make(filters: Vec<Filter>, assertions: Vec<Vrp>) -> Result<Slurm, SlurmFault>
-        ensures { result ≡ within_limit (record { filters = filters.items; assertions = assertions.items }) }
+        ensures { result ≡ exceptions_of filters.items assertions.items }
     {
         if filters.len() + assertions.len() > MOST_ENTRIES {
             return Err(SlurmFault::TooMany);
@@ -55,7 +56,8 @@ impl Slurm {
     pub fn read(alloc: Global, bytes: &[u8]) -> Result<Slurm, SlurmFault>
         ensures entries { IfOk result (SaysExceptions (tree_of bytes.now)) }
         ensures faultless { OnOk result (slurm_fault (tree_of bytes.now) ≡ None) }
-        ensures fault { IfErr result (λ e. e ≢ SlurmFault.Memory → slurm_fault (tree_of bytes.now) ≡ Some e) }
+        ensures fault { IfErr result (λ fault. fault ≢ SlurmFault.Memory
+            → slurm_fault (tree_of bytes.now) ≡ Some fault) }
     {
         match tree_of(alloc, bytes)? {
             Some(value) => Slurm::of(alloc, &value),
@@ -67,7 +69,8 @@ impl Slurm {
     pub fn of(alloc: Global, value: &Value) -> Result<Slurm, SlurmFault>
         ensures entries { IfOk result (SaysExceptions (Some (view value.now))) }
         ensures faultless { OnOk result (slurm_fault (Some (view value.now)) ≡ None) }
-        ensures fault { IfErr result (λ e. e ≢ SlurmFault.Memory → slurm_fault (Some (view value.now)) ≡ Some e) }
+        ensures fault { IfErr result (λ fault. fault ≢ SlurmFault.Memory
+            → slurm_fault (Some (view value.now)) ≡ Some fault) }
         ensures is_json { result ≢ Err SlurmFault.NotJson }
     {
         read_file(alloc, value)
@@ -75,8 +78,10 @@ impl Slurm {
 
     /// Whether some filter matches the VRP.
     pub fn filtered(&self, vrp: &Vrp) -> bool
-        ensures some { IsTrue result ↔ Any (λ filter. FilterMatches filter vrp.now) self.now.filters }
-        ensures by_test { result ≡ list_any (λ filter. filter_matches filter vrp.now) self.now.filters }
+        ensures some { IsTrue result
+            ↔ Any (λ filter. FilterMatches filter vrp.now) self.now.filters }
+        ensures by_test { result
+            ≡ list_any (λ filter. filter_matches filter vrp.now) self.now.filters }
     {
         some_matches(self.filters.as_slice(), vrp)
     }

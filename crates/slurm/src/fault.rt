@@ -5,7 +5,8 @@ use json_values::Fault;
 use std::alloc::AllocError;
 use thiserror::Error;
 
-/// Why something is no SLURM file. Where several faults apply, the one of the lowest number is told.
+/// Why something is no SLURM file. Where several faults apply, the one of the lowest number is
+/// told.
 #[derive(Clone, Copy, Debug, PartialEq, Eq, Error)]
 pub enum SlurmFault {
     /// The bytes are no JSON text: so also where arrays and objects nest deeper than 127.

@@ -1,9 +1,9 @@
 //! Reading a whole file.
-ghost use Rattle.std.specs.Prelude.{◌≡◌, ◌≢◌, Some, IfOk, IfErr};
+ghost use Rattle.std.specs.Prelude.{◌≡◌, ◌≢◌, Ok, Some, IfOk, IfErr};
 ghost use Rattle.std.specs.Result.{result_err};
 ghost use Rattle.serde_json.specs.View.{view};
 ghost use Rattle.json_values.specs.Parts.{mapped};
-ghost use Rattle.slurm.specs.SlurmFile.{IsSlurmFile, slurm_in, file_of, object_in};
+ghost use Rattle.slurm.specs.steps.SlurmFile.{lists_of, object_in, slurm_in};
 
 use crate::lists::required_part;
 use crate::members::Version;
@@ -14,8 +14,9 @@ use serde_json::Value;
 use std::alloc::Global;
 
 pub(crate) fn read_file(alloc: Global, value: &Value) -> Result<Slurm, SlurmFault>
-    ensures file { IfOk result (IsSlurmFile (Some (view value.now))) }
-    ensures fault { IfErr result (λ e. e ≢ SlurmFault.Memory → result_err (slurm_in (Some (view value.now))) ≡ Some e) }
+    ensures file { IfOk result (λ file. slurm_in (view value.now) ≡ Ok file) }
+    ensures fault { IfErr result (λ fault. fault ≢ SlurmFault.Memory
+        → result_err (slurm_in (view value.now)) ≡ Some fault) }
 {
     let filters = required_part(
         alloc,
@@ -41,8 +42,9 @@ fn whole(
     filters: Result<Vec<Filter>, SlurmFault>,
     assertions: Result<Vec<Vrp>, SlurmFault>,
 ) -> Result<(Vec<Filter>, Vec<Vrp>), SlurmFault>
-    ensures { mapped (λ p. record { filters = p.0.items; assertions = p.1.items }) result
-        ≡ file_of (mapped (λ v. v.items) filters) (mapped (λ v. v.items) assertions) (view value.now) }
+    ensures { mapped (λ lists. (lists.0.items, lists.1.items)) result
+        ≡ lists_of (mapped (λ v. v.items) filters) (mapped (λ v. v.items) assertions)
+        (view value.now) }
 {
     let lists = unless(both(filters, assertions), object_in(value));
     let known = only(

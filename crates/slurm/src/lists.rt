@@ -1,10 +1,11 @@
 //! Reading the lists of entries.
-ghost use Rattle.std.specs.Prelude.{◌≡◌, IfOk, option_and_then, option_map};
-ghost use Rattle.serde_json.specs.Find.{as_array, get};
+ghost use Rattle.std.specs.Prelude.{◌≡◌, IfOk, option_map};
+ghost use Rattle.serde_json.specs.Find.{get};
 ghost use Rattle.serde_json.specs.View.{items_view, view};
 ghost use Rattle.json_values.specs.Parts.{mapped};
 ghost use Rattle.json_values.specs.Tree.{required};
-ghost use Rattle.slurm.specs.SlurmFile.{bgpsec_from, entries_from, part_in};
+ghost use Rattle.slurm.specs.SlurmFaults.{array_at};
+ghost use Rattle.slurm.specs.steps.SlurmFile.{bgpsec_from, entries_from, part_in};
 
 use crate::SlurmFault;
 use json_values::{FromJson, each, only, unless};
@@ -15,7 +16,7 @@ use std::alloc::{AllocError, Global};
 type Listed<T> = Result<Vec<T>, SlurmFault>;
 
 fn array_in<'a>(value: &'a Value, name: &str) -> Option<&'a Vec<Value>>
-    ensures { option_map (λ v. items_view v.now.items) result ≡ option_and_then as_array (get name.now (view value.now)) }
+    ensures { option_map (λ v. items_view v.now.items) result ≡ array_at name.now (view value.now) }
 {
     match value.get(name) {
         Some(member) => member.as_array(),
@@ -30,7 +31,7 @@ fn entries_in<T: FromJson<SlurmFault>>(
     name: &str,
 ) -> Result<Listed<T>, AllocError>
     ensures { IfOk result (λ read. mapped (λ v. v.items) read
-        ≡ entries_from T.reading (option_and_then as_array (get name.now (view value.now)))) }
+        ≡ entries_from T.reading (array_at name.now (view value.now))) }
 {
     match array_in(value, name) {
         Some(values) => each(alloc, values),
@@ -40,7 +41,7 @@ fn entries_in<T: FromJson<SlurmFault>>(
 
 /// The array of that name has to be there, and to be empty.
 fn bgpsec_in(value: &Value, name: &str) -> Result<(), SlurmFault>
-    ensures { result ≡ bgpsec_from (option_and_then as_array (get name.now (view value.now))) }
+    ensures { result ≡ bgpsec_from (array_at name.now (view value.now)) }
 {
     let Some(values) = array_in(value, name) else {
         return Err(SlurmFault::Members);
@@ -58,7 +59,8 @@ fn part<T: FromJson<SlurmFault>>(
     entries: &str,
     bgpsec: &str,
 ) -> Result<Listed<T>, AllocError>
-    ensures { IfOk result (λ read. mapped (λ v. v.items) read ≡ part_in T.reading entries.now bgpsec.now (view value.now)) }
+    ensures { IfOk result (λ read. mapped (λ v. v.items) read
+        ≡ part_in T.reading entries.now bgpsec.now (view value.now)) }
 {
     let listed = entries_in(alloc, value, entries)?;
     let known = only(value, &[entries, bgpsec]);
@@ -66,8 +68,8 @@ fn part<T: FromJson<SlurmFault>>(
     Ok(unless(unless(listed, known), unused))
 }
 
-/// The part of that name: an object of the entries, and of the BGPsec entries, of which there must be
-/// none. The outer error is want of memory.
+/// The part of that name: an object of the entries, and of the BGPsec entries, of which there must
+/// be none. The outer error is want of memory.
 pub(crate) fn required_part<T: FromJson<SlurmFault>>(
     alloc: Global,
     value: &Value,
@@ -76,7 +78,8 @@ pub(crate) fn required_part<T: FromJson<SlurmFault>>(
     bgpsec: &str,
 ) -> Result<Listed<T>, AllocError>
     ensures { IfOk result (λ read. mapped (λ v. v.items) read
-        ≡ required SlurmFault.Members (part_in T.reading entries.now bgpsec.now) (get name.now (view value.now))) }
+        ≡ required SlurmFault.Members (part_in T.reading entries.now bgpsec.now)
+        (get name.now (view value.now))) }
 {
     match value.get(name) {
         Some(member) => part(alloc, member, entries, bgpsec),

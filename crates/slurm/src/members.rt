@@ -6,7 +6,7 @@ use json_values::{FromJson, as_asn, as_prefix};
 use serde_json::Value;
 
 impl FromJson<SlurmFault> for Prefix {
-    ghost use Rattle.slurm.specs.SlurmFile.{prefix_in};
+    ghost use Rattle.slurm.specs.steps.SlurmFile.{prefix_in};
 
     ghost reading = { prefix_in };
 
@@ -16,7 +16,7 @@ impl FromJson<SlurmFault> for Prefix {
 }
 
 impl FromJson<SlurmFault> for Asn {
-    ghost use Rattle.slurm.specs.SlurmFile.{asn_in};
+    ghost use Rattle.slurm.specs.steps.SlurmFile.{asn_in};
 
     ghost reading = { asn_in };
 
@@ -30,7 +30,7 @@ impl FromJson<SlurmFault> for Asn {
 pub(crate) struct MaxPrefixLength(pub(crate) u64);
 
 impl FromJson<SlurmFault> for MaxPrefixLength {
-    ghost use Rattle.slurm.specs.SlurmFile.{length_in};
+    ghost use Rattle.slurm.specs.steps.SlurmFile.{length_in};
 
     ghost reading = { length_in };
 
@@ -47,7 +47,7 @@ impl FromJson<SlurmFault> for MaxPrefixLength {
 pub(crate) struct Comment;
 
 impl FromJson<SlurmFault> for Comment {
-    ghost use Rattle.slurm.specs.SlurmFile.{comment_in};
+    ghost use Rattle.slurm.specs.steps.SlurmFile.{comment_in};
 
     ghost reading = { comment_in };
 
@@ -65,7 +65,7 @@ impl FromJson<SlurmFault> for Comment {
 pub(crate) struct Version;
 
 impl FromJson<SlurmFault> for Version {
-    ghost use Rattle.slurm.specs.SlurmFile.{version_in};
+    ghost use Rattle.slurm.specs.steps.SlurmFile.{version_in};
 
     ghost reading = { version_in };
 

@@ -1,5 +1,5 @@
 use Rattle.std.proofs.Common.{refl}
-use Rattle.slurm.proofs.FileLemmas.{exceptions-both}
+use Rattle.slurm.proofs.FileLemmas.{items-both}
 use Rattle.json_values.proofs.PartsLemmas.{mapped-unless}
 use Rattle.slurm.specs.Fault.{slurm_fault_number}
 use Rattle.slurm.proofs.file.whole.Goals as goal
@@ -14,7 +14,7 @@ returns c =
       c.unless-lists.ensures,
       mapped-unless slurm_fault_number _ c.both.result c.object_in.result,
       c.both.ensures,
-      exceptions-both c.args.filters c.args.assertions,
+      items-both c.args.filters c.args.assertions,
       c.object_in.ensures,
       c.only-known.ensures,
       c.required.ensures,

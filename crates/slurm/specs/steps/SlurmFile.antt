@@ -1,7 +1,6 @@
--- Which JSON trees are SLURM files, and what they say (RFC 8416 sections 3 and 4): the filters and
--- assertions of a tree, or the fault that is told of it. Which faults a tree has stands in `SlurmFaults`.
--- A file is read from all of its parts at once (`both`, `unless`, `each`), so that the fault is the lowest.
-use Rattle.std.specs.Prelude.{◌≡◌, ℕ, ◌≤◌, nat_le, ◌==◌, List, [], ◌∷◌, codes, if◌then◌else◌, Option, Some, None, is_some, option_map, option_and_then, Result, Ok, Err}
+-- What the reader answers, part by part: what the tree says, or its lowest fault. A file is read from
+-- all of its parts at once (`both`, `unless`, `each`), so that the fault is the lowest.
+use Rattle.std.specs.Prelude.{ℕ, ◌≤◌, ◌==◌, List, [], ◌∷◌, codes, if◌then◌else◌, Option, Some, None, is_some, option_map, Result, Ok, Err}
 use Rattle.std.specs.Option.{ok_or}
 use Rattle.std.proofs.Math.Decide.{dec_le}
 use Rattle.addr.specs.Family.{width}
@@ -9,14 +8,15 @@ use Rattle.addr.specs.declared.prefix.Prefix.{Prefix}
 use Rattle.addr.specs.declared.asn.Asn.{Asn}
 use Rattle.addr.specs.declared.vrp.Vrp.{Vrp}
 use Rattle.serde_json.specs.Data.{Data, Items, no_items, item}
-use Rattle.serde_json.specs.Find.{get, as_object, as_array, as_str}
-use Rattle.json_values.specs.Parts.{both, mapped, and_then, unless, each}
+use Rattle.serde_json.specs.Find.{get, as_object, as_str}
+use Rattle.json_values.specs.Parts.{both, and_then, unless, each}
 use Rattle.json_values.specs.Tree.{required, optional, only, list_of}
 use Rattle.json_values.specs.Values.{as_asn, as_prefix, whole_number}
-use Rattle.slurm.specs.Exceptions.{Exceptions, entry_count}
+use Rattle.slurm.specs.Exceptions.{Exceptions, exceptions_of}
 use Rattle.slurm.specs.Fault.{slurm_fault_number}
+use Rattle.slurm.specs.SlurmFaults.{array_at, assertion_names, file_names, filter_names}
 use Rattle.slurm.specs.declared.fault.SlurmFault.{SlurmFault}
-use Rattle.slurm.specs.declared.fault.SlurmFault.TheVariants.{NotJson, NotObject, Members, Version, Bgpsec, Prefix as PrefixFault, Asn as AsnFault, MaxPrefixLength, EmptyFilter, Comment, TooMany}
+use Rattle.slurm.specs.declared.fault.SlurmFault.TheVariants.{NotObject, Members, Version, Bgpsec, Prefix as PrefixFault, Asn as AsnFault, MaxPrefixLength, EmptyFilter, Comment}
 use Rattle.slurm.specs.declared.members.Comment.{Comment as CommentRead}
 use Rattle.slurm.specs.declared.members.MaxPrefixLength.{MaxPrefixLength as LengthRead}
 use Rattle.slurm.specs.declared.members.Version.{Version as VersionRead}
@@ -45,7 +45,7 @@ version_from (Some n) = if n == 1 then Ok (record {}) else Err Version
 abbrev pub version_in : Data → Result VersionRead SlurmFault
 version_in d = version_from (whole_number d)
 
--- ---- prefix filters (RFC 8416 section 3.3.1)
+-- ---- prefix filters
 
 -- the filter of the members that are there, of which there must be one
 abbrev pub filter_of : Option Prefix × Option Asn → Result Filter SlurmFault
@@ -57,14 +57,16 @@ filter_of (None, None) = Err EmptyFilter
 abbrev pub filter_in : Data → Result Filter SlurmFault
 filter_in d =
     unless slurm_fault_number (unless slurm_fault_number (and_then filter_of
-    (both slurm_fault_number (optional prefix_in (get (codes "prefix") d)) (optional asn_in (get (codes "asn") d))))
-    (only Members (codes "prefix" ∷ codes "asn" ∷ codes "comment" ∷ []) d))
+    (both slurm_fault_number (optional prefix_in (get (codes "prefix") d))
+    (optional asn_in (get (codes "asn") d))))
+    (only Members filter_names d))
     (optional comment_in (get (codes "comment") d))
 
--- ---- prefix assertions (RFC 8416 section 3.4.1)
+-- ---- prefix assertions
 
 -- the VRP of this maxLength, which lies between the prefix's length and the family's width
-abbrev pub vrp_if : (p : Prefix) (max : ℕ) (asn : Asn) → Dec (p.length ≤ max) → Dec (max ≤ width p.family) → Option Vrp
+abbrev pub vrp_if : (p : Prefix) (max : ℕ) (asn : Asn)
+    → Dec (p.length ≤ max) → Dec (max ≤ width p.family) → Option Vrp
 vrp_if p max asn (yes low) (yes high) =
     Some (record { prefix = p; max = max; asn = asn; at_least_length = low; at_most_width = high })
 vrp_if p max asn _ _ = None
@@ -84,14 +86,16 @@ abbrev pub assertion_in : Data → Result Vrp SlurmFault
 assertion_in d =
     unless slurm_fault_number (unless slurm_fault_number (and_then assertion_of
     (both slurm_fault_number (required Members prefix_in (get (codes "prefix") d))
-    (both slurm_fault_number (required Members asn_in (get (codes "asn") d)) (optional length_in (get (codes "maxPrefixLength") d)))))
-    (only Members (codes "prefix" ∷ codes "asn" ∷ codes "maxPrefixLength" ∷ codes "comment" ∷ []) d))
+    (both slurm_fault_number (required Members asn_in (get (codes "asn") d))
+    (optional length_in (get (codes "maxPrefixLength") d)))))
+    (only Members assertion_names d))
     (optional comment_in (get (codes "comment") d))
 
--- ---- the file (RFC 8416 section 3.2)
+-- ---- the file
 
 -- what is missing is no array
-abbrev pub entries_from : {A : Type 0} → (Data → Result A SlurmFault) → Option Items → Result (List A) SlurmFault
+abbrev pub entries_from : {A : Type 0}
+    → (Data → Result A SlurmFault) → Option Items → Result (List A) SlurmFault
 entries_from reading None = Err Members
 entries_from reading (Some items) = each slurm_fault_number reading (list_of items)
 
@@ -101,11 +105,12 @@ bgpsec_from (Some no_items) = Ok tt
 bgpsec_from (Some (item d ds)) = Err Bgpsec
 
 -- an object of two arrays: the entries, and what BGPsec adds, of which there must be nothing
-abbrev pub part_in : {A : Type 0} → (Data → Result A SlurmFault) → List ℕ → List ℕ → Data → Result (List A) SlurmFault
+abbrev pub part_in : {A : Type 0}
+    → (Data → Result A SlurmFault) → List ℕ → List ℕ → Data → Result (List A) SlurmFault
 part_in reading entries bgpsec d =
-    unless slurm_fault_number (unless slurm_fault_number (entries_from reading (option_and_then as_array (get entries d)))
+    unless slurm_fault_number (unless slurm_fault_number (entries_from reading (array_at entries d))
     (only Members (entries ∷ bgpsec ∷ []) d))
-    (bgpsec_from (option_and_then as_array (get bgpsec d)))
+    (bgpsec_from (array_at bgpsec d))
 
 abbrev pub filters_in : Data → Result (List Filter) SlurmFault
 filters_in = part_in filter_in (codes "prefixFilters") (codes "bgpsecFilters")
@@ -116,30 +121,20 @@ assertions_in = part_in assertion_in (codes "prefixAssertions") (codes "bgpsecAs
 abbrev pub object_in : Data → Result (Unit {0}) SlurmFault
 object_in d = if is_some (as_object d) then Ok tt else Err NotObject
 
--- not more than 4096 entries
-abbrev pub within_limit : Exceptions → Result Exceptions SlurmFault
-within_limit file = if nat_le (entry_count file) 4096 then Ok file else Err TooMany
-
-abbrev pub exceptions_of : List Filter × List Vrp → Exceptions
-exceptions_of (filters, assertions) = record { filters = filters; assertions = assertions }
-
--- the file of these two parts
-abbrev pub file_of : Result (List Filter) SlurmFault → Result (List Vrp) SlurmFault → Data → Result Exceptions SlurmFault
-file_of filters assertions d =
-    unless slurm_fault_number (unless slurm_fault_number (unless slurm_fault_number (mapped exceptions_of (both slurm_fault_number filters assertions))
+-- the two lists of entries, from these readings of their parts
+abbrev pub lists_of : Result (List Filter) SlurmFault → Result (List Vrp) SlurmFault → Data
+    → Result (List Filter × List Vrp) SlurmFault
+lists_of filters assertions d =
+    unless slurm_fault_number (unless slurm_fault_number (unless slurm_fault_number
+    (both slurm_fault_number filters assertions)
     (object_in d))
-    (only Members (codes "slurmVersion" ∷ codes "validationOutputFilters" ∷ codes "locallyAddedAssertions" ∷ []) d))
+    (only Members file_names d))
     (required Members version_in (get (codes "slurmVersion") d))
 
-abbrev pub file_in : Data → Result Exceptions SlurmFault
-file_in d =
-    file_of (required Members filters_in (get (codes "validationOutputFilters") d))
+abbrev pub lists_in : Data → Result (List Filter × List Vrp) SlurmFault
+lists_in d =
+    lists_of (required Members filters_in (get (codes "validationOutputFilters") d))
     (required Members assertions_in (get (codes "locallyAddedAssertions") d)) d
 
--- what a tree says; there is none for bytes that are no JSON text
-abbrev pub slurm_in : Option Data → Result Exceptions SlurmFault
-slurm_in None = Err NotJson
-slurm_in (Some d) = and_then within_limit (file_in d)
-
-abbrev pub IsSlurmFile : Option Data → Exceptions → Type 0
-IsSlurmFile tree file = slurm_in tree ≡ Ok file
+abbrev pub slurm_in : Data → Result Exceptions SlurmFault
+slurm_in d = and_then (λ lists. exceptions_of lists.0 lists.1) (lists_in d)
