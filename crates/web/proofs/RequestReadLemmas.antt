@@ -1,10 +1,10 @@
 -- What the code reads of a line is the request that the line is, and its fault the lowest.
 use Rattle.std.proofs.Common.{◌≡◌, ℕ, Bool, true, false, if◌then◌else◌, nat_lt, List, [], ◌∷◌, length, codes, Option, Some, None, option_and_then, Ok, Err, refl, sym}
-use Rattle.std.specs.List.{AllZip}
+use Rattle.std.specs.List.{AllZip, flat_map}
 use Rattle.addr.specs.declared.route.Route.{Route}
 use Rattle.policy.specs.declared.command.Query.TheVariants.{Show, Content, List as ListQuery, Payloads, Validity}
 use Rattle.serde_json.specs.Data.{Data, Items}
-use Rattle.serde_json.specs.Find.{get, as_array}
+use Rattle.serde_json.specs.Find.{get, as_array, as_str}
 use Rattle.json_values.proofs.FaultLemmas.{told-if, told-only}
 use Rattle.json_values.specs.Faults.{required_faults}
 use Rattle.json_values.specs.Parts.{mapped}
@@ -12,13 +12,14 @@ use Rattle.json_values.specs.Tree.{tree_of, list_of}
 use Rattle.desk.specs.declared.asked.Asked.{Asked}
 use Rattle.desk.specs.declared.asked.Request.{Request}
 use Rattle.desk.specs.declared.asked.Request.TheVariants.{Command as CommandRequest, Query as QueryRequest}
-use Rattle.web.specs.RequestFaults.{malformed_number, role_at, route_faults, route_members, names_of, is_route_count, routes_faults, routes, action_in, own_members, members_of, member_faults, action_faults, tree_faults, request_faults, request_fault}
+use Rattle.web.specs.RequestFaults.{malformed_number, role_at, route_members, names_of, is_count, object_faults, list_faults, routes, action_in, action_of, own_members, Kind, known, members_of, action_faults, tree_faults, request_faults, request_fault}
 use Rattle.web.specs.RequestText.{HasName, HasDay, SaysRoute, HasRoutes, Does, SaysRequest, ReadsLine}
 use Rattle.json_values.specs.Values.{as_name, as_prefix, as_day, as_asn}
 use Rattle.web.specs.RequestValues.{as_origin, as_max, as_number, as_role, as_scope}
 use Rattle.web.specs.declared.lines.TheConstants.{LINE_LENGTH_LIMIT}
 use Rattle.web.specs.declared.request.action.Action.{Action}
 use Rattle.web.specs.declared.request.action.Action.TheVariants.{Register as AskRegister, Delegate as AskDelegate, Transfer as AskTransfer, Reclaim as AskReclaim, Grant as AskGrant, Revoke as AskRevoke, Create as AskCreate, Amend as AskAmend, Withdraw as AskWithdraw, Show as AskShow, Content as AskContent, List as AskList, Payloads as AskPayloads, Validity as AskValidity}
+use Rattle.web.specs.declared.request.routes.TheConstants.{MOST_ROUTES}
 use Rattle.web.specs.declared.request.fault.Fault.{Fault}
 use Rattle.web.specs.declared.request.fault.Fault.TheVariants.{Members, Holder, Caller, Prefix as PrefixFault, Asn, Max, Day, Role, Number, Count, TooLong}
 use Rattle.web.specs.steps.RequestReading.{RequestTerms, request, validity, AskedTerms, request_terms, asked_terms, route_in, routes_of, request_in, asked_as, asked_by, asked_from, asked_in}
@@ -43,7 +44,7 @@ until = reads-member as_day Day (codes "until")
 
 -- ---- routes
 
-reads-route : (d : Data) → Reads (route_in d) (route_faults d) (SaysRoute d)
+reads-route : (d : Data) → Reads (route_in d) (object_faults route_members d) (SaysRoute d)
 reads-route d =
     reads-unless
     (reads-mapped (λ p. record { prefix = p.0; origin = p.1 }) (λ p read. (read.0, read.1))
@@ -55,12 +56,12 @@ abbrev SaysRoutes : Option Items → List Route → Type 0
 SaysRoutes found listed =
     (items : Items) × (found ≡ Some items) × AllZip SaysRoute (list_of items) listed
 
-items-read : (found : Option Items) → Reads (routes_of found) (routes_faults found) (SaysRoutes found)
+items-read : (found : Option Items) → Reads (routes_of found) (list_faults route_members MOST_ROUTES found) (SaysRoutes found)
 items-read None = record { told = record { is = refl }; value = tt }
 items-read (Some items) =
     reads-unless (reads-says (λ listed each. (items, refl, each))
-    (reads-each route_in route_faults SaysRoute (list_of items) reads-route))
-    (told-if malformed_number (is_route_count (length (list_of items))) tt Count)
+    (reads-each route_in (object_faults route_members) SaysRoute (list_of items) reads-route))
+    (told-if malformed_number (is_count MOST_ROUTES (length (list_of items))) tt Count)
 
 member-read : (d : Data) (member : Option Data) →
     Reads (routes_of (option_and_then as_array member)) (required_faults Members (routes d) member)
@@ -81,6 +82,10 @@ terms-said d (QueryRequest (Content holder n)) says = says
 terms-said d (QueryRequest (ListQuery holder)) says = says
 terms-said d (QueryRequest Payloads) says = says
 terms-said d (QueryRequest (Validity listed)) says = says
+
+-- of each of these members
+abbrev member_faults : List (List ℕ × Kind) → Data → List Fault
+member_faults members d = flat_map (λ m. required_faults Members (m.1 d) (get m.0 d)) members
 
 reads-request : (action : Action) (d : Data) → Does action d → Reads (request_in action d) (member_faults (own_members action) d) (SaysTerms d)
 reads-request AskRegister d does = reads-mapped _ (λ p says. (does, says)) (reads-last (holder d))
@@ -122,12 +127,18 @@ abbrev AsksTerms : Option Data → AskedTerms → Type 0
 AsksTerms found asked = (d : Data) × (found ≡ Some d) × HasDay (codes "day") d asked.0
     × HasName (codes "caller") d asked.1.0 × SaysTerms d asked.1.1
 
+do-faultless : (d : Data) (action : Action) (member : Option Data) →
+    option_and_then action_of (option_and_then as_str member) ≡ Some action →
+    required_faults Members (known d) member ≡ []
+do-faultless d action None does = cc
+do-faultless d action (Some value) does = refl
+
 reads-asked : (action : Action) (d : Data) → Does action d → Reads (asked_as action d) (action_faults (Some action) d) (AsksTerms (Some d))
 reads-asked action d does =
-    reads-unless (reads-says (λ p says. (d, refl, says.0, says.1.0, says.1.1))
+    rw (do-faultless d action (get (codes "do") d) does) (reads-unless (reads-says (λ p says. (d, refl, says.0, says.1.0, says.1.1))
     (reads-both (reads-member as_day Day (codes "day") d)
     (reads-both (reads-member as_name Caller (codes "caller") d) (reads-request action d does))))
-    (told-only malformed_number Members (codes "do" ∷ names_of (members_of action)) d)
+    (told-only malformed_number Members (names_of (members_of action)) d))
 
 reads-by : (action : Option Action) (d : Data) → action_in d ≡ action → Reads (asked_by action d) (action_faults action d) (AsksTerms (Some d))
 reads-by None d does = record { told = record { is = refl }; value = tt }

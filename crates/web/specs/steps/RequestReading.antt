@@ -1,7 +1,7 @@
 -- A step of the code, not a definition: how it reads a request, from all of its parts at once, so that
 -- it finds the lowest fault. Which faults a line has stands in `RequestFaults`, what it asks in
 -- `RequestText`.
-use Rattle.std.specs.Prelude.{ℕ, nat_lt, List, ◌∷◌, length, codes, if◌then◌else◌, Option, Some, None, option_and_then, Result, Ok, Err}
+use Rattle.std.specs.Prelude.{ℕ, nat_lt, List, length, codes, if◌then◌else◌, Option, Some, None, option_and_then, Result, Ok, Err}
 use Rattle.std.specs.Option.{ok_or}
 use Rattle.addr.specs.declared.prefix.Prefix.{Prefix}
 use Rattle.addr.specs.declared.route.Route.{Route}
@@ -14,12 +14,13 @@ use Rattle.json_values.specs.Tree.{tree_of, required, only, list_of}
 use Rattle.desk.specs.declared.asked.Asked.{Asked}
 use Rattle.desk.specs.declared.asked.Request.{Request}
 use Rattle.desk.specs.declared.asked.Request.TheVariants.{Command as CommandRequest, Query as QueryRequest}
-use Rattle.web.specs.RequestFaults.{malformed_number, role_at, route_members, names_of, is_route_count, action_in, members_of}
+use Rattle.web.specs.RequestFaults.{malformed_number, role_at, route_members, names_of, is_count, action_in, members_of}
 use Rattle.json_values.specs.Values.{as_name, as_prefix, as_day, as_asn}
 use Rattle.web.specs.RequestValues.{as_origin, as_max, as_number, as_role, as_scope}
 use Rattle.web.specs.declared.lines.TheConstants.{LINE_LENGTH_LIMIT}
 use Rattle.web.specs.declared.request.action.Action.{Action}
 use Rattle.web.specs.declared.request.action.Action.TheVariants.{Register as AskRegister, Delegate as AskDelegate, Transfer as AskTransfer, Reclaim as AskReclaim, Grant as AskGrant, Revoke as AskRevoke, Create as AskCreate, Amend as AskAmend, Withdraw as AskWithdraw, Show as AskShow, Content as AskContent, List as AskList, Payloads as AskPayloads, Validity as AskValidity}
+use Rattle.web.specs.declared.request.routes.TheConstants.{MOST_ROUTES}
 use Rattle.web.specs.declared.request.fault.Fault.{Fault}
 use Rattle.web.specs.declared.request.fault.Fault.TheVariants.{Json, Members, Holder, Caller, Prefix as PrefixFault, Asn, Max, Day, Role, Number, Count, TooLong}
 
@@ -76,7 +77,7 @@ route_in d =
     (only Members (names_of route_members) d)
 
 abbrev pub count_of : ℕ → Result (Unit {0}) Fault
-count_of n = if is_route_count n then Ok tt else Err Count
+count_of n = if is_count MOST_ROUTES n then Ok tt else Err Count
 
 abbrev pub routes_of : Option Items → Result (List Route) Fault
 routes_of None = Err Members
@@ -145,7 +146,7 @@ asked_as action d =
     unless malformed_number
     (both malformed_number (day_in (codes "day") d)
     (both malformed_number (caller_in (codes "caller") d) (request_in action d)))
-    (only Members (codes "do" ∷ names_of (members_of action)) d)
+    (only Members (names_of (members_of action)) d)
 
 abbrev pub asked_by : Option Action → Data → Result AskedTerms Fault
 asked_by None d = Err Members
