@@ -5,6 +5,5 @@ pub mod ScriptLemmas
 pub mod StreamLemmas
 mod TrailMade
 pub mod RequestFaultLemmas
-pub mod RequestLemmas
 pub mod RequestReadLemmas
 pub mod SessionLemmas

@@ -42,15 +42,28 @@ pub reads-both : {A B : Type 0} {a : Result A Fault} {b : Result B Fault} {xs ys
 reads-both {a = a} {b = b} {P = P} {Q = Q} one other =
     record { told = told-both one.told other.told; value = value-both P Q a b one.value other.value }
 
-value-mapped : {A B : Type 0} (P : A → Type 0) (Q : B → Type 0) (f : A → B) (r : Result A Fault) →
-    ((a : A) → P a → Q (f a)) → IfOk r P → IfOk (mapped f r) Q
-value-mapped P Q f (Ok a) step value = step a value
-value-mapped P Q f (Err n) step value = tt
+value-says : {A : Type 0} (P Q : A → Type 0) (r : Result A Fault) →
+    ((a : A) → P a → Q a) → IfOk r P → IfOk r Q
+value-says P Q (Ok a) step value = step a value
+value-says P Q (Err n) step value = tt
 
-pub reads-mapped : {A B : Type 0} (f : A → B) {r : Result A Fault} {xs : List Fault} {P : A → Type 0} {Q : B → Type 0} →
+pub reads-says : {A : Type 0} {r : Result A Fault} {xs : List Fault} {P Q : A → Type 0} →
+    ((a : A) → P a → Q a) → Reads r xs P → Reads r xs Q
+reads-says {r = r} {P = P} {Q = Q} step read =
+    record { told = read.told; value = value-says P Q r step read.value }
+
+value-mapped : {A B : Type 0} (f : A → B) (Q : B → Type 0) (r : Result A Fault) →
+    IfOk r (λ a. Q (f a)) → IfOk (mapped f r) Q
+value-mapped f Q (Ok a) value = value
+value-mapped f Q (Err n) value = tt
+
+pub reads-mapped : {A B : Type 0} (f : A → B) {r : Result A Fault} {xs : List Fault}
+    {P : A → Type 0} {Q : B → Type 0} →
     ((a : A) → P a → Q (f a)) → Reads r xs P → Reads (mapped f r) xs Q
-reads-mapped f {r = r} {P = P} {Q = Q} step read =
-    record { told = told-mapped f read.told; value = value-mapped P Q f r step read.value }
+reads-mapped f {r = r} {P = P} {Q = Q} step read = record {
+  told = told-mapped f read.told;
+  value = value-mapped f Q r (value-says P (λ a. Q (f a)) r step read.value);
+}
 
 value-unless : {A B : Type 0} (P : A → Type 0) (a : Result A Fault) (b : Result B Fault) →
     IfOk a P → IfOk (unless malformed_number a b) P
@@ -77,8 +90,13 @@ found-reads : {A : Type 0} (reading : Data → Option A) (n : Fault) (o : Option
 found-reads reading n None = tt
 found-reads reading n (Some d) = value-member (reading d) n
 
+abbrev pub ReadsMember : {A : Type 0} → (Data → Option A) → Fault → List ℕ → Data → Type 0
+ReadsMember reading n name d =
+    Reads (member_in reading n name d)
+    (required_faults Members (reading_faults reading n) (get name d)) (HasMember reading name d)
+
 pub reads-member : {A : Type 0} (reading : Data → Option A) (n : Fault) (name : List ℕ) (d : Data) →
-    Reads (member_in reading n name d) (required_faults Members (reading_faults reading n) (get name d)) (HasMember reading name d)
+    ReadsMember reading n name d
 reads-member reading n name d = record {
   told = told-required malformed_number Members _ (reading_faults reading n) (get name d) (λ e. told-ok_or malformed_number (reading e) n);
   value = found-reads reading n (get name d);

@@ -1,77 +1,73 @@
 -- What the code reads of a line is the request that the line is, and its fault the lowest.
-use Rattle.std.proofs.Common.{◌≡◌, ℕ, Bool, true, false, if◌then◌else◌, nat_lt, List, [], ◌∷◌, length, codes, Option, Some, None, option_and_then, Result, Ok, Err, refl, sym}
-use Rattle.std.specs.Prelude.{IfOk}
-use Rattle.std.specs.List.{AllZip}
+use Rattle.std.proofs.Common.{◌≡◌, ℕ, Bool, true, false, if◌then◌else◌, nat_lt, List, [], ◌∷◌, length, codes, Option, Some, None, option_and_then, Ok, Err, refl, sym}
+use Rattle.std.specs.List.{AllZip, flat_map}
 use Rattle.addr.specs.declared.route.Route.{Route}
 use Rattle.policy.specs.declared.command.Query.TheVariants.{Show, Content, List as ListQuery, Payloads, Validity}
 use Rattle.serde_json.specs.Data.{Data, Items}
-use Rattle.serde_json.specs.Find.{get, as_array}
+use Rattle.serde_json.specs.Find.{get, as_array, as_str}
 use Rattle.json_values.proofs.FaultLemmas.{told-if, told-only}
-use Rattle.json_values.specs.Faults.{reading_faults, required_faults}
-use Rattle.json_values.specs.Parts.{each, mapped}
+use Rattle.json_values.specs.Faults.{required_faults}
+use Rattle.json_values.specs.Parts.{mapped}
 use Rattle.json_values.specs.Tree.{tree_of, list_of}
 use Rattle.desk.specs.declared.asked.Asked.{Asked}
 use Rattle.desk.specs.declared.asked.Request.{Request}
 use Rattle.desk.specs.declared.asked.Request.TheVariants.{Command as CommandRequest, Query as QueryRequest}
-use Rattle.web.specs.RequestFaults.{malformed_number, role_at, route_faults, route_members, names_of, is_route_count, routes_faults, routes, action_in, own_members, members_of, member_faults, action_faults, tree_faults, request_faults, request_fault}
-use Rattle.web.specs.RequestText.{HasName, HasPrefix, HasNumber, HasMax, HasDay, SaysRoute, HasRoutes, Does, SaysRequest, ReadsLine}
+use Rattle.web.specs.RequestFaults.{malformed_number, role_at, route_members, names_of, is_count, object_faults, list_faults, routes, action_in, action_of, own_members, Kind, known, members_of, action_faults, tree_faults, request_faults, request_fault}
+use Rattle.web.specs.RequestText.{HasName, HasDay, SaysRoute, HasRoutes, Does, SaysRequest, ReadsLine}
 use Rattle.json_values.specs.Values.{as_name, as_prefix, as_day, as_asn}
 use Rattle.web.specs.RequestValues.{as_origin, as_max, as_number, as_role, as_scope}
 use Rattle.web.specs.declared.lines.TheConstants.{LINE_LENGTH_LIMIT}
 use Rattle.web.specs.declared.request.action.Action.{Action}
 use Rattle.web.specs.declared.request.action.Action.TheVariants.{Register as AskRegister, Delegate as AskDelegate, Transfer as AskTransfer, Reclaim as AskReclaim, Grant as AskGrant, Revoke as AskRevoke, Create as AskCreate, Amend as AskAmend, Withdraw as AskWithdraw, Show as AskShow, Content as AskContent, List as AskList, Payloads as AskPayloads, Validity as AskValidity}
+use Rattle.web.specs.declared.request.routes.TheConstants.{MOST_ROUTES}
 use Rattle.web.specs.declared.request.fault.Fault.{Fault}
 use Rattle.web.specs.declared.request.fault.Fault.TheVariants.{Members, Holder, Caller, Prefix as PrefixFault, Asn, Max, Day, Role, Number, Count, TooLong}
-use Rattle.web.specs.steps.RequestReading.{RequestTerms, request, validity, AskedTerms, request_terms, asked_terms, holder_in, prefix_in, max_in, number_in, day_in, route_in, routes_of, routes_in, request_in, asked_with, asked_as, asked_by, asked_from, asked_in}
-use Rattle.web.proofs.RequestFaultLemmas.{Reads, reads-both, reads-mapped, reads-unless, reads-last, reads-member, reads-each, lowest-none}
+use Rattle.web.specs.steps.RequestReading.{RequestTerms, request, validity, AskedTerms, request_terms, asked_terms, route_in, routes_of, request_in, asked_as, asked_by, asked_from, asked_in}
+use Rattle.web.proofs.RequestFaultLemmas.{Reads, reads-both, reads-mapped, reads-unless, reads-last, reads-says, ReadsMember, reads-member, reads-each, lowest-none}
 
 -- ---- members
 
-reads-holder : (name : List ℕ) (d : Data) → Reads (holder_in name d) (required_faults Members (reading_faults as_name Holder) (get name d)) (HasName name d)
-reads-holder = reads-member as_name Holder
+holder : (d : Data) → ReadsMember as_name Holder (codes "holder") d
+holder = reads-member as_name Holder (codes "holder")
 
-reads-prefix : (d : Data) → Reads (prefix_in d) (required_faults Members (reading_faults as_prefix PrefixFault) (get (codes "prefix") d)) (HasPrefix d)
-reads-prefix = reads-member as_prefix PrefixFault (codes "prefix")
+prefix : (d : Data) → ReadsMember as_prefix PrefixFault (codes "prefix") d
+prefix = reads-member as_prefix PrefixFault (codes "prefix")
 
-reads-max : (d : Data) → Reads (max_in d) (required_faults Members (reading_faults as_max Max) (get (codes "max") d)) (HasMax d)
-reads-max = reads-member as_max Max (codes "max")
+max_length : (d : Data) → ReadsMember as_max Max (codes "max") d
+max_length = reads-member as_max Max (codes "max")
 
-reads-number : (d : Data) → Reads (number_in d) (required_faults Members (reading_faults as_number Number) (get (codes "number") d)) (HasNumber d)
-reads-number = reads-member as_number Number (codes "number")
+number : (d : Data) → ReadsMember as_number Number (codes "number") d
+number = reads-member as_number Number (codes "number")
 
-reads-day : (name : List ℕ) (d : Data) → Reads (day_in name d) (required_faults Members (reading_faults as_day Day) (get name d)) (HasDay name d)
-reads-day = reads-member as_day Day
+until : (d : Data) → ReadsMember as_day Day (codes "until") d
+until = reads-member as_day Day (codes "until")
 
 -- ---- routes
 
-reads-route : (d : Data) → Reads (route_in d) (route_faults d) (SaysRoute d)
+reads-route : (d : Data) → Reads (route_in d) (object_faults route_members d) (SaysRoute d)
 reads-route d =
     reads-unless
     (reads-mapped (λ p. record { prefix = p.0; origin = p.1 }) (λ p read. (read.0, read.1))
-    (reads-both (reads-prefix d) (reads-last (reads-member as_origin Asn (codes "origin") d))))
+    (reads-both (prefix d) (reads-last (reads-member as_origin Asn (codes "origin") d))))
     (told-only malformed_number Members (names_of route_members) d)
 
--- the routes of a line, and their number
-routes-value : (items : Items) (all : Result (List Route) Fault) → IfOk all (AllZip SaysRoute (list_of items)) →
-    IfOk all (λ listed. (found : Items) × (Some items ≡ Some found) × AllZip SaysRoute (list_of found) listed)
-routes-value items (Ok listed) each = (items, refl, each)
-routes-value items (Err n) each = tt
+-- the items of an array are these routes
+abbrev SaysRoutes : Option Items → List Route → Type 0
+SaysRoutes found listed =
+    (items : Items) × (found ≡ Some items) × AllZip SaysRoute (list_of items) listed
 
-routes_of-reads : (found : Option Items) →
-    Reads (routes_of found) (routes_faults found) (λ listed. (items : Items) × (found ≡ Some items) × AllZip SaysRoute (list_of items) listed)
-routes_of-reads None = record { told = record { is = refl }; value = tt }
-routes_of-reads (Some items) =
-    let all = reads-each route_in route_faults SaysRoute (list_of items) reads-route in
-    reads-unless (record { told = all.told; value = routes-value items (each malformed_number route_in (list_of items)) all.value })
-    (told-if malformed_number (is_route_count (length (list_of items))) tt Count)
+items-read : (found : Option Items) → Reads (routes_of found) (list_faults route_members MOST_ROUTES found) (SaysRoutes found)
+items-read None = record { told = record { is = refl }; value = tt }
+items-read (Some items) =
+    reads-unless (reads-says (λ listed each. (items, refl, each))
+    (reads-each route_in (object_faults route_members) SaysRoute (list_of items) reads-route))
+    (told-if malformed_number (is_count MOST_ROUTES (length (list_of items))) tt Count)
 
-reads-routes : (d : Data) → Reads (routes_in d) (required_faults Members (routes d) (get (codes "routes") d)) (HasRoutes d)
-reads-routes d = reads-found (get (codes "routes") d)
-  where
-    reads-found : (o : Option Data) → Reads (routes_of (option_and_then as_array o)) (required_faults Members (routes d) o)
-        (λ listed. (items : Items) × (option_and_then as_array o ≡ Some items) × AllZip SaysRoute (list_of items) listed)
-    reads-found None = record { told = record { is = refl }; value = tt }
-    reads-found (Some value) = routes_of-reads (as_array value)
+member-read : (d : Data) (member : Option Data) →
+    Reads (routes_of (option_and_then as_array member)) (required_faults Members (routes d) member)
+    (SaysRoutes (option_and_then as_array member))
+member-read d None = record { told = record { is = refl }; value = tt }
+member-read d (Some value) = items-read (as_array value)
 
 -- ---- requests
 
@@ -87,56 +83,62 @@ terms-said d (QueryRequest (ListQuery holder)) says = says
 terms-said d (QueryRequest Payloads) says = says
 terms-said d (QueryRequest (Validity listed)) says = says
 
-holder : (d : Data) → Reads (holder_in (codes "holder") d) (required_faults Members (reading_faults as_name Holder) (get (codes "holder") d)) (HasName (codes "holder") d)
-holder = reads-holder (codes "holder")
+-- of each of these members
+abbrev member_faults : List (List ℕ × Kind) → Data → List Fault
+member_faults members d = flat_map (λ m. required_faults Members (m.1 d) (get m.0 d)) members
 
 reads-request : (action : Action) (d : Data) → Does action d → Reads (request_in action d) (member_faults (own_members action) d) (SaysTerms d)
 reads-request AskRegister d does = reads-mapped _ (λ p says. (does, says)) (reads-last (holder d))
 reads-request AskDelegate d does =
-    reads-mapped _ (λ p says. (does, says.0, says.1)) (reads-both (holder d) (reads-last (reads-prefix d)))
+    reads-mapped _ (λ p says. (does, says.0, says.1)) (reads-both (holder d) (reads-last (prefix d)))
 reads-request AskTransfer d does =
     reads-mapped _ (λ p says. (does, says.0, says.1.0, says.1.1))
-    (reads-both (reads-prefix d) (reads-both (reads-holder (codes "giver") d) (reads-last (reads-holder (codes "taker") d))))
+    (reads-both (prefix d) (reads-both (reads-member as_name Holder (codes "giver") d) (reads-last (reads-member as_name Holder (codes "taker") d))))
 reads-request AskReclaim d does =
-    reads-mapped _ (λ p says. (does, says.0, says.1)) (reads-both (holder d) (reads-last (reads-prefix d)))
+    reads-mapped _ (λ p says. (does, says.0, says.1)) (reads-both (holder d) (reads-last (prefix d)))
 reads-request AskGrant d does =
     reads-mapped _ (λ p says. (does, says.0, says.1.0, says.1.1.0, says.1.1.1.0, says.1.1.1.1))
     (reads-both (holder d) (reads-both (reads-member as_name Caller (codes "name") d)
     (reads-both (reads-member as_role Role (codes "role") d)
-    (reads-both (reads-member (as_scope (role_at d)) Role (codes "scope") d) (reads-last (reads-day (codes "until") d))))))
+    (reads-both (reads-member (as_scope (role_at d)) Role (codes "scope") d) (reads-last (until d))))))
 reads-request AskRevoke d does =
-    reads-mapped _ (λ p says. (does, says.0, says.1)) (reads-both (holder d) (reads-last (reads-number d)))
+    reads-mapped _ (λ p says. (does, says.0, says.1)) (reads-both (holder d) (reads-last (number d)))
 reads-request AskCreate d does =
     reads-mapped _ (λ p says. (does, says.0, says.1.0, says.1.1.0, says.1.1.1.0, says.1.1.1.1.0, says.1.1.1.1.1))
-    (reads-both (holder d) (reads-both (reads-member as_asn Asn (codes "asn") d) (reads-both (reads-prefix d)
-    (reads-both (reads-max d) (reads-both (reads-day (codes "from") d) (reads-last (reads-day (codes "until") d)))))))
+    (reads-both (holder d) (reads-both (reads-member as_asn Asn (codes "asn") d) (reads-both (prefix d)
+    (reads-both (max_length d) (reads-both (reads-member as_day Day (codes "from") d) (reads-last (until d)))))))
 reads-request AskAmend d does =
     reads-mapped _ (λ p says. (does, says.0, says.1.0, says.1.1.0, says.1.1.1))
-    (reads-both (holder d) (reads-both (reads-number d) (reads-both (reads-max d) (reads-last (reads-day (codes "until") d)))))
+    (reads-both (holder d) (reads-both (number d) (reads-both (max_length d) (reads-last (until d)))))
 reads-request AskWithdraw d does =
-    reads-mapped _ (λ p says. (does, says.0, says.1)) (reads-both (holder d) (reads-last (reads-number d)))
+    reads-mapped _ (λ p says. (does, says.0, says.1)) (reads-both (holder d) (reads-last (number d)))
 reads-request AskShow d does =
-    reads-mapped _ (λ p says. (does, says.0, says.1)) (reads-both (holder d) (reads-last (reads-number d)))
+    reads-mapped _ (λ p says. (does, says.0, says.1)) (reads-both (holder d) (reads-last (number d)))
 reads-request AskContent d does =
-    reads-mapped _ (λ p says. (does, says.0, says.1)) (reads-both (holder d) (reads-last (reads-number d)))
+    reads-mapped _ (λ p says. (does, says.0, says.1)) (reads-both (holder d) (reads-last (number d)))
 reads-request AskList d does = reads-mapped _ (λ p says. (does, says)) (reads-last (holder d))
 reads-request AskPayloads d does = record { told = record { is = refl }; value = does }
-reads-request AskValidity d does = reads-mapped validity (λ p says. (does, says)) (reads-last (reads-routes d))
+reads-request AskValidity d does = reads-mapped validity (λ p says. (does, says)) (reads-last (member-read d (get (codes "routes") d)))
 
 -- ---- lines
 
 -- what is asked, but for the faults
 abbrev AsksTerms : Option Data → AskedTerms → Type 0
-AsksTerms found asked = (d : Data) × (found ≡ Some d) × HasDay (codes "day") d asked.day
-    × HasName (codes "caller") d asked.caller × SaysTerms d asked.request
+AsksTerms found asked = (d : Data) × (found ≡ Some d) × HasDay (codes "day") d asked.0
+    × HasName (codes "caller") d asked.1.0 × SaysTerms d asked.1.1
+
+do-faultless : (d : Data) (action : Action) (member : Option Data) →
+    option_and_then action_of (option_and_then as_str member) ≡ Some action →
+    required_faults Members (known d) member ≡ []
+do-faultless d action None does = cc
+do-faultless d action (Some value) does = refl
 
 reads-asked : (action : Action) (d : Data) → Does action d → Reads (asked_as action d) (action_faults (Some action) d) (AsksTerms (Some d))
 reads-asked action d does =
-    reads-unless
-    (reads-mapped asked_with (λ p says. (d, refl, says.0, says.1.0, says.1.1))
-    (reads-both (reads-day (codes "day") d)
+    rw (do-faultless d action (get (codes "do") d) does) (reads-unless (reads-says (λ p says. (d, refl, says.0, says.1.0, says.1.1))
+    (reads-both (reads-member as_day Day (codes "day") d)
     (reads-both (reads-member as_name Caller (codes "caller") d) (reads-request action d does))))
-    (told-only malformed_number Members (codes "do" ∷ names_of (members_of action)) d)
+    (told-only malformed_number Members (names_of (members_of action)) d))
 
 reads-by : (action : Option Action) (d : Data) → action_in d ≡ action → Reads (asked_by action d) (action_faults action d) (AsksTerms (Some d))
 reads-by None d does = record { told = record { is = refl }; value = tt }

@@ -1,5 +1,5 @@
--- Every fault of a line as a request, wherever it stands in the line: the lowest of all is told. A line is
--- judged by the tree that the JSON reader gives: of a repeated member it has the last value.
+-- Every fault of a line as a request, wherever it stands in the line: the lowest of all is told. A line
+-- is judged by the tree that the JSON reader gives: of a repeated member it has the last value.
 use Rattle.std.specs.Prelude.{ℕ, nat_le, nat_lt, ◌&&◌, Bool, List, [], ◌∷◌, ◌++◌, map, length, codes, if◌then◌else◌, Option, Some, None, option_map, option_and_then}
 use Rattle.std.specs.List.{flat_map}
 use Rattle.std.specs.Str.{bytes_eq}
@@ -18,8 +18,7 @@ use Rattle.web.specs.declared.request.fault.Fault.{Fault}
 use Rattle.web.specs.declared.request.fault.Fault.TheVariants.{Json, Members, Holder, Caller, Prefix, Asn, Max, Day, Role as RoleFault, Number, Count, TooLong}
 use Rattle.web.specs.declared.request.routes.TheConstants.{MOST_ROUTES}
 
--- ---- their numbers
-
+-- where several faults apply, the one of the lowest number is told
 abbrev pub malformed_number : Fault → ℕ
 malformed_number Json = 1
 malformed_number Members = 2
@@ -34,8 +33,9 @@ malformed_number Number = 10
 malformed_number Count = 12
 malformed_number TooLong = 13
 
--- ---- kinds of members: the faults of a value, by the object that it stands in
+-- ---- kinds of members
 
+-- the faults of a value that is to be of a kind, by the object that it stands in
 abbrev pub Kind : Type 0
 Kind = Data → Data → List Fault
 
@@ -73,32 +73,36 @@ scope d = reading_faults (as_scope (role_at d)) RoleFault
 abbrev pub number : Kind
 number d = reading_faults as_number Number
 
--- ---- members of objects: each of these has to be there, and there is no other
+-- of a value that is known already
+abbrev pub known : Kind
+known d value = []
 
-abbrev pub member_faults : List (List ℕ × Kind) → Data → List Fault
-member_faults members d = flat_map (λ m. required_faults Members (m.1 d) (get m.0 d)) members
+-- ---- objects and lists of objects
 
 abbrev pub names_of : List (List ℕ × Kind) → List (List ℕ)
 names_of members = map (λ m. m.0) members
 
--- ---- routes
+-- of what is to be an object with each of these members and with no other
+abbrev pub object_faults : List (List ℕ × Kind) → Data → List Fault
+object_faults members d =
+    flat_map (λ m. required_faults Members (m.1 d) (get m.0 d)) members
+    ++ name_faults Members (names_of members) d
+
+abbrev pub is_count : ℕ → ℕ → Bool
+is_count most n = nat_le 1 n && nat_le n most
+
+-- of what is to be an array of such objects, of which there are one to `most`
+abbrev pub list_faults : List (List ℕ × Kind) → ℕ → Option Items → List Fault
+list_faults members most None = Members ∷ []
+list_faults members most (Some items) =
+    flat_map (object_faults members) (list_of items)
+    ++ fault_unless (is_count most (length (list_of items))) Count
 
 abbrev pub route_members : List (List ℕ × Kind)
 route_members = (codes "prefix", prefix) ∷ (codes "origin", origin) ∷ []
 
-abbrev pub route_faults : Data → List Fault
-route_faults d = member_faults route_members d ++ name_faults Members (names_of route_members) d
-
-abbrev pub is_route_count : ℕ → Bool
-is_route_count n = nat_le 1 n && nat_le n MOST_ROUTES
-
-abbrev pub routes_faults : Option Items → List Fault
-routes_faults None = Members ∷ []
-routes_faults (Some items) =
-    flat_map route_faults (list_of items) ++ fault_unless (is_route_count (length (list_of items))) Count
-
 abbrev pub routes : Kind
-routes d value = routes_faults (as_array value)
+routes d value = list_faults route_members MOST_ROUTES (as_array value)
 
 -- ---- requests
 
@@ -124,7 +128,7 @@ action_of text =
 abbrev pub action_in : Data → Option Action
 action_in d = option_and_then action_of (option_and_then as_str (get (codes "do") d))
 
--- the members of a request beside `day`, `caller` and `do`
+-- the further members of a request
 abbrev pub own_members : Action → List (List ℕ × Kind)
 own_members Register = (codes "holder", holder_name) ∷ []
 own_members Delegate = (codes "holder", holder_name) ∷ (codes "prefix", prefix) ∷ []
@@ -149,12 +153,12 @@ own_members Payloads = []
 own_members Validity = (codes "routes", routes) ∷ []
 
 abbrev pub members_of : Action → List (List ℕ × Kind)
-members_of action = (codes "day", day) ∷ (codes "caller", caller_name) ∷ own_members action
+members_of action =
+    (codes "day", day) ∷ (codes "caller", caller_name) ∷ (codes "do", known) ∷ own_members action
 
 abbrev pub action_faults : Option Action → Data → List Fault
 action_faults None d = Members ∷ []
-action_faults (Some action) d =
-    member_faults (members_of action) d ++ name_faults Members (codes "do" ∷ names_of (members_of action)) d
+action_faults (Some action) d = object_faults (members_of action) d
 
 abbrev pub tree_faults : Option Data → List Fault
 tree_faults None = Json ∷ []
@@ -168,4 +172,5 @@ request_faults line =
 -- why a line is no request
 abbrev pub request_fault : List ℕ → Option Malformed
 request_fault line =
-    option_map (λ fault. record { number = malformed_number fault; slurm = None }) (lowest malformed_number (request_faults line))
+    option_map (λ fault. record { number = malformed_number fault; slurm = None })
+    (lowest malformed_number (request_faults line))

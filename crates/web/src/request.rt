@@ -33,8 +33,8 @@ pub enum LineFault {
     Memory,
 }
 
-/// Reads the request that a line is. A JSON number is taken where it is written in plain digits; of a
-/// repeated member the last value counts.
+/// Reads the request that a line is, or tells its lowest fault. A JSON number is taken where it is
+/// written in plain digits; of a repeated member the last value counts.
 pub fn read_line_request(alloc: Global, line: &[u8]) -> Result<Asked, LineFault>
     ensures ok { IfOk result (ReadsLine line.now) }
     ensures malformed { (m : Malformed) → result ≡ Err (LineFault.Malformed m)

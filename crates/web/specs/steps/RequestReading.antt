@@ -1,6 +1,7 @@
--- How the code reads a request: from all of its parts at once (`both`, `unless`, `each`), so that the
--- fault is the lowest. Which faults a line has stands in `RequestFaults`, what it asks in `RequestText`.
-use Rattle.std.specs.Prelude.{ℕ, nat_lt, List, ◌∷◌, length, codes, if◌then◌else◌, Option, Some, None, option_and_then, Result, Ok, Err}
+-- A step of the code, not a definition: how it reads a request, from all of its parts at once, so that
+-- it finds the lowest fault. Which faults a line has stands in `RequestFaults`, what it asks in
+-- `RequestText`.
+use Rattle.std.specs.Prelude.{ℕ, nat_lt, List, length, codes, if◌then◌else◌, Option, Some, None, option_and_then, Result, Ok, Err}
 use Rattle.std.specs.Option.{ok_or}
 use Rattle.addr.specs.declared.prefix.Prefix.{Prefix}
 use Rattle.addr.specs.declared.route.Route.{Route}
@@ -13,12 +14,13 @@ use Rattle.json_values.specs.Tree.{tree_of, required, only, list_of}
 use Rattle.desk.specs.declared.asked.Asked.{Asked}
 use Rattle.desk.specs.declared.asked.Request.{Request}
 use Rattle.desk.specs.declared.asked.Request.TheVariants.{Command as CommandRequest, Query as QueryRequest}
-use Rattle.web.specs.RequestFaults.{malformed_number, role_at, route_members, names_of, is_route_count, action_in, members_of}
+use Rattle.web.specs.RequestFaults.{malformed_number, role_at, route_members, names_of, is_count, action_in, members_of}
 use Rattle.json_values.specs.Values.{as_name, as_prefix, as_day, as_asn}
 use Rattle.web.specs.RequestValues.{as_origin, as_max, as_number, as_role, as_scope}
 use Rattle.web.specs.declared.lines.TheConstants.{LINE_LENGTH_LIMIT}
 use Rattle.web.specs.declared.request.action.Action.{Action}
 use Rattle.web.specs.declared.request.action.Action.TheVariants.{Register as AskRegister, Delegate as AskDelegate, Transfer as AskTransfer, Reclaim as AskReclaim, Grant as AskGrant, Revoke as AskRevoke, Create as AskCreate, Amend as AskAmend, Withdraw as AskWithdraw, Show as AskShow, Content as AskContent, List as AskList, Payloads as AskPayloads, Validity as AskValidity}
+use Rattle.web.specs.declared.request.routes.TheConstants.{MOST_ROUTES}
 use Rattle.web.specs.declared.request.fault.Fault.{Fault}
 use Rattle.web.specs.declared.request.fault.Fault.TheVariants.{Json, Members, Holder, Caller, Prefix as PrefixFault, Asn, Max, Day, Role, Number, Count, TooLong}
 
@@ -28,10 +30,9 @@ pub data RequestTerms : Type 0 where
   request : Request → RequestTerms
   validity : List Route → RequestTerms
 
-pub record AskedTerms : Type 0 where
-  pub day : ℕ
-  pub caller : List ℕ
-  pub request : RequestTerms
+-- the day, the caller and the request
+abbrev pub AskedTerms : Type 0
+AskedTerms = ℕ × (List ℕ × RequestTerms)
 
 abbrev pub request_terms : Request → RequestTerms
 request_terms (CommandRequest c) = request (CommandRequest c)
@@ -42,8 +43,7 @@ request_terms (QueryRequest Payloads) = request (QueryRequest Payloads)
 request_terms (QueryRequest (Validity routes)) = validity routes.items
 
 abbrev pub asked_terms : Asked → AskedTerms
-asked_terms asked =
-    record { day = asked.day; caller = asked.caller; request = request_terms asked.request }
+asked_terms asked = (asked.day, (asked.caller, request_terms asked.request))
 
 -- ---- members
 
@@ -77,12 +77,13 @@ route_in d =
     (only Members (names_of route_members) d)
 
 abbrev pub count_of : ℕ → Result (Unit {0}) Fault
-count_of n = if is_route_count n then Ok tt else Err Count
+count_of n = if is_count MOST_ROUTES n then Ok tt else Err Count
 
 abbrev pub routes_of : Option Items → Result (List Route) Fault
 routes_of None = Err Members
 routes_of (Some items) =
-    unless malformed_number (each malformed_number route_in (list_of items)) (count_of (length (list_of items)))
+    unless malformed_number (each malformed_number route_in (list_of items))
+    (count_of (length (list_of items)))
 
 abbrev pub routes_in : Data → Result (List Route) Fault
 routes_in d = routes_of (option_and_then as_array (get (codes "routes") d))
@@ -116,7 +117,8 @@ request_in AskGrant d =
 request_in AskRevoke d =
     mapped (λ p. request (CommandRequest (Revoke p.0 p.1))) (holder_and_number d)
 request_in AskCreate d =
-    mapped (λ p. request (CommandRequest (Create p.0 p.1.0 p.1.1.0 p.1.1.1.0 p.1.1.1.1.0 p.1.1.1.1.1)))
+    mapped (λ p. request
+    (CommandRequest (Create p.0 p.1.0 p.1.1.0 p.1.1.1.0 p.1.1.1.1.0 p.1.1.1.1.1)))
     (both malformed_number (holder_in (codes "holder") d)
     (both malformed_number (member_in as_asn Asn (codes "asn") d)
     (both malformed_number (prefix_in d)
@@ -125,26 +127,26 @@ request_in AskCreate d =
 request_in AskAmend d =
     mapped (λ p. request (CommandRequest (Amend p.0 p.1.0 p.1.1.0 p.1.1.1)))
     (both malformed_number (holder_in (codes "holder") d)
-    (both malformed_number (number_in d) (both malformed_number (max_in d) (day_in (codes "until") d))))
+    (both malformed_number (number_in d)
+    (both malformed_number (max_in d) (day_in (codes "until") d))))
 request_in AskWithdraw d =
     mapped (λ p. request (CommandRequest (Withdraw p.0 p.1))) (holder_and_number d)
 request_in AskShow d = mapped (λ p. request (QueryRequest (Show p.0 p.1))) (holder_and_number d)
-request_in AskContent d = mapped (λ p. request (QueryRequest (Content p.0 p.1))) (holder_and_number d)
-request_in AskList d = mapped (λ p. request (QueryRequest (ListQuery p))) (holder_in (codes "holder") d)
+request_in AskContent d =
+    mapped (λ p. request (QueryRequest (Content p.0 p.1))) (holder_and_number d)
+request_in AskList d =
+    mapped (λ p. request (QueryRequest (ListQuery p))) (holder_in (codes "holder") d)
 request_in AskPayloads d = Ok (request (QueryRequest Payloads))
 request_in AskValidity d = mapped validity (routes_in d)
 
 -- ---- lines
 
-abbrev pub asked_with : ℕ × (List ℕ × RequestTerms) → AskedTerms
-asked_with p = record { day = p.0; caller = p.1.0; request = p.1.1 }
-
 abbrev pub asked_as : Action → Data → Result AskedTerms Fault
 asked_as action d =
-    unless malformed_number (mapped asked_with
+    unless malformed_number
     (both malformed_number (day_in (codes "day") d)
-    (both malformed_number (caller_in (codes "caller") d) (request_in action d))))
-    (only Members (codes "do" ∷ names_of (members_of action)) d)
+    (both malformed_number (caller_in (codes "caller") d) (request_in action d)))
+    (only Members (names_of (members_of action)) d)
 
 abbrev pub asked_by : Option Action → Data → Result AskedTerms Fault
 asked_by None d = Err Members

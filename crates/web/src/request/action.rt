@@ -1,5 +1,5 @@
 // What a request's `do` says.
-ghost use Rattle.std.specs.Prelude.{◌≡◌, ◌∷◌, codes};
+ghost use Rattle.std.specs.Prelude.{◌≡◌};
 ghost use Rattle.serde_json.specs.View.{view};
 ghost use Rattle.json_values.specs.Tree.{only};
 ghost use Rattle.web.specs.RequestFaults.{action_in, action_of, members_of, names_of};
@@ -73,35 +73,34 @@ fn action_of(text: &str) -> Option<Action>
 
 /// Refuses what is no object, or has a member that the request does not have.
 pub(crate) fn only_members_of(action: Action, value: &Value) -> Result<(), Fault>
-    ensures { result ≡ only Fault.Members (codes "do" ∷ names_of (members_of action))
-        (view value.now) }
+    ensures { result ≡ only Fault.Members (names_of (members_of action)) (view value.now) }
 {
     match action {
-        Action::Register | Action::List => only(value, &["do", "day", "caller", "holder"]),
+        Action::Register | Action::List => only(value, &["day", "caller", "do", "holder"]),
         Action::Delegate | Action::Reclaim => {
-            only(value, &["do", "day", "caller", "holder", "prefix"])
+            only(value, &["day", "caller", "do", "holder", "prefix"])
         }
-        Action::Transfer => only(value, &["do", "day", "caller", "prefix", "giver", "taker"]),
+        Action::Transfer => only(value, &["day", "caller", "do", "prefix", "giver", "taker"]),
         Action::Grant => only(
             value,
             &[
-                "do", "day", "caller", "holder", "name", "role", "scope", "until",
+                "day", "caller", "do", "holder", "name", "role", "scope", "until",
             ],
         ),
         Action::Revoke | Action::Withdraw | Action::Show | Action::Content => {
-            only(value, &["do", "day", "caller", "holder", "number"])
+            only(value, &["day", "caller", "do", "holder", "number"])
         }
         Action::Create => only(
             value,
             &[
-                "do", "day", "caller", "holder", "asn", "prefix", "max", "from", "until",
+                "day", "caller", "do", "holder", "asn", "prefix", "max", "from", "until",
             ],
         ),
         Action::Amend => only(
             value,
-            &["do", "day", "caller", "holder", "number", "max", "until"],
+            &["day", "caller", "do", "holder", "number", "max", "until"],
         ),
-        Action::Payloads => only(value, &["do", "day", "caller"]),
-        Action::Validity => only(value, &["do", "day", "caller", "routes"]),
+        Action::Payloads => only(value, &["day", "caller", "do"]),
+        Action::Validity => only(value, &["day", "caller", "do", "routes"]),
     }
 }
