@@ -1,4 +1,4 @@
-ghost use Rattle.std.specs.Prelude.{◌≡◌, OnOk};
+ghost use Rattle.std.specs.Prelude.{◌≡◌, ◌≢◌, Err, OnOk};
 ghost use Rattle.sqlite.specs.Held.{state};
 ghost use Rattle.sqlite.specs.State.{HasCleanDisk, KeepsCommit, Survives};
 ghost use Rattle.policy.specs.Rows.{edited, changed, changed_by_one};
@@ -68,6 +68,7 @@ fn edit_rows<S: Alter>(
     ensures done { HasCleanDisk (state S.Store tx.new.conn.now) → OnOk result (Done holder.now (edited edit.now) (state S.Store tx.old.conn.now) (state S.Store tx.new.conn.now)) }
     ensures kept { HasCleanDisk (state S.Store tx.new.conn.now) → KeepsCommit (state S.Store tx.old.conn.now) (state S.Store tx.new.conn.now) }
     ensures survives { Survives (state S.Store tx.old.conn.now) (state S.Store tx.new.conn.now) (λ _. ⊥) }
+    ensures no_schema { result ≢ Err StoreFault.Schema }
 {
     match edit {
         Edit::Register => return Err(StoreFault::Database),
@@ -97,6 +98,7 @@ fn edit_holder<S: Alter>(
     ensures done { HasCleanDisk (state S.Store tx.new.conn.now) → OnOk result (Turned (λ rows h. changed_by_one change.now h (rows h)) (state S.Store tx.old.conn.now) (state S.Store tx.new.conn.now)) }
     ensures kept { HasCleanDisk (state S.Store tx.new.conn.now) → KeepsCommit (state S.Store tx.old.conn.now) (state S.Store tx.new.conn.now) }
     ensures survives { Survives (state S.Store tx.old.conn.now) (state S.Store tx.new.conn.now) (λ _. ⊥) }
+    ensures no_schema { result ≢ Err StoreFault.Schema }
 {
     if is_registered(tx, &change.holder)? {
         return edit_rows(tx, &change.holder, &change.edit);
@@ -117,6 +119,7 @@ pub(crate) fn make_change<S: Alter>(
     ensures done { HasCleanDisk (state S.Store tx.new.conn.now) → OnOk result (Turned (λ rows h. changed change.now h (rows h)) (state S.Store tx.old.conn.now) (state S.Store tx.new.conn.now)) }
     ensures kept { HasCleanDisk (state S.Store tx.new.conn.now) → KeepsCommit (state S.Store tx.old.conn.now) (state S.Store tx.new.conn.now) }
     ensures survives { Survives (state S.Store tx.old.conn.now) (state S.Store tx.new.conn.now) (λ _. ⊥) }
+    ensures no_schema { result ≢ Err StoreFault.Schema }
 {
     edit_holder(tx, &change.first)?;
     if let Some(second) = &change.second {

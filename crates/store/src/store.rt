@@ -28,6 +28,7 @@ fn commit_change<S: Alter>(conn: &mut Connection<S>, change: &Change) -> Result<
     ensures ok { HasCleanDisk (state S.Store conn.new) → OnOk result (IsMade (λ rows h. changed change.now h (rows h)) (state S.Store conn.old) (state S.Store conn.new)) }
     ensures err { HasCleanDisk (state S.Store conn.new) → IsTrue (state S.Store conn.new).is_open → OnErr result (IsAsBefore (state S.Store conn.old) (state S.Store conn.new)) }
     ensures crash { Survives (state S.Store conn.old) (state S.Store conn.new) (CommitsTo (λ rows h. changed change.now h (rows h)) (state S.Store conn.old)) }
+    ensures no_schema { result ≢ Err StoreFault.Schema }
 {
     let _idle = conn.is_autocommit();
     let mut tx = conn.transaction();
@@ -180,6 +181,7 @@ impl<S: Alter> Store<S> {
         ensures err { HasCleanDisk (state_of S.Store self.new) → OnErr result ((rows : List ℕ → Option Rows) → Holds S.Store self.old rows → Holds S.Store self.new rows) }
         ensures crash { HasCleanDisk (state_of S.Store self.new) → MayLeave S.Store self.old self.new (λ rows h. changed change.now h (rows h)) }
         ensures left { HasCleanDisk (state_of S.Store self.new) → OnOk result (LeavesOnly S.Store self.old self.new (λ rows h. changed change.now h (rows h))) }
+        ensures no_schema { result ≢ Err StoreFault.Schema }
     {
         commit_change(&mut self.conn, change)
     }
@@ -203,6 +205,7 @@ impl Store<MemStore> {
     pub fn open_memory(alloc: Global, charter: &Charter) -> Result<Self, StoreFault>
         ensures charter { IfOk result (λ store. store.charter ≡ charter.now) }
         ensures rows { IfOk result (λ store. Holds over_memory store (λ h. None)) }
+        ensures no_schema { result ≢ Err StoreFault.Schema }
     {
         let conn = Connection::open_in_memory(alloc)?;
         Store::create_on(conn, charter)
