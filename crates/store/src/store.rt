@@ -181,6 +181,8 @@ impl<S: Alter> Store<S> {
         ensures err { HasCleanDisk (state_of S.Store self.new) → OnErr result ((rows : List ℕ → Option Rows) → Holds S.Store self.old rows → Holds S.Store self.new rows) }
         ensures crash { HasCleanDisk (state_of S.Store self.new) → MayLeave S.Store self.old self.new (λ rows h. changed change.now h (rows h)) }
         ensures left { HasCleanDisk (state_of S.Store self.new) → OnOk result (LeavesOnly S.Store self.old self.new (λ rows h. changed change.now h (rows h))) }
+        ensures clean { HasCleanDisk (state_of S.Store self.new) → HasCleanDisk (state_of S.Store self.old) }
+        ensures is_open { HasCleanDisk (state_of S.Store self.new) → OnOk result (IsTrue (state_of S.Store self.new).is_open) }
         ensures no_schema { result ≢ Err StoreFault.Schema }
     {
         commit_change(&mut self.conn, change)
