@@ -1,9 +1,10 @@
 -- The making of the tables, one after another, and their first rows.
-use Rattle.std.specs.Prelude.{◌≡◌, ℕ, suc, true, List, [], ◌++◌, None, Ok, IsTrue, take, nat_le, if◌then◌else◌}
+use Rattle.std.specs.Prelude.{◌≡◌, ◌⊎◌, ℕ, suc, true, false, List, [], ◌++◌, None, Ok, IsTrue, take, nat_le, if◌then◌else◌}
 use Rattle.std.specs.List.{AllByRecursion}
 use Rattle.sqlite.specs.State.{State, ExecutesInside}
 use Rattle.sqlite_schema.specs.declared.schema.Schema.{Schema}
 use Rattle.sqlite_value.specs.Order.{Row}
+use Rattle.sqlite_trees.specs.Tree.{Trees}
 use Rattle.policy.specs.CharterSets.{CharterSets}
 use Rattle.store.specs.Tables.{desk_tables, desk_indexes, desk_schema}
 use Rattle.store.specs.Edits.{Edits}
@@ -33,6 +34,17 @@ pub record Puts (tree : ℕ) (rows : List Row) (old new : State) : Type 0 where
 pub record HasCharter (charter : CharterSets) (s : State) : Type 0 where
   pub ready : IsReady s
   pub rows : TablesHold charter (λ h. None) s.now.trees
+
+-- no transaction goes on, and the database has no table, index or view
+pub record IsUnused (s : State) : Type 0 where
+  pub idle : s.in_transaction ≡ false
+  pub blank : s.now.schema ≡ so_far 0
+
+-- a crash leaves what it left before, or, of an unused database, the tables with the charter and no holder
+abbrev pub LeavesNew : CharterSets → State → State → Type 0
+LeavesNew charter old new =
+    (trees : Trees) → new.may_leave trees
+    → old.may_leave trees ⊎ (IsUnused old × TablesHold charter (λ h. None) trees)
 
 -- the tables hold the charter and no holder, and are committed
 pub record IsNew (charter : CharterSets) (s : State) : Type 0 where

@@ -1,10 +1,11 @@
-ghost use Rattle.std.specs.Prelude.{◌≡◌, ◌≢◌, ◌↔◌, false, Err, OnOk, OnErr, IfOk, IsTrue};
+ghost use Rattle.std.specs.Prelude.{◌≡◌, ◌≢◌, ◌↔◌, false, None, Err, OnOk, OnErr, IfOk, IsTrue};
 ghost use Rattle.sqlite.specs.Held.{state};
 ghost use Rattle.sqlite.specs.State.{HasCleanDisk, Survives};
 ghost use Rattle.policy.specs.Rows.{changed};
-ghost use Rattle.store.specs.Making.{so_far, IsNew};
+ghost use Rattle.store.specs.Making.{so_far, IsUnused, IsNew, LeavesNew};
 ghost use Rattle.store.specs.Queries.{IsAsBefore};
 ghost use Rattle.store.specs.Tables.{desk_schema};
+ghost use Rattle.store.specs.TablesHold.{TablesHold};
 ghost use Rattle.store.specs.Steps.{CommitsTo, IsMade};
 
 use crate::StoreFault;
@@ -50,6 +51,8 @@ fn make_tables<S: Alter>(conn: &mut Connection<S>, charter: &Charter) -> Result<
     requires blank { HasCleanDisk (state S.Store conn.old) → (state S.Store conn.old).now.schema ≡ so_far 0 }
     ensures idle { conn.new.in_transaction ≡ false }
     ensures made { HasCleanDisk (state S.Store conn.new) → OnOk result (IsNew charter.now (state S.Store conn.new)) }
+    ensures err { HasCleanDisk (state S.Store conn.new) → IsTrue (state S.Store conn.new).is_open → OnErr result (IsAsBefore (state S.Store conn.old) (state S.Store conn.new)) }
+    ensures crash { Survives (state S.Store conn.old) (state S.Store conn.new) (TablesHold charter.now (λ h. None)) }
     ensures no_schema { result ≢ Err StoreFault.Schema }
 {
     let _idle = conn.is_autocommit();
@@ -59,6 +62,26 @@ fn make_tables<S: Alter>(conn: &mut Connection<S>, charter: &Charter) -> Result<
     put_charter(&mut tx, charter)?;
     tx.commit()?;
     Ok(())
+}
+
+/// Makes a desk of a database that has no table yet, and lifts the limit of its steps. Every other
+/// database stays as it is, and one in a transaction too.
+fn make_desk<S: Alter>(conn: &mut Connection<S>, charter: &Charter) -> Result<(), StoreFault>
+    ensures unused { OnOk result (IsUnused (state S.Store conn.old)) }
+    ensures idle { OnOk result (conn.new.in_transaction ≡ false) }
+    ensures unlimited { OnOk result (conn.new.step_limit ≡ None) }
+    ensures made { HasCleanDisk (state S.Store conn.new) → OnOk result (IsNew charter.now (state S.Store conn.new)) }
+    ensures mode { OnErr result (conn.new.in_transaction ≡ conn.old.in_transaction) }
+    ensures err { HasCleanDisk (state S.Store conn.new) → IsTrue (state S.Store conn.new).is_open → OnErr result (IsAsBefore (state S.Store conn.old) (state S.Store conn.new)) }
+    ensures clean { HasCleanDisk (state S.Store conn.new) → HasCleanDisk (state S.Store conn.old) }
+    ensures crash { HasCleanDisk (state S.Store conn.new) → LeavesNew charter.now (state S.Store conn.old) (state S.Store conn.new) }
+    ensures no_schema { result ≢ Err StoreFault.Schema }
+{
+    if !conn.is_autocommit() || !is_blank(conn.schema()) {
+        return Err(StoreFault::Database);
+    }
+    conn.set_step_limit(None);
+    make_tables(conn, charter)
 }
 
 /// The rows of a desk, in a database.
@@ -86,10 +109,8 @@ impl<S: Alter> Model for Store<S> {
 }
 
 impl<S: Alter + Drop> Store<S> {
-    ghost use Rattle.std.specs.Prelude.{None};
     ghost use Rattle.sqlite_trees.specs.Tree.{Trees};
     ghost use Rattle.store.specs.StoreRows.{state_of, Holds};
-    ghost use Rattle.store.specs.TablesHold.{TablesHold};
 
     /// A store over a connection to a database that has no table yet, with this charter, where no
     /// holder is registered. A connection in a transaction is refused, and a limit of its steps is
@@ -97,15 +118,15 @@ impl<S: Alter + Drop> Store<S> {
     pub fn create_on(mut conn: Connection<S>, charter: &Charter) -> Result<Self, StoreFault>
         ensures charter { IfOk result (λ store. store.charter ≡ charter.now) }
         ensures rows { IfOk result (λ store. Holds S.Store store (λ h. None)) }
+        ensures unused { OnOk result (IsUnused (state S.Store conn)) }
+        ensures unlimited { IfOk result (λ store. store.connection.step_limit ≡ None) }
+        ensures made { IfOk result (λ store. HasCleanDisk (state_of S.Store store) → IsNew charter.now (state_of S.Store store)) }
+        ensures clean { IfOk result (λ store. HasCleanDisk (state_of S.Store store) → HasCleanDisk (state S.Store conn)) }
         ensures left { IfOk result (λ store. HasCleanDisk (state_of S.Store store) → (trees : Trees) → (state_of S.Store store).may_leave trees → TablesHold charter.now (λ h. None) trees) }
         ensures no_schema { result ≢ Err StoreFault.Schema }
     {
-        if !conn.is_autocommit() || !is_blank(conn.schema()) {
-            return Err(StoreFault::Database);
-        }
-        conn.set_step_limit(None);
         let kept = charter.clone()?;
-        make_tables(&mut conn, charter)?;
+        make_desk(&mut conn, charter)?;
         Ok(Store {
             conn,
             charter: kept,
@@ -118,7 +139,7 @@ impl<S: Alter> Store<S> {
     ghost use Rattle.addr.specs.declared.vrp.Vrp.{Vrp};
     ghost use Rattle.policy.specs.Rows.{Rows};
     ghost use Rattle.store.specs.Loads.{AreLoaded, FitIfAny, IsTaken, IsGivenOn, AllGiveOn};
-    ghost use Rattle.store.specs.StoreRows.{state_of, Holds, IsRead, MayLeave, LeavesOnly};
+    ghost use Rattle.store.specs.StoreRows.{state_of, IsKept, Holds, IsRead, MayLeave, LeavesOnly};
 
     /// The operators and the pool.
     pub fn charter(&self) -> &Charter
@@ -192,6 +213,7 @@ impl<S: Alter> Store<S> {
     pub fn close(self) -> Connection<S>
         ensures same { result ≡ self.connection }
         ensures idle { result.in_transaction ≡ false }
+        ensures desk { IsKept (state S.Store result) }
     {
         let Store { conn, .. } = self;
         conn
@@ -199,7 +221,6 @@ impl<S: Alter> Store<S> {
 }
 
 impl Store<MemStore> {
-    ghost use Rattle.std.specs.Prelude.{None};
     ghost use Rattle.sqlite.specs.Steps.{over_memory};
     ghost use Rattle.store.specs.StoreRows.{Holds};
 
