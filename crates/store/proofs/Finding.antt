@@ -20,12 +20,11 @@ use Rattle.policy.specs.declared.grant.Scope.TheVariants.{All, Only}
 use Rattle.policy.specs.Rows.{Rows}
 use Rattle.store.specs.Tables.{desk_schema}
 use Rattle.store.specs.Cells.{grant_cells, holding_row, granted_row, auth_row}
-use Rattle.store.specs.Edits.{contents}
-use Rattle.store.specs.TablesHold.{items_if_any, HoldsPart, rows_if_any, holder_part, holding_part, granted_part, auth_part}
+use Rattle.store.specs.Tables.{contents}
+use Rattle.store.specs.TablesHold.{items_if_any, HoldsPart, part_rows, holder_part, holding_part, granted_part, auth_part}
 use Rattle.store.specs.Queries.{columns, View, Finds, counters_view, spans_view, grants_view, auths_view}
 use Rattle.store.proofs.Selecting.{from_table, no_limit, picks, permuted, sorted}
-use Rattle.store.proofs.HoldingSteps.{holder_test}
-use Rattle.store.proofs.StepLemmas.{column_after}
+use Rattle.store.proofs.StepLemmas.{column_after, holder_test}
 use Rattle.store.proofs.PartLemmas.{names}
 use Rattle.store.proofs.QueryLemmas.{shown_open}
 use Rattle.store.proofs.Texts.{Means, equals, upwards, counters_text, counters_is, spans_text, spans_is, grants_text, grants_is, auths_text, auths_is}
@@ -115,7 +114,7 @@ module _ (v : View) (shows : (h : List ℕ) (r : Rows) → map (columns v.places
   pub cells_found : (o : Option Rows) → all h ≡ o → IsPermutation (items_if_any v.cells o) rows
   cells_found o is = subst (λ o. IsPermutation (items_if_any v.cells o) rows) is (go (all h) (IsPermutation-trans _ _ _ (IsPermutation-map (columns v.places) _ _ (holds.each h)) found))
     where
-      go : (o : Option Rows) → IsPermutation (map (columns v.places) (rows_if_any v.part h o)) rows → IsPermutation (items_if_any v.cells o) rows
+      go : (o : Option Rows) → IsPermutation (map (columns v.places) (part_rows v.part h o)) rows → IsPermutation (items_if_any v.cells o) rows
       go None same = same
       go (Some r) same = subst (λ l. IsPermutation l rows) (shows h r) same
 

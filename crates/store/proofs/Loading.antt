@@ -21,7 +21,7 @@ use Rattle.policy.specs.declared.grant.Granted.{Granted}
 use Rattle.policy.specs.declared.rows.HolderRows.{HolderRows}
 use Rattle.policy.specs.Rows.{Rows}
 use Rattle.store.specs.Cells.{number_cell, counter_cells}
-use Rattle.store.specs.Edits.{contents}
+use Rattle.store.specs.Tables.{contents}
 use Rattle.store.specs.TablesHold.{items_if_any, HoldsPart, TablesHold}
 use Rattle.store.specs.Queries.{View, columns, by_column, Finds}
 use Rattle.store.specs.declared.decode.Counters.{Counters}

@@ -15,7 +15,7 @@ use Rattle.sqlite_schema.specs.declared.command.Command.{Command}
 use Rattle.sqlite_schema.specs.declared.command.Returning.{Returning}
 use Rattle.store.specs.Tables.{desk_schema}
 use Rattle.store.specs.Queries.{IsAsBefore}
-use Rattle.store.specs.Steps.{IsReady}
+use Rattle.store.specs.steps.Statements.{IsReady}
 use Rattle.store.proofs.Texts.{Means}
 
 -- a query that answered changed nothing

@@ -15,7 +15,7 @@ use Rattle.addr.specs.declared.prefix.Prefix.{Prefix}
 use Rattle.policy.specs.declared.authorization.Auth.{Auth}
 use Rattle.policy.specs.Rows.{Rows}
 use Rattle.store.specs.Cells.{number_cell, prefix_cells, counter_cells, span_cells, grant_cells, auth_cells}
-use Rattle.store.specs.Edits.{contents}
+use Rattle.store.specs.Tables.{contents}
 use Rattle.store.specs.TablesHold.{Part, is_name_of, holder_part, holding_part, granted_part, auth_part}
 
 -- nothing was committed, and what is shown is as it was

@@ -7,7 +7,7 @@ ghost use Rattle.sqlite_value.specs.Order.{Row};
 ghost use Rattle.addr.specs.Address.{last_of};
 ghost use Rattle.policy.specs.Rows.{Rows};
 ghost use Rattle.store.specs.Cells.{address, family_number, number_cell};
-ghost use Rattle.store.specs.Edits.{contents};
+ghost use Rattle.store.specs.Tables.{contents};
 ghost use Rattle.store.specs.TablesHold.{HoldsPart, holding_part, auth_part};
 ghost use Rattle.store.specs.Queries.{IsAsBefore, MeetsSome, FindsInForce, IsInForce};
 ghost use Rattle.store.specs.Tables.{desk_schema};

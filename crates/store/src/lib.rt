@@ -15,6 +15,7 @@ mod holding;
 pub mod laws;
 mod load;
 mod select;
+mod statement;
 mod store;
 mod tables;
 

@@ -2,11 +2,11 @@ ghost use Rattle.std.specs.Prelude.{◌≡◌, ◌≢◌, ◌↔◌, false, None
 ghost use Rattle.sqlite.specs.Held.{state};
 ghost use Rattle.sqlite.specs.State.{HasCleanDisk, Survives};
 ghost use Rattle.policy.specs.Rows.{changed};
-ghost use Rattle.store.specs.Making.{so_far, IsUnused, IsNew, LeavesNew};
+ghost use Rattle.store.specs.StoreRows.{IsUnused, IsNew, LeavesNew, LeavesOldOrNew};
 ghost use Rattle.store.specs.Queries.{IsAsBefore};
-ghost use Rattle.store.specs.Tables.{desk_schema};
+ghost use Rattle.store.specs.Tables.{blank_schema, desk_schema};
 ghost use Rattle.store.specs.TablesHold.{TablesHold};
-ghost use Rattle.store.specs.Steps.{CommitsTo, IsMade};
+ghost use Rattle.store.specs.steps.Statements.{CommitsChange, MayCommit};
 
 use crate::StoreFault;
 use crate::across::some_overlap;
@@ -26,9 +26,9 @@ fn commit_change<S: Alter>(conn: &mut Connection<S>, change: &Change) -> Result<
     requires idle { conn.old.in_transaction ≡ false }
     requires schema { HasCleanDisk (state S.Store conn.old) → IsTrue (state S.Store conn.old).is_open → (state S.Store conn.old).now.schema ≡ desk_schema }
     ensures idle { conn.new.in_transaction ≡ false }
-    ensures ok { HasCleanDisk (state S.Store conn.new) → OnOk result (IsMade (λ rows h. changed change.now h (rows h)) (state S.Store conn.old) (state S.Store conn.new)) }
+    ensures ok { HasCleanDisk (state S.Store conn.new) → OnOk result (CommitsChange (λ rows h. changed change.now h (rows h)) (state S.Store conn.old) (state S.Store conn.new)) }
     ensures err { HasCleanDisk (state S.Store conn.new) → IsTrue (state S.Store conn.new).is_open → OnErr result (IsAsBefore (state S.Store conn.old) (state S.Store conn.new)) }
-    ensures crash { Survives (state S.Store conn.old) (state S.Store conn.new) (CommitsTo (λ rows h. changed change.now h (rows h)) (state S.Store conn.old)) }
+    ensures crash { Survives (state S.Store conn.old) (state S.Store conn.new) (MayCommit (λ rows h. changed change.now h (rows h)) (state S.Store conn.old)) }
     ensures no_schema { result ≢ Err StoreFault.Schema }
 {
     let _idle = conn.is_autocommit();
@@ -40,7 +40,7 @@ fn commit_change<S: Alter>(conn: &mut Connection<S>, change: &Change) -> Result<
 
 /// Whether the database has no table, index or view.
 fn is_blank(schema: &Schema) -> bool
-    ensures { IsTrue result ↔ (schema.now ≡ so_far 0) }
+    ensures { IsTrue result ↔ (schema.now ≡ blank_schema) }
 {
     schema.tables.is_empty() && schema.indexes.is_empty() && schema.views.is_empty()
 }
@@ -48,7 +48,7 @@ fn is_blank(schema: &Schema) -> bool
 /// Makes the tables of a desk in a database that has none, with its charter, in one transaction.
 fn make_tables<S: Alter>(conn: &mut Connection<S>, charter: &Charter) -> Result<(), StoreFault>
     requires idle { conn.old.in_transaction ≡ false }
-    requires blank { HasCleanDisk (state S.Store conn.old) → (state S.Store conn.old).now.schema ≡ so_far 0 }
+    requires blank { HasCleanDisk (state S.Store conn.old) → (state S.Store conn.old).now.schema ≡ blank_schema }
     ensures idle { conn.new.in_transaction ≡ false }
     ensures made { HasCleanDisk (state S.Store conn.new) → OnOk result (IsNew charter.now (state S.Store conn.new)) }
     ensures err { HasCleanDisk (state S.Store conn.new) → IsTrue (state S.Store conn.new).is_open → OnErr result (IsAsBefore (state S.Store conn.old) (state S.Store conn.new)) }
@@ -74,7 +74,7 @@ fn make_desk<S: Alter>(conn: &mut Connection<S>, charter: &Charter) -> Result<()
     ensures mode { OnErr result (conn.new.in_transaction ≡ conn.old.in_transaction) }
     ensures err { HasCleanDisk (state S.Store conn.new) → IsTrue (state S.Store conn.new).is_open → OnErr result (IsAsBefore (state S.Store conn.old) (state S.Store conn.new)) }
     ensures clean { HasCleanDisk (state S.Store conn.new) → HasCleanDisk (state S.Store conn.old) }
-    ensures crash { HasCleanDisk (state S.Store conn.new) → LeavesNew charter.now (state S.Store conn.old) (state S.Store conn.new) }
+    ensures crash { HasCleanDisk (state S.Store conn.new) → LeavesOldOrNew charter.now (state S.Store conn.old) (state S.Store conn.new) }
     ensures no_schema { result ≢ Err StoreFault.Schema }
 {
     if !conn.is_autocommit() || !is_blank(conn.schema()) {
@@ -97,7 +97,7 @@ pub struct Store<S: Alter> {
 impl<S: Alter> Model for Store<S> {
     ghost use Rattle.std.specs.Prelude.{◌≡◌, false};
     ghost use Rattle.sqlite.specs.Held.{state};
-    ghost use Rattle.store.specs.StoreRows.{StoreView, view_code, IsKept};
+    ghost use Rattle.store.specs.StoreRows.{StoreView, view_code, IsDeskWhileOpen};
 
     ghost Value = { StoreView S };
 
@@ -105,11 +105,10 @@ impl<S: Alter> Model for Store<S> {
 
     ghost view = { λ s. record { connection = s.conn; charter = s.charter } };
 
-    ghost invariant = { λ s. (s.conn.in_transaction ≡ false) × IsKept (state S.Store s.conn) };
+    ghost invariant = { λ s. (s.conn.in_transaction ≡ false) × IsDeskWhileOpen (state S.Store s.conn) };
 }
 
 impl<S: Alter + Drop> Store<S> {
-    ghost use Rattle.sqlite_trees.specs.Tree.{Trees};
     ghost use Rattle.store.specs.StoreRows.{state_of, Holds};
 
     /// A store over a connection to a database that has no table yet, with this charter, where no
@@ -122,7 +121,7 @@ impl<S: Alter + Drop> Store<S> {
         ensures unlimited { IfOk result (λ store. store.connection.step_limit ≡ None) }
         ensures made { IfOk result (λ store. HasCleanDisk (state_of S.Store store) → IsNew charter.now (state_of S.Store store)) }
         ensures clean { IfOk result (λ store. HasCleanDisk (state_of S.Store store) → HasCleanDisk (state S.Store conn)) }
-        ensures left { IfOk result (λ store. HasCleanDisk (state_of S.Store store) → (trees : Trees) → (state_of S.Store store).may_leave trees → TablesHold charter.now (λ h. None) trees) }
+        ensures left { IfOk result (λ store. HasCleanDisk (state_of S.Store store) → LeavesNew charter.now (state_of S.Store store)) }
         ensures no_schema { result ≢ Err StoreFault.Schema }
     {
         let kept = charter.clone()?;
@@ -139,7 +138,7 @@ impl<S: Alter> Store<S> {
     ghost use Rattle.addr.specs.declared.vrp.Vrp.{Vrp};
     ghost use Rattle.policy.specs.Rows.{Rows};
     ghost use Rattle.store.specs.Loads.{AreLoaded, FitIfAny, IsTaken, IsGivenOn, AllGiveOn};
-    ghost use Rattle.store.specs.StoreRows.{state_of, IsKept, Holds, IsRead, MayLeave, LeavesOnly};
+    ghost use Rattle.store.specs.StoreRows.{state_of, IsDeskWhileOpen, Holds, IsRead, MayLeave, LeavesOnly};
 
     /// The operators and the pool.
     pub fn charter(&self) -> &Charter
@@ -213,7 +212,7 @@ impl<S: Alter> Store<S> {
     pub fn close(self) -> Connection<S>
         ensures same { result ≡ self.connection }
         ensures idle { result.in_transaction ≡ false }
-        ensures desk { IsKept (state S.Store result) }
+        ensures desk { IsDeskWhileOpen (state S.Store result) }
     {
         let Store { conn, .. } = self;
         conn
