@@ -11,9 +11,9 @@ use Rattle.policy.specs.CharterSets.{CharterSets}
 use Rattle.policy.specs.Rows.{Rows}
 use Rattle.store.specs.Queries.{IsAsBefore}
 use Rattle.store.specs.Loads.{IsOfAll}
-use Rattle.store.specs.StoreRows.{IsNew}
+use Rattle.store.specs.StoreRows.{RowChange, IsNew}
 use Rattle.store.specs.StoreRows.{StoreView, IsDeskWhileOpen, Holds, IsRead, MayLeave, LeavesOnly}
-use Rattle.store.specs.steps.Statements.{RowChange, CommitsChange, MayCommit, MakesChange, RowsBecome}
+use Rattle.store.specs.steps.Statements.{CommitsChange, MayCommit, MakesChange, RowsBecome}
 use Rattle.store.specs.TablesHold.{TablesHold}
 
 pub kept_still : (old new : State) → (HasCleanDisk new → HasCleanDisk old) → (HasCleanDisk new → IsTrue new.is_open → IsAsBefore old new) → IsDeskWhileOpen old → IsDeskWhileOpen new

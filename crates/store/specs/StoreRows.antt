@@ -7,7 +7,8 @@ use Rattle.sqlite.specs.Store.{Ghosts}
 use Rattle.sqlite_trees.specs.Tree.{Trees}
 use Rattle.policy.specs.contracts.charter.Charter as charter
 use Rattle.policy.specs.CharterSets.{CharterSets}
-use Rattle.policy.specs.Rows.{Rows}
+use Rattle.policy.specs.declared.change.Change.{Change}
+use Rattle.policy.specs.Rows.{Rows, changed}
 use Rattle.store.specs.Tables.{blank_schema, desk_schema}
 use Rattle.store.specs.TablesHold.{TablesHold}
 
@@ -24,6 +25,17 @@ view_code {S} store =
 abbrev pub state_of : {S : Type 0} → Ghosts S → StoreView S → State
 state_of g store = state g store.connection
 
+-- the rows of every holder after a change, from those before it
+abbrev pub RowChange : Type 0
+RowChange = (List ℕ → Option Rows) → List ℕ → Option Rows
+
+abbrev pub changed_rows : Change → RowChange
+changed_rows change rows h = changed change h (rows h)
+
+-- the database has the tables of a desk, unless the disk returned what was not written, or the connection is shut
+abbrev pub HasDeskSchema : State → Type 0
+HasDeskSchema s = HasCleanDisk s → IsTrue s.is_open → s.now.schema ≡ desk_schema
+
 -- the database has the tables of a desk, and all that it shows is committed
 pub record IsDesk (s : State) : Type 0 where
   pub schema : s.now.schema ≡ desk_schema
@@ -39,14 +51,22 @@ Holds g store rows =
     HasCleanDisk (state_of g store) → IsTrue (state_of g store).is_open
     → TablesHold store.charter rows (state_of g store).now.trees
 
+-- it is so, unless the disk returned what was not written
+abbrev pub IfClean : {S : Type 0} → Ghosts S → StoreView S → Type 0 → Type 0
+IfClean g store so = HasCleanDisk (state_of g store) → so
+
+-- the tables hold the rows after the change, if they held those before it
+abbrev pub HoldsAfter : {S : Type 0} → Ghosts S → StoreView S → StoreView S → RowChange → Type 0
+HoldsAfter g old new to = (rows : List ℕ → Option Rows) → Holds g old rows → Holds g new (to rows)
+
 -- A crash leaves what it left before, or rows turned so.
-abbrev pub MayLeave : {S : Type 0} → Ghosts S → StoreView S → StoreView S → ((List ℕ → Option Rows) → List ℕ → Option Rows) → Type 0
+abbrev pub MayLeave : {S : Type 0} → Ghosts S → StoreView S → StoreView S → RowChange → Type 0
 MayLeave g old new to =
     (trees : Trees) → (state_of g new).may_leave trees
     → (state_of g old).may_leave trees ⊎ ((rows : List ℕ → Option Rows) → Holds g old rows → TablesHold old.charter (to rows) trees)
 
 -- A crash leaves rows turned so, and nothing else.
-abbrev pub LeavesOnly : {S : Type 0} → Ghosts S → StoreView S → StoreView S → ((List ℕ → Option Rows) → List ℕ → Option Rows) → Type 0
+abbrev pub LeavesOnly : {S : Type 0} → Ghosts S → StoreView S → StoreView S → RowChange → Type 0
 LeavesOnly g old new to =
     (rows : List ℕ → Option Rows) → Holds g old rows → (trees : Trees) → (state_of g new).may_leave trees → TablesHold old.charter (to rows) trees
 

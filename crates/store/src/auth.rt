@@ -1,7 +1,7 @@
 ghost use Rattle.policy.specs.declared.change.Edit.TheVariants.{Withdraw, Amend};
 ghost use Rattle.policy.specs.Rows.{edited};
 ghost use Rattle.store.specs.steps.RowEdits.{with_auth, without_auths};
-ghost use Rattle.store.specs.steps.Statements.{IsReady, IfClean, IfDone, StaysInside, EditsHolder};
+ghost use Rattle.store.specs.steps.Statements.{IsReady, Awaits, IfDone, StaysInside, EditsHolder};
 
 use crate::cells::{address_bytes, auth_values, number_values};
 use crate::statement::run;
@@ -15,7 +15,7 @@ pub(crate) fn put_auth<S: Alter>(
     holder: &Name,
     auth: &Auth,
 ) -> Result<(), Error>
-    requires { IfClean S.Store IsReady tx.old }
+    requires { Awaits S.Store IsReady tx.old }
     ensures done {
         IfDone S.Store result (EditsHolder holder.now (with_auth auth.now)) tx.old tx.new
     }
@@ -35,7 +35,7 @@ pub(crate) fn amend_auth<S: Alter>(
     holder: &Name,
     auth: &Auth,
 ) -> Result<(), Error>
-    requires { IfClean S.Store IsReady tx.old }
+    requires { Awaits S.Store IsReady tx.old }
     ensures done {
         IfDone S.Store result (EditsHolder holder.now (edited (Amend auth.now))) tx.old tx.new
     }
@@ -55,7 +55,7 @@ pub(crate) fn take_auth<S: Alter>(
     holder: &Name,
     number: u32,
 ) -> Result<(), Error>
-    requires { IfClean S.Store IsReady tx.old }
+    requires { Awaits S.Store IsReady tx.old }
     ensures done {
         IfDone S.Store result (EditsHolder holder.now (edited (Withdraw number))) tx.old tx.new
     }
@@ -74,7 +74,7 @@ pub(crate) fn take_auths<S: Alter>(
     holder: &Name,
     numbers: &[u32],
 ) -> Result<(), Error>
-    requires { IfClean S.Store IsReady tx.old }
+    requires { Awaits S.Store IsReady tx.old }
     ensures done {
         IfDone S.Store result (EditsHolder holder.now (without_auths numbers.now)) tx.old tx.new
     }

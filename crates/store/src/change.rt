@@ -1,7 +1,7 @@
 ghost use Rattle.std.specs.Prelude.{◌≡◌, ◌≢◌, Err};
 ghost use Rattle.policy.specs.Rows.{edited, changed, changed_by_one};
 ghost use Rattle.store.specs.steps.RowEdits.{held, is_registration};
-ghost use Rattle.store.specs.steps.Statements.{IsReady, IfClean, IfDone, StaysInside, EditsHolder, MakesChange};
+ghost use Rattle.store.specs.steps.Statements.{IsReady, Awaits, IfDone, StaysInside, EditsHolder, MakesChange};
 
 use crate::StoreFault;
 use crate::auth::{amend_auth, put_auth, take_auth, take_auths};
@@ -14,7 +14,7 @@ use sqlite::{Alter, Error, Transaction};
 
 /// Puts a grant, and its number as the counter.
 fn grant<S: Alter>(tx: &mut Transaction<'_, S>, holder: &Name, grant: &Granted) -> Result<(), Error>
-    requires { IfClean S.Store IsReady tx.old }
+    requires { Awaits S.Store IsReady tx.old }
     ensures done {
         IfDone S.Store result (EditsHolder holder.now (edited (Edit.Grant grant.now))) tx.old tx.new
     }
@@ -26,7 +26,7 @@ fn grant<S: Alter>(tx: &mut Transaction<'_, S>, holder: &Name, grant: &Granted) 
 
 /// Puts an authorization, and its number as the counter.
 fn create<S: Alter>(tx: &mut Transaction<'_, S>, holder: &Name, auth: &Auth) -> Result<(), Error>
-    requires { IfClean S.Store IsReady tx.old }
+    requires { Awaits S.Store IsReady tx.old }
     ensures done {
         IfDone S.Store result (EditsHolder holder.now (edited (Edit.Create auth.now))) tx.old tx.new
     }
@@ -44,7 +44,7 @@ fn hold<S: Alter>(
     spans: &[Span],
     ended: &[u32],
 ) -> Result<(), Error>
-    requires { IfClean S.Store IsReady tx.old }
+    requires { Awaits S.Store IsReady tx.old }
     ensures done {
         IfDone S.Store result (EditsHolder holder.now (held spans.now ended.now)) tx.old tx.new
     }
@@ -61,7 +61,7 @@ fn edit_rows<S: Alter>(
     holder: &Name,
     edit: &Edit,
 ) -> Result<(), StoreFault>
-    requires { IfClean S.Store IsReady tx.old }
+    requires { Awaits S.Store IsReady tx.old }
     ensures done { IfDone S.Store result (EditsHolder holder.now (edited edit.now)) tx.old tx.new }
     ensures inside { StaysInside S.Store tx.old tx.new }
     ensures no_schema { result ≢ Err StoreFault.Schema }
@@ -89,7 +89,7 @@ fn edit_holder<S: Alter>(
     tx: &mut Transaction<'_, S>,
     change: &HolderChange,
 ) -> Result<(), StoreFault>
-    requires { IfClean S.Store IsReady tx.old }
+    requires { Awaits S.Store IsReady tx.old }
     ensures done {
         IfDone S.Store result (MakesChange (λ rows h. changed_by_one change.now h (rows h)))
             tx.old tx.new
@@ -111,7 +111,7 @@ pub(crate) fn make_change<S: Alter>(
     tx: &mut Transaction<'_, S>,
     change: &Change,
 ) -> Result<(), StoreFault>
-    requires { IfClean S.Store IsReady tx.old }
+    requires { Awaits S.Store IsReady tx.old }
     ensures done {
         IfDone S.Store result (MakesChange (λ rows h. changed change.now h (rows h))) tx.old tx.new
     }

@@ -1,7 +1,7 @@
 ghost use Rattle.policy.specs.declared.change.Edit.TheVariants.{Revoke};
 ghost use Rattle.policy.specs.Rows.{edited};
 ghost use Rattle.store.specs.steps.RowEdits.{with_grant};
-ghost use Rattle.store.specs.steps.Statements.{IsReady, IfClean, IfDone, StaysInside, EditsHolder};
+ghost use Rattle.store.specs.steps.Statements.{IsReady, Awaits, IfDone, StaysInside, EditsHolder};
 
 use crate::cells::{address_bytes, granted_values, number_values, scope_first};
 use crate::statement::run;
@@ -15,7 +15,7 @@ pub(crate) fn put_grant<S: Alter>(
     holder: &Name,
     grant: &Granted,
 ) -> Result<(), Error>
-    requires { IfClean S.Store IsReady tx.old }
+    requires { Awaits S.Store IsReady tx.old }
     ensures done {
         IfDone S.Store result (EditsHolder holder.now (with_grant grant.now)) tx.old tx.new
     }
@@ -35,7 +35,7 @@ pub(crate) fn take_grant<S: Alter>(
     holder: &Name,
     number: u32,
 ) -> Result<(), Error>
-    requires { IfClean S.Store IsReady tx.old }
+    requires { Awaits S.Store IsReady tx.old }
     ensures done {
         IfDone S.Store result (EditsHolder holder.now (edited (Revoke number))) tx.old tx.new
     }

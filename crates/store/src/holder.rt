@@ -1,5 +1,5 @@
 ghost use Rattle.store.specs.steps.RowEdits.{with_granted, with_created};
-ghost use Rattle.store.specs.steps.Statements.{IsReady, IfClean, IfDone, IfTold, StaysInside, EditsHolder, TellsWhetherRegistered, Registers};
+ghost use Rattle.store.specs.steps.Statements.{IsReady, Awaits, IfDone, IfTold, StaysInside, EditsHolder, TellsWhetherRegistered, Registers};
 
 use crate::cells::{name_values, number_values};
 use crate::statement::run;
@@ -12,7 +12,7 @@ pub(crate) fn set_granted<S: Alter>(
     holder: &Name,
     number: u32,
 ) -> Result<(), Error>
-    requires { IfClean S.Store IsReady tx.old }
+    requires { Awaits S.Store IsReady tx.old }
     ensures done {
         IfDone S.Store result (EditsHolder holder.now (with_granted number)) tx.old tx.new
     }
@@ -31,7 +31,7 @@ pub(crate) fn set_created<S: Alter>(
     holder: &Name,
     number: u32,
 ) -> Result<(), Error>
-    requires { IfClean S.Store IsReady tx.old }
+    requires { Awaits S.Store IsReady tx.old }
     ensures done {
         IfDone S.Store result (EditsHolder holder.now (with_created number)) tx.old tx.new
     }
@@ -49,7 +49,7 @@ pub(crate) fn is_registered<S: Alter>(
     tx: &mut Transaction<'_, S>,
     holder: &Name,
 ) -> Result<bool, Error>
-    requires { IfClean S.Store IsReady tx.old }
+    requires { Awaits S.Store IsReady tx.old }
     ensures told { IfTold S.Store result (TellsWhetherRegistered holder.now) tx.old tx.new }
     ensures inside { StaysInside S.Store tx.old tx.new }
 {
@@ -62,7 +62,7 @@ pub(crate) fn is_registered<S: Alter>(
 
 /// Registers a holder that is not registered.
 pub(crate) fn register<S: Alter>(tx: &mut Transaction<'_, S>, holder: &Name) -> Result<(), Error>
-    requires { IfClean S.Store IsReady tx.old }
+    requires { Awaits S.Store IsReady tx.old }
     ensures done { IfDone S.Store result (Registers holder.now) tx.old tx.new }
     ensures inside { StaysInside S.Store tx.old tx.new }
 {

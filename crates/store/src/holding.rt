@@ -1,6 +1,6 @@
 ghost use Rattle.std.specs.Prelude.{[], ◌∷◌};
 ghost use Rattle.store.specs.steps.RowEdits.{with_holdings, without_holdings};
-ghost use Rattle.store.specs.steps.Statements.{IsReady, IfClean, IfDone, StaysInside, EditsHolder};
+ghost use Rattle.store.specs.steps.Statements.{IsReady, Awaits, IfDone, StaysInside, EditsHolder};
 
 use crate::cells::{address_bytes, holding_values, name_values};
 use crate::statement::run;
@@ -13,7 +13,7 @@ fn put_holding<S: Alter>(
     holder: &Name,
     span: &Span,
 ) -> Result<(), Error>
-    requires { IfClean S.Store IsReady tx.old }
+    requires { Awaits S.Store IsReady tx.old }
     ensures done {
         IfDone S.Store result (EditsHolder holder.now (with_holdings (span.now ∷ []))) tx.old tx.new
     }
@@ -34,7 +34,7 @@ pub(crate) fn put_holdings<S: Alter>(
     holder: &Name,
     spans: &[Span],
 ) -> Result<(), Error>
-    requires { IfClean S.Store IsReady tx.old }
+    requires { Awaits S.Store IsReady tx.old }
     ensures done {
         IfDone S.Store result (EditsHolder holder.now (with_holdings spans.now)) tx.old tx.new
     }
@@ -51,7 +51,7 @@ pub(crate) fn take_holdings<S: Alter>(
     tx: &mut Transaction<'_, S>,
     holder: &Name,
 ) -> Result<(), Error>
-    requires { IfClean S.Store IsReady tx.old }
+    requires { Awaits S.Store IsReady tx.old }
     ensures done { IfDone S.Store result (EditsHolder holder.now without_holdings) tx.old tx.new }
     ensures inside { StaysInside S.Store tx.old tx.new }
 {

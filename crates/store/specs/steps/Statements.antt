@@ -1,8 +1,8 @@
 -- What a statement within a transaction leaves, and what it does to the rows of a holder.
-use Rattle.std.specs.Prelude.{◌≡◌, ℕ, Bool, true, List, IsTrue, Option, Some, None, option_map, is_some, IsSome, Result, Ok, IfOk, OnOk, if◌then◌else◌}
+use Rattle.std.specs.Prelude.{◌≡◌, ℕ, Bool, true, List, IsTrue, Option, Some, None, option_map, is_some, IsSome, Result, Ok, IfOk, OnOk, OnErr, if◌then◌else◌}
 use Rattle.sqlite.specs.declared.transaction.Transaction.{Transaction}
 use Rattle.sqlite.specs.Effect.{Database}
-use Rattle.sqlite.specs.Held.{state}
+use Rattle.sqlite.specs.Held.{Held, state}
 use Rattle.sqlite.specs.State.{State, HasCleanDisk, KeepsCommit, Survives, ExecutesInside}
 use Rattle.sqlite.specs.Store.{Ghosts}
 use Rattle.sqlite_value.specs.Order.{Row}
@@ -10,12 +10,10 @@ use Rattle.sqlite_trees.specs.Tree.{Trees}
 use Rattle.policy.specs.CharterSets.{CharterSets}
 use Rattle.policy.specs.History.{same_name}
 use Rattle.policy.specs.Rows.{Rows, new_rows}
+use Rattle.store.specs.Queries.{IsAsBefore}
+use Rattle.store.specs.StoreRows.{RowChange}
 use Rattle.store.specs.Tables.{desk_schema}
 use Rattle.store.specs.TablesHold.{TablesHold}
-
--- the rows of every holder after a change, from those before it
-abbrev pub RowChange : Type 0
-RowChange = (List ℕ → Option Rows) → List ℕ → Option Rows
 
 -- ---- every statement
 
@@ -24,8 +22,8 @@ abbrev pub state_in : {S : Type 0} (g : Ghosts S) → Transaction S → State
 state_in g tx = state g tx.conn.now
 
 -- the state is so, unless the disk returned what was not written
-abbrev pub IfClean : {S : Type 0} (g : Ghosts S) → (State → Type 0) → Transaction S → Type 0
-IfClean g so tx = HasCleanDisk (state_in g tx) → so (state_in g tx)
+abbrev pub Awaits : {S : Type 0} (g : Ghosts S) → (State → Type 0) → Transaction S → Type 0
+Awaits g so tx = HasCleanDisk (state_in g tx) → so (state_in g tx)
 
 -- where the statement succeeds, it does so, unless the disk returned what was not written
 abbrev pub IfDone : {S X E : Type 0} (g : Ghosts S) → Result X E → (State → State → Type 0) → Transaction S → Transaction S → Type 0
@@ -110,3 +108,18 @@ pub record CommitsChange (to : RowChange) (old new : State) : Type 0 where
 -- what a commit may put on the disk: the trees of a database after the change
 abbrev pub MayCommit : RowChange → State → Trees → Type 0
 MayCommit to old trees = (db : Database) × IsTrue old.is_open × RowsBecome to old.now db × (trees ≡ db.trees)
+
+-- ---- a transaction as a whole
+
+-- where it succeeds, it does so, unless the disk returned what was not written
+abbrev pub IfCommitted : {S X E : Type 0} (g : Ghosts S) → Result X E → (State → State → Type 0) → Held S → Held S → Type 0
+IfCommitted g result so old new = HasCleanDisk (state g new) → OnOk result (so (state g old) (state g new))
+
+-- where it fails, all is as before, while the connection is open
+abbrev pub IfRolledBack : {S X E : Type 0} (g : Ghosts S) → Result X E → Held S → Held S → Type 0
+IfRolledBack g result old new =
+    HasCleanDisk (state g new) → IsTrue (state g new).is_open → OnErr result (IsAsBefore (state g old) (state g new))
+
+-- it commits such trees at most
+abbrev pub CommitsAtMost : {S : Type 0} (g : Ghosts S) → (State → Trees → Type 0) → Held S → Held S → Type 0
+CommitsAtMost g commits old new = Survives (state g old) (state g new) (commits (state g old))

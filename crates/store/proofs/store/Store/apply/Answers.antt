@@ -2,8 +2,7 @@ use Rattle.std.proofs.Common.{◌≡◌, arith, subst, OnOk, ℕ, List, Option}
 use Rattle.sqlite.specs.Held.{state}
 use Rattle.sqlite.specs.State.{HasCleanDisk}
 use Rattle.policy.specs.Rows.{Rows, changed}
-use Rattle.store.specs.StoreRows.{Holds, MayLeave, LeavesOnly}
-use Rattle.store.specs.steps.Statements.{RowChange}
+use Rattle.store.specs.StoreRows.{RowChange, Holds, MayLeave, LeavesOnly}
 use Rattle.store.proofs.StoreLemmas.{over, holds_ok, may_leave, leaves_only}
 use Rattle.store.proofs.store.Store.apply.Goals as goal
 
