@@ -1,5 +1,5 @@
 -- What putting the charter does to tables that were just made.
-use Rattle.std.proofs.Common.{◌≡◌, ◌≢◌, ℕ, pos, ◌+◌, ◌<◌, List, [], ◌∷◌, ◌++◌, map, take, get_or, length, codes, true, false, None, Ok, refl, sym, ap, subst, ◌∙◌, append-nil, append_assoc, IsPermutation}
+use Rattle.std.proofs.Common.{◌≡◌, ◌≢◌, ℕ, pos, ◌+◌, ◌<◌, List, [], ◌∷◌, ◌++◌, map, take, get_or, length, codes, true, false, None, refl, sym, ap, subst, ◌∙◌, append-nil, append_assoc, IsPermutation}
 use Rattle.std.proofs.lemmas.List.{map-append}
 use Rattle.std.proofs.lemmas.List.Sorted.{IsPermutation-refl, IsPermutation-trans, IsPermutation-cons, IsPermutation-middle}
 use Rattle.sqlite.specs.Effect.{Database}

@@ -1,5 +1,5 @@
 -- What each statement does to the rows of a holder.
-use Rattle.std.proofs.Common.{◌≡◌, inl, inr, ℕ, suc, pos, Bool, true, false, cond, not, ◌&&◌, ◌==◌, List, [], ◌∷◌, ◌++◌, map, filter, drop, length, ◌/◌, Option, Some, None, refl, sym, ap, ap₂, ◌∙◌}
+use Rattle.std.proofs.Common.{◌≡◌, inl, inr, ℕ, pos, Bool, true, false, cond, not, ◌&&◌, ◌==◌, List, [], ◌∷◌, ◌++◌, map, filter, drop, length, ◌/◌, Some, None, refl, sym, ap, ap₂, ◌∙◌}
 use Rattle.std.proofs.lemmas.Bool.{eqb-true, and_parts}
 use Rattle.std.proofs.lemmas.List.Sorted.{IsPermutation-refl}
 use Rattle.sqlite.specs.Effect.{value_rows}
@@ -7,7 +7,7 @@ use Rattle.sqlite.specs.State.{State}
 use Rattle.sqlite_value.specs.declared.value.Value.TheVariants.{Null, Int, Text, Blob}
 use Rattle.sqlite_value.specs.Order.{Row, column}
 use Rattle.sqlite_trees.proofs.ListLemmas.{map-map, filter-map}
-use Rattle.sqlite_sql.specs.Term.{Term, lit, col, eval_all}
+use Rattle.sqlite_sql.specs.Term.{lit, col, eval_all}
 use Rattle.sqlite_schema.specs.declared.schema.Kind.TheVariants.{Integer, Text as Words}
 use Rattle.sqlite_rules.specs.Cast.{cast, cast_all}
 use Rattle.sqlite_typed.proofs.TestLemmas.{last_term}
@@ -17,10 +17,10 @@ use Rattle.policy.specs.declared.change.Edit.TheVariants.{Revoke, Amend, Withdra
 use Rattle.policy.specs.declared.grant.Granted.{Granted}
 use Rattle.policy.specs.declared.grant.Scope.{Scope}
 use Rattle.policy.specs.declared.grant.Scope.TheVariants.{All, Only}
-use Rattle.policy.specs.Rows.{Rows, new_rows, edited, replaced_by}
+use Rattle.policy.specs.Rows.{new_rows, edited, replaced_by}
 use Rattle.store.specs.Tables.{holder, holding, granted, auth}
 use Rattle.store.specs.Cells.{number_cell, family_number, address, role_number, scope_cells, auth_cells, holder_row, holding_row, granted_row, auth_row}
-use Rattle.store.specs.TablesHold.{Part, is_name_of, part_rows, holder_part, holding_part, granted_part, auth_part}
+use Rattle.store.specs.TablesHold.{is_name_of, part_rows, holder_part, holding_part, granted_part, auth_part}
 use Rattle.store.specs.steps.RowEdits.{with_holdings, without_holdings, with_grant, with_auth, with_granted, with_created}
 use Rattle.store.specs.steps.Statements.{IsReady, IsExecuted, EditsHolder, Registers}
 use Rattle.store.proofs.Selecting.{picks}
@@ -28,9 +28,32 @@ use Rattle.store.proofs.Updating.{changed_if}
 use Rattle.store.proofs.CellLemmas.{cast_number, cast_holder, cast_holding, cast_granted, cast_auth, is_number, number_of_number, appended}
 use Rattle.store.proofs.PartLemmas.{names, name_of-true, name_of_itself, put_local}
 use Rattle.store.proofs.PartSteps.{puts_row, puts_edit, takes_edit, changes_edit}
-use Rattle.store.proofs.StepLemmas.{equals_text, equals_int, column_after, holder_test, AllFollow, turns_rows, in_holder, in_holdings, in_grants, in_auths}
-use Rattle.store.proofs.Texts.{put_terms, equals, amend_sets, put_holder_text, put_holder_is, set_grants_text, set_grants_is, set_auths_text, set_auths_is, put_holding_text, put_holding_is, take_holdings_text, take_holdings_is,
-  put_granted_text, put_granted_is, take_granted_text, take_granted_is, put_auth_text, put_auth_is, take_auth_text, take_auth_is, amend_text, amend_is}
+use Rattle.store.proofs.StepLemmas.{equals_text, equals_int, column_after, holder_test, turns_rows, in_holder, in_holdings, in_grants, in_auths}
+use Rattle.store.proofs.Texts.{
+  put_terms,
+  equals,
+  amend_sets,
+  put_holder_text,
+  put_holder_is,
+  set_grants_text,
+  set_grants_is,
+  set_auths_text,
+  set_auths_is,
+  put_holding_text,
+  put_holding_is,
+  take_holdings_text,
+  take_holdings_is,
+  put_granted_text,
+  put_granted_is,
+  take_granted_text,
+  take_granted_is,
+  put_auth_text,
+  put_auth_is,
+  take_auth_text,
+  take_auth_is,
+  amend_text,
+  amend_is,
+}
 
 -- ---- the rows that a statement is on
 

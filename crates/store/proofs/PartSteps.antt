@@ -1,5 +1,5 @@
 -- What a statement on the table of one part does to the rows of a holder, whatever the part.
-use Rattle.std.proofs.Common.{◌≡◌, ℕ, Bool, true, not, List, [], ◌∷◌, map, filter, drop, length, ◌/◌, slice_get, Some, IsPermutation, refl, sym, subst, ◌∙◌}
+use Rattle.std.proofs.Common.{◌≡◌, ℕ, Bool, true, not, List, [], ◌∷◌, map, filter, drop, length, ◌/◌, slice_get, Some, IsPermutation, ◌∙◌}
 use Rattle.sqlite.specs.Effect.{value_rows}
 use Rattle.sqlite.specs.State.{State}
 use Rattle.sqlite_value.specs.declared.value.Value.TheVariants.{Null, Text}
@@ -12,7 +12,7 @@ use Rattle.sqlite_schema.specs.declared.schema.Table.{Table}
 use Rattle.sqlite_rules.specs.Cast.{cast_all}
 use Rattle.policy.specs.Rows.{Rows}
 use Rattle.store.specs.Tables.{as_strict, desk_tables, is_table}
-use Rattle.store.specs.TablesHold.{Part, holder_part, holding_part, granted_part, auth_part}
+use Rattle.store.specs.TablesHold.{Part}
 use Rattle.store.specs.steps.Making.{PutsRows}
 use Rattle.store.specs.steps.Statements.{IsReady, IsExecuted, EditsHolder}
 use Rattle.store.proofs.Inserting as inserting

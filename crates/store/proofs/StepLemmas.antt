@@ -1,5 +1,5 @@
 -- What a statement means within a transaction, and what its edit of one table does to the rows of a holder.
-use Rattle.std.proofs.Common.{◌≡◌, ◌≢◌, ◌⊎◌, inl, inr, ℕ, Bool, true, false, ◌==◌, suc, List, [], ◌∷◌, map, drop, IsPermutation, None, Some, Ok, Option, option_map, IsSome, ℤ, refl, sym, ap, subst, ◌∙◌, is_eq}
+use Rattle.std.proofs.Common.{◌≡◌, ◌⊎◌, inl, inr, ℕ, Bool, true, false, ◌==◌, suc, List, [], ◌∷◌, map, drop, IsPermutation, None, Some, Option, option_map, IsSome, ℤ, refl, sym, ap, subst, ◌∙◌, is_eq}
 use Rattle.std.proofs.lemmas.Bool.{eqb-true, eq-eqb, both_ways}
 use Rattle.std.specs.List.{list_any}
 use Rattle.sqlite.specs.Effect.{Database}

@@ -16,9 +16,7 @@ pub(crate) fn put_auth<S: Alter>(
     auth: &Auth,
 ) -> Result<(), Error>
     requires { Awaits S.Store IsReady tx.old }
-    ensures done {
-        IfDone S.Store result (EditsHolder holder.now (with_auth auth.now)) tx.old tx.new
-    }
+    ensures done { IfDone S.Store result (EditsHolder holder.now (with_auth auth.now)) tx.old tx.new }
     ensures inside { StaysInside S.Store tx.old tx.new }
 {
     let first = address_bytes(auth.prefix.first);
@@ -36,9 +34,7 @@ pub(crate) fn amend_auth<S: Alter>(
     auth: &Auth,
 ) -> Result<(), Error>
     requires { Awaits S.Store IsReady tx.old }
-    ensures done {
-        IfDone S.Store result (EditsHolder holder.now (edited (Amend auth.now))) tx.old tx.new
-    }
+    ensures done { IfDone S.Store result (EditsHolder holder.now (edited (Amend auth.now))) tx.old tx.new }
     ensures inside { StaysInside S.Store tx.old tx.new }
 {
     let first = address_bytes(auth.prefix.first);
@@ -56,9 +52,7 @@ pub(crate) fn take_auth<S: Alter>(
     number: u32,
 ) -> Result<(), Error>
     requires { Awaits S.Store IsReady tx.old }
-    ensures done {
-        IfDone S.Store result (EditsHolder holder.now (edited (Withdraw number))) tx.old tx.new
-    }
+    ensures done { IfDone S.Store result (EditsHolder holder.now (edited (Withdraw number))) tx.old tx.new }
     ensures inside { StaysInside S.Store tx.old tx.new }
 {
     run(
@@ -75,9 +69,7 @@ pub(crate) fn take_auths<S: Alter>(
     numbers: &[u32],
 ) -> Result<(), Error>
     requires { Awaits S.Store IsReady tx.old }
-    ensures done {
-        IfDone S.Store result (EditsHolder holder.now (without_auths numbers.now)) tx.old tx.new
-    }
+    ensures done { IfDone S.Store result (EditsHolder holder.now (without_auths numbers.now)) tx.old tx.new }
     ensures inside { StaysInside S.Store tx.old tx.new }
 {
     for number in numbers {

@@ -15,9 +15,7 @@ use sqlite::{Alter, Error, Transaction};
 /// Puts a grant, and its number as the counter.
 fn grant<S: Alter>(tx: &mut Transaction<'_, S>, holder: &Name, grant: &Granted) -> Result<(), Error>
     requires { Awaits S.Store IsReady tx.old }
-    ensures done {
-        IfDone S.Store result (EditsHolder holder.now (edited (Edit.Grant grant.now))) tx.old tx.new
-    }
+    ensures done { IfDone S.Store result (EditsHolder holder.now (edited (Edit.Grant grant.now))) tx.old tx.new }
     ensures inside { StaysInside S.Store tx.old tx.new }
 {
     put_grant(tx, holder, grant)?;
@@ -27,9 +25,7 @@ fn grant<S: Alter>(tx: &mut Transaction<'_, S>, holder: &Name, grant: &Granted) 
 /// Puts an authorization, and its number as the counter.
 fn create<S: Alter>(tx: &mut Transaction<'_, S>, holder: &Name, auth: &Auth) -> Result<(), Error>
     requires { Awaits S.Store IsReady tx.old }
-    ensures done {
-        IfDone S.Store result (EditsHolder holder.now (edited (Edit.Create auth.now))) tx.old tx.new
-    }
+    ensures done { IfDone S.Store result (EditsHolder holder.now (edited (Edit.Create auth.now))) tx.old tx.new }
     ensures inside { StaysInside S.Store tx.old tx.new }
 {
     put_auth(tx, holder, auth)?;
@@ -45,9 +41,7 @@ fn hold<S: Alter>(
     ended: &[u32],
 ) -> Result<(), Error>
     requires { Awaits S.Store IsReady tx.old }
-    ensures done {
-        IfDone S.Store result (EditsHolder holder.now (held spans.now ended.now)) tx.old tx.new
-    }
+    ensures done { IfDone S.Store result (EditsHolder holder.now (held spans.now ended.now)) tx.old tx.new }
     ensures inside { StaysInside S.Store tx.old tx.new }
 {
     take_holdings(tx, holder)?;
@@ -90,10 +84,8 @@ fn edit_holder<S: Alter>(
     change: &HolderChange,
 ) -> Result<(), StoreFault>
     requires { Awaits S.Store IsReady tx.old }
-    ensures done {
-        IfDone S.Store result (MakesChange (λ rows h. changed_by_one change.now h (rows h)))
-            tx.old tx.new
-    }
+    ensures done { IfDone S.Store result (MakesChange (λ rows h. changed_by_one change.now h (rows h)))
+        tx.old tx.new }
     ensures inside { StaysInside S.Store tx.old tx.new }
     ensures no_schema { result ≢ Err StoreFault.Schema }
 {
@@ -112,9 +104,7 @@ pub(crate) fn make_change<S: Alter>(
     change: &Change,
 ) -> Result<(), StoreFault>
     requires { Awaits S.Store IsReady tx.old }
-    ensures done {
-        IfDone S.Store result (MakesChange (λ rows h. changed change.now h (rows h))) tx.old tx.new
-    }
+    ensures done { IfDone S.Store result (MakesChange (λ rows h. changed change.now h (rows h))) tx.old tx.new }
     ensures inside { StaysInside S.Store tx.old tx.new }
     ensures no_schema { result ≢ Err StoreFault.Schema }
 {

@@ -26,9 +26,7 @@ fn put_schema<S: Alter>(tx: &mut Transaction<'_, S>) -> Result<(), Error>
 /// Puts an operator.
 fn put_operator<S: Alter>(tx: &mut Transaction<'_, S>, name: &Name) -> Result<(), Error>
     requires { Awaits S.Store IsReady tx.old }
-    ensures put {
-        IfDone S.Store result (PutsRows operator.tree (operator_row name.now ∷ [])) tx.old tx.new
-    }
+    ensures put { IfDone S.Store result (PutsRows operator.tree (operator_row name.now ∷ [])) tx.old tx.new }
     ensures inside { StaysInside S.Store tx.old tx.new }
 {
     run(
@@ -41,9 +39,7 @@ fn put_operator<S: Alter>(tx: &mut Transaction<'_, S>, name: &Name) -> Result<()
 /// Puts operators.
 fn put_operators<S: Alter>(tx: &mut Transaction<'_, S>, names: &[Name]) -> Result<(), Error>
     requires { Awaits S.Store IsReady tx.old }
-    ensures put {
-        IfDone S.Store result (PutsRows operator.tree (map operator_row names.now)) tx.old tx.new
-    }
+    ensures put { IfDone S.Store result (PutsRows operator.tree (map operator_row names.now)) tx.old tx.new }
     ensures inside { StaysInside S.Store tx.old tx.new }
 {
     for name in names {
@@ -55,9 +51,7 @@ fn put_operators<S: Alter>(tx: &mut Transaction<'_, S>, names: &[Name]) -> Resul
 /// Puts a prefix of the pool.
 fn put_prefix<S: Alter>(tx: &mut Transaction<'_, S>, prefix: &Prefix) -> Result<(), Error>
     requires { Awaits S.Store IsReady tx.old }
-    ensures put {
-        IfDone S.Store result (PutsRows pool.tree (prefix_cells prefix.now ∷ [])) tx.old tx.new
-    }
+    ensures put { IfDone S.Store result (PutsRows pool.tree (prefix_cells prefix.now ∷ [])) tx.old tx.new }
     ensures inside { StaysInside S.Store tx.old tx.new }
 {
     let first = address_bytes(prefix.first);
@@ -71,9 +65,7 @@ fn put_prefix<S: Alter>(tx: &mut Transaction<'_, S>, prefix: &Prefix) -> Result<
 /// Puts prefixes of the pool.
 fn put_pool<S: Alter>(tx: &mut Transaction<'_, S>, prefixes: &[Prefix]) -> Result<(), Error>
     requires { Awaits S.Store IsReady tx.old }
-    ensures put {
-        IfDone S.Store result (PutsRows pool.tree (map prefix_cells prefixes.now)) tx.old tx.new
-    }
+    ensures put { IfDone S.Store result (PutsRows pool.tree (map prefix_cells prefixes.now)) tx.old tx.new }
     ensures inside { StaysInside S.Store tx.old tx.new }
 {
     for prefix in prefixes {

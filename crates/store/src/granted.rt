@@ -16,9 +16,7 @@ pub(crate) fn put_grant<S: Alter>(
     grant: &Granted,
 ) -> Result<(), Error>
     requires { Awaits S.Store IsReady tx.old }
-    ensures done {
-        IfDone S.Store result (EditsHolder holder.now (with_grant grant.now)) tx.old tx.new
-    }
+    ensures done { IfDone S.Store result (EditsHolder holder.now (with_grant grant.now)) tx.old tx.new }
     ensures inside { StaysInside S.Store tx.old tx.new }
 {
     let first = address_bytes(scope_first(&grant.scope));
@@ -36,9 +34,7 @@ pub(crate) fn take_grant<S: Alter>(
     number: u32,
 ) -> Result<(), Error>
     requires { Awaits S.Store IsReady tx.old }
-    ensures done {
-        IfDone S.Store result (EditsHolder holder.now (edited (Revoke number))) tx.old tx.new
-    }
+    ensures done { IfDone S.Store result (EditsHolder holder.now (edited (Revoke number))) tx.old tx.new }
     ensures inside { StaysInside S.Store tx.old tx.new }
 {
     run(

@@ -13,9 +13,7 @@ pub(crate) fn set_granted<S: Alter>(
     number: u32,
 ) -> Result<(), Error>
     requires { Awaits S.Store IsReady tx.old }
-    ensures done {
-        IfDone S.Store result (EditsHolder holder.now (with_granted number)) tx.old tx.new
-    }
+    ensures done { IfDone S.Store result (EditsHolder holder.now (with_granted number)) tx.old tx.new }
     ensures inside { StaysInside S.Store tx.old tx.new }
 {
     run(
@@ -32,9 +30,7 @@ pub(crate) fn set_created<S: Alter>(
     number: u32,
 ) -> Result<(), Error>
     requires { Awaits S.Store IsReady tx.old }
-    ensures done {
-        IfDone S.Store result (EditsHolder holder.now (with_created number)) tx.old tx.new
-    }
+    ensures done { IfDone S.Store result (EditsHolder holder.now (with_created number)) tx.old tx.new }
     ensures inside { StaysInside S.Store tx.old tx.new }
 {
     run(

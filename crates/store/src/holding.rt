@@ -14,9 +14,7 @@ fn put_holding<S: Alter>(
     span: &Span,
 ) -> Result<(), Error>
     requires { Awaits S.Store IsReady tx.old }
-    ensures done {
-        IfDone S.Store result (EditsHolder holder.now (with_holdings (span.now ∷ []))) tx.old tx.new
-    }
+    ensures done { IfDone S.Store result (EditsHolder holder.now (with_holdings (span.now ∷ []))) tx.old tx.new }
     ensures inside { StaysInside S.Store tx.old tx.new }
 {
     let first = address_bytes(span.lo);
@@ -35,9 +33,7 @@ pub(crate) fn put_holdings<S: Alter>(
     spans: &[Span],
 ) -> Result<(), Error>
     requires { Awaits S.Store IsReady tx.old }
-    ensures done {
-        IfDone S.Store result (EditsHolder holder.now (with_holdings spans.now)) tx.old tx.new
-    }
+    ensures done { IfDone S.Store result (EditsHolder holder.now (with_holdings spans.now)) tx.old tx.new }
     ensures inside { StaysInside S.Store tx.old tx.new }
 {
     for span in spans {

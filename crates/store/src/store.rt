@@ -24,9 +24,7 @@ fn commit_change<S: Alter>(conn: &mut Connection<S>, change: &Change) -> Result<
     requires idle { conn.old.in_transaction ≡ false }
     requires schema { HasDeskSchema (state S.Store conn.old) }
     ensures idle { conn.new.in_transaction ≡ false }
-    ensures ok {
-        IfCommitted S.Store result (CommitsChange (changed_rows change.now)) conn.old conn.new
-    }
+    ensures ok { IfCommitted S.Store result (CommitsChange (changed_rows change.now)) conn.old conn.new }
     ensures err { IfRolledBack S.Store result conn.old conn.new }
     ensures crash { CommitsAtMost S.Store (MayCommit (changed_rows change.now)) conn.old conn.new }
     ensures no_schema { result ≢ Err StoreFault.Schema }
@@ -52,9 +50,7 @@ fn make_tables<S: Alter>(conn: &mut Connection<S>, charter: &Charter) -> Result<
     ensures idle { conn.new.in_transaction ≡ false }
     ensures made { IfCommitted S.Store result (λ _. IsNew charter.now) conn.old conn.new }
     ensures err { IfRolledBack S.Store result conn.old conn.new }
-    ensures crash {
-        CommitsAtMost S.Store (λ _. TablesHold charter.now (λ h. None)) conn.old conn.new
-    }
+    ensures crash { CommitsAtMost S.Store (λ _. TablesHold charter.now (λ h. None)) conn.old conn.new }
     ensures no_schema { result ≢ Err StoreFault.Schema }
 {
     let _idle = conn.is_autocommit();
@@ -76,10 +72,8 @@ fn make_desk<S: Alter>(conn: &mut Connection<S>, charter: &Charter) -> Result<()
     ensures mode { OnErr result (conn.new.in_transaction ≡ conn.old.in_transaction) }
     ensures err { IfRolledBack S.Store result conn.old conn.new }
     ensures clean { HasCleanDisk (state S.Store conn.new) → HasCleanDisk (state S.Store conn.old) }
-    ensures crash {
-        HasCleanDisk (state S.Store conn.new)
-            → LeavesOldOrNew charter.now (state S.Store conn.old) (state S.Store conn.new)
-    }
+    ensures crash { HasCleanDisk (state S.Store conn.new)
+        → LeavesOldOrNew charter.now (state S.Store conn.old) (state S.Store conn.new) }
     ensures no_schema { result ≢ Err StoreFault.Schema }
 {
     if !conn.is_autocommit() || !is_blank(conn.schema()) {
@@ -124,15 +118,9 @@ impl<S: Alter + Drop> Store<S> {
         ensures rows { IfOk result (λ store. Holds S.Store store (λ h. None)) }
         ensures unused { OnOk result (IsUnused (state S.Store conn)) }
         ensures unlimited { IfOk result (λ store. store.connection.step_limit ≡ None) }
-        ensures made {
-            IfOk result (λ store. IfClean S.Store store (IsNew charter.now (state_of S.Store store)))
-        }
-        ensures clean {
-            IfOk result (λ store. IfClean S.Store store (HasCleanDisk (state S.Store conn)))
-        }
-        ensures left {
-            IfOk result (λ store. IfClean S.Store store (LeavesNew charter.now (state_of S.Store store)))
-        }
+        ensures made { IfOk result (λ store. IfClean S.Store store (IsNew charter.now (state_of S.Store store))) }
+        ensures clean { IfOk result (λ store. IfClean S.Store store (HasCleanDisk (state S.Store conn))) }
+        ensures left { IfOk result (λ store. IfClean S.Store store (LeavesNew charter.now (state_of S.Store store))) }
         ensures no_schema { result ≢ Err StoreFault.Schema }
     {
         let kept = charter.clone()?;
@@ -208,26 +196,16 @@ impl<S: Alter> Store<S> {
     /// Makes the change in one transaction: all of it, or after a fault nothing.
     pub fn apply(&mut self, change: &Change) -> Result<(), StoreFault>
         ensures charter { self.new.charter ≡ self.old.charter }
-        ensures ok {
-            IfClean S.Store self.new
-                (OnOk result (HoldsAfter S.Store self.old self.new (changed_rows change.now)))
-        }
-        ensures err {
-            IfClean S.Store self.new
-                (OnErr result (HoldsAfter S.Store self.old self.new (λ rows. rows)))
-        }
-        ensures crash {
-            IfClean S.Store self.new
-                (MayLeave S.Store self.old self.new (changed_rows change.now))
-        }
-        ensures left {
-            IfClean S.Store self.new
-                (OnOk result (LeavesOnly S.Store self.old self.new (changed_rows change.now)))
-        }
+        ensures ok { IfClean S.Store self.new
+            (OnOk result (HoldsAfter S.Store self.old self.new (changed_rows change.now))) }
+        ensures err { IfClean S.Store self.new
+            (OnErr result (HoldsAfter S.Store self.old self.new (λ rows. rows))) }
+        ensures crash { IfClean S.Store self.new
+            (MayLeave S.Store self.old self.new (changed_rows change.now)) }
+        ensures left { IfClean S.Store self.new
+            (OnOk result (LeavesOnly S.Store self.old self.new (changed_rows change.now))) }
         ensures clean { IfClean S.Store self.new (HasCleanDisk (state_of S.Store self.old)) }
-        ensures is_open {
-            IfClean S.Store self.new (OnOk result (IsTrue (state_of S.Store self.new).is_open))
-        }
+        ensures is_open { IfClean S.Store self.new (OnOk result (IsTrue (state_of S.Store self.new).is_open)) }
         ensures no_schema { result ≢ Err StoreFault.Schema }
     {
         commit_change(&mut self.conn, change)

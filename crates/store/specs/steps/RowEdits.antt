@@ -1,12 +1,12 @@
 -- The steps in which a change edits the rows of a holder.
-use Rattle.std.specs.Prelude.{ℕ, Bool, true, false, ◌==◌, not, List, [], ◌∷◌, ◌++◌, map, filter}
+use Rattle.std.specs.Prelude.{ℕ, Bool, true, false, ◌==◌, not, List, [], ◌∷◌, ◌++◌, filter}
 use Rattle.std.specs.List.{list_any}
 use Rattle.addr.specs.declared.span.Span.{Span}
 use Rattle.policy.specs.declared.authorization.Auth.{Auth}
 use Rattle.policy.specs.declared.grant.Granted.{Granted}
 use Rattle.policy.specs.declared.change.Edit.{Edit}
 use Rattle.policy.specs.declared.change.Edit.TheVariants.{Register}
-use Rattle.policy.specs.Rows.{Rows, replaced_by}
+use Rattle.policy.specs.Rows.{Rows}
 
 abbrev pub with_holdings : List Span → Rows → Rows
 with_holdings spans r = record r { holdings = r.holdings ++ spans }
