@@ -15,7 +15,7 @@ use Rattle.store.specs.Tables.{auth}
 use Rattle.store.specs.Cells.{number_cell, family_number, address, auth_cells, auth_row}
 use Rattle.store.specs.TablesHold.{is_name_of}
 use Rattle.store.specs.RowEdits.{with_auth, without_auth, with_amended}
-use Rattle.store.specs.Steps.{IsReady, Done}
+use Rattle.store.specs.steps.Statements.{IsReady, Done}
 use Rattle.store.proofs.Inserting as inserting
 use Rattle.store.proofs.Deleting as deleting
 use Rattle.store.proofs.Updating as updating

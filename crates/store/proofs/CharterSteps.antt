@@ -14,7 +14,7 @@ use Rattle.store.specs.Tables.{meta, operator, pool, desk_tables}
 use Rattle.store.specs.Cells.{schema_row, operator_row, prefix_cells}
 use Rattle.store.specs.Edits.{contents, is_table, IsTree, AreTrees, Edits}
 use Rattle.store.specs.TablesHold.{holder_part, holding_part, granted_part, auth_part, TablesHold}
-use Rattle.store.specs.Steps.{IsReady}
+use Rattle.store.specs.steps.Statements.{IsReady}
 use Rattle.store.specs.Making.{IsMadeTo, Puts, HasCharter, IsNew}
 use Rattle.store.proofs.Inserting as inserting
 use Rattle.store.proofs.CellLemmas.{cast_schema, cast_prefix}

@@ -11,7 +11,7 @@ use Rattle.policy.specs.declared.grant.Scope.TheVariants.{All, Only}
 use Rattle.store.specs.Tables.{granted}
 use Rattle.store.specs.Cells.{number_cell, role_number, scope_cells, granted_row}
 use Rattle.store.specs.RowEdits.{with_grant, without_grant}
-use Rattle.store.specs.Steps.{IsReady, Done}
+use Rattle.store.specs.steps.Statements.{IsReady, Done}
 use Rattle.store.proofs.Inserting as inserting
 use Rattle.store.proofs.Deleting as deleting
 use Rattle.store.proofs.CellLemmas.{cast_granted, number_of_number, appended}

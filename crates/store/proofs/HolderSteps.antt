@@ -17,7 +17,7 @@ use Rattle.store.specs.Tables.{holder, desk_schema}
 use Rattle.store.specs.Cells.{number_cell, holder_row}
 use Rattle.store.specs.RowEdits.{with_granted, with_created}
 use Rattle.store.specs.TablesHold.{rows_if_any, holder_part, holding_part, granted_part, auth_part, TablesHold}
-use Rattle.store.specs.Steps.{IsReady, Done, Registers, Tells}
+use Rattle.store.specs.steps.Statements.{IsReady, Done, Registers, Tells}
 use Rattle.store.proofs.Inserting as inserting
 use Rattle.store.proofs.Updating as updating
 use Rattle.store.proofs.Updating.{changed_if}

@@ -10,7 +10,7 @@ use Rattle.store.specs.Tables.{holding}
 use Rattle.store.specs.Cells.{holding_row}
 use Rattle.store.specs.TablesHold.{is_name_of}
 use Rattle.store.specs.RowEdits.{with_holding, without_holdings}
-use Rattle.store.specs.Steps.{IsReady, Done}
+use Rattle.store.specs.steps.Statements.{IsReady, Done}
 use Rattle.store.proofs.Inserting as inserting
 use Rattle.store.proofs.Deleting as deleting
 use Rattle.store.proofs.Selecting.{picks}

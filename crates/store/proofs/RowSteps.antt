@@ -20,7 +20,7 @@ use Rattle.policy.specs.Rows.{Rows, new_rows, edited, edited_if_any}
 use Rattle.policy.proofs.Names.{same_name-true}
 use Rattle.store.specs.TablesHold.{TablesHold, at_holder, EditsRows}
 use Rattle.store.specs.RowEdits.{with_holding, with_holdings, without_auth, without_auths, is_registration}
-use Rattle.store.specs.Steps.{IsReady, Done, Tells, Registers, Turned, registered}
+use Rattle.store.specs.steps.Statements.{IsReady, Done, Tells, Registers, Turned, registered}
 use Rattle.store.proofs.TreeRows.{filter_twice, all_kept, neither}
 
 -- equal rows of every holder

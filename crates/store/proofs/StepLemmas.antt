@@ -20,7 +20,7 @@ use Rattle.store.specs.Tables.{desk_schema}
 use Rattle.store.specs.Cells.{schema_row, operator_row, prefix_cells}
 use Rattle.store.specs.Edits.{contents, is_table, IsTree, AreTrees, Edits}
 use Rattle.store.specs.TablesHold.{Part, rows_if_any, holder_part, holding_part, granted_part, auth_part, HoldsPart, HoldsCharter, at_holder, EditsRows}
-use Rattle.store.specs.Steps.{IsReady, Done}
+use Rattle.store.specs.steps.Statements.{IsReady, Done}
 use Rattle.store.proofs.PartLemmas.{IsLocal, EditsPart, turned_at, part_same, part_edited, part_kept}
 use Rattle.store.proofs.Texts.{Means}
 

@@ -9,11 +9,10 @@ use Rattle.sqlite.specs.Store.{Ghosts}
 use Rattle.sqlite_trees.specs.Tree.{Trees}
 use Rattle.policy.specs.CharterSets.{CharterSets}
 use Rattle.policy.specs.Rows.{Rows}
-use Rattle.store.specs.Queries.{IsAsBefore}
-use Rattle.store.specs.Loads.{IsOfAll}
+use Rattle.store.specs.steps.Queries.{IsAsBefore, IsOfAll}
 use Rattle.store.specs.Making.{IsNew}
 use Rattle.store.specs.StoreRows.{StoreView, IsKept, Holds, IsRead, MayLeave, LeavesOnly}
-use Rattle.store.specs.Steps.{IsMade, CommitsTo, Turned, Turns}
+use Rattle.store.specs.steps.Statements.{IsMade, CommitsTo, Turned, Turns}
 use Rattle.store.specs.TablesHold.{TablesHold}
 
 abbrev pub Change : Type 0

@@ -4,10 +4,9 @@ pub mod Cells
 pub mod Decode
 pub mod TablesHold
 pub mod RowEdits
-pub mod Steps
 pub mod Fault
 pub mod StoreRows
 pub mod Making
-pub mod Queries
+pub mod steps
 pub mod Loads
 pub mod Laws

@@ -8,7 +8,7 @@ use Rattle.policy.specs.CharterSets.{CharterSets}
 use Rattle.store.specs.Tables.{desk_tables, desk_indexes, desk_schema}
 use Rattle.store.specs.Edits.{Edits}
 use Rattle.store.specs.TablesHold.{TablesHold}
-use Rattle.store.specs.Steps.{IsReady}
+use Rattle.store.specs.steps.Statements.{IsReady}
 
 -- the schema of the first tables, of which `auth` has two keys and every other has one
 abbrev pub so_far : ℕ → Schema

@@ -3,7 +3,7 @@ ghost use Rattle.sqlite.specs.Held.{state};
 ghost use Rattle.sqlite.specs.State.{HasCleanDisk, KeepsCommit, Survives};
 ghost use Rattle.policy.specs.Rows.{edited, changed, changed_by_one};
 ghost use Rattle.store.specs.RowEdits.{held, is_registration};
-ghost use Rattle.store.specs.Steps.{IsReady, Done, Turned};
+ghost use Rattle.store.specs.steps.Statements.{IsReady, Done, Turned};
 
 use crate::StoreFault;
 use crate::auth::{amend_auth, put_auth, take_auth, take_auths};

@@ -3,7 +3,7 @@ ghost use Rattle.sqlite.specs.Held.{state};
 ghost use Rattle.sqlite.specs.State.{HasCleanDisk, KeepsCommit, Survives};
 ghost use Rattle.store.specs.Cells.{schema_row, operator_row, prefix_cells};
 ghost use Rattle.store.specs.Making.{IsMadeTo, Puts, HasCharter};
-ghost use Rattle.store.specs.Steps.{IsReady};
+ghost use Rattle.store.specs.steps.Statements.{IsReady};
 ghost use Rattle.store.specs.Tables.{meta, operator, pool};
 
 use crate::cells::{address_bytes, name_values, prefix_values};

@@ -2,7 +2,7 @@ ghost use Rattle.std.specs.Prelude.{◌≡◌, OnOk, IfOk};
 ghost use Rattle.sqlite.specs.Held.{state};
 ghost use Rattle.sqlite.specs.State.{HasCleanDisk, KeepsCommit, Survives};
 ghost use Rattle.store.specs.RowEdits.{with_granted, with_created};
-ghost use Rattle.store.specs.Steps.{IsReady, Done, Tells, Registers};
+ghost use Rattle.store.specs.steps.Statements.{IsReady, Done, Tells, Registers};
 
 use crate::cells::{name_values, number_values};
 use addr::Name;

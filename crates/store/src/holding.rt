@@ -2,7 +2,7 @@ ghost use Rattle.std.specs.Prelude.{◌≡◌, OnOk};
 ghost use Rattle.sqlite.specs.Held.{state};
 ghost use Rattle.sqlite.specs.State.{HasCleanDisk, KeepsCommit, Survives};
 ghost use Rattle.store.specs.RowEdits.{with_holding, with_holdings, without_holdings};
-ghost use Rattle.store.specs.Steps.{IsReady, Done};
+ghost use Rattle.store.specs.steps.Statements.{IsReady, Done};
 
 use crate::cells::{address_bytes, holding_values, name_values};
 use addr::{Name, Span};

@@ -3,9 +3,9 @@ ghost use Rattle.sqlite.specs.Held.{state};
 ghost use Rattle.sqlite.specs.State.{HasCleanDisk, Survives};
 ghost use Rattle.policy.specs.Rows.{changed};
 ghost use Rattle.store.specs.Making.{so_far, IsNew};
-ghost use Rattle.store.specs.Queries.{IsAsBefore};
+ghost use Rattle.store.specs.steps.Queries.{IsAsBefore};
 ghost use Rattle.store.specs.Tables.{desk_schema};
-ghost use Rattle.store.specs.Steps.{CommitsTo, IsMade};
+ghost use Rattle.store.specs.steps.Statements.{CommitsTo, IsMade};
 
 use crate::StoreFault;
 use crate::across::some_overlap;

@@ -2,7 +2,7 @@ use Rattle.std.proofs.Common.{◌≡◌, take}
 use Rattle.sqlite.specs.Held.{state}
 use Rattle.sqlite.specs.State.{HasCleanDisk, KeepsCommit, Survives}
 use Rattle.store.specs.RowEdits.{without_auths}
-use Rattle.store.specs.Steps.{Done}
+use Rattle.store.specs.steps.Statements.{Done}
 use Rattle.store.proofs.auth.take_auths.Given as goal
 
 abbrev pub invariant-loop-number : goal.invariant-loop-number

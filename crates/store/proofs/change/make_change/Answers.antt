@@ -2,7 +2,7 @@ use Rattle.std.proofs.Common.{arith, sym, subst, Option}
 use Rattle.sqlite.specs.Held.{state}
 use Rattle.policy.specs.declared.change.HolderChange.{HolderChange}
 use Rattle.policy.specs.Rows.{changed_by_one, changed_by_second}
-use Rattle.store.specs.Steps.{Turned}
+use Rattle.store.specs.steps.Statements.{Turned}
 use Rattle.store.proofs.RowSteps.{turned_then}
 use Rattle.store.proofs.change.make_change.Goals as goal
 

@@ -2,7 +2,7 @@ use Rattle.std.proofs.Common.{◌≡◌, rules, arith, subst}
 use Rattle.sqlite.specs.Held.{state}
 use Rattle.sqlite.specs.State.{HasCleanDisk, Survives}
 use Rattle.policy.specs.Rows.{changed}
-use Rattle.store.specs.Steps.{CommitsTo, IsMade}
+use Rattle.store.specs.steps.Statements.{CommitsTo, IsMade}
 use Rattle.store.proofs.StoreLemmas.{Change, commit_ok, commit_crash}
 use Rattle.store.proofs.store.commit_change.Goals as goal
 
