@@ -20,12 +20,11 @@ use Rattle.policy.specs.declared.grant.Scope.{Scope}
 use Rattle.policy.specs.declared.grant.Scope.TheVariants.{All, Only}
 use Rattle.policy.specs.Rows.{Rows}
 use Rattle.store.specs.Cells.{span_cells, grant_cells, auth_cells, holding_row, granted_row, auth_row}
-use Rattle.store.specs.Edits.{contents}
-use Rattle.store.specs.TablesHold.{Part, TablesHold, items_if_any, HoldsPart, rows_if_any, holder_part, holding_part, granted_part, auth_part}
+use Rattle.store.specs.Tables.{contents}
+use Rattle.store.specs.TablesHold.{Part, TablesHold, items_if_any, HoldsPart, part_rows, holder_part, holding_part, granted_part, auth_part}
 use Rattle.store.specs.steps.Queries.{columns, by_column, AreSelected, Selects}
 use Rattle.store.proofs.Selecting.{from_table, no_limit, picks, permuted, sorted}
-use Rattle.store.proofs.HoldingSteps.{holder_test}
-use Rattle.store.proofs.StepLemmas.{column_after}
+use Rattle.store.proofs.StepLemmas.{column_after, holder_test}
 use Rattle.store.proofs.PartLemmas.{names}
 use Rattle.store.proofs.CellsOnce.{cells_of_counters, counters_of_rows, one_counters, one_span, one_grant, one_auth}
 use Rattle.store.proofs.Texts.{Means, equals, upwards, counters_text, counters_is, spans_text, spans_is, grants_text, grants_is, auths_text, auths_is}
@@ -95,7 +94,7 @@ module _ {X : Type 0} (cells : X → Row) (items : Rows → List X) (cmp : Row �
     found charter all holds =
         go (all h) (IsPermutation-trans _ _ _ (IsPermutation-map (columns q.places) _ _ ((q.held charter all db.trees holds).each h)) finds)
       where
-        go : (o : Option Rows) → IsPermutation (map (columns q.places) (rows_if_any q.part h o)) rows → IsPermutation (map cells (items_if_any items o)) rows
+        go : (o : Option Rows) → IsPermutation (map (columns q.places) (part_rows q.part h o)) rows → IsPermutation (map cells (items_if_any items o)) rows
         go None same = same
         go (Some r) same = subst (λ l. IsPermutation l rows) (q.shows h r) same
 

@@ -18,7 +18,7 @@ use Rattle.policy.specs.declared.authorization.Auth.{Auth}
 use Rattle.policy.specs.Rows.{Rows}
 use Rattle.store.specs.Tables.{desk_schema}
 use Rattle.store.specs.Cells.{number_cell, auth_row}
-use Rattle.store.specs.Edits.{contents}
+use Rattle.store.specs.Tables.{contents}
 use Rattle.store.specs.TablesHold.{HoldsPart, auth_part}
 use Rattle.store.specs.steps.Queries.{columns, is_open_on, FindsInForce, IsPayloadOn}
 use Rattle.store.proofs.SomeRow.{has_permuted, of_some, in_table}

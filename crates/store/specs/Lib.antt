@@ -1,12 +1,9 @@
 pub mod Tables
-pub mod Edits
 pub mod Cells
 pub mod Decode
 pub mod TablesHold
-pub mod RowEdits
 pub mod Fault
 pub mod StoreRows
-pub mod Making
-pub mod steps
 pub mod Loads
 pub mod Laws
+pub mod steps

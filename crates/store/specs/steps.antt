@@ -1,3 +1,6 @@
--- Steps of the code, and no definitions of what a store answers.
-pub mod Queries
+-- The steps of the code, which no public contract cites.
+pub mod Edits
+pub mod RowEdits
 pub mod Statements
+pub mod Making
+pub mod Queries

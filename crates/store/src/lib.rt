@@ -15,6 +15,7 @@ mod holding;
 pub mod laws;
 mod load;
 mod rows;
+mod statement;
 mod store;
 mod tables;
 

@@ -22,7 +22,7 @@ use Rattle.policy.specs.CharterSets.{CharterSets}
 use Rattle.policy.specs.declared.authorization.Auth.{Auth}
 use Rattle.policy.specs.Rows.{Rows}
 use Rattle.store.specs.Cells.{number_cell, prefix_cells}
-use Rattle.store.specs.Edits.{contents}
+use Rattle.store.specs.Tables.{contents}
 use Rattle.store.specs.Tables.{desk_schema}
 use Rattle.store.specs.TablesHold.{TablesHold, items_if_any, auth_part}
 
