@@ -9,8 +9,7 @@ use Rattle.sqlite.specs.Store.{Ghosts}
 use Rattle.sqlite_trees.specs.Tree.{Trees}
 use Rattle.policy.specs.CharterSets.{CharterSets}
 use Rattle.policy.specs.Rows.{Rows}
-use Rattle.store.specs.Queries.{IsAsBefore}
-use Rattle.store.specs.Loads.{IsOfAll}
+use Rattle.store.specs.steps.Queries.{IsAsBefore, IsOfAll}
 use Rattle.store.specs.StoreRows.{RowChange, IsNew}
 use Rattle.store.specs.StoreRows.{StoreView, IsDeskWhileOpen, Holds, IsRead, MayLeave, LeavesOnly}
 use Rattle.store.specs.steps.Statements.{CommitsChange, MayCommit, MakesChange, RowsBecome}

@@ -4,7 +4,6 @@ pub mod Decode
 pub mod TablesHold
 pub mod Fault
 pub mod StoreRows
-pub mod Queries
 pub mod Loads
 pub mod Laws
 pub mod steps

@@ -10,7 +10,7 @@ use Rattle.sqlite_trees.specs.Tree.{Trees}
 use Rattle.policy.specs.CharterSets.{CharterSets}
 use Rattle.policy.specs.History.{same_name}
 use Rattle.policy.specs.Rows.{Rows, new_rows}
-use Rattle.store.specs.Queries.{IsAsBefore}
+use Rattle.store.specs.steps.Queries.{IsAsBefore}
 use Rattle.store.specs.StoreRows.{RowChange}
 use Rattle.store.specs.Tables.{desk_schema}
 use Rattle.store.specs.TablesHold.{TablesHold}
