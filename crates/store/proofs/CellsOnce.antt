@@ -18,7 +18,9 @@ use Rattle.policy.specs.declared.grant.Role.{Role}
 use Rattle.policy.specs.declared.grant.Role.TheVariants.{Manager, Clerk, Auditor}
 use Rattle.policy.specs.declared.grant.Scope.{Scope}
 use Rattle.policy.specs.declared.grant.Scope.TheVariants.{All, Only}
-use Rattle.store.specs.Cells.{number_cell, family_number, role_number, address, prefix_cells, scope_cells, span_cells, grant_cells, auth_cells}
+use Rattle.policy.specs.Rows.{Rows}
+use Rattle.store.specs.declared.rows.Counters.{Counters}
+use Rattle.store.specs.Cells.{number_cell, family_number, role_number, address, prefix_cells, scope_cells, span_cells, counter_cells, grant_cells, auth_cells}
 use Rattle.store.proofs.AddressBytes.{address_once}
 
 one_number : (m n : ℕ) → number_cell m ≡ number_cell n → m ≡ n
@@ -84,6 +86,18 @@ one_grant_of g h (Only p) (Only q) first second is = same_grant g h (one_number 
 
 pub one_grant : (g h : Granted) → grant_cells g ≡ grant_cells h → g ≡ h
 one_grant g h is = one_grant_of g h g.scope h.scope refl refl is
+
+abbrev pub counters_of_rows : Rows → List Counters
+counters_of_rows r = record { granted = r.granted; created = r.created } ∷ []
+
+abbrev pub cells_of_counters : Counters → Row
+cells_of_counters c = counter_cells c.granted c.created
+
+pub one_counters : (c d : Counters) → cells_of_counters c ≡ cells_of_counters d → c ≡ d
+one_counters c d is =
+    let granted : c.granted ≡ d.granted = cc in
+    let created : c.created ≡ d.created = cc in
+    λ i. record { granted = granted i; created = created i }
 
 -- ---- lists of them
 

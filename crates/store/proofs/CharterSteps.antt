@@ -1,60 +1,47 @@
 -- What putting the charter does to tables that were just made.
-use Rattle.std.proofs.Common.{◌≡◌, ◌≢◌, ℕ, pos, ◌+◌, ◌<◌, List, [], ◌∷◌, ◌++◌, map, take, get_or, length, codes, true, false, None, Ok, refl, sym, ap, subst, ◌∙◌, append-nil, append_assoc, IsPermutation}
+use Rattle.std.proofs.Common.{◌≡◌, ◌≢◌, ℕ, pos, ◌+◌, ◌<◌, List, [], ◌∷◌, ◌++◌, map, take, get_or, length, codes, true, false, None, refl, sym, ap, subst, ◌∙◌, append-nil, append_assoc, IsPermutation}
 use Rattle.std.proofs.lemmas.List.{map-append}
 use Rattle.std.proofs.lemmas.List.Sorted.{IsPermutation-refl, IsPermutation-trans, IsPermutation-cons, IsPermutation-middle}
 use Rattle.sqlite.specs.Effect.{Database}
-use Rattle.sqlite.proofs.InsideLemmas.{keeps_then}
-use Rattle.sqlite.specs.State.{State, HasCleanDisk, KeepsCommit, Shows, ExecutesInside}
+use Rattle.sqlite.specs.State.{State, Shows}
 use Rattle.sqlite_value.specs.declared.value.Value.TheVariants.{Null, Int, Text}
 use Rattle.sqlite_value.specs.Order.{Row}
 use Rattle.sqlite_sql.specs.Term.{lit}
 use Rattle.addr.specs.declared.prefix.Prefix.{Prefix}
 use Rattle.policy.specs.CharterSets.{CharterSets}
-use Rattle.store.specs.Tables.{meta, operator, pool, desk_tables}
+use Rattle.store.specs.StoreRows.{IsNew}
+use Rattle.store.specs.Tables.{meta, operator, pool, desk_tables, contents, is_table, IsTree, AreTrees}
 use Rattle.store.specs.Cells.{schema_row, operator_row, prefix_cells}
-use Rattle.store.specs.Edits.{contents, is_table, IsTree, AreTrees, Edits}
+use Rattle.store.specs.steps.Edits.{Edits}
 use Rattle.store.specs.TablesHold.{holder_part, holding_part, granted_part, auth_part, TablesHold}
-use Rattle.store.specs.Steps.{IsReady}
-use Rattle.store.specs.Making.{IsMadeTo, Puts, HasCharter, IsNew}
-use Rattle.store.proofs.Inserting as inserting
+use Rattle.store.specs.steps.Statements.{IsReady, IsExecuted}
+use Rattle.store.specs.steps.Making.{IsMadeTo, PutsRows, HasCharter}
 use Rattle.store.proofs.CellLemmas.{cast_schema, cast_prefix}
-use Rattle.store.proofs.StepLemmas.{has_schema, wrote, sound_still}
+use Rattle.store.proofs.StepLemmas.{sound_still}
+use Rattle.store.proofs.PartSteps.{puts_row}
 use Rattle.store.proofs.RowSteps.{taken_more}
 use Rattle.store.proofs.Inserting.{each_table}
 use Rattle.store.proofs.MakingSteps.{none_held}
 use Rattle.store.proofs.Texts.{put_terms, put_schema_text, put_schema_is, put_operator_text, put_operator_is, put_prefix_text, put_prefix_is}
 
-module _ (old new : State) (ready : IsReady old) (count : ℕ) where
-  pub put_schema_done : ExecutesInside 0 put_schema_text [] old new (Ok count) → Puts meta.tree (schema_row ∷ []) old new
-  put_schema_done ran =
-      let terms = lit Null ∷ lit (Text (codes "schema")) ∷ lit (Int (pos 1)) ∷ [] in
-      let w = wrote [] put_schema_is ready count ran in
-      let has = has_schema [] put_schema_is ready count ran in
-      let e = inserting.puts 0 meta.name 0 meta.columns meta.primary meta.uniques meta.orders meta.references refl terms 3 schema_row old new _ [] count has refl cast_schema w in
-      record { ready = record { schema = λ _. e.schema ∙ has; inside = ran.1.mode }; edits = e }
+module _ (old new : State) where
+  pub puts_schema : IsReady old → IsExecuted put_schema_text [] old new → PutsRows meta.tree (schema_row ∷ []) old new
+  puts_schema = puts_row 0 meta refl old new [] (lit Null ∷ lit (Text (codes "schema")) ∷ lit (Int (pos 1)) ∷ []) 3 schema_row put_schema_is refl cast_schema
 
-  pub put_operator_done : (name : List ℕ) → ExecutesInside 0 put_operator_text (operator_row name) old new (Ok count) → Puts operator.tree (operator_row name ∷ []) old new
-  put_operator_done name ran =
-      let w = wrote (operator_row name) put_operator_is ready count ran in
-      let has = has_schema (operator_row name) put_operator_is ready count ran in
-      let e = inserting.puts 1 operator.name 2 operator.columns operator.primary operator.uniques operator.orders operator.references refl (put_terms 1) 2 (operator_row name) old new _ (operator_row name) count has refl refl w in
-      record { ready = record { schema = λ _. e.schema ∙ has; inside = ran.1.mode }; edits = e }
+  pub puts_operator : (name : List ℕ) → IsReady old → IsExecuted put_operator_text (operator_row name) old new → PutsRows operator.tree (operator_row name ∷ []) old new
+  puts_operator name = puts_row 1 operator refl old new (operator_row name) (put_terms 1) 2 (operator_row name) put_operator_is refl refl
 
-  pub put_prefix_done : (p : Prefix) → ExecutesInside 0 put_prefix_text (prefix_cells p) old new (Ok count) → Puts pool.tree (prefix_cells p ∷ []) old new
-  put_prefix_done p ran =
-      let w = wrote (prefix_cells p) put_prefix_is ready count ran in
-      let has = has_schema (prefix_cells p) put_prefix_is ready count ran in
-      let e = inserting.puts 2 pool.name 4 pool.columns pool.primary pool.uniques pool.orders pool.references refl (put_terms 3) 4 (prefix_cells p) old new _ (prefix_cells p) count has refl (cast_prefix p) w in
-      record { ready = record { schema = λ _. e.schema ∙ has; inside = ran.1.mode }; edits = e }
+  pub puts_prefix : (p : Prefix) → IsReady old → IsExecuted put_prefix_text (prefix_cells p) old new → PutsRows pool.tree (prefix_cells p ∷ []) old new
+  puts_prefix p = puts_row 2 pool refl old new (prefix_cells p) (put_terms 3) 4 (prefix_cells p) put_prefix_is refl (cast_prefix p)
 
 module _ (tree : ℕ) where
-  pub puts_none : (s : State) → IsReady s → Puts tree [] s s
+  pub puts_none : (s : State) → IsReady s → PutsRows tree [] s s
   puts_none s ready = record {
     ready = ready;
     edits = record { schema = refl; others = λ t is other. refl; rows = IsPermutation-refl _; whole = λ whole. whole };
   }
 
-  pub puts_then : (rows : List Row) (row : Row) (a b c : State) → Puts tree rows a b → Puts tree (row ∷ []) b c → Puts tree (rows ++ row ∷ []) a c
+  pub puts_then : (rows : List Row) (row : Row) (a b c : State) → PutsRows tree rows a b → PutsRows tree (row ∷ []) b c → PutsRows tree (rows ++ row ∷ []) a c
   puts_then rows row a b c first second =
       let before = contents (a.now.trees tree) in
       record {
@@ -70,17 +57,16 @@ module _ (tree : ℕ) where
 
   -- one more step of a loop
   pub puts_along : {X : Type 0} (cells : X → Row) (xs : List X) (i : ℕ) (x : X) (a b c : State) → i < length xs → x ≡ get_or xs i x
-      → (HasCleanDisk b → KeepsCommit a b × Puts tree (map cells (take i xs)) a b) → HasCleanDisk b → KeepsCommit b c → Puts tree (cells x ∷ []) b c
-      → KeepsCommit a c × Puts tree (map cells (take (i + 1) xs)) a c
-  puts_along cells xs i x a b c low is before clean kept put =
+      → PutsRows tree (map cells (take i xs)) a b → PutsRows tree (cells x ∷ []) b c → PutsRows tree (map cells (take (i + 1) xs)) a c
+  puts_along cells xs i x a b c low is before put =
       let more = ap (map cells) (taken_more xs i x low is) ∙ map-append cells (take i xs) (x ∷ []) in
-      (keeps_then a b c (before clean).0 kept, subst (λ rows. Puts tree rows a c) (sym more) (puts_then (map cells (take i xs)) (cells x) a b c (before clean).1 put))
+      subst (λ rows. PutsRows tree rows a c) (sym more) (puts_then (map cells (take i xs)) (cells x) a b c before put)
 
   -- rows that were put into an empty table are its rows
   first_rows : (rows : List Row) (a b : Database) → Edits tree (λ table. rows ++ table) a b → a.trees tree ≡ [] → IsPermutation rows (contents (b.trees tree))
   first_rows rows a b e none = subst (λ l. IsPermutation l (contents (b.trees tree))) (ap (λ t. rows ++ contents t) none ∙ append-nil rows) e.rows
 
-pub has_charter : (charter : CharterSets) (a b c d : State) → IsMadeTo 8 a → Puts meta.tree (schema_row ∷ []) a b → Puts operator.tree (map operator_row charter.operators) b c → Puts pool.tree (map prefix_cells charter.pool) c d → HasCharter charter d
+pub has_charter : (charter : CharterSets) (a b c d : State) → IsMadeTo 8 a → PutsRows meta.tree (schema_row ∷ []) a b → PutsRows operator.tree (map operator_row charter.operators) b c → PutsRows pool.tree (map prefix_cells charter.pool) c d → HasCharter charter d
 has_charter charter a b c d made schema operators prefixes =
     let at = each_table (λ t. a.now.trees t ≡ []) desk_tables made.empty in
     let first = schema.edits in
@@ -101,6 +87,7 @@ has_charter charter a b c d made schema operators prefixes =
         holdings = none_held holding_part (d.now.trees 8) (still 8 refl (λ same. cc) (λ same. cc) (λ same. cc));
         grants = none_held granted_part (d.now.trees 10) (still 10 refl (λ same. cc) (λ same. cc) (λ same. cc));
         auths = none_held auth_part (d.now.trees 12) (still 12 refl (λ same. cc) (λ same. cc) (λ same. cc));
+        exceptions = ap contents (still 15 refl (λ same. cc) (λ same. cc) (λ same. cc));
         whole = sound_still 4 _ c.now d.now third (sound_still 2 _ b.now c.now second (sound_still 0 _ a.now b.now first sound));
       };
     }

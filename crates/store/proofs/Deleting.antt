@@ -7,22 +7,19 @@ use Rattle.sqlite.specs.Rows.{Written}
 use Rattle.sqlite.specs.State.{State, mode_of, Writes}
 use Rattle.sqlite.proofs.Callers.{one_step}
 use Rattle.sqlite_value.specs.declared.value.Value.TheVariants.{Null}
-use Rattle.sqlite_value.specs.declared.keys.Order.{Order}
 use Rattle.sqlite_value.specs.Order.{Row}
 use Rattle.sqlite_trees.specs.Tree.{rowid}
 use Rattle.sqlite_trees.proofs.ListLemmas.{map-map, ascending-filter, all-filter, filter-map}
 use Rattle.sqlite_sql.specs.Term.{Term, col, eval_all}
-use Rattle.sqlite_schema.specs.declared.schema.Column.{Column}
 use Rattle.sqlite_schema.specs.declared.schema.Keys.TheVariants.{Enforced}
-use Rattle.sqlite_schema.specs.declared.schema.Reference.{Reference}
 use Rattle.sqlite_schema.specs.declared.schema.Table.{Table}
 use Rattle.sqlite_schema.specs.declared.program.Program.{Program}
 use Rattle.sqlite_schema.specs.declared.command.Command.TheVariants.{Delete}
 use Rattle.sqlite_rules.specs.declared.error.Rowids.TheVariants.{Given}
 use Rattle.sqlite_rules.specs.Calls.{ids_of}
 use Rattle.sqlite_rules.specs.Edit.{Applies, edit_of, id_in, taken_by}
-use Rattle.store.specs.Tables.{strict, desk_schema, desk_tables}
-use Rattle.store.specs.Edits.{contents, IsTree, Edits}
+use Rattle.store.specs.Tables.{as_strict, desk_schema, desk_tables, contents, IsTree}
+use Rattle.store.specs.steps.Edits.{Edits}
 use Rattle.store.proofs.TreeRows.{without_picked}
 use Rattle.store.proofs.Inserting.{went, same_value, quiet, at_table}
 use Rattle.store.proofs.Selecting.{from_table, no_limit, picks, permuted}
@@ -40,13 +37,12 @@ pub rows_left : (picked goes : Row → Bool) → ((r : Row) → picked r ≡ goe
     → contents (filter (λ r. not (picked r)) rows) ≡ filter (λ c. not (goes c)) (contents rows)
 rows_left picked goes same rows = (λ i. contents (filter (λ r. not (same r i)) rows)) ∙ sym (filter-map (λ c. not (goes c)) (drop 1) rows)
 
-module _ (at : ℕ) (name : List ℕ) (tree : ℕ) (columns : List Column) (primary : List ℕ) (uniques : List (List ℕ)) (orders : List Order) (references : List Reference)
-    (there : slice_get desk_tables at ≡ Some (strict name tree columns primary uniques orders references)) where
+module _ (at : ℕ) (t : Table) (there : slice_get desk_tables at ≡ Some (as_strict t)) where
   abbrev table : Table
-  table = strict name tree columns primary uniques orders references
+  table = as_strict t
 
-  abbrev deletion : List Term → Program
-  deletion tests = record { lets = []; body = from_table tree tests (col 1 0 ∷ []) [] no_limit }
+  abbrev pub deletion : List Term → Program
+  deletion tests = record { lets = []; body = from_table t.tree tests (col 1 0 ∷ []) [] no_limit }
 
   pub applied : (tests : List Term) (old new : State) (text : List ℕ) (params : Row) (count : ℕ) → old.now.schema ≡ desk_schema
       → Writes old new None (Delete at (deletion tests)) text params count
@@ -62,27 +58,27 @@ module _ (at : ℕ) (name : List ℕ) (tree : ℕ) (columns : List Column) (prim
       let written = went given.2 in
       let trees : new.now.trees ≡ written.0 = ap (λ (d : Database). d.trees) now ∙ ap (λ (it : Written). it.trees) (same_value written.2) in
       let edit = edit_of db table (ids_of given.0) Given 0 [] in
-      let made = one_step desk_schema Enforced db written.0 edit (quiet tree (taken_by db edit) edit.news) written.1 in
+      let made = one_step desk_schema Enforced db written.0 edit (quiet t.tree (taken_by db edit) edit.news) written.1 in
       (given.0, given.1, ap (λ (d : Database). d.schema) now, subst (Applies desk_schema Enforced db edit) (sym trees) made)
 
   deleted : (tests : List Term) (goes : Row → Bool) (params : Row) (rows : List Row) (old next : Database) → old.schema ≡ desk_schema → next.schema ≡ desk_schema
-      → ((r : Row) → picks params tests r ≡ goes (drop 1 r)) → IsTree (old.trees tree)
-      → IsPermutation (map (λ r. eval_all (col 1 0 ∷ []) (params ∷ r ∷ [])) (filter (picks params tests) (old.trees tree))) rows
+      → ((r : Row) → picks params tests r ≡ goes (drop 1 r)) → IsTree (old.trees t.tree)
+      → IsPermutation (map (λ r. eval_all (col 1 0 ∷ []) (params ∷ r ∷ [])) (filter (picks params tests) (old.trees t.tree))) rows
       → Applies desk_schema Enforced old.trees (edit_of old.trees table (ids_of rows) Given 0 []) next.trees
-      → Edits tree (filter (λ c. not (goes c))) old next
+      → Edits t.tree (filter (λ c. not (goes c))) old next
   deleted tests goes params rows old next has keeps same sound shown made =
-      let stay : next.trees tree ≡ filter (λ r. not (picks params tests r)) (old.trees tree) =
-      made.rows ∙ without_picked (old.trees tree) sound (picks params tests) (ids_of rows) (shown_ids tests [] (old.trees tree) rows params shown) in
+      let stay : next.trees t.tree ≡ filter (λ r. not (picks params tests r)) (old.trees t.tree) =
+      made.rows ∙ without_picked (old.trees t.tree) sound (picks params tests) (ids_of rows) (shown_ids tests [] (old.trees t.tree) rows params shown) in
       record {
         schema = keeps ∙ sym has;
-        others = at_table (λ t. next.trees t ≡ old.trees t) tree desk_tables made.tables;
-        rows = subst (IsPermutation (filter (λ c. not (goes c)) (contents (old.trees tree)))) (sym (ap contents stay ∙ rows_left (picks params tests) goes same (old.trees tree))) (IsPermutation-refl _);
-        whole = λ tree. subst IsTree (sym stay) (ascending-filter _ (λ r. not (picks params tests r)) _ tree.0, all-filter _ (λ r. not (picks params tests r)) _ tree.1);
+        others = at_table (λ t. next.trees t ≡ old.trees t) t.tree desk_tables made.tables;
+        rows = subst (IsPermutation (filter (λ c. not (goes c)) (contents (old.trees t.tree)))) (sym (ap contents stay ∙ rows_left (picks params tests) goes same (old.trees t.tree))) (IsPermutation-refl _);
+        whole = λ sound. subst IsTree (sym stay) (ascending-filter _ (λ r. not (picks params tests r)) _ sound.0, all-filter _ (λ r. not (picks params tests r)) _ sound.1);
       }
 
   pub takes : (tests : List Term) (goes : Row → Bool) (old new : State) (text : List ℕ) (params : Row) (count : ℕ) → old.now.schema ≡ desk_schema
-      → ((r : Row) → picks params tests r ≡ goes (drop 1 r)) → IsTree (old.now.trees tree)
-      → Writes old new None (Delete at (deletion tests)) text params count → Edits tree (filter (λ c. not (goes c))) old.now new.now
+      → ((r : Row) → picks params tests r ≡ goes (drop 1 r)) → IsTree (old.now.trees t.tree)
+      → Writes old new None (Delete at (deletion tests)) text params count → Edits t.tree (filter (λ c. not (goes c))) old.now new.now
   takes tests goes old new text params count has same sound w =
       let it = applied tests old new text params count has w in
-      deleted tests goes params it.0 old.now new.now has it.2 same sound (permuted tree tests (col 1 0 ∷ []) [] old.now.trees params it.0 (it.1.answer Null)) it.3
+      deleted tests goes params it.0 old.now new.now has it.2 same sound (permuted t.tree tests (col 1 0 ∷ []) [] old.now.trees params it.0 (it.1.answer Null)) it.3

@@ -1,33 +1,32 @@
--- What the queries of the rows of one holder find.
-use Rattle.std.proofs.Common.{◌≡◌, ℕ, suc, Bool, List, [], ◌∷◌, map, filter, drop, Option, Some, None, Result, IfOk, IsTrue, Ordering, refl, sym, ap, subst, ◌∙◌, codes, IsPermutation, IsSorted}
-use Rattle.std.proofs.lemmas.List.Sorted.{IsPermutation-trans, IsPermutation-map, length_permutation}
-use Rattle.std.proofs.lemmas.Result.{IfOk-weaker}
-use Rattle.sqlite.specs.declared.error.Error.{Error}
-use Rattle.sqlite.specs.Effect.{Database}
-use Rattle.sqlite.specs.State.{State, Shown}
-use Rattle.sqlite.proofs.Callers.{reads_as}
+-- What the queries of the values of one holder answer.
+use Rattle.std.proofs.Common.{◌≡◌, ℕ, suc, Bool, List, [], ◌∷◌, map, filter, drop, Option, Some, None, Ordering, Equal, refl, sym, ap, subst, ◌∙◌, codes, IsPermutation, IsSorted}
+use Rattle.std.specs.Ordering.{then_cmp, ordering_then}
+use Rattle.std.proofs.lemmas.List.Sorted.{IsPermutation-trans, IsPermutation-map}
+use Rattle.sqlite.specs.Effect.{Database, Reads}
 use Rattle.sqlite_value.specs.declared.keys.Key.{Key}
 use Rattle.sqlite_value.specs.declared.value.Value.TheVariants.{Null, Text}
-use Rattle.sqlite_value.specs.Order.{Row, column}
+use Rattle.sqlite_value.specs.Order.{Row, column, value_cmp}
+use Rattle.sqlite_value.proofs.OrderLemmas.{then-Equal}
+use Rattle.sqlite_trees.specs.Tree.{Trees}
 use Rattle.sqlite_trees.proofs.ListLemmas.{map-map, filter-map}
 use Rattle.sqlite_sql.specs.Term.{Term, col, eval, eval_all}
 use Rattle.sqlite_sql.specs.Query.{IsAnswer, key_cmp}
 use Rattle.sqlite_sql.specs.Program.{overlay}
+use Rattle.sqlite_schema.specs.declared.command.Command.{Command}
 use Rattle.sqlite_schema.specs.declared.command.Command.TheVariants.{Select}
+use Rattle.policy.specs.CharterSets.{CharterSets}
 use Rattle.policy.specs.declared.grant.Granted.{Granted}
 use Rattle.policy.specs.declared.grant.Scope.{Scope}
 use Rattle.policy.specs.declared.grant.Scope.TheVariants.{All, Only}
 use Rattle.policy.specs.Rows.{Rows}
-use Rattle.store.specs.Tables.{desk_schema}
-use Rattle.store.specs.Cells.{grant_cells, holding_row, granted_row, auth_row}
-use Rattle.store.specs.Edits.{contents}
-use Rattle.store.specs.TablesHold.{items_if_any, HoldsPart, rows_if_any, holder_part, holding_part, granted_part, auth_part}
-use Rattle.store.specs.Queries.{columns, View, Finds, counters_view, spans_view, grants_view, auths_view}
+use Rattle.store.specs.Cells.{span_cells, grant_cells, auth_cells, holding_row, granted_row, auth_row}
+use Rattle.store.specs.Tables.{contents}
+use Rattle.store.specs.TablesHold.{Part, TablesHold, items_if_any, HoldsPart, part_rows, holder_part, holding_part, granted_part, auth_part}
+use Rattle.store.specs.steps.Queries.{columns, by_column, AreSelected, Selects}
 use Rattle.store.proofs.Selecting.{from_table, no_limit, picks, permuted, sorted}
-use Rattle.store.proofs.HoldingSteps.{holder_test}
-use Rattle.store.proofs.StepLemmas.{column_after}
+use Rattle.store.proofs.StepLemmas.{column_after, holder_test}
 use Rattle.store.proofs.PartLemmas.{names}
-use Rattle.store.proofs.QueryLemmas.{shown_open}
+use Rattle.store.proofs.CellsOnce.{cells_of_counters, counters_of_rows, one_counters, one_span, one_grant, one_auth}
 use Rattle.store.proofs.Texts.{Means, equals, upwards, counters_text, counters_is, spans_text, spans_is, grants_text, grants_is, auths_text, auths_is}
 
 abbrev pub shown_at : List ℕ → List Term
@@ -42,98 +41,141 @@ pub of_contents : (shows : Row → Row) (cells : Row → Row) (passes goes : Row
 of_contents shows cells passes goes same tests rows =
     (λ i. map (λ r. same r i) (filter (λ r. tests r i) rows)) ∙ sym (ap (map cells) (filter-map goes (drop 1) rows) ∙ map-map cells (drop 1) _)
 
-abbrev view_tests : View → List Term
-view_tests v = equals (suc v.part.place) 0 ∷ []
-
--- the text of a view, what it is sorted by, and the titles of its columns
-pub record Asks (v : View) : Type 0 where
+-- The query of a holder's values: their table, the columns that it shows, its text, what it is sorted by, and
+-- the titles of its columns.
+pub record Query {X : Type 0} (cells : X → Row) (items : Rows → List X) (cmp : Row → Row → Ordering) : Type 0 where
+  pub part : Part
+  pub places : List ℕ
   pub text : List ℕ
   pub order : List (Term × Key)
   pub titles : List (List ℕ)
-  pub means : Means text (Select (record { lets = []; body = from_table v.part.tree (view_tests v) (shown_at v.places) order no_limit }) titles)
+  pub means :
+      Means text
+      (Select
+      (record {
+        lets = [];
+        body = from_table part.tree (equals (suc part.place) 0 ∷ []) (shown_at places) order no_limit;
+      }) titles)
+  pub held :
+      (charter : CharterSets) (rows : List ℕ → Option Rows) (trees : Trees) → TablesHold charter rows trees
+      → HoldsPart part rows (contents (trees part.tree))
+  pub shows : (h : List ℕ) (r : Rows) → map (columns places) (part.rows h r) ≡ map cells (items r)
+  -- the columns that it is sorted by, of those that it shows
+  pub keys : List ℕ
+  pub keyed :
+      (params r : Row)
+      → eval_all (map (λ (k : Term × Key). k.0) order) (params ∷ r ∷ [])
+      ≡ map (column (eval_all (shown_at places) (params ∷ r ∷ []))) keys
+  pub ranked :
+      (x y : Row)
+      → key_cmp 0 (map (λ (k : Term × Key). k.1) order) (map (column x) keys) (map (column y) keys) ≡ cmp x y
+  pub once : (x y : X) → cells x ≡ cells y → x ≡ y
 
-abbrev pub counters_asked : Asks counters_view
-counters_asked = record { text = counters_text; order = []; titles = codes "grants" ∷ codes "auths" ∷ []; means = counters_is }
+module _ {X : Type 0} (cells : X → Row) (items : Rows → List X) (cmp : Row → Row → Ordering) (q : Query cells items cmp) where
+  abbrev tests : List Term
+  tests = equals (suc q.part.place) 0 ∷ []
 
-abbrev pub spans_asked : Asks spans_view
-spans_asked = record { text = spans_text; order = upwards 1 ∷ upwards 2 ∷ []; titles = codes "family" ∷ codes "lo" ∷ codes "hi" ∷ []; means = spans_is }
+  module _ (h : List ℕ) (db : Database) (rows : List Row) (selected : AreSelected q.text h db rows) where
+    abbrev params : Row
+    params = Text h ∷ []
 
-abbrev pub grants_asked : Asks grants_view
-grants_asked = record {
+    answers : IsAnswer (from_table q.part.tree tests (shown_at q.places) q.order no_limit) (overlay db.trees []) params rows
+    answers = (subst (λ (k : Command). Reads k db params rows) q.means.is selected).answer Null
+
+    rises : IsSorted cmp rows
+    rises = sorted q.part.tree tests (shown_at q.places) q.order db.trees params rows q.keys cmp (q.keyed params) q.ranked answers
+
+    finds : IsPermutation (map (columns q.places) (filter (names q.part.place h) (contents (db.trees q.part.tree)))) rows
+    finds =
+        let same = of_contents (λ r. eval_all (shown_at q.places) (params ∷ r ∷ [])) (columns q.places) (picks params tests) (names q.part.place h) (shown_columns q.places params) (holder_test q.part.place h []) (db.trees q.part.tree) in
+        subst (λ l. IsPermutation l rows) same (permuted q.part.tree tests (shown_at q.places) q.order db.trees params rows answers)
+
+    found : (charter : CharterSets) (all : List ℕ → Option Rows) → TablesHold charter all db.trees → IsPermutation (map cells (items_if_any items (all h))) rows
+    found charter all holds =
+        go (all h) (IsPermutation-trans _ _ _ (IsPermutation-map (columns q.places) _ _ ((q.held charter all db.trees holds).each h)) finds)
+      where
+        go : (o : Option Rows) → IsPermutation (map (columns q.places) (part_rows q.part h o)) rows → IsPermutation (map cells (items_if_any items o)) rows
+        go None same = same
+        go (Some r) same = subst (λ l. IsPermutation l rows) (q.shows h r) same
+
+  pub selects : Selects cells items cmp q.text
+  selects = record { plain = q.means.plain; unlisted = q.means.unlisted; found = found; rising = rises; once = q.once }
+
+-- ---- the four queries
+
+abbrev pub counters_query : Query cells_of_counters counters_of_rows (λ _ _. Equal)
+counters_query = record {
+  part = holder_part;
+  places = 1 ∷ 2 ∷ [];
+  text = counters_text;
+  order = [];
+  titles = codes "grants" ∷ codes "auths" ∷ [];
+  means = counters_is;
+  held = λ _ _ _ holds. holds.holders;
+  shows = λ _ _. refl;
+  keys = [];
+  keyed = λ _ _. refl;
+  ranked = λ _ _. refl;
+  once = one_counters;
+}
+
+abbrev pub spans_query : Query span_cells (λ (r : Rows). r.holdings) (then_cmp (by_column 0) (by_column 1))
+spans_query = record {
+  part = holding_part;
+  places = 0 ∷ 1 ∷ 2 ∷ [];
+  text = spans_text;
+  order = upwards 1 ∷ upwards 2 ∷ [];
+  titles = codes "family" ∷ codes "lo" ∷ codes "hi" ∷ [];
+  means = spans_is;
+  held = λ _ _ _ holds. holds.holdings;
+  shows = λ h r. map-map (columns (0 ∷ 1 ∷ 2 ∷ [])) (holding_row h) r.holdings;
+  keys = 0 ∷ 1 ∷ [];
+  keyed = λ _ _. refl;
+  ranked = λ x y. ap (ordering_then (value_cmp (column x 0) (column y 0))) (then-Equal _);
+  once = one_span;
+}
+
+abbrev grant_places : List ℕ
+grant_places = 1 ∷ 2 ∷ 3 ∷ 4 ∷ 5 ∷ 6 ∷ 7 ∷ []
+
+pub grant_shown : (h : List ℕ) (g : Granted) → columns grant_places (granted_row h g) ≡ grant_cells g
+grant_shown h g = go g.scope
+  where
+    go : (scope : Scope) → columns grant_places (granted_row h (record g { scope = scope })) ≡ grant_cells (record g { scope = scope })
+    go All = refl
+    go (Only p) = refl
+
+abbrev pub grants_query : Query grant_cells (λ (r : Rows). r.grants) (by_column 0)
+grants_query = record {
+  part = granted_part;
+  places = grant_places;
   text = grants_text;
   order = upwards 2 ∷ [];
   titles = codes "number" ∷ codes "caller" ∷ codes "role" ∷ codes "family" ∷ codes "lo" ∷ codes "len" ∷ codes "until" ∷ [];
   means = grants_is;
+  held = λ _ _ _ holds. holds.grants;
+  shows = λ h r. map-map (columns grant_places) (granted_row h) r.grants ∙ (λ i. map (λ g. grant_shown h g i) r.grants);
+  keys = 0 ∷ [];
+  keyed = λ _ _. refl;
+  ranked = λ x y. then-Equal _;
+  once = one_grant;
 }
 
-abbrev pub auths_asked : Asks auths_view
-auths_asked = record {
+abbrev auth_places : List ℕ
+auth_places = 1 ∷ 2 ∷ 3 ∷ 4 ∷ 5 ∷ 6 ∷ 7 ∷ 8 ∷ []
+
+abbrev pub auths_query : Query auth_cells (λ (r : Rows). r.auths) (by_column 0)
+auths_query = record {
+  part = auth_part;
+  places = auth_places;
   text = auths_text;
   order = upwards 2 ∷ [];
   titles = codes "number" ∷ codes "asn" ∷ codes "family" ∷ codes "lo" ∷ codes "len" ∷ codes "max" ∷ codes "opens" ∷ codes "ends" ∷ [];
   means = auths_is;
+  held = λ _ _ _ holds. holds.auths;
+  shows = λ h r. map-map (columns auth_places) (auth_row h) r.auths;
+  keys = 0 ∷ [];
+  keyed = λ _ _. refl;
+  ranked = λ x y. then-Equal _;
+  once = one_auth;
 }
-
-module _ (v : View) (asks : Asks v) (h : List ℕ) (old new : State) (has : IsTrue old.is_open → old.now.schema ≡ desk_schema) where
-  abbrev params : Row
-  params = Text h ∷ []
-
-  answers : (rows : List Row) → Shown asks.text params old new rows → IsAnswer (from_table v.part.tree (view_tests v) (shown_at v.places) asks.order no_limit) (overlay old.now.trees []) params rows
-  answers rows shown =
-      let means = asks.means in
-      let schema = has (shown_open asks.text params old new rows shown) in
-      (reads_as asks.text params old new desk_schema schema (Select _ asks.titles) means.is means.plain means.unlisted rows shown).answer Null
-
-  finds : (rows : List Row) → Shown asks.text params old new rows → Finds v h old.now rows
-  finds rows shown =
-      let tree = old.now.trees v.part.tree in
-      let same = of_contents (λ r. eval_all (shown_at v.places) (params ∷ r ∷ [])) (columns v.places) (picks params (view_tests v)) (names v.part.place h) (shown_columns v.places params) (holder_test v.part.place h []) tree in
-      subst (λ l. IsPermutation l rows) same (permuted v.part.tree (view_tests v) (shown_at v.places) asks.order old.now.trees params rows (answers rows shown))
-
-  module _ {X : Type 0} (items : X → List Row) (r : Result X Error) (values : Row) (is : values ≡ params) (shown : IfOk r (λ x. Shown asks.text values old new (items x))) where
-    of_name : IfOk r (λ x. Shown asks.text params old new (items x))
-    of_name = subst (λ p. IfOk r (λ x. Shown asks.text p old new (items x))) is shown
-
-    pub all_found : IfOk r (λ x. Finds v h old.now (items x))
-    all_found = IfOk-weaker r _ _ (λ x h. finds (items x) h) of_name
-
-    -- sorted by some of the columns that it shows
-    pub all_rise : (places : List ℕ) (cmp : Row → Row → Ordering)
-        → ((r : Row) → eval_all (map (λ (k : Term × Key). k.0) asks.order) (params ∷ r ∷ []) ≡ map (column (eval_all (shown_at v.places) (params ∷ r ∷ []))) places)
-        → ((x y : Row) → key_cmp 0 (map (λ (k : Term × Key). k.1) asks.order) (map (column x) places) (map (column y) places) ≡ cmp x y)
-        → IfOk r (λ x. IsSorted cmp (items x))
-    all_rise places cmp keys by = IfOk-weaker r _ _ (λ x shown. sorted v.part.tree (view_tests v) (shown_at v.places) asks.order old.now.trees params (items x) places cmp keys by (answers (items x) shown)) of_name
-
--- ---- what they are of the typed rows
-
-pub none_in : {X : Type 0} (xs : List X) → IsPermutation [] xs → xs ≡ []
-none_in [] same = refl
-none_in (x ∷ xs) same = absurd (let e = length_permutation _ _ same in cc)
-
-module _ (v : View) (shows : (h : List ℕ) (r : Rows) → map (columns v.places) (v.part.rows h r) ≡ v.cells r)
-    (all : List ℕ → Option Rows) (h : List ℕ) (db : Database) (rows : List Row) (holds : HoldsPart v.part all (contents (db.trees v.part.tree))) (found : Finds v h db rows) where
-  pub cells_found : (o : Option Rows) → all h ≡ o → IsPermutation (items_if_any v.cells o) rows
-  cells_found o is = subst (λ o. IsPermutation (items_if_any v.cells o) rows) is (go (all h) (IsPermutation-trans _ _ _ (IsPermutation-map (columns v.places) _ _ (holds.each h)) found))
-    where
-      go : (o : Option Rows) → IsPermutation (map (columns v.places) (rows_if_any v.part h o)) rows → IsPermutation (items_if_any v.cells o) rows
-      go None same = same
-      go (Some r) same = subst (λ l. IsPermutation l rows) (shows h r) same
-
-pub counters_shown : (h : List ℕ) (r : Rows) → map (columns counters_view.places) (holder_part.rows h r) ≡ counters_view.cells r
-counters_shown h r = refl
-
-pub spans_shown : (h : List ℕ) (r : Rows) → map (columns spans_view.places) (holding_part.rows h r) ≡ spans_view.cells r
-spans_shown h r = map-map (columns spans_view.places) (holding_row h) r.holdings
-
-pub grants_shown : (h : List ℕ) (r : Rows) → map (columns grants_view.places) (granted_part.rows h r) ≡ grants_view.cells r
-grants_shown h r = map-map (columns grants_view.places) (granted_row h) r.grants ∙ (λ i. map (λ g. cells g i) r.grants)
-  where
-    cells : (g : Granted) → columns grants_view.places (granted_row h g) ≡ grant_cells g
-    cells g = go g.scope
-      where
-        go : (scope : Scope) → columns grants_view.places (granted_row h (record g { scope = scope })) ≡ grant_cells (record g { scope = scope })
-        go All = refl
-        go (Only p) = refl
-
-pub auths_shown : (h : List ℕ) (r : Rows) → map (columns auths_view.places) (auth_part.rows h r) ≡ auths_view.cells r
-auths_shown h r = map-map (columns auths_view.places) (auth_row h) r.auths

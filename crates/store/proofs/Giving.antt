@@ -16,7 +16,7 @@ use Rattle.store.specs.Cells.{vrp_cells}
 use Rattle.store.specs.Decode.{VrpFits}
 use Rattle.addr.proofs.Equality.{equal_prefix, prefix_itself}
 use Rattle.addr.proofs.SpanLemmas.{met_iff}
-use Rattle.store.specs.Queries.{payload_cells, IsInForce, MeetsSome}
+use Rattle.store.specs.steps.Queries.{payload_cells, IsPayloadOn, MeetsSome}
 use Rattle.store.specs.Loads.{IsGivenOn, AllGiveOn, IsTaken}
 use Rattle.store.proofs.CellsOnce.{one_prefix}
 
@@ -43,7 +43,7 @@ one_vrp v w is =
     let max : v.max ≡ w.max = cc in
     same_vrp v w (one_prefix v.prefix w.prefix cc) max (ap (λ (n : ℕ). let a : Asn = record { 0 = n } in a) asn)
 
-module _ (day : ℕ) (all : List ℕ → Option Rows) (rows : List Row) (each : (row : Row) → Contains rows row ↔ IsInForce all day row) where
+module _ (day : ℕ) (all : List ℕ → Option Rows) (rows : List Row) (each : (row : Row) → Contains rows row ↔ IsPayloadOn all day row) where
   is_given : (vrps : List Vrp) → rows ≡ map vrp_cells vrps → (v : Vrp) → Contains vrps v → IsGivenOn all day v
   is_given vrps shown v there =
       let row = subst (λ l. Contains l (vrp_cells v)) (sym shown) (contains_had (map vrp_cells vrps) (vrp_cells v) (mapped_has vrp_cells vrps v (has_contained vrps v there))) in

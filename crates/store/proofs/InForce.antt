@@ -18,9 +18,9 @@ use Rattle.policy.specs.declared.authorization.Auth.{Auth}
 use Rattle.policy.specs.Rows.{Rows}
 use Rattle.store.specs.Tables.{desk_schema}
 use Rattle.store.specs.Cells.{number_cell, auth_row}
-use Rattle.store.specs.Edits.{contents}
+use Rattle.store.specs.Tables.{contents}
 use Rattle.store.specs.TablesHold.{HoldsPart, auth_part}
-use Rattle.store.specs.Queries.{columns, is_open_on, FindsInForce, IsInForce}
+use Rattle.store.specs.steps.Queries.{columns, is_open_on, FindsInForce, IsPayloadOn}
 use Rattle.store.proofs.SomeRow.{has_permuted, of_some, in_table}
 use Rattle.store.proofs.Selecting.{picks, permuted}
 use Rattle.store.proofs.Finding.{shown_at, shown_columns, of_contents}
@@ -51,7 +51,7 @@ open_is : (day : ℕ) (h : List ℕ) (x : Auth) → is_open_on day (auth_row h x
 open_is day h x = then_term (at_ints false Le (pos x.from) (pos day)) (last_term (at_ints false Ge (pos x.until) (pos day)))
 
 module _ (day : ℕ) (all : List ℕ → Option Rows) (db : Database) (rows : List Row) (holds : HoldsPart auth_part all (contents (db.trees auth_part.tree))) (found : FindsInForce day db rows) where
-  is_in_force : (v : Row) → Contains rows v → IsInForce all day v
+  is_in_force : (v : Row) → Contains rows v → IsPayloadOn all day v
   is_in_force v there =
       let table = contents (db.trees auth_part.tree) in
       let shown = has_mapped (columns payload_places) (filter (is_open_on day) table) v (has_permuted _ _ v (IsPermutation-sym _ _ found) (has_contained rows v there)) in
@@ -61,7 +61,7 @@ module _ (day : ℕ) (all : List ℕ → Option Rows) (db : Database) (rows : Li
       let days = and_parts _ _ (sym (open_is day mine.0 auth.0) ∙ ap (is_open_on day) (sym auth.2) ∙ row.1) in
       (mine.0, mine.1, auth.0, mine.2, contains_had mine.1.auths auth.0 auth.1, leb-true _ _ days.0, leb-true _ _ days.1, shown.2 ∙ ap (columns payload_places) auth.2)
 
-  has_in_force : (v : Row) → IsInForce all day v → Contains rows v
+  has_in_force : (v : Row) → IsPayloadOn all day v → Contains rows v
   has_in_force v it =
       let table = contents (db.trees auth_part.tree) in
       let c = auth_row it.0 it.2 in
@@ -69,5 +69,5 @@ module _ (day : ℕ) (all : List ℕ → Option Rows) (db : Database) (rows : Li
       let picked = has_kept (is_open_on day) table c kept (open_is day it.0 it.2 ∙ and_from _ _ (le-leb _ _ it.5) (le-leb _ _ it.6)) in
       subst (Contains rows) (sym it.7) (contains_had rows _ (has_permuted _ _ (columns payload_places c) found (mapped_has (columns payload_places) (filter (is_open_on day) table) c picked)))
 
-  pub each_in_force : (v : Row) → Contains rows v ↔ IsInForce all day v
+  pub each_in_force : (v : Row) → Contains rows v ↔ IsPayloadOn all day v
   each_in_force v = (is_in_force v, has_in_force v)

@@ -10,15 +10,12 @@ use Rattle.sqlite.specs.State.{State, mode_of, Writes}
 use Rattle.sqlite.proofs.Callers.{one_step}
 use Rattle.sqlite_value.specs.declared.value.Value.{Value}
 use Rattle.sqlite_value.specs.declared.value.Value.TheVariants.{Null, Int}
-use Rattle.sqlite_value.specs.declared.keys.Order.{Order}
 use Rattle.sqlite_value.specs.Order.{Row}
 use Rattle.sqlite_trees.specs.Tree.{Trees, put_row}
 use Rattle.sqlite_sql.specs.Ops.{unary}
 use Rattle.sqlite_sql.specs.Term.{Term}
-use Rattle.sqlite_schema.specs.declared.schema.Column.{Column}
 use Rattle.sqlite_schema.specs.declared.schema.Keys.TheVariants.{Enforced}
 use Rattle.sqlite_schema.specs.declared.schema.Kind.TheVariants.{Integer}
-use Rattle.sqlite_schema.specs.declared.schema.Reference.{Reference}
 use Rattle.sqlite_schema.specs.declared.schema.Table.{Table}
 use Rattle.sqlite_schema.specs.declared.command.Command.TheVariants.{Insert}
 use Rattle.sqlite_schema.specs.declared.command.Source.{Source}
@@ -28,8 +25,8 @@ use Rattle.sqlite_rules.specs.Action.{works, work_by, pairs, deed_for}
 use Rattle.sqlite_schema.specs.Rules.{parent_key}
 use Rattle.sqlite_rules.specs.Cast.{cast, cast_all, cast_row}
 use Rattle.sqlite_rules.specs.Edit.{Applies, edit_of, next_rowid, taken_by, is_taken, numbered, put_all, are_fresh}
-use Rattle.store.specs.Tables.{strict, desk_schema, desk_tables}
-use Rattle.store.specs.Edits.{contents, IsTree, Edits}
+use Rattle.store.specs.Tables.{as_strict, desk_schema, desk_tables, contents, IsTree}
+use Rattle.store.specs.steps.Edits.{Edits}
 use Rattle.store.proofs.TreeRows.{put_permutes, put_tree}
 
 -- a part that gave a value did not stop on the way
@@ -69,28 +66,27 @@ each_table P (x ∷ tables) all t is = go (x.tree == t) refl is (λ later. each_
 pub at_table : (P : ℕ → Type 0) (tree : ℕ) (tables : List Table) → AllByRecursion (λ t. t.tree ≢ tree → P t.tree) tables → (t : ℕ) → list_any (λ table. table.tree == t) tables ≡ true → t ≢ tree → P t
 at_table P tree = each_table (λ t. t ≢ tree → P t)
 
-module _ (at : ℕ) (name : List ℕ) (tree : ℕ) (columns : List Column) (primary : List ℕ) (uniques : List (List ℕ)) (orders : List Order) (references : List Reference)
-    (there : slice_get desk_tables at ≡ Some (strict name tree columns primary uniques orders references)) where
+module _ (at : ℕ) (t : Table) (there : slice_get desk_tables at ≡ Some (as_strict t)) where
   abbrev table : Table
-  table = strict name tree columns primary uniques orders references
+  table = as_strict t
 
   -- a source of one row is put under a rowid that was free
   placed : (db next : Trees) (cells : Row) → cast_row table (Null ∷ cells) ≡ Null ∷ cells → Applies desk_schema Enforced db (edit_of db table [] Chosen 0 ((Null ∷ cells) ∷ [])) next
-      → (next tree ≡ put_row (Int (next_rowid (db tree)) ∷ cells) (db tree)) × (is_taken (db tree) (Int (next_rowid (db tree)) ∷ cells) ≡ false)
+      → (next t.tree ≡ put_row (Int (next_rowid (db t.tree)) ∷ cells) (db t.tree)) × (is_taken (db t.tree) (Int (next_rowid (db t.tree)) ∷ cells) ≡ false)
   placed db next cells typed made =
-      let news : numbered Chosen (db tree) (cast_row table (Null ∷ cells) ∷ []) ≡ (Int (next_rowid (db tree)) ∷ cells) ∷ [] = ap (λ r. numbered Chosen (db tree) (r ∷ [])) typed in
-      (made.rows ∙ ap (put_all (db tree)) news, not-true _ (and_parts (not (is_taken (db tree) (Int (next_rowid (db tree)) ∷ cells))) true (ap (are_fresh (db tree)) (sym news) ∙ made.fresh)).0)
+      let news : numbered Chosen (db t.tree) (cast_row table (Null ∷ cells) ∷ []) ≡ (Int (next_rowid (db t.tree)) ∷ cells) ∷ [] = ap (λ r. numbered Chosen (db t.tree) (r ∷ [])) typed in
+      (made.rows ∙ ap (put_all (db t.tree)) news, not-true _ (and_parts (not (is_taken (db t.tree) (Int (next_rowid (db t.tree)) ∷ cells))) true (ap (are_fresh (db t.tree)) (sym news) ∙ made.fresh)).0)
 
   inserted : (old next : Database) (cells : Row) → old.schema ≡ desk_schema → cast_row table (Null ∷ cells) ≡ Null ∷ cells → next.schema ≡ desk_schema
-      → Applies desk_schema Enforced old.trees (edit_of old.trees table [] Chosen 0 ((Null ∷ cells) ∷ [])) next.trees → Edits tree (λ rows. cells ∷ rows) old next
+      → Applies desk_schema Enforced old.trees (edit_of old.trees table [] Chosen 0 ((Null ∷ cells) ∷ [])) next.trees → Edits t.tree (λ rows. cells ∷ rows) old next
   inserted old next cells has typed keeps made =
       let put = placed old.trees next.trees cells typed made in
-      let new : Row = Int (next_rowid (old.trees tree)) ∷ cells in
+      let new : Row = Int (next_rowid (old.trees t.tree)) ∷ cells in
       record {
         schema = keeps ∙ sym has;
-        others = at_table (λ t. next.trees t ≡ old.trees t) tree desk_tables made.tables;
-        rows = subst (λ rows. IsPermutation (cells ∷ contents (old.trees tree)) (contents rows)) (sym put.0) (IsPermutation-map (drop 1) _ _ (put_permutes new (old.trees tree) put.1));
-        whole = λ sound. subst IsTree (sym put.0) (put_tree new (old.trees tree) refl put.1 sound);
+        others = at_table (λ t. next.trees t ≡ old.trees t) t.tree desk_tables made.tables;
+        rows = subst (λ rows. IsPermutation (cells ∷ contents (old.trees t.tree)) (contents rows)) (sym put.0) (IsPermutation-map (drop 1) _ _ (put_permutes new (old.trees t.tree) put.1));
+        whole = λ sound. subst IsTree (sym put.0) (put_tree new (old.trees t.tree) refl put.1 sound);
       }
 
   pub applied : (from : Source) (old new : State) (text : List ℕ) (params : Row) (count : ℕ) → old.now.schema ≡ desk_schema
@@ -107,12 +103,12 @@ module _ (at : ℕ) (name : List ℕ) (tree : ℕ) (columns : List Column) (prim
       let counted = went written.2 in
       let trees : new.now.trees ≡ written.0 = ap (λ (d : Database). d.trees) now ∙ ap (λ (it : Written). it.trees) (same_value counted.2) ∙ same_value counted.1 in
       let edit = edit_of db table [] Chosen 0 given.0 in
-      let made = one_step desk_schema Enforced db written.0 edit (quiet tree (taken_by db edit) edit.news) written.1 in
+      let made = one_step desk_schema Enforced db written.0 edit (quiet t.tree (taken_by db edit) edit.news) written.1 in
       (given.0, given.1, ap (λ (d : Database). d.schema) now, subst (Applies desk_schema Enforced db edit) (sym trees) made)
 
   pub puts : (terms : List Term) (width : ℕ) (cells : Row) (old new : State) (text : List ℕ) (params : Row) (count : ℕ) → old.now.schema ≡ desk_schema
-      → value_rows params width (length terms / width) terms ≡ (Null ∷ cells) ∷ [] → cast_all columns cells ≡ cells
-      → Writes old new None (Insert at (Values terms width)) text params count → Edits tree (λ rows. cells ∷ rows) old.now new.now
+      → value_rows params width (length terms / width) terms ≡ (Null ∷ cells) ∷ [] → cast_all t.columns cells ≡ cells
+      → Writes old new None (Insert at (Values terms width)) text params count → Edits t.tree (λ rows. cells ∷ rows) old.now new.now
   puts terms width cells old new text params count has values typed w =
       let it = applied (Values terms width) old new text params count has w in
       let rows : it.0 ≡ (Null ∷ cells) ∷ [] = it.1.1 ∙ ap (λ p. value_rows p width (length terms / width) terms) (append-nil params) ∙ values in

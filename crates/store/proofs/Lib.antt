@@ -5,11 +5,10 @@ mod Deleting
 mod Updating
 mod Texts
 mod PartLemmas
+mod PartSteps
 mod StepLemmas
 mod CellLemmas
-mod AuthSteps
-mod GrantSteps
-mod HoldingSteps
+mod EditSteps
 mod HolderSteps
 mod RowSteps
 mod QueryLemmas

@@ -1,12 +1,12 @@
 -- What is loaded from the rows that queries found.
-use Rattle.std.proofs.Common.{◌≡◌, ◌≢◌, ℕ, ◌+◌, ◌<◌, pos, ◌||◌, List, [], ◌∷◌, map, take, length, get_or, slice_get, All, Any, Option, Some, None, Result, Err, IsErrAnd, refl, sym, ap, subst, ◌∙◌, arith, is_lt, nat_cmp, int_cmp, IsPermutation, IsSorted, IsSortedByKey}
+use Rattle.std.proofs.Common.{◌≡◌, ℕ, ◌+◌, ◌<◌, pos, ◌||◌, List, [], ◌∷◌, map, take, length, get_or, slice_get, All, Option, Some, None, Result, Err, IsErrAnd, IsTrue, refl, sym, ap, subst, ◌∙◌, arith, is_lt, nat_cmp, int_cmp, IsPermutation, IsSorted, IsSortedByKey}
 use Rattle.std.specs.Prelude.{⊤}
 use Rattle.std.proofs.Math.Bool.{or-false}
 use Rattle.std.proofs.lemmas.Int.{ints}
 use Rattle.std.proofs.lemmas.List.{get_or-map, length-map}
 use Rattle.std.proofs.lemmas.List.Elements.{All-nil, All-cons}
 use Rattle.std.proofs.lemmas.List.Folds.{list_any-append}
-use Rattle.std.proofs.lemmas.List.Sorted.{list_any-IsPermutation}
+use Rattle.std.proofs.lemmas.List.Sorted.{list_any-IsPermutation, length_permutation}
 use Rattle.std.proofs.lemmas.Result.{err_from_is_err_and}
 use Rattle.sqlite.specs.Effect.{Database}
 use Rattle.sqlite.specs.State.{State}
@@ -18,48 +18,31 @@ use Rattle.addr.specs.Spans.{span_has, spans_have}
 use Rattle.addr.specs.declared.span.Span.{Span}
 use Rattle.policy.specs.declared.authorization.Auth.{Auth}
 use Rattle.policy.specs.declared.grant.Granted.{Granted}
+use Rattle.policy.specs.CharterSets.{CharterSets}
 use Rattle.policy.specs.declared.rows.HolderRows.{HolderRows}
 use Rattle.policy.specs.Rows.{Rows}
-use Rattle.store.specs.Cells.{number_cell, counter_cells}
-use Rattle.store.specs.Edits.{contents}
-use Rattle.store.specs.TablesHold.{items_if_any, HoldsPart, TablesHold}
-use Rattle.store.specs.Queries.{View, columns, by_column, Finds}
-use Rattle.store.specs.declared.decode.Counters.{Counters}
+use Rattle.store.specs.Cells.{number_cell}
+use Rattle.store.specs.TablesHold.{items_if_any, TablesHold}
+use Rattle.store.specs.steps.Queries.{by_column, WasRead}
+use Rattle.store.specs.declared.rows.Counters.{Counters}
 use Rattle.store.specs.Decode.{IsU32, GrantFits, AuthFits}
 use Rattle.store.specs.declared.fault.StoreFault.{StoreFault}
 use Rattle.store.specs.declared.fault.StoreFault.TheVariants.{Schema}
-use Rattle.store.specs.Loads.{AreInOrder, HaveSame, AreCounters, AreLoaded, FitIfAny, IsOf}
-use Rattle.store.proofs.CellsOnce.{values_shown}
-use Rattle.store.proofs.Finding.{cells_found, none_in}
-use Rattle.store.proofs.ReadLemmas.{all_show}
+use Rattle.store.specs.Loads.{AreInOrder, HaveSame, AreLoaded, FitIfAny}
+use Rattle.store.proofs.CellsOnce.{counters_of_rows}
 use Rattle.store.proofs.RowSteps.{taken_more}
-
-module _ {X : Type 0} (v : View) (items : Rows → List X) (cells : X → Row) (is_cells : (r : Rows) → v.cells r ≡ map cells (items r)) (shows : (h : List ℕ) (r : Rows) → map (columns v.places) (v.part.rows h r) ≡ v.cells r)
-    (all : List ℕ → Option Rows) (h : List ℕ) (db : Database) (rows : List Row) (holds : HoldsPart v.part all (contents (db.trees v.part.tree))) (found : Finds v h db rows) where
-  cells_of_any : (o : Option Rows) → items_if_any v.cells o ≡ map cells (items_if_any items o)
-  cells_of_any None = refl
-  cells_of_any (Some r) = is_cells r
-
-  cells_of_items : IsPermutation (map cells (items_if_any items (all h))) rows
-  cells_of_items = subst (λ l. IsPermutation l rows) (cells_of_any (all h)) (cells_found v shows all h db rows holds found (all h) refl)
-
-  pub items_found : ((x y : X) → cells x ≡ cells y → x ≡ y) → (xs : List X) → rows ≡ map cells xs → IsPermutation (items_if_any items (all h)) xs
-  items_found once xs shown = values_shown cells once (items_if_any items (all h)) xs rows cells_of_items shown
-
-  -- rows of items that fit their types are read
-  pub items_read : (fits : X → Type 0) → All fits (items_if_any items (all h)) → ¬ Any (λ row. (x : X) → fits x → cells x ≢ row) rows
-  items_read fits fit = all_show cells fits (items_if_any items (all h)) rows fit cells_of_items
 
 numbers_rise : (m n : ℕ) → is_lt (int_cmp (pos m) (pos n)) ≡ is_lt (nat_cmp m n)
 numbers_rise m n = grind (arith, ints)
 
 -- what rises by a column with its number rises by its number
-pub by_number : {X : Type 0} (cells : X → Row) (number : X → ℕ) → ((x : X) → column (cells x) 0 ≡ number_cell (number x)) → (xs : List X) (rows : List Row) → IsSorted (by_column 0) rows → rows ≡ map cells xs
-    → IsSortedByKey number nat_cmp xs
-by_number cells number is xs rows sorted shown k d low high =
+pub by_number :
+    {X : Type 0} (cells : X → Row) (number : X → ℕ) → ((x : X) → column (cells x) 0 ≡ number_cell (number x)) → (xs : List X)
+    → IsSorted (by_column 0) (map cells xs) → IsSortedByKey number nat_cmp xs
+by_number cells number is xs sorted k d low high =
     let later = get_or xs (k + 1) d in
     let earlier = get_or xs k d in
-    let at = subst (IsSorted (by_column 0)) shown sorted k (cells d) low (omega (arith, length-map xs cells)) in
+    let at = sorted k (cells d) low (omega (arith, length-map xs cells)) in
     let numbers : value_cmp (column (cells later) 0) (column (cells earlier) 0) ≡ int_cmp (pos (number later)) (pos (number earlier)) = (λ i. value_cmp (is later i) (is earlier i)) ∙ value_cmp-Int (pos (number later)) (pos (number earlier)) in
     sym (numbers_rise (number later) (number earlier)) ∙ ap is_lt (sym numbers)
     ∙ (λ i. is_lt (by_column 0 (sym (get_or-map cells xs (k + 1) d (cells d) high) i) (sym (get_or-map cells xs k d (cells d) (omega (arith, high))) i))) ∙ at
@@ -92,17 +75,16 @@ all_spans_fit spans k d low = tt
 
 -- ---- counters
 
-abbrev pub counters_of_rows : Rows → List Counters
-counters_of_rows r = record { granted = r.granted; created = r.created } ∷ []
+-- the counters of the rows, where there are rows
+abbrev pub AreCounters : Option Rows → Option Counters → Type 0
+AreCounters None None = ⊤
+AreCounters None (Some c) = ⊥
+AreCounters (Some r) None = ⊥
+AreCounters (Some r) (Some c) = (c.granted ≡ r.granted) × (c.created ≡ r.created)
 
-abbrev pub cells_of_counters : Counters → Row
-cells_of_counters c = counter_cells c.granted c.created
-
-pub one_counters : (c d : Counters) → cells_of_counters c ≡ cells_of_counters d → c ≡ d
-one_counters c d is =
-    let granted : c.granted ≡ d.granted = cc in
-    let created : c.created ≡ d.created = cc in
-    λ i. record { granted = granted i; created = created i }
+none_in : {X : Type 0} (xs : List X) → IsPermutation [] xs → xs ≡ []
+none_in [] same = refl
+none_in (x ∷ xs) same = absurd (let e = length_permutation _ _ same in cc)
 
 pub first_counters : (o : Option Rows) (xs : List Counters) → IsPermutation (items_if_any counters_of_rows o) xs → AreCounters o (slice_get xs 0)
 first_counters None xs same = rw (none_in xs same) tt
@@ -117,9 +99,19 @@ counters_fit (Some r) fit = All-cons CountersFit (record { granted = r.granted; 
 
 -- ---- the rows of a holder
 
--- what is so of the rows after calls that changed nothing was so before
-pub so_before : (so : Option Rows → Type 0) (h : List ℕ) (old new : State) → new.now ≡ old.now → IsOf so h new → IsOf so h old
-so_before so h old new same of charter rows holds = of charter rows (subst (λ (d : Database). TablesHold charter rows d.trees) (sym same) holds)
+-- what the tables held before calls that changed nothing they hold after them
+pub held_before :
+    (old mid : State) → mid.now ≡ old.now → (charter : CharterSets) (rows : List ℕ → Option Rows)
+    → TablesHold charter rows old.now.trees → TablesHold charter rows mid.now.trees
+held_before old mid same charter rows holds = subst (λ (d : Database). TablesHold charter rows d.trees) (sym same) holds
+
+-- rows of which some do not fit their types after such calls did not fit them before
+pub never_fit :
+    {X : Type 0} (fits : X → Type 0) (items : Rows → List X) → ((o : Option Rows) → FitIfAny o → All fits (items_if_any items o))
+    → (h : List ℕ) (old mid : State) → IsTrue old.is_open → mid.now ≡ old.now
+    → WasRead (λ all. ¬ All fits (items_if_any items (all h))) mid → WasRead (λ all. ¬ FitIfAny (all h)) old
+never_fit fits items each h old mid opened same told =
+    (opened, λ charter rows holds fit. told.1 charter rows (held_before old mid same charter rows holds) (each (rows h) fit))
 
 -- a fault that is handed on
 pub refused_by : {A B : Type 0} (r : Result A StoreFault) (s : Result B StoreFault) (e : StoreFault) → r ≡ Err e → IsErrAnd s (λ y. y ≡ e) → s ≡ Err Schema → r ≡ Err Schema

@@ -1,21 +1,22 @@
 -- What each CREATE does to the tables that are made so far.
-use Rattle.std.proofs.Common.{◌≡◌, ℕ, suc, true, false, List, [], ◌∷◌, ◌++◌, take, None, Ok, sym, ap, subst, ◌∙◌}
+use Rattle.std.proofs.Common.{◌≡◌, ℕ, suc, true, false, List, [], ◌∷◌, ◌++◌, take, None, sym, ap, subst, ◌∙◌}
 use Rattle.std.specs.List.{AllByRecursion}
 use Rattle.std.proofs.lemmas.List.Sorted.{IsPermutation-refl}
 use Rattle.sqlite_value.specs.Order.{Row}
 use Rattle.sqlite.specs.Change.{created, next_tree, KeepsRows}
 use Rattle.sqlite.specs.Does.{Tally, lacks_sequence}
 use Rattle.sqlite.specs.Effect.{Database}
-use Rattle.sqlite.specs.State.{State, Writes, ExecutesInside}
+use Rattle.sqlite.specs.State.{State, Writes}
 use Rattle.sqlite.proofs.Callers.{runs_as}
 use Rattle.sqlite_trees.proofs.ListLemmas.{all_both, all-append}
 use Rattle.sqlite_schema.specs.declared.command.Command.TheVariants.{CreateTable}
 use Rattle.sqlite_schema.specs.declared.schema.Schema.{Schema}
 use Rattle.sqlite_schema.specs.declared.schema.Table.{Table}
 use Rattle.store.specs.Tables.{desk_tables}
-use Rattle.store.specs.Edits.{contents}
+use Rattle.store.specs.Tables.{contents}
 use Rattle.store.specs.TablesHold.{Part, HoldsPart}
-use Rattle.store.specs.Making.{so_far, IsMadeTo}
+use Rattle.store.specs.steps.Making.{so_far, IsMadeTo}
+use Rattle.store.specs.steps.Statements.{IsExecuted}
 use Rattle.store.proofs.Inserting.{went, same_value}
 use Rattle.store.proofs.Creates.{Defines}
 
@@ -32,10 +33,10 @@ grown n table old new before next inside schema kept empty = record {
 }
 
 pub makes : (n : ℕ) (sql : List ℕ) (table : Table) → Defines sql table (so_far n) (so_far (suc n)) → take (suc n) desk_tables ≡ take n desk_tables ++ table ∷ []
-    → (old new : State) (count : ℕ) → IsMadeTo n old → ExecutesInside 0 sql [] old new (Ok count) → IsMadeTo (suc n) new
-makes n sql table d next old new count before h =
-    let runs = runs_as sql [] old new (so_far n) before.schema CreateTable d.is d.plain count h.0 in
-    let w = subst (λ t. Writes old new None CreateTable t [] count) d.text runs in
+    → (old new : State) → IsMadeTo n old → IsExecuted sql [] old new → IsMadeTo (suc n) new
+makes n sql table d next old new before ran =
+    let runs = runs_as sql [] old new (so_far n) before.schema CreateTable d.is d.plain ran.0 ran.1.0 in
+    let w = subst (λ t. Writes old new None CreateTable t [] ran.0) d.text runs in
     let all = went w.changed in
     let first = went all.1 in
     let made = first.1 in
@@ -45,7 +46,7 @@ makes n sql table d next old new count before h =
     let now : new.now ≡ first.0 = ap (λ (p : Tally × Database). p.1) (same_value all.2) ∙ same_value (rw plain at first.2) in
     let kept : KeepsRows (take n desk_tables) old.now.trees first.0.trees = subst (λ (s : Schema). KeepsRows s.tables old.now.trees first.0.trees) before.schema made.others in
     let empty : first.0.trees table.tree ≡ [] = subst (λ t. first.0.trees t ≡ []) (ap next_tree before.schema ∙ d.place) made.empty in
-    grown n table old new before next h.1.mode (ap (λ (d : Database). d.schema) now ∙ schema)
+    grown n table old new before next ran.1.1.mode (ap (λ (d : Database). d.schema) now ∙ schema)
     (subst (λ (d : Database). KeepsRows (take n desk_tables) old.now.trees d.trees) (sym now) kept) (ap (λ (d : Database). d.trees table.tree) now ∙ empty)
 
 -- an empty table has the rows of no holder

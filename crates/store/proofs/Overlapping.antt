@@ -25,9 +25,9 @@ use Rattle.addr.proofs.AddressLemmas.{below_widest, first_below}
 use Rattle.policy.specs.Rows.{Rows}
 use Rattle.store.specs.Tables.{desk_schema}
 use Rattle.store.specs.Cells.{number_cell, family_number, address, holding_row}
-use Rattle.store.specs.Edits.{contents}
+use Rattle.store.specs.Tables.{contents}
 use Rattle.store.specs.TablesHold.{HoldsPart, holding_part}
-use Rattle.store.specs.Queries.{MeetsSome}
+use Rattle.store.specs.steps.Queries.{MeetsSome}
 use Rattle.store.proofs.Addresses.{addresses_in_order}
 use Rattle.store.proofs.SomeRow.{of_some, in_table}
 use Rattle.store.proofs.Selecting.{picks, first_shown}

@@ -1,5 +1,5 @@
 -- An edit of the rows of one holder in one table.
-use Rattle.std.proofs.Common.{◌≡◌, ℕ, Bool, true, false, cond, if◌then◌else◌, not, ◌&&◌, List, [], ◌∷◌, map, filter, Option, Some, None, option_map, IsSome, refl, sym, ap, subst, ◌∙◌, IsPermutation, is_eq}
+use Rattle.std.proofs.Common.{◌≡◌, ℕ, Bool, true, false, cond, if◌then◌else◌, not, ◌&&◌, List, [], ◌∷◌, map, filter, Option, refl, sym, ap, subst, ◌∙◌, IsPermutation, is_eq}
 use Rattle.std.specs.List.{AllByRecursion}
 use Rattle.std.proofs.Math.Bool.{and_comm}
 use Rattle.std.proofs.lemmas.Bool.{both_ways}
@@ -13,7 +13,7 @@ use Rattle.std.proofs.lemmas.Map.Text.{is_eq-slice_cmp}
 use Rattle.policy.specs.History.{same_name}
 use Rattle.policy.specs.Rows.{Rows}
 use Rattle.policy.proofs.Names.{same_name-same, same_name-true}
-use Rattle.store.specs.TablesHold.{Part, rows_if_any, is_name_of, is_text, HoldsPart, at_holder}
+use Rattle.store.specs.TablesHold.{Part, part_rows, is_name_of, is_text, HoldsPart}
 use Rattle.store.proofs.TreeRows.{filter_twice}
 use Rattle.store.proofs.Updating.{changed_if}
 
@@ -110,48 +110,31 @@ turned_at h to rows k = if same_name h k then to (rows k) else rows k
 
 -- an edit of the rows of one holder in one table
 pub part_turned : (part : Part) (rows : List ℕ → Option Rows) (h : List ℕ) (to : Option Rows → Option Rows) (by : List Row → List Row) (old new : List Row)
-    → HoldsPart part rows old → IsLocal part.place h by → IsPermutation (by old) new → IsPermutation (rows_if_any part h (to (rows h))) (by (rows_if_any part h (rows h)))
+    → HoldsPart part rows old → IsLocal part.place h by → IsPermutation (by old) new → IsPermutation (part_rows part h (to (rows h))) (by (part_rows part h (rows h)))
     → HoldsPart part (turned_at h to rows) new
 part_turned part rows h to by old new holds local same edits = record {
   each = λ k. go k (same_name h k) refl;
   named = all-permutation _ (by old) new same (local.texts old holds.named);
 }
   where
-    mine : IsPermutation (rows_if_any part h (to (rows h))) (filter (names part.place h) new)
+    mine : IsPermutation (part_rows part h (to (rows h))) (filter (names part.place h) new)
     mine =
         IsPermutation-trans _ _ _ edits
         (IsPermutation-trans _ _ _ (local.permutes _ _ (holds.each h))
         (subst (λ l. IsPermutation l (filter (names part.place h) new)) (local.mine old) (IsPermutation-filter (names part.place h) _ _ same)))
 
-    go : (k : List ℕ) (b : Bool) → same_name h k ≡ b → IsPermutation (rows_if_any part k (cond b (to (rows k)) (rows k))) (filter (names part.place k) new)
-    go k true is = subst (λ n. IsPermutation (rows_if_any part n (to (rows n))) (filter (names part.place n) new)) (same_name-true h k is) mine
+    go : (k : List ℕ) (b : Bool) → same_name h k ≡ b → IsPermutation (part_rows part k (cond b (to (rows k)) (rows k))) (filter (names part.place k) new)
+    go k true is = subst (λ n. IsPermutation (part_rows part n (to (rows n))) (filter (names part.place n) new)) (same_name-true h k is) mine
     go k false differ = IsPermutation-trans _ _ _ (holds.each k) (subst (λ l. IsPermutation l (filter (names part.place k) new)) (local.others k differ old) (IsPermutation-filter (names part.place k) _ _ same))
 
 -- a table in which the holder has the same rows
 pub part_same : (part : Part) (rows : List ℕ → Option Rows) (h : List ℕ) (to : Option Rows → Option Rows) (table : List Row)
-    → HoldsPart part rows table → rows_if_any part h (rows h) ≡ rows_if_any part h (to (rows h)) → HoldsPart part (turned_at h to rows) table
+    → HoldsPart part rows table → part_rows part h (rows h) ≡ part_rows part h (to (rows h)) → HoldsPart part (turned_at h to rows) table
 part_same part rows h to table holds same = record { each = λ k. go k (same_name h k) refl; named = holds.named }
   where
-    go : (k : List ℕ) (b : Bool) → same_name h k ≡ b → IsPermutation (rows_if_any part k (cond b (to (rows k)) (rows k))) (filter (names part.place k) table)
-    go k true is = subst (λ l. IsPermutation l (filter (names part.place k) table)) (subst (λ n. rows_if_any part n (rows n) ≡ rows_if_any part n (to (rows n))) (same_name-true h k is) same) (holds.each k)
+    go : (k : List ℕ) (b : Bool) → same_name h k ≡ b → IsPermutation (part_rows part k (cond b (to (rows k)) (rows k))) (filter (names part.place k) table)
+    go k true is = subst (λ l. IsPermutation l (filter (names part.place k) table)) (subst (λ n. part_rows part n (rows n) ≡ part_rows part n (to (rows n))) (same_name-true h k is) same) (holds.each k)
     go k false differ = holds.each k
 
 abbrev pub EditsPart : Part → List ℕ → (Rows → Rows) → (List Row → List Row) → Type 0
 EditsPart part h edit by = (r : Rows) → IsPermutation (part.rows h (edit r)) (by (part.rows h r))
-
--- the same, where the holder is registered and its rows are edited
-pub part_edited : (part : Part) (rows : List ℕ → Option Rows) (h : List ℕ) (edit : Rows → Rows) (by : List Row → List Row) (old new : List Row)
-    → HoldsPart part rows old → IsLocal part.place h by → IsPermutation (by old) new → EditsPart part h edit by → IsSome (rows h) → HoldsPart part (at_holder h edit rows) new
-part_edited part rows h edit by old new holds local same edits some = part_turned part rows h (option_map edit) by old new holds local same (go (rows h) some)
-  where
-    go : (o : Option Rows) → IsSome o → IsPermutation (rows_if_any part h (option_map edit o)) (by (rows_if_any part h o))
-    go None some = absurd cc
-    go (Some r) some = edits r
-
-pub part_kept : (part : Part) (rows : List ℕ → Option Rows) (h : List ℕ) (edit : Rows → Rows) (table : List Row)
-    → HoldsPart part rows table → ((r : Rows) → part.rows h (edit r) ≡ part.rows h r) → HoldsPart part (at_holder h edit rows) table
-part_kept part rows h edit table holds same = part_same part rows h (option_map edit) table holds (go (rows h))
-  where
-    go : (o : Option Rows) → rows_if_any part h o ≡ rows_if_any part h (option_map edit o)
-    go None = refl
-    go (Some r) = sym (same r)

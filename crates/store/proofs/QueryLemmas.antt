@@ -1,21 +1,22 @@
 -- What a query leaves of a connection.
-use Rattle.std.proofs.Common.{◌≡◌, ◌⊎◌, inl, inr, ℕ, List, Option, Some, None, Result, Ok, Err, IfOk, IfErr, OnOk, IsTrue, sym, ap, subst, ◌∙◌, arith}
+use Rattle.std.proofs.Common.{◌≡◌, ◌⊎◌, inl, inr, ℕ, List, [], ◌∷◌, Option, Some, None, Result, Ok, Err, IfOk, IfErr, IsErr, OnOk, IsTrue, false, refl, sym, ap, subst, ◌∙◌, arith}
 use Rattle.std.proofs.lemmas.Result.{IfOk-weaker}
 use Rattle.sqlite.specs.declared.error.Error.{Error}
 use Rattle.sqlite.specs.Effect.{Database}
 use Rattle.sqlite.specs.Listing.{understood, reads_listing, IsSourceOf}
 use Rattle.sqlite.specs.State.{State, KeepsCommit, IsUnchanged, IsRolledBack, IsNotRun, Shown, ShowsRows, FailsToQuery, FailsToShow, IsTooLate, CommitsShowing, HasCleanDisk, Survives}
 use Rattle.sqlite.specs.Clock.{timed}
-use Rattle.sqlite.proofs.Callers.{IsPlain, unchanged_then, never_commits}
+use Rattle.sqlite.proofs.Callers.{IsPlain, command_of, reads_as, unchanged_then, never_commits}
 use Rattle.sqlite.proofs.InsideLemmas.{unchanged_keeps}
 use Rattle.sqlite.proofs.StateLemmas.{survives_then}
+use Rattle.sqlite_value.specs.declared.value.Value.TheVariants.{Text}
 use Rattle.sqlite_value.specs.Order.{Row}
 use Rattle.sqlite_trees.specs.Tree.{Trees}
 use Rattle.sqlite_schema.specs.declared.command.Command.{Command}
 use Rattle.sqlite_schema.specs.declared.command.Returning.{Returning}
 use Rattle.store.specs.Tables.{desk_schema}
-use Rattle.store.specs.Queries.{IsAsBefore}
-use Rattle.store.specs.Steps.{IsReady}
+use Rattle.store.specs.steps.Queries.{AreSelected, IsAsBefore}
+use Rattle.store.specs.steps.Statements.{IsReady}
 use Rattle.store.proofs.Texts.{Means}
 
 -- a query that answered changed nothing
@@ -127,3 +128,17 @@ answer_survives sql text params old mid new has plain compiled one two =
     let before : HasCleanDisk mid = omega (arith, two.clean) in
     let it = compiled before in
     asked_commits sql params old mid new (has (omega (arith, one.clean))) plain it.1 db (subst (λ t. CommitsShowing t params mid db) it.0 commits)) one two
+
+-- ---- what is shown of a holder, as what the text answers over the tables of a desk
+
+pub selected :
+    (sql h : List ℕ) (values : Row) (old new : State) (rows : List Row)
+    → IsPlain (understood desk_schema sql) → reads_listing desk_schema sql ≡ false → (IsTrue old.is_open → old.now.schema ≡ desk_schema)
+    → values ≡ Text h ∷ [] → Shown sql values old new rows → AreSelected sql h old.now rows
+selected sql h values old new rows plain unlisted has is shown =
+    let of_name = subst (λ params. Shown sql params old new rows) is shown in
+    reads_as sql (Text h ∷ []) old new desk_schema (has (shown_open sql (Text h ∷ []) old new rows of_name)) (command_of (understood desk_schema sql)) refl plain unlisted rows of_name
+
+pub no_answer : {Y F : Type 0} (P : Type 0) (s : Result Y F) → IsErr s → OnOk s P
+no_answer P (Ok y) none = absurd cc
+no_answer P (Err f) none = tt

@@ -14,7 +14,7 @@ use Rattle.addr.specs.Family.{width}
 use Rattle.addr.specs.Address.{IsPrefix}
 use Rattle.addr.proofs.AddressLemmas.{below_widest, first_below}
 use Rattle.store.specs.Cells.{address, number_cell, family_number, prefix_cells, span_cells}
-use Rattle.store.specs.Decode.{Reads, first_columns}
+use Rattle.store.specs.Decode.{Decodes, first_columns}
 use Rattle.store.proofs.AddressBytes.{address_once, length-address}
 use Rattle.store.proofs.CellsOnce.{one_family}
 
@@ -23,7 +23,7 @@ all_columns count row whole = fill_by_all (column row) row count Null whole (λ 
 
 pub address_reads :
     (bytes : List ℕ) (r : Option ℕ) → IfSome r (λ n. bytes ≡ address n) → (r ≡ None → length bytes ≢ 16)
-    → Reads (λ n. Blob (address n)) (λ _. ⊤) (Blob bytes) r
+    → Decodes (λ n. Blob (address n)) (λ _. ⊤) (Blob bytes) r
 address_reads bytes None some none = λ n _ same. none refl (let e : address n ≡ bytes = cc in sym (ap length e) ∙ length-address n)
 address_reads bytes (Some n) some none = (tt, ap Blob some)
 
@@ -44,7 +44,7 @@ prefix_of_parts p family first length fits same =
 pub prefix_reads :
     (r : Option Prefix) (family : Family) (first length : ℕ) → first < 2 ^ 128 → (IsSome r ↔ IsPrefix family first length)
     → IfSome r (λ p. (p.family ≡ family) × (p.first ≡ first) × (p.length ≡ length))
-    → Reads prefix_cells (λ _. ⊤) (number_cell (family_number family) ∷ Blob (address first) ∷ number_cell length ∷ []) r
+    → Decodes prefix_cells (λ _. ⊤) (number_cell (family_number family) ∷ Blob (address first) ∷ number_cell length ∷ []) r
 prefix_reads None family first length fits some parts =
     λ p _ same. let is : IsSome {T = Prefix} None = some.1 (prefix_of_parts p family first length fits same) in cc
 prefix_reads (Some p) family first length fits some parts =
@@ -68,7 +68,7 @@ pub span_reads :
     (r : Option Span) (family : Family) (lo hi : ℕ) → lo < 2 ^ 128 → hi < 2 ^ 128
     → (IsSome r ↔ ((lo ≤ hi) × (hi < 2 ^ width family)))
     → IfSome r (λ s. (s.family ≡ family) × (s.lo ≡ lo) × (s.hi ≡ hi))
-    → Reads span_cells (λ _. ⊤) (number_cell (family_number family) ∷ Blob (address lo) ∷ Blob (address hi) ∷ []) r
+    → Decodes span_cells (λ _. ⊤) (number_cell (family_number family) ∷ Blob (address lo) ∷ Blob (address hi) ∷ []) r
 span_reads None family lo hi lo_fits hi_fits some parts =
     λ s _ same. let is : IsSome {T = Span} None = some.1 (span_of_parts s family lo hi lo_fits hi_fits same) in cc
 span_reads (Some s) family lo hi lo_fits hi_fits some parts =

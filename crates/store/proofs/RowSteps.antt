@@ -1,14 +1,18 @@
 -- Steps of edits of a holder's rows, one after another.
-use Rattle.std.proofs.Common.{◌≡◌, ℕ, Bool, true, false, cond, not, ◌||◌, ◌==◌, List, [], ◌∷◌, ◌++◌, filter, Option, Some, None, option_map, is_some, if◌then◌else◌, IsSome, ◌+◌, ◌<◌, length, take, get_or, refl, sym, ap, subst, ◌∙◌, append-nil, append_assoc}
+use Rattle.std.proofs.Common.{◌≡◌, ℕ, Bool, true, false, cond, not, ◌||◌, ◌==◌, List, [], ◌∷◌, ◌++◌, filter, Option, Some, None, option_map, is_some, if◌then◌else◌, IsSome, Result, OnOk, inl, arith, ◌+◌, ◌<◌, length, take, get_or, refl, sym, ap, subst, ◌∙◌, append-nil, append_assoc}
 use Rattle.std.proofs.Math.Bool.{or-false}
 use Rattle.std.proofs.lemmas.Bool.{cond-true, cond-false}
+use Rattle.std.proofs.lemmas.Result.{on_ok_weaker}
 use Rattle.std.proofs.lemmas.List.{take_more}
 use Rattle.std.proofs.lemmas.List.Folds.{list_any-append}
 use Rattle.sqlite.proofs.InsideLemmas.{keeps_then}
 use Rattle.sqlite.proofs.StateLemmas.{survives_then}
 use Rattle.std.specs.List.{list_any}
 use Rattle.sqlite.specs.Effect.{Database}
-use Rattle.sqlite.specs.State.{State, HasCleanDisk, KeepsCommit, Survives}
+use Rattle.sqlite.specs.declared.transaction.Transaction.{Transaction}
+use Rattle.sqlite.specs.State.{State, HasCleanDisk}
+use Rattle.sqlite.specs.Store.{Ghosts}
+use Rattle.sqlite_value.specs.Order.{Row}
 use Rattle.sqlite_trees.specs.Tree.{Trees}
 use Rattle.addr.specs.declared.span.Span.{Span}
 use Rattle.policy.specs.declared.authorization.Auth.{Auth}
@@ -18,9 +22,9 @@ use Rattle.policy.specs.declared.change.Edit.{Edit}
 use Rattle.policy.specs.declared.change.Edit.TheVariants.{Register, Hold, Grant, Revoke, Create, Amend, Withdraw}
 use Rattle.policy.specs.Rows.{Rows, new_rows, edited, edited_if_any}
 use Rattle.policy.proofs.Names.{same_name-true}
-use Rattle.store.specs.TablesHold.{TablesHold, at_holder, EditsRows}
-use Rattle.store.specs.RowEdits.{with_holding, with_holdings, without_auth, without_auths, is_registration}
-use Rattle.store.specs.Steps.{IsReady, Done, Tells, Registers, Turned, registered}
+use Rattle.store.specs.TablesHold.{TablesHold}
+use Rattle.store.specs.steps.RowEdits.{with_holdings, without_auths, is_registration}
+use Rattle.store.specs.steps.Statements.{state_in, WhenClean, IfDone, StaysInside, IsExecuted, IsReady, at_holder, EditsRows, EditsHolder, TellsWhetherRegistered, Registers, registered, MakesChange}
 use Rattle.store.proofs.TreeRows.{filter_twice, all_kept, neither}
 
 -- equal rows of every holder
@@ -54,22 +58,22 @@ module _ (h : List ℕ) where
   pub edits_as : (f g : Rows → Rows) (a b : Database) → ((r : Rows) → f r ≡ g r) → EditsRows h f a b → EditsRows h g a b
   edits_as f g a b same = subst (λ e. EditsRows h e a b) (λ i r. same r i)
 
-  pub done_none : (f : Rows → Rows) (old : State) → ((r : Rows) → f r ≡ r) → IsReady old → Done h f old old
+  pub done_none : (f : Rows → Rows) (old : State) → ((r : Rows) → f r ≡ r) → IsReady old → EditsHolder h f old old
   done_none f old same ready = record { ready = ready; rows = edits_none f old.now same }
 
-  pub done_then : (f g e : Rows → Rows) (a b c : State) → ((r : Rows) → g (f r) ≡ e r) → Done h f a b → Done h g b c → Done h e a c
+  pub done_then : (f g e : Rows → Rows) (a b c : State) → ((r : Rows) → g (f r) ≡ e r) → EditsHolder h f a b → EditsHolder h g b c → EditsHolder h e a c
   done_then f g e a b c same first second = record { ready = second.ready; rows = edits_as (λ r. g (f r)) e a.now c.now same (edits_then f g a.now b.now c.now first.rows second.rows) }
 
 pub no_holdings : (r : Rows) → with_holdings [] r ≡ r
 no_holdings r = λ i. record r { holdings = append-nil r.holdings i }
 
-pub one_more_holding : (spans : List Span) (s : Span) (r : Rows) → with_holding s (with_holdings spans r) ≡ with_holdings (spans ++ s ∷ []) r
+pub one_more_holding : (spans : List Span) (s : Span) (r : Rows) → with_holdings (s ∷ []) (with_holdings spans r) ≡ with_holdings (spans ++ s ∷ []) r
 one_more_holding spans s r = λ i. record r { holdings = append_assoc r.holdings spans (s ∷ []) i }
 
 pub no_auths : (r : Rows) → without_auths [] r ≡ r
 no_auths r = λ i. record r { auths = all_kept r.auths i }
 
-pub one_auth_less : (ns : List ℕ) (n : ℕ) (r : Rows) → without_auth n (without_auths ns r) ≡ without_auths (ns ++ n ∷ []) r
+pub one_auth_less : (ns : List ℕ) (n : ℕ) (r : Rows) → edited (Withdraw n) (without_auths ns r) ≡ without_auths (ns ++ n ∷ []) r
 one_auth_less ns n r =
     let at = λ (x : Auth). neither (list_any (λ k. x.number == k) ns) (x.number == n)
     ∙ ap not (sym (list_any-append (λ k. x.number == k) ns (n ∷ []) ∙ ap (λ b. list_any (λ k. x.number == k) ns || b) (or-false (x.number == n)))) in
@@ -79,14 +83,30 @@ one_auth_less ns n r =
 pub taken_more : {X : Type 0} (xs : List X) (i : ℕ) (x : X) → i < length xs → x ≡ get_or xs i x → take (i + 1) xs ≡ take i xs ++ x ∷ []
 taken_more xs i x low is = take_more xs i x low ∙ ap (λ y. take i xs ++ y ∷ []) (sym is)
 
--- where no call commits, no two do
-pub quiet_then : (a b c : State) → Survives a b (λ _. ⊥) → Survives b c (λ _. ⊥) → Survives a c (λ _. ⊥)
-quiet_then a b c = survives_then a b c (λ _. ⊥) (λ _. ⊥) (λ _. ⊥) (λ _ db none. none) (λ _ db none. none)
+-- ---- statements in turn
 
--- one more step of a loop
-pub along : (h : List ℕ) (f g e : Rows → Rows) (a b c : State) → ((r : Rows) → g (f r) ≡ e r) → (HasCleanDisk b → KeepsCommit a b × Done h f a b) → HasCleanDisk b
-    → KeepsCommit b c → Done h g b c → KeepsCommit a c × Done h e a c
-along h f g e a b c same before clean kept done = (keeps_then a b c (before clean).0 kept, done_then h f g e a b c same (before clean).1 done)
+module _ {S : Type 0} (g : Ghosts S) where
+  pub stays : (a : Transaction S) → StaysInside g a a
+  stays a = record { same_reference = refl; kept = λ clean. record { was_open = λ opened. opened; committed = λ opened. refl }; survives = record { clean = omega arith; shield = λ shielded. shielded; counts = omega arith; limit = refl; closes = λ clean opened. inl opened; crash = λ clean db left. inl left } }
+
+  pub stays_then : (a b c : Transaction S) → StaysInside g a b → StaysInside g b c → StaysInside g a c
+  stays_then a b c first second = record {
+    same_reference = second.same_reference ∙ first.same_reference;
+    kept = λ clean. keeps_then (state_in g a) (state_in g b) (state_in g c) (first.kept (omega (arith, second.survives.clean))) (second.kept clean);
+    survives = survives_then (state_in g a) (state_in g b) (state_in g c) (λ _. ⊥) (λ _. ⊥) (λ _. ⊥) (λ _ db none. none) (λ _ db none. none) first.survives second.survives;
+  }
+
+  -- what a statement means of the rows
+  pub means : {X E : Type 0} (r : Result X E) (sql : List ℕ) (given params : Row) (so : State → State → Type 0) (old new : Transaction S) → WhenClean g IsReady old → StaysInside g old new
+      → IfDone g r (IsExecuted sql given) old new → given ≡ params → ((a b : State) → IsReady a → IsExecuted sql params a b → so a b) → IfDone g r so old new
+  means r sql given params so old new ready stay ran same to clean =
+      on_ok_weaker r (to (state_in g old) (state_in g new) (ready (omega (arith, stay.survives.clean)))) (subst (λ p. OnOk r (IsExecuted sql p (state_in g old) (state_in g new))) same (ran clean))
+
+  -- a statement after another
+  pub done_after : {X E : Type 0} (r : Result X E) (h : List ℕ) (f e to : Rows → Rows) (a b c : Transaction S) → ((r : Rows) → e (f r) ≡ to r) → StaysInside g b c → (HasCleanDisk (state_in g b) → EditsHolder h f (state_in g a) (state_in g b))
+      → IfDone g r (EditsHolder h e) b c → IfDone g r (EditsHolder h to) a c
+  done_after r h f e to a b c same stay first second clean =
+      on_ok_weaker r (done_then h f e to (state_in g a) (state_in g b) (state_in g c) same (first (omega (arith, stay.survives.clean)))) (second clean)
 
 -- ---- a change
 
@@ -106,7 +126,7 @@ module _ (h : List ℕ) (edit : Edit) where
   some_edited None some = absurd cc
   some_edited (Some r) some = refl
 
-  pub turned_registered : (told : Bool) (a b c : State) → Tells h told a b → told ≡ true → Done h (edited edit) b c → Turned edited_at a c
+  pub turned_registered : (told : Bool) (a b c : State) → TellsWhetherRegistered h told a b → told ≡ true → EditsHolder h (edited edit) b c → MakesChange edited_at a c
   turned_registered told a b c tells is done = record {
     was_open = tells.was_open;
     ready = done.ready;
@@ -129,7 +149,7 @@ module _ (h : List ℕ) (edit : Edit) where
   from_none (Amend x) = refl
   from_none (Withdraw n) = refl
 
-  pub turned_new : (told : Bool) (a b c : State) → Tells h told a b → told ≡ false → is_registration edit ≡ true → Registers h b c → Turned edited_at a c
+  pub turned_new : (told : Bool) (a b c : State) → TellsWhetherRegistered h told a b → told ≡ false → is_registration edit ≡ true → Registers h b c → MakesChange edited_at a c
   turned_new told a b c tells is registers done = record {
     was_open = tells.was_open;
     ready = done.ready;
@@ -139,7 +159,7 @@ module _ (h : List ℕ) (edit : Edit) where
         (done.rows charter rows (subst (λ (d : Database). TablesHold charter rows d.trees) (sym tells.same) was) none);
   }
 
-  pub turned_none : (told : Bool) (a b : State) → Tells h told a b → told ≡ false → is_registration edit ≡ false → Turned edited_at a b
+  pub turned_none : (told : Bool) (a b : State) → TellsWhetherRegistered h told a b → told ≡ false → is_registration edit ≡ false → MakesChange edited_at a b
   turned_none told a b tells is leaves = record {
     was_open = tells.was_open;
     ready = tells.ready;
@@ -153,5 +173,5 @@ module _ (h : List ℕ) (edit : Edit) where
       kept true o = refl
       kept false o = refl
 
-pub turned_then : (f g : (List ℕ → Option Rows) → List ℕ → Option Rows) (a b c : State) → Turned f a b → Turned g b c → Turned (λ rows. g (f rows)) a c
+pub turned_then : (f g : (List ℕ → Option Rows) → List ℕ → Option Rows) (a b c : State) → MakesChange f a b → MakesChange g b c → MakesChange (λ rows. g (f rows)) a c
 turned_then f g a b c first second = record { was_open = first.was_open; ready = second.ready; rows = λ charter rows was. second.rows charter (f rows) (first.rows charter rows was) }

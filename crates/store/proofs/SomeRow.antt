@@ -7,7 +7,7 @@ use Rattle.sqlite_value.specs.Order.{Row, column}
 use Rattle.sqlite_rules.specs.Lists.{Has}
 use Rattle.sqlite_rules.proofs.ListLemmas.{all_has, has_filtered, has_kept, has_contained, contains_had}
 use Rattle.policy.specs.Rows.{Rows}
-use Rattle.store.specs.TablesHold.{Part, HoldsPart, rows_if_any, is_text}
+use Rattle.store.specs.TablesHold.{Part, HoldsPart, part_rows, is_text}
 use Rattle.store.proofs.PartLemmas.{names, name_of_itself}
 
 pub has_permuted : {X : Type 0} (xs ys : List X) (x : X) → IsPermutation xs ys → Has xs x → Has ys x
@@ -31,9 +31,9 @@ module _ (part : Part) (all : List ℕ → Option Rows) (table : List Row) (hold
       let mine = has_kept (names part.place name.0) table c has (name_of_itself name.0 (column c part.place) name.1) in
       go name.0 (all name.0) refl (has_permuted _ _ c (IsPermutation-sym _ _ (holds.each name.0)) mine)
     where
-      go : (h : List ℕ) (o : Option Rows) → all h ≡ o → Has (rows_if_any part h (all h)) c → IsOfSome c
-      go h None is mine = absurd (subst (λ o. Has (rows_if_any part h o) c) is mine)
-      go h (Some r) is mine = (h, r, is, subst (λ o. Has (rows_if_any part h o) c) is mine)
+      go : (h : List ℕ) (o : Option Rows) → all h ≡ o → Has (part_rows part h (all h)) c → IsOfSome c
+      go h None is mine = absurd (subst (λ o. Has (part_rows part h o) c) is mine)
+      go h (Some r) is mine = (h, r, is, subst (λ o. Has (part_rows part h o) c) is mine)
 
   pub in_table : (c : Row) (h : List ℕ) (r : Rows) → all h ≡ Some r → Has (part.rows h r) c → Has table c
-  in_table c h r is has = (has_filtered (names part.place h) table c (has_permuted _ _ c (holds.each h) (subst (λ o. Has (rows_if_any part h o) c) (sym is) has))).0
+  in_table c h r is has = (has_filtered (names part.place h) table c (has_permuted _ _ c (holds.each h) (subst (λ o. Has (part_rows part h o) c) (sym is) has))).0

@@ -1,9 +1,10 @@
 -- What a statement means within a transaction, and what its edit of one table does to the rows of a holder.
-use Rattle.std.proofs.Common.{◌≡◌, ◌≢◌, ℕ, Bool, true, false, ◌==◌, suc, List, [], ◌∷◌, map, drop, IsPermutation, None, Some, Ok, Option, ℤ, refl, sym, ap, subst, is_eq}
+use Rattle.std.proofs.Common.{◌≡◌, ◌⊎◌, inl, inr, ℕ, Bool, true, false, ◌==◌, suc, List, [], ◌∷◌, map, drop, IsPermutation, None, Some, Option, option_map, IsSome, ℤ, refl, sym, ap, subst, ◌∙◌, is_eq}
 use Rattle.std.proofs.lemmas.Bool.{eqb-true, eq-eqb, both_ways}
+use Rattle.std.specs.List.{list_any}
 use Rattle.sqlite.specs.Effect.{Database}
 use Rattle.sqlite.specs.Listing.{understood}
-use Rattle.sqlite.specs.State.{State, Runs, ExecutesInside}
+use Rattle.sqlite.specs.State.{State, Runs}
 use Rattle.sqlite.proofs.Callers.{runs_as, statement_of}
 use Rattle.sqlite_value.specs.declared.keys.Collation.TheVariants.{Binary}
 use Rattle.sqlite_value.specs.declared.value.Value.{Value}
@@ -13,16 +14,21 @@ use Rattle.sqlite_value.proofs.OrderLemmas.{value_cmp-apart}
 use Rattle.sqlite_schema.specs.declared.command.Command.{Command}
 use Rattle.sqlite_sql.specs.declared.ops.CompareOp.TheVariants.{Eq}
 use Rattle.sqlite_sql.specs.declared.ops.BinaryOp.TheVariants.{Compare}
+use Rattle.sqlite_typed.proofs.TestLemmas.{last_term}
 use Rattle.sqlite_sql.specs.Ops.{binary, is_true, from_truth}
+use Rattle.addr.specs.declared.span.Span.{Span}
+use Rattle.policy.specs.declared.authorization.Auth.{Auth}
+use Rattle.policy.specs.declared.grant.Granted.{Granted}
 use Rattle.policy.specs.CharterSets.{CharterSets}
 use Rattle.policy.specs.Rows.{Rows}
-use Rattle.store.specs.Tables.{desk_schema}
+use Rattle.store.specs.Tables.{desk_schema, contents, is_table, IsTree, AreTrees}
 use Rattle.store.specs.Cells.{schema_row, operator_row, prefix_cells}
-use Rattle.store.specs.Edits.{contents, is_table, IsTree, AreTrees, Edits}
-use Rattle.store.specs.TablesHold.{Part, rows_if_any, holder_part, holding_part, granted_part, auth_part, HoldsPart, HoldsCharter, at_holder, EditsRows}
-use Rattle.store.specs.Steps.{IsReady, Done}
-use Rattle.store.proofs.PartLemmas.{IsLocal, EditsPart, turned_at, part_same, part_edited, part_kept}
-use Rattle.store.proofs.Texts.{Means}
+use Rattle.store.specs.steps.Edits.{Edits}
+use Rattle.store.specs.TablesHold.{Part, part_rows, is_name_of, holder_part, holding_part, granted_part, auth_part, HoldsPart, HoldsCharter, TablesHold}
+use Rattle.store.specs.steps.Statements.{IsReady, IsExecuted, EditsRows}
+use Rattle.store.proofs.PartLemmas.{names, IsLocal, EditsPart, turned_at, part_same, part_turned}
+use Rattle.store.proofs.Selecting.{picks}
+use Rattle.store.proofs.Texts.{Means, equals}
 
 true_back : (b : Bool) → is_true (from_truth (Some b)) ≡ b
 true_back true = refl
@@ -50,18 +56,19 @@ pub column_after : (r : Row) (at : ℕ) → column r (suc at) ≡ column (drop 1
 column_after [] at = refl
 column_after (v ∷ r) at = refl
 
-module _ {sql : List ℕ} (params : Row) {command : Command} (means : Means sql command) {old new : State} (ready : IsReady old) (count : ℕ) (h : ExecutesInside 0 sql params old new (Ok count)) where
+-- the test of a statement on the rows of a holder
+pub holder_test : (place : ℕ) (h : List ℕ) (more r : Row) → picks (Text h ∷ more) (equals (suc place) 0 ∷ []) r ≡ names place h (drop 1 r)
+holder_test place h more r = last_term (equals_text (column r (suc place)) h ∙ ap (is_name_of h) (column_after r place))
+
+module _ {sql : List ℕ} (params : Row) {command : Command} (means : Means sql command) {old new : State} (ready : IsReady old) (ran : IsExecuted sql params old new) where
   pub has_schema : old.now.schema ≡ desk_schema
-  has_schema = ready.schema h.1.was_open
+  has_schema = ready.schema ran.1.1.was_open
 
-  pub wrote : Runs old new None command (statement_of sql (understood desk_schema sql)) params count
-  wrote = runs_as sql params old new desk_schema has_schema command means.is means.plain count h.0
+  pub wrote : Runs old new None command (statement_of sql (understood desk_schema sql)) params ran.0
+  wrote = runs_as sql params old new desk_schema has_schema command means.is means.plain ran.0 ran.1.0
 
-  pub done_by : (holder : List ℕ) (edit : Rows → Rows) → new.now.schema ≡ desk_schema → EditsRows holder edit old.now new.now → Done holder edit old new
-  done_by holder edit keeps rows = record {
-    ready = record { schema = λ _. keeps; inside = h.1.mode };
-    rows = rows;
-  }
+  pub ready_still : new.now.schema ≡ desk_schema → IsReady new
+  ready_still keeps = record { schema = λ _. keeps; inside = ran.1.1.mode }
 
 -- every other table stays sound
 pub sound_still : (tree : ℕ) (by : List Row → List Row) (old new : Database) → Edits tree by old new → AreTrees old.trees → AreTrees new.trees
@@ -71,68 +78,89 @@ sound_still tree by old new e sound t is = go (t == tree) refl
     go true same = let it : t ≡ tree = eqb-true _ _ same in subst (λ k. IsTree (new.trees k)) (sym it) (e.whole (subst (λ k. IsTree (old.trees k)) it (sound t is)))
     go false other = subst IsTree (sym (e.others t is (λ it. both_ways _ other (rw it (eq-eqb tree tree refl))))) (sound t is)
 
--- the charter stays where another table is edited
-pub charter_still : (charter : CharterSets) (tree : ℕ) (by : List Row → List Row) (old new : Database) → Edits tree by old new → 0 ≢ tree → 2 ≢ tree → 4 ≢ tree → HoldsCharter charter old.trees → HoldsCharter charter new.trees
-charter_still charter tree by old new e meta operator pool was = record {
-  schema = subst (λ t. IsPermutation (schema_row ∷ []) (contents t)) (sym (e.others 0 refl meta)) was.schema;
-  operators = subst (λ t. IsPermutation (map operator_row charter.operators) (contents t)) (sym (e.others 2 refl operator)) was.operators;
-  pool = subst (λ t. IsPermutation (map prefix_cells charter.pool) (contents t)) (sym (e.others 4 refl pool)) was.pool;
-}
+-- the four parts have trees of their own
+abbrev pub is_part_tree : ℕ → Bool
+is_part_tree t = list_any (λ part. part.tree == t) (holder_part ∷ holding_part ∷ granted_part ∷ auth_part ∷ [])
 
--- the rows of a holder in a table that is not edited
-pub turned_still : (part : Part) (rows : List ℕ → Option Rows) (h : List ℕ) (to : Option Rows → Option Rows) (tree : ℕ) (by : List Row → List Row) (old new : Database)
-    → Edits tree by old new → is_table part.tree ≡ true → part.tree ≢ tree → HoldsPart part rows (contents (old.trees part.tree)) → rows_if_any part h (rows h) ≡ rows_if_any part h (to (rows h))
-    → HoldsPart part (turned_at h to rows) (contents (new.trees part.tree))
-turned_still part rows h to tree by old new e is other holds same =
-    part_same part rows h to (contents (new.trees part.tree)) (subst (λ t. HoldsPart part rows (contents t)) (sym (e.others part.tree is other)) holds) same
+module _ (tree : ℕ) (by : List Row → List Row) (old new : Database) (e : Edits tree by old new) (is : is_part_tree tree ≡ true) where
+  -- a table that is no part stays where a part is edited
+  still : (t : ℕ) → is_table t ≡ true → is_part_tree t ≡ false → contents (old.trees t) ≡ contents (new.trees t)
+  still t table apart = ap contents (sym (e.others t table (λ same. both_ways _ (subst (λ k. is_part_tree k ≡ false) same apart) is)))
 
-pub stays : (part : Part) (rows : List ℕ → Option Rows) (h : List ℕ) (edit : Rows → Rows) (tree : ℕ) (by : List Row → List Row) (old new : Database)
-    → Edits tree by old new → is_table part.tree ≡ true → part.tree ≢ tree → HoldsPart part rows (contents (old.trees part.tree)) → ((r : Rows) → part.rows h (edit r) ≡ part.rows h r)
-    → HoldsPart part (at_holder h edit rows) (contents (new.trees part.tree))
-stays part rows h edit tree by old new e is other holds same =
-    part_kept part rows h edit (contents (new.trees part.tree)) (subst (λ t. HoldsPart part rows (contents t)) (sym (e.others part.tree is other)) holds) same
-
--- an edit of one of the four tables is one of the holder's rows where the rows of the other three stay
-abbrev pub Leaves : Part → List ℕ → (Rows → Rows) → Type 0
-Leaves part h edit = (r : Rows) → part.rows h (edit r) ≡ part.rows h r
-
-module _ (h : List ℕ) (edit : Rows → Rows) (by : List Row → List Row) (old new : Database) where
-  pub edits_holder : Edits holder_part.tree by old new → IsLocal 0 h by → EditsPart holder_part h edit by → Leaves holding_part h edit → Leaves granted_part h edit → Leaves auth_part h edit → EditsRows h edit old new
-  edits_holder e local to holdings grants auths charter rows was some = record {
-    charter_kept = charter_still charter holder_part.tree by old new e (λ same. cc) (λ same. cc) (λ same. cc) was.charter_kept;
-    holders = part_edited holder_part rows h edit by _ _ was.holders local e.rows to some;
-    holdings = stays holding_part rows h edit holder_part.tree by old new e refl (λ same. cc) was.holdings holdings;
-    grants = stays granted_part rows h edit holder_part.tree by old new e refl (λ same. cc) was.grants grants;
-    auths = stays auth_part rows h edit holder_part.tree by old new e refl (λ same. cc) was.auths auths;
-    whole = sound_still holder_part.tree by old new e was.whole;
+  charter_still : (charter : CharterSets) → HoldsCharter charter old.trees → HoldsCharter charter new.trees
+  charter_still charter was = record {
+    schema = subst (IsPermutation (schema_row ∷ [])) (still 0 refl refl) was.schema;
+    operators = subst (IsPermutation (map operator_row charter.operators)) (still 2 refl refl) was.operators;
+    pool = subst (IsPermutation (map prefix_cells charter.pool)) (still 4 refl refl) was.pool;
   }
 
-  pub edits_holdings : Edits holding_part.tree by old new → IsLocal 3 h by → EditsPart holding_part h edit by → Leaves holder_part h edit → Leaves granted_part h edit → Leaves auth_part h edit → EditsRows h edit old new
-  edits_holdings e local to holders grants auths charter rows was some = record {
-    charter_kept = charter_still charter holding_part.tree by old new e (λ same. cc) (λ same. cc) (λ same. cc) was.charter_kept;
-    holders = stays holder_part rows h edit holding_part.tree by old new e refl (λ same. cc) was.holders holders;
-    holdings = part_edited holding_part rows h edit by _ _ was.holdings local e.rows to some;
-    grants = stays granted_part rows h edit holding_part.tree by old new e refl (λ same. cc) was.grants grants;
-    auths = stays auth_part rows h edit holding_part.tree by old new e refl (λ same. cc) was.auths auths;
-    whole = sound_still holding_part.tree by old new e was.whole;
-  }
+-- A statement edits the table of one part. It turns the rows of a holder, where they are so, if this table's become those of the
+-- part, and the other parts show no difference.
+module _ (so : Option Rows → Type 0) (h : List ℕ) (to : Option Rows → Option Rows) (part : Part) where
+  -- the part is the one that is edited, or shows no difference
+  abbrev pub Follows : Part → Type 0
+  Follows p = (p ≡ part) ⊎ (((p.tree == part.tree) ≡ false) × (is_table p.tree ≡ true) × ((o : Option Rows) → so o → part_rows p h o ≡ part_rows p h (to o)))
 
-  pub edits_grants : Edits granted_part.tree by old new → IsLocal 0 h by → EditsPart granted_part h edit by → Leaves holder_part h edit → Leaves holding_part h edit → Leaves auth_part h edit → EditsRows h edit old new
-  edits_grants e local to holders holdings auths charter rows was some = record {
-    charter_kept = charter_still charter granted_part.tree by old new e (λ same. cc) (λ same. cc) (λ same. cc) was.charter_kept;
-    holders = stays holder_part rows h edit granted_part.tree by old new e refl (λ same. cc) was.holders holders;
-    holdings = stays holding_part rows h edit granted_part.tree by old new e refl (λ same. cc) was.holdings holdings;
-    grants = part_edited granted_part rows h edit by _ _ was.grants local e.rows to some;
-    auths = stays auth_part rows h edit granted_part.tree by old new e refl (λ same. cc) was.auths auths;
-    whole = sound_still granted_part.tree by old new e was.whole;
-  }
+  abbrev pub AllFollow : Type 0
+  AllFollow = Follows holder_part × Follows holding_part × Follows granted_part × Follows auth_part
 
-  pub edits_auths : Edits auth_part.tree by old new → IsLocal 0 h by → EditsPart auth_part h edit by → Leaves holder_part h edit → Leaves holding_part h edit → Leaves granted_part h edit → EditsRows h edit old new
-  edits_auths e local to holders holdings grants charter rows was some = record {
-    charter_kept = charter_still charter auth_part.tree by old new e (λ same. cc) (λ same. cc) (λ same. cc) was.charter_kept;
-    holders = stays holder_part rows h edit auth_part.tree by old new e refl (λ same. cc) was.holders holders;
-    holdings = stays holding_part rows h edit auth_part.tree by old new e refl (λ same. cc) was.holdings holdings;
-    grants = stays granted_part rows h edit auth_part.tree by old new e refl (λ same. cc) was.grants grants;
-    auths = part_edited auth_part rows h edit by _ _ was.auths local e.rows to some;
-    whole = sound_still auth_part.tree by old new e was.whole;
-  }
+  module _ (by : List Row → List Row) (old new : Database) (e : Edits part.tree by old new) (local : IsLocal part.place h by) (turns : (o : Option Rows) → so o → IsPermutation (part_rows part h (to o)) (by (part_rows part h o))) where
+    turned_part : (p : Part) (rows : List ℕ → Option Rows) → so (rows h) → Follows p → HoldsPart p rows (contents (old.trees p.tree)) → HoldsPart p (turned_at h to rows) (contents (new.trees p.tree))
+    turned_part p rows is (inl same) = subst (λ q. HoldsPart q rows (contents (old.trees q.tree)) → HoldsPart q (turned_at h to rows) (contents (new.trees q.tree))) (sym same)
+        (λ holds. part_turned part rows h to by _ _ holds local e.rows (turns (rows h) is))
+    turned_part p rows is (inr other) = λ holds.
+        part_same p rows h to (contents (new.trees p.tree))
+        (subst (λ t. HoldsPart p rows (contents t)) (sym (e.others p.tree other.1 (λ it. both_ways _ other.0 (rw it (eq-eqb part.tree part.tree refl))))) holds) (other.2 (rows h) is)
+
+    pub turns_rows : is_part_tree part.tree ≡ true → AllFollow → (charter : CharterSets) (rows : List ℕ → Option Rows) → TablesHold charter rows old.trees → so (rows h) → TablesHold charter (turned_at h to rows) new.trees
+    turns_rows is parts charter rows was is_so = record {
+      charter_kept = charter_still part.tree by old new e is charter was.charter_kept;
+      holders = turned_part holder_part rows is_so parts.0 was.holders;
+      holdings = turned_part holding_part rows is_so parts.1 was.holdings;
+      grants = turned_part granted_part rows is_so parts.2 was.grants;
+      auths = turned_part auth_part rows is_so parts.3 was.auths;
+      exceptions = sym (still part.tree by old new e is 15 refl refl) ∙ was.exceptions;
+      whole = sound_still part.tree by old new e was.whole;
+    }
+
+-- an edit of the rows of a registered holder
+module _ (h : List ℕ) (edit : Rows → Rows) (part : Part) where
+  abbrev pub AllEdited : Type 0
+  AllEdited = AllFollow IsSome h (option_map edit) part
+
+  -- another part, in which the edit makes no difference
+  pub leaves : (p : Part) → (p.tree == part.tree) ≡ false → is_table p.tree ≡ true → ((r : Rows) → p.rows h (edit r) ≡ p.rows h r) → Follows IsSome h (option_map edit) part p
+  leaves p other is same = inr (other, is, go)
+    where
+      go : (o : Option Rows) → IsSome o → part_rows p h o ≡ part_rows p h (option_map edit o)
+      go None some = refl
+      go (Some r) some = sym (same r)
+
+  pub edits_rows : (by : List Row → List Row) (old new : Database) → Edits part.tree by old new → IsLocal part.place h by → EditsPart part h edit by → is_part_tree part.tree ≡ true → AllEdited → EditsRows h edit old new
+  edits_rows by old new e local to is parts = turns_rows IsSome h (option_map edit) part by old new e local go is parts
+    where
+      go : (o : Option Rows) → IsSome o → IsPermutation (part_rows part h (option_map edit o)) (by (part_rows part h o))
+      go None some = absurd cc
+      go (Some r) some = to r
+
+-- each edit is of one part
+module _ (h : List ℕ) where
+  pub in_holder : (granted created : Rows → ℕ) → AllEdited h (λ r. record r { granted = granted r; created = created r }) holder_part
+  in_holder granted created =
+      let left = leaves h (λ r. record r { granted = granted r; created = created r }) holder_part in
+      (inl refl, left holding_part refl refl (λ r. refl), left granted_part refl refl (λ r. refl), left auth_part refl refl (λ r. refl))
+
+  pub in_holdings : (f : Rows → List Span) → AllEdited h (λ r. record r { holdings = f r }) holding_part
+  in_holdings f =
+      let left = leaves h (λ r. record r { holdings = f r }) holding_part in
+      (left holder_part refl refl (λ r. refl), inl refl, left granted_part refl refl (λ r. refl), left auth_part refl refl (λ r. refl))
+
+  pub in_grants : (f : Rows → List Granted) → AllEdited h (λ r. record r { grants = f r }) granted_part
+  in_grants f =
+      let left = leaves h (λ r. record r { grants = f r }) granted_part in
+      (left holder_part refl refl (λ r. refl), left holding_part refl refl (λ r. refl), inl refl, left auth_part refl refl (λ r. refl))
+
+  pub in_auths : (f : Rows → List Auth) → AllEdited h (λ r. record r { auths = f r }) auth_part
+  in_auths f =
+      let left = leaves h (λ r. record r { auths = f r }) auth_part in
+      (left holder_part refl refl (λ r. refl), left holding_part refl refl (λ r. refl), left granted_part refl refl (λ r. refl), inl refl)

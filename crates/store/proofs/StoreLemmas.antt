@@ -9,24 +9,20 @@ use Rattle.sqlite.specs.Store.{Ghosts}
 use Rattle.sqlite_trees.specs.Tree.{Trees}
 use Rattle.policy.specs.CharterSets.{CharterSets}
 use Rattle.policy.specs.Rows.{Rows}
-use Rattle.store.specs.Queries.{IsAsBefore}
-use Rattle.store.specs.Loads.{IsOfAll}
-use Rattle.store.specs.Making.{IsNew}
-use Rattle.store.specs.StoreRows.{StoreView, IsKept, Holds, IsRead, MayLeave, LeavesOnly}
-use Rattle.store.specs.Steps.{IsMade, CommitsTo, Turned, Turns}
+use Rattle.store.specs.steps.Queries.{IsAsBefore, IsOfAll}
+use Rattle.store.specs.StoreRows.{RowChange, IsNew}
+use Rattle.store.specs.StoreRows.{StoreView, IsDeskWhileOpen, Holds, IsRead, MayLeave, LeavesOnly}
+use Rattle.store.specs.steps.Statements.{CommitsChange, MayCommit, MakesChange, RowsBecome}
 use Rattle.store.specs.TablesHold.{TablesHold}
 
-abbrev pub Change : Type 0
-Change = (List ℕ → Option Rows) → List ℕ → Option Rows
-
-pub kept_still : (old new : State) → (HasCleanDisk new → HasCleanDisk old) → (HasCleanDisk new → IsTrue new.is_open → IsAsBefore old new) → IsKept old → IsKept new
+pub kept_still : (old new : State) → (HasCleanDisk new → HasCleanDisk old) → (HasCleanDisk new → IsTrue new.is_open → IsAsBefore old new) → IsDeskWhileOpen old → IsDeskWhileOpen new
 kept_still old new before same kept clean opened =
     let as_before = same clean opened in
     let was = kept (before clean) as_before.0 in
     record { schema = ap (λ (d : Database). d.schema) as_before.1 ∙ was.schema; settled = as_before.2 ∙ was.settled ∙ sym as_before.1 }
 
-pub kept_after : {X E : Type 0} (r : Result X E) (to : Change) (old new : State) → (HasCleanDisk new → HasCleanDisk old) → (HasCleanDisk new → OnOk r (IsMade to old new))
-    → (HasCleanDisk new → IsTrue new.is_open → OnErr r (IsAsBefore old new)) → IsKept old → IsKept new
+pub kept_after : {X E : Type 0} (r : Result X E) (to : RowChange) (old new : State) → (HasCleanDisk new → HasCleanDisk old) → (HasCleanDisk new → OnOk r (CommitsChange to old new))
+    → (HasCleanDisk new → IsTrue new.is_open → OnErr r (IsAsBefore old new)) → IsDeskWhileOpen old → IsDeskWhileOpen new
 kept_after (Ok a) to old new before ok err kept clean opened = let made = ok clean in record { schema = made.schema; settled = made.committed }
 kept_after (Err e) to old new before ok err kept clean opened = kept_still old new before err kept clean opened
 
@@ -34,32 +30,25 @@ kept_after (Err e) to old new before ok err kept clean opened = kept_still old n
 abbrev pub over : {S : Type 0} → CharterSets → Held S → StoreView S
 over charter connection = record { connection = connection; charter = charter }
 
-module _ {S X E : Type 0} (g : Ghosts S) (r : Result X E) (to : Change) (charter : CharterSets) (old new : Held S) (clean : HasCleanDisk (state g new)) (before : HasCleanDisk (state g new) → HasCleanDisk (state g old)) where
-  pub holds_ok : OnOk r (IsMade to (state g old) (state g new)) → OnOk r ((rows : List ℕ → Option Rows) → Holds g (over charter old) rows → Holds g (over charter new) (to rows))
+module _ {S X E : Type 0} (g : Ghosts S) (r : Result X E) (to : RowChange) (charter : CharterSets) (old new : Held S) (clean : HasCleanDisk (state g new)) (before : HasCleanDisk (state g new) → HasCleanDisk (state g old)) where
+  pub holds_ok : OnOk r (CommitsChange to (state g old) (state g new)) → OnOk r ((rows : List ℕ → Option Rows) → Holds g (over charter old) rows → Holds g (over charter new) (to rows))
   holds_ok = go r
     where
-      go : (r : Result X E) → OnOk r (IsMade to (state g old) (state g new)) → OnOk r ((rows : List ℕ → Option Rows) → Holds g (over charter old) rows → Holds g (over charter new) (to rows))
+      go : (r : Result X E) → OnOk r (CommitsChange to (state g old) (state g new)) → OnOk r ((rows : List ℕ → Option Rows) → Holds g (over charter old) rows → Holds g (over charter new) (to rows))
       go (Ok a) made = λ rows holds _ opened. made.rows charter rows (holds (before clean) made.was_open)
       go (Err e) made = tt
 
-  pub holds_err : (IsTrue (state g new).is_open → OnErr r (IsAsBefore (state g old) (state g new))) → OnErr r ((rows : List ℕ → Option Rows) → Holds g (over charter old) rows → Holds g (over charter new) rows)
-  holds_err = go r
-    where
-      go : (r : Result X E) → (IsTrue (state g new).is_open → OnErr r (IsAsBefore (state g old) (state g new))) → OnErr r ((rows : List ℕ → Option Rows) → Holds g (over charter old) rows → Holds g (over charter new) rows)
-      go (Ok a) same = tt
-      go (Err e) same = λ rows holds _ opened. let was = same opened in subst (λ (d : Database). TablesHold charter rows d.trees) (sym was.1) (holds (before clean) was.0)
-
-  pub may_leave : Survives (state g old) (state g new) (CommitsTo to (state g old)) → MayLeave g (over charter old) (over charter new) to
+  pub may_leave : Survives (state g old) (state g new) (MayCommit to (state g old)) → MayLeave g (over charter old) (over charter new) to
   may_leave survives trees left = elim (survives.crash clean trees left) [
     | inl was ↦ inl was
     | inr now ↦ inr (λ rows holds. subst (TablesHold charter (to rows)) (sym now.3) (now.2 charter rows (holds (before clean) now.1)))
   ]
 
   -- an open store leaves what it committed
-  pub leaves_only : ((trees : Trees) → IsTrue (state g new).is_open → (state g new).may_leave trees → trees ≡ (state g new).committed.trees) → OnOk r (IsMade to (state g old) (state g new)) → OnOk r (LeavesOnly g (over charter old) (over charter new) to)
+  pub leaves_only : ((trees : Trees) → IsTrue (state g new).is_open → (state g new).may_leave trees → trees ≡ (state g new).committed.trees) → OnOk r (CommitsChange to (state g old) (state g new)) → OnOk r (LeavesOnly g (over charter old) (over charter new) to)
   leaves_only settled = go r
     where
-      go : (r : Result X E) → OnOk r (IsMade to (state g old) (state g new)) → OnOk r (LeavesOnly g (over charter old) (over charter new) to)
+      go : (r : Result X E) → OnOk r (CommitsChange to (state g old) (state g new)) → OnOk r (LeavesOnly g (over charter old) (over charter new) to)
       go (Ok a) made = λ rows holds trees left.
           subst (TablesHold charter (to rows)) (sym (settled trees made.is_open left ∙ ap (λ (d : Database). d.trees) made.committed)) (made.rows charter rows (holds (before clean) made.was_open))
       go (Err e) made = tt
@@ -70,15 +59,6 @@ pub leaves_new : {S : Type 0} (g : Ghosts S) (charter : CharterSets) (h : Held S
 leaves_new g charter h settled new trees left = subst (TablesHold charter (λ h. None)) (sym (settled trees new.is_open left ∙ ap (λ (d : Database). d.trees) new.settled)) new.rows
 
 -- ---- a read
-
-pub is_read : {S : Type 0} (g : Ghosts S) (charter : CharterSets) (old new : Held S) → (HasCleanDisk (state g new) → HasCleanDisk (state g old))
-    → (HasCleanDisk (state g new) → IsTrue (state g new).is_open → IsAsBefore (state g old) (state g new)) → Survives (state g old) (state g new) (λ _. ⊥) → IsRead g (over charter old) (over charter new)
-is_read g charter old new before same survives = record {
-  clean = before;
-  charter = refl;
-  rows = λ clean rows holds _ opened. let was = same clean opened in subst (λ (d : Database). TablesHold charter rows d.trees) (sym was.1) (holds (before clean) was.0);
-  crash = λ clean trees left. elim (survives.crash clean trees left) [ inl was ↦ was | inr none ↦ absurd none ];
-}
 
 pub read_then : {S : Type 0} (g : Ghosts S) (a b c : StoreView S) → IsRead g a b → IsRead g b c → IsRead g a c
 read_then g a b c first second = record {
@@ -96,11 +76,11 @@ of_store g charter old new (Err e) so clean same found = tt
 
 -- ---- a change within a transaction, and its commit
 
-module _ {S : Type 0} (g : Ghosts S) (to : Change) (first begun mid last : Held S) (begins : begun ≡ record first { in_transaction = true }) where
-  from_first : Turned to (state g begun) (state g mid) → IsTrue (state g first).is_open × Turns to (state g first).now (state g mid).now
-  from_first turned = let it = subst (λ h. Turned to (state g h) (state g mid)) begins turned in (it.was_open, it.rows)
+module _ {S : Type 0} (g : Ghosts S) (to : RowChange) (first begun mid last : Held S) (begins : begun ≡ record first { in_transaction = true }) where
+  from_first : MakesChange to (state g begun) (state g mid) → IsTrue (state g first).is_open × RowsBecome to (state g first).now (state g mid).now
+  from_first turned = let it = subst (λ h. MakesChange to (state g h) (state g mid)) begins turned in (it.was_open, it.rows)
 
-  pub commit_ok : Turned to (state g begun) (state g mid) → Shows (state g mid) (state g last) (state g mid).now (state g mid).now false → IsMade to (state g first) (state g last)
+  pub commit_ok : MakesChange to (state g begun) (state g mid) → Shows (state g mid) (state g last) (state g mid).now (state g mid).now false → CommitsChange to (state g first) (state g last)
   commit_ok turned shown =
       let it = from_first turned in
       record {
@@ -111,9 +91,9 @@ module _ {S : Type 0} (g : Ghosts S) (to : Change) (first begun mid last : Held 
         committed = shown.committed_is ∙ sym shown.now_is;
       }
 
-  pub commit_crash : Survives (state g begun) (state g mid) (λ _. ⊥) → Survives (state g mid) (state g last) (λ db. db ≡ (state g mid).now.trees) → (HasCleanDisk (state g mid) → Turned to (state g begun) (state g mid))
-      → Survives (state g first) (state g last) (CommitsTo to (state g first))
+  pub commit_crash : Survives (state g begun) (state g mid) (λ _. ⊥) → Survives (state g mid) (state g last) (λ db. db ≡ (state g mid).now.trees) → (HasCleanDisk (state g mid) → MakesChange to (state g begun) (state g mid))
+      → Survives (state g first) (state g last) (MayCommit to (state g first))
   commit_crash inside end turned =
-      survives_then (state g first) (state g mid) (state g last) (λ _. ⊥) (λ db. db ≡ (state g mid).now.trees) (CommitsTo to (state g first)) (λ _ db none. absurd none)
+      survives_then (state g first) (state g mid) (state g last) (λ _. ⊥) (λ db. db ≡ (state g mid).now.trees) (MayCommit to (state g first)) (λ _ db none. absurd none)
       (λ clean db is. let it = from_first (turned (omega (arith, end.clean))) in ((state g mid).now, it.0, it.1, is))
       (survives_begin g first (state g mid) (λ _. ⊥) (subst (λ h. Survives (state g h) (state g mid) (λ _. ⊥)) begins inside)) end

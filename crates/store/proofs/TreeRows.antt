@@ -18,7 +18,7 @@ use Rattle.sqlite_rules.specs.Lists.{Has}
 use Rattle.sqlite_rules.proofs.TableLemmas.{int_is}
 use Rattle.sqlite_rules.proofs.ListLemmas.{all_has, all_from, some_has, some_from, has_filtered, has_kept}
 use Rattle.sqlite_typed.proofs.TestLemmas.{turn_eq}
-use Rattle.store.specs.Edits.{IsTree}
+use Rattle.store.specs.Tables.{IsTree}
 
 pub alike_flip : (a b : Value) → is_eq (value_cmp a b) ≡ is_eq (value_cmp b a)
 alike_flip = turn_eq value_cmp value_cmp_total

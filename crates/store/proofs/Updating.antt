@@ -8,13 +8,10 @@ use Rattle.sqlite.specs.Rows.{Written}
 use Rattle.sqlite.specs.State.{State, mode_of, Writes}
 use Rattle.sqlite.proofs.Callers.{one_step}
 use Rattle.sqlite_value.specs.declared.value.Value.TheVariants.{Null}
-use Rattle.sqlite_value.specs.declared.keys.Order.{Order}
 use Rattle.sqlite_value.specs.Order.{Row}
 use Rattle.sqlite_trees.proofs.ListLemmas.{map-map, ascending-filter, all-filter}
 use Rattle.sqlite_sql.specs.Term.{Term, col, eval_all}
-use Rattle.sqlite_schema.specs.declared.schema.Column.{Column}
 use Rattle.sqlite_schema.specs.declared.schema.Keys.TheVariants.{Enforced}
-use Rattle.sqlite_schema.specs.declared.schema.Reference.{Reference}
 use Rattle.sqlite_schema.specs.declared.schema.Table.{Table}
 use Rattle.sqlite_schema.specs.declared.program.Program.{Program}
 use Rattle.sqlite_schema.specs.declared.command.Command.TheVariants.{Update}
@@ -23,8 +20,8 @@ use Rattle.sqlite_rules.specs.Calls.{ids_of}
 use Rattle.sqlite_rules.specs.Cast.{cast_all, cast_row}
 use Rattle.sqlite_rules.specs.Edit.{Applies, edit_of, numbered, put_all, without_all, have_rowids, are_fresh, taken_by}
 use Rattle.sqlite_rules.proofs.PlaceLemmas.{given}
-use Rattle.store.specs.Tables.{strict, desk_schema, desk_tables}
-use Rattle.store.specs.Edits.{contents, IsTree, Edits}
+use Rattle.store.specs.Tables.{as_strict, desk_schema, desk_tables, contents, IsTree}
+use Rattle.store.specs.steps.Edits.{Edits}
 use Rattle.store.proofs.TreeRows.{without_picked, put_all_permutes, put_all_tree}
 use Rattle.store.proofs.Inserting.{went, same_value, quiet, at_table}
 use Rattle.store.proofs.Selecting.{from_table, no_limit, picks, permuted}
@@ -58,17 +55,16 @@ in_two p f g xs =
     (map-append (λ x. cond (p x) (f x) (g x)) (filter p xs) (filter (λ x. not (p x)) xs) ∙ (λ i. picked_changed p f g xs i ++ passed_kept p f g xs i))
     (IsPermutation-map (λ x. cond (p x) (f x) (g x)) _ _ (IsPermutation-filter_both p (λ x. not (p x)) (λ x. refl) xs))
 
-module _ (at : ℕ) (name : List ℕ) (tree : ℕ) (columns : List Column) (primary : List ℕ) (uniques : List (List ℕ)) (orders : List Order) (references : List Reference)
-    (there : slice_get desk_tables at ≡ Some (strict name tree columns primary uniques orders references)) where
+module _ (at : ℕ) (t : Table) (there : slice_get desk_tables at ≡ Some (as_strict t)) where
   abbrev table : Table
-  table = strict name tree columns primary uniques orders references
+  table = as_strict t
 
   -- the query shows the rowid twice, and then the new columns
   abbrev pub new_rows : List Term → List Term
   new_rows sets = col 1 0 ∷ col 1 0 ∷ sets
 
-  abbrev update : List Term → List Term → Program
-  update tests sets = record { lets = []; body = from_table tree tests (new_rows sets) [] no_limit }
+  abbrev pub update : List Term → List Term → Program
+  update tests sets = record { lets = []; body = from_table t.tree tests (new_rows sets) [] no_limit }
 
   pub applied : (tests sets : List Term) (old new : State) (text : List ℕ) (params : Row) (count : ℕ) → old.now.schema ≡ desk_schema
       → Writes old new None (Update at (update tests sets)) text params count
@@ -84,12 +80,12 @@ module _ (at : ℕ) (name : List ℕ) (tree : ℕ) (columns : List Column) (prim
       let written = went given.2 in
       let trees : new.now.trees ≡ written.0 = ap (λ (d : Database). d.trees) now ∙ ap (λ (it : Written). it.trees) (same_value written.2) in
       let edit = edit_of db table (ids_of given.0) Given 1 given.0 in
-      let made = one_step desk_schema Enforced db written.0 edit (quiet tree (taken_by db edit) edit.news) written.1 in
+      let made = one_step desk_schema Enforced db written.0 edit (quiet t.tree (taken_by db edit) edit.news) written.1 in
       (given.0, given.1, ap (λ (d : Database). d.schema) now, subst (Applies desk_schema Enforced db edit) (sym trees) made)
 
   -- the columns of the new rows
   new_cells : (tests sets : List Term) (change : Row → Row) (params : Row) (rows tree_rows : List Row)
-      → ((r : Row) → cast_all columns (eval_all sets (params ∷ r ∷ [])) ≡ change (drop 1 r))
+      → ((r : Row) → cast_all t.columns (eval_all sets (params ∷ r ∷ [])) ≡ change (drop 1 r))
       → IsPermutation (map (λ r. eval_all (new_rows sets) (params ∷ r ∷ [])) (filter (picks params tests) tree_rows)) rows
       → IsPermutation (map (λ r. change (drop 1 r)) (filter (picks params tests) tree_rows)) (contents (map (λ s. cast_row table (drop 1 s)) rows))
   new_cells tests sets change params rows tree_rows sets_to shown =
@@ -102,17 +98,17 @@ module _ (at : ℕ) (name : List ℕ) (tree : ℕ) (columns : List Column) (prim
       (IsPermutation-map (λ s. drop 1 (cast_row table (drop 1 s))) _ _ shown)
 
   updated : (tests sets : List Term) (goes : Row → Bool) (change : Row → Row) (params : Row) (rows : List Row) (old next : Database) → old.schema ≡ desk_schema → next.schema ≡ desk_schema
-      → ((r : Row) → picks params tests r ≡ goes (drop 1 r)) → ((r : Row) → cast_all columns (eval_all sets (params ∷ r ∷ [])) ≡ change (drop 1 r)) → IsTree (old.trees tree)
-      → IsPermutation (map (λ r. eval_all (new_rows sets) (params ∷ r ∷ [])) (filter (picks params tests) (old.trees tree))) rows
+      → ((r : Row) → picks params tests r ≡ goes (drop 1 r)) → ((r : Row) → cast_all t.columns (eval_all sets (params ∷ r ∷ [])) ≡ change (drop 1 r)) → IsTree (old.trees t.tree)
+      → IsPermutation (map (λ r. eval_all (new_rows sets) (params ∷ r ∷ [])) (filter (picks params tests) (old.trees t.tree))) rows
       → Applies desk_schema Enforced old.trees (edit_of old.trees table (ids_of rows) Given 1 rows) next.trees
-      → Edits tree (map (changed_if goes change)) old next
+      → Edits t.tree (map (changed_if goes change)) old next
   updated tests sets goes change params rows old next has keeps same sets_to sound shown made =
-      let was : List Row = old.trees tree in
+      let was : List Row = old.trees t.tree in
       let news : List Row = map (λ s. cast_row table (drop 1 s)) rows in
       let rest : List Row = filter (λ r. not (picks params tests r)) was in
       let left : without_all was (ids_of rows) ≡ rest = without_picked was sound (picks params tests) (ids_of rows) (shown_ids tests (col 1 0 ∷ sets) was rows params shown) in
       let numbers : numbered Given (without_all was (ids_of rows)) news ≡ news = given (without_all was (ids_of rows)) news in
-      let now : next.trees tree ≡ put_all rest news = made.rows ∙ (λ i. put_all (left i) (numbers i)) in
+      let now : next.trees t.tree ≡ put_all rest news = made.rows ∙ (λ i. put_all (left i) (numbers i)) in
       let keyed : have_rowids news ≡ true = ap have_rowids (sym numbers) ∙ made.keyed in
       let fresh : are_fresh rest news ≡ true = (λ i. are_fresh (sym left i) (sym numbers i)) ∙ made.fresh in
       let edited_to : map (λ r. cond (picks params tests r) (change (drop 1 r)) (drop 1 r)) was ≡ map (changed_if goes change) (contents was) =
@@ -125,14 +121,14 @@ module _ (at : ℕ) (name : List ℕ) (tree : ℕ) (columns : List Column) (prim
       IsPermutation-trans _ _ _ parted (IsPermutation-trans _ _ _ (IsPermutation-append_left (contents rest) _ _ (new_cells tests sets change params rows was sets_to shown)) put) in
       record {
         schema = keeps ∙ sym has;
-        others = at_table (λ t. next.trees t ≡ old.trees t) tree desk_tables made.tables;
+        others = at_table (λ t. next.trees t ≡ old.trees t) t.tree desk_tables made.tables;
         rows = subst (λ l. IsPermutation (map (changed_if goes change) (contents was)) (contents l)) (sym now) all;
-        whole = λ tree. subst IsTree (sym now) (put_all_tree news rest keyed fresh (ascending-filter _ (λ r. not (picks params tests r)) _ tree.0, all-filter _ (λ r. not (picks params tests r)) _ tree.1));
+        whole = λ sound. subst IsTree (sym now) (put_all_tree news rest keyed fresh (ascending-filter _ (λ r. not (picks params tests r)) _ sound.0, all-filter _ (λ r. not (picks params tests r)) _ sound.1));
       }
 
   pub changes : (tests sets : List Term) (goes : Row → Bool) (change : Row → Row) (old new : State) (text : List ℕ) (params : Row) (count : ℕ) → old.now.schema ≡ desk_schema
-      → ((r : Row) → picks params tests r ≡ goes (drop 1 r)) → ((r : Row) → cast_all columns (eval_all sets (params ∷ r ∷ [])) ≡ change (drop 1 r)) → IsTree (old.now.trees tree)
-      → Writes old new None (Update at (update tests sets)) text params count → Edits tree (map (changed_if goes change)) old.now new.now
+      → ((r : Row) → picks params tests r ≡ goes (drop 1 r)) → ((r : Row) → cast_all t.columns (eval_all sets (params ∷ r ∷ [])) ≡ change (drop 1 r)) → IsTree (old.now.trees t.tree)
+      → Writes old new None (Update at (update tests sets)) text params count → Edits t.tree (map (changed_if goes change)) old.now new.now
   changes tests sets goes change old new text params count has same sets_to sound w =
       let it = applied tests sets old new text params count has w in
-      updated tests sets goes change params it.0 old.now new.now has it.2 same sets_to sound (permuted tree tests (new_rows sets) [] old.now.trees params it.0 (it.1.answer Null)) it.3
+      updated tests sets goes change params it.0 old.now new.now has it.2 same sets_to sound (permuted t.tree tests (new_rows sets) [] old.now.trees params it.0 (it.1.answer Null)) it.3

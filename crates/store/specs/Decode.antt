@@ -6,12 +6,16 @@ use Rattle.addr.specs.declared.vrp.Vrp.{Vrp}
 use Rattle.addr.specs.Name.{is_name}
 use Rattle.policy.specs.declared.authorization.Auth.{Auth}
 use Rattle.policy.specs.declared.grant.Granted.{Granted}
-use Rattle.store.specs.Queries.{columns}
+use Rattle.store.specs.steps.Queries.{columns}
 
--- What is read of cells: the value that shows them, or none where no value does. Only values that
--- fit their Rust type count, since a `u32` is any number here.
-abbrev pub Reads : {X Y : Type 0} → (X → Y) → (X → Type 0) → Y → Option X → Type 0
-Reads {X} cells fits shown result = MatchOption result ((x : X) → fits x → cells x ≢ shown) (λ x. fits x × (shown ≡ cells x))
+-- No value shows these cells. Only values that fit their Rust type count, since a `u32` is any number here.
+abbrev pub ShowsNone : {X Y : Type 0} → (X → Y) → (X → Type 0) → Y → Type 0
+ShowsNone {X} cells fits shown = (x : X) → fits x → cells x ≢ shown
+
+-- what is read of cells: the value that shows them, or none where no value does
+abbrev pub Decodes : {X Y : Type 0} → (X → Y) → (X → Type 0) → Y → Option X → Type 0
+Decodes cells fits shown result =
+    MatchOption result (ShowsNone cells fits shown) (λ x. fits x × (shown ≡ cells x))
 
 -- the first columns of a row, with NULL past its end
 abbrev pub first_columns : ℕ → Row → Row

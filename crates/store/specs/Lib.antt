@@ -1,13 +1,9 @@
 pub mod Tables
-pub mod Edits
 pub mod Cells
 pub mod Decode
 pub mod TablesHold
-pub mod RowEdits
-pub mod Steps
 pub mod Fault
 pub mod StoreRows
-pub mod Making
-pub mod Queries
 pub mod Loads
 pub mod Laws
+pub mod steps

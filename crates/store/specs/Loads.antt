@@ -1,21 +1,17 @@
 -- What is loaded of the rows that the tables hold.
 use Rattle.std.specs.Prelude.{◌≡◌, ◌≤◌, ℕ, List, Option, Some, None, All, Contains, IsPermutation, IsSortedByKey, ⊤}
 use Rattle.std.specs.Ordering.{nat_cmp}
-use Rattle.sqlite.specs.State.{State}
 use Rattle.addr.specs.Address.{Address}
 use Rattle.addr.specs.Spans.{spans_have, HaveSome}
 use Rattle.addr.specs.declared.prefix.Prefix.{Prefix}
 use Rattle.addr.specs.declared.span.Span.{Span}
 use Rattle.addr.specs.declared.vrp.Vrp.{Vrp}
-use Rattle.policy.specs.CharterSets.{CharterSets}
 use Rattle.policy.specs.declared.authorization.Auth.{Auth}
 use Rattle.policy.specs.declared.grant.Granted.{Granted}
 use Rattle.policy.specs.declared.rows.HolderRows.{HolderRows}
 use Rattle.policy.specs.Rows.{Rows}
 use Rattle.policy.specs.Terms.{IsVrpOf}
-use Rattle.store.specs.declared.decode.Counters.{Counters}
 use Rattle.store.specs.Decode.{IsU32, AuthFits, GrantFits, VrpFits}
-use Rattle.store.specs.TablesHold.{TablesHold}
 
 -- the same items, by rising number
 abbrev pub AreInOrder : {X : Type 0} → (X → ℕ) → List X → List X → Type 0
@@ -24,13 +20,6 @@ AreInOrder number xs ys = IsPermutation xs ys × IsSortedByKey number nat_cmp ys
 -- the runs have the same addresses
 abbrev pub HaveSame : List Span → List Span → Type 0
 HaveSame spans other = (a : Address) → spans_have other a ≡ spans_have spans a
-
--- the counters of the rows, where there are rows
-abbrev pub AreCounters : Option Rows → Option Counters → Type 0
-AreCounters None None = ⊤
-AreCounters None (Some c) = ⊥
-AreCounters (Some r) None = ⊥
-AreCounters (Some r) (Some c) = (c.granted ≡ r.granted) × (c.created ≡ r.created)
 
 -- The rows of a holder as they are loaded: its addresses as maximal runs, which `Holdings` promises, its
 -- grants and its authorizations by rising number, and its counters.
@@ -58,13 +47,6 @@ abbrev pub FitIfAny : Option Rows → Type 0
 FitIfAny None = ⊤
 FitIfAny (Some r) = RowsFit r
 
--- it is so of the rows of every holder, and of those of one, whatever charter and rows the tables hold
-abbrev pub IsOfAll : ((List ℕ → Option Rows) → Type 0) → State → Type 0
-IsOfAll so s = (charter : CharterSets) (rows : List ℕ → Option Rows) → TablesHold charter rows s.now.trees → so rows
-
-abbrev pub IsOf : (Option Rows → Type 0) → List ℕ → State → Type 0
-IsOf so h s = IsOfAll (λ rows. so (rows h)) s
-
 -- ---- the rows of every holder
 
 -- some holder holds an address of the prefix
@@ -80,5 +62,6 @@ IsGivenOn rows day v =
 -- each authorization that is in force on the day gives a VRP
 abbrev pub AllGiveOn : (List ℕ → Option Rows) → ℕ → Type 0
 AllGiveOn rows day =
-    (h : List ℕ) (r : Rows) (x : Auth) → rows h ≡ Some r → Contains r.auths x → x.from ≤ day → day ≤ x.until
+    (h : List ℕ) (r : Rows) (x : Auth)
+    → rows h ≡ Some r → Contains r.auths x → x.from ≤ day → day ≤ x.until
     → (v : Vrp) × IsVrpOf x v × VrpFits v

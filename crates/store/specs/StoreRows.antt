@@ -1,5 +1,5 @@
 -- What a store shows and holds, as it is and after a crash.
-use Rattle.std.specs.Prelude.{◌≡◌, ℕ, List, Option, IsTrue, ◌⊎◌, refl}
+use Rattle.std.specs.Prelude.{◌≡◌, ◌⊎◌, ℕ, false, List, Option, None, IsTrue, refl}
 use Rattle.std.specs.Coded.{Coded, code_by, coded×}
 use Rattle.sqlite.specs.Held.{Held, held_code, state}
 use Rattle.sqlite.specs.State.{State, HasCleanDisk}
@@ -7,8 +7,9 @@ use Rattle.sqlite.specs.Store.{Ghosts}
 use Rattle.sqlite_trees.specs.Tree.{Trees}
 use Rattle.policy.specs.contracts.charter.Charter as charter
 use Rattle.policy.specs.CharterSets.{CharterSets}
-use Rattle.policy.specs.Rows.{Rows}
-use Rattle.store.specs.Tables.{desk_schema}
+use Rattle.policy.specs.declared.change.Change.{Change}
+use Rattle.policy.specs.Rows.{Rows, changed}
+use Rattle.store.specs.Tables.{blank_schema, desk_schema}
 use Rattle.store.specs.TablesHold.{TablesHold}
 
 -- a store as its connection and its charter
@@ -24,13 +25,24 @@ view_code {S} store =
 abbrev pub state_of : {S : Type 0} → Ghosts S → StoreView S → State
 state_of g store = state g store.connection
 
+-- the rows of every holder after a change, from those before it
+abbrev pub RowChange : Type 0
+RowChange = (List ℕ → Option Rows) → List ℕ → Option Rows
+
+abbrev pub changed_rows : Change → RowChange
+changed_rows change rows h = changed change h (rows h)
+
+-- the database has the tables of a desk, unless the disk returned what was not written, or the connection is shut
+abbrev pub HasDeskSchema : State → Type 0
+HasDeskSchema s = HasCleanDisk s → IsTrue s.is_open → s.now.schema ≡ desk_schema
+
 -- the database has the tables of a desk, and all that it shows is committed
 pub record IsDesk (s : State) : Type 0 where
   pub schema : s.now.schema ≡ desk_schema
   pub settled : s.committed ≡ s.now
 
-abbrev pub IsKept : State → Type 0
-IsKept s = HasCleanDisk s → IsTrue s.is_open → IsDesk s
+abbrev pub IsDeskWhileOpen : State → Type 0
+IsDeskWhileOpen s = HasCleanDisk s → IsTrue s.is_open → IsDesk s
 
 -- The tables hold the store's charter and these rows. Nothing is said where the disk returned what was not written, or where a
 -- failure of the disk shut the connection, which then answers nothing more.
@@ -39,14 +51,22 @@ Holds g store rows =
     HasCleanDisk (state_of g store) → IsTrue (state_of g store).is_open
     → TablesHold store.charter rows (state_of g store).now.trees
 
+-- it is so, unless the disk returned what was not written
+abbrev pub IfClean : {S : Type 0} → Ghosts S → StoreView S → Type 0 → Type 0
+IfClean g store so = HasCleanDisk (state_of g store) → so
+
+-- the tables hold the rows after the change, if they held those before it
+abbrev pub HoldsAfter : {S : Type 0} → Ghosts S → StoreView S → StoreView S → RowChange → Type 0
+HoldsAfter g old new to = (rows : List ℕ → Option Rows) → Holds g old rows → Holds g new (to rows)
+
 -- A crash leaves what it left before, or rows turned so.
-abbrev pub MayLeave : {S : Type 0} → Ghosts S → StoreView S → StoreView S → ((List ℕ → Option Rows) → List ℕ → Option Rows) → Type 0
+abbrev pub MayLeave : {S : Type 0} → Ghosts S → StoreView S → StoreView S → RowChange → Type 0
 MayLeave g old new to =
     (trees : Trees) → (state_of g new).may_leave trees
     → (state_of g old).may_leave trees ⊎ ((rows : List ℕ → Option Rows) → Holds g old rows → TablesHold old.charter (to rows) trees)
 
 -- A crash leaves rows turned so, and nothing else.
-abbrev pub LeavesOnly : {S : Type 0} → Ghosts S → StoreView S → StoreView S → ((List ℕ → Option Rows) → List ℕ → Option Rows) → Type 0
+abbrev pub LeavesOnly : {S : Type 0} → Ghosts S → StoreView S → StoreView S → RowChange → Type 0
 LeavesOnly g old new to =
     (rows : List ℕ → Option Rows) → Holds g old rows → (trees : Trees) → (state_of g new).may_leave trees → TablesHold old.charter (to rows) trees
 
@@ -57,3 +77,27 @@ pub record IsRead {S : Type 0} (g : Ghosts S) (old new : StoreView S) : Type 0 w
   pub charter : new.charter ≡ old.charter
   pub rows : HasCleanDisk (state_of g new) → (rows : List ℕ → Option Rows) → Holds g old rows → Holds g new rows
   pub crash : HasCleanDisk (state_of g new) → (trees : Trees) → (state_of g new).may_leave trees → (state_of g old).may_leave trees
+
+-- ---- a new store
+
+-- no transaction goes on, and the database has no table, index or view
+pub record IsUnused (s : State) : Type 0 where
+  pub idle : s.in_transaction ≡ false
+  pub blank : s.now.schema ≡ blank_schema
+
+-- the tables hold the charter and no holder, and are committed
+pub record IsNew (charter : CharterSets) (s : State) : Type 0 where
+  pub is_open : IsTrue s.is_open
+  pub schema : s.now.schema ≡ desk_schema
+  pub settled : s.committed ≡ s.now
+  pub rows : TablesHold charter (λ h. None) s.now.trees
+
+-- a crash leaves the tables with the charter and no holder
+abbrev pub LeavesNew : CharterSets → State → Type 0
+LeavesNew charter s = (trees : Trees) → s.may_leave trees → TablesHold charter (λ h. None) trees
+
+-- a crash leaves what it left before, or, of an unused database, the tables with the charter and no holder
+abbrev pub LeavesOldOrNew : CharterSets → State → State → Type 0
+LeavesOldOrNew charter old new =
+    (trees : Trees) → new.may_leave trees
+    → old.may_leave trees ⊎ (IsUnused old × TablesHold charter (λ h. None) trees)

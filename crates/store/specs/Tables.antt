@@ -1,9 +1,14 @@
 -- The tables of a desk, as SQLite keeps them. Each table and each index of a key is a tree, and a row of a
 -- table is its hidden rowid and then its columns.
-use Rattle.std.specs.Prelude.{ℕ, true, false, List, [], ◌∷◌, codes, None}
+use Rattle.std.specs.Prelude.{◌≡◌, ℕ, ◌==◌, Bool, true, false, List, [], ◌∷◌, map, drop, codes, None}
+use Rattle.std.specs.List.{AllByRecursion, list_any}
+use Rattle.std.specs.Ordering.{is_eq}
 use Rattle.sqlite_value.specs.declared.keys.Collation.TheVariants.{Binary}
 use Rattle.sqlite_value.specs.declared.keys.Order.{Order}
 use Rattle.sqlite_value.specs.declared.value.Value.TheVariants.{Null}
+use Rattle.sqlite_value.specs.Order.{Row, value_cmp}
+use Rattle.sqlite_trees.specs.Tree.{Trees, rowid, IsAscending}
+use Rattle.sqlite_trees.specs.View.{is_int}
 use Rattle.sqlite_schema.specs.declared.schema.Action.TheVariants.{NoAction}
 use Rattle.sqlite_schema.specs.declared.schema.Column.{Column}
 use Rattle.sqlite_schema.specs.declared.schema.Index.{Index}
@@ -51,6 +56,10 @@ strict name tree columns primary uniques orders references = record {
   stamps = record { places = []; terms = []; formats = [] };
   is_counted = false;
 }
+
+-- the same table, if it is such a one
+abbrev pub as_strict : Table → Table
+as_strict t = strict t.name t.tree t.columns t.primary t.uniques t.orders t.references
 
 abbrev pub keyed : List ℕ → ℕ → List Column → List ℕ → List Reference → Table
 keyed name tree columns primary references = strict name tree columns primary (primary ∷ []) (rising ∷ []) references
@@ -120,3 +129,24 @@ desk_indexes =
 
 abbrev pub desk_schema : Schema
 desk_schema = record { tables = desk_tables; indexes = desk_indexes; views = [] }
+
+-- the schema of a database that has no table, index or view
+abbrev pub blank_schema : Schema
+blank_schema = record { tables = []; indexes = []; views = [] }
+
+-- the rows of a table without their rowids
+abbrev pub contents : List Row → List Row
+contents rows = map (drop 1) rows
+
+-- the tree has the rows of a table of the desk
+abbrev pub is_table : ℕ → Bool
+is_table t = list_any (λ table. table.tree == t) desk_tables
+
+-- each row has a rowid, and no rowid comes twice
+abbrev pub IsTree : List Row → Type 0
+IsTree rows =
+    IsAscending (λ a b. is_eq (value_cmp (rowid a) (rowid b)) ≡ false) rows
+    × AllByRecursion (λ r. is_int (rowid r) ≡ true) rows
+
+abbrev pub AreTrees : Trees → Type 0
+AreTrees trees = (t : ℕ) → is_table t ≡ true → IsTree (trees t)

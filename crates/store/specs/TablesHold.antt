@@ -1,18 +1,15 @@
 -- What the tables hold: the charter, and the rows of every holder.
-use Rattle.std.specs.Prelude.{◌≡◌, ℕ, Bool, true, false, List, [], ◌∷◌, map, filter, Option, Some, None, option_map, IsPermutation, IsSome, if◌then◌else◌}
+use Rattle.std.specs.Prelude.{◌≡◌, ℕ, Bool, true, false, List, [], ◌∷◌, map, filter, Option, Some, None, IsPermutation}
 use Rattle.std.specs.List.{AllByRecursion}
 use Rattle.std.specs.Ordering.{is_eq}
-use Rattle.sqlite.specs.Effect.{Database}
 use Rattle.sqlite_value.specs.declared.value.Value.{Value}
 use Rattle.sqlite_value.specs.declared.value.Value.TheVariants.{Text}
 use Rattle.sqlite_value.specs.Order.{Row, column, value_cmp}
 use Rattle.sqlite_trees.specs.Tree.{Trees}
 use Rattle.policy.specs.CharterSets.{CharterSets}
-use Rattle.policy.specs.History.{same_name}
 use Rattle.policy.specs.Rows.{Rows}
-use Rattle.store.specs.Tables.{meta, operator, pool, holder, holding, granted, auth}
+use Rattle.store.specs.Tables.{meta, operator, pool, holder, holding, granted, auth, slurm, contents, AreTrees}
 use Rattle.store.specs.Cells.{schema_row, operator_row, prefix_cells, holder_row, holding_row, granted_row, auth_row}
-use Rattle.store.specs.Edits.{contents, AreTrees}
 
 -- A table that has rows of holders: its tree, the column that names the holder, and the rows of one holder.
 pub record Part : Type 0 where
@@ -37,8 +34,8 @@ abbrev pub items_if_any : {X : Type 0} → (Rows → List X) → Option Rows →
 items_if_any _ None = []
 items_if_any items (Some r) = items r
 
-abbrev pub rows_if_any : Part → List ℕ → Option Rows → List Row
-rows_if_any part h = items_if_any (part.rows h)
+abbrev pub part_rows : Part → List ℕ → Option Rows → List Row
+part_rows part h = items_if_any (part.rows h)
 
 -- the value is this name
 abbrev pub is_name_of : List ℕ → Value → Bool
@@ -50,7 +47,7 @@ is_text _ = false
 
 -- the table has the rows of every holder, in some order, and no others
 pub record HoldsPart (part : Part) (rows : List ℕ → Option Rows) (table : List Row) : Type 0 where
-  pub each : (h : List ℕ) → IsPermutation (rows_if_any part h (rows h)) (filter (λ c. is_name_of h (column c part.place)) table)
+  pub each : (h : List ℕ) → IsPermutation (part_rows part h (rows h)) (filter (λ c. is_name_of h (column c part.place)) table)
   pub named : AllByRecursion (λ c. is_text (column c part.place) ≡ true) table
 
 -- the tables have the number of the schema, the operators and the pool, in some order, and nothing else
@@ -59,22 +56,12 @@ pub record HoldsCharter (charter : CharterSets) (trees : Trees) : Type 0 where
   pub operators : IsPermutation (map operator_row charter.operators) (contents (trees operator.tree))
   pub pool : IsPermutation (map prefix_cells charter.pool) (contents (trees pool.tree))
 
--- the tables hold this charter and these rows
+-- the tables hold this charter and these rows, and no exception of a SLURM file
 pub record TablesHold (charter : CharterSets) (rows : List ℕ → Option Rows) (trees : Trees) : Type 0 where
   pub charter_kept : HoldsCharter charter trees
   pub holders : HoldsPart holder_part rows (contents (trees holder_part.tree))
   pub holdings : HoldsPart holding_part rows (contents (trees holding_part.tree))
   pub grants : HoldsPart granted_part rows (contents (trees granted_part.tree))
   pub auths : HoldsPart auth_part rows (contents (trees auth_part.tree))
+  pub exceptions : contents (trees slurm.tree) ≡ []
   pub whole : AreTrees trees
-
--- the rows with those of one holder edited
-abbrev pub at_holder : List ℕ → (Rows → Rows) → (List ℕ → Option Rows) → List ℕ → Option Rows
-at_holder h edit rows k = if same_name h k then option_map edit (rows k) else rows k
-
--- Where the holder is registered, its rows are edited, and those of every other holder stay, as the charter
--- does.
-abbrev pub EditsRows : List ℕ → (Rows → Rows) → Database → Database → Type 0
-EditsRows h edit old new =
-    (charter : CharterSets) (rows : List ℕ → Option Rows) → TablesHold charter rows old.trees → IsSome (rows h)
-    → TablesHold charter (at_holder h edit rows) new.trees

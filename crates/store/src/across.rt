@@ -1,16 +1,13 @@
-ghost use Rattle.std.specs.Prelude.{◌≡◌, ◌↔◌, ℕ, List, [], ◌∷◌, Contains, Option, false, IsTrue, IfOk, OnOk};
+ghost use Rattle.std.specs.Prelude.{◌≡◌, ◌↔◌, ℕ, List, [], ◌∷◌, Contains, Option, IsTrue, IfOk};
 ghost use Rattle.sqlite.specs.Held.{state};
-ghost use Rattle.sqlite.specs.State.{HasCleanDisk, IsUnchanged, Survives};
 ghost use Rattle.sqlite.specs.Values.{bound};
 ghost use Rattle.sqlite_value.specs.declared.value.Value.TheVariants.{Blob};
 ghost use Rattle.sqlite_value.specs.Order.{Row};
 ghost use Rattle.addr.specs.Address.{last_of};
 ghost use Rattle.policy.specs.Rows.{Rows};
 ghost use Rattle.store.specs.Cells.{address, family_number, number_cell};
-ghost use Rattle.store.specs.Edits.{contents};
-ghost use Rattle.store.specs.TablesHold.{HoldsPart, holding_part, auth_part};
-ghost use Rattle.store.specs.Queries.{IsAsBefore, MeetsSome, FindsInForce, IsInForce};
-ghost use Rattle.store.specs.Tables.{desk_schema};
+ghost use Rattle.store.specs.steps.Queries.{IsAsked, IsOfAll, IsOnCleanDisk, IsReadyToAsk};
+ghost use Rattle.store.specs.steps.Queries.{MeetsSome, FindsInForce, IsPayloadOn};
 
 use crate::ask::ask;
 use crate::cells::{address_bytes, family_number};
@@ -39,13 +36,10 @@ pub(crate) fn some_overlap<S: Alter>(
     conn: &mut Connection<S>,
     prefix: &Prefix,
 ) -> Result<bool, Error>
-    requires idle { conn.old.in_transaction ≡ false }
-    requires schema { HasCleanDisk (state S.Store conn.old) → IsTrue (state S.Store conn.old).is_open → (state S.Store conn.old).now.schema ≡ desk_schema }
-    ensures idle { conn.new.in_transaction ≡ false }
-    ensures found { HasCleanDisk (state S.Store conn.new) → IfOk result (λ some. (rows : List ℕ → Option Rows) → HoldsPart holding_part rows (contents ((state S.Store conn.old).now.trees holding_part.tree)) → IsTrue some ↔ MeetsSome rows prefix.now) }
-    ensures same { HasCleanDisk (state S.Store conn.new) → OnOk result (IsUnchanged (state S.Store conn.old) (state S.Store conn.new)) }
-    ensures kept { HasCleanDisk (state S.Store conn.new) → IsTrue (state S.Store conn.new).is_open → IsAsBefore (state S.Store conn.old) (state S.Store conn.new) }
-    ensures survives { Survives (state S.Store conn.old) (state S.Store conn.new) (λ _. ⊥) }
+    requires { IsReadyToAsk S.Store conn.old }
+    ensures asked { IsAsked S.Store conn.old conn.new result }
+    ensures found { IsOnCleanDisk S.Store conn.new → IfOk result (λ some.
+        IsOfAll (λ rows. IsTrue some ↔ MeetsSome rows prefix.now) (state S.Store conn.old)) }
 {
     let first = address_bytes(prefix.first);
     let last = address_bytes(prefix.last());
@@ -59,14 +53,13 @@ pub(crate) fn some_overlap<S: Alter>(
 
 /// The payloads of the authorizations of all holders that are in force on the day.
 pub(crate) fn in_force_rows<S: Alter>(conn: &mut Connection<S>, day: Day) -> Result<Vec<Row>, Error>
-    requires idle { conn.old.in_transaction ≡ false }
-    requires schema { HasCleanDisk (state S.Store conn.old) → IsTrue (state S.Store conn.old).is_open → (state S.Store conn.old).now.schema ≡ desk_schema }
-    ensures idle { conn.new.in_transaction ≡ false }
-    ensures found { HasCleanDisk (state S.Store conn.new) → IfOk result (λ rows. FindsInForce day (state S.Store conn.old).now rows.items) }
-    ensures each { HasCleanDisk (state S.Store conn.new) → IfOk result (λ found. (rows : List ℕ → Option Rows) → HoldsPart auth_part rows (contents ((state S.Store conn.old).now.trees auth_part.tree)) → (row : Row) → Contains found.items row ↔ IsInForce rows day row) }
-    ensures same { HasCleanDisk (state S.Store conn.new) → OnOk result (IsUnchanged (state S.Store conn.old) (state S.Store conn.new)) }
-    ensures kept { HasCleanDisk (state S.Store conn.new) → IsTrue (state S.Store conn.new).is_open → IsAsBefore (state S.Store conn.old) (state S.Store conn.new) }
-    ensures survives { Survives (state S.Store conn.old) (state S.Store conn.new) (λ _. ⊥) }
+    requires { IsReadyToAsk S.Store conn.old }
+    ensures asked { IsAsked S.Store conn.old conn.new result }
+    ensures found { IsOnCleanDisk S.Store conn.new → IfOk result (λ rows.
+        FindsInForce day (state S.Store conn.old).now rows.items) }
+    ensures each { IsOnCleanDisk S.Store conn.new → IfOk result (λ found.
+        IsOfAll (λ rows. (row : Row) → Contains found.items row ↔ IsPayloadOn rows day row)
+        (state S.Store conn.old)) }
 {
     ask(
         conn,

@@ -1,11 +1,11 @@
-ghost use Rattle.std.specs.Prelude.{◌≡◌, false, IsTrue, IfOk, OnOk};
+ghost use Rattle.std.specs.Prelude.{IfOk};
 ghost use Rattle.sqlite.specs.Given.{IsPlain};
 ghost use Rattle.sqlite.specs.Held.{state};
 ghost use Rattle.sqlite.specs.Listing.{understood};
-ghost use Rattle.sqlite.specs.State.{HasCleanDisk, IsUnchanged, Shown, Survives};
+ghost use Rattle.sqlite.specs.State.{Shown};
 ghost use Rattle.sqlite.specs.Values.{bound};
-ghost use Rattle.store.specs.Queries.{IsAsBefore};
 ghost use Rattle.store.specs.Tables.{desk_schema};
+ghost use Rattle.store.specs.steps.Queries.{IsAsked, IsOnCleanDisk, IsReadyToAsk};
 
 use sqlite::types::ValueRef;
 use sqlite::{Alter, Connection, Error, Row};
@@ -19,14 +19,11 @@ pub(crate) fn ask<S: Alter>(
     sql: &str,
     values: &[ValueRef<'_>],
 ) -> Result<Vec<Row>, Error>
-    requires idle { conn.old.in_transaction ≡ false }
-    requires schema { HasCleanDisk (state S.Store conn.old) → IsTrue (state S.Store conn.old).is_open → (state S.Store conn.old).now.schema ≡ desk_schema }
+    requires ready { IsReadyToAsk S.Store conn.old }
     requires plain { IsPlain (understood desk_schema sql.now) }
-    ensures idle { conn.new.in_transaction ≡ false }
-    ensures shown { HasCleanDisk (state S.Store conn.new) → IfOk result (λ rows. Shown sql.now (bound values.now) (state S.Store conn.old) (state S.Store conn.new) rows.items) }
-    ensures same { HasCleanDisk (state S.Store conn.new) → OnOk result (IsUnchanged (state S.Store conn.old) (state S.Store conn.new)) }
-    ensures kept { HasCleanDisk (state S.Store conn.new) → IsTrue (state S.Store conn.new).is_open → IsAsBefore (state S.Store conn.old) (state S.Store conn.new) }
-    ensures survives { Survives (state S.Store conn.old) (state S.Store conn.new) (λ _. ⊥) }
+    ensures asked { IsAsked S.Store conn.old conn.new result }
+    ensures shown { IsOnCleanDisk S.Store conn.new → IfOk result (λ rows.
+        Shown sql.now (bound values.now) (state S.Store conn.old) (state S.Store conn.new) rows.items) }
 {
     let _idle = conn.is_autocommit();
     let query = conn.prepare(sql)?;

@@ -1,9 +1,9 @@
-ghost use Rattle.std.specs.Prelude.{◌≡◌, OnOk};
-ghost use Rattle.sqlite.specs.Held.{state};
-ghost use Rattle.sqlite.specs.State.{HasCleanDisk, KeepsCommit, Survives};
-ghost use Rattle.policy.specs.Rows.{edited, changed, changed_by_one};
-ghost use Rattle.store.specs.RowEdits.{held, is_registration};
-ghost use Rattle.store.specs.Steps.{IsReady, Done, Turned};
+ghost use Rattle.std.specs.Prelude.{◌≡◌, ◌≢◌, Err};
+ghost use Rattle.policy.specs.Rows.{edited, changed_by_one};
+ghost use Rattle.store.specs.StoreRows.{changed_rows};
+ghost use Rattle.store.specs.steps.RowEdits.{held, is_registration};
+ghost use Rattle.store.specs.steps.Statements.{IsReady, WhenClean, StaysInside};
+ghost use Rattle.store.specs.steps.Statements.{IfDone, IfEdited, MakesChange};
 
 use crate::StoreFault;
 use crate::auth::{amend_auth, put_auth, take_auth, take_auths};
@@ -16,11 +16,10 @@ use sqlite::{Alter, Error, Transaction};
 
 /// Puts a grant, and its number as the counter.
 fn grant<S: Alter>(tx: &mut Transaction<'_, S>, holder: &Name, grant: &Granted) -> Result<(), Error>
-    requires { HasCleanDisk (state S.Store tx.old.conn.now) → IsReady (state S.Store tx.old.conn.now) }
-    ensures same_reference { tx.new.conn.ghost_name ≡ tx.old.conn.ghost_name }
-    ensures done { HasCleanDisk (state S.Store tx.new.conn.now) → OnOk result (Done holder.now (edited (Edit.Grant grant.now)) (state S.Store tx.old.conn.now) (state S.Store tx.new.conn.now)) }
-    ensures kept { HasCleanDisk (state S.Store tx.new.conn.now) → KeepsCommit (state S.Store tx.old.conn.now) (state S.Store tx.new.conn.now) }
-    ensures survives { Survives (state S.Store tx.old.conn.now) (state S.Store tx.new.conn.now) (λ _. ⊥) }
+    requires { WhenClean S.Store IsReady tx.old }
+    ensures done { IfEdited S.Store result holder.now
+        (edited (Edit.Grant grant.now)) tx.old tx.new }
+    ensures inside { StaysInside S.Store tx.old tx.new }
 {
     put_grant(tx, holder, grant)?;
     set_granted(tx, holder, grant.number)
@@ -28,11 +27,10 @@ fn grant<S: Alter>(tx: &mut Transaction<'_, S>, holder: &Name, grant: &Granted) 
 
 /// Puts an authorization, and its number as the counter.
 fn create<S: Alter>(tx: &mut Transaction<'_, S>, holder: &Name, auth: &Auth) -> Result<(), Error>
-    requires { HasCleanDisk (state S.Store tx.old.conn.now) → IsReady (state S.Store tx.old.conn.now) }
-    ensures same_reference { tx.new.conn.ghost_name ≡ tx.old.conn.ghost_name }
-    ensures done { HasCleanDisk (state S.Store tx.new.conn.now) → OnOk result (Done holder.now (edited (Edit.Create auth.now)) (state S.Store tx.old.conn.now) (state S.Store tx.new.conn.now)) }
-    ensures kept { HasCleanDisk (state S.Store tx.new.conn.now) → KeepsCommit (state S.Store tx.old.conn.now) (state S.Store tx.new.conn.now) }
-    ensures survives { Survives (state S.Store tx.old.conn.now) (state S.Store tx.new.conn.now) (λ _. ⊥) }
+    requires { WhenClean S.Store IsReady tx.old }
+    ensures done { IfEdited S.Store result holder.now
+        (edited (Edit.Create auth.now)) tx.old tx.new }
+    ensures inside { StaysInside S.Store tx.old tx.new }
 {
     put_auth(tx, holder, auth)?;
     set_created(tx, holder, auth.number)
@@ -46,11 +44,9 @@ fn hold<S: Alter>(
     spans: &[Span],
     ended: &[u32],
 ) -> Result<(), Error>
-    requires { HasCleanDisk (state S.Store tx.old.conn.now) → IsReady (state S.Store tx.old.conn.now) }
-    ensures same_reference { tx.new.conn.ghost_name ≡ tx.old.conn.ghost_name }
-    ensures done { HasCleanDisk (state S.Store tx.new.conn.now) → OnOk result (Done holder.now (held spans.now ended.now) (state S.Store tx.old.conn.now) (state S.Store tx.new.conn.now)) }
-    ensures kept { HasCleanDisk (state S.Store tx.new.conn.now) → KeepsCommit (state S.Store tx.old.conn.now) (state S.Store tx.new.conn.now) }
-    ensures survives { Survives (state S.Store tx.old.conn.now) (state S.Store tx.new.conn.now) (λ _. ⊥) }
+    requires { WhenClean S.Store IsReady tx.old }
+    ensures done { IfEdited S.Store result holder.now (held spans.now ended.now) tx.old tx.new }
+    ensures inside { StaysInside S.Store tx.old tx.new }
 {
     take_holdings(tx, holder)?;
     put_holdings(tx, holder, spans)?;
@@ -63,11 +59,10 @@ fn edit_rows<S: Alter>(
     holder: &Name,
     edit: &Edit,
 ) -> Result<(), StoreFault>
-    requires { HasCleanDisk (state S.Store tx.old.conn.now) → IsReady (state S.Store tx.old.conn.now) }
-    ensures same_reference { tx.new.conn.ghost_name ≡ tx.old.conn.ghost_name }
-    ensures done { HasCleanDisk (state S.Store tx.new.conn.now) → OnOk result (Done holder.now (edited edit.now) (state S.Store tx.old.conn.now) (state S.Store tx.new.conn.now)) }
-    ensures kept { HasCleanDisk (state S.Store tx.new.conn.now) → KeepsCommit (state S.Store tx.old.conn.now) (state S.Store tx.new.conn.now) }
-    ensures survives { Survives (state S.Store tx.old.conn.now) (state S.Store tx.new.conn.now) (λ _. ⊥) }
+    requires { WhenClean S.Store IsReady tx.old }
+    ensures done { IfEdited S.Store result holder.now (edited edit.now) tx.old tx.new }
+    ensures inside { StaysInside S.Store tx.old tx.new }
+    ensures no_schema { result ≢ Err StoreFault.Schema }
 {
     match edit {
         Edit::Register => return Err(StoreFault::Database),
@@ -92,11 +87,11 @@ fn edit_holder<S: Alter>(
     tx: &mut Transaction<'_, S>,
     change: &HolderChange,
 ) -> Result<(), StoreFault>
-    requires { HasCleanDisk (state S.Store tx.old.conn.now) → IsReady (state S.Store tx.old.conn.now) }
-    ensures same_reference { tx.new.conn.ghost_name ≡ tx.old.conn.ghost_name }
-    ensures done { HasCleanDisk (state S.Store tx.new.conn.now) → OnOk result (Turned (λ rows h. changed_by_one change.now h (rows h)) (state S.Store tx.old.conn.now) (state S.Store tx.new.conn.now)) }
-    ensures kept { HasCleanDisk (state S.Store tx.new.conn.now) → KeepsCommit (state S.Store tx.old.conn.now) (state S.Store tx.new.conn.now) }
-    ensures survives { Survives (state S.Store tx.old.conn.now) (state S.Store tx.new.conn.now) (λ _. ⊥) }
+    requires { WhenClean S.Store IsReady tx.old }
+    ensures done { IfDone S.Store result
+        (MakesChange (λ rows h. changed_by_one change.now h (rows h))) tx.old tx.new }
+    ensures inside { StaysInside S.Store tx.old tx.new }
+    ensures no_schema { result ≢ Err StoreFault.Schema }
 {
     if is_registered(tx, &change.holder)? {
         return edit_rows(tx, &change.holder, &change.edit);
@@ -112,11 +107,11 @@ pub(crate) fn make_change<S: Alter>(
     tx: &mut Transaction<'_, S>,
     change: &Change,
 ) -> Result<(), StoreFault>
-    requires { HasCleanDisk (state S.Store tx.old.conn.now) → IsReady (state S.Store tx.old.conn.now) }
-    ensures same_reference { tx.new.conn.ghost_name ≡ tx.old.conn.ghost_name }
-    ensures done { HasCleanDisk (state S.Store tx.new.conn.now) → OnOk result (Turned (λ rows h. changed change.now h (rows h)) (state S.Store tx.old.conn.now) (state S.Store tx.new.conn.now)) }
-    ensures kept { HasCleanDisk (state S.Store tx.new.conn.now) → KeepsCommit (state S.Store tx.old.conn.now) (state S.Store tx.new.conn.now) }
-    ensures survives { Survives (state S.Store tx.old.conn.now) (state S.Store tx.new.conn.now) (λ _. ⊥) }
+    requires { WhenClean S.Store IsReady tx.old }
+    ensures done { IfDone S.Store result
+        (MakesChange (changed_rows change.now)) tx.old tx.new }
+    ensures inside { StaysInside S.Store tx.old tx.new }
+    ensures no_schema { result ≢ Err StoreFault.Schema }
 {
     edit_holder(tx, &change.first)?;
     if let Some(second) = &change.second {

@@ -12,11 +12,11 @@ pub enum StoreFault {
 
 impl StoreFault {
     ghost use Rattle.std.specs.Prelude.{◌≡◌};
-    ghost use Rattle.store.specs.Fault.{fault_number};
+    ghost use Rattle.store.specs.Fault.{store_fault_number};
 
     /// The fault as a number: 1 for the database, 2 for the schema.
     pub fn number(self) -> u8
-        ensures { result ≡ fault_number self }
+        ensures { result ≡ store_fault_number self }
     {
         match self {
             StoreFault::Database => 1,

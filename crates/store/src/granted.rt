@@ -1,10 +1,10 @@
-ghost use Rattle.std.specs.Prelude.{◌≡◌, OnOk};
-ghost use Rattle.sqlite.specs.Held.{state};
-ghost use Rattle.sqlite.specs.State.{HasCleanDisk, KeepsCommit, Survives};
-ghost use Rattle.store.specs.RowEdits.{with_grant, without_grant};
-ghost use Rattle.store.specs.Steps.{IsReady, Done};
+ghost use Rattle.policy.specs.declared.change.Edit.TheVariants.{Revoke};
+ghost use Rattle.policy.specs.Rows.{edited};
+ghost use Rattle.store.specs.steps.RowEdits.{with_grant};
+ghost use Rattle.store.specs.steps.Statements.{IsReady, WhenClean, StaysInside, IfEdited};
 
 use crate::cells::{address_bytes, granted_values, number_values, scope_first};
+use crate::statement::run;
 use addr::Name;
 use policy::Granted;
 use sqlite::{Alter, Error, Transaction};
@@ -15,18 +15,16 @@ pub(crate) fn put_grant<S: Alter>(
     holder: &Name,
     grant: &Granted,
 ) -> Result<(), Error>
-    requires { HasCleanDisk (state S.Store tx.old.conn.now) → IsReady (state S.Store tx.old.conn.now) }
-    ensures same_reference { tx.new.conn.ghost_name ≡ tx.old.conn.ghost_name }
-    ensures done { HasCleanDisk (state S.Store tx.new.conn.now) → OnOk result (Done holder.now (with_grant grant.now) (state S.Store tx.old.conn.now) (state S.Store tx.new.conn.now)) }
-    ensures kept { HasCleanDisk (state S.Store tx.new.conn.now) → KeepsCommit (state S.Store tx.old.conn.now) (state S.Store tx.new.conn.now) }
-    ensures survives { Survives (state S.Store tx.old.conn.now) (state S.Store tx.new.conn.now) (λ _. ⊥) }
+    requires { WhenClean S.Store IsReady tx.old }
+    ensures done { IfEdited S.Store result holder.now (with_grant grant.now) tx.old tx.new }
+    ensures inside { StaysInside S.Store tx.old tx.new }
 {
     let first = address_bytes(scope_first(&grant.scope));
-    tx.execute(
+    run(
+        tx,
         "INSERT INTO granted (holder, number, caller, role, family, lo, len, until) VALUES (?1, ?2, ?3, ?4, ?5, ?6, ?7, ?8)",
         &granted_values(holder, grant, &first),
-    )?;
-    Ok(())
+    )
 }
 
 /// Takes away the grant of this number, where there is one.
@@ -35,15 +33,13 @@ pub(crate) fn take_grant<S: Alter>(
     holder: &Name,
     number: u32,
 ) -> Result<(), Error>
-    requires { HasCleanDisk (state S.Store tx.old.conn.now) → IsReady (state S.Store tx.old.conn.now) }
-    ensures same_reference { tx.new.conn.ghost_name ≡ tx.old.conn.ghost_name }
-    ensures done { HasCleanDisk (state S.Store tx.new.conn.now) → OnOk result (Done holder.now (without_grant number) (state S.Store tx.old.conn.now) (state S.Store tx.new.conn.now)) }
-    ensures kept { HasCleanDisk (state S.Store tx.new.conn.now) → KeepsCommit (state S.Store tx.old.conn.now) (state S.Store tx.new.conn.now) }
-    ensures survives { Survives (state S.Store tx.old.conn.now) (state S.Store tx.new.conn.now) (λ _. ⊥) }
+    requires { WhenClean S.Store IsReady tx.old }
+    ensures done { IfEdited S.Store result holder.now (edited (Revoke number)) tx.old tx.new }
+    ensures inside { StaysInside S.Store tx.old tx.new }
 {
-    tx.execute(
+    run(
+        tx,
         "DELETE FROM granted WHERE holder = ?1 AND number = ?2",
         &number_values(holder, number),
-    )?;
-    Ok(())
+    )
 }

@@ -1,10 +1,9 @@
-ghost use Rattle.std.specs.Prelude.{◌≡◌, OnOk, IfOk};
-ghost use Rattle.sqlite.specs.Held.{state};
-ghost use Rattle.sqlite.specs.State.{HasCleanDisk, KeepsCommit, Survives};
-ghost use Rattle.store.specs.RowEdits.{with_granted, with_created};
-ghost use Rattle.store.specs.Steps.{IsReady, Done, Tells, Registers};
+ghost use Rattle.store.specs.steps.RowEdits.{with_granted, with_created};
+ghost use Rattle.store.specs.steps.Statements.{IsReady, WhenClean, StaysInside, IfDone};
+ghost use Rattle.store.specs.steps.Statements.{IfTold, IfEdited, TellsWhetherRegistered, Registers};
 
 use crate::cells::{name_values, number_values};
+use crate::statement::run;
 use addr::Name;
 use sqlite::{Alter, Error, Transaction};
 
@@ -14,17 +13,15 @@ pub(crate) fn set_granted<S: Alter>(
     holder: &Name,
     number: u32,
 ) -> Result<(), Error>
-    requires { HasCleanDisk (state S.Store tx.old.conn.now) → IsReady (state S.Store tx.old.conn.now) }
-    ensures same_reference { tx.new.conn.ghost_name ≡ tx.old.conn.ghost_name }
-    ensures done { HasCleanDisk (state S.Store tx.new.conn.now) → OnOk result (Done holder.now (with_granted number) (state S.Store tx.old.conn.now) (state S.Store tx.new.conn.now)) }
-    ensures kept { HasCleanDisk (state S.Store tx.new.conn.now) → KeepsCommit (state S.Store tx.old.conn.now) (state S.Store tx.new.conn.now) }
-    ensures survives { Survives (state S.Store tx.old.conn.now) (state S.Store tx.new.conn.now) (λ _. ⊥) }
+    requires { WhenClean S.Store IsReady tx.old }
+    ensures done { IfEdited S.Store result holder.now (with_granted number) tx.old tx.new }
+    ensures inside { StaysInside S.Store tx.old tx.new }
 {
-    tx.execute(
+    run(
+        tx,
         "UPDATE holder SET grants = ?2 WHERE name = ?1",
         &number_values(holder, number),
-    )?;
-    Ok(())
+    )
 }
 
 /// Sets how many authorizations were made at the holder.
@@ -33,17 +30,15 @@ pub(crate) fn set_created<S: Alter>(
     holder: &Name,
     number: u32,
 ) -> Result<(), Error>
-    requires { HasCleanDisk (state S.Store tx.old.conn.now) → IsReady (state S.Store tx.old.conn.now) }
-    ensures same_reference { tx.new.conn.ghost_name ≡ tx.old.conn.ghost_name }
-    ensures done { HasCleanDisk (state S.Store tx.new.conn.now) → OnOk result (Done holder.now (with_created number) (state S.Store tx.old.conn.now) (state S.Store tx.new.conn.now)) }
-    ensures kept { HasCleanDisk (state S.Store tx.new.conn.now) → KeepsCommit (state S.Store tx.old.conn.now) (state S.Store tx.new.conn.now) }
-    ensures survives { Survives (state S.Store tx.old.conn.now) (state S.Store tx.new.conn.now) (λ _. ⊥) }
+    requires { WhenClean S.Store IsReady tx.old }
+    ensures done { IfEdited S.Store result holder.now (with_created number) tx.old tx.new }
+    ensures inside { StaysInside S.Store tx.old tx.new }
 {
-    tx.execute(
+    run(
+        tx,
         "UPDATE holder SET auths = ?2 WHERE name = ?1",
         &number_values(holder, number),
-    )?;
-    Ok(())
+    )
 }
 
 /// Whether the holder is registered.
@@ -51,11 +46,9 @@ pub(crate) fn is_registered<S: Alter>(
     tx: &mut Transaction<'_, S>,
     holder: &Name,
 ) -> Result<bool, Error>
-    requires { HasCleanDisk (state S.Store tx.old.conn.now) → IsReady (state S.Store tx.old.conn.now) }
-    ensures same_reference { tx.new.conn.ghost_name ≡ tx.old.conn.ghost_name }
-    ensures told { HasCleanDisk (state S.Store tx.new.conn.now) → IfOk result (λ is. Tells holder.now is (state S.Store tx.old.conn.now) (state S.Store tx.new.conn.now)) }
-    ensures kept { HasCleanDisk (state S.Store tx.new.conn.now) → KeepsCommit (state S.Store tx.old.conn.now) (state S.Store tx.new.conn.now) }
-    ensures survives { Survives (state S.Store tx.old.conn.now) (state S.Store tx.new.conn.now) (λ _. ⊥) }
+    requires { WhenClean S.Store IsReady tx.old }
+    ensures told { IfTold S.Store result (TellsWhetherRegistered holder.now) tx.old tx.new }
+    ensures inside { StaysInside S.Store tx.old tx.new }
 {
     let found = tx.query_all(
         "SELECT grants, auths FROM holder WHERE name = ?1",
@@ -66,15 +59,13 @@ pub(crate) fn is_registered<S: Alter>(
 
 /// Registers a holder that is not registered.
 pub(crate) fn register<S: Alter>(tx: &mut Transaction<'_, S>, holder: &Name) -> Result<(), Error>
-    requires { HasCleanDisk (state S.Store tx.old.conn.now) → IsReady (state S.Store tx.old.conn.now) }
-    ensures same_reference { tx.new.conn.ghost_name ≡ tx.old.conn.ghost_name }
-    ensures done { HasCleanDisk (state S.Store tx.new.conn.now) → OnOk result (Registers holder.now (state S.Store tx.old.conn.now) (state S.Store tx.new.conn.now)) }
-    ensures kept { HasCleanDisk (state S.Store tx.new.conn.now) → KeepsCommit (state S.Store tx.old.conn.now) (state S.Store tx.new.conn.now) }
-    ensures survives { Survives (state S.Store tx.old.conn.now) (state S.Store tx.new.conn.now) (λ _. ⊥) }
+    requires { WhenClean S.Store IsReady tx.old }
+    ensures done { IfDone S.Store result (Registers holder.now) tx.old tx.new }
+    ensures inside { StaysInside S.Store tx.old tx.new }
 {
-    tx.execute(
+    run(
+        tx,
         "INSERT INTO holder (name, grants, auths) VALUES (?1, 0, 0)",
         &name_values(holder),
-    )?;
-    Ok(())
+    )
 }

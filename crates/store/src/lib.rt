@@ -14,7 +14,8 @@ mod holder;
 mod holding;
 pub mod laws;
 mod load;
-mod select;
+mod rows;
+mod statement;
 mod store;
 mod tables;
 

@@ -1,11 +1,12 @@
-ghost use Rattle.std.specs.Prelude.{◌≡◌, ◌≢◌, ◌↔◌, false, Err, OnOk, OnErr, IfOk, IsTrue};
+ghost use Rattle.std.specs.Prelude.{◌≡◌, ◌≢◌, ◌↔◌, false, None, Err, OnOk, OnErr, IfOk, IsTrue};
 ghost use Rattle.sqlite.specs.Held.{state};
-ghost use Rattle.sqlite.specs.State.{HasCleanDisk, Survives};
-ghost use Rattle.policy.specs.Rows.{changed};
-ghost use Rattle.store.specs.Making.{so_far, IsNew};
-ghost use Rattle.store.specs.Queries.{IsAsBefore};
-ghost use Rattle.store.specs.Tables.{desk_schema};
-ghost use Rattle.store.specs.Steps.{CommitsTo, IsMade};
+ghost use Rattle.sqlite.specs.State.{HasCleanDisk};
+ghost use Rattle.store.specs.StoreRows.{changed_rows, HasDeskSchema};
+ghost use Rattle.store.specs.StoreRows.{IsUnused, IsNew, LeavesNew, LeavesOldOrNew};
+ghost use Rattle.store.specs.Tables.{blank_schema};
+ghost use Rattle.store.specs.TablesHold.{TablesHold};
+ghost use Rattle.store.specs.steps.Statements.{CommitsChange, MayCommit};
+ghost use Rattle.store.specs.steps.Statements.{IfCommitted, IfRolledBack, CommitsAtMost};
 
 use crate::StoreFault;
 use crate::across::some_overlap;
@@ -23,11 +24,13 @@ use std::marker::Model;
 /// Makes the change in one transaction.
 fn commit_change<S: Alter>(conn: &mut Connection<S>, change: &Change) -> Result<(), StoreFault>
     requires idle { conn.old.in_transaction ≡ false }
-    requires schema { HasCleanDisk (state S.Store conn.old) → IsTrue (state S.Store conn.old).is_open → (state S.Store conn.old).now.schema ≡ desk_schema }
+    requires schema { HasDeskSchema (state S.Store conn.old) }
     ensures idle { conn.new.in_transaction ≡ false }
-    ensures ok { HasCleanDisk (state S.Store conn.new) → OnOk result (IsMade (λ rows h. changed change.now h (rows h)) (state S.Store conn.old) (state S.Store conn.new)) }
-    ensures err { HasCleanDisk (state S.Store conn.new) → IsTrue (state S.Store conn.new).is_open → OnErr result (IsAsBefore (state S.Store conn.old) (state S.Store conn.new)) }
-    ensures crash { Survives (state S.Store conn.old) (state S.Store conn.new) (CommitsTo (λ rows h. changed change.now h (rows h)) (state S.Store conn.old)) }
+    ensures ok { IfCommitted S.Store result
+        (CommitsChange (changed_rows change.now)) conn.old conn.new }
+    ensures err { IfRolledBack S.Store result conn.old conn.new }
+    ensures crash { CommitsAtMost S.Store (MayCommit (changed_rows change.now)) conn.old conn.new }
+    ensures no_schema { result ≢ Err StoreFault.Schema }
 {
     let _idle = conn.is_autocommit();
     let mut tx = conn.transaction();
@@ -38,7 +41,7 @@ fn commit_change<S: Alter>(conn: &mut Connection<S>, change: &Change) -> Result<
 
 /// Whether the database has no table, index or view.
 fn is_blank(schema: &Schema) -> bool
-    ensures { IsTrue result ↔ (schema.now ≡ so_far 0) }
+    ensures { IsTrue result ↔ (schema.now ≡ blank_schema) }
 {
     schema.tables.is_empty() && schema.indexes.is_empty() && schema.views.is_empty()
 }
@@ -46,9 +49,13 @@ fn is_blank(schema: &Schema) -> bool
 /// Makes the tables of a desk in a database that has none, with its charter, in one transaction.
 fn make_tables<S: Alter>(conn: &mut Connection<S>, charter: &Charter) -> Result<(), StoreFault>
     requires idle { conn.old.in_transaction ≡ false }
-    requires blank { HasCleanDisk (state S.Store conn.old) → (state S.Store conn.old).now.schema ≡ so_far 0 }
+    requires blank { HasCleanDisk (state S.Store conn.old)
+        → (state S.Store conn.old).now.schema ≡ blank_schema }
     ensures idle { conn.new.in_transaction ≡ false }
-    ensures made { HasCleanDisk (state S.Store conn.new) → OnOk result (IsNew charter.now (state S.Store conn.new)) }
+    ensures made { IfCommitted S.Store result (λ _. IsNew charter.now) conn.old conn.new }
+    ensures err { IfRolledBack S.Store result conn.old conn.new }
+    ensures crash { CommitsAtMost S.Store
+        (λ _. TablesHold charter.now (λ h. None)) conn.old conn.new }
     ensures no_schema { result ≢ Err StoreFault.Schema }
 {
     let _idle = conn.is_autocommit();
@@ -58,6 +65,27 @@ fn make_tables<S: Alter>(conn: &mut Connection<S>, charter: &Charter) -> Result<
     put_charter(&mut tx, charter)?;
     tx.commit()?;
     Ok(())
+}
+
+/// Makes a desk of a database that has no table yet, and lifts the limit of its steps. Every other
+/// database stays as it is, and one in a transaction too.
+fn make_desk<S: Alter>(conn: &mut Connection<S>, charter: &Charter) -> Result<(), StoreFault>
+    ensures unused { OnOk result (IsUnused (state S.Store conn.old)) }
+    ensures idle { OnOk result (conn.new.in_transaction ≡ false) }
+    ensures unlimited { OnOk result (conn.new.step_limit ≡ None) }
+    ensures made { IfCommitted S.Store result (λ _. IsNew charter.now) conn.old conn.new }
+    ensures mode { OnErr result (conn.new.in_transaction ≡ conn.old.in_transaction) }
+    ensures err { IfRolledBack S.Store result conn.old conn.new }
+    ensures clean { HasCleanDisk (state S.Store conn.new) → HasCleanDisk (state S.Store conn.old) }
+    ensures crash { HasCleanDisk (state S.Store conn.new)
+        → LeavesOldOrNew charter.now (state S.Store conn.old) (state S.Store conn.new) }
+    ensures no_schema { result ≢ Err StoreFault.Schema }
+{
+    if !conn.is_autocommit() || !is_blank(conn.schema()) {
+        return Err(StoreFault::Database);
+    }
+    conn.set_step_limit(None);
+    make_tables(conn, charter)
 }
 
 /// The rows of a desk, in a database.
@@ -73,7 +101,7 @@ pub struct Store<S: Alter> {
 impl<S: Alter> Model for Store<S> {
     ghost use Rattle.std.specs.Prelude.{◌≡◌, false};
     ghost use Rattle.sqlite.specs.Held.{state};
-    ghost use Rattle.store.specs.StoreRows.{StoreView, view_code, IsKept};
+    ghost use Rattle.store.specs.StoreRows.{StoreView, view_code, IsDeskWhileOpen};
 
     ghost Value = { StoreView S };
 
@@ -81,14 +109,12 @@ impl<S: Alter> Model for Store<S> {
 
     ghost view = { λ s. record { connection = s.conn; charter = s.charter } };
 
-    ghost invariant = { λ s. (s.conn.in_transaction ≡ false) × IsKept (state S.Store s.conn) };
+    ghost invariant = { λ s. (s.conn.in_transaction ≡ false)
+        × IsDeskWhileOpen (state S.Store s.conn) };
 }
 
 impl<S: Alter + Drop> Store<S> {
-    ghost use Rattle.std.specs.Prelude.{None};
-    ghost use Rattle.sqlite_trees.specs.Tree.{Trees};
-    ghost use Rattle.store.specs.StoreRows.{state_of, Holds};
-    ghost use Rattle.store.specs.TablesHold.{TablesHold};
+    ghost use Rattle.store.specs.StoreRows.{state_of, Holds, IfClean};
 
     /// A store over a connection to a database that has no table yet, with this charter, where no
     /// holder is registered. A connection in a transaction is refused, and a limit of its steps is
@@ -96,15 +122,18 @@ impl<S: Alter + Drop> Store<S> {
     pub fn create_on(mut conn: Connection<S>, charter: &Charter) -> Result<Self, StoreFault>
         ensures charter { IfOk result (λ store. store.charter ≡ charter.now) }
         ensures rows { IfOk result (λ store. Holds S.Store store (λ h. None)) }
-        ensures left { IfOk result (λ store. HasCleanDisk (state_of S.Store store) → (trees : Trees) → (state_of S.Store store).may_leave trees → TablesHold charter.now (λ h. None) trees) }
+        ensures unused { OnOk result (IsUnused (state S.Store conn)) }
+        ensures unlimited { IfOk result (λ store. store.connection.step_limit ≡ None) }
+        ensures made { IfOk result (λ store. IfClean S.Store store
+            (IsNew charter.now (state_of S.Store store))) }
+        ensures clean { IfOk result (λ store. IfClean S.Store store
+            (HasCleanDisk (state S.Store conn))) }
+        ensures left { IfOk result (λ store. IfClean S.Store store
+            (LeavesNew charter.now (state_of S.Store store))) }
         ensures no_schema { result ≢ Err StoreFault.Schema }
     {
-        if !conn.is_autocommit() || !is_blank(conn.schema()) {
-            return Err(StoreFault::Database);
-        }
-        conn.set_step_limit(None);
         let kept = charter.clone()?;
-        make_tables(&mut conn, charter)?;
+        make_desk(&mut conn, charter)?;
         Ok(Store {
             conn,
             charter: kept,
@@ -117,7 +146,8 @@ impl<S: Alter> Store<S> {
     ghost use Rattle.addr.specs.declared.vrp.Vrp.{Vrp};
     ghost use Rattle.policy.specs.Rows.{Rows};
     ghost use Rattle.store.specs.Loads.{AreLoaded, FitIfAny, IsTaken, IsGivenOn, AllGiveOn};
-    ghost use Rattle.store.specs.StoreRows.{state_of, Holds, IsRead, MayLeave, LeavesOnly};
+    ghost use Rattle.store.specs.StoreRows.{state_of, IsDeskWhileOpen, Holds, IsRead};
+    ghost use Rattle.store.specs.StoreRows.{IfClean, HoldsAfter, MayLeave, LeavesOnly};
 
     /// The operators and the pool.
     pub fn charter(&self) -> &Charter
@@ -176,10 +206,18 @@ impl<S: Alter> Store<S> {
     /// Makes the change in one transaction: all of it, or after a fault nothing.
     pub fn apply(&mut self, change: &Change) -> Result<(), StoreFault>
         ensures charter { self.new.charter ≡ self.old.charter }
-        ensures ok { HasCleanDisk (state_of S.Store self.new) → OnOk result ((rows : List ℕ → Option Rows) → Holds S.Store self.old rows → Holds S.Store self.new (λ h. changed change.now h (rows h))) }
-        ensures err { HasCleanDisk (state_of S.Store self.new) → OnErr result ((rows : List ℕ → Option Rows) → Holds S.Store self.old rows → Holds S.Store self.new rows) }
-        ensures crash { HasCleanDisk (state_of S.Store self.new) → MayLeave S.Store self.old self.new (λ rows h. changed change.now h (rows h)) }
-        ensures left { HasCleanDisk (state_of S.Store self.new) → OnOk result (LeavesOnly S.Store self.old self.new (λ rows h. changed change.now h (rows h))) }
+        ensures ok { IfClean S.Store self.new
+            (OnOk result (HoldsAfter S.Store self.old self.new (changed_rows change.now))) }
+        ensures err { IfClean S.Store self.new
+            (OnErr result (HoldsAfter S.Store self.old self.new (λ rows. rows))) }
+        ensures crash { IfClean S.Store self.new
+            (MayLeave S.Store self.old self.new (changed_rows change.now)) }
+        ensures left { IfClean S.Store self.new
+            (OnOk result (LeavesOnly S.Store self.old self.new (changed_rows change.now))) }
+        ensures clean { IfClean S.Store self.new (HasCleanDisk (state_of S.Store self.old)) }
+        ensures is_open { IfClean S.Store self.new
+            (OnOk result (IsTrue (state_of S.Store self.new).is_open)) }
+        ensures no_schema { result ≢ Err StoreFault.Schema }
     {
         commit_change(&mut self.conn, change)
     }
@@ -188,6 +226,7 @@ impl<S: Alter> Store<S> {
     pub fn close(self) -> Connection<S>
         ensures same { result ≡ self.connection }
         ensures idle { result.in_transaction ≡ false }
+        ensures desk { IsDeskWhileOpen (state S.Store result) }
     {
         let Store { conn, .. } = self;
         conn
@@ -195,7 +234,6 @@ impl<S: Alter> Store<S> {
 }
 
 impl Store<MemStore> {
-    ghost use Rattle.std.specs.Prelude.{None};
     ghost use Rattle.sqlite.specs.Steps.{over_memory};
     ghost use Rattle.store.specs.StoreRows.{Holds};
 
@@ -203,6 +241,7 @@ impl Store<MemStore> {
     pub fn open_memory(alloc: Global, charter: &Charter) -> Result<Self, StoreFault>
         ensures charter { IfOk result (λ store. store.charter ≡ charter.now) }
         ensures rows { IfOk result (λ store. Holds over_memory store (λ h. None)) }
+        ensures no_schema { result ≢ Err StoreFault.Schema }
     {
         let conn = Connection::open_in_memory(alloc)?;
         Store::create_on(conn, charter)

@@ -1,16 +1,14 @@
-use Rattle.std.proofs.Common.{arith, refl}
-use Rattle.sqlite.specs.Held.{state}
+use Rattle.std.proofs.Common.{refl}
 use Rattle.policy.specs.declared.change.Edit.TheVariants.{Grant}
 use Rattle.policy.specs.Rows.{edited}
-use Rattle.store.specs.RowEdits.{with_grant, with_granted}
-use Rattle.std.proofs.lemmas.Result.{on_ok_weaker}
-use Rattle.store.proofs.RowSteps.{done_then}
+use Rattle.store.specs.steps.RowEdits.{with_grant, with_granted}
+use Rattle.store.proofs.RowSteps.{done_after, stays_then}
 use Rattle.store.proofs.change.grant.Goals as goal
 
 pub returns-clause-done : goal.returns-clause-done
-returns-clause-done g c clean =
+returns-clause-done g c =
     let x = c.args.grant.now in
-    let before = c.in_ok-put_grant.ensures.done (omega (arith, c.set_granted.ensures.survives.clean)) in
-    on_ok_weaker c.set_granted.result
-    (done_then c.args.holder.now (with_grant x) (with_granted x.number) (edited (Grant x)) (state g.S.Store c.args.tx.now.conn.now) (state g.S.Store c.put_grant.new.tx.conn.now) (state g.S.Store c.set_granted.new.tx.conn.now) (λ r. refl) before)
-    (c.set_granted.ensures.done clean)
+    done_after g.S.Store c.set_granted.result c.args.holder.now (with_grant x) (with_granted x.number) (edited (Grant x)) c.args.tx.now _ _ (λ r. refl) c.set_granted.ensures.inside c.in_ok-put_grant.ensures.done c.set_granted.ensures.done
+
+pub returns-clause-inside : goal.returns-clause-inside
+returns-clause-inside g c = stays_then g.S.Store _ _ _ c.put_grant.ensures.inside c.set_granted.ensures.inside

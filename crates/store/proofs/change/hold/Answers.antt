@@ -1,22 +1,20 @@
 use Rattle.std.proofs.Common.{arith, refl}
 use Rattle.policy.specs.Rows.{Rows}
-use Rattle.sqlite.specs.Held.{state}
-use Rattle.store.specs.RowEdits.{with_holdings, without_holdings, without_auths, held}
-use Rattle.std.proofs.lemmas.Result.{on_ok_weaker}
-use Rattle.store.proofs.RowSteps.{done_then}
+use Rattle.store.specs.steps.RowEdits.{with_holdings, without_holdings, without_auths, held}
+use Rattle.store.proofs.RowSteps.{done_then, done_after, stays_then}
 use Rattle.store.proofs.change.hold.Goals as goal
 
+pub returns-in_err-put_holdings-clause-inside : goal.returns-in_err-put_holdings-clause-inside
+returns-in_err-put_holdings-clause-inside g c = stays_then g.S.Store _ _ _ c.take_holdings.ensures.inside c.put_holdings.ensures.inside
+
 pub returns-clause-done : goal.returns-clause-done
-returns-clause-done g c clean =
+returns-clause-done g c =
     let h = c.args.holder.now in
     let spans = c.args.spans.now in
-    let old = state g.S.Store c.args.tx.now.conn.now in
-    let bare = state g.S.Store c.take_holdings.new.tx.conn.now in
-    let mid = state g.S.Store c.put_holdings.new.tx.conn.now in
-    let new = state g.S.Store c.take_auths.new.tx.conn.now in
-    let first = c.in_ok-take_holdings.ensures.done (omega (arith, c.put_holdings.ensures.survives.clean, c.take_auths.ensures.survives.clean)) in
-    let second = c.in_ok-put_holdings.ensures.done (omega (arith, c.take_auths.ensures.survives.clean)) in
     let other : Rows → Rows = λ r. with_holdings spans (without_holdings r) in
-    on_ok_weaker c.take_auths.result
-    (done_then h other (without_auths c.args.ended.now) (held spans c.args.ended.now) old mid new (λ r. refl) (done_then h without_holdings (with_holdings spans) other old bare mid (λ r. refl) first second))
-    (c.take_auths.ensures.done clean)
+    done_after g.S.Store c.take_auths.result h other (without_auths c.args.ended.now) (held spans c.args.ended.now) c.args.tx.now _ _ (λ r. refl) c.take_auths.ensures.inside
+    (λ clean. done_then h without_holdings (with_holdings spans) other _ _ _ (λ r. refl) (c.in_ok-take_holdings.ensures.done (omega (arith, c.put_holdings.ensures.inside.survives.clean))) (c.in_ok-put_holdings.ensures.done clean))
+    c.take_auths.ensures.done
+
+pub returns-clause-inside : goal.returns-clause-inside
+returns-clause-inside g c = stays_then g.S.Store _ _ _ (stays_then g.S.Store _ _ _ c.take_holdings.ensures.inside c.put_holdings.ensures.inside) c.take_auths.ensures.inside

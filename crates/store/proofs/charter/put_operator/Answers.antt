@@ -1,10 +1,6 @@
-use Rattle.std.proofs.Common.{arith}
-use Rattle.sqlite.specs.Held.{state}
-use Rattle.store.proofs.CharterSteps.{put_operator_done}
+use Rattle.store.proofs.CharterSteps.{puts_operator}
+use Rattle.store.proofs.RowSteps.{means}
 use Rattle.store.proofs.charter.put_operator.Goals as goal
 
 pub returns-clause-put : goal.returns-clause-put
-returns-clause-put g c clean =
-    let ready = c.requires (omega (arith, c.execute.ensures.survives.clean)) in
-    put_operator_done (state g.S.Store c.args.tx.now.conn.now) (state g.S.Store c.execute.new.self.conn.now) ready c.in_ok-execute.field-0 c.args.name.now
-    (rw c.name_values.ensures at (c.in_ok-execute.ensures.runs clean ready.inside))
+returns-clause-put g c = means g.S.Store c.run.result _ _ _ _ _ _ c.requires c.run.ensures.inside c.run.ensures.ran c.name_values.ensures (λ old new. puts_operator old new c.args.name.now)

@@ -1,17 +1,16 @@
-use Rattle.std.proofs.Common.{arith, ◌∙◌}
-use Rattle.sqlite.specs.Held.{state}
+use Rattle.std.proofs.Common.{arith}
 use Rattle.store.specs.Cells.{prefix_cells}
-use Rattle.store.proofs.RowSteps.{quiet_then}
-use Rattle.store.proofs.CharterSteps.{puts_along}
+use Rattle.store.proofs.CharterSteps.{puts_none, puts_along}
+use Rattle.store.proofs.RowSteps.{stays, stays_then}
 use Rattle.store.proofs.charter.put_pool.Goals as goal
+
+pub loop-prefix-init : goal.loop-prefix-init
+loop-prefix-init g c = (stays g.S.Store _, λ clean. puts_none _ _ (c.requires clean))
 
 pub loop-prefix-preserved : goal.loop-prefix-preserved
 loop-prefix-preserved g c =
-    let old = state g.S.Store c.args.tx.now.conn.now in
-    let mid = state g.S.Store c.loop-prefix.tx.conn.now in
-    let new = state g.S.Store c.put_prefix.new.tx.conn.now in (
-      c.in_ok-put_prefix.ensures.same_reference ∙ c.loop-prefix.invariant.0,
-      quiet_then old mid new c.loop-prefix.invariant.1 c.put_prefix.ensures.survives,
-      λ clean. puts_along _ prefix_cells c.args.prefixes.now c.loop-prefix.prefix-index c.prefix-item.result old mid new (omega arith) c.prefix-item.is c.loop-prefix.invariant.2 (omega (arith, c.put_prefix.ensures.survives.clean))
-          (c.put_prefix.ensures.kept clean) (c.in_ok-put_prefix.ensures.put clean),
+    let inside = c.put_prefix.ensures.inside in (
+      stays_then g.S.Store _ _ _ c.loop-prefix.invariant.0 inside,
+      λ clean. puts_along _ prefix_cells c.args.prefixes.now c.loop-prefix.prefix-index c.prefix-item.result _ _ _ (omega arith) c.prefix-item.is
+          (c.loop-prefix.invariant.1 (omega (arith, inside.survives.clean))) (c.in_ok-put_prefix.ensures.put clean),
     )

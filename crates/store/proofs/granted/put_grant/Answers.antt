@@ -1,10 +1,6 @@
-use Rattle.std.proofs.Common.{arith}
-use Rattle.sqlite.specs.Held.{state}
-use Rattle.store.proofs.GrantSteps.{put_grant_done}
+use Rattle.store.proofs.EditSteps.{puts_grant}
+use Rattle.store.proofs.RowSteps.{means}
 use Rattle.store.proofs.granted.put_grant.Goals as goal
 
 pub returns-clause-done : goal.returns-clause-done
-returns-clause-done g c clean =
-    let ready = c.requires (omega (arith, c.execute.ensures.survives.clean)) in
-    put_grant_done c.args.holder.now (state g.S.Store c.args.tx.now.conn.now) (state g.S.Store c.execute.new.self.conn.now) ready c.in_ok-execute.field-0 c.args.grant.now
-    (rw c.granted_values.ensures at (c.in_ok-execute.ensures.runs clean ready.inside))
+returns-clause-done g c = means g.S.Store c.run.result _ _ _ _ _ _ c.requires c.run.ensures.inside c.run.ensures.ran c.granted_values.ensures (λ old new. puts_grant c.args.holder.now old new c.args.grant.now)

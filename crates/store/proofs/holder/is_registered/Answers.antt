@@ -1,23 +1,30 @@
 use Rattle.std.proofs.Common.{arith, inl}
-use Rattle.sqlite.specs.Held.{state}
-use Rattle.store.proofs.HolderSteps.{asked, told}
 use Rattle.sqlite.proofs.InsideLemmas.{unchanged_keeps}
+use Rattle.store.specs.steps.Statements.{state_in}
+use Rattle.store.proofs.HolderSteps.{asked, told}
 use Rattle.store.proofs.QueryLemmas.{kept_inside}
 use Rattle.store.proofs.holder.is_registered.Goals as goal
 
-pub returns-in_err-found-clause-kept : goal.returns-in_err-found-clause-kept
-returns-in_err-found-clause-kept g c clean =
-    kept_inside _ _ (state g.S.Store c.args.tx.now.conn.now) (state g.S.Store c.query_all.new.self.conn.now) _ (c.in_err-found.ensures.err clean)
+pub returns-in_err-found-clause-inside : goal.returns-in_err-found-clause-inside
+returns-in_err-found-clause-inside g c = record {
+  same_reference = c.query_all.ensures.same_reference;
+  kept = λ clean. kept_inside _ _ (state_in g.S.Store c.args.tx.now) (state_in g.S.Store c.query_all.new.self) _ (c.in_err-found.ensures.err clean);
+  survives = c.query_all.ensures.survives;
+}
 
 pub returns-clause-told : goal.returns-clause-told
 returns-clause-told g c clean =
     let ready = c.requires (omega (arith, c.query_all.ensures.survives.clean)) in
-    told c.args.holder.now (state g.S.Store c.args.tx.now.conn.now) (state g.S.Store c.query_all.new.self.conn.now) ready c.in_ok-found.found.items c.is_empty.result c.in_ok-found.found.len
+    told c.args.holder.now (state_in g.S.Store c.args.tx.now) (state_in g.S.Store c.query_all.new.self) ready c.in_ok-found.found.items c.is_empty.result c.in_ok-found.found.len
     c.in_ok-found.found.ok.0 c.is_empty.ensures (rw c.name_values.ensures at (c.in_ok-found.ensures.ok clean))
 
-pub returns-clause-kept : goal.returns-clause-kept
-returns-clause-kept g c clean =
-    let ready = c.requires (omega (arith, c.query_all.ensures.survives.clean)) in
-    let old = state g.S.Store c.args.tx.now.conn.now in
-    let new = state g.S.Store c.query_all.new.self.conn.now in
-    unchanged_keeps old new (inl (asked c.args.holder.now old new ready c.in_ok-found.found.items (rw c.name_values.ensures at (c.in_ok-found.ensures.ok clean))))
+pub returns-clause-inside : goal.returns-clause-inside
+returns-clause-inside g c = record {
+  same_reference = c.query_all.ensures.same_reference;
+  kept = λ clean.
+      let ready = c.requires (omega (arith, c.query_all.ensures.survives.clean)) in
+      let old = state_in g.S.Store c.args.tx.now in
+      let new = state_in g.S.Store c.query_all.new.self in
+      unchanged_keeps old new (inl (asked c.args.holder.now old new ready c.in_ok-found.found.items (rw c.name_values.ensures at (c.in_ok-found.ensures.ok clean))));
+  survives = c.query_all.ensures.survives;
+}

@@ -1,7 +1,7 @@
 use Rattle.std.proofs.Common.{◌≡◌, rules, arith, refl, subst}
 use Rattle.sqlite.specs.Held.{state}
 use Rattle.sqlite.specs.State.{HasCleanDisk}
-use Rattle.store.specs.Making.{IsNew}
+use Rattle.store.specs.StoreRows.{IsNew}
 use Rattle.store.proofs.CharterSteps.{new_after}
 use Rattle.store.proofs.store.make_tables.Goals as goal
 

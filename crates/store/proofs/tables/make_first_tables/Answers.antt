@@ -1,18 +1,28 @@
 use Rattle.std.proofs.Common.{arith, refl}
-use Rattle.sqlite.specs.Held.{state}
+use Rattle.std.proofs.lemmas.Result.{on_ok_weaker}
 use Rattle.store.specs.Tables.{meta, operator, pool, holder}
 use Rattle.store.proofs.MakingSteps.{makes}
 use Rattle.store.proofs.Creates.{meta_text, meta_defined, operator_text, operator_defined, pool_text, pool_defined, holder_text, holder_defined}
+use Rattle.store.proofs.RowSteps.{stays_then}
 use Rattle.store.proofs.tables.make_first_tables.Goals as goal
+
+pub returns-in_err-run-2-clause-inside : goal.returns-in_err-run-2-clause-inside
+returns-in_err-run-2-clause-inside g c = stays_then g.S.Store _ _ _ c.run.ensures.inside c.run-2.ensures.inside
+
+pub returns-in_err-run-3-clause-inside : goal.returns-in_err-run-3-clause-inside
+returns-in_err-run-3-clause-inside g c = stays_then g.S.Store _ _ _ (stays_then g.S.Store _ _ _ c.run.ensures.inside c.run-2.ensures.inside) c.run-3.ensures.inside
 
 pub returns-clause-made : goal.returns-clause-made
 returns-clause-made g c clean =
-    let start = c.requires (omega (arith, c.run.ensures.survives.clean, c.run-2.ensures.survives.clean, c.run-3.ensures.survives.clean, c.run-4.ensures.survives.clean)) in
-    let ran_1 = c.in_ok-run.ensures.ran (omega (arith, c.run-2.ensures.survives.clean, c.run-3.ensures.survives.clean, c.run-4.ensures.survives.clean)) in
-    let meta_made = makes 0 meta_text meta meta_defined refl (state g.S.Store c.args.tx.now.conn.now) (state g.S.Store c.run.new.tx.conn.now) ran_1.0 start ran_1.1 in
-    let ran_2 = c.in_ok-run-2.ensures.ran (omega (arith, c.run-3.ensures.survives.clean, c.run-4.ensures.survives.clean)) in
-    let operator_made = makes 1 operator_text operator operator_defined refl (state g.S.Store c.run.new.tx.conn.now) (state g.S.Store c.run-2.new.tx.conn.now) ran_2.0 meta_made ran_2.1 in
-    let ran_3 = c.in_ok-run-3.ensures.ran (omega (arith, c.run-4.ensures.survives.clean)) in
-    let pool_made = makes 2 pool_text pool pool_defined refl (state g.S.Store c.run-2.new.tx.conn.now) (state g.S.Store c.run-3.new.tx.conn.now) ran_3.0 operator_made ran_3.1 in
-    let ran_4 = c.in_ok-run-4.ensures.ran clean in
-    makes 3 holder_text holder holder_defined refl (state g.S.Store c.run-3.new.tx.conn.now) (state g.S.Store c.run-4.new.tx.conn.now) ran_4.0 pool_made ran_4.1
+    let before_4 = c.run-4.ensures.inside.survives.clean in
+    let before_3 = c.run-3.ensures.inside.survives.clean in
+    let before_2 = c.run-2.ensures.inside.survives.clean in
+    let start = c.requires (omega (arith, c.run.ensures.inside.survives.clean, before_2, before_3, before_4)) in
+    let made_1 = makes 0 meta_text meta meta_defined refl _ _ start (c.in_ok-run.ensures.ran (omega (arith, before_2, before_3, before_4))) in
+    let made_2 = makes 1 operator_text operator operator_defined refl _ _ made_1 (c.in_ok-run-2.ensures.ran (omega (arith, before_3, before_4))) in
+    let made_3 = makes 2 pool_text pool pool_defined refl _ _ made_2 (c.in_ok-run-3.ensures.ran (omega (arith, before_4))) in
+    on_ok_weaker c.run-4.result (makes 3 holder_text holder holder_defined refl _ _ made_3) (c.run-4.ensures.ran clean)
+
+pub returns-clause-inside : goal.returns-clause-inside
+returns-clause-inside g c =
+    stays_then g.S.Store _ _ _ (stays_then g.S.Store _ _ _ (stays_then g.S.Store _ _ _ c.run.ensures.inside c.run-2.ensures.inside) c.run-3.ensures.inside) c.run-4.ensures.inside

@@ -2,13 +2,13 @@ use Rattle.std.proofs.Common.{◌≡◌, arith, subst, OnOk, ℕ, List, Option}
 use Rattle.sqlite.specs.Held.{state}
 use Rattle.sqlite.specs.State.{HasCleanDisk}
 use Rattle.policy.specs.Rows.{Rows, changed}
-use Rattle.store.specs.StoreRows.{Holds, MayLeave, LeavesOnly}
-use Rattle.store.proofs.StoreLemmas.{Change, over, holds_ok, may_leave, leaves_only}
+use Rattle.store.specs.StoreRows.{RowChange, Holds, MayLeave, LeavesOnly}
+use Rattle.store.proofs.StoreLemmas.{over, holds_ok, may_leave, leaves_only}
 use Rattle.store.proofs.store.Store.apply.Goals as goal
 
 pub returns-clause-ok : goal.returns-clause-ok
 returns-clause-ok g c clean =
-    let to : Change = λ rows h. changed c.args.change.now h (rows h) in
+    let to : RowChange = λ rows h. changed c.args.change.now h (rows h) in
     let old = c.self.inside.conn in
     let new = c.commit_change.new.conn in
     let charter = c.self.inside.charter in
@@ -19,7 +19,7 @@ returns-clause-ok g c clean =
 
 pub returns-clause-crash : goal.returns-clause-crash
 returns-clause-crash g c clean =
-    let to : Change = λ rows h. changed c.args.change.now h (rows h) in
+    let to : RowChange = λ rows h. changed c.args.change.now h (rows h) in
     let old = c.self.inside.conn in
     let new = c.commit_change.new.conn in
     let charter = c.self.inside.charter in
@@ -29,7 +29,7 @@ returns-clause-crash g c clean =
 
 pub returns-clause-left : goal.returns-clause-left
 returns-clause-left g c clean =
-    let to : Change = λ rows h. changed c.args.change.now h (rows h) in
+    let to : RowChange = λ rows h. changed c.args.change.now h (rows h) in
     let old = c.self.inside.conn in
     let new = c.commit_change.new.conn in
     let charter = c.self.inside.charter in

@@ -1,14 +1,14 @@
 -- The making of the tables, one after another, and their first rows.
-use Rattle.std.specs.Prelude.{◌≡◌, ℕ, suc, true, List, [], ◌++◌, None, Ok, IsTrue, take, nat_le, if◌then◌else◌}
+use Rattle.std.specs.Prelude.{◌≡◌, ℕ, suc, true, List, [], ◌++◌, None, take, nat_le, if◌then◌else◌}
 use Rattle.std.specs.List.{AllByRecursion}
-use Rattle.sqlite.specs.State.{State, ExecutesInside}
+use Rattle.sqlite.specs.State.{State}
 use Rattle.sqlite_schema.specs.declared.schema.Schema.{Schema}
 use Rattle.sqlite_value.specs.Order.{Row}
 use Rattle.policy.specs.CharterSets.{CharterSets}
-use Rattle.store.specs.Tables.{desk_tables, desk_indexes, desk_schema}
-use Rattle.store.specs.Edits.{Edits}
+use Rattle.store.specs.Tables.{desk_tables, desk_indexes}
+use Rattle.store.specs.steps.Edits.{Edits}
 use Rattle.store.specs.TablesHold.{TablesHold}
-use Rattle.store.specs.Steps.{IsReady}
+use Rattle.store.specs.steps.Statements.{IsReady}
 
 -- the schema of the first tables, of which `auth` has two keys and every other has one
 abbrev pub so_far : ℕ → Schema
@@ -20,23 +20,12 @@ pub record IsMadeTo (n : ℕ) (s : State) : Type 0 where
   pub schema : s.now.schema ≡ so_far n
   pub empty : AllByRecursion (λ t. s.now.trees t.tree ≡ []) (take n desk_tables)
 
--- the statement was run within the transaction
-abbrev pub Ran : List ℕ → State → State → Type 0
-Ran sql old new = (count : ℕ) × ExecutesInside 0 sql [] old new (Ok count)
-
 -- the transaction goes on, and these rows were put into a table
-pub record Puts (tree : ℕ) (rows : List Row) (old new : State) : Type 0 where
+pub record PutsRows (tree : ℕ) (rows : List Row) (old new : State) : Type 0 where
   pub ready : IsReady new
   pub edits : Edits tree (λ table. rows ++ table) old.now new.now
 
 -- a transaction in which the tables hold the charter, and no holder is registered
 pub record HasCharter (charter : CharterSets) (s : State) : Type 0 where
   pub ready : IsReady s
-  pub rows : TablesHold charter (λ h. None) s.now.trees
-
--- the tables hold the charter and no holder, and are committed
-pub record IsNew (charter : CharterSets) (s : State) : Type 0 where
-  pub is_open : IsTrue s.is_open
-  pub schema : s.now.schema ≡ desk_schema
-  pub settled : s.committed ≡ s.now
   pub rows : TablesHold charter (λ h. None) s.now.trees

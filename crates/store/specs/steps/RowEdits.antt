@@ -1,15 +1,12 @@
 -- The steps in which a change edits the rows of a holder.
-use Rattle.std.specs.Prelude.{ℕ, Bool, true, false, ◌==◌, not, List, [], ◌∷◌, ◌++◌, map, filter}
+use Rattle.std.specs.Prelude.{ℕ, Bool, true, false, ◌==◌, not, List, [], ◌∷◌, ◌++◌, filter}
 use Rattle.std.specs.List.{list_any}
 use Rattle.addr.specs.declared.span.Span.{Span}
 use Rattle.policy.specs.declared.authorization.Auth.{Auth}
 use Rattle.policy.specs.declared.grant.Granted.{Granted}
 use Rattle.policy.specs.declared.change.Edit.{Edit}
 use Rattle.policy.specs.declared.change.Edit.TheVariants.{Register}
-use Rattle.policy.specs.Rows.{Rows, replaced_by}
-
-abbrev pub with_holding : Span → Rows → Rows
-with_holding s r = record r { holdings = r.holdings ++ s ∷ [] }
+use Rattle.policy.specs.Rows.{Rows}
 
 abbrev pub with_holdings : List Span → Rows → Rows
 with_holdings spans r = record r { holdings = r.holdings ++ spans }
@@ -20,20 +17,11 @@ without_holdings r = record r { holdings = [] }
 abbrev pub with_grant : Granted → Rows → Rows
 with_grant g r = record r { grants = r.grants ++ g ∷ [] }
 
-abbrev pub without_grant : ℕ → Rows → Rows
-without_grant n r = record r { grants = filter (λ g. not (g.number == n)) r.grants }
-
 abbrev pub with_auth : Auth → Rows → Rows
 with_auth x r = record r { auths = r.auths ++ x ∷ [] }
 
-abbrev pub without_auth : ℕ → Rows → Rows
-without_auth n r = record r { auths = filter (λ x. not (x.number == n)) r.auths }
-
 abbrev pub without_auths : List ℕ → Rows → Rows
 without_auths ns r = record r { auths = filter (λ x. not (list_any (λ n. x.number == n) ns)) r.auths }
-
-abbrev pub with_amended : Auth → Rows → Rows
-with_amended x r = record r { auths = map (replaced_by x) r.auths }
 
 -- how many grants and authorizations were made
 abbrev pub with_granted : ℕ → Rows → Rows

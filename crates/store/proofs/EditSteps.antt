@@ -1,0 +1,188 @@
+-- What each statement does to the rows of a holder.
+use Rattle.std.proofs.Common.{◌≡◌, inl, inr, ℕ, pos, Bool, true, false, cond, not, ◌&&◌, ◌==◌, List, [], ◌∷◌, ◌++◌, map, filter, drop, length, ◌/◌, Some, None, refl, sym, ap, ap₂, ◌∙◌}
+use Rattle.std.proofs.lemmas.Bool.{eqb-true, and_parts}
+use Rattle.std.proofs.lemmas.List.Sorted.{IsPermutation-refl}
+use Rattle.sqlite.specs.Effect.{value_rows}
+use Rattle.sqlite.specs.State.{State}
+use Rattle.sqlite_value.specs.declared.value.Value.TheVariants.{Null, Int, Text, Blob}
+use Rattle.sqlite_value.specs.Order.{Row, column}
+use Rattle.sqlite_trees.proofs.ListLemmas.{map-map, filter-map}
+use Rattle.sqlite_sql.specs.Term.{lit, col, eval_all}
+use Rattle.sqlite_schema.specs.declared.schema.Kind.TheVariants.{Integer, Text as Words}
+use Rattle.sqlite_rules.specs.Cast.{cast, cast_all}
+use Rattle.sqlite_typed.proofs.TestLemmas.{last_term}
+use Rattle.addr.specs.declared.span.Span.{Span}
+use Rattle.policy.specs.declared.authorization.Auth.{Auth}
+use Rattle.policy.specs.declared.change.Edit.TheVariants.{Revoke, Amend, Withdraw}
+use Rattle.policy.specs.declared.grant.Granted.{Granted}
+use Rattle.policy.specs.declared.grant.Scope.{Scope}
+use Rattle.policy.specs.declared.grant.Scope.TheVariants.{All, Only}
+use Rattle.policy.specs.Rows.{new_rows, edited, replaced_by}
+use Rattle.store.specs.Tables.{holder, holding, granted, auth}
+use Rattle.store.specs.Cells.{number_cell, family_number, address, role_number, scope_cells, auth_cells, holder_row, holding_row, granted_row, auth_row}
+use Rattle.store.specs.TablesHold.{is_name_of, part_rows, holder_part, holding_part, granted_part, auth_part}
+use Rattle.store.specs.steps.RowEdits.{with_holdings, without_holdings, with_grant, with_auth, with_granted, with_created}
+use Rattle.store.specs.steps.Statements.{IsReady, IsExecuted, EditsHolder, Registers}
+use Rattle.store.proofs.Selecting.{picks}
+use Rattle.store.proofs.Updating.{changed_if}
+use Rattle.store.proofs.CellLemmas.{cast_number, cast_holder, cast_holding, cast_granted, cast_auth, is_number, number_of_number, appended}
+use Rattle.store.proofs.PartLemmas.{names, name_of-true, name_of_itself, put_local}
+use Rattle.store.proofs.PartSteps.{puts_row, puts_edit, takes_edit, changes_edit}
+use Rattle.store.proofs.StepLemmas.{equals_text, equals_int, column_after, holder_test, turns_rows, in_holder, in_holdings, in_grants, in_auths}
+use Rattle.store.proofs.Texts.{
+  put_terms,
+  equals,
+  amend_sets,
+  put_holder_text,
+  put_holder_is,
+  set_grants_text,
+  set_grants_is,
+  set_auths_text,
+  set_auths_is,
+  put_holding_text,
+  put_holding_is,
+  take_holdings_text,
+  take_holdings_is,
+  put_granted_text,
+  put_granted_is,
+  take_granted_text,
+  take_granted_is,
+  put_auth_text,
+  put_auth_is,
+  take_auth_text,
+  take_auth_is,
+  amend_text,
+  amend_is,
+}
+
+-- ---- the rows that a statement is on
+
+-- the one of a holder and a number
+abbrev is_of : List ℕ → ℕ → Row → Bool
+is_of h n c = is_name_of h (column c 0) && is_number n (column c 1)
+
+of_holder : (h : List ℕ) (n : ℕ) (c : Row) → is_of h n c ≡ true → is_name_of h (column c 0) ≡ true
+of_holder h n c is = (and_parts _ _ is).0
+
+of_tests : (h : List ℕ) (n : ℕ) (more r : Row) → picks (Text h ∷ number_cell n ∷ more) (equals 1 0 ∷ equals 2 1 ∷ []) r ≡ is_of h n (drop 1 r)
+of_tests h n more r =
+    ap₂ ◌&&◌ (equals_text (column r 1) h ∙ ap (is_name_of h) (column_after r 0))
+    (last_term (equals_int (column r 2) (pos n) ∙ ap (is_number n) (column_after r 1)))
+
+-- the rows of a holder without the one of a number
+taken : {X : Type 0} (number : X → ℕ) (cells : X → Row) (h : List ℕ) (n : ℕ) → ((x : X) → is_of h n (cells x) ≡ (number x == n))
+    → (xs : List X) → map cells (filter (λ x. not (number x == n)) xs) ≡ filter (λ c. not (is_of h n c)) (map cells xs)
+taken number cells h n own xs = ap (map cells) (λ i. filter (λ x. not (sym (own x) i)) xs) ∙ sym (filter-map (λ c. not (is_of h n c)) cells xs)
+
+-- a grant has eight columns, whatever its scope
+eight : (h : List ℕ) (g : Granted) → value_rows (granted_row h g) 9 (length (put_terms 8) / 9) (put_terms 8) ≡ (Null ∷ granted_row h g) ∷ []
+eight h g = go g.scope
+  where
+    go : (scope : Scope) → value_rows (Text h ∷ number_cell g.number ∷ Text g.caller ∷ number_cell (role_number g.role) ∷ scope_cells scope ++ number_cell g.until ∷ []) 9 (length (put_terms 8) / 9) (put_terms 8)
+        ≡ (Null ∷ Text h ∷ number_cell g.number ∷ Text g.caller ∷ number_cell (role_number g.role) ∷ scope_cells scope ++ number_cell g.until ∷ []) ∷ []
+    go All = refl
+    go (Only p) = refl
+
+-- ---- counters
+
+module _ (h : List ℕ) (n : ℕ) where
+  name_kept : (c : Row) → names 0 h c ≡ true → cast Words (column c 0) ≡ column c 0
+  name_kept c is = let named = name_of-true h (column c 0) is in ap (cast Words) named ∙ sym named
+
+  abbrev granted_set : Row → Row
+  granted_set c = cast Words (column c 0) ∷ number_cell n ∷ cast Integer (column c 2) ∷ []
+
+  abbrev created_set : Row → Row
+  created_set c = cast Words (column c 0) ∷ cast Integer (column c 1) ∷ number_cell n ∷ []
+
+  module _ (old new : State) where
+    pub sets_granted : IsReady old → IsExecuted set_grants_text (Text h ∷ number_cell n ∷ []) old new → EditsHolder h (with_granted n) old new
+    sets_granted =
+        changes_edit 3 holder refl old new 0 holder_part.rows refl h (with_granted n) (equals 1 0 ∷ []) (names 0 h) (Text h ∷ number_cell n ∷ []) (holder_test 0 h (number_cell n ∷ [])) (λ c is. is)
+        (col 1 1 ∷ col 0 1 ∷ col 1 3 ∷ []) granted_set set_grants_is (λ r. λ i. cast Words (column_after r 0 i) ∷ cast_number n i ∷ cast Integer (column_after r 2 i) ∷ []) name_kept
+        (λ r. rw (name_of_itself h (Text h) refl, cast_number r.created) refl) (in_holder h (λ _. n) (λ r. r.created)) refl
+
+    pub sets_created : IsReady old → IsExecuted set_auths_text (Text h ∷ number_cell n ∷ []) old new → EditsHolder h (with_created n) old new
+    sets_created =
+        changes_edit 3 holder refl old new 0 holder_part.rows refl h (with_created n) (equals 1 0 ∷ []) (names 0 h) (Text h ∷ number_cell n ∷ []) (holder_test 0 h (number_cell n ∷ [])) (λ c is. is)
+        (col 1 1 ∷ col 1 2 ∷ col 0 1 ∷ []) created_set set_auths_is (λ r. λ i. cast Words (column_after r 0 i) ∷ cast Integer (column_after r 1 i) ∷ cast_number n i ∷ []) name_kept
+        (λ r. rw (name_of_itself h (Text h) refl, cast_number r.granted) refl) (in_holder h (λ r. r.granted) (λ _. n)) refl
+
+module _ (h : List ℕ) (old new : State) where
+  pub registers : IsReady old → IsExecuted put_holder_text (Text h ∷ []) old new → Registers h old new
+  registers ready ran =
+      let put = puts_row 3 holder refl old new (Text h ∷ []) (lit Null ∷ col 0 0 ∷ lit (Int (pos 0)) ∷ lit (Int (pos 0)) ∷ []) 4 (holder_row h 0 0) put_holder_is refl (cast_holder h 0 0) ready ran in
+      record {
+        ready = put.ready;
+        rows = turns_rows (λ o. o ≡ None) h (λ _. Some new_rows) holder_part (λ rows. holder_row h 0 0 ∷ rows) old.now new.now put.edits (put_local 0 h (holder_row h 0 0) refl) (λ o none. rw none (IsPermutation-refl _)) refl
+            (inl refl, inr (refl, refl, λ o none. ap (part_rows holding_part h) none), inr (refl, refl, λ o none. ap (part_rows granted_part h) none), inr (refl, refl, λ o none. ap (part_rows auth_part h) none));
+      }
+
+  -- ---- holdings
+
+  pub puts_holding : (s : Span) → IsReady old → IsExecuted put_holding_text (holding_row h s) old new → EditsHolder h (with_holdings (s ∷ [])) old new
+  puts_holding s ready ran =
+      puts_edit 4 holding refl old new 3 holding_part.rows refl h (with_holdings (s ∷ [])) (holding_row h s) refl (λ r. appended (holding_row h) r.holdings s) (in_holdings h (λ r. r.holdings ++ s ∷ []))
+      (puts_row 4 holding refl old new (holding_row h s) (put_terms 4) 5 (holding_row h s) put_holding_is refl (cast_holding h s) ready ran)
+
+  pub takes_holdings : IsReady old → IsExecuted take_holdings_text (Text h ∷ []) old new → EditsHolder h without_holdings old new
+  takes_holdings =
+      takes_edit 4 holding refl old new 3 holding_part.rows refl h without_holdings (equals 4 0 ∷ []) (names 3 h) (Text h ∷ []) (holder_test 3 h []) (λ c is. is)
+      take_holdings_is (λ r. none r.holdings) (in_holdings h (λ _. [])) refl
+    where
+      none : (spans : List Span) → [] ≡ filter (λ c. not (names 3 h c)) (map (holding_row h) spans)
+      none [] = refl
+      none (s ∷ spans) = rw (name_of_itself h (Text h) refl) (none spans)
+
+  -- ---- grants
+
+  pub puts_grant : (g : Granted) → IsReady old → IsExecuted put_granted_text (granted_row h g) old new → EditsHolder h (with_grant g) old new
+  puts_grant g ready ran =
+      puts_edit 5 granted refl old new 0 granted_part.rows refl h (with_grant g) (granted_row h g) refl (λ r. appended (granted_row h) r.grants g) (in_grants h (λ r. r.grants ++ g ∷ []))
+      (puts_row 5 granted refl old new (granted_row h g) (put_terms 8) 9 (granted_row h g) put_granted_is (eight h g) (cast_granted h g) ready ran)
+
+  pub takes_grant : (n : ℕ) → IsReady old → IsExecuted take_granted_text (Text h ∷ number_cell n ∷ []) old new → EditsHolder h (edited (Revoke n)) old new
+  takes_grant n =
+      takes_edit 5 granted refl old new 0 granted_part.rows refl h (edited (Revoke n)) (equals 1 0 ∷ equals 2 1 ∷ []) (is_of h n) (Text h ∷ number_cell n ∷ []) (of_tests h n []) (of_holder h n)
+      take_granted_is (λ r. taken (λ (g : Granted). g.number) (granted_row h) h n own r.grants) (in_grants h (λ r. filter (λ g. not (g.number == n)) r.grants)) refl
+    where
+      own : (g : Granted) → is_of h n (granted_row h g) ≡ (g.number == n)
+      own g = rw (name_of_itself h (Text h) refl) (number_of_number g.number n)
+
+  -- ---- authorizations
+
+  own_auth : (n : ℕ) (x : Auth) → is_of h n (auth_row h x) ≡ (x.number == n)
+  own_auth n x = rw (name_of_itself h (Text h) refl) (number_of_number x.number n)
+
+  pub puts_auth : (x : Auth) → IsReady old → IsExecuted put_auth_text (auth_row h x) old new → EditsHolder h (with_auth x) old new
+  puts_auth x ready ran =
+      puts_edit 6 auth refl old new 0 auth_part.rows refl h (with_auth x) (auth_row h x) refl (λ r. appended (auth_row h) r.auths x) (in_auths h (λ r. r.auths ++ x ∷ []))
+      (puts_row 6 auth refl old new (auth_row h x) (put_terms 9) 10 (auth_row h x) put_auth_is refl (cast_auth h x) ready ran)
+
+  pub takes_auth : (n : ℕ) → IsReady old → IsExecuted take_auth_text (Text h ∷ number_cell n ∷ []) old new → EditsHolder h (edited (Withdraw n)) old new
+  takes_auth n =
+      takes_edit 6 auth refl old new 0 auth_part.rows refl h (edited (Withdraw n)) (equals 1 0 ∷ equals 2 1 ∷ []) (is_of h n) (Text h ∷ number_cell n ∷ []) (of_tests h n []) (of_holder h n)
+      take_auth_is (λ r. taken (λ (x : Auth). x.number) (auth_row h) h n (own_auth n) r.auths) (in_auths h (λ r. filter (λ x. not (x.number == n)) r.auths)) refl
+
+  -- the row with the terms of another, its holder and its number kept
+  abbrev amended_row : Auth → Row → Row
+  amended_row x c = cast Words (column c 0) ∷ cast Integer (column c 1) ∷ drop 1 (auth_cells x)
+
+  pub amends_auth : (x : Auth) → IsReady old → IsExecuted amend_text (auth_row h x) old new → EditsHolder h (edited (Amend x)) old new
+  amends_auth x =
+      changes_edit 6 auth refl old new 0 auth_part.rows refl h (edited (Amend x)) (equals 1 0 ∷ equals 2 1 ∷ []) (is_of h x.number) (auth_row h x) (of_tests h x.number (drop 1 (auth_cells x))) (of_holder h x.number)
+      amend_sets (amended_row x) amend_is terms (λ c is. name_kept h x.number c (of_holder h x.number c is)) (λ r. changed r.auths) (in_auths h (λ r. map (replaced_by x) r.auths)) refl
+    where
+      terms : (r : Row) → cast_all auth.columns (eval_all amend_sets (auth_row h x ∷ r ∷ [])) ≡ amended_row x (drop 1 r)
+      terms r = λ i. cast Words (column_after r 0 i) ∷ cast Integer (column_after r 1 i) ∷ cast_number x.asn.0 i ∷ cast_number (family_number x.prefix.family) i ∷ Blob (address x.prefix.first)
+          ∷ cast_number x.prefix.length i ∷ cast_number x.max i ∷ cast_number x.from i ∷ cast_number x.until i ∷ []
+
+      each : (y : Auth) → auth_row h (replaced_by x y) ≡ changed_if (is_of h x.number) (amended_row x) (auth_row h y)
+      each y = rw (own_auth x.number y) (at (y.number == x.number) refl)
+        where
+          at : (b : Bool) → (y.number == x.number) ≡ b → auth_row h (cond b x y) ≡ cond b (amended_row x (auth_row h y)) (auth_row h y)
+          at false other = refl
+          at true same = λ i. Text h ∷ (ap number_cell (sym (eqb-true _ _ same)) ∙ sym (cast_number y.number)) i ∷ drop 1 (auth_cells x)
+
+      changed : (auths : List Auth) → map (auth_row h) (map (replaced_by x) auths) ≡ map (changed_if (is_of h x.number) (amended_row x)) (map (auth_row h) auths)
+      changed auths = map-map (auth_row h) (replaced_by x) auths ∙ (λ i. map (λ y. each y i) auths) ∙ sym (map-map (changed_if (is_of h x.number) (amended_row x)) (auth_row h) auths)

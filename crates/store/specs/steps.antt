@@ -1,0 +1,6 @@
+-- The steps of the code, which no public contract cites.
+pub mod Edits
+pub mod RowEdits
+pub mod Statements
+pub mod Making
+pub mod Queries

@@ -1,0 +1,113 @@
+-- Steps of reading: what a query needs and leaves, and what it answers as raw rows.
+use Rattle.std.specs.Prelude.{◌≡◌, ℕ, ◌≤◌, Bool, true, false, ◌&&◌, List, [], ◌∷◌, ◌++◌, map, filter, Contains, Option, Some, Result, OnOk, IsTrue, IsPermutation, IsSorted}
+use Rattle.std.specs.List.{list_any}
+use Rattle.std.specs.declared.cmp.Ordering.{Ordering}
+use Rattle.std.specs.Ordering.{on}
+use Rattle.sqlite.specs.Effect.{Database, Reads}
+use Rattle.sqlite.specs.Given.{IsPlain}
+use Rattle.sqlite.specs.Held.{Held, state}
+use Rattle.sqlite.specs.Listing.{understood, reads_listing}
+use Rattle.sqlite.specs.State.{State, HasCleanDisk, IsUnchanged, Survives}
+use Rattle.sqlite.specs.Store.{Ghosts}
+use Rattle.sqlite.proofs.Callers.{command_of}
+use Rattle.sqlite_value.specs.declared.keys.Collation.TheVariants.{Binary}
+use Rattle.sqlite_value.specs.declared.value.Value.TheVariants.{Text}
+use Rattle.sqlite_value.specs.Order.{Row, column, value_cmp}
+use Rattle.sqlite_sql.specs.declared.ops.CompareOp.TheVariants.{Le, Ge}
+use Rattle.sqlite_sql.specs.declared.ops.BinaryOp.TheVariants.{Compare}
+use Rattle.sqlite_sql.specs.Ops.{binary, is_true}
+use Rattle.addr.specs.Spans.{span_meets}
+use Rattle.addr.specs.declared.prefix.Prefix.{Prefix}
+use Rattle.policy.specs.CharterSets.{CharterSets}
+use Rattle.policy.specs.declared.authorization.Auth.{Auth}
+use Rattle.policy.specs.Rows.{Rows}
+use Rattle.store.specs.Cells.{number_cell, prefix_cells}
+use Rattle.store.specs.Tables.{contents}
+use Rattle.store.specs.Tables.{desk_schema}
+use Rattle.store.specs.TablesHold.{TablesHold, items_if_any, auth_part}
+
+-- nothing was committed, and what is shown is as it was
+abbrev pub IsAsBefore : State → State → Type 0
+IsAsBefore old new = IsTrue old.is_open × (new.now ≡ old.now) × (new.committed ≡ old.committed)
+
+-- the disk of a connection returned what was written
+abbrev pub IsOnCleanDisk : {S : Type 0} → Ghosts S → Held S → Type 0
+IsOnCleanDisk g conn = HasCleanDisk (state g conn)
+
+-- what a query needs: no transaction, and the tables of a desk
+pub record IsReadyToAsk {S : Type 0} (g : Ghosts S) (conn : Held S) : Type 0 where
+  pub idle : conn.in_transaction ≡ false
+  pub schema : IsOnCleanDisk g conn → IsTrue (state g conn).is_open → conn.schema ≡ desk_schema
+
+-- What a query leaves: all as it was, where the connection stays open, and after an answer the savepoints and the
+-- counts too. A crash leaves nothing else than before.
+pub record IsAsked {S X E : Type 0} (g : Ghosts S) (old new : Held S) (result : Result X E) : Type 0 where
+  pub idle : new.in_transaction ≡ false
+  pub same : IsOnCleanDisk g new → OnOk result (IsUnchanged (state g old) (state g new))
+  pub kept : IsOnCleanDisk g new → IsTrue (state g new).is_open → IsAsBefore (state g old) (state g new)
+  pub survives : Survives (state g old) (state g new) (λ _. ⊥)
+
+-- it is so of the rows of every holder, and of those of one, whatever charter and rows the tables hold
+abbrev pub IsOfAll : ((List ℕ → Option Rows) → Type 0) → State → Type 0
+IsOfAll so s =
+    (charter : CharterSets) (rows : List ℕ → Option Rows) → TablesHold charter rows s.now.trees → so rows
+
+abbrev pub IsOf : (Option Rows → Type 0) → List ℕ → State → Type 0
+IsOf so h s = IsOfAll (λ rows. so (rows h)) s
+
+-- the database could be read, and it is so of the rows of every holder
+abbrev pub WasRead : ((List ℕ → Option Rows) → Type 0) → State → Type 0
+WasRead so s = IsTrue s.is_open × IsOfAll so s
+
+abbrev pub columns : List ℕ → Row → Row
+columns places c = map (column c) places
+
+abbrev pub by_column : ℕ → Row → Row → Ordering
+by_column at = on (λ r. column r at) value_cmp
+
+-- ---- queries of the rows of one holder
+
+-- over the tables of a desk the text answers these rows, with the holder's name as its parameter
+abbrev pub AreSelected : List ℕ → List ℕ → Database → List Row → Type 0
+AreSelected sql h db rows = Reads (command_of (understood desk_schema sql)) db (Text h ∷ []) rows
+
+-- The text selects these values of a holder: its answer has the row of each, and no other, and rises by this
+-- order. No two values have one row. It reads the tables alone.
+pub record Selects {X : Type 0} (cells : X → Row) (items : Rows → List X) (cmp : Row → Row → Ordering) (sql : List ℕ)
+    : Type 0 where
+  pub plain : IsPlain (understood desk_schema sql)
+  pub unlisted : reads_listing desk_schema sql ≡ false
+  pub found :
+      (h : List ℕ) (db : Database) (rows : List Row) → AreSelected sql h db rows
+      → (charter : CharterSets) (all : List ℕ → Option Rows) → TablesHold charter all db.trees
+      → IsPermutation (map cells (items_if_any items (all h))) rows
+  pub rising : (h : List ℕ) (db : Database) (rows : List Row) → AreSelected sql h db rows → IsSorted cmp rows
+  pub once : (x y : X) → cells x ≡ cells y → x ≡ y
+
+-- ---- queries of the rows of every holder
+
+-- an address of the prefix is in a run of some holder
+abbrev pub MeetsSome : (List ℕ → Option Rows) → Prefix → Type 0
+MeetsSome rows p =
+    (h : List ℕ) × (r : Rows) × (rows h ≡ Some r) × (list_any (λ s. span_meets s p) r.holdings ≡ true)
+
+-- the origin and the prefix of an authorization, with the greatest length
+abbrev pub payload_cells : Auth → Row
+payload_cells x = number_cell x.asn.0 ∷ prefix_cells x.prefix ++ number_cell x.max ∷ []
+
+-- the row of an authorization that is in force on the day
+abbrev pub is_open_on : ℕ → Row → Bool
+is_open_on day c =
+    is_true (binary (Compare Le Binary) (column c 7) (number_cell day))
+    && (is_true (binary (Compare Ge Binary) (column c 8) (number_cell day)) && true)
+
+abbrev pub FindsInForce : ℕ → Database → List Row → Type 0
+FindsInForce day db rows =
+    IsPermutation
+    (map (columns (2 ∷ 3 ∷ 4 ∷ 5 ∷ 6 ∷ [])) (filter (is_open_on day) (contents (db.trees auth_part.tree)))) rows
+
+-- an authorization of some holder is in force on the day, and this is its payload
+abbrev pub IsPayloadOn : (List ℕ → Option Rows) → ℕ → Row → Type 0
+IsPayloadOn rows day v =
+    (h : List ℕ) × (r : Rows) × (x : Auth)
+    × (rows h ≡ Some r) × Contains r.auths x × (x.from ≤ day) × (day ≤ x.until) × (v ≡ payload_cells x)
