@@ -4,7 +4,7 @@
 use Rattle.std.specs.Prelude.{◌≡◌, ℕ, List, Option, Some, None, ◌⊎◌}
 use Rattle.policy.specs.History.{History}
 use Rattle.policy.specs.declared.charter.Charter.{Charter}
-use Rattle.desk.specs.Answer.{Answers}
+use Rattle.desk.specs.Answer.{AnswersRequest}
 use Rattle.desk.specs.Desk.{charter_of, StandsFor}
 use Rattle.web.specs.ReplyText.{line_text, malformed_text, unavailable_text}
 use Rattle.web.specs.RequestFaults.{malformed_number, request_fault}
@@ -31,7 +31,7 @@ abbrev pub IsReplied : Charter → History → List ℕ → List ℕ → History
 IsReplied charter before line text after =
     (asked : Asked) × (reply : Reply)
     × ReadsLine line asked
-    × Answers charter before asked.day asked.caller asked.request reply after
+    × AnswersRequest charter before asked.day asked.caller asked.request reply after
     × (text ≡ line_text reply)
 
 -- the answer to a line, `None` where it is over the limit
