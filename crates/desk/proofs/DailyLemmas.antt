@@ -1,7 +1,8 @@
 -- The VRPs of a day: those that the rows of a legal history give are those of the history.
-use Rattle.std.proofs.Common.{◌≡◌, ℕ, zero, suc, ◌<◌, ◌≤◌, nat_le, Bool, true, ◌&&◌, ◌↔◌, ◌⊎◌, inl, inr, List, [], ◌∷◌, Option, Some, None, refl, sym, ap, ◌∙◌, subst, length, get_or, Contains, arith}
+use Rattle.std.proofs.Common.{◌≡◌, ℕ, zero, suc, ◌<◌, ◌≤◌, nat_le, Bool, true, ◌&&◌, ◌↔◌, ◌⊎◌, inl, inr, List, [], ◌∷◌, Option, Some, None, refl, sym, ◌∙◌, subst, length, get_or, Contains, arith}
 use Rattle.std.specs.List.{list_any}
-use Rattle.std.proofs.lemmas.Bool.{and_parts, and_from, or_cases, or_left, or_right, false≢true, leb-true, le-leb}
+use Rattle.std.proofs.lemmas.Bool.{and_parts, and_from, leb-true, le-leb}
+use Rattle.std.proofs.lemmas.List.Folds.{Any-from_list_any, list_any-from_Any}
 use Rattle.addr.specs.declared.vrp.Vrp.{Vrp}
 use Rattle.policy.specs.DailyVrps.{IsVrpOn, IsVrpInForce}
 use Rattle.policy.specs.History.{History}
@@ -33,20 +34,12 @@ none_in_nil x there = absurd (omega (arith, there.1))
 
 -- an element passes where one that is there does, and the other way round
 pub any_among : {X : Type 0} (p : X → Bool) (xs : List X) (x : X) → Contains xs x → p x ≡ true → list_any p xs ≡ true
-any_among p [] x there passes = absurd (none_in_nil x there)
-any_among p (y ∷ ys) x there passes =
-    elim (head_or_tail y ys x there) [
-      | inl is ↦ or_left (p y) (list_any p ys) (ap p is ∙ passes)
-      | inr later ↦ or_right (p y) (list_any p ys) (any_among p ys x later passes)
-    ]
+any_among p xs x there passes = list_any-from_Any p xs (there.0, x, there.1, there.2, passes)
 
 pub among_any : {X : Type 0} (p : X → Bool) (xs : List X) → list_any p xs ≡ true → (x : X) × Contains xs x × (p x ≡ true)
-among_any p [] any = absurd (false≢true any)
-among_any p (y ∷ ys) any =
-    elim (or_cases (p y) (list_any p ys) any) [
-      | inl here ↦ (y, at_head y ys, here)
-      | inr later ↦ let found = among_any p ys later in (found.0, in_tail y ys found.0 found.1, found.2)
-    ]
+among_any p xs any =
+    let some = Any-from_list_any p xs any in
+    (some.1, (some.0, some.2, some.3), some.4)
 
 -- what is kept was there and meets the fact, and what meets it is kept
 pub kept_was : (P : Auth → Type 0) (xs ys : List Auth) (x : Auth) → Keeps P xs ys → Contains ys x → Contains xs x × P x
