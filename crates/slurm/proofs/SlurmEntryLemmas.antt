@@ -198,7 +198,8 @@ both-said (Ok f) (Err n) lists e = cc
 both-said (Err m) (Ok a) lists e = cc
 both-said (Err m) (Err n) lists e = cc
 
-lists-said : (d : Data) (lists : List Filter × List Vrp) → lists_in d ≡ Ok lists →
+-- the lists that were read of a file
+pub lists-said : (d : Data) (lists : List Filter × List Vrp) → lists_in d ≡ Ok lists →
     AllZip SaysFilter (filters_at d) lists.0
     × AllZip SaysAssertion (assertions_at d) lists.1
 lists-said d lists e =

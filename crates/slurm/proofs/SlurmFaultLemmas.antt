@@ -1,8 +1,9 @@
 -- What the readings tell is the lowest of all faults of the tree.
-use Rattle.std.proofs.Common.{◌≡◌, ◌≢◌, ℕ, suc, ◌+◌, ◌≤◌, inl, inr, Bool, true, false, ◌&&◌, ◌||◌, ◌==◌, nat_le, nat_lt, List, [], ◌∷◌, ◌++◌, length, codes, Option, Some, None, is_some, option_and_then, option_map, Result, Ok, Err, refl, ap, sym, subst, ◌∙◌, arith, lit≤}
+use Rattle.std.proofs.Common.{◌≡◌, ◌≢◌, ℕ, ◌+◌, ◌≤◌, inl, inr, Bool, true, false, ◌&&◌, ◌||◌, ◌==◌, nat_le, nat_lt, List, [], ◌∷◌, ◌++◌, length, codes, Option, Some, None, is_some, option_and_then, option_map, Result, Ok, Err, refl, ap, sym, subst, ◌∙◌, arith, lit≤}
 use Rattle.std.proofs.lemmas.Bool.{and_parts, le-leb, leb-true}
 use Rattle.std.proofs.lemmas.Bool.Decides.{leb_tells}
 use Rattle.std.proofs.lemmas.List.{append-nil}
+use Rattle.std.proofs.lemmas.Slice.Zip.{AllZip-long}
 use Rattle.std.proofs.Math.Decide.{dec_le}
 use Rattle.std.specs.Prelude.{IfOk, IfErr, OnOk}
 use Rattle.std.specs.Option.{ok_or}
@@ -17,13 +18,15 @@ use Rattle.serde_json.specs.Find.{get, as_object, as_str}
 use Rattle.json_values.proofs.FaultLemmas.{Pass, Told, err-both, lowest-append, lowest-passes, pass-append, pass-flat_map, pass-optional, pass-required, pass-unless, told-both, told-each, told-if, told-mapped, told-ok_or, told-only, told-optional, told-required, told-unless}
 use Rattle.json_values.proofs.PartsLemmas.{lower-first}
 use Rattle.json_values.specs.Faults.{fault_unless, lower_of, lowest, name_faults, optional_faults, reading_faults, required_faults}
-use Rattle.json_values.specs.Parts.{both, mapped, and_then, unless, each}
-use Rattle.json_values.specs.Tree.{required, optional, only, list_of}
+use Rattle.json_values.specs.Parts.{both, mapped, and_then}
+use Rattle.json_values.specs.Tree.{required, optional, list_of}
 use Rattle.json_values.specs.Values.{as_asn, as_prefix, whole_number}
 use Rattle.slurm.specs.Exceptions.{Exceptions, exceptions_of}
 use Rattle.slurm.specs.Fault.{slurm_fault_number}
-use Rattle.slurm.specs.steps.SlurmFile.{prefix_in, asn_in, comment_in, length_in, version_from, version_in, filter_of, filter_in, vrp_if, vrp_with, max_length, assertion_of, assertion_in, entries_from, bgpsec_from, part_in, filters_in, assertions_in, object_in, lists_in, slurm_in}
-use Rattle.slurm.specs.SlurmFaults.{assertion_names, file_names, filter_names, filters_faults, assertions_faults, prefix_of, prefix_faults, asn_faults, comment_faults, is_one, version_faults, is_max_length, max_length_faults, filter_faults, assertion_faults, array_at, items_at, entries_faults, bgpsec_faults, part_faults, entry_count, file_faults, slurm_fault}
+use Rattle.slurm.specs.steps.SlurmFile.{prefix_in, asn_in, comment_in, length_in, version_from, version_in, filter_of, filter_in, vrp_if, vrp_with, max_length, assertion_of, assertion_in, entries_from, bgpsec_from, part_in, filters_in, assertions_in, lists_in, slurm_in}
+use Rattle.slurm.proofs.SlurmEntryLemmas.{lists-said}
+use Rattle.slurm.specs.SlurmEntries.{SaysAssertion, SaysFilter}
+use Rattle.slurm.specs.SlurmFaults.{assertions_at, filters_at, assertion_names, file_names, filter_names, filters_faults, assertions_faults, prefix_of, prefix_faults, asn_faults, comment_faults, is_one, version_faults, is_max_length, max_length_faults, filter_faults, assertion_faults, array_at, entries_faults, bgpsec_faults, part_faults, entry_count, file_faults, slurm_fault}
 use Rattle.slurm.specs.declared.exceptions.TheConstants.{MOST_ENTRIES}
 use Rattle.slurm.specs.declared.fault.SlurmFault.{SlurmFault}
 use Rattle.slurm.specs.declared.fault.SlurmFault.TheVariants.{NotJson, NotObject, Members, Version, Prefix as PrefixFault, Asn as AsnFault, MaxPrefixLength, EmptyFilter, Comment, TooMany, Memory}
@@ -287,64 +290,21 @@ pass-lists d =
 
 -- ---- the number of entries
 
--- what was read has this count
-abbrev Counts : {A : Type 0} → (A → ℕ) → Result A SlurmFault → ℕ → Type 0
-Counts count (Ok x) n = count x ≡ n
-Counts count (Err e) n = Unit {0}
-
-counts-more : {A : Type 0} (one : Result A SlurmFault) (others : Result (List A) SlurmFault) (n : ℕ) → Counts length others n → Counts length (mapped (λ p. p.0 ∷ p.1) (both slurm_fault_number one others)) (suc n)
-counts-more (Ok x) (Ok xs) n h = ap suc h
-counts-more (Ok x) (Err e) n h = tt
-counts-more (Err e) (Ok xs) n h = tt
-counts-more (Err e) (Err f) n h = tt
-
-counts-each : {A : Type 0} (reading : Data → Result A SlurmFault) (ds : List Data) → Counts length (each slurm_fault_number reading ds) (length ds)
-counts-each reading [] = refl
-counts-each reading (d ∷ ds) = counts-more (reading d) (each slurm_fault_number reading ds) (length ds) (counts-each reading ds)
-
-counts-unless : {A B : Type 0} (count : A → ℕ) (one : Result A SlurmFault) (other : Result B SlurmFault) (n : ℕ) → Counts count one n → Counts count (unless slurm_fault_number one other) n
-counts-unless count (Ok x) (Ok b) n h = h
-counts-unless count (Ok x) (Err e) n h = tt
-counts-unless count (Err e) (Ok b) n h = tt
-counts-unless count (Err e) (Err f) n h = tt
-
-counts-entries : {A : Type 0} (reading : Data → Result A SlurmFault) (items : Option Items) → Counts length (entries_from reading items) (length (items_at items))
-counts-entries reading None = tt
-counts-entries reading (Some items) = counts-each reading (list_of items)
-
-counts-part : {A : Type 0} (reading : Data → Result A SlurmFault) (entries bgpsec : List ℕ) (part : Option Data) → Counts length (required Members (part_in reading entries bgpsec) part) (length (items_at (option_and_then (array_at entries) part)))
-counts-part reading entries bgpsec None = tt
-counts-part reading entries bgpsec (Some d) =
-    counts-unless length (unless slurm_fault_number (entries_from reading (array_at entries d)) (only Members (entries ∷ bgpsec ∷ []) d)) (bgpsec_from (array_at bgpsec d)) _
-    (counts-unless length (entries_from reading (array_at entries d)) (only Members (entries ∷ bgpsec ∷ []) d) _ (counts-entries reading (array_at entries d)))
-
 abbrev Lists : Type 0
 Lists = List Filter × List Vrp
 
-abbrev total : Lists → ℕ
-total lists = length lists.0 + length lists.1
+abbrev Counts : Result Lists SlurmFault → ℕ → Type 0
+Counts lists count = IfOk lists (λ l. length l.0 + length l.1 ≡ count)
 
-counts-both : (filters : Result (List Filter) SlurmFault) (assertions : Result (List Vrp) SlurmFault) (m n : ℕ) → Counts length filters m → Counts length assertions n → Counts total (both slurm_fault_number filters assertions) (m + n)
-counts-both (Ok f) (Ok a) m n h k = rw (h, k) refl
-counts-both (Ok f) (Err e) m n h k = tt
-counts-both (Err e) (Ok a) m n h k = tt
-counts-both (Err e) (Err f) m n h k = tt
-
-counts-lists : (d : Data) → Counts total (lists_in d) (entry_count d)
-counts-lists d =
-    let filters = required Members filters_in (get (codes "validationOutputFilters") d) in
-    let assertions = required Members assertions_in (get (codes "locallyAddedAssertions") d) in
-    let lists = both slurm_fault_number filters assertions in
-    counts-unless total (unless slurm_fault_number (unless slurm_fault_number lists (object_in d)) (only Members file_names d)) (required Members version_in (get (codes "slurmVersion") d)) _
-    (counts-unless total (unless slurm_fault_number lists (object_in d)) (only Members file_names d) _
-    (counts-unless total lists (object_in d) _
-    (counts-both filters assertions _ _
-    (counts-part filter_in (codes "prefixFilters") (codes "bgpsecFilters") (get (codes "validationOutputFilters") d))
-    (counts-part assertion_in (codes "prefixAssertions") (codes "bgpsecAssertions") (get (codes "locallyAddedAssertions") d)))))
+counts-lists : (d : Data) (lists : Result Lists SlurmFault) → lists_in d ≡ lists → Counts lists (entry_count d)
+counts-lists d (Ok lists) is =
+    let said = lists-said d lists is in
+    rw (AllZip-long SaysFilter (filters_at d) lists.0 said.0, AllZip-long SaysAssertion (assertions_at d) lists.1 said.1) refl
+counts-lists d (Err n) is = tt
 
 -- ---- the whole
 
-err-exceptions_of : (lists : Result Lists SlurmFault) (faults : List SlurmFault) (count : ℕ) → Told slurm_fault_number lists faults → Counts total lists count → Pass is_tree_fault faults →
+err-exceptions_of : (lists : Result Lists SlurmFault) (faults : List SlurmFault) (count : ℕ) → Told slurm_fault_number lists faults → Counts lists count → Pass is_tree_fault faults →
     result_err (and_then (λ p. exceptions_of p.0 p.1) lists) ≡ lowest slurm_fault_number (faults ++ fault_unless (nat_le count MOST_ENTRIES) TooMany)
 err-exceptions_of (Ok lists) faults count h counts low =
     rw (counts, lowest-append slurm_fault_number faults (fault_unless (nat_le count MOST_ENTRIES) TooMany), ← h.is)
@@ -362,7 +322,7 @@ err-exceptions_of (Err n) faults count h counts low =
     last false = ap Some (sym (lower-first slurm_fault_number n TooMany below))
 
 pub slurm_fault-told : (d : Data) → result_err (slurm_in d) ≡ slurm_fault (Some d)
-slurm_fault-told d = err-exceptions_of (lists_in d) (lists_faults d) (entry_count d) (told-lists d) (counts-lists d) (pass-lists d)
+slurm_fault-told d = err-exceptions_of (lists_in d) (lists_faults d) (entry_count d) (told-lists d) (counts-lists d (lists_in d) refl) (pass-lists d)
 
 -- a tree that was read as a file has no fault
 pub slurm_fault-none : (d : Data) (answer : Result Exceptions SlurmFault) → IfOk answer (λ file. slurm_in d ≡ Ok file) → OnOk answer (slurm_fault (Some d) ≡ None)

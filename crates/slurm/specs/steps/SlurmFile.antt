@@ -1,5 +1,5 @@
--- What the reader answers, part by part: what the tree says, or its lowest fault. A file is read from
--- all of its parts at once (`both`, `unless`, `each`), so that the fault is the lowest.
+-- What the reader answers, part by part: what the tree says, or its lowest fault. A file is read
+-- from all of its parts at once (`both`, `unless`, `each`), so that the fault is the lowest.
 use Rattle.std.specs.Prelude.{ℕ, ◌≤◌, ◌==◌, List, [], ◌∷◌, codes, if◌then◌else◌, Option, Some, None, is_some, option_map, Result, Ok, Err}
 use Rattle.std.specs.Option.{ok_or}
 use Rattle.std.proofs.Math.Decide.{dec_le}
