@@ -1,5 +1,5 @@
--- What the code reads of the parts of a request, combinator by combinator: a value where they have no
--- fault, and else the lowest of their faults.
+-- What the code reads of the parts of a request, combinator by combinator: a value where they have
+-- no fault, and else the lowest of their faults.
 use Rattle.std.proofs.Common.{◌≡◌, ℕ, List, [], ◌∷◌, ◌++◌, Option, Some, None, option_and_then, Result, Ok, Err, refl}
 use Rattle.std.proofs.lemmas.List.{append-nil}
 use Rattle.std.specs.Prelude.{IfOk}
@@ -18,7 +18,8 @@ use Rattle.web.specs.declared.request.fault.Fault.TheVariants.{Members}
 use Rattle.web.specs.steps.RequestReading.{member_in}
 
 -- a list without a lowest fault has none
-lower_of-Some : (n : Fault) (other : Option Fault) → lower_of malformed_number (Some n) other ≡ None → ⊥
+lower_of-Some : (n : Fault) (other : Option Fault) →
+    lower_of malformed_number (Some n) other ≡ None → ⊥
 lower_of-Some n None none = cc
 lower_of-Some n (Some m) none = cc
 
@@ -26,21 +27,27 @@ pub lowest-none : (faults : List Fault) → lowest malformed_number faults ≡ N
 lowest-none [] none = refl
 lowest-none (n ∷ faults) none = absurd (lower_of-Some n (lowest malformed_number faults) none)
 
-pub record Reads {A : Type 0} (r : Result A Fault) (faults : List Fault) (Says : A → Type 0) : Type 0 where
+pub record Reads {A : Type 0} (r : Result A Fault) (faults : List Fault) (Says : A → Type 0)
+    : Type 0 where
   pub told : Told malformed_number r faults
   pub value : IfOk r Says
 
-value-both : {A B : Type 0} (P : A → Type 0) (Q : B → Type 0) (a : Result A Fault) (b : Result B Fault) →
+value-both : {A B : Type 0} (P : A → Type 0) (Q : B → Type 0)
+    (a : Result A Fault) (b : Result B Fault) →
     IfOk a P → IfOk b Q → IfOk (both malformed_number a b) (λ p. P p.0 × Q p.1)
 value-both P Q (Ok a) (Ok b) one other = (one, other)
 value-both P Q (Ok a) (Err n) one other = tt
 value-both P Q (Err m) (Ok b) one other = tt
 value-both P Q (Err m) (Err n) one other = tt
 
-pub reads-both : {A B : Type 0} {a : Result A Fault} {b : Result B Fault} {xs ys : List Fault} {P : A → Type 0} {Q : B → Type 0} →
+pub reads-both : {A B : Type 0} {a : Result A Fault} {b : Result B Fault} {xs ys : List Fault}
+    {P : A → Type 0} {Q : B → Type 0} →
     Reads a xs P → Reads b ys Q → Reads (both malformed_number a b) (xs ++ ys) (λ p. P p.0 × Q p.1)
 reads-both {a = a} {b = b} {P = P} {Q = Q} one other =
-    record { told = told-both one.told other.told; value = value-both P Q a b one.value other.value }
+    record {
+      told = told-both one.told other.told;
+      value = value-both P Q a b one.value other.value;
+    }
 
 value-says : {A : Type 0} (P Q : A → Type 0) (r : Result A Fault) →
     ((a : A) → P a → Q a) → IfOk r P → IfOk r Q
@@ -72,12 +79,17 @@ value-unless P (Ok a) (Err n) value = tt
 value-unless P (Err m) (Ok b) value = tt
 value-unless P (Err m) (Err n) value = tt
 
-pub reads-unless : {A B : Type 0} {a : Result A Fault} {b : Result B Fault} {xs ys : List Fault} {P : A → Type 0} →
+pub reads-unless : {A B : Type 0} {a : Result A Fault} {b : Result B Fault} {xs ys : List Fault}
+    {P : A → Type 0} →
     Reads a xs P → Told malformed_number b ys → Reads (unless malformed_number a b) (xs ++ ys) P
 reads-unless {a = a} {b = b} {P = P} read other =
-    record { told = told-mapped (λ p. p.0) (told-both read.told other); value = value-unless P a b read.value }
+    record {
+      told = told-mapped (λ p. p.0) (told-both read.told other);
+      value = value-unless P a b read.value;
+    }
 
-pub reads-last : {A : Type 0} {r : Result A Fault} {xs : List Fault} {P : A → Type 0} → Reads r xs P → Reads r (xs ++ []) P
+pub reads-last : {A : Type 0} {r : Result A Fault} {xs : List Fault} {P : A → Type 0} →
+    Reads r xs P → Reads r (xs ++ []) P
 reads-last {xs = xs} read =
     record { told = record { is = rw (append-nil xs) read.told.is }; value = read.value }
 
@@ -86,7 +98,8 @@ value-member None n = tt
 value-member (Some a) n = refl
 
 found-reads : {A : Type 0} (reading : Data → Option A) (n : Fault) (o : Option Data) →
-    IfOk (required Members (λ found. ok_or (reading found) n) o) (λ a. option_and_then reading o ≡ Some a)
+    IfOk (required Members (λ found. ok_or (reading found) n) o)
+    (λ a. option_and_then reading o ≡ Some a)
 found-reads reading n None = tt
 found-reads reading n (Some d) = value-member (reading d) n
 
@@ -98,12 +111,15 @@ ReadsMember reading n name d =
 pub reads-member : {A : Type 0} (reading : Data → Option A) (n : Fault) (name : List ℕ) (d : Data) →
     ReadsMember reading n name d
 reads-member reading n name d = record {
-  told = told-required malformed_number Members _ (reading_faults reading n) (get name d) (λ e. told-ok_or malformed_number (reading e) n);
+  told = told-required malformed_number Members _ (reading_faults reading n) (get name d)
+      (λ e. told-ok_or malformed_number (reading e) n);
   value = found-reads reading n (get name d);
 }
 
-pub reads-each : {A : Type 0} (reading : Data → Result A Fault) (faults : Data → List Fault) (Says : Data → A → Type 0) (ds : List Data) →
-    ((d : Data) → Reads (reading d) (faults d) (Says d)) → Reads (each malformed_number reading ds) (flat_map faults ds) (AllZip Says ds)
+pub reads-each : {A : Type 0} (reading : Data → Result A Fault) (faults : Data → List Fault)
+    (Says : Data → A → Type 0) (ds : List Data) →
+    ((d : Data) → Reads (reading d) (faults d) (Says d)) →
+    Reads (each malformed_number reading ds) (flat_map faults ds) (AllZip Says ds)
 reads-each reading faults Says [] each_reads = record { told = record { is = refl }; value = tt }
 reads-each reading faults Says (d ∷ ds) each_reads =
     reads-mapped (λ p. p.0 ∷ p.1) (λ p value. (value.0, value.1))

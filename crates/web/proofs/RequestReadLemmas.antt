@@ -12,7 +12,7 @@ use Rattle.json_values.specs.Tree.{tree_of, list_of}
 use Rattle.desk.specs.declared.asked.Asked.{Asked}
 use Rattle.desk.specs.declared.asked.Request.{Request}
 use Rattle.desk.specs.declared.asked.Request.TheVariants.{Command as CommandRequest, Query as QueryRequest}
-use Rattle.web.specs.RequestFaults.{malformed_number, role_at, route_members, names_of, is_count, object_faults, list_faults, routes, action_in, action_of, own_members, Kind, known, members_of, action_faults, tree_faults, request_faults, request_fault}
+use Rattle.web.specs.RequestFaults.{malformed_number, role_at, route_members, names_of, is_count, object_faults, list_faults, routes, action_in, action_of, own_members, Kind, any_value, members_of, action_faults, tree_faults, request_faults, request_fault}
 use Rattle.web.specs.RequestText.{HasName, HasDay, SaysRoute, HasRoutes, Does, SaysRequest, ReadsLine}
 use Rattle.json_values.specs.Values.{as_name, as_prefix, as_day, as_asn}
 use Rattle.web.specs.RequestValues.{as_origin, as_max, as_number, as_role, as_scope}
@@ -56,7 +56,8 @@ abbrev SaysRoutes : Option Items → List Route → Type 0
 SaysRoutes found listed =
     (items : Items) × (found ≡ Some items) × AllZip SaysRoute (list_of items) listed
 
-items-read : (found : Option Items) → Reads (routes_of found) (list_faults route_members MOST_ROUTES found) (SaysRoutes found)
+items-read : (found : Option Items) →
+    Reads (routes_of found) (list_faults route_members MOST_ROUTES found) (SaysRoutes found)
 items-read None = record { told = record { is = refl }; value = tt }
 items-read (Some items) =
     reads-unless (reads-says (λ listed each. (items, refl, each))
@@ -87,38 +88,49 @@ terms-said d (QueryRequest (Validity listed)) says = says
 abbrev member_faults : List (List ℕ × Kind) → Data → List Fault
 member_faults members d = flat_map (λ m. required_faults Members (m.1 d) (get m.0 d)) members
 
-reads-request : (action : Action) (d : Data) → Does action d → Reads (request_in action d) (member_faults (own_members action) d) (SaysTerms d)
+reads-request : (action : Action) (d : Data) → Does action d →
+    Reads (request_in action d) (member_faults (own_members action) d) (SaysTerms d)
 reads-request AskRegister d does = reads-mapped _ (λ p says. (does, says)) (reads-last (holder d))
 reads-request AskDelegate d does =
-    reads-mapped _ (λ p says. (does, says.0, says.1)) (reads-both (holder d) (reads-last (prefix d)))
+    reads-mapped _ (λ p says. (does, says.0, says.1))
+    (reads-both (holder d) (reads-last (prefix d)))
 reads-request AskTransfer d does =
     reads-mapped _ (λ p says. (does, says.0, says.1.0, says.1.1))
-    (reads-both (prefix d) (reads-both (reads-member as_name Holder (codes "giver") d) (reads-last (reads-member as_name Holder (codes "taker") d))))
+    (reads-both (prefix d) (reads-both (reads-member as_name Holder (codes "giver") d)
+    (reads-last (reads-member as_name Holder (codes "taker") d))))
 reads-request AskReclaim d does =
-    reads-mapped _ (λ p says. (does, says.0, says.1)) (reads-both (holder d) (reads-last (prefix d)))
+    reads-mapped _ (λ p says. (does, says.0, says.1))
+    (reads-both (holder d) (reads-last (prefix d)))
 reads-request AskGrant d does =
     reads-mapped _ (λ p says. (does, says.0, says.1.0, says.1.1.0, says.1.1.1.0, says.1.1.1.1))
     (reads-both (holder d) (reads-both (reads-member as_name Caller (codes "name") d)
     (reads-both (reads-member as_role Role (codes "role") d)
     (reads-both (reads-member (as_scope (role_at d)) Role (codes "scope") d) (reads-last (until d))))))
 reads-request AskRevoke d does =
-    reads-mapped _ (λ p says. (does, says.0, says.1)) (reads-both (holder d) (reads-last (number d)))
+    reads-mapped _ (λ p says. (does, says.0, says.1))
+    (reads-both (holder d) (reads-last (number d)))
 reads-request AskCreate d does =
-    reads-mapped _ (λ p says. (does, says.0, says.1.0, says.1.1.0, says.1.1.1.0, says.1.1.1.1.0, says.1.1.1.1.1))
+    reads-mapped _
+    (λ p says. (does, says.0, says.1.0, says.1.1.0, says.1.1.1.0, says.1.1.1.1.0, says.1.1.1.1.1))
     (reads-both (holder d) (reads-both (reads-member as_asn Asn (codes "asn") d) (reads-both (prefix d)
     (reads-both (max_length d) (reads-both (reads-member as_day Day (codes "from") d) (reads-last (until d)))))))
 reads-request AskAmend d does =
     reads-mapped _ (λ p says. (does, says.0, says.1.0, says.1.1.0, says.1.1.1))
     (reads-both (holder d) (reads-both (number d) (reads-both (max_length d) (reads-last (until d)))))
 reads-request AskWithdraw d does =
-    reads-mapped _ (λ p says. (does, says.0, says.1)) (reads-both (holder d) (reads-last (number d)))
+    reads-mapped _ (λ p says. (does, says.0, says.1))
+    (reads-both (holder d) (reads-last (number d)))
 reads-request AskShow d does =
-    reads-mapped _ (λ p says. (does, says.0, says.1)) (reads-both (holder d) (reads-last (number d)))
+    reads-mapped _ (λ p says. (does, says.0, says.1))
+    (reads-both (holder d) (reads-last (number d)))
 reads-request AskContent d does =
-    reads-mapped _ (λ p says. (does, says.0, says.1)) (reads-both (holder d) (reads-last (number d)))
+    reads-mapped _ (λ p says. (does, says.0, says.1))
+    (reads-both (holder d) (reads-last (number d)))
 reads-request AskList d does = reads-mapped _ (λ p says. (does, says)) (reads-last (holder d))
 reads-request AskPayloads d does = record { told = record { is = refl }; value = does }
-reads-request AskValidity d does = reads-mapped validity (λ p says. (does, says)) (reads-last (member-read d (get (codes "routes") d)))
+reads-request AskValidity d does =
+    reads-mapped validity (λ p says. (does, says))
+    (reads-last (member-read d (get (codes "routes") d)))
 
 -- ---- lines
 
@@ -129,18 +141,21 @@ AsksTerms found asked = (d : Data) × (found ≡ Some d) × HasDay (codes "day")
 
 do-faultless : (d : Data) (action : Action) (member : Option Data) →
     option_and_then action_of (option_and_then as_str member) ≡ Some action →
-    required_faults Members (known d) member ≡ []
+    required_faults Members (any_value d) member ≡ []
 do-faultless d action None does = cc
 do-faultless d action (Some value) does = refl
 
-reads-asked : (action : Action) (d : Data) → Does action d → Reads (asked_as action d) (action_faults (Some action) d) (AsksTerms (Some d))
+reads-asked : (action : Action) (d : Data) → Does action d →
+    Reads (asked_as action d) (action_faults (Some action) d) (AsksTerms (Some d))
 reads-asked action d does =
-    rw (do-faultless d action (get (codes "do") d) does) (reads-unless (reads-says (λ p says. (d, refl, says.0, says.1.0, says.1.1))
+    rw (do-faultless d action (get (codes "do") d) does)
+    (reads-unless (reads-says (λ p says. (d, refl, says.0, says.1.0, says.1.1))
     (reads-both (reads-member as_day Day (codes "day") d)
     (reads-both (reads-member as_name Caller (codes "caller") d) (reads-request action d does))))
     (told-only malformed_number Members (names_of (members_of action)) d))
 
-reads-by : (action : Option Action) (d : Data) → action_in d ≡ action → Reads (asked_by action d) (action_faults action d) (AsksTerms (Some d))
+reads-by : (action : Option Action) (d : Data) → action_in d ≡ action →
+    Reads (asked_by action d) (action_faults action d) (AsksTerms (Some d))
 reads-by None d does = record { told = record { is = refl }; value = tt }
 reads-by (Some action) d does = reads-asked action d does
 
@@ -148,15 +163,20 @@ reads-tree : (found : Option Data) → Reads (asked_from found) (tree_faults fou
 reads-tree None = record { told = record { is = refl }; value = tt }
 reads-tree (Some d) = reads-by (action_in d) d refl
 
-reads-line : (line : List ℕ) → Reads (asked_in line) (request_faults line) (AsksTerms (tree_of line))
+reads-line : (line : List ℕ) →
+    Reads (asked_in line) (request_faults line) (AsksTerms (tree_of line))
 reads-line line = by_length (nat_lt LINE_LENGTH_LIMIT (length line))
   where
-    by_length : (is_long : Bool) → Reads (if is_long then Err TooLong else asked_from (tree_of line)) (if is_long then TooLong ∷ [] else tree_faults (tree_of line)) (AsksTerms (tree_of line))
+    by_length : (is_long : Bool) →
+        Reads (if is_long then Err TooLong else asked_from (tree_of line))
+        (if is_long then TooLong ∷ [] else tree_faults (tree_of line))
+        (AsksTerms (tree_of line))
     by_length true = record { told = record { is = refl }; value = tt }
     by_length false = reads-tree (tree_of line)
 
 -- what was read of a line is what the line says
-pub line-read : (line : List ℕ) (asked : Asked) → mapped asked_terms (Ok asked) ≡ asked_in line → ReadsLine line asked
+pub line-read : (line : List ℕ) (asked : Asked) →
+    mapped asked_terms (Ok asked) ≡ asked_in line → ReadsLine line asked
 line-read line asked read =
     let reads = reads-line line in
     let says = rw (← read) at reads.value in
@@ -170,7 +190,8 @@ line-read line asked read =
     }
 
 -- what is told of a line is its lowest fault
-pub line-refused : (line : List ℕ) (fault : Fault) → mapped asked_terms (Err fault) ≡ asked_in line →
+pub line-refused : (line : List ℕ) (fault : Fault) →
+    mapped asked_terms (Err fault) ≡ asked_in line →
     request_fault line ≡ Some (record { number = malformed_number fault; slurm = None })
 line-refused line fault read =
     let told = rw (← read) at (reads-line line).told.is in rw (← told) refl

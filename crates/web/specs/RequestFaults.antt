@@ -1,5 +1,5 @@
--- Every fault of a line as a request, wherever it stands in the line: the lowest of all is told. A line
--- is judged by the tree that the JSON reader gives: of a repeated member it has the last value.
+-- Every fault of a line as a request, wherever it stands in the line: the lowest of all is told.
+-- A line is judged by the tree that the JSON reader gives: of a repeated member it has the last value.
 use Rattle.std.specs.Prelude.{ℕ, nat_le, nat_lt, ◌&&◌, Bool, List, [], ◌∷◌, ◌++◌, map, length, codes, if◌then◌else◌, Option, Some, None, option_map, option_and_then}
 use Rattle.std.specs.List.{flat_map}
 use Rattle.std.specs.Str.{bytes_eq}
@@ -73,9 +73,9 @@ scope d = reading_faults (as_scope (role_at d)) RoleFault
 abbrev pub number : Kind
 number d = reading_faults as_number Number
 
--- of a value that is known already
-abbrev pub known : Kind
-known d value = []
+-- `do` is judged before its request is
+abbrev pub any_value : Kind
+any_value d value = []
 
 -- ---- objects and lists of objects
 
@@ -154,7 +154,8 @@ own_members Validity = (codes "routes", routes) ∷ []
 
 abbrev pub members_of : Action → List (List ℕ × Kind)
 members_of action =
-    (codes "day", day) ∷ (codes "caller", caller_name) ∷ (codes "do", known) ∷ own_members action
+    (codes "day", day) ∷ (codes "caller", caller_name) ∷ (codes "do", any_value)
+    ∷ own_members action
 
 abbrev pub action_faults : Option Action → Data → List Fault
 action_faults None d = Members ∷ []

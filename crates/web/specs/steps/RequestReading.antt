@@ -1,5 +1,5 @@
--- A step of the code, not a definition: how it reads a request, from all of its parts at once, so that
--- it finds the lowest fault. Which faults a line has stands in `RequestFaults`, what it asks in
+-- A step of the code, not a definition: how it reads a request, from all of its parts at once, so
+-- that it finds the lowest fault. Which faults a line has stands in `RequestFaults`, what it asks in
 -- `RequestText`.
 use Rattle.std.specs.Prelude.{ℕ, nat_lt, List, length, codes, if◌then◌else◌, Option, Some, None, option_and_then, Result, Ok, Err}
 use Rattle.std.specs.Option.{ok_or}
