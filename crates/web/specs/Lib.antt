@@ -1,5 +1,4 @@
 pub mod Devices
-pub mod LineSplitting
 pub mod ReplyItems
 pub mod ReplyText
 pub mod Script
@@ -10,3 +9,4 @@ pub mod Trail
 pub mod RequestFault
 pub mod RequestText
 pub mod ScriptAnswer
+pub mod steps
