@@ -25,7 +25,7 @@ fn main(rt: HostRuntime) -> ExitCode {
         Ok(()) => ExitCode::SUCCESS,
         Err(fault) => {
             // Where standard error fails too, the status is all that is left.
-            let _ = eprintln!(rt; "{fault}");
+            let _ = eprintln!(rt; "{}", fault.line().as_str());
             ExitCode::from(fault.status())
         }
     }
@@ -44,6 +44,8 @@ fn run(rt: &HostRuntime) -> Result<(), ProgramFault> {
     match read_words(&words)? {
         Task::Script { charter } => run_script_task(rt, charter),
         Task::Check { payloads, routes } => run_check_task(rt, payloads, routes),
+        // What the program does not do yet ends as other words do.
+        Task::Init { .. } | Task::Serve { .. } | Task::Help => Err(ProgramFault::Words),
     }
 }
 
