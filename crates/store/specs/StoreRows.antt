@@ -32,7 +32,8 @@ RowChange = (List ℕ → Option Rows) → List ℕ → Option Rows
 abbrev pub changed_rows : Change → RowChange
 changed_rows change rows h = changed change h (rows h)
 
--- the database has the tables of a desk, unless the disk returned what was not written, or the connection is shut
+-- the database has the tables of a desk, unless the disk returned what was not written, or the
+-- connection is shut
 abbrev pub HasDeskSchema : State → Type 0
 HasDeskSchema s = HasCleanDisk s → IsTrue s.is_open → s.now.schema ≡ desk_schema
 
@@ -63,12 +64,14 @@ HoldsAfter g old new to = (rows : List ℕ → Option Rows) → Holds g old rows
 abbrev pub MayLeave : {S : Type 0} → Ghosts S → StoreView S → StoreView S → RowChange → Type 0
 MayLeave g old new to =
     (trees : Trees) → (state_of g new).may_leave trees
-    → (state_of g old).may_leave trees ⊎ ((rows : List ℕ → Option Rows) → Holds g old rows → TablesHold old.charter (to rows) trees)
+    → (state_of g old).may_leave trees
+    ⊎ ((rows : List ℕ → Option Rows) → Holds g old rows → TablesHold old.charter (to rows) trees)
 
 -- A crash leaves rows turned so, and nothing else.
 abbrev pub LeavesOnly : {S : Type 0} → Ghosts S → StoreView S → StoreView S → RowChange → Type 0
 LeavesOnly g old new to =
-    (rows : List ℕ → Option Rows) → Holds g old rows → (trees : Trees) → (state_of g new).may_leave trees → TablesHold old.charter (to rows) trees
+    (rows : List ℕ → Option Rows) → Holds g old rows → (trees : Trees)
+    → (state_of g new).may_leave trees → TablesHold old.charter (to rows) trees
 
 -- A read: the charter and the rows stay, and a crash leaves nothing else than before. A disk that returns what
 -- was written did so before.

@@ -26,14 +26,17 @@ abbrev pub WhenClean : {S : Type 0} (g : Ghosts S) → (State → Type 0) → Tr
 WhenClean g so tx = HasCleanDisk (state_in g tx) → so (state_in g tx)
 
 -- where the statement succeeds, it does so, unless the disk returned what was not written
-abbrev pub IfDone : {S X E : Type 0} (g : Ghosts S) → Result X E → (State → State → Type 0) → Transaction S → Transaction S → Type 0
+abbrev pub IfDone : {S X E : Type 0} (g : Ghosts S) → Result X E → (State → State → Type 0)
+    → Transaction S → Transaction S → Type 0
 IfDone g result so old new = HasCleanDisk (state_in g new) → OnOk result (so (state_in g old) (state_in g new))
 
-abbrev pub IfTold : {S X E : Type 0} (g : Ghosts S) → Result X E → (X → State → State → Type 0) → Transaction S → Transaction S → Type 0
-IfTold g result so old new = HasCleanDisk (state_in g new) → IfOk result (λ x. so x (state_in g old) (state_in g new))
+abbrev pub IfTold : {S X E : Type 0} (g : Ghosts S) → Result X E → (X → State → State → Type 0)
+    → Transaction S → Transaction S → Type 0
+IfTold g result so old new =
+    HasCleanDisk (state_in g new) → IfOk result (λ x. so x (state_in g old) (state_in g new))
 
--- What every statement leaves, whether it succeeds or not: its transaction has the same connection, nothing is committed, and a
--- crash leaves what it left before.
+-- What every statement leaves, whether it succeeds or not: its transaction has the same connection,
+-- nothing is committed, and a crash leaves what it left before.
 pub record StaysInside {S : Type 0} (g : Ghosts S) (old new : Transaction S) : Type 0 where
   pub same_reference : new.conn.ghost_name ≡ old.conn.ghost_name
   pub kept : HasCleanDisk (state_in g new) → KeepsCommit (state_in g old) (state_in g new)
@@ -66,7 +69,8 @@ pub record EditsHolder (h : List ℕ) (edit : Rows → Rows) (old new : State) :
   pub ready : IsReady new
   pub rows : EditsRows h edit old.now new.now
 
-abbrev pub IfEdited : {S X E : Type 0} (g : Ghosts S) → Result X E → List ℕ → (Rows → Rows) → Transaction S → Transaction S → Type 0
+abbrev pub IfEdited : {S X E : Type 0} (g : Ghosts S) → Result X E → List ℕ → (Rows → Rows)
+    → Transaction S → Transaction S → Type 0
 IfEdited g result h edit = IfDone g result (EditsHolder h edit)
 
 -- the answer is whether the holder is registered, and nothing changes
@@ -74,7 +78,9 @@ pub record TellsWhetherRegistered (h : List ℕ) (told : Bool) (old new : State)
   pub was_open : IsTrue old.is_open
   pub ready : IsReady new
   pub same : new.now ≡ old.now
-  pub answer : (charter : CharterSets) (rows : List ℕ → Option Rows) → TablesHold charter rows old.now.trees → told ≡ is_some (rows h)
+  pub answer :
+      (charter : CharterSets) (rows : List ℕ → Option Rows) → TablesHold charter rows old.now.trees
+      → told ≡ is_some (rows h)
 
 -- the rows where a holder is registered
 abbrev pub registered : List ℕ → RowChange
@@ -84,15 +90,16 @@ registered h rows k = if same_name h k then Some new_rows else rows k
 pub record Registers (h : List ℕ) (old new : State) : Type 0 where
   pub ready : IsReady new
   pub rows :
-      (charter : CharterSets) (rows : List ℕ → Option Rows) → TablesHold charter rows old.now.trees → rows h ≡ None
-      → TablesHold charter (registered h rows) new.now.trees
+      (charter : CharterSets) (rows : List ℕ → Option Rows) → TablesHold charter rows old.now.trees
+      → rows h ≡ None → TablesHold charter (registered h rows) new.now.trees
 
 -- ---- the rows of every holder
 
 -- the tables hold the rows after the change, if they held those before it
 abbrev pub RowsBecome : RowChange → Database → Database → Type 0
 RowsBecome to old new =
-    (charter : CharterSets) (rows : List ℕ → Option Rows) → TablesHold charter rows old.trees → TablesHold charter (to rows) new.trees
+    (charter : CharterSets) (rows : List ℕ → Option Rows) → TablesHold charter rows old.trees
+    → TablesHold charter (to rows) new.trees
 
 -- the transaction goes on, and the change is made
 pub record MakesChange (to : RowChange) (old new : State) : Type 0 where
@@ -115,13 +122,15 @@ MayCommit to old trees = (db : Database) × IsTrue old.is_open × RowsBecome to 
 -- ---- a transaction as a whole
 
 -- where it succeeds, it does so, unless the disk returned what was not written
-abbrev pub IfCommitted : {S X E : Type 0} (g : Ghosts S) → Result X E → (State → State → Type 0) → Held S → Held S → Type 0
+abbrev pub IfCommitted : {S X E : Type 0} (g : Ghosts S) → Result X E → (State → State → Type 0)
+    → Held S → Held S → Type 0
 IfCommitted g result so old new = HasCleanDisk (state g new) → OnOk result (so (state g old) (state g new))
 
 -- where it fails, all is as before, while the connection is open
 abbrev pub IfRolledBack : {S X E : Type 0} (g : Ghosts S) → Result X E → Held S → Held S → Type 0
 IfRolledBack g result old new =
-    HasCleanDisk (state g new) → IsTrue (state g new).is_open → OnErr result (IsAsBefore (state g old) (state g new))
+    HasCleanDisk (state g new) → IsTrue (state g new).is_open
+    → OnErr result (IsAsBefore (state g old) (state g new))
 
 -- it commits such trees at most
 abbrev pub CommitsAtMost : {S : Type 0} (g : Ghosts S) → (State → Trees → Type 0) → Held S → Held S → Type 0
