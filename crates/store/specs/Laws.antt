@@ -2,7 +2,10 @@
 use Rattle.std.specs.Prelude.{ℕ, List, Option, Some, None, ⊤}
 use Rattle.addr.specs.Spans.{AreMaximal}
 use Rattle.policy.specs.declared.rows.HolderRows.{HolderRows}
+use Rattle.policy.specs.declared.charter.Charter.{Charter}
 use Rattle.policy.specs.History.{History}
+use Rattle.policy.specs.Values.{HistoryFits, FitIfAny}
+use Rattle.policy.specs.Verdict.{IsLegal}
 use Rattle.policy.specs.Rows.{Rows, rows_if_any, RowsIfAny}
 use Rattle.store.specs.Loads.{AreLoaded}
 
@@ -17,3 +20,10 @@ LoadsRowsOfHistories =
     (history : History) (h : List ℕ) (rows : Option Rows) (loaded : Option HolderRows)
     → RowsIfAny history h rows → AreMaximalIfAny loaded → AreLoaded rows loaded
     → RowsIfAny history h (rows_if_any loaded)
+
+-- The rows of a holder after a legal history whose values are those of their types are of such values too:
+-- so no load of them finds a row that does not read.
+abbrev pub RowsOfHistoriesFit : Type 0
+RowsOfHistoriesFit =
+    (charter : Charter) (history : History) (h : List ℕ) (rows : Option Rows)
+    → IsLegal charter history → HistoryFits history → RowsIfAny history h rows → FitIfAny rows

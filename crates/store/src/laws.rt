@@ -1,6 +1,6 @@
-//! Laws over the definitions alone: each function's contract states one, and its body is empty.
+//! Laws over the definitions alone: each function's contract states one, and its body does nothing.
 
-ghost use Rattle.store.specs.Laws.{LoadsRowsOfHistories};
+ghost use Rattle.store.specs.Laws.{LoadsRowsOfHistories, RowsOfHistoriesFit};
 
 /// Where the tables hold the rows of a history, what is loaded of a holder are its rows after that
 /// history, as `policy` asks for them.
@@ -8,3 +8,11 @@ ghost use Rattle.store.specs.Laws.{LoadsRowsOfHistories};
 pub fn rows_of_a_history()
     ensures { LoadsRowsOfHistories }
 {}
+
+/// Where the tables hold the rows of a legal history whose values are those of their types, each row
+/// reads, so that `load_holder` and `load_two` never answer `Schema`.
+pub fn rows_of_a_history_fit()
+    ensures { RowsOfHistoriesFit }
+{
+    policy::laws::legal_rows_fit();
+}
