@@ -1,5 +1,5 @@
 -- The rows of a legal history whose values are those of their types have such values too.
-use Rattle.std.proofs.Common.{◌≡◌, ℕ, ◌+◌, ◌<◌, ◌≤◌, Bool, true, false, not, cond, eqb, List, [], ◌∷◌, inl, inr, None, sym, subst, arith, map, filter}
+use Rattle.std.proofs.Common.{ℕ, ◌+◌, ◌<◌, ◌≤◌, true, false, not, cond, eqb, List, [], ◌∷◌, inl, inr, None, sym, subst, arith, map, filter}
 use Rattle.std.specs.List.{All}
 use Rattle.std.proofs.lemmas.Bool.{cases_Bool}
 use Rattle.std.proofs.lemmas.List.Elements.{All-nil, All-cons, All-head, All-tail, All-push, All-filter, All-map, All-weaker}
@@ -12,7 +12,7 @@ use Rattle.policy.specs.declared.command.Command.TheVariants.{Register, Delegate
 use Rattle.policy.specs.declared.grant.Granted.{Granted}
 use Rattle.policy.specs.History.{History, same_name}
 use Rattle.policy.specs.Terms.{granted_after, grants_after, grants_made, grant_terms, created_after, terms_after, authorizations_made, authorization_terms, amended, HeldSinceMade, Keeps}
-use Rattle.policy.specs.Values.{IsU8, IsU32, CommandFits, HistoryFits, AuthFits, GrantFits, LegalRowsFit}
+use Rattle.policy.specs.Values.{IsU8, CommandFits, HistoryFits, AuthFits, GrantFits, LegalRowsFit}
 use Rattle.policy.specs.Verdict.{Verdict, IsLegal}
 use Rattle.policy.proofs.Names.{same_name-true}
 
@@ -87,7 +87,7 @@ auths_after-fit charter before day caller (Amend holder n max until) h accepted 
     let auths = authorization_terms before h in
     let f = amended n max until in
     elim (same_name holder h) as (λ b. AuthsFit (authorizations_made before h) (cond b (map f auths) auths)) [
-      true ↦ record {
+      | true ↦ record {
         made = fit.made;
         terms = All-map AuthFits f auths (All-weaker AuthFits (λ y. AuthFits (f y)) (amended_fits n max until values.2 values.3) auths fit.terms);
       }

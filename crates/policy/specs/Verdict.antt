@@ -9,6 +9,7 @@ use Rattle.policy.specs.declared.authorization.Auth.{Auth}
 use Rattle.policy.specs.declared.charter.Charter.{Charter}
 use Rattle.policy.specs.declared.command.Command.{Command}
 use Rattle.policy.specs.declared.command.Command.TheVariants.{Register, Delegate, Transfer, Reclaim, Grant, Revoke, Create, Amend, Withdraw}
+use Rattle.policy.specs.declared.grant.Access.{Access}
 use Rattle.policy.specs.declared.grant.Access.TheVariants.{Manage, Alter, Look}
 use Rattle.policy.specs.declared.rule.Rule.{Rule}
 use Rattle.policy.specs.declared.rule.Rule.TheVariants.{Operator, Steward, Grant as GrantRule, Holder, Fresh, Number, Scope, Dates, Length, Pool, Free, Distinct, Held, Same, Room}
@@ -51,6 +52,11 @@ numbered n auths = find (λ x. x.number == n) auths
 abbrev pub OfNumber : History → List ℕ → ℕ → (Auth → Type 0) → Type 0
 OfNumber history holder n P = OfActive history holder (λ active. IsSomeAnd (numbered n active) P)
 
+-- of an active authorization of this number the caller has the access to each prefix of the terms
+abbrev pub HasAccessTo : History → List ℕ → ℕ → List ℕ → Access → ℕ → Type 0
+HasAccessTo history holder day caller access n =
+    OfNumber history holder n (λ x. is_permitted_terms (grant_terms history holder) day caller access x ≡ true)
+
 abbrev pub Verdict : Charter → History → ℕ → List ℕ → Command → Option Rule → Type 0
 Verdict charter history day caller (Register holder) =
     ask Operator (is_operator charter caller ≡ true) (
@@ -77,7 +83,8 @@ Verdict charter history day caller (Grant holder name role scope until) =
     ask Steward (is_steward charter history day caller holder ≡ true) (
     ask Holder (is_registered history holder ≡ true) (
     ask Dates (day ≤ until) (
-    ask Room ((length (grant_terms history holder) < MOST_GRANTS) × (grants_made history holder < LAST_NUMBER))
+    ask Room ((length (grant_terms history holder) < MOST_GRANTS)
+    × (grants_made history holder < LAST_NUMBER))
     accept)))
 Verdict charter history day caller (Revoke holder n) =
     ask Steward (is_steward charter history day caller holder ≡ true) (
@@ -90,11 +97,12 @@ Verdict charter history day caller (Create holder asn p max from until) =
     ask Length (fits_length p max ≡ true) (
     ask Held (HoldsPrefix history holder p) (
     ask Same (OfActive history holder (λ active. list_any (λ y. gives_vrp y asn p max) active ≡ false)) (
-    ask Room (OfActive history holder (λ active. length active < MOST_AUTHORIZATIONS) × (authorizations_made history holder < LAST_NUMBER))
+    ask Room (OfActive history holder (λ active. length active < MOST_AUTHORIZATIONS)
+    × (authorizations_made history holder < LAST_NUMBER))
     accept))))))
 Verdict charter history day caller (Amend holder n max until) =
     ask GrantRule (has_access (grant_terms history holder) day caller Alter ≡ true) (
-    ask Number (OfNumber history holder n (λ x. is_permitted_terms (grant_terms history holder) day caller Alter x ≡ true)) (
+    ask Number (HasAccessTo history holder day caller Alter n) (
     ask Dates (OfNumber history holder n (λ x. (x.from ≤ until) × (day ≤ until))) (
     ask Length (OfNumber history holder n (λ x. terms_fit_length x max ≡ true)) (
     ask Same (OfActive history holder (λ active. IsSomeAnd (numbered n active) (λ x.
@@ -102,14 +110,14 @@ Verdict charter history day caller (Amend holder n max until) =
     accept))))
 Verdict charter history day caller (Withdraw holder n) =
     ask GrantRule (has_access (grant_terms history holder) day caller Alter ≡ true) (
-    ask Number (OfNumber history holder n (λ x. is_permitted_terms (grant_terms history holder) day caller Alter x ≡ true))
+    ask Number (HasAccessTo history holder day caller Alter n)
     accept)
 
 -- the verdict of showing the authorization of a number
 abbrev pub ShowVerdict : History → List ℕ → ℕ → List ℕ → ℕ → Option Rule → Type 0
 ShowVerdict history holder day caller n =
     ask GrantRule (has_access (grant_terms history holder) day caller Look ≡ true) (
-    ask Number (OfNumber history holder n (λ x. is_permitted_terms (grant_terms history holder) day caller Look x ≡ true))
+    ask Number (HasAccessTo history holder day caller Look n)
     accept)
 
 -- the verdict of listing authorizations

@@ -5,8 +5,8 @@ ghost use Rattle.policy.specs.declared.charter.Charter.{Charter as CharterValue}
 ghost use Rattle.policy.specs.History.{History, is_registered};
 ghost use Rattle.policy.specs.Resources.{HoldsPrefix};
 ghost use Rattle.policy.specs.Terms.{grant_terms, authorizations_made, OfActive, gives_vrp, share_vrp};
-ghost use Rattle.policy.specs.Permission.{has_access, is_permitted_terms};
-ghost use Rattle.policy.specs.Verdict.{IsLegal, is_steward, numbered, OfNumber};
+ghost use Rattle.policy.specs.Permission.{has_access};
+ghost use Rattle.policy.specs.Verdict.{IsLegal, is_steward, numbered, HasAccessTo};
 ghost use Rattle.policy.specs.Rows.{rows_of, rows_if_any, RowsOf, RowsIfAny, grants_if_any};
 
 use crate::grant::{has_access, is_permitted};
@@ -110,10 +110,8 @@ pub(crate) fn auth_with_access<'a>(
     ensures { (history : History) (h : List ℕ) → RowsOf history h (rows_of rows.now)
         → MatchResult result
         (λ x. (numbered number rows.now.auths.items ≡ Some x.now)
-        × OfNumber history h number
-        (λ x. is_permitted_terms (grant_terms history h) day caller.now access x ≡ true))
-        (λ rule. (OfNumber history h number
-        (λ x. is_permitted_terms (grant_terms history h) day caller.now access x ≡ true) → ⊥)
+        × HasAccessTo history h day caller.now access number)
+        (λ rule. (HasAccessTo history h day caller.now access number → ⊥)
         × (rule ≡ Rule.Number)) }
 {
     match numbered(&rows.auths, number) {

@@ -85,10 +85,8 @@ fn tell_day(day: Day)
 
 fn tell_number(number: u32)
     ensures { IsU32 number }
-{
-}
+{}
 
 fn tell_max_length(max: u8)
     ensures { IsU8 max }
-{
-}
+{}
