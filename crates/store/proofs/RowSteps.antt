@@ -24,7 +24,7 @@ use Rattle.policy.specs.Rows.{Rows, new_rows, edited, edited_if_any}
 use Rattle.policy.proofs.Names.{same_name-true}
 use Rattle.store.specs.TablesHold.{TablesHold}
 use Rattle.store.specs.steps.RowEdits.{with_holdings, without_auths, is_registration}
-use Rattle.store.specs.steps.Statements.{state_in, Awaits, IfDone, StaysInside, IsExecuted, IsReady, at_holder, EditsRows, EditsHolder, TellsWhetherRegistered, Registers, registered, MakesChange}
+use Rattle.store.specs.steps.Statements.{state_in, WhenClean, IfDone, StaysInside, IsExecuted, IsReady, at_holder, EditsRows, EditsHolder, TellsWhetherRegistered, Registers, registered, MakesChange}
 use Rattle.store.proofs.TreeRows.{filter_twice, all_kept, neither}
 
 -- equal rows of every holder
@@ -97,7 +97,7 @@ module _ {S : Type 0} (g : Ghosts S) where
   }
 
   -- what a statement means of the rows
-  pub means : {X E : Type 0} (r : Result X E) (sql : List ℕ) (given params : Row) (so : State → State → Type 0) (old new : Transaction S) → Awaits g IsReady old → StaysInside g old new
+  pub means : {X E : Type 0} (r : Result X E) (sql : List ℕ) (given params : Row) (so : State → State → Type 0) (old new : Transaction S) → WhenClean g IsReady old → StaysInside g old new
       → IfDone g r (IsExecuted sql given) old new → given ≡ params → ((a b : State) → IsReady a → IsExecuted sql params a b → so a b) → IfDone g r so old new
   means r sql given params so old new ready stay ran same to clean =
       on_ok_weaker r (to (state_in g old) (state_in g new) (ready (omega (arith, stay.survives.clean)))) (subst (λ p. OnOk r (IsExecuted sql p (state_in g old) (state_in g new))) same (ran clean))

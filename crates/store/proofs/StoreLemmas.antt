@@ -38,13 +38,6 @@ module _ {S X E : Type 0} (g : Ghosts S) (r : Result X E) (to : RowChange) (char
       go (Ok a) made = λ rows holds _ opened. made.rows charter rows (holds (before clean) made.was_open)
       go (Err e) made = tt
 
-  pub holds_err : (IsTrue (state g new).is_open → OnErr r (IsAsBefore (state g old) (state g new))) → OnErr r ((rows : List ℕ → Option Rows) → Holds g (over charter old) rows → Holds g (over charter new) rows)
-  holds_err = go r
-    where
-      go : (r : Result X E) → (IsTrue (state g new).is_open → OnErr r (IsAsBefore (state g old) (state g new))) → OnErr r ((rows : List ℕ → Option Rows) → Holds g (over charter old) rows → Holds g (over charter new) rows)
-      go (Ok a) same = tt
-      go (Err e) same = λ rows holds _ opened. let was = same opened in subst (λ (d : Database). TablesHold charter rows d.trees) (sym was.1) (holds (before clean) was.0)
-
   pub may_leave : Survives (state g old) (state g new) (MayCommit to (state g old)) → MayLeave g (over charter old) (over charter new) to
   may_leave survives trees left = elim (survives.crash clean trees left) [
     | inl was ↦ inl was
@@ -66,15 +59,6 @@ pub leaves_new : {S : Type 0} (g : Ghosts S) (charter : CharterSets) (h : Held S
 leaves_new g charter h settled new trees left = subst (TablesHold charter (λ h. None)) (sym (settled trees new.is_open left ∙ ap (λ (d : Database). d.trees) new.settled)) new.rows
 
 -- ---- a read
-
-pub is_read : {S : Type 0} (g : Ghosts S) (charter : CharterSets) (old new : Held S) → (HasCleanDisk (state g new) → HasCleanDisk (state g old))
-    → (HasCleanDisk (state g new) → IsTrue (state g new).is_open → IsAsBefore (state g old) (state g new)) → Survives (state g old) (state g new) (λ _. ⊥) → IsRead g (over charter old) (over charter new)
-is_read g charter old new before same survives = record {
-  clean = before;
-  charter = refl;
-  rows = λ clean rows holds _ opened. let was = same clean opened in subst (λ (d : Database). TablesHold charter rows d.trees) (sym was.1) (holds (before clean) was.0);
-  crash = λ clean trees left. elim (survives.crash clean trees left) [ inl was ↦ was | inr none ↦ absurd none ];
-}
 
 pub read_then : {S : Type 0} (g : Ghosts S) (a b c : StoreView S) → IsRead g a b → IsRead g b c → IsRead g a c
 read_then g a b c first second = record {

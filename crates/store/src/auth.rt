@@ -1,7 +1,7 @@
 ghost use Rattle.policy.specs.declared.change.Edit.TheVariants.{Withdraw, Amend};
 ghost use Rattle.policy.specs.Rows.{edited};
 ghost use Rattle.store.specs.steps.RowEdits.{with_auth, without_auths};
-ghost use Rattle.store.specs.steps.Statements.{IsReady, Awaits, IfDone, StaysInside, EditsHolder};
+ghost use Rattle.store.specs.steps.Statements.{IsReady, WhenClean, StaysInside, IfEdited};
 
 use crate::cells::{address_bytes, auth_values, number_values};
 use crate::statement::run;
@@ -15,8 +15,8 @@ pub(crate) fn put_auth<S: Alter>(
     holder: &Name,
     auth: &Auth,
 ) -> Result<(), Error>
-    requires { Awaits S.Store IsReady tx.old }
-    ensures done { IfDone S.Store result (EditsHolder holder.now (with_auth auth.now)) tx.old tx.new }
+    requires { WhenClean S.Store IsReady tx.old }
+    ensures done { IfEdited S.Store result holder.now (with_auth auth.now) tx.old tx.new }
     ensures inside { StaysInside S.Store tx.old tx.new }
 {
     let first = address_bytes(auth.prefix.first);
@@ -33,8 +33,8 @@ pub(crate) fn amend_auth<S: Alter>(
     holder: &Name,
     auth: &Auth,
 ) -> Result<(), Error>
-    requires { Awaits S.Store IsReady tx.old }
-    ensures done { IfDone S.Store result (EditsHolder holder.now (edited (Amend auth.now))) tx.old tx.new }
+    requires { WhenClean S.Store IsReady tx.old }
+    ensures done { IfEdited S.Store result holder.now (edited (Amend auth.now)) tx.old tx.new }
     ensures inside { StaysInside S.Store tx.old tx.new }
 {
     let first = address_bytes(auth.prefix.first);
@@ -51,8 +51,8 @@ pub(crate) fn take_auth<S: Alter>(
     holder: &Name,
     number: u32,
 ) -> Result<(), Error>
-    requires { Awaits S.Store IsReady tx.old }
-    ensures done { IfDone S.Store result (EditsHolder holder.now (edited (Withdraw number))) tx.old tx.new }
+    requires { WhenClean S.Store IsReady tx.old }
+    ensures done { IfEdited S.Store result holder.now (edited (Withdraw number)) tx.old tx.new }
     ensures inside { StaysInside S.Store tx.old tx.new }
 {
     run(
@@ -68,8 +68,8 @@ pub(crate) fn take_auths<S: Alter>(
     holder: &Name,
     numbers: &[u32],
 ) -> Result<(), Error>
-    requires { Awaits S.Store IsReady tx.old }
-    ensures done { IfDone S.Store result (EditsHolder holder.now (without_auths numbers.now)) tx.old tx.new }
+    requires { WhenClean S.Store IsReady tx.old }
+    ensures done { IfEdited S.Store result holder.now (without_auths numbers.now) tx.old tx.new }
     ensures inside { StaysInside S.Store tx.old tx.new }
 {
     for number in numbers {

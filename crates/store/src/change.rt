@@ -1,7 +1,9 @@
 ghost use Rattle.std.specs.Prelude.{◌≡◌, ◌≢◌, Err};
-ghost use Rattle.policy.specs.Rows.{edited, changed, changed_by_one};
+ghost use Rattle.policy.specs.Rows.{edited, changed_by_one};
+ghost use Rattle.store.specs.StoreRows.{changed_rows};
 ghost use Rattle.store.specs.steps.RowEdits.{held, is_registration};
-ghost use Rattle.store.specs.steps.Statements.{IsReady, Awaits, IfDone, StaysInside, EditsHolder, MakesChange};
+ghost use Rattle.store.specs.steps.Statements.{IsReady, WhenClean, StaysInside};
+ghost use Rattle.store.specs.steps.Statements.{IfDone, IfEdited, MakesChange};
 
 use crate::StoreFault;
 use crate::auth::{amend_auth, put_auth, take_auth, take_auths};
@@ -14,8 +16,9 @@ use sqlite::{Alter, Error, Transaction};
 
 /// Puts a grant, and its number as the counter.
 fn grant<S: Alter>(tx: &mut Transaction<'_, S>, holder: &Name, grant: &Granted) -> Result<(), Error>
-    requires { Awaits S.Store IsReady tx.old }
-    ensures done { IfDone S.Store result (EditsHolder holder.now (edited (Edit.Grant grant.now))) tx.old tx.new }
+    requires { WhenClean S.Store IsReady tx.old }
+    ensures done { IfEdited S.Store result holder.now
+        (edited (Edit.Grant grant.now)) tx.old tx.new }
     ensures inside { StaysInside S.Store tx.old tx.new }
 {
     put_grant(tx, holder, grant)?;
@@ -24,8 +27,9 @@ fn grant<S: Alter>(tx: &mut Transaction<'_, S>, holder: &Name, grant: &Granted) 
 
 /// Puts an authorization, and its number as the counter.
 fn create<S: Alter>(tx: &mut Transaction<'_, S>, holder: &Name, auth: &Auth) -> Result<(), Error>
-    requires { Awaits S.Store IsReady tx.old }
-    ensures done { IfDone S.Store result (EditsHolder holder.now (edited (Edit.Create auth.now))) tx.old tx.new }
+    requires { WhenClean S.Store IsReady tx.old }
+    ensures done { IfEdited S.Store result holder.now
+        (edited (Edit.Create auth.now)) tx.old tx.new }
     ensures inside { StaysInside S.Store tx.old tx.new }
 {
     put_auth(tx, holder, auth)?;
@@ -40,8 +44,8 @@ fn hold<S: Alter>(
     spans: &[Span],
     ended: &[u32],
 ) -> Result<(), Error>
-    requires { Awaits S.Store IsReady tx.old }
-    ensures done { IfDone S.Store result (EditsHolder holder.now (held spans.now ended.now)) tx.old tx.new }
+    requires { WhenClean S.Store IsReady tx.old }
+    ensures done { IfEdited S.Store result holder.now (held spans.now ended.now) tx.old tx.new }
     ensures inside { StaysInside S.Store tx.old tx.new }
 {
     take_holdings(tx, holder)?;
@@ -55,8 +59,8 @@ fn edit_rows<S: Alter>(
     holder: &Name,
     edit: &Edit,
 ) -> Result<(), StoreFault>
-    requires { Awaits S.Store IsReady tx.old }
-    ensures done { IfDone S.Store result (EditsHolder holder.now (edited edit.now)) tx.old tx.new }
+    requires { WhenClean S.Store IsReady tx.old }
+    ensures done { IfEdited S.Store result holder.now (edited edit.now) tx.old tx.new }
     ensures inside { StaysInside S.Store tx.old tx.new }
     ensures no_schema { result ≢ Err StoreFault.Schema }
 {
@@ -83,9 +87,9 @@ fn edit_holder<S: Alter>(
     tx: &mut Transaction<'_, S>,
     change: &HolderChange,
 ) -> Result<(), StoreFault>
-    requires { Awaits S.Store IsReady tx.old }
-    ensures done { IfDone S.Store result (MakesChange (λ rows h. changed_by_one change.now h (rows h)))
-        tx.old tx.new }
+    requires { WhenClean S.Store IsReady tx.old }
+    ensures done { IfDone S.Store result
+        (MakesChange (λ rows h. changed_by_one change.now h (rows h))) tx.old tx.new }
     ensures inside { StaysInside S.Store tx.old tx.new }
     ensures no_schema { result ≢ Err StoreFault.Schema }
 {
@@ -103,8 +107,9 @@ pub(crate) fn make_change<S: Alter>(
     tx: &mut Transaction<'_, S>,
     change: &Change,
 ) -> Result<(), StoreFault>
-    requires { Awaits S.Store IsReady tx.old }
-    ensures done { IfDone S.Store result (MakesChange (λ rows h. changed change.now h (rows h))) tx.old tx.new }
+    requires { WhenClean S.Store IsReady tx.old }
+    ensures done { IfDone S.Store result
+        (MakesChange (changed_rows change.now)) tx.old tx.new }
     ensures inside { StaysInside S.Store tx.old tx.new }
     ensures no_schema { result ≢ Err StoreFault.Schema }
 {

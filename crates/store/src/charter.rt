@@ -1,7 +1,7 @@
 ghost use Rattle.std.specs.Prelude.{[], ◌∷◌, map};
 ghost use Rattle.store.specs.Cells.{schema_row, operator_row, prefix_cells};
 ghost use Rattle.store.specs.Tables.{meta, operator, pool};
-ghost use Rattle.store.specs.steps.Statements.{IsReady, Awaits, IfDone, StaysInside};
+ghost use Rattle.store.specs.steps.Statements.{IsReady, WhenClean, IfDone, StaysInside};
 ghost use Rattle.store.specs.steps.Making.{IsMadeTo, PutsRows, HasCharter};
 
 use crate::cells::{address_bytes, name_values, prefix_values};
@@ -12,7 +12,7 @@ use sqlite::{Alter, Error, Transaction};
 
 /// Puts the number of the schema.
 fn put_schema<S: Alter>(tx: &mut Transaction<'_, S>) -> Result<(), Error>
-    requires { Awaits S.Store IsReady tx.old }
+    requires { WhenClean S.Store IsReady tx.old }
     ensures put { IfDone S.Store result (PutsRows meta.tree (schema_row ∷ [])) tx.old tx.new }
     ensures inside { StaysInside S.Store tx.old tx.new }
 {
@@ -25,8 +25,9 @@ fn put_schema<S: Alter>(tx: &mut Transaction<'_, S>) -> Result<(), Error>
 
 /// Puts an operator.
 fn put_operator<S: Alter>(tx: &mut Transaction<'_, S>, name: &Name) -> Result<(), Error>
-    requires { Awaits S.Store IsReady tx.old }
-    ensures put { IfDone S.Store result (PutsRows operator.tree (operator_row name.now ∷ [])) tx.old tx.new }
+    requires { WhenClean S.Store IsReady tx.old }
+    ensures put { IfDone S.Store result
+        (PutsRows operator.tree (operator_row name.now ∷ [])) tx.old tx.new }
     ensures inside { StaysInside S.Store tx.old tx.new }
 {
     run(
@@ -38,8 +39,9 @@ fn put_operator<S: Alter>(tx: &mut Transaction<'_, S>, name: &Name) -> Result<()
 
 /// Puts operators.
 fn put_operators<S: Alter>(tx: &mut Transaction<'_, S>, names: &[Name]) -> Result<(), Error>
-    requires { Awaits S.Store IsReady tx.old }
-    ensures put { IfDone S.Store result (PutsRows operator.tree (map operator_row names.now)) tx.old tx.new }
+    requires { WhenClean S.Store IsReady tx.old }
+    ensures put { IfDone S.Store result
+        (PutsRows operator.tree (map operator_row names.now)) tx.old tx.new }
     ensures inside { StaysInside S.Store tx.old tx.new }
 {
     for name in names {
@@ -50,8 +52,9 @@ fn put_operators<S: Alter>(tx: &mut Transaction<'_, S>, names: &[Name]) -> Resul
 
 /// Puts a prefix of the pool.
 fn put_prefix<S: Alter>(tx: &mut Transaction<'_, S>, prefix: &Prefix) -> Result<(), Error>
-    requires { Awaits S.Store IsReady tx.old }
-    ensures put { IfDone S.Store result (PutsRows pool.tree (prefix_cells prefix.now ∷ [])) tx.old tx.new }
+    requires { WhenClean S.Store IsReady tx.old }
+    ensures put { IfDone S.Store result
+        (PutsRows pool.tree (prefix_cells prefix.now ∷ [])) tx.old tx.new }
     ensures inside { StaysInside S.Store tx.old tx.new }
 {
     let first = address_bytes(prefix.first);
@@ -64,8 +67,9 @@ fn put_prefix<S: Alter>(tx: &mut Transaction<'_, S>, prefix: &Prefix) -> Result<
 
 /// Puts prefixes of the pool.
 fn put_pool<S: Alter>(tx: &mut Transaction<'_, S>, prefixes: &[Prefix]) -> Result<(), Error>
-    requires { Awaits S.Store IsReady tx.old }
-    ensures put { IfDone S.Store result (PutsRows pool.tree (map prefix_cells prefixes.now)) tx.old tx.new }
+    requires { WhenClean S.Store IsReady tx.old }
+    ensures put { IfDone S.Store result
+        (PutsRows pool.tree (map prefix_cells prefixes.now)) tx.old tx.new }
     ensures inside { StaysInside S.Store tx.old tx.new }
 {
     for prefix in prefixes {
@@ -79,7 +83,7 @@ pub(crate) fn put_charter<S: Alter>(
     tx: &mut Transaction<'_, S>,
     charter: &Charter,
 ) -> Result<(), Error>
-    requires { Awaits S.Store (IsMadeTo 8) tx.old }
+    requires { WhenClean S.Store (IsMadeTo 8) tx.old }
     ensures put { IfDone S.Store result (λ _. HasCharter charter.now) tx.old tx.new }
     ensures inside { StaysInside S.Store tx.old tx.new }
 {

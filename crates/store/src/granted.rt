@@ -1,7 +1,7 @@
 ghost use Rattle.policy.specs.declared.change.Edit.TheVariants.{Revoke};
 ghost use Rattle.policy.specs.Rows.{edited};
 ghost use Rattle.store.specs.steps.RowEdits.{with_grant};
-ghost use Rattle.store.specs.steps.Statements.{IsReady, Awaits, IfDone, StaysInside, EditsHolder};
+ghost use Rattle.store.specs.steps.Statements.{IsReady, WhenClean, StaysInside, IfEdited};
 
 use crate::cells::{address_bytes, granted_values, number_values, scope_first};
 use crate::statement::run;
@@ -15,8 +15,8 @@ pub(crate) fn put_grant<S: Alter>(
     holder: &Name,
     grant: &Granted,
 ) -> Result<(), Error>
-    requires { Awaits S.Store IsReady tx.old }
-    ensures done { IfDone S.Store result (EditsHolder holder.now (with_grant grant.now)) tx.old tx.new }
+    requires { WhenClean S.Store IsReady tx.old }
+    ensures done { IfEdited S.Store result holder.now (with_grant grant.now) tx.old tx.new }
     ensures inside { StaysInside S.Store tx.old tx.new }
 {
     let first = address_bytes(scope_first(&grant.scope));
@@ -33,8 +33,8 @@ pub(crate) fn take_grant<S: Alter>(
     holder: &Name,
     number: u32,
 ) -> Result<(), Error>
-    requires { Awaits S.Store IsReady tx.old }
-    ensures done { IfDone S.Store result (EditsHolder holder.now (edited (Revoke number))) tx.old tx.new }
+    requires { WhenClean S.Store IsReady tx.old }
+    ensures done { IfEdited S.Store result holder.now (edited (Revoke number)) tx.old tx.new }
     ensures inside { StaysInside S.Store tx.old tx.new }
 {
     run(

@@ -1,5 +1,6 @@
 ghost use Rattle.store.specs.steps.RowEdits.{with_granted, with_created};
-ghost use Rattle.store.specs.steps.Statements.{IsReady, Awaits, IfDone, IfTold, StaysInside, EditsHolder, TellsWhetherRegistered, Registers};
+ghost use Rattle.store.specs.steps.Statements.{IsReady, WhenClean, StaysInside, IfDone};
+ghost use Rattle.store.specs.steps.Statements.{IfTold, IfEdited, TellsWhetherRegistered, Registers};
 
 use crate::cells::{name_values, number_values};
 use crate::statement::run;
@@ -12,8 +13,8 @@ pub(crate) fn set_granted<S: Alter>(
     holder: &Name,
     number: u32,
 ) -> Result<(), Error>
-    requires { Awaits S.Store IsReady tx.old }
-    ensures done { IfDone S.Store result (EditsHolder holder.now (with_granted number)) tx.old tx.new }
+    requires { WhenClean S.Store IsReady tx.old }
+    ensures done { IfEdited S.Store result holder.now (with_granted number) tx.old tx.new }
     ensures inside { StaysInside S.Store tx.old tx.new }
 {
     run(
@@ -29,8 +30,8 @@ pub(crate) fn set_created<S: Alter>(
     holder: &Name,
     number: u32,
 ) -> Result<(), Error>
-    requires { Awaits S.Store IsReady tx.old }
-    ensures done { IfDone S.Store result (EditsHolder holder.now (with_created number)) tx.old tx.new }
+    requires { WhenClean S.Store IsReady tx.old }
+    ensures done { IfEdited S.Store result holder.now (with_created number) tx.old tx.new }
     ensures inside { StaysInside S.Store tx.old tx.new }
 {
     run(
@@ -45,7 +46,7 @@ pub(crate) fn is_registered<S: Alter>(
     tx: &mut Transaction<'_, S>,
     holder: &Name,
 ) -> Result<bool, Error>
-    requires { Awaits S.Store IsReady tx.old }
+    requires { WhenClean S.Store IsReady tx.old }
     ensures told { IfTold S.Store result (TellsWhetherRegistered holder.now) tx.old tx.new }
     ensures inside { StaysInside S.Store tx.old tx.new }
 {
@@ -58,7 +59,7 @@ pub(crate) fn is_registered<S: Alter>(
 
 /// Registers a holder that is not registered.
 pub(crate) fn register<S: Alter>(tx: &mut Transaction<'_, S>, holder: &Name) -> Result<(), Error>
-    requires { Awaits S.Store IsReady tx.old }
+    requires { WhenClean S.Store IsReady tx.old }
     ensures done { IfDone S.Store result (Registers holder.now) tx.old tx.new }
     ensures inside { StaysInside S.Store tx.old tx.new }
 {

@@ -1,6 +1,6 @@
 ghost use Rattle.std.specs.Prelude.{[], ◌∷◌};
 ghost use Rattle.store.specs.steps.RowEdits.{with_holdings, without_holdings};
-ghost use Rattle.store.specs.steps.Statements.{IsReady, Awaits, IfDone, StaysInside, EditsHolder};
+ghost use Rattle.store.specs.steps.Statements.{IsReady, WhenClean, StaysInside, IfEdited};
 
 use crate::cells::{address_bytes, holding_values, name_values};
 use crate::statement::run;
@@ -13,8 +13,9 @@ fn put_holding<S: Alter>(
     holder: &Name,
     span: &Span,
 ) -> Result<(), Error>
-    requires { Awaits S.Store IsReady tx.old }
-    ensures done { IfDone S.Store result (EditsHolder holder.now (with_holdings (span.now ∷ []))) tx.old tx.new }
+    requires { WhenClean S.Store IsReady tx.old }
+    ensures done { IfEdited S.Store result holder.now
+        (with_holdings (span.now ∷ [])) tx.old tx.new }
     ensures inside { StaysInside S.Store tx.old tx.new }
 {
     let first = address_bytes(span.lo);
@@ -32,8 +33,8 @@ pub(crate) fn put_holdings<S: Alter>(
     holder: &Name,
     spans: &[Span],
 ) -> Result<(), Error>
-    requires { Awaits S.Store IsReady tx.old }
-    ensures done { IfDone S.Store result (EditsHolder holder.now (with_holdings spans.now)) tx.old tx.new }
+    requires { WhenClean S.Store IsReady tx.old }
+    ensures done { IfEdited S.Store result holder.now (with_holdings spans.now) tx.old tx.new }
     ensures inside { StaysInside S.Store tx.old tx.new }
 {
     for span in spans {
@@ -47,8 +48,8 @@ pub(crate) fn take_holdings<S: Alter>(
     tx: &mut Transaction<'_, S>,
     holder: &Name,
 ) -> Result<(), Error>
-    requires { Awaits S.Store IsReady tx.old }
-    ensures done { IfDone S.Store result (EditsHolder holder.now without_holdings) tx.old tx.new }
+    requires { WhenClean S.Store IsReady tx.old }
+    ensures done { IfEdited S.Store result holder.now without_holdings tx.old tx.new }
     ensures inside { StaysInside S.Store tx.old tx.new }
 {
     run(

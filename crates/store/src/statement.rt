@@ -1,6 +1,6 @@
 ghost use Rattle.std.specs.Prelude.{◌≡◌, true};
 ghost use Rattle.sqlite.specs.Values.{bound};
-ghost use Rattle.store.specs.steps.Statements.{Awaits, IfDone, StaysInside, IsExecuted};
+ghost use Rattle.store.specs.steps.Statements.{WhenClean, IfDone, StaysInside, IsExecuted};
 
 use sqlite::types::ValueRef;
 use sqlite::{Alter, Error, Transaction};
@@ -11,7 +11,7 @@ pub(crate) fn run<S: Alter>(
     sql: &str,
     values: &[ValueRef<'_>],
 ) -> Result<(), Error>
-    requires { Awaits S.Store (λ s. s.in_transaction ≡ true) tx.old }
+    requires { WhenClean S.Store (λ s. s.in_transaction ≡ true) tx.old }
     ensures ran { IfDone S.Store result (IsExecuted sql.now (bound values.now)) tx.old tx.new }
     ensures inside { StaysInside S.Store tx.old tx.new }
 {

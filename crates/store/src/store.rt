@@ -1,10 +1,12 @@
 ghost use Rattle.std.specs.Prelude.{◌≡◌, ◌≢◌, ◌↔◌, false, None, Err, OnOk, OnErr, IfOk, IsTrue};
 ghost use Rattle.sqlite.specs.Held.{state};
 ghost use Rattle.sqlite.specs.State.{HasCleanDisk};
-ghost use Rattle.store.specs.StoreRows.{changed_rows, HasDeskSchema, IsUnused, IsNew, LeavesNew, LeavesOldOrNew};
+ghost use Rattle.store.specs.StoreRows.{changed_rows, HasDeskSchema};
+ghost use Rattle.store.specs.StoreRows.{IsUnused, IsNew, LeavesNew, LeavesOldOrNew};
 ghost use Rattle.store.specs.Tables.{blank_schema};
 ghost use Rattle.store.specs.TablesHold.{TablesHold};
-ghost use Rattle.store.specs.steps.Statements.{CommitsChange, MayCommit, IfCommitted, IfRolledBack, CommitsAtMost};
+ghost use Rattle.store.specs.steps.Statements.{CommitsChange, MayCommit};
+ghost use Rattle.store.specs.steps.Statements.{IfCommitted, IfRolledBack, CommitsAtMost};
 
 use crate::StoreFault;
 use crate::across::some_overlap;
@@ -24,7 +26,8 @@ fn commit_change<S: Alter>(conn: &mut Connection<S>, change: &Change) -> Result<
     requires idle { conn.old.in_transaction ≡ false }
     requires schema { HasDeskSchema (state S.Store conn.old) }
     ensures idle { conn.new.in_transaction ≡ false }
-    ensures ok { IfCommitted S.Store result (CommitsChange (changed_rows change.now)) conn.old conn.new }
+    ensures ok { IfCommitted S.Store result
+        (CommitsChange (changed_rows change.now)) conn.old conn.new }
     ensures err { IfRolledBack S.Store result conn.old conn.new }
     ensures crash { CommitsAtMost S.Store (MayCommit (changed_rows change.now)) conn.old conn.new }
     ensures no_schema { result ≢ Err StoreFault.Schema }
@@ -46,11 +49,13 @@ fn is_blank(schema: &Schema) -> bool
 /// Makes the tables of a desk in a database that has none, with its charter, in one transaction.
 fn make_tables<S: Alter>(conn: &mut Connection<S>, charter: &Charter) -> Result<(), StoreFault>
     requires idle { conn.old.in_transaction ≡ false }
-    requires blank { HasCleanDisk (state S.Store conn.old) → (state S.Store conn.old).now.schema ≡ blank_schema }
+    requires blank { HasCleanDisk (state S.Store conn.old)
+        → (state S.Store conn.old).now.schema ≡ blank_schema }
     ensures idle { conn.new.in_transaction ≡ false }
     ensures made { IfCommitted S.Store result (λ _. IsNew charter.now) conn.old conn.new }
     ensures err { IfRolledBack S.Store result conn.old conn.new }
-    ensures crash { CommitsAtMost S.Store (λ _. TablesHold charter.now (λ h. None)) conn.old conn.new }
+    ensures crash { CommitsAtMost S.Store
+        (λ _. TablesHold charter.now (λ h. None)) conn.old conn.new }
     ensures no_schema { result ≢ Err StoreFault.Schema }
 {
     let _idle = conn.is_autocommit();
@@ -104,7 +109,8 @@ impl<S: Alter> Model for Store<S> {
 
     ghost view = { λ s. record { connection = s.conn; charter = s.charter } };
 
-    ghost invariant = { λ s. (s.conn.in_transaction ≡ false) × IsDeskWhileOpen (state S.Store s.conn) };
+    ghost invariant = { λ s. (s.conn.in_transaction ≡ false)
+        × IsDeskWhileOpen (state S.Store s.conn) };
 }
 
 impl<S: Alter + Drop> Store<S> {
@@ -118,9 +124,12 @@ impl<S: Alter + Drop> Store<S> {
         ensures rows { IfOk result (λ store. Holds S.Store store (λ h. None)) }
         ensures unused { OnOk result (IsUnused (state S.Store conn)) }
         ensures unlimited { IfOk result (λ store. store.connection.step_limit ≡ None) }
-        ensures made { IfOk result (λ store. IfClean S.Store store (IsNew charter.now (state_of S.Store store))) }
-        ensures clean { IfOk result (λ store. IfClean S.Store store (HasCleanDisk (state S.Store conn))) }
-        ensures left { IfOk result (λ store. IfClean S.Store store (LeavesNew charter.now (state_of S.Store store))) }
+        ensures made { IfOk result (λ store. IfClean S.Store store
+            (IsNew charter.now (state_of S.Store store))) }
+        ensures clean { IfOk result (λ store. IfClean S.Store store
+            (HasCleanDisk (state S.Store conn))) }
+        ensures left { IfOk result (λ store. IfClean S.Store store
+            (LeavesNew charter.now (state_of S.Store store))) }
         ensures no_schema { result ≢ Err StoreFault.Schema }
     {
         let kept = charter.clone()?;
@@ -137,7 +146,8 @@ impl<S: Alter> Store<S> {
     ghost use Rattle.addr.specs.declared.vrp.Vrp.{Vrp};
     ghost use Rattle.policy.specs.Rows.{Rows};
     ghost use Rattle.store.specs.Loads.{OfHeldRows, AreLoaded, FitIfAny, IsTaken, IsGivenOn, AllGiveOn};
-    ghost use Rattle.store.specs.StoreRows.{state_of, IsDeskWhileOpen, Holds, IsRead, IfClean, HoldsAfter, MayLeave, LeavesOnly};
+    ghost use Rattle.store.specs.StoreRows.{state_of, IsDeskWhileOpen, Holds, IsRead};
+    ghost use Rattle.store.specs.StoreRows.{IfClean, HoldsAfter, MayLeave, LeavesOnly};
 
     /// The operators and the pool.
     pub fn charter(&self) -> &Charter
@@ -214,7 +224,8 @@ impl<S: Alter> Store<S> {
         ensures left { IfClean S.Store self.new
             (OnOk result (LeavesOnly S.Store self.old self.new (changed_rows change.now))) }
         ensures clean { IfClean S.Store self.new (HasCleanDisk (state_of S.Store self.old)) }
-        ensures is_open { IfClean S.Store self.new (OnOk result (IsTrue (state_of S.Store self.new).is_open)) }
+        ensures is_open { IfClean S.Store self.new
+            (OnOk result (IsTrue (state_of S.Store self.new).is_open)) }
         ensures no_schema { result ≢ Err StoreFault.Schema }
     {
         commit_change(&mut self.conn, change)

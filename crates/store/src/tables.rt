@@ -1,4 +1,4 @@
-ghost use Rattle.store.specs.steps.Statements.{Awaits, IfDone, StaysInside};
+ghost use Rattle.store.specs.steps.Statements.{WhenClean, IfDone, StaysInside};
 ghost use Rattle.store.specs.steps.Making.{IsMadeTo};
 
 use crate::statement::run;
@@ -6,7 +6,7 @@ use sqlite::{Alter, Error, Transaction};
 
 /// Makes the tables `meta`, `operator`, `pool` and `holder` in a database that has no table.
 pub(crate) fn make_first_tables<S: Alter>(tx: &mut Transaction<'_, S>) -> Result<(), Error>
-    requires { Awaits S.Store (IsMadeTo 0) tx.old }
+    requires { WhenClean S.Store (IsMadeTo 0) tx.old }
     ensures made { IfDone S.Store result (λ _. IsMadeTo 4) tx.old tx.new }
     ensures inside { StaysInside S.Store tx.old tx.new }
 {
@@ -34,7 +34,7 @@ pub(crate) fn make_first_tables<S: Alter>(tx: &mut Transaction<'_, S>) -> Result
 
 /// Makes the tables `holding`, `granted`, `auth` and `slurm` after those.
 pub(crate) fn make_other_tables<S: Alter>(tx: &mut Transaction<'_, S>) -> Result<(), Error>
-    requires { Awaits S.Store (IsMadeTo 4) tx.old }
+    requires { WhenClean S.Store (IsMadeTo 4) tx.old }
     ensures made { IfDone S.Store result (λ _. IsMadeTo 8) tx.old tx.new }
     ensures inside { StaysInside S.Store tx.old tx.new }
 {

@@ -22,8 +22,8 @@ abbrev pub state_in : {S : Type 0} (g : Ghosts S) → Transaction S → State
 state_in g tx = state g tx.conn.now
 
 -- the state is so, unless the disk returned what was not written
-abbrev pub Awaits : {S : Type 0} (g : Ghosts S) → (State → Type 0) → Transaction S → Type 0
-Awaits g so tx = HasCleanDisk (state_in g tx) → so (state_in g tx)
+abbrev pub WhenClean : {S : Type 0} (g : Ghosts S) → (State → Type 0) → Transaction S → Type 0
+WhenClean g so tx = HasCleanDisk (state_in g tx) → so (state_in g tx)
 
 -- where the statement succeeds, it does so, unless the disk returned what was not written
 abbrev pub IfDone : {S X E : Type 0} (g : Ghosts S) → Result X E → (State → State → Type 0) → Transaction S → Transaction S → Type 0
@@ -65,6 +65,9 @@ EditsRows h edit old new =
 pub record EditsHolder (h : List ℕ) (edit : Rows → Rows) (old new : State) : Type 0 where
   pub ready : IsReady new
   pub rows : EditsRows h edit old.now new.now
+
+abbrev pub IfEdited : {S X E : Type 0} (g : Ghosts S) → Result X E → List ℕ → (Rows → Rows) → Transaction S → Transaction S → Type 0
+IfEdited g result h edit = IfDone g result (EditsHolder h edit)
 
 -- the answer is whether the holder is registered, and nothing changes
 pub record TellsWhetherRegistered (h : List ℕ) (told : Bool) (old new : State) : Type 0 where
