@@ -33,7 +33,8 @@ role_number Clerk = 2
 role_number Auditor = 3
 
 abbrev pub prefix_cells : Prefix → Row
-prefix_cells p = number_cell (family_number p.family) ∷ Blob (address p.first) ∷ number_cell p.length ∷ []
+prefix_cells p =
+    number_cell (family_number p.family) ∷ Blob (address p.first) ∷ number_cell p.length ∷ []
 
 -- no prefix is all of them
 abbrev pub scope_cells : Scope → Row

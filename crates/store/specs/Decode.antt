@@ -8,7 +8,8 @@ use Rattle.policy.specs.declared.authorization.Auth.{Auth}
 use Rattle.policy.specs.declared.grant.Granted.{Granted}
 use Rattle.store.specs.steps.Queries.{columns}
 
--- No value shows these cells. Only values that fit their Rust type count, since a `u32` is any number here.
+-- No value shows these cells. Only values that fit their Rust type count, since a `u32` is any number
+-- here.
 abbrev pub ShowsNone : {X Y : Type 0} → (X → Y) → (X → Type 0) → Y → Type 0
 ShowsNone {X} cells fits shown = (x : X) → fits x → cells x ≢ shown
 

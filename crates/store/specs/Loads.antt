@@ -1,6 +1,7 @@
 -- What is loaded of the rows that the tables hold.
 use Rattle.std.specs.Prelude.{◌≡◌, ◌≤◌, ℕ, List, Option, Some, None, All, Contains, IsPermutation, IsSortedByKey, ⊤}
 use Rattle.std.specs.Ordering.{nat_cmp}
+use Rattle.sqlite.specs.Store.{Ghosts}
 use Rattle.addr.specs.Address.{Address}
 use Rattle.addr.specs.Spans.{spans_have, HaveSome}
 use Rattle.addr.specs.declared.prefix.Prefix.{Prefix}
@@ -11,7 +12,13 @@ use Rattle.policy.specs.declared.grant.Granted.{Granted}
 use Rattle.policy.specs.declared.rows.HolderRows.{HolderRows}
 use Rattle.policy.specs.Rows.{Rows}
 use Rattle.policy.specs.Terms.{IsVrpOf}
+use Rattle.store.specs.StoreRows.{StoreView, Holds}
 use Rattle.store.specs.Decode.{IsU32, AuthFits, GrantFits, VrpFits}
+
+-- it is so of the rows that a store holds
+abbrev pub OfHeldRows :
+    {S : Type 0} → Ghosts S → StoreView S → ((List ℕ → Option Rows) → Type 0) → Type 0
+OfHeldRows g store so = (rows : List ℕ → Option Rows) → Holds g store rows → so rows
 
 -- the same items, by rising number
 abbrev pub AreInOrder : {X : Type 0} → (X → ℕ) → List X → List X → Type 0
@@ -21,8 +28,8 @@ AreInOrder number xs ys = IsPermutation xs ys × IsSortedByKey number nat_cmp ys
 abbrev pub HaveSame : List Span → List Span → Type 0
 HaveSame spans other = (a : Address) → spans_have other a ≡ spans_have spans a
 
--- The rows of a holder as they are loaded: its addresses as maximal runs, which `Holdings` promises, its
--- grants and its authorizations by rising number, and its counters.
+-- The rows of a holder as they are loaded: its addresses as maximal runs, which `Holdings` promises,
+-- its grants and its authorizations by rising number, and its counters.
 pub record IsLoaded (r : Rows) (loaded : HolderRows) : Type 0 where
   pub holdings : HaveSame r.holdings loaded.holdings
   pub grants : AreInOrder (λ (g : Granted). g.number) r.grants loaded.grants.items

@@ -16,7 +16,8 @@ use sqlite::types::{ToSql, ValueRef};
 use sqlite::{Alter, Connection, Error, Row};
 
 fn run_values<'a>(family: Family, first: &'a [u8], last: &'a [u8]) -> [ValueRef<'a>; 3]
-    ensures { bound result ≡ number_cell (family_number family) ∷ Blob first.now ∷ Blob last.now ∷ [] }
+    ensures { bound result
+        ≡ number_cell (family_number family) ∷ Blob first.now ∷ Blob last.now ∷ [] }
 {
     [
         family_number(family).to_sql(),

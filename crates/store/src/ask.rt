@@ -23,7 +23,8 @@ pub(crate) fn ask<S: Alter>(
     requires plain { IsPlain (understood desk_schema sql.now) }
     ensures asked { IsAsked S.Store conn.old conn.new result }
     ensures shown { IsOnCleanDisk S.Store conn.new → IfOk result (λ rows.
-        Shown sql.now (bound values.now) (state S.Store conn.old) (state S.Store conn.new) rows.items) }
+        Shown sql.now (bound values.now) (state S.Store conn.old) (state S.Store conn.new)
+        rows.items) }
 {
     let _idle = conn.is_autocommit();
     let query = conn.prepare(sql)?;

@@ -68,7 +68,8 @@ pub(crate) fn day_in(value: ValueRef<'_>) -> Option<Day>
 }
 
 fn family_in(value: ValueRef<'_>) -> Option<Family>
-    ensures { Decodes (λ family. number_cell (family_number family)) (λ _. ⊤) (owned value.entry) result }
+    ensures { Decodes (λ family. number_cell (family_number family)) (λ _. ⊤)
+        (owned value.entry) result }
 {
     match value {
         ValueRef::Int(4) => Some(Family::V4),
@@ -111,7 +112,8 @@ pub(crate) fn prefix_in(
     first: ValueRef<'_>,
     length: ValueRef<'_>,
 ) -> Option<Prefix>
-    ensures { Decodes prefix_cells (λ _. ⊤) (owned family.entry ∷ owned first.entry ∷ owned length.entry ∷ []) result }
+    ensures { Decodes prefix_cells (λ _. ⊤)
+        (owned family.entry ∷ owned first.entry ∷ owned length.entry ∷ []) result }
 {
     let family = family_in(family)?;
     let first = number_of_address_in(first)?;
@@ -124,7 +126,8 @@ pub(crate) fn scope_in(
     first: ValueRef<'_>,
     length: ValueRef<'_>,
 ) -> Option<Scope>
-    ensures { Decodes scope_cells (λ _. ⊤) (owned family.entry ∷ owned first.entry ∷ owned length.entry ∷ []) result }
+    ensures { Decodes scope_cells (λ _. ⊤)
+        (owned family.entry ∷ owned first.entry ∷ owned length.entry ∷ []) result }
 {
     match (family, first, length) {
         (ValueRef::Null, ValueRef::Null, ValueRef::Null) => Some(Scope::All),
@@ -133,7 +136,8 @@ pub(crate) fn scope_in(
 }
 
 pub(crate) fn span_in(family: ValueRef<'_>, lo: ValueRef<'_>, hi: ValueRef<'_>) -> Option<Span>
-    ensures { Decodes span_cells (λ _. ⊤) (owned family.entry ∷ owned lo.entry ∷ owned hi.entry ∷ []) result }
+    ensures { Decodes span_cells (λ _. ⊤)
+        (owned family.entry ∷ owned lo.entry ∷ owned hi.entry ∷ []) result }
 {
     let family = family_in(family)?;
     let lo = number_of_address_in(lo)?;

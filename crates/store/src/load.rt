@@ -40,7 +40,8 @@ fn load_values<T: OfHolder, S: Alter>(
     ensures rising { IsOnCleanDisk S.Store conn.new → IfOk result (λ values.
         IsSorted T.order (map T.cells values.items)) }
     ensures schema { IsOnCleanDisk S.Store conn.new → result ≡ Err StoreFault.Schema
-        → WasRead (λ all. ¬ All T.fits (items_if_any T.items (all holder.now))) (state S.Store conn.old) }
+        → WasRead (λ all. ¬ All T.fits (items_if_any T.items (all holder.now)))
+        (state S.Store conn.old) }
 {
     let rows = ask(conn, T::select(), &name_values(holder))?;
     read_all(alloc, &rows)

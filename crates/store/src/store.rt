@@ -136,7 +136,7 @@ impl<S: Alter> Store<S> {
     ghost use Rattle.std.specs.Prelude.{ℕ, List, Option, Contains};
     ghost use Rattle.addr.specs.declared.vrp.Vrp.{Vrp};
     ghost use Rattle.policy.specs.Rows.{Rows};
-    ghost use Rattle.store.specs.Loads.{AreLoaded, FitIfAny, IsTaken, IsGivenOn, AllGiveOn};
+    ghost use Rattle.store.specs.Loads.{OfHeldRows, AreLoaded, FitIfAny, IsTaken, IsGivenOn, AllGiveOn};
     ghost use Rattle.store.specs.StoreRows.{state_of, IsDeskWhileOpen, Holds, IsRead, IfClean, HoldsAfter, MayLeave, LeavesOnly};
 
     /// The operators and the pool.
@@ -153,8 +153,10 @@ impl<S: Alter> Store<S> {
         holder: &Name,
     ) -> Result<Option<HolderRows>, StoreFault>
         ensures read { IsRead S.Store self.old self.new }
-        ensures found { HasCleanDisk (state_of S.Store self.new) → IfOk result (λ loaded. (rows : List ℕ → Option Rows) → Holds S.Store self.old rows → AreLoaded (rows holder.now) loaded) }
-        ensures schema { HasCleanDisk (state_of S.Store self.new) → result ≡ Err StoreFault.Schema → (rows : List ℕ → Option Rows) → Holds S.Store self.old rows → ¬ FitIfAny (rows holder.now) }
+        ensures found { IfClean S.Store self.new (IfOk result (λ loaded.
+            OfHeldRows S.Store self.old (λ rows. AreLoaded (rows holder.now) loaded))) }
+        ensures schema { IfClean S.Store self.new (result ≡ Err StoreFault.Schema
+            → OfHeldRows S.Store self.old (λ rows. ¬ FitIfAny (rows holder.now))) }
     {
         load_rows(&mut self.conn, alloc, holder)
     }
@@ -167,8 +169,11 @@ impl<S: Alter> Store<S> {
         second: &Name,
     ) -> Result<(Option<HolderRows>, Option<HolderRows>), StoreFault>
         ensures read { IsRead S.Store self.old self.new }
-        ensures found { HasCleanDisk (state_of S.Store self.new) → IfOk result (λ both. (rows : List ℕ → Option Rows) → Holds S.Store self.old rows → AreLoaded (rows first.now) both.0 × AreLoaded (rows second.now) both.1) }
-        ensures schema { HasCleanDisk (state_of S.Store self.new) → result ≡ Err StoreFault.Schema → (rows : List ℕ → Option Rows) → Holds S.Store self.old rows → ¬ (FitIfAny (rows first.now) × FitIfAny (rows second.now)) }
+        ensures found { IfClean S.Store self.new (IfOk result (λ both.
+            OfHeldRows S.Store self.old (λ rows.
+            AreLoaded (rows first.now) both.0 × AreLoaded (rows second.now) both.1))) }
+        ensures schema { IfClean S.Store self.new (result ≡ Err StoreFault.Schema
+            → OfHeldRows S.Store self.old (λ rows. ¬ (FitIfAny (rows first.now) × FitIfAny (rows second.now)))) }
     {
         let one = self.load_holder(alloc, first)?;
         let other = self.load_holder(alloc, second)?;
@@ -178,7 +183,8 @@ impl<S: Alter> Store<S> {
     /// Whether some holder holds an address of the prefix.
     pub fn overlapping(&mut self, prefix: &Prefix) -> Result<bool, StoreFault>
         ensures read { IsRead S.Store self.old self.new }
-        ensures found { HasCleanDisk (state_of S.Store self.new) → IfOk result (λ some. (rows : List ℕ → Option Rows) → Holds S.Store self.old rows → IsTrue some ↔ IsTaken rows prefix.now) }
+        ensures found { IfClean S.Store self.new (IfOk result (λ some.
+            OfHeldRows S.Store self.old (λ rows. IsTrue some ↔ IsTaken rows prefix.now))) }
         ensures no_schema { result ≢ Err StoreFault.Schema }
     {
         Ok(some_overlap(&mut self.conn, prefix)?)
@@ -187,8 +193,11 @@ impl<S: Alter> Store<S> {
     /// The VRPs of the authorizations of all holders that are in force on the day, in no order.
     pub fn all_auths_on(&mut self, alloc: Global, day: Day) -> Result<Vec<Vrp>, StoreFault>
         ensures read { IsRead S.Store self.old self.new }
-        ensures found { HasCleanDisk (state_of S.Store self.new) → IfOk result (λ vrps. (rows : List ℕ → Option Rows) → Holds S.Store self.old rows → (v : Vrp) → Contains vrps.items v ↔ IsGivenOn rows day v) }
-        ensures schema { HasCleanDisk (state_of S.Store self.new) → result ≡ Err StoreFault.Schema → (rows : List ℕ → Option Rows) → Holds S.Store self.old rows → ¬ AllGiveOn rows day }
+        ensures found { IfClean S.Store self.new (IfOk result (λ vrps.
+            OfHeldRows S.Store self.old (λ rows.
+            (v : Vrp) → Contains vrps.items v ↔ IsGivenOn rows day v))) }
+        ensures schema { IfClean S.Store self.new (result ≡ Err StoreFault.Schema
+            → OfHeldRows S.Store self.old (λ rows. ¬ AllGiveOn rows day)) }
     {
         load_vrps(&mut self.conn, alloc, day)
     }

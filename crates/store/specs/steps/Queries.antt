@@ -39,18 +39,22 @@ pub record IsReadyToAsk {S : Type 0} (g : Ghosts S) (conn : Held S) : Type 0 whe
   pub idle : conn.in_transaction ≡ false
   pub schema : IsOnCleanDisk g conn → IsTrue (state g conn).is_open → conn.schema ≡ desk_schema
 
--- What a query leaves: all as it was, where the connection stays open, and after an answer the savepoints and the
--- counts too. A crash leaves nothing else than before.
-pub record IsAsked {S X E : Type 0} (g : Ghosts S) (old new : Held S) (result : Result X E) : Type 0 where
+-- What a query leaves: all as it was, where the connection stays open, and after an answer the
+-- savepoints and the counts too. A crash leaves nothing else than before.
+pub record IsAsked {S X E : Type 0} (g : Ghosts S) (old new : Held S) (result : Result X E) : Type 0
+  where
   pub idle : new.in_transaction ≡ false
   pub same : IsOnCleanDisk g new → OnOk result (IsUnchanged (state g old) (state g new))
-  pub kept : IsOnCleanDisk g new → IsTrue (state g new).is_open → IsAsBefore (state g old) (state g new)
+  pub kept :
+      IsOnCleanDisk g new → IsTrue (state g new).is_open → IsAsBefore (state g old) (state g new)
   pub survives : Survives (state g old) (state g new) (λ _. ⊥)
 
--- it is so of the rows of every holder, and of those of one, whatever charter and rows the tables hold
+-- it is so of the rows of every holder, and of those of one, whatever charter and rows the tables
+-- hold
 abbrev pub IsOfAll : ((List ℕ → Option Rows) → Type 0) → State → Type 0
 IsOfAll so s =
-    (charter : CharterSets) (rows : List ℕ → Option Rows) → TablesHold charter rows s.now.trees → so rows
+    (charter : CharterSets) (rows : List ℕ → Option Rows)
+    → TablesHold charter rows s.now.trees → so rows
 
 abbrev pub IsOf : (Option Rows → Type 0) → List ℕ → State → Type 0
 IsOf so h s = IsOfAll (λ rows. so (rows h)) s
@@ -71,9 +75,10 @@ by_column at = on (λ r. column r at) value_cmp
 abbrev pub AreSelected : List ℕ → List ℕ → Database → List Row → Type 0
 AreSelected sql h db rows = Reads (command_of (understood desk_schema sql)) db (Text h ∷ []) rows
 
--- The text selects these values of a holder: its answer has the row of each, and no other, and rises by this
--- order. No two values have one row. It reads the tables alone.
-pub record Selects {X : Type 0} (cells : X → Row) (items : Rows → List X) (cmp : Row → Row → Ordering) (sql : List ℕ)
+-- The text selects these values of a holder: its answer has the row of each, and no other, and rises
+-- by this order. No two values have one row. It reads the tables alone.
+pub record Selects
+    {X : Type 0} (cells : X → Row) (items : Rows → List X) (cmp : Row → Row → Ordering) (sql : List ℕ)
     : Type 0 where
   pub plain : IsPlain (understood desk_schema sql)
   pub unlisted : reads_listing desk_schema sql ≡ false
@@ -81,7 +86,8 @@ pub record Selects {X : Type 0} (cells : X → Row) (items : Rows → List X) (c
       (h : List ℕ) (db : Database) (rows : List Row) → AreSelected sql h db rows
       → (charter : CharterSets) (all : List ℕ → Option Rows) → TablesHold charter all db.trees
       → IsPermutation (map cells (items_if_any items (all h))) rows
-  pub rising : (h : List ℕ) (db : Database) (rows : List Row) → AreSelected sql h db rows → IsSorted cmp rows
+  pub rising :
+      (h : List ℕ) (db : Database) (rows : List Row) → AreSelected sql h db rows → IsSorted cmp rows
   pub once : (x y : X) → cells x ≡ cells y → x ≡ y
 
 -- ---- queries of the rows of every holder
@@ -89,7 +95,8 @@ pub record Selects {X : Type 0} (cells : X → Row) (items : Rows → List X) (c
 -- an address of the prefix is in a run of some holder
 abbrev pub MeetsSome : (List ℕ → Option Rows) → Prefix → Type 0
 MeetsSome rows p =
-    (h : List ℕ) × (r : Rows) × (rows h ≡ Some r) × (list_any (λ s. span_meets s p) r.holdings ≡ true)
+    (h : List ℕ) × (r : Rows)
+    × (rows h ≡ Some r) × (list_any (λ s. span_meets s p) r.holdings ≡ true)
 
 -- the origin and the prefix of an authorization, with the greatest length
 abbrev pub payload_cells : Auth → Row
