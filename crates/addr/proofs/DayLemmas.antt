@@ -7,7 +7,7 @@ use Rattle.jiff_core.proofs.SignedLemmas.{signed_arith}
 use Rattle.jiff_core.proofs.StandardFacts.{known_days}
 use Rattle.jiff_core.proofs.DateLemmas.{epoch_day_range}
 use Rattle.jiff.specs.Words.{epoch_day, IsYmd}
-use Rattle.addr.specs.Day.{from_1970}
+use Rattle.addr.specs.Day.{IsDay, from_1970}
 
 pub epoch_is_zero : (d : Date) → IsYmd (pos 1970) (pos 1) (pos 1) d → epoch_day d ≡ pos 0
 epoch_is_zero d h =
@@ -50,7 +50,7 @@ number_by_hours (pos n) hours h e fits k =
 number_by_hours (negsuc n) hours h e fits k = absurd (subst (FitsUnsignedBits 64) e fits)
 
 -- no number is past that of 9999-12-31
-pub number_within : (d : Date) (k : ℕ) → from_1970 (epoch_day d) ≡ Some k → k ≤ 2_932_896
+pub number_within : (d : Date) (k : ℕ) → from_1970 (epoch_day d) ≡ Some k → IsDay k
 number_within d k e = within (epoch_day d) k (epoch_day_range d).1 e
   where
     within : (day : ℤ) (k : ℕ) → day ≤ℤ pos 2_932_896 → from_1970 day ≡ Some k → k ≤ 2_932_896

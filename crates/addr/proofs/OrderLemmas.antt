@@ -1,18 +1,24 @@
--- The order of families, prefixes and VRPs is total, what ties in it is one, and the derived `Ord` is it.
-use Rattle.std.proofs.Common.{◌≡◌, true, refl, ap, Ordering}
+-- The order of families, prefixes and VRPs is total, what ties in it is one, and the derived comparisons are it.
+use Rattle.std.proofs.Common.{◌≡◌, Bool, true, ◌&&◌, ◌==◌, refl, ap, sym, subst, ◌∙◌, Ordering}
+use Rattle.std.proofs.lemmas.Bool.{and_parts, and_from, eqb-true, eq-eqb}
 use Rattle.std.specs.declared.cmp.Ordering.TheVariants.{Less, Equal, Greater}
 use Rattle.std.specs.Ordering.{nat_cmp, ordering_then, ordering_reverse, is_lt}
 use Rattle.std.specs.Cmp.{IsTotalOrder, nat_cmp_total, on_total, then_total}
 use Rattle.std.specs.FinMap.{IsAntisymmetric, nat_cmp-IsAntisymmetric}
-use Rattle.addr.specs.Address.{same_prefix}
-use Rattle.addr.specs.Order.{family_cmp, prefix_cmp, vrp_cmp, same_vrp}
+use Rattle.addr.specs.Address.{prefix_eq, same_prefix}
+use Rattle.addr.specs.Family.{family_eq}
+use Rattle.addr.specs.Order.{family_cmp, prefix_cmp, vrp_cmp, same_vrp, IsOrder, TestsEquality}
 use Rattle.addr.specs.declared.family.Family.{Family}
 use Rattle.addr.specs.declared.family.Family.TheVariants.{V4, V6}
 use Rattle.addr.specs.declared.prefix.Prefix.{Prefix}
 use Rattle.addr.specs.declared.vrp.Vrp.{Vrp}
 use Rattle.addr.specs.contracts.family.FamilyOrd.TheImpl as FamilyOrd
+use Rattle.addr.specs.contracts.family.FamilyPartialEq.TheImpl as FamilyPartialEq
 use Rattle.addr.specs.contracts.prefix.PrefixOrd.TheImpl as PrefixOrd
+use Rattle.addr.specs.contracts.prefix.PrefixPartialEq.TheImpl as PrefixPartialEq
 use Rattle.addr.specs.contracts.vrp.VrpOrd.TheImpl as VrpOrd
+use Rattle.addr.specs.contracts.vrp.VrpPartialEq.TheImpl as VrpPartialEq
+use Rattle.addr.proofs.Equality.{equal_prefix, prefix_itself}
 
 -- ---- the order is total
 
@@ -41,10 +47,10 @@ family_total = record {
   congr V6 V4 h p = cc
   congr V6 V6 h p = refl
 
-pub prefix_total : IsTotalOrder prefix_cmp
+prefix_total : IsTotalOrder prefix_cmp
 prefix_total = then_total (on_total (λ p. p.family) family_total) (then_total (on_total (λ p. p.first) nat_cmp_total) (on_total (λ p. p.length) nat_cmp_total))
 
-pub vrp_total : IsTotalOrder vrp_cmp
+vrp_total : IsTotalOrder vrp_cmp
 vrp_total = then_total (on_total (λ v. v.prefix) prefix_total) (then_total (on_total (λ v. v.max) nat_cmp_total) (on_total (λ v. v.asn.0) nat_cmp_total))
 
 pub less_is : (o : Ordering) → is_lt o ≡ true → o ≡ Less
@@ -65,17 +71,23 @@ exact_family V4 V6 e = cc
 exact_family V6 V4 e = cc
 exact_family V6 V6 e = refl
 
-pub exact_prefix : IsAntisymmetric prefix_cmp
+exact_prefix : IsAntisymmetric prefix_cmp
 exact_prefix p q e =
     let family = both_equal _ _ e in
     let first = both_equal _ _ family.1 in
     same_prefix p q (exact_family _ _ family.0) (nat_cmp-IsAntisymmetric _ _ first.0) (nat_cmp-IsAntisymmetric _ _ first.1)
 
-pub exact_vrp : IsAntisymmetric vrp_cmp
+exact_vrp : IsAntisymmetric vrp_cmp
 exact_vrp v w e =
     let prefix = both_equal _ _ e in
     let max = both_equal _ _ prefix.1 in
     same_vrp v w (exact_prefix _ _ prefix.0) (nat_cmp-IsAntisymmetric _ _ max.0) (ap (λ n. record { 0 = n }) (nat_cmp-IsAntisymmetric _ _ max.1))
+
+pub prefix_order : IsOrder prefix_cmp
+prefix_order = record { total = prefix_total; exact = exact_prefix }
+
+pub vrp_order : IsOrder vrp_cmp
+vrp_order = record { total = vrp_total; exact = exact_vrp }
 
 -- ---- the derived `cmp` is the order
 
@@ -98,3 +110,32 @@ derived_vrp_cmp = VrpOrd.ghosts.cmp
 
 pub derived_vrp_order : derived_vrp_cmp ≡ vrp_cmp
 derived_vrp_order = λ i v w. derived_vrp v w i
+
+-- ---- the derived `==` tests equality
+
+derived_family_eq : (f g : Family) → FamilyPartialEq.ghosts.eq f g ≡ family_eq f g
+derived_family_eq V4 V4 = refl
+derived_family_eq V4 V6 = refl
+derived_family_eq V6 V4 = refl
+derived_family_eq V6 V6 = refl
+
+pub derived_prefix_eq : (p q : Prefix) → PrefixPartialEq.ghosts.eq p q ≡ prefix_eq p q
+derived_prefix_eq p q = ap (λ (b : Bool). b && ((p.first == q.first) && (p.length == q.length))) (derived_family_eq p.family q.family)
+
+pub prefix_equality : TestsEquality prefix_eq
+prefix_equality p q = (equal_prefix p q, λ same. subst (λ (r : Prefix). prefix_eq p r ≡ true) same (prefix_itself p))
+
+vrp_itself : (v : Vrp) → VrpPartialEq.ghosts.eq v v ≡ true
+vrp_itself v =
+    and_from _ _ (derived_prefix_eq v.prefix v.prefix ∙ prefix_itself v.prefix)
+    (and_from _ _ (eq-eqb v.max v.max refl) (eq-eqb v.asn.0 v.asn.0 refl))
+
+pub vrp_equality : TestsEquality VrpPartialEq.ghosts.eq
+vrp_equality v w = (same, λ is. subst (λ (u : Vrp). VrpPartialEq.ghosts.eq v u ≡ true) is (vrp_itself v))
+  where
+    same : VrpPartialEq.ghosts.eq v w ≡ true → v ≡ w
+    same passes =
+        let parts = and_parts (PrefixPartialEq.ghosts.eq v.prefix w.prefix) ((v.max == w.max) && (v.asn.0 == w.asn.0)) passes in
+        let numbers = and_parts (v.max == w.max) (v.asn.0 == w.asn.0) parts.1 in
+        same_vrp v w (equal_prefix v.prefix w.prefix (sym (derived_prefix_eq v.prefix w.prefix) ∙ parts.0))
+        (eqb-true v.max w.max numbers.0) (ap (λ n. record { 0 = n }) (eqb-true v.asn.0 w.asn.0 numbers.1))

@@ -7,7 +7,7 @@ use Rattle.std.proofs.lemmas.List.Folds.{list_all-append}
 use Rattle.addr.specs.Family.{family_eq}
 use Rattle.addr.specs.Address.{Address, is_between, last_of, has_address}
 use Rattle.addr.specs.Spans.{span_has, spans_have, family_lt, is_apart_below, AreMaximal, span_covers, span_meets, HaveAll, HaveSome}
-use Rattle.addr.specs.Parts.{IsWithin}
+use Rattle.addr.specs.steps.Parts.{IsWithin}
 use Rattle.addr.proofs.AddressLemmas.{between_within, between_at, overlap_by_shared, shared_by_overlap, overlap_ends, first-last}
 use Rattle.addr.specs.declared.family.Family.{Family}
 use Rattle.addr.specs.declared.family.Family.TheVariants.{V4, V6}

@@ -13,7 +13,7 @@ use Rattle.addr.specs.Address.{Address, is_between}
 use Rattle.addr.specs.declared.family.Family.{Family}
 use Rattle.addr.specs.declared.family.Family.TheVariants.{V4, V6}
 use Rattle.addr.specs.Spans.{span_has, spans_have, is_apart_below, AreMaximal}
-use Rattle.addr.specs.Parts.{IsWithin, AreParts, part_has, is_after}
+use Rattle.addr.specs.steps.Parts.{IsWithin, AreParts, part_has, is_after}
 use Rattle.addr.proofs.SpanLemmas.{is_gap, all_below, all_above, AllApart, maximal_append, all_above_trans, apart_trans, apart_to_part, apart_from_part}
 use Rattle.addr.specs.declared.span.Span.{Span}
 

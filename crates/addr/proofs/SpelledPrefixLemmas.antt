@@ -6,8 +6,7 @@ use Rattle.std.proofs.lemmas.Option.{none-some, same_Some}
 use Rattle.std.specs.Prelude.{IfErr}
 use Rattle.std.specs.Result.{MatchResult, result_ok}
 use Rattle.addr.specs.Family.{width}
-use Rattle.addr.specs.PrefixText.{prefix_text_fault, Spells}
-use Rattle.addr.specs.SpelledPrefix.{prefix_if, spelled_prefix}
+use Rattle.addr.specs.PrefixText.{prefix_if, prefix_text_fault, spelled_prefix, Spells}
 use Rattle.addr.specs.declared.prefix.Prefix.{Prefix}
 use Rattle.addr.specs.declared.text.PrefixFault.{PrefixFault}
 use Rattle.addr.proofs.PrefixSpellingLemmas.{loose-Spells, prefix_text_law}

@@ -56,6 +56,10 @@ abbrev pub prefix_eq : Prefix → Prefix → Bool
 prefix_eq p q = family_eq p.family q.family && ((p.first == q.first) && (p.length == q.length))
 
 -- the maxLength is neither below the prefix's length nor over its family's width (RFC 6811 section 2)
+abbrev pub FitsMaxLength : Prefix → ℕ → Type 0
+FitsMaxLength p max = (p.length ≤ max) × (max ≤ width p.family)
+
+-- whether it is so
 abbrev pub fits_max_length : Prefix → ℕ → Bool
 fits_max_length p max = nat_le p.length max && nat_le max (width p.family)
 

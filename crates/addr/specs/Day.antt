@@ -1,7 +1,12 @@
--- Days are counted from 1970-01-01, which is 0, to 9999-12-31, which is 2932896.
-use Rattle.std.specs.Prelude.{ℕ, zero, suc, ◌+◌, ◌-◌, ◌*◌, ◌/◌, ◌%◌, Bool, ◌&&◌, ◌==◌, if◌then◌else◌, nat_le, ℤ, pos, negsuc, ◌-ℤ◌, int_lt, unsigned_abs, List, [], ◌∷◌, ◌++◌, length, slice_index, Option, Some, None}
+-- Days are counted from 1970-01-01, which is 0, to 9999-12-31.
+use Rattle.std.specs.Prelude.{◌≤◌, ℕ, zero, suc, ◌+◌, ◌-◌, ◌*◌, ◌/◌, ◌%◌, Bool, ◌&&◌, ◌==◌, if◌then◌else◌, nat_le, ℤ, pos, negsuc, ◌-ℤ◌, int_lt, unsigned_abs, List, [], ◌∷◌, ◌++◌, length, slice_index, Option, Some, None}
 use Rattle.std.specs.Option.{option_and_then, option_map}
 use Rattle.jiff_core.specs.Calendar.{days_from_civil, days_in_month}
+use Rattle.addr.specs.declared.day.TheConstants.{LAST_DAY}
+
+-- the number is that of a day
+abbrev pub IsDay : ℕ → Type 0
+IsDay number = number ≤ LAST_DAY
 
 -- the calendar has this day of a year from 0 on
 abbrev pub is_calendar_day : ℕ → ℕ → ℕ → Bool

@@ -3,9 +3,8 @@ pub mod Address
 pub mod Order
 pub mod OriginValidation
 pub mod Spans
-pub mod Parts
 pub mod Name
 pub mod Day
 pub mod Digits
 pub mod PrefixText
-pub mod SpelledPrefix
+pub mod steps

@@ -1,10 +1,12 @@
 -- The order of families, prefixes and VRPs, the one in which things are sorted everywhere: by family,
 -- address, length, maxLength and AS.
-use Rattle.std.specs.Prelude.{◌≡◌, ◌≤◌}
+use Rattle.std.specs.Prelude.{◌≡◌, ◌≤◌, ◌↔◌, Bool, IsTrue}
 use Rattle.std.specs.declared.cmp.Ordering.{Ordering}
 use Rattle.std.specs.declared.cmp.Ordering.TheVariants.{Less, Equal, Greater}
 use Rattle.std.specs.Ordering.{nat_cmp, ordering_then}
+use Rattle.std.specs.Cmp.{IsTotalOrder}
 use Rattle.std.specs.Coded.{le_prop}
+use Rattle.std.specs.FinMap.{IsAntisymmetric}
 use mathlib.Core.HLevel.{is_prop→PathP}
 use Rattle.addr.specs.Family.{width}
 use Rattle.addr.specs.declared.family.Family.{Family}
@@ -28,6 +30,15 @@ abbrev pub vrp_cmp : Vrp → Vrp → Ordering
 vrp_cmp v w =
     ordering_then (prefix_cmp v.prefix w.prefix)
     (ordering_then (nat_cmp v.max w.max) (nat_cmp v.asn.0 w.asn.0))
+
+-- a total order, in which two tie only where they are equal
+pub record IsOrder {T : Type 0} (cmp : T → T → Ordering) : Type 0 where
+  pub total : IsTotalOrder cmp
+  pub exact : IsAntisymmetric cmp
+
+-- the test passes where the two are equal, and there only
+abbrev pub TestsEquality : {T : Type 0} → (T → T → Bool) → Type 0
+TestsEquality {T} eq = (x y : T) → IsTrue (eq x y) ↔ (x ≡ y)
 
 -- VRPs of one prefix, maxLength and AS are equal
 pub same_vrp : (v w : Vrp) → v.prefix ≡ w.prefix → v.max ≡ w.max → v.asn ≡ w.asn → v ≡ w

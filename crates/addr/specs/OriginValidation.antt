@@ -1,7 +1,7 @@
 -- Route origin validation (RFC 6811 section 2). A VRP covers a route where the route's prefix lies in
 -- the VRP's; it matches where it covers, the route's prefix is no longer than the VRP's maxLength, and
 -- the route's origin is an AS, is not AS 0, and is the VRP's.
-use Rattle.std.specs.Prelude.{◌≡◌, Bool, true, false, ◌&&◌, ◌==◌, not, nat_le, List, if◌then◌else◌}
+use Rattle.std.specs.Prelude.{◌≡◌, ℕ, Bool, true, false, ◌&&◌, ◌==◌, not, nat_le, List, codes, if◌then◌else◌}
 use Rattle.std.specs.List.{list_any}
 use Rattle.addr.specs.Address.{contains}
 use Rattle.addr.specs.declared.asn.Asn.{Asn}
@@ -14,6 +14,12 @@ pub data ValidationState : Type 0 where
   Valid : ValidationState
   Invalid : ValidationState
   NotFound : ValidationState
+
+-- the state's word
+abbrev pub state_text : ValidationState → List ℕ
+state_text Valid = codes "Valid"
+state_text Invalid = codes "Invalid"
+state_text NotFound = codes "NotFound"
 
 abbrev pub covers : Vrp → Route → Bool
 covers v r = contains v.prefix r.prefix

@@ -6,6 +6,7 @@ use Rattle.std.specs.Str.{bytes_eq}
 use Rattle.std.specs.Str.Parse.{digits_value}
 use Rattle.std.specs.Int.Digits.{number_from_digits}
 use Rattle.std.specs.Net.Text.{ipv4_text, hex_groups_text, longest_zero_run}
+use Rattle.std.proofs.Math.Decide.{dec_le, ℕ_discrete}
 use Rattle.addr.specs.Family.{width}
 use Rattle.addr.specs.declared.family.Family.{Family}
 use Rattle.addr.specs.declared.family.Family.TheVariants.{V4, V6}
@@ -167,15 +168,38 @@ unfoldable pub prefix_text_fault : List ℕ → Option PrefixFault
 prefix_text_fault text = fault_of text (loose text)
 
 -- the number of a fault, from 1 in the order in which they are looked for
-abbrev pub fault_number : PrefixFault → ℕ
-fault_number Shape = 1
-fault_number Spelling = 2
-fault_number Length = 3
-fault_number HostBits = 4
+abbrev pub prefix_fault_number : PrefixFault → ℕ
+prefix_fault_number Shape = 1
+prefix_fault_number Spelling = 2
+prefix_fault_number Length = 3
+prefix_fault_number HostBits = 4
 
 -- the text is the one spelling of the prefix
 abbrev pub Spells : Prefix → List ℕ → Type 0
 Spells prefix text = text ≡ spelling prefix.family prefix.first prefix.length
+
+-- ---- the prefix that a text spells
+
+abbrev pub prefix_if : (family : Family) (first len : ℕ) → Dec (len ≤ width family)
+    → Dec (first % 2 ^ (width family - len) ≡ 0) → Dec (first + 2 ^ (width family - len) ≤ 2 ^ width family) → Option Prefix
+prefix_if family first len (yes fits) (yes aligned) (yes inside) =
+    Some (record { family = family; first = first; length = len; length_fits = fits; aligned = aligned; in_family = inside })
+prefix_if family first len _ _ _ = None
+
+-- the prefix of these parts, if there is one
+abbrev pub prefix_with : PrefixParts → Option Prefix
+prefix_with parts =
+    prefix_if parts.family parts.address parts.length (dec_le parts.length (width parts.family))
+    (ℕ_discrete (parts.address % 2 ^ (width parts.family - parts.length)) 0)
+    (dec_le (parts.address + 2 ^ (width parts.family - parts.length)) (2 ^ width parts.family))
+
+abbrev pub prefix_unless : Option PrefixFault → Option PrefixParts → Option Prefix
+prefix_unless (Some fault) parts = None
+prefix_unless None parts = option_and_then prefix_with parts
+
+-- the prefix of the parts that the text gives, where the text has no fault
+unfoldable pub spelled_prefix : List ℕ → Option Prefix
+spelled_prefix text = prefix_unless (prefix_text_fault text) (loose text)
 
 -- ---- the law of prefix texts
 

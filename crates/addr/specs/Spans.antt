@@ -1,6 +1,6 @@
 -- Address space as closed runs of addresses. A list of runs is seen as the set of its addresses; it is
 -- maximal where the runs rise and at least one address that is not in the set lies between any two.
-use Rattle.std.specs.Prelude.{◌≡◌, ◌+◌, Bool, true, ◌&&◌, ◌||◌, nat_lt, List, [], ◌∷◌}
+use Rattle.std.specs.Prelude.{◌≡◌, ◌+◌, Bool, true, ◌&&◌, ◌||◌, not, nat_lt, List, [], ◌∷◌}
 use Rattle.std.specs.List.{list_any, list_all}
 use Rattle.std.specs.Ordering.{is_lt}
 use Rattle.addr.specs.Family.{family_eq}
@@ -17,6 +17,14 @@ span_has s a = is_between s.family s.lo s.hi a
 -- the address lies in one of the runs
 abbrev pub spans_have : List Span → Address → Bool
 spans_have spans a = list_any (λ s. span_has s a) spans
+
+-- the new runs have the addresses of the old ones and those added
+abbrev pub AddsAddresses : List Span → List Span → (Address → Bool) → Type 0
+AddsAddresses old new added = (a : Address) → spans_have new a ≡ (spans_have old a || added a)
+
+-- the new runs have the addresses of the old ones but those taken
+abbrev pub TakesAddresses : List Span → List Span → (Address → Bool) → Type 0
+TakesAddresses old new taken = (a : Address) → spans_have new a ≡ (spans_have old a && not (taken a))
 
 -- the family comes before the other
 abbrev pub family_lt : Family → Family → Bool

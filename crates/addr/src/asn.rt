@@ -14,7 +14,9 @@ impl Asn {
     /// leading zeros. `None` for any other text.
     pub fn from_text(text: &[u8]) -> Option<Asn>
         ensures value { option_map (λ asn. asn.0) result ≡ asn_in text.now }
-        ensures exact { MatchOption result ((n : ℕ) → n < 2 ^ 32 → ¬ (text.now ≡ asn_text n)) (λ asn. text.now ≡ asn_text asn.0) }
+        ensures exact { MatchOption result
+            ((n : ℕ) → n < 2 ^ 32 → ¬ (text.now ≡ asn_text n))
+            (λ asn. text.now ≡ asn_text asn.0) }
     {
         let [b'A', b'S', digits @ ..] = text else {
             return None;

@@ -1,7 +1,8 @@
 ghost use Rattle.std.specs.Prelude.{◌≡◌, ◌+◌, ◌≤◌, ◌++◌, IfSome, nat_le, if◌then◌else◌, pos, Some, None};
 ghost use Rattle.arrayvec.specs.ArrayString.{array_string_len};
 ghost use Rattle.jiff.specs.Words.{epoch_day};
-ghost use Rattle.addr.specs.Day.{day_in, day_text, date_text, in_two_digits, day_number, digit, two_digits, four_digits, from_1970};
+ghost use Rattle.addr.specs.Day.{IsDay, day_in, day_text, date_text, in_two_digits, day_number, digit, two_digits, four_digits, from_1970};
+ghost use Rattle.addr.specs.declared.day.TheConstants.{LAST_DAY};
 
 use crate::ascii::push_ascii;
 use arrayvec::ArrayString;
@@ -10,7 +11,7 @@ use jiff::{ToSpan, civil};
 use std::marker::Model;
 
 /// The number of 9999-12-31.
-const LAST: u32 = 2_932_896;
+pub(crate) const LAST_DAY: u32 = 2_932_896;
 
 /// A day from 1970-01-01 to 9999-12-31, seen as the number of days since 1970-01-01.
 #[derive(Clone, Copy, Debug, PartialEq, Eq, PartialOrd, Ord)]
@@ -19,13 +20,14 @@ pub struct Day {
 }
 
 impl Model for Day {
-    ghost use Rattle.std.specs.Prelude.{ℕ, ◌≤◌};
+    ghost use Rattle.std.specs.Prelude.{ℕ};
+    ghost use Rattle.addr.specs.Day.{IsDay};
 
     ghost Value = { ℕ };
 
     ghost view = { λ day. day.number };
 
-    ghost invariant = { λ day. day.number ≤ 2_932_896 };
+    ghost invariant = { λ day. IsDay day.number };
 
     ghost inverse = { λ number. record { number = number } };
 }
@@ -48,19 +50,19 @@ impl Day {
 
     /// The day that is `number` days after 1970-01-01, or `None` past 9999-12-31.
     pub fn from_number(number: u32) -> Option<Day>
-        ensures { result ≡ (if nat_le number 2_932_896 then Some number else None) }
+        ensures { result ≡ (if nat_le number LAST_DAY then Some number else None) }
     {
-        if number <= LAST {
+        if number <= LAST_DAY {
             Some(Day { number })
         } else {
             None
         }
     }
 
-    /// How many days after 1970-01-01 it is, at most 2932896.
+    /// How many days after 1970-01-01 it is.
     pub fn number(&self) -> u32
         ensures value { result ≡ self.now }
-        ensures is_day { self.now ≤ 2_932_896 }
+        ensures is_day { IsDay self.now }
     {
         self.number
     }

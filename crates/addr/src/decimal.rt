@@ -25,7 +25,9 @@ pub fn digits(number: u64) -> ArrayString<20>
 /// other text.
 pub fn number_from_text(text: &[u8]) -> Option<u64>
     ensures value { result ≡ number_in text.now }
-    ensures exact { MatchOption result ((n : ℕ) → n < 2 ^ 64 → ¬ (text.now ≡ decimal n)) (λ n. text.now ≡ decimal n) }
+    ensures exact { MatchOption result
+        ((n : ℕ) → n < 2 ^ 64 → ¬ (text.now ≡ decimal n))
+        (λ n. text.now ≡ decimal n) }
 {
     let Some(number) = parse(text) else {
         return None;

@@ -1,9 +1,9 @@
-ghost use Rattle.std.specs.Prelude.{◌≡◌, ◌+◌, ◌<◌, ◌↔◌, ◌&&◌, ◌||◌, not, List, [], ◌++◌, IsTrue, OnOk, OnErr, IfOk};
+ghost use Rattle.std.specs.Prelude.{◌≡◌, ◌↔◌, List, [], ◌++◌, IsTrue, OnOk, OnErr, IfOk};
 ghost use Rattle.std.specs.List.{list_any, list_all};
 ghost use Rattle.std.specs.Option.{option_to_list};
-ghost use Rattle.addr.specs.Address.{Address, has_address};
-ghost use Rattle.addr.specs.Spans.{span_has, spans_have, span_covers, span_meets, is_apart_below, AreMaximal, HaveAll, HaveSome};
-ghost use Rattle.addr.specs.Parts.{AreParts};
+ghost use Rattle.addr.specs.Address.{has_address};
+ghost use Rattle.addr.specs.Spans.{span_has, span_covers, span_meets, is_apart_below, AddsAddresses, TakesAddresses, AreMaximal, HaveAll, HaveSome};
+ghost use Rattle.addr.specs.steps.Parts.{AppendsParts};
 ghost use Rattle.addr.specs.declared.span.Span.{Span};
 
 use crate::{Prefix, Span};
@@ -70,7 +70,7 @@ impl Holdings {
 
     /// Puts every address of the prefix into the set. On an error the set stays as it was.
     pub fn add(&mut self, prefix: &Prefix) -> Result<(), AllocError>
-        ensures ok { OnOk result ((a : Address) → spans_have self.new a ≡ (spans_have self.old a || has_address prefix.now a)) }
+        ensures ok { OnOk result (AddsAddresses self.old self.new (has_address prefix.now)) }
         ensures err { OnErr result (self.new ≡ self.old) }
     {
         self.add_span(&prefix.span())
@@ -80,7 +80,7 @@ impl Holdings {
     ///
     /// A run that lies after all others is put in one step, so that rising runs cost one step each.
     pub fn add_span(&mut self, span: &Span) -> Result<(), AllocError>
-        ensures ok { OnOk result ((a : Address) → spans_have self.new a ≡ (spans_have self.old a || span_has span.now a)) }
+        ensures ok { OnOk result (AddsAddresses self.old self.new (span_has span.now)) }
         ensures err { OnErr result (self.new ≡ self.old) }
     {
         if is_apart_above(&self.spans, span) {
@@ -93,7 +93,7 @@ impl Holdings {
 
     /// Takes every address of the prefix out of the set. On an error the set stays as it was.
     pub fn take(&mut self, prefix: &Prefix) -> Result<(), AllocError>
-        ensures ok { OnOk result ((a : Address) → spans_have self.new a ≡ (spans_have self.old a && not (has_address prefix.now a))) }
+        ensures ok { OnOk result (TakesAddresses self.old self.new (has_address prefix.now)) }
         ensures err { OnErr result (self.new ≡ self.old) }
     {
         self.spans = without_span(*self.spans.allocator(), &self.spans, prefix.span())?;
@@ -128,7 +128,7 @@ fn is_apart_above(spans: &[Span], span: &Span) -> bool
 fn with_span(alloc: Global, spans: &[Span], added: Span) -> Result<Vec<Span>, AllocError>
     requires { AreMaximal spans.now }
     ensures maximal { IfOk result (λ v. AreMaximal v.items) }
-    ensures same { IfOk result (λ v. (a : Address) → spans_have v.items a ≡ (spans_have spans.now a || span_has added a)) }
+    ensures same { IfOk result (λ v. AddsAddresses spans.now v.items (span_has added)) }
 {
     let mut kept = Vec::with_capacity(alloc, spans.len() + 1)?;
     // The run that may still grow: those kept end before it, those to come do not start before it.
@@ -151,7 +151,7 @@ fn with_span(alloc: Global, spans: &[Span], added: Span) -> Result<Vec<Span>, Al
 fn without_span(alloc: Global, spans: &[Span], gone: Span) -> Result<Vec<Span>, AllocError>
     requires { AreMaximal spans.now }
     ensures maximal { IfOk result (λ v. AreMaximal v.items) }
-    ensures same { IfOk result (λ v. (a : Address) → spans_have v.items a ≡ (spans_have spans.now a && not (span_has gone a))) }
+    ensures same { IfOk result (λ v. TakesAddresses spans.now v.items (span_has gone)) }
 {
     let mut kept = Vec::with_capacity(alloc, spans.len() + 1)?;
     for span in spans {
@@ -162,7 +162,7 @@ fn without_span(alloc: Global, spans: &[Span], gone: Span) -> Result<Vec<Span>, 
 
 /// Appends the parts of `span` before and after `gone`.
 fn push_parts(kept: &mut Vec<Span>, span: &Span, gone: &Span) -> Result<(), AllocError>
-    ensures { OnOk result ((parts : List Span) × (kept.new.items ≡ kept.old.items ++ parts) × AreParts span.now gone.now parts) }
+    ensures { OnOk result (AppendsParts span.now gone.now kept.old.items kept.new.items) }
 {
     push_part(kept, span.before(gone))?;
     push_part(kept, span.after(gone))?;

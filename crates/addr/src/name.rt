@@ -28,7 +28,10 @@ impl Model for Name {
 
     ghost view = { λ n. take n.len n.bytes };
 
-    ghost invariant = { λ n. (n.bytes ≡ take n.len n.bytes ++ replicate (32 - n.len) 0) × (length (take n.len n.bytes) ≡ n.len) × IsTrue (is_name (take n.len n.bytes)) };
+    ghost invariant = { λ n.
+        (n.bytes ≡ take n.len n.bytes ++ replicate (32 - n.len) 0)
+        × (length (take n.len n.bytes) ≡ n.len)
+        × IsTrue (is_name (take n.len n.bytes)) };
 
     ghost inverse = { λ t. record { bytes = t ++ replicate (32 - length t) 0; len = length t } };
 

@@ -19,13 +19,14 @@ pub struct Prefix {
 }
 
 impl Prefix {
-    ghost use Rattle.addr.specs.Address.{last_of, contains, overlaps, fits_max_length, prefix_eq, bit_of, IsPrefix, Contains, Overlaps};
+    ghost use Rattle.addr.specs.Address.{last_of, contains, overlaps, fits_max_length, prefix_eq, bit_of, FitsMaxLength, IsPrefix, Contains, Overlaps};
 
     /// None where the length is over the family's width, the address is over the family's last, or
     /// a bit past the length is set.
     pub fn from_parts(family: Family, first: u128, length: u8) -> Option<Prefix>
         ensures some { IsSome result ↔ IsPrefix family first length }
-        ensures parts { IfSome result (λ p. (p.family ≡ family) × (p.first ≡ first) × (p.length ≡ length)) }
+        ensures parts { IfSome result
+            (λ p. (p.family ≡ family) × (p.first ≡ first) × (p.length ≡ length)) }
     {
         if length > family.width() || first > family.last_address() {
             return None;
@@ -53,7 +54,9 @@ impl Prefix {
 
     /// The prefix as a run of addresses.
     pub fn span(&self) -> Span
-        ensures { (result.family ≡ self.now.family) × (result.lo ≡ self.now.first) × (result.hi ≡ last_of self.now) }
+        ensures family { result.family ≡ self.now.family }
+        ensures first { result.lo ≡ self.now.first }
+        ensures last { result.hi ≡ last_of self.now }
     {
         Span {
             family: self.family,
@@ -91,7 +94,7 @@ impl Prefix {
     /// the family's width.
     pub fn fits_max_length(&self, max: u8) -> bool
         ensures value { result ≡ fits_max_length self.now max }
-        ensures range { IsTrue result ↔ ((self.now.length ≤ max) × (max ≤ width self.now.family)) }
+        ensures range { IsTrue result ↔ FitsMaxLength self.now max }
     {
         self.length <= max && max <= self.family.width()
     }

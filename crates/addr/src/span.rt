@@ -20,7 +20,7 @@ impl Span {
     ghost use Rattle.addr.specs.Family.{family_eq};
     ghost use Rattle.addr.specs.Address.{Address};
     ghost use Rattle.addr.specs.Spans.{span_has, span_covers, span_meets, is_apart_below};
-    ghost use Rattle.addr.specs.Parts.{IsWithin, part_has, is_after};
+    ghost use Rattle.addr.specs.steps.Parts.{part_has, is_after, EndsBefore, StartsAfter};
 
     /// None where the run ends before it starts, or after the family's last address.
     pub fn from_parts(family: Family, lo: u128, hi: u128) -> Option<Span>
@@ -63,8 +63,10 @@ impl Span {
     pub(crate) fn joined(&self, other: &Span) -> Span
         requires below { is_apart_below self.now other.now ≡ false }
         requires above { is_apart_below other.now self.now ≡ false }
-        ensures has { (a : Address) → span_has result a ≡ (span_has self.now a || span_has other.now a) }
-        ensures first { (s : Span) → is_apart_below s self.now ≡ true → is_apart_below s other.now ≡ true → is_apart_below s result ≡ true }
+        ensures has { (a : Address)
+            → span_has result a ≡ (span_has self.now a || span_has other.now a) }
+        ensures first { (s : Span) → is_apart_below s self.now ≡ true
+            → is_apart_below s other.now ≡ true → is_apart_below s result ≡ true }
     {
         Span {
             family: self.family,
@@ -75,8 +77,10 @@ impl Span {
 
     /// The part of the run that lies before the other.
     pub(crate) fn before(&self, other: &Span) -> Option<Span>
-        ensures some { IfSome result (λ part. IsWithin part self.now × (family_eq self.now.family other.now.family ≡ true → part.hi < other.now.lo)) }
-        ensures has { (a : Address) → part_has result a ≡ (span_has self.now a && (not (span_has other.now a) && not (is_after a other.now))) }
+        ensures some { IfSome result (EndsBefore self.now other.now) }
+        ensures has { (a : Address)
+            → part_has result a
+            ≡ (span_has self.now a && (not (span_has other.now a) && not (is_after a other.now))) }
     {
         if !self.family.is(other.family) {
             return Some(*self);
@@ -94,8 +98,9 @@ impl Span {
 
     /// The part of the run that lies after the other.
     pub(crate) fn after(&self, other: &Span) -> Option<Span>
-        ensures some { IfSome result (λ part. IsWithin part self.now × (family_eq self.now.family other.now.family ≡ true) × (other.now.hi < part.lo)) }
-        ensures has { (a : Address) → part_has result a ≡ (span_has self.now a && is_after a other.now) }
+        ensures some { IfSome result (StartsAfter self.now other.now) }
+        ensures has { (a : Address)
+            → part_has result a ≡ (span_has self.now a && is_after a other.now) }
     {
         if self.family.is(other.family) && other.hi < self.hi {
             Some(Span {

@@ -1,8 +1,7 @@
 //! The texts of prefixes, as `192.0.2.0/24` and `2001:db8::/32`.
 ghost use Rattle.std.specs.Prelude.{◌≡◌, ◌↔◌, Some, Ok, IfErr};
 ghost use Rattle.std.specs.Result.{result_ok};
-ghost use Rattle.addr.specs.SpelledPrefix.{spelled_prefix};
-ghost use Rattle.addr.specs.PrefixText.{fault_number, prefix_text_fault, Spells};
+ghost use Rattle.addr.specs.PrefixText.{prefix_fault_number, prefix_text_fault, spelled_prefix, Spells};
 ghost use Rattle.addr.specs.declared.prefix.Prefix.{Prefix};
 
 use crate::{Family, Prefix};
@@ -35,7 +34,7 @@ pub enum PrefixFault {
 impl PrefixFault {
     /// The number of the fault, from 1 in the order above.
     pub fn number(self) -> u8
-        ensures { result ≡ fault_number self }
+        ensures { result ≡ prefix_fault_number self }
     {
         match self {
             PrefixFault::Shape => 1,

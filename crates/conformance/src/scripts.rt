@@ -69,7 +69,8 @@ pub(crate) fn desk_of(alloc: Global, pool: &[&str]) -> Result<Desk, Fail> {
     for text in pool {
         prefixes.push(Prefix::read(text.as_bytes())?)?;
     }
-    Ok(Desk::open_memory(alloc, Charter::make(operators, prefixes)?)?)
+    let charter = Charter::make(operators, prefixes)?;
+    Ok(Desk::open_memory(alloc, &charter)?)
 }
 
 pub(crate) fn example_desk(alloc: Global) -> Result<Desk, Fail> {

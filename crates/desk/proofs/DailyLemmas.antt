@@ -1,17 +1,18 @@
 -- The VRPs of a day: those that the rows of a legal history give are those of the history.
-use Rattle.std.proofs.Common.{◌≡◌, ℕ, zero, suc, ◌<◌, nat_le, Bool, true, ◌&&◌, ◌↔◌, ◌⊎◌, inl, inr, List, [], ◌∷◌, Option, Some, None, refl, sym, ap, ◌∙◌, subst, length, get_or, Contains, arith}
+use Rattle.std.proofs.Common.{◌≡◌, ℕ, zero, suc, ◌<◌, ◌≤◌, nat_le, Bool, true, ◌&&◌, ◌↔◌, ◌⊎◌, inl, inr, List, [], ◌∷◌, Option, Some, None, refl, sym, ap, ◌∙◌, subst, length, get_or, Contains, arith}
 use Rattle.std.specs.List.{list_any}
 use Rattle.std.proofs.lemmas.Bool.{and_parts, and_from, or_cases, or_left, or_right, false≢true, leb-true, le-leb}
 use Rattle.addr.specs.declared.vrp.Vrp.{Vrp}
 use Rattle.policy.specs.DailyVrps.{IsVrpOn, IsVrpInForce}
 use Rattle.policy.specs.History.{History}
 use Rattle.policy.specs.Rows.{Rows}
-use Rattle.policy.specs.Terms.{gives_vrp, HeldSinceMade, authorization_terms, Keeps}
+use Rattle.policy.specs.Terms.{gives_vrp, IsVrpOf, HeldSinceMade, authorization_terms, Keeps}
 use Rattle.policy.specs.Verdict.{IsLegal}
 use Rattle.policy.specs.declared.authorization.Auth.{Auth}
 use Rattle.policy.specs.declared.charter.Charter.{Charter}
 use Rattle.policy.proofs.Unregistered.{has_nothing}
-use Rattle.desk.specs.DeskRows.{HasRows, gives_on, IsGivenOn}
+use Rattle.policy.specs.RowsOfAll.{HasRows, IsGivenOn}
+use Rattle.desk.specs.steps.InForce.{gives_on}
 use Rattle.desk.proofs.DeskLemmas.{rows_present, rows_absent}
 
 pub at_head : {X : Type 0} (x : X) (xs : List X) → Contains (x ∷ xs) x
@@ -79,15 +80,29 @@ kept_is P (z ∷ zs) (y ∷ ys) x keeps there holds =
       ]
     ]
 
-given_in_force : (charter : Charter) (rows : List ℕ → Option Rows) (history : History) → HasRows rows history → (day : ℕ) (v : Vrp) → IsGivenOn rows day v → IsVrpInForce history day v
-given_in_force charter rows history has day v given =
-    let of = rows_present rows history has given.0 given.1 given.2 in
-    let found = among_any (gives_on day v) given.1.auths given.3 in
+-- an authorization of a list is in force on the day and gives the VRP
+abbrev pub SomeGives : ℕ → Vrp → List Auth → Type 0
+SomeGives day v xs = (x : Auth) × Contains xs x × (x.from ≤ day) × (day ≤ x.until) × IsVrpOf x v
+
+-- the test of a list says so
+pub test_some : (day : ℕ) (v : Vrp) (xs : List Auth) → list_any (gives_on day v) xs ≡ true → SomeGives day v xs
+test_some day v xs any =
+    let found = among_any (gives_on day v) xs any in
     let x = found.0 in
-    let was = kept_was (HeldSinceMade history given.0) (authorization_terms history given.0) given.1.auths x of.1.auths found.1 in
     let test = and_parts (nat_le x.from day && nat_le day x.until) (gives_vrp x v.asn v.prefix v.max) found.2 in
     let dates = and_parts (nat_le x.from day) (nat_le day x.until) test.0 in
-    (given.0, x, (was, leb-true x.from day dates.0, leb-true day x.until dates.1), test.1)
+    (x, found.1, leb-true x.from day dates.0, leb-true day x.until dates.1, test.1)
+
+pub some_test : (day : ℕ) (v : Vrp) (xs : List Auth) → SomeGives day v xs → list_any (gives_on day v) xs ≡ true
+some_test day v xs some =
+    let x = some.0 in
+    any_among (gives_on day v) xs x some.1 (and_from _ _ (and_from _ _ (le-leb x.from day some.2) (le-leb day x.until some.3)) some.4)
+
+given_in_force : (charter : Charter) (rows : List ℕ → Option Rows) (history : History) → HasRows rows history → (day : ℕ) (v : Vrp) → IsGivenOn rows day v → IsVrpInForce history day v
+given_in_force charter rows history has day v given =
+    let of = rows_present rows history has given.0 given.1 given.3 in
+    let was = kept_was (HeldSinceMade history given.0) (authorization_terms history given.0) given.1.auths given.2 of.1.auths given.4 in
+    (given.0, given.2, (was, given.5, given.6), given.7)
 
 in_force_given : (charter : Charter) (rows : List ℕ → Option Rows) (history : History) → IsLegal charter history → HasRows rows history → (day : ℕ) (v : Vrp) → IsVrpInForce history day v → IsGivenOn rows day v
 in_force_given charter rows history legal has day v is = go (rows is.0) refl
@@ -101,7 +116,7 @@ in_force_given charter rows history legal has day v is = go (rows is.0) refl
         let of = rows_present rows history has is.0 r some in
         let active = is.2.0 in
         let kept = kept_is (HeldSinceMade history is.0) (authorization_terms history is.0) r.auths is.1 of.1.auths active.0 active.1 in
-        (is.0, r, some, any_among (gives_on day v) r.auths is.1 kept (and_from _ _ (and_from _ _ (le-leb is.1.from day is.2.1) (le-leb day is.1.until is.2.2)) is.3))
+        (is.0, r, is.1, some, kept, is.2.1, is.2.2, is.3)
 
 -- the VRPs that the rows give are the VRPs of the day
 pub given_on : (charter : Charter) (rows : List ℕ → Option Rows) (history : History) → IsLegal charter history → HasRows rows history → (day : ℕ) (v : Vrp) → IsGivenOn rows day v ↔ IsVrpOn history day v

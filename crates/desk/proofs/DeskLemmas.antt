@@ -13,11 +13,12 @@ use Rattle.desk.specs.declared.asked.Request.TheVariants.{Command as CommandRequ
 use Rattle.desk.specs.declared.reply.Reply.TheVariants.{Done}
 use Rattle.policy.specs.declared.command.Command.{Command}
 use Rattle.policy.specs.declared.rows.HolderRows.{HolderRows}
+use Rattle.policy.specs.Values.{EntryFits}
 use Rattle.policy.specs.Verdict.{IsLegal}
 use Rattle.policy.specs.declared.charter.Charter.{Charter}
 use Rattle.policy.proofs.Names.{held_by_itself}
 use Rattle.policy.proofs.Unregistered.{has_nothing}
-use Rattle.desk.specs.DeskRows.{IsTaken, HasRows}
+use Rattle.policy.specs.RowsOfAll.{IsTaken, HasRows}
 
 -- the rows of a registered holder
 pub rows_present : (rows : List ℕ → Option Rows) (history : History) → HasRows rows history → (h : List ℕ) (r : Rows) → rows h ≡ Some r → (is_registered history h ≡ true) × RowsOf history h r
@@ -68,10 +69,12 @@ loaded_rows history name command known rows found lent is same loaded has =
     subst P (sym is) (lent_rows history (name known) rows found lent same loaded has)
 
 -- a command that was accepted, whose change was applied
-pub done_answered : (charter : Charter) (history : History) (day : ℕ) (caller : List ℕ) (command : Command) (change : Change) (number : Option ℕ) (old new : List ℕ → Option Rows) → IsLegal charter history → HasRows old history → IsAnswer charter history day caller command (Ok change) → number ≡ number_made change.first.edit → ((h : List ℕ) → new h ≡ changed change h (old h)) → IsAnswered charter history day caller (CommandRequest command) (Done number) new
-done_answered charter history day caller command change number old new legal has answer made applied = record {
+pub done_answered : (charter : Charter) (history : History) (day : ℕ) (caller : List ℕ) (command : Command) (change : Change) (number : Option ℕ) (old new : List ℕ → Option Rows)
+    → EntryFits (record { day = day; caller = caller; command = command }) → IsLegal charter history → HasRows old history → IsAnswer charter history day caller command (Ok change) → number ≡ number_made change.first.edit → ((h : List ℕ) → new h ≡ changed change h (old h)) → IsAnswered charter history day caller (CommandRequest command) (Done number) new
+done_answered charter history day caller command change number old new values legal has answer made applied = record {
   after = record { day = day; caller = caller; command = command } ∷ history;
   legal = (answer.0, legal);
+  values = λ fit. (values, fit);
   answers = (answer.0, made ∙ answer.1, refl);
   rows_after = λ h. subst (RowsIfAny (record { day = day; caller = caller; command = command } ∷ history) h) (sym (applied h)) (answer.2 h (old h) (has h));
 }

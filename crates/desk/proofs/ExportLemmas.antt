@@ -12,7 +12,7 @@ use Rattle.addr.specs.declared.vrp.Vrp.{Vrp}
 use Rattle.payload.specs.ValidityState.{state_of}
 use Rattle.addr.specs.Order.{same_vrp}
 use Rattle.addr.proofs.Equality.{equal_prefix, prefix_itself}
-use Rattle.addr.proofs.OrderLemmas.{vrp_total}
+use Rattle.addr.proofs.OrderLemmas.{vrp_order}
 use Rattle.payload.specs.VrpSet as set
 use Rattle.payload.specs.declared.validity.Validity.{Validity}
 use Rattle.payload.proofs.Sets.{is_vrp, same_vrp-equal, contains-from_list, contains-items}
@@ -22,7 +22,8 @@ use Rattle.desk.specs.Answer.{AreStatesOn}
 use Rattle.policy.specs.Rows.{Rows}
 use Rattle.policy.specs.Verdict.{IsLegal}
 use Rattle.policy.specs.declared.charter.Charter.{Charter}
-use Rattle.desk.specs.DeskRows.{vrp_eq, has_vrp, HasRows, IsGivenOn}
+use Rattle.desk.specs.steps.InForce.{vrp_eq, has_vrp}
+use Rattle.policy.specs.RowsOfAll.{HasRows, IsGivenOn}
 use Rattle.desk.proofs.DailyLemmas.{given_on, any_among, among_any}
 
 -- VRPs of one AS, prefix and maxLength are one
@@ -38,7 +39,7 @@ vrp_eq-itself v =
     and_from _ _ (eq-eqb v.asn.0 v.asn.0 refl) (and_from _ _ (prefix_itself v.prefix) (eq-eqb v.max v.max refl))
 
 is_vrp-itself : (v : Vrp) → is_vrp v v ≡ true
-is_vrp-itself v = ap is_eq (tied_itself vrp_total v)
+is_vrp-itself v = ap is_eq (tied_itself vrp_order.total v)
 
 vrp_eq-is : (w v : Vrp) → vrp_eq w v ≡ is_vrp v w
 vrp_eq-is w v =

@@ -20,7 +20,10 @@ use Rattle.policy.specs.declared.change.Edit.{Edit}
 use Rattle.policy.proofs.Names.{same_name-true}
 use Rattle.policy.specs.declared.rows.HolderRows.{HolderRows}
 use Rattle.addr.specs.declared.vrp.Vrp.{Vrp}
-use Rattle.desk.specs.DeskRows.{rows_at, IsTaken, gives_on, rows_give_on, IsGivenOn}
+use Rattle.desk.specs.DeskRows.{rows_at}
+use Rattle.policy.specs.RowsOfAll.{IsTaken, IsGivenOn}
+use Rattle.desk.specs.steps.InForce.{rows_give_on}
+use Rattle.desk.proofs.DailyLemmas.{SomeGives, test_some, some_test}
 use Rattle.desk.specs.declared.records.Records.{Records}
 
 abbrev pub Holders : Type 0
@@ -65,7 +68,11 @@ taken_iff records p ordered =
 -- some value gives a VRP exactly where some registered holder does
 pub given_iff : (records : Records) (day : ℕ) (v : Vrp) → IsOrdered (slice_cmp nat_cmp) records.holders → IsTrue (list_any (rows_give_on day v) (values records.holders)) ↔ IsGivenOn (rows_at records) day v
 given_iff records day v ordered =
-    any_iff records (rows_give_on day v) (λ r. list_any (gives_on day v) r.auths ≡ true) ordered (λ r gives. gives) (λ r gives. gives)
+    let some = any_iff records (rows_give_on day v) (λ r. SomeGives day v r.auths) ordered
+    (λ r. test_some day v r.auths.items) (λ r. some_test day v r.auths.items) in (
+      λ any. let found = some.0 any in (found.0, found.1, found.3.0, found.2, found.3.1, found.3.2, found.3.3, found.3.4),
+      λ given. some.1 (given.0, given.1, given.3, (given.2, given.4, given.5, given.6, given.7)),
+    )
 
 -- the rows at a name after those of one holder were put or taken away
 pub rows_written : (m n : Holders) (holder : List ℕ) (w : Option HolderRows) → ((h : List ℕ) → get (slice_cmp nat_cmp) n h ≡ cond (is_at (slice_cmp nat_cmp holder) h) w (get (slice_cmp nat_cmp) m h)) → (h : List ℕ) → rows_if_any (get (slice_cmp nat_cmp) n h) ≡ (if same_name holder h then rows_if_any w else rows_if_any (get (slice_cmp nat_cmp) m h))

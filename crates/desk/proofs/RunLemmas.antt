@@ -6,7 +6,7 @@ use Rattle.policy.specs.Rows.{Rows}
 use Rattle.policy.specs.Verdict.{IsLegal}
 use Rattle.policy.specs.declared.charter.Charter.{Charter}
 use Rattle.desk.specs.Answer.{Answers, IsAnswered}
-use Rattle.desk.specs.DeskRows.{HasRows}
+use Rattle.policy.specs.RowsOfAll.{HasRows}
 use Rattle.desk.specs.Run.{Runs, AreAnswered}
 use Rattle.desk.specs.declared.asked.Asked.{Asked}
 use Rattle.desk.specs.declared.reply.Reply.{Reply}
@@ -34,6 +34,7 @@ answered_next charter history asked index a replies reply old new below here so_
     record {
       after = is.after;
       legal = is.legal;
+      values = λ fit. is.values (so_far.values fit);
       runs = rw grown (Runs-append charter history so_far.after is.after (take index asked) replies a reply so_far.runs is.answers);
       rows_after = is.rows_after;
     }

@@ -9,7 +9,7 @@ use Rattle.addr.specs.declared.vrp.Vrp.{Vrp}
 use Rattle.addr.proofs.Equality.{equal_prefix}
 use Rattle.policy.specs.Terms.{gives_vrp, IsVrpOf}
 use Rattle.policy.specs.declared.authorization.Auth.{Auth}
-use Rattle.desk.specs.DeskRows.{vrp_eq, has_vrp, gives_on}
+use Rattle.desk.specs.steps.InForce.{vrp_eq, has_vrp, gives_on}
 
 -- equal prefixes are equal to the same prefixes
 prefix_eq-same : (p q r : Prefix) → prefix_eq p q ≡ true → prefix_eq q r ≡ prefix_eq p r

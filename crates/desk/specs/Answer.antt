@@ -13,6 +13,7 @@ use Rattle.payload.specs.declared.validity.Validity.{Validity}
 use Rattle.policy.specs.Answer.{number_given, IsShown, IsListed}
 use Rattle.policy.specs.DailyVrps.{IsVrpOn}
 use Rattle.policy.specs.History.{History}
+use Rattle.policy.specs.Values.{HistoryFits}
 use Rattle.policy.specs.Verdict.{Verdict, ShowVerdict, ListVerdict, IsLegal}
 use Rattle.policy.specs.Rows.{Rows}
 use Rattle.policy.specs.declared.authorization.Auth.{Auth}
@@ -21,7 +22,7 @@ use Rattle.policy.specs.declared.command.Command.{Command}
 use Rattle.policy.specs.declared.command.Query.{Query}
 use Rattle.policy.specs.declared.command.Query.TheVariants.{Show as ShowQuery, Content as ContentQuery, List as ListQuery, Payloads as PayloadsQuery, Validity as ValidityQuery}
 use Rattle.desk.specs.ContentText.{IsContentText}
-use Rattle.desk.specs.DeskRows.{HasRows}
+use Rattle.policy.specs.RowsOfAll.{HasRows}
 use Rattle.desk.specs.declared.asked.Request.{Request}
 use Rattle.desk.specs.declared.asked.Request.TheVariants.{Command as CommandRequest, Query as QueryRequest}
 use Rattle.desk.specs.declared.reply.Reply.{Reply}
@@ -102,9 +103,11 @@ Answers charter before day caller (CommandRequest command) reply after =
 Answers charter before day caller (QueryRequest query) reply after =
     AnswersQuery before day caller query reply × (after ≡ before)
 
--- a request was answered: the rows are those of the history that the answer leaves, which is legal
+-- a request was answered: the rows are those of the history that the answer leaves, which is legal and,
+-- where it was so before, of values of their types
 pub record IsAnswered (charter : Charter) (before : History) (day : ℕ) (caller : List ℕ) (request : Request) (reply : Reply) (rows : List ℕ → Option Rows) : Type 0 where
   pub after : History
   pub legal : IsLegal charter after
+  pub values : HistoryFits before → HistoryFits after
   pub answers : Answers charter before day caller request reply after
   pub rows_after : HasRows rows after

@@ -1,3 +1,4 @@
+pub mod steps
 pub mod DeskRows
 pub mod Answer
 pub mod Run

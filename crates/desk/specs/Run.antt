@@ -2,10 +2,11 @@
 use Rattle.std.specs.Prelude.{◌≡◌, ℕ, List, [], ◌∷◌, Option}
 use Rattle.policy.specs.History.{History}
 use Rattle.policy.specs.Rows.{Rows}
+use Rattle.policy.specs.Values.{HistoryFits}
 use Rattle.policy.specs.Verdict.{IsLegal}
 use Rattle.policy.specs.declared.charter.Charter.{Charter}
 use Rattle.desk.specs.Answer.{Answers}
-use Rattle.desk.specs.DeskRows.{HasRows}
+use Rattle.policy.specs.RowsOfAll.{HasRows}
 use Rattle.desk.specs.declared.asked.Asked.{Asked}
 use Rattle.desk.specs.declared.reply.Reply.{Reply}
 
@@ -18,9 +19,11 @@ Runs charter before (asked ∷ more) [] after = ⊥
 Runs charter before (asked ∷ more) (reply ∷ replies) after =
     (next : History) × Answers charter before asked.day asked.caller asked.request reply next × Runs charter next more replies after
 
--- requests were answered: the rows are those of the history that the run leaves, which is legal
+-- requests were answered: the rows are those of the history that the run leaves, which is legal and,
+-- where it was so before, of values of their types
 pub record AreAnswered (charter : Charter) (before : History) (asked : List Asked) (replies : List Reply) (rows : List ℕ → Option Rows) : Type 0 where
   pub after : History
   pub legal : IsLegal charter after
+  pub values : HistoryFits before → HistoryFits after
   pub runs : Runs charter before asked replies after
   pub rows_after : HasRows rows after

@@ -4,7 +4,7 @@ ghost use Rattle.policy.specs.Answer.{IsViewOf, IsAnswer, TellsTaken};
 ghost use Rattle.policy.specs.History.{History};
 ghost use Rattle.policy.specs.Verdict.{IsLegal};
 ghost use Rattle.desk.specs.Answer.{is_done, AnswersQuery, AnswersShow, AnswersContent, AnswersList, AnswersPayloads, AnswersValidity, IsAnswered};
-ghost use Rattle.desk.specs.DeskRows.{HasRows, IsGivenOn};
+ghost use Rattle.policy.specs.RowsOfAll.{HasRows, IsGivenOn};
 ghost use Rattle.desk.specs.Run.{AreAnswered};
 ghost use Rattle.payload.specs.VrpSet as set;
 ghost use Rattle.desk.specs.Desk.{charter_of, desk_rows, IsKept};
@@ -27,14 +27,14 @@ pub struct Desk {
 }
 
 impl Desk {
-    /// A desk on which nothing was accepted yet.
-    pub fn open_memory(alloc: Global, charter: Charter) -> Result<Desk, AllocError>
-        ensures charter { IfOk result (λ desk. charter_of desk ≡ charter) }
+    /// A desk of this charter on which nothing was accepted yet.
+    pub fn open_memory(alloc: Global, charter: &Charter) -> Result<Desk, AllocError>
+        ensures charter { IfOk result (λ desk. charter_of desk ≡ charter.now) }
         ensures empty { IfOk result (λ desk. (h : List ℕ) → desk_rows desk h ≡ None) }
     {
         Ok(Desk {
             alloc,
-            charter,
+            charter: charter.clone()?,
             records: Records::new(alloc),
         })
     }
@@ -80,6 +80,7 @@ impl Desk {
         ensures charter { charter_of self.new ≡ charter_of self.old }
         ensures kept { is_done result ≡ false → IsKept self.old self.new }
     {
+        policy::tell_values(day, caller, command);
         let change = match self.decide(day, caller, command) {
             Ok(change) => change,
             Err(Refusal::Denied(rule, row)) => return Reply::Denied(rule, row),

@@ -6,7 +6,9 @@ ghost use Rattle.std.specs.Ordering.{nat_cmp};
 ghost use Rattle.addr.specs.Spans.{span_meets};
 ghost use Rattle.policy.specs.Rows.{rows_if_any, changed, changed_by_one, new_rows};
 ghost use Rattle.policy.specs.History.{same_name};
-ghost use Rattle.desk.specs.DeskRows.{rows_at, IsTaken, has_vrp, gives_on, rows_give_on, IsGivenOn};
+ghost use Rattle.desk.specs.DeskRows.{rows_at};
+ghost use Rattle.policy.specs.RowsOfAll.{IsTaken, IsGivenOn};
+ghost use Rattle.desk.specs.steps.InForce.{has_vrp, gives_on, rows_give_on};
 ghost use Rattle.addr.specs.declared.vrp.Vrp.{Vrp};
 
 use addr::{Day, Name, Prefix, Vrp};

@@ -13,9 +13,9 @@ use Rattle.addr.specs.declared.vrp.Vrp.{Vrp}
 use Rattle.addr.specs.Address.{contains}
 use Rattle.payload.proofs.Prefixes.{contains-between, contains-at_most}
 use Rattle.payload.specs.Rising.{AreRising}
-use Rattle.payload.specs.Search.{is_at_most, IsFrontUpTo, HasAllEnclosing}
+use Rattle.payload.specs.steps.Search.{is_at_most, IsFrontUpTo, HasAllEnclosing}
 use Rattle.addr.specs.Order.{vrp_cmp}
-use Rattle.addr.proofs.OrderLemmas.{prefix_total}
+use Rattle.addr.proofs.OrderLemmas.{prefix_order}
 
 pub rising-front : (xs ys : List Vrp) → AreRising (xs ++ ys) → AreRising xs
 rising-front xs ys rising i j d less within =
@@ -35,7 +35,7 @@ not_greater Equal h = refl
 not_greater Greater h = cc
 
 pub at_most-trans : (p q r : Prefix) → is_at_most p q ≡ true → is_at_most q r ≡ true → is_at_most p r ≡ true
-at_most-trans p q r one two = not_greater _ (upto prefix_total p q r (not_after _ one) (not_after _ two))
+at_most-trans p q r one two = not_greater _ (upto prefix_order.total p q r (not_after _ one) (not_after _ two))
 
 first-less : (o r : Ordering) → ordering_then o r ≡ Less → is_le o ≡ true
 first-less Less r h = refl

@@ -10,7 +10,7 @@ use Rattle.addr.specs.declared.vrp.Vrp.{Vrp}
 use Rattle.addr.specs.Order.{vrp_cmp}
 use Rattle.std.specs.declared.cmp.Ordering.TheVariants.{Less}
 use Rattle.payload.specs.Rising.{AreRising}
-use Rattle.payload.specs.Search.{is_at_most, IsFrontUpTo, HasAllEnclosing, HasAllMatching}
+use Rattle.payload.specs.steps.Search.{is_at_most, IsFrontUpTo, HasAllEnclosing, HasAllMatching}
 use Rattle.payload.proofs.Fronts.{All-front, All-back, rising-before, rising-last, rising-front, enclosing-up_to}
 
 -- what is left to look at decides the state: of the VRPs already passed none matches the route, and some cover it or none

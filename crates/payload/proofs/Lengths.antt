@@ -6,13 +6,13 @@ use Rattle.std.proofs.lemmas.List.Elements.{All-append, All-cons, All-drop, All-
 use Rattle.std.proofs.lemmas.Bool.{cases_Bool}
 use Rattle.addr.specs.Address.{contains}
 use Rattle.addr.specs.declared.prefix.Prefix.{Prefix}
-use Rattle.payload.specs.Search.{is_at_most, HasAllEnclosing}
+use Rattle.payload.specs.steps.Search.{is_at_most, HasAllEnclosing}
 use Rattle.payload.proofs.Fronts.{All-front}
 use Rattle.payload.proofs.Prefixes.{contains-between, contains-ends}
 use Rattle.addr.specs.declared.family.Family.{Family}
 use Rattle.addr.specs.declared.vrp.Vrp.{Vrp}
 use Rattle.payload.specs.declared.shortest.Shortest.{Shortest}
-use Rattle.payload.specs.Shortest.{shortest_in, AreNoShorter}
+use Rattle.payload.specs.steps.Shortest.{shortest_in, AreNoShorter}
 
 weaker : (s t : Shortest) (vrps : List Vrp) → ((f : Family) → shortest_in t f ≤ shortest_in s f) → AreNoShorter s vrps → AreNoShorter t vrps
 weaker s t vrps less all =

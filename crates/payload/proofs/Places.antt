@@ -14,12 +14,12 @@ use Rattle.std.proofs.lemmas.List.Sorted.{searchable_from_sorted, IsPermutation-
 use Rattle.addr.specs.declared.vrp.Vrp.{Vrp}
 use Rattle.payload.specs.Rising.{AreRising}
 use Rattle.addr.specs.Order.{vrp_cmp}
-use Rattle.addr.proofs.OrderLemmas.{vrp_total, exact_vrp, derived_vrp_cmp, derived_vrp_order}
+use Rattle.addr.proofs.OrderLemmas.{vrp_order, derived_vrp_cmp, derived_vrp_order}
 use Rattle.payload.specs.VrpSet as set
 use Rattle.payload.proofs.Sets.{is_vrp, same_set, same_vrp-equal, contains-from_list, contains-remove, from_list-insert, items-from_list, same_from_list}
 
 turned : (v w : Vrp) (o : Ordering) → vrp_cmp v w ≡ o → vrp_cmp w v ≡ ordering_reverse o
-turned v w o h = vrp_total.antisymm w v ∙ ap ordering_reverse h
+turned v w o h = vrp_order.total.antisymm w v ∙ ap ordering_reverse h
 
 apart-less : (v w : Vrp) → vrp_cmp v w ≡ Less → is_vrp w v ≡ false
 apart-less v w h = ap is_eq (turned v w Less h)
@@ -32,16 +32,16 @@ sorted-from_rising vrps rising k d low high = ap is_lt (turned (get_or vrps k d)
 
 -- what a binary search asks
 pub rising-searchable : (vrps : List Vrp) (v : Vrp) → AreRising vrps → IsNonDecreasingBy (λ w. ordering_index (vrp_cmp w v)) vrps
-rising-searchable vrps v rising = searchable_from_sorted vrp_total (λ w. w) vrps v (sorted-from_rising vrps rising)
+rising-searchable vrps v rising = searchable_from_sorted vrp_order.total (λ w. w) vrps v (sorted-from_rising vrps rising)
 
 -- the place that a search found
 pub found-vrp : (vrps : List Vrp) (v : Vrp) (at : ℕ) → HoldsAt (λ w. vrp_cmp w v ≡ Equal) vrps at → v ≡ get_or vrps at v
-found-vrp vrps v at tied = sym (exact_vrp (get_or vrps at v) v (tied v))
+found-vrp vrps v at tied = sym (vrp_order.exact (get_or vrps at v) v (tied v))
 
 pub found-contains : (vrps : List Vrp) (v : Vrp) (at : ℕ) → at < length vrps → HoldsAt (λ w. vrp_cmp w v ≡ Equal) vrps at → set.contains (set.from_list vrps) v ≡ true
 found-contains vrps v at within tied =
     contains-from_list vrps v
-    ∙ list_any_at (is_vrp v) vrps at v within (ap (is_vrp v) (sym (found-vrp vrps v at tied)) ∙ ap is_eq (tied_itself vrp_total v))
+    ∙ list_any_at (is_vrp v) vrps at v within (ap (is_vrp v) (sym (found-vrp vrps v at tied)) ∙ ap is_eq (tied_itself vrp_order.total v))
 
 -- the VRPs before the place sort before v, and those from it on after v
 abbrev pub IsPlace : List Vrp → Vrp → ℕ → Type 0

@@ -12,7 +12,7 @@ use Rattle.addr.specs.declared.family.Family.TheVariants.{V4, V6}
 use Rattle.addr.specs.declared.prefix.Prefix.{Prefix}
 use Rattle.addr.proofs.AddressLemmas.{multiple-at_most, multiple-fits}
 use Rattle.addr.proofs.Equality.{same_family, equal_family}
-use Rattle.payload.specs.Search.{is_at_most}
+use Rattle.payload.specs.steps.Search.{is_at_most}
 use Rattle.addr.specs.Order.{family_cmp}
 
 -- of two multiples the greater is at least one step on

@@ -10,7 +10,7 @@ use Rattle.std.proofs.lemmas.List.Sorted.{IsPermutation-insert, list_any-IsPermu
 use Rattle.addr.specs.declared.vrp.Vrp.{Vrp}
 use Rattle.payload.specs.Rising.{AreRising}
 use Rattle.addr.specs.Order.{vrp_cmp}
-use Rattle.addr.proofs.OrderLemmas.{vrp_total, exact_vrp}
+use Rattle.addr.proofs.OrderLemmas.{vrp_order}
 use Rattle.payload.specs.VrpSet as set
 
 -- two VRPs are one
@@ -34,16 +34,16 @@ marks (Some u) = refl
 
 -- sets with the same VRPs are equal
 pub same_set : (s t : set.VrpSet) → ((v : Vrp) → set.contains s v ≡ set.contains t v) → s ≡ t
-same_set s t each = maps.same_map vrp_total exact_vrp s t (λ v. marks _ ∙ ap marked (each v) ∙ sym (marks _))
+same_set s t each = maps.same_map vrp_order.total vrp_order.exact s t (λ v. marks _ ∙ ap marked (each v) ∙ sym (marks _))
 
 pub contains-empty : (v : Vrp) → set.contains set.empty v ≡ false
 contains-empty v = ap is_some (maps.get-empty vrp_cmp v)
 
 pub contains-insert : (s : set.VrpSet) (v w : Vrp) → set.contains (set.insert s v) w ≡ (is_vrp w v || set.contains s w)
-contains-insert s v w = ap is_some (maps.get-insert vrp_total s v tt w) ∙ some-or (is_vrp w v) _
+contains-insert s v w = ap is_some (maps.get-insert vrp_order.total s v tt w) ∙ some-or (is_vrp w v) _
 
 pub contains-remove : (s : set.VrpSet) (v w : Vrp) → set.contains (set.remove s v) w ≡ (not (is_vrp w v) && set.contains s w)
-contains-remove s v w = ap is_some (maps.get-remove vrp_total s v w) ∙ none-and (is_vrp w v) _
+contains-remove s v w = ap is_some (maps.get-remove vrp_order.total s v w) ∙ none-and (is_vrp w v) _
 
 pub contains-from_list : (vrps : List Vrp) (v : Vrp) → set.contains (set.from_list vrps) v ≡ list_any (is_vrp v) vrps
 contains-from_list [] v = contains-empty v
@@ -65,7 +65,7 @@ from_list-insert vrps at v = same_set _ _ (λ w.
     ∙ sym (contains-insert (set.from_list vrps) v w))
 
 pub same_vrp-equal : (v w : Vrp) → is_vrp v w ≡ true → v ≡ w
-same_vrp-equal v w h = exact_vrp v w ((Equal-is (vrp_cmp v w)).0 h)
+same_vrp-equal v w h = vrp_order.exact v w ((Equal-is (vrp_cmp v w)).0 h)
 
 -- a VRP that is there is inserted to no effect
 pub insert-present : (s : set.VrpSet) (v : Vrp) → set.contains s v ≡ true → s ≡ set.insert s v
@@ -102,9 +102,9 @@ no-entries (e ∷ es) none = absurd (omega arith)
 
 entries-from_list : (vrps : List Vrp) → AreRising vrps → maps.entries (set.from_list vrps) ≡ map mark vrps
 entries-from_list [] rising = no-entries _ (sym (maps.len-entries _) ∙ maps.len-empty vrp_cmp (Unit {0}))
-entries-from_list (v ∷ []) rising = maps.entries-insert vrp_total (set.from_list []) v tt ∙ ap (put vrp_cmp v tt) (entries-from_list [] (λ i j d less within. absurd (omega arith)))
+entries-from_list (v ∷ []) rising = maps.entries-insert vrp_order.total (set.from_list []) v tt ∙ ap (put vrp_cmp v tt) (entries-from_list [] (λ i j d less within. absurd (omega arith)))
 entries-from_list (v ∷ w ∷ vrps) rising =
-    maps.entries-insert vrp_total (set.from_list (w ∷ vrps)) v tt
+    maps.entries-insert vrp_order.total (set.from_list (w ∷ vrps)) v tt
     ∙ ap (put vrp_cmp v tt) (entries-from_list (w ∷ vrps) (rising-tail v (w ∷ vrps) rising))
     ∙ put-first v w (map mark vrps) (rising 0 1 v (lit< tt) (omega arith))
 

@@ -10,12 +10,12 @@ use Rattle.std.proofs.Math.Bool.{and-false}
 use Rattle.std.proofs.lemmas.List.{take-append-drop, get_or-drop, length-drop}
 use Rattle.addr.specs.OriginValidation.{covers, matches, is_from}
 use Rattle.addr.specs.Order.{prefix_cmp, vrp_cmp}
-use Rattle.addr.proofs.OrderLemmas.{vrp_total, less_is}
+use Rattle.addr.proofs.OrderLemmas.{vrp_order, less_is}
 use Rattle.addr.specs.declared.asn.Asn.{Asn}
 use Rattle.addr.specs.declared.route.Route.{Route}
 use Rattle.addr.specs.declared.vrp.Vrp.{Vrp}
 use Rattle.payload.specs.Rising.{AreRising}
-use Rattle.payload.specs.Search.{is_below, HasAllMatching}
+use Rattle.payload.specs.steps.Search.{is_below, HasAllMatching}
 use Rattle.payload.proofs.Prefixes.{cmp-less, cmp-equal, cmp-greater}
 
 less-numbers : (a b l m : ℕ) → ordering_then (nat_cmp a b) (nat_cmp l m) ≡ Less → (a < b) ⊎ ((a ≡ b) × (l < m))
@@ -94,7 +94,7 @@ rising-below b vrps rising i j d le within last =
       | inl less ↦
           let v = get_or vrps i d in
           let w = get_or vrps j d in
-          ap is_lt (vrp_total.trans v w b (rising i j d less within) (less_is _ last))
+          ap is_lt (vrp_order.total.trans v w b (rising i j d less within) (less_is _ last))
       | inr most ↦ let same : j ≡ i = omega arith in rw (sym same) last
     ]
 

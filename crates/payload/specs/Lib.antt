@@ -1,6 +1,5 @@
 pub mod Rising
-pub mod Search
-pub mod Shortest
 pub mod ValidityState
+pub mod steps
 pub mod Visit
 pub mod VrpSet

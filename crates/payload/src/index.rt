@@ -36,10 +36,13 @@ pub trait PayloadIndex {
     /// Hands the VRPs to the sink, rising, each once, until it stops.
     fn visit<S: Sink>(&self, sink: &mut S) -> Result<(), Stop>
         ensures rising { AreRising (set.items (vrps self.now)) }
-        ensures all { OnOk result (S.has_stopped sink.old ≡ false → S.given sink.new ≡ S.given sink.old ++ set.items (vrps self.now)) }
-        ensures goes_on { OnOk result (S.has_stopped sink.old ≡ false → S.has_stopped sink.new ≡ false) }
+        ensures all { OnOk result (S.has_stopped sink.old ≡ false
+            → S.given sink.new ≡ S.given sink.old ++ set.items (vrps self.now)) }
+        ensures goes_on { OnOk result (S.has_stopped sink.old ≡ false
+            → S.has_stopped sink.new ≡ false) }
 
         // The sink's last `take` answered the `Stop`.
-        ensures beginning { OnErr result (S.has_stopped sink.old ≡ false → WasGivenBeginning (set.items (vrps self.now)) (S.given sink.old) (S.given sink.new)) }
+        ensures beginning { OnErr result (S.has_stopped sink.old ≡ false
+            → WasGivenBeginning (set.items (vrps self.now)) (S.given sink.old) (S.given sink.new)) }
         ensures stopped { OnErr result (S.has_stopped sink.new ≡ true) };
 }

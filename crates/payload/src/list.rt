@@ -20,7 +20,7 @@ pub struct ListIndex {
 impl Model for ListIndex {
     ghost use Rattle.payload.specs.VrpSet as set;
     ghost use Rattle.payload.specs.Rising.{AreRising};
-    ghost use Rattle.payload.specs.Shortest.{AreNoShorter};
+    ghost use Rattle.payload.specs.steps.Shortest.{AreNoShorter};
 
     ghost Value = { set.VrpSet };
 
@@ -57,7 +57,9 @@ impl From<Vec<Vrp>> for ListIndex {
 /// Sorts the items, and keeps one of those that compare alike.
 fn sort_and_dedup<T: Ord + Drop>(items: &mut Vec<T>)
     ensures rising { IsStrictlySortedBy T.cmp items.new.items }
-    ensures members { (x : T) → list_any (eq_by_cmp T.cmp x) items.new.items ≡ list_any (eq_by_cmp T.cmp x) items.old.items }
+    ensures members { (x : T)
+        → list_any (eq_by_cmp T.cmp x) items.new.items
+        ≡ list_any (eq_by_cmp T.cmp x) items.old.items }
 {
     items.sort_unstable();
     items.dedup();

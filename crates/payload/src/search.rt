@@ -8,8 +8,8 @@ ghost use Rattle.addr.specs.declared.prefix.Prefix.{Prefix};
 ghost use Rattle.addr.specs.declared.vrp.Vrp.{Vrp};
 ghost use Rattle.std.specs.declared.cmp.Ordering.TheVariants.{Less};
 ghost use Rattle.payload.specs.Rising.{AreRising};
-ghost use Rattle.payload.specs.Search.{is_at_most, is_below, IsFrontUpTo, HasAllEnclosing, HasAllMatching};
-ghost use Rattle.payload.specs.Shortest.{AreNoShorter};
+ghost use Rattle.payload.specs.steps.Search.{is_at_most, is_below, IsFrontUpTo, HasAllEnclosing, HasAllMatching};
+ghost use Rattle.payload.specs.steps.Shortest.{AreNoShorter};
 ghost use Rattle.payload.specs.ValidityState.{state_of};
 
 use crate::Validity;
@@ -49,7 +49,8 @@ pub(crate) fn validity(vrps: &[Vrp], shortest: Shortest, route: &Route) -> Valid
 
 /// Whether a VRP that covers the route matches it.
 fn is_authorized(vrp: &Vrp, route: &Route) -> bool
-    ensures { result ≡ (nat_le route.now.prefix.length vrp.now.max && is_from route.now.origin vrp.now.asn) }
+    ensures { result
+        ≡ (nat_le route.now.prefix.length vrp.now.max && is_from route.now.origin vrp.now.asn) }
 {
     match route.origin {
         Origin::As(asn) => route.prefix.length <= vrp.max && asn.0 != 0 && asn.0 == vrp.asn.0,
@@ -76,7 +77,8 @@ fn past_unlike<'a>(before: &'a [Vrp], vrp: &Vrp, route: &Route) -> &'a [Vrp]
 
 /// A VRP such that none from it on, and before the given one, matches the route.
 fn first_unlike(vrp: &Vrp, route: &Route) -> Vrp
-    ensures { (v : Vrp) → vrp_cmp v vrp.now ≡ Less → is_below v result ≡ false → matches v route.now ≡ false }
+    ensures { (v : Vrp) → vrp_cmp v vrp.now ≡ Less → is_below v result ≡ false
+        → matches v route.now ≡ false }
 {
     let max = if route.prefix.length <= vrp.max {
         vrp.max
@@ -162,8 +164,10 @@ fn enclosing_both<'a>(vrps: &'a [Vrp], shortest: Shortest, low: &Prefix, high: &
 fn common_bound(low: &Prefix, high: &Prefix) -> Prefix
     requires family { low.now.family ≡ high.now.family }
     requires order { low.now.first < high.now.first }
-    ensures order { (p : Prefix) → contains p low.now ≡ true → contains p high.now ≡ true → is_at_most p result ≡ true }
-    ensures length { (p : Prefix) → contains p low.now ≡ true → contains p high.now ≡ true → p.length ≤ result.length }
+    ensures order { (p : Prefix) → contains p low.now ≡ true → contains p high.now ≡ true
+        → is_at_most p result ≡ true }
+    ensures length { (p : Prefix) → contains p low.now ≡ true → contains p high.now ≡ true
+        → p.length ≤ result.length }
 {
     // A prefix that contains both has at least as many host bits as the distance of the two takes.
     let host_bits = (high.first - low.first).ilog2() as u8 + 1;

@@ -10,7 +10,7 @@ pub(crate) struct Shortest {
 impl Shortest {
     ghost use Rattle.std.specs.Prelude.{◌≡◌, ◌≤◌, []};
     ghost use Rattle.addr.specs.declared.family.Family.{Family};
-    ghost use Rattle.payload.specs.Shortest.{shortest_in, AreNoShorter};
+    ghost use Rattle.payload.specs.steps.Shortest.{shortest_in, AreNoShorter};
 
     /// Of no VRPs.
     pub(crate) fn new() -> Shortest

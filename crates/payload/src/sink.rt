@@ -17,6 +17,7 @@ pub trait Sink {
 
     /// Nothing is said of a sink that is given more once it has stopped.
     fn take(&mut self, vrp: &Vrp) -> Result<(), Stop>
-        ensures given { has_stopped self.old ≡ false → given self.new ≡ given self.old ++ vrp.now ∷ [] }
+        ensures given { has_stopped self.old ≡ false
+            → given self.new ≡ given self.old ++ vrp.now ∷ [] }
         ensures stopped { is_err result ≡ has_stopped self.new };
 }

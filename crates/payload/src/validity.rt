@@ -13,11 +13,12 @@ pub enum Validity {
 
 impl Validity {
     ghost use Rattle.std.specs.Prelude.{◌≡◌};
-    ghost use Rattle.payload.specs.ValidityState.{validity_text};
+    ghost use Rattle.addr.specs.OriginValidation.{state_text};
+    ghost use Rattle.payload.specs.ValidityState.{state_of};
 
     /// The state's name, as the variant is written.
     pub fn as_str(self) -> &'static str
-        ensures { result.now ≡ validity_text self }
+        ensures { result.now ≡ state_text (state_of self) }
     {
         match self {
             Validity::Valid => "Valid",
@@ -29,9 +30,10 @@ impl Validity {
 
 impl fmt::Display for Validity {
     ghost use Rattle.std.specs.Prelude.{Some};
-    ghost use Rattle.payload.specs.ValidityState.{validity_text};
+    ghost use Rattle.addr.specs.OriginValidation.{state_text};
+    ghost use Rattle.payload.specs.ValidityState.{state_of};
 
-    ghost output = { λ validity. Some (validity_text validity) };
+    ghost output = { λ validity. Some (state_text (state_of validity)) };
 
     fn fmt<W: fmt::Write>(&self, f: &mut fmt::Formatter<W>) -> fmt::Result {
         f.write_str(self.as_str())

@@ -1,5 +1,5 @@
 -- Authorizations that end where a prefix of their terms shares an address with a prefix that moves.
-use Rattle.std.proofs.Common.{◌≡◌, ℕ, ◌<◌, ◌≤◌, Bool, true, false, not, ◌||◌, cond, eqb, List, [], ◌∷◌, inl, inr, Some, refl, sym, ap, ◌∙◌, subst, arith, map, filter}
+use Rattle.std.proofs.Common.{◌≡◌, ℕ, ◌<◌, ◌≤◌, Bool, true, false, not, ◌||◌, cond, eqb, List, [], ◌∷◌, ◌↔◌, inl, inr, Some, refl, sym, ap, ◌∙◌, subst, arith, map, filter}
 use Rattle.std.specs.List.{list_any}
 use Rattle.std.proofs.lemmas.Bool.{cases_Bool, false≢true}
 use Rattle.std.proofs.lemmas.Bool.Decides.{nat_tests}
@@ -27,6 +27,28 @@ pub record LosesPrefix (e : Entry) (before : History) (h : List ℕ) (p : Prefix
   pub lost : (a : Address) → has_address p a ≡ true → resource_holder (e ∷ before) a ≡ Some h → ⊥
   pub others : (a : Address) → has_address p a ≡ false → resource_holder (e ∷ before) a ≡ resource_holder before a
 
+-- what its holder had since it was made, it has where it shares no address with the prefix
+pub since_ended : (e : Entry) (before : History) (h : List ℕ) (p : Prefix) (x : Auth) → LosesPrefix e before h p
+    → authorizations_made (e ∷ before) h ≡ authorizations_made before h → 0 < x.number → x.number ≤ authorizations_made before h
+    → HeldSinceMade (e ∷ before) h x ↔ (HeldSinceMade before h x × (terms_overlap x p ≡ false))
+since_ended e before h p x loses made positive bound = (
+  λ since. (
+    since.1,
+    elim (cases_Bool (terms_overlap x p)) [
+      | inl t ↦
+          let shared = (overlaps_some x.prefix p).0 t in
+          absurd (loses.lost shared.0 shared.2 (since.0 (subst (λ (k : ℕ). x.number ≤ k) (sym made) bound) x.prefix refl shared.0 shared.1))
+      | inr f ↦ f
+    ],
+  ),
+  λ kept. (
+    λ _. λ q is a has.
+        let in_x : has_address x.prefix a ≡ true = subst (λ (r : Prefix). has_address r a ≡ true) is has in
+        loses.others a (apart x.prefix p a kept.1 in_x) ∙ held_now before h x positive bound kept.0 q is a has,
+    kept.0,
+  ),
+)
+
 -- exactly those that overlap p are over
 pub active-ended : (e : Entry) (before : History) (h : List ℕ) (p : Prefix) (active : List Auth) → LosesPrefix e before h p
     → authorizations_made (e ∷ before) h ≡ authorizations_made before h
@@ -34,21 +56,8 @@ pub active-ended : (e : Entry) (before : History) (h : List ℕ) (p : Prefix) (a
 active-ended e before h p active loses made are =
     Keeps-filter (HeldSinceMade before h) (HeldSinceMade (e ∷ before) h) (λ x. terms_overlap x p) 0 (authorization_terms before h) active (authorizations_made before h)
     (authorization_terms-numbered before h)
-    (λ x positive bound since apart_from. (
-      λ _. λ q is a has.
-          let in_x : has_address x.prefix a ≡ true = subst (λ (r : Prefix). has_address r a ≡ true) is has in
-          loses.others a (apart x.prefix p a apart_from in_x) ∙ held_now before h x positive bound since q is a has,
-      since,
-    ))
-    (λ x positive bound since. (
-      since.1,
-      elim (cases_Bool (terms_overlap x p)) [
-        | inl t ↦
-            let shared = (overlaps_some x.prefix p).0 t in
-            absurd (loses.lost shared.0 shared.2 (since.0 (subst (λ (k : ℕ). x.number ≤ k) (sym made) bound) x.prefix refl shared.0 shared.1))
-        | inr f ↦ f
-      ],
-    ))
+    (λ x positive bound since apart_from. (since_ended e before h p x loses made positive bound).1 (since, apart_from))
+    (λ x positive bound. (since_ended e before h p x loses made positive bound).0)
     are
 
 -- the numbers of those that pass a test

@@ -14,3 +14,5 @@ pub mod AmendLemmas
 pub mod Repeats
 mod PrefixEquality
 pub mod SharedVrps
+pub mod Moved
+pub mod Fitting

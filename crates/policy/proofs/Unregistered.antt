@@ -1,9 +1,8 @@
 -- In a legal history a holder that is not registered has nothing.
-use Rattle.std.proofs.Common.{◌≡◌, ℕ, Bool, true, false, not, cond, eqb, List, [], ◌∷◌, inl, inr, Some, None, refl, sym, ap, ◌∙◌, map, filter}
-use Rattle.std.proofs.lemmas.Bool.{cases_Bool, cond-false, false≢true, or_parts}
+use Rattle.std.proofs.Common.{◌≡◌, ℕ, Bool, true, false, cond, eqb, List, [], ◌∷◌, inl, inr, Some, None, refl, sym, ap, ◌∙◌}
+use Rattle.std.proofs.lemmas.Bool.{cases_Bool, false≢true, or_parts}
 use Rattle.std.specs.List.{list_any}
 use Rattle.addr.specs.Address.{Address, has_address}
-use Rattle.policy.specs.declared.authorization.Auth.{Auth}
 use Rattle.policy.specs.declared.charter.Charter.{Charter}
 use Rattle.policy.specs.declared.grant.Granted.{Granted}
 use Rattle.policy.specs.declared.grant.Access.TheVariants.{Alter}
@@ -11,19 +10,13 @@ use Rattle.policy.specs.declared.command.Command.{Command}
 use Rattle.policy.specs.declared.command.Command.TheVariants.{Register, Delegate, Transfer, Reclaim, Grant, Revoke, Create, Amend, Withdraw}
 use Rattle.policy.specs.History.{Entry, History, same_name, registers, is_registered}
 use Rattle.policy.specs.Resources.{resource_holder, is_held_by}
-use Rattle.policy.specs.Terms.{grant_terms, grants_made, authorizations_made, authorization_terms, amended}
+use Rattle.policy.specs.Terms.{grant_terms, grants_made, authorizations_made, authorization_terms}
 use Rattle.policy.specs.Permission.{has_access}
 use Rattle.policy.specs.Answer.{holder_of}
-use Rattle.policy.specs.Verdict.{Verdict, IsLegal}
+use Rattle.policy.specs.Verdict.{Verdict}
+use Rattle.policy.specs.Unregistered.{HasNothing, UnregisteredHaveNothing}
 use Rattle.policy.proofs.Names.{same_name-true}
 use Rattle.policy.proofs.Carry.{stays}
-
-pub record HasNothing (history : History) (h : List ℕ) : Type 0 where
-  pub holders : (a : Address) → is_held_by h (resource_holder history a) ≡ false
-  pub grants : grant_terms history h ≡ []
-  pub granted : grants_made history h ≡ 0
-  pub terms : authorization_terms history h ≡ []
-  pub created : authorizations_made history h ≡ 0
 
 -- two names of which a test answers differently are two
 pub differ_by : (f : List ℕ → Bool) (g h : List ℕ) → f g ≡ true → f h ≡ false → same_name g h ≡ false
@@ -88,7 +81,7 @@ nothing_after charter before day caller (Amend holder n max until) h accepted un
 nothing_after charter before day caller (Withdraw holder n) h accepted unregistered none =
     nothing_stays _ before h (without_access before day caller holder h accepted.0 none) none.holders none
 
-pub has_nothing : (charter : Charter) (history : History) (h : List ℕ) → IsLegal charter history → is_registered history h ≡ false → HasNothing history h
+pub has_nothing : UnregisteredHaveNothing
 has_nothing charter [] h legal unregistered = record { holders = λ a. refl; grants = refl; granted = refl; terms = refl; created = refl }
 has_nothing charter (e ∷ before) h legal unregistered =
     let earlier = (or_parts (registers e.command h) (is_registered before h) unregistered).1 in

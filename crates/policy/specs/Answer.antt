@@ -1,5 +1,5 @@
 -- What the calls of this crate answer, for the rows of a history.
-use Rattle.std.specs.Prelude.{◌≡◌, ℕ, ◌+◌, Bool, true, false, List, ◌∷◌, Option, Some, None, Result, Ok, Err, MatchBool, filter}
+use Rattle.std.specs.Prelude.{◌≡◌, ℕ, ◌+◌, Bool, true, false, List, ◌∷◌, Option, Some, None, Result, Ok, Err, MatchBool, MatchResult, filter}
 use Rattle.policy.specs.declared.authorization.Auth.{Auth}
 use Rattle.policy.specs.declared.charter.Charter.{Charter}
 use Rattle.policy.specs.declared.command.Command.{Command}
@@ -10,6 +10,7 @@ use Rattle.policy.specs.declared.change.Edit.TheVariants.{Grant as GrantEdit, Cr
 use Rattle.policy.specs.declared.grant.Access.TheVariants.{Look}
 use Rattle.policy.specs.declared.rows.View.{View}
 use Rattle.policy.specs.declared.rule.Refusal.{Refusal}
+use Rattle.policy.specs.declared.rule.Rule.{Rule}
 use Rattle.policy.specs.declared.rule.Refusal.TheVariants.{Denied, Memory}
 use Rattle.policy.specs.History.{History}
 use Rattle.policy.specs.Resources.{IsFree}
@@ -62,16 +63,27 @@ pub record IsViewOf (history : History) (command : Command) (view : View) : Type
   pub rows : RowsIfAny history (holder_of command) (rows_if_any view.holder)
   pub taken : TellsTaken history command view.taken
 
--- denied exactly by the verdict, with no row; else accepted, with a change that carries the rows of
--- every holder to the history with the command, and with the number made
+-- accepted by the verdict, with a change that carries the rows of every holder to the history with the
+-- command, and with the number made
+abbrev pub IsAccepted : Charter → History → ℕ → List ℕ → Command → Change → Type 0
+IsAccepted charter history day caller command change =
+    Verdict charter history day caller command None
+    × (number_made change.first.edit ≡ number_given history command)
+    × Carries change history (record { day = day; caller = caller; command = command } ∷ history)
+
+-- denied exactly by the verdict, with no row; else accepted
 abbrev pub IsAnswer : Charter → History → ℕ → List ℕ → Command → Result Change Refusal → Type 0
 IsAnswer charter history day caller command (Err (Denied rule row)) =
     Verdict charter history day caller command (Some rule) × (row ≡ None)
 IsAnswer charter history day caller command (Err Memory) = Unit {0}
-IsAnswer charter history day caller command (Ok change) =
-    Verdict charter history day caller command None
-    × (number_made change.first.edit ≡ number_given history command)
-    × Carries change history (record { day = day; caller = caller; command = command } ∷ history)
+IsAnswer charter history day caller command (Ok change) = IsAccepted charter history day caller command change
+
+-- the command moves addresses, and no other takes memory to decide
+abbrev pub takes_memory : Command → Bool
+takes_memory (Delegate holder p) = true
+takes_memory (Transfer p giver taker) = true
+takes_memory (Reclaim holder p) = true
+takes_memory _ = false
 
 -- what is shown is the active authorization of that number
 abbrev pub IsShown : History → List ℕ → ℕ → List ℕ → ℕ → Auth → Type 0
@@ -90,7 +102,14 @@ IsListRefusal history h day caller (Denied rule row) = ListVerdict history h day
 IsListRefusal history h day caller Memory = Unit {0}
 
 -- what is answered is that of every legal history with these rows of the holder
-abbrev pub Answers : Charter → Option Rows → ℕ → List ℕ → Command → Result Change Refusal → Type 0
-Answers charter rows day caller command result =
+abbrev pub AnswersRows : Charter → Option Rows → ℕ → List ℕ → Command → Result Change Refusal → Type 0
+AnswersRows charter rows day caller command result =
     (history : History) → IsLegal charter history → RowsIfAny history (holder_of command) rows
     → IsAnswer charter history day caller command result
+
+-- the same of what takes no memory
+abbrev pub JudgesRows : Charter → Option Rows → ℕ → List ℕ → Command → Result Change Rule → Type 0
+JudgesRows charter rows day caller command result =
+    (history : History) → IsLegal charter history → RowsIfAny history (holder_of command) rows
+    → MatchResult result (IsAccepted charter history day caller command)
+    (λ rule. Verdict charter history day caller command (Some rule))

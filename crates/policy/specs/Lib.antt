@@ -10,6 +10,10 @@ pub mod Terms
 pub mod Permission
 pub mod Verdict
 pub mod Rows
+pub mod RowsOfAll
+pub mod Values
 pub mod Answer
 pub mod DailyVrps
 pub mod SharedVrps
+pub mod Unregistered
+pub mod Ended

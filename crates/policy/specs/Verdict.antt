@@ -4,6 +4,7 @@ use Rattle.std.specs.Prelude.{◌≡◌, ℕ, ◌<◌, ◌≤◌, Bool, true, fa
 use Rattle.std.specs.List.{list_any}
 use Rattle.addr.specs.Family.{width}
 use Rattle.addr.specs.declared.prefix.Prefix.{Prefix}
+use Rattle.policy.specs.declared.admission.TheConstants.{MOST_GRANTS, MOST_AUTHORIZATIONS, LAST_NUMBER}
 use Rattle.policy.specs.declared.authorization.Auth.{Auth}
 use Rattle.policy.specs.declared.charter.Charter.{Charter}
 use Rattle.policy.specs.declared.command.Command.{Command}
@@ -76,7 +77,7 @@ Verdict charter history day caller (Grant holder name role scope until) =
     ask Steward (is_steward charter history day caller holder ≡ true) (
     ask Holder (is_registered history holder ≡ true) (
     ask Dates (day ≤ until) (
-    ask Room ((length (grant_terms history holder) < 64) × (grants_made history holder < 999999))
+    ask Room ((length (grant_terms history holder) < MOST_GRANTS) × (grants_made history holder < LAST_NUMBER))
     accept)))
 Verdict charter history day caller (Revoke holder n) =
     ask Steward (is_steward charter history day caller holder ≡ true) (
@@ -89,7 +90,7 @@ Verdict charter history day caller (Create holder asn p max from until) =
     ask Length (fits_length p max ≡ true) (
     ask Held (HoldsPrefix history holder p) (
     ask Same (OfActive history holder (λ active. list_any (λ y. gives_vrp y asn p max) active ≡ false)) (
-    ask Room (OfActive history holder (λ active. length active < 1000) × (authorizations_made history holder < 999999))
+    ask Room (OfActive history holder (λ active. length active < MOST_AUTHORIZATIONS) × (authorizations_made history holder < LAST_NUMBER))
     accept))))))
 Verdict charter history day caller (Amend holder n max until) =
     ask GrantRule (has_access (grant_terms history holder) day caller Alter ≡ true) (

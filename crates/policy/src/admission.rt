@@ -1,5 +1,6 @@
 ghost use Rattle.std.specs.Prelude.{◌≡◌, ℕ, ◌<◌, ◌==◌, ◌&&◌, not, length, List, true, false, ◌↔◌, IsTrue, Some, ◌≤◌, option_copied, MatchResult};
 ghost use Rattle.std.specs.List.{list_any};
+ghost use Rattle.policy.specs.declared.admission.TheConstants.{MOST_GRANTS, MOST_AUTHORIZATIONS, LAST_NUMBER};
 ghost use Rattle.policy.specs.declared.charter.Charter.{Charter as CharterValue};
 ghost use Rattle.policy.specs.History.{History, is_registered};
 ghost use Rattle.policy.specs.Resources.{HoldsPrefix};
@@ -13,13 +14,13 @@ use crate::{Access, Auth, Charter, Granted, HolderRows, Rule};
 use addr::{Asn, Day, Name, Prefix};
 
 /// How many grants that are not revoked a holder may have.
-const MOST_GRANTS: usize = 64;
+pub(crate) const MOST_GRANTS: usize = 64;
 
 /// How many active authorizations a holder may have.
-const MOST_AUTHORIZATIONS: usize = 1000;
+pub(crate) const MOST_AUTHORIZATIONS: usize = 1000;
 
 /// The last number that a grant or an authorization of a holder gets.
-const LAST_NUMBER: u32 = 999_999;
+pub(crate) const LAST_NUMBER: u32 = 999_999;
 
 /// The rule where it does not hold.
 pub(crate) fn require(holds: bool, rule: Rule) -> Result<(), Rule>
@@ -186,22 +187,20 @@ pub(crate) fn is_new(rows: &HolderRows, asn: Asn, prefix: &Prefix, max: u8) -> b
     !some_gives(&rows.auths, asn, prefix, max)
 }
 
-/// Whether another grant may be made: fewer than 64 are unrevoked, and fewer than 999,999 were
-/// made.
+/// Whether another grant may be made: neither too many are unrevoked, nor were too many made.
 pub(crate) fn has_room_for_grant(rows: &HolderRows) -> bool
-    ensures { IsTrue result ↔ ((length rows.now.grants.items < 64) × (rows.now.granted < 999999)) }
+    ensures { IsTrue result ↔ ((length rows.now.grants.items < MOST_GRANTS) × (rows.now.granted < LAST_NUMBER)) }
 {
     rows.grants.len() < MOST_GRANTS && rows.granted < LAST_NUMBER
 }
 
-/// Whether another authorization may be made: fewer than 1000 are active, and fewer than 999,999
-/// were made.
+/// Whether another authorization may be made: neither too many are active, nor were too many made.
 pub(crate) fn has_room_for_authorization(rows: &HolderRows) -> bool
-    ensures counter { IsTrue result → rows.now.created < 999999 }
+    ensures counter { IsTrue result → rows.now.created < LAST_NUMBER }
     ensures room { (history : History) (h : List ℕ) → RowsOf history h (rows_of rows.now)
         → (IsTrue result
-        ↔ (OfActive history h (λ active. length active < 1000)
-        × (authorizations_made history h < 999999))) }
+        ↔ (OfActive history h (λ active. length active < MOST_AUTHORIZATIONS)
+        × (authorizations_made history h < LAST_NUMBER))) }
 {
     rows.auths.len() < MOST_AUTHORIZATIONS && rows.created < LAST_NUMBER
 }

@@ -10,16 +10,13 @@ ghost use Rattle.policy.specs.Pool.{pool_has, IsInPool, HasFromTo};
 use addr::{Family, Name, Prefix};
 use std::alloc::AllocError;
 use std::marker::Model;
-use thiserror::Error;
 
 /// Why two lists make no charter. Of several faults the first counts.
-#[derive(Clone, Copy, Debug, PartialEq, Eq, Error)]
+#[derive(Clone, Copy, Debug, PartialEq, Eq)]
 pub enum CharterFault {
     /// There are not 1 to 16 operators, or not 1 to 64 prefixes.
-    #[error("there are not 1 to 16 operators and 1 to 64 prefixes")]
     Count,
     /// An operator or a prefix stands twice.
-    #[error("an operator or a prefix stands twice")]
     Repeated,
 }
 

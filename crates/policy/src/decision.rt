@@ -1,13 +1,12 @@
-ghost use Rattle.std.specs.Prelude.{◌≡◌, ℕ, true, false, not, ◌||◌, ◌&&◌, None, option_copied, MatchBool, IfOk, map, filter};
+ghost use Rattle.std.specs.Prelude.{◌≡◌, ℕ, true, false, not, ◌||◌, ◌&&◌, None, Err, IsTrue, option_copied, MatchBool, IfOk, map, filter};
 ghost use Rattle.addr.specs.Address.{Address, has_address};
 ghost use Rattle.addr.specs.Spans.{spans_have, AreMaximal};
-ghost use Rattle.policy.specs.declared.charter.Charter.{Charter as CharterValue};
 ghost use Rattle.policy.specs.History.{History};
 ghost use Rattle.policy.specs.Resources.{IsFree};
 ghost use Rattle.policy.specs.Terms.{terms_overlap};
 ghost use Rattle.policy.specs.Verdict.{IsLegal};
 ghost use Rattle.policy.specs.Rows.{rows_if_any, RowsIfAny};
-ghost use Rattle.policy.specs.Answer.{Answers, IsAnswer, IsViewOf, is_transfer, holder_of, taker_of};
+ghost use Rattle.policy.specs.Answer.{AnswersRows, JudgesRows, IsAnswer, IsViewOf, is_transfer, takes_memory, holder_of, taker_of};
 
 mod terms;
 
@@ -93,8 +92,8 @@ fn numbers_overlapping(
         .collect(alloc)
 }
 
-fn decide_register(basis: Basis<'_>, holder: Holder<'_>) -> Result<Change, Refusal>
-    ensures { Answers basis.entry.charter.now (rows_if_any (option_copied holder.entry.rows))
+fn decide_register(basis: Basis<'_>, holder: Holder<'_>) -> Result<Change, Rule>
+    ensures { JudgesRows basis.entry.charter.now (rows_if_any (option_copied holder.entry.rows))
         basis.entry.day basis.entry.caller.now
         (Command.Register holder.entry.name.now) result }
 {
@@ -131,7 +130,7 @@ fn decide_reclaim(
     holder: Holder<'_>,
     prefix: &Prefix,
 ) -> Result<Change, Refusal>
-    ensures { Answers basis.entry.charter.now (rows_if_any (option_copied holder.entry.rows))
+    ensures { AnswersRows basis.entry.charter.now (rows_if_any (option_copied holder.entry.rows))
         basis.entry.day basis.entry.caller.now
         (Command.Reclaim holder.entry.name.now prefix.now) result }
 {
@@ -143,8 +142,8 @@ fn decide_reclaim(
     Ok(change_of(holder.name, Edit::Hold { holdings, ended }))
 }
 
-fn decide_grant(basis: Basis<'_>, holder: Holder<'_>, terms: &GrantTerms) -> Result<Change, Refusal>
-    ensures { Answers basis.entry.charter.now (rows_if_any (option_copied holder.entry.rows))
+fn decide_grant(basis: Basis<'_>, holder: Holder<'_>, terms: &GrantTerms) -> Result<Change, Rule>
+    ensures { JudgesRows basis.entry.charter.now (rows_if_any (option_copied holder.entry.rows))
         basis.entry.day basis.entry.caller.now
         (Command.Grant holder.entry.name.now terms.now.caller terms.now.role
         terms.now.scope terms.now.until) result }
@@ -162,8 +161,8 @@ fn decide_grant(basis: Basis<'_>, holder: Holder<'_>, terms: &GrantTerms) -> Res
     Ok(change_of(holder.name, Edit::Grant(grant)))
 }
 
-fn decide_revoke(basis: Basis<'_>, holder: Holder<'_>, number: u32) -> Result<Change, Refusal>
-    ensures { Answers basis.entry.charter.now (rows_if_any (option_copied holder.entry.rows))
+fn decide_revoke(basis: Basis<'_>, holder: Holder<'_>, number: u32) -> Result<Change, Rule>
+    ensures { JudgesRows basis.entry.charter.now (rows_if_any (option_copied holder.entry.rows))
         basis.entry.day basis.entry.caller.now
         (Command.Revoke holder.entry.name.now number) result }
 {
@@ -175,9 +174,8 @@ fn decide_revoke(basis: Basis<'_>, holder: Holder<'_>, number: u32) -> Result<Ch
     Ok(change_of(holder.name, Edit::Revoke(number)))
 }
 
-fn decide_create(basis: Basis<'_>, holder: Holder<'_>, terms: &AuthTerms) -> Result<Change, Refusal>
-    ensures { (charter : CharterValue)
-        → Answers charter (rows_if_any (option_copied holder.entry.rows))
+fn decide_create(basis: Basis<'_>, holder: Holder<'_>, terms: &AuthTerms) -> Result<Change, Rule>
+    ensures { JudgesRows basis.entry.charter.now (rows_if_any (option_copied holder.entry.rows))
         basis.entry.day basis.entry.caller.now
         (Command.Create holder.entry.name.now terms.now.asn terms.now.prefix terms.now.max
         terms.now.from terms.now.until) result }
@@ -205,9 +203,8 @@ fn decide_amend(
     number: u32,
     max: u8,
     until: Day,
-) -> Result<Change, Refusal>
-    ensures { (charter : CharterValue)
-        → Answers charter (rows_if_any (option_copied holder.entry.rows))
+) -> Result<Change, Rule>
+    ensures { JudgesRows basis.entry.charter.now (rows_if_any (option_copied holder.entry.rows))
         basis.entry.day basis.entry.caller.now
         (Command.Amend holder.entry.name.now number max until) result }
 {
@@ -224,9 +221,8 @@ fn decide_amend(
     Ok(change_of(holder.name, Edit::Amend(amended)))
 }
 
-fn decide_withdraw(basis: Basis<'_>, holder: Holder<'_>, number: u32) -> Result<Change, Refusal>
-    ensures { (charter : CharterValue)
-        → Answers charter (rows_if_any (option_copied holder.entry.rows))
+fn decide_withdraw(basis: Basis<'_>, holder: Holder<'_>, number: u32) -> Result<Change, Rule>
+    ensures { JudgesRows basis.entry.charter.now (rows_if_any (option_copied holder.entry.rows))
         basis.entry.day basis.entry.caller.now
         (Command.Withdraw holder.entry.name.now number) result }
 {
@@ -278,7 +274,7 @@ fn decide_transfer(
 /// What a command of the caller on the day does, or the first rule of its line that does not hold.
 ///
 /// Of a history whose rows the view has it gives that history's answer; of other rows it gives
-/// some answer.
+/// some answer. Memory is wanted only to delegate and to reclaim.
 pub fn decide(
     alloc: Global,
     charter: &Charter,
@@ -288,9 +284,10 @@ pub fn decide(
     command: &Command,
 ) -> Result<Change, Refusal>
     requires { is_transfer command.now ≡ false }
-    ensures { (history : History) → IsLegal charter.now history
+    ensures answer { (history : History) → IsLegal charter.now history
         → IsViewOf history command.now view.now
         → IsAnswer charter.now history day caller.now command.now result }
+    ensures memory { result ≡ Err Refusal.Memory → IsTrue (takes_memory command.now) }
 {
     let basis = Basis {
         charter,
@@ -302,12 +299,12 @@ pub fn decide(
         rows: view.holder.as_ref(),
     };
     match command {
-        Command::Register { .. } => decide_register(basis, holder),
         Command::Delegate { prefix, .. } => {
             decide_delegate(alloc, basis, holder, view.taken, prefix)
         }
-        Command::Transfer { .. } => unreachable!(),
         Command::Reclaim { prefix, .. } => decide_reclaim(alloc, basis, holder, prefix),
+        Command::Transfer { .. } => unreachable!(),
+        Command::Register { .. } => Ok(decide_register(basis, holder)?),
         Command::Grant {
             name,
             role,
@@ -321,9 +318,9 @@ pub fn decide(
                 scope: *scope,
                 until: *until,
             };
-            decide_grant(basis, holder, &terms)
+            Ok(decide_grant(basis, holder, &terms)?)
         }
-        Command::Revoke { number, .. } => decide_revoke(basis, holder, *number),
+        Command::Revoke { number, .. } => Ok(decide_revoke(basis, holder, *number)?),
         Command::Create {
             asn,
             prefix,
@@ -339,15 +336,15 @@ pub fn decide(
                 from: *from,
                 until: *until,
             };
-            decide_create(basis, holder, &terms)
+            Ok(decide_create(basis, holder, &terms)?)
         }
         Command::Amend {
             number,
             max,
             until,
             ..
-        } => decide_amend(basis, holder, *number, *max, *until),
-        Command::Withdraw { number, .. } => decide_withdraw(basis, holder, *number),
+        } => Ok(decide_amend(basis, holder, *number, *max, *until)?),
+        Command::Withdraw { number, .. } => Ok(decide_withdraw(basis, holder, *number)?),
     }
 }
 

@@ -1,10 +1,31 @@
 //! Laws over the definitions alone: each function's contract states one, and its body is empty.
 
+ghost use Rattle.policy.specs.Ended.{EndsJustOverlapping};
 ghost use Rattle.policy.specs.SharedVrps.{NoSharedVrp};
+ghost use Rattle.policy.specs.Unregistered.{UnregisteredHaveNothing};
+ghost use Rattle.policy.specs.Values.{LegalRowsFit};
 
 /// Over a legal history no two active authorizations, of whatever holders, give the same AS, prefix
 /// and maxLength.
 #[tactic(auto, using(crate::proofs::SharedVrps::no_shared_vrp))]
 pub fn no_shared_vrp()
     ensures { NoSharedVrp }
+{}
+
+/// A holder that is not registered in a legal history has no address, no grant and no
+/// authorization, and none was ever made at it.
+pub fn unregistered_have_nothing()
+    ensures { UnregisteredHaveNothing }
+{}
+
+/// An accepted transfer or reclaim ends just those active authorizations of the former holder that
+/// share an address with its prefix, and no authorization of another holder.
+pub fn ends_just_overlapping()
+    ensures { EndsJustOverlapping }
+{}
+
+/// The rows of a holder after a legal history whose values are those of their types have such
+/// values too, and at most 999,999 grants and as many authorizations were made.
+pub fn legal_rows_fit()
+    ensures { LegalRowsFit }
 {}

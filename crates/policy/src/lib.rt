@@ -14,6 +14,7 @@ pub mod laws;
 mod rows;
 mod rule;
 mod sight;
+mod values;
 
 pub use authorization::Auth;
 pub use change::{Change, Edit, HolderChange};
@@ -24,3 +25,4 @@ pub use grant::{Access, Granted, Role, Scope};
 pub use rows::{HolderRows, View};
 pub use rule::{Refusal, Rule};
 pub use sight::{see, see_all};
+pub use values::tell_values;

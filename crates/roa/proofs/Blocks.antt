@@ -11,7 +11,7 @@ use Rattle.addr.specs.declared.family.Family.{Family}
 use Rattle.addr.specs.declared.family.Family.TheVariants.{V4, V6}
 use Rattle.roa.specs.RoaContent.{family_octets}
 use Rattle.roa.specs.ContentOctets.{be_octets, integer_len, integer, element, sequence, octet_string}
-use Rattle.roa.specs.Reading.{Numbers, ◌>>=◌, element_at, whole, integer_of, entries_of, block_at, entries_after, family_at, blocks_of, fields_of, content_of}
+use Rattle.roa.specs.steps.Reading.{Numbers, ◌>>=◌, element_at, whole, integer_of, entries_of, block_at, entries_after, family_at, blocks_of, fields_of, content_of}
 use Rattle.roa.specs.RoaContent.{AreOctets}
 use Rattle.roa.proofs.Octets.{length-be_octets}
 use Rattle.roa.proofs.Elements.{Takes, element_again, element_only, whole_again, whole_only}

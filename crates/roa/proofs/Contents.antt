@@ -14,7 +14,7 @@ use Rattle.addr.proofs.AddressLemmas.{first_below}
 use Rattle.roa.specs.declared.content.Entry.{Entry}
 use Rattle.roa.specs.RoaContent.{RouteOriginAttestation, IsContent, AreCanonical, Rises, entry_order, is_in_range, family_octets, of_family}
 use Rattle.roa.specs.ContentOctets.{AreOctetsOf, integer, sequence, octet_string, entry_octets, roa_ip_address_family, content_octets}
-use Rattle.roa.specs.Reading.{Numbers, numbers, element_at, content_of}
+use Rattle.roa.specs.steps.Reading.{Numbers, numbers, element_at, content_of}
 use Rattle.roa.specs.RoaContent.{AreOctets}
 use Rattle.roa.proofs.Elements.{element_again}
 use Rattle.roa.proofs.Entries.{IsEntry, numbers_octets}

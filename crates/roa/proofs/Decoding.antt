@@ -7,7 +7,7 @@ use Rattle.roa.specs.declared.content.Entry.{Entry}
 use Rattle.roa.specs.declared.fault.DecodeFault.{DecodeFault}
 use Rattle.roa.specs.declared.fault.DecodeFault.TheVariants.{NotContent, Memory}
 use Rattle.roa.specs.RoaContent.{RouteOriginAttestation, IsContent, AreCanonical, Encodes}
-use Rattle.roa.specs.Reading.{Numbers, numbers, content_of, Reads}
+use Rattle.roa.specs.steps.Reading.{Numbers, numbers, content_of, Reads}
 use Rattle.roa.proofs.Contents.{content_made, WasRead, is_only, is_none}
 use Rattle.roa.proofs.Grammar.{encodes_is, encodes_from}
 

@@ -4,7 +4,7 @@ use Rattle.std.proofs.lemmas.Bool.{cases_lt, cases_eq, lt-ltb, le-ltb, eq-eqb, n
 use Rattle.std.proofs.lemmas.Option.{same_Some, option_and_then_some}
 use Rattle.std.proofs.lemmas.List.{take_at, drop_at, take-append-drop, length-append, length-take, append-nil, nil_from_length}
 use Rattle.roa.specs.ContentOctets.{length_octets, element}
-use Rattle.roa.specs.Reading.{one_octet_at, two_octets_at, length_at, contents_at, element_at, whole}
+use Rattle.roa.specs.steps.Reading.{one_octet_at, two_octets_at, length_at, contents_at, element_at, whole}
 use Rattle.roa.specs.RoaContent.{AreOctets}
 use Rattle.roa.proofs.Octets.{AreOctets-take, AreOctets-drop}
 

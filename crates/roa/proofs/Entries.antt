@@ -10,7 +10,7 @@ use Rattle.addr.specs.Address.{IsPrefix}
 use Rattle.addr.specs.declared.family.Family.{Family}
 use Rattle.addr.proofs.AddressLemmas.{width_small}
 use Rattle.roa.specs.ContentOctets.{be_octets, integer_len, integer, element, bit_string, max_length, roa_ip_address}
-use Rattle.roa.specs.Reading.{Numbers, ◌>>=◌, element_at, whole, integer_of, prefix_of, max_of, entry_of, entry_at, entries_of}
+use Rattle.roa.specs.steps.Reading.{Numbers, ◌>>=◌, element_at, whole, integer_of, prefix_of, max_of, entry_of, entry_at, entries_of}
 use Rattle.roa.specs.RoaContent.{AreOctets}
 use Rattle.roa.proofs.Octets.{length-be_octets}
 use Rattle.roa.proofs.Elements.{Takes, element_again, element_only, whole_again, whole_only}

@@ -7,7 +7,7 @@ use Rattle.std.proofs.lemmas.Bool.{eq-eqb, ne_eqb}
 use Rattle.std.proofs.lemmas.List.{append-nil, length-append, map-append}
 use Rattle.addr.specs.declared.family.Family.{Family}
 use Rattle.roa.specs.declared.content.Entry.{Entry}
-use Rattle.roa.specs.Reading.{Gives, Numbers, numbers, ◌>>=◌, entry_at, entries_of}
+use Rattle.roa.specs.steps.Reading.{Gives, Numbers, numbers, ◌>>=◌, entry_at, entries_of}
 
 -- what was read before, and what is still read
 abbrev pub with_front : List Entry → Option (List Numbers) → Option (List Numbers)

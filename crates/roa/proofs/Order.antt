@@ -14,7 +14,7 @@ use Rattle.std.proofs.lemmas.List.Sums.{AllPass-from_list_all, list_all-from_All
 use Rattle.roa.specs.declared.content.Entry.{Entry}
 use Rattle.addr.specs.Order.{prefix_cmp}
 use Rattle.addr.proofs.Equality.{prefix_itself}
-use Rattle.addr.proofs.OrderLemmas.{prefix_total, exact_prefix, both_equal, less_is}
+use Rattle.addr.proofs.OrderLemmas.{prefix_order, both_equal, less_is}
 use Rattle.roa.specs.RoaContent.{entry_order, entry_eq, is_in_range, Rises}
 
 -- ---- rising, by index and by recursion
@@ -56,7 +56,7 @@ rises_from_answer (e ∷ es) false h = (
 -- ---- the laws of the order
 
 entry_order_total : IsTotalOrder entry_order
-entry_order_total = then_total (on_total (λ (a : Entry). a.prefix) prefix_total) (on_total (λ (a : Entry). a.max) nat_cmp_total)
+entry_order_total = then_total (on_total (λ (a : Entry). a.prefix) prefix_order.total) (on_total (λ (a : Entry). a.max) nat_cmp_total)
 
 entry_eq-itself : (a : Entry) → entry_eq a a ≡ true
 entry_eq-itself a = and_from _ _ (prefix_itself a.prefix) (eq-eqb a.max a.max refl)
@@ -65,7 +65,7 @@ entry_eq-itself a = and_from _ _ (prefix_itself a.prefix) (eq-eqb a.max a.max re
 same_from_order : (a b : Entry) → entry_order a b ≡ Equal → entry_eq a b ≡ true
 same_from_order a b e =
     let parts = both_equal (prefix_cmp a.prefix b.prefix) (nat_cmp a.max b.max) e in
-    let prefix = exact_prefix a.prefix b.prefix parts.0 in
+    let prefix = prefix_order.exact a.prefix b.prefix parts.0 in
     let max = nat_cmp-IsAntisymmetric a.max b.max parts.1 in
     let same : a ≡ b = λ i. record { prefix = prefix i; max = max i } in
     subst (λ (x : Entry). entry_eq a x ≡ true) same (entry_eq-itself a)

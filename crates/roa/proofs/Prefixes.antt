@@ -3,7 +3,7 @@ use Rattle.std.proofs.Common.{◌≡◌, ℕ, ap, ◌∙◌}
 use Rattle.addr.specs.Address.{same_prefix}
 use Rattle.addr.specs.declared.prefix.Prefix.{Prefix}
 use Rattle.roa.specs.declared.content.Entry.{Entry}
-use Rattle.roa.specs.Reading.{Numbers, numbers}
+use Rattle.roa.specs.steps.Reading.{Numbers, numbers}
 
 abbrev entry_made : Prefix → ℕ → Entry
 entry_made p m = record { prefix = p; max = m }

@@ -13,7 +13,7 @@ use Rattle.addr.specs.declared.family.Family.TheVariants.{V4, V6}
 use Rattle.addr.proofs.AddressLemmas.{below_widest, multiple-at_most}
 use Rattle.roa.specs.ContentOctets.{be_octets, integer_len, bit_octets, length_octets, bit_string}
 use Rattle.roa.specs.RoaContent.{be_value}
-use Rattle.roa.specs.Reading.{integer_of, prefix_of, Gives}
+use Rattle.roa.specs.steps.Reading.{integer_of, prefix_of, Gives}
 use Rattle.roa.specs.RoaContent.{AreOctets}
 use Rattle.roa.proofs.Octets.{length-be_octets, be_value-be_octets, be_value_below, be_octets-be_value}
 

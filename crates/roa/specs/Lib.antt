@@ -1,3 +1,4 @@
 pub mod RoaContent
 pub mod ContentOctets
-pub mod Reading
+pub mod DecodeFault
+pub mod steps

@@ -12,6 +12,7 @@ use Rattle.addr.specs.declared.asn.Asn.{Asn}
 use Rattle.addr.specs.declared.family.Family.{Family}
 use Rattle.addr.specs.declared.family.Family.TheVariants.{V4, V6}
 use Rattle.roa.specs.declared.content.Entry.{Entry}
+use Rattle.roa.specs.declared.content.TheConstants.Content.{MAX_ENTRIES}
 use Rattle.roa.specs.declared.content.ContentFault.{ContentFault}
 use Rattle.roa.specs.declared.content.ContentFault.TheVariants.{Empty, TooMany, MaxLength, Repeated}
 
@@ -40,10 +41,10 @@ Rises [] = Unit {0}
 Rises (a ∷ []) = Unit {0}
 Rises (a ∷ b ∷ rest) = (entry_order a b ≡ Less) × Rises (b ∷ rest)
 
--- 1 to 64 entries
+-- 1 to MAX_ENTRIES entries
 pub record AreInCount (entries : List Entry) : Type 0 where
   pub some : 0 < length entries
-  pub few : length entries ≤ 64
+  pub few : length entries ≤ MAX_ENTRIES
 
 -- the entries of a content
 pub record AreCanonical (entries : List Entry) : Type 0 where
@@ -59,7 +60,7 @@ pub record IsContent (content : RouteOriginAttestation) : Type 0 where
 -- the fault is the lowest one of the entries, over all of them
 abbrev pub IsLowestFault : List Entry → ContentFault → Type 0
 IsLowestFault entries Empty = entries ≡ []
-IsLowestFault entries TooMany = 64 < length entries
+IsLowestFault entries TooMany = MAX_ENTRIES < length entries
 IsLowestFault entries MaxLength = AreInCount entries × (list_all is_in_range entries ≡ false)
 IsLowestFault entries Repeated = AreInCount entries × (list_all is_in_range entries ≡ true) × (e : Entry) × (2 ≤ count_by (entry_eq e) entries)
 

@@ -1,5 +1,6 @@
 ghost use Rattle.std.specs.Prelude.{◌≡◌, ◌<◌, ◌≤◌, ◌↔◌, true, length, IsTrue, IfOk, IfErr, IfSome, IfNone, IsPermutation};
 ghost use Rattle.std.specs.List.{list_all};
+ghost use Rattle.roa.specs.declared.content.TheConstants.Content.{MAX_ENTRIES};
 
 use addr::{Asn, Prefix};
 use std::marker::Model;
@@ -77,7 +78,8 @@ impl Content {
     /// over all entries.
     pub fn make(asn: Asn, mut entries: Vec<Entry>) -> Result<Content, ContentFault>
         ensures asn { IfOk result (λ content. content.asn ≡ asn) }
-        ensures same_entries { IfOk result (λ content. IsPermutation entries.items content.entries) }
+        ensures same_entries { IfOk result
+            (λ content. IsPermutation entries.items content.entries) }
         ensures content { IfOk result IsContent }
         ensures fault { IfErr result (IsLowestFault entries.items) }
     {
@@ -99,9 +101,10 @@ impl Content {
 
     /// None where there is no entry, or where the entries do not rise strictly.
     pub(crate) fn from_rising(asn: Asn, entries: Vec<Entry>) -> Option<Content>
-        requires few { length entries.items ≤ 64 }
+        requires few { length entries.items ≤ MAX_ENTRIES }
         requires in_range { list_all is_in_range entries.items ≡ true }
-        ensures some { IfSome result (λ content. (content.asn ≡ asn) × (content.entries ≡ entries.items)) }
+        ensures some { IfSome result
+            (λ content. (content.asn ≡ asn) × (content.entries ≡ entries.items)) }
         ensures content { IfSome result IsContent }
         ensures none { IfNone result (AreCanonical entries.items → ⊥) }
     {

@@ -16,7 +16,7 @@ pub enum DecodeFault {
 }
 
 impl DecodeFault {
-    ghost use Rattle.roa.specs.Reading.{decode_fault_number};
+    ghost use Rattle.roa.specs.DecodeFault.{decode_fault_number};
 
     /// The number of the reason, from 1 in the order above.
     pub fn number(self) -> u8

@@ -7,8 +7,8 @@ ghost use Rattle.roa.specs.ContentOctets.{content_octets};
 /// No octets of a content begin those of another: from whatever follows, both the content and where
 /// it ends are known. So of one content there are no two.
 pub fn prefix_free()
-    ensures { (a b : RouteOriginAttestation) (s t x y : List ℕ) → IsContent a → IsContent b → Encodes a s
-        → Encodes b t → s ++ x ≡ t ++ y → (a ≡ b) × (s ≡ t) × (x ≡ y) }
+    ensures { (a b : RouteOriginAttestation) (s t x y : List ℕ) → IsContent a → IsContent b
+        → Encodes a s → Encodes b t → s ++ x ≡ t ++ y → (a ≡ b) × (s ≡ t) × (x ≡ y) }
 {}
 
 /// The grammar relates each content to one list of octets, the one that `content_octets` gives.

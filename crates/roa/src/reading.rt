@@ -1,7 +1,8 @@
 ghost use Rattle.std.specs.Prelude.{◌≡◌, ◌<◌, ◌≤◌, ◌*◌, ◌-◌, ◌^◌, length, map, IfSome, IfOk, MatchResult};
 ghost use Rattle.addr.specs.Family.{width};
-ghost use Rattle.roa.specs.Reading.{Gives, length_at, contents_at, element_at, whole, integer_of, prefix_of, max_of, entry_of, entry_at, entries_of, block_at, family_at, blocks_of, fields_of, content_of, numbers, Adds, AddsThen, Reads};
+ghost use Rattle.roa.specs.steps.Reading.{Gives, length_at, contents_at, element_at, whole, integer_of, prefix_of, max_of, entry_of, entry_at, entries_of, block_at, family_at, blocks_of, fields_of, content_of, numbers, Adds, AddsThen, Reads};
 ghost use Rattle.roa.specs.RoaContent.{RouteOriginAttestation, IsContent, Encodes, be_value};
+ghost use Rattle.roa.specs.declared.content.TheConstants.Content.{MAX_ENTRIES};
 
 use crate::der::{
     BIT_STRING, INTEGER, OCTET_STRING, ONE_OCTET_LENGTH, SEQUENCE, TWO_OCTET_LENGTH, family_octets,
@@ -12,7 +13,7 @@ use addr::{Asn, Family, Prefix};
 use std::alloc::Global;
 
 /// A length, and the octets after it.
-#[tactic(auto, unfolding(crate::specs::Reading::length_at, crate::specs::Reading::one_octet_at, crate::specs::Reading::two_octets_at))]
+#[tactic(auto, unfolding(crate::specs::steps::Reading::length_at, crate::specs::steps::Reading::one_octet_at, crate::specs::steps::Reading::two_octets_at))]
 fn read_length(octets: &[u8]) -> Option<(usize, &[u8])>
     ensures { Gives (λ x. (x.0, x.1.now)) result (length_at octets.now) }
 {
@@ -27,7 +28,7 @@ fn read_length(octets: &[u8]) -> Option<(usize, &[u8])>
 }
 
 /// The contents of an element after its tag, and the octets after it.
-#[tactic(auto, unfolding(crate::specs::Reading::contents_at))]
+#[tactic(auto, unfolding(crate::specs::steps::Reading::contents_at))]
 fn read_contents(octets: &[u8]) -> Option<(&[u8], &[u8])>
     ensures { Gives (λ x. (x.0.now, x.1.now)) result (contents_at octets.now) }
 {
@@ -39,7 +40,7 @@ fn read_contents(octets: &[u8]) -> Option<(&[u8], &[u8])>
 }
 
 /// The contents of an element with the tag, and the octets after it.
-#[tactic(auto, unfolding(crate::specs::Reading::element_at))]
+#[tactic(auto, unfolding(crate::specs::steps::Reading::element_at))]
 fn read_element(tag: u8, octets: &[u8]) -> Option<(&[u8], &[u8])>
     ensures { Gives (λ x. (x.0.now, x.1.now)) result (element_at tag octets.now) }
 {
@@ -50,7 +51,7 @@ fn read_element(tag: u8, octets: &[u8]) -> Option<(&[u8], &[u8])>
 }
 
 /// The contents of an element with the tag that is all of the octets.
-#[tactic(auto, unfolding(crate::specs::Reading::whole))]
+#[tactic(auto, unfolding(crate::specs::steps::Reading::whole))]
 fn read_whole(tag: u8, octets: &[u8]) -> Option<&[u8]>
     ensures { Gives (λ x. x.now) result (whole tag octets.now) }
 {
@@ -74,7 +75,7 @@ fn number_of(octets: &[u8]) -> u128
 }
 
 /// The number of an INTEGER, by its contents; None where it has more than 32 bits.
-#[tactic(auto, unfolding(crate::specs::Reading::integer_of))]
+#[tactic(auto, unfolding(crate::specs::steps::Reading::integer_of))]
 fn read_integer(contents: &[u8]) -> Option<u32>
     ensures { Gives (λ n. n) result (integer_of contents.now) }
 {
@@ -100,7 +101,7 @@ fn first_address(family: Family, octets: &[u8]) -> u128
 }
 
 /// The prefix of a BIT STRING, by its contents.
-#[tactic(auto, unfolding(crate::specs::Reading::prefix_of))]
+#[tactic(auto, unfolding(crate::specs::steps::Reading::prefix_of))]
 fn read_prefix(family: Family, contents: &[u8]) -> Option<Prefix>
     ensures numbers { Gives (λ p. (p.first, p.length)) result (prefix_of family contents.now) }
     ensures family { IfSome result (λ p. p.family ≡ family) }
@@ -118,7 +119,7 @@ fn read_prefix(family: Family, contents: &[u8]) -> Option<Prefix>
 }
 
 /// The maxLength, by the octets after the BIT STRING of the prefix.
-#[tactic(auto, unfolding(crate::specs::Reading::max_of))]
+#[tactic(auto, unfolding(crate::specs::steps::Reading::max_of))]
 fn read_max(prefix: &Prefix, octets: &[u8]) -> Option<u8>
     ensures { Gives (λ n. n) result (max_of prefix.now.family prefix.now.length octets.now) }
 {
@@ -133,7 +134,7 @@ fn read_max(prefix: &Prefix, octets: &[u8]) -> Option<u8>
 }
 
 /// An entry, by the contents of its SEQUENCE.
-#[tactic(auto, unfolding(crate::specs::Reading::entry_of))]
+#[tactic(auto, unfolding(crate::specs::steps::Reading::entry_of))]
 fn read_entry(family: Family, contents: &[u8]) -> Option<Entry>
     ensures { Gives numbers result (entry_of family contents.now) }
 {
@@ -144,7 +145,7 @@ fn read_entry(family: Family, contents: &[u8]) -> Option<Entry>
 }
 
 /// An entry, and the octets after it.
-#[tactic(auto, unfolding(crate::specs::Reading::entry_at))]
+#[tactic(auto, unfolding(crate::specs::steps::Reading::entry_at))]
 fn take_entry(family: Family, octets: &[u8]) -> Option<(Entry, &[u8])>
     ensures { Gives (λ x. (numbers x.0, x.1.now)) result (entry_at family octets.now) }
 {
@@ -155,10 +156,10 @@ fn take_entry(family: Family, octets: &[u8]) -> Option<(Entry, &[u8])>
 
 /// Adds the entries of a family, which are all of the octets.
 fn read_entries(family: Family, octets: &[u8], entries: &mut Vec<Entry>) -> Result<(), DecodeFault>
-    requires { length entries.old.items ≤ 64 }
+    requires { length entries.old.items ≤ MAX_ENTRIES }
     ensures adds { Adds result entries.old.items entries.new.items
-        (entries_of (64 - length entries.old.items) family octets.now) }
-    ensures few { length entries.new.items ≤ 64 }
+        (entries_of (MAX_ENTRIES - length entries.old.items) family octets.now) }
+    ensures few { length entries.new.items ≤ MAX_ENTRIES }
 {
     let mut rest = octets;
     while !rest.is_empty() {
@@ -173,7 +174,7 @@ fn read_entries(family: Family, octets: &[u8], entries: &mut Vec<Entry>) -> Resu
 }
 
 /// The addresses of a block of the family, and the octets after the block.
-#[tactic(auto, unfolding(crate::specs::Reading::block_at))]
+#[tactic(auto, unfolding(crate::specs::steps::Reading::block_at))]
 fn take_block(family: Family, octets: &[u8]) -> Option<(&[u8], &[u8])>
     ensures { Gives (λ x. (x.0.now, x.1.now)) result (block_at family octets.now) }
 {
@@ -190,16 +191,16 @@ fn take_block(family: Family, octets: &[u8]) -> Option<(&[u8], &[u8])>
 }
 
 /// Adds the entries of a family, where a block of it begins here. The octets after it.
-#[tactic(auto, unfolding(crate::specs::Reading::family_at))]
+#[tactic(auto, unfolding(crate::specs::steps::Reading::family_at))]
 fn read_family<'a>(
     family: Family,
     octets: &'a [u8],
     entries: &mut Vec<Entry>,
 ) -> Result<&'a [u8], DecodeFault>
-    requires { length entries.old.items ≤ 64 }
+    requires { length entries.old.items ≤ MAX_ENTRIES }
     ensures adds { AddsThen result entries.old.items entries.new.items
-        (family_at (64 - length entries.old.items) family octets.now) }
-    ensures few { length entries.new.items ≤ 64 }
+        (family_at (MAX_ENTRIES - length entries.old.items) family octets.now) }
+    ensures few { length entries.new.items ≤ MAX_ENTRIES }
 {
     match take_block(family, octets) {
         None => Ok(octets),
@@ -211,7 +212,7 @@ fn read_family<'a>(
 }
 
 /// The entries of both families, which are all of the octets.
-#[tactic(auto, unfolding(crate::specs::Reading::blocks_of))]
+#[tactic(auto, unfolding(crate::specs::steps::Reading::blocks_of))]
 fn read_blocks(alloc: Global, octets: &[u8]) -> Result<Vec<Entry>, DecodeFault>
     ensures { Reads (λ entries. map numbers entries.items) result (blocks_of octets.now) }
 {
@@ -225,7 +226,7 @@ fn read_blocks(alloc: Global, octets: &[u8]) -> Result<Vec<Entry>, DecodeFault>
 }
 
 /// The AS number, and the octets of the blocks.
-#[tactic(auto, unfolding(crate::specs::Reading::fields_of))]
+#[tactic(auto, unfolding(crate::specs::steps::Reading::fields_of))]
 fn read_fields(octets: &[u8]) -> Option<(u32, &[u8])>
     ensures { Gives (λ x. (x.0, x.1.now)) result (fields_of octets.now) }
 {
@@ -236,7 +237,7 @@ fn read_fields(octets: &[u8]) -> Option<(u32, &[u8])>
     Some((number, blocks))
 }
 
-#[tactic(auto, unfolding(crate::specs::Reading::content_of))]
+#[tactic(auto, unfolding(crate::specs::steps::Reading::content_of))]
 fn read_content(alloc: Global, octets: &[u8]) -> Result<(Asn, Vec<Entry>), DecodeFault>
     ensures { Reads (λ x. (x.0.0, map numbers x.1.items)) result (content_of octets.now) }
 {
@@ -252,7 +253,8 @@ pub fn decode(alloc: Global, octets: &[u8]) -> Result<Content, DecodeFault>
     ensures encodes { IfOk result (λ content. Encodes content octets.now) }
 
     // The octets of a content are decoded, unless memory runs out.
-    ensures only { (content : RouteOriginAttestation) → IsContent content → Encodes content octets.now
+    ensures only { (content : RouteOriginAttestation) → IsContent content
+        → Encodes content octets.now
         → MatchResult result (λ found. found ≡ content) (λ fault. fault ≡ DecodeFault.Memory) }
 {
     let (asn, entries) = read_content(alloc, octets)?;

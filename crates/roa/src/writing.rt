@@ -2,6 +2,7 @@ ghost use Rattle.std.specs.Prelude.{◌≡◌, ◌<◌, ◌≤◌, ◌*◌, ◌^
 ghost use Rattle.std.specs.List.{flat_map};
 ghost use Rattle.roa.specs.RoaContent.{of_family, Encodes};
 ghost use Rattle.roa.specs.ContentOctets.{be_octets, length_octets, element, integer, prefix_octets, entry_contents, entry_octets, roa_ip_address_family, content_octets};
+ghost use Rattle.roa.specs.declared.content.TheConstants.Content.{MAX_ENTRIES};
 
 use crate::der::{
     BIT_STRING, INTEGER, OCTET_STRING, ONE_OCTET_LENGTH, SEQUENCE, TWO_OCTET_LENGTH, family_octets,
@@ -114,7 +115,7 @@ fn push_family(
     family: Family,
     entries: &[Entry],
 ) -> Result<(), AllocError>
-    requires { length entries.now ≤ 64 }
+    requires { length entries.now ≤ MAX_ENTRIES }
     ensures { OnOk result
         (out.new.items
         ≡ out.old.items ++ roa_ip_address_family family (of_family family entries.now)) }
@@ -132,7 +133,7 @@ fn push_family(
 
 #[tactic(auto, unfolding(crate::specs::ContentOctets::content_octets))]
 fn write_content(alloc: Global, asn: Asn, entries: &[Entry]) -> Result<Vec<u8>, AllocError>
-    requires { length entries.now ≤ 64 }
+    requires { length entries.now ≤ MAX_ENTRIES }
     ensures { IfOk result
         (λ octets. octets.items ≡ content_octets (record { asn = asn; entries = entries.now })) }
 {

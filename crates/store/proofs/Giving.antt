@@ -17,7 +17,8 @@ use Rattle.store.specs.Decode.{VrpFits}
 use Rattle.addr.proofs.Equality.{equal_prefix, prefix_itself}
 use Rattle.addr.proofs.SpanLemmas.{met_iff}
 use Rattle.store.specs.steps.Queries.{payload_cells, IsPayloadOn, MeetsSome}
-use Rattle.store.specs.Loads.{IsGivenOn, AllGiveOn, IsTaken}
+use Rattle.policy.specs.RowsOfAll.{IsGivenOn, IsTaken}
+use Rattle.store.specs.Loads.{AllGiveOn}
 use Rattle.store.proofs.CellsOnce.{one_prefix}
 
 -- a VRP of the terms is shown as they are

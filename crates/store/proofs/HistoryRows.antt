@@ -1,5 +1,5 @@
 -- The rows of a history rise by number, so they are loaded as they are.
-use Rattle.std.proofs.Common.{◌≡◌, ℕ, ◌+◌, ◌<◌, ◌≤◌, ◌==◌, Bool, true, false, cond, not, List, [], ◌∷◌, ◌++◌, filter, Some, None, Less, sym, subst, ◌∙◌, arith, nat_cmp}
+use Rattle.std.proofs.Common.{◌≡◌, ℕ, ◌+◌, ◌<◌, ◌≤◌, ◌==◌, Bool, true, false, cond, not, List, [], ◌∷◌, ◌++◌, filter, Option, Some, None, Less, sym, subst, ◌∙◌, arith, nat_cmp}
 use Rattle.std.specs.Cmp.{nat_cmp_is, nat_cmp_total}
 use Rattle.std.specs.List.{AllByRecursion}
 use Rattle.std.specs.Ordering.{on}
@@ -15,7 +15,12 @@ use Rattle.policy.specs.History.{History, same_name}
 use Rattle.policy.specs.Terms.{granted_after, grants_made, grants_after, grant_terms, authorizations_made, AreActive}
 use Rattle.policy.proofs.Numbers.{Numbered}
 use Rattle.policy.proofs.Held.{active-numbered}
-use Rattle.store.specs.Laws.{LoadsRowsOfHistories}
+use Rattle.policy.proofs.Fitting.{legal_rows_fit}
+use Rattle.policy.specs.declared.charter.Charter.{Charter}
+use Rattle.policy.specs.Rows.{Rows, RowsIfAny}
+use Rattle.policy.specs.Values.{HistoryFits, FitIfAny}
+use Rattle.policy.specs.Verdict.{IsLegal}
+use Rattle.store.specs.Laws.{LoadsRowsOfHistories, RowsOfHistoriesFit}
 use Rattle.store.specs.Loads.{AreInOrder}
 
 module _ {X : Type 0} (number : X → ℕ) where
@@ -103,3 +108,10 @@ loads_rows history h (Some r) (Some s) are maximal loaded =
         created = loaded.created ∙ rows.created;
       },
     )
+
+pub rows_fit : RowsOfHistoriesFit
+rows_fit charter history rows legal values are h = go (rows h) (are h)
+  where
+    go : (o : Option Rows) → RowsIfAny history h o → FitIfAny o
+    go None none = tt
+    go (Some r) mine = (legal_rows_fit charter history h r legal values mine.1).0

@@ -1,10 +1,9 @@
 -- What is loaded of the rows that the tables hold.
-use Rattle.std.specs.Prelude.{◌≡◌, ◌≤◌, ℕ, List, Option, Some, None, All, Contains, IsPermutation, IsSortedByKey, ⊤}
+use Rattle.std.specs.Prelude.{◌≡◌, ◌≤◌, ℕ, List, Option, Some, None, Contains, IsPermutation, IsSortedByKey, ⊤}
 use Rattle.std.specs.Ordering.{nat_cmp}
 use Rattle.sqlite.specs.Store.{Ghosts}
 use Rattle.addr.specs.Address.{Address}
-use Rattle.addr.specs.Spans.{spans_have, HaveSome}
-use Rattle.addr.specs.declared.prefix.Prefix.{Prefix}
+use Rattle.addr.specs.Spans.{spans_have}
 use Rattle.addr.specs.declared.span.Span.{Span}
 use Rattle.addr.specs.declared.vrp.Vrp.{Vrp}
 use Rattle.policy.specs.declared.authorization.Auth.{Auth}
@@ -13,7 +12,7 @@ use Rattle.policy.specs.declared.rows.HolderRows.{HolderRows}
 use Rattle.policy.specs.Rows.{Rows}
 use Rattle.policy.specs.Terms.{IsVrpOf}
 use Rattle.store.specs.StoreRows.{StoreView, Holds}
-use Rattle.store.specs.Decode.{IsU32, AuthFits, GrantFits, VrpFits}
+use Rattle.store.specs.Decode.{VrpFits}
 
 -- it is so of the rows that a store holds
 abbrev pub OfHeldRows :
@@ -42,29 +41,6 @@ AreLoaded None None = ⊤
 AreLoaded None (Some loaded) = ⊥
 AreLoaded (Some r) None = ⊥
 AreLoaded (Some r) (Some loaded) = IsLoaded r loaded
-
--- each number of the rows fits its Rust type
-pub record RowsFit (r : Rows) : Type 0 where
-  pub granted : IsU32 r.granted
-  pub created : IsU32 r.created
-  pub grants : All GrantFits r.grants
-  pub auths : All AuthFits r.auths
-
-abbrev pub FitIfAny : Option Rows → Type 0
-FitIfAny None = ⊤
-FitIfAny (Some r) = RowsFit r
-
--- ---- the rows of every holder
-
--- some holder holds an address of the prefix
-abbrev pub IsTaken : (List ℕ → Option Rows) → Prefix → Type 0
-IsTaken rows p = (h : List ℕ) × (r : Rows) × (rows h ≡ Some r) × HaveSome r.holdings p
-
--- an authorization of some holder is in force on the day and gives the VRP
-abbrev pub IsGivenOn : (List ℕ → Option Rows) → ℕ → Vrp → Type 0
-IsGivenOn rows day v =
-    (h : List ℕ) × (r : Rows) × (x : Auth)
-    × (rows h ≡ Some r) × Contains r.auths x × (x.from ≤ day) × (day ≤ x.until) × IsVrpOf x v
 
 -- each authorization that is in force on the day gives a VRP
 abbrev pub AllGiveOn : (List ℕ → Option Rows) → ℕ → Type 0

@@ -1,10 +1,16 @@
 //! Laws over the definitions alone: each function's contract states one, and its body is empty.
 
-ghost use Rattle.store.specs.Laws.{LoadsRowsOfHistories};
+ghost use Rattle.store.specs.Laws.{LoadsRowsOfHistories, RowsOfHistoriesFit};
 
 /// Where the tables hold the rows of a history, what is loaded of a holder are its rows after that
 /// history, as `policy` asks for them.
 #[tactic(auto, using(crate::proofs::HistoryRows::loads_rows))]
 pub fn rows_of_a_history()
     ensures { LoadsRowsOfHistories }
+{}
+
+/// Where the tables hold the rows of a legal history whose values are those of their types, no load
+/// of a holder answers `Schema`.
+pub fn rows_of_a_history_fit()
+    ensures { RowsOfHistoriesFit }
 {}

@@ -19,7 +19,7 @@ replied_at old new line asked reply chartered reads answered = (
   chartered,
   λ history stands.
       let is = answered history stands in
-      (is.after, record { chartered = chartered; legal = is.legal; rows = is.rows_after }, inr (inl (asked, reply, reads, is.answers, refl))),
+      (is.after, record { chartered = chartered; legal = is.legal; values = is.values stands.values; rows = is.rows_after }, inr (inl (asked, reply, reads, is.answers, refl))),
 )
 
 -- a line answered by the desk is answered on each history that the desk stands for

@@ -2,7 +2,7 @@ use Rattle.std.proofs.Common.{◌≡◌, ◌||◌}
 use Rattle.std.specs.BTreeMap.{values}
 use Rattle.std.specs.List.{list_any}
 use Rattle.addr.specs.declared.vrp.Vrp.{Vrp}
-use Rattle.desk.specs.DeskRows.{has_vrp, rows_give_on}
+use Rattle.desk.specs.steps.InForce.{has_vrp, rows_give_on}
 use Rattle.desk.proofs.records.all_in_force.Given as goal
 
 -- what is there with what the holders still to come give is what all give

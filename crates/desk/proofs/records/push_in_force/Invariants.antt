@@ -1,7 +1,7 @@
 use Rattle.std.proofs.Common.{◌≡◌, ◌||◌, drop}
 use Rattle.std.specs.List.{list_any}
 use Rattle.addr.specs.declared.vrp.Vrp.{Vrp}
-use Rattle.desk.specs.DeskRows.{has_vrp, gives_on}
+use Rattle.desk.specs.steps.InForce.{has_vrp, gives_on}
 use Rattle.desk.proofs.records.push_in_force.Given as goal
 
 -- what is there with what is still to come is what was there with all that is asked of

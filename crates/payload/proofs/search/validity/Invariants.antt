@@ -1,5 +1,5 @@
 use Rattle.std.proofs.Common.{length}
-use Rattle.payload.specs.Shortest.{AreNoShorter}
+use Rattle.payload.specs.steps.Shortest.{AreNoShorter}
 use Rattle.payload.proofs.Left.{IsLeft}
 use Rattle.payload.proofs.search.validity.Given as goal
 

@@ -12,24 +12,24 @@ use Rattle.policy.proofs.CarryTerms.{carries-amend}
 use Rattle.policy.proofs.decision.decide_amend.Goals as goal
 
 pub returns-in_err-require : goal.returns-in_err-require
-returns-in_err-require c charter history legal are =
+returns-in_err-require c history legal are =
     let a = c.args in
     let h = a.holder.name.now in
     let p = err_from_is_err_and c.from_residual-in_err-require.result c.from_residual-in_err-require.ensures.1 in
-    let had = c.in_ok-rows.ensures charter history h legal are in
+    let had = c.in_ok-rows.ensures a.basis.charter.now history h legal are in
     let number = c.in_ok-auth.ensures history h had.2 in
     let x = c.in_ok-auth.auth.now in
     let no_dates : OfNumber history h a.number (λ y. (y.from ≤ a.until) × (a.basis.day ≤ a.until)) → ⊥ = λ of.
     let dates = number-from history h (rows_of c.in_ok-rows.rows.now) a.number x (λ y. (y.from ≤ a.until) × (a.basis.day ≤ a.until)) had.2 number.0 of in
     false≢true (sym c.in_err-require.ensures.0 ∙ c.are_dates.ensures.1 dates) in
-    rw (p.1, p.2) (inr (had.0, inr (number.1, inl (no_dates, c.in_err-require.ensures.1))), refl)
+    rw (p.1, p.2) (inr (had.0, inr (number.1, inl (no_dates, c.in_err-require.ensures.1))))
 
 pub returns-in_err-require-2 : goal.returns-in_err-require-2
-returns-in_err-require-2 c charter history legal are =
+returns-in_err-require-2 c history legal are =
     let a = c.args in
     let h = a.holder.name.now in
     let p = err_from_is_err_and c.from_residual-in_err-require-2.result c.from_residual-in_err-require-2.ensures.1 in
-    let had = c.in_ok-rows.ensures charter history h legal are in
+    let had = c.in_ok-rows.ensures a.basis.charter.now history h legal are in
     let number = c.in_ok-auth.ensures history h had.2 in
     let x = c.in_ok-auth.auth.now in
     let rows = rows_of c.in_ok-rows.rows.now in
@@ -37,14 +37,14 @@ returns-in_err-require-2 c charter history legal are =
     let no_length : OfNumber history h a.number (λ y. terms_fit_length y a.max ≡ true) → ⊥ = λ of.
     let length = number-from history h rows a.number x (λ y. terms_fit_length y a.max ≡ true) had.2 number.0 of in
     false≢true (sym c.in_err-require-2.ensures.0 ∙ c.fits_length.ensures ∙ length) in
-    rw (p.1, p.2) (inr (had.0, inr (number.1, inr (dates, inl (no_length, c.in_err-require-2.ensures.1)))), refl)
+    rw (p.1, p.2) (inr (had.0, inr (number.1, inr (dates, inl (no_length, c.in_err-require-2.ensures.1)))))
 
 pub returns-in_err-require-3 : goal.returns-in_err-require-3
-returns-in_err-require-3 c charter history legal are =
+returns-in_err-require-3 c history legal are =
     let a = c.args in
     let h = a.holder.name.now in
     let p = err_from_is_err_and c.from_residual-in_err-require-3.result c.from_residual-in_err-require-3.ensures.1 in
-    let had = c.in_ok-rows.ensures charter history h legal are in
+    let had = c.in_ok-rows.ensures a.basis.charter.now history h legal are in
     let number = c.in_ok-auth.ensures history h had.2 in
     let x = c.in_ok-auth.auth.now in
     let rows = rows_of c.in_ok-rows.rows.now in
@@ -54,14 +54,14 @@ returns-in_err-require-3 c charter history legal are =
     let not_only : SharesWithNoOther history h a.number a.max a.until → ⊥ = λ of.
     let only = only-from history h rows a.number a.max a.until x had.2 number.0 of in
     false≢true (sym c.in_err-require-3.ensures.0 ∙ ap not (sym shared ∙ only)) in
-    rw (p.1, p.2) (inr (had.0, inr (number.1, inr (dates, inr (length, inl (not_only, c.in_err-require-3.ensures.1))))), refl)
+    rw (p.1, p.2) (inr (had.0, inr (number.1, inr (dates, inr (length, inl (not_only, c.in_err-require-3.ensures.1))))))
 
 pub returns : goal.returns
-returns c charter history legal are =
+returns c history legal are =
     let a = c.args in
     let h = a.holder.name.now in
     let e : Entry = record { day = a.basis.day; caller = a.basis.caller.now; command = Amend h a.number a.max a.until } in
-    let had = c.in_ok-rows.ensures charter history h legal are in
+    let had = c.in_ok-rows.ensures a.basis.charter.now history h legal are in
     let number = c.in_ok-auth.ensures history h had.2 in
     let x = c.in_ok-auth.auth.now in
     let rows = rows_of c.in_ok-rows.rows.now in

@@ -8,12 +8,12 @@ use Rattle.policy.proofs.CarryTerms.{carries-create}
 use Rattle.policy.proofs.decision.decide_create.Goals as goal
 
 pub returns : goal.returns
-returns c charter history legal are =
+returns c history legal are =
     let a = c.args in
     let h = a.holder.name.now in
     let t = a.terms.now in
     let e : Entry = record { day = a.basis.day; caller = a.basis.caller.now; command = Create h t.asn t.prefix t.max t.from t.until } in
-    let had = c.in_ok-rows.ensures charter history h legal are in
+    let had = c.in_ok-rows.ensures a.basis.charter.now history h legal are in
     let scope = sym (c.may_alter.ensures history h had.2) ∙ c.in_ok-require.ensures in
     let dates = c.are_dates.ensures.0 c.in_ok-require-2.ensures in
     let length = sym c.fits_length.ensures ∙ c.in_ok-require-3.ensures in

@@ -1,5 +1,6 @@
 use Rattle.std.proofs.Common.{ℕ, ◌<◌, ◌≤◌, ◌∷◌, sym, ◌∙◌, ap, subst, length, Some, arith, ◌+◌}
 use Rattle.std.proofs.lemmas.Bool.Decides.{nat_tests}
+use Rattle.policy.specs.declared.admission.TheConstants.{MOST_GRANTS, LAST_NUMBER}
 use Rattle.policy.specs.declared.command.Command.TheVariants.{Grant}
 use Rattle.policy.specs.declared.grant.Granted.{Granted}
 use Rattle.policy.specs.Answer.{number_made}
@@ -18,8 +19,8 @@ returns c history legal are =
     let had = c.in_ok-rows.ensures history h are in
     let r = c.in_ok-rows.rows.now in
     let room = c.has_room_for_grant.ensures.0 c.in_ok-require-3.ensures in
-    let few : length (grant_terms history h) < 64 = subst (λ (gs : _). length gs < 64) had.1.grants room.0 in
-    let made : grants_made history h < 999999 = subst (λ (k : ℕ). k < 999999) had.1.granted room.1 in
+    let few : length (grant_terms history h) < MOST_GRANTS = subst (λ (gs : _). length gs < MOST_GRANTS) had.1.grants room.0 in
+    let made : grants_made history h < LAST_NUMBER = subst (λ (k : ℕ). k < LAST_NUMBER) had.1.granted room.1 in
     let test = c.in_ok-require-2.ensures in
     let today = c.number.ensures.value in
     let last = c.number-2.ensures.value in

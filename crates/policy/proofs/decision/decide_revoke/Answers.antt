@@ -1,4 +1,4 @@
-use Rattle.std.proofs.Common.{◌∷◌, refl, sym, ◌∙◌, ap, eqb, inl, inr}
+use Rattle.std.proofs.Common.{◌∷◌, sym, ◌∙◌, ap, eqb, inl, inr}
 use Rattle.std.proofs.lemmas.Bool.{false≢true}
 use Rattle.std.proofs.lemmas.Result.{err_from_is_err_and}
 use Rattle.policy.specs.declared.command.Command.TheVariants.{Revoke}
@@ -26,10 +26,7 @@ returns-in_err-require-2 c history legal are =
     let a = c.args in
     let p = err_from_is_err_and c.from_residual-in_err-require-2.result c.from_residual-in_err-require-2.ensures.1 in
     let lacks = sym (c.has_grant.ensures a.basis.charter.now history a.holder.name.now legal are) ∙ c.in_err-require-2.ensures.0 in
-    rw (p.1, p.2) (
-      inr (
-        sym (c.is_steward.ensures history a.holder.name.now legal are) ∙ c.in_ok-require.ensures,
-        inl (λ has. false≢true (sym lacks ∙ has), c.in_err-require-2.ensures.1),
-      ),
-      refl,
-    )
+    rw (p.1, p.2) (inr (
+      sym (c.is_steward.ensures history a.holder.name.now legal are) ∙ c.in_ok-require.ensures,
+      inl (λ has. false≢true (sym lacks ∙ has), c.in_err-require-2.ensures.1),
+    ))

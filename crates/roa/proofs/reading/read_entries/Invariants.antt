@@ -1,5 +1,5 @@
 use Rattle.std.proofs.Common.{◌≡◌, ◌-◌, ◌≤◌, length}
-use Rattle.roa.specs.Reading.{entries_of}
+use Rattle.roa.specs.steps.Reading.{entries_of}
 use Rattle.roa.proofs.Loop.{with_front}
 use Rattle.roa.proofs.reading.read_entries.Given as goal
 

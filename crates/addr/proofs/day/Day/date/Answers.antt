@@ -2,11 +2,12 @@ use Rattle.std.proofs.Common.{◌≡◌, ◌≤◌, false, true, pos, ◌+ℤ◌
 use Rattle.std.proofs.lemmas.Int.{to_z-of_z}
 use Rattle.jiff.proofs.SpanFacts.{signed_arith, date_add-days, can_add-days}
 use Rattle.jiff.specs.Words.{epoch_day, IsEpochDay}
+use Rattle.addr.specs.declared.day.TheConstants.{LAST_DAY}
 use Rattle.addr.proofs.day.Day.date.Goals as goal
 
 pub unreachable-requires : goal.unreachable-requires
 unreachable-requires c =
-    let bound : c.self.inside.number ≤ 2_932_896 = c.self.invariant in
+    let bound : c.self.inside.number ≤ LAST_DAY = c.self.invariant in
     let fits : FitsSigned w64 c.from.result = omega (arith, signed_arith) in
     let only = simp to_z-of_z at c.days.ensures in
     let day : IsEpochDay (epoch_day c.epoch.result +ℤ c.from.result) = omega (arith, signed_arith) in
@@ -16,7 +17,7 @@ unreachable-requires c =
 
 pub returns : goal.returns
 returns c =
-    let bound : c.self.inside.number ≤ 2_932_896 = c.self.invariant in
+    let bound : c.self.inside.number ≤ LAST_DAY = c.self.invariant in
     let fits : FitsSigned w64 c.from.result = omega (arith, signed_arith) in
     let only = simp to_z-of_z at c.days.ensures in
     let ok = c.in-Ok.ensures in

@@ -3,6 +3,7 @@ use Rattle.std.proofs.lemmas.Int.{to_z-of_z}
 use Rattle.jiff.specs.Words.{epoch_day}
 use Rattle.jiff_core.proofs.SignedLemmas.{signed_arith}
 use Rattle.addr.specs.Day.{from_1970}
+use Rattle.addr.specs.declared.day.TheConstants.{LAST_DAY}
 use Rattle.addr.proofs.DayLemmas.{hours_between, number_by_hours, number_within}
 use Rattle.addr.proofs.day.Day.of.Goals as goal
 
@@ -15,7 +16,7 @@ numbered c =
 
 pub overflow_cast-result : goal.overflow_cast-result
 overflow_cast-result c =
-    let small : c.in-Ok.hours / 24 ≤ 2_932_896 = number_within c.args.date _ (numbered c) in
+    let small : c.in-Ok.hours / 24 ≤ LAST_DAY = number_within c.args.date _ (numbered c) in
     omega arith
 
 pub invariant_of-result : goal.invariant_of-result

@@ -3,7 +3,7 @@ use Rattle.std.specs.Prelude.{vec_len, vec_capacity}
 use Rattle.policy.specs.History.{History}
 use Rattle.policy.specs.Verdict.{IsLegal}
 use Rattle.desk.specs.Desk.{charter_of, desk_rows}
-use Rattle.desk.specs.DeskRows.{HasRows}
+use Rattle.policy.specs.RowsOfAll.{HasRows}
 use Rattle.desk.specs.Run.{AreAnswered}
 use Rattle.desk.proofs.handling.Desk.run.Given as goal
 

@@ -1,5 +1,5 @@
 use Rattle.std.proofs.Common.{subst}
-use Rattle.payload.specs.Shortest.{AreNoShorter}
+use Rattle.payload.specs.steps.Shortest.{AreNoShorter}
 use Rattle.payload.proofs.Places.{rising-from_sorted, same-members}
 use Rattle.payload.proofs.list.ListIndexFromVecVrp.from.Goals as goal
 

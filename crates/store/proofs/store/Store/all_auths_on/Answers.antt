@@ -3,7 +3,8 @@ use Rattle.sqlite.specs.Held.{state}
 use Rattle.sqlite.specs.State.{HasCleanDisk}
 use Rattle.addr.specs.declared.vrp.Vrp.{Vrp}
 use Rattle.policy.specs.Rows.{Rows}
-use Rattle.store.specs.Loads.{IsGivenOn, AllGiveOn}
+use Rattle.policy.specs.RowsOfAll.{IsGivenOn}
+use Rattle.store.specs.Loads.{AllGiveOn}
 use Rattle.store.specs.StoreRows.{Holds}
 use Rattle.store.proofs.StoreLemmas.{over, of_store}
 use Rattle.store.proofs.store.Store.all_auths_on.Goals as goal

@@ -9,6 +9,7 @@ use Rattle.addr.specs.Family.{width}
 use Rattle.addr.specs.declared.family.Family.{Family}
 use Rattle.addr.specs.declared.family.Family.TheVariants.{V4, V6}
 use Rattle.roa.specs.declared.content.Entry.{Entry}
+use Rattle.roa.specs.declared.content.TheConstants.Content.{MAX_ENTRIES}
 use Rattle.roa.specs.RoaContent.{be_value, family_octets}
 use Rattle.roa.specs.ContentOctets.{integer_len}
 
@@ -117,8 +118,8 @@ family_at room family bytes = entries_after room family bytes (block_at family b
 -- the entries of both families, that are all of the octets
 unfoldable pub blocks_of : List ℕ → Option (List Numbers)
 blocks_of bytes = do
-  four ← family_at 64 V4 bytes
-  six ← family_at (64 - length four.0) V6 four.1
+  four ← family_at MAX_ENTRIES V4 bytes
+  six ← family_at (MAX_ENTRIES - length four.0) V6 four.1
   if length six.1 == 0 then Some (four.0 ++ six.0) else None
 
 -- the AS number, and the octets of the blocks
@@ -161,8 +162,3 @@ abbrev pub Reads : {X Y : Type 0} → (X → Y) → Result X DecodeFault → Opt
 Reads view (Ok x) read = read ≡ Some (view x)
 Reads view (Err NotContent) read = read ≡ None
 Reads view (Err Memory) read = Unit {0}
-
--- the number of a reason, from 1
-abbrev pub decode_fault_number : DecodeFault → ℕ
-decode_fault_number NotContent = 1
-decode_fault_number Memory = 2

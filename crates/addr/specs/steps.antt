@@ -1,0 +1,2 @@
+-- What the code's steps leave, which no public clause speaks of.
+pub mod Parts

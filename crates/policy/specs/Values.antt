@@ -1,0 +1,73 @@
+-- What the types of the values promise. Elsewhere a history ranges over all numbers and texts: a day, a
+-- number of a `u32` and a name are seen as any number and any text there.
+use Rattle.std.specs.Prelude.{ℕ, ◌^◌, ◌<◌, ◌≤◌, IsTrue, List, [], ◌∷◌, Option, Some, None, All}
+use Rattle.addr.specs.Day.{IsDay}
+use Rattle.addr.specs.Name.{is_name}
+use Rattle.policy.specs.declared.admission.TheConstants.{LAST_NUMBER}
+use Rattle.policy.specs.declared.authorization.Auth.{Auth}
+use Rattle.policy.specs.declared.charter.Charter.{Charter}
+use Rattle.policy.specs.declared.command.Command.{Command}
+use Rattle.policy.specs.declared.command.Command.TheVariants.{Register, Delegate, Transfer, Reclaim, Grant, Revoke, Create, Amend, Withdraw}
+use Rattle.policy.specs.declared.grant.Granted.{Granted}
+use Rattle.policy.specs.History.{Entry, History}
+use Rattle.policy.specs.Rows.{Rows, RowsOf}
+use Rattle.policy.specs.Verdict.{IsLegal}
+
+abbrev pub IsU8 : ℕ → Type 0
+IsU8 n = n < 2 ^ 8
+
+abbrev pub IsU32 : ℕ → Type 0
+IsU32 n = n < 2 ^ 32
+
+-- the values of a command are those of their types; prefixes are so anyhow
+abbrev pub CommandFits : Command → Type 0
+CommandFits (Register holder) = IsTrue (is_name holder)
+CommandFits (Delegate holder p) = IsTrue (is_name holder)
+CommandFits (Transfer p giver taker) = IsTrue (is_name giver) × IsTrue (is_name taker)
+CommandFits (Reclaim holder p) = IsTrue (is_name holder)
+CommandFits (Grant holder name role scope until) = IsTrue (is_name holder) × IsTrue (is_name name) × IsDay until
+CommandFits (Revoke holder n) = IsTrue (is_name holder) × IsU32 n
+CommandFits (Create holder asn p max from until) =
+    IsTrue (is_name holder) × IsU32 asn.0 × IsU8 max × IsDay from × IsDay until
+CommandFits (Amend holder n max until) = IsTrue (is_name holder) × IsU32 n × IsU8 max × IsDay until
+CommandFits (Withdraw holder n) = IsTrue (is_name holder) × IsU32 n
+
+pub record EntryFits (e : Entry) : Type 0 where
+  pub day : IsDay e.day
+  pub caller : IsTrue (is_name e.caller)
+  pub command : CommandFits e.command
+
+abbrev pub HistoryFits : History → Type 0
+HistoryFits [] = Unit {0}
+HistoryFits (e ∷ before) = EntryFits e × HistoryFits before
+
+pub record AuthFits (x : Auth) : Type 0 where
+  pub number : IsU32 x.number
+  pub asn : IsU32 x.asn.0
+  pub max : IsU8 x.max
+  pub from : IsDay x.from
+  pub until : IsDay x.until
+
+pub record GrantFits (g : Granted) : Type 0 where
+  pub number : IsU32 g.number
+  pub caller : IsTrue (is_name g.caller)
+  pub until : IsDay g.until
+
+-- each value of the rows is one of its type
+pub record RowsFit (r : Rows) : Type 0 where
+  pub granted : IsU32 r.granted
+  pub created : IsU32 r.created
+  pub grants : All GrantFits r.grants
+  pub auths : All AuthFits r.auths
+
+abbrev pub FitIfAny : Option Rows → Type 0
+FitIfAny None = Unit {0}
+FitIfAny (Some r) = RowsFit r
+
+-- the rows of a legal history of such values have such values too, and their counters end where no more
+-- is made
+abbrev pub LegalRowsFit : Type 0
+LegalRowsFit =
+    (charter : Charter) (history : History) (h : List ℕ) (rows : Rows)
+    → IsLegal charter history → HistoryFits history → RowsOf history h rows
+    → RowsFit rows × (rows.granted ≤ LAST_NUMBER) × (rows.created ≤ LAST_NUMBER)

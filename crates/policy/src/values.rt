@@ -1,0 +1,94 @@
+// A contract sees a day, a name and a number of a type as any number and any text, so a proof that
+// rests on what their types promise is told of it here.
+ghost use Rattle.std.specs.Prelude.{IsTrue};
+ghost use Rattle.addr.specs.Day.{IsDay};
+ghost use Rattle.addr.specs.Name.{is_name};
+ghost use Rattle.policy.specs.Values.{IsU8, IsU32, CommandFits, EntryFits};
+
+use crate::Command;
+use addr::{Day, Name};
+
+/// Tells a proof that the values of an entry are those of their types. It does nothing when it
+/// runs.
+pub fn tell_values(day: Day, caller: &Name, command: &Command)
+    ensures { EntryFits (record { day = day; caller = caller.now; command = command.now }) }
+{
+    tell_day(day);
+    tell_name(caller);
+    tell_command(command);
+}
+
+fn tell_command(command: &Command)
+    ensures { CommandFits command.now }
+{
+    match command {
+        Command::Register { holder }
+        | Command::Delegate { holder, .. }
+        | Command::Reclaim { holder, .. } => tell_name(holder),
+        Command::Transfer { giver, taker, .. } => {
+            tell_name(giver);
+            tell_name(taker);
+        }
+        Command::Grant {
+            holder,
+            name,
+            until,
+            ..
+        } => {
+            tell_name(holder);
+            tell_name(name);
+            tell_day(*until);
+        }
+        Command::Revoke { holder, number } | Command::Withdraw { holder, number } => {
+            tell_name(holder);
+            tell_number(*number);
+        }
+        Command::Create {
+            holder,
+            asn,
+            max,
+            from,
+            until,
+            ..
+        } => {
+            tell_name(holder);
+            tell_number(asn.0);
+            tell_max_length(*max);
+            tell_day(*from);
+            tell_day(*until);
+        }
+        Command::Amend {
+            holder,
+            number,
+            max,
+            until,
+        } => {
+            tell_name(holder);
+            tell_number(*number);
+            tell_max_length(*max);
+            tell_day(*until);
+        }
+    }
+}
+
+fn tell_name(name: &Name)
+    ensures { IsTrue (is_name name.now) }
+{
+    let _ = name.as_bytes();
+}
+
+fn tell_day(day: Day)
+    ensures { IsDay day }
+{
+    let _ = day.number();
+}
+
+fn tell_number(number: u32)
+    ensures { IsU32 number }
+{
+}
+
+fn tell_max_length(max: u8)
+    ensures { IsU8 max }
+{
+}

@@ -1,0 +1,2 @@
+-- What the reader's functions answer, which no public clause speaks of.
+pub mod Reading
