@@ -16,10 +16,8 @@ use Rattle.policy.specs.Terms.{granted_after, grants_made, grants_after, grant_t
 use Rattle.policy.proofs.Numbers.{Numbered}
 use Rattle.policy.proofs.Held.{active-numbered}
 use Rattle.policy.proofs.Fitting.{legal_rows_fit}
-use Rattle.policy.specs.declared.charter.Charter.{Charter}
 use Rattle.policy.specs.Rows.{Rows, RowsIfAny}
-use Rattle.policy.specs.Values.{HistoryFits, FitIfAny}
-use Rattle.policy.specs.Verdict.{IsLegal}
+use Rattle.policy.specs.Values.{FitIfAny}
 use Rattle.store.specs.Laws.{LoadsRowsOfHistories, RowsOfHistoriesFit}
 use Rattle.store.specs.Loads.{AreInOrder}
 
