@@ -81,7 +81,7 @@ impl Desk {
         ensures charter { charter_of self.new ≡ charter_of self.old }
         ensures kept { is_done result ≡ false → KeepsRows self.old self.new }
     {
-        policy::tell_values(day, caller, command);
+        policy::laws::entry_fits(day, caller, command);
         let change = match self.decide(day, caller, command) {
             Ok(change) => change,
             Err(Refusal::Denied(rule, row)) => return Reply::Denied(rule, row),

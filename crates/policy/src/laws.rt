@@ -1,9 +1,13 @@
-//! Laws over the definitions alone: each function's contract states one, and its body is empty.
+//! Laws of the definitions: each function's contract states one, and its body does nothing.
 
 ghost use Rattle.policy.specs.Ended.{EndsJustOverlapping};
 ghost use Rattle.policy.specs.SharedVrps.{NoSharedVrp};
 ghost use Rattle.policy.specs.Unregistered.{UnregisteredHaveNothing};
-ghost use Rattle.policy.specs.Values.{LegalRowsFit};
+ghost use Rattle.policy.specs.Values.{EntryFits, LegalRowsFit};
+
+use crate::Command;
+use crate::values::{tell_command, tell_day, tell_name};
+use addr::{Day, Name};
 
 /// Over a legal history no two active authorizations, of whatever holders, give the same AS, prefix
 /// and maxLength.
@@ -29,3 +33,12 @@ pub fn ends_just_overlapping()
 pub fn legal_rows_fit()
     ensures { LegalRowsFit }
 {}
+
+/// The values of an entry that a call can make are those of their types.
+pub fn entry_fits(day: Day, caller: &Name, command: &Command)
+    ensures { EntryFits (record { day = day; caller = caller.now; command = command.now }) }
+{
+    tell_day(day);
+    tell_name(caller);
+    tell_command(command);
+}

@@ -25,4 +25,3 @@ pub use grant::{Access, Granted, Role, Scope};
 pub use rows::{HolderRows, View};
 pub use rule::{Refusal, Rule};
 pub use sight::{see, see_all};
-pub use values::tell_values;

@@ -3,22 +3,12 @@
 ghost use Rattle.std.specs.Prelude.{IsTrue};
 ghost use Rattle.addr.specs.Day.{IsDay};
 ghost use Rattle.addr.specs.Name.{is_name};
-ghost use Rattle.policy.specs.Values.{IsU8, IsU32, CommandFits, EntryFits};
+ghost use Rattle.policy.specs.Values.{IsU8, IsU32, CommandFits};
 
 use crate::Command;
 use addr::{Day, Name};
 
-/// Tells a proof that the values of an entry are those of their types. It does nothing when it
-/// runs.
-pub fn tell_values(day: Day, caller: &Name, command: &Command)
-    ensures { EntryFits (record { day = day; caller = caller.now; command = command.now }) }
-{
-    tell_day(day);
-    tell_name(caller);
-    tell_command(command);
-}
-
-fn tell_command(command: &Command)
+pub(crate) fn tell_command(command: &Command)
     ensures { CommandFits command.now }
 {
     match command {
@@ -71,13 +61,13 @@ fn tell_command(command: &Command)
     }
 }
 
-fn tell_name(name: &Name)
+pub(crate) fn tell_name(name: &Name)
     ensures { IsTrue (is_name name.now) }
 {
     let _ = name.as_bytes();
 }
 
-fn tell_day(day: Day)
+pub(crate) fn tell_day(day: Day)
     ensures { IsDay day }
 {
     let _ = day.number();

@@ -25,10 +25,9 @@ use Rattle.store.specs.Cells.{number_cell}
 use Rattle.store.specs.TablesHold.{items_if_any, TablesHold}
 use Rattle.store.specs.steps.Queries.{by_column, WasRead}
 use Rattle.store.specs.declared.rows.Counters.{Counters}
-use Rattle.policy.specs.Values.{IsU32, GrantFits, AuthFits}
+use Rattle.policy.specs.Values.{IsU32, GrantFits, AuthFits, FitIfAny}
 use Rattle.store.specs.declared.fault.StoreFault.{StoreFault}
 use Rattle.store.specs.declared.fault.StoreFault.TheVariants.{Schema}
-use Rattle.policy.specs.Values.{FitIfAny}
 use Rattle.store.specs.Loads.{AreInOrder, HaveSame, AreLoaded}
 use Rattle.store.proofs.CellsOnce.{counters_of_rows}
 use Rattle.store.proofs.RowSteps.{taken_more}

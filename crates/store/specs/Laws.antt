@@ -1,12 +1,13 @@
 -- What follows for the rows of a history.
 use Rattle.std.specs.Prelude.{ℕ, List, Option, Some, None, ⊤}
 use Rattle.addr.specs.Spans.{AreMaximal}
-use Rattle.policy.specs.declared.rows.HolderRows.{HolderRows}
 use Rattle.policy.specs.declared.charter.Charter.{Charter}
+use Rattle.policy.specs.declared.rows.HolderRows.{HolderRows}
 use Rattle.policy.specs.History.{History}
+use Rattle.policy.specs.Rows.{Rows, rows_if_any, RowsIfAny}
+use Rattle.policy.specs.RowsOfAll.{HasRows}
 use Rattle.policy.specs.Values.{HistoryFits, FitIfAny}
 use Rattle.policy.specs.Verdict.{IsLegal}
-use Rattle.policy.specs.Rows.{Rows, rows_if_any, RowsIfAny}
 use Rattle.store.specs.Loads.{AreLoaded}
 
 -- what `Holdings` promises of the rows
@@ -21,9 +22,10 @@ LoadsRowsOfHistories =
     → RowsIfAny history h rows → AreMaximalIfAny loaded → AreLoaded rows loaded
     → RowsIfAny history h (rows_if_any loaded)
 
--- The rows of a holder after a legal history whose values are those of their types are of such values too:
--- so no load of them finds a row that does not read.
+-- The rows of a legal history whose values are those of their types fit, so that no load of a holder
+-- finds a row that shows none.
 abbrev pub RowsOfHistoriesFit : Type 0
 RowsOfHistoriesFit =
-    (charter : Charter) (history : History) (h : List ℕ) (rows : Option Rows)
-    → IsLegal charter history → HistoryFits history → RowsIfAny history h rows → FitIfAny rows
+    (charter : Charter) (history : History) (rows : List ℕ → Option Rows)
+    → IsLegal charter history → HistoryFits history → HasRows rows history
+    → (h : List ℕ) → FitIfAny (rows h)

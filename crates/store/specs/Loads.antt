@@ -42,8 +42,6 @@ AreLoaded None (Some loaded) = ⊥
 AreLoaded (Some r) None = ⊥
 AreLoaded (Some r) (Some loaded) = IsLoaded r loaded
 
--- ---- the rows of every holder
-
 -- each authorization that is in force on the day gives a VRP
 abbrev pub AllGiveOn : (List ℕ → Option Rows) → ℕ → Type 0
 AllGiveOn rows day =

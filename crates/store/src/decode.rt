@@ -1,13 +1,13 @@
 //! Typed values of the cells that show them.
 ghost use Rattle.std.specs.Prelude.{◌≡◌, ◌≢◌, [], ◌∷◌, length, ⊤, IfSome, IsTrue};
 ghost use Rattle.std.specs.Bool.{OnTrue, OnFalse};
+ghost use Rattle.addr.specs.Day.{IsDay};
 ghost use Rattle.addr.specs.Name.{is_name};
+ghost use Rattle.policy.specs.Values.{IsU8, IsU32};
 ghost use Rattle.sqlite_value.specs.declared.value.Value.TheVariants.{Text, Blob};
 ghost use Rattle.sqlite_value.specs.Order.{column};
 ghost use Rattle.sqlite_value.specs.Value.{owned};
 ghost use Rattle.store.specs.Cells.{address, number_cell, family_number, role_number, prefix_cells, scope_cells, span_cells};
-ghost use Rattle.policy.specs.Values.{IsU8, IsU32};
-ghost use Rattle.addr.specs.Day.{IsDay};
 ghost use Rattle.store.specs.Decode.{Decodes, first_columns};
 
 use addr::{Day, Family, Name, Prefix, Span};

@@ -9,8 +9,8 @@ pub fn rows_of_a_history()
     ensures { LoadsRowsOfHistories }
 {}
 
-/// Where the tables hold the rows of a legal history whose values are those of their types, each row
-/// reads, so that `load_holder` and `load_two` never answer `Schema`.
+/// Where the tables hold the rows of a legal history whose values are those of their types, no load
+/// of a holder answers `Schema`.
 pub fn rows_of_a_history_fit()
     ensures { RowsOfHistoriesFit }
 {

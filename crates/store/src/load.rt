@@ -1,8 +1,8 @@
 ghost use Rattle.std.specs.Prelude.{◌≡◌, ◌↔◌, map, All, Contains, Err, IfOk, IsPermutation, IsSorted};
 ghost use Rattle.sqlite.specs.Held.{state};
 ghost use Rattle.addr.specs.declared.vrp.Vrp.{Vrp};
-ghost use Rattle.policy.specs.Values.{FitIfAny};
 ghost use Rattle.policy.specs.RowsOfAll.{IsGivenOn};
+ghost use Rattle.policy.specs.Values.{FitIfAny};
 ghost use Rattle.store.specs.Loads.{HaveSame, AreLoaded, AllGiveOn};
 ghost use Rattle.store.specs.TablesHold.{items_if_any};
 ghost use Rattle.store.specs.steps.Queries.{IsAsked, IsOf, IsOfAll, IsOnCleanDisk, IsReadyToAsk, WasRead};

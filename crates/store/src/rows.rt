@@ -6,10 +6,10 @@ ghost use Rattle.std.specs.declared.cmp.Ordering.TheVariants.{Equal};
 ghost use Rattle.std.specs.Ordering.{then_cmp};
 ghost use Rattle.addr.specs.Name.{is_name};
 ghost use Rattle.policy.specs.Rows.{Rows};
+ghost use Rattle.policy.specs.Values.{IsU32, AuthFits, GrantFits};
 ghost use Rattle.sqlite_value.specs.declared.value.Value.TheVariants.{Text};
 ghost use Rattle.sqlite_value.specs.Order.{Row as Cells};
 ghost use Rattle.store.specs.Cells.{prefix_cells, span_cells, counter_cells, grant_cells, auth_cells, vrp_cells};
-ghost use Rattle.policy.specs.Values.{IsU32, AuthFits, GrantFits};
 ghost use Rattle.store.specs.Decode.{Decodes, VrpFits, ShowsNone};
 ghost use Rattle.store.specs.steps.Queries.{Selects, by_column};
 

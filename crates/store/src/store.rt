@@ -145,8 +145,8 @@ impl<S: Alter> Store<S> {
     ghost use Rattle.std.specs.Prelude.{ℕ, List, Option, Contains};
     ghost use Rattle.addr.specs.declared.vrp.Vrp.{Vrp};
     ghost use Rattle.policy.specs.Rows.{Rows};
-    ghost use Rattle.policy.specs.Values.{FitIfAny};
     ghost use Rattle.policy.specs.RowsOfAll.{IsTaken, IsGivenOn};
+    ghost use Rattle.policy.specs.Values.{FitIfAny};
     ghost use Rattle.store.specs.Loads.{OfHeldRows, AreLoaded, AllGiveOn};
     ghost use Rattle.store.specs.StoreRows.{state_of, IsDeskWhileOpen, Holds, IsRead};
     ghost use Rattle.store.specs.StoreRows.{IfClean, HoldsAfter, MayLeave, LeavesOnly};

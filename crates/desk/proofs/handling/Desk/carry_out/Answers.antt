@@ -7,7 +7,7 @@ use Rattle.desk.proofs.handling.Desk.carry_out.Goals as goal
 pub returns-in-Ok-apply-clause-answered : goal.returns-in-Ok-apply-clause-answered
 returns-in-Ok-apply-clause-answered c = λ history legal has.
     done_answered (charter_of c.args.self.now) history c.args.day c.args.caller.now c.args.command.now c.in-Ok.change c.number-number.result
-    (desk_rows c.args.self.now) (rows_at c.apply.new.self) c.tell_values.ensures legal has (c.in-Ok.ensures.answer history legal has) c.number-number.ensures
+    (desk_rows c.args.self.now) (rows_at c.apply.new.self) c.entry_fits.ensures legal has (c.in-Ok.ensures.answer history legal has) c.number-number.ensures
     (rw c.in-Ok.ensures.kept at c.in-Ok-apply.ensures.ok)
 
 pub returns-in-Err-Denied-clause-answered : goal.returns-in-Err-Denied-clause-answered
