@@ -1,4 +1,4 @@
-use Rattle.std.proofs.Common.{◌≡◌, ℕ, List, [], ◌∷◌, ◌++◌, refl, sym, ap, ◌∙◌}
+use Rattle.std.proofs.Common.{◌≡◌, [], ◌∷◌, ◌++◌, refl, ap, ◌∙◌}
 use Rattle.desk.proofs.Outcomes.{on_err}
 use Rattle.web.specs.ScriptLines.{all_but_last, last_of, pieces}
 use Rattle.web.specs.steps.LineSplitting.{behind, completed_lines, unfinished_line}
