@@ -1,5 +1,5 @@
 -- Replies to lines that come one after the other.
-use Rattle.std.proofs.Common.{ℕ, List, [], ◌∷◌, ◌++◌, Option, refl, sym, ◌∙◌, ap, append_assoc}
+use Rattle.std.proofs.Common.{◌≡◌, ℕ, List, [], ◌∷◌, ◌++◌, Option, refl, sym, ◌∙◌, ap, append_assoc}
 use Rattle.std.proofs.lemmas.List.{append-nil}
 use Rattle.web.specs.Streams.{AppendsBeginning}
 use Rattle.web.specs.ScriptLines.{within_limit}
@@ -32,6 +32,12 @@ module _ {State : Type 0} (answers : State → Option (List ℕ) → List ℕ �
   -- no line was asked
   pub AnswersEach-nil : (old : State) (w : List ℕ) → AnswersEach answers old old [] w w
   AnswersEach-nil old w = ([], (refl, refl), sym (append-nil w))
+
+  pub AnswersEach-one : (old new : State) (line reply w w' : List ℕ)
+      → answers old (within_limit line) reply new → w' ≡ w ++ reply
+      → AnswersEach answers old new (line ∷ []) w w'
+  AnswersEach-one old new line reply w w' acted written =
+      (reply, (reply, [], new, sym (append-nil reply), acted, (refl, refl)), written)
 
   pub BreaksOff-one : (old new : State) (line reply w w' : List ℕ)
       → answers old (within_limit line) reply new → AppendsBeginning w w' reply

@@ -1,5 +1,4 @@
 pub mod Devices
-pub mod LineSplitting
 pub mod ReplyItems
 pub mod ReplyText
 pub mod Script

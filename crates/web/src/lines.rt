@@ -1,9 +1,10 @@
-//! The line that is being read.
-ghost use Rattle.std.specs.Prelude.{◌≡◌, ◌≤◌, ◌↔◌, ℕ, List, [], ◌∷◌, ◌++◌, Option, Some, None, IfOk, IsTrue, if◌then◌else◌, vec_len, vec_capacity};
+//! Lines: where they end, and the one that is being read.
+ghost use Rattle.std.specs.Prelude.{◌≡◌, ◌≤◌, ◌↔◌, ℕ, List, [], ◌∷◌, ◌++◌, ◌<◌, length, Option, Some, None, IfOk, IfNone, IfSome, IsTrue, if◌then◌else◌, vec_len, vec_capacity};
 ghost use Rattle.std.specs.Option.{option_copied};
-ghost use Rattle.web.specs.ScriptLines.{within_limit};
+ghost use Rattle.web.specs.ScriptLines.{pieces, within_limit};
 ghost use Rattle.web.specs.declared.lines.TheConstants.{LINE_LENGTH_LIMIT};
 
+use memchr::memchr;
 use std::alloc::{AllocError, Global};
 use std::marker::Model;
 
@@ -40,19 +41,19 @@ impl LineBuffer {
         })
     }
 
-    /// Puts a byte at the line's end.
-    pub(crate) fn push(&mut self, byte: u8)
+    /// Puts the bytes at the line's end.
+    pub(crate) fn append(&mut self, bytes: &[u8])
         ensures { (line : List ℕ) → self.old ≡ within_limit line
-            → self.new ≡ within_limit (line ++ byte ∷ []) }
+            → self.new ≡ within_limit (line ++ bytes.now) }
     {
         if self.is_too_long {
             return;
         }
-        if self.bytes.len() == LINE_LENGTH_LIMIT {
+        if bytes.len() > LINE_LENGTH_LIMIT - self.bytes.len() {
             self.is_too_long = true;
             return;
         }
-        let Ok(()) = self.bytes.push(byte) else {
+        let Ok(()) = self.bytes.extend_from_slice(bytes) else {
             unreachable!()
         };
     }
@@ -82,4 +83,16 @@ impl LineBuffer {
             Some(self.bytes.as_slice())
         }
     }
+}
+
+/// What stands before the first line feed, and what after it.
+pub(crate) fn cut_at_line_feed(bytes: &[u8]) -> Option<(&[u8], &[u8])>
+    ensures found { IfSome result (λ cut. pieces bytes.now ≡ cut.0.now ∷ pieces cut.1.now) }
+    ensures shorter { IfSome result (λ cut. length cut.1.now < length bytes.now) }
+    ensures none { IfNone result (pieces bytes.now ≡ bytes.now ∷ []) }
+{
+    let Some(end) = memchr(b'\n', bytes) else {
+        return None;
+    };
+    Some((&bytes[..end], &bytes[end + 1..]))
 }

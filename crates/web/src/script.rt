@@ -4,10 +4,10 @@ ghost use Rattle.std.specs.Io.{StartsWith, appended_bytes};
 ghost use Rattle.std.specs.Option.{option_copied};
 ghost use Rattle.web.specs.Streams.{AppendsBeginning};
 ghost use Rattle.web.specs.ScriptLines.{lines_read, script_lines, unless_empty, whole_lines, within_limit};
-ghost use Rattle.web.specs.LineSplitting.{completed_lines, unfinished_line};
+ghost use Rattle.web.specs.steps.LineSplitting.{completed_lines, unfinished_line};
 ghost use Rattle.web.specs.Script.{AnswersEach, BreaksOff};
 
-use crate::lines::LineBuffer;
+use crate::lines::{LineBuffer, cut_at_line_feed};
 use crate::stream::{Drain, Failed, Source};
 use std::alloc::Global;
 
@@ -57,34 +57,7 @@ pub(crate) trait AnswerLines {
         ensures failed { OnErr result (D.has_failed drain.new ≡ true) };
 }
 
-// Answers the line where the byte ends it, and keeps the byte where it does not.
-fn answer_at<D: Drain, E: AnswerLines>(
-    alloc: Global,
-    byte: u8,
-    buffer: &mut LineBuffer,
-    drain: &mut D,
-    engine: &mut E,
-) -> Result<(), Failed>
-    ensures rest { (unfinished : List ℕ) → buffer.old ≡ within_limit unfinished
-        → OnOk result (buffer.new ≡ within_limit (unfinished_line unfinished (byte ∷ []))) }
-    ensures ok { (unfinished : List ℕ) → buffer.old ≡ within_limit unfinished
-        → OnOk result (AnswersEach E.answers engine.old engine.new
-        (completed_lines unfinished (byte ∷ [])) (D.written drain.old) (D.written drain.new)) }
-    ensures err { (unfinished : List ℕ) → buffer.old ≡ within_limit unfinished
-        → OnErr result (BreaksOff E.answers engine.old engine.new
-        (completed_lines unfinished (byte ∷ [])) (D.written drain.old) (D.written drain.new)) }
-    ensures failed { OnErr result (D.has_failed drain.new ≡ true) }
-{
-    if byte != b'\n' {
-        buffer.push(byte);
-        return Ok(());
-    }
-    engine.answer(alloc, drain, buffer.line())?;
-    buffer.clear();
-    Ok(())
-}
-
-// Answers each line that the bytes complete.
+// Answers each line that the bytes complete, and keeps what follows the last of them.
 fn answer_completed<D: Drain, E: AnswerLines>(
     alloc: Global,
     bytes: &[u8],
@@ -102,9 +75,14 @@ fn answer_completed<D: Drain, E: AnswerLines>(
         (completed_lines unfinished bytes.now) (D.written drain.old) (D.written drain.new)) }
     ensures failed { OnErr result (D.has_failed drain.new ≡ true) }
 {
-    for byte in bytes {
-        answer_at(alloc, *byte, buffer, drain, engine)?;
+    let mut rest = bytes;
+    while let Some((line, more)) = cut_at_line_feed(rest) {
+        buffer.append(line);
+        engine.answer(alloc, drain, buffer.line())?;
+        buffer.clear();
+        rest = more;
     }
+    buffer.append(rest);
     Ok(())
 }
 

@@ -1,48 +1,66 @@
-use Rattle.std.proofs.Common.{◌≡◌, ◌∷◌, [], ◌++◌, ◌+◌, take, drop, get_or}
-use Rattle.std.proofs.lemmas.List.{take_more}
-use Rattle.web.specs.LineSplitting.{completed_lines, unfinished_line}
-use Rattle.web.proofs.LineSplits.{completed_lines-append, completed_lines-take, unfinished_line-append}
+use Rattle.std.proofs.Common.{◌≡◌, ℕ, List, [], ◌∷◌, ◌++◌, refl, sym, ap, ◌∙◌}
 use Rattle.desk.proofs.Outcomes.{on_err}
-use Rattle.web.proofs.ScriptLemmas.{AnswersEach-append, BreaksOff-after, BreaksOff-before}
+use Rattle.web.specs.ScriptLines.{all_but_last, last_of, pieces}
+use Rattle.web.specs.steps.LineSplitting.{behind, completed_lines, unfinished_line}
+use Rattle.web.proofs.LineSplits.{all_but_last-append, all_but_last-one, last_of-one, behind-cut, behind-rest}
+use Rattle.web.proofs.ScriptLemmas.{AnswersEach-append, AnswersEach-nil, AnswersEach-one, BreaksOff-after, BreaksOff-before, BreaksOff-one}
 use Rattle.web.proofs.script.answer_completed.Goals as goal
 
-pub loop-byte-preserved : goal.loop-byte-preserved
-loop-byte-preserved g c =
-    let i = c.loop-byte.byte-index in
-    let bytes = c.args.bytes.now in
-    let before = take i bytes in
-    let byte = get_or bytes i 0 in
-    let one_more : take (i + 1) bytes ≡ before ++ byte ∷ [] = take_more bytes i 0 c.loop-byte-test.true in
-    record {
-      rest = λ unfinished holds.
-          rw (one_more, unfinished_line-append unfinished before (byte ∷ []))
-          (c.in_ok-answer_at.ensures.rest _ (c.loop-byte.invariant.rest unfinished holds));
-      answered = λ unfinished holds.
-          rw (one_more, completed_lines-append unfinished before (byte ∷ []))
-          (AnswersEach-append g.E.AnswerLines.answers c.args.engine.now c.loop-byte.engine c.answer_at.new.engine
-          (completed_lines unfinished before)
-          (completed_lines (unfinished_line unfinished before) (byte ∷ []))
-          (g.D.Drain.written c.args.drain.now) (g.D.Drain.written c.loop-byte.drain) (g.D.Drain.written c.answer_at.new.drain)
-          (c.loop-byte.invariant.answered unfinished holds)
-          (c.in_ok-answer_at.ensures.ok _ (c.loop-byte.invariant.rest unfinished holds)));
-    }
+pub loop-line-init : goal.loop-line-init
+loop-line-init g c = λ unfinished holds.
+    ([], unfinished, refl, holds, AnswersEach-nil g.E.AnswerLines.answers c.args.engine.now (g.D.Drain.written c.args.drain.now))
 
-pub returns-in_err-answer_at-clause-err : goal.returns-in_err-answer_at-clause-err
-returns-in_err-answer_at-clause-err g c = λ unfinished holds.
-    let i = c.loop-byte.byte-index in
-    let bytes = c.args.bytes.now in
-    let before = take i bytes in
-    let byte = get_or bytes i 0 in
-    let one_more : take (i + 1) bytes ≡ before ++ byte ∷ [] = take_more bytes i 0 c.loop-byte-test.true in
-    on_err c.from_residual.result (rw (completed_lines-take unfinished bytes (i + 1))
-    (BreaksOff-before g.E.AnswerLines.answers c.args.engine.now c.answer_at.new.engine
-    (completed_lines unfinished (take (i + 1) bytes))
-    (completed_lines (unfinished_line unfinished (take (i + 1) bytes)) (drop (i + 1) bytes))
-    (g.D.Drain.written c.args.drain.now) (g.D.Drain.written c.answer_at.new.drain)
-    (rw (one_more, completed_lines-append unfinished before (byte ∷ []))
-    (BreaksOff-after g.E.AnswerLines.answers c.args.engine.now c.loop-byte.engine c.answer_at.new.engine
-    (completed_lines unfinished before)
-    (completed_lines (unfinished_line unfinished before) (byte ∷ []))
-    (g.D.Drain.written c.args.drain.now) (g.D.Drain.written c.loop-byte.drain) (g.D.Drain.written c.answer_at.new.drain)
-    (c.loop-byte.invariant.answered unfinished holds)
-    (c.in_err-answer_at.ensures.err _ (c.loop-byte.invariant.rest unfinished holds))))))
+pub loop-line-preserved : goal.loop-line-preserved
+loop-line-preserved g c = λ unfinished holds.
+    let (lines, kept, all, holds_kept, answered) = c.loop-line.invariant unfinished holds in
+    let (reply, acted, written) = c.in_ok-answer.ensures.ok in
+    let line = kept ++ c.in-Some.line.now in (
+      lines ++ line ∷ [],
+      [],
+      behind-cut unfinished c.args.bytes.now lines kept c.loop-line.rest.now c.in-Some.line.now c.in-Some.more.now
+          all c.in-Some.ensures.found,
+      c.clear.ensures,
+      AnswersEach-append g.E.AnswerLines.answers c.args.engine.now c.loop-line.engine c.answer.new.self lines (line ∷ [])
+          (g.D.Drain.written c.args.drain.now) (g.D.Drain.written c.loop-line.drain) (g.D.Drain.written c.answer.new.drain)
+          answered (AnswersEach-one g.E.AnswerLines.answers c.loop-line.engine c.answer.new.self line reply
+          (g.D.Drain.written c.loop-line.drain) (g.D.Drain.written c.answer.new.drain)
+          (rw (c.line.ensures ∙ c.append.ensures kept holds_kept) at acted) written),
+    )
+
+pub returns-in_err-answer-clause-err : goal.returns-in_err-answer-clause-err
+returns-in_err-answer-clause-err g c = λ unfinished holds.
+    let (lines, kept, all, holds_kept, answered) = c.loop-line.invariant unfinished holds in
+    let (reply, acted, written) = c.in_err-answer.ensures.err in
+    let line = kept ++ c.in-Some.line.now in
+    let more = pieces c.in-Some.more.now in
+    let completed : completed_lines unfinished c.args.bytes.now ≡ (lines ++ line ∷ []) ++ all_but_last (behind [] more) =
+        ap all_but_last (behind-cut unfinished c.args.bytes.now lines kept c.loop-line.rest.now c.in-Some.line.now
+        c.in-Some.more.now all c.in-Some.ensures.found)
+        ∙ all_but_last-append (lines ++ line ∷ []) [] more in
+    on_err c.from_residual.result (rw completed
+    (BreaksOff-before g.E.AnswerLines.answers c.args.engine.now c.answer.new.self
+    (lines ++ line ∷ []) (all_but_last (behind [] more))
+    (g.D.Drain.written c.args.drain.now) (g.D.Drain.written c.answer.new.drain)
+    (BreaksOff-after g.E.AnswerLines.answers c.args.engine.now c.loop-line.engine c.answer.new.self lines (line ∷ [])
+    (g.D.Drain.written c.args.drain.now) (g.D.Drain.written c.loop-line.drain) (g.D.Drain.written c.answer.new.drain)
+    answered (BreaksOff-one g.E.AnswerLines.answers c.loop-line.engine c.answer.new.self line reply
+    (g.D.Drain.written c.loop-line.drain) (g.D.Drain.written c.answer.new.drain)
+    (rw (c.line.ensures ∙ c.append.ensures kept holds_kept) at acted) written))))
+
+pub returns-clause-rest : goal.returns-clause-rest
+returns-clause-rest g c = λ unfinished holds.
+    let (lines, kept, all, holds_kept, answered) = c.loop-line.invariant unfinished holds in
+    let rest = c.loop-line.rest.now in
+    let is : unfinished_line unfinished c.args.bytes.now ≡ kept ++ rest =
+        ap last_of (behind-rest unfinished c.args.bytes.now lines kept rest all c.in_default.ensures.none)
+        ∙ last_of-one lines (kept ++ rest) in
+    rw is (c.append-2.ensures kept holds_kept)
+
+pub returns-clause-ok : goal.returns-clause-ok
+returns-clause-ok g c = λ unfinished holds.
+    let (lines, kept, all, holds_kept, answered) = c.loop-line.invariant unfinished holds in
+    let rest = c.loop-line.rest.now in
+    let is : completed_lines unfinished c.args.bytes.now ≡ lines =
+        ap all_but_last (behind-rest unfinished c.args.bytes.now lines kept rest all c.in_default.ensures.none)
+        ∙ all_but_last-one lines (kept ++ rest) in
+    rw is answered

@@ -1,15 +1,17 @@
-use Rattle.std.proofs.Common.{◌≡◌, ℕ, List, take}
-use Rattle.web.specs.ScriptLines.{within_limit}
-use Rattle.web.specs.LineSplitting.{completed_lines, unfinished_line}
+use Rattle.std.proofs.Common.{◌≡◌, ℕ, List, ◌++◌, length}
 use Rattle.web.specs.Script.{AnswersEach}
+use Rattle.web.specs.ScriptLines.{pieces, within_limit}
+use Rattle.web.specs.steps.LineSplitting.{behind}
 use Rattle.web.proofs.script.answer_completed.Given as goal
 
-abbrev pub invariant-loop-byte : goal.invariant-loop-byte
-invariant-loop-byte g l = record {
-  rest : (unfinished : List ℕ) → l.initial.buffer ≡ within_limit unfinished
-      → l.buffer ≡ within_limit (unfinished_line unfinished (take l.byte-index l.bytes));
-  answered : (unfinished : List ℕ) → l.initial.buffer ≡ within_limit unfinished
-      → AnswersEach g.E.AnswerLines.answers l.initial.engine l.engine
-      (completed_lines unfinished (take l.byte-index l.bytes))
-      (g.D.Drain.written l.initial.drain) (g.D.Drain.written l.drain);
-}
+-- the lines before the rest were answered, and of the next one these bytes are kept
+abbrev pub invariant-loop-line : goal.invariant-loop-line
+invariant-loop-line g l = (unfinished : List ℕ) → l.initial.buffer ≡ within_limit unfinished
+    → (lines : List (List ℕ)) × (kept : List ℕ)
+    × (behind unfinished (pieces l.bytes) ≡ lines ++ behind kept (pieces l.rest))
+    × (l.buffer ≡ within_limit kept)
+    × AnswersEach g.E.AnswerLines.answers l.initial.engine l.engine lines
+    (g.D.Drain.written l.initial.drain) (g.D.Drain.written l.drain)
+
+abbrev pub decreases-loop-line : goal.decreases-loop-line
+decreases-loop-line g l = length l.rest

@@ -1,6 +1,6 @@
 use Rattle.std.proofs.Common.{◌≡◌, ℕ, List, [], ◌++◌, length}
 use Rattle.web.specs.ScriptLines.{within_limit}
-use Rattle.web.specs.LineSplitting.{completed_lines, unfinished_line}
+use Rattle.web.specs.steps.LineSplitting.{completed_lines, unfinished_line}
 use Rattle.web.specs.Script.{AnswersEach}
 use Rattle.web.proofs.script.run_lines.Given as goal
 
