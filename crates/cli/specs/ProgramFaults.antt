@@ -1,16 +1,22 @@
--- The statuses of the program's faults, and how the faults of files and words become the program's.
-use Rattle.std.specs.Prelude.{ℕ}
+-- The statuses and lines of the program's faults, and how the faults of files and words become the
+-- program's.
+use Rattle.std.specs.Prelude.{ℕ, List, ◌++◌, codes, decimal}
+use Rattle.addr.specs.PrefixText.{prefix_fault_number}
 use Rattle.cli.specs.declared.fault.FileFault.{FileFault}
 use Rattle.cli.specs.declared.fault.FileFault.TheVariants as file
 use Rattle.cli.specs.declared.fault.InputFile.{InputFile}
+use Rattle.cli.specs.declared.fault.InputFile.TheVariants as input
 use Rattle.cli.specs.declared.fault.ProgramFault.{ProgramFault}
+use Rattle.cli.specs.declared.fault.RowFault.{RowFault}
+use Rattle.cli.specs.declared.fault.RowFault.TheVariants as row
 use Rattle.cli.specs.declared.fault.ProgramFault.TheVariants.{Words, File, Stream, Memory, Header, Row, CharterCount}
 use Rattle.web.specs.declared.script.ScriptFault.{ScriptFault}
 use Rattle.web.specs.declared.script.ScriptFault.TheVariants as script
 use Rattle.cli.specs.declared.words.WordsFault.{WordsFault}
 use Rattle.cli.specs.declared.words.WordsFault.TheVariants as words
 
--- 2 other words, 3 a file or a stream failed, 4 no memory, 5 the content of a file is refused
+-- 2 other words, 3 a file or a stream failed, 4 no memory, 5 the content of a file is
+-- refused
 abbrev pub status_of : ProgramFault → ℕ
 status_of Words = 2
 status_of File = 3
@@ -19,6 +25,33 @@ status_of Memory = 4
 status_of (Header file) = 5
 status_of (Row file row fault) = 5
 status_of CharterCount = 5
+
+abbrev pub file_name : InputFile → List ℕ
+file_name input.Charter = codes "charter"
+file_name input.Payloads = codes "payloads"
+file_name input.Routes = codes "routes"
+
+abbrev pub row_fault_text : RowFault → List ℕ
+row_fault_text row.Fields = codes "fields"
+row_fault_text row.Kind = codes "kind"
+row_fault_text row.Name = codes "name"
+row_fault_text row.Asn = codes "asn"
+row_fault_text (row.Prefix fault) = codes "prefix " ++ decimal (prefix_fault_number fault)
+row_fault_text row.Length = codes "length"
+row_fault_text row.Origin = codes "origin"
+row_fault_text row.Repeated = codes "repeated"
+
+-- the line on standard error, without its line feed
+abbrev pub line_text : ProgramFault → List ℕ
+line_text Words = codes "roadesk: words"
+line_text File = codes "roadesk: file"
+line_text Stream = codes "roadesk: stream"
+line_text Memory = codes "roadesk: memory"
+line_text (Header file) = codes "roadesk: " ++ file_name file ++ codes " header"
+line_text (Row file number fault) =
+    codes "roadesk: " ++ file_name file ++ codes " row " ++ decimal number
+    ++ codes ": " ++ row_fault_text fault
+line_text CharterCount = codes "roadesk: charter count"
 
 abbrev pub told_words : WordsFault → ProgramFault
 told_words words.Words = Words

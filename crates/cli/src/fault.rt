@@ -1,52 +1,76 @@
 //! How the program ends where it does not do its task: a line on standard error and a status.
-ghost use Rattle.std.specs.Prelude.{◌≡◌};
+ghost use Rattle.std.specs.Prelude.{◌≡◌, ◌≤◌, length};
 ghost use Rattle.cli.specs.declared.fault.FileFault.TheVariants.{Memory};
-ghost use Rattle.cli.specs.ProgramFaults.{status_of, told_script, told_words, fault_of_file};
+ghost use Rattle.cli.specs.ProgramFaults.{fault_of_file, file_name, line_text, row_fault_text, status_of, told_script, told_words};
 
 use crate::words::WordsFault;
-use addr::PrefixFault;
+use addr::{PrefixFault, digits};
+use arrayvec::ArrayString;
 use std::alloc::AllocError;
-use thiserror::Error;
 use web::ScriptFault;
 
 /// A file that the program reads, by what stands in it.
-#[derive(Clone, Copy, Debug, PartialEq, Eq, Error)]
+#[derive(Clone, Copy, Debug, PartialEq, Eq)]
 pub enum InputFile {
-    #[error("charter")]
     Charter,
-    #[error("payloads")]
     Payloads,
-    #[error("routes")]
     Routes,
 }
 
+impl InputFile {
+    fn as_str(self) -> &'static str
+        ensures name { result.now ≡ file_name self }
+        ensures short { length result.now ≤ 8 }
+    {
+        match self {
+            InputFile::Charter => "charter",
+            InputFile::Payloads => "payloads",
+            InputFile::Routes => "routes",
+        }
+    }
+}
+
 /// What is wrong with a row. Of several faults the leftmost counts.
-#[derive(Clone, Copy, Debug, PartialEq, Eq, Error)]
+#[derive(Clone, Copy, Debug, PartialEq, Eq)]
 pub enum RowFault {
     /// It has another number of fields.
-    #[error("fields")]
     Fields,
     /// It is of no kind that a charter has.
-    #[error("kind")]
     Kind,
     /// No name.
-    #[error("name")]
     Name,
     /// No AS number.
-    #[error("asn")]
     Asn,
     /// No prefix in its one spelling.
-    #[error("prefix {}", .0.number())]
     Prefix(PrefixFault),
     /// No maxLength of the prefix.
-    #[error("length")]
     Length,
     /// Neither an AS number nor `NONE`.
-    #[error("origin")]
     Origin,
     /// It says what an earlier row says.
-    #[error("repeated")]
     Repeated,
+}
+
+impl RowFault {
+    fn text(self) -> ArrayString<32>
+        ensures { result.bytes ≡ row_fault_text self }
+    {
+        let mut text = ArrayString::new();
+        match self {
+            RowFault::Fields => text.push_str("fields"),
+            RowFault::Kind => text.push_str("kind"),
+            RowFault::Name => text.push_str("name"),
+            RowFault::Asn => text.push_str("asn"),
+            RowFault::Prefix(fault) => {
+                text.push_str("prefix ");
+                text.push_str(digits(u64::from(fault.number())).as_str());
+            }
+            RowFault::Length => text.push_str("length"),
+            RowFault::Origin => text.push_str("origin"),
+            RowFault::Repeated => text.push_str("repeated"),
+        }
+        text
+    }
 }
 
 /// Why the bytes of a file were not read.
@@ -68,33 +92,26 @@ impl From<AllocError> for FileFault {
     }
 }
 
-/// Why the program did not do its task, shown as its line on standard error.
-#[derive(Clone, Copy, Debug, PartialEq, Eq, Error)]
+/// Why the program did not do its task.
+#[derive(Clone, Copy, Debug, PartialEq, Eq)]
 pub enum ProgramFault {
     /// The words after the program's name are those of no task.
-    #[error("roadesk: words")]
     Words,
     /// A file was not read.
-    #[error("roadesk: file")]
     File,
     /// Standard input or output failed.
-    #[error("roadesk: stream")]
     Stream,
     /// No memory was found.
-    #[error("roadesk: memory")]
     Memory,
     /// The file's first record is not its header.
-    #[error("roadesk: {0} header")]
     Header(InputFile),
     /// The file's first row that has a fault, counted from 1 after the header.
-    #[error("roadesk: {file} row {row}: {fault}")]
     Row {
         file: InputFile,
         row: u64,
         fault: RowFault,
     },
     /// The charter has not 1 to 16 operators and 1 to 64 prefixes.
-    #[error("roadesk: charter count")]
     CharterCount,
 }
 
@@ -109,6 +126,33 @@ impl ProgramFault {
             ProgramFault::Memory => 4,
             ProgramFault::Header(_) | ProgramFault::Row { .. } | ProgramFault::CharterCount => 5,
         }
+    }
+
+    /// The line on standard error, without its line feed.
+    pub fn line(&self) -> ArrayString<80>
+        ensures { result.bytes ≡ line_text self.now }
+    {
+        let mut text = ArrayString::new();
+        text.push_str("roadesk: ");
+        match self {
+            ProgramFault::Words => text.push_str("words"),
+            ProgramFault::File => text.push_str("file"),
+            ProgramFault::Stream => text.push_str("stream"),
+            ProgramFault::Memory => text.push_str("memory"),
+            ProgramFault::Header(file) => {
+                text.push_str(file.as_str());
+                text.push_str(" header");
+            }
+            ProgramFault::Row { file, row, fault } => {
+                text.push_str(file.as_str());
+                text.push_str(" row ");
+                text.push_str(digits(*row).as_str());
+                text.push_str(": ");
+                text.push_str(fault.text().as_str());
+            }
+            ProgramFault::CharterCount => text.push_str("charter count"),
+        }
+        text
     }
 }
 

@@ -25,7 +25,7 @@ fn main(rt: HostRuntime) -> ExitCode {
         Ok(()) => ExitCode::SUCCESS,
         Err(fault) => {
             // Where standard error fails too, the status is all that is left.
-            let _ = eprintln!(rt; "{fault}");
+            let _ = eprintln!(rt; "{}", fault.line().as_str());
             ExitCode::from(fault.status())
         }
     }

@@ -114,12 +114,7 @@ fn lines_and_statuses(rt: HostRuntime) {
         ),
     ];
     for (fault, line, status) in cases {
-        assert_eq!(rt;
-            format!(in rt.alloc(); "{fault}")
-                .expect(&rt, "memory")
-                .as_str(),
-            line
-        );
+        assert_eq!(rt; fault.line().as_str(), line);
         assert_eq!(rt; fault.status(), status);
     }
 }
