@@ -4,7 +4,8 @@ use Rattle.std.proofs.lemmas.List.{append-nil, map-append}
 use Rattle.addr.specs.OriginValidation.{ValidationState, validation_state}
 use Rattle.addr.specs.declared.route.Route.{Route}
 use Rattle.payload.specs.VrpSet as set
-use Rattle.cli.specs.Check.{state_line, states_text, state_text}
+use Rattle.addr.specs.OriginValidation.{state_text}
+use Rattle.cli.specs.Check.{state_line, states_text}
 use Rattle.cli.specs.CsvRecords.{Fields}
 use Rattle.cli.specs.CsvRows.{first_fault, origin_text, prefix_text, route_fault, route_row}
 

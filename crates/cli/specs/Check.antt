@@ -1,11 +1,11 @@
 -- What `roadesk check` prints: a line for each route, in the file's order, with its validation state over
 -- the set of the VRPs (RFC 6811 section 2).
 use Rattle.std.specs.Prelude.{◌≡◌, ℕ, List, [], ◌∷◌, ◌++◌, map, Option, Some}
-use Rattle.addr.specs.OriginValidation.{ValidationState, Valid, Invalid, NotFound, validation_state}
+use Rattle.addr.specs.OriginValidation.{state_text, validation_state}
 use Rattle.addr.specs.declared.route.Route.{Route}
 use Rattle.addr.specs.declared.vrp.Vrp.{Vrp}
 use Rattle.payload.specs.VrpSet as set
-use Rattle.std.specs.Prelude.{codes, Bool, true, option_map}
+use Rattle.std.specs.Prelude.{Bool, true, option_map}
 use Rattle.web.specs.Streams.{AppendsBeginning}
 use Rattle.cli.specs.ProgramFaults.{fault_of_file}
 use Rattle.cli.specs.declared.fault.InputFile.TheVariants.{Payloads, Routes}
@@ -13,11 +13,6 @@ use Rattle.cli.specs.declared.fault.ProgramFault.{ProgramFault}
 use Rattle.cli.specs.declared.fault.ProgramFault.TheVariants as fault
 use Rattle.cli.specs.CsvRecords.{csv_records}
 use Rattle.cli.specs.CsvRows.{file_fault, or_else, origin_text, payload_fault, payload_header, payload_row, prefix_text, route_fault, route_header, route_row}
-
-abbrev pub state_text : ValidationState → List ℕ
-state_text Valid = codes "Valid"
-state_text Invalid = codes "Invalid"
-state_text NotFound = codes "NotFound"
 
 -- `prefix,origin,state` and a line feed
 abbrev pub state_line : set.VrpSet → Route → List ℕ
@@ -54,6 +49,5 @@ EndsCheck fault.Stream payloads routes old new failed = (text : List ℕ) × Jud
 EndsCheck (fault.Header which) payloads routes old new failed = (check_fault payloads routes ≡ Some (fault.Header which)) × (new ≡ old)
 EndsCheck (fault.Row which k why) payloads routes old new failed = (check_fault payloads routes ≡ Some (fault.Row which k why)) × (new ≡ old)
 EndsCheck fault.Words payloads routes old new failed = ⊥
-EndsCheck fault.Day payloads routes old new failed = ⊥
 EndsCheck fault.File payloads routes old new failed = ⊥
 EndsCheck fault.CharterCount payloads routes old new failed = ⊥

@@ -33,7 +33,8 @@ struct CharterRows {
 /// The charter that a CSV file with the header `kind,value` spells. Its rows are `operator,NAME` and
 /// `pool,PREFIX`, in any order, none twice.
 pub fn charter_from(alloc: Global, text: &[u8]) -> Result<Charter, ProgramFault>
-    ensures ok { IfOk result (λ charter. (rows : List read.CharterRow) × IsCharterOf text.now charter rows) }
+    ensures ok { IfOk result (λ charter.
+        (rows : List read.CharterRow) × IsCharterOf text.now charter rows) }
     ensures err { IfErr result (λ fault. RefusesCharter fault text.now) }
 {
     let rows = match read_charter(alloc, text) {
@@ -49,7 +50,8 @@ pub fn charter_from(alloc: Global, text: &[u8]) -> Result<Charter, ProgramFault>
 }
 
 fn read_charter(alloc: Global, text: &[u8]) -> Result<CharterRows, FileFault>
-    ensures ok { IfOk result (λ kept. (rows : List read.CharterRow) × IsCharterFile text.now rows × HoldsRows kept rows) }
+    ensures ok { IfOk result (λ kept.
+        (rows : List read.CharterRow) × IsCharterFile text.now rows × HoldsRows kept rows) }
     ensures faultless { IfOk result (λ kept. charter_file_fault (csv_records text.now) ≡ None) }
     ensures err { IfErr result (λ fault. IsTold fault (charter_file_fault (csv_records text.now))) }
 {
@@ -61,8 +63,10 @@ fn read_rows(alloc: Global, records: &mut CsvRecords<'_>) -> Result<CharterRows,
     requires { IsReading records.old }
     ensures ok { IfOk result (λ kept. (rows : List read.CharterRow)
         × (records_left records.old ≡ map charter_row rows) × HoldsRows kept rows) }
-    ensures faultless { IfOk result (λ kept. first_charter_fault [] (records_left records.old) ≡ None) }
-    ensures err { IfErr result (λ fault. IsTold fault (first_charter_fault [] (records_left records.old))) }
+    ensures faultless { IfOk result (λ kept.
+        first_charter_fault [] (records_left records.old) ≡ None) }
+    ensures err { IfErr result (λ fault.
+        IsTold fault (first_charter_fault [] (records_left records.old))) }
 {
     let mut rows = CharterRows::new(alloc);
     while records.advance()? {
@@ -85,10 +89,12 @@ impl CharterRows {
 
     fn take(&mut self, row: &ByteRecord) -> Result<(), FileFault>
         ensures ok { OnOk result ((rows : List read.CharterRow) → HoldsRows self.old rows
-            → (r : read.CharterRow) × (fields_of row.now ≡ charter_row r) × HoldsRows self.new (rows ++ r ∷ [])
+            → (r : read.CharterRow) × (fields_of row.now ≡ charter_row r)
+            × HoldsRows self.new (rows ++ r ∷ [])
             × (charter_fault (map charter_row rows) (fields_of row.now) ≡ None)) }
         ensures err { IfErr result (λ fault. (rows : List read.CharterRow) → HoldsRows self.old rows
-            → IsTold fault (at_row (length rows + 1) (charter_fault (map charter_row rows) (fields_of row.now)) None)) }
+            → IsTold fault (at_row (length rows + 1)
+            (charter_fault (map charter_row rows) (fields_of row.now)) None)) }
     {
         let Some((kind, value)) = two_fields(row) else {
             return Err(self.fault(RowFault::Fields));
@@ -107,7 +113,8 @@ impl CharterRows {
 
     // The fault of the row that comes next.
     fn fault(&self, fault: RowFault) -> FileFault
-        ensures { result ≡ file.Row (length self.now.operators.items + length self.now.pool.items + 1) fault }
+        ensures { result
+            ≡ file.Row (length self.now.operators.items + length self.now.pool.items + 1) fault }
     {
         FileFault::Row {
             row: self.operators.len() as u64 + self.pool.len() as u64 + 1,
@@ -118,7 +125,9 @@ impl CharterRows {
     // Puts the row into its set, and tells whether it was not there.
     fn note(&mut self, row: &CharterRow) -> Result<bool, AllocError>
         ensures is_new { IfOk result (λ is_new. is_new ≡ not (is_noted self.old row.now)) }
-        ensures noted { OnOk result ((other : read.CharterRow) → is_noted self.new other ≡ (same_row row.now other || is_noted self.old other)) }
+        ensures noted { OnOk result (
+            (other : read.CharterRow) → is_noted self.new other
+            ≡ (same_row row.now other || is_noted self.old other)) }
         ensures operators { self.new.operators ≡ self.old.operators }
         ensures pool { self.new.pool ≡ self.old.pool }
     {
@@ -129,8 +138,10 @@ impl CharterRows {
     }
 
     fn keep(&mut self, row: &CharterRow) -> Result<(), AllocError>
-        ensures operators { OnOk result (self.new.operators.items ≡ self.old.operators.items ++ operators_in (row.now ∷ [])) }
-        ensures pool { OnOk result (self.new.pool.items ≡ self.old.pool.items ++ pool_in (row.now ∷ [])) }
+        ensures operators { OnOk result (
+            self.new.operators.items ≡ self.old.operators.items ++ operators_in (row.now ∷ [])) }
+        ensures pool { OnOk result (
+            self.new.pool.items ≡ self.old.pool.items ++ pool_in (row.now ∷ [])) }
         ensures names { self.new.names ≡ self.old.names }
         ensures prefixes { self.new.prefixes ≡ self.old.prefixes }
     {
@@ -143,7 +154,8 @@ impl CharterRows {
 
 fn read_texts(kind: &[u8], value: &[u8]) -> Result<CharterRow, RowFault>
     ensures { MatchResult result
-        (λ r. (kind.now ≡ kind_of r) × (value.now ≡ value_of r) × (kind_and_value_fault kind.now value.now ≡ None))
+        (λ r. (kind.now ≡ kind_of r) × (value.now ≡ value_of r)
+        × (kind_and_value_fault kind.now value.now ≡ None))
         (λ fault. kind_and_value_fault kind.now value.now ≡ Some fault) }
 {
     if kind == "operator".as_bytes() {

@@ -1,8 +1,9 @@
 //! The task `check`: the routes of a file judged on the VRPs of another.
 ghost use Rattle.std.specs.Prelude.{◌≡◌, ◌++◌, ◌∷◌, [], ℕ, List, None, map, IfOk, IfErr, OnOk};
+ghost use Rattle.addr.specs.OriginValidation.{state_text};
 ghost use Rattle.addr.specs.declared.route.Route as announced;
 ghost use Rattle.payload.specs.ValidityState.{state_of};
-ghost use Rattle.cli.specs.Check.{states_text, check_fault, state_text, JudgesFiles, EndsCheck};
+ghost use Rattle.cli.specs.Check.{states_text, check_fault, JudgesFiles, EndsCheck};
 ghost use Rattle.cli.specs.CsvRecords.{csv_records, records_left, IsReading};
 ghost use Rattle.cli.specs.CsvRows.{file_fault, first_fault, route_fault, route_header, route_row, IsTold};
 
@@ -47,8 +48,10 @@ fn lines_of(alloc: Global, index: &ListIndex, text: &[u8]) -> Result<Vec<u8>, Fi
     ensures ok { IfOk result (λ lines. (routes : List announced.Route)
         × (csv_records text.now ≡ route_header ∷ map route_row routes)
         × (lines.items ≡ states_text index.now routes)) }
-    ensures faultless { IfOk result (λ lines. file_fault route_header route_fault (csv_records text.now) ≡ None) }
-    ensures err { IfErr result (λ fault. IsTold fault (file_fault route_header route_fault (csv_records text.now))) }
+    ensures faultless { IfOk result (λ lines.
+        file_fault route_header route_fault (csv_records text.now) ≡ None) }
+    ensures err { IfErr result (λ fault.
+        IsTold fault (file_fault route_header route_fault (csv_records text.now))) }
 {
     let mut records = CsvRecords::after_header(alloc, text, &["prefix", "origin"])?;
     lines_of_rows(alloc, index, &mut records)
@@ -63,8 +66,10 @@ fn lines_of_rows(
     ensures ok { IfOk result (λ lines. (routes : List announced.Route)
         × (records_left records.old ≡ map route_row routes)
         × (lines.items ≡ states_text index.now routes)) }
-    ensures faultless { IfOk result (λ lines. first_fault route_fault 1 (records_left records.old) ≡ None) }
-    ensures err { IfErr result (λ fault. IsTold fault (first_fault route_fault 1 (records_left records.old))) }
+    ensures faultless { IfOk result (λ lines.
+        first_fault route_fault 1 (records_left records.old) ≡ None) }
+    ensures err { IfErr result (λ fault.
+        IsTold fault (first_fault route_fault 1 (records_left records.old))) }
 {
     let mut lines = Vec::new(alloc);
     let mut row = 1;
@@ -81,7 +86,8 @@ fn lines_of_rows(
 // The texts of a row have one spelling, so they are what is printed.
 fn push_line(lines: &mut Vec<u8>, read: &RouteRow<'_>, state: Validity) -> Result<(), AllocError>
     ensures { OnOk result (lines.new.items
-        ≡ lines.old.items ++ (read.now.prefix.now ++ 44 ∷ read.now.origin.now ++ 44 ∷ state_text (state_of state) ++ 10 ∷ [])) }
+        ≡ lines.old.items ++ (read.now.prefix.now ++ 44 ∷ read.now.origin.now
+        ++ 44 ∷ state_text (state_of state) ++ 10 ∷ [])) }
 {
     lines.extend_from_slice(read.prefix)?;
     lines.extend_from_slice(",".as_bytes())?;

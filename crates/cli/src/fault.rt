@@ -97,8 +97,6 @@ impl From<AllocError> for FileFault {
 pub enum ProgramFault {
     /// The words after the program's name are those of no task.
     Words,
-    /// The text of the day of `serve` is none.
-    Day,
     /// A file was not read.
     File,
     /// Standard input or output failed.
@@ -123,7 +121,7 @@ impl ProgramFault {
         ensures { result ≡ status_of self.now }
     {
         match self {
-            ProgramFault::Words | ProgramFault::Day => 2,
+            ProgramFault::Words => 2,
             ProgramFault::File | ProgramFault::Stream => 3,
             ProgramFault::Memory => 4,
             ProgramFault::Header(_) | ProgramFault::Row { .. } | ProgramFault::CharterCount => 5,
@@ -138,7 +136,6 @@ impl ProgramFault {
         text.push_str("roadesk: ");
         match self {
             ProgramFault::Words => text.push_str("words"),
-            ProgramFault::Day => text.push_str("day"),
             ProgramFault::File => text.push_str("file"),
             ProgramFault::Stream => text.push_str("stream"),
             ProgramFault::Memory => text.push_str("memory"),
@@ -165,7 +162,6 @@ impl From<WordsFault> for ProgramFault {
     fn from(fault: WordsFault) -> ProgramFault {
         match fault {
             WordsFault::Words => ProgramFault::Words,
-            WordsFault::Day => ProgramFault::Day,
         }
     }
 }

@@ -44,8 +44,6 @@ fn run(rt: &HostRuntime) -> Result<(), ProgramFault> {
     match read_words(&words)? {
         Task::Script { charter } => run_script_task(rt, charter),
         Task::Check { payloads, routes } => run_check_task(rt, payloads, routes),
-        // What the program does not do yet ends as other words do.
-        Task::Init { .. } | Task::Serve { .. } | Task::Help => Err(ProgramFault::Words),
     }
 }
 

@@ -1,34 +1,16 @@
 //! The words after the program's name.
 ghost use Rattle.std.specs.Prelude.{◌≡◌, map};
-ghost use Rattle.addr.specs.Day.{day_in};
-ghost use Rattle.cli.specs.CsvRows.{number_between};
-ghost use Rattle.cli.specs.Words.{serve_of, task_in, task_read};
-ghost use Rattle.cli.specs.declared.words.TheConstants.{CONNECTION_LIMIT};
+ghost use Rattle.cli.specs.Words.{task_in, task_read};
 
-use addr::{Day, number_from_text};
 use thiserror::Error;
 
-/// The most connections that `serve` takes before it ends.
-const CONNECTION_LIMIT: u64 = 1_000_000;
-
-/// What the program is to do. Files and addresses are named by any texts.
+/// What the program is to do. Files are named by any texts.
 #[derive(Clone, Copy, Debug, PartialEq, Eq)]
 pub enum Task<'a> {
     /// `script --charter FILE`: answer the lines of standard input.
     Script { charter: &'a str },
-    /// `init --db FILE --charter FILE`: make the database.
-    Init { database: &'a str, charter: &'a str },
-    /// `serve --db FILE --listen ADDR --count N --day D`: answer N connections on a day.
-    Serve {
-        database: &'a str,
-        address: &'a str,
-        count: u32,
-        day: Day,
-    },
     /// `check PAYLOADS ROUTES`: judge the routes of a file on the VRPs of another.
     Check { payloads: &'a str, routes: &'a str },
-    /// `help`: print the words of the tasks.
-    Help,
 }
 
 /// Why words name no task.
@@ -37,20 +19,16 @@ pub enum WordsFault {
     /// They are not exactly the words of one task, in its order.
     #[error("the words are not those of a task")]
     Words,
-    /// They would be those of `serve` if the text of its day were one.
-    #[error("the day is not one")]
-    Day,
 }
 
 impl WordsFault {
-    ghost use Rattle.cli.specs.WordsFault.{words_fault_number};
+    ghost use Rattle.cli.specs.WordsFault.{number_of};
 
     pub fn number(self) -> u8
-        ensures { result ≡ words_fault_number self }
+        ensures { result ≡ number_of self }
     {
         match self {
             WordsFault::Words => 1,
-            WordsFault::Day => 2,
         }
     }
 }
@@ -60,58 +38,11 @@ pub fn read_words<'a>(words: &[&'a str]) -> Result<Task<'a>, WordsFault>
     ensures { task_read result ≡ task_in (map (λ word. word.now) words.now) }
 {
     match words {
-        [task] if *task == "help" => Ok(Task::Help),
-        [task, option, charter] if *task == "script" && *option == "--charter" => {
-            Ok(Task::Script { charter })
+        [task, option, file] if *task == "script" && *option == "--charter" => {
+            Ok(Task::Script { charter: file })
         }
         [task, payloads, routes] if *task == "check" => Ok(Task::Check { payloads, routes }),
-        [task, first, database, second, charter]
-            if *task == "init" && *first == "--db" && *second == "--charter" =>
-        {
-            Ok(Task::Init { database, charter })
-        }
-        [task, first, database, second, address, third, count, fourth, day]
-            if *task == "serve"
-                && *first == "--db"
-                && *second == "--listen"
-                && *third == "--count"
-                && *fourth == "--day" =>
-        {
-            read_serve(database, address, count, day)
-        }
         _ => Err(WordsFault::Words),
-    }
-}
-
-fn read_serve<'a>(
-    database: &'a str,
-    address: &'a str,
-    count: &str,
-    day: &str,
-) -> Result<Task<'a>, WordsFault>
-    ensures { task_read result ≡ serve_of database.now address.now
-        (number_between 1 CONNECTION_LIMIT count.now) (day_in day.now) }
-{
-    let Some(count) = read_count(count) else {
-        return Err(WordsFault::Words);
-    };
-    let Some(day) = Day::read(day.as_bytes()) else {
-        return Err(WordsFault::Day);
-    };
-    Ok(Task::Serve {
-        database,
-        address,
-        count,
-        day,
-    })
-}
-
-fn read_count(text: &str) -> Option<u32>
-    ensures { result ≡ number_between 1 CONNECTION_LIMIT text.now }
-{
-    match number_from_text(text.as_bytes()) {
-        Some(number) if 1 <= number && number <= CONNECTION_LIMIT => Some(number as u32),
-        _ => None,
     }
 }
 

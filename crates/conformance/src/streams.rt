@@ -247,7 +247,12 @@ const READS: [(&str, usize, bool, usize); 4] = [
     ("each_read_is_one_call", 0, false, 2),
     ("interrupted_read_is_made_again", 3, false, 5),
     ("failed_read_is_not_made_again", 0, true, 1),
-    ("read_that_fails_after_interruptions_is_the_last", 3, true, 4),
+    (
+        "read_that_fails_after_interruptions_is_the_last",
+        3,
+        true,
+        4,
+    ),
 ];
 
 #[test]
@@ -271,7 +276,14 @@ const WRITES: [(&str, usize, bool, bool, usize, usize); 5] = [
     ("interrupted_write_is_made_again", 3, false, false, 5, 2),
     ("failed_write_is_not_made_again", 0, true, false, 1, 0),
     ("failed_flush_is_not_made_again", 0, false, true, 1, 1),
-    ("write_that_fails_after_interruptions_is_the_last", 3, true, false, 4, 0),
+    (
+        "write_that_fails_after_interruptions_is_the_last",
+        3,
+        true,
+        false,
+        4,
+        0,
+    ),
 ];
 
 #[test]

@@ -1,7 +1,7 @@
 -- Lemmas on texts that are written piece by piece.
 use Rattle.std.proofs.Common.{◌≡◌, ℕ, ◌+◌, ◌<◌, Bool, true, false, List, [], ◌∷◌, ◌++◌, length, map, drop, get_or, refl, sym, ap, ◌∙◌, append_assoc, add-one, drop-cons}
 use Rattle.std.proofs.lemmas.List.{append-nil}
-use Rattle.web.specs.ReplyItems.{after_commas, item_after, items_left}
+use Rattle.web.specs.steps.ReplyItems.{after_commas, item_after, items_left}
 use Rattle.web.specs.ReplyText.{comma_joined}
 use Rattle.web.specs.Streams.{AppendsBeginning}
 

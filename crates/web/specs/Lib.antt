@@ -1,11 +1,9 @@
-pub mod Devices
-pub mod ReplyItems
+pub mod Device
 pub mod ReplyText
 pub mod Script
 pub mod ScriptFault
 pub mod ScriptLines
 pub mod Streams
-pub mod Trail
 pub mod RequestFaults
 pub mod RequestText
 pub mod RequestValues

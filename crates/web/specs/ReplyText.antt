@@ -4,6 +4,7 @@ use Rattle.std.specs.Prelude.{ℕ, List, ◌++◌, map, codes, decimal, Option, 
 use Rattle.std.specs.List.{join_with_byte}
 use Rattle.std.specs.String.{string_bytes}
 use Rattle.addr.specs.Day.{day_text}
+use Rattle.addr.specs.OriginValidation.{state_text}
 use Rattle.addr.specs.PrefixText.{spelling}
 use Rattle.addr.specs.declared.asn.Asn.{Asn}
 use Rattle.addr.specs.declared.prefix.Prefix.{Prefix}
@@ -14,7 +15,7 @@ use Rattle.policy.specs.Rule.{rule_name}
 use Rattle.desk.specs.declared.reply.Reply.{Reply}
 use Rattle.desk.specs.declared.reply.Reply.TheVariants.{Done, Shown, Content, Listed, Payloads, Answers, Denied, Unavailable}
 use Rattle.payload.specs.declared.validity.Validity.{Validity}
-use Rattle.payload.specs.declared.validity.Validity.TheVariants.{Valid, Invalid, NotFound}
+use Rattle.payload.specs.ValidityState.{state_of}
 use Rattle.web.specs.declared.malformed.Malformed.{Malformed}
 
 -- ---- parts
@@ -37,11 +38,9 @@ auth_text auth =
 abbrev pub vrp_text : Vrp → List ℕ
 vrp_text vrp = codes "{" ++ terms_text vrp.asn vrp.prefix vrp.max ++ codes "}"
 
--- a route origin validation state (RFC 6811 section 2)
-abbrev pub validity_text : Validity → List ℕ
-validity_text Valid = codes "\"Valid\""
-validity_text Invalid = codes "\"Invalid\""
-validity_text NotFound = codes "\"NotFound\""
+-- a route origin validation state (RFC 6811 section 2), between quotation marks
+abbrev pub quoted_state : Validity → List ℕ
+quoted_state validity = codes "\"" ++ state_text (state_of validity) ++ codes "\""
 
 -- the texts with a comma between each two
 abbrev pub comma_joined : List (List ℕ) → List ℕ
@@ -75,7 +74,7 @@ line_text (Shown auth) = codes "{\"shown\":" ++ auth_text auth ++ codes "}\n"
 line_text (Content text) = content_text (string_bytes text)
 line_text (Listed auths) = list_text (codes "{\"listed\":[") (map auth_text auths.items)
 line_text (Payloads vrps) = list_text (codes "{\"payloads\":[") (map vrp_text vrps.items)
-line_text (Answers states) = list_text (codes "{\"answers\":[") (map validity_text states.items)
+line_text (Answers states) = list_text (codes "{\"answers\":[") (map quoted_state states.items)
 line_text (Denied rule row) = denied_text rule row
 line_text Unavailable = unavailable_text
 

@@ -4,7 +4,7 @@ use Rattle.web.specs.declared.script.ScriptFault.{ScriptFault}
 use Rattle.web.specs.declared.script.ScriptFault.TheVariants.{Read, Write, Memory}
 
 -- 1 a read failed, 2 a write failed, 3 no memory for the line
-abbrev pub number_of : ScriptFault → ℕ
-number_of Read = 1
-number_of Write = 2
-number_of Memory = 3
+abbrev pub script_fault_number : ScriptFault → ℕ
+script_fault_number Read = 1
+script_fault_number Write = 2
+script_fault_number Memory = 3

@@ -1,3 +1,6 @@
 -- Steps of the code, which no public contract cites.
-pub mod RequestReading
+pub mod Devices
 pub mod LineSplitting
+pub mod ReplyItems
+pub mod RequestReading
+pub mod Trail

@@ -3,7 +3,8 @@ ghost use Rattle.std.specs.Prelude.{◌≡◌, ◌≢◌, ◌++◌, ◌-◌, ◌
 ghost use Rattle.std.specs.Io.{ReadsAtMost, WritesAtMost, appended_bytes};
 ghost use Rattle.std.specs.Io.KnownBytes.{Appends, Keeps, ReadConsumes, WriteAppends};
 ghost use Rattle.std.specs.IoError.{error_kind};
-ghost use Rattle.web.specs.Devices.{IsCalled, device_inner, device_bytes, device_has_ended, device_has_failed, device_calls_left};
+ghost use Rattle.web.specs.Device.{device_inner, device_bytes, device_has_ended, device_has_failed, device_calls_left};
+ghost use Rattle.web.specs.steps.Devices.{IsCalled};
 ghost use Rattle.web.specs.Streams.{AppendsBeginning};
 
 use crate::stream::{Drain, Failed, Source};

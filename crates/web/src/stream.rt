@@ -20,7 +20,8 @@ pub trait Source {
     // How many more reads may be answered at most. So read number 2^64 fails at the latest.
     ghost reads_left: { Self → ℕ };
 
-    /// Puts the next bytes at the buffer's start, and tells how many. The rest of the buffer may change.
+    /// Puts the next bytes at the buffer's start, and tells how many. The rest of the buffer may
+    /// change.
     fn read(&mut self, buffer: &mut [u8]) -> Result<usize, Failed>
         ensures bound { IfOk result (λ n. n ≤ length buffer.new) }
         ensures bytes { IfOk result (λ n.
@@ -49,7 +50,8 @@ pub trait Drain {
         ensures some { IfOk result (λ n. 0 < length bytes.now → 0 < n) }
         ensures bytes { IfOk result (λ n.
             written self.new ≡ written self.old ++ take n bytes.now) }
-        ensures err { OnErr result (AppendsBeginning (written self.old) (written self.new) bytes.now) }
+        ensures err { OnErr result
+            (AppendsBeginning (written self.old) (written self.new) bytes.now) }
 
         ensures failed { has_failed self.new ≡ is_err result }
         ensures stays_failed { has_failed self.old ≡ true → IsErr result };
@@ -58,7 +60,8 @@ pub trait Drain {
 /// Writes the whole text.
 pub fn write_all<D: Drain>(drain: &mut D, text: &[u8]) -> Result<(), Failed>
     ensures ok { OnOk result (D.written drain.new ≡ D.written drain.old ++ text.now) }
-    ensures err { OnErr result (AppendsBeginning (D.written drain.old) (D.written drain.new) text.now) }
+    ensures err { OnErr result
+        (AppendsBeginning (D.written drain.old) (D.written drain.new) text.now) }
     ensures failed { OnErr result (D.has_failed drain.new ≡ true) }
 {
     let mut rest = text;

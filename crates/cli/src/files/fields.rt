@@ -23,7 +23,8 @@ pub(crate) fn two_fields(row: &ByteRecord) -> Option<(&[u8], &[u8])>
 
 // The fields of a record that has three.
 pub(crate) fn three_fields(row: &ByteRecord) -> Option<(&[u8], &[u8], &[u8])>
-    ensures { option_map (λ triple. (triple.0.now, (triple.1.now, triple.2.now))) result ≡ three_of (fields_of row.now) }
+    ensures { option_map (λ triple. (triple.0.now, (triple.1.now, triple.2.now))) result
+        ≡ three_of (fields_of row.now) }
 {
     if row.len() != 3 {
         return None;

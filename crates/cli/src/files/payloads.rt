@@ -14,9 +14,12 @@ use std::alloc::Global;
 
 // The VRPs of the rows.
 pub(crate) fn read_payloads(alloc: Global, text: &[u8]) -> Result<Vec<Vrp>, FileFault>
-    ensures ok { IfOk result (λ vrps. csv_records text.now ≡ payload_header ∷ map payload_row vrps.items) }
-    ensures faultless { IfOk result (λ vrps. file_fault payload_header payload_fault (csv_records text.now) ≡ None) }
-    ensures err { IfErr result (λ fault. IsTold fault (file_fault payload_header payload_fault (csv_records text.now))) }
+    ensures ok { IfOk result (λ vrps.
+        csv_records text.now ≡ payload_header ∷ map payload_row vrps.items) }
+    ensures faultless { IfOk result (λ vrps.
+        file_fault payload_header payload_fault (csv_records text.now) ≡ None) }
+    ensures err { IfErr result (λ fault.
+        IsTold fault (file_fault payload_header payload_fault (csv_records text.now))) }
 {
     let mut records = CsvRecords::after_header(alloc, text, &["asn", "prefix", "maxlength"])?;
     read_rows(alloc, &mut records)
@@ -25,8 +28,10 @@ pub(crate) fn read_payloads(alloc: Global, text: &[u8]) -> Result<Vec<Vrp>, File
 fn read_rows(alloc: Global, records: &mut CsvRecords<'_>) -> Result<Vec<Vrp>, FileFault>
     requires { IsReading records.old }
     ensures ok { IfOk result (λ vrps. records_left records.old ≡ map payload_row vrps.items) }
-    ensures faultless { IfOk result (λ vrps. first_fault payload_fault 1 (records_left records.old) ≡ None) }
-    ensures err { IfErr result (λ fault. IsTold fault (first_fault payload_fault 1 (records_left records.old))) }
+    ensures faultless { IfOk result (λ vrps.
+        first_fault payload_fault 1 (records_left records.old) ≡ None) }
+    ensures err { IfErr result (λ fault.
+        IsTold fault (first_fault payload_fault 1 (records_left records.old))) }
 {
     let mut vrps = Vec::new(alloc);
     while records.advance()? {
@@ -56,7 +61,8 @@ fn read_row(row: &ByteRecord) -> Result<Vrp, RowFault>
 
 fn read_texts(asn: &[u8], prefix: &[u8], max: &[u8]) -> Result<Vrp, RowFault>
     ensures { MatchResult result
-        (λ vrp. (asn.now ∷ prefix.now ∷ max.now ∷ [] ≡ payload_row vrp) × (payload_texts_fault asn.now prefix.now max.now ≡ None))
+        (λ vrp. (asn.now ∷ prefix.now ∷ max.now ∷ [] ≡ payload_row vrp)
+        × (payload_texts_fault asn.now prefix.now max.now ≡ None))
         (λ fault. payload_texts_fault asn.now prefix.now max.now ≡ Some fault) }
 {
     let Some(asn) = Asn::from_text(asn) else {
@@ -75,7 +81,8 @@ fn read_texts(asn: &[u8], prefix: &[u8], max: &[u8]) -> Result<Vrp, RowFault>
 fn read_max_length(prefix: &Prefix, text: &[u8]) -> Option<u8>
     ensures value { result ≡ number_between prefix.now.length (width prefix.now.family) text.now }
     ensures exact { IfSome result (λ max. text.now ≡ decimal max) }
-    ensures range { IfSome result (λ max. (prefix.now.length ≤ max) × (max ≤ width prefix.now.family)) }
+    ensures range { IfSome result (λ max.
+        (prefix.now.length ≤ max) × (max ≤ width prefix.now.family)) }
 {
     match number_from_text(text) {
         Some(number)

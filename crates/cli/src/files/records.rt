@@ -37,9 +37,12 @@ impl<'a> CsvRecords<'a> {
         header: &[&str],
     ) -> Result<CsvRecords<'a>, FileFault>
         ensures reading { IfOk result (λ records. IsReading records) }
-        ensures ok { IfOk result (λ records. csv_records text.now ≡ texts_of header.now ∷ records_left records) }
-        ensures faultless { IfOk result (λ records. header_fault (texts_of header.now) (csv_records text.now) ≡ None) }
-        ensures err { IfErr result (λ fault. IsTold fault (header_fault (texts_of header.now) (csv_records text.now))) }
+        ensures ok { IfOk result (λ records.
+            csv_records text.now ≡ texts_of header.now ∷ records_left records) }
+        ensures faultless { IfOk result (λ records.
+            header_fault (texts_of header.now) (csv_records text.now) ≡ None) }
+        ensures err { IfErr result (λ fault.
+            IsTold fault (header_fault (texts_of header.now) (csv_records text.now))) }
     {
         let mut records = CsvRecords::new(alloc, text);
         if !records.advance()? {
@@ -56,7 +59,8 @@ impl<'a> CsvRecords<'a> {
     pub(crate) fn advance(&mut self) -> Result<bool, AllocError>
         requires { IsReading self.old }
         ensures reading { IfOk result (λ found. found ≡ true → IsReading self.new) }
-        ensures found { IfOk result (λ found. Takes found (current self.new) (records_left self.old) (records_left self.new)) }
+        ensures found { IfOk result (λ found.
+            Takes found (current self.new) (records_left self.old) (records_left self.new)) }
     {
         let Ok(found) = self.reader.read_byte_record(&mut self.row) else {
             return Err(AllocError);

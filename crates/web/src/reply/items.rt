@@ -2,7 +2,7 @@
 ghost use Rattle.std.specs.Prelude.{◌≡◌, ℕ, List};
 ghost use Rattle.addr.specs.Day.{day_text};
 ghost use Rattle.addr.specs.PrefixText.{spelling};
-ghost use Rattle.web.specs.ReplyText.{auth_text, terms_text, validity_text, vrp_text};
+ghost use Rattle.web.specs.ReplyText.{auth_text, quoted_state, terms_text, vrp_text};
 
 use addr::{Asn, Day, Prefix, Vrp, digits};
 use arrayvec::ArrayString;
@@ -47,7 +47,7 @@ impl ItemText for Vrp {
 }
 
 impl ItemText for Validity {
-    ghost text = { validity_text };
+    ghost text = { quoted_state };
 
     fn item_text(&self) -> ArrayString<255> {
         let mut text = ArrayString::new();

@@ -2,7 +2,7 @@
 ghost use Rattle.std.specs.Prelude.{◌≡◌, ◌++◌, true, map, OnOk, OnErr};
 ghost use Rattle.web.specs.Streams.{AppendsBeginning};
 ghost use Rattle.web.specs.ReplyText.{comma_joined, list_text};
-ghost use Rattle.web.specs.ReplyItems.{item_after};
+ghost use Rattle.web.specs.steps.ReplyItems.{item_after};
 
 use super::items::ItemText;
 use crate::stream::{Drain, Failed, write_all};

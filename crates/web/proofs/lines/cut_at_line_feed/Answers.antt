@@ -13,5 +13,5 @@ returns-clause-found c =
     let first = rw c.in-Some.is at c.memchr.ensures in
     let after = drop (end + 1) bytes in
     let whole : take (length bytes - (end + 1)) after ≡ after =
-        take_all (length bytes - (end + 1)) after (omega (arith, length-drop (end + 1) bytes)) in
+    take_all (length bytes - (end + 1)) after (omega (arith, length-drop (end + 1) bytes)) in
     pieces-first bytes end first.0 first.1 ∙ ap (λ rest. take end bytes ∷ pieces rest) (sym whole)

@@ -34,9 +34,9 @@ returns-in_err-answer-clause-err g c = λ unfinished holds.
     let line = kept ++ c.in-Some.line.now in
     let more = pieces c.in-Some.more.now in
     let completed : completed_lines unfinished c.args.bytes.now ≡ (lines ++ line ∷ []) ++ all_but_last (behind [] more) =
-        ap all_but_last (behind-cut unfinished c.args.bytes.now lines kept c.loop-line.rest.now c.in-Some.line.now
-        c.in-Some.more.now all c.in-Some.ensures.found)
-        ∙ all_but_last-append (lines ++ line ∷ []) [] more in
+    ap all_but_last (behind-cut unfinished c.args.bytes.now lines kept c.loop-line.rest.now c.in-Some.line.now
+    c.in-Some.more.now all c.in-Some.ensures.found)
+    ∙ all_but_last-append (lines ++ line ∷ []) [] more in
     on_err c.from_residual.result (rw completed
     (BreaksOff-before g.E.AnswerLines.answers c.args.engine.now c.answer.new.self
     (lines ++ line ∷ []) (all_but_last (behind [] more))
@@ -52,8 +52,8 @@ returns-clause-rest g c = λ unfinished holds.
     let (lines, kept, all, holds_kept, answered) = c.loop-line.invariant unfinished holds in
     let rest = c.loop-line.rest.now in
     let is : unfinished_line unfinished c.args.bytes.now ≡ kept ++ rest =
-        ap last_of (behind-rest unfinished c.args.bytes.now lines kept rest all c.in_default.ensures.none)
-        ∙ last_of-one lines (kept ++ rest) in
+    ap last_of (behind-rest unfinished c.args.bytes.now lines kept rest all c.in_default.ensures.none)
+    ∙ last_of-one lines (kept ++ rest) in
     rw is (c.append-2.ensures kept holds_kept)
 
 pub returns-clause-ok : goal.returns-clause-ok
@@ -61,6 +61,6 @@ returns-clause-ok g c = λ unfinished holds.
     let (lines, kept, all, holds_kept, answered) = c.loop-line.invariant unfinished holds in
     let rest = c.loop-line.rest.now in
     let is : completed_lines unfinished c.args.bytes.now ≡ lines =
-        ap all_but_last (behind-rest unfinished c.args.bytes.now lines kept rest all c.in_default.ensures.none)
-        ∙ all_but_last-one lines (kept ++ rest) in
+    ap all_but_last (behind-rest unfinished c.args.bytes.now lines kept rest all c.in_default.ensures.none)
+    ∙ all_but_last-one lines (kept ++ rest) in
     rw is answered

@@ -1,5 +1,6 @@
 use Rattle.std.specs.Io.KnownBytes.{Keeps}
-use Rattle.web.specs.Devices.{IsCalled, device_inner, device_calls_left}
+use Rattle.web.specs.Device.{device_inner, device_calls_left}
+use Rattle.web.specs.steps.Devices.{IsCalled}
 use Rattle.web.proofs.device.Device.flush_uninterrupted.Given as goal
 
 abbrev pub invariant-loop-self : goal.invariant-loop-self

@@ -1,5 +1,5 @@
 use Rattle.std.proofs.Common.{◌+◌, ◌++◌, false, map, drop, ap, ◌∙◌}
-use Rattle.web.specs.ReplyItems.{item_after, items_left}
+use Rattle.web.specs.steps.ReplyItems.{item_after, items_left}
 use Rattle.web.specs.ReplyText.{comma_joined}
 use Rattle.web.proofs.ReplyLemmas.{items_left-at, list-broken, list-goes_on}
 use Rattle.web.proofs.reply.list.write_items.Goals as goal

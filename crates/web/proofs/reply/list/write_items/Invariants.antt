@@ -1,5 +1,5 @@
 use Rattle.std.proofs.Common.{◌≡◌, ℕ, List, ◌++◌, map, drop}
-use Rattle.web.specs.ReplyItems.{items_left}
+use Rattle.web.specs.steps.ReplyItems.{items_left}
 use Rattle.web.specs.ReplyText.{comma_joined}
 use Rattle.web.proofs.reply.list.write_items.Given as goal
 

@@ -1,5 +1,5 @@
 -- A reader or writer of std with what has passed it.
-use Rattle.std.specs.Prelude.{◌≡◌, ◌≤◌, ℕ, Bool, List, ◌-◌, ◌^◌}
+use Rattle.std.specs.Prelude.{ℕ, Bool, List, ◌-◌, ◌^◌}
 use Rattle.web.specs.declared.device.Device.{Device}
 
 -- the reader or writer
@@ -20,10 +20,3 @@ device_has_failed device = device.has_failed
 -- how many more calls may be made: 2^64 - 1 in all, those that were interrupted too
 abbrev pub device_calls_left : {T : Type 0} → Device T → ℕ
 device_calls_left device = 2 ^ 64 - 1 - device.calls
-
--- nothing but the reader or writer and the calls has changed, and no call was taken back
-pub record IsCalled {T : Type 0} (old new : Device T) : Type 0 where
-  pub same_bytes : device_bytes new ≡ device_bytes old
-  pub same_end : device_has_ended new ≡ device_has_ended old
-  pub same_failure : device_has_failed new ≡ device_has_failed old
-  pub fewer_left : device_calls_left new ≤ device_calls_left old
