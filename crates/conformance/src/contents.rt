@@ -1,187 +1,57 @@
 //! ROA contents as hex text, both ways, and octets that are none.
+use crate::rows::rows_of;
 use addr::{Asn, Family, Prefix};
 use roa::{Content, ContentFault, DecodeFault, Entry, decode, encode};
 use std::alloc::Global;
 use std::process::Abort;
 use std::test::Fail;
 
-/// An entry by the text of its prefix and its maxLength.
-#[derive(Clone, Copy)]
-struct Terms(&'static str, u8);
+/// Contents by their AS and entries, which need not rise, and their octets.
+const VECTORS: &str = r#"
+# content_of_one_ipv4_prefix
+AS64496 192.0.2.0/24 24 => 3017020300fbf03010300e0402000130083006030400c00002
+# content_with_unused_bits
+AS64496 192.0.2.128/25 25 => 3018020300fbf03011300f0402000130093007030507c0000280
+# content of AS 0 and all of IPv4
+AS0 0.0.0.0/0 32 => 30150201003010300e0402000130083006030100020120
+# content of one IPv6 prefix
+AS64496 2001:db8::/32 48 => 301b020300fbf03014301204020002300c300a03050020010db8020130
+# encode_whole_ipv6_to_128
+AS4294967295 ::/0 128 => 301a020500ffffffff3011300f040200023009300703010002020080
+# content of both families
+AS64496 2001:db8::/32 48, 192.0.2.0/24 24 => 302b020300fbf03024300e0402000130083006030400c00002301204020002300c300a03050020010db8020130
+"#;
 
-/// A content by its AS and entries, which need not rise, and its octets.
-struct Vector {
-    name: &'static str,
-    asn: u32,
-    entries: &'static [Terms],
-    octets: &'static str,
-}
-
-const VECTORS: [Vector; 6] = [
-    Vector {
-        name: "content_of_one_ipv4_prefix",
-        asn: 64496,
-        entries: &[Terms("192.0.2.0/24", 24)],
-        octets: "3017020300fbf03010300e0402000130083006030400c00002",
-    },
-    Vector {
-        name: "content_with_unused_bits",
-        asn: 64496,
-        entries: &[Terms("192.0.2.128/25", 25)],
-        octets: "3018020300fbf03011300f0402000130093007030507c0000280",
-    },
-    Vector {
-        name: "content of AS 0 and all of IPv4",
-        asn: 0,
-        entries: &[Terms("0.0.0.0/0", 32)],
-        octets: "30150201003010300e0402000130083006030100020120",
-    },
-    Vector {
-        name: "content of one IPv6 prefix",
-        asn: 64496,
-        entries: &[Terms("2001:db8::/32", 48)],
-        octets: "301b020300fbf03014301204020002300c300a03050020010db8020130",
-    },
-    Vector {
-        name: "encode_whole_ipv6_to_128",
-        asn: 4294967295,
-        entries: &[Terms("::/0", 128)],
-        octets: "301a020500ffffffff3011300f040200023009300703010002020080",
-    },
-    Vector {
-        name: "content of both families",
-        asn: 64496,
-        entries: &[Terms("2001:db8::/32", 48), Terms("192.0.2.0/24", 24)],
-        octets: "302b020300fbf03024300e0402000130083006030400c00002301204020002300c300a03050020010db8020130",
-    },
-];
-
-/// Contents of the first prefixes of 192.0.2.0/32, 192.0.2.1/32, ..: how many, the count of octets,
-/// and how these begin. Their lengths take two and three octets.
-const HOST_PREFIXES: [(&str, u8, usize, &str); 2] = [
-    (
-        "content_of_fourteen_prefixes",
-        14,
-        146,
-        "30818f020300fbf030818730818404020001307e3007030500c0000200",
-    ),
-    (
-        "content_of_sixty_four_prefixes",
-        64,
-        601,
-        "30820255020300fbf03082024c3082024804020001308202403007030500c0000200",
-    ),
-];
-
-/// Octets that are no content, and why.
-const REFUSED: [(&str, &str); 28] = [
-    (
-        "decode_refuses_max_length_equal_to_length",
-        "301b020300fbf03014301204020002300c300a03050020010db8020120",
-    ),
-    (
-        "a negative AS number",
-        "30160202fbf03010300e0402000130083006030400c00002",
-    ),
-    (
-        "an unused bit that is set",
-        "3017020300fbf03010300e0402000130083006030401c00003",
-    ),
-    ("no octets", ""),
-    (
-        "the last octet is missing",
-        "3017020300fbf03010300e0402000130083006030400c000",
-    ),
-    (
-        "an octet after the content",
-        "3017020300fbf03010300e0402000130083006030400c0000200",
-    ),
-    (
-        "a length below 128 in the long form",
-        "308117020300fbf03010300e0402000130083006030400c00002",
-    ),
-    (
-        "an indefinite length",
-        "3080020300fbf03010300e0402000130083006030400c000020000",
-    ),
-    (
-        "a length past its parent",
-        "3017020300fbf03011300e0402000130083006030400c00002",
-    ),
-    (
-        "the version written out",
-        "301ca003020100020300fbf03010300e0402000130083006030400c00002",
-    ),
-    (
-        "an INTEGER with a needless octet",
-        "301802040000fbf03010300e0402000130083006030400c00002",
-    ),
-    (
-        "an INTEGER of no octets",
-        "301402003010300e0402000130083006030400c00002",
-    ),
-    (
-        "an AS number over 32 bits",
-        "3019020501000000003010300e0402000130083006030400c00002",
-    ),
-    (
-        "octets after the blocks",
-        "301a020300fbf03010300e0402000130083006030400c00002020100",
-    ),
-    ("no block", "3007020300fbf03000"),
-    (
-        "a block without addresses",
-        "300f020300fbf030083006040200013000",
-    ),
-    (
-        "two blocks of one family",
-        "3027020300fbf03020300e0402000130083006030400c00002300e0402000130083006030400c00003",
-    ),
-    (
-        "IPv6 before IPv4",
-        "302b020300fbf03024301204020002300c300a03050020010db8020130300e0402000130083006030400c00002",
-    ),
-    (
-        "another family",
-        "3017020300fbf03010300e0402000330083006030400c00002",
-    ),
-    (
-        "a family of three octets",
-        "3018020300fbf03011300f040300010130083006030400c00002",
-    ),
-    (
-        "eight unused bits",
-        "3018020300fbf03011300f0402000130093007030508c0000200",
-    ),
-    (
-        "unused bits of no octets",
-        "3014020300fbf0300d300b0402000130053003030103",
-    ),
-    (
-        "a BIT STRING without its count",
-        "3013020300fbf0300c300a04020001300430020300",
-    ),
-    (
-        "more bits than an address has",
-        "3019020300fbf03012301004020001300a3008030600c000020000",
-    ),
-    (
-        "maxLength below the length",
-        "301a020300fbf03013301104020001300b3009030400c00002020117",
-    ),
-    (
-        "maxLength over the width",
-        "301a020300fbf03013301104020001300b3009030400c00002020121",
-    ),
-    (
-        "two equal entries",
-        "301f020300fbf0301830160402000130103006030400c000023006030400c00002",
-    ),
-    (
-        "entries that fall",
-        "301f020300fbf0301830160402000130103006030400c000033006030400c00002",
-    ),
-];
+/// Why octets are no content, and the octets.
+const REFUSED: &str = r#"
+decode_refuses_max_length_equal_to_length => 301b020300fbf03014301204020002300c300a03050020010db8020120
+a negative AS number => 30160202fbf03010300e0402000130083006030400c00002
+an unused bit that is set => 3017020300fbf03010300e0402000130083006030401c00003
+the last octet is missing => 3017020300fbf03010300e0402000130083006030400c000
+an octet after the content => 3017020300fbf03010300e0402000130083006030400c0000200
+a length below 128 in the long form => 308117020300fbf03010300e0402000130083006030400c00002
+an indefinite length => 3080020300fbf03010300e0402000130083006030400c000020000
+a length past its parent => 3017020300fbf03011300e0402000130083006030400c00002
+the version written out => 301ca003020100020300fbf03010300e0402000130083006030400c00002
+an INTEGER with a needless octet => 301802040000fbf03010300e0402000130083006030400c00002
+an INTEGER of no octets => 301402003010300e0402000130083006030400c00002
+an AS number over 32 bits => 3019020501000000003010300e0402000130083006030400c00002
+octets after the blocks => 301a020300fbf03010300e0402000130083006030400c00002020100
+no block => 3007020300fbf03000
+a block without addresses => 300f020300fbf030083006040200013000
+two blocks of one family => 3027020300fbf03020300e0402000130083006030400c00002300e0402000130083006030400c00003
+IPv6 before IPv4 => 302b020300fbf03024301204020002300c300a03050020010db8020130300e0402000130083006030400c00002
+another family => 3017020300fbf03010300e0402000330083006030400c00002
+a family of three octets => 3018020300fbf03011300f040300010130083006030400c00002
+eight unused bits => 3018020300fbf03011300f0402000130093007030508c0000200
+unused bits of no octets => 3014020300fbf0300d300b0402000130053003030103
+a BIT STRING without its count => 3013020300fbf0300c300a04020001300430020300
+more bits than an address has => 3019020300fbf03012301004020001300a3008030600c000020000
+maxLength below the length => 301a020300fbf03013301104020001300b3009030400c00002020117
+maxLength over the width => 301a020300fbf03013301104020001300b3009030400c00002020121
+two equal entries => 301f020300fbf0301830160402000130103006030400c000023006030400c00002
+entries that fall => 301f020300fbf0301830160402000130103006030400c000033006030400c00002
+"#;
 
 fn octets_of(alloc: Global, hex: &str) -> Result<Vec<u8>, Fail> {
     Ok(hex::decode(alloc, hex)?)
@@ -191,13 +61,24 @@ fn is_refused(alloc: Global, octets: &[u8]) -> bool {
     matches!(decode(alloc, octets), Err(DecodeFault::NotContent))
 }
 
-fn content_of(alloc: Global, vector: &Vector) -> Result<Content, Fail> {
+// An entry by its prefix and maxLength.
+fn entry_of(text: &str) -> Result<Entry, Fail> {
+    let (prefix, max) = text.split_once(' ').ok_or("no maxLength")?;
+    Ok(Entry {
+        prefix: Prefix::read(prefix.as_bytes())?,
+        max: max.parse()?,
+    })
+}
+
+// A content by its AS, and its entries with commas between them.
+fn content_of(alloc: Global, text: &str) -> Result<Content, Fail> {
+    let (asn, terms) = text.split_once(' ').ok_or("no entries")?;
+    let asn = Asn::from_text(asn.as_bytes()).ok_or("no AS number")?;
     let mut entries = Vec::new(alloc);
-    for Terms(prefix, max) in vector.entries {
-        let prefix = Prefix::read(prefix.as_bytes())?;
-        entries.push(Entry { prefix, max: *max })?;
+    for term in terms.split(',') {
+        entries.push(entry_of(term.trim())?)?;
     }
-    Ok(Content::make(Asn(vector.asn), entries)?)
+    Ok(Content::make(asn, entries)?)
 }
 
 /// So many prefixes from 192.0.2.0/32 on.
@@ -222,19 +103,41 @@ fn encoded(rt: &impl Abort, alloc: Global, content: &Content, name: &str) -> Res
 
 #[test]
 fn vectors_are_encoded_and_decoded(rt: HostRuntime) -> Result<(), Fail> {
-    for vector in VECTORS.iter() {
-        let name = vector.name;
-        let content = content_of(rt.alloc(), vector)?;
-        let hex = encoded(&rt, rt.alloc(), &content, name)?;
-        assert_eq!(rt; hex.as_str(), vector.octets, "{name}");
-    }
-    for (name, count, length, beginning) in HOST_PREFIXES {
-        let content = Content::make(Asn(64496), host_prefixes(rt.alloc(), count)?)?;
-        let hex = encoded(&rt, rt.alloc(), &content, name)?;
-        assert_eq!(rt; hex.len() / 2, length, "{name}");
-        assert!(rt; hex.starts_with(beginning), "{name}");
+    for row in &rows_of(rt.alloc(), VECTORS)? {
+        let content = content_of(rt.alloc(), row.input)?;
+        let hex = encoded(&rt, rt.alloc(), &content, row.name)?;
+        assert_eq!(rt; hex.as_str(), row.output, "{}", row.name);
     }
     Ok(())
+}
+
+// The content of so many host prefixes has so many octets, which begin so.
+fn assert_host_prefixes(
+    rt: &impl Abort,
+    alloc: Global,
+    count: u8,
+    length: usize,
+    beginning: &str,
+) -> Result<(), Fail> {
+    let content = Content::make(Asn(64496), host_prefixes(alloc, count)?)?;
+    let hex = encoded(rt, alloc, &content, "a content of host prefixes")?;
+    assert_eq!(rt; hex.len() / 2, length, "{count} prefixes");
+    assert!(rt; hex.starts_with(beginning), "{count} prefixes");
+    Ok(())
+}
+
+// The lengths in the content take two octets.
+#[test]
+fn content_of_fourteen_prefixes(rt: HostRuntime) -> Result<(), Fail> {
+    let beginning = "30818f020300fbf030818730818404020001307e3007030500c0000200";
+    assert_host_prefixes(&rt, rt.alloc(), 14, 146, beginning)
+}
+
+// The lengths in the content take three octets.
+#[test]
+fn content_of_sixty_four_prefixes(rt: HostRuntime) -> Result<(), Fail> {
+    let beginning = "30820255020300fbf03082024c3082024804020001308202403007030500c0000200";
+    assert_host_prefixes(&rt, rt.alloc(), 64, 601, beginning)
 }
 
 #[test]
@@ -246,18 +149,18 @@ fn content_of_sixty_five_prefixes_is_refused(rt: HostRuntime) -> Result<(), Fail
 
 #[test]
 fn decode_refuses_other_spellings(rt: HostRuntime) -> Result<(), Fail> {
-    for (why, hex) in REFUSED {
-        let octets = octets_of(rt.alloc(), hex)?;
-        assert!(rt; is_refused(rt.alloc(), octets.as_slice()), "{why}");
+    for row in &rows_of(rt.alloc(), REFUSED)? {
+        let octets = octets_of(rt.alloc(), row.output)?;
+        assert!(rt; is_refused(rt.alloc(), octets.as_slice()), "{}", row.input);
     }
     Ok(())
 }
 
-// And every proper beginning of a content.
+// And every proper beginning of a content, no octets among them.
 #[test]
 fn decode_refuses_cut_negative_and_set_unused_bit(rt: HostRuntime) -> Result<(), Fail> {
-    for vector in VECTORS.iter() {
-        let octets = octets_of(rt.alloc(), vector.octets)?;
+    for row in &rows_of(rt.alloc(), VECTORS)? {
+        let octets = octets_of(rt.alloc(), row.output)?;
         for end in 0..octets.len() {
             assert!(rt;
                 is_refused(rt.alloc(), &octets.as_slice()[..end]),

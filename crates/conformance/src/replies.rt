@@ -1,6 +1,6 @@
 //! The texts of replies, and writes that fail.
 use crate::fakes::Sheet;
-use crate::vrps::{Terms, vrps_of};
+use crate::vrps::vrps_of;
 use addr::{Asn, Day, Prefix};
 use desk::Reply;
 use payload::Validity;
@@ -35,10 +35,10 @@ fn written(alloc: Global, reply: &Reply, room: usize) -> (Result<(), Failed>, Ve
     (result, sheet.bytes)
 }
 
-const VRPS: &[Terms] = &[
-    Terms(64496, "192.0.2.0/24", 24),
-    Terms(4_294_967_295, "::/0", 128),
-];
+const VRPS: &str = r#"
+AS64496 192.0.2.0/24 24
+AS4294967295 ::/0 128
+"#;
 
 #[test]
 fn prints_each_reply(rt: HostRuntime) -> Result<(), Fail> {

@@ -1,5 +1,5 @@
 //! Lines of a script: the number that is reported of a malformed one, 0 where it is a request.
-use crate::rows::{line_of, nested, parts_of};
+use crate::rows::{line_of, nested, rows_of};
 use std::alloc::Global;
 use std::test::Fail;
 use web::{LineFault, read_line_request};
@@ -21,11 +21,9 @@ const NOT_JSON: [&[u8]; 9] = [
     b"{\"day\":\"\xc0\"}",
 ];
 
-const LINES: [(&str, &str); 2] = [
-    // Of a repeated member the last value counts, and a text may be escaped.
-    (
-        "tells_what_a_line_is_refused_for",
-        r#"
+/// Lines. Of a repeated member the last value counts, and a text may be escaped.
+const LINES: &str = r#"
+# tells_what_a_line_is_refused_for
 {"day":"2026-03-01","caller":"reg","do":"register","holder":"alpha"} => 0
  { "holder" : "alpha" , "do" : "register" , "caller" : "reg" , "day" : "2026-03-01" }  => 0
 {"day":"2026-03-01","caller":"reg","do":"register","holder":"Alpha","holder":"alpha"} => 0
@@ -41,11 +39,7 @@ null => 2
 {"day":"2026-03-01","caller":"reg","do":"register","holder":7} => 3
 {"day":"2026-03-01","caller":null,"do":"register","holder":"alpha"} => 4
 {"day":"2026-02-29","caller":"reg","do":"register","holder":"alpha"} => 8
-"#,
-    ),
-    (
-        "lowest_malformed_number_is_told",
-        r#"
+# lowest_malformed_number_is_told
 {"day":"2026-03-01","caller":"Reg","do":"delegate","holder":"alpha","prefix":"192.0.2.1/24"} => 4
 {"day":"2026-02-30","caller":"reg","do":"delegate","holder":"alpha","prefix":"192.0.2.1/24"} => 5
 {"day":"","caller":"","do":"register","holder":""} => 3
@@ -56,14 +50,11 @@ null => 2
 {"day":"","caller":"reg","do":"validity","routes":[]} => 8
 {"day":"2026-03-01","caller":"reg","do":"validity","routes":[{"prefix":"::/0","origin":-1},{"prefix":"::/129","origin":1}]} => 5
 {"day":"","caller":"","do":"reject","holder":""} => 2
-"#,
-    ),
-];
+"#;
 
-const REQUESTS: [(&str, &str); 2] = [
-    (
-        "tells_the_number_of_each_member",
-        r#"
+/// Requests with their callers before them.
+const REQUESTS: &str = r#"
+# tells_the_number_of_each_member
 reg {"do":"delegate","holder":"alpha","prefix":"192.0.2.0/24"} => 0
 reg {"do":"delegate","holder":"alpha","prefix":"192.0.2.1/24"} => 5
 reg {"do":"delegate","holder":"alpha","prefix":24} => 5
@@ -109,11 +100,7 @@ reg {"do":"validity","routes":[{"prefix":"192.0.2.0/24","origin":"AS1"},{"prefix
 reg {"do":"import","holder":"alpha","rows":[]} => 2
 reg {"do":"slurm","file":{}} => 2
 reg {"do":"whatif","holder":"alpha","changes":[],"routes":[]} => 2
-"#,
-    ),
-    (
-        "takes_numbers_in_plain_digits_alone",
-        r#"
+# takes_numbers_in_plain_digits_alone
 reg {"do":"amend","holder":"alpha","number":1,"max":24,"until":"2026-12-31"} => 0
 reg {"do":"amend","holder":"alpha","number":1,"max":24.0,"until":"2026-12-31"} => 7
 reg {"do":"amend","holder":"alpha","number":1,"max":1e2,"until":"2026-12-31"} => 7
@@ -124,9 +111,7 @@ reg {"do":"amend","holder":"alpha","number":1,"max":"24","until":"2026-12-31"} =
 reg {"do":"amend","holder":"alpha","number":1,"max":024,"until":"2026-12-31"} => 1
 reg {"do":"amend","holder":"alpha","number":1,"max":+24,"until":"2026-12-31"} => 1
 reg {"do":"amend","holder":"alpha","number":1,"max":1e999,"until":"2026-12-31"} => 1
-"#,
-    ),
-];
+"#;
 
 fn reported(alloc: Global, line: &[u8]) -> u8 {
     match read_line_request(alloc, line) {
@@ -142,20 +127,14 @@ fn tells_what_a_line_is_refused_for(rt: HostRuntime) -> Result<(), Fail> {
     for line in NOT_JSON {
         assert_eq!(rt; reported(alloc, line), 1, "{line:?}");
     }
-    for (name, rows) in LINES {
-        for row in rows.trim().lines() {
-            let (input, output) = parts_of(row)?;
-            let number = reported(alloc, input.as_bytes()).to_string(alloc)?;
-            assert_eq!(rt; number.as_str(), output, "{name}: {input}");
-        }
+    for row in &rows_of(alloc, LINES)? {
+        let number = reported(alloc, row.input.as_bytes()).to_string(alloc)?;
+        assert_eq!(rt; number.as_str(), row.output, "{}: {}", row.name, row.input);
     }
-    for (name, rows) in REQUESTS {
-        for row in rows.trim().lines() {
-            let (input, output) = parts_of(row)?;
-            let line = line_of(alloc, "2026-03-01", input)?;
-            let number = reported(alloc, line.as_bytes()).to_string(alloc)?;
-            assert_eq!(rt; number.as_str(), output, "{name}: {input}");
-        }
+    for row in &rows_of(alloc, REQUESTS)? {
+        let line = line_of(alloc, "2026-03-01", row.input)?;
+        let number = reported(alloc, line.as_bytes()).to_string(alloc)?;
+        assert_eq!(rt; number.as_str(), row.output, "{}: {}", row.name, row.input);
     }
     Ok(())
 }

@@ -1,6 +1,42 @@
-//! Tables as raw texts, whose rows are lines `INPUT => OUTPUT`.
+//! Tables as raw texts. Their rows are lines `INPUT => OUTPUT`, under lines `# NAME`.
 use std::alloc::{AllocError, Global};
 use std::test::Fail;
+
+/// A row of a table, and the name over it.
+#[derive(Clone, Copy)]
+pub(crate) struct Row<'a> {
+    pub(crate) name: &'a str,
+    pub(crate) input: &'a str,
+    pub(crate) output: &'a str,
+}
+
+/// The rows of a table, of which there are some.
+pub(crate) fn rows_of(alloc: Global, table: &str) -> Result<Vec<Row<'_>>, Fail> {
+    let mut rows = Vec::new(alloc);
+    for section in table.split("\n# ") {
+        if let Some((name, lines)) = section.split_once('\n') {
+            push_rows(&mut rows, name, lines)?;
+        }
+    }
+    if rows.is_empty() {
+        return Err("a table without rows".into());
+    }
+    Ok(rows)
+}
+
+fn push_rows<'a>(rows: &mut Vec<Row<'a>>, name: &'a str, lines: &'a str) -> Result<(), Fail> {
+    for line in lines.lines() {
+        if !line.is_empty() {
+            let (input, output) = parts_of(line)?;
+            rows.push(Row {
+                name,
+                input,
+                output,
+            })?;
+        }
+    }
+    Ok(())
+}
 
 /// The input and the output of a row.
 pub(crate) fn parts_of(row: &str) -> Result<(&str, &str), Fail> {

@@ -1,5 +1,9 @@
 //! Scripts over a new desk, from their first line to their last reply. The expected replies follow
 //! from the rules and formats of the desk.
+//!
+//! Each script begins with a line `# NAME`, or `# NAME after SETUP, SETUP, ..` where other lines
+//! stand before its own. A line is `CALLER {"do":..} => REPLY`, asked on the first of March, or
+//! `day DAY`, the day of the lines that follow it.
 use crate::fakes::{Sheet, Tape};
 use crate::rows::line_of;
 use addr::{Name, Prefix};
@@ -17,27 +21,15 @@ mod grants;
 mod resources;
 mod vrps;
 
-/// A script after its set-up. In both a line is `CALLER {"do":..} => REPLY`, asked on the first of
-/// March, or `day DAY`, the day of the lines that follow it.
-pub(crate) struct Script {
-    pub(crate) name: &'static str,
-    pub(crate) after: &'static [&'static str],
-    pub(crate) lines: &'static str,
-}
-
 /// `alpha` has 192.0.2.0/24, and `ann` is its manager.
-pub(crate) const REGISTERED_HOLDER: &[&str] = &[ALPHA];
-
-/// Beyond that, AS 64496 is authorized for all of it.
-pub(crate) const ONE_AUTHORIZATION: &[&str] = &[ALPHA, AUTHORIZATION];
-
-pub(crate) const ALPHA: &str = r#"
+const ALPHA: &str = r#"
 reg {"do":"register","holder":"alpha"} => {"done":null}
 reg {"do":"delegate","holder":"alpha","prefix":"192.0.2.0/24"} => {"done":null}
 reg {"do":"grant","holder":"alpha","name":"ann","role":"manager","scope":"all","until":"2026-12-31"} => {"done":1}
 "#;
 
-pub(crate) const AUTHORIZATION: &str = r#"
+/// Beyond that, AS 64496 is authorized for all of it.
+const AUTHORIZATION: &str = r#"
 ann {"do":"create","holder":"alpha","asn":64496,"prefix":"192.0.2.0/24","max":24,"from":"2026-01-01","until":"2026-12-31"} => {"done":1}
 "#;
 
@@ -188,27 +180,49 @@ fn assert_replies(
     dialogue.assert_replies_of_run(rt, name, &mut desk_of(alloc, pool)?)
 }
 
-fn assert_all(rt: &impl Abort, alloc: Global, scripts: &[Script]) -> Result<(), Fail> {
-    for script in scripts {
-        let Script { name, after, lines } = script;
-        assert_replies(rt, alloc, EXAMPLE_POOL, name, after, lines)?;
+// The lines of a set-up.
+fn setup_of(name: &str) -> Result<&'static str, Fail> {
+    match name {
+        "holder" => Ok(ALPHA),
+        "authorization" => Ok(AUTHORIZATION),
+        "amendment" => Ok(amendments::AMENDMENT),
+        "clerk" => Ok(grants::CLERK_OF_THE_LOWER_HALF),
+        "reclaimed part" => Ok(resources::PART_RECLAIMED),
+        _ => Err("no set-up of that name".into()),
+    }
+}
+
+// The script of a heading and lines has its replies.
+fn assert_script(rt: &impl Abort, alloc: Global, script: &str) -> Result<(), Fail> {
+    let (heading, lines) = script.split_once('\n').unwrap_or((script, ""));
+    let mut texts = Vec::new(alloc);
+    let mut name = heading;
+    if let Some((before, setups)) = heading.split_once(" after ") {
+        name = before;
+        for setup in setups.split(',') {
+            texts.push(setup_of(setup.trim())?)?;
+        }
+    }
+    assert_replies(rt, alloc, EXAMPLE_POOL, name, &texts, lines)
+}
+
+fn assert_all(rt: &impl Abort, alloc: Global, scripts: &str) -> Result<(), Fail> {
+    for script in scripts.split("\n# ") {
+        if !script.is_empty() {
+            assert_script(rt, alloc, script)?;
+        }
     }
     Ok(())
 }
 
 #[test]
 fn scripts_have_their_replies(rt: HostRuntime) -> Result<(), Fail> {
-    for scripts in [
-        resources::SCRIPTS,
-        grants::SCRIPTS,
-        authorizations::SCRIPTS,
-        amendments::SCRIPTS,
-        contents::SCRIPTS,
-        vrps::SCRIPTS,
-    ] {
-        assert_all(&rt, rt.alloc(), scripts)?;
-    }
-    Ok(())
+    assert_all(&rt, rt.alloc(), resources::SCRIPTS)?;
+    assert_all(&rt, rt.alloc(), grants::SCRIPTS)?;
+    assert_all(&rt, rt.alloc(), authorizations::SCRIPTS)?;
+    assert_all(&rt, rt.alloc(), amendments::SCRIPTS)?;
+    assert_all(&rt, rt.alloc(), contents::SCRIPTS)?;
+    assert_all(&rt, rt.alloc(), vrps::SCRIPTS)
 }
 
 #[test]
@@ -219,7 +233,7 @@ fn answers_without_want_of_memory_in_ample_memory(rt: HostRuntime) -> Result<(),
         rt.alloc(),
         EXAMPLE_POOL,
         name,
-        ONE_AUTHORIZATION,
+        &[ALPHA, AUTHORIZATION],
         EVERY_REQUEST,
     )
 }
@@ -227,7 +241,7 @@ fn answers_without_want_of_memory_in_ample_memory(rt: HostRuntime) -> Result<(),
 #[test]
 fn delegate_over_two_prefixes_of_the_pool(rt: HostRuntime) -> Result<(), Fail> {
     let name = "delegate_over_two_prefixes_of_the_pool";
-    assert_replies(&rt, rt.alloc(), HALVES, name, REGISTERED_HOLDER, "")
+    assert_replies(&rt, rt.alloc(), HALVES, name, &[ALPHA], "")
 }
 
 #[test]

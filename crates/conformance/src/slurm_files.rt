@@ -1,6 +1,6 @@
 //! SLURM files: the lowest fault of each text, and what a file filters and asserts.
-use crate::rows::{nested, parts_of};
-use crate::vrps::{Terms, vrp_of};
+use crate::rows::{nested, rows_of};
+use crate::vrps::vrp_of;
 use addr::{Asn, Prefix};
 use serde_json::Value;
 use slurm::{Filter, Slurm, SlurmFault};
@@ -33,28 +33,14 @@ pub(crate) const SAMPLE: &str = r#"{
 /// The parts of a file, of which the last ones may be missing, and the number of its fault, 0 where
 /// there is none: `slurmVersion`, the prefix filters, the prefix assertions, and what follows in the
 /// outermost object.
-const PARTS: [(&str, &str); 7] = [
-    (
-        "empty_file_is_read",
-        r#"
+const PARTS: &str = r#"
+# empty_file_is_read
 1 => 0
-"#,
-    ),
-    (
-        "filter_of_comment_alone",
-        r#"
+# filter_of_comment_alone
 1 | {"comment":"x"} => 9
-"#,
-    ),
-    (
-        "unknown_member_before_version",
-        r#"
+# unknown_member_before_version
 2 | | | ,"notes":"x" => 3
-"#,
-    ),
-    (
-        "lowest_fault_is_told",
-        r#"
+# lowest_fault_is_told
 1 | | | ,"notes":1 => 3
 2 | | | ,"notes":1 => 3
 2 => 4
@@ -68,11 +54,7 @@ const PARTS: [(&str, &str); 7] = [
 1 | {"asn":1,"comment":1},{} => 9
 1 | {"asn":1,"comment":1} => 10
 1 | {"asn":1,"comment":"1"} => 0
-"#,
-    ),
-    (
-        "shape_of_a_file",
-        r#"
+# shape_of_a_file
 1 | "hello" => 3
 1 | [] => 3
 1 | {"prefix":"::/8","maxPrefixLength":9} => 3
@@ -80,11 +62,7 @@ const PARTS: [(&str, &str); 7] = [
 1 | | {"asn":1} => 3
 1 | | {"prefix":"::/8","asn":1,"SKI":""} => 3
 1 | | null => 3
-"#,
-    ),
-    (
-        "numbers_are_plain_digits",
-        r#"
+# numbers_are_plain_digits
 0 => 4
 "1" => 4
 1.0 => 4
@@ -117,11 +95,7 @@ null => 4
 1 | | {"asn":1,"prefix":"::/0","maxPrefixLength":18446744073709551616} => 8
 1 | | {"asn":1,"prefix":"::/0","maxPrefixLength":null} => 8
 1 | | {"asn":1,"prefix":"2001:DB8::/32","maxPrefixLength":129} => 6
-"#,
-    ),
-    (
-        "loose_spellings_are_refused",
-        r#"
+# loose_spellings_are_refused
 1 | {"prefix":"192.0.2.1/24"} => 6
 1 | {"prefix":"192.0.2/24"} => 6
 1 | {"prefix":"2001:DB8::/32"} => 6
@@ -130,31 +104,19 @@ null => 4
 1 | {"prefix":null,"asn":1} => 6
 1 | {"asn":"64496"} => 7
 1 | {"asn":1,"comment":null} => 10
-"#,
-    ),
-];
+"#;
 
 /// Whole texts, and their faults.
-const TEXTS: [(&str, &str); 4] = [
-    (
-        "texts_that_are_not_json",
-        r#"
+const TEXTS: &str = r#"
+# texts_that_are_not_json
 { => 1
  => 1
 [{] => 1
 {}{} => 1
-"#,
-    ),
-    (
-        "lowest_fault_is_told",
-        r#"
+# lowest_fault_is_told
 7 => 2
 [] => 2
-"#,
-    ),
-    (
-        "shape_of_a_file",
-        r#"
+# shape_of_a_file
 {} => 3
 {"slurmVersion":1} => 3
 {"slurmVersion":1,"validationOutputFilters":[],"locallyAddedAssertions":[]} => 3
@@ -164,48 +126,26 @@ const TEXTS: [(&str, &str); 4] = [
 {"slurmVersion":1,"validationOutputFilters":{"prefixFilters":[],"bgpsecFilters":[]},"locallyAddedAssertions":{"prefixAssertions":[]}} => 3
 {"slurmVersion":1,"validationOutputFilters":{"prefixFilters":{},"bgpsecFilters":[]},"locallyAddedAssertions":{"prefixAssertions":[],"bgpsecAssertions":[]}} => 3
 {"slurmVersion":1,"validationOutputFilters":{"prefixFilters":[],"bgpsecFilters":[],"aspaFilters":[]},"locallyAddedAssertions":{"prefixAssertions":[],"bgpsecAssertions":[]}} => 3
-"#,
-    ),
-    (
-        "lowest_fault_is_told",
-        r#"
+# lowest_fault_is_told
 {"slurmVersion":2,"validationOutputFilters":{"prefixFilters":[],"bgpsecFilters":[1]},"locallyAddedAssertions":{"prefixAssertions":[],"bgpsecAssertions":[]}} => 4
 {"slurmVersion":1,"validationOutputFilters":{"prefixFilters":[],"bgpsecFilters":[1]},"locallyAddedAssertions":{"prefixAssertions":[],"bgpsecAssertions":[]}} => 5
 {"slurmVersion":1,"validationOutputFilters":{"prefixFilters":[{"prefix":null}],"bgpsecFilters":[null]},"locallyAddedAssertions":{"prefixAssertions":[],"bgpsecAssertions":[]}} => 5
 {"slurmVersion":1,"validationOutputFilters":{"prefixFilters":[],"bgpsecFilters":{}},"locallyAddedAssertions":{"prefixAssertions":[],"bgpsecAssertions":[]}} => 3
 {"slurmVersion":1,"validationOutputFilters":{"prefixFilters":[],"bgpsecFilters":null},"locallyAddedAssertions":{"prefixAssertions":[],"bgpsecAssertions":[]}} => 3
-"#,
-    ),
-];
+"#;
 
 /// Whether the filters of a file match the VRPs that it asserts, in their order.
-const FILTERINGS: [(&str, &str); 4] = [
-    (
-        "filters_of_the_sample_match",
-        r#"
+const FILTERINGS: &str = r#"
+# filters_of_the_sample_match
 1 | {"prefix":"192.0.2.0/24"},{"asn":64496},{"prefix":"198.51.100.0/24","asn":64497} | {"asn":1,"prefix":"192.0.2.0/24"},{"asn":1,"prefix":"192.0.2.128/25","maxPrefixLength":32},{"asn":1,"prefix":"192.0.0.0/16","maxPrefixLength":24} => yes yes no
 1 | {"prefix":"192.0.2.0/24"},{"asn":64496},{"prefix":"198.51.100.0/24","asn":64497} | {"asn":64496,"prefix":"2001:db8::/32"},{"asn":64497,"prefix":"198.51.100.0/25"},{"asn":64498,"prefix":"198.51.100.0/25"},{"asn":64497,"prefix":"203.0.113.0/24"} => yes yes no no
-"#,
-    ),
-    (
-        "empty_file_is_read",
-        r#"
+# empty_file_is_read
 1 | | {"asn":64496,"prefix":"192.0.2.0/24"} => no
-"#,
-    ),
-    (
-        "shorter_prefix_filter_removes_vrp",
-        r#"
+# shorter_prefix_filter_removes_vrp
 1 | {"prefix":"192.0.0.0/16"} | {"asn":64496,"prefix":"192.0.2.0/24"} => yes
-"#,
-    ),
-    (
-        "filters_that_do_not_match",
-        r#"
+# filters_that_do_not_match
 1 | {"prefix":"192.0.2.0/25"},{"prefix":"192.0.2.0/24","asn":64497} | {"asn":64496,"prefix":"192.0.2.0/24"},{"asn":64497,"prefix":"192.0.2.0/24"} => no yes
-"#,
-    ),
-];
+"#;
 
 // The number of the fault, 0 where the text is a file.
 fn fault(alloc: Global, text: &str) -> u8 {
@@ -243,20 +183,14 @@ fn file_of(alloc: Global, parts: &str) -> Result<String, AllocError> {
 #[test]
 fn lowest_slurm_fault_is_told(rt: HostRuntime) -> Result<(), Fail> {
     let alloc = rt.alloc();
-    for (name, rows) in PARTS {
-        for row in rows.trim().lines() {
-            let (input, output) = parts_of(row)?;
-            let text = file_of(alloc, input)?;
-            let found = fault(alloc, &text).to_string(alloc)?;
-            assert_eq!(rt; found.as_str(), output, "{name}: {input}");
-        }
+    for row in &rows_of(alloc, PARTS)? {
+        let text = file_of(alloc, row.input)?;
+        let found = fault(alloc, &text).to_string(alloc)?;
+        assert_eq!(rt; found.as_str(), row.output, "{}: {}", row.name, row.input);
     }
-    for (name, rows) in TEXTS {
-        for row in rows.trim().lines() {
-            let (input, output) = parts_of(row)?;
-            let found = fault(alloc, input).to_string(alloc)?;
-            assert_eq!(rt; found.as_str(), output, "{name}: {input}");
-        }
+    for row in &rows_of(alloc, TEXTS)? {
+        let found = fault(alloc, row.input).to_string(alloc)?;
+        assert_eq!(rt; found.as_str(), row.output, "{}: {}", row.name, row.input);
     }
     let marked = format!(in alloc; "\u{feff}{SAMPLE}")?;
     assert_eq!(rt; fault(alloc, &marked), 1, "a byte order mark");
@@ -267,17 +201,20 @@ fn lowest_slurm_fault_is_told(rt: HostRuntime) -> Result<(), Fail> {
 #[test]
 fn filters_match_vrps(rt: HostRuntime) -> Result<(), Fail> {
     let alloc = rt.alloc();
-    for (name, rows) in FILTERINGS {
-        for row in rows.trim().lines() {
-            let (input, output) = parts_of(row)?;
-            let text = file_of(alloc, input)?;
-            let slurm = Slurm::read(alloc, text.as_bytes())?;
-            let mut answers = String::new(alloc);
-            for vrp in slurm.assertions() {
-                answers.push_str(if slurm.filtered(vrp) { " yes" } else { " no" })?;
-            }
-            assert_eq!(rt; answers.as_str().trim(), output, "{name}: {input}");
+    for row in &rows_of(alloc, FILTERINGS)? {
+        let text = file_of(alloc, row.input)?;
+        let slurm = Slurm::read(alloc, text.as_bytes())?;
+        let mut answers = String::new(alloc);
+        for vrp in slurm.assertions() {
+            answers.push_str(if slurm.filtered(vrp) { " yes" } else { " no" })?;
         }
+        assert_eq!(rt;
+            answers.as_str().trim(),
+            row.output,
+            "{}: {}",
+            row.name,
+            row.input
+        );
     }
     Ok(())
 }
@@ -292,8 +229,8 @@ fn sample_has_its_filters_and_assertions(rt: HostRuntime) -> Result<(), Fail> {
         Filter::Both(Prefix::read(b"198.51.100.0/24")?, Asn(64497)),
     ];
     let assertions = [
-        vrp_of(&Terms(64496, "198.51.100.0/24", 24))?,
-        vrp_of(&Terms(64496, "2001:db8::/32", 48))?,
+        vrp_of("AS64496 198.51.100.0/24 24")?,
+        vrp_of("AS64496 2001:db8::/32 48")?,
     ];
     let value = Value::from_str(alloc, SAMPLE)?;
     for slurm in [

@@ -1,46 +1,48 @@
 //! Sets of VRPs, and the validation states of routes on them.
 ghost use Rattle.std.specs.Prelude.{◌++◌, is_some, option_to_list};
 
+use crate::rows::rows_of;
 use addr::{Asn, Origin, Prefix, Route, Vrp};
 use payload::{ListIndex, PayloadIndex, Sink, Stop};
 use std::alloc::Global;
+use std::process::Abort;
 use std::test::Fail;
 
-/// A VRP by its AS, prefix and maxLength.
-#[derive(Clone, Copy)]
-pub(crate) struct Terms(pub(crate) u32, pub(crate) &'static str, pub(crate) u8);
+/// VRPs for a /22 and for a /24 in it.
+pub(crate) const WIDE: &str = "AS64496 198.51.100.0/22 24";
 
-/// A VRP of AS 64496 for a /22 and one of another AS for a /24 in it, the first twice.
-pub(crate) const NESTED: &[Terms] = &[
-    Terms(64497, "198.51.100.0/24", 24),
-    Terms(64496, "198.51.100.0/22", 24),
-    Terms(64496, "198.51.100.0/22", 24),
-];
+pub(crate) const NARROW: &str = "AS64497 198.51.100.0/24 24";
 
-const AS_ZERO: &[Terms] = &[Terms(0, "0.0.0.0/0", 32)];
+/// These two, the first one twice.
+pub(crate) const NESTED: &str = r#"
+AS64497 198.51.100.0/24 24
+AS64496 198.51.100.0/22 24
+AS64496 198.51.100.0/22 24
+"#;
 
-const BOTH_FAMILIES: &[Terms] = &[
-    Terms(64497, "2001:db8::/32", 48),
-    Terms(64496, "::/0", 128),
-    Terms(64496, "0.0.0.0/0", 0),
-];
+/// Routes by prefix and origin, and their states by those VRPs.
+const NESTED_STATES: &str = r#"
+198.51.100.0/24 AS64496 => Valid
+198.51.100.0/24 AS64497 => Valid
+198.51.100.0/25 AS64496 => Invalid
+198.51.100.0/24 none => Invalid
+198.51.103.0/24 AS64497 => Invalid
+198.51.104.0/24 AS64496 => NotFound
+198.51.96.0/21 AS64496 => NotFound
+c633:6400::/24 AS64496 => NotFound
+"#;
 
-/// A set of VRPs, a route by its prefix and origin, and its validation state.
-const STATES: [(&[Terms], &str, Option<u32>, &str); 13] = [
-    (NESTED, "198.51.100.0/24", Some(64496), "Valid"),
-    (NESTED, "198.51.100.0/24", Some(64497), "Valid"),
-    (NESTED, "198.51.100.0/25", Some(64496), "Invalid"),
-    (NESTED, "198.51.100.0/24", None, "Invalid"),
-    (NESTED, "198.51.103.0/24", Some(64497), "Invalid"),
-    (NESTED, "198.51.104.0/24", Some(64496), "NotFound"),
-    (NESTED, "198.51.96.0/21", Some(64496), "NotFound"),
-    (NESTED, "c633:6400::/24", Some(64496), "NotFound"),
-    (AS_ZERO, "255.255.255.255/32", Some(0), "Invalid"),
-    (BOTH_FAMILIES, "2001:db8:1::/48", Some(64496), "Valid"),
-    (BOTH_FAMILIES, "2001:db8:1::/49", Some(64497), "Invalid"),
-    (BOTH_FAMILIES, "192.0.2.0/24", Some(64496), "Invalid"),
-    (&[], "0.0.0.0/0", Some(64496), "NotFound"),
-];
+const BOTH_FAMILIES: &str = r#"
+AS64497 2001:db8::/32 48
+AS64496 ::/0 128
+AS64496 0.0.0.0/0 0
+"#;
+
+const STATES_OF_BOTH_FAMILIES: &str = r#"
+2001:db8:1::/48 AS64496 => Valid
+2001:db8:1::/49 AS64497 => Invalid
+192.0.2.0/24 AS64496 => Invalid
+"#;
 
 /// How many VRPs a sink takes before it stops, how many it has then, and the answer of the visit.
 const VISITS: [(usize, usize, Result<(), Stop>); 3] = [
@@ -49,16 +51,23 @@ const VISITS: [(usize, usize, Result<(), Stop>); 3] = [
     (0, 0, Err(Stop)),
 ];
 
-pub(crate) fn vrp_of(terms: &Terms) -> Result<Vrp, Fail> {
-    let Terms(asn, prefix, max) = terms;
-    let prefix = Prefix::read(prefix.as_bytes())?;
-    Ok(Vrp::from_parts(prefix, *max, Asn(*asn)).ok_or("a VRP")?)
+fn asn_of(text: &str) -> Result<Asn, Fail> {
+    Ok(Asn::from_text(text.as_bytes()).ok_or("no AS number")?)
 }
 
-pub(crate) fn vrps_of(alloc: Global, terms: &[Terms]) -> Result<Vec<Vrp>, Fail> {
+/// A VRP by its AS, prefix and maxLength.
+pub(crate) fn vrp_of(text: &str) -> Result<Vrp, Fail> {
+    let (asn, terms) = text.split_once(' ').ok_or("no prefix")?;
+    let (prefix, max) = terms.split_once(' ').ok_or("no maxLength")?;
+    let prefix = Prefix::read(prefix.as_bytes())?;
+    Ok(Vrp::from_parts(prefix, max.parse()?, asn_of(asn)?).ok_or("a VRP")?)
+}
+
+/// The VRPs of the lines.
+pub(crate) fn vrps_of(alloc: Global, lines: &str) -> Result<Vec<Vrp>, Fail> {
     let mut vrps = Vec::new(alloc);
-    for one in terms {
-        vrps.push(vrp_of(one)?)?;
+    for line in lines.trim().lines() {
+        vrps.push(vrp_of(line)?)?;
     }
     Ok(vrps)
 }
@@ -102,27 +111,41 @@ impl Sink for FirstVrps {
     }
 }
 
-#[test]
-fn states_of_routes(rt: HostRuntime) -> Result<(), Fail> {
-    for (vrps, prefix, origin, state) in STATES {
-        let index = ListIndex::from(vrps_of(rt.alloc(), vrps)?);
-        let route = Route {
-            prefix: Prefix::read(prefix.as_bytes())?,
-            origin: origin.map_or(Origin::None, |asn| Origin::As(Asn(asn))),
-        };
-        assert_eq!(rt;
-            index.validity(&route).as_str(),
-            state,
-            "{prefix} of {origin:?}"
-        );
+// A route by its prefix and origin.
+fn route_of(text: &str) -> Result<Route, Fail> {
+    let (prefix, origin) = text.split_once(' ').ok_or("no origin")?;
+    Ok(Route {
+        prefix: Prefix::read(prefix.as_bytes())?,
+        origin: match origin {
+            "none" => Origin::None,
+            asn => Origin::As(asn_of(asn)?),
+        },
+    })
+}
+
+fn assert_states(rt: &impl Abort, alloc: Global, vrps: &str, states: &str) -> Result<(), Fail> {
+    let index = ListIndex::from(vrps_of(alloc, vrps)?);
+    for row in &rows_of(alloc, states)? {
+        let state = index.validity(&route_of(row.input)?);
+        assert_eq!(rt; state.as_str(), row.output, "{}", row.input);
     }
     Ok(())
 }
 
 #[test]
+fn states_of_routes(rt: HostRuntime) -> Result<(), Fail> {
+    let alloc = rt.alloc();
+    assert_states(&rt, alloc, NESTED, NESTED_STATES)?;
+    assert_states(&rt, alloc, BOTH_FAMILIES, STATES_OF_BOTH_FAMILIES)?;
+    let as_zero = "\n255.255.255.255/32 AS0 => Invalid";
+    assert_states(&rt, alloc, "AS0 0.0.0.0/0 32", as_zero)?;
+    assert_states(&rt, alloc, "", "\n0.0.0.0/0 AS64496 => NotFound")
+}
+
+#[test]
 fn visits_rise_and_stop(rt: HostRuntime) -> Result<(), Fail> {
     let index = ListIndex::from(vrps_of(rt.alloc(), NESTED)?);
-    let rising = [vrp_of(&NESTED[1])?, vrp_of(&NESTED[0])?];
+    let rising = [vrp_of(WIDE)?, vrp_of(NARROW)?];
     for (most, kept, answer) in VISITS {
         let mut first = FirstVrps {
             vrps: Vec::new(rt.alloc()),

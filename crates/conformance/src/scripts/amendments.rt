@@ -1,54 +1,26 @@
 //! Authorizations that are amended.
-use super::{ALPHA, AUTHORIZATION, ONE_AUTHORIZATION, Script};
 
 /// The one authorization goes to length 25 and ends with June.
-const AMENDMENT: &str = r#"
+pub(crate) const AMENDMENT: &str = r#"
 ann {"do":"amend","holder":"alpha","number":1,"max":25,"until":"2026-06-30"} => {"done":null}
 "#;
 
-const AMENDED_AUTHORIZATION: &[&str] = &[ALPHA, AUTHORIZATION, AMENDMENT];
-
-pub(crate) const SCRIPTS: &[Script] = &[
-    Script {
-        name: "amend_length_and_last_day",
-        after: AMENDED_AUTHORIZATION,
-        lines: r#"
+pub(crate) const SCRIPTS: &str = r#"
+# amend_length_and_last_day after holder, authorization, amendment
 ann {"do":"show","holder":"alpha","number":1} => {"shown":{"number":1,"asn":64496,"prefix":"192.0.2.0/24","max":25,"from":"2026-01-01","until":"2026-06-30"}}
-"#,
-    },
-    Script {
-        name: "amend_onto_another_is_same",
-        after: AMENDED_AUTHORIZATION,
-        lines: r#"
+# amend_onto_another_is_same after holder, authorization, amendment
 ann {"do":"create","holder":"alpha","asn":64496,"prefix":"192.0.2.0/24","max":24,"from":"2026-01-01","until":"2026-12-31"} => {"done":2}
 ann {"do":"amend","holder":"alpha","number":2,"max":25,"until":"2026-12-31"} => {"denied":"same"}
-"#,
-    },
-    Script {
-        name: "amend_onto_terms_that_a_withdraw_freed",
-        after: AMENDED_AUTHORIZATION,
-        lines: r#"
+# amend_onto_terms_that_a_withdraw_freed after holder, authorization, amendment
 ann {"do":"create","holder":"alpha","asn":64496,"prefix":"192.0.2.0/24","max":24,"from":"2026-01-01","until":"2026-12-31"} => {"done":2}
 ann {"do":"withdraw","holder":"alpha","number":1} => {"done":null}
 ann {"do":"amend","holder":"alpha","number":2,"max":25,"until":"2026-12-31"} => {"done":null}
 ann {"do":"list","holder":"alpha"} => {"listed":[{"number":2,"asn":64496,"prefix":"192.0.2.0/24","max":25,"from":"2026-01-01","until":"2026-12-31"}]}
-"#,
-    },
-    Script {
-        name: "amend_past_day_then_short_length",
-        after: AMENDED_AUTHORIZATION,
-        lines: r#"
+# amend_past_day_then_short_length after holder, authorization, amendment
 day 2026-07-01
 ann {"do":"amend","holder":"alpha","number":1,"max":23,"until":"2026-06-30"} => {"denied":"dates"}
 ann {"do":"amend","holder":"alpha","number":1,"max":23,"until":"2026-12-31"} => {"denied":"length"}
-"#,
-    },
-    Script {
-        name: "amend_to_the_same_values_is_done",
-        after: ONE_AUTHORIZATION,
-        lines: r#"
+# amend_to_the_same_values_is_done after holder, authorization
 ann {"do":"amend","holder":"alpha","number":1,"max":24,"until":"2026-12-31"} => {"done":null}
 ann {"do":"show","holder":"alpha","number":1} => {"shown":{"number":1,"asn":64496,"prefix":"192.0.2.0/24","max":24,"from":"2026-01-01","until":"2026-12-31"}}
-"#,
-    },
-];
+"#;

@@ -1,37 +1,16 @@
 //! Authorizations that are created and withdrawn.
-use super::{ONE_AUTHORIZATION, REGISTERED_HOLDER, Script};
 
-pub(crate) const SCRIPTS: &[Script] = &[
-    Script {
-        name: "create_over_width_is_denied_length_before_held",
-        after: REGISTERED_HOLDER,
-        lines: r#"
+pub(crate) const SCRIPTS: &str = r#"
+# create_over_width_is_denied_length_before_held after holder
 ann {"do":"create","holder":"alpha","asn":64496,"prefix":"198.51.100.0/24","max":33,"from":"2026-01-01","until":"2026-12-31"} => {"denied":"length"}
 ann {"do":"create","holder":"alpha","asn":64496,"prefix":"198.51.100.0/24","max":24,"from":"2026-01-01","until":"2026-12-31"} => {"denied":"held"}
-"#,
-    },
-    Script {
-        name: "as_0_is_authorized_and_never_valid",
-        after: REGISTERED_HOLDER,
-        lines: r#"
+# as_0_is_authorized_and_never_valid after holder
 ann {"do":"create","holder":"alpha","asn":0,"prefix":"192.0.2.0/24","max":24,"from":"2026-01-01","until":"2026-12-31"} => {"done":1}
 bob {"do":"validity","routes":[{"prefix":"192.0.2.0/24","origin":0}]} => {"answers":["Invalid"]}
-"#,
-    },
-    Script {
-        name: "create_of_an_active_one_is_same",
-        after: ONE_AUTHORIZATION,
-        lines: r#"
+# create_of_an_active_one_is_same after holder, authorization
 ann {"do":"create","holder":"alpha","asn":64496,"prefix":"192.0.2.0/24","max":24,"from":"2026-06-01","until":"2026-06-30"} => {"denied":"same"}
-"#,
-    },
-    Script {
-        name: "withdraw_twice_is_denied_number",
-        after: ONE_AUTHORIZATION,
-        lines: r#"
+# withdraw_twice_is_denied_number after holder, authorization
 ann {"do":"withdraw","holder":"alpha","number":1} => {"done":null}
 ann {"do":"withdraw","holder":"alpha","number":1} => {"denied":"number"}
 ann {"do":"list","holder":"alpha"} => {"listed":[]}
-"#,
-    },
-];
+"#;

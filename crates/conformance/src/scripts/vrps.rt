@@ -1,25 +1,11 @@
 //! The VRPs of a day, and routes that are validated by them.
-use super::{ONE_AUTHORIZATION, Script};
 
-pub(crate) const SCRIPTS: &[Script] = &[
-    Script {
-        name: "validity_of_equal_longer_and_shorter_route",
-        after: ONE_AUTHORIZATION,
-        lines: r#"
+pub(crate) const SCRIPTS: &str = r#"
+# validity_of_equal_longer_and_shorter_route after holder, authorization
 bob {"do":"validity","routes":[{"prefix":"192.0.2.0/24","origin":64496},{"prefix":"192.0.2.0/25","origin":64496},{"prefix":"192.0.0.0/16","origin":64496}]} => {"answers":["Valid","Invalid","NotFound"]}
-"#,
-    },
-    Script {
-        name: "validity_of_origin_none",
-        after: ONE_AUTHORIZATION,
-        lines: r#"
+# validity_of_origin_none after holder, authorization
 bob {"do":"validity","routes":[{"prefix":"192.0.2.0/24","origin":null},{"prefix":"198.51.100.0/24","origin":null}]} => {"answers":["Invalid","NotFound"]}
-"#,
-    },
-    Script {
-        name: "payloads_on_days_up_and_down",
-        after: ONE_AUTHORIZATION,
-        lines: r#"
+# payloads_on_days_up_and_down after holder, authorization
 bob {"do":"payloads"} => {"payloads":[{"asn":64496,"prefix":"192.0.2.0/24","max":24}]}
 day 2026-12-31
 bob {"do":"payloads"} => {"payloads":[{"asn":64496,"prefix":"192.0.2.0/24","max":24}]}
@@ -29,12 +15,7 @@ day 2025-12-31
 bob {"do":"payloads"} => {"payloads":[]}
 day 2026-12-31
 bob {"do":"payloads"} => {"payloads":[{"asn":64496,"prefix":"192.0.2.0/24","max":24}]}
-"#,
-    },
-    Script {
-        name: "create_after_payloads_of_another_day",
-        after: ONE_AUTHORIZATION,
-        lines: r#"
+# create_after_payloads_of_another_day after holder, authorization
 day 2026-12-31
 bob {"do":"payloads"} => {"payloads":[{"asn":64496,"prefix":"192.0.2.0/24","max":24}]}
 day 2026-03-01
@@ -42,6 +23,4 @@ ann {"do":"create","holder":"alpha","asn":64497,"prefix":"192.0.2.0/25","max":25
 bob {"do":"payloads"} => {"payloads":[{"asn":64496,"prefix":"192.0.2.0/24","max":24}]}
 day 2026-12-31
 bob {"do":"payloads"} => {"payloads":[{"asn":64496,"prefix":"192.0.2.0/24","max":24},{"asn":64497,"prefix":"192.0.2.0/25","max":25}]}
-"#,
-    },
-];
+"#;
