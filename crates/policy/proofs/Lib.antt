@@ -15,3 +15,4 @@ pub mod Repeats
 pub mod SharedVrps
 pub mod Moved
 pub mod Fitting
+pub mod MaxLengths
