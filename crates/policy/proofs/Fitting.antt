@@ -1,8 +1,8 @@
 -- The rows of a legal history whose values are those of their types have such values too.
-use Rattle.std.proofs.Common.{ℕ, ◌+◌, ◌<◌, ◌≤◌, true, false, not, cond, eqb, List, [], ◌∷◌, inl, inr, None, sym, subst, arith, map, filter}
+use Rattle.std.proofs.Common.{ℕ, ◌+◌, ◌<◌, ◌≤◌, true, false, not, cond, eqb, List, [], ◌∷◌, inl, inr, None, subst, arith, map, filter}
 use Rattle.std.specs.List.{All}
 use Rattle.std.proofs.lemmas.Bool.{cases_Bool}
-use Rattle.std.proofs.lemmas.List.Elements.{All-nil, All-cons, All-head, All-tail, All-push, All-filter, All-map, All-weaker}
+use Rattle.std.proofs.lemmas.List.Elements.{All-nil, All-push, All-filter, All-map, All-weaker}
 use Rattle.addr.specs.Day.{IsDay}
 use Rattle.policy.specs.declared.admission.TheConstants.{LAST_NUMBER}
 use Rattle.policy.specs.declared.authorization.Auth.{Auth}
@@ -11,10 +11,11 @@ use Rattle.policy.specs.declared.command.Command.{Command}
 use Rattle.policy.specs.declared.command.Command.TheVariants.{Register, Delegate, Transfer, Reclaim, Grant, Revoke, Create, Amend, Withdraw}
 use Rattle.policy.specs.declared.grant.Granted.{Granted}
 use Rattle.policy.specs.History.{History, same_name}
-use Rattle.policy.specs.Terms.{granted_after, grants_after, grants_made, grant_terms, created_after, terms_after, authorizations_made, authorization_terms, amended, HeldSinceMade, Keeps}
+use Rattle.policy.specs.Terms.{granted_after, grants_after, grants_made, grant_terms, created_after, terms_after, authorizations_made, authorization_terms, amended, HeldSinceMade}
 use Rattle.policy.specs.Values.{IsU8, CommandFits, HistoryFits, AuthFits, GrantFits, LegalRowsFit}
 use Rattle.policy.specs.Verdict.{Verdict, IsLegal}
 use Rattle.policy.proofs.Names.{same_name-true}
+use Rattle.policy.proofs.Kept.{Keeps-all}
 
 -- the grants that were made at a holder, and how many they are
 record GrantsFit (granted : ℕ) (grants : List Granted) : Type 0 where
@@ -103,25 +104,19 @@ auths_fit charter [] h legal fits = record { made = omega arith; terms = All-nil
 auths_fit charter (e ∷ before) h legal fits =
     auths_after-fit charter before e.day e.caller e.command h legal.0 fits.0.command (auths_fit charter before h legal.1 fits.1)
 
--- what holds of all holds of those that are kept
-Keeps-all : (P F : Auth → Type 0) (xs ys : List Auth) → Keeps P xs ys → All F xs → All F ys
-Keeps-all P F xs [] keeps all = All-nil F
-Keeps-all P F [] (y ∷ ys) keeps all = absurd keeps
-Keeps-all P F (x ∷ xs) (y ∷ ys) (inl kept) all =
-    All-cons F y ys (subst F (sym kept.1) (All-head F x xs all)) (Keeps-all P F xs ys kept.2 (All-tail F x xs all))
-Keeps-all P F (x ∷ xs) (y ∷ ys) (inr lost) all = Keeps-all P F xs (y ∷ ys) lost.1 (All-tail F x xs all)
-
 pub legal_rows_fit : LegalRowsFit
 legal_rows_fit charter history h rows legal fits of =
     let grants = grants_fit charter history h legal fits in
     let auths = auths_fit charter history h legal fits in
+    let since = HeldSinceMade history h in
+    let terms = authorization_terms history h in
     let granted : rows.granted ≤ LAST_NUMBER = rw of.granted grants.made in
     let created : rows.created ≤ LAST_NUMBER = rw of.created auths.made in (
       record {
         granted = omega (arith, granted);
         created = omega (arith, created);
         grants = rw of.grants grants.terms;
-        auths = Keeps-all (HeldSinceMade history h) AuthFits (authorization_terms history h) rows.auths of.auths auths.terms;
+        auths = Keeps-all since AuthFits terms rows.auths of.auths (All-weaker AuthFits (λ x. since x → AuthFits x) (λ x has _. has) terms auths.terms);
       },
       granted,
       created,

@@ -1,5 +1,7 @@
 -- A list that keeps those of another for which a fact holds.
 use Rattle.std.proofs.Common.{◌≡◌, ℕ, ◌<◌, ◌≤◌, Bool, true, false, not, cond, List, [], ◌∷◌, ◌++◌, inl, inr, refl, sym, ap, ◌∙◌, subst, arith, map, filter}
+use Rattle.std.specs.List.{All}
+use Rattle.std.proofs.lemmas.List.Elements.{All-nil, All-cons, All-head, All-tail}
 use Rattle.policy.specs.declared.authorization.Auth.{Auth}
 use Rattle.policy.specs.Terms.{Keeps}
 use Rattle.std.proofs.lemmas.Bool.{cases_Bool, false≢true}
@@ -60,6 +62,14 @@ Keeps-map P f to from [] (y ∷ ys) k = absurd k
 Keeps-map P f to from (x ∷ xs) [] k = (λ q. k.0 (from x q), Keeps-map P f to from xs [] k.1)
 Keeps-map P f to from (x ∷ xs) (y ∷ ys) (inl k) = inl (to x k.0, ap f k.1, Keeps-map P f to from xs ys k.2)
 Keeps-map P f to from (x ∷ xs) (y ∷ ys) (inr k) = inr (λ q. k.0 (from x q), Keeps-map P f to from xs (y ∷ ys) k.1)
+
+-- what holds of each that has the fact holds of all that are kept
+pub Keeps-all : (P F : Auth → Type 0) (xs ys : List Auth) → Keeps P xs ys → All (λ x. P x → F x) xs → All F ys
+Keeps-all P F xs [] k all = All-nil F
+Keeps-all P F [] (y ∷ ys) k all = absurd k
+Keeps-all P F (x ∷ xs) (y ∷ ys) (inl k) all =
+    All-cons F y ys (subst F (sym k.1) (All-head (λ z. P z → F z) x xs all k.0)) (Keeps-all P F xs ys k.2 (All-tail (λ z. P z → F z) x xs all))
+Keeps-all P F (x ∷ xs) (y ∷ ys) (inr k) all = Keeps-all P F xs (y ∷ ys) k.1 (All-tail (λ z. P z → F z) x xs all)
 
 -- the numbers still rise
 pub Keeps-numbered : (P : Auth → Type 0) (low : ℕ) (xs ys : List Auth) (high : ℕ) → Keeps P xs ys → Numbered low xs high → Numbered low ys high

@@ -12,7 +12,7 @@ pub mod PoolLemmas
 pub mod RowsLemmas
 pub mod AmendLemmas
 pub mod Repeats
-mod PrefixEquality
 pub mod SharedVrps
 pub mod Moved
 pub mod Fitting
+pub mod MaxLengths

@@ -165,10 +165,10 @@ PairsApart-append P [] z none pairs = (λ p. tt, tt)
 PairsApart-append P (x ∷ xs) z none pairs =
     (λ p. Each-append (λ y. P y → share_vrp x y ≡ false) xs z (λ q. none.0 p) (pairs.0 p), PairsApart-append P xs z none.1 pairs.1)
 
-amended-other : (n max until : ℕ) (x : Auth) → eqb x.number n ≡ false → amended n max until x ≡ x
+pub amended-other : (n max until : ℕ) (x : Auth) → eqb x.number n ≡ false → amended n max until x ≡ x
 amended-other n max until x differ = cond-false _ _ _ differ
 
-amended-it : (n max until : ℕ) (x z : Auth) → eqb x.number n ≡ true → x ≡ z → amended n max until x ≡ new_terms z max until
+pub amended-it : (n max until : ℕ) (x z : Auth) → eqb x.number n ≡ true → x ≡ z → amended n max until x ≡ new_terms z max until
 amended-it n max until x z same is = cond-true _ _ _ same ∙ ap (λ a. new_terms a max until) is
 
 -- what a list of rising numbers tells of one that is amended: it is the one found, and shares none of the new terms with another
@@ -184,7 +184,7 @@ numbered_later n low (x ∷ xs) high P z below numbers =
     (λ p same. absurd (false≢true (sym differ ∙ same)), numbered_later n x.number xs high P z (omega arith) numbers.1)
 
 -- of those that have the fact, the one of the number is the one found
-found_one : (P : Auth → Type 0) (n low : ℕ) (xs ys : List Auth) (high : ℕ) (z : Auth) → Numbered low xs high → Keeps P xs ys → numbered n ys ≡ Some z
+pub found_one : (P : Auth → Type 0) (n low : ℕ) (xs ys : List Auth) (high : ℕ) (z : Auth) → Numbered low xs high → Keeps P xs ys → numbered n ys ≡ Some z
     → Each (λ x. P x → eqb x.number n ≡ true → x ≡ z) xs
 found_one P n low [] ys high z numbers k found = tt
 found_one P n low (x ∷ xs) [] high z numbers k found =

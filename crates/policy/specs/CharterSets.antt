@@ -5,6 +5,7 @@ use Rattle.std.specs.Ordering.{nat_cmp}
 use Rattle.addr.specs.Address.{prefix_eq}
 use Rattle.addr.specs.Order.{prefix_cmp}
 use Rattle.addr.specs.declared.prefix.Prefix.{Prefix}
+use Rattle.policy.specs.declared.charter.TheConstants.{MOST_OPERATORS, MOST_POOL_PREFIXES}
 use Rattle.policy.specs.Repeats.{has_repeat}
 
 -- both are sets
@@ -12,9 +13,11 @@ pub record CharterSets : Type 0 where
   pub operators : List (List ℕ)
   pub pool : List Prefix
 
--- 1 to 16 operators and 1 to 64 prefixes
+-- at least one of each, and no more than a charter may have
 abbrev pub AreInNumber : List (List ℕ) → List Prefix → Type 0
-AreInNumber operators pool = (1 ≤ length operators) × (length operators ≤ 16) × (1 ≤ length pool) × (length pool ≤ 64)
+AreInNumber operators pool =
+    (1 ≤ length operators) × (length operators ≤ MOST_OPERATORS)
+    × (1 ≤ length pool) × (length pool ≤ MOST_POOL_PREFIXES)
 
 -- in number, none twice, and rising: so charters of the same members are equal
 pub record IsCharter (charter : CharterSets) : Type 0 where

@@ -1,6 +1,7 @@
 -- What the types of the values promise. Elsewhere a history ranges over all numbers and texts: a day, a
 -- number of a `u32` and a name are seen as any number and any text there.
 use Rattle.std.specs.Prelude.{ℕ, ◌^◌, ◌<◌, ◌≤◌, IsTrue, List, [], ◌∷◌, Option, Some, None, All}
+use Rattle.addr.specs.Address.{FitsMaxLength}
 use Rattle.addr.specs.Day.{IsDay}
 use Rattle.addr.specs.Name.{is_name}
 use Rattle.policy.specs.declared.admission.TheConstants.{LAST_NUMBER}
@@ -11,6 +12,7 @@ use Rattle.policy.specs.declared.command.Command.TheVariants.{Register, Delegate
 use Rattle.policy.specs.declared.grant.Granted.{Granted}
 use Rattle.policy.specs.History.{Entry, History}
 use Rattle.policy.specs.Rows.{Rows, RowsOf}
+use Rattle.policy.specs.Terms.{AreActive}
 use Rattle.policy.specs.Verdict.{IsLegal}
 
 abbrev pub IsU8 : ℕ → Type 0
@@ -71,3 +73,9 @@ LegalRowsFit =
     (charter : Charter) (history : History) (h : List ℕ) (rows : Rows)
     → IsLegal charter history → HistoryFits history → RowsOf history h rows
     → RowsFit rows × (rows.granted ≤ LAST_NUMBER) × (rows.created ≤ LAST_NUMBER)
+
+-- each active authorization after a legal history has its maxLength in range: create and amend ask it
+abbrev pub MaxLengthsFit : Type 0
+MaxLengthsFit =
+    (charter : Charter) (history : History) (h : List ℕ) (active : List Auth)
+    → IsLegal charter history → AreActive history h active → All (λ x. FitsMaxLength x.prefix x.max) active

@@ -1,9 +1,8 @@
 -- The rules of each command in their order, and the verdict: the first rule that does not hold, or
 -- none where all hold.
-use Rattle.std.specs.Prelude.{◌≡◌, ℕ, ◌<◌, ◌≤◌, Bool, true, false, not, ◌&&◌, ◌||◌, ◌==◌, nat_le, List, [], ◌∷◌, length, Option, Some, None, find, IsSomeAnd, ◌⊎◌}
+use Rattle.std.specs.Prelude.{◌≡◌, ℕ, ◌<◌, ◌≤◌, Bool, true, false, not, ◌&&◌, ◌||◌, ◌==◌, List, [], ◌∷◌, length, Option, Some, None, find, IsSomeAnd, ◌⊎◌}
 use Rattle.std.specs.List.{list_any}
-use Rattle.addr.specs.Family.{width}
-use Rattle.addr.specs.declared.prefix.Prefix.{Prefix}
+use Rattle.addr.specs.Address.{fits_max_length}
 use Rattle.policy.specs.declared.admission.TheConstants.{MOST_GRANTS, MOST_AUTHORIZATIONS, LAST_NUMBER}
 use Rattle.policy.specs.declared.authorization.Auth.{Auth}
 use Rattle.policy.specs.declared.charter.Charter.{Charter}
@@ -31,13 +30,9 @@ abbrev pub accept : Option Rule → Type 0
 accept None = Unit {0}
 accept (Some first) = ⊥
 
--- the maxLength lies from the prefix's length to the width of its family
-abbrev pub fits_length : Prefix → ℕ → Bool
-fits_length p max = nat_le p.length max && nat_le max (width p.family)
-
--- of all prefixes of the terms
+-- the maxLength is one for all prefixes of the terms
 abbrev pub terms_fit_length : Auth → ℕ → Bool
-terms_fit_length x max = fits_length x.prefix max
+terms_fit_length x max = fits_max_length x.prefix max
 
 -- an operator, or a manager at the holder
 abbrev pub is_steward : Charter → History → ℕ → List ℕ → List ℕ → Bool
@@ -94,7 +89,7 @@ Verdict charter history day caller (Create holder asn p max from until) =
     ask GrantRule (has_access (grant_terms history holder) day caller Alter ≡ true) (
     ask Scope (is_permitted (grant_terms history holder) day caller Alter p ≡ true) (
     ask Dates ((from ≤ until) × (day ≤ until)) (
-    ask Length (fits_length p max ≡ true) (
+    ask Length (fits_max_length p max ≡ true) (
     ask Held (HoldsPrefix history holder p) (
     ask Same (OfActive history holder (λ active. list_any (λ y. gives_vrp y asn p max) active ≡ false)) (
     ask Room (OfActive history holder (λ active. length active < MOST_AUTHORIZATIONS)

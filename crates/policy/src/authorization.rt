@@ -1,7 +1,6 @@
 ghost use Rattle.std.specs.Prelude.{◌≡◌, ◌≤◌, ◌↔◌, ◌&&◌, true, IsTrue, IsSome, IfSome};
-ghost use Rattle.addr.specs.Address.{prefix_eq};
 ghost use Rattle.policy.specs.Terms.{terms_overlap, gives_vrp, share_vrp, IsVrpOf};
-ghost use Rattle.policy.specs.Verdict.{fits_length, terms_fit_length};
+ghost use Rattle.policy.specs.Verdict.{terms_fit_length};
 
 use addr::{Asn, Day, Prefix, Vrp};
 
@@ -20,19 +19,6 @@ pub struct Auth {
     pub until: Day,
 }
 
-/// Whether the maxLength lies from the prefix's length to the width of its family.
-pub(crate) fn fits_length(prefix: &Prefix, max: u8) -> bool
-    ensures { result ≡ fits_length prefix.now max }
-{
-    prefix.length <= max && max <= prefix.family.width()
-}
-
-fn is_same_prefix(prefix: &Prefix, other: &Prefix) -> bool
-    ensures { result ≡ prefix_eq prefix.now other.now }
-{
-    prefix.family.is(other.family) && prefix.first == other.first && prefix.length == other.length
-}
-
 impl Auth {
     /// Whether a prefix of the terms shares an address with `prefix`.
     pub(crate) fn overlaps(&self, prefix: &Prefix) -> bool
@@ -45,7 +31,7 @@ impl Auth {
     pub(crate) fn gives_vrp(&self, asn: Asn, prefix: &Prefix, max: u8) -> bool
         ensures { result ≡ gives_vrp self.now asn prefix.now max }
     {
-        self.asn.0 == asn.0 && is_same_prefix(&self.prefix, prefix) && self.max == max
+        self.asn.0 == asn.0 && self.prefix.is(prefix) && self.max == max
     }
 
     /// Whether some AS, prefix and maxLength is given by the terms of both.
@@ -59,7 +45,7 @@ impl Auth {
     pub(crate) fn fits_length(&self, max: u8) -> bool
         ensures { result ≡ terms_fit_length self.now max }
     {
-        fits_length(&self.prefix, max)
+        self.prefix.fits_max_length(max)
     }
 
     /// Whether the day lies from the first to the last day in force.

@@ -11,6 +11,12 @@ use addr::{Family, Name, Prefix};
 use std::alloc::AllocError;
 use std::marker::Model;
 
+/// How many operators a charter may have.
+const MOST_OPERATORS: usize = 16;
+
+/// How many prefixes its pool may have.
+const MOST_POOL_PREFIXES: usize = 64;
+
 /// Why two lists make no charter. Of several faults the first counts.
 #[derive(Clone, Copy, Debug, PartialEq, Eq)]
 pub enum CharterFault {
@@ -67,7 +73,8 @@ impl Clone for Charter {
 fn are_in_number(operators: &[Name], pool: &[Prefix]) -> bool
     ensures { IsTrue result ↔ AreInNumber operators.now pool.now }
 {
-    (1..=16).contains(&operators.len()) && (1..=64).contains(&pool.len())
+    (1..=MOST_OPERATORS).contains(&operators.len())
+        && (1..=MOST_POOL_PREFIXES).contains(&pool.len())
 }
 
 /// Whether some item stands twice.
@@ -88,7 +95,7 @@ impl Charter {
     ghost use Rattle.policy.specs.Charter.{is_operator, operators_of, pool_of};
 
     /// The charter of these operators and this pool, both in rising order. It takes no memory.
-    #[tactic(auto, using(crate::proofs::PrefixEquality::derived_repeats))]
+    #[tactic(auto, using(crate::proofs::Repeats::derived_repeats))]
     pub fn make(mut operators: Vec<Name>, mut pool: Vec<Prefix>) -> Result<Charter, CharterFault>
         ensures operators { IfOk result
             (λ charter. IsPermutation operators.items (operators_of charter)) }

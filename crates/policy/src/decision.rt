@@ -14,7 +14,6 @@ use crate::admission::{
     are_dates, auth_with_access, has_grant, has_room_for_authorization, has_room_for_grant, holds,
     is_new, is_steward, registered, require, rows_with_access, shares_with_other,
 };
-use crate::authorization::fits_length;
 use crate::grant::is_permitted;
 use crate::{
     Access, Auth, Change, Charter, Command, Edit, HolderChange, HolderRows, Refusal, Rule, View,
@@ -193,7 +192,7 @@ fn decide_create(basis: Basis<'_>, holder: Holder<'_>, terms: &AuthTerms) -> Res
         Rule::Scope,
     )?;
     require(are_dates(basis.day, terms.from, terms.until), Rule::Dates)?;
-    require(fits_length(&terms.prefix, terms.max), Rule::Length)?;
+    require(terms.prefix.fits_max_length(terms.max), Rule::Length)?;
     require(holds(rows, &terms.prefix), Rule::Held)?;
     require(
         is_new(rows, terms.asn, &terms.prefix, terms.max),

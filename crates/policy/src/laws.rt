@@ -3,7 +3,7 @@
 ghost use Rattle.policy.specs.Ended.{EndsJustOverlapping};
 ghost use Rattle.policy.specs.SharedVrps.{NoSharedVrp};
 ghost use Rattle.policy.specs.Unregistered.{UnregisteredHaveNothing};
-ghost use Rattle.policy.specs.Values.{EntryFits, LegalRowsFit};
+ghost use Rattle.policy.specs.Values.{EntryFits, LegalRowsFit, MaxLengthsFit};
 
 use crate::Command;
 use crate::values::{tell_command, tell_day, tell_name};
@@ -32,6 +32,13 @@ pub fn ends_just_overlapping()
 /// values too, and at most 999,999 grants and as many authorizations were made.
 pub fn legal_rows_fit()
     ensures { LegalRowsFit }
+{}
+
+/// After a legal history each active authorization has its maxLength in range: not below its
+/// prefix's length, not over its family's width.
+#[tactic(auto, using(crate::proofs::MaxLengths::max_lengths_fit))]
+pub fn max_lengths_fit()
+    ensures { MaxLengthsFit }
 {}
 
 /// The values of an entry that a call can make are those of their types.

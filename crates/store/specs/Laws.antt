@@ -8,7 +8,7 @@ use Rattle.policy.specs.Rows.{Rows, rows_if_any, RowsIfAny}
 use Rattle.policy.specs.RowsOfAll.{HasRows}
 use Rattle.policy.specs.Values.{HistoryFits, FitIfAny}
 use Rattle.policy.specs.Verdict.{IsLegal}
-use Rattle.store.specs.Loads.{AreLoaded}
+use Rattle.store.specs.Loads.{AreLoaded, AllGiveOn}
 
 -- what `Holdings` promises of the rows
 abbrev pub AreMaximalIfAny : Option HolderRows → Type 0
@@ -29,3 +29,11 @@ RowsOfHistoriesFit =
     (charter : Charter) (history : History) (rows : List ℕ → Option Rows)
     → IsLegal charter history → HistoryFits history → HasRows rows history
     → (h : List ℕ) → FitIfAny (rows h)
+
+-- On each day the authorizations in force of such a history give VRPs, so that no load of the VRPs finds a
+-- row that shows none.
+abbrev pub AuthsOfHistoriesGive : Type 0
+AuthsOfHistoriesGive =
+    (charter : Charter) (history : History) (rows : List ℕ → Option Rows) (day : ℕ)
+    → IsLegal charter history → HistoryFits history → HasRows rows history
+    → AllGiveOn rows day

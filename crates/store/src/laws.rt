@@ -1,6 +1,6 @@
 //! Laws over the definitions alone: each function's contract states one, and its body does nothing.
 
-ghost use Rattle.store.specs.Laws.{LoadsRowsOfHistories, RowsOfHistoriesFit};
+ghost use Rattle.store.specs.Laws.{AuthsOfHistoriesGive, LoadsRowsOfHistories, RowsOfHistoriesFit};
 
 /// Where the tables hold the rows of a history, what is loaded of a holder are its rows after that
 /// history, as `policy` asks for them.
@@ -15,4 +15,13 @@ pub fn rows_of_a_history_fit()
     ensures { RowsOfHistoriesFit }
 {
     policy::laws::legal_rows_fit();
+}
+
+/// Where the tables hold the rows of a legal history whose values are those of their types, no load
+/// of the VRPs of a day answers `Schema`.
+pub fn auths_of_a_history_give()
+    ensures { AuthsOfHistoriesGive }
+{
+    policy::laws::legal_rows_fit();
+    policy::laws::max_lengths_fit();
 }

@@ -3,9 +3,9 @@ use Rattle.std.specs.Cmp.Lexicographic.{pointwise}
 use Rattle.std.proofs.lemmas.List.Sorted.{length_permutation}
 use Rattle.std.proofs.lemmas.Cmp.{nat_list_eq_equiv}
 use Rattle.addr.specs.Address.{prefix_eq}
+use Rattle.policy.specs.declared.charter.TheConstants.{MOST_OPERATORS, MOST_POOL_PREFIXES}
 use Rattle.policy.specs.Repeats.{has_repeat}
-use Rattle.policy.proofs.Repeats.{has_repeat-moved, prefix_eq-flips}
-use Rattle.policy.proofs.PrefixEquality.{derived_repeats}
+use Rattle.policy.proofs.Repeats.{derived_repeats, has_repeat-moved, prefix_eq-flips}
 use Rattle.addr.proofs.OrderLemmas.{derived_prefix}
 use Rattle.policy.proofs.charter.Charter.make.Goals as goal
 
@@ -19,9 +19,9 @@ invariant_of-result c =
     record {
       number = (
         subst (λ (k : ℕ). 1 ≤ k) (sym operators) number.0,
-        subst (λ (k : ℕ). k ≤ 16) (sym operators) number.1,
+        subst (λ (k : ℕ). k ≤ MOST_OPERATORS) (sym operators) number.1,
         subst (λ (k : ℕ). 1 ≤ k) (sym pool) number.2,
-        subst (λ (k : ℕ). k ≤ 64) (sym pool) number.3,
+        subst (λ (k : ℕ). k ≤ MOST_POOL_PREFIXES) (sym pool) number.3,
       );
       operators_once = has_repeat-moved (pointwise nat_eq) nat_list_eq_equiv.symm c.args.operators.items c.sort_unstable.new.self.items c.sort_unstable.ensures.permutation
           (ap (has_repeat (pointwise nat_eq)) (sym c.deref-3.ensures.value) ∙ sym c.has_repeat.ensures ∙ c.if-has_repeat.false);
