@@ -4,5 +4,5 @@ use Rattle.cli.specs.declared.words.WordsFault.{WordsFault}
 use Rattle.cli.specs.declared.words.WordsFault.TheVariants.{Words}
 
 -- 1 other words than those of a task
-abbrev pub number_of : WordsFault → ℕ
-number_of Words = 1
+abbrev pub words_fault_number : WordsFault → ℕ
+words_fault_number Words = 1

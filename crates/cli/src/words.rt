@@ -22,10 +22,10 @@ pub enum WordsFault {
 }
 
 impl WordsFault {
-    ghost use Rattle.cli.specs.WordsFault.{number_of};
+    ghost use Rattle.cli.specs.WordsFault.{words_fault_number};
 
     pub fn number(self) -> u8
-        ensures { result ≡ number_of self }
+        ensures { result ≡ words_fault_number self }
     {
         match self {
             WordsFault::Words => 1,

@@ -1,63 +1,23 @@
--- VRPs as an index has them, and the states of routes over them.
-use Rattle.std.proofs.Common.{◌≡◌, ℕ, ◌==◌, Bool, true, false, ◌&&◌, ◌↔◌, inl, inr, IsTrue, List, [], ◌∷◌, Option, refl, sym, ap, ◌∙◌, subst, map, Contains, if◌then◌else◌}
+-- The VRPs of an index, and the states of routes over them.
+use Rattle.std.proofs.Common.{◌≡◌, ℕ, Bool, true, false, ◌↔◌, inl, inr, IsTrue, List, [], ◌∷◌, Option, refl, sym, ◌∙◌, subst, map, Contains, if◌then◌else◌}
 use Rattle.std.specs.List.{list_any}
-use Rattle.std.proofs.lemmas.Bool.{cases_Bool, and_parts, and_from, false≢true, true≢false, eqb-true, eq-eqb}
-use Rattle.std.specs.Ordering.{is_eq}
-use Rattle.std.proofs.lemmas.Cmp.{tied_itself}
-use Rattle.addr.specs.Address.{prefix_eq}
+use Rattle.std.proofs.lemmas.Bool.{cases_Bool, true≢false}
 use Rattle.addr.specs.OriginValidation.{covers, matches, Valid, Invalid, NotFound, HasState, validation_state}
-use Rattle.addr.specs.declared.asn.Asn.{Asn}
 use Rattle.addr.specs.declared.route.Route.{Route}
 use Rattle.addr.specs.declared.vrp.Vrp.{Vrp}
 use Rattle.payload.specs.ValidityState.{state_of}
-use Rattle.addr.specs.Order.{same_vrp}
-use Rattle.addr.proofs.Equality.{equal_prefix, prefix_itself}
-use Rattle.addr.proofs.OrderLemmas.{vrp_order}
 use Rattle.payload.specs.VrpSet as set
 use Rattle.payload.specs.declared.validity.Validity.{Validity}
-use Rattle.payload.proofs.Sets.{is_vrp, same_vrp-equal, contains-from_list, contains-items}
+use Rattle.payload.proofs.Sets.{is_vrp, same_vrp-equal, contains-items}
 use Rattle.policy.specs.DailyVrps.{IsVrpOn}
 use Rattle.policy.specs.History.{History}
 use Rattle.desk.specs.Answer.{AreStatesOn}
 use Rattle.policy.specs.Rows.{Rows}
 use Rattle.policy.specs.Verdict.{IsLegal}
 use Rattle.policy.specs.declared.charter.Charter.{Charter}
-use Rattle.desk.specs.steps.InForce.{vrp_eq, has_vrp}
 use Rattle.policy.specs.RowsOfAll.{HasRows, IsGivenOn}
 use Rattle.desk.proofs.DailyLemmas.{given_on, any_among, among_any}
-
--- VRPs of one AS, prefix and maxLength are one
-vrp_eq-same : (w v : Vrp) → vrp_eq w v ≡ true → w ≡ v
-vrp_eq-same w v same =
-    let one = and_parts (w.asn.0 == v.asn.0) (prefix_eq w.prefix v.prefix && (w.max == v.max)) same in
-    let two = and_parts (prefix_eq w.prefix v.prefix) (w.max == v.max) one.1 in
-    let asn : w.asn ≡ v.asn = ap (λ (n : ℕ). let a : Asn = record { 0 = n } in a) (eqb-true w.asn.0 v.asn.0 one.0) in
-    same_vrp w v (equal_prefix w.prefix v.prefix two.0) (eqb-true w.max v.max two.1) asn
-
-vrp_eq-itself : (v : Vrp) → vrp_eq v v ≡ true
-vrp_eq-itself v =
-    and_from _ _ (eq-eqb v.asn.0 v.asn.0 refl) (and_from _ _ (prefix_itself v.prefix) (eq-eqb v.max v.max refl))
-
-is_vrp-itself : (v : Vrp) → is_vrp v v ≡ true
-is_vrp-itself v = ap is_eq (tied_itself vrp_order.total v)
-
-vrp_eq-is : (w v : Vrp) → vrp_eq w v ≡ is_vrp v w
-vrp_eq-is w v =
-    elim (cases_Bool (is_vrp v w)) [
-      | inl one ↦ subst (λ (u : Vrp). vrp_eq u v ≡ is_vrp v u) (same_vrp-equal v w one) (vrp_eq-itself v ∙ sym (is_vrp-itself v))
-      | inr two ↦ elim (cases_Bool (vrp_eq w v)) [
-        | inl same ↦ absurd (false≢true (sym two ∙ subst (λ (u : Vrp). is_vrp v u ≡ true) (sym (vrp_eq-same w v same)) (is_vrp-itself v)))
-        | inr other ↦ other ∙ sym two
-      ]
-    ]
-
--- the set of a list has what the list has
-pub from_list-has : (vrps : List Vrp) (v : Vrp) → set.contains (set.from_list vrps) v ≡ has_vrp vrps v
-from_list-has vrps v = contains-from_list vrps v ∙ go vrps
-  where
-    go : (xs : List Vrp) → list_any (is_vrp v) xs ≡ has_vrp xs v
-    go [] = refl
-    go (x ∷ xs) = rw (vrp_eq-is x v, go xs) refl
+use Rattle.desk.proofs.VrpLemmas.{is_vrp-itself}
 
 -- the VRPs of a set are those that it has
 pub items_contain : (s : set.VrpSet) (v : Vrp) → Contains (set.items s) v ↔ IsTrue (set.contains s v)

@@ -1,6 +1,7 @@
 -- A VRP is given by its parts, and `vrp_with` is the one of given parts.
 use Rattle.std.proofs.Common.{◌≡◌, ℕ, ◌≤◌, ◌↔◌, true, false, IsSome, IfSome, Option, Some, None, refl, ap, ◌∙◌, subst}
 use Rattle.std.proofs.Math.Bridge.{le_prop}
+use Rattle.addr.specs.Address.{FitsMaxLength}
 use Rattle.addr.specs.Family.{width}
 use Rattle.addr.specs.declared.prefix.Prefix.{Prefix}
 use Rattle.addr.specs.declared.asn.Asn.{Asn}
@@ -22,7 +23,7 @@ same_parts v p max asn same_prefix same_max same_asn =
     let OfAsn : Asn → Type 0 = λ a. (low : p.length ≤ max) (high : max ≤ width p.family) → v ≡ vrp_at p max a low high in
     subst OfAsn same_asn (subst OfMax same_max (subst OfPrefix same_prefix (same_facts v)))
 
-vrp_if-parts : (p : Prefix) (max : ℕ) (asn : Asn) (low : Dec (p.length ≤ max)) (high : Dec (max ≤ width p.family)) (found : Option Vrp) → (IsSome found ↔ ((p.length ≤ max) × (max ≤ width p.family))) → IfSome found (λ v. (v.prefix ≡ p) × (v.max ≡ max) × (v.asn ≡ asn)) → found ≡ vrp_if p max asn low high
+vrp_if-parts : (p : Prefix) (max : ℕ) (asn : Asn) (low : Dec (p.length ≤ max)) (high : Dec (max ≤ width p.family)) (found : Option Vrp) → IsSome found ↔ FitsMaxLength p max → IfSome found (λ v. (v.prefix ≡ p) × (v.max ≡ max) × (v.asn ≡ asn)) → found ≡ vrp_if p max asn low high
 vrp_if-parts p max asn (yes low) (yes high) (Some v) there parts = ap Some (same_parts v p max asn parts.0 parts.1 parts.2 low high)
 vrp_if-parts p max asn (yes low) (yes high) None there parts = let none : false ≡ true = there.1 (low, high) in cc
 vrp_if-parts p max asn (yes low) (no high) (Some v) there parts = absurd (high (there.0 refl).1)
@@ -30,5 +31,5 @@ vrp_if-parts p max asn (yes low) (no high) None there parts = refl
 vrp_if-parts p max asn (no low) high (Some v) there parts = absurd (low (there.0 refl).0)
 vrp_if-parts p max asn (no low) high None there parts = refl
 
-pub vrp_with-parts : (p : Prefix) (max : ℕ) (asn : Asn) (found : Option Vrp) → (IsSome found ↔ ((p.length ≤ max) × (max ≤ width p.family))) → IfSome found (λ v. (v.prefix ≡ p) × (v.max ≡ max) × (v.asn ≡ asn)) → found ≡ vrp_with p max asn
+pub vrp_with-parts : (p : Prefix) (max : ℕ) (asn : Asn) (found : Option Vrp) → IsSome found ↔ FitsMaxLength p max → IfSome found (λ v. (v.prefix ≡ p) × (v.max ≡ max) × (v.asn ≡ asn)) → found ≡ vrp_with p max asn
 vrp_with-parts p max asn found there parts = vrp_if-parts p max asn _ _ found there parts

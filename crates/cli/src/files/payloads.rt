@@ -1,6 +1,7 @@
 // Payload files: VRPs, in any order.
-ghost use Rattle.std.specs.Prelude.{◌≡◌, ◌≤◌, [], ◌∷◌, None, Some, map, decimal, IfSome, IfOk, IfErr, MatchResult};
+ghost use Rattle.std.specs.Prelude.{◌≡◌, [], ◌∷◌, None, Some, map, decimal, IfSome, IfOk, IfErr, MatchResult};
 ghost use Rattle.csv.specs.Records.{fields_of};
+ghost use Rattle.addr.specs.Address.{FitsMaxLength};
 ghost use Rattle.addr.specs.Family.{width};
 ghost use Rattle.cli.specs.CsvRecords.{csv_records, records_left, IsReading};
 ghost use Rattle.cli.specs.CsvRows.{file_fault, first_fault, number_between, payload_fault, payload_header, payload_row, payload_texts_fault, IsTold};
@@ -81,8 +82,7 @@ fn read_texts(asn: &[u8], prefix: &[u8], max: &[u8]) -> Result<Vrp, RowFault>
 fn read_max_length(prefix: &Prefix, text: &[u8]) -> Option<u8>
     ensures value { result ≡ number_between prefix.now.length (width prefix.now.family) text.now }
     ensures exact { IfSome result (λ max. text.now ≡ decimal max) }
-    ensures range { IfSome result (λ max.
-        (prefix.now.length ≤ max) × (max ≤ width prefix.now.family)) }
+    ensures range { IfSome result (λ max. FitsMaxLength prefix.now max) }
 {
     match number_from_text(text) {
         Some(number)

@@ -1,18 +1,15 @@
 -- Steps of gathering the VRPs of a day: what lists of VRPs and of authorizations have, as tests.
-use Rattle.std.specs.Prelude.{ℕ, ◌==◌, nat_le, Bool, ◌&&◌, List}
+use Rattle.std.specs.Prelude.{ℕ, nat_le, Bool, ◌&&◌, List}
 use Rattle.std.specs.List.{list_any}
-use Rattle.addr.specs.Address.{prefix_eq}
+use Rattle.std.specs.Ordering.{eq_by_cmp}
+use Rattle.addr.specs.Order.{vrp_cmp}
 use Rattle.addr.specs.declared.vrp.Vrp.{Vrp}
 use Rattle.policy.specs.declared.authorization.Auth.{Auth}
 use Rattle.policy.specs.declared.rows.HolderRows.{HolderRows}
 use Rattle.policy.specs.Terms.{gives_vrp}
 
--- one AS, prefix and maxLength
-abbrev pub vrp_eq : Vrp → Vrp → Bool
-vrp_eq w v = (w.asn.0 == v.asn.0) && (prefix_eq w.prefix v.prefix && (w.max == v.max))
-
 abbrev pub has_vrp : List Vrp → Vrp → Bool
-has_vrp vrps v = list_any (λ w. vrp_eq w v) vrps
+has_vrp vrps v = list_any (eq_by_cmp vrp_cmp v) vrps
 
 -- the authorization is in force on the day and gives the VRP
 abbrev pub gives_on : ℕ → Vrp → Auth → Bool
