@@ -4,3 +4,4 @@ pub mod RecordSteps
 pub mod RecordsLeft
 pub mod RowLemmas
 pub mod CharterSteps
+pub mod WordsSteps

@@ -106,6 +106,7 @@ RefusesCharter (fault.Row which k why) text =
 RefusesCharter fault.CharterCount text = (charter_file_fault (csv_records text) ≡ None)
     × (rows : List CharterRow) × IsCharterFile text rows × ¬ (AreInNumber (operators_in rows) (pool_in rows))
 RefusesCharter fault.Words text = ⊥
+RefusesCharter fault.Day text = ⊥
 RefusesCharter fault.File text = ⊥
 RefusesCharter fault.Stream text = ⊥
 

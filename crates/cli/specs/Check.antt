@@ -49,5 +49,6 @@ EndsCheck fault.Stream payloads routes old new failed = (text : List ℕ) × Jud
 EndsCheck (fault.Header which) payloads routes old new failed = (check_fault payloads routes ≡ Some (fault.Header which)) × (new ≡ old)
 EndsCheck (fault.Row which k why) payloads routes old new failed = (check_fault payloads routes ≡ Some (fault.Row which k why)) × (new ≡ old)
 EndsCheck fault.Words payloads routes old new failed = ⊥
+EndsCheck fault.Day payloads routes old new failed = ⊥
 EndsCheck fault.File payloads routes old new failed = ⊥
 EndsCheck fault.CharterCount payloads routes old new failed = ⊥

@@ -9,16 +9,17 @@ use Rattle.cli.specs.declared.fault.InputFile.TheVariants as input
 use Rattle.cli.specs.declared.fault.ProgramFault.{ProgramFault}
 use Rattle.cli.specs.declared.fault.RowFault.{RowFault}
 use Rattle.cli.specs.declared.fault.RowFault.TheVariants as row
-use Rattle.cli.specs.declared.fault.ProgramFault.TheVariants.{Words, File, Stream, Memory, Header, Row, CharterCount}
+use Rattle.cli.specs.declared.fault.ProgramFault.TheVariants.{Words, Day, File, Stream, Memory, Header, Row, CharterCount}
 use Rattle.web.specs.declared.script.ScriptFault.{ScriptFault}
 use Rattle.web.specs.declared.script.ScriptFault.TheVariants as script
 use Rattle.cli.specs.declared.words.WordsFault.{WordsFault}
 use Rattle.cli.specs.declared.words.WordsFault.TheVariants as words
 
--- 2 other words, 3 a file or a stream failed, 4 no memory, 5 the content of a file is
+-- 2 other words or no day, 3 a file or a stream failed, 4 no memory, 5 the content of a file is
 -- refused
 abbrev pub status_of : ProgramFault → ℕ
 status_of Words = 2
+status_of Day = 2
 status_of File = 3
 status_of Stream = 3
 status_of Memory = 4
@@ -44,6 +45,7 @@ row_fault_text row.Repeated = codes "repeated"
 -- the line on standard error, without its line feed
 abbrev pub line_text : ProgramFault → List ℕ
 line_text Words = codes "roadesk: words"
+line_text Day = codes "roadesk: day"
 line_text File = codes "roadesk: file"
 line_text Stream = codes "roadesk: stream"
 line_text Memory = codes "roadesk: memory"
@@ -55,6 +57,7 @@ line_text CharterCount = codes "roadesk: charter count"
 
 abbrev pub told_words : WordsFault → ProgramFault
 told_words words.Words = Words
+told_words words.Day = Day
 
 -- a stream that failed, or no memory for the script's line
 abbrev pub told_script : ScriptFault → ProgramFault

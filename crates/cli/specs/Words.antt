@@ -1,33 +1,78 @@
--- The words after the program's name, and the tasks that they name.
-use Rattle.std.specs.Prelude.{ℕ, ◌&&◌, if◌then◌else◌, List, [], ◌∷◌, Option, Some, None, Result, Ok, Err, codes}
+-- The words after the program's name, and the tasks that they name:
+--   script --charter FILE
+--   init --db FILE --charter FILE
+--   serve --db FILE --listen ADDR --count N --day D
+--   check PAYLOADS ROUTES
+--   help
+use Rattle.std.specs.Prelude.{ℕ, Bool, ◌&&◌, if◌then◌else◌, List, [], ◌∷◌, Option, Some, None, Result, Ok, Err, codes}
 use Rattle.std.specs.Str.{bytes_eq}
+use Rattle.addr.specs.Day.{day_in}
+use Rattle.cli.specs.CsvRows.{number_between}
 use Rattle.cli.specs.declared.words.Task as code
 use Rattle.cli.specs.declared.words.Task.TheVariants as task
+use Rattle.cli.specs.declared.words.TheConstants.{CONNECTION_LIMIT}
 use Rattle.cli.specs.declared.words.WordsFault.{WordsFault}
+use Rattle.cli.specs.declared.words.WordsFault.TheVariants.{Words, Day}
 
--- a task with the texts that name its files
+-- a task with the texts that name its files and its address; of `serve` also the count of
+-- connections and the day
 pub data Task : Type 0 where
   Script : List ℕ → Task
+  Init : List ℕ → List ℕ → Task
+  Serve : List ℕ → List ℕ → ℕ → ℕ → Task
   Check : List ℕ → List ℕ → Task
+  Help : Task
 
--- `script --charter FILE` or `check PAYLOADS ROUTES`, and nothing else
-abbrev pub task_of_three : List ℕ → List ℕ → List ℕ → Option Task
+abbrev pub task_of_one : List ℕ → Result Task WordsFault
+task_of_one first = if bytes_eq first (codes "help") then Ok Help else Err Words
+
+abbrev pub task_of_three : List ℕ → List ℕ → List ℕ → Result Task WordsFault
 task_of_three first second third =
-    if bytes_eq first (codes "script") && bytes_eq second (codes "--charter") then Some (Script third) else
-    if bytes_eq first (codes "check") then Some (Check second third) else None
+    if bytes_eq first (codes "script") && bytes_eq second (codes "--charter") then Ok (Script third) else
+    if bytes_eq first (codes "check") then Ok (Check second third) else Err Words
 
-abbrev pub task_in : List (List ℕ) → Option Task
-task_in [] = None
-task_in (first ∷ []) = None
-task_in (first ∷ second ∷ []) = None
-task_in (first ∷ second ∷ third ∷ []) = task_of_three first second third
-task_in (first ∷ second ∷ third ∷ fourth ∷ rest) = None
+abbrev pub task_of_five : List ℕ → List ℕ → List ℕ → List ℕ → List ℕ → Result Task WordsFault
+task_of_five first second third fourth fifth =
+    if bytes_eq first (codes "init") && bytes_eq second (codes "--db") && bytes_eq fourth (codes "--charter")
+    then Ok (Init third fifth) else Err Words
 
--- the task that was read, if one was
+-- `serve` with a count, if its text is one, and a day, if its text is one. The count is asked first
+abbrev pub serve_of : List ℕ → List ℕ → Option ℕ → Option ℕ → Result Task WordsFault
+serve_of database address None day = Err Words
+serve_of database address (Some count) None = Err Day
+serve_of database address (Some count) (Some day) = Ok (Serve database address count day)
+
+-- the word of the task and those of its options
+abbrev pub are_of_serve : List ℕ → List ℕ → List ℕ → List ℕ → List ℕ → Bool
+are_of_serve task first second third fourth =
+    bytes_eq task (codes "serve") && bytes_eq first (codes "--db") && bytes_eq second (codes "--listen")
+    && bytes_eq third (codes "--count") && bytes_eq fourth (codes "--day")
+
+abbrev pub task_of_nine : List ℕ → List ℕ → List ℕ → List ℕ → List ℕ → List ℕ → List ℕ → List ℕ → List ℕ → Result Task WordsFault
+task_of_nine a b c d e f g h i =
+    if are_of_serve a b d f h then serve_of c e (number_between 1 CONNECTION_LIMIT g) (day_in i) else Err Words
+
+abbrev pub task_in : List (List ℕ) → Result Task WordsFault
+task_in [] = Err Words
+task_in (a ∷ []) = task_of_one a
+task_in (a ∷ b ∷ []) = Err Words
+task_in (a ∷ b ∷ c ∷ []) = task_of_three a b c
+task_in (a ∷ b ∷ c ∷ d ∷ []) = Err Words
+task_in (a ∷ b ∷ c ∷ d ∷ e ∷ []) = task_of_five a b c d e
+task_in (a ∷ b ∷ c ∷ d ∷ e ∷ f ∷ []) = Err Words
+task_in (a ∷ b ∷ c ∷ d ∷ e ∷ f ∷ g ∷ []) = Err Words
+task_in (a ∷ b ∷ c ∷ d ∷ e ∷ f ∷ g ∷ h ∷ []) = Err Words
+task_in (a ∷ b ∷ c ∷ d ∷ e ∷ f ∷ g ∷ h ∷ i ∷ []) = task_of_nine a b c d e f g h i
+task_in (a ∷ b ∷ c ∷ d ∷ e ∷ f ∷ g ∷ h ∷ i ∷ j ∷ rest) = Err Words
+
+-- the task that was read, or the fault
 abbrev pub named : code.Task → Task
 named (task.Script charter) = Script charter.now
+named (task.Init database charter) = Init database.now charter.now
+named (task.Serve database address count day) = Serve database.now address.now count day
 named (task.Check payloads routes) = Check payloads.now routes.now
+named task.Help = Help
 
-abbrev pub task_read : Result code.Task WordsFault → Option Task
-task_read (Ok task) = Some (named task)
-task_read (Err fault) = None
+abbrev pub task_read : Result code.Task WordsFault → Result Task WordsFault
+task_read (Ok task) = Ok (named task)
+task_read (Err fault) = Err fault

@@ -97,6 +97,8 @@ impl From<AllocError> for FileFault {
 pub enum ProgramFault {
     /// The words after the program's name are those of no task.
     Words,
+    /// They are those of a task but for a day that is none.
+    Day,
     /// A file was not read.
     File,
     /// Standard input or output failed.
@@ -121,7 +123,7 @@ impl ProgramFault {
         ensures { result ≡ status_of self.now }
     {
         match self {
-            ProgramFault::Words => 2,
+            ProgramFault::Words | ProgramFault::Day => 2,
             ProgramFault::File | ProgramFault::Stream => 3,
             ProgramFault::Memory => 4,
             ProgramFault::Header(_) | ProgramFault::Row { .. } | ProgramFault::CharterCount => 5,
@@ -136,6 +138,7 @@ impl ProgramFault {
         text.push_str("roadesk: ");
         match self {
             ProgramFault::Words => text.push_str("words"),
+            ProgramFault::Day => text.push_str("day"),
             ProgramFault::File => text.push_str("file"),
             ProgramFault::Stream => text.push_str("stream"),
             ProgramFault::Memory => text.push_str("memory"),
@@ -162,6 +165,7 @@ impl From<WordsFault> for ProgramFault {
     fn from(fault: WordsFault) -> ProgramFault {
         match fault {
             WordsFault::Words => ProgramFault::Words,
+            WordsFault::Day => ProgramFault::Day,
         }
     }
 }

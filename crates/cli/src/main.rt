@@ -41,9 +41,12 @@ fn run(rt: &HostRuntime) -> Result<(), ProgramFault> {
     for arg in &args {
         words.push(arg.as_str()).map_err(|_| ProgramFault::Memory)?;
     }
-    match read_words(&words)? {
-        Task::Script { charter } => run_script_task(rt, charter),
-        Task::Check { payloads, routes } => run_check_task(rt, payloads, routes),
+    match read_words(&words) {
+        Ok(Task::Script { charter }) => run_script_task(rt, charter),
+        Ok(Task::Check { payloads, routes }) => run_check_task(rt, payloads, routes),
+        // A task that the program does not do ends as other words do.
+        Ok(Task::Init { .. } | Task::Serve { .. } | Task::Help) => Err(ProgramFault::Words),
+        Err(fault) => Err(ProgramFault::from(fault)),
     }
 }
 

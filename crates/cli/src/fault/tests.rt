@@ -9,6 +9,7 @@ fn lines_and_statuses(rt: HostRuntime) {
     let row = |file, row, fault| ProgramFault::Row { file, row, fault };
     let cases = [
         (ProgramFault::from(WordsFault::Words), "roadesk: words", 2),
+        (ProgramFault::from(WordsFault::Day), "roadesk: day", 2),
         (ProgramFault::File, "roadesk: file", 3),
         (ProgramFault::Stream, "roadesk: stream", 3),
         (ProgramFault::Memory, "roadesk: memory", 4),
