@@ -101,6 +101,12 @@ pub derived_prefix : (p q : Prefix) → PrefixOrd.ghosts.cmp p q ≡ prefix_cmp 
 derived_prefix p q =
     ap (λ (o : Ordering). ordering_then o (ordering_then (nat_cmp p.first q.first) (nat_cmp p.length q.length))) (derived_family p.family q.family)
 
+abbrev pub derived_prefix_cmp : Prefix → Prefix → Ordering
+derived_prefix_cmp = PrefixOrd.ghosts.cmp
+
+pub derived_prefix_order : derived_prefix_cmp ≡ prefix_cmp
+derived_prefix_order = λ i p q. derived_prefix p q i
+
 derived_vrp : (v w : Vrp) → VrpOrd.ghosts.cmp v w ≡ vrp_cmp v w
 derived_vrp v w =
     ap (λ (o : Ordering). ordering_then o (ordering_then (nat_cmp v.max w.max) (nat_cmp v.asn.0 w.asn.0))) (derived_prefix v.prefix w.prefix)

@@ -23,9 +23,8 @@ use Rattle.addr.specs.declared.family.Family.TheVariants.{V4, V6}
 use Rattle.addr.specs.PrefixText.{Spells}
 use Rattle.addr.proofs.Equality.{equal_prefix, prefix_itself}
 use Rattle.addr.proofs.PrefixSpellingLemmas.{Spells_unique, faultless-Spells}
-use Rattle.addr.specs.contracts.prefix.PrefixOrd.TheImpl as prefix_order
 use Rattle.addr.specs.declared.prefix.Prefix.{Prefix}
-use Rattle.addr.proofs.OrderLemmas.{derived_prefix}
+use Rattle.addr.proofs.OrderLemmas.{derived_prefix_cmp, derived_prefix_order}
 use Rattle.addr.specs.Order.{family_cmp, prefix_cmp}
 use Rattle.policy.specs.Repeats.{has_repeat}
 use Rattle.cli.specs.CharterFile.{charter_fault, charter_row, fault_of_pair, first_charter_fault, kind_and_value_fault, kind_of, operators_in, pool_in, pool_kind, is_noted, same_row, value_of, HoldsRows}
@@ -99,20 +98,13 @@ pub noted-operator : (old new : CharterRows) (n : List ℕ)
 noted-operator old new n updates others (Operator m) = updates m ∙ rw (is_eq-slice_cmp n m) (cond_or (bytes_eq n m) _)
 noted-operator old new n updates others (Pool q) = rw others refl
 
--- the order that is derived for prefixes
-abbrev order : Prefix → Prefix → Ordering
-order = prefix_order.ghosts.cmp
-
-same_order : order ≡ prefix_cmp
-same_order = λ i p q. derived_prefix p q i
-
 pub noted-pool : (old new : CharterRows) (p : Prefix)
-    → ((q : Prefix) → contains order new.prefixes q ≡ cond (is_at (order p) q) true (contains order old.prefixes q))
+    → ((q : Prefix) → contains derived_prefix_cmp new.prefixes q ≡ cond (is_at (derived_prefix_cmp p) q) true (contains derived_prefix_cmp old.prefixes q))
     → new.names ≡ old.names
     → (r : CharterRow) → is_noted new r ≡ (same_row (Pool p) r || is_noted old r)
 noted-pool old new p updates others (Operator m) = rw others refl
 noted-pool old new p updates others (Pool q) =
-    let by_order = subst (λ (c : Prefix → Prefix → Ordering). contains c new.prefixes q ≡ cond (is_at (c p) q) true (contains c old.prefixes q)) same_order (updates q) in
+    let by_order = subst (λ (c : Prefix → Prefix → Ordering). contains c new.prefixes q ≡ cond (is_at (c p) q) true (contains c old.prefixes q)) derived_prefix_order (updates q) in
     by_order ∙ rw (← prefix_ties p q) (cond_or (prefix_eq p q) _)
 
 noted-same : (old new : CharterRows) → new.names ≡ old.names → new.prefixes ≡ old.prefixes
