@@ -15,9 +15,14 @@ const CONNECTION_LIMIT: u64 = 1_000_000;
 #[derive(Clone, Copy, Debug, PartialEq, Eq)]
 pub enum Task<'a> {
     /// `script --charter FILE`: answer the lines of standard input.
-    Script { charter: &'a str },
+    Script {
+        charter: &'a str,
+    },
     /// `init --db FILE --charter FILE`: make the database.
-    Init { database: &'a str, charter: &'a str },
+    Init {
+        database: &'a str,
+        charter: &'a str,
+    },
     /// `serve --db FILE --listen ADDR --count N --day D`: answer N connections on a day.
     Serve {
         database: &'a str,
@@ -26,7 +31,10 @@ pub enum Task<'a> {
         day: Day,
     },
     /// `check PAYLOADS ROUTES`: judge the routes of a file on the VRPs of another.
-    Check { payloads: &'a str, routes: &'a str },
+    Check {
+        payloads: &'a str,
+        routes: &'a str,
+    },
     /// `help`: print the words of the tasks.
     Help,
 }
@@ -65,7 +73,17 @@ pub fn read_words<'a>(words: &[&'a str]) -> Result<Task<'a>, WordsFault>
         [task, first, database, second, charter] => {
             task_of_five(task, first, database, second, charter)
         }
-        [task, first, database, second, address, third, count, fourth, day] => {
+        [
+            task,
+            first,
+            database,
+            second,
+            address,
+            third,
+            count,
+            fourth,
+            day,
+        ] => {
             let texts = ServeTexts {
                 database,
                 address,

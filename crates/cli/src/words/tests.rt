@@ -8,12 +8,14 @@ fn named(alloc: Global, line: &str) -> Result<String, AllocError> {
     match read_words(&words) {
         Ok(Task::Script { charter }) => format!(in alloc; "script {charter}"),
         Ok(Task::Init { database, charter }) => format!(in alloc; "init {database} {charter}"),
-        Ok(Task::Serve {
-            database,
-            address,
-            count,
-            day,
-        }) => {
+        Ok(
+            Task::Serve {
+                database,
+                address,
+                count,
+                day,
+            },
+        ) => {
             let day = day.number();
             format!(in alloc; "serve {database} {address} {count} {day}")
         }
@@ -41,12 +43,24 @@ fn words_of_each_task(rt: HostRuntime) {
             "serve --db a --listen b --count 1000000 --day 9999-12-31",
             "serve a b 1000000 2932896",
         ),
-        ("serve --db a --listen b --count 1000001 --day 1970-01-11", "words"),
-        ("serve --db a --listen b --count 0 --day 1970-01-11", "words"),
-        ("serve --db a --listen b --count 03 --day 1970-01-11", "words"),
+        (
+            "serve --db a --listen b --count 1000001 --day 1970-01-11",
+            "words",
+        ),
+        (
+            "serve --db a --listen b --count 0 --day 1970-01-11",
+            "words",
+        ),
+        (
+            "serve --db a --listen b --count 03 --day 1970-01-11",
+            "words",
+        ),
         ("serve --db a --listen b --count 3 --day 1970-1-11", "day"),
         ("serve --db a --listen b --count 0 --day 1970-1-11", "words"),
-        ("serve --db a --listen b --day 1970-01-11 --count 3", "words"),
+        (
+            "serve --db a --listen b --day 1970-01-11 --count 3",
+            "words",
+        ),
         ("check a.csv b.csv", "check a.csv b.csv"),
         ("check -- --help", "check -- --help"),
         ("help", "help"),

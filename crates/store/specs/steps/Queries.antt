@@ -43,11 +43,11 @@ pub record IsReadyToAsk {S : Type 0} (g : Ghosts S) (conn : Held S) : Type 0 whe
 -- savepoints and the counts too. A crash leaves nothing else than before.
 pub record IsAsked {S X E : Type 0} (g : Ghosts S) (old new : Held S) (result : Result X E) : Type 0
   where
-  pub idle : new.in_transaction ≡ false
-  pub same : IsOnCleanDisk g new → OnOk result (IsUnchanged (state g old) (state g new))
-  pub kept :
-      IsOnCleanDisk g new → IsTrue (state g new).is_open → IsAsBefore (state g old) (state g new)
-  pub survives : Survives (state g old) (state g new) (λ _. ⊥)
+    pub idle : new.in_transaction ≡ false
+    pub same : IsOnCleanDisk g new → OnOk result (IsUnchanged (state g old) (state g new))
+    pub kept :
+        IsOnCleanDisk g new → IsTrue (state g new).is_open → IsAsBefore (state g old) (state g new)
+    pub survives : Survives (state g old) (state g new) (λ _. ⊥)
 
 -- it is so of the rows of every holder, and of those of one, whatever charter and rows the tables
 -- hold

@@ -8,7 +8,7 @@ returns-in-len9 c = c.task_of_nine.ensures ∙ of_nine c.args.words.now c.in-len
 
 pub returns-in_default : goal.returns-in_default
 returns-in_default c = elim c.in_default.branch [
-    in_default-via-then-words-lt1 w ↦ of_none c.args.words.now (search rules)
+  | in_default-via-then-words-lt1 w ↦ of_none c.args.words.now (search rules)
   | in_default-via-else-words-lt1+else-words-lt2+then-words-lt3 w ↦ of_two c.args.words.now (search rules) (search rules)
   | in_default-via-else-words-lt1+else-words-lt2+else-words-lt3+else-words-lt4+then-words-lt5 w ↦
       of_four c.args.words.now (search rules) (search rules)
@@ -16,4 +16,4 @@ returns-in_default c = elim c.in_default.branch [
       of_six_to_eight c.args.words.now (search rules) (search rules)
   | in_default-via-else-words-lt1+else-words-lt2+else-words-lt3+else-words-lt4+else-words-lt5+else-words-lt6+else-words-lt9+else-words-lt10 w ↦
       of_ten_or_more c.args.words.now (search rules)
-  ]
+]
