@@ -6,7 +6,7 @@ use std::rt::HostRuntime;
 fn line(alloc: Global, text: &str) -> Result<String, AllocError> {
     match charter_from(alloc, text.as_bytes()) {
         Ok(_) => format!(in alloc; ""),
-        Err(fault) => format!(in alloc; "{fault}"),
+        Err(fault) => format!(in alloc; "{}", fault.line().as_str()),
     }
 }
 

@@ -26,7 +26,7 @@ fn checked(
     };
     let (line, status) = match check_on(alloc, payloads, routes, &mut Device::new(&mut sheet)) {
         Ok(()) => (String::new(alloc), 0),
-        Err(fault) => (format!(in alloc; "{fault}")?, fault.status()),
+        Err(fault) => (format!(in alloc; "{}", fault.line().as_str())?, fault.status()),
     };
     Ok(Ended {
         written: sheet.bytes,
