@@ -53,11 +53,13 @@ of_ten_or_more (a ∷ b ∷ c ∷ d ∷ x ∷ y ∷ z ∷ u ∷ []) e = refl
 of_ten_or_more (a ∷ b ∷ c ∷ d ∷ x ∷ y ∷ z ∷ u ∷ v ∷ []) e = absurd (omega arith)
 of_ten_or_more (a ∷ b ∷ c ∷ d ∷ x ∷ y ∷ z ∷ u ∷ v ∷ w ∷ ws) e = refl
 
+-- as a pattern of the code reads its words
 abbrev pub word : List (Bor (List ℕ)) → ℕ → List ℕ
 word ws i = (slice_index_or ws i (record { ref_ptr = (0, 0); now = [] })).now
 
 pub of_nine : (ws : List (Bor (List ℕ))) → 9 ≤ length ws → length ws < 10
-    → task_of_nine (word ws 0) (word ws 1) (word ws 2) (word ws 3) (word ws 4) (word ws 5) (word ws 6) (word ws 7) (word ws 8)
+    → task_of_nine (word ws 0) (word ws 1) (word ws 2) (word ws 3) (word ws 4)
+    (word ws 5) (word ws 6) (word ws 7) (word ws 8)
     ≡ task_in (texts ws)
 of_nine [] e f = absurd (omega arith)
 of_nine (a ∷ []) e f = absurd (omega arith)

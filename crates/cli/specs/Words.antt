@@ -28,15 +28,18 @@ task_of_one first = if bytes_eq first (codes "help") then Ok Help else Err Words
 
 abbrev pub task_of_three : List ℕ → List ℕ → List ℕ → Result Task WordsFault
 task_of_three first second third =
-    if bytes_eq first (codes "script") && bytes_eq second (codes "--charter") then Ok (Script third) else
+    if bytes_eq first (codes "script") && bytes_eq second (codes "--charter")
+    then Ok (Script third) else
     if bytes_eq first (codes "check") then Ok (Check second third) else Err Words
 
 abbrev pub task_of_five : List ℕ → List ℕ → List ℕ → List ℕ → List ℕ → Result Task WordsFault
-task_of_five first second third fourth fifth =
-    if bytes_eq first (codes "init") && bytes_eq second (codes "--db") && bytes_eq fourth (codes "--charter")
-    then Ok (Init third fifth) else Err Words
+task_of_five task first database second charter =
+    if bytes_eq task (codes "init") && bytes_eq first (codes "--db")
+    && bytes_eq second (codes "--charter")
+    then Ok (Init database charter) else Err Words
 
--- `serve` with a count, if its text is one, and a day, if its text is one. The count is asked first
+-- `serve` with a count, if its text is one, and a day, if its text is one; the count is
+-- asked first
 abbrev pub serve_of : List ℕ → List ℕ → Option ℕ → Option ℕ → Result Task WordsFault
 serve_of database address None day = Err Words
 serve_of database address (Some count) None = Err Day
@@ -45,12 +48,16 @@ serve_of database address (Some count) (Some day) = Ok (Serve database address c
 -- the word of the task and those of its options
 abbrev pub are_of_serve : List ℕ → List ℕ → List ℕ → List ℕ → List ℕ → Bool
 are_of_serve task first second third fourth =
-    bytes_eq task (codes "serve") && bytes_eq first (codes "--db") && bytes_eq second (codes "--listen")
-    && bytes_eq third (codes "--count") && bytes_eq fourth (codes "--day")
+    bytes_eq task (codes "serve") && bytes_eq first (codes "--db")
+    && bytes_eq second (codes "--listen") && bytes_eq third (codes "--count")
+    && bytes_eq fourth (codes "--day")
 
-abbrev pub task_of_nine : List ℕ → List ℕ → List ℕ → List ℕ → List ℕ → List ℕ → List ℕ → List ℕ → List ℕ → Result Task WordsFault
-task_of_nine a b c d e f g h i =
-    if are_of_serve a b d f h then serve_of c e (number_between 1 CONNECTION_LIMIT g) (day_in i) else Err Words
+abbrev pub task_of_nine : List ℕ → List ℕ → List ℕ → List ℕ → List ℕ → List ℕ → List ℕ → List ℕ
+    → List ℕ → Result Task WordsFault
+task_of_nine task first database second address third count fourth day =
+    if are_of_serve task first second third fourth
+    then serve_of database address (number_between 1 CONNECTION_LIMIT count) (day_in day)
+    else Err Words
 
 abbrev pub task_in : List (List ℕ) → Result Task WordsFault
 task_in [] = Err Words

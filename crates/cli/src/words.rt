@@ -156,7 +156,8 @@ fn task_of_nine<'a>(
     texts: &ServeTexts<'a>,
 ) -> Result<Task<'a>, WordsFault>
     ensures { task_read result ≡ task_of_nine task.now first.now texts.now.database.now
-        second.now texts.now.address.now third.now texts.now.count.now fourth.now texts.now.day.now }
+        second.now texts.now.address.now third.now texts.now.count.now
+        fourth.now texts.now.day.now }
 {
     if are_of_serve(task, first, second, third, fourth) {
         read_serve(texts)
