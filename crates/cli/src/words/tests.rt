@@ -5,24 +5,29 @@ use std::rt::HostRuntime;
 // What the words of a line, which a space parts, name.
 fn named(alloc: Global, line: &str) -> Result<String, AllocError> {
     let words = line.split(' ').collect::<Vec<_>>(alloc)?;
-    match read_words(&words) {
-        Ok(Task::Script { charter }) => format!(in alloc; "script {charter}"),
-        Ok(Task::Init { database, charter }) => format!(in alloc; "init {database} {charter}"),
-        Ok(
-            Task::Serve {
-                database,
-                address,
-                count,
-                day,
-            },
-        ) => {
-            let day = day.number();
-            format!(in alloc; "serve {database} {address} {count} {day}")
-        }
-        Ok(Task::Check { payloads, routes }) => format!(in alloc; "check {payloads} {routes}"),
-        Ok(Task::Help) => format!(in alloc; "help"),
+    named_by(alloc, &words)
+}
+
+fn named_by(alloc: Global, words: &[&str]) -> Result<String, AllocError> {
+    match read_words(words) {
+        Ok(task) => shown(alloc, &task),
         Err(WordsFault::Words) => format!(in alloc; "words"),
         Err(WordsFault::Day) => format!(in alloc; "day"),
+    }
+}
+
+fn shown(alloc: Global, task: &Task<'_>) -> Result<String, AllocError> {
+    match task {
+        Task::Script { charter } => format!(in alloc; "script {charter}"),
+        Task::Init { database, charter } => format!(in alloc; "init {database} {charter}"),
+        Task::Serve {
+            database,
+            address,
+            count,
+            day,
+        } => format!(in alloc; "serve {database} {address} {count} {}", day.number()),
+        Task::Check { payloads, routes } => format!(in alloc; "check {payloads} {routes}"),
+        Task::Help => format!(in alloc; "help"),
     }
 }
 
@@ -43,24 +48,12 @@ fn words_of_each_task(rt: HostRuntime) {
             "serve --db a --listen b --count 1000000 --day 9999-12-31",
             "serve a b 1000000 2932896",
         ),
-        (
-            "serve --db a --listen b --count 1000001 --day 1970-01-11",
-            "words",
-        ),
-        (
-            "serve --db a --listen b --count 0 --day 1970-01-11",
-            "words",
-        ),
-        (
-            "serve --db a --listen b --count 03 --day 1970-01-11",
-            "words",
-        ),
+        ("serve --db a --listen b --count 1000001 --day 1970-01-11", "words"),
+        ("serve --db a --listen b --count 0 --day 1970-01-11", "words"),
+        ("serve --db a --listen b --count 03 --day 1970-01-11", "words"),
         ("serve --db a --listen b --count 3 --day 1970-1-11", "day"),
         ("serve --db a --listen b --count 0 --day 1970-1-11", "words"),
-        (
-            "serve --db a --listen b --day 1970-01-11 --count 3",
-            "words",
-        ),
+        ("serve --db a --listen b --day 1970-01-11 --count 3", "words"),
         ("check a.csv b.csv", "check a.csv b.csv"),
         ("check -- --help", "check -- --help"),
         ("help", "help"),
