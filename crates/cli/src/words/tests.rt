@@ -48,12 +48,24 @@ fn words_of_each_task(rt: HostRuntime) {
             "serve --db a --listen b --count 1000000 --day 9999-12-31",
             "serve a b 1000000 2932896",
         ),
-        ("serve --db a --listen b --count 1000001 --day 1970-01-11", "words"),
-        ("serve --db a --listen b --count 0 --day 1970-01-11", "words"),
-        ("serve --db a --listen b --count 03 --day 1970-01-11", "words"),
+        (
+            "serve --db a --listen b --count 1000001 --day 1970-01-11",
+            "words",
+        ),
+        (
+            "serve --db a --listen b --count 0 --day 1970-01-11",
+            "words",
+        ),
+        (
+            "serve --db a --listen b --count 03 --day 1970-01-11",
+            "words",
+        ),
         ("serve --db a --listen b --count 3 --day 1970-1-11", "day"),
         ("serve --db a --listen b --count 0 --day 1970-1-11", "words"),
-        ("serve --db a --listen b --day 1970-01-11 --count 3", "words"),
+        (
+            "serve --db a --listen b --day 1970-01-11 --count 3",
+            "words",
+        ),
         ("check a.csv b.csv", "check a.csv b.csv"),
         ("check -- --help", "check -- --help"),
         ("help", "help"),
