@@ -37,15 +37,15 @@ number_in-none text never =
     ]
 
 -- a reading that finds each number below 2^64 by its digits, and maybe reads other texts too
-abbrev pub Reads : List ℕ → Option ℕ → Type 0
-Reads text read = (n : ℕ) → n < 2 ^ 64 → text ≡ decimal n → read ≡ Some n
+abbrev pub ReadsNumber : List ℕ → Option ℕ → Type 0
+ReadsNumber text read = (n : ℕ) → n < 2 ^ 64 → text ≡ decimal n → read ≡ Some n
 
-pub number_in-unread : (text : List ℕ) (read : Option ℕ) → Reads text read → read ≡ None → number_in text ≡ None
+pub number_in-unread : (text : List ℕ) (read : Option ℕ) → ReadsNumber text read → read ≡ None → number_in text ≡ None
 number_in-unread text read reads none =
     number_in-none text (λ n h e. none-some n (sym none ∙ reads n h e))
 
 pub number_in-rewritten :
-    (text written : List ℕ) (read : Option ℕ) (number : ℕ) → Reads text read → read ≡ Some number
+    (text written : List ℕ) (read : Option ℕ) (number : ℕ) → ReadsNumber text read → read ≡ Some number
     → written ≡ decimal number → pointwise nat_eq written text ≡ false → number_in text ≡ None
 number_in-rewritten text written read number reads some digits differs =
     number_in-none text (λ n h e.

@@ -20,7 +20,7 @@ pub(crate) const MOST_GRANTS: usize = 64;
 pub(crate) const MOST_AUTHORIZATIONS: usize = 1000;
 
 /// The last number that a grant or an authorization of a holder gets.
-pub(crate) const LAST_NUMBER: u32 = 999_999;
+pub const LAST_NUMBER: u32 = 999_999;
 
 /// The rule where it does not hold.
 pub(crate) fn require(holds: bool, rule: Rule) -> Result<(), Rule>

@@ -16,6 +16,7 @@ mod rule;
 mod sight;
 mod values;
 
+pub use admission::LAST_NUMBER;
 pub use authorization::Auth;
 pub use change::{Change, Edit, HolderChange};
 pub use charter::{Charter, CharterFault};

@@ -1,6 +1,6 @@
 ghost use Rattle.std.specs.Prelude.{◌≡◌, ◌<◌, ◌≤◌, ◌*◌, ◌-◌, ◌^◌, length, map, IfSome, IfOk, MatchResult};
 ghost use Rattle.addr.specs.Family.{width};
-ghost use Rattle.roa.specs.steps.Reading.{Gives, length_at, contents_at, element_at, whole, integer_of, prefix_of, max_of, entry_of, entry_at, entries_of, block_at, family_at, blocks_of, fields_of, content_of, numbers, Adds, AddsThen, Reads};
+ghost use Rattle.roa.specs.steps.Reading.{Gives, length_at, contents_at, element_at, whole, integer_of, prefix_of, max_of, entry_of, entry_at, entries_of, block_at, family_at, blocks_of, fields_of, content_of, numbers, Adds, AddsThen, IsReadAs};
 ghost use Rattle.roa.specs.RoaContent.{RouteOriginAttestation, IsContent, Encodes, be_value};
 ghost use Rattle.roa.specs.declared.content.TheConstants.Content.{MAX_ENTRIES};
 
@@ -214,7 +214,7 @@ fn read_family<'a>(
 /// The entries of both families, which are all of the octets.
 #[tactic(auto, unfolding(crate::specs::steps::Reading::blocks_of))]
 fn read_blocks(alloc: Global, octets: &[u8]) -> Result<Vec<Entry>, DecodeFault>
-    ensures { Reads (λ entries. map numbers entries.items) result (blocks_of octets.now) }
+    ensures { IsReadAs (λ entries. map numbers entries.items) result (blocks_of octets.now) }
 {
     let mut entries = Vec::new(alloc);
     let rest = read_family(Family::V4, octets, &mut entries)?;
@@ -239,7 +239,7 @@ fn read_fields(octets: &[u8]) -> Option<(u32, &[u8])>
 
 #[tactic(auto, unfolding(crate::specs::steps::Reading::content_of))]
 fn read_content(alloc: Global, octets: &[u8]) -> Result<(Asn, Vec<Entry>), DecodeFault>
-    ensures { Reads (λ x. (x.0.0, map numbers x.1.items)) result (content_of octets.now) }
+    ensures { IsReadAs (λ x. (x.0.0, map numbers x.1.items)) result (content_of octets.now) }
 {
     let (number, blocks) = read_fields(octets).ok_or(DecodeFault::NotContent)?;
     let entries = read_blocks(alloc, blocks)?;

@@ -27,7 +27,7 @@ pub lowest-none : (faults : List Fault) → lowest malformed_number faults ≡ N
 lowest-none [] none = refl
 lowest-none (n ∷ faults) none = absurd (lower_of-Some n (lowest malformed_number faults) none)
 
-pub record Reads {A : Type 0} (r : Result A Fault) (faults : List Fault) (Says : A → Type 0)
+pub record ReadsUnlessFaulty {A : Type 0} (r : Result A Fault) (faults : List Fault) (Says : A → Type 0)
     : Type 0 where
   pub told : Told malformed_number r faults
   pub value : IfOk r Says
@@ -42,7 +42,7 @@ value-both P Q (Err m) (Err n) one other = tt
 
 pub reads-both : {A B : Type 0} {a : Result A Fault} {b : Result B Fault} {xs ys : List Fault}
     {P : A → Type 0} {Q : B → Type 0} →
-    Reads a xs P → Reads b ys Q → Reads (both malformed_number a b) (xs ++ ys) (λ p. P p.0 × Q p.1)
+    ReadsUnlessFaulty a xs P → ReadsUnlessFaulty b ys Q → ReadsUnlessFaulty (both malformed_number a b) (xs ++ ys) (λ p. P p.0 × Q p.1)
 reads-both {a = a} {b = b} {P = P} {Q = Q} one other =
     record {
       told = told-both one.told other.told;
@@ -55,7 +55,7 @@ value-says P Q (Ok a) step value = step a value
 value-says P Q (Err n) step value = tt
 
 pub reads-says : {A : Type 0} {r : Result A Fault} {xs : List Fault} {P Q : A → Type 0} →
-    ((a : A) → P a → Q a) → Reads r xs P → Reads r xs Q
+    ((a : A) → P a → Q a) → ReadsUnlessFaulty r xs P → ReadsUnlessFaulty r xs Q
 reads-says {r = r} {P = P} {Q = Q} step read =
     record { told = read.told; value = value-says P Q r step read.value }
 
@@ -66,7 +66,7 @@ value-mapped f Q (Err n) value = tt
 
 pub reads-mapped : {A B : Type 0} (f : A → B) {r : Result A Fault} {xs : List Fault}
     {P : A → Type 0} {Q : B → Type 0} →
-    ((a : A) → P a → Q (f a)) → Reads r xs P → Reads (mapped f r) xs Q
+    ((a : A) → P a → Q (f a)) → ReadsUnlessFaulty r xs P → ReadsUnlessFaulty (mapped f r) xs Q
 reads-mapped f {r = r} {P = P} {Q = Q} step read = record {
   told = told-mapped f read.told;
   value = value-mapped f Q r (value-says P (λ a. Q (f a)) r step read.value);
@@ -81,7 +81,7 @@ value-unless P (Err m) (Err n) value = tt
 
 pub reads-unless : {A B : Type 0} {a : Result A Fault} {b : Result B Fault} {xs ys : List Fault}
     {P : A → Type 0} →
-    Reads a xs P → Told malformed_number b ys → Reads (unless malformed_number a b) (xs ++ ys) P
+    ReadsUnlessFaulty a xs P → Told malformed_number b ys → ReadsUnlessFaulty (unless malformed_number a b) (xs ++ ys) P
 reads-unless {a = a} {b = b} {P = P} read other =
     record {
       told = told-mapped (λ p. p.0) (told-both read.told other);
@@ -89,7 +89,7 @@ reads-unless {a = a} {b = b} {P = P} read other =
     }
 
 pub reads-last : {A : Type 0} {r : Result A Fault} {xs : List Fault} {P : A → Type 0} →
-    Reads r xs P → Reads r (xs ++ []) P
+    ReadsUnlessFaulty r xs P → ReadsUnlessFaulty r (xs ++ []) P
 reads-last {xs = xs} read =
     record { told = record { is = rw (append-nil xs) read.told.is }; value = read.value }
 
@@ -105,7 +105,7 @@ found-reads reading n (Some d) = value-member (reading d) n
 
 abbrev pub ReadsMember : {A : Type 0} → (Data → Option A) → Fault → List ℕ → Data → Type 0
 ReadsMember reading n name d =
-    Reads (member_in reading n name d)
+    ReadsUnlessFaulty (member_in reading n name d)
     (required_faults Members (reading_faults reading n) (get name d)) (HasMember reading name d)
 
 pub reads-member : {A : Type 0} (reading : Data → Option A) (n : Fault) (name : List ℕ) (d : Data) →
@@ -118,8 +118,8 @@ reads-member reading n name d = record {
 
 pub reads-each : {A : Type 0} (reading : Data → Result A Fault) (faults : Data → List Fault)
     (Says : Data → A → Type 0) (ds : List Data) →
-    ((d : Data) → Reads (reading d) (faults d) (Says d)) →
-    Reads (each malformed_number reading ds) (flat_map faults ds) (AllZip Says ds)
+    ((d : Data) → ReadsUnlessFaulty (reading d) (faults d) (Says d)) →
+    ReadsUnlessFaulty (each malformed_number reading ds) (flat_map faults ds) (AllZip Says ds)
 reads-each reading faults Says [] each_reads = record { told = record { is = refl }; value = tt }
 reads-each reading faults Says (d ∷ ds) each_reads =
     reads-mapped (λ p. p.0 ∷ p.1) (λ p value. (value.0, value.1))

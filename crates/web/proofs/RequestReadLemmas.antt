@@ -23,7 +23,7 @@ use Rattle.web.specs.declared.request.routes.TheConstants.{MOST_ROUTES}
 use Rattle.web.specs.declared.request.fault.Fault.{Fault}
 use Rattle.web.specs.declared.request.fault.Fault.TheVariants.{Members, Holder, Caller, Prefix as PrefixFault, Asn, Max, Day, Role, Number, Count, TooLong}
 use Rattle.web.specs.steps.RequestReading.{RequestTerms, request, validity, AskedTerms, request_terms, asked_terms, route_in, routes_of, request_in, asked_as, asked_by, asked_from, asked_in}
-use Rattle.web.proofs.RequestFaultLemmas.{Reads, reads-both, reads-mapped, reads-unless, reads-last, reads-says, ReadsMember, reads-member, reads-each, lowest-none}
+use Rattle.web.proofs.RequestFaultLemmas.{ReadsUnlessFaulty, reads-both, reads-mapped, reads-unless, reads-last, reads-says, ReadsMember, reads-member, reads-each, lowest-none}
 
 -- ---- members
 
@@ -44,7 +44,7 @@ until = reads-member as_day Day (codes "until")
 
 -- ---- routes
 
-reads-route : (d : Data) → Reads (route_in d) (object_faults route_members d) (SaysRoute d)
+reads-route : (d : Data) → ReadsUnlessFaulty (route_in d) (object_faults route_members d) (SaysRoute d)
 reads-route d =
     reads-unless
     (reads-mapped (λ p. record { prefix = p.0; origin = p.1 }) (λ p read. (read.0, read.1))
@@ -57,7 +57,7 @@ SaysRoutes found listed =
     (items : Items) × (found ≡ Some items) × AllZip SaysRoute (list_of items) listed
 
 items-read : (found : Option Items) →
-    Reads (routes_of found) (list_faults route_members MOST_ROUTES found) (SaysRoutes found)
+    ReadsUnlessFaulty (routes_of found) (list_faults route_members MOST_ROUTES found) (SaysRoutes found)
 items-read None = record { told = record { is = refl }; value = tt }
 items-read (Some items) =
     reads-unless (reads-says (λ listed each. (items, refl, each))
@@ -65,7 +65,7 @@ items-read (Some items) =
     (told-if malformed_number (is_count MOST_ROUTES (length (list_of items))) tt Count)
 
 member-read : (d : Data) (member : Option Data) →
-    Reads (routes_of (option_and_then as_array member)) (required_faults Members (routes d) member)
+    ReadsUnlessFaulty (routes_of (option_and_then as_array member)) (required_faults Members (routes d) member)
     (SaysRoutes (option_and_then as_array member))
 member-read d None = record { told = record { is = refl }; value = tt }
 member-read d (Some value) = items-read (as_array value)
@@ -89,7 +89,7 @@ abbrev member_faults : List (List ℕ × Kind) → Data → List Fault
 member_faults members d = flat_map (λ m. required_faults Members (m.1 d) (get m.0 d)) members
 
 reads-request : (action : Action) (d : Data) → Does action d →
-    Reads (request_in action d) (member_faults (own_members action) d) (SaysTerms d)
+    ReadsUnlessFaulty (request_in action d) (member_faults (own_members action) d) (SaysTerms d)
 reads-request AskRegister d does = reads-mapped _ (λ p says. (does, says)) (reads-last (holder d))
 reads-request AskDelegate d does =
     reads-mapped _ (λ p says. (does, says.0, says.1))
@@ -146,7 +146,7 @@ do-faultless d action None does = cc
 do-faultless d action (Some value) does = refl
 
 reads-asked : (action : Action) (d : Data) → Does action d →
-    Reads (asked_as action d) (action_faults (Some action) d) (AsksTerms (Some d))
+    ReadsUnlessFaulty (asked_as action d) (action_faults (Some action) d) (AsksTerms (Some d))
 reads-asked action d does =
     rw (do-faultless d action (get (codes "do") d) does)
     (reads-unless (reads-says (λ p says. (d, refl, says.0, says.1.0, says.1.1))
@@ -155,20 +155,20 @@ reads-asked action d does =
     (told-only malformed_number Members (names_of (members_of action)) d))
 
 reads-by : (action : Option Action) (d : Data) → action_in d ≡ action →
-    Reads (asked_by action d) (action_faults action d) (AsksTerms (Some d))
+    ReadsUnlessFaulty (asked_by action d) (action_faults action d) (AsksTerms (Some d))
 reads-by None d does = record { told = record { is = refl }; value = tt }
 reads-by (Some action) d does = reads-asked action d does
 
-reads-tree : (found : Option Data) → Reads (asked_from found) (tree_faults found) (AsksTerms found)
+reads-tree : (found : Option Data) → ReadsUnlessFaulty (asked_from found) (tree_faults found) (AsksTerms found)
 reads-tree None = record { told = record { is = refl }; value = tt }
 reads-tree (Some d) = reads-by (action_in d) d refl
 
 reads-line : (line : List ℕ) →
-    Reads (asked_in line) (request_faults line) (AsksTerms (tree_of line))
+    ReadsUnlessFaulty (asked_in line) (request_faults line) (AsksTerms (tree_of line))
 reads-line line = by_length (nat_lt LINE_LENGTH_LIMIT (length line))
   where
     by_length : (is_long : Bool) →
-        Reads (if is_long then Err TooLong else asked_from (tree_of line))
+        ReadsUnlessFaulty (if is_long then Err TooLong else asked_from (tree_of line))
         (if is_long then TooLong ∷ [] else tree_faults (tree_of line))
         (AsksTerms (tree_of line))
     by_length true = record { told = record { is = refl }; value = tt }

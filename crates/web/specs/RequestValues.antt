@@ -11,7 +11,8 @@ use Rattle.policy.specs.declared.grant.Scope.TheVariants.{All, Only}
 use Rattle.serde_json.specs.Data.{Data, null, boolean, number, string, array, object}
 use Rattle.serde_json.specs.Find.{as_str}
 use Rattle.json_values.specs.Values.{as_asn, as_number_in}
-use Rattle.web.specs.declared.request.members.TheConstants.{GREATEST_MAX, LAST_NUMBER}
+use Rattle.policy.specs.declared.admission.TheConstants.{LAST_NUMBER}
+use Rattle.web.specs.declared.request.members.TheConstants.{GREATEST_MAX}
 
 -- null, or an AS number
 abbrev pub as_origin : Data → Option Origin

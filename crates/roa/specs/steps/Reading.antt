@@ -158,7 +158,7 @@ AddsThen (Err NotContent) old new read = read ≡ None
 AddsThen (Err Memory) old new read = Unit {0}
 
 -- what was read is the view of it, unless memory ran out
-abbrev pub Reads : {X Y : Type 0} → (X → Y) → Result X DecodeFault → Option Y → Type 0
-Reads view (Ok x) read = read ≡ Some (view x)
-Reads view (Err NotContent) read = read ≡ None
-Reads view (Err Memory) read = Unit {0}
+abbrev pub IsReadAs : {X Y : Type 0} → (X → Y) → Result X DecodeFault → Option Y → Type 0
+IsReadAs view (Ok x) read = read ≡ Some (view x)
+IsReadAs view (Err NotContent) read = read ≡ None
+IsReadAs view (Err Memory) read = Unit {0}

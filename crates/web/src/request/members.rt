@@ -9,14 +9,11 @@ ghost use Rattle.web.specs.steps.RequestReading.{caller_in, day_in, holder_in, m
 use super::fault::Fault;
 use addr::{Asn, Day, Name, Origin, Prefix};
 use json_values::{as_asn, as_day, as_name, as_number_in, as_prefix, member};
-use policy::{Role, Scope};
+use policy::{LAST_NUMBER, Role, Scope};
 use serde_json::Value;
 
 /// The greatest `max` that a line may have: whether the prefix takes it is no question of the line.
 const GREATEST_MAX: u64 = 255;
-
-/// The last number of a grant or an authorization.
-const LAST_NUMBER: u64 = 999_999;
 
 // ---- values
 
@@ -38,7 +35,7 @@ fn as_max(value: &Value) -> Option<u8>
 fn as_number(value: &Value) -> Option<u32>
     ensures { result ≡ as_number (view value.now) }
 {
-    Some(as_number_in(value, 1, LAST_NUMBER)? as u32)
+    Some(as_number_in(value, 1, u64::from(LAST_NUMBER))? as u32)
 }
 
 fn role_of(text: &str) -> Option<Role>
