@@ -1,7 +1,8 @@
 use sqlite::Error;
 use std::alloc::AllocError;
 
-/// Why the store did not answer, or did not change its rows. After a fault nothing has changed.
+/// Why a store was not made, did not answer, or did not change its rows. After a fault its rows are
+/// as before.
 #[derive(Clone, Copy, Debug, PartialEq, Eq)]
 pub enum StoreFault {
     /// The database refused, or there was no memory.
