@@ -185,7 +185,8 @@ impl<S: Alter> Store<S> {
             OfHeldRows S.Store self.old (λ rows.
             AreLoaded (rows first.now) both.0 × AreLoaded (rows second.now) both.1))) }
         ensures schema { IfClean S.Store self.new (result ≡ Err StoreFault.Schema
-            → OfHeldRows S.Store self.old (λ rows. ¬ (FitIfAny (rows first.now) × FitIfAny (rows second.now)))) }
+            → OfHeldRows S.Store self.old
+            (λ rows. ¬ (FitIfAny (rows first.now) × FitIfAny (rows second.now)))) }
     {
         let one = self.load_holder(alloc, first)?;
         let other = self.load_holder(alloc, second)?;
