@@ -10,19 +10,19 @@ use Rattle.sqlite_sql.specs.Term.{lit}
 use Rattle.addr.specs.declared.prefix.Prefix.{Prefix}
 use Rattle.policy.specs.CharterSets.{CharterSets}
 use Rattle.store.specs.StoreRows.{IsNew}
-use Rattle.store.specs.Tables.{meta, operator, pool, desk_tables, contents, is_table, IsTree, AreTrees}
-use Rattle.store.specs.Cells.{schema_row, operator_row, prefix_cells}
-use Rattle.store.specs.steps.Edits.{Edits}
-use Rattle.store.specs.TablesHold.{holder_part, holding_part, granted_part, auth_part, TablesHold}
+use Rattle.tables.specs.Tables.{meta, operator, pool, desk_tables, contents, is_table, IsTree, AreTrees}
+use Rattle.tables.specs.Cells.{schema_row, operator_row, prefix_cells}
+use Rattle.tables.specs.steps.Edits.{Edits}
+use Rattle.tables.specs.TablesHold.{holder_part, holding_part, granted_part, auth_part, TablesHold}
 use Rattle.store.specs.steps.Statements.{IsReady, IsExecuted}
 use Rattle.store.specs.steps.Making.{IsMadeTo, PutsRows, HasCharter}
-use Rattle.store.proofs.CellLemmas.{cast_schema, cast_prefix}
+use Rattle.tables.proofs.CellLemmas.{cast_schema, cast_prefix}
 use Rattle.store.proofs.StepLemmas.{sound_still}
 use Rattle.store.proofs.PartSteps.{puts_row}
 use Rattle.store.proofs.RowSteps.{taken_more}
-use Rattle.store.proofs.Inserting.{each_table}
+use Rattle.tables.proofs.Inserting.{each_table}
 use Rattle.store.proofs.MakingSteps.{none_held}
-use Rattle.store.proofs.Texts.{put_terms, put_schema_text, put_schema_is, put_operator_text, put_operator_is, put_prefix_text, put_prefix_is}
+use Rattle.tables.proofs.Texts.{put_terms, put_schema_text, put_schema_is, put_operator_text, put_operator_is, put_prefix_text, put_prefix_is}
 
 module _ (old new : State) where
   pub puts_schema : IsReady old → IsExecuted put_schema_text [] old new → PutsRows meta.tree (schema_row ∷ []) old new

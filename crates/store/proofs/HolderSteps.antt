@@ -11,14 +11,14 @@ use Rattle.sqlite_trees.proofs.ListLemmas.{filter-map}
 use Rattle.sqlite_sql.specs.Term.{col}
 use Rattle.policy.specs.CharterSets.{CharterSets}
 use Rattle.policy.specs.Rows.{Rows}
-use Rattle.store.specs.Tables.{desk_schema}
-use Rattle.store.specs.TablesHold.{part_rows, holder_part, TablesHold}
+use Rattle.tables.specs.Tables.{desk_schema}
+use Rattle.tables.specs.TablesHold.{part_rows, holder_part, TablesHold}
 use Rattle.store.specs.steps.Statements.{IsReady, TellsWhetherRegistered}
 use Rattle.store.proofs.StepLemmas.{holder_test}
-use Rattle.store.proofs.PartLemmas.{names}
+use Rattle.tables.proofs.PartLemmas.{names}
 use Rattle.store.proofs.QueryLemmas.{shown_open, answered_inside}
-use Rattle.store.proofs.Selecting.{permuted}
-use Rattle.store.proofs.Texts.{equals, counters_text, counters_is}
+use Rattle.tables.proofs.Selecting.{permuted}
+use Rattle.tables.proofs.Texts.{equals, counters_text, counters_is}
 
 module _ (h : List ℕ) (old new : State) (ready : IsReady old) where
   -- as many rows are found as the holder has in its table

@@ -16,16 +16,15 @@ use Rattle.sqlite_rules.proofs.ProbeLemmas.{mapped_has, has_mapped}
 use Rattle.sqlite_typed.proofs.TestLemmas.{at_ints, then_term, last_term}
 use Rattle.policy.specs.declared.authorization.Auth.{Auth}
 use Rattle.policy.specs.Rows.{Rows}
-use Rattle.store.specs.Tables.{desk_schema}
-use Rattle.store.specs.Cells.{number_cell, auth_row}
-use Rattle.store.specs.Tables.{contents}
-use Rattle.store.specs.TablesHold.{HoldsPart, auth_part}
-use Rattle.store.specs.steps.Queries.{columns, is_open_on, FindsInForce, IsPayloadOn}
-use Rattle.store.proofs.SomeRow.{has_permuted, of_some, in_table}
-use Rattle.store.proofs.Selecting.{picks, permuted}
+use Rattle.tables.specs.Cells.{number_cell, auth_row}
+use Rattle.tables.specs.Tables.{desk_schema, contents, columns}
+use Rattle.tables.specs.TablesHold.{HoldsPart, auth_part}
+use Rattle.store.specs.steps.Queries.{is_open_on, FindsInForce, IsPayloadOn}
+use Rattle.tables.proofs.SomeRow.{has_permuted, of_some, in_table}
+use Rattle.tables.proofs.Selecting.{picks, permuted}
 use Rattle.store.proofs.Finding.{shown_at, shown_columns, of_contents}
 use Rattle.store.proofs.QueryLemmas.{shown_open}
-use Rattle.store.proofs.Texts.{in_force_tests, in_force_text, in_force_is}
+use Rattle.tables.proofs.Texts.{in_force_tests, in_force_text, in_force_is}
 
 abbrev payload_places : List ℕ
 payload_places = 2 ∷ 3 ∷ 4 ∷ 5 ∷ 6 ∷ []

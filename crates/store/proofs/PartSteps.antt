@@ -11,18 +11,18 @@ use Rattle.sqlite_schema.specs.declared.command.Source.TheVariants.{Values}
 use Rattle.sqlite_schema.specs.declared.schema.Table.{Table}
 use Rattle.sqlite_rules.specs.Cast.{cast_all}
 use Rattle.policy.specs.Rows.{Rows}
-use Rattle.store.specs.Tables.{as_strict, desk_tables, is_table}
-use Rattle.store.specs.TablesHold.{Part}
+use Rattle.tables.specs.Tables.{as_strict, desk_tables, is_table}
+use Rattle.tables.specs.TablesHold.{Part}
 use Rattle.store.specs.steps.Making.{PutsRows}
 use Rattle.store.specs.steps.Statements.{IsReady, IsExecuted, EditsHolder}
-use Rattle.store.proofs.Inserting as inserting
-use Rattle.store.proofs.Deleting as deleting
-use Rattle.store.proofs.Updating as updating
-use Rattle.store.proofs.Updating.{changed_if}
-use Rattle.store.proofs.Selecting.{picks}
-use Rattle.store.proofs.PartLemmas.{names, put_local, take_local, change_local}
+use Rattle.tables.proofs.Inserting as inserting
+use Rattle.tables.proofs.Deleting as deleting
+use Rattle.tables.proofs.Updating as updating
+use Rattle.tables.proofs.Updating.{changed_if}
+use Rattle.tables.proofs.Selecting.{picks}
+use Rattle.tables.proofs.PartLemmas.{names, put_local, take_local, change_local}
 use Rattle.store.proofs.StepLemmas.{has_schema, wrote, ready_still, is_part_tree, AllEdited, edits_rows}
-use Rattle.store.proofs.Texts.{Means}
+use Rattle.tables.proofs.Texts.{Means}
 
 module _ (at : ℕ) (t : Table) (there : slice_get desk_tables at ≡ Some (as_strict t)) (old new : State) where
   pub puts_row : {sql : List ℕ} (params : Row) (terms : List Term) (width : ℕ) (row : Row) → Means sql (Insert at (Values terms width))

@@ -14,10 +14,10 @@ use Rattle.sqlite_value.specs.Order.{Row}
 use Rattle.sqlite_trees.specs.Tree.{Trees}
 use Rattle.sqlite_schema.specs.declared.command.Command.{Command}
 use Rattle.sqlite_schema.specs.declared.command.Returning.{Returning}
-use Rattle.store.specs.Tables.{desk_schema}
+use Rattle.tables.specs.Tables.{desk_schema}
 use Rattle.store.specs.steps.Queries.{AreSelected, IsAsBefore}
 use Rattle.store.specs.steps.Statements.{IsReady}
-use Rattle.store.proofs.Texts.{Means}
+use Rattle.tables.proofs.Texts.{Means}
 
 -- a query that answered changed nothing
 pub shown_same : (sql : List ℕ) (params : Row) (old new : State) (rows : List Row) → IsPlain (understood old.now.schema sql) → Shown sql params old new rows → IsUnchanged old new

@@ -21,14 +21,14 @@ use Rattle.policy.specs.declared.authorization.Auth.{Auth}
 use Rattle.policy.specs.declared.grant.Granted.{Granted}
 use Rattle.policy.specs.CharterSets.{CharterSets}
 use Rattle.policy.specs.Rows.{Rows}
-use Rattle.store.specs.Tables.{desk_schema, contents, is_table, IsTree, AreTrees}
-use Rattle.store.specs.Cells.{schema_row, operator_row, prefix_cells}
-use Rattle.store.specs.steps.Edits.{Edits}
-use Rattle.store.specs.TablesHold.{Part, part_rows, is_name_of, holder_part, holding_part, granted_part, auth_part, HoldsPart, HoldsCharter, TablesHold}
+use Rattle.tables.specs.Tables.{desk_schema, contents, is_table, IsTree, AreTrees}
+use Rattle.tables.specs.Cells.{schema_row, operator_row, prefix_cells}
+use Rattle.tables.specs.steps.Edits.{Edits}
+use Rattle.tables.specs.TablesHold.{Part, part_rows, is_name_of, holder_part, holding_part, granted_part, auth_part, HoldsPart, HoldsCharter, TablesHold}
 use Rattle.store.specs.steps.Statements.{IsReady, IsExecuted, EditsRows}
-use Rattle.store.proofs.PartLemmas.{names, IsLocal, EditsPart, turned_at, part_same, part_turned}
-use Rattle.store.proofs.Selecting.{picks}
-use Rattle.store.proofs.Texts.{Means, equals}
+use Rattle.tables.proofs.PartLemmas.{names, IsLocal, EditsPart, turned_at, part_same, part_turned}
+use Rattle.tables.proofs.Selecting.{picks}
+use Rattle.tables.proofs.Texts.{Means, equals}
 
 true_back : (b : Bool) → is_true (from_truth (Some b)) ≡ b
 true_back true = refl

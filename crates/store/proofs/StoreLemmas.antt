@@ -13,7 +13,7 @@ use Rattle.store.specs.steps.Queries.{IsAsBefore, IsOfAll}
 use Rattle.store.specs.StoreRows.{RowChange, IsNew}
 use Rattle.store.specs.StoreRows.{StoreView, IsDeskWhileOpen, Holds, IsRead, MayLeave, LeavesOnly}
 use Rattle.store.specs.steps.Statements.{CommitsChange, MayCommit, MakesChange, RowsBecome}
-use Rattle.store.specs.TablesHold.{TablesHold}
+use Rattle.tables.specs.TablesHold.{TablesHold}
 
 pub kept_still : (old new : State) → (HasCleanDisk new → HasCleanDisk old) → (HasCleanDisk new → IsTrue new.is_open → IsAsBefore old new) → IsDeskWhileOpen old → IsDeskWhileOpen new
 kept_still old new before same kept clean opened =

@@ -9,8 +9,8 @@ use Rattle.policy.specs.contracts.charter.Charter as charter
 use Rattle.policy.specs.CharterSets.{CharterSets}
 use Rattle.policy.specs.declared.change.Change.{Change}
 use Rattle.policy.specs.Rows.{Rows, changed}
-use Rattle.store.specs.Tables.{blank_schema, desk_schema}
-use Rattle.store.specs.TablesHold.{TablesHold}
+use Rattle.tables.specs.Tables.{blank_schema, desk_schema}
+use Rattle.tables.specs.TablesHold.{TablesHold}
 
 -- a store as its connection and its charter
 pub record StoreView (S : Type 0) : Type 0 where

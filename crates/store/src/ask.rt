@@ -4,7 +4,7 @@ ghost use Rattle.sqlite.specs.Held.{state};
 ghost use Rattle.sqlite.specs.Listing.{understood};
 ghost use Rattle.sqlite.specs.State.{Shown};
 ghost use Rattle.sqlite.specs.Values.{bound};
-ghost use Rattle.store.specs.Tables.{desk_schema};
+ghost use Rattle.tables.specs.Tables.{desk_schema};
 ghost use Rattle.store.specs.steps.Queries.{IsAsked, IsOnCleanDisk, IsReadyToAsk};
 
 use sqlite::types::ValueRef;

@@ -5,9 +5,9 @@ use Rattle.sqlite.specs.State.{State}
 use Rattle.sqlite_schema.specs.declared.schema.Schema.{Schema}
 use Rattle.sqlite_value.specs.Order.{Row}
 use Rattle.policy.specs.CharterSets.{CharterSets}
-use Rattle.store.specs.Tables.{desk_tables, desk_indexes}
-use Rattle.store.specs.steps.Edits.{Edits}
-use Rattle.store.specs.TablesHold.{TablesHold}
+use Rattle.tables.specs.Tables.{desk_tables, desk_indexes}
+use Rattle.tables.specs.steps.Edits.{Edits}
+use Rattle.tables.specs.TablesHold.{TablesHold}
 use Rattle.store.specs.steps.Statements.{IsReady}
 
 -- the schema of the first tables, of which `auth` has two keys and every other has one

@@ -21,10 +21,9 @@ use Rattle.addr.specs.declared.prefix.Prefix.{Prefix}
 use Rattle.policy.specs.CharterSets.{CharterSets}
 use Rattle.policy.specs.declared.authorization.Auth.{Auth}
 use Rattle.policy.specs.Rows.{Rows}
-use Rattle.store.specs.Cells.{number_cell, prefix_cells}
-use Rattle.store.specs.Tables.{contents}
-use Rattle.store.specs.Tables.{desk_schema}
-use Rattle.store.specs.TablesHold.{TablesHold, items_if_any, auth_part}
+use Rattle.tables.specs.Cells.{number_cell, prefix_cells}
+use Rattle.tables.specs.Tables.{desk_schema, contents, columns}
+use Rattle.tables.specs.TablesHold.{TablesHold, items_if_any, auth_part}
 
 -- nothing was committed, and what is shown is as it was
 abbrev pub IsAsBefore : State → State → Type 0
@@ -62,9 +61,6 @@ IsOf so h s = IsOfAll (λ rows. so (rows h)) s
 -- the database could be read, and it is so of the rows of every holder
 abbrev pub WasRead : ((List ℕ → Option Rows) → Type 0) → State → Type 0
 WasRead so s = IsTrue s.is_open × IsOfAll so s
-
-abbrev pub columns : List ℕ → Row → Row
-columns places c = map (column c) places
 
 abbrev pub by_column : ℕ → Row → Row → Ordering
 by_column at = on (λ r. column r at) value_cmp

@@ -12,8 +12,8 @@ use Rattle.policy.specs.History.{same_name}
 use Rattle.policy.specs.Rows.{Rows, new_rows}
 use Rattle.store.specs.steps.Queries.{IsAsBefore}
 use Rattle.store.specs.StoreRows.{RowChange}
-use Rattle.store.specs.Tables.{desk_schema}
-use Rattle.store.specs.TablesHold.{TablesHold}
+use Rattle.tables.specs.Tables.{desk_schema}
+use Rattle.tables.specs.TablesHold.{TablesHold}
 
 -- ---- every statement
 

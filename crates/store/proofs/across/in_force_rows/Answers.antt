@@ -3,7 +3,7 @@ use Rattle.std.proofs.lemmas.Result.{IfOk-weaker}
 use Rattle.sqlite.specs.Held.{state}
 use Rattle.sqlite.specs.State.{HasCleanDisk}
 use Rattle.store.proofs.InForce.{all_in_force, each_in_force}
-use Rattle.store.proofs.Texts.{in_force_is}
+use Rattle.tables.proofs.Texts.{in_force_is}
 use Rattle.store.proofs.across.in_force_rows.Goals as goal
 
 pub ask-requires-clause-plain : goal.ask-requires-clause-plain

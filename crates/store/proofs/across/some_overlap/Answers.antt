@@ -2,9 +2,9 @@ use Rattle.std.proofs.Common.{[], ◌∷◌, ap, ◌∙◌, arith}
 use Rattle.sqlite.specs.Held.{state}
 use Rattle.sqlite.specs.State.{HasCleanDisk}
 use Rattle.sqlite_value.specs.declared.value.Value.TheVariants.{Blob}
-use Rattle.store.specs.Cells.{address, number_cell, family_number}
+use Rattle.tables.specs.Cells.{address, number_cell, family_number}
 use Rattle.store.proofs.Overlapping.{told_overlap}
-use Rattle.store.proofs.Texts.{overlap_is}
+use Rattle.tables.proofs.Texts.{overlap_is}
 use Rattle.store.proofs.across.some_overlap.Goals as goal
 
 pub ask-requires-clause-plain : goal.ask-requires-clause-plain

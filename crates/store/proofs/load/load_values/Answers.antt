@@ -3,10 +3,10 @@ use Rattle.std.proofs.lemmas.Result.{IfOk-weaker}
 use Rattle.std.specs.Prelude.{IsSorted}
 use Rattle.sqlite.specs.Held.{state}
 use Rattle.sqlite.specs.State.{HasCleanDisk}
-use Rattle.store.specs.TablesHold.{items_if_any}
-use Rattle.store.proofs.CellsOnce.{values_shown}
+use Rattle.tables.specs.TablesHold.{items_if_any}
+use Rattle.tables.proofs.CellsOnce.{values_shown}
 use Rattle.store.proofs.QueryLemmas.{selected}
-use Rattle.store.proofs.ReadLemmas.{all_show}
+use Rattle.tables.proofs.ReadLemmas.{all_show}
 use Rattle.store.proofs.load.load_values.Goals as goal
 
 pub ask-requires-clause-plain : goal.ask-requires-clause-plain

@@ -1,0 +1,5 @@
+pub mod Tables
+pub mod Cells
+pub mod Decode
+pub mod TablesHold
+pub mod steps

@@ -1,0 +1,12 @@
+//! The tables of a desk: values as cells, and the rows that show values.
+#![tactic(auto)]
+
+mod cells;
+mod decode;
+mod rows;
+
+pub use cells::{
+    address_bytes, auth_values, family_number, granted_values, holding_values, name_values,
+    number_values, prefix_values, scope_first,
+};
+pub use rows::{Counters, FromRow, in_rows};
