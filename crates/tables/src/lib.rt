@@ -3,10 +3,14 @@
 
 mod cells;
 mod decode;
+mod names;
 mod rows;
+mod same;
 
 pub use cells::{
     address_bytes, auth_values, family_number, granted_values, holding_values, name_values,
     number_values, prefix_values, scope_first,
 };
+pub use names::has_names;
 pub use rows::{Counters, FromRow, in_rows};
+pub use same::{same_schema, same_tables};
