@@ -13,6 +13,7 @@ mod holding;
 pub mod laws;
 mod load;
 mod making;
+mod opening;
 mod select;
 mod statement;
 mod store;
