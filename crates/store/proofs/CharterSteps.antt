@@ -75,7 +75,8 @@ has_charter charter a b c d made schema operators prefixes =
     let still : (t : ℕ) → is_table t ≡ true → t ≢ 0 → t ≢ 2 → t ≢ 4 → d.now.trees t ≡ [] = λ t is meta operator pool. third.others t is pool ∙ second.others t is operator ∙ first.others t is meta ∙ at t is in
     let sound : AreTrees a.now.trees = λ t is. subst IsTree (sym (at t is)) (tt, tt) in
     record {
-      ready = prefixes.ready;
+      inside = prefixes.ready.inside;
+      schema = third.schema ∙ second.schema ∙ first.schema ∙ made.schema;
       rows = record {
         charter_kept = record {
           schema = subst (λ t. IsPermutation (schema_row ∷ []) (contents t)) (sym (third.others 0 refl (λ same. cc) ∙ second.others 0 refl (λ same. cc))) (first_rows 0 (schema_row ∷ []) a.now b.now first (at 0 refl));
@@ -96,7 +97,7 @@ has_charter charter a b c d made schema operators prefixes =
 pub new_after : (charter : CharterSets) (mid last : State) → HasCharter charter mid → Shows mid last mid.now mid.now false → IsNew charter last
 new_after charter mid last has shown = record {
   is_open = shown.is_open;
-  schema = ap (λ (d : Database). d.schema) shown.now_is ∙ has.ready.schema shown.was_open;
+  schema = ap (λ (d : Database). d.schema) shown.now_is ∙ has.schema;
   settled = shown.committed_is ∙ sym shown.now_is;
   rows = subst (λ (d : Database). TablesHold charter (λ h. None) d.trees) (sym shown.now_is) has.rows;
 }

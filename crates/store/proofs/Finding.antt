@@ -80,7 +80,7 @@ module _ {X : Type 0} (cells : X → Row) (items : Rows → List X) (cmp : Row �
     params = Text h ∷ []
 
     answers : IsAnswer (from_table q.part.tree tests (shown_at q.places) q.order no_limit) (overlay db.trees []) params rows
-    answers = (subst (λ (k : Command). Reads k db params rows) q.means.is selected).answer Null
+    answers = (subst (λ (k : Command). Reads k db params rows) (q.means.is db.schema) selected).answer Null
 
     rises : IsSorted cmp rows
     rises = sorted q.part.tree tests (shown_at q.places) q.order db.trees params rows q.keys cmp (q.keyed params) q.ranked answers

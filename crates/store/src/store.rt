@@ -1,7 +1,7 @@
 ghost use Rattle.std.specs.Prelude.{◌≡◌, ◌≢◌, ◌↔◌, false, None, Err, OnOk, OnErr, IfOk, IsTrue};
 ghost use Rattle.sqlite.specs.Held.{state};
 ghost use Rattle.sqlite.specs.State.{HasCleanDisk};
-ghost use Rattle.store.specs.StoreRows.{changed_rows, HasDeskSchema};
+ghost use Rattle.store.specs.StoreRows.{changed_rows, HasDeskTables};
 ghost use Rattle.store.specs.StoreRows.{IsUnused, IsNew, LeavesNew, LeavesOldOrNew};
 ghost use Rattle.tables.specs.Tables.{blank_schema};
 ghost use Rattle.tables.specs.TablesHold.{TablesHold};
@@ -24,7 +24,7 @@ use std::marker::Model;
 /// Makes the change in one transaction.
 fn commit_change<S: Alter>(conn: &mut Connection<S>, change: &Change) -> Result<(), StoreFault>
     requires idle { conn.old.in_transaction ≡ false }
-    requires schema { HasDeskSchema (state S.Store conn.old) }
+    requires tables { HasDeskTables (state S.Store conn.old) }
     ensures idle { conn.new.in_transaction ≡ false }
     ensures ok { IfCommitted S.Store result
         (CommitsChange (changed_rows change.now)) conn.old conn.new }

@@ -12,6 +12,7 @@ use Rattle.sqlite_value.specs.Order.{Row}
 use Rattle.sqlite_trees.proofs.ListLemmas.{map-map, ascending-filter, all-filter}
 use Rattle.sqlite_sql.specs.Term.{Term, col, eval_all}
 use Rattle.sqlite_schema.specs.declared.schema.Keys.TheVariants.{Enforced}
+use Rattle.sqlite_schema.specs.declared.schema.Schema.{Schema}
 use Rattle.sqlite_schema.specs.declared.schema.Table.{Table}
 use Rattle.sqlite_schema.specs.declared.program.Program.{Program}
 use Rattle.sqlite_schema.specs.declared.command.Command.TheVariants.{Update}
@@ -20,7 +21,7 @@ use Rattle.sqlite_rules.specs.Calls.{ids_of}
 use Rattle.sqlite_rules.specs.Cast.{cast_all, cast_row}
 use Rattle.sqlite_rules.specs.Edit.{Applies, edit_of, numbered, put_all, without_all, have_rowids, are_fresh, taken_by}
 use Rattle.sqlite_rules.proofs.PlaceLemmas.{given}
-use Rattle.tables.specs.Tables.{as_strict, desk_schema, desk_tables, contents, IsTree}
+use Rattle.tables.specs.Tables.{as_strict, desk_beside, desk_tables, contents, IsTree}
 use Rattle.tables.specs.steps.Edits.{Edits}
 use Rattle.tables.proofs.TreeRows.{without_picked, put_all_permutes, put_all_tree}
 use Rattle.tables.proofs.Inserting.{went, same_value, quiet, at_table}
@@ -55,7 +56,7 @@ in_two p f g xs =
     (map-append (λ x. cond (p x) (f x) (g x)) (filter p xs) (filter (λ x. not (p x)) xs) ∙ (λ i. picked_changed p f g xs i ++ passed_kept p f g xs i))
     (IsPermutation-map (λ x. cond (p x) (f x) (g x)) _ _ (IsPermutation-filter_both p (λ x. not (p x)) (λ x. refl) xs))
 
-module _ (at : ℕ) (t : Table) (there : slice_get desk_tables at ≡ Some (as_strict t)) where
+module _ (at : ℕ) (t : Table) (there : slice_get desk_tables at ≡ Some (as_strict t)) (s : Schema) where
   abbrev table : Table
   table = as_strict t
 
@@ -66,22 +67,22 @@ module _ (at : ℕ) (t : Table) (there : slice_get desk_tables at ≡ Some (as_s
   abbrev pub update : List Term → List Term → Program
   update tests sets = record { lets = []; body = from_table t.tree tests (new_rows sets) [] no_limit }
 
-  pub applied : (tests sets : List Term) (old new : State) (text : List ℕ) (params : Row) (count : ℕ) → old.now.schema ≡ desk_schema
+  pub applied : (tests sets : List Term) (old new : State) (text : List ℕ) (params : Row) (count : ℕ) → old.now.schema ≡ desk_beside s
       → Writes old new None (Update at (update tests sets)) text params count
-      → (rows : List Row) × Answers (record { schema = desk_schema; trees = old.now.trees }) (update tests sets) params rows × (new.now.schema ≡ desk_schema)
-      × Applies desk_schema Enforced old.now.trees (edit_of old.now.trees table (ids_of rows) Given 1 rows) new.now.trees
+      → (rows : List Row) × Answers (record { schema = desk_beside s; trees = old.now.trees }) (update tests sets) params rows × (new.now.schema ≡ desk_beside s)
+      × Applies (desk_beside s) Enforced old.now.trees (edit_of old.now.trees table (ids_of rows) Given 1 rows) new.now.trees
   applied tests sets old new text params count has w =
       let db = old.now.trees in
       let command = Update at (update tests sets) in
-      let found = subst (λ s. Does old.step_limit (mode_of old) params (record old.now { schema = s }) text None command (Ok (w.tally, new.now))) has w.changed in
-      let done = went (subst (λ o. AtPlace (λ t. OnRows (record { limit = old.step_limit; keys = Enforced; schema = desk_schema; table = t; params = params }) (mode_of old) None command db) o (Ok (w.tally, new.now))) there found) in
+      let found = subst (λ k. Does old.step_limit (mode_of old) params (record old.now { schema = k }) text None command (Ok (w.tally, new.now))) has w.changed in
+      let done = went (subst (λ o. AtPlace (λ t. OnRows (record { limit = old.step_limit; keys = Enforced; schema = desk_beside s; table = t; params = params }) (mode_of old) None command db) o (Ok (w.tally, new.now))) there found) in
       let now = ap (λ (p : Tally × Database). p.1) (same_value (went (went done.2).2).2) in
       let given = went done.1 in
       let written = went given.2 in
       let trees : new.now.trees ≡ written.0 = ap (λ (d : Database). d.trees) now ∙ ap (λ (it : Written). it.trees) (same_value written.2) in
       let edit = edit_of db table (ids_of given.0) Given 1 given.0 in
-      let made = one_step desk_schema Enforced db written.0 edit (quiet t.tree (taken_by db edit) edit.news) written.1 in
-      (given.0, given.1, ap (λ (d : Database). d.schema) now, subst (Applies desk_schema Enforced db edit) (sym trees) made)
+      let made = one_step (desk_beside s) Enforced db written.0 edit (quiet s t.tree (taken_by db edit) edit.news) written.1 in
+      (given.0, given.1, ap (λ (d : Database). d.schema) now, subst (Applies (desk_beside s) Enforced db edit) (sym trees) made)
 
   -- the columns of the new rows
   new_cells : (tests sets : List Term) (change : Row → Row) (params : Row) (rows tree_rows : List Row)
@@ -97,10 +98,10 @@ module _ (at : ℕ) (t : Table) (there : slice_get desk_tables at ≡ Some (as_s
       (sym (map-map (drop 1) (λ s. cast_row table (drop 1 s)) rows))
       (IsPermutation-map (λ s. drop 1 (cast_row table (drop 1 s))) _ _ shown)
 
-  updated : (tests sets : List Term) (goes : Row → Bool) (change : Row → Row) (params : Row) (rows : List Row) (old next : Database) → old.schema ≡ desk_schema → next.schema ≡ desk_schema
+  updated : (tests sets : List Term) (goes : Row → Bool) (change : Row → Row) (params : Row) (rows : List Row) (old next : Database) → old.schema ≡ desk_beside s → next.schema ≡ desk_beside s
       → ((r : Row) → picks params tests r ≡ goes (drop 1 r)) → ((r : Row) → cast_all t.columns (eval_all sets (params ∷ r ∷ [])) ≡ change (drop 1 r)) → IsTree (old.trees t.tree)
       → IsPermutation (map (λ r. eval_all (new_rows sets) (params ∷ r ∷ [])) (filter (picks params tests) (old.trees t.tree))) rows
-      → Applies desk_schema Enforced old.trees (edit_of old.trees table (ids_of rows) Given 1 rows) next.trees
+      → Applies (desk_beside s) Enforced old.trees (edit_of old.trees table (ids_of rows) Given 1 rows) next.trees
       → Edits t.tree (map (changed_if goes change)) old next
   updated tests sets goes change params rows old next has keeps same sets_to sound shown made =
       let was : List Row = old.trees t.tree in
@@ -126,7 +127,7 @@ module _ (at : ℕ) (t : Table) (there : slice_get desk_tables at ≡ Some (as_s
         whole = λ sound. subst IsTree (sym now) (put_all_tree news rest keyed fresh (ascending-filter _ (λ r. not (picks params tests r)) _ sound.0, all-filter _ (λ r. not (picks params tests r)) _ sound.1));
       }
 
-  pub changes : (tests sets : List Term) (goes : Row → Bool) (change : Row → Row) (old new : State) (text : List ℕ) (params : Row) (count : ℕ) → old.now.schema ≡ desk_schema
+  pub changes : (tests sets : List Term) (goes : Row → Bool) (change : Row → Row) (old new : State) (text : List ℕ) (params : Row) (count : ℕ) → old.now.schema ≡ desk_beside s
       → ((r : Row) → picks params tests r ≡ goes (drop 1 r)) → ((r : Row) → cast_all t.columns (eval_all sets (params ∷ r ∷ [])) ≡ change (drop 1 r)) → IsTree (old.now.trees t.tree)
       → Writes old new None (Update at (update tests sets)) text params count → Edits t.tree (map (changed_if goes change)) old.now new.now
   changes tests sets goes change old new text params count has same sets_to sound w =

@@ -130,6 +130,14 @@ desk_indexes =
 abbrev pub desk_schema : Schema
 desk_schema = record { tables = desk_tables; indexes = desk_indexes; views = [] }
 
+-- the tables of a desk beside the indexes and views of a schema
+abbrev pub desk_beside : Schema → Schema
+desk_beside s = record s { tables = desk_tables }
+
+-- it is so of the tables of a desk, whatever indexes and views stand beside them
+abbrev pub OverDesk : (Schema → Type 0) → Type 0
+OverDesk so = (s : Schema) → so (desk_beside s)
+
 -- the schema of a database that has no table, index or view
 abbrev pub blank_schema : Schema
 blank_schema = record { tables = []; indexes = []; views = [] }
