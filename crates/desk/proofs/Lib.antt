@@ -1,5 +1,4 @@
 pub mod Outcomes
-pub mod RecordLemmas
 pub mod VrpLemmas
 pub mod ContentLemmas
 pub mod DeskLemmas

@@ -15,14 +15,15 @@ use Rattle.policy.specs.DailyVrps.{IsVrpOn}
 use Rattle.policy.specs.History.{History}
 use Rattle.policy.specs.Values.{HistoryFits}
 use Rattle.policy.specs.Verdict.{Verdict, ShowVerdict, ListVerdict, IsLegal}
-use Rattle.policy.specs.Rows.{Rows}
 use Rattle.policy.specs.declared.authorization.Auth.{Auth}
 use Rattle.policy.specs.declared.charter.Charter.{Charter}
 use Rattle.policy.specs.declared.command.Command.{Command}
 use Rattle.policy.specs.declared.command.Query.{Query}
 use Rattle.policy.specs.declared.command.Query.TheVariants.{Show as ShowQuery, Content as ContentQuery, List as ListQuery, Payloads as PayloadsQuery, Validity as ValidityQuery}
 use Rattle.desk.specs.ContentText.{IsContentText}
-use Rattle.policy.specs.RowsOfAll.{HasRows}
+use Rattle.sqlite.specs.Store.{Ghosts}
+use Rattle.desk.specs.Desk.{HoldsHistory}
+use Rattle.desk.specs.declared.handling.Desk.{Desk}
 use Rattle.desk.specs.declared.asked.Request.{Request}
 use Rattle.desk.specs.declared.asked.Request.TheVariants.{Command as CommandRequest, Query as QueryRequest}
 use Rattle.desk.specs.declared.reply.Reply.{Reply}
@@ -103,13 +104,12 @@ AnswersRequest charter before day caller (CommandRequest command) reply after =
 AnswersRequest charter before day caller (QueryRequest query) reply after =
     AnswersQuery before day caller query reply × (after ≡ before)
 
--- a request was answered: the rows are those of the history that the answer leaves, which is legal and,
--- where it was so before, of values of their types
-pub record IsAnswered (charter : Charter) (before : History)
-    (day : ℕ) (caller : List ℕ) (request : Request) (reply : Reply)
-    (rows : List ℕ → Option Rows) : Type 0 where
+-- a request was answered: the tables hold the rows of the history that the answer leaves, which is legal
+-- and, where it was so before, of values of their types
+pub record IsAnswered {S : Type 0} (g : Ghosts S) (charter : Charter) (before : History)
+    (day : ℕ) (caller : List ℕ) (request : Request) (reply : Reply) (desk : Desk S) : Type 0 where
   pub after : History
   pub legal : IsLegal charter after
   pub values : HistoryFits before → HistoryFits after
   pub answers : AnswersRequest charter before day caller request reply after
-  pub rows_after : HasRows rows after
+  pub rows_after : HoldsHistory g desk after

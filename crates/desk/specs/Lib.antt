@@ -1,5 +1,3 @@
-pub mod steps
-pub mod DeskRows
 pub mod Answer
 pub mod Run
 pub mod ContentText
