@@ -1,5 +1,3 @@
-pub mod Outcomes
-pub mod VrpLemmas
 pub mod ContentLemmas
 pub mod DeskLemmas
 pub mod RunLemmas

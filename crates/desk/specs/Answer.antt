@@ -1,7 +1,8 @@
 -- What the desk may reply to a request on a history, and the history that this leaves: a command is
 -- accepted exactly where its rules hold on the commands accepted before it, else it changes nothing
 -- and is answered with the first rule that fails; what is shown, exported and judged is what the
--- history defines. Where no memory is found the reply is Unavailable and nothing has changed.
+-- history defines. Where no memory is found, or the database does not answer, the reply is Unavailable
+-- and nothing has changed.
 use Rattle.std.specs.Prelude.{◌≡◌, ℕ, Bool, true, false, List, [], ◌∷◌, Option, Some, None, ◌↔◌, Contains}
 use Rattle.std.specs.String.{string_bytes}
 use Rattle.addr.specs.OriginValidation.{HasState}
@@ -20,6 +21,8 @@ use Rattle.policy.specs.declared.charter.Charter.{Charter}
 use Rattle.policy.specs.declared.command.Command.{Command}
 use Rattle.policy.specs.declared.command.Query.{Query}
 use Rattle.policy.specs.declared.command.Query.TheVariants.{Show as ShowQuery, Content as ContentQuery, List as ListQuery, Payloads as PayloadsQuery, Validity as ValidityQuery}
+use Rattle.policy.specs.declared.rule.Refusal.{Refusal}
+use Rattle.policy.specs.declared.rule.Refusal.TheVariants.{Denied as Refused, Memory}
 use Rattle.desk.specs.ContentText.{IsContentText}
 use Rattle.sqlite.specs.Store.{Ghosts}
 use Rattle.desk.specs.Desk.{HoldsHistory}
@@ -45,6 +48,11 @@ AreStatesOn history day (r ∷ routes) (s ∷ states) =
 abbrev pub is_done : Reply → Bool
 is_done (Done number) = true
 is_done other = false
+
+-- the reply to a request that was not decided for
+abbrev pub refused_with : Refusal → Reply
+refused_with (Refused rule row) = Denied rule row
+refused_with Memory = Unavailable
 
 -- the reply to a command, and the history after it
 abbrev pub AnswersCommand : Charter → History → ℕ → List ℕ → Command → Reply → History → Type 0

@@ -2,3 +2,5 @@ pub mod Answer
 pub mod Run
 pub mod ContentText
 pub mod Desk
+pub mod Laws
+pub mod steps

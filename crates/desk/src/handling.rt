@@ -1,17 +1,22 @@
 ghost use Rattle.std.specs.Prelude.{◌≡◌, ◌≢◌, false, [], Err, IfOk, OnOk, OnErr};
 ghost use Rattle.policy.specs.History.{History};
+ghost use Rattle.policy.specs.Rows.{rows_if_any, RowsIfAny};
 ghost use Rattle.policy.specs.Verdict.{IsLegal};
 ghost use Rattle.sqlite.specs.Held.{state};
 ghost use Rattle.sqlite.specs.State.{HasCleanDisk};
 ghost use Rattle.sqlite.specs.Steps.{over_memory};
-ghost use Rattle.store.specs.StoreRows.{state_of, IfClean, IsDeskWhileOpen, IsNew, IsUnused, LeavesNew};
+ghost use Rattle.store.specs.StoreRows.{state_of, IfClean, IsDeskWhileOpen, IsNew, IsRead, IsUnused, LeavesNew};
 ghost use Rattle.desk.specs.Answer.{is_done, IsAnswered};
 ghost use Rattle.desk.specs.Run.{AreAnswered};
 ghost use Rattle.desk.specs.Desk.{charter_of, HoldsHistory, IsOnCleanDisk, KeepsRows};
+ghost use Rattle.desk.specs.steps.Reading.{OfHistories};
+
+mod commands;
+mod queries;
 
 use crate::{Asked, Reply, Request};
 use addr::{Day, Name};
-use policy::Charter;
+use policy::{Charter, HolderRows};
 use sqlite::{Alter, Connection, MemStore};
 use std::alloc::{AllocError, Global};
 use store::{Store, StoreFault};
@@ -62,8 +67,8 @@ impl<S: Alter> Desk<S> {
         ensures kept { is_done result ≡ false → KeepsRows S.Store self.old self.new }
     {
         match request {
-            Request::Command(_) => Reply::Unavailable,
-            Request::Query(_) => Reply::Unavailable,
+            Request::Command(command) => self.carry_out(day, caller, command),
+            Request::Query(query) => self.answer(day, caller, query),
         }
     }
 
@@ -78,7 +83,22 @@ impl<S: Alter> Desk<S> {
         ensures clean { IsOnCleanDisk S.Store self.new → IsOnCleanDisk S.Store self.old }
         ensures err { OnErr result (self.new ≡ self.old) }
     {
-        Err(AllocError)
+        let mut replies = Vec::with_capacity(self.alloc, asked.len())?;
+        for one in asked {
+            let reply = self.handle(one.day, &one.caller, &one.request);
+            replies.push(reply).unwrap();
+        }
+        Ok(replies)
+    }
+
+    /// The rows of the holder; none where it is not registered.
+    fn load(&mut self, holder: &Name) -> Result<Option<HolderRows>, StoreFault>
+        ensures read { IsRead S.Store self.old.store self.new.store }
+        ensures rows { IfOk result (λ rows. OfHistories S.Store self.old self.new (λ history.
+            RowsIfAny history holder.now (rows_if_any rows))) }
+    {
+        store::laws::rows_of_a_history();
+        self.store.load_holder(self.alloc, holder)
     }
 
     /// Hands the connection back.

@@ -1,0 +1,5 @@
+use Rattle.desk.proofs.handling.Desk.payloads.Goals as goal
+
+pub returns-clause-answered : goal.returns-clause-answered
+returns-clause-answered g c clean history legal held =
+    (c.in-Ok-gather.ensures.rising, λ v. rw c.in-Ok-gather.ensures.items (c.in-Ok.ensures.given clean history legal held v))
