@@ -11,3 +11,4 @@ pub mod ReadLemmas
 pub mod CellsOnce
 pub mod Addresses
 pub mod SomeRow
+pub mod RowsStay
