@@ -15,3 +15,4 @@ mod InForce
 mod Giving
 mod HistoryRows
 pub mod SameCharter
+pub mod Opened
