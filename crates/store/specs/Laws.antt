@@ -1,5 +1,6 @@
 -- What follows for the rows of a history.
 use Rattle.std.specs.Prelude.{ℕ, List, Option}
+use Rattle.sqlite.specs.Steps.{over_memory}
 use Rattle.policy.specs.declared.charter.Charter.{Charter}
 use Rattle.policy.specs.declared.rows.HolderRows.{HolderRows}
 use Rattle.policy.specs.History.{History}
@@ -7,6 +8,7 @@ use Rattle.policy.specs.Rows.{Rows, rows_if_any, RowsIfAny}
 use Rattle.policy.specs.RowsOfAll.{HasRows}
 use Rattle.policy.specs.Values.{HistoryFits, FitIfAny}
 use Rattle.policy.specs.Verdict.{IsLegal}
+use Rattle.store.specs.StoreRows.{IsHonest}
 use Rattle.store.specs.Loads.{AreLoaded, AllGiveOn}
 
 -- The rows of a holder after a history, as they are loaded, are its rows after the history.
@@ -31,3 +33,7 @@ AuthsOfHistoriesGive =
     (charter : Charter) (history : History) (rows : List ℕ → Option Rows) (day : ℕ)
     → IsLegal charter history → HistoryFits history → HasRows rows history
     → AllGiveOn rows day
+
+-- memory returns what was written
+abbrev pub MemoryIsHonest : Type 0
+MemoryIsHonest = IsHonest over_memory
