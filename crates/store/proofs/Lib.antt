@@ -14,3 +14,7 @@ mod Overlapping
 mod InForce
 mod Giving
 mod HistoryRows
+mod Rowids
+mod AllTexts
+mod Obeyed
+mod SomeRows

@@ -3,3 +3,4 @@ pub mod RowEdits
 pub mod Statements
 pub mod Making
 pub mod Queries
+pub mod Numbered
