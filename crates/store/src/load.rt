@@ -1,5 +1,6 @@
 ghost use Rattle.std.specs.Prelude.{◌≡◌, ◌↔◌, map, All, Contains, Err, IfOk, IsPermutation, IsSorted};
 ghost use Rattle.sqlite.specs.Held.{state};
+ghost use Rattle.addr.specs.Spans.{AreMaximal};
 ghost use Rattle.addr.specs.declared.vrp.Vrp.{Vrp};
 ghost use Rattle.policy.specs.RowsOfAll.{IsGivenOn};
 ghost use Rattle.policy.specs.Values.{FitIfAny};
@@ -19,12 +20,15 @@ use tables::{Counters, name_values};
 
 /// The addresses of the runs, as maximal runs.
 fn joined(alloc: Global, spans: &[Span]) -> Result<Holdings, AllocError>
-    ensures { IfOk result (λ holdings. HaveSame spans.now holdings) }
+    ensures same { IfOk result (λ holdings. HaveSame spans.now holdings) }
+    ensures maximal { IfOk result AreMaximal }
 {
     let mut holdings = Holdings::new(alloc);
     for span in spans {
         holdings.add_span(span)?;
     }
+    // It tells the proof that the runs are maximal.
+    let _ = holdings.spans();
     Ok(holdings)
 }
 
