@@ -18,3 +18,4 @@ mod Rowids
 mod AllTexts
 mod Obeyed
 mod SomeRows
+pub mod SameCharter
