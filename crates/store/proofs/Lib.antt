@@ -18,4 +18,6 @@ mod Rowids
 mod AllTexts
 mod Obeyed
 mod SomeRows
+mod Unread
+mod Opened
 pub mod SameCharter

@@ -82,7 +82,7 @@ rowids_differ (Int m) (Int n) one other apart = true_back _ ∙ go (value_cmp (I
     go Greater apart = refl
 rowids_differ _ _ one other apart = absurd cc
 
-equal_texts : (h : List ℕ) (v : Value) → equal Binary (Text h) v ≡ is_name_of h v
+pub equal_texts : (h : List ℕ) (v : Value) → equal Binary (Text h) v ≡ is_name_of h v
 unfolding binary
 equal_texts h Null = sym (ap is_eq (value_cmp-apart Null (Text h) (λ e. cc)))
 equal_texts h (Int n) = true_back _ ∙ alike_flip (Text h) (Int n)

@@ -4,3 +4,4 @@ pub mod Statements
 pub mod Making
 pub mod Queries
 pub mod Numbered
+pub mod Opened

@@ -26,7 +26,7 @@ pub all_columns : (count : ℕ) (row : Row) → length row ≡ count → row ≡
 all_columns count row whole = fill_by_all (column row) row count Null whole (λ k within. refl)
 
 -- rows of so many columns are their first columns
-first_of_all : (count : ℕ) (rows : List Row) → AllByRecursion (λ c. length c ≡ count) rows → map (first_columns count) rows ≡ rows
+pub first_of_all : (count : ℕ) (rows : List Row) → AllByRecursion (λ c. length c ≡ count) rows → map (first_columns count) rows ≡ rows
 first_of_all count [] all = refl
 first_of_all count (c ∷ rows) all = λ i. sym (all_columns count c all.0) i ∷ first_of_all count rows all.1 i
 

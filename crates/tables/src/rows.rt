@@ -1,11 +1,11 @@
 //! The values that rows show: how a row of each type is read. A row that shows no value of its type
 //! is one of another schema.
-ghost use Rattle.std.specs.Prelude.{◌≡◌, ◌≤◌, ℕ, [], ◌∷◌, map, length, ⊤, IfOk, IsTrue, vec_capacity};
+ghost use Rattle.std.specs.Prelude.{◌≡◌, ◌≤◌, ◌↔◌, ℕ, [], ◌∷◌, map, length, ⊤, IfOk, IsTrue, vec_capacity};
 ghost use Rattle.addr.specs.Name.{is_name};
 ghost use Rattle.policy.specs.Values.{IsU32, AuthFits, GrantFits};
 ghost use Rattle.sqlite_value.specs.declared.value.Value.TheVariants.{Text};
 ghost use Rattle.sqlite_value.specs.Order.{Row as Cells};
-ghost use Rattle.tables.specs.Cells.{prefix_cells, span_cells, counter_cells, grant_cells, auth_cells, vrp_cells};
+ghost use Rattle.tables.specs.Cells.{schema_row, prefix_cells, span_cells, counter_cells, grant_cells, auth_cells, vrp_cells, holder_row};
 ghost use Rattle.tables.specs.Decode.{Decodes, DecodesAll, first_columns, VrpFits};
 
 use crate::decode::{
@@ -14,6 +14,7 @@ use crate::decode::{
 use addr::{Asn, Name, Prefix, Span, Vrp};
 use policy::{Auth, Granted};
 use sqlite::Row;
+use sqlite::types::ValueRef;
 use std::alloc::{AllocError, Global};
 
 /// A value that the first columns of a row show.
@@ -111,6 +112,33 @@ impl FromRow for Counters {
     }
 }
 
+/// A registered resource holder.
+#[derive(Drop)]
+pub struct Registered {
+    pub name: Name,
+    pub counters: Counters,
+}
+
+impl FromRow for Registered {
+    ghost cells = { λ holder.
+        holder_row holder.name holder.counters.granted holder.counters.created };
+
+    ghost width = { 3 };
+
+    ghost fits = { λ holder. IsTrue (is_name holder.name)
+        × IsU32 holder.counters.granted × IsU32 holder.counters.created };
+
+    fn in_row(row: &Row) -> Option<Registered> {
+        Some(Registered {
+            name: name_in(cell(row, 0))?,
+            counters: Counters {
+                granted: number_in(cell(row, 1))?,
+                created: number_in(cell(row, 2))?,
+            },
+        })
+    }
+}
+
 impl FromRow for Granted {
     ghost cells = { grant_cells };
 
@@ -160,5 +188,15 @@ impl FromRow for Vrp {
         let prefix = prefix_in(cell(row, 1), cell(row, 2), cell(row, 3))?;
         let max = byte_in(cell(row, 4))?;
         Vrp::from_parts(prefix, max, asn)
+    }
+}
+
+/// Whether the row is the one of the table `meta` that tells this schema.
+pub fn tells_schema(row: &Row) -> bool
+    ensures { IsTrue result ↔ (first_columns 2 row.now ≡ schema_row) }
+{
+    match (cell(row, 0), cell(row, 1)) {
+        (ValueRef::Text(name), ValueRef::Int(number)) => name == b"schema".as_slice() && number == 1,
+        _ => false,
     }
 }
