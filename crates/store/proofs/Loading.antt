@@ -21,15 +21,15 @@ use Rattle.policy.specs.declared.grant.Granted.{Granted}
 use Rattle.policy.specs.CharterSets.{CharterSets}
 use Rattle.policy.specs.declared.rows.HolderRows.{HolderRows}
 use Rattle.policy.specs.Rows.{Rows}
-use Rattle.store.specs.Cells.{number_cell}
-use Rattle.store.specs.TablesHold.{items_if_any, TablesHold}
+use Rattle.tables.specs.Cells.{number_cell}
+use Rattle.tables.specs.TablesHold.{items_if_any, TablesHold}
 use Rattle.store.specs.steps.Queries.{by_column, WasRead}
-use Rattle.store.specs.declared.rows.Counters.{Counters}
+use Rattle.tables.specs.declared.rows.Counters.{Counters}
 use Rattle.policy.specs.Values.{IsU32, GrantFits, AuthFits, FitIfAny}
 use Rattle.store.specs.declared.fault.StoreFault.{StoreFault}
 use Rattle.store.specs.declared.fault.StoreFault.TheVariants.{Schema}
 use Rattle.store.specs.Loads.{AreInOrder, HaveSame, AreLoaded}
-use Rattle.store.proofs.CellsOnce.{counters_of_rows}
+use Rattle.tables.proofs.CellsOnce.{counters_of_rows}
 use Rattle.store.proofs.RowSteps.{taken_more}
 
 numbers_rise : (m n : ℕ) → is_lt (int_cmp (pos m) (pos n)) ≡ is_lt (nat_cmp m n)

@@ -12,7 +12,7 @@ use Rattle.policy.specs.declared.rows.HolderRows.{HolderRows}
 use Rattle.policy.specs.Rows.{Rows}
 use Rattle.policy.specs.Terms.{IsVrpOf}
 use Rattle.store.specs.StoreRows.{StoreView, Holds}
-use Rattle.store.specs.Decode.{VrpFits}
+use Rattle.tables.specs.Decode.{VrpFits}
 
 -- it is so of the rows that a store holds
 abbrev pub OfHeldRows :

@@ -2,10 +2,10 @@ use Rattle.std.proofs.Common.{◌≡◌, slice_get, arith, refl, sym, subst, ◌
 use Rattle.std.specs.Prelude.{⊤}
 use Rattle.sqlite.specs.Held.{state}
 use Rattle.sqlite.specs.State.{HasCleanDisk}
-use Rattle.store.specs.Cells.{grant_cells, auth_cells}
+use Rattle.tables.specs.Cells.{grant_cells, auth_cells}
 use Rattle.policy.specs.Values.{GrantFits, AuthFits}
-use Rattle.store.specs.TablesHold.{items_if_any}
-use Rattle.store.proofs.CellsOnce.{counters_of_rows}
+use Rattle.tables.specs.TablesHold.{items_if_any}
+use Rattle.tables.proofs.CellsOnce.{counters_of_rows}
 use Rattle.store.proofs.Loading.{AreCounters, CountersFit, counters_fit, all_spans_fit, grants_fit, auths_fit, first_counters, by_number, same_addresses, held_before, never_fit, refused_by, none_loaded, all_loaded}
 use Rattle.store.proofs.load.load_rows.Goals as goal
 
