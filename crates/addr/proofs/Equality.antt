@@ -5,7 +5,9 @@ use Rattle.addr.specs.Address.{prefix_eq, same_prefix}
 use Rattle.addr.specs.Family.{family_eq}
 use Rattle.addr.specs.declared.family.Family.{Family}
 use Rattle.addr.specs.declared.family.Family.TheVariants.{V4, V6}
+use Rattle.addr.specs.Spans.{span_eq, same_span}
 use Rattle.addr.specs.declared.prefix.Prefix.{Prefix}
+use Rattle.addr.specs.declared.span.Span.{Span}
 
 pub same_family : (f g : Family) → family_eq f g ≡ true → f ≡ g
 same_family V4 V4 is = refl
@@ -28,3 +30,12 @@ equal_prefix p q is =
 
 pub prefix_itself : (p : Prefix) → prefix_eq p p ≡ true
 prefix_itself p = and_from _ _ (family_itself p.family) (and_from _ _ (eq-eqb p.first p.first refl) (eq-eqb p.length p.length refl))
+
+pub equal_span : (s t : Span) → span_eq s t ≡ true → s ≡ t
+equal_span s t is =
+    let both = and_parts (family_eq s.family t.family) ((s.lo == t.lo) && (s.hi == t.hi)) is in
+    let ends = and_parts (s.lo == t.lo) (s.hi == t.hi) both.1 in
+    same_span s t (same_family s.family t.family both.0) (eqb-true s.lo t.lo ends.0) (eqb-true s.hi t.hi ends.1)
+
+pub span_itself : (s : Span) → span_eq s s ≡ true
+span_itself s = and_from _ _ (family_itself s.family) (and_from _ _ (eq-eqb s.lo s.lo refl) (eq-eqb s.hi s.hi refl))

@@ -3,6 +3,8 @@ pub mod Equality
 pub mod OrderLemmas
 pub mod SpanLemmas
 pub mod SpanSteps
+pub mod RunLemmas
+mod RunSearch
 mod DayLemmas
 mod DayTextLemmas
 pub mod DigitsLemmas

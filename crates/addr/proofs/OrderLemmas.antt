@@ -22,7 +22,7 @@ use Rattle.addr.proofs.Equality.{equal_prefix, prefix_itself}
 
 -- ---- the order is total
 
-family_total : IsTotalOrder family_cmp
+pub family_total : IsTotalOrder family_cmp
 family_total = record {
   antisymm = antisymm;
   trans = trans;
@@ -65,7 +65,7 @@ both_equal Less b e = cc
 both_equal Equal b e = (refl, e)
 both_equal Greater b e = cc
 
-exact_family : IsAntisymmetric family_cmp
+pub exact_family : IsAntisymmetric family_cmp
 exact_family V4 V4 e = refl
 exact_family V4 V6 e = cc
 exact_family V6 V4 e = cc
@@ -91,7 +91,7 @@ vrp_order = record { total = vrp_total; exact = exact_vrp }
 
 -- ---- the derived `cmp` is the order
 
-derived_family : (f g : Family) → FamilyOrd.ghosts.cmp f g ≡ family_cmp f g
+pub derived_family : (f g : Family) → FamilyOrd.ghosts.cmp f g ≡ family_cmp f g
 derived_family V4 V4 = refl
 derived_family V4 V6 = refl
 derived_family V6 V4 = refl

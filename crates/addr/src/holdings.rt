@@ -3,6 +3,7 @@ ghost use Rattle.std.specs.List.{list_any, list_all};
 ghost use Rattle.std.specs.Option.{option_to_list};
 ghost use Rattle.addr.specs.Address.{has_address};
 ghost use Rattle.addr.specs.Spans.{span_has, span_covers, span_meets, is_apart_below, AddsAddresses, TakesAddresses, AreMaximal, HaveAll, HaveSome};
+ghost use Rattle.addr.specs.Spans.{is_one_of, without_runs};
 ghost use Rattle.addr.specs.steps.Parts.{AppendsParts};
 ghost use Rattle.addr.specs.declared.span.Span.{Span};
 
@@ -66,6 +67,24 @@ impl Holdings {
         ensures some { IsTrue result ↔ HaveSome self.now prefix.now }
     {
         is_met(&self.spans, prefix)
+    }
+
+    /// The runs of the set that are no runs of the other set.
+    pub fn without_runs(&self, others: &Holdings) -> Result<Vec<Span>, AllocError>
+        ensures items { IfOk result (λ v. v.items ≡ without_runs others.now self.now) }
+        ensures maximal { AreMaximal self.now }
+    {
+        self.spans
+            .iter()
+            .filter(|span| !others.has_run(span))
+            .copied()
+            .collect(*self.spans.allocator())
+    }
+
+    fn has_run(&self, span: &Span) -> bool
+        ensures { result ≡ is_one_of self.now span.now }
+    {
+        self.spans.binary_search(span).is_ok()
     }
 
     /// Puts every address of the prefix into the set. On an error the set stays as it was.

@@ -13,7 +13,6 @@ use Rattle.policy.specs.declared.authorization.Auth.{Auth}
 use Rattle.policy.specs.declared.charter.Charter.{Charter}
 use Rattle.policy.proofs.Unregistered.{has_nothing}
 use Rattle.policy.specs.RowsOfAll.{HasRows, IsGivenOn}
-use Rattle.desk.specs.steps.InForce.{gives_on}
 use Rattle.desk.proofs.DeskLemmas.{rows_present, rows_absent}
 
 pub at_head : {X : Type 0} (x : X) (xs : List X) → Contains (x ∷ xs) x
@@ -72,24 +71,6 @@ kept_is P (z ∷ zs) (y ∷ ys) x keeps there holds =
         | inr later ↦ kept_is P zs (y ∷ ys) x lost.1 later holds
       ]
     ]
-
--- an authorization of a list is in force on the day and gives the VRP
-abbrev pub SomeGives : ℕ → Vrp → List Auth → Type 0
-SomeGives day v xs = (x : Auth) × Contains xs x × (x.from ≤ day) × (day ≤ x.until) × IsVrpOf x v
-
--- the test of a list says so
-pub test_some : (day : ℕ) (v : Vrp) (xs : List Auth) → list_any (gives_on day v) xs ≡ true → SomeGives day v xs
-test_some day v xs any =
-    let found = among_any (gives_on day v) xs any in
-    let x = found.0 in
-    let test = and_parts (nat_le x.from day && nat_le day x.until) (gives_vrp x v.asn v.prefix v.max) found.2 in
-    let dates = and_parts (nat_le x.from day) (nat_le day x.until) test.0 in
-    (x, found.1, leb-true x.from day dates.0, leb-true day x.until dates.1, test.1)
-
-pub some_test : (day : ℕ) (v : Vrp) (xs : List Auth) → SomeGives day v xs → list_any (gives_on day v) xs ≡ true
-some_test day v xs some =
-    let x = some.0 in
-    any_among (gives_on day v) xs x some.1 (and_from _ _ (and_from _ _ (le-leb x.from day some.2) (le-leb day x.until some.3)) some.4)
 
 given_in_force : (charter : Charter) (rows : List ℕ → Option Rows) (history : History) → HasRows rows history → (day : ℕ) (v : Vrp) → IsGivenOn rows day v → IsVrpInForce history day v
 given_in_force charter rows history has day v given =

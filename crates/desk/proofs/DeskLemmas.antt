@@ -1,18 +1,26 @@
 -- What the rows of a legal history say of it.
-use Rattle.std.proofs.Common.{◌≡◌, ℕ, Bool, true, false, ◌↔◌, IsTrue, List, Option, Some, None, refl, sym, ap, ◌∙◌, subst, MatchBool, ◌∷◌, Ok}
+use Rattle.std.proofs.Common.{◌≡◌, ℕ, Bool, true, false, ◌↔◌, IsTrue, List, Option, Some, None, refl, sym, ap, ◌∙◌, subst, MatchBool, ◌∷◌, Result, Ok, Err, IfOk}
 use Rattle.std.proofs.lemmas.Bool.{false≢true}
 use Rattle.addr.specs.Address.{Address}
 use Rattle.addr.specs.declared.prefix.Prefix.{Prefix}
 use Rattle.policy.specs.History.{History, is_registered}
 use Rattle.policy.specs.Resources.{resource_holder, is_held_by, IsFree}
-use Rattle.policy.specs.Rows.{Rows, RowsOf, RowsIfAny, rows_if_any, changed}
-use Rattle.policy.specs.Answer.{IsAnswer, number_made}
+use Rattle.policy.specs.Rows.{Rows, RowsOf, RowsIfAny}
+use Rattle.policy.specs.Answer.{IsAccepted, IsAnswer, IsListRefusal, number_made}
+use Rattle.policy.specs.declared.rule.Refusal.{Refusal}
+use Rattle.policy.specs.declared.rule.Refusal.TheVariants.{Denied, Memory}
 use Rattle.policy.specs.declared.change.Change.{Change}
-use Rattle.desk.specs.Answer.{IsAnswered}
+use Rattle.desk.specs.Answer.{is_done, refused_with, AnswersCommand, AnswersList, IsAnswered}
 use Rattle.desk.specs.declared.asked.Request.TheVariants.{Command as CommandRequest}
+use Rattle.desk.specs.declared.reply.Reply.{Reply}
 use Rattle.desk.specs.declared.reply.Reply.TheVariants.{Done}
+use Rattle.desk.specs.declared.handling.Desk.{Desk}
+use Rattle.desk.specs.Desk.{charter_of, HoldsHistory, IsOnCleanDisk, KeepsRows}
+use Rattle.desk.specs.steps.Reading.{OfHistories}
+use Rattle.sqlite.specs.Store.{Ghosts}
+use Rattle.store.specs.StoreRows.{StoreView, IsRead, IfClean, HoldsAfter, changed_rows}
+use Rattle.store.specs.Loads.{OfHeldRows}
 use Rattle.policy.specs.declared.command.Command.{Command}
-use Rattle.policy.specs.declared.rows.HolderRows.{HolderRows}
 use Rattle.policy.specs.Values.{EntryFits}
 use Rattle.policy.specs.Verdict.{IsLegal}
 use Rattle.policy.specs.declared.charter.Charter.{Charter}
@@ -58,23 +66,61 @@ pub tells_taken : (charter : Charter) (rows : List ℕ → Option Rows) (history
 tells_taken charter rows history legal has p true tells = taken_not_free rows history has p (tells.0 refl)
 tells_taken charter rows history legal has p false tells = untaken_free charter rows history legal has p (λ taken. false≢true (tells.1 taken))
 
--- rows that were loaded and lent
-pub lent_rows : (history : History) (h : List ℕ) (rows : List ℕ → Option Rows) (found lent : Option HolderRows) → lent ≡ found → rows_if_any found ≡ rows h → HasRows rows history → RowsIfAny history h (rows_if_any lent)
-lent_rows history h rows found lent same loaded has = subst (RowsIfAny history h) (sym (ap rows_if_any same ∙ loaded)) (has h)
+-- ---- desks before and after
 
--- rows that were loaded under a name that the command gives
-pub loaded_rows : (history : History) (name : Command → List ℕ) (command known : Command) (rows : List ℕ → Option Rows) (found lent : Option HolderRows) → command ≡ known → lent ≡ found → rows_if_any found ≡ rows (name known) → HasRows rows history → RowsIfAny history (name command) (rows_if_any lent)
-loaded_rows history name command known rows found lent is same loaded has =
-    let P : Command → Type 0 = λ k. RowsIfAny history (name k) (rows_if_any lent) in
-    subst P (sym is) (lent_rows history (name known) rows found lent same loaded has)
+module _ {S : Type 0} (g : Ghosts S) where
+  -- where the rows are kept, those of a history are
+  pub still_held : (old new : Desk S) (history : History) → KeepsRows g old new → IsOnCleanDisk g new → HoldsHistory g old history → HoldsHistory g new history
+  still_held old new history keeps clean held = (held.0, held.1, keeps clean held.0 held.2)
 
--- a command that was accepted, whose change was applied
-pub done_answered : (charter : Charter) (history : History) (day : ℕ) (caller : List ℕ) (command : Command) (change : Change) (number : Option ℕ) (old new : List ℕ → Option Rows)
-    → EntryFits (record { day = day; caller = caller; command = command }) → IsLegal charter history → HasRows old history → IsAnswer charter history day caller command (Ok change) → number ≡ number_made change.first.edit → ((h : List ℕ) → new h ≡ changed change h (old h)) → IsAnswered charter history day caller (CommandRequest command) (Done number) new
-done_answered charter history day caller command change number old new values legal has answer made applied = record {
-  after = record { day = day; caller = caller; command = command } ∷ history;
-  legal = (answer.0, legal);
-  values = λ fit. (values, fit);
-  answers = (answer.0, made ∙ answer.1, refl);
-  rows_after = λ h. subst (RowsIfAny (record { day = day; caller = caller; command = command } ∷ history) h) (sym (applied h)) (answer.2 h (old h) (has h));
-}
+  pub read_then : (a b c : StoreView S) → IsRead g a b → IsRead g b c → IsRead g a c
+  read_then a b c first second = record {
+    clean = λ clean. first.clean (second.clean clean);
+    charter = second.charter ∙ first.charter;
+    rows = λ clean rows holds. second.rows clean rows (first.rows (second.clean clean) rows holds);
+    crash = λ clean trees left. first.crash (second.clean clean) trees (second.crash clean trees left);
+  }
+
+  -- what was found of the rows is so of the histories
+  pub of_held : {X E : Type 0} (so : X → (List ℕ → Option Rows) → Type 0) (is : X → History → Type 0) (old new : Desk S)
+      → ((x : X) (rows : List ℕ → Option Rows) (history : History) → IsLegal (charter_of old) history → HasRows rows history → so x rows → is x history)
+      → (r : Result X E) → IfClean g new.store (IfOk r (λ x. OfHeldRows g old.store (so x))) → IfOk r (λ x. OfHistories g old new (is x))
+  of_held so is old new turn (Ok x) found = λ clean history legal held. turn x held.0 history legal held.1 (found clean held.0 held.2)
+  of_held so is old new turn (Err e) found = tt
+
+  -- what is found after a first read is so of the histories before it
+  pub found_later : (so : History → Type 0) (old mid new : Desk S) → IsRead g old.store mid.store → IsRead g mid.store new.store → OfHistories g mid new so → OfHistories g old new so
+  found_later so old mid new first second found clean history legal held =
+      found clean history (subst (λ (k : Charter). IsLegal k history) (sym first.charter) legal) (still_held old mid history first.rows (second.clean clean) held)
+
+  -- a command that changes nothing
+  pub not_done : (charter : Charter) (history : History) (day : ℕ) (caller : List ℕ) (command : Command) (reply : Reply) (desk : Desk S)
+      → IsLegal charter history → AnswersCommand charter history day caller command reply history → HoldsHistory g desk history
+      → IsAnswered g charter history day caller (CommandRequest command) reply desk
+  not_done charter history day caller command reply desk legal answers held =
+      record { after = history; legal = legal; values = λ fit. fit; answers = answers; rows_after = held }
+
+  -- a command that was accepted, whose change was made
+  pub done_answered : (charter : Charter) (history : History) (day : ℕ) (caller : List ℕ) (command : Command) (change : Change) (number : Option ℕ) (old new : Desk S)
+      → EntryFits (record { day = day; caller = caller; command = command }) → IsLegal charter history → HoldsHistory g old history → IsAccepted charter history day caller command change
+      → number ≡ number_made change.first.edit → HoldsAfter g old.store new.store (changed_rows change)
+      → IsAnswered g charter history day caller (CommandRequest command) (Done number) new
+  done_answered charter history day caller command change number old new values legal held accepted made applied =
+      let rows = held.0 in
+      record {
+        after = record { day = day; caller = caller; command = command } ∷ history;
+        legal = (accepted.0, legal);
+        values = λ fit. (values, fit);
+        answers = (accepted.0, made ∙ accepted.1, refl);
+        rows_after = (changed_rows change rows, λ h. accepted.2 h (rows h) (held.1 h), applied rows held.2);
+      }
+
+-- ---- refusals
+
+pub refused_answers : (charter : Charter) (history : History) (day : ℕ) (caller : List ℕ) (command : Command) (refusal : Refusal) → IsAnswer charter history day caller command (Err refusal) → AnswersCommand charter history day caller command (refused_with refusal) history
+refused_answers charter history day caller command (Denied rule row) answer = (answer.0, answer.1, refl)
+refused_answers charter history day caller command Memory answer = refl
+
+pub list_refused : (history : History) (h : List ℕ) (day : ℕ) (caller : List ℕ) (refusal : Refusal) → IsListRefusal history h day caller refusal → AnswersList history h day caller (refused_with refusal)
+list_refused history h day caller (Denied rule row) refused = refused
+list_refused history h day caller Memory refused = tt

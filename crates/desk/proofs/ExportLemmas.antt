@@ -1,14 +1,17 @@
 -- The VRPs of an index, and the states of routes over them.
-use Rattle.std.proofs.Common.{◌≡◌, ℕ, Bool, true, false, ◌↔◌, inl, inr, IsTrue, List, [], ◌∷◌, Option, refl, sym, ◌∙◌, subst, map, Contains, if◌then◌else◌}
+use Rattle.std.proofs.Common.{◌≡◌, ℕ, Bool, true, false, ◌↔◌, inl, inr, IsTrue, List, [], ◌∷◌, Option, refl, sym, ap, ◌∙◌, subst, map, Contains, if◌then◌else◌}
 use Rattle.std.specs.List.{list_any}
+use Rattle.std.specs.Ordering.{is_eq}
+use Rattle.std.proofs.lemmas.Cmp.{tied_itself}
 use Rattle.std.proofs.lemmas.Bool.{cases_Bool, true≢false}
 use Rattle.addr.specs.OriginValidation.{covers, matches, Valid, Invalid, NotFound, HasState, validation_state}
 use Rattle.addr.specs.declared.route.Route.{Route}
 use Rattle.addr.specs.declared.vrp.Vrp.{Vrp}
+use Rattle.addr.proofs.OrderLemmas.{vrp_order}
 use Rattle.payload.specs.ValidityState.{state_of}
 use Rattle.payload.specs.VrpSet as set
 use Rattle.payload.specs.declared.validity.Validity.{Validity}
-use Rattle.payload.proofs.Sets.{is_vrp, same_vrp-equal, contains-items}
+use Rattle.payload.proofs.Sets.{is_vrp, same_vrp-equal, contains-items, contains-from_list}
 use Rattle.policy.specs.DailyVrps.{IsVrpOn}
 use Rattle.policy.specs.History.{History}
 use Rattle.desk.specs.Answer.{AreStatesOn}
@@ -17,16 +20,27 @@ use Rattle.policy.specs.Verdict.{IsLegal}
 use Rattle.policy.specs.declared.charter.Charter.{Charter}
 use Rattle.policy.specs.RowsOfAll.{HasRows, IsGivenOn}
 use Rattle.desk.proofs.DailyLemmas.{given_on, any_among, among_any}
-use Rattle.desk.proofs.VrpLemmas.{is_vrp-itself}
 
--- the VRPs of a set are those that it has
-pub items_contain : (s : set.VrpSet) (v : Vrp) → Contains (set.items s) v ↔ IsTrue (set.contains s v)
-items_contain s v = (
-  λ there. contains-items s v ∙ any_among (is_vrp v) (set.items s) v there (is_vrp-itself v),
+is_vrp-itself : (v : Vrp) → is_vrp v v ≡ true
+is_vrp-itself v = ap is_eq (tied_itself vrp_order.total v)
+
+-- a list has the VRPs that a test of it finds
+is_among : (vrps : List Vrp) (v : Vrp) → Contains vrps v ↔ IsTrue (list_any (is_vrp v) vrps)
+is_among vrps v = (
+  λ there. any_among (is_vrp v) vrps v there (is_vrp-itself v),
   λ has.
-      let found = among_any (is_vrp v) (set.items s) (sym (contains-items s v) ∙ has) in
-      subst (Contains (set.items s)) (sym (same_vrp-equal v found.0 found.2)) found.1,
+      let found = among_any (is_vrp v) vrps has in
+      subst (Contains vrps) (sym (same_vrp-equal v found.0 found.2)) found.1,
 )
+
+-- the set of a list gives the VRPs of the list
+items_of_list : (vrps : List Vrp) (v : Vrp) → Contains (set.items (set.from_list vrps)) v ↔ Contains vrps v
+items_of_list vrps v =
+    let same : list_any (is_vrp v) (set.items (set.from_list vrps)) ≡ list_any (is_vrp v) vrps =
+    sym (contains-items (set.from_list vrps) v) ∙ contains-from_list vrps v in
+    let set_has = is_among (set.items (set.from_list vrps)) v in
+    let list_has = is_among vrps v in
+    (λ there. list_has.1 (sym same ∙ set_has.0 there), λ there. set_has.1 (same ∙ list_has.0 there))
 
 -- the state over a list is the state over any set with the same VRPs
 pub state_has : (S : Vrp → Type 0) (items : List Vrp) → ((v : Vrp) → Contains items v ↔ S v) → (r : Route) → HasState S r (validation_state items r)
@@ -60,10 +74,10 @@ states_on history day items same (r ∷ routes) (s ∷ states) equal =
     let rest : map state_of states ≡ map (λ r. validation_state items r) routes = cc in
     (subst (HasState (IsVrpOn history day) r) (sym first) (state_has (IsVrpOn history day) items same r), states_on history day items same routes states rest)
 
--- an index that has just what the rows give lists just the VRPs of the day
-pub items_on : (charter : Charter) (rows : List ℕ → Option Rows) (history : History) → IsLegal charter history → HasRows rows history → (day : ℕ) (index : set.VrpSet) → ((v : Vrp) → IsTrue (set.contains index v) ↔ IsGivenOn rows day v) → (v : Vrp) → Contains (set.items index) v ↔ IsVrpOn history day v
-items_on charter rows history legal has day index given v =
+-- the set of the VRPs that the rows give has the VRPs of the day
+pub items_on : (charter : Charter) (rows : List ℕ → Option Rows) (history : History) → IsLegal charter history → HasRows rows history → (day : ℕ) (vrps : List Vrp) → ((v : Vrp) → Contains vrps v ↔ IsGivenOn rows day v)
+    → (v : Vrp) → Contains (set.items (set.from_list vrps)) v ↔ IsVrpOn history day v
+items_on charter rows history legal has day vrps given v =
     let on = given_on charter rows history legal has day v in
-    let contains = items_contain index v in
-    let there = given v in
-    (λ among. on.0 (there.0 (contains.0 among)), λ is. contains.1 (there.1 (on.1 is)))
+    let listed = items_of_list vrps v in
+    (λ there. on.0 ((given v).0 (listed.0 there)), λ is. listed.1 ((given v).1 (on.1 is)))

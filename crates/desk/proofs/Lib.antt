@@ -1,6 +1,3 @@
-pub mod Outcomes
-pub mod RecordLemmas
-pub mod VrpLemmas
 pub mod ContentLemmas
 pub mod DeskLemmas
 pub mod RunLemmas

@@ -1,7 +1,8 @@
 -- What the desk may reply to a request on a history, and the history that this leaves: a command is
 -- accepted exactly where its rules hold on the commands accepted before it, else it changes nothing
 -- and is answered with the first rule that fails; what is shown, exported and judged is what the
--- history defines. Where no memory is found the reply is Unavailable and nothing has changed.
+-- history defines. Where no memory is found, or the database does not answer, the reply is Unavailable
+-- and nothing has changed.
 use Rattle.std.specs.Prelude.{◌≡◌, ℕ, Bool, true, false, List, [], ◌∷◌, Option, Some, None, ◌↔◌, Contains}
 use Rattle.std.specs.String.{string_bytes}
 use Rattle.addr.specs.OriginValidation.{HasState}
@@ -15,14 +16,17 @@ use Rattle.policy.specs.DailyVrps.{IsVrpOn}
 use Rattle.policy.specs.History.{History}
 use Rattle.policy.specs.Values.{HistoryFits}
 use Rattle.policy.specs.Verdict.{Verdict, ShowVerdict, ListVerdict, IsLegal}
-use Rattle.policy.specs.Rows.{Rows}
 use Rattle.policy.specs.declared.authorization.Auth.{Auth}
 use Rattle.policy.specs.declared.charter.Charter.{Charter}
 use Rattle.policy.specs.declared.command.Command.{Command}
 use Rattle.policy.specs.declared.command.Query.{Query}
 use Rattle.policy.specs.declared.command.Query.TheVariants.{Show as ShowQuery, Content as ContentQuery, List as ListQuery, Payloads as PayloadsQuery, Validity as ValidityQuery}
+use Rattle.policy.specs.declared.rule.Refusal.{Refusal}
+use Rattle.policy.specs.declared.rule.Refusal.TheVariants.{Denied as Refused, Memory}
 use Rattle.desk.specs.ContentText.{IsContentText}
-use Rattle.policy.specs.RowsOfAll.{HasRows}
+use Rattle.sqlite.specs.Store.{Ghosts}
+use Rattle.desk.specs.Desk.{HoldsHistory}
+use Rattle.desk.specs.declared.handling.Desk.{Desk}
 use Rattle.desk.specs.declared.asked.Request.{Request}
 use Rattle.desk.specs.declared.asked.Request.TheVariants.{Command as CommandRequest, Query as QueryRequest}
 use Rattle.desk.specs.declared.reply.Reply.{Reply}
@@ -44,6 +48,11 @@ AreStatesOn history day (r ∷ routes) (s ∷ states) =
 abbrev pub is_done : Reply → Bool
 is_done (Done number) = true
 is_done other = false
+
+-- the reply to a request that was not decided for
+abbrev pub refused_with : Refusal → Reply
+refused_with (Refused rule row) = Denied rule row
+refused_with Memory = Unavailable
 
 -- the reply to a command, and the history after it
 abbrev pub AnswersCommand : Charter → History → ℕ → List ℕ → Command → Reply → History → Type 0
@@ -103,13 +112,12 @@ AnswersRequest charter before day caller (CommandRequest command) reply after =
 AnswersRequest charter before day caller (QueryRequest query) reply after =
     AnswersQuery before day caller query reply × (after ≡ before)
 
--- a request was answered: the rows are those of the history that the answer leaves, which is legal and,
--- where it was so before, of values of their types
-pub record IsAnswered (charter : Charter) (before : History)
-    (day : ℕ) (caller : List ℕ) (request : Request) (reply : Reply)
-    (rows : List ℕ → Option Rows) : Type 0 where
+-- a request was answered: the tables hold the rows of the history that the answer leaves, which is legal
+-- and, where it was so before, of values of their types
+pub record IsAnswered {S : Type 0} (g : Ghosts S) (charter : Charter) (before : History)
+    (day : ℕ) (caller : List ℕ) (request : Request) (reply : Reply) (desk : Desk S) : Type 0 where
   pub after : History
   pub legal : IsLegal charter after
   pub values : HistoryFits before → HistoryFits after
   pub answers : AnswersRequest charter before day caller request reply after
-  pub rows_after : HasRows rows after
+  pub rows_after : HoldsHistory g desk after

@@ -1,28 +1,34 @@
--- What a desk keeps: its charter and the rows of each holder.
+-- What a desk keeps: its charter, and in the tables of its store the rows of each holder.
 use Rattle.std.specs.Prelude.{◌≡◌, ℕ, List, Option}
+use Rattle.sqlite.specs.State.{HasCleanDisk}
+use Rattle.sqlite.specs.Store.{Ghosts}
 use Rattle.policy.specs.History.{History}
 use Rattle.policy.specs.Rows.{Rows}
-use Rattle.policy.specs.Values.{HistoryFits}
+use Rattle.policy.specs.RowsOfAll.{HasRows}
 use Rattle.policy.specs.Verdict.{IsLegal}
 use Rattle.policy.specs.declared.charter.Charter.{Charter}
-use Rattle.desk.specs.DeskRows.{rows_at}
-use Rattle.policy.specs.RowsOfAll.{HasRows}
+use Rattle.store.specs.StoreRows.{state_of, Holds}
 use Rattle.desk.specs.declared.handling.Desk.{Desk}
 
-abbrev pub charter_of : Desk → Charter
-charter_of desk = desk.charter
+abbrev pub charter_of : {S : Type 0} → Desk S → Charter
+charter_of desk = desk.store.charter
 
--- the rows of a holder; none where it is not registered
-abbrev pub desk_rows : Desk → List ℕ → Option Rows
-desk_rows desk h = rows_at desk.records h
+-- The disk of the desk returned what was written, as memory always does. Of a desk whose disk did not,
+-- nothing is known.
+abbrev pub IsOnCleanDisk : {S : Type 0} → Ghosts S → Desk S → Type 0
+IsOnCleanDisk g desk = HasCleanDisk (state_of g desk.store)
 
--- nothing that the desk keeps has changed
-abbrev pub KeepsRows : Desk → Desk → Type 0
-KeepsRows old new = (h : List ℕ) → desk_rows new h ≡ desk_rows old h
+-- the tables of the desk hold the rows of the history
+abbrev pub HoldsHistory : {S : Type 0} → Ghosts S → Desk S → History → Type 0
+HoldsHistory g desk history = (rows : List ℕ → Option Rows) × HasRows rows history × Holds g desk.store rows
 
--- the desk has the rows of the history, which is legal for its charter and of values of their types
-pub record StandsFor (charter : Charter) (desk : Desk) (history : History) : Type 0 where
+-- the tables hold the rows that they held
+abbrev pub KeepsRows : {S : Type 0} → Ghosts S → Desk S → Desk S → Type 0
+KeepsRows g old new =
+    IsOnCleanDisk g new → (rows : List ℕ → Option Rows) → Holds g old.store rows → Holds g new.store rows
+
+-- the desk has the charter and the rows of the history, which is legal for it
+pub record StandsFor {S : Type 0} (g : Ghosts S) (charter : Charter) (desk : Desk S) (history : History) : Type 0 where
   pub chartered : charter_of desk ≡ charter
   pub legal : IsLegal charter history
-  pub values : HistoryFits history
-  pub rows : HasRows (desk_rows desk) history
+  pub rows : HoldsHistory g desk history

@@ -1,6 +1,6 @@
-pub mod steps
-pub mod DeskRows
 pub mod Answer
 pub mod Run
 pub mod ContentText
 pub mod Desk
+pub mod Laws
+pub mod steps

@@ -1,12 +1,13 @@
 -- Requests that are asked one after the other.
-use Rattle.std.specs.Prelude.{◌≡◌, ℕ, List, [], ◌∷◌, Option}
+use Rattle.std.specs.Prelude.{◌≡◌, ℕ, List, [], ◌∷◌}
 use Rattle.policy.specs.History.{History}
-use Rattle.policy.specs.Rows.{Rows}
 use Rattle.policy.specs.Values.{HistoryFits}
 use Rattle.policy.specs.Verdict.{IsLegal}
 use Rattle.policy.specs.declared.charter.Charter.{Charter}
 use Rattle.desk.specs.Answer.{AnswersRequest}
-use Rattle.policy.specs.RowsOfAll.{HasRows}
+use Rattle.sqlite.specs.Store.{Ghosts}
+use Rattle.desk.specs.Desk.{HoldsHistory}
+use Rattle.desk.specs.declared.handling.Desk.{Desk}
 use Rattle.desk.specs.declared.asked.Asked.{Asked}
 use Rattle.desk.specs.declared.reply.Reply.{Reply}
 
@@ -21,12 +22,12 @@ Runs charter before (asked ∷ more) (reply ∷ replies) after =
     × AnswersRequest charter before asked.day asked.caller asked.request reply next
     × Runs charter next more replies after
 
--- requests were answered: the rows are those of the history that the run leaves, which is legal and,
+-- requests were answered: the tables hold the rows of the history that the run leaves, which is legal and,
 -- where it was so before, of values of their types
-pub record AreAnswered (charter : Charter) (before : History)
-    (asked : List Asked) (replies : List Reply) (rows : List ℕ → Option Rows) : Type 0 where
+pub record AreAnswered {S : Type 0} (g : Ghosts S) (charter : Charter) (before : History)
+    (asked : List Asked) (replies : List Reply) (desk : Desk S) : Type 0 where
   pub after : History
   pub legal : IsLegal charter after
   pub values : HistoryFits before → HistoryFits after
   pub runs : Runs charter before asked replies after
-  pub rows_after : HasRows rows after
+  pub rows_after : HoldsHistory g desk after

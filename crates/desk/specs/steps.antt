@@ -1,2 +1,2 @@
--- Steps of the code, and no definitions of what the desk answers.
-pub mod InForce
+-- Steps of the code, which no public contract cites.
+pub mod Reading

@@ -5,7 +5,7 @@ mod asked;
 mod content;
 mod gathering;
 mod handling;
-mod records;
+pub mod laws;
 mod reply;
 
 pub use asked::{Asked, Request};

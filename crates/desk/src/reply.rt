@@ -1,6 +1,7 @@
 use addr::Vrp;
 use payload::Validity;
-use policy::{Auth, Rule};
+use policy::{Auth, Refusal, Rule};
+use store::StoreFault;
 
 /// What the desk answers to a request.
 #[derive(Debug, Drop)]
@@ -18,6 +19,31 @@ pub enum Reply {
     Answers(Vec<Validity>),
     /// The first rule that does not hold, and for a request of several rows the row, from 1.
     Denied(Rule, Option<u64>),
-    /// No memory was found, and nothing has changed.
+    /// No memory was found, or the database did not answer, and nothing has changed.
     Unavailable,
+}
+
+impl From<Refusal> for Reply {
+    ghost use Rattle.std.specs.Prelude.{◌≡◌};
+    ghost use Rattle.desk.specs.Answer.{refused_with};
+
+    ghost from_gives = { λ refusal reply. reply ≡ refused_with refusal };
+
+    fn from(refusal: Refusal) -> Reply {
+        match refusal {
+            Refusal::Denied(rule, row) => Reply::Denied(rule, row),
+            Refusal::Memory => Reply::Unavailable,
+        }
+    }
+}
+
+impl From<StoreFault> for Reply {
+    ghost use Rattle.std.specs.Prelude.{◌≡◌};
+    ghost use Rattle.desk.specs.declared.reply.Reply.TheVariants.{Unavailable};
+
+    ghost from_gives = { λ _ reply. reply ≡ Unavailable };
+
+    fn from(_: StoreFault) -> Reply {
+        Reply::Unavailable
+    }
 }

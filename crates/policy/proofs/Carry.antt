@@ -54,7 +54,7 @@ left e before h other holders rows are =
       | Some r ↦ λ had. (
         registered ∙ had.0,
         record {
-          maximal = had.1.maximal;
+          apart = had.1.apart;
           holdings = λ a. had.1.holdings a ∙ sym (holders a);
           grants = had.1.grants ∙ sym same.1;
           auths = active-left e before h r.auths holders same.3 had.1.auths;

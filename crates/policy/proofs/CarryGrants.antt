@@ -21,7 +21,7 @@ carries-grant before day caller holder name role scope until g registered is =
     let e : Entry = record { day = day; caller = caller; command = Grant holder name role scope until } in
     carries-edit e before (GrantEdit g) registered
     (λ rows had. record {
-      maximal = had.maximal;
+      apart = had.apart;
       holdings = had.holdings;
       grants = ap (λ gs. gs ++ g ∷ []) had.grants ∙ ap (λ x. grant_terms before holder ++ x ∷ []) is ∙ sym (cond-true _ _ _ (same_name-same holder));
       auths = active-left e before holder rows.auths (λ a. refl) refl had.auths;
@@ -38,7 +38,7 @@ carries-revoke before day caller holder n registered =
     let e : Entry = record { day = day; caller = caller; command = Revoke holder n } in
     carries-edit e before (RevokeEdit n) registered
     (λ rows had. record {
-      maximal = had.maximal;
+      apart = had.apart;
       holdings = had.holdings;
       grants = ap (filter (λ g. not (eqb g.number n))) had.grants ∙ sym (cond-true _ _ _ (same_name-same holder));
       auths = active-left e before holder rows.auths (λ a. refl) refl had.auths;

@@ -36,7 +36,7 @@ carries-create before day caller holder asn p max from until x registered holds 
     ap (λ y. authorization_terms before holder ++ y ∷ []) is ∙ sym (cond-true _ _ _ (same_name-same holder)) in
     carries-edit e before (CreateEdit x) registered
     (λ rows had. record {
-      maximal = had.maximal;
+      apart = had.apart;
       holdings = had.holdings;
       grants = had.grants;
       auths = subst (λ (xs : List Auth). Keeps (HeldSinceMade (e ∷ before) holder) xs (rows.auths ++ x ∷ [])) terms
@@ -58,7 +58,7 @@ carries-withdraw before day caller holder n registered =
     sym (cond-true _ _ _ (same_name-same holder)) in
     carries-edit e before (WithdrawEdit n) registered
     (λ rows had. record {
-      maximal = had.maximal;
+      apart = had.apart;
       holdings = had.holdings;
       grants = had.grants;
       auths = subst (λ (xs : List Auth). Keeps (HeldSinceMade (e ∷ before) holder) xs (filter keep rows.auths)) terms
@@ -138,7 +138,7 @@ carries-amend before day caller holder n max until v x y registered had_v found 
     replaced-amended 0 n rows.auths (authorizations_made before holder) max until x y (active-numbered before holder rows.auths had.auths)
     (ap (numbered n) (sym same_auths) ∙ found) is in
     record {
-      maximal = had.maximal;
+      apart = had.apart;
       holdings = had.holdings;
       grants = had.grants;
       auths = subst (λ (ys : List Auth). Keeps (HeldSinceMade (e ∷ before) holder) (authorization_terms (e ∷ before) holder) ys) (sym mapped)

@@ -4,9 +4,8 @@ use Rattle.std.specs.List.{list_any}
 use Rattle.std.proofs.lemmas.Bool.{false≢true}
 use Rattle.policy.specs.declared.charter.Charter.{Charter}
 use Rattle.policy.specs.declared.rows.HolderRows.{HolderRows}
-use Rattle.policy.specs.declared.change.Change.{Change}
 use Rattle.policy.specs.History.{History, is_registered}
-use Rattle.policy.specs.Rows.{Rows, RowsOf, RowsIfAny, rows_if_any, grants_if_any, Carries}
+use Rattle.policy.specs.Rows.{Rows, RowsOf, RowsIfAny, rows_if_any, grants_if_any}
 use Rattle.policy.specs.declared.authorization.Auth.{Auth}
 use Rattle.policy.specs.declared.grant.Granted.{Granted}
 use Rattle.policy.specs.Terms.{grant_terms, authorization_terms, HeldSinceMade, OfActive}
@@ -18,9 +17,6 @@ pub unregistered : (history : History) (h : List ℕ) (rows : Option (Bor Holder
     → RowsIfAny history h (rows_if_any (option_copied rows)) → is_registered history h ≡ false
 unregistered history h None none are = are
 unregistered history h (Some r) none are = absurd (false≢true (sym none))
-
-pub carried : (before after : History) (change literal : Change) → change ≡ literal → Carries literal before after → Carries change before after
-carried before after change literal is carries = subst (λ (c : Change). Carries c before after) (sym is) carries
 
 -- the grants of the rows are those of the history: without rows none were made
 pub grants-are : (charter : Charter) (history : History) (h : List ℕ) (rows : Option (Bor HolderRows)) → IsLegal charter history

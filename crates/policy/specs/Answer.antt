@@ -1,12 +1,14 @@
 -- What the calls of this crate answer, for the rows of a history.
-use Rattle.std.specs.Prelude.{◌≡◌, ℕ, ◌+◌, Bool, true, false, List, ◌∷◌, Option, Some, None, Result, Ok, Err, MatchBool, MatchResult, filter}
+use Rattle.std.specs.Prelude.{◌≡◌, ℕ, ◌+◌, Bool, true, false, List, ◌∷◌, Option, Some, None, Result, Ok, Err, not, MatchBool, MatchResult, IfSome, filter}
+use Rattle.std.specs.List.{list_all}
+use Rattle.addr.specs.Spans.{is_one_of}
 use Rattle.policy.specs.declared.authorization.Auth.{Auth}
 use Rattle.policy.specs.declared.charter.Charter.{Charter}
 use Rattle.policy.specs.declared.command.Command.{Command}
 use Rattle.policy.specs.declared.command.Command.TheVariants.{Register, Delegate, Transfer, Reclaim, Grant, Revoke, Create, Amend, Withdraw}
 use Rattle.policy.specs.declared.change.Change.{Change}
 use Rattle.policy.specs.declared.change.Edit.{Edit}
-use Rattle.policy.specs.declared.change.Edit.TheVariants.{Grant as GrantEdit, Create as CreateEdit}
+use Rattle.policy.specs.declared.change.Edit.TheVariants.{Hold, Grant as GrantEdit, Create as CreateEdit}
 use Rattle.policy.specs.declared.grant.Access.TheVariants.{Look}
 use Rattle.policy.specs.declared.rows.View.{View}
 use Rattle.policy.specs.declared.rule.Refusal.{Refusal}
@@ -52,6 +54,15 @@ number_made (GrantEdit g) = Some g.number
 number_made (CreateEdit x) = Some x.number
 number_made _ = None
 
+-- no run of addresses that an edit puts is one that it takes away
+abbrev pub PutsNoneBack : Edit → Type 0
+PutsNoneBack (Hold removed added ended) = list_all (λ s. not (is_one_of removed.items s)) added.items ≡ true
+PutsNoneBack _ = Unit {0}
+
+-- no edit of a change does
+abbrev pub IsSparing : Change → Type 0
+IsSparing change = PutsNoneBack change.first.edit × IfSome change.second (λ c. PutsNoneBack c.edit)
+
 -- whether some address of a delegation's prefix has a resource holder is told rightly; of any other
 -- command it is not asked
 abbrev pub TellsTaken : History → Command → Bool → Type 0
@@ -63,13 +74,14 @@ pub record IsViewOf (history : History) (command : Command) (view : View) : Type
   pub rows : RowsIfAny history (holder_of command) (rows_if_any view.holder)
   pub taken : TellsTaken history command view.taken
 
--- accepted by the verdict, with a change that carries the rows of every holder to the history with the
--- command, and with the number made
+-- accepted by the verdict, with the number made, and with a change that carries the rows of every holder
+-- to the history with the command and puts no run of addresses back
 abbrev pub IsAccepted : Charter → History → ℕ → List ℕ → Command → Change → Type 0
 IsAccepted charter history day caller command change =
     Verdict charter history day caller command None
     × (number_made change.first.edit ≡ number_given history command)
     × Carries change history (record { day = day; caller = caller; command = command } ∷ history)
+    × IsSparing change
 
 -- denied exactly by the verdict, with no row; else accepted
 abbrev pub IsAnswer : Charter → History → ℕ → List ℕ → Command → Result Change Refusal → Type 0

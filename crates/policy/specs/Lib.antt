@@ -16,4 +16,5 @@ pub mod Answer
 pub mod DailyVrps
 pub mod SharedVrps
 pub mod Unregistered
+pub mod steps
 pub mod Ended

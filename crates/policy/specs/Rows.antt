@@ -2,7 +2,7 @@
 use Rattle.std.specs.Prelude.{◌≡◌, ℕ, true, false, not, ◌==◌, List, [], ◌∷◌, ◌++◌, map, filter, Option, Some, None, if◌then◌else◌}
 use Rattle.std.specs.List.{list_any}
 use Rattle.addr.specs.Address.{Address}
-use Rattle.addr.specs.Spans.{spans_have, AreMaximal}
+use Rattle.addr.specs.Spans.{spans_have, without_runs, AreApart}
 use Rattle.addr.specs.declared.span.Span.{Span}
 use Rattle.policy.specs.declared.authorization.Auth.{Auth}
 use Rattle.policy.specs.declared.grant.Granted.{Granted}
@@ -35,10 +35,10 @@ abbrev pub grants_if_any : Option HolderRows → List Granted
 grants_if_any None = []
 grants_if_any (Some r) = r.grants.items
 
--- the rows are those of the holder: the maximal spans of the addresses that it holds, its grants that
--- are not revoked, its active authorizations, and how many of each were made
+-- the rows are those of the holder: the maximal runs of the addresses that it holds, in any order, its
+-- grants that are not revoked, its active authorizations, and how many of each were made
 pub record RowsOf (history : History) (h : List ℕ) (rows : Rows) : Type 0 where
-  pub maximal : AreMaximal rows.holdings
+  pub apart : AreApart rows.holdings
   pub holdings : (a : Address) → spans_have rows.holdings a ≡ is_held_by h (resource_holder history a)
   pub grants : rows.grants ≡ grant_terms history h
   pub auths : AreActive history h rows.auths
@@ -62,8 +62,10 @@ replaced_by x y = if y.number == x.number then x else y
 -- all else stays
 abbrev pub edited : Edit → Rows → Rows
 edited Register rows = new_rows
-edited (Hold holdings ended) rows =
-    record rows { holdings = holdings; auths = filter (λ x. not (list_any (λ n. x.number == n) ended.items)) rows.auths }
+edited (Hold removed added ended) rows = record rows {
+  holdings = without_runs removed.items rows.holdings ++ added.items;
+  auths = filter (λ x. not (list_any (λ n. x.number == n) ended.items)) rows.auths;
+}
 edited (Grant g) rows = record rows { grants = rows.grants ++ g ∷ []; granted = g.number }
 edited (Revoke n) rows = record rows { grants = filter (λ g. not (g.number == n)) rows.grants }
 edited (Create x) rows = record rows { auths = rows.auths ++ x ∷ []; created = x.number }

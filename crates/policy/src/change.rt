@@ -1,14 +1,18 @@
 use crate::{Auth, Granted};
-use addr::{Holdings, Name};
+use addr::{Name, Span};
 
 /// What an accepted command does to the rows of one resource holder.
 #[derive(Drop)]
 pub enum Edit {
     /// Puts the holder's row. It has no other rows, and both counters are 0.
     Register,
-    /// Puts these holdings in the place of the holder's, and takes away the authorizations of
-    /// these numbers.
-    Hold { holdings: Holdings, ended: Vec<u32> },
+    /// Takes away these runs of addresses, puts those that stand in their place, and takes away
+    /// the authorizations of these numbers. A run that stays is in neither list.
+    Hold {
+        removed: Vec<Span>,
+        added: Vec<Span>,
+        ended: Vec<u32>,
+    },
     /// Puts a grant and sets the counter of grants to its number.
     Grant(Granted),
     /// Takes away the grant of this number.

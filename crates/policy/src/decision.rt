@@ -1,11 +1,12 @@
-ghost use Rattle.std.specs.Prelude.{◌≡◌, ℕ, true, false, not, ◌||◌, ◌&&◌, None, Err, IsTrue, option_copied, MatchBool, IfOk, map, filter};
-ghost use Rattle.addr.specs.Address.{Address, has_address};
-ghost use Rattle.addr.specs.Spans.{spans_have, AreMaximal};
+ghost use Rattle.std.specs.Prelude.{◌≡◌, ℕ, true, false, None, Err, IsTrue, option_copied, MatchBool, IfOk, map, filter};
+ghost use Rattle.addr.specs.Address.{has_address};
+ghost use Rattle.addr.specs.Spans.{AddsAddresses, TakesAddresses};
 ghost use Rattle.policy.specs.History.{History};
 ghost use Rattle.policy.specs.Resources.{IsFree};
 ghost use Rattle.policy.specs.Terms.{terms_overlap};
 ghost use Rattle.policy.specs.Verdict.{IsLegal};
 ghost use Rattle.policy.specs.Rows.{rows_if_any, RowsIfAny};
+ghost use Rattle.policy.specs.steps.Exchange.{Exchanges};
 ghost use Rattle.policy.specs.Answer.{AnswersRows, JudgesRows, IsAnswer, IsViewOf, is_transfer, takes_memory, holder_of, taker_of};
 
 mod terms;
@@ -52,28 +53,31 @@ fn change_of(holder: &Name, edit: Edit) -> Change
 
 /// The holdings with the prefix.
 fn with_prefix(holdings: &Holdings, prefix: &Prefix) -> Result<Holdings, AllocError>
-    ensures maximal { IfOk result AreMaximal }
-    ensures same { IfOk result (λ more. (a : Address)
-        → spans_have more a ≡ (spans_have holdings.now a || has_address prefix.now a)) }
+    ensures { IfOk result (λ more. AddsAddresses holdings.now more (has_address prefix.now)) }
 {
     let mut more = holdings.clone()?;
     more.add(prefix)?;
-    // It tells the proof that the runs are maximal.
-    let _ = more.spans();
     Ok(more)
 }
 
 /// The holdings without the prefix.
 fn without_prefix(holdings: &Holdings, prefix: &Prefix) -> Result<Holdings, AllocError>
-    ensures maximal { IfOk result AreMaximal }
-    ensures same { IfOk result (λ less. (a : Address)
-        → spans_have less a ≡ (spans_have holdings.now a && not (has_address prefix.now a))) }
+    ensures { IfOk result (λ less. TakesAddresses holdings.now less (has_address prefix.now)) }
 {
     let mut less = holdings.clone()?;
     less.take(prefix)?;
-    // It tells the proof that the runs are maximal.
-    let _ = less.spans();
     Ok(less)
+}
+
+/// The edit from one holder's runs to others, which ends the authorizations of these numbers.
+fn hold(before: &Holdings, after: &Holdings, ended: Vec<u32>) -> Result<Edit, AllocError>
+    ensures { IfOk result (Exchanges before.now after.now ended) }
+{
+    Ok(Edit::Hold {
+        removed: before.without_runs(after)?,
+        added: after.without_runs(before)?,
+        ended,
+    })
 }
 
 /// The numbers of the authorizations that share an address with the prefix.
@@ -119,9 +123,9 @@ fn decide_delegate(
     let rows = registered(holder.rows)?;
     require(basis.charter.has_in_pool(prefix), Rule::Pool)?;
     require(!taken, Rule::Free)?;
-    let holdings = with_prefix(&rows.holdings, prefix)?;
-    let ended = Vec::new(alloc);
-    Ok(change_of(holder.name, Edit::Hold { holdings, ended }))
+    let more = with_prefix(&rows.holdings, prefix)?;
+    let edit = hold(&rows.holdings, &more, Vec::new(alloc))?;
+    Ok(change_of(holder.name, edit))
 }
 
 fn decide_reclaim(
@@ -137,9 +141,10 @@ fn decide_reclaim(
     require(basis.charter.is_operator(basis.caller), Rule::Operator)?;
     let rows = registered(holder.rows)?;
     require(holds(rows, prefix), Rule::Held)?;
-    let holdings = without_prefix(&rows.holdings, prefix)?;
+    let less = without_prefix(&rows.holdings, prefix)?;
     let ended = numbers_overlapping(alloc, &rows.auths, prefix)?;
-    Ok(change_of(holder.name, Edit::Hold { holdings, ended }))
+    let edit = hold(&rows.holdings, &less, ended)?;
+    Ok(change_of(holder.name, edit))
 }
 
 fn decide_grant(basis: Basis<'_>, holder: Holder<'_>, terms: &GrantTerms) -> Result<Change, Rule>
@@ -259,20 +264,16 @@ fn decide_transfer(
     let less = without_prefix(&giving.holdings, prefix)?;
     let more = with_prefix(&taking.holdings, prefix)?;
     let ended = numbers_overlapping(alloc, &giving.auths, prefix)?;
+    let from_giver = hold(&giving.holdings, &less, ended)?;
+    let to_taker = hold(&taking.holdings, &more, Vec::new(alloc))?;
     Ok(Change {
         first: HolderChange {
             holder: *giver.name,
-            edit: Edit::Hold {
-                holdings: less,
-                ended,
-            },
+            edit: from_giver,
         },
         second: Some(HolderChange {
             holder: *taker.name,
-            edit: Edit::Hold {
-                holdings: more,
-                ended: Vec::new(alloc),
-            },
+            edit: to_taker,
         }),
     })
 }

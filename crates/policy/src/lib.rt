@@ -8,7 +8,6 @@ mod change;
 mod charter;
 mod command;
 mod decision;
-mod edit;
 mod grant;
 pub mod laws;
 mod rows;

@@ -10,19 +10,19 @@ use Rattle.sqlite_sql.specs.Term.{lit}
 use Rattle.addr.specs.declared.prefix.Prefix.{Prefix}
 use Rattle.policy.specs.CharterSets.{CharterSets}
 use Rattle.store.specs.StoreRows.{IsNew}
-use Rattle.store.specs.Tables.{meta, operator, pool, desk_tables, contents, is_table, IsTree, AreTrees}
-use Rattle.store.specs.Cells.{schema_row, operator_row, prefix_cells}
-use Rattle.store.specs.steps.Edits.{Edits}
-use Rattle.store.specs.TablesHold.{holder_part, holding_part, granted_part, auth_part, TablesHold}
+use Rattle.tables.specs.Tables.{meta, operator, pool, desk_tables, contents, is_table, IsTree, AreTrees}
+use Rattle.tables.specs.Cells.{schema_row, operator_row, prefix_cells}
+use Rattle.tables.specs.steps.Edits.{Edits}
+use Rattle.tables.specs.TablesHold.{holder_part, holding_part, granted_part, auth_part, TablesHold}
 use Rattle.store.specs.steps.Statements.{IsReady, IsExecuted}
 use Rattle.store.specs.steps.Making.{IsMadeTo, PutsRows, HasCharter}
-use Rattle.store.proofs.CellLemmas.{cast_schema, cast_prefix}
+use Rattle.tables.proofs.CellLemmas.{cast_schema, cast_prefix}
 use Rattle.store.proofs.StepLemmas.{sound_still}
 use Rattle.store.proofs.PartSteps.{puts_row}
 use Rattle.store.proofs.RowSteps.{taken_more}
-use Rattle.store.proofs.Inserting.{each_table}
+use Rattle.tables.proofs.Inserting.{each_table}
 use Rattle.store.proofs.MakingSteps.{none_held}
-use Rattle.store.proofs.Texts.{put_terms, put_schema_text, put_schema_is, put_operator_text, put_operator_is, put_prefix_text, put_prefix_is}
+use Rattle.tables.proofs.Texts.{put_terms, put_schema_text, put_schema_is, put_operator_text, put_operator_is, put_prefix_text, put_prefix_is}
 
 module _ (old new : State) where
   pub puts_schema : IsReady old → IsExecuted put_schema_text [] old new → PutsRows meta.tree (schema_row ∷ []) old new
@@ -75,7 +75,8 @@ has_charter charter a b c d made schema operators prefixes =
     let still : (t : ℕ) → is_table t ≡ true → t ≢ 0 → t ≢ 2 → t ≢ 4 → d.now.trees t ≡ [] = λ t is meta operator pool. third.others t is pool ∙ second.others t is operator ∙ first.others t is meta ∙ at t is in
     let sound : AreTrees a.now.trees = λ t is. subst IsTree (sym (at t is)) (tt, tt) in
     record {
-      ready = prefixes.ready;
+      inside = prefixes.ready.inside;
+      schema = third.schema ∙ second.schema ∙ first.schema ∙ made.schema;
       rows = record {
         charter_kept = record {
           schema = subst (λ t. IsPermutation (schema_row ∷ []) (contents t)) (sym (third.others 0 refl (λ same. cc) ∙ second.others 0 refl (λ same. cc))) (first_rows 0 (schema_row ∷ []) a.now b.now first (at 0 refl));
@@ -96,7 +97,7 @@ has_charter charter a b c d made schema operators prefixes =
 pub new_after : (charter : CharterSets) (mid last : State) → HasCharter charter mid → Shows mid last mid.now mid.now false → IsNew charter last
 new_after charter mid last has shown = record {
   is_open = shown.is_open;
-  schema = ap (λ (d : Database). d.schema) shown.now_is ∙ has.ready.schema shown.was_open;
+  schema = ap (λ (d : Database). d.schema) shown.now_is ∙ has.schema;
   settled = shown.committed_is ∙ sym shown.now_is;
   rows = subst (λ (d : Database). TablesHold charter (λ h. None) d.trees) (sym shown.now_is) has.rows;
 }

@@ -10,7 +10,7 @@ use Rattle.sqlite_schema.specs.declared.schema.Schema.{Schema}
 use Rattle.sqlite_schema.specs.declared.schema.Table.{Table}
 use Rattle.sqlite_tied.specs.Compute.{everything}
 use Rattle.std.specs.Fmt.{digits}
-use Rattle.store.specs.Tables.{meta, operator, pool, holder, holding, granted, auth, slurm}
+use Rattle.tables.specs.Tables.{meta, operator, pool, holder, holding, granted, auth, slurm}
 use Rattle.store.specs.steps.Making.{so_far}
 
 -- over the first tables, the text defines this table, and makes the next schema

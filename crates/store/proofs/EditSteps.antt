@@ -18,18 +18,18 @@ use Rattle.policy.specs.declared.grant.Granted.{Granted}
 use Rattle.policy.specs.declared.grant.Scope.{Scope}
 use Rattle.policy.specs.declared.grant.Scope.TheVariants.{All, Only}
 use Rattle.policy.specs.Rows.{new_rows, edited, replaced_by}
-use Rattle.store.specs.Tables.{holder, holding, granted, auth}
-use Rattle.store.specs.Cells.{number_cell, family_number, address, role_number, scope_cells, auth_cells, holder_row, holding_row, granted_row, auth_row}
-use Rattle.store.specs.TablesHold.{is_name_of, part_rows, holder_part, holding_part, granted_part, auth_part}
+use Rattle.tables.specs.Tables.{holder, holding, granted, auth}
+use Rattle.tables.specs.Cells.{number_cell, family_number, address, role_number, scope_cells, auth_cells, holder_row, holding_row, granted_row, auth_row}
+use Rattle.tables.specs.TablesHold.{is_name_of, part_rows, holder_part, holding_part, granted_part, auth_part}
 use Rattle.store.specs.steps.RowEdits.{with_holdings, without_holdings, with_grant, with_auth, with_granted, with_created}
 use Rattle.store.specs.steps.Statements.{IsReady, IsExecuted, EditsHolder, Registers}
-use Rattle.store.proofs.Selecting.{picks}
-use Rattle.store.proofs.Updating.{changed_if}
-use Rattle.store.proofs.CellLemmas.{cast_number, cast_holder, cast_holding, cast_granted, cast_auth, is_number, number_of_number, appended}
-use Rattle.store.proofs.PartLemmas.{names, name_of-true, name_of_itself, put_local}
+use Rattle.tables.proofs.Selecting.{picks}
+use Rattle.tables.proofs.Updating.{changed_if}
+use Rattle.tables.proofs.CellLemmas.{cast_number, cast_holder, cast_holding, cast_granted, cast_auth, is_number, number_of_number, appended}
+use Rattle.tables.proofs.PartLemmas.{names, name_of-true, name_of_itself, put_local}
 use Rattle.store.proofs.PartSteps.{puts_row, puts_edit, takes_edit, changes_edit}
 use Rattle.store.proofs.StepLemmas.{equals_text, equals_int, column_after, holder_test, turns_rows, in_holder, in_holdings, in_grants, in_auths}
-use Rattle.store.proofs.Texts.{
+use Rattle.tables.proofs.Texts.{
   put_terms,
   equals,
   amend_sets,

@@ -19,15 +19,15 @@ use Rattle.policy.specs.declared.grant.Granted.{Granted}
 use Rattle.policy.specs.declared.grant.Scope.{Scope}
 use Rattle.policy.specs.declared.grant.Scope.TheVariants.{All, Only}
 use Rattle.policy.specs.Rows.{Rows}
-use Rattle.store.specs.Cells.{span_cells, grant_cells, auth_cells, holding_row, granted_row, auth_row}
-use Rattle.store.specs.Tables.{contents}
-use Rattle.store.specs.TablesHold.{Part, TablesHold, items_if_any, HoldsPart, part_rows, holder_part, holding_part, granted_part, auth_part}
-use Rattle.store.specs.steps.Queries.{columns, by_column, AreSelected, Selects}
-use Rattle.store.proofs.Selecting.{from_table, no_limit, picks, permuted, sorted}
+use Rattle.tables.specs.Cells.{span_cells, grant_cells, auth_cells, holding_row, granted_row, auth_row}
+use Rattle.tables.specs.Tables.{contents, columns}
+use Rattle.tables.specs.TablesHold.{Part, TablesHold, items_if_any, HoldsPart, part_rows, holder_part, holding_part, granted_part, auth_part}
+use Rattle.store.specs.steps.Queries.{by_column, AreSelected, Selects}
+use Rattle.tables.proofs.Selecting.{from_table, no_limit, picks, permuted, sorted}
 use Rattle.store.proofs.StepLemmas.{column_after, holder_test}
-use Rattle.store.proofs.PartLemmas.{names}
-use Rattle.store.proofs.CellsOnce.{cells_of_counters, counters_of_rows, one_counters, one_span, one_grant, one_auth}
-use Rattle.store.proofs.Texts.{Means, equals, upwards, counters_text, counters_is, spans_text, spans_is, grants_text, grants_is, auths_text, auths_is}
+use Rattle.tables.proofs.PartLemmas.{names}
+use Rattle.tables.proofs.CellsOnce.{cells_of_counters, counters_of_rows, one_counters, one_span, one_grant, one_auth}
+use Rattle.tables.proofs.Texts.{Means, equals, upwards, counters_text, counters_is, spans_text, spans_is, grants_text, grants_is, auths_text, auths_is}
 
 abbrev pub shown_at : List ℕ → List Term
 shown_at places = map (λ p. col 1 (suc p)) places
@@ -80,7 +80,7 @@ module _ {X : Type 0} (cells : X → Row) (items : Rows → List X) (cmp : Row �
     params = Text h ∷ []
 
     answers : IsAnswer (from_table q.part.tree tests (shown_at q.places) q.order no_limit) (overlay db.trees []) params rows
-    answers = (subst (λ (k : Command). Reads k db params rows) q.means.is selected).answer Null
+    answers = (subst (λ (k : Command). Reads k db params rows) (q.means.is db.schema) selected).answer Null
 
     rises : IsSorted cmp rows
     rises = sorted q.part.tree tests (shown_at q.places) q.order db.trees params rows q.keys cmp (q.keyed params) q.ranked answers

@@ -13,14 +13,14 @@ use Rattle.policy.specs.declared.authorization.Auth.{Auth}
 use Rattle.policy.specs.Rows.{Rows}
 use Rattle.policy.specs.Terms.{IsVrpOf}
 use Rattle.policy.specs.Values.{AuthFits}
-use Rattle.store.specs.Cells.{vrp_cells}
-use Rattle.store.specs.Decode.{VrpFits}
+use Rattle.tables.specs.Cells.{vrp_cells}
+use Rattle.tables.specs.Decode.{VrpFits}
 use Rattle.addr.proofs.Equality.{equal_prefix, prefix_itself}
 use Rattle.addr.proofs.SpanLemmas.{met_iff}
 use Rattle.store.specs.steps.Queries.{payload_cells, IsPayloadOn, MeetsSome}
 use Rattle.policy.specs.RowsOfAll.{IsGivenOn, IsTaken}
 use Rattle.store.specs.Loads.{AllGiveOn}
-use Rattle.store.proofs.CellsOnce.{one_prefix}
+use Rattle.tables.proofs.CellsOnce.{one_prefix}
 
 -- a VRP of the terms is shown as they are
 cells_of_vrp : (x : Auth) (v : Vrp) → IsVrpOf x v → vrp_cells v ≡ payload_cells x

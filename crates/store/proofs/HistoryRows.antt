@@ -84,10 +84,10 @@ grant_terms-rise [] h = omega arith
 grant_terms-rise (e ∷ before) h = grants_after-rise e.command h (grants_made before h) (grant_terms before h) (grant_terms-rise before h)
 
 pub loads_rows : LoadsRowsOfHistories
-loads_rows history h None None unregistered maximal loaded = unregistered
-loads_rows history h None (Some s) unregistered maximal loaded = absurd loaded
-loads_rows history h (Some r) None are maximal loaded = absurd loaded
-loads_rows history h (Some r) (Some s) are maximal loaded =
+loads_rows history h None None unregistered loaded = unregistered
+loads_rows history h None (Some s) unregistered loaded = absurd loaded
+loads_rows history h (Some r) None are loaded = absurd loaded
+loads_rows history h (Some r) (Some s) are loaded =
     let rows = are.1 in
     let grants_ascend = rise-ascending (λ (g : Granted). g.number) 0 (grant_terms history h) (grants_made history h) (grant_terms-rise history h) in
     let auths_ascend = rise-ascending (λ (x : Auth). x.number) 0 r.auths (authorizations_made history h) (auths-rise 0 r.auths (authorizations_made history h) (active-numbered history h r.auths rows.auths)) in
@@ -95,7 +95,7 @@ loads_rows history h (Some r) (Some s) are maximal loaded =
     let auths = in_order_same (λ (x : Auth). x.number) r.auths s.auths.items auths_ascend loaded.auths in (
       are.0,
       record {
-        maximal = maximal;
+        maximal = loaded.maximal;
         holdings = λ a. loaded.holdings a ∙ rows.holdings a;
         grants = grants ∙ rows.grants;
         auths = subst (AreActive history h) (sym auths) rows.auths;

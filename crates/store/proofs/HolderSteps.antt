@@ -4,27 +4,26 @@ use Rattle.std.proofs.lemmas.List.{length-map}
 use Rattle.std.proofs.lemmas.List.Sorted.{length_permutation}
 use Rattle.sqlite.specs.Effect.{Database}
 use Rattle.sqlite.specs.State.{State, Shown, IsUnchanged}
-use Rattle.sqlite.proofs.Callers.{reads_as}
 use Rattle.sqlite_value.specs.declared.value.Value.TheVariants.{Null, Text}
 use Rattle.sqlite_value.specs.Order.{Row}
 use Rattle.sqlite_trees.proofs.ListLemmas.{filter-map}
 use Rattle.sqlite_sql.specs.Term.{col}
 use Rattle.policy.specs.CharterSets.{CharterSets}
 use Rattle.policy.specs.Rows.{Rows}
-use Rattle.store.specs.Tables.{desk_schema}
-use Rattle.store.specs.TablesHold.{part_rows, holder_part, TablesHold}
+use Rattle.tables.specs.Tables.{desk_tables}
+use Rattle.tables.specs.TablesHold.{part_rows, holder_part, TablesHold}
 use Rattle.store.specs.steps.Statements.{IsReady, TellsWhetherRegistered}
 use Rattle.store.proofs.StepLemmas.{holder_test}
-use Rattle.store.proofs.PartLemmas.{names}
-use Rattle.store.proofs.QueryLemmas.{shown_open, answered_inside}
-use Rattle.store.proofs.Selecting.{permuted}
-use Rattle.store.proofs.Texts.{equals, counters_text, counters_is}
+use Rattle.tables.proofs.PartLemmas.{names}
+use Rattle.store.proofs.QueryLemmas.{shown_open, reads_desk, answered_inside}
+use Rattle.tables.proofs.Selecting.{permuted}
+use Rattle.tables.proofs.Texts.{equals, counters_text, counters_is}
 
 module _ (h : List ℕ) (old new : State) (ready : IsReady old) where
   -- as many rows are found as the holder has in its table
-  found : (rows : List Row) (charter : CharterSets) (all : List ℕ → Option Rows) → old.now.schema ≡ desk_schema → Shown counters_text (Text h ∷ []) old new rows → TablesHold charter all old.now.trees → length rows ≡ length (part_rows holder_part h (all h))
+  found : (rows : List Row) (charter : CharterSets) (all : List ℕ → Option Rows) → old.now.schema.tables ≡ desk_tables → Shown counters_text (Text h ∷ []) old new rows → TablesHold charter all old.now.trees → length rows ≡ length (part_rows holder_part h (all h))
   found rows charter all has shown holds =
-      let read = reads_as counters_text (Text h ∷ []) old new desk_schema has _ counters_is.is counters_is.plain counters_is.unlisted rows shown in
+      let read = reads_desk counters_is (Text h ∷ []) old new rows (λ _. has) shown in
       let same = permuted 6 (equals 1 0 ∷ []) (col 1 2 ∷ col 1 3 ∷ []) [] old.now.trees (Text h ∷ []) rows (read.answer Null) in
       let picked = filter-map (names 0 h) (drop 1) (old.now.trees 6) ∙ (λ i. map (drop 1) (filter (λ r. sym (holder_test 0 h [] r) i) (old.now.trees 6))) in
       length_permutation _ _ same ∙ length-map _ _ ∙ sym (ap length picked ∙ length-map _ _) ∙ length_permutation _ _ (holds.holders.each h)
@@ -34,11 +33,11 @@ module _ (h : List ℕ) (old new : State) (ready : IsReady old) where
 
   pub told : (rows : List Row) (empty : Bool) (count : ℕ) → count ≡ length rows → empty ≡ (count == 0) → Shown counters_text (Text h ∷ []) old new rows → TellsWhetherRegistered h (not empty) old new
   told rows empty count counted is shown =
-      let has = ready.schema (shown_open counters_text (Text h ∷ []) old new rows shown) in
+      let has = ready.tables (shown_open counters_text (Text h ∷ []) old new rows shown) in
       let same = asked rows shown in
       record {
         was_open = same.0.was_open;
-        ready = record { schema = λ _. ap (λ (d : Database). d.schema) same.0.now_is ∙ has; inside = same.0.mode ∙ ready.inside };
+        ready = record { tables = λ _. ap (λ (d : Database). d.schema.tables) same.0.now_is ∙ has; inside = same.0.mode ∙ ready.inside };
         same = same.0.now_is;
         answer = λ charter all holds. ap not (is ∙ ap (λ n. n == 0) (counted ∙ found rows charter all has shown holds)) ∙ go (all h);
       }

@@ -6,7 +6,6 @@ use Rattle.std.proofs.lemmas.Result.{IfOk-weaker}
 use Rattle.sqlite.specs.declared.error.Error.{Error}
 use Rattle.sqlite.specs.Effect.{Database}
 use Rattle.sqlite.specs.State.{State, Shown}
-use Rattle.sqlite.proofs.Callers.{reads_as}
 use Rattle.sqlite_value.specs.declared.value.Value.TheVariants.{Null}
 use Rattle.sqlite_value.specs.Order.{Row}
 use Rattle.sqlite_sql.specs.declared.ops.CompareOp.TheVariants.{Le, Ge}
@@ -16,16 +15,15 @@ use Rattle.sqlite_rules.proofs.ProbeLemmas.{mapped_has, has_mapped}
 use Rattle.sqlite_typed.proofs.TestLemmas.{at_ints, then_term, last_term}
 use Rattle.policy.specs.declared.authorization.Auth.{Auth}
 use Rattle.policy.specs.Rows.{Rows}
-use Rattle.store.specs.Tables.{desk_schema}
-use Rattle.store.specs.Cells.{number_cell, auth_row}
-use Rattle.store.specs.Tables.{contents}
-use Rattle.store.specs.TablesHold.{HoldsPart, auth_part}
-use Rattle.store.specs.steps.Queries.{columns, is_open_on, FindsInForce, IsPayloadOn}
-use Rattle.store.proofs.SomeRow.{has_permuted, of_some, in_table}
-use Rattle.store.proofs.Selecting.{picks, permuted}
+use Rattle.tables.specs.Cells.{number_cell, auth_row}
+use Rattle.tables.specs.Tables.{desk_tables, contents, columns}
+use Rattle.tables.specs.TablesHold.{HoldsPart, auth_part}
+use Rattle.store.specs.steps.Queries.{is_open_on, FindsInForce, IsPayloadOn}
+use Rattle.tables.proofs.SomeRow.{has_permuted, of_some, in_table}
+use Rattle.tables.proofs.Selecting.{picks, permuted}
 use Rattle.store.proofs.Finding.{shown_at, shown_columns, of_contents}
-use Rattle.store.proofs.QueryLemmas.{shown_open}
-use Rattle.store.proofs.Texts.{in_force_tests, in_force_text, in_force_is}
+use Rattle.store.proofs.QueryLemmas.{reads_desk}
+use Rattle.tables.proofs.Texts.{in_force_tests, in_force_text, in_force_is}
 
 abbrev payload_places : List ℕ
 payload_places = 2 ∷ 3 ∷ 4 ∷ 5 ∷ 6 ∷ []
@@ -34,11 +32,11 @@ columns_alone : (day : ℕ) (r : Row) → picks (number_cell day ∷ []) in_forc
 columns_alone day [] = refl
 columns_alone day (v ∷ r) = refl
 
-module _ (day : ℕ) (old new : State) (has : IsTrue old.is_open → old.now.schema ≡ desk_schema) where
+module _ (day : ℕ) (old new : State) (has : IsTrue old.is_open → old.now.schema.tables ≡ desk_tables) where
   finds_in_force : (rows : List Row) → Shown in_force_text (number_cell day ∷ []) old new rows → FindsInForce day old.now rows
   finds_in_force rows shown =
       let params = number_cell day ∷ [] in
-      let read = reads_as in_force_text params old new desk_schema (has (shown_open in_force_text params old new rows shown)) _ in_force_is.is in_force_is.plain in_force_is.unlisted rows shown in
+      let read = reads_desk in_force_is params old new rows has shown in
       let same = of_contents (λ r. eval_all (shown_at payload_places) (params ∷ r ∷ [])) (columns payload_places) (picks params in_force_tests) (is_open_on day) (shown_columns payload_places params) (columns_alone day) (old.now.trees 12) in
       subst (λ l. IsPermutation l rows) same (permuted 12 in_force_tests (shown_at payload_places) [] old.now.trees params rows (read.answer Null))
 

@@ -1,13 +1,5 @@
-mod TreeRows
-mod Inserting
-mod Selecting
-mod Deleting
-mod Updating
-mod Texts
-mod PartLemmas
 mod PartSteps
 mod StepLemmas
-mod CellLemmas
 mod EditSteps
 mod HolderSteps
 mod RowSteps
@@ -16,13 +8,8 @@ mod StoreLemmas
 mod Creates
 mod MakingSteps
 mod CharterSteps
-mod AddressBytes
-mod ReadLemmas
-mod CellsOnce
 mod Finding
 mod Loading
-mod Addresses
-mod SomeRow
 mod Overlapping
 mod InForce
 mod Giving

@@ -14,22 +14,22 @@ use Rattle.sqlite.proofs.Callers.{one_permutation}
 use Rattle.sqlite_value.specs.Order.{Row, column, value_cmp}
 use Rattle.sqlite_value.proofs.OrderLemmas.{value_cmp-Int}
 use Rattle.addr.specs.Address.{Address}
-use Rattle.addr.specs.Spans.{span_has, spans_have}
+use Rattle.addr.specs.Spans.{span_has, spans_have, AreMaximal}
 use Rattle.addr.specs.declared.span.Span.{Span}
 use Rattle.policy.specs.declared.authorization.Auth.{Auth}
 use Rattle.policy.specs.declared.grant.Granted.{Granted}
 use Rattle.policy.specs.CharterSets.{CharterSets}
 use Rattle.policy.specs.declared.rows.HolderRows.{HolderRows}
 use Rattle.policy.specs.Rows.{Rows}
-use Rattle.store.specs.Cells.{number_cell}
-use Rattle.store.specs.TablesHold.{items_if_any, TablesHold}
+use Rattle.tables.specs.Cells.{number_cell}
+use Rattle.tables.specs.TablesHold.{items_if_any, TablesHold}
 use Rattle.store.specs.steps.Queries.{by_column, WasRead}
-use Rattle.store.specs.declared.rows.Counters.{Counters}
+use Rattle.tables.specs.declared.rows.Counters.{Counters}
 use Rattle.policy.specs.Values.{IsU32, GrantFits, AuthFits, FitIfAny}
 use Rattle.store.specs.declared.fault.StoreFault.{StoreFault}
 use Rattle.store.specs.declared.fault.StoreFault.TheVariants.{Schema}
 use Rattle.store.specs.Loads.{AreInOrder, HaveSame, AreLoaded}
-use Rattle.store.proofs.CellsOnce.{counters_of_rows}
+use Rattle.tables.proofs.CellsOnce.{counters_of_rows}
 use Rattle.store.proofs.RowSteps.{taken_more}
 
 numbers_rise : (m n : ℕ) → is_lt (int_cmp (pos m) (pos n)) ≡ is_lt (nat_cmp m n)
@@ -126,10 +126,11 @@ pub none_loaded : (o : Option Rows) → AreCounters o None → AreLoaded o None
 none_loaded None none = tt
 none_loaded (Some r) none = none
 
-pub all_loaded : (o : Option Rows) (c : Counters) (loaded : HolderRows) → AreCounters o (Some c) → loaded.granted ≡ c.granted → loaded.created ≡ c.created → HaveSame (items_if_any (λ r. r.holdings) o) loaded.holdings
+pub all_loaded : (o : Option Rows) (c : Counters) (loaded : HolderRows) → AreCounters o (Some c) → loaded.granted ≡ c.granted → loaded.created ≡ c.created → AreMaximal loaded.holdings → HaveSame (items_if_any (λ r. r.holdings) o) loaded.holdings
     → AreInOrder (λ (g : Granted). g.number) (items_if_any (λ r. r.grants) o) loaded.grants.items → AreInOrder (λ (x : Auth). x.number) (items_if_any (λ r. r.auths) o) loaded.auths.items → AreLoaded o (Some loaded)
-all_loaded None c loaded none granted created holdings grants auths = absurd none
-all_loaded (Some r) c loaded counters granted created holdings grants auths = record {
+all_loaded None c loaded none granted created maximal holdings grants auths = absurd none
+all_loaded (Some r) c loaded counters granted created maximal holdings grants auths = record {
+  maximal = maximal;
   holdings = holdings;
   grants = grants;
   auths = auths;

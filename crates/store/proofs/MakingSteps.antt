@@ -12,12 +12,12 @@ use Rattle.sqlite_trees.proofs.ListLemmas.{all_both, all-append}
 use Rattle.sqlite_schema.specs.declared.command.Command.TheVariants.{CreateTable}
 use Rattle.sqlite_schema.specs.declared.schema.Schema.{Schema}
 use Rattle.sqlite_schema.specs.declared.schema.Table.{Table}
-use Rattle.store.specs.Tables.{desk_tables}
-use Rattle.store.specs.Tables.{contents}
-use Rattle.store.specs.TablesHold.{Part, HoldsPart}
+use Rattle.tables.specs.Tables.{desk_tables}
+use Rattle.tables.specs.Tables.{contents}
+use Rattle.tables.specs.TablesHold.{Part, HoldsPart}
 use Rattle.store.specs.steps.Making.{so_far, IsMadeTo}
 use Rattle.store.specs.steps.Statements.{IsExecuted}
-use Rattle.store.proofs.Inserting.{went, same_value}
+use Rattle.tables.proofs.Inserting.{went, same_value}
 use Rattle.store.proofs.Creates.{Defines}
 
 -- one table more

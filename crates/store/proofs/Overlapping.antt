@@ -3,7 +3,6 @@ use Rattle.std.proofs.Common.{◌≡◌, ◌↔◌, ℕ, suc, pos, ◌-◌, ◌^
 use Rattle.std.specs.List.{list_any}
 use Rattle.std.proofs.lemmas.Bool.Decides.{nat_tests}
 use Rattle.sqlite.specs.State.{State, Shown}
-use Rattle.sqlite.proofs.Callers.{reads_as}
 use Rattle.sqlite_value.specs.declared.keys.Collation.TheVariants.{Binary}
 use Rattle.sqlite_value.specs.declared.value.Value.TheVariants.{Null, Int, Blob}
 use Rattle.sqlite_value.specs.Order.{Row}
@@ -23,16 +22,16 @@ use Rattle.addr.specs.declared.prefix.Prefix.{Prefix}
 use Rattle.addr.specs.declared.span.Span.{Span}
 use Rattle.addr.proofs.AddressLemmas.{below_widest, first_below}
 use Rattle.policy.specs.Rows.{Rows}
-use Rattle.store.specs.Tables.{desk_schema}
-use Rattle.store.specs.Cells.{number_cell, family_number, address, holding_row}
-use Rattle.store.specs.Tables.{contents}
-use Rattle.store.specs.TablesHold.{HoldsPart, holding_part}
+use Rattle.tables.specs.Tables.{desk_tables}
+use Rattle.tables.specs.Cells.{number_cell, family_number, address, holding_row}
+use Rattle.tables.specs.Tables.{contents}
+use Rattle.tables.specs.TablesHold.{HoldsPart, holding_part}
 use Rattle.store.specs.steps.Queries.{MeetsSome}
-use Rattle.store.proofs.Addresses.{addresses_in_order}
-use Rattle.store.proofs.SomeRow.{of_some, in_table}
-use Rattle.store.proofs.Selecting.{picks, first_shown}
-use Rattle.store.proofs.QueryLemmas.{shown_open}
-use Rattle.store.proofs.Texts.{overlap_tests, overlap_text, overlap_is}
+use Rattle.tables.proofs.Addresses.{addresses_in_order}
+use Rattle.tables.proofs.SomeRow.{of_some, in_table}
+use Rattle.tables.proofs.Selecting.{picks, first_shown}
+use Rattle.store.proofs.QueryLemmas.{reads_desk}
+use Rattle.tables.proofs.Texts.{overlap_tests, overlap_text, overlap_is}
 
 family_tested : (f g : Family) → int_eq (pos (family_number f)) (pos (family_number g)) ≡ family_eq f g
 family_tested V4 V4 = refl
@@ -100,11 +99,11 @@ module _ (p : Prefix) (all : List ℕ → Option Rows) (table : List Row) (holds
       let run = some_has (λ s. span_meets s p) it.1.holdings it.3 in
       some_from (overlaps p) table (holding_row it.0 run.0) (in_table holding_part all table holds (holding_row it.0 run.0) it.0 it.1 it.2 (mapped_has (holding_row it.0) it.1.holdings run.0 run.1)) (overlaps_run p it.0 run.0 ∙ run.2)
 
-module _ (p : Prefix) (old new : State) (has : IsTrue old.is_open → old.now.schema ≡ desk_schema) (params : Row) (is : params ≡ run_params p) (rows : List Row) (shown : Shown overlap_text params old new rows) where
+module _ (p : Prefix) (old new : State) (has : IsTrue old.is_open → old.now.schema.tables ≡ desk_tables) (params : Row) (is : params ≡ run_params p) (rows : List Row) (shown : Shown overlap_text params old new rows) where
   not_empty : not (length rows == 0) ≡ list_any (overlaps p) (contents (old.now.trees 8))
   not_empty =
       let of_run = subst (λ v. Shown overlap_text v old new rows) is shown in
-      let read = reads_as overlap_text (run_params p) old new desk_schema (has (shown_open overlap_text (run_params p) old new rows of_run)) _ overlap_is.is overlap_is.plain overlap_is.unlisted rows of_run in
+      let read = reads_desk overlap_is (run_params p) old new rows has of_run in
       let first = first_shown 8 overlap_tests (lit (Int (pos 1)) ∷ []) old.now.trees (run_params p) rows (read.answer Null) in
       ap not (ap (λ l. length l == 0) first.2 ∙ one_or_none first.0 _ first.1) ∙ some_pass (picks (run_params p) overlap_tests) (overlaps p) (columns_alone p) (old.now.trees 8)
 

@@ -11,18 +11,18 @@ use Rattle.sqlite_schema.specs.declared.command.Source.TheVariants.{Values}
 use Rattle.sqlite_schema.specs.declared.schema.Table.{Table}
 use Rattle.sqlite_rules.specs.Cast.{cast_all}
 use Rattle.policy.specs.Rows.{Rows}
-use Rattle.store.specs.Tables.{as_strict, desk_tables, is_table}
-use Rattle.store.specs.TablesHold.{Part}
+use Rattle.tables.specs.Tables.{as_strict, desk_tables, is_table}
+use Rattle.tables.specs.TablesHold.{Part}
 use Rattle.store.specs.steps.Making.{PutsRows}
 use Rattle.store.specs.steps.Statements.{IsReady, IsExecuted, EditsHolder}
-use Rattle.store.proofs.Inserting as inserting
-use Rattle.store.proofs.Deleting as deleting
-use Rattle.store.proofs.Updating as updating
-use Rattle.store.proofs.Updating.{changed_if}
-use Rattle.store.proofs.Selecting.{picks}
-use Rattle.store.proofs.PartLemmas.{names, put_local, take_local, change_local}
+use Rattle.tables.proofs.Inserting as inserting
+use Rattle.tables.proofs.Deleting as deleting
+use Rattle.tables.proofs.Updating as updating
+use Rattle.tables.proofs.Updating.{changed_if}
+use Rattle.tables.proofs.Selecting.{picks}
+use Rattle.tables.proofs.PartLemmas.{names, put_local, take_local, change_local}
 use Rattle.store.proofs.StepLemmas.{has_schema, wrote, ready_still, is_part_tree, AllEdited, edits_rows}
-use Rattle.store.proofs.Texts.{Means}
+use Rattle.tables.proofs.Texts.{Means}
 
 module _ (at : ℕ) (t : Table) (there : slice_get desk_tables at ≡ Some (as_strict t)) (old new : State) where
   pub puts_row : {sql : List ℕ} (params : Row) (terms : List Term) (width : ℕ) (row : Row) → Means sql (Insert at (Values terms width))
@@ -30,7 +30,7 @@ module _ (at : ℕ) (t : Table) (there : slice_get desk_tables at ≡ Some (as_s
       → IsReady old → IsExecuted sql params old new → PutsRows t.tree (row ∷ []) old new
   puts_row params terms width row means values typed ready ran =
       let has = has_schema params means ready ran in
-      let e = inserting.puts at t there terms width row old new _ params ran.0 has values typed (wrote params means ready ran) in
+      let e = inserting.puts at t there old.now.schema terms width row old new _ params ran.0 has values typed (wrote params means ready ran) in
       record { ready = ready_still params means ready ran (e.schema ∙ has); edits = e }
 
   module _ (place : ℕ) (rows : List ℕ → Rows → List Row) (parted : is_part_tree t.tree ≡ true) (h : List ℕ) (edit : Rows → Rows) where
@@ -43,19 +43,19 @@ module _ (at : ℕ) (t : Table) (there : slice_get desk_tables at ≡ Some (as_s
         record { ready = puts.ready; rows = edits_rows h edit part (λ rows. row ∷ rows) old.now new.now puts.edits (put_local place h row named) put parted parts }
 
     module _ (tests : List Term) (goes : Row → Bool) (params : Row) (same : (r : Row) → picks params tests r ≡ goes (drop 1 r)) (own : (c : Row) → goes c ≡ true → names place h c ≡ true) where
-      pub takes_edit : {sql : List ℕ} → Means sql (Delete at (deleting.deletion at t there tests)) → ((r : Rows) → rows h (edit r) ≡ filter (λ c. not (goes c)) (rows h r))
+      pub takes_edit : {sql : List ℕ} → Means sql (Delete at (deleting.deletion at t there old.now.schema tests)) → ((r : Rows) → rows h (edit r) ≡ filter (λ c. not (goes c)) (rows h r))
           → AllEdited h edit part → is_table t.tree ≡ true → IsReady old → IsExecuted sql params old new → EditsHolder h edit old new
       takes_edit means taken parts is ready ran =
           let has = has_schema params means ready ran in
           let w = wrote params means ready ran in
           record {
-            ready = ready_still params means ready ran (deleting.applied at t there tests old new _ params ran.0 has w).2;
+            ready = ready_still params means ready ran (deleting.applied at t there old.now.schema tests old new _ params ran.0 has w).2;
             rows = λ charter held was some.
-                edits_rows h edit part (filter (λ c. not (goes c))) old.now new.now (deleting.takes at t there tests goes old new _ params ran.0 has same (was.whole t.tree is) w)
+                edits_rows h edit part (filter (λ c. not (goes c))) old.now new.now (deleting.takes at t there old.now.schema tests goes old new _ params ran.0 has same (was.whole t.tree is) w)
                 (take_local place h goes own) (λ r. IsPermutation-same _ _ (taken r)) parted parts charter held was some;
           }
 
-      pub changes_edit : {sql : List ℕ} (sets : List Term) (change : Row → Row) → Means sql (Update at (updating.update at t there tests sets))
+      pub changes_edit : {sql : List ℕ} (sets : List Term) (change : Row → Row) → Means sql (Update at (updating.update at t there old.now.schema tests sets))
           → ((r : Row) → cast_all t.columns (eval_all sets (params ∷ r ∷ [])) ≡ change (drop 1 r)) → ((c : Row) → goes c ≡ true → column (change c) place ≡ column c place)
           → ((r : Rows) → rows h (edit r) ≡ map (changed_if goes change) (rows h r))
           → AllEdited h edit part → is_table t.tree ≡ true → IsReady old → IsExecuted sql params old new → EditsHolder h edit old new
@@ -63,8 +63,8 @@ module _ (at : ℕ) (t : Table) (there : slice_get desk_tables at ≡ Some (as_s
           let has = has_schema params means ready ran in
           let w = wrote params means ready ran in
           record {
-            ready = ready_still params means ready ran (updating.applied at t there tests sets old new _ params ran.0 has w).2;
+            ready = ready_still params means ready ran (updating.applied at t there old.now.schema tests sets old new _ params ran.0 has w).2;
             rows = λ charter held was some.
-                edits_rows h edit part (map (changed_if goes change)) old.now new.now (updating.changes at t there tests sets goes change old new _ params ran.0 has same sets_to (was.whole t.tree is) w)
+                edits_rows h edit part (map (changed_if goes change)) old.now new.now (updating.changes at t there old.now.schema tests sets goes change old new _ params ran.0 has same sets_to (was.whole t.tree is) w)
                 (change_local place h goes own change keeps) (λ r. IsPermutation-same _ _ (changed r)) parted parts charter held was some;
           }

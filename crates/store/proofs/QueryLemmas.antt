@@ -2,7 +2,7 @@
 use Rattle.std.proofs.Common.{◌≡◌, ◌⊎◌, inl, inr, ℕ, List, [], ◌∷◌, Option, Some, None, Result, Ok, Err, IfOk, IfErr, IsErr, OnOk, IsTrue, false, refl, sym, ap, subst, ◌∙◌, arith}
 use Rattle.std.proofs.lemmas.Result.{IfOk-weaker}
 use Rattle.sqlite.specs.declared.error.Error.{Error}
-use Rattle.sqlite.specs.Effect.{Database}
+use Rattle.sqlite.specs.Effect.{Database, Reads}
 use Rattle.sqlite.specs.Listing.{understood, reads_listing, IsSourceOf}
 use Rattle.sqlite.specs.State.{State, KeepsCommit, IsUnchanged, IsRolledBack, IsNotRun, Shown, ShowsRows, FailsToQuery, FailsToShow, IsTooLate, CommitsShowing, HasCleanDisk, Survives}
 use Rattle.sqlite.specs.Clock.{timed}
@@ -14,18 +14,18 @@ use Rattle.sqlite_value.specs.Order.{Row}
 use Rattle.sqlite_trees.specs.Tree.{Trees}
 use Rattle.sqlite_schema.specs.declared.command.Command.{Command}
 use Rattle.sqlite_schema.specs.declared.command.Returning.{Returning}
-use Rattle.store.specs.Tables.{desk_schema}
+use Rattle.tables.specs.Tables.{desk_tables, desk_beside, OverDesk}
 use Rattle.store.specs.steps.Queries.{AreSelected, IsAsBefore}
 use Rattle.store.specs.steps.Statements.{IsReady}
-use Rattle.store.proofs.Texts.{Means}
+use Rattle.tables.proofs.Texts.{Means, beside, at_desk}
 
 -- a query that answered changed nothing
 pub shown_same : (sql : List ℕ) (params : Row) (old new : State) (rows : List Row) → IsPlain (understood old.now.schema sql) → Shown sql params old new rows → IsUnchanged old new
 unfolding Shown
 shown_same sql params old new rows plain h = let none = (subst IsPlain h.1.is plain).0 in (rw none at h.2).3
 
-pub asked_same : (sql : List ℕ) (command : Command) → Means sql command → (params : Row) (old new : State) (rows : List Row) → old.now.schema ≡ desk_schema → Shown sql params old new rows → IsUnchanged old new
-asked_same sql command means params old new rows has = shown_same sql params old new rows (subst (λ s. IsPlain (understood s sql)) (sym has) means.plain)
+pub asked_same : (sql : List ℕ) (command : Command) → Means sql command → (params : Row) (old new : State) (rows : List Row) → old.now.schema.tables ≡ desk_tables → Shown sql params old new rows → IsUnchanged old new
+asked_same sql command means params old new rows has = shown_same sql params old new rows (at_desk (λ s. IsPlain (understood s sql)) means.plain _ has)
 
 pub shown_open : (sql : List ℕ) (params : Row) (old new : State) (rows : List Row) → Shown sql params old new rows → IsTrue old.is_open
 unfolding Shown
@@ -34,6 +34,14 @@ shown_open sql params old new rows h = go h.0.returning h.2
     go : (returning : Option Returning) → ShowsRows old new sql h.0 (timed params h.0.formats h.1.now) rows returning → IsTrue old.is_open
     go None x = x.3.0.was_open
     go (Some what) x = x.1.shown.was_open
+
+-- what a text reads whose meaning is known
+pub reads_desk :
+    {sql : List ℕ} {command : Command} → Means sql command → (params : Row) (old new : State) (rows : List Row)
+    → (IsTrue old.is_open → old.now.schema.tables ≡ desk_tables) → Shown sql params old new rows → Reads command old.now params rows
+reads_desk means params old new rows has shown =
+    let same = beside old.now.schema (has (shown_open _ params old new rows shown)) in
+    reads_as _ params old new (desk_beside old.now.schema) same _ (means.is old.now.schema) (means.plain old.now.schema) (means.unlisted old.now.schema) rows shown
 
 -- a query that failed changed nothing, or undid the transaction
 pub failed_to_query : (sql : List ℕ) (params : Row) (old new : State) (e : Error) → FailsToQuery sql params old new e → IsUnchanged old new ⊎ IsRolledBack old new
@@ -52,7 +60,7 @@ kept_inside sql params old new e (inl failed) = unchanged_keeps old new (failed_
 kept_inside sql params old new e (inr late) = unchanged_keeps old new (inl late.5)
 
 pub answered_inside : (sql : List ℕ) (command : Command) → Means sql command → (params : Row) (old new : State) (rows : List Row) → IsReady old → Shown sql params old new rows → IsUnchanged old new
-answered_inside sql command means params old new rows ready shown = asked_same sql command means params old new rows (ready.schema (shown_open sql params old new rows shown)) shown
+answered_inside sql command means params old new rows ready shown = asked_same sql command means params old new rows (ready.tables (shown_open sql params old new rows shown)) shown
 
 -- ---- a query outside a transaction, which is compiled first
 
@@ -77,9 +85,9 @@ pub as_before : (old new : State) → (IsTrue old.is_open → old.now ≡ old.co
 as_before old new settled (inl same) opened = (same.0.was_open, same.0.now_is, same.0.committed_is)
 as_before old new settled (inr back) opened = let was = back.was_open opened in (was, (back.undone opened).0 ∙ sym (settled was), (back.undone opened).1)
 
-module _ (sql : List ℕ) (params : Row) (old mid new : State) (has : IsTrue old.is_open → old.now.schema ≡ desk_schema) (plain : IsPlain (understood desk_schema sql)) (compiled : IsUnchanged old mid) where
+module _ (sql : List ℕ) (params : Row) (old mid new : State) (has : IsTrue old.is_open → old.now.schema.tables ≡ desk_tables) (plain : OverDesk (λ s. IsPlain (understood s sql))) (compiled : IsUnchanged old mid) where
   plain_then : IsPlain (understood mid.now.schema sql)
-  plain_then = subst (λ s. IsPlain (understood s sql)) (sym (ap (λ (d : Database). d.schema) compiled.0.now_is ∙ has compiled.0.was_open)) plain
+  plain_then = at_desk (λ s. IsPlain (understood s sql)) plain _ (ap (λ (d : Database). d.schema.tables) compiled.0.now_is ∙ has compiled.0.was_open)
 
   pub asked_shown : (rows : List Row) → Shown sql params mid new rows → Shown sql params old new rows
   asked_shown rows h = shown_plain sql params old mid new rows plain_then compiled h
@@ -103,8 +111,8 @@ module _ (sql : List ℕ) (params : Row) (old mid new : State) (has : IsTrue old
   asked_commits db = never_commits sql params mid db plain_then
 
 -- the clauses of a query that was compiled, whatever its rows are kept in
-module _ {X : Type 0} (items : X → List Row) (r : Result X Error) (sql text : List ℕ) (params : Row) (old mid new : State) (has : IsTrue old.is_open → old.now.schema ≡ desk_schema)
-    (plain : IsPlain (understood desk_schema sql)) (compiled : (text ≡ sql) × IsUnchanged old mid) where
+module _ {X : Type 0} (items : X → List Row) (r : Result X Error) (sql text : List ℕ) (params : Row) (old mid new : State) (has : IsTrue old.is_open → old.now.schema.tables ≡ desk_tables)
+    (plain : OverDesk (λ s. IsPlain (understood s sql))) (compiled : (text ≡ sql) × IsUnchanged old mid) where
   at_sql : (rows : List Row) → Shown text params mid new rows → Shown sql params mid new rows
   at_sql rows h = subst (λ t. Shown t params mid new rows) compiled.0 h
 
@@ -121,7 +129,7 @@ module _ {X : Type 0} (items : X → List Row) (r : Result X Error) (sql text : 
       go (Ok x) h fails settled = as_before old new settled (inl (asked_unchanged sql params old mid new has plain compiled.1 (items x) (at_sql (items x) h)))
       go (Err e) h fails settled = as_before old new settled (asked_failed sql params old mid new has plain compiled.1 e (subst (λ t. FailsToQuery t params mid new e) compiled.0 fails))
 
-pub answer_survives : (sql text : List ℕ) (params : Row) (old mid new : State) → (HasCleanDisk old → IsTrue old.is_open → old.now.schema ≡ desk_schema) → IsPlain (understood desk_schema sql) → (HasCleanDisk mid → (text ≡ sql) × IsUnchanged old mid)
+pub answer_survives : (sql text : List ℕ) (params : Row) (old mid new : State) → (HasCleanDisk old → IsTrue old.is_open → old.now.schema.tables ≡ desk_tables) → OverDesk (λ s. IsPlain (understood s sql)) → (HasCleanDisk mid → (text ≡ sql) × IsUnchanged old mid)
     → Survives old mid (λ _. ⊥) → Survives mid new (CommitsShowing text params mid) → Survives old new (λ _. ⊥)
 answer_survives sql text params old mid new has plain compiled one two =
     survives_then old mid new (λ _. ⊥) (CommitsShowing text params mid) (λ _. ⊥) (λ _ db none. none) (λ clean db commits.
@@ -133,11 +141,12 @@ answer_survives sql text params old mid new has plain compiled one two =
 
 pub selected :
     (sql h : List ℕ) (values : Row) (old new : State) (rows : List Row)
-    → IsPlain (understood desk_schema sql) → reads_listing desk_schema sql ≡ false → (IsTrue old.is_open → old.now.schema ≡ desk_schema)
+    → OverDesk (λ s. IsPlain (understood s sql)) → OverDesk (λ s. reads_listing s sql ≡ false) → (IsTrue old.is_open → old.now.schema.tables ≡ desk_tables)
     → values ≡ Text h ∷ [] → Shown sql values old new rows → AreSelected sql h old.now rows
 selected sql h values old new rows plain unlisted has is shown =
     let of_name = subst (λ params. Shown sql params old new rows) is shown in
-    reads_as sql (Text h ∷ []) old new desk_schema (has (shown_open sql (Text h ∷ []) old new rows of_name)) (command_of (understood desk_schema sql)) refl plain unlisted rows of_name
+    let same = beside old.now.schema (has (shown_open sql (Text h ∷ []) old new rows of_name)) in
+    reads_as sql (Text h ∷ []) old new (desk_beside old.now.schema) same (command_of (understood (desk_beside old.now.schema) sql)) refl (plain old.now.schema) (unlisted old.now.schema) rows of_name
 
 pub no_answer : {Y F : Type 0} (P : Type 0) (s : Result Y F) → IsErr s → OnOk s P
 no_answer P (Ok y) none = absurd cc

@@ -22,10 +22,10 @@ use Rattle.policy.specs.declared.change.Edit.{Edit}
 use Rattle.policy.specs.declared.change.Edit.TheVariants.{Register, Hold, Grant, Revoke, Create, Amend, Withdraw}
 use Rattle.policy.specs.Rows.{Rows, new_rows, edited, edited_if_any}
 use Rattle.policy.proofs.Names.{same_name-true}
-use Rattle.store.specs.TablesHold.{TablesHold}
+use Rattle.tables.specs.TablesHold.{TablesHold}
 use Rattle.store.specs.steps.RowEdits.{with_holdings, without_auths, is_registration}
 use Rattle.store.specs.steps.Statements.{state_in, WhenClean, IfDone, StaysInside, IsExecuted, IsReady, at_holder, EditsRows, EditsHolder, TellsWhetherRegistered, Registers, registered, MakesChange}
-use Rattle.store.proofs.TreeRows.{filter_twice, all_kept, neither}
+use Rattle.tables.proofs.TreeRows.{filter_twice, all_kept, neither}
 
 -- equal rows of every holder
 pub same_rows : (charter : CharterSets) (rows other : List ℕ → Option Rows) (trees : Trees) → ((k : List ℕ) → rows k ≡ other k) → TablesHold charter rows trees → TablesHold charter other trees

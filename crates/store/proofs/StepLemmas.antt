@@ -12,6 +12,7 @@ use Rattle.sqlite_value.specs.declared.value.Value.TheVariants.{Null, Int, Real,
 use Rattle.sqlite_value.specs.Order.{Row, column, value_cmp}
 use Rattle.sqlite_value.proofs.OrderLemmas.{value_cmp-apart}
 use Rattle.sqlite_schema.specs.declared.command.Command.{Command}
+use Rattle.sqlite_schema.specs.declared.schema.Schema.{Schema}
 use Rattle.sqlite_sql.specs.declared.ops.CompareOp.TheVariants.{Eq}
 use Rattle.sqlite_sql.specs.declared.ops.BinaryOp.TheVariants.{Compare}
 use Rattle.sqlite_typed.proofs.TestLemmas.{last_term}
@@ -21,14 +22,14 @@ use Rattle.policy.specs.declared.authorization.Auth.{Auth}
 use Rattle.policy.specs.declared.grant.Granted.{Granted}
 use Rattle.policy.specs.CharterSets.{CharterSets}
 use Rattle.policy.specs.Rows.{Rows}
-use Rattle.store.specs.Tables.{desk_schema, contents, is_table, IsTree, AreTrees}
-use Rattle.store.specs.Cells.{schema_row, operator_row, prefix_cells}
-use Rattle.store.specs.steps.Edits.{Edits}
-use Rattle.store.specs.TablesHold.{Part, part_rows, is_name_of, holder_part, holding_part, granted_part, auth_part, HoldsPart, HoldsCharter, TablesHold}
+use Rattle.tables.specs.Tables.{desk_beside, contents, is_table, IsTree, AreTrees}
+use Rattle.tables.specs.Cells.{schema_row, operator_row, prefix_cells}
+use Rattle.tables.specs.steps.Edits.{Edits}
+use Rattle.tables.specs.TablesHold.{Part, part_rows, is_name_of, holder_part, holding_part, granted_part, auth_part, HoldsPart, HoldsCharter, TablesHold}
 use Rattle.store.specs.steps.Statements.{IsReady, IsExecuted, EditsRows}
-use Rattle.store.proofs.PartLemmas.{names, IsLocal, EditsPart, turned_at, part_same, part_turned}
-use Rattle.store.proofs.Selecting.{picks}
-use Rattle.store.proofs.Texts.{Means, equals}
+use Rattle.tables.proofs.PartLemmas.{names, IsLocal, EditsPart, turned_at, part_same, part_turned}
+use Rattle.tables.proofs.Selecting.{picks}
+use Rattle.tables.proofs.Texts.{Means, beside, equals}
 
 true_back : (b : Bool) → is_true (from_truth (Some b)) ≡ b
 true_back true = refl
@@ -61,14 +62,14 @@ pub holder_test : (place : ℕ) (h : List ℕ) (more r : Row) → picks (Text h 
 holder_test place h more r = last_term (equals_text (column r (suc place)) h ∙ ap (is_name_of h) (column_after r place))
 
 module _ {sql : List ℕ} (params : Row) {command : Command} (means : Means sql command) {old new : State} (ready : IsReady old) (ran : IsExecuted sql params old new) where
-  pub has_schema : old.now.schema ≡ desk_schema
-  has_schema = ready.schema ran.1.1.was_open
+  pub has_schema : old.now.schema ≡ desk_beside old.now.schema
+  has_schema = beside old.now.schema (ready.tables ran.1.1.was_open)
 
-  pub wrote : Runs old new None command (statement_of sql (understood desk_schema sql)) params ran.0
-  wrote = runs_as sql params old new desk_schema has_schema command means.is means.plain ran.0 ran.1.0
+  pub wrote : Runs old new None command (statement_of sql (understood (desk_beside old.now.schema) sql)) params ran.0
+  wrote = runs_as sql params old new (desk_beside old.now.schema) has_schema command (means.is old.now.schema) (means.plain old.now.schema) ran.0 ran.1.0
 
-  pub ready_still : new.now.schema ≡ desk_schema → IsReady new
-  ready_still keeps = record { schema = λ _. keeps; inside = ran.1.1.mode }
+  pub ready_still : new.now.schema ≡ desk_beside old.now.schema → IsReady new
+  ready_still keeps = record { tables = λ _. ap (λ (s : Schema). s.tables) keeps; inside = ran.1.1.mode }
 
 -- every other table stays sound
 pub sound_still : (tree : ℕ) (by : List Row → List Row) (old new : Database) → Edits tree by old new → AreTrees old.trees → AreTrees new.trees

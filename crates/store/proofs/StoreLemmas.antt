@@ -13,17 +13,17 @@ use Rattle.store.specs.steps.Queries.{IsAsBefore, IsOfAll}
 use Rattle.store.specs.StoreRows.{RowChange, IsNew}
 use Rattle.store.specs.StoreRows.{StoreView, IsDeskWhileOpen, Holds, IsRead, MayLeave, LeavesOnly}
 use Rattle.store.specs.steps.Statements.{CommitsChange, MayCommit, MakesChange, RowsBecome}
-use Rattle.store.specs.TablesHold.{TablesHold}
+use Rattle.tables.specs.TablesHold.{TablesHold}
 
 pub kept_still : (old new : State) → (HasCleanDisk new → HasCleanDisk old) → (HasCleanDisk new → IsTrue new.is_open → IsAsBefore old new) → IsDeskWhileOpen old → IsDeskWhileOpen new
 kept_still old new before same kept clean opened =
     let as_before = same clean opened in
     let was = kept (before clean) as_before.0 in
-    record { schema = ap (λ (d : Database). d.schema) as_before.1 ∙ was.schema; settled = as_before.2 ∙ was.settled ∙ sym as_before.1 }
+    record { tables = ap (λ (d : Database). d.schema.tables) as_before.1 ∙ was.tables; settled = as_before.2 ∙ was.settled ∙ sym as_before.1 }
 
 pub kept_after : {X E : Type 0} (r : Result X E) (to : RowChange) (old new : State) → (HasCleanDisk new → HasCleanDisk old) → (HasCleanDisk new → OnOk r (CommitsChange to old new))
     → (HasCleanDisk new → IsTrue new.is_open → OnErr r (IsAsBefore old new)) → IsDeskWhileOpen old → IsDeskWhileOpen new
-kept_after (Ok a) to old new before ok err kept clean opened = let made = ok clean in record { schema = made.schema; settled = made.committed }
+kept_after (Ok a) to old new before ok err kept clean opened = let made = ok clean in record { tables = made.tables; settled = made.committed }
 kept_after (Err e) to old new before ok err kept clean opened = kept_still old new before err kept clean opened
 
 -- the store over a connection
@@ -86,7 +86,7 @@ module _ {S : Type 0} (g : Ghosts S) (to : RowChange) (first begun mid last : He
       record {
         was_open = it.0;
         is_open = shown.is_open;
-        schema = ap (λ (d : Database). d.schema) shown.now_is ∙ turned.ready.schema shown.was_open;
+        tables = ap (λ (d : Database). d.schema.tables) shown.now_is ∙ turned.ready.tables shown.was_open;
         rows = λ charter rows was. subst (λ (d : Database). TablesHold charter (to rows) d.trees) (sym shown.now_is) (it.1 charter rows was);
         committed = shown.committed_is ∙ sym shown.now_is;
       }

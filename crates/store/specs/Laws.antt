@@ -1,6 +1,5 @@
 -- What follows for the rows of a history.
-use Rattle.std.specs.Prelude.{ℕ, List, Option, Some, None, ⊤}
-use Rattle.addr.specs.Spans.{AreMaximal}
+use Rattle.std.specs.Prelude.{ℕ, List, Option}
 use Rattle.policy.specs.declared.charter.Charter.{Charter}
 use Rattle.policy.specs.declared.rows.HolderRows.{HolderRows}
 use Rattle.policy.specs.History.{History}
@@ -10,16 +9,11 @@ use Rattle.policy.specs.Values.{HistoryFits, FitIfAny}
 use Rattle.policy.specs.Verdict.{IsLegal}
 use Rattle.store.specs.Loads.{AreLoaded, AllGiveOn}
 
--- what `Holdings` promises of the rows
-abbrev pub AreMaximalIfAny : Option HolderRows → Type 0
-AreMaximalIfAny None = ⊤
-AreMaximalIfAny (Some r) = AreMaximal r.holdings
-
 -- The rows of a holder after a history, as they are loaded, are its rows after the history.
 abbrev pub LoadsRowsOfHistories : Type 0
 LoadsRowsOfHistories =
     (history : History) (h : List ℕ) (rows : Option Rows) (loaded : Option HolderRows)
-    → RowsIfAny history h rows → AreMaximalIfAny loaded → AreLoaded rows loaded
+    → RowsIfAny history h rows → AreLoaded rows loaded
     → RowsIfAny history h (rows_if_any loaded)
 
 -- The rows of a legal history whose values are those of their types fit, so that no load of a holder

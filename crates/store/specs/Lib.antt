@@ -1,7 +1,3 @@
-pub mod Tables
-pub mod Cells
-pub mod Decode
-pub mod TablesHold
 pub mod Fault
 pub mod StoreRows
 pub mod Loads

@@ -3,7 +3,7 @@ use Rattle.std.specs.Prelude.{◌≡◌, ◌≤◌, ℕ, List, Option, Some, Non
 use Rattle.std.specs.Ordering.{nat_cmp}
 use Rattle.sqlite.specs.Store.{Ghosts}
 use Rattle.addr.specs.Address.{Address}
-use Rattle.addr.specs.Spans.{spans_have}
+use Rattle.addr.specs.Spans.{spans_have, AreMaximal}
 use Rattle.addr.specs.declared.span.Span.{Span}
 use Rattle.addr.specs.declared.vrp.Vrp.{Vrp}
 use Rattle.policy.specs.declared.authorization.Auth.{Auth}
@@ -12,7 +12,7 @@ use Rattle.policy.specs.declared.rows.HolderRows.{HolderRows}
 use Rattle.policy.specs.Rows.{Rows}
 use Rattle.policy.specs.Terms.{IsVrpOf}
 use Rattle.store.specs.StoreRows.{StoreView, Holds}
-use Rattle.store.specs.Decode.{VrpFits}
+use Rattle.tables.specs.Decode.{VrpFits}
 
 -- it is so of the rows that a store holds
 abbrev pub OfHeldRows :
@@ -27,9 +27,10 @@ AreInOrder number xs ys = IsPermutation xs ys × IsSortedByKey number nat_cmp ys
 abbrev pub HaveSame : List Span → List Span → Type 0
 HaveSame spans other = (a : Address) → spans_have other a ≡ spans_have spans a
 
--- The rows of a holder as they are loaded: its addresses as maximal runs, which `Holdings` promises,
--- its grants and its authorizations by rising number, and its counters.
+-- The rows of a holder as they are loaded: its addresses as maximal runs, its grants and its
+-- authorizations by rising number, and its counters.
 pub record IsLoaded (r : Rows) (loaded : HolderRows) : Type 0 where
+  pub maximal : AreMaximal loaded.holdings
   pub holdings : HaveSame r.holdings loaded.holdings
   pub grants : AreInOrder (λ (g : Granted). g.number) r.grants loaded.grants.items
   pub auths : AreInOrder (λ (x : Auth). x.number) r.auths loaded.auths.items

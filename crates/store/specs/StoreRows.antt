@@ -9,8 +9,8 @@ use Rattle.policy.specs.contracts.charter.Charter as charter
 use Rattle.policy.specs.CharterSets.{CharterSets}
 use Rattle.policy.specs.declared.change.Change.{Change}
 use Rattle.policy.specs.Rows.{Rows, changed}
-use Rattle.store.specs.Tables.{blank_schema, desk_schema}
-use Rattle.store.specs.TablesHold.{TablesHold}
+use Rattle.tables.specs.Tables.{blank_schema, desk_schema, desk_tables}
+use Rattle.tables.specs.TablesHold.{TablesHold}
 
 -- a store as its connection and its charter
 pub record StoreView (S : Type 0) : Type 0 where
@@ -34,12 +34,12 @@ changed_rows change rows h = changed change h (rows h)
 
 -- the database has the tables of a desk, unless the disk returned what was not written, or the
 -- connection is shut
-abbrev pub HasDeskSchema : State → Type 0
-HasDeskSchema s = HasCleanDisk s → IsTrue s.is_open → s.now.schema ≡ desk_schema
+abbrev pub HasDeskTables : State → Type 0
+HasDeskTables s = HasCleanDisk s → IsTrue s.is_open → s.now.schema.tables ≡ desk_tables
 
 -- the database has the tables of a desk, and all that it shows is committed
 pub record IsDesk (s : State) : Type 0 where
-  pub schema : s.now.schema ≡ desk_schema
+  pub tables : s.now.schema.tables ≡ desk_tables
   pub settled : s.committed ≡ s.now
 
 abbrev pub IsDeskWhileOpen : State → Type 0

@@ -1,5 +1,4 @@
 -- The steps of the code, which no public contract cites.
-pub mod Edits
 pub mod RowEdits
 pub mod Statements
 pub mod Making

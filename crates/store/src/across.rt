@@ -5,15 +5,15 @@ ghost use Rattle.sqlite_value.specs.declared.value.Value.TheVariants.{Blob};
 ghost use Rattle.sqlite_value.specs.Order.{Row};
 ghost use Rattle.addr.specs.Address.{last_of};
 ghost use Rattle.policy.specs.Rows.{Rows};
-ghost use Rattle.store.specs.Cells.{address, family_number, number_cell};
+ghost use Rattle.tables.specs.Cells.{address, family_number, number_cell};
 ghost use Rattle.store.specs.steps.Queries.{IsAsked, IsOfAll, IsOnCleanDisk, IsReadyToAsk};
 ghost use Rattle.store.specs.steps.Queries.{MeetsSome, FindsInForce, IsPayloadOn};
 
 use crate::ask::ask;
-use crate::cells::{address_bytes, family_number};
 use addr::{Day, Family, Prefix};
 use sqlite::types::{ToSql, ValueRef};
 use sqlite::{Alter, Connection, Error, Row};
+use tables::{address_bytes, family_number};
 
 fn run_values<'a>(family: Family, first: &'a [u8], last: &'a [u8]) -> [ValueRef<'a>; 3]
     ensures { bound result

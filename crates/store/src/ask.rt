@@ -4,7 +4,7 @@ ghost use Rattle.sqlite.specs.Held.{state};
 ghost use Rattle.sqlite.specs.Listing.{understood};
 ghost use Rattle.sqlite.specs.State.{Shown};
 ghost use Rattle.sqlite.specs.Values.{bound};
-ghost use Rattle.store.specs.Tables.{desk_schema};
+ghost use Rattle.tables.specs.Tables.{OverDesk};
 ghost use Rattle.store.specs.steps.Queries.{IsAsked, IsOnCleanDisk, IsReadyToAsk};
 
 use sqlite::types::ValueRef;
@@ -20,7 +20,7 @@ pub(crate) fn ask<S: Alter>(
     values: &[ValueRef<'_>],
 ) -> Result<Vec<Row>, Error>
     requires ready { IsReadyToAsk S.Store conn.old }
-    requires plain { IsPlain (understood desk_schema sql.now) }
+    requires plain { OverDesk (λ s. IsPlain (understood s sql.now)) }
     ensures asked { IsAsked S.Store conn.old conn.new result }
     ensures shown { IsOnCleanDisk S.Store conn.new → IfOk result (λ rows.
         Shown sql.now (bound values.now) (state S.Store conn.old) (state S.Store conn.new)

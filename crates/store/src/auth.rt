@@ -3,11 +3,11 @@ ghost use Rattle.policy.specs.Rows.{edited};
 ghost use Rattle.store.specs.steps.RowEdits.{with_auth, without_auths};
 ghost use Rattle.store.specs.steps.Statements.{IsReady, WhenClean, StaysInside, IfEdited};
 
-use crate::cells::{address_bytes, auth_values, number_values};
 use crate::statement::run;
 use addr::Name;
 use policy::Auth;
 use sqlite::{Alter, Error, Transaction};
+use tables::{address_bytes, auth_values, number_values};
 
 /// Puts an authorization of the holder.
 pub(crate) fn put_auth<S: Alter>(

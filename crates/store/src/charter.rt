@@ -1,14 +1,14 @@
 ghost use Rattle.std.specs.Prelude.{[], ◌∷◌, map};
-ghost use Rattle.store.specs.Cells.{schema_row, operator_row, prefix_cells};
-ghost use Rattle.store.specs.Tables.{meta, operator, pool};
+ghost use Rattle.tables.specs.Cells.{schema_row, operator_row, prefix_cells};
+ghost use Rattle.tables.specs.Tables.{meta, operator, pool};
 ghost use Rattle.store.specs.steps.Statements.{IsReady, WhenClean, IfDone, StaysInside};
 ghost use Rattle.store.specs.steps.Making.{IsMadeTo, PutsRows, HasCharter};
 
-use crate::cells::{address_bytes, name_values, prefix_values};
 use crate::statement::run;
 use addr::{Name, Prefix};
 use policy::Charter;
 use sqlite::{Alter, Error, Transaction};
+use tables::{address_bytes, name_values, prefix_values};
 
 /// Puts the number of the schema.
 fn put_schema<S: Alter>(tx: &mut Transaction<'_, S>) -> Result<(), Error>

@@ -3,11 +3,11 @@ ghost use Rattle.policy.specs.Rows.{edited};
 ghost use Rattle.store.specs.steps.RowEdits.{with_grant};
 ghost use Rattle.store.specs.steps.Statements.{IsReady, WhenClean, StaysInside, IfEdited};
 
-use crate::cells::{address_bytes, granted_values, number_values, scope_first};
 use crate::statement::run;
 use addr::Name;
 use policy::Granted;
 use sqlite::{Alter, Error, Transaction};
+use tables::{address_bytes, granted_values, number_values, scope_first};
 
 /// Puts a grant at the holder.
 pub(crate) fn put_grant<S: Alter>(

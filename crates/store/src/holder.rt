@@ -2,10 +2,10 @@ ghost use Rattle.store.specs.steps.RowEdits.{with_granted, with_created};
 ghost use Rattle.store.specs.steps.Statements.{IsReady, WhenClean, StaysInside, IfDone};
 ghost use Rattle.store.specs.steps.Statements.{IfTold, IfEdited, TellsWhetherRegistered, Registers};
 
-use crate::cells::{name_values, number_values};
 use crate::statement::run;
 use addr::Name;
 use sqlite::{Alter, Error, Transaction};
+use tables::{name_values, number_values};
 
 /// Sets how many grants were made at the holder.
 pub(crate) fn set_granted<S: Alter>(

@@ -2,10 +2,10 @@ ghost use Rattle.std.specs.Prelude.{[], ◌∷◌};
 ghost use Rattle.store.specs.steps.RowEdits.{with_holdings, without_holdings};
 ghost use Rattle.store.specs.steps.Statements.{IsReady, WhenClean, StaysInside, IfEdited};
 
-use crate::cells::{address_bytes, holding_values, name_values};
 use crate::statement::run;
 use addr::{Name, Span};
 use sqlite::{Alter, Error, Transaction};
+use tables::{address_bytes, holding_values, name_values};
 
 /// Puts a run of addresses that the holder holds.
 fn put_holding<S: Alter>(

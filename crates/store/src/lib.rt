@@ -4,20 +4,19 @@
 mod across;
 mod ask;
 mod auth;
-mod cells;
 mod change;
 mod charter;
-mod decode;
 mod fault;
 mod granted;
 mod holder;
 mod holding;
 pub mod laws;
 mod load;
-mod rows;
+mod making;
+mod opening;
+mod select;
 mod statement;
 mod store;
-mod tables;
 
 pub use fault::StoreFault;
 pub use store::Store;

@@ -1,30 +1,34 @@
 ghost use Rattle.std.specs.Prelude.{◌≡◌, ◌↔◌, map, All, Contains, Err, IfOk, IsPermutation, IsSorted};
 ghost use Rattle.sqlite.specs.Held.{state};
+ghost use Rattle.addr.specs.Spans.{AreMaximal};
 ghost use Rattle.addr.specs.declared.vrp.Vrp.{Vrp};
 ghost use Rattle.policy.specs.RowsOfAll.{IsGivenOn};
 ghost use Rattle.policy.specs.Values.{FitIfAny};
 ghost use Rattle.store.specs.Loads.{HaveSame, AreLoaded, AllGiveOn};
-ghost use Rattle.store.specs.TablesHold.{items_if_any};
+ghost use Rattle.tables.specs.TablesHold.{items_if_any};
 ghost use Rattle.store.specs.steps.Queries.{IsAsked, IsOf, IsOfAll, IsOnCleanDisk, IsReadyToAsk, WasRead};
 
 use crate::StoreFault;
 use crate::across::in_force_rows;
 use crate::ask::ask;
-use crate::cells::name_values;
-use crate::rows::{Counters, OfHolder, read_all};
+use crate::select::{OfHolder, read_all};
 use addr::{Day, Holdings, Name, Span, Vrp};
 use policy::HolderRows;
 use sqlite::{Alter, Connection};
 use std::alloc::{AllocError, Global};
+use tables::{Counters, name_values};
 
 /// The addresses of the runs, as maximal runs.
 fn joined(alloc: Global, spans: &[Span]) -> Result<Holdings, AllocError>
-    ensures { IfOk result (λ holdings. HaveSame spans.now holdings) }
+    ensures same { IfOk result (λ holdings. HaveSame spans.now holdings) }
+    ensures maximal { IfOk result AreMaximal }
 {
     let mut holdings = Holdings::new(alloc);
     for span in spans {
         holdings.add_span(span)?;
     }
+    // It tells the proof that the runs are maximal.
+    let _ = holdings.spans();
     Ok(holdings)
 }
 

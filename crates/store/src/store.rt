@@ -1,10 +1,10 @@
 ghost use Rattle.std.specs.Prelude.{◌≡◌, ◌≢◌, ◌↔◌, false, None, Err, OnOk, OnErr, IfOk, IsTrue};
 ghost use Rattle.sqlite.specs.Held.{state};
 ghost use Rattle.sqlite.specs.State.{HasCleanDisk};
-ghost use Rattle.store.specs.StoreRows.{changed_rows, HasDeskSchema};
+ghost use Rattle.store.specs.StoreRows.{changed_rows, HasDeskTables};
 ghost use Rattle.store.specs.StoreRows.{IsUnused, IsNew, LeavesNew, LeavesOldOrNew};
-ghost use Rattle.store.specs.Tables.{blank_schema};
-ghost use Rattle.store.specs.TablesHold.{TablesHold};
+ghost use Rattle.tables.specs.Tables.{blank_schema};
+ghost use Rattle.tables.specs.TablesHold.{TablesHold};
 ghost use Rattle.store.specs.steps.Statements.{CommitsChange, MayCommit};
 ghost use Rattle.store.specs.steps.Statements.{IfCommitted, IfRolledBack, CommitsAtMost};
 
@@ -13,7 +13,7 @@ use crate::across::some_overlap;
 use crate::change::make_change;
 use crate::charter::put_charter;
 use crate::load::{load_rows, load_vrps};
-use crate::tables::{make_first_tables, make_other_tables};
+use crate::making::{make_first_tables, make_other_tables};
 use addr::{Day, Name, Prefix, Vrp};
 use policy::{Change, Charter, HolderRows};
 use sqlite::{Alter, Connection, MemStore};
@@ -24,7 +24,7 @@ use std::marker::Model;
 /// Makes the change in one transaction.
 fn commit_change<S: Alter>(conn: &mut Connection<S>, change: &Change) -> Result<(), StoreFault>
     requires idle { conn.old.in_transaction ≡ false }
-    requires schema { HasDeskSchema (state S.Store conn.old) }
+    requires tables { HasDeskTables (state S.Store conn.old) }
     ensures idle { conn.new.in_transaction ≡ false }
     ensures ok { IfCommitted S.Store result
         (CommitsChange (changed_rows change.now)) conn.old conn.new }

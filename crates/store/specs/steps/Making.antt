@@ -5,9 +5,9 @@ use Rattle.sqlite.specs.State.{State}
 use Rattle.sqlite_schema.specs.declared.schema.Schema.{Schema}
 use Rattle.sqlite_value.specs.Order.{Row}
 use Rattle.policy.specs.CharterSets.{CharterSets}
-use Rattle.store.specs.Tables.{desk_tables, desk_indexes}
-use Rattle.store.specs.steps.Edits.{Edits}
-use Rattle.store.specs.TablesHold.{TablesHold}
+use Rattle.tables.specs.Tables.{desk_tables, desk_indexes, desk_schema}
+use Rattle.tables.specs.steps.Edits.{Edits}
+use Rattle.tables.specs.TablesHold.{TablesHold}
 use Rattle.store.specs.steps.Statements.{IsReady}
 
 -- the schema of the first tables, of which `auth` has two keys and every other has one
@@ -27,5 +27,6 @@ pub record PutsRows (tree : ℕ) (rows : List Row) (old new : State) : Type 0 wh
 
 -- a transaction in which the tables hold the charter, and no holder is registered
 pub record HasCharter (charter : CharterSets) (s : State) : Type 0 where
-  pub ready : IsReady s
+  pub inside : s.in_transaction ≡ true
+  pub schema : s.now.schema ≡ desk_schema
   pub rows : TablesHold charter (λ h. None) s.now.trees

@@ -21,10 +21,10 @@ use Rattle.addr.specs.declared.prefix.Prefix.{Prefix}
 use Rattle.policy.specs.CharterSets.{CharterSets}
 use Rattle.policy.specs.declared.authorization.Auth.{Auth}
 use Rattle.policy.specs.Rows.{Rows}
-use Rattle.store.specs.Cells.{number_cell, prefix_cells}
-use Rattle.store.specs.Tables.{contents}
-use Rattle.store.specs.Tables.{desk_schema}
-use Rattle.store.specs.TablesHold.{TablesHold, items_if_any, auth_part}
+use Rattle.tables.specs.Cells.{number_cell, prefix_cells}
+use Rattle.tables.specs.Tables.{desk_beside, OverDesk, contents, columns}
+use Rattle.store.specs.StoreRows.{HasDeskTables}
+use Rattle.tables.specs.TablesHold.{TablesHold, items_if_any, auth_part}
 
 -- nothing was committed, and what is shown is as it was
 abbrev pub IsAsBefore : State → State → Type 0
@@ -37,7 +37,7 @@ IsOnCleanDisk g conn = HasCleanDisk (state g conn)
 -- what a query needs: no transaction, and the tables of a desk
 pub record IsReadyToAsk {S : Type 0} (g : Ghosts S) (conn : Held S) : Type 0 where
   pub idle : conn.in_transaction ≡ false
-  pub schema : IsOnCleanDisk g conn → IsTrue (state g conn).is_open → conn.schema ≡ desk_schema
+  pub tables : HasDeskTables (state g conn)
 
 -- What a query leaves: all as it was, where the connection stays open, and after an answer the
 -- savepoints and the counts too. A crash leaves nothing else than before.
@@ -63,9 +63,6 @@ IsOf so h s = IsOfAll (λ rows. so (rows h)) s
 abbrev pub WasRead : ((List ℕ → Option Rows) → Type 0) → State → Type 0
 WasRead so s = IsTrue s.is_open × IsOfAll so s
 
-abbrev pub columns : List ℕ → Row → Row
-columns places c = map (column c) places
-
 abbrev pub by_column : ℕ → Row → Row → Ordering
 by_column at = on (λ r. column r at) value_cmp
 
@@ -73,15 +70,15 @@ by_column at = on (λ r. column r at) value_cmp
 
 -- over the tables of a desk the text answers these rows, with the holder's name as its parameter
 abbrev pub AreSelected : List ℕ → List ℕ → Database → List Row → Type 0
-AreSelected sql h db rows = Reads (command_of (understood desk_schema sql)) db (Text h ∷ []) rows
+AreSelected sql h db rows = Reads (command_of (understood (desk_beside db.schema) sql)) db (Text h ∷ []) rows
 
 -- The text selects these values of a holder: its answer has the row of each, and no other, and rises
 -- by this order. No two values have one row. It reads the tables alone.
 pub record Selects
     {X : Type 0} (cells : X → Row) (items : Rows → List X) (cmp : Row → Row → Ordering) (sql : List ℕ)
     : Type 0 where
-  pub plain : IsPlain (understood desk_schema sql)
-  pub unlisted : reads_listing desk_schema sql ≡ false
+  pub plain : OverDesk (λ s. IsPlain (understood s sql))
+  pub unlisted : OverDesk (λ s. reads_listing s sql ≡ false)
   pub found :
       (h : List ℕ) (db : Database) (rows : List Row) → AreSelected sql h db rows
       → (charter : CharterSets) (all : List ℕ → Option Rows) → TablesHold charter all db.trees

@@ -12,8 +12,8 @@ use Rattle.policy.specs.History.{same_name}
 use Rattle.policy.specs.Rows.{Rows, new_rows}
 use Rattle.store.specs.steps.Queries.{IsAsBefore}
 use Rattle.store.specs.StoreRows.{RowChange}
-use Rattle.store.specs.Tables.{desk_schema}
-use Rattle.store.specs.TablesHold.{TablesHold}
+use Rattle.tables.specs.Tables.{desk_tables}
+use Rattle.tables.specs.TablesHold.{TablesHold}
 
 -- ---- every statement
 
@@ -48,7 +48,7 @@ IsExecuted sql params old new = (count : ℕ) × ExecutesInside 0 sql params old
 
 -- a transaction over the tables of a desk
 pub record IsReady (s : State) : Type 0 where
-  pub schema : IsTrue s.is_open → s.now.schema ≡ desk_schema
+  pub tables : IsTrue s.is_open → s.now.schema.tables ≡ desk_tables
   pub inside : s.in_transaction ≡ true
 
 -- ---- the rows of one holder
@@ -111,7 +111,7 @@ pub record MakesChange (to : RowChange) (old new : State) : Type 0 where
 pub record CommitsChange (to : RowChange) (old new : State) : Type 0 where
   pub was_open : IsTrue old.is_open
   pub is_open : IsTrue new.is_open
-  pub schema : new.now.schema ≡ desk_schema
+  pub tables : new.now.schema.tables ≡ desk_tables
   pub rows : RowsBecome to old.now new.now
   pub committed : new.committed ≡ new.now
 

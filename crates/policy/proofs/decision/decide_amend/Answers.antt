@@ -1,12 +1,11 @@
-use Rattle.std.proofs.Common.{◌≡◌, ◌≤◌, ◌∷◌, true, not, refl, sym, ◌∙◌, ap, inl, inr}
+use Rattle.std.proofs.Common.{◌≡◌, ◌≤◌, true, not, refl, sym, ◌∙◌, ap, inl, inr, subst}
 use Rattle.std.proofs.lemmas.Bool.{false≢true, not-true}
 use Rattle.std.proofs.lemmas.Result.{err_from_is_err_and}
 use Rattle.policy.specs.declared.command.Command.TheVariants.{Amend}
-use Rattle.policy.specs.Answer.{number_made}
-use Rattle.policy.specs.History.{Entry}
+use Rattle.policy.specs.Answer.{IsAccepted}
 use Rattle.policy.specs.Rows.{rows_of}
 use Rattle.policy.specs.Verdict.{terms_fit_length, OfNumber}
-use Rattle.policy.proofs.RowsLemmas.{carried, number-to, number-from}
+use Rattle.policy.proofs.RowsLemmas.{number-to, number-from}
 use Rattle.policy.proofs.AmendLemmas.{shares_with_other, new_terms, SharesWithNoOther, only-to, only-from}
 use Rattle.policy.proofs.CarryTerms.{carries-amend}
 use Rattle.policy.proofs.decision.decide_amend.Goals as goal
@@ -60,7 +59,6 @@ pub returns : goal.returns
 returns c history legal are =
     let a = c.args in
     let h = a.holder.name.now in
-    let e : Entry = record { day = a.basis.day; caller = a.basis.caller.now; command = Amend h a.number a.max a.until } in
     let had = c.in_ok-rows.ensures a.basis.charter.now history h legal are in
     let number = c.in_ok-auth.ensures history h had.2 in
     let x = c.in_ok-auth.auth.now in
@@ -68,9 +66,10 @@ returns c history legal are =
     let dates = number-to history h rows a.number x (λ y. (y.from ≤ a.until) × (a.basis.day ≤ a.until)) had.2 number.0 (c.are_dates.ensures.0 c.in_ok-require.ensures) in
     let length = number-to history h rows a.number x (λ y. terms_fit_length y a.max ≡ true) had.2 number.0 (sym c.fits_length.ensures ∙ c.in_ok-require-2.ensures) in
     let shared = ap (shares_with_other x.number (new_terms x a.max a.until)) (sym c.deref.ensures.value) ∙ sym c.shares_with_other.ensures in
-    let only = only-to history h rows a.number a.max a.until x had.2 number.0 (shared ∙ not-true c.shares_with_other.result c.in_ok-require-3.ensures) in (
+    let only = only-to history h rows a.number a.max a.until x had.2 number.0 (shared ∙ not-true c.shares_with_other.result c.in_ok-require-3.ensures) in
+    subst (IsAccepted a.basis.charter.now history a.basis.day a.basis.caller.now (Amend h a.number a.max a.until)) (sym c.change_of.ensures) (
       (had.0, (number.1, (dates, (length, (only, tt))))),
-      ap (λ ch. number_made ch.first.edit) c.change_of.ensures,
-      carried history (e ∷ history) c.change_of.result _ c.change_of.ensures
-          (carries-amend history a.basis.day a.basis.caller.now h a.number a.max a.until rows x _ had.1 had.2 number.0 refl),
+      refl,
+      carries-amend history a.basis.day a.basis.caller.now h a.number a.max a.until rows x _ had.1 had.2 number.0 refl,
+      (tt, tt),
     )

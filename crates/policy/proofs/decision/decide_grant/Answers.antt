@@ -1,12 +1,10 @@
-use Rattle.std.proofs.Common.{ℕ, ◌<◌, ◌≤◌, ◌∷◌, sym, ◌∙◌, ap, subst, length, Some, arith, ◌+◌}
+use Rattle.std.proofs.Common.{ℕ, ◌<◌, ◌≤◌, sym, ◌∙◌, ap, subst, length, Some, arith, ◌+◌}
 use Rattle.std.proofs.lemmas.Bool.Decides.{nat_tests}
 use Rattle.policy.specs.declared.admission.TheConstants.{MOST_GRANTS, LAST_NUMBER}
 use Rattle.policy.specs.declared.command.Command.TheVariants.{Grant}
 use Rattle.policy.specs.declared.grant.Granted.{Granted}
-use Rattle.policy.specs.Answer.{number_made}
-use Rattle.policy.specs.History.{Entry}
+use Rattle.policy.specs.Answer.{IsAccepted}
 use Rattle.policy.specs.Terms.{grant_terms, grants_made}
-use Rattle.policy.proofs.RowsLemmas.{carried}
 use Rattle.policy.proofs.CarryGrants.{carries-grant}
 use Rattle.policy.proofs.decision.decide_grant.Goals as goal
 
@@ -15,7 +13,6 @@ returns c history legal are =
     let a = c.args in
     let h = a.holder.name.now in
     let t = a.terms.now in
-    let e : Entry = record { day = a.basis.day; caller = a.basis.caller.now; command = Grant h t.caller t.role t.scope t.until } in
     let had = c.in_ok-rows.ensures history h are in
     let r = c.in_ok-rows.rows.now in
     let room = c.has_room_for_grant.ensures.0 c.in_ok-require-3.ensures in
@@ -25,10 +22,11 @@ returns c history legal are =
     let today = c.number.ensures.value in
     let last = c.number-2.ensures.value in
     let in_time : a.basis.day ≤ t.until = grind (arith, nat_tests) in
-    let new = λ (k : ℕ). let g : Granted = record { number = k + 1; caller = t.caller; role = t.role; scope = t.scope; until = t.until } in g in (
+    let new = λ (k : ℕ). let g : Granted = record { number = k + 1; caller = t.caller; role = t.role; scope = t.scope; until = t.until } in g in
+    subst (IsAccepted a.basis.charter.now history a.basis.day a.basis.caller.now (Grant h t.caller t.role t.scope t.until)) (sym c.change_of.ensures) (
       (sym (c.is_steward.ensures history h legal are) ∙ c.in_ok-require.ensures, (had.0, (in_time, ((few, made), tt)))),
-      ap (λ ch. number_made ch.first.edit) c.change_of.ensures ∙ ap (λ (g : Granted). Some g.number) c.numbered-grant.ensures
+      ap (λ (g : Granted). Some g.number) c.numbered-grant.ensures
           ∙ ap (λ n. Some (n + 1)) had.1.granted,
-      carried history (e ∷ history) c.change_of.result _ c.change_of.ensures
-          (carries-grant history a.basis.day a.basis.caller.now h t.caller t.role t.scope t.until _ had.0 (c.numbered-grant.ensures ∙ ap new had.1.granted)),
+      carries-grant history a.basis.day a.basis.caller.now h t.caller t.role t.scope t.until _ had.0 (c.numbered-grant.ensures ∙ ap new had.1.granted),
+      (tt, tt),
     )

@@ -1,10 +1,9 @@
-use Rattle.std.proofs.Common.{◌∷◌, sym, ◌∙◌, ap, eqb, inl, inr}
+use Rattle.std.proofs.Common.{sym, ◌∙◌, eqb, inl, inr, refl, subst}
 use Rattle.std.proofs.lemmas.Bool.{false≢true}
 use Rattle.std.proofs.lemmas.Result.{err_from_is_err_and}
 use Rattle.policy.specs.declared.command.Command.TheVariants.{Revoke}
-use Rattle.policy.specs.Answer.{number_made}
-use Rattle.policy.specs.History.{Entry}
-use Rattle.policy.proofs.RowsLemmas.{carried, registered-by_grant}
+use Rattle.policy.specs.Answer.{IsAccepted}
+use Rattle.policy.proofs.RowsLemmas.{registered-by_grant}
 use Rattle.policy.proofs.CarryGrants.{carries-revoke}
 use Rattle.policy.proofs.decision.decide_revoke.Goals as goal
 
@@ -12,13 +11,13 @@ pub returns : goal.returns
 returns c history legal are =
     let a = c.args in
     let h = a.holder.name.now in
-    let e : Entry = record { day = a.basis.day; caller = a.basis.caller.now; command = Revoke h a.number } in
     let has = sym (c.has_grant.ensures a.basis.charter.now history h legal are) ∙ c.in_ok-require-2.ensures in
-    let registered = registered-by_grant a.basis.charter.now history h a.holder.rows (λ g. eqb g.number a.number) legal are has in (
+    let registered = registered-by_grant a.basis.charter.now history h a.holder.rows (λ g. eqb g.number a.number) legal are has in
+    subst (IsAccepted a.basis.charter.now history a.basis.day a.basis.caller.now (Revoke h a.number)) (sym c.change_of.ensures) (
       (sym (c.is_steward.ensures history h legal are) ∙ c.in_ok-require.ensures, (has, tt)),
-      ap (λ ch. number_made ch.first.edit) c.change_of.ensures,
-      carried history (e ∷ history) c.change_of.result _ c.change_of.ensures
-          (carries-revoke history a.basis.day a.basis.caller.now h a.number registered),
+      refl,
+      carries-revoke history a.basis.day a.basis.caller.now h a.number registered,
+      (tt, tt),
     )
 
 pub returns-in_err-require-2 : goal.returns-in_err-require-2

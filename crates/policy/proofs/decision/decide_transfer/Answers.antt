@@ -1,12 +1,13 @@
-use Rattle.std.proofs.Common.{refl, sym, ◌∙◌, ap}
+use Rattle.std.proofs.Common.{sym, ◌∙◌, ap}
 use Rattle.std.proofs.lemmas.Bool.{not-true}
 use Rattle.policy.specs.declared.command.Command.TheVariants.{Transfer}
+use Rattle.policy.specs.Answer.{number_made}
 use Rattle.policy.specs.History.{Entry, same_name}
 use Rattle.policy.specs.Rows.{rows_of}
 use Rattle.policy.specs.Terms.{terms_overlap}
 use Rattle.policy.proofs.Names.{same_name-false}
 use Rattle.policy.proofs.Ended.{numbers_where}
-use Rattle.policy.proofs.CarrySpace.{carries-transfer}
+use Rattle.policy.proofs.CarrySpace.{sparing, carries-transfer}
 use Rattle.policy.proofs.decision.decide_transfer.Goals as goal
 
 pub returns : goal.returns
@@ -20,9 +21,10 @@ returns c history day legal giver_are taker_are =
     let held = (c.holds.ensures history a.giver.name.now gave.1).0 c.in_ok-require-3.ensures in
     let numbers = c.in_ok-ended.ensures ∙ ap (numbers_where (λ x. terms_overlap x p)) c.deref.ensures.value in (
       (sym c.is_operator.ensures ∙ c.in_ok-require.ensures, ((gave.0, took.0), (differ, (held, tt)))),
-      refl,
-      carries-transfer history day a.caller.now a.giver.name.now a.taker.name.now p c.in_ok-less.less c.in_ok-more.more c.in_ok-ended.ended c.new.result
+      ap number_made c.in_ok-from_giver.ensures.is,
+      carries-transfer history day a.caller.now a.giver.name.now a.taker.name.now p c.in_ok-less.less c.in_ok-more.more c.in_ok-ended.ended c.new.result c.in_ok-from_giver.from_giver c.in_ok-to_taker.to_taker
           (rows_of c.in_ok-giving.giving.now) (rows_of c.in_ok-taking.taking.now)
           gave.0 took.0 (same_name-false a.giver.name.now a.taker.name.now differ) held gave.1 took.1
-          c.in_ok-less.ensures.maximal c.in_ok-less.ensures.same c.in_ok-more.ensures.maximal c.in_ok-more.ensures.same numbers c.new.ensures.items,
+          c.in_ok-from_giver.ensures c.in_ok-less.ensures c.in_ok-to_taker.ensures c.in_ok-more.ensures numbers c.new.ensures.items,
+      (sparing _ _ _ _ c.in_ok-from_giver.ensures, sparing _ _ _ _ c.in_ok-to_taker.ensures),
     )

@@ -25,7 +25,7 @@ returns-clause-shown g c clean =
     let compiled : HasCleanDisk mid = omega (arith, c.query_all.ensures.survives.clean) in
     let first : HasCleanDisk old = omega (arith, c.prepare.ensures.survives.clean) in
     answer_shown (λ rows. rows.items) c.query_all.result c.args.sql.now _ (bound c.args.values.now) old mid (state g.S.Store c.query_all.new.conn)
-    (c.requires.ready.schema first) c.requires.plain (c.in_ok-query.ensures.ok compiled) (c.query_all.ensures.ok clean)
+    (c.requires.ready.tables first) c.requires.plain (c.in_ok-query.ensures.ok compiled) (c.query_all.ensures.ok clean)
 
 pub returns-clause-asked : goal.returns-clause-asked
 returns-clause-asked g c =
@@ -39,13 +39,13 @@ returns-clause-asked g c =
     record {
       idle = c.query_all.ensures.mode (c.prepare.ensures.mode c.requires.ready.idle);
       same = λ clean.
-          answer_unchanged (λ rows. rows.items) c.query_all.result sql _ params old mid new (c.requires.ready.schema (first clean)) c.requires.plain
+          answer_unchanged (λ rows. rows.items) c.query_all.result sql _ params old mid new (c.requires.ready.tables (first clean)) c.requires.plain
           (c.in_ok-query.ensures.ok (before clean)) (c.query_all.ensures.ok clean);
       kept = λ clean.
-          answer_kept (λ rows. rows.items) c.query_all.result sql _ params old mid new (c.requires.ready.schema (first clean)) c.requires.plain
+          answer_kept (λ rows. rows.items) c.query_all.result sql _ params old mid new (c.requires.ready.tables (first clean)) c.requires.plain
           (c.in_ok-query.ensures.ok (before clean)) (c.query_all.ensures.ok clean) (c.query_all.ensures.err clean)
           (c.is_autocommit-idle.ensures.settled (c.is_autocommit-idle.ensures.value ∙ ap not c.requires.ready.idle));
       survives =
-          answer_survives sql _ params old mid new c.requires.ready.schema c.requires.plain c.in_ok-query.ensures.ok c.prepare.ensures.survives
+          answer_survives sql _ params old mid new c.requires.ready.tables c.requires.plain c.in_ok-query.ensures.ok c.prepare.ensures.survives
           c.query_all.ensures.survives;
     }

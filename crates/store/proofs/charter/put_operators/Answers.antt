@@ -1,5 +1,5 @@
 use Rattle.std.proofs.Common.{arith}
-use Rattle.store.specs.Cells.{operator_row}
+use Rattle.tables.specs.Cells.{operator_row}
 use Rattle.store.proofs.CharterSteps.{puts_none, puts_along}
 use Rattle.store.proofs.RowSteps.{stays, stays_then}
 use Rattle.store.proofs.charter.put_operators.Goals as goal

@@ -1,7 +1,7 @@
 use Rattle.std.proofs.Common.{map, take}
 use Rattle.sqlite.specs.State.{HasCleanDisk}
-use Rattle.store.specs.Tables.{operator}
-use Rattle.store.specs.Cells.{operator_row}
+use Rattle.tables.specs.Tables.{operator}
+use Rattle.tables.specs.Cells.{operator_row}
 use Rattle.store.specs.steps.Making.{PutsRows}
 use Rattle.store.specs.steps.Statements.{state_in, StaysInside}
 use Rattle.store.proofs.charter.put_operators.Given as goal

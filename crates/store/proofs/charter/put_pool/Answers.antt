@@ -1,5 +1,5 @@
 use Rattle.std.proofs.Common.{arith}
-use Rattle.store.specs.Cells.{prefix_cells}
+use Rattle.tables.specs.Cells.{prefix_cells}
 use Rattle.store.proofs.CharterSteps.{puts_none, puts_along}
 use Rattle.store.proofs.RowSteps.{stays, stays_then}
 use Rattle.store.proofs.charter.put_pool.Goals as goal

@@ -1,7 +1,7 @@
 use Rattle.std.proofs.Common.{map, take}
 use Rattle.sqlite.specs.State.{HasCleanDisk}
-use Rattle.store.specs.Tables.{pool}
-use Rattle.store.specs.Cells.{prefix_cells}
+use Rattle.tables.specs.Tables.{pool}
+use Rattle.tables.specs.Cells.{prefix_cells}
 use Rattle.store.specs.steps.Making.{PutsRows}
 use Rattle.store.specs.steps.Statements.{state_in, StaysInside}
 use Rattle.store.proofs.charter.put_pool.Given as goal

@@ -3,10 +3,10 @@ use Rattle.std.proofs.lemmas.Result.{IfOk-weaker}
 use Rattle.std.specs.Prelude.{IsSorted}
 use Rattle.sqlite.specs.Held.{state}
 use Rattle.sqlite.specs.State.{HasCleanDisk}
-use Rattle.store.specs.TablesHold.{items_if_any}
-use Rattle.store.proofs.CellsOnce.{values_shown}
+use Rattle.tables.specs.TablesHold.{items_if_any}
+use Rattle.tables.proofs.CellsOnce.{values_shown}
 use Rattle.store.proofs.QueryLemmas.{selected}
-use Rattle.store.proofs.ReadLemmas.{all_show}
+use Rattle.tables.proofs.ReadLemmas.{all_show}
 use Rattle.store.proofs.load.load_values.Goals as goal
 
 pub ask-requires-clause-plain : goal.ask-requires-clause-plain
@@ -19,7 +19,7 @@ returns-clause-found g c clean =
     let first : HasCleanDisk old = omega (arith, clean, c.ask.ensures.asked.survives.clean) in
     let rows = c.in_ok-rows.rows.items in
     let asks = c.select.ensures in
-    let it = selected c.select.result.now h _ old (state g.S.Store c.ask.new.conn) rows asks.plain asks.unlisted (c.requires.schema first) c.name_values.ensures (c.in_ok-rows.ensures.shown clean) in
+    let it = selected c.select.result.now h _ old (state g.S.Store c.ask.new.conn) rows asks.plain asks.unlisted (c.requires.tables first) c.name_values.ensures (c.in_ok-rows.ensures.shown clean) in
     IfOk-weaker c.read_all.result _ _ (λ values shown charter all holds.
     values_shown g.T.FromRow.cells asks.once (items_if_any g.T.OfHolder.items (all h)) values.items rows (asks.found h old.now rows it charter all holds) shown)
     (rw c.deref.ensures.value at c.read_all.ensures.shown)
@@ -31,7 +31,7 @@ returns-clause-rising g c clean =
     let first : HasCleanDisk old = omega (arith, clean, c.ask.ensures.asked.survives.clean) in
     let rows = c.in_ok-rows.rows.items in
     let asks = c.select.ensures in
-    let it = selected c.select.result.now h _ old (state g.S.Store c.ask.new.conn) rows asks.plain asks.unlisted (c.requires.schema first) c.name_values.ensures (c.in_ok-rows.ensures.shown clean) in
+    let it = selected c.select.result.now h _ old (state g.S.Store c.ask.new.conn) rows asks.plain asks.unlisted (c.requires.tables first) c.name_values.ensures (c.in_ok-rows.ensures.shown clean) in
     IfOk-weaker c.read_all.result _ _ (λ values shown. subst (IsSorted g.T.OfHolder.order) shown (asks.rising h old.now rows it))
     (rw c.deref.ensures.value at c.read_all.ensures.shown)
 
@@ -42,7 +42,7 @@ returns-clause-schema g c clean refused =
     let first : HasCleanDisk old = omega (arith, clean, c.ask.ensures.asked.survives.clean) in
     let rows = c.in_ok-rows.rows.items in
     let asks = c.select.ensures in
-    let it = selected c.select.result.now h _ old (state g.S.Store c.ask.new.conn) rows asks.plain asks.unlisted (c.requires.schema first) c.name_values.ensures (c.in_ok-rows.ensures.shown clean) in (
+    let it = selected c.select.result.now h _ old (state g.S.Store c.ask.new.conn) rows asks.plain asks.unlisted (c.requires.tables first) c.name_values.ensures (c.in_ok-rows.ensures.shown clean) in (
       (c.in_ok-rows.ensures.asked.same clean).0.was_open,
       λ charter all holds fit. all_show g.T.FromRow.cells g.T.FromRow.fits (items_if_any g.T.OfHolder.items (all h)) rows fit (asks.found h old.now rows it charter all holds)
           (rw c.deref.ensures.value at (c.read_all.ensures.schema refused)),

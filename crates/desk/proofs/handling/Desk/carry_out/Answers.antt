@@ -1,16 +1,28 @@
 use Rattle.std.proofs.Common.{refl}
-use Rattle.desk.specs.Desk.{charter_of, desk_rows}
-use Rattle.desk.specs.DeskRows.{rows_at}
-use Rattle.desk.proofs.DeskLemmas.{done_answered}
+use Rattle.desk.specs.Desk.{charter_of}
+use Rattle.desk.specs.declared.reply.Reply.TheVariants.{Unavailable}
+use Rattle.desk.proofs.DeskLemmas.{still_held, not_done, done_answered}
 use Rattle.desk.proofs.handling.Desk.carry_out.Goals as goal
 
-pub returns-in-Ok-apply-clause-answered : goal.returns-in-Ok-apply-clause-answered
-returns-in-Ok-apply-clause-answered c = λ history legal has.
-    done_answered (charter_of c.args.self.now) history c.args.day c.args.caller.now c.args.command.now c.in-Ok.change c.number-number.result
-    (desk_rows c.args.self.now) (rows_at c.apply.new.self) c.entry_fits.ensures legal has (c.in-Ok.ensures.answer history legal has) c.number-number.ensures
-    (rw c.in-Ok.ensures.kept at c.in-Ok-apply.ensures.ok)
+pub returns-in-Err-clause-answered : goal.returns-in-Err-clause-answered
+returns-in-Err-clause-answered g c clean history legal held =
+    not_done g.S.Store (charter_of c.args.self.now) history c.args.day c.args.caller.now c.args.command.now c.in-Err.refused c.decide.new.self legal
+    (c.in-Err.ensures.answer clean history legal held) (still_held g.S.Store c.args.self.now c.decide.new.self history c.in-Err.ensures.read.rows clean held)
 
-pub returns-in-Err-Denied-clause-answered : goal.returns-in-Err-Denied-clause-answered
-returns-in-Err-Denied-clause-answered c = λ history legal has.
-    let denied = rw c.in-Err-Denied.field-0-is at (c.in-Err-Denied.ensures.answer history legal has) in
-    record { after = history; legal = legal; values = λ fit. fit; answers = (denied.0, denied.1, refl); rows_after = rw c.in-Err-Denied.ensures.kept has }
+pub returns-in-Ok-apply-clause-answered : goal.returns-in-Ok-apply-clause-answered
+returns-in-Ok-apply-clause-answered g c clean history legal held =
+    let mid = c.decide.new.self in
+    let before = c.in-Ok-apply.ensures.clean clean in
+    done_answered g.S.Store (charter_of c.args.self.now) history c.args.day c.args.caller.now c.args.command.now c.in-Ok.change c.number-number.result mid (record mid { store = c.apply.new.self })
+    c.entry_fits.ensures legal (still_held g.S.Store c.args.self.now mid history c.in-Ok.ensures.read.rows before held)
+    (c.in-Ok.ensures.answer before history legal held) c.number-number.ensures (c.in-Ok-apply.ensures.ok clean)
+
+pub returns-clause-kept : goal.returns-clause-kept
+returns-clause-kept g c not_done clean rows holds =
+    c.in-Err-apply.ensures.err clean rows (c.in-Ok.ensures.read.rows (c.in-Err-apply.ensures.clean clean) rows holds)
+
+pub returns-clause-answered : goal.returns-clause-answered
+returns-clause-answered g c clean history legal held =
+    let new = record c.decide.new.self { store = c.apply.new.self } in
+    not_done g.S.Store (charter_of c.args.self.now) history c.args.day c.args.caller.now c.args.command.now Unavailable new legal refl
+    (still_held g.S.Store c.args.self.now new history (returns-clause-kept g c refl) clean held)

@@ -1,13 +1,23 @@
-use Rattle.policy.specs.Answer.{holder_of, taker_of}
-use Rattle.policy.specs.declared.command.Command.{Command}
-use Rattle.policy.specs.declared.command.Command.TheVariants.{Transfer}
-use Rattle.desk.specs.Desk.{desk_rows}
-use Rattle.desk.proofs.DeskLemmas.{loaded_rows}
+use Rattle.std.proofs.Common.{◌≡◌, ◌∙◌, Err, subst}
+use Rattle.std.proofs.lemmas.Result.{err_from_is_err_and}
+use Rattle.policy.specs.Answer.{IsAnswer}
+use Rattle.policy.specs.declared.charter.Charter.{Charter}
+use Rattle.desk.specs.Desk.{charter_of}
+use Rattle.desk.proofs.DeskLemmas.{refused_answers}
 use Rattle.desk.proofs.handling.Desk.decide.Goals as goal
 
-pub returns-in_ok-to-in-Transfer-clause-answer : goal.returns-in_ok-to-in-Transfer-clause-answer
-returns-in_ok-to-in-Transfer-clause-answer c = λ history legal has.
-    let known : Command = Transfer c.in-Transfer.prefix c.in-Transfer.giver c.in-Transfer.taker in
-    c.decide_two.ensures history c.args.day legal
-    (loaded_rows history holder_of c.args.command.now known (desk_rows c.args.self.now) c.in_ok-from-in-Transfer.from _ c.in-Transfer.is c.as_ref.ensures.value c.in_ok-from-in-Transfer.ensures has)
-    (loaded_rows history taker_of c.args.command.now known (desk_rows c.args.self.now) c.in_ok-to-in-Transfer.to _ c.in-Transfer.is c.as_ref-in-Transfer.ensures.value c.in_ok-to-in-Transfer.ensures has)
+pub returns-in_err-decide_two-clause-answer : goal.returns-in_err-decide_two-clause-answer
+returns-in_err-decide_two-clause-answer g c clean history legal held =
+    let charter = charter_of c.args.self.now in
+    let same : c.charter-charter.result.now ≡ charter = c.charter-charter.ensures ∙ c.load_two.ensures.read.charter in
+    let rows = c.in_ok-giver.ensures.rows clean history legal held in
+    let refused = err_from_is_err_and c.from_residual-in_err-decide_two.result c.from_residual-in_err-decide_two.ensures.1 in
+    let answer = c.in_err-decide_two.ensures history c.args.day (rw same legal) (rw c.as_ref.ensures.value rows.0) (rw c.as_ref-then-is_transfer.ensures.value rows.1) in
+    rw (refused.1, refused.2) (refused_answers charter history c.args.day c.args.caller.now c.args.command.now c.in_err-decide_two.field-0.0
+    (subst (λ (k : Charter). IsAnswer k history c.args.day c.args.caller.now c.args.command.now (Err c.in_err-decide_two.field-0.0)) same answer))
+
+pub returns-in_ok-decide_two-clause-answer : goal.returns-in_ok-decide_two-clause-answer
+returns-in_ok-decide_two-clause-answer g c clean history legal held =
+    let same : c.charter-charter.result.now ≡ charter_of c.args.self.now = c.charter-charter.ensures ∙ c.load_two.ensures.read.charter in
+    let rows = c.in_ok-giver.ensures.rows clean history legal held in
+    rw same at (c.in_ok-decide_two.ensures history c.args.day (rw same legal) (rw c.as_ref.ensures.value rows.0) (rw c.as_ref-then-is_transfer.ensures.value rows.1))

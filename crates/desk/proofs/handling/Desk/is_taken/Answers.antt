@@ -1,7 +1,16 @@
-use Rattle.desk.specs.Desk.{charter_of, desk_rows}
-use Rattle.desk.proofs.DeskLemmas.{tells_taken}
+use Rattle.std.proofs.Common.{◌↔◌, ℕ, Bool, IsTrue, List, Option}
+use Rattle.policy.specs.Answer.{TellsTaken}
+use Rattle.policy.specs.Rows.{Rows}
+use Rattle.policy.specs.RowsOfAll.{IsTaken}
+use Rattle.desk.specs.Desk.{charter_of}
+use Rattle.desk.proofs.DeskLemmas.{of_held, tells_taken}
 use Rattle.desk.proofs.handling.Desk.is_taken.Goals as goal
 
 pub returns-in-Delegate-clause-taken : goal.returns-in-Delegate-clause-taken
-returns-in-Delegate-clause-taken c = λ history legal has.
-    rw c.in-Delegate.is (tells_taken (charter_of c.args.self.now) (desk_rows c.args.self.now) history legal has c.in-Delegate.prefix c.is_taken.result c.is_taken.ensures)
+returns-in-Delegate-clause-taken g c =
+    let p = c.in-Delegate.prefix in
+    let old = c.args.self.now in
+    of_held g.S.Store (λ (some : Bool) (rows : List ℕ → Option Rows). IsTrue some ↔ IsTaken rows p) (λ some history. TellsTaken history c.args.command.now some)
+    old (record old { store = c.overlapping.new.self })
+    (λ some rows history legal has tells. rw c.in-Delegate.is (tells_taken (charter_of old) rows history legal has p some tells))
+    c.overlapping.result c.overlapping.ensures.found

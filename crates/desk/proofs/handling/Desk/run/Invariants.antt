@@ -2,16 +2,17 @@ use Rattle.std.proofs.Common.{◌≡◌, ◌≤◌, take, length}
 use Rattle.std.specs.Prelude.{vec_len, vec_capacity}
 use Rattle.policy.specs.History.{History}
 use Rattle.policy.specs.Verdict.{IsLegal}
-use Rattle.desk.specs.Desk.{charter_of, desk_rows}
-use Rattle.policy.specs.RowsOfAll.{HasRows}
+use Rattle.desk.specs.Desk.{charter_of, HoldsHistory, IsOnCleanDisk}
 use Rattle.desk.specs.Run.{AreAnswered}
 use Rattle.desk.proofs.handling.Desk.run.Given as goal
 
 abbrev pub invariant-loop-one : goal.invariant-loop-one
-invariant-loop-one l = record {
+invariant-loop-one g l = record {
   chartered : charter_of l.self ≡ charter_of l.initial.self;
+  clean : IsOnCleanDisk g.S.Store l.self → IsOnCleanDisk g.S.Store l.initial.self;
   room : length l.asked ≤ vec_capacity l.replies;
   count : vec_len l.replies ≡ l.one-index;
-  answered : (history : History) → IsLegal (charter_of l.initial.self) history → HasRows (desk_rows l.initial.self) history
-      → AreAnswered (charter_of l.initial.self) history (take l.one-index l.asked) l.replies.items (desk_rows l.self);
+  answered : IsOnCleanDisk g.S.Store l.self
+      → (history : History) → IsLegal (charter_of l.initial.self) history → HoldsHistory g.S.Store l.initial.self history
+      → AreAnswered g.S.Store (charter_of l.initial.self) history (take l.one-index l.asked) l.replies.items l.self;
 }

@@ -1,0 +1,15 @@
+use Rattle.std.proofs.Common.{ℕ, List, Option}
+use Rattle.policy.specs.declared.rows.HolderRows.{HolderRows}
+use Rattle.policy.specs.Rows.{Rows, rows_if_any, RowsIfAny}
+use Rattle.store.specs.Loads.{AreLoaded}
+use Rattle.desk.proofs.DeskLemmas.{of_held}
+use Rattle.desk.proofs.handling.Desk.load.Goals as goal
+
+pub returns-clause-rows : goal.returns-clause-rows
+returns-clause-rows g c =
+    let h = c.args.holder.now in
+    let old = c.args.self.now in
+    of_held g.S.Store (λ (loaded : Option HolderRows) (rows : List ℕ → Option Rows). AreLoaded (rows h) loaded) (λ loaded history. RowsIfAny history h (rows_if_any loaded))
+    old (record old { store = c.load_holder.new.self })
+    (λ loaded rows history legal has are. c.rows_of_a_history.ensures history h (rows h) loaded (has h) are)
+    c.load_holder.result c.load_holder.ensures.found

@@ -1,0 +1,107 @@
+ghost use Rattle.std.specs.Prelude.{◌≡◌, false, IfOk, IfErr, MatchResult};
+ghost use Rattle.policy.specs.Answer.{holder_of, taker_of, IsAccepted, IsViewOf, TellsTaken};
+ghost use Rattle.policy.specs.History.{History};
+ghost use Rattle.policy.specs.Rows.{rows_if_any, RowsIfAny};
+ghost use Rattle.policy.specs.Verdict.{IsLegal};
+ghost use Rattle.store.specs.StoreRows.{IsRead};
+ghost use Rattle.desk.specs.Answer.{is_done, AnswersCommand, IsAnswered};
+ghost use Rattle.desk.specs.Desk.{charter_of, HoldsHistory, IsOnCleanDisk, KeepsRows};
+ghost use Rattle.desk.specs.steps.Reading.{OfHistories};
+
+use super::Desk;
+use crate::{Reply, Request};
+use addr::{Day, Name};
+use policy::{Change, Command, HolderRows, View};
+use sqlite::Alter;
+use store::StoreFault;
+
+impl<S: Alter> Desk<S> {
+    /// Judges the command, and makes its change where it is accepted. The commit comes last, so
+    /// that nothing fails after it.
+    pub(super) fn carry_out(&mut self, day: Day, caller: &Name, command: &Command) -> Reply
+        ensures answered { IsOnCleanDisk S.Store self.new
+            → (history : History) → IsLegal (charter_of self.old) history
+            → HoldsHistory S.Store self.old history
+            → IsAnswered S.Store (charter_of self.old) history day caller.now
+            (Request.Command command.now) result self.new }
+        ensures charter { charter_of self.new ≡ charter_of self.old }
+        ensures clean { IsOnCleanDisk S.Store self.new → IsOnCleanDisk S.Store self.old }
+        ensures kept { is_done result ≡ false → KeepsRows S.Store self.old self.new }
+    {
+        policy::laws::entry_fits(day, caller, command);
+        let change = match self.decide(day, caller, command) {
+            Ok(change) => change,
+            Err(refused) => return refused,
+        };
+        let number = change.number();
+        match self.store.apply(&change) {
+            Ok(()) => Reply::Done(number),
+            Err(_) => Reply::Unavailable,
+        }
+    }
+
+    /// What the command does, or the reply that refuses it.
+    fn decide(&mut self, day: Day, caller: &Name, command: &Command) -> Result<Change, Reply>
+        ensures read { IsRead S.Store self.old.store self.new.store }
+        ensures answer { OfHistories S.Store self.old self.new (λ history. MatchResult result
+            (IsAccepted (charter_of self.old) history day caller.now command.now)
+            (λ reply. AnswersCommand (charter_of self.old) history day caller.now command.now
+            reply history)) }
+        ensures never_done { IfErr result (λ reply. is_done reply ≡ false) }
+    {
+        if command.is_transfer() {
+            let (giver, taker) = self.load_two(command)?;
+            let charter = self.store.charter();
+            Ok(policy::decide_two(
+                self.alloc,
+                charter,
+                giver.as_ref(),
+                taker.as_ref(),
+                caller,
+                command,
+            )?)
+        } else {
+            let view = self.view(command)?;
+            let charter = self.store.charter();
+            Ok(policy::decide(self.alloc, charter, &view, day, caller, command)?)
+        }
+    }
+
+    /// The rows of both holders that a transfer names, the giver's first.
+    fn load_two(
+        &mut self,
+        command: &Command,
+    ) -> Result<(Option<HolderRows>, Option<HolderRows>), StoreFault>
+        ensures read { IsRead S.Store self.old.store self.new.store }
+        ensures rows { IfOk result (λ both. OfHistories S.Store self.old self.new (λ history.
+            RowsIfAny history (holder_of command.now) (rows_if_any both.0)
+            × RowsIfAny history (taker_of command.now) (rows_if_any both.1))) }
+    {
+        store::laws::rows_of_a_history();
+        let (giver, taker) = (command.holder(), command.taker());
+        self.store.load_two(self.alloc, giver, taker)
+    }
+
+    /// What the command is judged on.
+    fn view(&mut self, command: &Command) -> Result<View, StoreFault>
+        ensures read { IsRead S.Store self.old.store self.new.store }
+        ensures view { IfOk result (λ view. OfHistories S.Store self.old self.new (λ history.
+            IsViewOf history command.now view)) }
+    {
+        let holder = self.load(command.holder())?;
+        let taken = self.is_taken(command)?;
+        Ok(View { holder, taken })
+    }
+
+    /// Whether some address of a delegation's prefix is held. Not asked of any other command.
+    fn is_taken(&mut self, command: &Command) -> Result<bool, StoreFault>
+        ensures read { IsRead S.Store self.old.store self.new.store }
+        ensures taken { IfOk result (λ taken. OfHistories S.Store self.old self.new (λ history.
+            TellsTaken history command.now taken)) }
+    {
+        match command {
+            Command::Delegate { prefix, .. } => self.store.overlapping(prefix),
+            _ => Ok(false),
+        }
+    }
+}

@@ -1,6 +1,0 @@
-use Rattle.store.specs.Cells.{address}
-use Rattle.store.proofs.cells.address_bytes.Goals as goal
-
-pub returns : goal.returns
-unfolding address
-returns c = c.to_be_bytes.ensures

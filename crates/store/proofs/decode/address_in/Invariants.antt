@@ -1,9 +1,0 @@
-use Rattle.std.proofs.Common.{◌≡◌, ◌^◌, ◌<◌, take}
-use Rattle.std.specs.Int.{bytes_high_first}
-use Rattle.store.proofs.decode.address_in.Given as goal
-
-abbrev pub invariant-loop-byte : goal.invariant-loop-byte
-invariant-loop-byte l = record {
-  below : l.number < 256 ^ l.byte-index;
-  read : bytes_high_first l.byte-index l.number ≡ take l.byte-index l.bytes;
-}

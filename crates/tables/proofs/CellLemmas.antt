@@ -1,0 +1,62 @@
+-- The cells of typed rows: what their columns cast and how they compare.
+use Rattle.std.proofs.Common.{◌≡◌, ℕ, pos, Bool, ◌==◌, List, [], ◌∷◌, ◌++◌, codes, map, sym, ap, ◌∙◌, subst, IsPermutation, is_eq, int_cmp, arith}
+use Rattle.std.proofs.lemmas.Int.{ints}
+use Rattle.std.proofs.lemmas.List.{map-append}
+use Rattle.std.proofs.lemmas.List.Sorted.{IsPermutation-to_front}
+use Rattle.sqlite_value.specs.declared.value.Value.{Value}
+use Rattle.sqlite_value.specs.declared.value.Value.TheVariants.{Null, Text, Blob}
+use Rattle.sqlite_value.specs.Order.{Row, value_cmp}
+use Rattle.sqlite_value.proofs.OrderLemmas.{value_cmp-Int}
+use Rattle.sqlite_sql.specs.Ops.{unary}
+use Rattle.sqlite_schema.specs.declared.schema.Kind.TheVariants.{Integer}
+use Rattle.sqlite_rules.specs.Cast.{cast, cast_all}
+use Rattle.addr.specs.declared.prefix.Prefix.{Prefix}
+use Rattle.addr.specs.declared.span.Span.{Span}
+use Rattle.policy.specs.declared.authorization.Auth.{Auth}
+use Rattle.policy.specs.declared.grant.Granted.{Granted}
+use Rattle.policy.specs.declared.grant.Scope.{Scope}
+use Rattle.policy.specs.declared.grant.Scope.TheVariants.{All, Only}
+use Rattle.tables.specs.Tables.{meta, pool, holder, holding, granted, auth}
+use Rattle.tables.specs.Cells.{number_cell, family_number, role_number, address, schema_row, prefix_cells, scope_cells, holder_row, holding_row, granted_row, auth_row}
+use Rattle.tables.proofs.Inserting.{either, cast_null}
+
+pub cast_number : (n : ℕ) → cast Integer (number_cell n) ≡ number_cell n
+unfolding unary
+cast_number n = either _ (number_cell n)
+
+pub cast_schema : cast_all meta.columns schema_row ≡ schema_row
+cast_schema = λ i. Text (codes "schema") ∷ cast_number 1 i ∷ []
+
+pub cast_prefix : (p : Prefix) → cast_all pool.columns (prefix_cells p) ≡ prefix_cells p
+cast_prefix p = λ i. cast_number (family_number p.family) i ∷ Blob (address p.first) ∷ cast_number p.length i ∷ []
+
+pub cast_holder : (h : List ℕ) (granted created : ℕ) → cast_all holder.columns (holder_row h granted created) ≡ holder_row h granted created
+cast_holder h granted created = λ i. Text h ∷ cast_number granted i ∷ cast_number created i ∷ []
+
+pub cast_holding : (h : List ℕ) (s : Span) → cast_all holding.columns (holding_row h s) ≡ holding_row h s
+cast_holding h s = λ i. cast_number (family_number s.family) i ∷ Blob (address s.lo) ∷ Blob (address s.hi) ∷ Text h ∷ []
+
+pub cast_granted : (h : List ℕ) (g : Granted) → cast_all granted.columns (granted_row h g) ≡ granted_row h g
+cast_granted h g = go g.scope
+  where
+    go : (scope : Scope) → cast_all granted.columns (Text h ∷ number_cell g.number ∷ Text g.caller ∷ number_cell (role_number g.role) ∷ scope_cells scope ++ number_cell g.until ∷ []) ≡ Text h ∷ number_cell g.number ∷ Text g.caller ∷ number_cell (role_number g.role) ∷ scope_cells scope ++ number_cell g.until ∷ []
+    go All = λ i. Text h ∷ cast_number g.number i ∷ Text g.caller ∷ cast_number (role_number g.role) i ∷ cast_null i ∷ Null ∷ cast_null i ∷ cast_number g.until i ∷ []
+    go (Only p) = λ i. Text h ∷ cast_number g.number i ∷ Text g.caller ∷ cast_number (role_number g.role) i ∷ cast_number (family_number p.family) i ∷ Blob (address p.first) ∷ cast_number p.length i ∷ cast_number g.until i ∷ []
+
+pub cast_auth : (h : List ℕ) (x : Auth) → cast_all auth.columns (auth_row h x) ≡ auth_row h x
+cast_auth h x = λ i. Text h ∷ cast_number x.number i ∷ cast_number x.asn.0 i ∷ cast_number (family_number x.prefix.family) i ∷ Blob (address x.prefix.first) ∷ cast_number x.prefix.length i
+    ∷ cast_number x.max i ∷ cast_number x.from i ∷ cast_number x.until i ∷ []
+
+-- a value is this number
+abbrev pub is_number : ℕ → Value → Bool
+is_number n v = is_eq (value_cmp v (number_cell n))
+
+same_number : (m n : ℕ) → is_eq (int_cmp (pos m) (pos n)) ≡ (m == n)
+same_number m n = grind (arith, ints)
+
+pub number_of_number : (m n : ℕ) → is_number n (number_cell m) ≡ (m == n)
+number_of_number m n = ap is_eq (value_cmp-Int (pos m) (pos n)) ∙ same_number m n
+
+-- one more at the end is one more at the front, in another order
+pub appended : {A : Type 0} (f : A → Row) (xs : List A) (x : A) → IsPermutation (map f (xs ++ x ∷ [])) (f x ∷ map f xs)
+appended f xs x = subst (λ l. IsPermutation l (f x ∷ map f xs)) (sym (map-append f xs (x ∷ []))) (IsPermutation-to_front (map f xs) (f x))

@@ -1,0 +1,14 @@
+pub mod TreeRows
+pub mod Inserting
+pub mod Selecting
+pub mod Deleting
+pub mod Updating
+pub mod Texts
+pub mod PartLemmas
+pub mod CellLemmas
+pub mod AddressBytes
+pub mod ReadLemmas
+pub mod CellsOnce
+pub mod Addresses
+pub mod SomeRow
+pub mod PlainTables

@@ -1,0 +1,85 @@
+-- The parts of typed values in the cells that show them.
+use Rattle.std.proofs.Common.{◌≡◌, ◌≢◌, ℕ, ◌^◌, ◌<◌, ◌≤◌, ◌↔◌, List, [], ◌∷◌, length, get_or, arith, ap, sym, ◌∙◌, refl, subst}
+use Rattle.std.specs.Prelude.{Option, Some, None, IsSome, IfSome, ⊤, map, All, Any}
+use Rattle.std.specs.List.Sorted.{IsPermutation}
+use Rattle.std.proofs.lemmas.List.Elements.{All-map}
+use Rattle.std.proofs.lemmas.List.Sorted.{All-permutation}
+use Rattle.std.proofs.lemmas.List.FromFn.{fill_by_all}
+use Rattle.sqlite_value.specs.declared.value.Value.TheVariants.{Null, Blob}
+use Rattle.sqlite_value.specs.Order.{Row, column}
+use Rattle.addr.specs.declared.family.Family.{Family}
+use Rattle.addr.specs.declared.prefix.Prefix.{Prefix}
+use Rattle.addr.specs.declared.span.Span.{Span}
+use Rattle.addr.specs.Family.{width}
+use Rattle.addr.specs.Address.{IsPrefix}
+use Rattle.addr.proofs.AddressLemmas.{below_widest, first_below}
+use Rattle.tables.specs.Cells.{address, number_cell, family_number, prefix_cells, span_cells}
+use Rattle.tables.specs.Decode.{Decodes, first_columns}
+use Rattle.tables.proofs.AddressBytes.{address_once, length-address}
+use Rattle.tables.proofs.CellsOnce.{one_family}
+
+pub all_columns : (count : ℕ) (row : Row) → length row ≡ count → row ≡ first_columns count row
+all_columns count row whole = fill_by_all (column row) row count Null whole (λ k within. refl)
+
+pub address_reads :
+    (bytes : List ℕ) (r : Option ℕ) → IfSome r (λ n. bytes ≡ address n) → (r ≡ None → length bytes ≢ 16)
+    → Decodes (λ n. Blob (address n)) (λ _. ⊤) (Blob bytes) r
+address_reads bytes None some none = λ n _ same. none refl (let e : address n ≡ bytes = cc in sym (ap length e) ∙ length-address n)
+address_reads bytes (Some n) some none = (tt, ap Blob some)
+
+prefix_of_parts :
+    (p : Prefix) (family : Family) (first length : ℕ) → first < 2 ^ 128
+    → prefix_cells p ≡ number_cell (family_number family) ∷ Blob (address first) ∷ number_cell length ∷ []
+    → IsPrefix family first length
+prefix_of_parts p family first length fits same =
+    let f : p.family ≡ family = one_family p.family family (cc) in
+    let inside : p.first < 2 ^ width p.family = first_below p in
+    let bytes : address p.first ≡ address first = cc in
+    let a : p.first ≡ first = address_once p.first first (below_widest p.family p.first inside) fits bytes in
+    let l : p.length ≡ length = cc in
+    subst (λ g. IsPrefix g first length) f
+    (subst (λ n. IsPrefix p.family n length) a
+    (subst (λ n. IsPrefix p.family p.first n) l (p.length_fits, inside, p.aligned)))
+
+pub prefix_reads :
+    (r : Option Prefix) (family : Family) (first length : ℕ) → first < 2 ^ 128 → (IsSome r ↔ IsPrefix family first length)
+    → IfSome r (λ p. (p.family ≡ family) × (p.first ≡ first) × (p.length ≡ length))
+    → Decodes prefix_cells (λ _. ⊤) (number_cell (family_number family) ∷ Blob (address first) ∷ number_cell length ∷ []) r
+prefix_reads None family first length fits some parts =
+    λ p _ same. let is : IsSome {T = Prefix} None = some.1 (prefix_of_parts p family first length fits same) in cc
+prefix_reads (Some p) family first length fits some parts =
+    (tt, sym (λ i. number_cell (family_number (parts.0 i)) ∷ Blob (address (parts.1 i)) ∷ number_cell (parts.2 i) ∷ []))
+
+span_of_parts :
+    (s : Span) (family : Family) (lo hi : ℕ) → lo < 2 ^ 128 → hi < 2 ^ 128
+    → span_cells s ≡ number_cell (family_number family) ∷ Blob (address lo) ∷ Blob (address hi) ∷ []
+    → (lo ≤ hi) × (hi < 2 ^ width family)
+span_of_parts s family lo hi lo_fits hi_fits same =
+    let f : s.family ≡ family = one_family s.family family (cc) in
+    let low : s.hi < 2 ^ 128 = below_widest s.family s.hi s.in_family in
+    let first : address s.lo ≡ address lo = cc in
+    let last : address s.hi ≡ address hi = cc in
+    let l : s.lo ≡ lo = address_once s.lo lo (omega arith) lo_fits first in
+    let h : s.hi ≡ hi = address_once s.hi hi low hi_fits last in
+    let w : 2 ^ width s.family ≡ 2 ^ width family = ap (λ g. 2 ^ width g) f in
+    (omega arith, omega arith)
+
+pub span_reads :
+    (r : Option Span) (family : Family) (lo hi : ℕ) → lo < 2 ^ 128 → hi < 2 ^ 128
+    → (IsSome r ↔ ((lo ≤ hi) × (hi < 2 ^ width family)))
+    → IfSome r (λ s. (s.family ≡ family) × (s.lo ≡ lo) × (s.hi ≡ hi))
+    → Decodes span_cells (λ _. ⊤) (number_cell (family_number family) ∷ Blob (address lo) ∷ Blob (address hi) ∷ []) r
+span_reads None family lo hi lo_fits hi_fits some parts =
+    λ s _ same. let is : IsSome {T = Span} None = some.1 (span_of_parts s family lo hi lo_fits hi_fits same) in cc
+span_reads (Some s) family lo hi lo_fits hi_fits some parts =
+    (tt, sym (λ i. number_cell (family_number (parts.0 i)) ∷ Blob (address (parts.1 i)) ∷ Blob (address (parts.2 i)) ∷ []))
+
+-- rows that show values, in whatever order, have none that shows no value
+pub all_show :
+    {X : Type 0} (cells : X → Row) (fits : X → Type 0) (xs : List X) (rows : List Row) → All fits xs
+    → IsPermutation (map cells xs) rows → ¬ Any (λ row. (x : X) → fits x → cells x ≢ row) rows
+all_show {X} cells fits xs rows fit same other =
+    let Shows : Row → Type 0 = λ row. (x : X) × fits x × (cells x ≡ row) in
+    let each : All Shows rows = All-permutation Shows (map cells xs) rows same (All-map Shows cells xs (λ k d within. (get_or xs k d, fit k d within, refl))) in
+    let shown : Shows (get_or rows other.0 other.1) = each other.0 other.1 other.2 in
+    other.4 shown.0 shown.1 (shown.2 ∙ other.3)

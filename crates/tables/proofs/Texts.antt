@@ -1,0 +1,191 @@
+-- What the statements of a desk mean over its tables, whatever indexes and views stand beside them. Each fact is
+-- computed.
+use Rattle.std.proofs.Common.{◌≡◌, ℕ, zero, suc, pos, List, [], ◌∷◌, codes, false, refl, sym, ap, subst}
+use Rattle.sqlite_value.specs.declared.keys.Collation.TheVariants.{Binary}
+use Rattle.sqlite_value.specs.declared.keys.Key.{Key}
+use Rattle.sqlite_value.specs.declared.value.Value.TheVariants.{Null, Int, Text}
+use Rattle.sqlite_schema.specs.declared.command.Source.TheVariants.{Values}
+use Rattle.sqlite_schema.specs.declared.command.Command.{Command}
+use Rattle.sqlite_schema.specs.declared.command.Command.TheVariants.{Insert, Update, Delete, Select}
+use Rattle.sqlite_schema.specs.declared.schema.Schema.{Schema}
+use Rattle.sqlite_sql.specs.declared.ops.CompareOp.TheVariants.{Eq, Le, Ge}
+use Rattle.sqlite_sql.specs.declared.ops.BinaryOp.TheVariants.{Compare}
+use Rattle.sqlite_sql.specs.Term.{Term, lit, col, op2}
+use Rattle.sqlite.specs.Listing.{understood, reads_listing}
+use Rattle.sqlite.proofs.Callers.{IsPlain, command_of}
+use Rattle.sqlite_tied.specs.Compute.{everything}
+use Rattle.tables.specs.Tables.{desk_tables, desk_beside, OverDesk}
+use Rattle.tables.proofs.Selecting.{from_table, no_limit}
+
+-- a schema that has the tables of a desk
+pub beside : (s : Schema) → s.tables ≡ desk_tables → s ≡ desk_beside s
+beside s has = ap (λ tables. record s { tables = tables }) has
+
+pub at_desk : (so : Schema → Type 0) → OverDesk so → (s : Schema) → s.tables ≡ desk_tables → so s
+at_desk so over s has = subst so (sym (beside s has)) (over s)
+
+-- the text is this command, shows no RETURNING, and reads no listing
+pub record Means (sql : List ℕ) (command : Command) : Type 0 where
+  pub is : OverDesk (λ s. command_of (understood s sql) ≡ command)
+  pub plain : OverDesk (λ s. IsPlain (understood s sql))
+  pub unlisted : OverDesk (λ s. reads_listing s sql ≡ false)
+
+-- a column of the table is a parameter
+abbrev pub equals : ℕ → ℕ → Term
+equals place parameter = op2 (Compare Eq Binary) (col 1 place) (col 0 parameter)
+
+-- the rows are sorted upwards by a column
+abbrev pub upwards : ℕ → Term × Key
+upwards place = (col 1 place, record { collation = Binary; descending = false })
+
+-- a row of parameters, the hidden rowid left to SQLite
+abbrev pub put_terms : ℕ → List Term
+put_terms n = lit Null ∷ from n 0
+  where
+    from : ℕ → ℕ → List Term
+    from zero at = []
+    from (suc n) at = col 0 at ∷ from n (suc at)
+
+abbrev pub put_schema_text : List ℕ
+put_schema_text = codes "INSERT INTO meta (name, value) VALUES ('schema', 1)"
+
+pub put_schema_is : Means put_schema_text (Insert 0 (Values (lit Null ∷ lit (Text (codes "schema")) ∷ lit (Int (pos 1)) ∷ []) 3))
+unfolding understood everything
+put_schema_is = record { is = λ s. refl; plain = λ s. (refl, refl); unlisted = λ s. refl }
+
+abbrev pub put_operator_text : List ℕ
+put_operator_text = codes "INSERT INTO operator (name) VALUES (?1)"
+
+pub put_operator_is : Means put_operator_text (Insert 1 (Values (put_terms 1) 2))
+unfolding understood everything
+put_operator_is = record { is = λ s. refl; plain = λ s. (refl, refl); unlisted = λ s. refl }
+
+abbrev pub put_prefix_text : List ℕ
+put_prefix_text = codes "INSERT INTO pool (family, lo, len) VALUES (?1, ?2, ?3)"
+
+pub put_prefix_is : Means put_prefix_text (Insert 2 (Values (put_terms 3) 4))
+unfolding understood everything
+put_prefix_is = record { is = λ s. refl; plain = λ s. (refl, refl); unlisted = λ s. refl }
+
+abbrev pub put_holder_text : List ℕ
+put_holder_text = codes "INSERT INTO holder (name, grants, auths) VALUES (?1, 0, 0)"
+
+pub put_holder_is : Means put_holder_text (Insert 3 (Values (lit Null ∷ col 0 0 ∷ lit (Int (pos 0)) ∷ lit (Int (pos 0)) ∷ []) 4))
+unfolding understood everything
+put_holder_is = record { is = λ s. refl; plain = λ s. (refl, refl); unlisted = λ s. refl }
+
+abbrev pub put_holding_text : List ℕ
+put_holding_text = codes "INSERT INTO holding (family, lo, hi, holder) VALUES (?1, ?2, ?3, ?4)"
+
+pub put_holding_is : Means put_holding_text (Insert 4 (Values (put_terms 4) 5))
+unfolding understood everything
+put_holding_is = record { is = λ s. refl; plain = λ s. (refl, refl); unlisted = λ s. refl }
+
+abbrev pub put_granted_text : List ℕ
+put_granted_text = codes "INSERT INTO granted (holder, number, caller, role, family, lo, len, until) VALUES (?1, ?2, ?3, ?4, ?5, ?6, ?7, ?8)"
+
+pub put_granted_is : Means put_granted_text (Insert 5 (Values (put_terms 8) 9))
+unfolding understood everything
+put_granted_is = record { is = λ s. refl; plain = λ s. (refl, refl); unlisted = λ s. refl }
+
+abbrev pub put_auth_text : List ℕ
+put_auth_text = codes "INSERT INTO auth (holder, number, asn, family, lo, len, max, opens, ends) VALUES (?1, ?2, ?3, ?4, ?5, ?6, ?7, ?8, ?9)"
+
+pub put_auth_is : Means put_auth_text (Insert 6 (Values (put_terms 9) 10))
+unfolding understood everything
+put_auth_is = record { is = λ s. refl; plain = λ s. (refl, refl); unlisted = λ s. refl }
+
+abbrev pub take_holdings_text : List ℕ
+take_holdings_text = codes "DELETE FROM holding WHERE holder = ?1"
+
+pub take_holdings_is : Means take_holdings_text (Delete 4 (record { lets = []; body = from_table 8 (equals 4 0 ∷ []) (col 1 0 ∷ []) [] no_limit }))
+unfolding understood everything
+take_holdings_is = record { is = λ s. refl; plain = λ s. (refl, refl); unlisted = λ s. refl }
+
+abbrev pub take_granted_text : List ℕ
+take_granted_text = codes "DELETE FROM granted WHERE holder = ?1 AND number = ?2"
+
+pub take_granted_is : Means take_granted_text (Delete 5 (record { lets = []; body = from_table 10 (equals 1 0 ∷ equals 2 1 ∷ []) (col 1 0 ∷ []) [] no_limit }))
+unfolding understood everything
+take_granted_is = record { is = λ s. refl; plain = λ s. (refl, refl); unlisted = λ s. refl }
+
+abbrev pub take_auth_text : List ℕ
+take_auth_text = codes "DELETE FROM auth WHERE holder = ?1 AND number = ?2"
+
+pub take_auth_is : Means take_auth_text (Delete 6 (record { lets = []; body = from_table 12 (equals 1 0 ∷ equals 2 1 ∷ []) (col 1 0 ∷ []) [] no_limit }))
+unfolding understood everything
+take_auth_is = record { is = λ s. refl; plain = λ s. (refl, refl); unlisted = λ s. refl }
+
+abbrev pub set_grants_text : List ℕ
+set_grants_text = codes "UPDATE holder SET grants = ?2 WHERE name = ?1"
+
+pub set_grants_is : Means set_grants_text (Update 3 (record { lets = []; body = from_table 6 (equals 1 0 ∷ []) (col 1 0 ∷ col 1 0 ∷ col 1 1 ∷ col 0 1 ∷ col 1 3 ∷ []) [] no_limit }))
+unfolding understood everything
+set_grants_is = record { is = λ s. refl; plain = λ s. (refl, refl); unlisted = λ s. refl }
+
+abbrev pub set_auths_text : List ℕ
+set_auths_text = codes "UPDATE holder SET auths = ?2 WHERE name = ?1"
+
+pub set_auths_is : Means set_auths_text (Update 3 (record { lets = []; body = from_table 6 (equals 1 0 ∷ []) (col 1 0 ∷ col 1 0 ∷ col 1 1 ∷ col 1 2 ∷ col 0 1 ∷ []) [] no_limit }))
+unfolding understood everything
+set_auths_is = record { is = λ s. refl; plain = λ s. (refl, refl); unlisted = λ s. refl }
+
+abbrev pub amend_text : List ℕ
+amend_text = codes "UPDATE auth SET asn = ?3, family = ?4, lo = ?5, len = ?6, max = ?7, opens = ?8, ends = ?9 WHERE holder = ?1 AND number = ?2"
+
+abbrev pub amend_sets : List Term
+amend_sets = col 1 1 ∷ col 1 2 ∷ col 0 2 ∷ col 0 3 ∷ col 0 4 ∷ col 0 5 ∷ col 0 6 ∷ col 0 7 ∷ col 0 8 ∷ []
+
+pub amend_is : Means amend_text (Update 6 (record { lets = []; body = from_table 12 (equals 1 0 ∷ equals 2 1 ∷ []) (col 1 0 ∷ col 1 0 ∷ amend_sets) [] no_limit }))
+unfolding understood everything
+amend_is = record { is = λ s. refl; plain = λ s. (refl, refl); unlisted = λ s. refl }
+
+abbrev pub counters_text : List ℕ
+counters_text = codes "SELECT grants, auths FROM holder WHERE name = ?1"
+
+pub counters_is : Means counters_text (Select (record { lets = []; body = from_table 6 (equals 1 0 ∷ []) (col 1 2 ∷ col 1 3 ∷ []) [] no_limit }) (codes "grants" ∷ codes "auths" ∷ []))
+unfolding understood everything
+counters_is = record { is = λ s. refl; plain = λ s. (refl, refl); unlisted = λ s. refl }
+
+abbrev pub spans_text : List ℕ
+spans_text = codes "SELECT family, lo, hi FROM holding WHERE holder = ?1 ORDER BY family, lo"
+
+pub spans_is : Means spans_text (Select (record { lets = []; body = from_table 8 (equals 4 0 ∷ []) (col 1 1 ∷ col 1 2 ∷ col 1 3 ∷ []) (upwards 1 ∷ upwards 2 ∷ []) no_limit }) (codes "family" ∷ codes "lo" ∷ codes "hi" ∷ []))
+unfolding understood everything
+spans_is = record { is = λ s. refl; plain = λ s. (refl, refl); unlisted = λ s. refl }
+
+abbrev pub grants_text : List ℕ
+grants_text = codes "SELECT number, caller, role, family, lo, len, until FROM granted WHERE holder = ?1 ORDER BY number"
+
+pub grants_is : Means grants_text (Select (record { lets = []; body = from_table 10 (equals 1 0 ∷ []) (col 1 2 ∷ col 1 3 ∷ col 1 4 ∷ col 1 5 ∷ col 1 6 ∷ col 1 7 ∷ col 1 8 ∷ []) (upwards 2 ∷ []) no_limit }) (codes "number" ∷ codes "caller" ∷ codes "role" ∷ codes "family" ∷ codes "lo" ∷ codes "len" ∷ codes "until" ∷ []))
+unfolding understood everything
+grants_is = record { is = λ s. refl; plain = λ s. (refl, refl); unlisted = λ s. refl }
+
+abbrev pub auths_text : List ℕ
+auths_text = codes "SELECT number, asn, family, lo, len, max, opens, ends FROM auth WHERE holder = ?1 ORDER BY number"
+
+pub auths_is : Means auths_text (Select (record { lets = []; body = from_table 12 (equals 1 0 ∷ []) (col 1 2 ∷ col 1 3 ∷ col 1 4 ∷ col 1 5 ∷ col 1 6 ∷ col 1 7 ∷ col 1 8 ∷ col 1 9 ∷ []) (upwards 2 ∷ []) no_limit }) (codes "number" ∷ codes "asn" ∷ codes "family" ∷ codes "lo" ∷ codes "len" ∷ codes "max" ∷ codes "opens" ∷ codes "ends" ∷ []))
+unfolding understood everything
+auths_is = record { is = λ s. refl; plain = λ s. (refl, refl); unlisted = λ s. refl }
+
+-- the rows of the runs that share an address with the run from ?2 to ?3
+abbrev pub overlap_tests : List Term
+overlap_tests = equals 1 0 ∷ op2 (Compare Le Binary) (col 1 2) (col 0 2) ∷ op2 (Compare Ge Binary) (col 1 3) (col 0 1) ∷ []
+
+abbrev pub overlap_text : List ℕ
+overlap_text = codes "SELECT 1 FROM holding WHERE family = ?1 AND lo <= ?3 AND hi >= ?2 LIMIT 1"
+
+pub overlap_is : Means overlap_text (Select (record { lets = []; body = from_table 8 overlap_tests (lit (Int (pos 1)) ∷ []) [] (lit (Int (pos 1))) }) (codes "1" ∷ []))
+unfolding understood everything
+overlap_is = record { is = λ s. refl; plain = λ s. (refl, refl); unlisted = λ s. refl }
+
+-- the authorizations in force on the day ?1
+abbrev pub in_force_tests : List Term
+in_force_tests = op2 (Compare Le Binary) (col 1 8) (col 0 0) ∷ op2 (Compare Ge Binary) (col 1 9) (col 0 0) ∷ []
+
+abbrev pub in_force_text : List ℕ
+in_force_text = codes "SELECT asn, family, lo, len, max FROM auth WHERE opens <= ?1 AND ends >= ?1"
+
+pub in_force_is : Means in_force_text (Select (record { lets = []; body = from_table 12 in_force_tests (col 1 3 ∷ col 1 4 ∷ col 1 5 ∷ col 1 6 ∷ col 1 7 ∷ []) [] no_limit }) (codes "asn" ∷ codes "family" ∷ codes "lo" ∷ codes "len" ∷ codes "max" ∷ []))
+unfolding understood everything
+in_force_is = record { is = λ s. refl; plain = λ s. (refl, refl); unlisted = λ s. refl }

@@ -1,0 +1,31 @@
+-- What it is to read typed values from the cells that show them.
+use Rattle.std.specs.Prelude.{◌≡◌, ◌≢◌, ℕ, List, map, All, Any, Option, MatchOption}
+use Rattle.std.specs.Global.{Vec}
+use Rattle.std.specs.List.{range_with_len}
+use Rattle.sqlite_value.specs.Order.{Row}
+use Rattle.addr.specs.declared.vrp.Vrp.{Vrp}
+use Rattle.policy.specs.Values.{IsU32}
+use Rattle.tables.specs.Tables.{columns}
+
+-- No value shows these cells. Only values that fit their Rust type count, since a `u32` is any number
+-- here.
+abbrev pub ShowsNone : {X Y : Type 0} → (X → Y) → (X → Type 0) → Y → Type 0
+ShowsNone {X} cells fits shown = (x : X) → fits x → cells x ≢ shown
+
+-- what is read of cells: the value that shows them, or none where no value does
+abbrev pub Decodes : {X Y : Type 0} → (X → Y) → (X → Type 0) → Y → Option X → Type 0
+Decodes cells fits shown result =
+    MatchOption result (ShowsNone cells fits shown) (λ x. fits x × (shown ≡ cells x))
+
+-- what is read of rows: the values that show them, in their order, or none where some row shows no value
+abbrev pub DecodesAll : {X Y : Type 0} → (X → Y) → (X → Type 0) → List Y → Option (Vec X) → Type 0
+DecodesAll cells fits shown result =
+    MatchOption result (Any (ShowsNone cells fits) shown) (λ values. All fits values.items × (shown ≡ map cells values.items))
+
+-- the first columns of a row
+abbrev pub first_columns : ℕ → Row → Row
+first_columns count = columns (range_with_len 0 count)
+
+-- the other terms are in range by the VRP's own fields
+abbrev pub VrpFits : Vrp → Type 0
+VrpFits v = IsU32 v.asn.0

@@ -1,0 +1,6 @@
+pub mod Tables
+pub mod Cells
+pub mod Decode
+pub mod Schemas
+pub mod TablesHold
+pub mod steps

@@ -1,0 +1,164 @@
+-- The tables of a desk, as SQLite keeps them. Each table and each index of a key is a tree, and a row of a
+-- table is its hidden rowid and then its columns.
+use Rattle.std.specs.Prelude.{◌≡◌, ℕ, ◌==◌, Bool, true, false, List, [], ◌∷◌, map, drop, codes, None}
+use Rattle.std.specs.List.{AllByRecursion, list_any}
+use Rattle.std.specs.Ordering.{is_eq}
+use Rattle.sqlite_value.specs.declared.keys.Collation.TheVariants.{Binary}
+use Rattle.sqlite_value.specs.declared.keys.Order.{Order}
+use Rattle.sqlite_value.specs.declared.value.Value.TheVariants.{Null}
+use Rattle.sqlite_value.specs.Order.{Row, column, value_cmp}
+use Rattle.sqlite_trees.specs.Tree.{Trees, rowid, IsAscending}
+use Rattle.sqlite_trees.specs.View.{is_int}
+use Rattle.sqlite_schema.specs.declared.schema.Action.TheVariants.{NoAction}
+use Rattle.sqlite_schema.specs.declared.schema.Column.{Column}
+use Rattle.sqlite_schema.specs.declared.schema.Index.{Index}
+use Rattle.sqlite_schema.specs.declared.schema.Kind.{Kind}
+use Rattle.sqlite_schema.specs.declared.schema.Kind.TheVariants.{Integer, Text, Blob}
+use Rattle.sqlite_schema.specs.declared.schema.Reference.{Reference}
+use Rattle.sqlite_schema.specs.declared.schema.Schema.{Schema}
+use Rattle.sqlite_schema.specs.declared.schema.Table.{Table}
+
+-- a column that is NOT NULL, and one that may be NULL
+abbrev pub required : List ℕ → Kind → Column
+required name kind = record { name = name; kind = kind; is_strict = true; not_null = true; default = Null; collation = Binary }
+
+abbrev pub optional : List ℕ → Kind → Column
+optional name kind = record { name = name; kind = kind; is_strict = true; not_null = false; default = Null; collation = Binary }
+
+-- every column of a key is sorted upwards
+abbrev pub rising : Order
+rising = record { digits = 0 }
+
+-- this column is the name of a registered holder
+abbrev pub names_holder : ℕ → Reference
+names_holder place = record {
+  columns = place ∷ [];
+  parent = codes "holder";
+  parent_columns = codes "name" ∷ [];
+  on_delete = NoAction;
+  on_update = NoAction;
+  is_deferred = false;
+}
+
+-- a STRICT table whose primary key is these places
+abbrev pub strict : List ℕ → ℕ → List Column → List ℕ → List (List ℕ) → List Order → List Reference → Table
+strict name tree columns primary uniques orders references = record {
+  name = name;
+  tree = tree;
+  columns = columns;
+  key = None;
+  primary = primary;
+  uniques = uniques;
+  orders = orders;
+  checks = [];
+  references = references;
+  computed = [];
+  stamps = record { places = []; terms = []; formats = [] };
+  is_counted = false;
+}
+
+-- the same table, if it is such a one
+abbrev pub as_strict : Table → Table
+as_strict t = strict t.name t.tree t.columns t.primary t.uniques t.orders t.references
+
+abbrev pub keyed : List ℕ → ℕ → List Column → List ℕ → List Reference → Table
+keyed name tree columns primary references = strict name tree columns primary (primary ∷ []) (rising ∷ []) references
+
+abbrev pub meta : Table
+meta = keyed (codes "meta") 0 (required (codes "name") Text ∷ required (codes "value") Integer ∷ []) (1 ∷ []) []
+
+abbrev pub operator : Table
+operator = keyed (codes "operator") 2 (required (codes "name") Text ∷ []) (1 ∷ []) []
+
+abbrev pub pool : Table
+pool = keyed (codes "pool") 4
+    (required (codes "family") Integer ∷ required (codes "lo") Blob ∷ required (codes "len") Integer ∷ [])
+    (1 ∷ 2 ∷ 3 ∷ []) []
+
+abbrev pub holder : Table
+holder = keyed (codes "holder") 6
+    (required (codes "name") Text ∷ required (codes "grants") Integer ∷ required (codes "auths") Integer ∷ [])
+    (1 ∷ []) []
+
+abbrev pub holding : Table
+holding = keyed (codes "holding") 8
+    (required (codes "family") Integer ∷ required (codes "lo") Blob ∷ required (codes "hi") Blob
+    ∷ required (codes "holder") Text ∷ [])
+    (1 ∷ 2 ∷ []) (names_holder 4 ∷ [])
+
+abbrev pub granted : Table
+granted = keyed (codes "granted") 10
+    (required (codes "holder") Text ∷ required (codes "number") Integer ∷ required (codes "caller") Text
+    ∷ required (codes "role") Integer ∷ optional (codes "family") Integer ∷ optional (codes "lo") Blob
+    ∷ optional (codes "len") Integer ∷ required (codes "until") Integer ∷ [])
+    (1 ∷ 2 ∷ []) (names_holder 1 ∷ [])
+
+abbrev pub auth : Table
+auth = strict (codes "auth") 12
+    (required (codes "holder") Text ∷ required (codes "number") Integer ∷ required (codes "asn") Integer
+    ∷ required (codes "family") Integer ∷ required (codes "lo") Blob ∷ required (codes "len") Integer
+    ∷ required (codes "max") Integer ∷ required (codes "opens") Integer ∷ required (codes "ends") Integer ∷ [])
+    (1 ∷ 2 ∷ []) ((1 ∷ 2 ∷ []) ∷ (3 ∷ 4 ∷ 5 ∷ 6 ∷ 7 ∷ []) ∷ []) (rising ∷ rising ∷ []) (names_holder 1 ∷ [])
+
+abbrev pub slurm : Table
+slurm = keyed (codes "slurm") 15
+    (required (codes "file") Text ∷ required (codes "kind") Integer ∷ required (codes "position") Integer
+    ∷ optional (codes "family") Integer ∷ optional (codes "lo") Blob ∷ optional (codes "len") Integer
+    ∷ optional (codes "max") Integer ∷ optional (codes "asn") Integer ∷ [])
+    (1 ∷ 2 ∷ 3 ∷ []) []
+
+-- the index of a key, which SQLite makes
+abbrev pub key_index : List ℕ → ℕ → ℕ → List ℕ → Index
+key_index name table tree places =
+    record { name = name; tree = tree; table = table; columns = places; order = rising; is_unique = true }
+
+abbrev pub desk_tables : List Table
+desk_tables = meta ∷ operator ∷ pool ∷ holder ∷ holding ∷ granted ∷ auth ∷ slurm ∷ []
+
+abbrev pub desk_indexes : List Index
+desk_indexes =
+    key_index (codes "sqlite_autoindex_meta_1") 0 1 (1 ∷ [])
+    ∷ key_index (codes "sqlite_autoindex_operator_1") 2 3 (1 ∷ [])
+    ∷ key_index (codes "sqlite_autoindex_pool_1") 4 5 (1 ∷ 2 ∷ 3 ∷ [])
+    ∷ key_index (codes "sqlite_autoindex_holder_1") 6 7 (1 ∷ [])
+    ∷ key_index (codes "sqlite_autoindex_holding_1") 8 9 (1 ∷ 2 ∷ [])
+    ∷ key_index (codes "sqlite_autoindex_granted_1") 10 11 (1 ∷ 2 ∷ [])
+    ∷ key_index (codes "sqlite_autoindex_auth_1") 12 13 (1 ∷ 2 ∷ [])
+    ∷ key_index (codes "sqlite_autoindex_auth_2") 12 14 (3 ∷ 4 ∷ 5 ∷ 6 ∷ 7 ∷ [])
+    ∷ key_index (codes "sqlite_autoindex_slurm_1") 15 16 (1 ∷ 2 ∷ 3 ∷ []) ∷ []
+
+abbrev pub desk_schema : Schema
+desk_schema = record { tables = desk_tables; indexes = desk_indexes; views = [] }
+
+-- the tables of a desk beside the indexes and views of a schema
+abbrev pub desk_beside : Schema → Schema
+desk_beside s = record s { tables = desk_tables }
+
+-- it is so of the tables of a desk, whatever indexes and views stand beside them
+abbrev pub OverDesk : (Schema → Type 0) → Type 0
+OverDesk so = (s : Schema) → so (desk_beside s)
+
+-- the schema of a database that has no table, index or view
+abbrev pub blank_schema : Schema
+blank_schema = record { tables = []; indexes = []; views = [] }
+
+-- the rows of a table without their rowids
+abbrev pub contents : List Row → List Row
+contents rows = map (drop 1) rows
+
+-- the cells of a row in these columns, NULL past its end
+abbrev pub columns : List ℕ → Row → Row
+columns places c = map (column c) places
+
+-- the tree has the rows of a table of the desk
+abbrev pub is_table : ℕ → Bool
+is_table t = list_any (λ table. table.tree == t) desk_tables
+
+-- each row has a rowid, and no rowid comes twice
+abbrev pub IsTree : List Row → Type 0
+IsTree rows =
+    IsAscending (λ a b. is_eq (value_cmp (rowid a) (rowid b)) ≡ false) rows
+    × AllByRecursion (λ r. is_int (rowid r) ≡ true) rows
+
+abbrev pub AreTrees : Trees → Type 0
+AreTrees trees = (t : ℕ) → is_table t ≡ true → IsTree (trees t)

@@ -1,0 +1,67 @@
+-- What the tables hold: the charter, and the rows of every holder.
+use Rattle.std.specs.Prelude.{◌≡◌, ℕ, Bool, true, false, List, [], ◌∷◌, map, filter, Option, Some, None, IsPermutation}
+use Rattle.std.specs.List.{AllByRecursion}
+use Rattle.std.specs.Ordering.{is_eq}
+use Rattle.sqlite_value.specs.declared.value.Value.{Value}
+use Rattle.sqlite_value.specs.declared.value.Value.TheVariants.{Text}
+use Rattle.sqlite_value.specs.Order.{Row, column, value_cmp}
+use Rattle.sqlite_trees.specs.Tree.{Trees}
+use Rattle.policy.specs.CharterSets.{CharterSets}
+use Rattle.policy.specs.Rows.{Rows}
+use Rattle.tables.specs.Tables.{meta, operator, pool, holder, holding, granted, auth, slurm, contents, AreTrees}
+use Rattle.tables.specs.Cells.{schema_row, operator_row, prefix_cells, holder_row, holding_row, granted_row, auth_row}
+
+-- A table that has rows of holders: its tree, the column that names the holder, and the rows of one holder.
+pub record Part : Type 0 where
+  pub tree : ℕ
+  pub place : ℕ
+  pub rows : List ℕ → Rows → List Row
+
+abbrev pub holder_part : Part
+holder_part = record { tree = holder.tree; place = 0; rows = λ h r. holder_row h r.granted r.created ∷ [] }
+
+abbrev pub holding_part : Part
+holding_part = record { tree = holding.tree; place = 3; rows = λ h r. map (holding_row h) r.holdings }
+
+abbrev pub granted_part : Part
+granted_part = record { tree = granted.tree; place = 0; rows = λ h r. map (granted_row h) r.grants }
+
+abbrev pub auth_part : Part
+auth_part = record { tree = auth.tree; place = 0; rows = λ h r. map (auth_row h) r.auths }
+
+-- the items of the rows; none where the holder is not registered
+abbrev pub items_if_any : {X : Type 0} → (Rows → List X) → Option Rows → List X
+items_if_any _ None = []
+items_if_any items (Some r) = items r
+
+abbrev pub part_rows : Part → List ℕ → Option Rows → List Row
+part_rows part h = items_if_any (part.rows h)
+
+-- the value is this name
+abbrev pub is_name_of : List ℕ → Value → Bool
+is_name_of h v = is_eq (value_cmp v (Text h))
+
+abbrev pub is_text : Value → Bool
+is_text (Text t) = true
+is_text _ = false
+
+-- the table has the rows of every holder, in some order, and no others
+pub record HoldsPart (part : Part) (rows : List ℕ → Option Rows) (table : List Row) : Type 0 where
+  pub each : (h : List ℕ) → IsPermutation (part_rows part h (rows h)) (filter (λ c. is_name_of h (column c part.place)) table)
+  pub named : AllByRecursion (λ c. is_text (column c part.place) ≡ true) table
+
+-- the tables have the number of the schema, the operators and the pool, in some order, and nothing else
+pub record HoldsCharter (charter : CharterSets) (trees : Trees) : Type 0 where
+  pub schema : IsPermutation (schema_row ∷ []) (contents (trees meta.tree))
+  pub operators : IsPermutation (map operator_row charter.operators) (contents (trees operator.tree))
+  pub pool : IsPermutation (map prefix_cells charter.pool) (contents (trees pool.tree))
+
+-- the tables hold this charter and these rows, and no exception of a SLURM file
+pub record TablesHold (charter : CharterSets) (rows : List ℕ → Option Rows) (trees : Trees) : Type 0 where
+  pub charter_kept : HoldsCharter charter trees
+  pub holders : HoldsPart holder_part rows (contents (trees holder_part.tree))
+  pub holdings : HoldsPart holding_part rows (contents (trees holding_part.tree))
+  pub grants : HoldsPart granted_part rows (contents (trees granted_part.tree))
+  pub auths : HoldsPart auth_part rows (contents (trees auth_part.tree))
+  pub exceptions : contents (trees slurm.tree) ≡ []
+  pub whole : AreTrees trees

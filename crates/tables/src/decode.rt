@@ -1,0 +1,148 @@
+//! Typed values of the cells that show them.
+ghost use Rattle.std.specs.Prelude.{◌≡◌, ◌≢◌, [], ◌∷◌, length, ⊤, IfSome, IsTrue};
+ghost use Rattle.std.specs.Bool.{OnTrue, OnFalse};
+ghost use Rattle.addr.specs.Day.{IsDay};
+ghost use Rattle.addr.specs.Name.{is_name};
+ghost use Rattle.policy.specs.Values.{IsU8, IsU32};
+ghost use Rattle.sqlite_value.specs.declared.value.Value.TheVariants.{Text, Blob};
+ghost use Rattle.sqlite_value.specs.Order.{column};
+ghost use Rattle.sqlite_value.specs.Value.{owned};
+ghost use Rattle.tables.specs.Cells.{address, number_cell, family_number, role_number, prefix_cells, scope_cells, span_cells};
+ghost use Rattle.tables.specs.Decode.{Decodes, first_columns};
+
+use addr::{Day, Family, Name, Prefix, Span};
+use policy::{Role, Scope};
+use sqlite::Row;
+use sqlite::types::ValueRef;
+
+/// The number whose 16 bytes they are, the greatest first.
+fn address_in(bytes: &[u8]) -> Option<u128>
+    ensures some { IfSome result (λ number. bytes.now ≡ address number) }
+    ensures none { result ≡ None → length bytes.now ≢ 16 }
+{
+    if bytes.len() != 16 {
+        return None;
+    }
+    let mut number: u128 = 0;
+    for byte in bytes {
+        number = number * 256 + u128::from(*byte);
+    }
+    Some(number)
+}
+
+/// The value in a column, and NULL past the end.
+pub(crate) fn cell(row: &Row, at: usize) -> ValueRef<'_>
+    ensures { owned result ≡ column row.now at }
+{
+    row.get_ref(at).unwrap_or(ValueRef::Null)
+}
+
+/// Whether the row has so many columns, and no more.
+pub(crate) fn has_columns(row: &Row, count: usize) -> bool
+    ensures whole { OnTrue result (row.now ≡ first_columns count row.now) }
+    ensures other { OnFalse result (length row.now ≢ count) }
+{
+    row.column_count() == count
+}
+
+pub(crate) fn number_in(value: ValueRef<'_>) -> Option<u32>
+    ensures { Decodes number_cell IsU32 (owned value.entry) result }
+{
+    match value {
+        ValueRef::Int(number) => u32::try_from(number).ok(),
+        _ => None,
+    }
+}
+
+pub(crate) fn byte_in(value: ValueRef<'_>) -> Option<u8>
+    ensures { Decodes number_cell IsU8 (owned value.entry) result }
+{
+    match value {
+        ValueRef::Int(number) => u8::try_from(number).ok(),
+        _ => None,
+    }
+}
+
+pub(crate) fn day_in(value: ValueRef<'_>) -> Option<Day>
+    ensures { Decodes number_cell IsDay (owned value.entry) result }
+{
+    Day::from_number(number_in(value)?)
+}
+
+fn family_in(value: ValueRef<'_>) -> Option<Family>
+    ensures { Decodes (λ family. number_cell (family_number family)) (λ _. ⊤)
+        (owned value.entry) result }
+{
+    match value {
+        ValueRef::Int(4) => Some(Family::V4),
+        ValueRef::Int(6) => Some(Family::V6),
+        _ => None,
+    }
+}
+
+pub(crate) fn role_in(value: ValueRef<'_>) -> Option<Role>
+    ensures { Decodes (λ role. number_cell (role_number role)) (λ _. ⊤) (owned value.entry) result }
+{
+    match value {
+        ValueRef::Int(1) => Some(Role::Manager),
+        ValueRef::Int(2) => Some(Role::Clerk),
+        ValueRef::Int(3) => Some(Role::Auditor),
+        _ => None,
+    }
+}
+
+pub(crate) fn name_in(value: ValueRef<'_>) -> Option<Name>
+    ensures { Decodes Text (λ text. IsTrue (is_name text)) (owned value.entry) result }
+{
+    match value {
+        ValueRef::Text(text) => Name::read(text),
+        _ => None,
+    }
+}
+
+fn number_of_address_in(value: ValueRef<'_>) -> Option<u128>
+    ensures { Decodes (λ number. Blob (address number)) (λ _. ⊤) (owned value.entry) result }
+{
+    match value {
+        ValueRef::Blob(bytes) => address_in(bytes),
+        _ => None,
+    }
+}
+
+pub(crate) fn prefix_in(
+    family: ValueRef<'_>,
+    first: ValueRef<'_>,
+    length: ValueRef<'_>,
+) -> Option<Prefix>
+    ensures { Decodes prefix_cells (λ _. ⊤)
+        (owned family.entry ∷ owned first.entry ∷ owned length.entry ∷ []) result }
+{
+    let family = family_in(family)?;
+    let first = number_of_address_in(first)?;
+    let length = byte_in(length)?;
+    Prefix::from_parts(family, first, length)
+}
+
+pub(crate) fn scope_in(
+    family: ValueRef<'_>,
+    first: ValueRef<'_>,
+    length: ValueRef<'_>,
+) -> Option<Scope>
+    ensures { Decodes scope_cells (λ _. ⊤)
+        (owned family.entry ∷ owned first.entry ∷ owned length.entry ∷ []) result }
+{
+    match (family, first, length) {
+        (ValueRef::Null, ValueRef::Null, ValueRef::Null) => Some(Scope::All),
+        _ => Some(Scope::Only(prefix_in(family, first, length)?)),
+    }
+}
+
+pub(crate) fn span_in(family: ValueRef<'_>, lo: ValueRef<'_>, hi: ValueRef<'_>) -> Option<Span>
+    ensures { Decodes span_cells (λ _. ⊤)
+        (owned family.entry ∷ owned lo.entry ∷ owned hi.entry ∷ []) result }
+{
+    let family = family_in(family)?;
+    let lo = number_of_address_in(lo)?;
+    let hi = number_of_address_in(hi)?;
+    Span::from_parts(family, lo, hi)
+}

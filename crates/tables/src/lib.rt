@@ -1,0 +1,16 @@
+//! The tables of a desk: values as cells, and the rows that show values.
+#![tactic(auto)]
+
+mod cells;
+mod decode;
+mod names;
+mod rows;
+mod same;
+
+pub use cells::{
+    address_bytes, auth_values, family_number, granted_values, holding_values, name_values,
+    number_values, prefix_values, scope_first,
+};
+pub use names::has_names;
+pub use rows::{Counters, FromRow, in_rows};
+pub use same::{same_schema, same_tables};

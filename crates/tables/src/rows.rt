@@ -1,0 +1,167 @@
+//! The values that rows show: how a row of each type is read. A row that shows no value of its type
+//! is one of another schema.
+ghost use Rattle.std.specs.Prelude.{◌≡◌, ◌≤◌, [], ◌∷◌, length, ⊤, IfOk, IsTrue, vec_capacity};
+ghost use Rattle.addr.specs.Name.{is_name};
+ghost use Rattle.policy.specs.Values.{IsU32, AuthFits, GrantFits};
+ghost use Rattle.sqlite_value.specs.declared.value.Value.TheVariants.{Text};
+ghost use Rattle.sqlite_value.specs.Order.{Row as Cells};
+ghost use Rattle.tables.specs.Cells.{prefix_cells, span_cells, counter_cells, grant_cells, auth_cells, vrp_cells};
+ghost use Rattle.tables.specs.Decode.{Decodes, DecodesAll, VrpFits};
+
+use crate::decode::{
+    byte_in, cell, day_in, has_columns, name_in, number_in, prefix_in, role_in, scope_in, span_in,
+};
+use addr::{Asn, Name, Prefix, Span, Vrp};
+use policy::{Auth, Granted};
+use sqlite::Row;
+use std::alloc::{AllocError, Global};
+
+/// A value that a row shows.
+pub trait FromRow: Drop {
+    ghost cells: { Self → Cells };
+
+    // The value is one of its Rust type, as a number below 2 ^ 32 is one of `u32`. Each such value
+    // is read from the cells that it shows, whatever rules it breaks.
+    ghost fits: { Self → Type 0 };
+
+    /// The value that the row shows, if it shows one.
+    fn in_row(row: &Row) -> Option<Self>
+        ensures { Decodes cells fits row.now result };
+}
+
+/// The values that the rows show, in their order; none where some row shows no value.
+pub fn in_rows<T: FromRow>(alloc: Global, rows: &[Row]) -> Result<Option<Vec<T>>, AllocError>
+    ensures { IfOk result (DecodesAll T.cells T.fits rows.now) }
+{
+    Ok(in_rows_within(Vec::with_capacity(alloc, rows.len())?, rows))
+}
+
+/// The same in a vector that has room for them.
+fn in_rows_within<T: FromRow>(mut values: Vec<T>, rows: &[Row]) -> Option<Vec<T>>
+    requires empty { values.items ≡ [] }
+    requires room { length rows.now ≤ vec_capacity values }
+    ensures { DecodesAll T.cells T.fits rows.now result }
+{
+    for row in rows {
+        let value = T::in_row(row)?;
+        values.push(value).unwrap();
+    }
+    Some(values)
+}
+
+impl FromRow for Name {
+    ghost cells = { λ text. Text text ∷ [] };
+
+    ghost fits = { λ text. IsTrue (is_name text) };
+
+    fn in_row(row: &Row) -> Option<Name> {
+        if !has_columns(row, 1) {
+            return None;
+        }
+        name_in(cell(row, 0))
+    }
+}
+
+impl FromRow for Prefix {
+    ghost cells = { prefix_cells };
+
+    ghost fits = { λ _. ⊤ };
+
+    fn in_row(row: &Row) -> Option<Prefix> {
+        if !has_columns(row, 3) {
+            return None;
+        }
+        prefix_in(cell(row, 0), cell(row, 1), cell(row, 2))
+    }
+}
+
+impl FromRow for Span {
+    ghost cells = { span_cells };
+
+    ghost fits = { λ _. ⊤ };
+
+    fn in_row(row: &Row) -> Option<Span> {
+        if !has_columns(row, 3) {
+            return None;
+        }
+        span_in(cell(row, 0), cell(row, 1), cell(row, 2))
+    }
+}
+
+/// How many grants and authorizations a resource holder has made.
+#[derive(Clone, Copy, Debug, PartialEq, Eq)]
+pub struct Counters {
+    pub granted: u32,
+    pub created: u32,
+}
+
+impl FromRow for Counters {
+    ghost cells = { λ counters. counter_cells counters.granted counters.created };
+
+    ghost fits = { λ counters. IsU32 counters.granted × IsU32 counters.created };
+
+    fn in_row(row: &Row) -> Option<Counters> {
+        if !has_columns(row, 2) {
+            return None;
+        }
+        Some(Counters {
+            granted: number_in(cell(row, 0))?,
+            created: number_in(cell(row, 1))?,
+        })
+    }
+}
+
+impl FromRow for Granted {
+    ghost cells = { grant_cells };
+
+    ghost fits = { GrantFits };
+
+    fn in_row(row: &Row) -> Option<Granted> {
+        if !has_columns(row, 7) {
+            return None;
+        }
+        Some(Granted {
+            number: number_in(cell(row, 0))?,
+            caller: name_in(cell(row, 1))?,
+            role: role_in(cell(row, 2))?,
+            scope: scope_in(cell(row, 3), cell(row, 4), cell(row, 5))?,
+            until: day_in(cell(row, 6))?,
+        })
+    }
+}
+
+impl FromRow for Auth {
+    ghost cells = { auth_cells };
+
+    ghost fits = { AuthFits };
+
+    fn in_row(row: &Row) -> Option<Auth> {
+        if !has_columns(row, 8) {
+            return None;
+        }
+        Some(Auth {
+            number: number_in(cell(row, 0))?,
+            asn: Asn(number_in(cell(row, 1))?),
+            prefix: prefix_in(cell(row, 2), cell(row, 3), cell(row, 4))?,
+            max: byte_in(cell(row, 5))?,
+            from: day_in(cell(row, 6))?,
+            until: day_in(cell(row, 7))?,
+        })
+    }
+}
+
+impl FromRow for Vrp {
+    ghost cells = { vrp_cells };
+
+    ghost fits = { VrpFits };
+
+    fn in_row(row: &Row) -> Option<Vrp> {
+        if !has_columns(row, 5) {
+            return None;
+        }
+        let asn = Asn(number_in(cell(row, 0))?);
+        let prefix = prefix_in(cell(row, 1), cell(row, 2), cell(row, 3))?;
+        let max = byte_in(cell(row, 4))?;
+        Vrp::from_parts(prefix, max, asn)
+    }
+}
