@@ -108,6 +108,7 @@ RefusesCharter fault.CharterCount text = (charter_file_fault (csv_records text) 
 RefusesCharter fault.Words text = ⊥
 RefusesCharter fault.Day text = ⊥
 RefusesCharter fault.File text = ⊥
+RefusesCharter fault.Database text = ⊥
 RefusesCharter fault.Stream text = ⊥
 
 -- ---- rows that were read

@@ -51,4 +51,5 @@ EndsCheck (fault.Row which k why) payloads routes old new failed = (check_fault 
 EndsCheck fault.Words payloads routes old new failed = ⊥
 EndsCheck fault.Day payloads routes old new failed = ⊥
 EndsCheck fault.File payloads routes old new failed = ⊥
+EndsCheck fault.Database payloads routes old new failed = ⊥
 EndsCheck fault.CharterCount payloads routes old new failed = ⊥

@@ -9,18 +9,19 @@ use Rattle.cli.specs.declared.fault.InputFile.TheVariants as input
 use Rattle.cli.specs.declared.fault.ProgramFault.{ProgramFault}
 use Rattle.cli.specs.declared.fault.RowFault.{RowFault}
 use Rattle.cli.specs.declared.fault.RowFault.TheVariants as row
-use Rattle.cli.specs.declared.fault.ProgramFault.TheVariants.{Words, Day, File, Stream, Memory, Header, Row, CharterCount}
+use Rattle.cli.specs.declared.fault.ProgramFault.TheVariants.{Words, Day, File, Database, Stream, Memory, Header, Row, CharterCount}
 use Rattle.web.specs.declared.script.ScriptFault.{ScriptFault}
 use Rattle.web.specs.declared.script.ScriptFault.TheVariants as script
 use Rattle.cli.specs.declared.words.WordsFault.{WordsFault}
 use Rattle.cli.specs.declared.words.WordsFault.TheVariants as words
 
--- 2 other words or no day, 3 a file or a stream failed, 4 no memory, 5 the content of a file is
+-- 2 other words or no day, 3 a file, the database or a stream failed, 4 no memory, 5 the content of a file is
 -- refused
 abbrev pub status_of : ProgramFault → ℕ
 status_of Words = 2
 status_of Day = 2
 status_of File = 3
+status_of Database = 3
 status_of Stream = 3
 status_of Memory = 4
 status_of (Header file) = 5
@@ -47,6 +48,7 @@ abbrev pub line_text : ProgramFault → List ℕ
 line_text Words = codes "roadesk: words"
 line_text Day = codes "roadesk: day"
 line_text File = codes "roadesk: file"
+line_text Database = codes "roadesk: database"
 line_text Stream = codes "roadesk: stream"
 line_text Memory = codes "roadesk: memory"
 line_text (Header file) = codes "roadesk: " ++ file_name file ++ codes " header"

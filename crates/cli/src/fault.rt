@@ -101,6 +101,8 @@ pub enum ProgramFault {
     Day,
     /// A file was not read.
     File,
+    /// The database refused, or there was no memory for it.
+    Database,
     /// Standard input or output failed.
     Stream,
     /// No memory was found.
@@ -124,7 +126,7 @@ impl ProgramFault {
     {
         match self {
             ProgramFault::Words | ProgramFault::Day => 2,
-            ProgramFault::File | ProgramFault::Stream => 3,
+            ProgramFault::File | ProgramFault::Database | ProgramFault::Stream => 3,
             ProgramFault::Memory => 4,
             ProgramFault::Header(_) | ProgramFault::Row { .. } | ProgramFault::CharterCount => 5,
         }
@@ -140,6 +142,7 @@ impl ProgramFault {
             ProgramFault::Words => text.push_str("words"),
             ProgramFault::Day => text.push_str("day"),
             ProgramFault::File => text.push_str("file"),
+            ProgramFault::Database => text.push_str("database"),
             ProgramFault::Stream => text.push_str("stream"),
             ProgramFault::Memory => text.push_str("memory"),
             ProgramFault::Header(file) => {

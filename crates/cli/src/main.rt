@@ -53,7 +53,9 @@ fn run(rt: &HostRuntime) -> Result<(), ProgramFault> {
 fn run_script_task(rt: &HostRuntime, charter: &str) -> Result<(), ProgramFault> {
     let text = read_file(rt, charter)?;
     let charter = charter_from(rt.alloc(), &text)?;
-    let mut desk = Desk::open_memory(rt.alloc(), &charter)?;
+    let Ok(mut desk) = Desk::open_memory(rt.alloc(), &charter) else {
+        return Err(ProgramFault::Database);
+    };
     let mut source = Device::new(rt.reader());
     let mut drain = Device::new(io::writer(rt));
     run_script(rt.alloc(), &mut source, &mut drain, &mut desk).map_err(ProgramFault::from)

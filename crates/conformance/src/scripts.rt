@@ -9,6 +9,7 @@ use crate::rows::line_of;
 use addr::{Name, Prefix};
 use desk::Desk;
 use policy::Charter;
+use sqlite::MemStore;
 use std::alloc::Global;
 use std::process::Abort;
 use std::test::Fail;
@@ -54,7 +55,7 @@ const EXAMPLE_POOL: &[&str] = &["192.0.2.0/24", "198.51.100.0/24", "2001:db8::/3
 const HALVES: &[&str] = &["192.0.2.0/25", "192.0.2.128/25"];
 
 /// A new desk with the operator `reg` and this pool.
-pub(crate) fn desk_of(alloc: Global, pool: &[&str]) -> Result<Desk, Fail> {
+pub(crate) fn desk_of(alloc: Global, pool: &[&str]) -> Result<Desk<MemStore>, Fail> {
     let mut operators = Vec::new(alloc);
     operators.push(Name::read(b"reg").ok_or("a name")?)?;
     let mut prefixes = Vec::new(alloc);
@@ -62,10 +63,13 @@ pub(crate) fn desk_of(alloc: Global, pool: &[&str]) -> Result<Desk, Fail> {
         prefixes.push(Prefix::read(text.as_bytes())?)?;
     }
     let charter = Charter::make(operators, prefixes)?;
-    Ok(Desk::open_memory(alloc, &charter)?)
+    let Ok(desk) = Desk::open_memory(alloc, &charter) else {
+        return Err("no desk".into());
+    };
+    Ok(desk)
 }
 
-pub(crate) fn example_desk(alloc: Global) -> Result<Desk, Fail> {
+pub(crate) fn example_desk(alloc: Global) -> Result<Desk<MemStore>, Fail> {
     desk_of(alloc, EXAMPLE_POOL)
 }
 
@@ -106,7 +110,7 @@ impl Dialogue {
     }
 
     // What the desk writes to the script, which a source gives few bytes at a time.
-    fn replies(&self, desk: &mut Desk) -> Result<Vec<u8>, Fail> {
+    fn replies(&self, desk: &mut Desk<MemStore>) -> Result<Vec<u8>, Fail> {
         let mut source = Device::new(Tape {
             bytes: self.script.as_bytes(),
             piece: 7,
@@ -131,7 +135,7 @@ impl Dialogue {
         &self,
         rt: &impl Abort,
         name: &str,
-        desk: &mut Desk,
+        desk: &mut Desk<MemStore>,
     ) -> Result<(), Fail> {
         let mut asked = Vec::new(self.alloc);
         let mut expected = String::new(self.alloc);

@@ -2,6 +2,7 @@
 use crate::fakes::{Peer, Sheet, Tape};
 use crate::scripts::example_desk;
 use desk::Desk;
+use sqlite::MemStore;
 use std::alloc::Global;
 use std::cell::Cell;
 use std::io::{BufWriter, Error, ErrorKind, Read, Write};
@@ -17,7 +18,7 @@ struct Outcome {
 // Runs a script that comes in pieces, and then ends or fails, into a device that takes `room` bytes.
 fn run(
     alloc: Global,
-    desk: &mut Desk,
+    desk: &mut Desk<MemStore>,
     bytes: &[u8],
     fails: bool,
     piece: usize,

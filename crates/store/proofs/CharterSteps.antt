@@ -66,7 +66,7 @@ module _ (tree : ℕ) where
   first_rows : (rows : List Row) (a b : Database) → Edits tree (λ table. rows ++ table) a b → a.trees tree ≡ [] → IsPermutation rows (contents (b.trees tree))
   first_rows rows a b e none = subst (λ l. IsPermutation l (contents (b.trees tree))) (ap (λ t. rows ++ contents t) none ∙ append-nil rows) e.rows
 
-pub has_charter : (charter : CharterSets) (a b c d : State) → IsMadeTo 8 a → PutsRows meta.tree (schema_row ∷ []) a b → PutsRows operator.tree (map operator_row charter.operators) b c → PutsRows pool.tree (map prefix_cells charter.pool) c d → HasCharter charter d
+pub has_charter : (charter : CharterSets) (a b c d : State) → IsMadeTo 9 a → PutsRows meta.tree (schema_row ∷ []) a b → PutsRows operator.tree (map operator_row charter.operators) b c → PutsRows pool.tree (map prefix_cells charter.pool) c d → HasCharter charter d
 has_charter charter a b c d made schema operators prefixes =
     let at = each_table (λ t. a.now.trees t ≡ []) desk_tables made.empty in
     let first = schema.edits in

@@ -1,16 +1,16 @@
 -- The statements that make the tables of a desk, one on the other. Each fact is computed.
 use Rattle.std.proofs.Common.{◌≡◌, ℕ, List, codes, false, Ok, refl}
-use Rattle.sqlite.specs.Compile.{table_defined_by}
-use Rattle.sqlite.specs.Change.{created, next_tree}
+use Rattle.sqlite.specs.Compile.{table_defined_by, index_defined_by}
+use Rattle.sqlite.specs.Change.{created, indexed, next_tree}
 use Rattle.sqlite.specs.Does.{lacks_sequence}
 use Rattle.sqlite.specs.Listing.{understood}
 use Rattle.sqlite.proofs.Callers.{IsPlain, command_of, statement_of}
-use Rattle.sqlite_schema.specs.declared.command.Command.TheVariants.{CreateTable}
+use Rattle.sqlite_schema.specs.declared.command.Command.TheVariants.{CreateTable, CreateIndex}
 use Rattle.sqlite_schema.specs.declared.schema.Schema.{Schema}
 use Rattle.sqlite_schema.specs.declared.schema.Table.{Table}
 use Rattle.sqlite_tied.specs.Compute.{everything}
 use Rattle.std.specs.Fmt.{digits}
-use Rattle.tables.specs.Tables.{meta, operator, pool, holder, holding, granted, auth, slurm}
+use Rattle.tables.specs.Tables.{meta, operator, pool, holder, holding, granted, auth, slurm, holding_of, desk_schema, unindexed_schema}
 use Rattle.store.specs.steps.Making.{so_far}
 
 -- over the first tables, the text defines this table, and makes the next schema
@@ -22,6 +22,14 @@ pub record Defines (sql : List ℕ) (table : Table) (before after : Schema) : Ty
   pub made : created before (record table { tree = 0 }) ≡ after
   pub place : next_tree before ≡ table.tree
   pub uncounted : lacks_sequence after ≡ false
+
+-- over a desk without it, the text defines the index of a holder's runs
+pub record DefinesIndex (sql : List ℕ) : Type 0 where
+  pub is : command_of (understood unindexed_schema sql) ≡ CreateIndex 4
+  pub text : statement_of sql (understood unindexed_schema sql) ≡ sql
+  pub plain : IsPlain (understood unindexed_schema sql)
+  pub defined : index_defined_by holding sql ≡ Ok (record holding_of { tree = 0 })
+  pub made : indexed unindexed_schema holding (record holding_of { tree = 0 }) ≡ desk_schema
 
 abbrev pub meta_text : List ℕ
 meta_text = codes "CREATE TABLE meta (name TEXT NOT NULL, value INTEGER NOT NULL, PRIMARY KEY (name)) STRICT"
@@ -78,3 +86,10 @@ slurm_text = codes "CREATE TABLE slurm (file TEXT NOT NULL, kind INTEGER NOT NUL
 pub slurm_defined : Defines slurm_text slurm (so_far 7) (so_far 8)
 unfolding understood everything digits
 slurm_defined = record { is = refl; text = refl; plain = (refl, refl); defined = refl; made = refl; place = refl; uncounted = refl }
+
+abbrev pub index_text : List ℕ
+index_text = codes "CREATE INDEX holding_of ON holding (holder)"
+
+pub index_defined : DefinesIndex index_text
+unfolding understood everything digits
+index_defined = record { is = refl; text = refl; plain = (refl, refl); defined = refl; made = refl }

@@ -1,24 +1,23 @@
 -- What each CREATE does to the tables that are made so far.
-use Rattle.std.proofs.Common.{◌≡◌, ℕ, suc, true, false, List, [], ◌∷◌, ◌++◌, take, None, sym, ap, subst, ◌∙◌}
+use Rattle.std.proofs.Common.{◌≡◌, ℕ, suc, true, false, List, [], ◌∷◌, ◌++◌, take, None, Ok, refl, sym, ap, subst, ◌∙◌}
 use Rattle.std.specs.List.{AllByRecursion}
 use Rattle.std.proofs.lemmas.List.Sorted.{IsPermutation-refl}
 use Rattle.sqlite_value.specs.Order.{Row}
-use Rattle.sqlite.specs.Change.{created, next_tree, KeepsRows}
-use Rattle.sqlite.specs.Does.{Tally, lacks_sequence}
+use Rattle.sqlite.specs.Change.{created, indexed, next_tree, KeepsRows}
+use Rattle.sqlite.specs.Does.{Tally, Does, lacks_sequence}
 use Rattle.sqlite.specs.Effect.{Database}
-use Rattle.sqlite.specs.State.{State, Writes}
+use Rattle.sqlite.specs.State.{State, mode_of, Writes}
 use Rattle.sqlite.proofs.Callers.{runs_as}
 use Rattle.sqlite_trees.proofs.ListLemmas.{all_both, all-append}
-use Rattle.sqlite_schema.specs.declared.command.Command.TheVariants.{CreateTable}
+use Rattle.sqlite_schema.specs.declared.command.Command.TheVariants.{CreateTable, CreateIndex}
 use Rattle.sqlite_schema.specs.declared.schema.Schema.{Schema}
 use Rattle.sqlite_schema.specs.declared.schema.Table.{Table}
-use Rattle.tables.specs.Tables.{desk_tables}
-use Rattle.tables.specs.Tables.{contents}
+use Rattle.tables.specs.Tables.{holding, holding_of, desk_tables, unindexed_schema, contents}
 use Rattle.tables.specs.TablesHold.{Part, HoldsPart}
-use Rattle.store.specs.steps.Making.{so_far, IsMadeTo}
+use Rattle.store.specs.steps.Making.{so_far, IsMadeTo, IsUnindexed, MakesIndex}
 use Rattle.store.specs.steps.Statements.{IsExecuted}
-use Rattle.tables.proofs.Inserting.{went, same_value}
-use Rattle.store.proofs.Creates.{Defines}
+use Rattle.tables.proofs.Inserting.{went, same_value, each_table}
+use Rattle.store.proofs.Creates.{Defines, index_text, index_defined}
 
 -- one table more
 grown : (n : ℕ) (table : Table) (old new : State) → IsMadeTo n old → take (suc n) desk_tables ≡ take n desk_tables ++ table ∷ [] → new.in_transaction ≡ true → new.now.schema ≡ so_far (suc n)
@@ -52,3 +51,30 @@ makes n sql table d next old new before ran =
 -- an empty table has the rows of no holder
 pub none_held : (part : Part) (table : List Row) → table ≡ [] → HoldsPart part (λ h. None) (contents table)
 none_held part table none = rw none (record { each = λ h. IsPermutation-refl []; named = tt })
+
+-- the index changes no row
+pub adds : (old new : State) → IsUnindexed old → IsExecuted index_text [] old new → MakesIndex old new
+adds old new before ran =
+    let has = before.schema ran.1.1.was_open in
+    let d = index_defined in
+    let runs = runs_as index_text [] old new unindexed_schema has (CreateIndex 4) d.is d.plain ran.0 ran.1.0 in
+    let w = subst (λ t. Writes old new None (CreateIndex 4) t [] ran.0) d.text runs in
+    let found = subst (λ s. Does old.step_limit (mode_of old) [] (record old.now { schema = s }) index_text None (CreateIndex 4) (Ok (w.tally, new.now))) has w.changed in
+    let all = went found in
+    let made = all.1 in
+    let same : made.index ≡ record holding_of { tree = 0 } = same_value (sym made.defined ∙ d.defined) in
+    let now : new.now ≡ all.0 = ap (λ (p : Tally × Database). p.1) (same_value all.2) in
+    record {
+      was_open = ran.1.1.was_open;
+      inside = ran.1.1.mode;
+      schema = ap (λ (d : Database). d.schema) now ∙ made.is ∙ ap (indexed unindexed_schema holding) same ∙ d.made;
+      rows = each_table (λ t. new.now.trees t ≡ old.now.trees t) desk_tables (subst (λ (d : Database). KeepsRows desk_tables old.now.trees d.trees) (sym now) made.rows);
+    }
+
+pub made_all : (old new : State) → IsMadeTo 8 old → MakesIndex old new → IsMadeTo 9 new
+made_all old new before made = record {
+  inside = made.inside;
+  schema = made.schema;
+  empty = all_both (λ t. new.now.trees t.tree ≡ old.now.trees t.tree) (λ t. old.now.trees t.tree ≡ []) (λ t. new.now.trees t.tree ≡ []) (λ t same none. same ∙ none) desk_tables
+      (made.rows 0 refl, (made.rows 2 refl, (made.rows 4 refl, (made.rows 6 refl, (made.rows 8 refl, (made.rows 10 refl, (made.rows 12 refl, (made.rows 15 refl, tt)))))))) before.empty;
+}

@@ -83,7 +83,7 @@ pub(crate) fn put_charter<S: Alter>(
     tx: &mut Transaction<'_, S>,
     charter: &Charter,
 ) -> Result<(), Error>
-    requires { WhenClean S.Store (IsMadeTo 8) tx.old }
+    requires { WhenClean S.Store (IsMadeTo 9) tx.old }
     ensures put { IfDone S.Store result (λ _. HasCharter charter.now) tx.old tx.new }
     ensures inside { StaysInside S.Store tx.old tx.new }
 {

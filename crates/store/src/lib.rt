@@ -10,6 +10,7 @@ mod fault;
 mod granted;
 mod holder;
 mod holding;
+mod index;
 pub mod laws;
 mod load;
 mod making;

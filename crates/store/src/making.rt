@@ -1,11 +1,12 @@
 ghost use Rattle.store.specs.steps.Statements.{WhenClean, IfDone, StaysInside};
 ghost use Rattle.store.specs.steps.Making.{IsMadeTo};
 
+use crate::index::make_index;
 use crate::statement::run;
 use sqlite::{Alter, Error, Transaction};
 
 /// Makes the tables `meta`, `operator`, `pool` and `holder` in a database that has no table.
-pub(crate) fn make_first_tables<S: Alter>(tx: &mut Transaction<'_, S>) -> Result<(), Error>
+fn make_first_tables<S: Alter>(tx: &mut Transaction<'_, S>) -> Result<(), Error>
     requires { WhenClean S.Store (IsMadeTo 0) tx.old }
     ensures made { IfDone S.Store result (λ _. IsMadeTo 4) tx.old tx.new }
     ensures inside { StaysInside S.Store tx.old tx.new }
@@ -33,7 +34,7 @@ pub(crate) fn make_first_tables<S: Alter>(tx: &mut Transaction<'_, S>) -> Result
 }
 
 /// Makes the tables `holding`, `granted`, `auth` and `slurm` after those.
-pub(crate) fn make_other_tables<S: Alter>(tx: &mut Transaction<'_, S>) -> Result<(), Error>
+fn make_other_tables<S: Alter>(tx: &mut Transaction<'_, S>) -> Result<(), Error>
     requires { WhenClean S.Store (IsMadeTo 4) tx.old }
     ensures made { IfDone S.Store result (λ _. IsMadeTo 8) tx.old tx.new }
     ensures inside { StaysInside S.Store tx.old tx.new }
@@ -58,4 +59,15 @@ pub(crate) fn make_other_tables<S: Alter>(tx: &mut Transaction<'_, S>) -> Result
         "CREATE TABLE slurm (file TEXT NOT NULL, kind INTEGER NOT NULL, position INTEGER NOT NULL, family INTEGER, lo BLOB, len INTEGER, max INTEGER, asn INTEGER, PRIMARY KEY (file, kind, position)) STRICT",
         &[],
     )
+}
+
+/// Makes the tables of a desk, and the index, in a database that has no table.
+pub(crate) fn make_schema<S: Alter>(tx: &mut Transaction<'_, S>) -> Result<(), Error>
+    requires { WhenClean S.Store (IsMadeTo 0) tx.old }
+    ensures made { IfDone S.Store result (λ _. IsMadeTo 9) tx.old tx.new }
+    ensures inside { StaysInside S.Store tx.old tx.new }
+{
+    make_first_tables(tx)?;
+    make_other_tables(tx)?;
+    make_index(tx)
 }

@@ -13,7 +13,7 @@ use crate::across::some_overlap;
 use crate::change::make_change;
 use crate::charter::put_charter;
 use crate::load::{load_rows, load_vrps};
-use crate::making::{make_first_tables, make_other_tables};
+use crate::making::make_schema;
 use addr::{Day, Name, Prefix, Vrp};
 use policy::{Change, Charter, HolderRows};
 use sqlite::{Alter, Connection, MemStore};
@@ -46,7 +46,8 @@ fn is_blank(schema: &Schema) -> bool
     schema.tables.is_empty() && schema.indexes.is_empty() && schema.views.is_empty()
 }
 
-/// Makes the tables of a desk in a database that has none, with its charter, in one transaction.
+/// Makes the tables of a desk and the index in a database that has none, with its charter, in one
+/// transaction.
 fn make_tables<S: Alter>(conn: &mut Connection<S>, charter: &Charter) -> Result<(), StoreFault>
     requires idle { conn.old.in_transaction ≡ false }
     requires blank { HasCleanDisk (state S.Store conn.old)
@@ -60,8 +61,7 @@ fn make_tables<S: Alter>(conn: &mut Connection<S>, charter: &Charter) -> Result<
 {
     let _idle = conn.is_autocommit();
     let mut tx = conn.transaction();
-    make_first_tables(&mut tx)?;
-    make_other_tables(&mut tx)?;
+    make_schema(&mut tx)?;
     put_charter(&mut tx, charter)?;
     tx.commit()?;
     Ok(())

@@ -12,3 +12,4 @@ pub mod CellsOnce
 pub mod Addresses
 pub mod SomeRow
 pub mod PlainTables
+pub mod RowsStay

@@ -1,6 +1,6 @@
 -- The tables of a desk, as SQLite keeps them. Each table and each index of a key is a tree, and a row of a
 -- table is its hidden rowid and then its columns.
-use Rattle.std.specs.Prelude.{◌≡◌, ℕ, ◌==◌, Bool, true, false, List, [], ◌∷◌, map, drop, codes, None}
+use Rattle.std.specs.Prelude.{◌≡◌, ℕ, ◌==◌, Bool, true, false, List, [], ◌∷◌, ◌++◌, map, drop, codes, None}
 use Rattle.std.specs.List.{AllByRecursion, list_any}
 use Rattle.std.specs.Ordering.{is_eq}
 use Rattle.sqlite_value.specs.declared.keys.Collation.TheVariants.{Binary}
@@ -115,8 +115,8 @@ key_index name table tree places =
 abbrev pub desk_tables : List Table
 desk_tables = meta ∷ operator ∷ pool ∷ holder ∷ holding ∷ granted ∷ auth ∷ slurm ∷ []
 
-abbrev pub desk_indexes : List Index
-desk_indexes =
+abbrev pub key_indexes : List Index
+key_indexes =
     key_index (codes "sqlite_autoindex_meta_1") 0 1 (1 ∷ [])
     ∷ key_index (codes "sqlite_autoindex_operator_1") 2 3 (1 ∷ [])
     ∷ key_index (codes "sqlite_autoindex_pool_1") 4 5 (1 ∷ 2 ∷ 3 ∷ [])
@@ -127,8 +127,26 @@ desk_indexes =
     ∷ key_index (codes "sqlite_autoindex_auth_2") 12 14 (3 ∷ 4 ∷ 5 ∷ 6 ∷ 7 ∷ [])
     ∷ key_index (codes "sqlite_autoindex_slurm_1") 15 16 (1 ∷ 2 ∷ 3 ∷ []) ∷ []
 
+-- the index by which a holder's runs are found
+abbrev pub holding_of : Index
+holding_of = record {
+  name = codes "holding_of";
+  tree = 17;
+  table = holding.tree;
+  columns = 4 ∷ [];
+  order = rising;
+  is_unique = false;
+}
+
+abbrev pub desk_indexes : List Index
+desk_indexes = key_indexes ++ holding_of ∷ []
+
 abbrev pub desk_schema : Schema
 desk_schema = record { tables = desk_tables; indexes = desk_indexes; views = [] }
+
+-- the same without the index of a holder's runs
+abbrev pub unindexed_schema : Schema
+unindexed_schema = record { tables = desk_tables; indexes = key_indexes; views = [] }
 
 -- the tables of a desk beside the indexes and views of a schema
 abbrev pub desk_beside : Schema → Schema
@@ -159,6 +177,10 @@ abbrev pub IsTree : List Row → Type 0
 IsTree rows =
     IsAscending (λ a b. is_eq (value_cmp (rowid a) (rowid b)) ≡ false) rows
     × AllByRecursion (λ r. is_int (rowid r) ≡ true) rows
+
+-- every table of the desk has the same rows, in the same order
+abbrev pub SameRows : Trees → Trees → Type 0
+SameRows old new = (t : ℕ) → is_table t ≡ true → new t ≡ old t
 
 abbrev pub AreTrees : Trees → Type 0
 AreTrees trees = (t : ℕ) → is_table t ≡ true → IsTree (trees t)

@@ -1,40 +1,68 @@
 -- A script over states is a script over what the states stand for, as histories: where each answer is
--- one there, so are the replies to all lines.
+-- one there, so are the replies to all lines. Of an answer something is known only where the state after it
+-- is sound, and then the state before it was so too.
 use Rattle.std.proofs.Common.{ℕ, List, [], ◌∷◌, Option, refl}
 use Rattle.web.specs.ScriptLines.{within_limit}
 use Rattle.web.specs.Script.{Replies, AnswersEach, BreaksOff}
 
+module _ {State : Type 0}
+    (answers : State → Option (List ℕ) → List ℕ → State → Type 0)
+    (IsSound : State → Type 0)
+    (sound_before : (state next : State) (line : Option (List ℕ)) (reply : List ℕ)
+    → answers state line reply next → IsSound next → IsSound state) where
+  pub Replies-sound : (old new : State) (lines : List (List ℕ)) (text : List ℕ)
+      → Replies answers old lines text new → IsSound new → IsSound old
+  Replies-sound old new [] text script sound = rw (← script.1) sound
+  Replies-sound old new (line ∷ lines) text script sound =
+      let (reply, replies, next, is_text, acted, rest) = script in
+      sound_before old next (within_limit line) reply acted (Replies-sound next new lines replies rest sound)
+
+  pub AnswersEach-sound : (old new : State) (lines : List (List ℕ)) (w w' : List ℕ)
+      → AnswersEach answers old new lines w w' → IsSound new → IsSound old
+  AnswersEach-sound old new lines w w' (text, script, written) = Replies-sound old new lines text script
+
+  pub BreaksOff-sound : (old new : State) (lines : List (List ℕ)) (w w' : List ℕ)
+      → BreaksOff answers old new lines w w' → IsSound new → IsSound old
+  BreaksOff-sound old new lines w w' broken sound =
+      let (before, after, line, text, reply, next, are, script, acted, written) = broken in
+      Replies-sound old next before text script (sound_before next new (within_limit line) reply acted sound)
+
 module _ {State History : Type 0}
     (answers : State → Option (List ℕ) → List ℕ → State → Type 0)
+    (IsSound : State → Type 0)
+    (sound_before : (state next : State) (line : Option (List ℕ)) (reply : List ℕ)
+    → answers state line reply next → IsSound next → IsSound state)
     (StandsFor : State → History → Type 0)
     (answers_there : History → Option (List ℕ) → List ℕ → History → Type 0)
     (each : (state next : State) (line : Option (List ℕ)) (reply : List ℕ) (history : History)
-    → StandsFor state history → answers state line reply next
+    → IsSound next → StandsFor state history → answers state line reply next
     → (later : History) × StandsFor next later × answers_there history line reply later) where
   pub Replies-along : (old new : State) (lines : List (List ℕ)) (text : List ℕ) (history : History)
-      → StandsFor old history → Replies answers old lines text new
+      → IsSound new → StandsFor old history → Replies answers old lines text new
       → (later : History) × StandsFor new later × Replies answers_there history lines text later
-  Replies-along old new [] text history stands script = (history, rw script.1 stands, (script.0, refl))
-  Replies-along old new (line ∷ lines) text history stands script =
+  Replies-along old new [] text history sound stands script = (history, rw script.1 stands, (script.0, refl))
+  Replies-along old new (line ∷ lines) text history sound stands script =
       let (reply, replies, next, is_text, acted, rest) = script in
-      let (between, stands_between, acted_there) = each old next (within_limit line) reply history stands acted in
-      let (later, stands_later, rest_there) = Replies-along next new lines replies between stands_between rest in
+      let sound_between = Replies-sound answers IsSound sound_before next new lines replies rest sound in
+      let (between, stands_between, acted_there) = each old next (within_limit line) reply history sound_between stands acted in
+      let (later, stands_later, rest_there) = Replies-along next new lines replies between sound stands_between rest in
       (later, stands_later, (reply, replies, between, is_text, acted_there, rest_there))
 
   pub AnswersEach-along : (old new : State) (lines : List (List ℕ)) (w w' : List ℕ) (history : History)
-      → StandsFor old history → AnswersEach answers old new lines w w'
+      → IsSound new → StandsFor old history → AnswersEach answers old new lines w w'
       → (later : History) × StandsFor new later × AnswersEach answers_there history later lines w w'
-  AnswersEach-along old new lines w w' history stands (text, script, written) =
-      let (later, stands_later, script_there) = Replies-along old new lines text history stands script in
+  AnswersEach-along old new lines w w' history sound stands (text, script, written) =
+      let (later, stands_later, script_there) = Replies-along old new lines text history sound stands script in
       (later, stands_later, (text, script_there, written))
 
   pub BreaksOff-along : (old new : State) (lines : List (List ℕ)) (w w' : List ℕ) (history : History)
-      → StandsFor old history → BreaksOff answers old new lines w w'
+      → IsSound new → StandsFor old history → BreaksOff answers old new lines w w'
       → (later : History) × StandsFor new later × BreaksOff answers_there history later lines w w'
-  BreaksOff-along old new lines w w' history stands broken =
+  BreaksOff-along old new lines w w' history sound stands broken =
       let (before, after, line, text, reply, next, are, script, acted, written) = broken in
-      let (between, stands_between, script_there) = Replies-along old next before text history stands script in
-      let (later, stands_later, acted_there) = each next new (within_limit line) reply between stands_between acted in (
+      let sound_between = sound_before next new (within_limit line) reply acted sound in
+      let (between, stands_between, script_there) = Replies-along old next before text history sound_between stands script in
+      let (later, stands_later, acted_there) = each next new (within_limit line) reply between sound stands_between acted in (
         later,
         stands_later,
         (before, after, line, text, reply, between, are, script_there, acted_there, written),

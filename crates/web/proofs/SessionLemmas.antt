@@ -1,35 +1,76 @@
 -- A script over a desk is a script over the histories that the desk stands for.
-use Rattle.std.proofs.Common.{◌≡◌, ℕ, List, Option, Some, refl, subst, inl, inr}
+use Rattle.std.proofs.Common.{◌≡◌, ◌∙◌, ℕ, List, Option, Some, Result, Ok, Err, OnOk, refl, subst, inl, inr}
+use Rattle.sqlite.specs.Store.{Ghosts}
 use Rattle.policy.specs.History.{History}
+use Rattle.policy.specs.Values.{HistoryFits}
+use Rattle.policy.specs.Verdict.{IsLegal}
 use Rattle.policy.specs.declared.charter.Charter.{Charter}
 use Rattle.desk.specs.Answer.{IsAnswered}
-use Rattle.desk.specs.Desk.{charter_of, desk_rows, StandsFor}
+use Rattle.desk.specs.Desk.{charter_of, HoldsHistory, IsOnCleanDisk, StandsFor}
 use Rattle.web.specs.ReplyText.{line_text}
 use Rattle.web.specs.RequestText.{ReadsLine}
 use Rattle.web.specs.Script.{AnswersEach, BreaksOff}
-use Rattle.web.specs.ScriptAnswer.{AnswersLine, AnswersLineAt}
+use Rattle.web.specs.ScriptAnswer.{AnswersLine, AnswersLineAt, AnswersLines, BreaksOffLines, IsLaterDesk}
 use Rattle.desk.specs.declared.asked.Asked.{Asked}
 use Rattle.desk.specs.declared.handling.Desk.{Desk}
 use Rattle.desk.specs.declared.reply.Reply.{Reply}
-use Rattle.web.proofs.ScriptAlong.{AnswersEach-along, BreaksOff-along}
+use Rattle.web.specs.declared.script.ScriptFault.{ScriptFault}
+use Rattle.web.specs.declared.script.ScriptFault.TheVariants as script
+use Rattle.web.proofs.ScriptAlong.{AnswersEach-along, AnswersEach-sound, BreaksOff-along, BreaksOff-sound}
 
--- a request that a line is, answered
-pub replied_at : (old new : Desk) (line : List ℕ) (asked : Asked) (reply : Reply) → charter_of new ≡ charter_of old → ReadsLine line asked → ((history : History) → StandsFor (charter_of old) old history → IsAnswered (charter_of old) history asked.day asked.caller asked.request reply (desk_rows new)) → AnswersLineAt old (Some line) (line_text reply) new
-replied_at old new line asked reply chartered reads answered = (
-  chartered,
-  λ history stands.
-      let is = answered history stands in
-      (is.after, record { chartered = chartered; legal = is.legal; values = is.values stands.values; rows = is.rows_after }, inr (inl (asked, reply, reads, is.answers, refl))),
-)
+-- what holds however a script ends
+pub however_ended : {T P : Type 0} → (result : Result T ScriptFault) → OnOk result P → (result ≡ Err script.Read → P) → (result ≡ Err script.Write → P) → (result ≡ Err script.Memory → P) → P
+however_ended (Ok x) ok read write memory = ok
+however_ended (Err script.Read) ok read write memory = read refl
+however_ended (Err script.Write) ok read write memory = write refl
+however_ended (Err script.Memory) ok read write memory = memory refl
 
--- a line answered by the desk is answered on each history that the desk stands for
-pub line_along : (charter : Charter) (state next : Desk) (line : Option (List ℕ)) (reply : List ℕ) (history : History) → StandsFor charter state history → AnswersLineAt state line reply next → (later : History) × StandsFor charter next later × AnswersLine charter history line reply later
-line_along charter state next line reply history stands at =
-    let P : Charter → Type 0 = λ k. StandsFor k state history → (later : History) × StandsFor k next later × AnswersLine k history line reply later in
-    subst P stands.chartered (at.1 history) stands
+module _ {S : Type 0} (g : Ghosts S) where
+  -- nothing was asked
+  pub same_desk : (desk : Desk S) → IsLaterDesk g desk desk
+  same_desk desk = record { charter = refl; clean = λ clean. clean }
 
-pub each_along : (charter : Charter) (old new : Desk) (lines : List (List ℕ)) (w w' : List ℕ) (history : History) → StandsFor charter old history → AnswersEach AnswersLineAt old new lines w w' → (later : History) × StandsFor charter new later × AnswersEach (AnswersLine charter) history later lines w w'
-each_along charter = AnswersEach-along AnswersLineAt (StandsFor charter) (AnswersLine charter) (line_along charter)
+  -- a request that a line is, answered
+  pub replied_at : (old new : Desk S) (line : List ℕ) (asked : Asked) (reply : Reply) → IsLaterDesk g old new → ReadsLine line asked → (IsOnCleanDisk g new → (history : History) → IsLegal (charter_of old) history → HoldsHistory g old history → IsAnswered g (charter_of old) history asked.day asked.caller asked.request reply new) → AnswersLineAt g old (Some line) (line_text reply) new
+  replied_at old new line asked reply later reads answered = (
+    later,
+    λ clean history stands.
+        let is = answered clean history stands.legal stands.rows in
+        (is.after, record { chartered = later.charter; legal = is.legal; rows = is.rows_after }, is.values, inr (inl (asked, reply, reads, is.answers, refl))),
+  )
 
-pub broken_along : (charter : Charter) (old new : Desk) (lines : List (List ℕ)) (w w' : List ℕ) (history : History) → StandsFor charter old history → BreaksOff AnswersLineAt old new lines w w' → (later : History) × StandsFor charter new later × BreaksOff (AnswersLine charter) history later lines w w'
-broken_along charter = BreaksOff-along AnswersLineAt (StandsFor charter) (AnswersLine charter) (line_along charter)
+  later_before : (last state next : Desk S) (line : Option (List ℕ)) (reply : List ℕ) → AnswersLineAt g state line reply next → IsLaterDesk g next last → IsLaterDesk g state last
+  later_before last state next line reply at later = record { charter = later.charter ∙ at.0.charter; clean = λ clean. at.0.clean (later.clean clean) }
+
+  clean_before : (state next : Desk S) (line : Option (List ℕ)) (reply : List ℕ) → AnswersLineAt g state line reply next → IsOnCleanDisk g next → IsOnCleanDisk g state
+  clean_before state next line reply at = at.0.clean
+
+  -- the desk after its answers
+  pub later_each : (old new : Desk S) (lines : List (List ℕ)) (w w' : List ℕ) → AnswersEach (AnswersLineAt g) old new lines w w' → IsLaterDesk g old new
+  later_each old new lines w w' each =
+      AnswersEach-sound (AnswersLineAt g) (λ state. IsLaterDesk g state new) (later_before new) old new lines w w' each (same_desk new)
+
+  pub later_broken : (old new : Desk S) (lines : List (List ℕ)) (w w' : List ℕ) → BreaksOff (AnswersLineAt g) old new lines w w' → IsLaterDesk g old new
+  later_broken old new lines w w' broken =
+      BreaksOff-sound (AnswersLineAt g) (λ state. IsLaterDesk g state new) (later_before new) old new lines w w' broken (same_desk new)
+
+  -- the desk stands for a history that goes on from a first one
+  abbrev Stands : Charter → History → Desk S → History → Type 0
+  Stands charter first desk history = StandsFor g charter desk history × (HistoryFits first → HistoryFits history)
+
+  -- a line answered by the desk is answered on each history that the desk stands for
+  line_along : (charter : Charter) (first : History) (state next : Desk S) (line : Option (List ℕ)) (reply : List ℕ) (history : History) → IsOnCleanDisk g next → Stands charter first state history → AnswersLineAt g state line reply next → (later : History) × Stands charter first next later × AnswersLine charter history line reply later
+  line_along charter first state next line reply history clean (stands, values) at =
+      let P : Charter → Type 0 = λ k. StandsFor g k state history → (later : History) × StandsFor g k next later × (HistoryFits history → HistoryFits later) × AnswersLine k history line reply later in
+      let (later, stands_later, values_later, answered) = subst P stands.chartered (at.1 clean history) stands in
+      (later, (stands_later, λ fits. values_later (values fits)), answered)
+
+  pub each_along : (old new : Desk S) (lines : List (List ℕ)) (w w' : List ℕ) → AnswersEach (AnswersLineAt g) old new lines w w' → AnswersLines g old new lines w w'
+  each_along old new lines w w' each = λ clean history stands.
+      let (later, (stands_later, values), answered) = AnswersEach-along (AnswersLineAt g) (IsOnCleanDisk g) clean_before (Stands (charter_of old) history) (AnswersLine (charter_of old)) (line_along (charter_of old) history) old new lines w w' history clean (stands, λ fits. fits) each in
+      (later, stands_later, values, answered)
+
+  pub broken_along : (old new : Desk S) (lines : List (List ℕ)) (w w' : List ℕ) → BreaksOff (AnswersLineAt g) old new lines w w' → BreaksOffLines g old new lines w w'
+  broken_along old new lines w w' broken = λ clean history stands.
+      let (later, (stands_later, values), answered) = BreaksOff-along (AnswersLineAt g) (IsOnCleanDisk g) clean_before (Stands (charter_of old) history) (AnswersLine (charter_of old)) (line_along (charter_of old) history) old new lines w w' history clean (stands, λ fits. fits) broken in
+      (later, stands_later, values, answered)

@@ -2,10 +2,12 @@
 -- has its malformed text, another the text of the desk's reply; a line for which no memory was found
 -- has the text of Unavailable and stands in no history.
 use Rattle.std.specs.Prelude.{◌≡◌, ℕ, List, Option, Some, None, ◌⊎◌}
+use Rattle.sqlite.specs.Store.{Ghosts}
 use Rattle.policy.specs.History.{History}
+use Rattle.policy.specs.Values.{HistoryFits}
 use Rattle.policy.specs.declared.charter.Charter.{Charter}
 use Rattle.desk.specs.Answer.{AnswersRequest}
-use Rattle.desk.specs.Desk.{charter_of, StandsFor}
+use Rattle.desk.specs.Desk.{charter_of, IsOnCleanDisk, StandsFor}
 use Rattle.web.specs.ReplyText.{line_text, malformed_text, unavailable_text}
 use Rattle.web.specs.RequestFaults.{malformed_number, request_fault}
 use Rattle.web.specs.RequestText.{ReadsLine}
@@ -42,24 +44,34 @@ AnswersLine charter before (Some line) text after =
     ⊎ (IsReplied charter before line text after
     ⊎ ((text ≡ unavailable_text) × (after ≡ before)))
 
--- each history that the old desk stands for goes on to one that the new desk stands for
-abbrev pub OnHistories : Desk → Desk → (History → History → Type 0) → Type 0
-OnHistories old new goes_on = (history : History) → StandsFor (charter_of old) old history
-    → (after : History) × StandsFor (charter_of old) new after × goes_on history after
+-- Each history that the old desk stands for goes on to one that the new desk stands for, of values of their
+-- types where the first was so. Nothing is said where the disk returned what was not written.
+abbrev pub OnHistories : {S : Type 0} → Ghosts S → Desk S → Desk S → (History → History → Type 0) → Type 0
+OnHistories g old new goes_on =
+    IsOnCleanDisk g new → (before : History) → StandsFor g (charter_of old) old before
+    → (after : History)
+    × StandsFor g (charter_of old) new after
+    × (HistoryFits before → HistoryFits after)
+    × goes_on before after
+
+-- the desk at a later time: its charter is the same, and a disk that returns what was written did so before
+pub record IsLaterDesk {S : Type 0} (g : Ghosts S) (old new : Desk S) : Type 0 where
+  pub charter : charter_of new ≡ charter_of old
+  pub clean : IsOnCleanDisk g new → IsOnCleanDisk g old
 
 -- the answer to a line by a desk: that of every history that it stands for
-abbrev pub AnswersLineAt : Desk → Option (List ℕ) → List ℕ → Desk → Type 0
-AnswersLineAt old line text new = (charter_of new ≡ charter_of old)
-    × OnHistories old new (λ before after. AnswersLine (charter_of old) before line text after)
+abbrev pub AnswersLineAt : {S : Type 0} → Ghosts S → Desk S → Option (List ℕ) → List ℕ → Desk S → Type 0
+AnswersLineAt g old line text new = IsLaterDesk g old new
+    × OnHistories g old new (λ before after. AnswersLine (charter_of old) before line text after)
 
 -- the replies of a desk to the lines were written
-abbrev pub AnswersLines : Desk → Desk → List (List ℕ) → List ℕ → List ℕ → Type 0
-AnswersLines old new lines written_old written_new = OnHistories old new (λ before after.
+abbrev pub AnswersLines : {S : Type 0} → Ghosts S → Desk S → Desk S → List (List ℕ) → List ℕ → List ℕ → Type 0
+AnswersLines g old new lines written_old written_new = OnHistories g old new (λ before after.
     AnswersEach (AnswersLine (charter_of old)) before after lines written_old written_new)
 
 -- the replies of a desk were written up to within the one to some line, the last that was acted on
-abbrev pub BreaksOffLines : Desk → Desk → List (List ℕ) → List ℕ → List ℕ → Type 0
-BreaksOffLines old new lines written_old written_new = OnHistories old new (λ before after.
+abbrev pub BreaksOffLines : {S : Type 0} → Ghosts S → Desk S → Desk S → List (List ℕ) → List ℕ → List ℕ → Type 0
+BreaksOffLines g old new lines written_old written_new = OnHistories g old new (λ before after.
     BreaksOff (AnswersLine (charter_of old)) before after lines written_old written_new)
 
 -- the text of an answer to a line

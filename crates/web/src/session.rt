@@ -2,7 +2,7 @@
 ghost use Rattle.std.specs.Prelude.{◌≡◌, ◌++◌, true, Err, OnOk, OnErr};
 ghost use Rattle.std.specs.Io.{StartsWith, appended_bytes};
 ghost use Rattle.std.specs.Option.{option_copied};
-ghost use Rattle.web.specs.ScriptAnswer.{AnswersLineAt, AnswersLines, BreaksOffLines, answer_text};
+ghost use Rattle.web.specs.ScriptAnswer.{AnswersLineAt, AnswersLines, BreaksOffLines, IsLaterDesk, answer_text};
 ghost use Rattle.web.specs.ScriptLines.{lines_read, script_lines, whole_lines};
 ghost use Rattle.web.specs.Streams.{AppendsBeginning};
 
@@ -13,6 +13,7 @@ use crate::request::{LineFault, read_line_request};
 use crate::script::{AnswerLines, ScriptFault, run_lines};
 use crate::stream::{Drain, Failed, Source, write_all};
 use desk::{Desk, Reply};
+use sqlite::Alter;
 use std::alloc::Global;
 
 /// What a line of a script is answered with.
@@ -41,8 +42,9 @@ impl LineAnswer {
 }
 
 /// Asks the desk what a line says; `None` is a line that is over the limit.
-fn answer_to(alloc: Global, desk: &mut Desk, line: Option<&[u8]>) -> LineAnswer
-    ensures { AnswersLineAt desk.old (option_copied line.entry) (answer_text result) desk.new }
+fn answer_to<A: Alter>(alloc: Global, desk: &mut Desk<A>, line: Option<&[u8]>) -> LineAnswer
+    ensures { AnswersLineAt A.Store desk.old (option_copied line.entry)
+        (answer_text result) desk.new }
 {
     let Some(line) = line else {
         return LineAnswer::Refused(Fault::TooLong.malformed());
@@ -54,8 +56,8 @@ fn answer_to(alloc: Global, desk: &mut Desk, line: Option<&[u8]>) -> LineAnswer
     }
 }
 
-impl AnswerLines for Desk {
-    ghost answers = { AnswersLineAt };
+impl<A: Alter> AnswerLines for Desk<A> {
+    ghost answers = { AnswersLineAt A.Store };
 
     fn answer<D: Drain>(
         &mut self,
@@ -71,31 +73,33 @@ impl AnswerLines for Desk {
 
 /// Answers the lines of the source on the desk, one after the other, and writes each reply before
 /// the next line is acted on. The last line may lack its line feed.
-pub fn run_script<S: Source, D: Drain>(
+pub fn run_script<S: Source, D: Drain, A: Alter>(
     alloc: Global,
     source: &mut S,
     drain: &mut D,
-    desk: &mut Desk,
+    desk: &mut Desk<A>,
 ) -> Result<(), ScriptFault>
     ensures reads { StartsWith (S.handed_out source.new) (S.handed_out source.old) }
     ensures ended { OnOk result (S.has_ended source.new ≡ true) }
     ensures read_failed { result ≡ Err ScriptFault.Read → S.has_failed source.new ≡ true }
     ensures write_failed { result ≡ Err ScriptFault.Write → D.has_failed drain.new ≡ true }
 
-    ensures ok { OnOk result (AnswersLines desk.old desk.new
+    ensures ok { OnOk result (AnswersLines A.Store desk.old desk.new
         (script_lines (appended_bytes (S.handed_out source.old) (S.handed_out source.new)))
         (D.written drain.old) (D.written drain.new)) }
 
     // What came after the last line feed is dropped.
-    ensures read { result ≡ Err ScriptFault.Read → AnswersLines desk.old desk.new
+    ensures read { result ≡ Err ScriptFault.Read → AnswersLines A.Store desk.old desk.new
         (whole_lines (appended_bytes (S.handed_out source.old) (S.handed_out source.new)))
         (D.written drain.old) (D.written drain.new) }
 
     // A line without its line feed was acted on only after the end.
-    ensures write { result ≡ Err ScriptFault.Write → BreaksOffLines desk.old desk.new
+    ensures write { result ≡ Err ScriptFault.Write → BreaksOffLines A.Store desk.old desk.new
         (lines_read (S.has_ended source.new)
         (appended_bytes (S.handed_out source.old) (S.handed_out source.new)))
         (D.written drain.old) (D.written drain.new) }
+
+    ensures desk { IsLaterDesk A.Store desk.old desk.new }
 
     ensures memory { result ≡ Err ScriptFault.Memory
         → (source.new ≡ source.old) × (drain.new ≡ drain.old) × (desk.new ≡ desk.old) }

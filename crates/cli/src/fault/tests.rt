@@ -11,6 +11,7 @@ fn lines_and_statuses(rt: HostRuntime) {
         (ProgramFault::from(WordsFault::Words), "roadesk: words", 2),
         (ProgramFault::from(WordsFault::Day), "roadesk: day", 2),
         (ProgramFault::File, "roadesk: file", 3),
+        (ProgramFault::Database, "roadesk: database", 3),
         (ProgramFault::Stream, "roadesk: stream", 3),
         (ProgramFault::Memory, "roadesk: memory", 4),
         (

@@ -1,24 +1,50 @@
 -- The making of the tables, one after another, and their first rows.
-use Rattle.std.specs.Prelude.{◌≡◌, ℕ, suc, true, List, [], ◌++◌, None, take, nat_le, if◌then◌else◌}
+use Rattle.std.specs.Prelude.{◌≡◌, ℕ, suc, true, List, [], ◌++◌, None, IsTrue, take, nat_le, if◌then◌else◌}
 use Rattle.std.specs.List.{AllByRecursion}
 use Rattle.sqlite.specs.State.{State}
 use Rattle.sqlite_schema.specs.declared.schema.Schema.{Schema}
 use Rattle.sqlite_value.specs.Order.{Row}
+use Rattle.sqlite_trees.specs.Tree.{Trees}
 use Rattle.policy.specs.CharterSets.{CharterSets}
-use Rattle.tables.specs.Tables.{desk_tables, desk_indexes, desk_schema}
+use Rattle.tables.specs.Tables.{desk_tables, desk_indexes, desk_schema, unindexed_schema, SameRows}
 use Rattle.tables.specs.steps.Edits.{Edits}
 use Rattle.tables.specs.TablesHold.{TablesHold}
+use Rattle.store.specs.StoreRows.{IsDesk}
 use Rattle.store.specs.steps.Statements.{IsReady}
 
--- the schema of the first tables, of which `auth` has two keys and every other has one
+-- The schema that the first statements make: each of the eight first a table, of which `auth` has two keys and every
+-- other has one, and the ninth the index of a holder's runs.
 abbrev pub so_far : ℕ → Schema
 so_far n = record { tables = take n desk_tables; indexes = take (if nat_le n 6 then n else suc n) desk_indexes; views = [] }
 
--- a transaction in which the first tables are made, and have no row
+-- a transaction in which the first statements made tables, which have no row
 pub record IsMadeTo (n : ℕ) (s : State) : Type 0 where
   pub inside : s.in_transaction ≡ true
   pub schema : s.now.schema ≡ so_far n
   pub empty : AllByRecursion (λ t. s.now.trees t.tree ≡ []) (take n desk_tables)
+
+-- a transaction over a desk without the index of a holder's runs
+pub record IsUnindexed (s : State) : Type 0 where
+  pub inside : s.in_transaction ≡ true
+  pub schema : IsTrue s.is_open → s.now.schema ≡ unindexed_schema
+
+-- the transaction goes on, the index is made, and no row changed
+pub record MakesIndex (old new : State) : Type 0 where
+  pub was_open : IsTrue old.is_open
+  pub inside : new.in_transaction ≡ true
+  pub schema : new.now.schema ≡ desk_schema
+  pub rows : SameRows old.now.trees new.now.trees
+
+-- the index is made and committed, and no row changed
+pub record AddsIndex (old new : State) : Type 0 where
+  pub was_open : IsTrue old.is_open
+  pub is_open : IsTrue new.is_open
+  pub desk : IsDesk new
+  pub rows : SameRows old.now.trees new.now.trees
+
+-- what its commit may put on the disk: the same rows
+abbrev pub MayCommitIndex : State → Trees → Type 0
+MayCommitIndex old trees = IsTrue old.is_open × SameRows old.now.trees trees
 
 -- the transaction goes on, and these rows were put into a table
 pub record PutsRows (tree : ℕ) (rows : List Row) (old new : State) : Type 0 where
