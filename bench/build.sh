@@ -1,11 +1,11 @@
 #!/usr/bin/env bash
 # Builds a program over the store that stands outside the gate.
 #
-#     build.sh PROGRAM WORK
+#     build.sh PROGRAM WORK WORD...
 #
 # PROGRAM.rs, beside this script, becomes a crate in the folder WORK, beside copies of the crates that
 # it uses and of what was proved of them; what was not is proved there. Prints the path of the program,
-# which has run once with the words `memory 2 2`.
+# which has run once with these words.
 set -u
 bench=$(cd "$(dirname "${BASH_SOURCE[0]}")" && pwd)
 top=$(dirname "$bench")
@@ -28,11 +28,11 @@ for crate in $(crates_below store | awk '!seen[$0]++'); do
     cp -a "$top/crates/$crate" "$work/crates/" || exit 2
     grep "^$crate:" "$top/crates.txt" >>"$work/crates.txt"
 done
-echo "$name: addr policy sqlite store" >>"$work/crates.txt"
+echo "$name: addr arrayvec policy sqlite store" >>"$work/crates.txt"
 cp "$bench/$1.rs" "$work/crates/$name/src/main.rt" || exit 2
 
 cd "$work/crates/$name" || exit 2
-if ! ${RT:-rt} run -- memory 2 2 >"$work/$name.log" 2>&1; then
+if ! ${RT:-rt} run -- "${@:3}" >"$work/$name.log" 2>&1; then
     cat "$work/$name.log" >&2
     exit 2
 fi

@@ -6,7 +6,7 @@
 //! This is Rattle: build.sh makes it a crate of its own, and store.c does the same in C.
 #![tactic(auto)]
 
-use addr::{Asn, Day, Family, Holdings, Name, Prefix};
+use addr::{Asn, Day, Family, Name, Prefix};
 use policy::{Auth, Change, Charter, Edit, Granted, HolderChange, HolderRows, Role, Scope};
 use sqlite::{Alter, Connection};
 use std::alloc::{AllocError, Global};
@@ -111,10 +111,9 @@ fn grant(alloc: Global) -> Result<Granted, Fault> {
 }
 
 fn delegation(alloc: Global, holder: u32) -> Result<Edit, Fault> {
-    let mut holdings = Holdings::new(alloc);
-    holdings.add(&space_of(holder)?)?;
     Ok(Edit::Hold {
-        holdings,
+        removed: Vec::new(alloc),
+        added: Vec::from_slice(alloc, &[space_of(holder)?.span()])?,
         ended: Vec::new(alloc),
     })
 }

@@ -17,15 +17,15 @@ fail() {
 }
 
 if [ -n "${BENCH_WORK:-}" ]; then
-    work=$BENCH_WORK
-    mkdir -p "$work" || fail "no folder $work"
+    mkdir -p "$BENCH_WORK" || fail "no folder $BENCH_WORK"
+    work=$(realpath "$BENCH_WORK")
 else
     work=$(mktemp -d) || fail "no temporary folder"
     trap 'rm -rf "$work"' EXIT
 fi
 
 gcc -O2 -Wall -o "$work/plain" "$bench/store.c" -lsqlite3 || fail "store.c was not built"
-program=$("$bench/build.sh" store "$work") || fail "store.rs was not built"
+program=$("$bench/build.sh" store "$work" memory 2 2) || fail "store.rs was not built"
 
 # A line an operation: the place, the numbers of holders and authorizations, the operation,
 # nanoseconds, and the sum of what was answered.
