@@ -16,7 +16,11 @@ use store::{Store, StoreFault};
 
 fn print_store<S: Alter>(rt: &HostRuntime, store: &mut Store<S>, day: Day) -> io::Result<()> {
     let charter = store.charter();
-    println!(rt; "operators {}, pool {}", charter.operators().len(), charter.pool().len())?;
+    println!(rt;
+        "operators {}, pool {}",
+        charter.operators().len(),
+        charter.pool().len()
+    )?;
     let Ok(vrps) = store.all_auths_on(rt.alloc(), day) else {
         return println!(rt; "no VRPs");
     };
