@@ -14,3 +14,4 @@ mod Overlapping
 mod InForce
 mod Giving
 mod HistoryRows
+pub mod SameCharter

@@ -61,13 +61,22 @@ fn make_other_tables<S: Alter>(tx: &mut Transaction<'_, S>) -> Result<(), Error>
     )
 }
 
-/// Makes the tables of a desk, and the index, in a database that has no table.
+/// Makes the tables of a desk in a database that has no table.
+pub(crate) fn make_all_tables<S: Alter>(tx: &mut Transaction<'_, S>) -> Result<(), Error>
+    requires { WhenClean S.Store (IsMadeTo 0) tx.old }
+    ensures made { IfDone S.Store result (λ _. IsMadeTo 8) tx.old tx.new }
+    ensures inside { StaysInside S.Store tx.old tx.new }
+{
+    make_first_tables(tx)?;
+    make_other_tables(tx)
+}
+
+/// Makes those tables and the index of a holder's runs.
 pub(crate) fn make_schema<S: Alter>(tx: &mut Transaction<'_, S>) -> Result<(), Error>
     requires { WhenClean S.Store (IsMadeTo 0) tx.old }
     ensures made { IfDone S.Store result (λ _. IsMadeTo 9) tx.old tx.new }
     ensures inside { StaysInside S.Store tx.old tx.new }
 {
-    make_first_tables(tx)?;
-    make_other_tables(tx)?;
+    make_all_tables(tx)?;
     make_index(tx)
 }

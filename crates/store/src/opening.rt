@@ -1,23 +1,23 @@
 //! Whether a database that is opened has the tables of a desk.
 ghost use Rattle.std.specs.Prelude.{◌≡◌, ◌↔◌, false, None, Err, OnOk, IfOk, IsTrue};
 ghost use Rattle.tables.specs.Schemas.{has_names, HasPlainTables};
-ghost use Rattle.tables.specs.Tables.{desk_schema, desk_tables};
+ghost use Rattle.tables.specs.Tables.{desk_tables, unindexed_schema};
 
 use crate::StoreFault;
-use crate::making::{make_first_tables, make_other_tables};
+use crate::making::make_all_tables;
 use sqlite::{Alter, Connection, Error, MemStore};
 use sqlite_schema::schema::Schema;
 use std::alloc::Global;
 use tables::{has_names, same_schema, same_tables};
 
-/// A database in memory with the tables of a desk, with which others are compared.
-fn desk_in_memory(alloc: Global) -> Result<Connection<MemStore>, Error>
-    ensures { IfOk result (λ conn. conn.schema ≡ desk_schema) }
+/// A database in memory with the tables of a desk and nothing else, with which others are
+/// compared.
+fn tables_in_memory(alloc: Global) -> Result<Connection<MemStore>, Error>
+    ensures { IfOk result (λ conn. conn.schema ≡ unindexed_schema) }
 {
     let mut conn = Connection::open_in_memory(alloc)?;
     let mut tx = conn.transaction();
-    make_first_tables(&mut tx)?;
-    make_other_tables(&mut tx)?;
+    make_all_tables(&mut tx)?;
     tx.commit()?;
     Ok(conn)
 }
@@ -40,25 +40,28 @@ fn compare(schema: &Schema, desk: &Schema) -> Result<(), StoreFault>
     Ok(())
 }
 
-/// Tells of a schema that has the tables of a desk whether it has nothing beside them.
+/// Tells of a schema that has the tables of a desk whether it has nothing else.
 fn judge_schema(alloc: Global, schema: &Schema) -> Result<bool, StoreFault>
     ensures tables { OnOk result (schema.now.tables ≡ desk_tables) }
-    ensures bare { IfOk result (λ bare. IsTrue bare ↔ (schema.now ≡ desk_schema)) }
+    ensures unindexed { IfOk result
+        (λ unindexed. IsTrue unindexed ↔ (schema.now ≡ unindexed_schema)) }
     ensures names { result ≡ Err StoreFault.Schema → has_names schema.now desk_tables ≡ false }
 {
-    let desk = desk_in_memory(alloc)?;
+    let desk = tables_in_memory(alloc)?;
     compare(schema, desk.schema())?;
     Ok(same_schema(schema, desk.schema()))
 }
 
-/// Tells of a database that has the tables of a desk whether it has nothing beside them. A
-/// connection in a transaction is refused, and a limit of its steps is lifted.
+/// Tells of a database that has the tables of a desk whether it has nothing else, so that the index
+/// of a holder's runs may be added. A connection in a transaction is refused, and a limit of its
+/// steps is lifted.
 pub(crate) fn judge<S: Alter>(conn: &mut Connection<S>, alloc: Global) -> Result<bool, StoreFault>
     ensures same { conn.new ≡ record conn.old { step_limit = conn.new.step_limit } }
     ensures idle { OnOk result (conn.new.in_transaction ≡ false) }
     ensures unlimited { OnOk result (conn.new.step_limit ≡ None) }
     ensures tables { OnOk result (conn.new.schema.tables ≡ desk_tables) }
-    ensures bare { IfOk result (λ bare. IsTrue bare ↔ (conn.new.schema ≡ desk_schema)) }
+    ensures unindexed { IfOk result
+        (λ unindexed. IsTrue unindexed ↔ (conn.new.schema ≡ unindexed_schema)) }
     ensures names { result ≡ Err StoreFault.Schema
         → has_names conn.new.schema desk_tables ≡ false }
 {
@@ -66,6 +69,6 @@ pub(crate) fn judge<S: Alter>(conn: &mut Connection<S>, alloc: Global) -> Result
         return Err(StoreFault::Database);
     }
     conn.set_step_limit(None);
-    let is_bare = judge_schema(alloc, conn.schema())?;
-    Ok(is_bare)
+    let is_unindexed = judge_schema(alloc, conn.schema())?;
+    Ok(is_unindexed)
 }
