@@ -1,17 +1,26 @@
 -- What each statement does to the rows of a holder.
-use Rattle.std.proofs.Common.{◌≡◌, inl, inr, ℕ, pos, Bool, true, false, cond, not, ◌&&◌, ◌==◌, List, [], ◌∷◌, ◌++◌, map, filter, drop, length, ◌/◌, Some, None, refl, sym, ap, ap₂, ◌∙◌}
+use Rattle.std.proofs.Common.{◌≡◌, inl, inr, ℕ, pos, Bool, true, false, cond, not, ◌&&◌, ◌==◌, List, [], ◌∷◌, ◌++◌, map, filter, drop, length, ◌/◌, ◌^◌, ◌<◌, nat_cmp, is_eq, arith, Some, None, refl, sym, ap, ap₂, ◌∙◌}
 use Rattle.std.proofs.lemmas.Bool.{eqb-true, and_parts}
+use Rattle.std.proofs.lemmas.Bool.Decides.{nat_tests}
+use Rattle.std.proofs.Math.Bool.{and-true, or-false}
 use Rattle.std.proofs.lemmas.List.Sorted.{IsPermutation-refl}
 use Rattle.sqlite.specs.Effect.{value_rows}
 use Rattle.sqlite.specs.State.{State}
 use Rattle.sqlite_value.specs.declared.value.Value.TheVariants.{Null, Int, Text, Blob}
-use Rattle.sqlite_value.specs.Order.{Row, column}
+use Rattle.sqlite_value.specs.declared.value.Value.{Value}
+use Rattle.sqlite_value.specs.Order.{Row, column, value_cmp}
+use Rattle.sqlite_value.proofs.OrderLemmas.{value_cmp-Blob}
 use Rattle.sqlite_trees.proofs.ListLemmas.{map-map, filter-map}
-use Rattle.sqlite_sql.specs.Term.{lit, col, eval_all}
+use Rattle.sqlite_sql.specs.Term.{Term, lit, col, eval_all}
 use Rattle.sqlite_schema.specs.declared.schema.Kind.TheVariants.{Integer, Text as Words}
 use Rattle.sqlite_rules.specs.Cast.{cast, cast_all}
 use Rattle.sqlite_typed.proofs.TestLemmas.{last_term}
+use Rattle.addr.specs.Family.{width, family_eq}
+use Rattle.addr.specs.Spans.{span_eq, is_one_of, without_runs}
+use Rattle.addr.specs.declared.family.Family.{Family}
+use Rattle.addr.specs.declared.family.Family.TheVariants.{V4, V6}
 use Rattle.addr.specs.declared.span.Span.{Span}
+use Rattle.addr.proofs.AddressLemmas.{below_widest}
 use Rattle.policy.specs.declared.authorization.Auth.{Auth}
 use Rattle.policy.specs.declared.change.Edit.TheVariants.{Revoke, Amend, Withdraw}
 use Rattle.policy.specs.declared.grant.Granted.{Granted}
@@ -23,12 +32,13 @@ use Rattle.tables.specs.Cells.{number_cell, family_number, address, role_number,
 use Rattle.tables.specs.TablesHold.{is_name_of, part_rows, holder_part, holding_part, granted_part, auth_part}
 use Rattle.store.specs.steps.RowEdits.{with_holdings, without_holdings, with_grant, with_auth, with_granted, with_created}
 use Rattle.store.specs.steps.Statements.{IsReady, IsExecuted, EditsHolder, Registers}
+use Rattle.tables.proofs.Addresses.{addresses_in_order}
 use Rattle.tables.proofs.Selecting.{picks}
 use Rattle.tables.proofs.Updating.{changed_if}
 use Rattle.tables.proofs.CellLemmas.{cast_number, cast_holder, cast_holding, cast_granted, cast_auth, is_number, number_of_number, appended}
 use Rattle.tables.proofs.PartLemmas.{names, name_of-true, name_of_itself, put_local}
 use Rattle.store.proofs.PartSteps.{puts_row, puts_edit, takes_edit, changes_edit}
-use Rattle.store.proofs.StepLemmas.{equals_text, equals_int, column_after, holder_test, turns_rows, in_holder, in_holdings, in_grants, in_auths}
+use Rattle.store.proofs.StepLemmas.{equals_text, equals_int, equals_blob, column_after, holder_test, turns_rows, in_holder, in_holdings, in_grants, in_auths}
 use Rattle.tables.proofs.Texts.{
   put_terms,
   equals,
@@ -41,8 +51,8 @@ use Rattle.tables.proofs.Texts.{
   set_auths_is,
   put_holding_text,
   put_holding_is,
-  take_holdings_text,
-  take_holdings_is,
+  take_holding_text,
+  take_holding_is,
   put_granted_text,
   put_granted_is,
   take_granted_text,
@@ -69,10 +79,54 @@ of_tests h n more r =
     ap₂ ◌&&◌ (equals_text (column r 1) h ∙ ap (is_name_of h) (column_after r 0))
     (last_term (equals_int (column r 2) (pos n) ∙ ap (is_number n) (column_after r 1)))
 
--- the rows of a holder without the one of a number
-taken : {X : Type 0} (number : X → ℕ) (cells : X → Row) (h : List ℕ) (n : ℕ) → ((x : X) → is_of h n (cells x) ≡ (number x == n))
-    → (xs : List X) → map cells (filter (λ x. not (number x == n)) xs) ≡ filter (λ c. not (is_of h n c)) (map cells xs)
-taken number cells h n own xs = ap (map cells) (λ i. filter (λ x. not (sym (own x) i)) xs) ∙ sym (filter-map (λ c. not (is_of h n c)) cells xs)
+-- the one of a holder and a run of addresses
+abbrev is_bytes : List ℕ → Value → Bool
+is_bytes b v = is_eq (value_cmp v (Blob b))
+
+abbrev is_run : List ℕ → Span → Row → Bool
+is_run h s c = is_number (family_number s.family) (column c 0) && (is_bytes (address s.lo) (column c 1) && (is_bytes (address s.hi) (column c 2) && is_name_of h (column c 3)))
+
+of_run : (h : List ℕ) (s : Span) (c : Row) → is_run h s c ≡ true → is_name_of h (column c 3) ≡ true
+of_run h s c is =
+    let ends = (and_parts (is_number (family_number s.family) (column c 0)) (is_bytes (address s.lo) (column c 1) && (is_bytes (address s.hi) (column c 2) && is_name_of h (column c 3))) is).1 in
+    let last = (and_parts (is_bytes (address s.lo) (column c 1)) (is_bytes (address s.hi) (column c 2) && is_name_of h (column c 3)) ends).1 in
+    (and_parts (is_bytes (address s.hi) (column c 2)) (is_name_of h (column c 3)) last).1
+
+abbrev run_tests : List Term
+run_tests = equals 1 0 ∷ equals 2 1 ∷ equals 3 2 ∷ equals 4 3 ∷ []
+
+tests_run : (h : List ℕ) (s : Span) (r : Row) → picks (holding_row h s) run_tests r ≡ is_run h s (drop 1 r)
+tests_run h s r =
+    ap₂ ◌&&◌ (equals_int (column r 1) (pos (family_number s.family)) ∙ ap (is_number (family_number s.family)) (column_after r 0))
+    (ap₂ ◌&&◌ (equals_blob (column r 2) (address s.lo) ∙ ap (is_bytes (address s.lo)) (column_after r 1))
+    (ap₂ ◌&&◌ (equals_blob (column r 3) (address s.hi) ∙ ap (is_bytes (address s.hi)) (column_after r 2))
+    (last_term (equals_text (column r 4) h ∙ ap (is_name_of h) (column_after r 3)))))
+
+-- a run of a holder's rows is this one where family and ends are the same
+same_family_number : (f g : Family) → is_number (family_number g) (number_cell (family_number f)) ≡ family_eq f g
+same_family_number V4 V4 = number_of_number 4 4
+same_family_number V4 V6 = number_of_number 4 6
+same_family_number V6 V4 = number_of_number 6 4
+same_family_number V6 V6 = number_of_number 6 6
+
+same_address : (f g : Family) (m n : ℕ) → m < 2 ^ width f → n < 2 ^ width g → is_bytes (address n) (Blob (address m)) ≡ (m == n)
+same_address f g m n low below =
+    ap is_eq (value_cmp-Blob (address m) (address n) ∙ addresses_in_order m n (below_widest f m low) (below_widest g n below)) ∙ eq_is
+  where
+    eq_is : is_eq (nat_cmp m n) ≡ (m == n)
+    eq_is = grind (arith, nat_tests)
+
+own_run : (h : List ℕ) (s t : Span) → is_run h s (holding_row h t) ≡ is_one_of (s ∷ []) t
+own_run h s t =
+    ap₂ ◌&&◌ (same_family_number t.family s.family)
+    (ap₂ ◌&&◌ (same_address t.family s.family t.lo s.lo (omega (arith, t.ordered, t.in_family)) (omega (arith, s.ordered, s.in_family)))
+    (ap₂ ◌&&◌ (same_address t.family s.family t.hi s.hi t.in_family s.in_family) (name_of_itself h (Text h) refl) ∙ and-true (t.hi == s.hi)))
+    ∙ sym (or-false (span_eq t s))
+
+-- the rows of a holder without some of them
+taken : {X : Type 0} (goes : Row → Bool) (gone : X → Bool) (cells : X → Row) → ((x : X) → goes (cells x) ≡ gone x)
+    → (xs : List X) → map cells (filter (λ x. not (gone x)) xs) ≡ filter (λ c. not (goes c)) (map cells xs)
+taken goes gone cells own xs = ap (map cells) (λ i. filter (λ x. not (sym (own x) i)) xs) ∙ sym (filter-map (λ c. not (goes c)) cells xs)
 
 -- a grant has eight columns, whatever its scope
 eight : (h : List ℕ) (g : Granted) → value_rows (granted_row h g) 9 (length (put_terms 8) / 9) (put_terms 8) ≡ (Null ∷ granted_row h g) ∷ []
@@ -125,14 +179,10 @@ module _ (h : List ℕ) (old new : State) where
       puts_edit 4 holding refl old new 3 holding_part.rows refl h (with_holdings (s ∷ [])) (holding_row h s) refl (λ r. appended (holding_row h) r.holdings s) (in_holdings h (λ r. r.holdings ++ s ∷ []))
       (puts_row 4 holding refl old new (holding_row h s) (put_terms 4) 5 (holding_row h s) put_holding_is refl (cast_holding h s) ready ran)
 
-  pub takes_holdings : IsReady old → IsExecuted take_holdings_text (Text h ∷ []) old new → EditsHolder h without_holdings old new
-  takes_holdings =
-      takes_edit 4 holding refl old new 3 holding_part.rows refl h without_holdings (equals 4 0 ∷ []) (names 3 h) (Text h ∷ []) (holder_test 3 h []) (λ c is. is)
-      take_holdings_is (λ r. none r.holdings) (in_holdings h (λ _. [])) refl
-    where
-      none : (spans : List Span) → [] ≡ filter (λ c. not (names 3 h c)) (map (holding_row h) spans)
-      none [] = refl
-      none (s ∷ spans) = rw (name_of_itself h (Text h) refl) (none spans)
+  pub takes_holding : (s : Span) → IsReady old → IsExecuted take_holding_text (holding_row h s) old new → EditsHolder h (without_holdings (s ∷ [])) old new
+  takes_holding s =
+      takes_edit 4 holding refl old new 3 holding_part.rows refl h (without_holdings (s ∷ [])) run_tests (is_run h s) (holding_row h s) (tests_run h s) (of_run h s)
+      take_holding_is (λ r. taken (is_run h s) (is_one_of (s ∷ [])) (holding_row h) (own_run h s) r.holdings) (in_holdings h (λ r. without_runs (s ∷ []) r.holdings)) refl
 
   -- ---- grants
 
@@ -144,7 +194,7 @@ module _ (h : List ℕ) (old new : State) where
   pub takes_grant : (n : ℕ) → IsReady old → IsExecuted take_granted_text (Text h ∷ number_cell n ∷ []) old new → EditsHolder h (edited (Revoke n)) old new
   takes_grant n =
       takes_edit 5 granted refl old new 0 granted_part.rows refl h (edited (Revoke n)) (equals 1 0 ∷ equals 2 1 ∷ []) (is_of h n) (Text h ∷ number_cell n ∷ []) (of_tests h n []) (of_holder h n)
-      take_granted_is (λ r. taken (λ (g : Granted). g.number) (granted_row h) h n own r.grants) (in_grants h (λ r. filter (λ g. not (g.number == n)) r.grants)) refl
+      take_granted_is (λ r. taken (is_of h n) (λ (g : Granted). g.number == n) (granted_row h) own r.grants) (in_grants h (λ r. filter (λ g. not (g.number == n)) r.grants)) refl
     where
       own : (g : Granted) → is_of h n (granted_row h g) ≡ (g.number == n)
       own g = rw (name_of_itself h (Text h) refl) (number_of_number g.number n)
@@ -162,7 +212,7 @@ module _ (h : List ℕ) (old new : State) where
   pub takes_auth : (n : ℕ) → IsReady old → IsExecuted take_auth_text (Text h ∷ number_cell n ∷ []) old new → EditsHolder h (edited (Withdraw n)) old new
   takes_auth n =
       takes_edit 6 auth refl old new 0 auth_part.rows refl h (edited (Withdraw n)) (equals 1 0 ∷ equals 2 1 ∷ []) (is_of h n) (Text h ∷ number_cell n ∷ []) (of_tests h n []) (of_holder h n)
-      take_auth_is (λ r. taken (λ (x : Auth). x.number) (auth_row h) h n (own_auth n) r.auths) (in_auths h (λ r. filter (λ x. not (x.number == n)) r.auths)) refl
+      take_auth_is (λ r. taken (is_of h n) (λ (x : Auth). x.number == n) (auth_row h) (own_auth n) r.auths) (in_auths h (λ r. filter (λ x. not (x.number == n)) r.auths)) refl
 
   -- the row with the terms of another, its holder and its number kept
   abbrev amended_row : Auth → Row → Row

@@ -7,6 +7,7 @@ use Rattle.std.proofs.lemmas.Cmp.{on_total}
 use Rattle.sqlite_trees.specs.Tree.{IsAscending}
 use Rattle.sqlite_trees.proofs.ListLemmas.{ascending_weaker}
 use Rattle.sqlite_keyed.proofs.SortLemmas.{sorted_unique}
+use Rattle.addr.proofs.RunLemmas.{maximal_apart}
 use Rattle.policy.specs.declared.authorization.Auth.{Auth}
 use Rattle.policy.specs.declared.command.Command.{Command}
 use Rattle.policy.specs.declared.command.Command.TheVariants.{Register, Delegate, Transfer, Reclaim, Grant, Revoke, Create, Amend, Withdraw}
@@ -95,7 +96,7 @@ loads_rows history h (Some r) (Some s) are loaded =
     let auths = in_order_same (λ (x : Auth). x.number) r.auths s.auths.items auths_ascend loaded.auths in (
       are.0,
       record {
-        maximal = loaded.maximal;
+        apart = maximal_apart s.holdings loaded.maximal;
         holdings = λ a. loaded.holdings a ∙ rows.holdings a;
         grants = grants ∙ rows.grants;
         auths = subst (AreActive history h) (sym auths) rows.auths;

@@ -1,5 +1,5 @@
 -- Steps of edits of a holder's rows, one after another.
-use Rattle.std.proofs.Common.{◌≡◌, ℕ, Bool, true, false, cond, not, ◌||◌, ◌==◌, List, [], ◌∷◌, ◌++◌, filter, Option, Some, None, option_map, is_some, if◌then◌else◌, IsSome, Result, OnOk, inl, arith, ◌+◌, ◌<◌, length, take, get_or, refl, sym, ap, subst, ◌∙◌, append-nil, append_assoc}
+use Rattle.std.proofs.Common.{◌≡◌, ℕ, Bool, true, false, cond, not, ◌==◌, List, [], ◌∷◌, ◌++◌, filter, Option, Some, None, option_map, is_some, if◌then◌else◌, IsSome, Result, OnOk, inl, arith, ◌+◌, ◌<◌, length, take, get_or, refl, sym, ap, subst, ◌∙◌, append-nil, append_assoc}
 use Rattle.std.proofs.Math.Bool.{or-false}
 use Rattle.std.proofs.lemmas.Bool.{cond-true, cond-false}
 use Rattle.std.proofs.lemmas.Result.{on_ok_weaker}
@@ -14,6 +14,7 @@ use Rattle.sqlite.specs.State.{State, HasCleanDisk}
 use Rattle.sqlite.specs.Store.{Ghosts}
 use Rattle.sqlite_value.specs.Order.{Row}
 use Rattle.sqlite_trees.specs.Tree.{Trees}
+use Rattle.addr.specs.Spans.{span_eq}
 use Rattle.addr.specs.declared.span.Span.{Span}
 use Rattle.policy.specs.declared.authorization.Auth.{Auth}
 use Rattle.policy.specs.CharterSets.{CharterSets}
@@ -23,7 +24,7 @@ use Rattle.policy.specs.declared.change.Edit.TheVariants.{Register, Hold, Grant,
 use Rattle.policy.specs.Rows.{Rows, new_rows, edited, edited_if_any}
 use Rattle.policy.proofs.Names.{same_name-true}
 use Rattle.tables.specs.TablesHold.{TablesHold}
-use Rattle.store.specs.steps.RowEdits.{with_holdings, without_auths, is_registration}
+use Rattle.store.specs.steps.RowEdits.{with_holdings, without_holdings, without_auths, is_registration}
 use Rattle.store.specs.steps.Statements.{state_in, WhenClean, IfDone, StaysInside, IsExecuted, IsReady, at_holder, EditsRows, EditsHolder, TellsWhetherRegistered, Registers, registered, MakesChange}
 use Rattle.tables.proofs.TreeRows.{filter_twice, all_kept, neither}
 
@@ -70,15 +71,28 @@ no_holdings r = λ i. record r { holdings = append-nil r.holdings i }
 pub one_more_holding : (spans : List Span) (s : Span) (r : Rows) → with_holdings (s ∷ []) (with_holdings spans r) ≡ with_holdings (spans ++ s ∷ []) r
 one_more_holding spans s r = λ i. record r { holdings = append_assoc r.holdings spans (s ∷ []) i }
 
+-- rows without some, and then without others
+filter_both : {X Y : Type 0} (test : X → Y → Bool) (ys zs : List Y) (xs : List X)
+    → filter (λ x. not (list_any (test x) zs)) (filter (λ x. not (list_any (test x) ys)) xs) ≡ filter (λ x. not (list_any (test x) (ys ++ zs))) xs
+filter_both {X = X} test ys zs xs =
+    let at = λ (x : X). neither (list_any (test x) ys) (list_any (test x) zs) ∙ ap not (sym (list_any-append (test x) ys zs)) in
+    filter_twice (λ x. not (list_any (test x) zs)) (λ x. not (list_any (test x) ys)) xs ∙ (λ i. filter (λ x. at x i) xs)
+
+pub none_taken : (r : Rows) → without_holdings [] r ≡ r
+none_taken r = λ i. record r { holdings = all_kept r.holdings i }
+
+pub one_holding_less : (spans : List Span) (s : Span) (r : Rows) → without_holdings (s ∷ []) (without_holdings spans r) ≡ without_holdings (spans ++ s ∷ []) r
+one_holding_less spans s r = λ i. record r { holdings = filter_both span_eq spans (s ∷ []) r.holdings i }
+
 pub no_auths : (r : Rows) → without_auths [] r ≡ r
 no_auths r = λ i. record r { auths = all_kept r.auths i }
 
 pub one_auth_less : (ns : List ℕ) (n : ℕ) (r : Rows) → edited (Withdraw n) (without_auths ns r) ≡ without_auths (ns ++ n ∷ []) r
 one_auth_less ns n r =
-    let at = λ (x : Auth). neither (list_any (λ k. x.number == k) ns) (x.number == n)
-    ∙ ap not (sym (list_any-append (λ k. x.number == k) ns (n ∷ []) ∙ ap (λ b. list_any (λ k. x.number == k) ns || b) (or-false (x.number == n)))) in
-    let out = filter_twice (λ x. not (x.number == n)) (λ x. not (list_any (λ k. x.number == k) ns)) r.auths ∙ (λ i. filter (λ x. at x i) r.auths) in
-    λ i. record r { auths = out i }
+    let kept : List Auth = filter (λ x. not (list_any (λ k. x.number == k) ns)) r.auths in
+    let alone : filter (λ x. not (x.number == n)) kept ≡ filter (λ x. not (list_any (λ k. x.number == k) (n ∷ []))) kept =
+    λ i. filter (λ x. not (sym (or-false (x.number == n)) i)) kept in
+    λ i. record r { auths = (alone ∙ filter_both (λ (x : Auth) k. x.number == k) ns (n ∷ []) r.auths) i }
 
 pub taken_more : {X : Type 0} (xs : List X) (i : ℕ) (x : X) → i < length xs → x ≡ get_or xs i x → take (i + 1) xs ≡ take i xs ++ x ∷ []
 taken_more xs i x low is = take_more xs i x low ∙ ap (λ y. take i xs ++ y ∷ []) (sym is)
@@ -142,7 +156,7 @@ module _ (h : List ℕ) (edit : Edit) where
 
   from_none : (e : Edit) → edited_if_any e None ≡ (if is_registration e then Some new_rows else None)
   from_none Register = refl
-  from_none (Hold holdings ended) = refl
+  from_none (Hold removed added ended) = refl
   from_none (Grant g) = refl
   from_none (Revoke n) = refl
   from_none (Create x) = refl

@@ -35,7 +35,7 @@ true_back : (b : Bool) → is_true (from_truth (Some b)) ≡ b
 true_back true = refl
 true_back false = refl
 
--- a comparison with a text, and with a number
+-- a comparison with a text, with a number and with bytes
 pub equals_text : (v : Value) (t : List ℕ) → is_true (binary (Compare Eq Binary) v (Text t)) ≡ is_eq (value_cmp v (Text t))
 unfolding binary
 equals_text Null t = sym (ap is_eq (value_cmp-apart Null (Text t) (λ e. cc)))
@@ -51,6 +51,14 @@ equals_int (Int n) z = true_back _
 equals_int (Real x) z = true_back _
 equals_int (Text u) z = true_back _
 equals_int (Blob b) z = true_back _
+
+pub equals_blob : (v : Value) (b : List ℕ) → is_true (binary (Compare Eq Binary) v (Blob b)) ≡ is_eq (value_cmp v (Blob b))
+unfolding binary
+equals_blob Null b = sym (ap is_eq (value_cmp-apart Null (Blob b) (λ e. cc)))
+equals_blob (Int n) b = true_back _
+equals_blob (Real x) b = true_back _
+equals_blob (Text u) b = true_back _
+equals_blob (Blob c) b = true_back _
 
 -- a column of a row with its rowid is the one before it without
 pub column_after : (r : Row) (at : ℕ) → column r (suc at) ≡ column (drop 1 r) at

@@ -36,20 +36,22 @@ fn create<S: Alter>(tx: &mut Transaction<'_, S>, holder: &Name, auth: &Auth) -> 
     set_created(tx, holder, auth.number)
 }
 
-/// Puts these runs in the place of those that the holder holds, and takes away the authorizations
-/// of these numbers.
+/// Takes away some of the holder's runs, puts others, and takes away the authorizations of these
+/// numbers. A run that is put may begin where one that is taken away does, so they go first.
 fn hold<S: Alter>(
     tx: &mut Transaction<'_, S>,
     holder: &Name,
-    spans: &[Span],
+    removed: &[Span],
+    added: &[Span],
     ended: &[u32],
 ) -> Result<(), Error>
     requires { WhenClean S.Store IsReady tx.old }
-    ensures done { IfEdited S.Store result holder.now (held spans.now ended.now) tx.old tx.new }
+    ensures done { IfEdited S.Store result holder.now
+        (held removed.now added.now ended.now) tx.old tx.new }
     ensures inside { StaysInside S.Store tx.old tx.new }
 {
-    take_holdings(tx, holder)?;
-    put_holdings(tx, holder, spans)?;
+    take_holdings(tx, holder, removed)?;
+    put_holdings(tx, holder, added)?;
     take_auths(tx, holder, ended)
 }
 
@@ -66,7 +68,11 @@ fn edit_rows<S: Alter>(
 {
     match edit {
         Edit::Register => return Err(StoreFault::Database),
-        Edit::Hold { holdings, ended } => hold(tx, holder, holdings.spans(), ended)?,
+        Edit::Hold {
+            removed,
+            added,
+            ended,
+        } => hold(tx, holder, removed, added, ended)?,
         Edit::Grant(granted) => grant(tx, holder, granted)?,
         Edit::Revoke(number) => take_grant(tx, holder, *number)?,
         Edit::Create(auth) => create(tx, holder, auth)?,

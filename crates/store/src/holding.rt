@@ -5,7 +5,7 @@ ghost use Rattle.store.specs.steps.Statements.{IsReady, WhenClean, StaysInside, 
 use crate::statement::run;
 use addr::{Name, Span};
 use sqlite::{Alter, Error, Transaction};
-use tables::{address_bytes, holding_values, name_values};
+use tables::{address_bytes, holding_values};
 
 /// Puts a run of addresses that the holder holds.
 fn put_holding<S: Alter>(
@@ -43,18 +43,38 @@ pub(crate) fn put_holdings<S: Alter>(
     Ok(())
 }
 
-/// Takes away all that the holder holds.
+/// Takes away a run of addresses, where the holder holds it.
+fn take_holding<S: Alter>(
+    tx: &mut Transaction<'_, S>,
+    holder: &Name,
+    span: &Span,
+) -> Result<(), Error>
+    requires { WhenClean S.Store IsReady tx.old }
+    ensures done { IfEdited S.Store result holder.now
+        (without_holdings (span.now ∷ [])) tx.old tx.new }
+    ensures inside { StaysInside S.Store tx.old tx.new }
+{
+    let first = address_bytes(span.lo);
+    let last = address_bytes(span.hi);
+    run(
+        tx,
+        "DELETE FROM holding WHERE family = ?1 AND lo = ?2 AND hi = ?3 AND holder = ?4",
+        &holding_values(holder, span, &first, &last),
+    )
+}
+
+/// Takes away runs of addresses, where the holder holds them.
 pub(crate) fn take_holdings<S: Alter>(
     tx: &mut Transaction<'_, S>,
     holder: &Name,
+    spans: &[Span],
 ) -> Result<(), Error>
     requires { WhenClean S.Store IsReady tx.old }
-    ensures done { IfEdited S.Store result holder.now without_holdings tx.old tx.new }
+    ensures done { IfEdited S.Store result holder.now (without_holdings spans.now) tx.old tx.new }
     ensures inside { StaysInside S.Store tx.old tx.new }
 {
-    run(
-        tx,
-        "DELETE FROM holding WHERE holder = ?1",
-        &name_values(holder),
-    )
+    for span in spans {
+        take_holding(tx, holder, span)?;
+    }
+    Ok(())
 }

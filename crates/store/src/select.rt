@@ -1,5 +1,5 @@
 //! The values of a holder: how they are asked for, and what the rows of the answer are read as.
-ghost use Rattle.std.specs.Prelude.{◌≡◌, List, [], ◌∷◌, map, All, Any, Err, IfOk};
+ghost use Rattle.std.specs.Prelude.{◌≡◌, ◌≢◌, ◌≤◌, ◌↔◌, List, [], ◌∷◌, map, length, All, Any, Err, IfOk, vec_capacity};
 ghost use Rattle.std.specs.declared.cmp.Ordering.{Ordering};
 ghost use Rattle.std.specs.declared.cmp.Ordering.TheVariants.{Equal};
 ghost use Rattle.std.specs.Ordering.{then_cmp};
@@ -23,7 +23,19 @@ pub(crate) fn read_all<T: FromRow>(alloc: Global, rows: &[Row]) -> Result<Vec<T>
     ensures schema { result ≡ Err StoreFault.Schema
         → Any (ShowsNone T.cells T.fits) (map (first_columns T.width) rows.now) }
 {
-    in_rows(alloc, rows)?.ok_or(StoreFault::Schema)
+    read_within(Vec::with_capacity(alloc, rows.len())?, rows)
+}
+
+/// The same in a vector that has room for them: only a row that shows none is a fault.
+fn read_within<T: FromRow>(values: Vec<T>, rows: &[Row]) -> Result<Vec<T>, StoreFault>
+    requires empty { values.items ≡ [] }
+    requires room { length rows.now ≤ vec_capacity values }
+    ensures shown { IfOk result (λ values. rows.now ≡ map T.cells values.items) }
+    ensures fits { IfOk result (λ values. All T.fits values.items) }
+    ensures schema { result ≡ Err StoreFault.Schema ↔ Any (ShowsNone T.cells T.fits) rows.now }
+    ensures no_database { result ≢ Err StoreFault.Database }
+{
+    in_rows(values, rows).ok_or(StoreFault::Schema)
 }
 
 /// A value of a holder, which a row of one table shows.

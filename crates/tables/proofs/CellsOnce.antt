@@ -1,12 +1,11 @@
 -- Values of the same cells are equal.
-use Rattle.std.proofs.Common.{◌≡◌, ℕ, ◌^◌, ◌<◌, ◌≤◌, List, [], ◌∷◌, ◌++◌, map, refl, sym, ap, subst, ◌∙◌, arith, IsPermutation}
-use Rattle.std.specs.Coded.{le_prop}
-use mathlib.Core.HLevel.{is_prop→PathP}
+use Rattle.std.proofs.Common.{◌≡◌, ℕ, ◌^◌, ◌<◌, List, [], ◌∷◌, ◌++◌, map, refl, sym, ap, subst, ◌∙◌, arith, IsPermutation}
 use Rattle.sqlite_value.specs.declared.value.Value.TheVariants.{Text, Blob}
 use Rattle.sqlite_value.specs.Order.{Row}
 use Rattle.sqlite_trees.proofs.ListLemmas.{pull_back}
 use Rattle.addr.specs.Family.{width}
 use Rattle.addr.specs.Address.{same_prefix}
+use Rattle.addr.specs.Spans.{same_span}
 use Rattle.addr.specs.declared.family.Family.{Family}
 use Rattle.addr.specs.declared.family.Family.TheVariants.{V4, V6}
 use Rattle.addr.specs.declared.prefix.Prefix.{Prefix}
@@ -54,13 +53,7 @@ one_span s t is =
     let family = one_family s.family t.family cc in
     let lo = one_address s.family t.family s.lo t.lo (omega (arith, s.ordered, s.in_family)) (omega (arith, t.ordered, t.in_family)) cc in
     let hi = one_address s.family t.family s.hi t.hi s.in_family t.in_family cc in
-    λ i. record {
-      family = family i;
-      lo = lo i;
-      hi = hi i;
-      ordered = is_prop→PathP (λ j. lo j ≤ hi j) (λ j. le_prop) s.ordered t.ordered i;
-      in_family = is_prop→PathP (λ j. hi j < 2 ^ width (family j)) (λ j. le_prop) s.in_family t.in_family i;
-    }
+    same_span s t family lo hi
 
 pub one_auth : (x y : Auth) → auth_cells x ≡ auth_cells y → x ≡ y
 one_auth x y is =

@@ -95,12 +95,12 @@ pub put_auth_is : Means put_auth_text (Insert 6 (Values (put_terms 9) 10))
 unfolding understood everything
 put_auth_is = record { is = λ s. refl; plain = λ s. (refl, refl); unlisted = λ s. refl }
 
-abbrev pub take_holdings_text : List ℕ
-take_holdings_text = codes "DELETE FROM holding WHERE holder = ?1"
+abbrev pub take_holding_text : List ℕ
+take_holding_text = codes "DELETE FROM holding WHERE family = ?1 AND lo = ?2 AND hi = ?3 AND holder = ?4"
 
-pub take_holdings_is : Means take_holdings_text (Delete 4 (record { lets = []; body = from_table 8 (equals 4 0 ∷ []) (col 1 0 ∷ []) [] no_limit }))
+pub take_holding_is : Means take_holding_text (Delete 4 (record { lets = []; body = from_table 8 (equals 1 0 ∷ equals 2 1 ∷ equals 3 2 ∷ equals 4 3 ∷ []) (col 1 0 ∷ []) [] no_limit }))
 unfolding understood everything
-take_holdings_is = record { is = λ s. refl; plain = λ s. (refl, refl); unlisted = λ s. refl }
+take_holding_is = record { is = λ s. refl; plain = λ s. (refl, refl); unlisted = λ s. refl }
 
 abbrev pub take_granted_text : List ℕ
 take_granted_text = codes "DELETE FROM granted WHERE holder = ?1 AND number = ?2"

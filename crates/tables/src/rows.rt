@@ -1,6 +1,6 @@
 //! The values that rows show: how a row of each type is read. A row that shows no value of its type
 //! is one of another schema.
-ghost use Rattle.std.specs.Prelude.{◌≡◌, ◌≤◌, ◌↔◌, ℕ, [], ◌∷◌, map, length, ⊤, IfOk, IsTrue, vec_capacity};
+ghost use Rattle.std.specs.Prelude.{◌≡◌, ◌≤◌, ◌↔◌, ℕ, [], ◌∷◌, map, length, ⊤, IsTrue, vec_capacity};
 ghost use Rattle.addr.specs.Name.{is_name};
 ghost use Rattle.policy.specs.Values.{IsU32, AuthFits, GrantFits};
 ghost use Rattle.sqlite_value.specs.declared.value.Value.TheVariants.{Text};
@@ -15,7 +15,6 @@ use addr::{Asn, Name, Prefix, Span, Vrp};
 use policy::{Auth, Granted};
 use sqlite::Row;
 use sqlite::types::ValueRef;
-use std::alloc::{AllocError, Global};
 
 /// A value that the first columns of a row show.
 pub trait FromRow: Drop {
@@ -33,16 +32,9 @@ pub trait FromRow: Drop {
         ensures { Decodes cells fits (first_columns width row.now) result };
 }
 
-/// The values that the rows show, in their order; none where some row shows no value.
-pub fn in_rows<T: FromRow>(alloc: Global, rows: &[Row]) -> Result<Option<Vec<T>>, AllocError>
-    ensures { IfOk result
-        (DecodesAll T.cells T.fits (map (first_columns T.width) rows.now)) }
-{
-    Ok(in_rows_within(Vec::with_capacity(alloc, rows.len())?, rows))
-}
-
-/// The same in a vector that has room for them.
-fn in_rows_within<T: FromRow>(mut values: Vec<T>, rows: &[Row]) -> Option<Vec<T>>
+/// The values that the rows show, in their order, in a vector that has room for them; none where
+/// some row shows no value.
+pub fn in_rows<T: FromRow>(mut values: Vec<T>, rows: &[Row]) -> Option<Vec<T>>
     requires empty { values.items ≡ [] }
     requires room { length rows.now ≤ vec_capacity values }
     ensures { DecodesAll T.cells T.fits (map (first_columns T.width) rows.now) result }

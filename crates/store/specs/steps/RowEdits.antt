@@ -1,6 +1,7 @@
 -- The steps in which a change edits the rows of a holder.
 use Rattle.std.specs.Prelude.{ℕ, Bool, true, false, ◌==◌, not, List, [], ◌∷◌, ◌++◌, filter}
 use Rattle.std.specs.List.{list_any}
+use Rattle.addr.specs.Spans.{without_runs}
 use Rattle.addr.specs.declared.span.Span.{Span}
 use Rattle.policy.specs.declared.authorization.Auth.{Auth}
 use Rattle.policy.specs.declared.grant.Granted.{Granted}
@@ -11,8 +12,8 @@ use Rattle.policy.specs.Rows.{Rows}
 abbrev pub with_holdings : List Span → Rows → Rows
 with_holdings spans r = record r { holdings = r.holdings ++ spans }
 
-abbrev pub without_holdings : Rows → Rows
-without_holdings r = record r { holdings = [] }
+abbrev pub without_holdings : List Span → Rows → Rows
+without_holdings spans r = record r { holdings = without_runs spans r.holdings }
 
 abbrev pub with_grant : Granted → Rows → Rows
 with_grant g r = record r { grants = r.grants ++ g ∷ [] }
@@ -30,9 +31,9 @@ with_granted n r = record r { granted = n }
 abbrev pub with_created : ℕ → Rows → Rows
 with_created n r = record r { created = n }
 
--- other runs are held, and these authorizations end
-abbrev pub held : List Span → List ℕ → Rows → Rows
-held spans ended r = record r { holdings = spans; auths = filter (λ x. not (list_any (λ n. x.number == n) ended)) r.auths }
+-- some runs are held no longer, others are held, and these authorizations end
+abbrev pub held : List Span → List Span → List ℕ → Rows → Rows
+held removed added ended r = without_auths ended (with_holdings added (without_holdings removed r))
 
 abbrev pub is_registration : Edit → Bool
 is_registration Register = true

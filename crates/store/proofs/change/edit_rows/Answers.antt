@@ -1,7 +1,7 @@
 use Rattle.store.proofs.change.edit_rows.Goals as goal
 
 pub returns-in_ok-hold-in-Hold-clause-done : goal.returns-in_ok-hold-in-Hold-clause-done
-returns-in_ok-hold-in-Hold-clause-done g c clean = rw c.in-Hold.is (rw (c.spans.ensures.items, c.deref.ensures.value) at (c.in_ok-hold-in-Hold.ensures.done clean))
+returns-in_ok-hold-in-Hold-clause-done g c clean = rw c.in-Hold.is (rw (c.deref.ensures.value, c.deref-in-Hold.ensures.value, c.deref-in-Hold-2.ensures.value) at (c.in_ok-hold-in-Hold.ensures.done clean))
 
 pub returns-in_ok-grant-in-Grant-clause-done : goal.returns-in_ok-grant-in-Grant-clause-done
 returns-in_ok-grant-in-Grant-clause-done g c clean = rw c.in-Grant.is (c.in_ok-grant-in-Grant.ensures.done clean)

@@ -10,10 +10,11 @@ returns-in_err-put_holdings-clause-inside g c = stays_then g.S.Store _ _ _ c.tak
 pub returns-clause-done : goal.returns-clause-done
 returns-clause-done g c =
     let h = c.args.holder.now in
-    let spans = c.args.spans.now in
-    let other : Rows → Rows = λ r. with_holdings spans (without_holdings r) in
-    done_after g.S.Store c.take_auths.result h other (without_auths c.args.ended.now) (held spans c.args.ended.now) c.args.tx.now _ _ (λ r. refl) c.take_auths.ensures.inside
-    (λ clean. done_then h without_holdings (with_holdings spans) other _ _ _ (λ r. refl) (c.in_ok-take_holdings.ensures.done (omega (arith, c.put_holdings.ensures.inside.survives.clean))) (c.in_ok-put_holdings.ensures.done clean))
+    let gone = c.args.removed.now in
+    let spans = c.args.added.now in
+    let other : Rows → Rows = λ r. with_holdings spans (without_holdings gone r) in
+    done_after g.S.Store c.take_auths.result h other (without_auths c.args.ended.now) (held gone spans c.args.ended.now) c.args.tx.now _ _ (λ r. refl) c.take_auths.ensures.inside
+    (λ clean. done_then h (without_holdings gone) (with_holdings spans) other _ _ _ (λ r. refl) (c.in_ok-take_holdings.ensures.done (omega (arith, c.put_holdings.ensures.inside.survives.clean))) (c.in_ok-put_holdings.ensures.done clean))
     c.take_auths.ensures.done
 
 pub returns-clause-inside : goal.returns-clause-inside

@@ -1,6 +1,20 @@
-use Rattle.store.proofs.EditSteps.{takes_holdings}
-use Rattle.store.proofs.RowSteps.{means}
+use Rattle.std.proofs.Common.{arith, ap, sym, ◌∙◌, [], ◌∷◌, take, ◌+◌}
+use Rattle.store.specs.steps.RowEdits.{without_holdings}
+use Rattle.store.specs.steps.Statements.{state_in}
+use Rattle.store.proofs.RowSteps.{none_taken, one_holding_less, taken_more, done_none, done_then, stays, stays_then}
 use Rattle.store.proofs.holding.take_holdings.Goals as goal
 
-pub returns-clause-done : goal.returns-clause-done
-returns-clause-done g c = means g.S.Store c.run.result _ _ _ _ _ _ c.requires c.run.ensures.inside c.run.ensures.ran c.name_values.ensures (λ old new. takes_holdings c.args.holder.now old new)
+pub loop-span-init : goal.loop-span-init
+loop-span-init g c = (stays g.S.Store _, λ clean. done_none c.args.holder.now (without_holdings []) (state_in g.S.Store c.args.tx.now) none_taken (c.requires clean))
+
+pub loop-span-preserved : goal.loop-span-preserved
+loop-span-preserved g c =
+    let xs = c.args.spans.now in
+    let i = c.loop-span.span-index in
+    let x = c.span-item.result in
+    let more = taken_more xs i x (omega arith) c.span-item.is in
+    let inside = c.take_holding.ensures.inside in (
+      stays_then g.S.Store _ _ _ c.loop-span.invariant.0 inside,
+      λ clean. done_then c.args.holder.now (without_holdings (take i xs)) (without_holdings (x ∷ [])) (without_holdings (take (i + 1) xs)) _ _ _
+          (λ r. one_holding_less (take i xs) x r ∙ ap (λ l. without_holdings l r) (sym more)) (c.loop-span.invariant.1 (omega (arith, inside.survives.clean))) (c.in_ok-take_holding.ensures.done clean),
+    )

@@ -1,5 +1,5 @@
 use Rattle.std.proofs.Common.{◌≡◌, [], ◌∷◌, ◌++◌, refl, ap, ◌∙◌}
-use Rattle.desk.proofs.Outcomes.{on_err}
+use Rattle.payload.proofs.Visits.{on-err}
 use Rattle.web.specs.ScriptLines.{all_but_last, last_of, pieces}
 use Rattle.web.specs.steps.LineSplitting.{behind, completed_lines, unfinished_line}
 use Rattle.web.proofs.LineSplits.{all_but_last-append, all_but_last-one, last_of-one, behind-cut, behind-rest}
@@ -37,7 +37,7 @@ returns-in_err-answer-clause-err g c = λ unfinished holds.
     ap all_but_last (behind-cut unfinished c.args.bytes.now lines kept c.loop-line.rest.now c.in-Some.line.now
     c.in-Some.more.now all c.in-Some.ensures.found)
     ∙ all_but_last-append (lines ++ line ∷ []) [] more in
-    on_err c.from_residual.result (rw completed
+    on-err c.from_residual.result _ (rw completed
     (BreaksOff-before g.E.AnswerLines.answers c.args.engine.now c.answer.new.self
     (lines ++ line ∷ []) (all_but_last (behind [] more))
     (g.D.Drain.written c.args.drain.now) (g.D.Drain.written c.answer.new.drain)

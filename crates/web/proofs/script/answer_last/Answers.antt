@@ -1,7 +1,7 @@
 use Rattle.std.proofs.Common.{◌≡◌, [], ◌∙◌, ap, sym, refl, true, false}
 use Rattle.web.specs.ScriptLines.{within_limit}
 use Rattle.web.proofs.LineSplits.{unless_empty-lem, within_limit-nil}
-use Rattle.desk.proofs.Outcomes.{on_err}
+use Rattle.payload.proofs.Visits.{on-err}
 use Rattle.web.proofs.ScriptLemmas.{AnswersEach-nil, BreaksOff-one}
 use Rattle.web.proofs.script.answer_last.Goals as goal
 
@@ -13,7 +13,7 @@ returns-then-is_empty-clause-ok g c = λ unfinished holds.
 pub returns-in_err-answer-clause-err : goal.returns-in_err-answer-clause-err
 returns-in_err-answer-clause-err g c = λ unfinished holds.
     let (reply, acted, written) = c.in_err-answer.ensures.err in
-    on_err c.from_residual.result (rw (unless_empty-lem unfinished (λ is_nil. let no : false ≡ true = c.if-is_empty.ensures.1 (holds ∙ ap within_limit is_nil) in cc))
+    on-err c.from_residual.result _ (rw (unless_empty-lem unfinished (λ is_nil. let no : false ≡ true = c.if-is_empty.ensures.1 (holds ∙ ap within_limit is_nil) in cc))
     (BreaksOff-one g.E.AnswerLines.answers c.args.engine.now c.answer.new.self unfinished reply
     (g.D.Drain.written c.args.drain.now) (g.D.Drain.written c.answer.new.drain)
     (rw (c.line.ensures ∙ holds) at acted) written))

@@ -1,7 +1,7 @@
-use Rattle.desk.proofs.Outcomes.{on_err}
+use Rattle.payload.proofs.Visits.{on-err}
 use Rattle.web.specs.ScriptAnswer.{answer_text}
 use Rattle.web.proofs.session.DeskAnswerLines.answer.Goals as goal
 
 pub returns-in_err-write-clause-err : goal.returns-in_err-write-clause-err
 returns-in_err-write-clause-err g c =
-    on_err c.from_residual.result (answer_text c.answer_to-answer.result, c.answer_to-answer.ensures, c.in_err-write.ensures.err)
+    on-err c.from_residual.result _ (answer_text c.answer_to-answer.result, c.answer_to-answer.ensures, c.in_err-write.ensures.err)

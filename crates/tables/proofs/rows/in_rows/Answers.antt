@@ -1,7 +1,7 @@
 use Rattle.std.proofs.Common.{arith}
 use Rattle.tables.specs.Decode.{first_columns}
 use Rattle.tables.proofs.ReadLemmas.{any_mapped}
-use Rattle.tables.proofs.rows.in_rows_within.Goals as goal
+use Rattle.tables.proofs.rows.in_rows.Goals as goal
 
 pub returns-in_err-value : goal.returns-in_err-value
 returns-in_err-value g c =

@@ -1,7 +1,7 @@
 use Rattle.std.proofs.Common.{◌≡◌, ◌≤◌, map, length, take, All}
 use Rattle.std.specs.Vec.{vec_capacity}
 use Rattle.tables.specs.Decode.{first_columns}
-use Rattle.tables.proofs.rows.in_rows_within.Given as goal
+use Rattle.tables.proofs.rows.in_rows.Given as goal
 
 abbrev pub invariant-loop-row : goal.invariant-loop-row
 invariant-loop-row g l = record {

@@ -1,0 +1,10 @@
+use Rattle.std.proofs.Common.{take}
+use Rattle.sqlite.specs.State.{HasCleanDisk}
+use Rattle.store.specs.steps.RowEdits.{without_holdings}
+use Rattle.store.specs.steps.Statements.{state_in, StaysInside, EditsHolder}
+use Rattle.store.proofs.holding.take_holdings.Given as goal
+
+abbrev pub invariant-loop-span : goal.invariant-loop-span
+invariant-loop-span g l =
+    StaysInside g.S.Store l.fn.tx l.tx
+    × (HasCleanDisk (state_in g.S.Store l.tx) → EditsHolder l.holder (without_holdings (take l.span-index l.spans)) (state_in g.S.Store l.fn.tx) (state_in g.S.Store l.tx))
