@@ -71,15 +71,19 @@ fn grant() -> Result<Granted, Fail> {
     })
 }
 
-// That the holder has exactly 192.0.2.0/24 but for this prefix.
+// The runs of 192.0.2.0/24 but for this prefix, in the place of all of it.
 fn hold(alloc: Global, without: Option<&Prefix>) -> Result<Edit, Fail> {
     let mut holdings = Holdings::new(alloc);
-    holdings.add(&Prefix::read(b"192.0.2.0/24")?)?;
+    let whole = Prefix::read(b"192.0.2.0/24")?;
+    holdings.add(&whole)?;
+    let mut removed = Vec::new(alloc);
     if let Some(prefix) = without {
         holdings.take(prefix)?;
+        removed.push(whole.span())?;
     }
     Ok(Edit::Hold {
-        holdings,
+        removed,
+        added: Vec::from_slice(alloc, holdings.spans())?,
         ended: Vec::new(alloc),
     })
 }

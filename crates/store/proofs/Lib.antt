@@ -14,5 +14,11 @@ mod Overlapping
 mod InForce
 mod Giving
 mod HistoryRows
-pub mod SameCharter
-pub mod Opened
+mod Rowids
+mod AllTexts
+mod Obeyed
+mod SomeRows
+mod Unread
+mod Opened
+mod SameCharter
+mod OpenedStore

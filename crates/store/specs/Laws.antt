@@ -1,5 +1,6 @@
 -- What follows for the rows of a history.
-use Rattle.std.specs.Prelude.{ℕ, List, Option}
+use Rattle.std.specs.Prelude.{◌≡◌, ℕ, List, Option}
+use Rattle.sqlite.specs.Effect.{Database}
 use Rattle.sqlite.specs.Steps.{over_memory}
 use Rattle.policy.specs.declared.charter.Charter.{Charter}
 use Rattle.policy.specs.declared.rows.HolderRows.{HolderRows}
@@ -8,7 +9,9 @@ use Rattle.policy.specs.Rows.{Rows, rows_if_any, RowsIfAny}
 use Rattle.policy.specs.RowsOfAll.{HasRows}
 use Rattle.policy.specs.Values.{HistoryFits, FitIfAny}
 use Rattle.policy.specs.Verdict.{IsLegal}
-use Rattle.store.specs.StoreRows.{IsHonest}
+use Rattle.tables.specs.Tables.{desk_tables}
+use Rattle.store.specs.StoreRows.{IsHonest, IsOfAnotherSchema}
+use Rattle.store.specs.TablesRead.{TablesRead}
 use Rattle.store.specs.Loads.{AreLoaded, AllGiveOn}
 
 -- The rows of a holder after a history, as they are loaded, are its rows after the history.
@@ -37,3 +40,8 @@ AuthsOfHistoriesGive =
 -- memory returns what was written
 abbrev pub MemoryIsHonest : Type 0
 MemoryIsHonest = IsHonest over_memory
+
+-- Tables of a desk that read are not of another schema.
+abbrev pub TablesThatReadAreOurs : Type 0
+TablesThatReadAreOurs =
+    (db : Database) → db.schema.tables ≡ desk_tables → TablesRead db.trees → ¬ IsOfAnotherSchema db

@@ -1,7 +1,7 @@
 //! Laws over the definitions alone: each function's contract states one, and its body does nothing.
 
 ghost use Rattle.store.specs.Laws.{AuthsOfHistoriesGive, LoadsRowsOfHistories, MemoryIsHonest};
-ghost use Rattle.store.specs.Laws.{RowsOfHistoriesFit};
+ghost use Rattle.store.specs.Laws.{RowsOfHistoriesFit, TablesThatReadAreOurs};
 
 /// Where the tables hold the rows of a history, what is loaded of a holder are its rows after that
 /// history, as `policy` asks for them.
@@ -30,4 +30,9 @@ pub fn auths_of_a_history_give()
 /// A connection to memory is honest, so that what is said of an honest disk is said of it.
 pub fn memory_is_honest()
     ensures { MemoryIsHonest }
+{}
+
+/// Tables of a desk that read are never refused as those of another schema.
+pub fn tables_that_read_are_ours()
+    ensures { TablesThatReadAreOurs }
 {}

@@ -1,20 +1,18 @@
 //! Whether a database that is opened has the tables of a desk.
-ghost use Rattle.std.specs.Prelude.{◌≡◌, ◌≢◌, ◌↔◌, ℕ, List, Option, false, None, Err, OnOk, IfOk, IsTrue};
+ghost use Rattle.std.specs.Prelude.{◌≡◌, ◌≢◌, ◌↔◌, false, None, Err, OnOk, IfOk, IsTrue};
 ghost use Rattle.sqlite.specs.Held.{state};
-ghost use Rattle.policy.specs.Rows.{Rows};
 ghost use Rattle.tables.specs.Schemas.{has_names, HasPlainTables};
 ghost use Rattle.tables.specs.Tables.{desk_tables, unindexed_schema};
-ghost use Rattle.tables.specs.TablesHold.{TablesHold};
 ghost use Rattle.store.specs.StoreRows.{IsOfAnotherSchema};
-ghost use Rattle.store.specs.TablesRead.{TablesRead};
 ghost use Rattle.store.specs.steps.Making.{StaysDesk, MayCommitIndex};
-ghost use Rattle.store.specs.steps.Opening.{IsOpenDesk, LeavesSameRows, OpensDesk};
-ghost use Rattle.store.specs.steps.Queries.{IsAsked, IsOnCleanDisk, IsReadyToAsk};
+ghost use Rattle.store.specs.steps.OpenedDesk.{IsOpenDesk, LeavesSameRows, OpensDesk};
+ghost use Rattle.store.specs.steps.Queries.{IsOnCleanDisk};
 ghost use Rattle.store.specs.steps.Statements.{IfCommitted, IfRolledBack, CommitsAtMost};
 
 use crate::StoreFault;
 use crate::index::add_index;
 use crate::making::make_all_tables;
+use crate::reading::read_tables;
 use policy::Charter;
 use sqlite::{Alter, Connection, Error, MemStore};
 use sqlite_schema::schema::Schema;
@@ -84,19 +82,6 @@ fn judge<S: Alter>(conn: &mut Connection<S>, alloc: Global) -> Result<bool, Stor
     conn.set_step_limit(None);
     let is_unindexed = judge_schema(alloc, conn.schema())?;
     Ok(is_unindexed)
-}
-
-fn read_tables<S: Alter>(conn: &mut Connection<S>, _alloc: Global) -> Result<Charter, StoreFault>
-    requires { IsReadyToAsk S.Store conn.old }
-    ensures asked { IsAsked S.Store conn.old conn.new result }
-    ensures held { IsOnCleanDisk S.Store conn.new → IfOk result
-        (λ charter. (rows : List ℕ → Option Rows)
-        × TablesHold charter rows (state S.Store conn.old).now.trees) }
-    ensures schema { IsOnCleanDisk S.Store conn.new → result ≡ Err StoreFault.Schema
-        → ¬ TablesRead (state S.Store conn.old).now.trees }
-{
-    let _idle = conn.is_autocommit();
-    Err(StoreFault::Database)
 }
 
 /// Adds the index of a holder's runs to a desk that has nothing beside its tables.

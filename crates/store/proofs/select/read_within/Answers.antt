@@ -19,4 +19,4 @@ refused_iff cells fits rows (Some values) result is shown = (
 )
 
 pub returns-clause-schema : goal.returns-clause-schema
-returns-clause-schema g c = refused_iff _ _ c.args.rows.now c.in_rows.result c.ok_or.result c.ok_or.ensures.value c.in_rows.ensures
+returns-clause-schema g c = refused_iff _ _ _ c.in_rows.result c.ok_or.result c.ok_or.ensures.value c.in_rows.ensures

@@ -1,4 +1,4 @@
-use Rattle.store.proofs.Opened.{opened_store}
+use Rattle.store.proofs.OpenedStore.{opened_store}
 use Rattle.store.proofs.store.Store.open_from.Goals as goal
 
 pub returns-clause-opened : goal.returns-clause-opened

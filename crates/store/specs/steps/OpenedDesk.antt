@@ -1,12 +1,11 @@
 -- The opening of a database that has tables.
-use Rattle.std.specs.Prelude.{◌≡◌, ◌⊎◌, ℕ, Bool, false, List, Option, IsTrue}
+use Rattle.std.specs.Prelude.{◌≡◌, ◌⊎◌, Bool, false, IsTrue}
 use Rattle.sqlite.specs.State.{State}
 use Rattle.sqlite_trees.specs.Tree.{Trees}
 use Rattle.policy.specs.CharterSets.{CharterSets}
-use Rattle.policy.specs.Rows.{Rows}
 use Rattle.tables.specs.Tables.{desk_tables, unindexed_schema, SameRows}
-use Rattle.tables.specs.TablesHold.{TablesHold}
 use Rattle.store.specs.StoreRows.{IsDesk}
+use Rattle.store.specs.TablesRead.{HoldSome}
 use Rattle.store.specs.steps.Making.{MayCommitIndex}
 
 -- the connection is open over a desk, which is committed, and may have nothing beside its tables
@@ -22,7 +21,7 @@ pub record OpensDesk (charter : CharterSets) (old new : State) : Type 0 where
   pub is_open : IsTrue new.is_open
   pub desk : IsDesk new
   pub rows : SameRows old.now.trees new.now.trees
-  pub some : (rows : List ℕ → Option Rows) × TablesHold charter rows old.now.trees
+  pub some : HoldSome charter old.now.trees
 
 -- a crash leaves what it left before, or tables with the same rows
 abbrev pub LeavesSameRows : State → State → Type 0
