@@ -14,4 +14,10 @@ mod Overlapping
 mod InForce
 mod Giving
 mod HistoryRows
+mod Rowids
+mod AllTexts
+mod Obeyed
+mod SomeRows
+mod Unread
+mod Opened
 pub mod SameCharter
