@@ -301,6 +301,13 @@ static void measure(void)
     for (unsigned at = 0; at < CHANGES; at++)
         create(holder_at(at), auths + at + 1);
     report("create", CHANGES, 0);
+    sum = 0;
+    start();
+    for (unsigned at = CHANGES; at < 2 * CHANGES; at++) {
+        sum += load(holder_at(at));
+        create(holder_at(at), auths + at + 1);
+    }
+    report("load-and-create", CHANGES, sum);
     start();
     for (unsigned at = 0; at < CHANGES; at++)
         withdraw(holder_at(at), auths + at + 1);
