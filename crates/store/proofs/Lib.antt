@@ -19,5 +19,6 @@ mod AllTexts
 mod Obeyed
 mod SomeRows
 mod Unread
+mod HeldRead
 mod Opened
 pub mod SameCharter

@@ -15,7 +15,8 @@ use sqlite::Row;
 use std::alloc::Global;
 use tables::{Counters, FromRow, in_rows};
 
-/// The values that the first columns of the rows show, in their order. A row that shows none is one of another schema.
+/// The values that the first columns of the rows show, in their order. A row that shows none is one
+/// of another schema.
 pub(crate) fn read_all<T: FromRow>(alloc: Global, rows: &[Row]) -> Result<Vec<T>, StoreFault>
     ensures shown { IfOk result (λ values.
         map (first_columns T.width) rows.now ≡ map T.cells values.items) }
@@ -30,9 +31,11 @@ pub(crate) fn read_all<T: FromRow>(alloc: Global, rows: &[Row]) -> Result<Vec<T>
 fn read_within<T: FromRow>(values: Vec<T>, rows: &[Row]) -> Result<Vec<T>, StoreFault>
     requires empty { values.items ≡ [] }
     requires room { length rows.now ≤ vec_capacity values }
-    ensures shown { IfOk result (λ values. rows.now ≡ map T.cells values.items) }
+    ensures shown { IfOk result (λ values.
+        map (first_columns T.width) rows.now ≡ map T.cells values.items) }
     ensures fits { IfOk result (λ values. All T.fits values.items) }
-    ensures schema { result ≡ Err StoreFault.Schema ↔ Any (ShowsNone T.cells T.fits) rows.now }
+    ensures schema { result ≡ Err StoreFault.Schema
+        ↔ Any (ShowsNone T.cells T.fits) (map (first_columns T.width) rows.now) }
     ensures no_database { result ≢ Err StoreFault.Database }
 {
     in_rows(values, rows).ok_or(StoreFault::Schema)
