@@ -4,8 +4,8 @@
 #     store.sh [RUNS]      (5 where left out)
 #
 # Needs rt, gcc and libsqlite3 with its header. Files go to a temporary folder, or stay in BENCH_WORK;
-# the next run there is quicker, since the program is proved. The two programs run in turn, and the
-# least time of an operation counts. Ends with 1 where they answer otherwise than each other, with 2
+# the next run there is quicker, since the program is proved. The two programs run in turn, and of the
+# medians of an operation's times the least counts. Ends with 1 where they answer otherwise than each other, with 2
 # where something could not be run.
 set -u
 bench=$(cd "$(dirname "${BASH_SOURCE[0]}")" && pwd)
