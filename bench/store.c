@@ -268,53 +268,69 @@ static uint64_t all_on(unsigned day)
     return sum;
 }
 
-static struct timespec started;
+static unsigned holders, auths;
 
-static void start(void)
+enum operation { LOAD, CREATE, LOAD_AND_CREATE, WITHDRAW, OVERLAPPING, ALL_ON_A_DAY, OPERATIONS };
+
+static const struct {
+    const char *name;
+    unsigned count;
+} operations[OPERATIONS] = {
+    {"load", READS},       {"create", CHANGES},    {"load-and-create", CHANGES},
+    {"withdraw", CHANGES}, {"overlapping", READS}, {"all-on-a-day", WALKS},
+};
+
+/* Does the operation once more; a sum of what was answered. */
+static uint64_t perform(enum operation operation, unsigned at)
 {
-    clock_gettime(CLOCK_MONOTONIC, &started);
+    unsigned holder = at * 7919 % holders;
+    unsigned number = auths + at + 1;
+    uint64_t sum = 0;
+    switch (operation) {
+    case LOAD:
+        return load(holder);
+    case CREATE:
+        create(holder, number);
+        return 0;
+    case LOAD_AND_CREATE:
+        sum = load(holder);
+        create(holder, number + CHANGES);
+        return sum;
+    case WITHDRAW:
+        withdraw(holder, number);
+        return 0;
+    case OVERLAPPING:
+        return overlapping(holder * 2);
+    default:
+        return all_on(TODAY);
+    }
 }
 
-static void report(const char *name, unsigned count, uint64_t sum)
+static int64_t nanoseconds(void)
 {
     struct timespec now;
     clock_gettime(CLOCK_MONOTONIC, &now);
-    int64_t took = (now.tv_sec - started.tv_sec) * 1000000000LL + now.tv_nsec - started.tv_nsec;
-    printf("%s %lld %llu\n", name, (long long)took / count, (unsigned long long)sum);
+    return now.tv_sec * 1000000000LL + now.tv_nsec;
 }
 
-static unsigned holders, auths;
-
-static unsigned holder_at(unsigned at)
+static int compare(const void *a, const void *b)
 {
-    return at * 7919 % holders;
+    int64_t left = *(const int64_t *)a, right = *(const int64_t *)b;
+    return (left > right) - (left < right);
 }
 
-static void measure(void)
+static void measure(enum operation operation)
 {
+    static int64_t times[READS];
+    unsigned count = operations[operation].count;
     uint64_t sum = 0;
-    start();
-    for (unsigned at = 0; at < READS; at++)
-        sum += load(holder_at(at));
-    report("load", READS, sum);
-    start();
-    for (unsigned at = 0; at < CHANGES; at++)
-        create(holder_at(at), auths + at + 1);
-    report("create", CHANGES, 0);
-    start();
-    for (unsigned at = 0; at < CHANGES; at++)
-        withdraw(holder_at(at), auths + at + 1);
-    report("withdraw", CHANGES, 0);
-    sum = 0;
-    start();
-    for (unsigned at = 0; at < READS; at++)
-        sum += overlapping(holder_at(at) * 2);
-    report("overlapping", READS, sum);
-    sum = 0;
-    start();
-    for (unsigned walk = 0; walk < WALKS; walk++)
-        sum += all_on(TODAY);
-    report("all-on-a-day", WALKS, sum);
+    for (unsigned at = 0; at < count; at++) {
+        int64_t start = nanoseconds();
+        sum += perform(operation, at);
+        times[at] = nanoseconds() - start;
+    }
+    qsort(times, count, sizeof *times, compare);
+    printf("%s %lld %llu\n", operations[operation].name, (long long)times[count / 2], (unsigned long long)sum);
 }
 
 static void make_tables(const char *path)
@@ -345,6 +361,7 @@ int main(int count, char **words)
     prepare_all();
     for (unsigned holder = 0; holder < holders; holder++)
         fill_holder(holder, auths);
-    measure();
+    for (int operation = 0; operation < OPERATIONS; operation++)
+        measure(operation);
     return 0;
 }

@@ -2,7 +2,8 @@
 //!
 //!     store PLACE HOLDERS AUTHORIZATIONS     (PLACE is `memory` or the path of a new file)
 //!
-//! It prints a line an operation: its name, nanoseconds each, and a sum of what was answered.
+//! It prints a line an operation: its name, the median of its times in nanoseconds, and a sum of what
+//! was answered.
 //! This is Rattle: build.sh makes it a crate of its own, and store.c does the same in C.
 #![tactic(auto)]
 
@@ -178,78 +179,129 @@ fn sum_of(rows: &HolderRows) -> u64 {
     sum
 }
 
-fn load_many<S: Alter>(store: &mut Store<S>, alloc: Global, size: Size) -> Result<u64, Fault> {
+#[derive(Clone, Copy)]
+enum Operation {
+    Load,
+    Create,
+    /// The holder is loaded first, as a desk does.
+    LoadAndCreate,
+    Withdraw,
+    Overlapping,
+    AllOnADay,
+}
+
+impl Operation {
+    fn name(self) -> &'static str {
+        match self {
+            Operation::Load => "load",
+            Operation::Create => "create",
+            Operation::LoadAndCreate => "load-and-create",
+            Operation::Withdraw => "withdraw",
+            Operation::Overlapping => "overlapping",
+            Operation::AllOnADay => "all-on-a-day",
+        }
+    }
+
+    /// How often it is done.
+    fn count(self) -> u32 {
+        match self {
+            Operation::Load | Operation::Overlapping => READS,
+            Operation::Create | Operation::LoadAndCreate | Operation::Withdraw => CHANGES,
+            Operation::AllOnADay => WALKS,
+        }
+    }
+}
+
+fn load<S: Alter>(store: &mut Store<S>, alloc: Global, holder: u32) -> Result<u64, Fault> {
+    let rows = store.load_holder(alloc, &holder_name(alloc, holder)?)?;
+    Ok(sum_of(&rows.ok_or(Fault::Value)?))
+}
+
+fn create<S: Alter>(
+    store: &mut Store<S>,
+    alloc: Global,
+    holder: u32,
+    number: u32,
+) -> Result<u64, Fault> {
+    let edit = Edit::Create(authorization(holder, number)?);
+    change(store, alloc, holder, edit)?;
+    Ok(0)
+}
+
+/// How many holders have the first prefix of this one's space: 0 or 1.
+fn overlapping<S: Alter>(store: &mut Store<S>, holder: u32) -> Result<u64, Fault> {
+    let found = store.overlapping(&prefix_of(holder, 0)?)?;
+    Ok(u64::from(found))
+}
+
+fn all_on_a_day<S: Alter>(store: &mut Store<S>, alloc: Global) -> Result<u64, Fault> {
     let mut sum = 0u64;
-    for at in 0..READS {
-        let name = holder_name(alloc, holder_at(size, at))?;
-        let rows = store.load_holder(alloc, &name)?.ok_or(Fault::Value)?;
-        sum = sum.wrapping_add(sum_of(&rows));
+    for vrp in &store.all_auths_on(alloc, day(TODAY)?)? {
+        sum = sum.wrapping_add(u64::from(vrp.asn.0));
     }
     Ok(sum)
 }
 
-fn create_many<S: Alter>(store: &mut Store<S>, alloc: Global, size: Size) -> Result<u64, Fault> {
-    for at in 0..CHANGES {
-        let holder = holder_at(size, at);
-        let edit = Edit::Create(authorization(holder, number_at(size, at))?);
-        change(store, alloc, holder, edit)?;
-    }
-    Ok(0)
-}
-
-fn withdraw_many<S: Alter>(store: &mut Store<S>, alloc: Global, size: Size) -> Result<u64, Fault> {
-    for at in 0..CHANGES {
-        let edit = Edit::Withdraw(number_at(size, at));
-        change(store, alloc, holder_at(size, at), edit)?;
-    }
-    Ok(0)
-}
-
-fn overlapping_many<S: Alter>(store: &mut Store<S>, size: Size) -> Result<u64, Fault> {
-    let mut found = 0u64;
-    for at in 0..READS {
+/// Does the operation once more; a sum of what was answered.
+fn perform<S: Alter>(
+    store: &mut Store<S>,
+    alloc: Global,
+    size: Size,
+    operation: Operation,
+    at: u32,
+) -> Result<u64, Fault> {
+    let holder = holder_at(size, at);
+    let number = number_at(size, at);
+    match operation {
+        Operation::Load => load(store, alloc, holder),
+        Operation::Create => create(store, alloc, holder, number),
+        Operation::LoadAndCreate => {
+            let sum = load(store, alloc, holder)?;
+            create(store, alloc, holder, number.saturating_add(CHANGES))?;
+            Ok(sum)
+        }
+        Operation::Withdraw => {
+            change(store, alloc, holder, Edit::Withdraw(number))?;
+            Ok(0)
+        }
         // The space after the last holder's has no holder.
-        let holder = holder_at(size, at).saturating_mul(2);
-        if store.overlapping(&prefix_of(holder, 0)?)? {
-            found = found.wrapping_add(1);
-        }
+        Operation::Overlapping => overlapping(store, holder.saturating_mul(2)),
+        Operation::AllOnADay => all_on_a_day(store, alloc),
     }
-    Ok(found)
 }
 
-fn all_many<S: Alter>(store: &mut Store<S>, alloc: Global) -> Result<u64, Fault> {
+fn measure<S: Alter>(
+    rt: &HostRuntime,
+    store: &mut Store<S>,
+    size: Size,
+    operation: Operation,
+) -> Result<(), Fault> {
+    let mut times = Vec::with_capacity(rt.alloc(), operation.count() as usize)?;
     let mut sum = 0u64;
-    for _ in 0..WALKS {
-        for vrp in &store.all_auths_on(alloc, day(TODAY)?)? {
-            sum = sum.wrapping_add(u64::from(vrp.asn.0));
-        }
+    for at in 0..operation.count() {
+        let start = Instant::now(rt)?;
+        sum = sum.wrapping_add(perform(store, rt.alloc(), size, operation, at)?);
+        let took = start.elapsed(rt)?.as_nanos();
+        times.push(took).map_err(|_| Fault::Memory)?;
     }
-    Ok(sum)
-}
-
-fn report(rt: &HostRuntime, name: &str, count: u32, start: Instant, sum: u64) -> Result<(), Fault> {
-    let each = start.elapsed(rt)?.as_nanos() / u128::from(count.max(1));
-    println!(rt; "{name} {each} {sum}")?;
+    times.sort_unstable();
+    let middle = times.get(times.len() / 2).copied().unwrap_or(0);
+    println!(rt; "{} {middle} {sum}", operation.name())?;
     Ok(())
 }
 
-fn measure<S: Alter>(rt: &HostRuntime, store: &mut Store<S>, size: Size) -> Result<(), Fault> {
-    let alloc = rt.alloc();
-    let start = Instant::now(rt)?;
-    let sum = load_many(store, alloc, size)?;
-    report(rt, "load", READS, start, sum)?;
-    let start = Instant::now(rt)?;
-    let sum = create_many(store, alloc, size)?;
-    report(rt, "create", CHANGES, start, sum)?;
-    let start = Instant::now(rt)?;
-    let sum = withdraw_many(store, alloc, size)?;
-    report(rt, "withdraw", CHANGES, start, sum)?;
-    let start = Instant::now(rt)?;
-    let sum = overlapping_many(store, size)?;
-    report(rt, "overlapping", READS, start, sum)?;
-    let start = Instant::now(rt)?;
-    let sum = all_many(store, alloc)?;
-    report(rt, "all-on-a-day", WALKS, start, sum)
+fn measure_all<S: Alter>(rt: &HostRuntime, store: &mut Store<S>, size: Size) -> Result<(), Fault> {
+    for operation in [
+        Operation::Load,
+        Operation::Create,
+        Operation::LoadAndCreate,
+        Operation::Withdraw,
+        Operation::Overlapping,
+        Operation::AllOnADay,
+    ] {
+        measure(rt, store, size, operation)?;
+    }
+    Ok(())
 }
 
 fn fill<S: Alter>(store: &mut Store<S>, alloc: Global, size: Size) -> Result<(), Fault> {
@@ -266,7 +318,7 @@ fn run_on<S: Alter + Drop>(
 ) -> Result<Connection<S>, Fault> {
     let mut store = Store::create_on(conn, &charter(rt.alloc())?)?;
     fill(&mut store, rt.alloc(), size)?;
-    measure(rt, &mut store, size)?;
+    measure_all(rt, &mut store, size)?;
     Ok(store.close())
 }
 

@@ -4,8 +4,8 @@
 #     store.sh [RUNS]      (5 where left out)
 #
 # Needs rt, gcc and libsqlite3 with its header. Files go to a temporary folder, or stay in BENCH_WORK;
-# the next run there is quicker, since the program is proved. The two programs run in turn, and the
-# least time of an operation counts. Ends with 1 where they answer otherwise than each other, with 2
+# the next run there is quicker, since the program is proved. The two programs run in turn, and of the
+# medians of an operation's times the least counts. Ends with 1 where they answer otherwise than each other, with 2
 # where something could not be run.
 set -u
 bench=$(cd "$(dirname "${BASH_SOURCE[0]}")" && pwd)
@@ -55,11 +55,11 @@ awk '
     FNR == NR { if (!(key in roadesk) || $5 < roadesk[key]) roadesk[key] = $5; next }
     !(key in plain) || $5 < plain[key] { plain[key] = $5 }
     END {
-        printf "%-6s  %12s  %-12s  %9s  %9s  %5s\n", "", "rows", "operation", "roadesk", "C", "ratio"
+        printf "%-6s  %12s  %-15s  %9s  %9s  %6s\n", "", "rows", "operation", "roadesk", "C", "ratio"
         for (at = 1; at <= keys; at++) {
             key = names[at]
             split(key, part, " ")
-            printf "%-6s  %12s  %-12s  %6.1f us  %6.1f us  %5.2f\n", part[1], part[2] " of " part[3], part[4],
+            printf "%-6s  %12s  %-15s  %6.1f us  %6.1f us  %6.2f\n", part[1], part[2] " of " part[3], part[4],
                 roadesk[key] / 1000, plain[key] / 1000, roadesk[key] / plain[key]
         }
         exit differ

@@ -19,6 +19,7 @@ mod AllTexts
 mod Obeyed
 mod SomeRows
 mod Unread
+mod HeldRead
 mod Opened
 mod SameCharter
 mod OpenedStore

@@ -1,7 +1,7 @@
 //! Laws over the definitions alone: each function's contract states one, and its body does nothing.
 
-ghost use Rattle.store.specs.Laws.{AuthsOfHistoriesGive, LoadsRowsOfHistories, MemoryIsHonest};
-ghost use Rattle.store.specs.Laws.{RowsOfHistoriesFit, TablesThatReadAreOurs};
+ghost use Rattle.store.specs.Laws.{AuthsOfHistoriesGive, HistoriesRead, LoadsRowsOfHistories};
+ghost use Rattle.store.specs.Laws.{MemoryIsHonest, RowsOfHistoriesFit, TablesThatReadAreOurs};
 
 /// Where the tables hold the rows of a history, what is loaded of a holder are its rows after that
 /// history, as `policy` asks for them.
@@ -25,6 +25,14 @@ pub fn auths_of_a_history_give()
 {
     policy::laws::legal_rows_fit();
     policy::laws::max_lengths_fit();
+}
+
+/// Where the tables hold a charter and the rows of a legal history whose values are those of their
+/// types, no opening answers `Schema`.
+pub fn tables_of_a_history_read()
+    ensures { HistoriesRead }
+{
+    policy::laws::legal_rows_fit();
 }
 
 /// A connection to memory is honest, so that what is said of an honest disk is said of it.
