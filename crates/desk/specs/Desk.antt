@@ -1,12 +1,14 @@
 -- What a desk keeps: its charter, and in the tables of its store the rows of each holder.
 use Rattle.std.specs.Prelude.{◌≡◌, ℕ, List, Option}
-use Rattle.sqlite.specs.State.{HasCleanDisk}
+use Rattle.sqlite.specs.State.{State, HasCleanDisk}
 use Rattle.sqlite.specs.Store.{Ghosts}
+use Rattle.policy.specs.CharterSets.{IsCharter}
 use Rattle.policy.specs.History.{History}
 use Rattle.policy.specs.Rows.{Rows}
 use Rattle.policy.specs.RowsOfAll.{HasRows}
 use Rattle.policy.specs.Verdict.{IsLegal}
 use Rattle.policy.specs.declared.charter.Charter.{Charter}
+use Rattle.tables.specs.TablesHold.{TablesHold}
 use Rattle.store.specs.StoreRows.{state_of, Holds}
 use Rattle.desk.specs.declared.handling.Desk.{Desk}
 
@@ -32,3 +34,11 @@ pub record StandsFor {S : Type 0} (g : Ghosts S) (charter : Charter) (desk : Des
   pub chartered : charter_of desk ≡ charter
   pub legal : IsLegal charter history
   pub rows : HoldsHistory g desk history
+
+-- Where the tables that were found held a charter and the rows of a legal history, the desk stands for
+-- that history.
+abbrev pub ContinuesHistories : {S : Type 0} → Ghosts S → State → Desk S → Type 0
+ContinuesHistories g found desk =
+    (charter : Charter) (history : History) (rows : List ℕ → Option Rows)
+    → IsCharter charter → IsLegal charter history → HasRows rows history
+    → TablesHold charter rows found.now.trees → StandsFor g charter desk history

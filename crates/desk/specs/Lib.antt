@@ -2,5 +2,4 @@ pub mod Answer
 pub mod Run
 pub mod ContentText
 pub mod Desk
-pub mod Laws
 pub mod steps

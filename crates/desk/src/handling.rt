@@ -1,4 +1,4 @@
-ghost use Rattle.std.specs.Prelude.{◌≡◌, ◌≢◌, false, [], Err, IfOk, OnOk, OnErr};
+ghost use Rattle.std.specs.Prelude.{◌≡◌, ◌≢◌, false, None, [], Err, IfOk, OnOk, OnErr};
 ghost use Rattle.policy.specs.History.{History};
 ghost use Rattle.policy.specs.Rows.{rows_if_any, RowsIfAny};
 ghost use Rattle.policy.specs.Verdict.{IsLegal};
@@ -6,9 +6,10 @@ ghost use Rattle.sqlite.specs.Held.{state};
 ghost use Rattle.sqlite.specs.State.{HasCleanDisk};
 ghost use Rattle.sqlite.specs.Steps.{over_memory};
 ghost use Rattle.store.specs.StoreRows.{state_of, IfClean, IsDeskWhileOpen, IsNew, IsRead, IsUnused, LeavesNew};
+ghost use Rattle.store.specs.StoreRows.{IsHonest, IsOfAnotherSchema, IsOpened};
 ghost use Rattle.desk.specs.Answer.{is_done, IsAnswered};
 ghost use Rattle.desk.specs.Run.{AreAnswered};
-ghost use Rattle.desk.specs.Desk.{charter_of, HoldsHistory, IsOnCleanDisk, KeepsRows};
+ghost use Rattle.desk.specs.Desk.{charter_of, ContinuesHistories, HoldsHistory, IsOnCleanDisk, KeepsRows};
 ghost use Rattle.desk.specs.steps.Reading.{OfHistories};
 
 mod commands;
@@ -50,6 +51,23 @@ impl<S: Alter + Drop> Desk<S> {
         ensures no_schema { result ≢ Err StoreFault.Schema }
     {
         let store = Store::create_on(conn, charter)?;
+        Ok(Desk { alloc, store })
+    }
+
+    /// A desk over a database that has the tables of one, with the charter and the rows that they
+    /// hold. A connection in a transaction is refused, and a limit of its steps is lifted.
+    pub fn open_from(alloc: Global, conn: Connection<S>) -> Result<Self, StoreFault>
+        ensures opened { IfOk result (λ desk. IfClean S.Store desk.store
+            (IsOpened S.Store (state S.Store conn) desk.store)) }
+        ensures history { IfOk result (λ desk. IsOnCleanDisk S.Store desk
+            → ContinuesHistories S.Store (state S.Store conn) desk) }
+        ensures unlimited { IfOk result (λ desk. desk.store.connection.step_limit ≡ None) }
+        ensures clean { IfOk result (λ desk. IsOnCleanDisk S.Store desk
+            → HasCleanDisk (state S.Store conn)) }
+        ensures schema { IsHonest S.Store → result ≡ Err StoreFault.Schema
+            → IsOfAnotherSchema (state S.Store conn).now }
+    {
+        let store = Store::open_from(alloc, conn)?;
         Ok(Desk { alloc, store })
     }
 }
