@@ -31,14 +31,17 @@ use Rattle.tables.specs.Tables.{holder, holding, granted, auth}
 use Rattle.tables.specs.Cells.{number_cell, family_number, address, role_number, scope_cells, auth_cells, holder_row, holding_row, granted_row, auth_row}
 use Rattle.tables.specs.TablesHold.{is_name_of, part_rows, holder_part, holding_part, granted_part, auth_part}
 use Rattle.store.specs.steps.RowEdits.{with_holdings, without_holdings, with_grant, with_auth, with_granted, with_created}
-use Rattle.store.specs.steps.Statements.{IsReady, IsExecuted, EditsHolder, Registers}
+use Rattle.database.specs.Statements.{IsReady, IsExecuted}
+use Rattle.store.specs.steps.Statements.{EditsHolder, Registers}
 use Rattle.tables.proofs.Addresses.{addresses_in_order}
 use Rattle.tables.proofs.Selecting.{picks}
 use Rattle.tables.proofs.Updating.{changed_if}
 use Rattle.tables.proofs.CellLemmas.{cast_number, cast_holder, cast_holding, cast_granted, cast_auth, is_number, number_of_number, appended}
 use Rattle.tables.proofs.PartLemmas.{names, name_of-true, name_of_itself, put_local}
-use Rattle.store.proofs.PartSteps.{puts_row, puts_edit, takes_edit, changes_edit}
-use Rattle.store.proofs.StepLemmas.{equals_text, equals_int, equals_blob, column_after, holder_test, turns_rows, in_holder, in_holdings, in_grants, in_auths}
+use Rattle.database.proofs.StatementLemmas.{puts_row}
+use Rattle.store.proofs.PartSteps.{puts_edit, takes_edit, changes_edit}
+use Rattle.store.proofs.StepLemmas.{equals_text, equals_int, equals_blob, holder_test, turns_rows, in_holder, in_holdings, in_grants, in_auths}
+use Rattle.database.proofs.Columns.{column_after}
 use Rattle.tables.proofs.Texts.{
   put_terms,
   equals,

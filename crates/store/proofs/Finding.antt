@@ -1,5 +1,5 @@
 -- What the queries of the values of one holder answer.
-use Rattle.std.proofs.Common.{◌≡◌, ℕ, suc, Bool, List, [], ◌∷◌, map, filter, drop, length, Option, Some, None, Ordering, Equal, refl, sym, ap, subst, ◌∙◌, codes, IsPermutation, IsSorted}
+use Rattle.std.proofs.Common.{◌≡◌, ℕ, suc, Bool, List, [], ◌∷◌, map, filter, drop, length, Option, Some, None, Ordering, Equal, refl, sym, ap, subst, ◌∙◌, codes, IsPermutation, IsSorted, IsTrue, false}
 use Rattle.std.specs.Ordering.{then_cmp, ordering_then}
 use Rattle.std.proofs.lemmas.List.Sorted.{IsPermutation-trans, IsPermutation-map}
 use Rattle.sqlite.specs.Effect.{Database, Reads}
@@ -9,33 +9,35 @@ use Rattle.sqlite_value.specs.Order.{Row, column, value_cmp}
 use Rattle.sqlite_value.proofs.OrderLemmas.{then-Equal}
 use Rattle.sqlite_trees.specs.Tree.{Trees}
 use Rattle.sqlite_trees.proofs.ListLemmas.{map-map, filter-map}
-use Rattle.sqlite_sql.specs.Term.{Term, col, eval, eval_all}
+use Rattle.sqlite_sql.specs.Term.{Term, eval_all}
 use Rattle.sqlite_sql.specs.Query.{IsAnswer, key_cmp}
 use Rattle.sqlite_sql.specs.Program.{overlay}
 use Rattle.sqlite_schema.specs.declared.command.Command.{Command}
 use Rattle.sqlite_schema.specs.declared.command.Command.TheVariants.{Select}
 use Rattle.policy.specs.CharterSets.{CharterSets}
-use Rattle.policy.specs.declared.grant.Granted.{Granted}
-use Rattle.policy.specs.declared.grant.Scope.{Scope}
-use Rattle.policy.specs.declared.grant.Scope.TheVariants.{All, Only}
 use Rattle.policy.specs.Rows.{Rows}
 use Rattle.tables.specs.Cells.{span_cells, grant_cells, auth_cells, holding_row, granted_row, auth_row}
-use Rattle.tables.specs.Tables.{contents, columns}
+use Rattle.tables.specs.Tables.{contents, columns, desk_tables, OverDesk}
 use Rattle.tables.specs.TablesHold.{Part, TablesHold, items_if_any, HoldsPart, part_rows, holder_part, holding_part, granted_part, auth_part}
 use Rattle.tables.specs.Decode.{first_columns}
 use Rattle.tables.proofs.ReadLemmas.{are_whole}
 use Rattle.store.specs.steps.Queries.{by_column, AreSelected, Selects}
 use Rattle.tables.proofs.Selecting.{from_table, no_limit, picks, permuted, sorted}
-use Rattle.store.proofs.StepLemmas.{column_after, holder_test}
+use Rattle.database.proofs.Columns.{shown_at, shown_columns, grant_places, grant_shown}
+use Rattle.store.proofs.StepLemmas.{holder_test}
 use Rattle.tables.proofs.PartLemmas.{names}
 use Rattle.tables.proofs.CellsOnce.{cells_of_counters, counters_of_rows, one_counters, one_span, one_grant, one_auth}
 use Rattle.tables.proofs.Texts.{Means, equals, upwards, counters_text, counters_is, spans_text, spans_is, grants_text, grants_is, auths_text, auths_is}
+use Rattle.sqlite.specs.Listing.{understood, reads_listing}
+use Rattle.sqlite.specs.State.{State, Shown}
+use Rattle.sqlite.proofs.Callers.{IsPlain}
+use Rattle.database.proofs.QueryLemmas.{answered}
 
-abbrev pub shown_at : List ℕ → List Term
-shown_at places = map (λ p. col 1 (suc p)) places
-
-pub shown_columns : (places : List ℕ) (params r : Row) → eval_all (shown_at places) (params ∷ r ∷ []) ≡ columns places (drop 1 r)
-shown_columns places params r = map-map (λ t. eval t (params ∷ r ∷ [])) (λ p. col 1 (suc p)) places ∙ (λ i. map (λ p. column_after r p i) places)
+pub selected :
+    (sql h : List ℕ) (values : Row) (old new : State) (rows : List Row)
+    → OverDesk (λ s. IsPlain (understood s sql)) → OverDesk (λ s. reads_listing s sql ≡ false) → (IsTrue old.is_open → old.now.schema.tables ≡ desk_tables)
+    → values ≡ Text h ∷ [] → Shown sql values old new rows → AreSelected sql h old.now rows
+selected sql h = answered sql (Text h ∷ [])
 
 -- what is shown of the rows that pass, where both read the columns alone
 pub of_contents : (shows : Row → Row) (cells : Row → Row) (passes goes : Row → Bool) → ((r : Row) → shows r ≡ cells (drop 1 r)) → ((r : Row) → passes r ≡ goes (drop 1 r)) → (rows : List Row)
@@ -142,16 +144,6 @@ spans_query = record {
   ranked = λ x y. ap (ordering_then (value_cmp (column x 0) (column y 0))) (then-Equal _);
   once = one_span;
 }
-
-abbrev grant_places : List ℕ
-grant_places = 1 ∷ 2 ∷ 3 ∷ 4 ∷ 5 ∷ 6 ∷ 7 ∷ []
-
-pub grant_shown : (h : List ℕ) (g : Granted) → columns grant_places (granted_row h g) ≡ grant_cells g
-grant_shown h g = go g.scope
-  where
-    go : (scope : Scope) → columns grant_places (granted_row h (record g { scope = scope })) ≡ grant_cells (record g { scope = scope })
-    go All = refl
-    go (Only p) = refl
 
 abbrev pub grants_query : Query grant_cells 7 (λ (r : Rows). r.grants) (by_column 0)
 grants_query = record {

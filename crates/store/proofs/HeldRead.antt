@@ -21,7 +21,7 @@ use Rattle.tables.specs.Tables.{meta, holder, contents}
 use Rattle.tables.specs.TablesHold.{Part, TablesHold, HoldsPart, holder_part, holding_part, granted_part, auth_part}
 use Rattle.tables.proofs.SomeRow.{has_permuted, of_some}
 use Rattle.store.specs.Laws.{HistoriesRead}
-use Rattle.store.specs.TablesRead.{ShowsHolder, ShowsOfHolder, TablesRead}
+use Rattle.database.specs.TablesRead.{ShowsHolder, ShowsOfHolder, TablesRead}
 
 -- each row of a part shows what the rows of its holder are
 of_part : (part : Part) (rows : List ℕ → Option Rows) (table : List Row) (So : Row → Type 0) → HoldsPart part rows table

@@ -12,10 +12,11 @@ use Rattle.policy.specs.CharterSets.{CharterSets}
 use Rattle.policy.specs.Rows.{Rows}
 use Rattle.tables.specs.Tables.{desk_tables}
 use Rattle.tables.specs.TablesHold.{part_rows, holder_part, TablesHold}
-use Rattle.store.specs.steps.Statements.{IsReady, TellsWhetherRegistered}
+use Rattle.database.specs.Statements.{IsReady}
+use Rattle.store.specs.steps.Statements.{TellsWhetherRegistered}
 use Rattle.store.proofs.StepLemmas.{holder_test}
 use Rattle.tables.proofs.PartLemmas.{names}
-use Rattle.store.proofs.QueryLemmas.{shown_open, reads_desk, answered_inside}
+use Rattle.database.proofs.QueryLemmas.{shown_open, reads_desk, answered_inside}
 use Rattle.tables.proofs.Selecting.{permuted}
 use Rattle.tables.proofs.Texts.{equals, counters_text, counters_is}
 

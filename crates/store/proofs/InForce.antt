@@ -21,8 +21,9 @@ use Rattle.tables.specs.TablesHold.{HoldsPart, auth_part}
 use Rattle.store.specs.steps.Queries.{is_open_on, FindsInForce, IsPayloadOn}
 use Rattle.tables.proofs.SomeRow.{has_permuted, of_some, in_table}
 use Rattle.tables.proofs.Selecting.{picks, permuted}
-use Rattle.store.proofs.Finding.{shown_at, shown_columns, of_contents}
-use Rattle.store.proofs.QueryLemmas.{reads_desk}
+use Rattle.database.proofs.Columns.{shown_at, shown_columns}
+use Rattle.store.proofs.Finding.{of_contents}
+use Rattle.database.proofs.QueryLemmas.{reads_desk}
 use Rattle.tables.proofs.Texts.{in_force_tests, in_force_text, in_force_is}
 
 abbrev payload_places : List ℕ

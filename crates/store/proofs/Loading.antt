@@ -1,5 +1,5 @@
 -- What is loaded from the rows that queries found.
-use Rattle.std.proofs.Common.{◌≡◌, ℕ, ◌+◌, ◌<◌, pos, ◌||◌, List, [], ◌∷◌, map, take, length, get_or, slice_get, All, Option, Some, None, Result, Err, IsErrAnd, IsTrue, refl, sym, ap, subst, ◌∙◌, arith, is_lt, nat_cmp, int_cmp, IsPermutation, IsSorted, IsSortedByKey}
+use Rattle.std.proofs.Common.{◌≡◌, ℕ, ◌+◌, ◌<◌, pos, ◌||◌, List, [], ◌∷◌, map, take, length, get_or, slice_get, All, Option, Some, None, IsTrue, refl, sym, ap, subst, ◌∙◌, arith, is_lt, nat_cmp, int_cmp, IsPermutation, IsSorted, IsSortedByKey}
 use Rattle.std.specs.Prelude.{⊤}
 use Rattle.std.proofs.Math.Bool.{or-false}
 use Rattle.std.proofs.lemmas.Int.{ints}
@@ -7,7 +7,6 @@ use Rattle.std.proofs.lemmas.List.{get_or-map, length-map}
 use Rattle.std.proofs.lemmas.List.Elements.{All-nil, All-cons}
 use Rattle.std.proofs.lemmas.List.Folds.{list_any-append}
 use Rattle.std.proofs.lemmas.List.Sorted.{list_any-IsPermutation, length_permutation}
-use Rattle.std.proofs.lemmas.Result.{err_from_is_err_and}
 use Rattle.sqlite.specs.Effect.{Database}
 use Rattle.sqlite.specs.State.{State}
 use Rattle.sqlite.proofs.Callers.{one_permutation}
@@ -26,11 +25,9 @@ use Rattle.tables.specs.TablesHold.{items_if_any, TablesHold}
 use Rattle.store.specs.steps.Queries.{by_column, WasRead}
 use Rattle.tables.specs.declared.rows.Counters.{Counters}
 use Rattle.policy.specs.Values.{IsU32, GrantFits, AuthFits, FitIfAny}
-use Rattle.store.specs.declared.fault.StoreFault.{StoreFault}
-use Rattle.store.specs.declared.fault.StoreFault.TheVariants.{Schema}
 use Rattle.store.specs.Loads.{AreInOrder, HaveSame, AreLoaded}
 use Rattle.tables.proofs.CellsOnce.{counters_of_rows}
-use Rattle.store.proofs.RowSteps.{taken_more}
+use Rattle.database.proofs.StatementLemmas.{taken_more}
 
 numbers_rise : (m n : ℕ) → is_lt (int_cmp (pos m) (pos n)) ≡ is_lt (nat_cmp m n)
 numbers_rise m n = grind (arith, ints)
@@ -112,15 +109,6 @@ pub never_fit :
     → WasRead (λ all. ¬ All fits (items_if_any items (all h))) mid → WasRead (λ all. ¬ FitIfAny (all h)) old
 never_fit fits items each h old mid opened same told =
     (opened, λ charter rows holds fit. told.1 charter rows (held_before old mid same charter rows holds) (each (rows h) fit))
-
--- a fault that is handed on
-pub refused_by : {A B : Type 0} (r : Result A StoreFault) (s : Result B StoreFault) (e : StoreFault) → r ≡ Err e → IsErrAnd s (λ y. y ≡ e) → s ≡ Err Schema → r ≡ Err Schema
-refused_by r s e was handed is =
-    let p = err_from_is_err_and s handed in
-    of_fault p.0 p.1 p.2
-  where
-    of_fault : (y : StoreFault) → s ≡ Err y → y ≡ e → r ≡ Err Schema
-    of_fault y told same = cc
 
 pub none_loaded : (o : Option Rows) → AreCounters o None → AreLoaded o None
 none_loaded None none = tt

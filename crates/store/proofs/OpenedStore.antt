@@ -10,8 +10,8 @@ use Rattle.policy.specs.Rows.{Rows}
 use Rattle.tables.specs.TablesHold.{TablesHold}
 use Rattle.tables.proofs.RowsStay.{hold_still}
 use Rattle.store.specs.StoreRows.{IsOpened}
-use Rattle.store.specs.steps.OpenedDesk.{OpensDesk}
-use Rattle.store.proofs.SameCharter.{same_charter}
+use Rattle.database.specs.Databases.{OpensDesk}
+use Rattle.database.proofs.SameCharter.{same_charter}
 use Rattle.store.proofs.StoreLemmas.{over}
 
 module _ {S : Type 0} (g : Ghosts S) (charter : CharterSets) (found : State) (h : Held S) (is : OpensDesk charter found (state g h)) where

@@ -22,15 +22,14 @@ use Rattle.addr.specs.declared.prefix.Prefix.{Prefix}
 use Rattle.addr.specs.declared.span.Span.{Span}
 use Rattle.addr.proofs.AddressLemmas.{below_widest, first_below}
 use Rattle.policy.specs.Rows.{Rows}
-use Rattle.tables.specs.Tables.{desk_tables}
+use Rattle.tables.specs.Tables.{desk_tables, contents}
 use Rattle.tables.specs.Cells.{number_cell, family_number, address, holding_row}
-use Rattle.tables.specs.Tables.{contents}
 use Rattle.tables.specs.TablesHold.{HoldsPart, holding_part}
 use Rattle.store.specs.steps.Queries.{MeetsSome}
 use Rattle.tables.proofs.Addresses.{addresses_in_order}
 use Rattle.tables.proofs.SomeRow.{of_some, in_table}
 use Rattle.tables.proofs.Selecting.{picks, first_shown}
-use Rattle.store.proofs.QueryLemmas.{reads_desk}
+use Rattle.database.proofs.QueryLemmas.{reads_desk}
 use Rattle.tables.proofs.Texts.{overlap_tests, overlap_text, overlap_is}
 
 family_tested : (f g : Family) → int_eq (pos (family_number f)) (pos (family_number g)) ≡ family_eq f g

@@ -1,38 +1,29 @@
 -- What a statement on the table of one part does to the rows of a holder, whatever the part.
-use Rattle.std.proofs.Common.{◌≡◌, ℕ, Bool, true, not, List, [], ◌∷◌, map, filter, drop, length, ◌/◌, slice_get, Some, IsPermutation, ◌∙◌}
-use Rattle.sqlite.specs.Effect.{value_rows}
+use Rattle.std.proofs.Common.{◌≡◌, ℕ, Bool, true, not, List, [], ◌∷◌, map, filter, drop, slice_get, Some, IsPermutation}
 use Rattle.sqlite.specs.State.{State}
-use Rattle.sqlite_value.specs.declared.value.Value.TheVariants.{Null, Text}
+use Rattle.sqlite_value.specs.declared.value.Value.TheVariants.{Text}
 use Rattle.sqlite_value.specs.Order.{Row, column}
 use Rattle.sqlite_trees.proofs.ListLemmas.{IsPermutation-same}
 use Rattle.sqlite_sql.specs.Term.{Term, eval_all}
-use Rattle.sqlite_schema.specs.declared.command.Command.TheVariants.{Insert, Update, Delete}
-use Rattle.sqlite_schema.specs.declared.command.Source.TheVariants.{Values}
+use Rattle.sqlite_schema.specs.declared.command.Command.TheVariants.{Update, Delete}
 use Rattle.sqlite_schema.specs.declared.schema.Table.{Table}
 use Rattle.sqlite_rules.specs.Cast.{cast_all}
 use Rattle.policy.specs.Rows.{Rows}
 use Rattle.tables.specs.Tables.{as_strict, desk_tables, is_table}
 use Rattle.tables.specs.TablesHold.{Part}
-use Rattle.store.specs.steps.Making.{PutsRows}
-use Rattle.store.specs.steps.Statements.{IsReady, IsExecuted, EditsHolder}
-use Rattle.tables.proofs.Inserting as inserting
+use Rattle.database.specs.steps.Making.{PutsRows}
+use Rattle.database.specs.Statements.{IsReady, IsExecuted}
+use Rattle.store.specs.steps.Statements.{EditsHolder}
 use Rattle.tables.proofs.Deleting as deleting
 use Rattle.tables.proofs.Updating as updating
 use Rattle.tables.proofs.Updating.{changed_if}
 use Rattle.tables.proofs.Selecting.{picks}
 use Rattle.tables.proofs.PartLemmas.{names, put_local, take_local, change_local}
-use Rattle.store.proofs.StepLemmas.{has_schema, wrote, ready_still, is_part_tree, AllEdited, edits_rows}
+use Rattle.database.proofs.StatementLemmas.{has_schema, wrote, ready_still}
+use Rattle.store.proofs.StepLemmas.{is_part_tree, AllEdited, edits_rows}
 use Rattle.tables.proofs.Texts.{Means}
 
 module _ (at : ℕ) (t : Table) (there : slice_get desk_tables at ≡ Some (as_strict t)) (old new : State) where
-  pub puts_row : {sql : List ℕ} (params : Row) (terms : List Term) (width : ℕ) (row : Row) → Means sql (Insert at (Values terms width))
-      → value_rows params width (length terms / width) terms ≡ (Null ∷ row) ∷ [] → cast_all t.columns row ≡ row
-      → IsReady old → IsExecuted sql params old new → PutsRows t.tree (row ∷ []) old new
-  puts_row params terms width row means values typed ready ran =
-      let has = has_schema params means ready ran in
-      let e = inserting.puts at t there old.now.schema terms width row old new _ params ran.0 has values typed (wrote params means ready ran) in
-      record { ready = ready_still params means ready ran (e.schema ∙ has); edits = e }
-
   module _ (place : ℕ) (rows : List ℕ → Rows → List Row) (parted : is_part_tree t.tree ≡ true) (h : List ℕ) (edit : Rows → Rows) where
     abbrev part : Part
     part = record { tree = t.tree; place = place; rows = rows }

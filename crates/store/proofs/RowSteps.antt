@@ -1,18 +1,14 @@
 -- Steps of edits of a holder's rows, one after another.
-use Rattle.std.proofs.Common.{◌≡◌, ℕ, Bool, true, false, cond, not, ◌==◌, List, [], ◌∷◌, ◌++◌, filter, Option, Some, None, option_map, is_some, if◌then◌else◌, IsSome, Result, OnOk, inl, arith, ◌+◌, ◌<◌, length, take, get_or, refl, sym, ap, subst, ◌∙◌, append-nil, append_assoc}
+use Rattle.std.proofs.Common.{◌≡◌, ℕ, Bool, true, false, cond, not, ◌==◌, List, [], ◌∷◌, ◌++◌, filter, Option, Some, None, option_map, is_some, if◌then◌else◌, IsSome, Result, arith, refl, sym, ap, subst, ◌∙◌, append-nil, append_assoc}
 use Rattle.std.proofs.Math.Bool.{or-false}
 use Rattle.std.proofs.lemmas.Bool.{cond-true, cond-false}
 use Rattle.std.proofs.lemmas.Result.{on_ok_weaker}
-use Rattle.std.proofs.lemmas.List.{take_more}
 use Rattle.std.proofs.lemmas.List.Folds.{list_any-append}
-use Rattle.sqlite.proofs.InsideLemmas.{keeps_then}
-use Rattle.sqlite.proofs.StateLemmas.{survives_then}
 use Rattle.std.specs.List.{list_any}
 use Rattle.sqlite.specs.Effect.{Database}
 use Rattle.sqlite.specs.declared.transaction.Transaction.{Transaction}
 use Rattle.sqlite.specs.State.{State, HasCleanDisk}
 use Rattle.sqlite.specs.Store.{Ghosts}
-use Rattle.sqlite_value.specs.Order.{Row}
 use Rattle.sqlite_trees.specs.Tree.{Trees}
 use Rattle.addr.specs.Spans.{span_eq}
 use Rattle.addr.specs.declared.span.Span.{Span}
@@ -25,7 +21,8 @@ use Rattle.policy.specs.Rows.{Rows, new_rows, edited, edited_if_any}
 use Rattle.policy.proofs.Names.{same_name-true}
 use Rattle.tables.specs.TablesHold.{TablesHold}
 use Rattle.store.specs.steps.RowEdits.{with_holdings, without_holdings, without_auths, is_registration}
-use Rattle.store.specs.steps.Statements.{state_in, WhenClean, IfDone, StaysInside, IsExecuted, IsReady, at_holder, EditsRows, EditsHolder, TellsWhetherRegistered, Registers, registered, MakesChange}
+use Rattle.database.specs.Statements.{state_in, IfDone, StaysInside, IsReady}
+use Rattle.store.specs.steps.Statements.{at_holder, EditsRows, EditsHolder, TellsWhetherRegistered, Registers, registered, MakesChange}
 use Rattle.tables.proofs.TreeRows.{filter_twice, all_kept, neither}
 
 -- equal rows of every holder
@@ -94,28 +91,9 @@ one_auth_less ns n r =
     λ i. filter (λ x. not (sym (or-false (x.number == n)) i)) kept in
     λ i. record r { auths = (alone ∙ filter_both (λ (x : Auth) k. x.number == k) ns (n ∷ []) r.auths) i }
 
-pub taken_more : {X : Type 0} (xs : List X) (i : ℕ) (x : X) → i < length xs → x ≡ get_or xs i x → take (i + 1) xs ≡ take i xs ++ x ∷ []
-taken_more xs i x low is = take_more xs i x low ∙ ap (λ y. take i xs ++ y ∷ []) (sym is)
-
 -- ---- statements in turn
 
 module _ {S : Type 0} (g : Ghosts S) where
-  pub stays : (a : Transaction S) → StaysInside g a a
-  stays a = record { same_reference = refl; kept = λ clean. record { was_open = λ opened. opened; committed = λ opened. refl }; survives = record { clean = omega arith; shield = λ shielded. shielded; counts = omega arith; limit = refl; closes = λ clean opened. inl opened; crash = λ clean db left. inl left } }
-
-  pub stays_then : (a b c : Transaction S) → StaysInside g a b → StaysInside g b c → StaysInside g a c
-  stays_then a b c first second = record {
-    same_reference = second.same_reference ∙ first.same_reference;
-    kept = λ clean. keeps_then (state_in g a) (state_in g b) (state_in g c) (first.kept (omega (arith, second.survives.clean))) (second.kept clean);
-    survives = survives_then (state_in g a) (state_in g b) (state_in g c) (λ _. ⊥) (λ _. ⊥) (λ _. ⊥) (λ _ db none. none) (λ _ db none. none) first.survives second.survives;
-  }
-
-  -- what a statement means of the rows
-  pub means : {X E : Type 0} (r : Result X E) (sql : List ℕ) (given params : Row) (so : State → State → Type 0) (old new : Transaction S) → WhenClean g IsReady old → StaysInside g old new
-      → IfDone g r (IsExecuted sql given) old new → given ≡ params → ((a b : State) → IsReady a → IsExecuted sql params a b → so a b) → IfDone g r so old new
-  means r sql given params so old new ready stay ran same to clean =
-      on_ok_weaker r (to (state_in g old) (state_in g new) (ready (omega (arith, stay.survives.clean)))) (subst (λ p. OnOk r (IsExecuted sql p (state_in g old) (state_in g new))) same (ran clean))
-
   -- a statement after another
   pub done_after : {X E : Type 0} (r : Result X E) (h : List ℕ) (f e to : Rows → Rows) (a b c : Transaction S) → ((r : Rows) → e (f r) ≡ to r) → StaysInside g b c → (HasCleanDisk (state_in g b) → EditsHolder h f (state_in g a) (state_in g b))
       → IfDone g r (EditsHolder h e) b c → IfDone g r (EditsHolder h to) a c

@@ -1,18 +1,13 @@
 -- What a statement means within a transaction, and what its edit of one table does to the rows of a holder.
 use Rattle.std.proofs.Common.{◌≡◌, ◌⊎◌, inl, inr, ℕ, Bool, true, false, ◌==◌, suc, List, [], ◌∷◌, map, drop, IsPermutation, None, Some, Option, option_map, IsSome, ℤ, refl, sym, ap, subst, ◌∙◌, is_eq}
-use Rattle.std.proofs.lemmas.Bool.{eqb-true, eq-eqb, both_ways}
+use Rattle.std.proofs.lemmas.Bool.{eq-eqb, both_ways}
 use Rattle.std.specs.List.{list_any}
 use Rattle.sqlite.specs.Effect.{Database}
-use Rattle.sqlite.specs.Listing.{understood}
-use Rattle.sqlite.specs.State.{State, Runs}
-use Rattle.sqlite.proofs.Callers.{runs_as, statement_of}
 use Rattle.sqlite_value.specs.declared.keys.Collation.TheVariants.{Binary}
 use Rattle.sqlite_value.specs.declared.value.Value.{Value}
 use Rattle.sqlite_value.specs.declared.value.Value.TheVariants.{Null, Int, Real, Text, Blob}
 use Rattle.sqlite_value.specs.Order.{Row, column, value_cmp}
 use Rattle.sqlite_value.proofs.OrderLemmas.{value_cmp-apart}
-use Rattle.sqlite_schema.specs.declared.command.Command.{Command}
-use Rattle.sqlite_schema.specs.declared.schema.Schema.{Schema}
 use Rattle.sqlite_sql.specs.declared.ops.CompareOp.TheVariants.{Eq}
 use Rattle.sqlite_sql.specs.declared.ops.BinaryOp.TheVariants.{Compare}
 use Rattle.sqlite_typed.proofs.TestLemmas.{last_term}
@@ -22,14 +17,16 @@ use Rattle.policy.specs.declared.authorization.Auth.{Auth}
 use Rattle.policy.specs.declared.grant.Granted.{Granted}
 use Rattle.policy.specs.CharterSets.{CharterSets}
 use Rattle.policy.specs.Rows.{Rows}
-use Rattle.tables.specs.Tables.{desk_beside, contents, is_table, IsTree, AreTrees}
+use Rattle.tables.specs.Tables.{contents, is_table}
 use Rattle.tables.specs.Cells.{schema_row, operator_row, prefix_cells}
 use Rattle.tables.specs.steps.Edits.{Edits}
 use Rattle.tables.specs.TablesHold.{Part, part_rows, is_name_of, holder_part, holding_part, granted_part, auth_part, HoldsPart, HoldsCharter, TablesHold}
-use Rattle.store.specs.steps.Statements.{IsReady, IsExecuted, EditsRows}
+use Rattle.store.specs.steps.Statements.{EditsRows}
 use Rattle.tables.proofs.PartLemmas.{names, IsLocal, EditsPart, turned_at, part_same, part_turned}
 use Rattle.tables.proofs.Selecting.{picks}
-use Rattle.tables.proofs.Texts.{Means, beside, equals}
+use Rattle.tables.proofs.Texts.{equals}
+use Rattle.database.proofs.Columns.{column_after}
+use Rattle.database.proofs.StatementLemmas.{sound_still}
 
 true_back : (b : Bool) → is_true (from_truth (Some b)) ≡ b
 true_back true = refl
@@ -60,32 +57,9 @@ equals_blob (Real x) b = true_back _
 equals_blob (Text u) b = true_back _
 equals_blob (Blob c) b = true_back _
 
--- a column of a row with its rowid is the one before it without
-pub column_after : (r : Row) (at : ℕ) → column r (suc at) ≡ column (drop 1 r) at
-column_after [] at = refl
-column_after (v ∷ r) at = refl
-
 -- the test of a statement on the rows of a holder
 pub holder_test : (place : ℕ) (h : List ℕ) (more r : Row) → picks (Text h ∷ more) (equals (suc place) 0 ∷ []) r ≡ names place h (drop 1 r)
 holder_test place h more r = last_term (equals_text (column r (suc place)) h ∙ ap (is_name_of h) (column_after r place))
-
-module _ {sql : List ℕ} (params : Row) {command : Command} (means : Means sql command) {old new : State} (ready : IsReady old) (ran : IsExecuted sql params old new) where
-  pub has_schema : old.now.schema ≡ desk_beside old.now.schema
-  has_schema = beside old.now.schema (ready.tables ran.1.1.was_open)
-
-  pub wrote : Runs old new None command (statement_of sql (understood (desk_beside old.now.schema) sql)) params ran.0
-  wrote = runs_as sql params old new (desk_beside old.now.schema) has_schema command (means.is old.now.schema) (means.plain old.now.schema) ran.0 ran.1.0
-
-  pub ready_still : new.now.schema ≡ desk_beside old.now.schema → IsReady new
-  ready_still keeps = record { tables = λ _. ap (λ (s : Schema). s.tables) keeps; inside = ran.1.1.mode }
-
--- every other table stays sound
-pub sound_still : (tree : ℕ) (by : List Row → List Row) (old new : Database) → Edits tree by old new → AreTrees old.trees → AreTrees new.trees
-sound_still tree by old new e sound t is = go (t == tree) refl
-  where
-    go : (b : Bool) → (t == tree) ≡ b → IsTree (new.trees t)
-    go true same = let it : t ≡ tree = eqb-true _ _ same in subst (λ k. IsTree (new.trees k)) (sym it) (e.whole (subst (λ k. IsTree (old.trees k)) it (sound t is)))
-    go false other = subst IsTree (sym (e.others t is (λ it. both_ways _ other (rw it (eq-eqb tree tree refl))))) (sound t is)
 
 -- the four parts have trees of their own
 abbrev pub is_part_tree : ℕ → Bool

@@ -9,9 +9,10 @@ use Rattle.sqlite.specs.Store.{Ghosts}
 use Rattle.sqlite_trees.specs.Tree.{Trees}
 use Rattle.policy.specs.CharterSets.{CharterSets}
 use Rattle.policy.specs.Rows.{Rows}
-use Rattle.store.specs.steps.Queries.{IsAsBefore, IsOfAll}
-use Rattle.store.specs.StoreRows.{RowChange, IsNew}
-use Rattle.store.specs.StoreRows.{StoreView, IsDeskWhileOpen, Holds, IsRead, MayLeave, LeavesOnly}
+use Rattle.database.specs.Queries.{IsAsBefore}
+use Rattle.store.specs.steps.Queries.{IsOfAll}
+use Rattle.store.specs.StoreRows.{RowChange, StoreView, Holds, IsRead, MayLeave, LeavesOnly}
+use Rattle.database.specs.Databases.{IsNew, IsDeskWhileOpen}
 use Rattle.store.specs.steps.Statements.{CommitsChange, MayCommit, MakesChange, RowsBecome}
 use Rattle.tables.specs.TablesHold.{TablesHold}
 

@@ -15,8 +15,8 @@ use Rattle.policy.specs.Values.{HistoryFits, FitIfAny}
 use Rattle.policy.specs.Verdict.{IsLegal}
 use Rattle.tables.specs.TablesHold.{TablesHold}
 use Rattle.tables.specs.Tables.{desk_tables}
-use Rattle.store.specs.StoreRows.{IsHonest, IsOfAnotherSchema}
-use Rattle.store.specs.TablesRead.{TablesRead}
+use Rattle.database.specs.Databases.{IsHonest, IsOfAnotherSchema}
+use Rattle.database.specs.TablesRead.{TablesRead}
 use Rattle.store.specs.Loads.{AreLoaded, AllGiveOn}
 
 -- The rows of a holder after a history, as they are loaded, are its rows after the history.

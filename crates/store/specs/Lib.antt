@@ -1,5 +1,3 @@
-pub mod Fault
-pub mod TablesRead
 pub mod StoreRows
 pub mod Loads
 pub mod Laws

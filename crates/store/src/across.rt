@@ -1,16 +1,14 @@
-ghost use Rattle.std.specs.Prelude.{◌≡◌, ◌↔◌, ℕ, List, [], ◌∷◌, Contains, Option, IsTrue, IfOk};
+ghost use Rattle.std.specs.Prelude.{◌≡◌, ◌↔◌, [], ◌∷◌, Contains, IsTrue, IfOk};
 ghost use Rattle.sqlite.specs.Held.{state};
 ghost use Rattle.sqlite.specs.Values.{bound};
 ghost use Rattle.sqlite_value.specs.declared.value.Value.TheVariants.{Blob};
 ghost use Rattle.sqlite_value.specs.Order.{Row};
-ghost use Rattle.addr.specs.Address.{last_of};
-ghost use Rattle.policy.specs.Rows.{Rows};
-ghost use Rattle.tables.specs.Cells.{address, family_number, number_cell};
-ghost use Rattle.store.specs.steps.Queries.{IsAsked, IsOfAll, IsOnCleanDisk, IsReadyToAsk};
-ghost use Rattle.store.specs.steps.Queries.{MeetsSome, FindsInForce, IsPayloadOn};
+ghost use Rattle.tables.specs.Cells.{family_number, number_cell};
+ghost use Rattle.database.specs.Queries.{IsAsked, IsOnCleanDisk, IsReadyToAsk};
+ghost use Rattle.store.specs.steps.Queries.{IsOfAll, MeetsSome, FindsInForce, IsPayloadOn};
 
-use crate::ask::ask;
 use addr::{Day, Family, Prefix};
+use database::ask;
 use sqlite::types::{ToSql, ValueRef};
 use sqlite::{Alter, Connection, Error, Row};
 use tables::{address_bytes, family_number};

@@ -2,8 +2,8 @@ ghost use Rattle.std.specs.Prelude.{◌≡◌, ◌≢◌, Err};
 ghost use Rattle.policy.specs.Rows.{edited, changed_by_one};
 ghost use Rattle.store.specs.StoreRows.{changed_rows};
 ghost use Rattle.store.specs.steps.RowEdits.{held, is_registration};
-ghost use Rattle.store.specs.steps.Statements.{IsReady, WhenClean, StaysInside};
-ghost use Rattle.store.specs.steps.Statements.{IfDone, IfEdited, MakesChange};
+ghost use Rattle.database.specs.Statements.{IsReady, WhenClean, StaysInside, IfDone};
+ghost use Rattle.store.specs.steps.Statements.{IfEdited, MakesChange};
 
 use crate::StoreFault;
 use crate::auth::{amend_auth, put_auth, take_auth, take_auths};

@@ -1,10 +1,11 @@
 ghost use Rattle.policy.specs.declared.change.Edit.TheVariants.{Revoke};
 ghost use Rattle.policy.specs.Rows.{edited};
 ghost use Rattle.store.specs.steps.RowEdits.{with_grant};
-ghost use Rattle.store.specs.steps.Statements.{IsReady, WhenClean, StaysInside, IfEdited};
+ghost use Rattle.database.specs.Statements.{IsReady, WhenClean, StaysInside};
+ghost use Rattle.store.specs.steps.Statements.{IfEdited};
 
-use crate::statement::run;
 use addr::Name;
+use database::run;
 use policy::Granted;
 use sqlite::{Alter, Error, Transaction};
 use tables::{address_bytes, granted_values, number_values, scope_first};

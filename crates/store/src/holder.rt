@@ -1,9 +1,9 @@
 ghost use Rattle.store.specs.steps.RowEdits.{with_granted, with_created};
-ghost use Rattle.store.specs.steps.Statements.{IsReady, WhenClean, StaysInside, IfDone};
-ghost use Rattle.store.specs.steps.Statements.{IfTold, IfEdited, TellsWhetherRegistered, Registers};
+ghost use Rattle.database.specs.Statements.{IsReady, WhenClean, StaysInside, IfDone, IfTold};
+ghost use Rattle.store.specs.steps.Statements.{IfEdited, TellsWhetherRegistered, Registers};
 
-use crate::statement::run;
 use addr::Name;
+use database::run;
 use sqlite::{Alter, Error, Transaction};
 use tables::{name_values, number_values};
 

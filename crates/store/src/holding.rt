@@ -1,9 +1,10 @@
 ghost use Rattle.std.specs.Prelude.{[], ◌∷◌};
 ghost use Rattle.store.specs.steps.RowEdits.{with_holdings, without_holdings};
-ghost use Rattle.store.specs.steps.Statements.{IsReady, WhenClean, StaysInside, IfEdited};
+ghost use Rattle.database.specs.Statements.{IsReady, WhenClean, StaysInside};
+ghost use Rattle.store.specs.steps.Statements.{IfEdited};
 
-use crate::statement::run;
 use addr::{Name, Span};
+use database::run;
 use sqlite::{Alter, Error, Transaction};
 use tables::{address_bytes, holding_values};
 

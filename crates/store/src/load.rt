@@ -6,13 +6,14 @@ ghost use Rattle.policy.specs.RowsOfAll.{IsGivenOn};
 ghost use Rattle.policy.specs.Values.{FitIfAny};
 ghost use Rattle.store.specs.Loads.{HaveSame, AreLoaded, AllGiveOn};
 ghost use Rattle.tables.specs.TablesHold.{items_if_any};
-ghost use Rattle.store.specs.steps.Queries.{IsAsked, IsOf, IsOfAll, IsOnCleanDisk, IsReadyToAsk, WasRead};
+ghost use Rattle.database.specs.Queries.{IsAsked, IsOnCleanDisk, IsReadyToAsk};
+ghost use Rattle.store.specs.steps.Queries.{IsOf, IsOfAll, WasRead};
 
 use crate::StoreFault;
 use crate::across::in_force_rows;
-use crate::ask::ask;
-use crate::select::{OfHolder, read_all};
+use crate::select::OfHolder;
 use addr::{Day, Holdings, Name, Span, Vrp};
+use database::{ask, read_all};
 use policy::HolderRows;
 use sqlite::{Alter, Connection};
 use std::alloc::{AllocError, Global};

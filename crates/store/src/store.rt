@@ -1,22 +1,18 @@
 ghost use Rattle.std.specs.Prelude.{◌≡◌, ◌≢◌, ◌↔◌, false, None, Err, OnOk, OnErr, IfOk, IsTrue};
 ghost use Rattle.sqlite.specs.Held.{state};
 ghost use Rattle.sqlite.specs.State.{HasCleanDisk};
-ghost use Rattle.store.specs.StoreRows.{changed_rows, HasDeskTables};
-ghost use Rattle.store.specs.StoreRows.{IsUnused, IsNew, LeavesNew, LeavesOldOrNew};
-ghost use Rattle.store.specs.StoreRows.{IsHonest, IsOfAnotherSchema, IsOpened};
-ghost use Rattle.tables.specs.Tables.{blank_schema};
-ghost use Rattle.tables.specs.TablesHold.{TablesHold};
+ghost use Rattle.store.specs.StoreRows.{changed_rows, IsOpened};
+ghost use Rattle.database.specs.Databases.{HasDeskTables, IsUnused, IsNew, LeavesNew};
+ghost use Rattle.database.specs.Databases.{IsHonest, IsOfAnotherSchema};
 ghost use Rattle.store.specs.steps.Statements.{CommitsChange, MayCommit};
-ghost use Rattle.store.specs.steps.Statements.{IfCommitted, IfRolledBack, CommitsAtMost};
+ghost use Rattle.database.specs.Statements.{IfCommitted, IfRolledBack, CommitsAtMost};
 
 use crate::StoreFault;
 use crate::across::some_overlap;
 use crate::change::make_change;
-use crate::charter::put_charter;
 use crate::load::{load_rows, load_vrps};
-use crate::making::make_schema;
-use crate::opening::open_desk;
 use addr::{Day, Name, Prefix, Vrp};
+use database::{make_desk, open_desk};
 use policy::{Change, Charter, HolderRows};
 use sqlite::{Alter, Connection, MemStore};
 use sqlite_schema::schema::Schema;
@@ -41,55 +37,6 @@ fn commit_change<S: Alter>(conn: &mut Connection<S>, change: &Change) -> Result<
     Ok(())
 }
 
-/// Whether the database has no table, index or view.
-fn is_blank(schema: &Schema) -> bool
-    ensures { IsTrue result ↔ (schema.now ≡ blank_schema) }
-{
-    schema.tables.is_empty() && schema.indexes.is_empty() && schema.views.is_empty()
-}
-
-/// Makes the tables of a desk and the index in a database that has none, with its charter, in one
-/// transaction.
-fn make_tables<S: Alter>(conn: &mut Connection<S>, charter: &Charter) -> Result<(), StoreFault>
-    requires idle { conn.old.in_transaction ≡ false }
-    requires blank { HasCleanDisk (state S.Store conn.old)
-        → (state S.Store conn.old).now.schema ≡ blank_schema }
-    ensures idle { conn.new.in_transaction ≡ false }
-    ensures made { IfCommitted S.Store result (λ _. IsNew charter.now) conn.old conn.new }
-    ensures err { IfRolledBack S.Store result conn.old conn.new }
-    ensures crash { CommitsAtMost S.Store
-        (λ _. TablesHold charter.now (λ h. None)) conn.old conn.new }
-    ensures no_schema { result ≢ Err StoreFault.Schema }
-{
-    let _idle = conn.is_autocommit();
-    let mut tx = conn.transaction();
-    make_schema(&mut tx)?;
-    put_charter(&mut tx, charter)?;
-    tx.commit()?;
-    Ok(())
-}
-
-/// Makes a desk of a database that has no table yet, and lifts the limit of its steps. Every other
-/// database stays as it is, and one in a transaction too.
-fn make_desk<S: Alter>(conn: &mut Connection<S>, charter: &Charter) -> Result<(), StoreFault>
-    ensures unused { OnOk result (IsUnused (state S.Store conn.old)) }
-    ensures idle { OnOk result (conn.new.in_transaction ≡ false) }
-    ensures unlimited { OnOk result (conn.new.step_limit ≡ None) }
-    ensures made { IfCommitted S.Store result (λ _. IsNew charter.now) conn.old conn.new }
-    ensures mode { OnErr result (conn.new.in_transaction ≡ conn.old.in_transaction) }
-    ensures err { IfRolledBack S.Store result conn.old conn.new }
-    ensures clean { HasCleanDisk (state S.Store conn.new) → HasCleanDisk (state S.Store conn.old) }
-    ensures crash { HasCleanDisk (state S.Store conn.new)
-        → LeavesOldOrNew charter.now (state S.Store conn.old) (state S.Store conn.new) }
-    ensures no_schema { result ≢ Err StoreFault.Schema }
-{
-    if !conn.is_autocommit() || !is_blank(conn.schema()) {
-        return Err(StoreFault::Database);
-    }
-    conn.set_step_limit(None);
-    make_tables(conn, charter)
-}
-
 /// The rows of a desk, in a database.
 ///
 /// Where a disk fails, the connection may shut. Then the store answers faults alone, and the rows
@@ -103,7 +50,8 @@ pub struct Store<S: Alter> {
 impl<S: Alter> Model for Store<S> {
     ghost use Rattle.std.specs.Prelude.{◌≡◌, false};
     ghost use Rattle.sqlite.specs.Held.{state};
-    ghost use Rattle.store.specs.StoreRows.{StoreView, view_code, IsDeskWhileOpen};
+    ghost use Rattle.store.specs.StoreRows.{StoreView, view_code};
+    ghost use Rattle.database.specs.Databases.{IsDeskWhileOpen};
 
     ghost Value = { StoreView S };
 
@@ -161,13 +109,13 @@ impl<S: Alter + Drop> Store<S> {
 }
 
 impl<S: Alter> Store<S> {
-    ghost use Rattle.std.specs.Prelude.{ℕ, List, Option, Contains};
+    ghost use Rattle.std.specs.Prelude.{Option, Contains};
     ghost use Rattle.addr.specs.declared.vrp.Vrp.{Vrp};
-    ghost use Rattle.policy.specs.Rows.{Rows};
     ghost use Rattle.policy.specs.RowsOfAll.{IsTaken, IsGivenOn};
     ghost use Rattle.policy.specs.Values.{FitIfAny};
     ghost use Rattle.store.specs.Loads.{OfHeldRows, AreLoaded, AllGiveOn};
-    ghost use Rattle.store.specs.StoreRows.{state_of, IsDeskWhileOpen, Holds, IsRead};
+    ghost use Rattle.store.specs.StoreRows.{state_of, Holds, IsRead};
+    ghost use Rattle.database.specs.Databases.{IsDeskWhileOpen};
     ghost use Rattle.store.specs.StoreRows.{IfClean, HoldsAfter, MayLeave, LeavesOnly};
 
     /// The operators and the pool.

@@ -1,14 +1,12 @@
--- Steps of reading: what a query needs and leaves, and what it answers as raw rows.
-use Rattle.std.specs.Prelude.{◌≡◌, ℕ, ◌≤◌, Bool, true, false, ◌&&◌, List, [], ◌∷◌, ◌++◌, map, filter, Contains, Option, Some, Result, OnOk, IsTrue, IsPermutation, IsSorted}
+-- Steps of reading: what a query answers as raw rows.
+use Rattle.std.specs.Prelude.{◌≡◌, ℕ, ◌≤◌, Bool, true, false, ◌&&◌, List, [], ◌∷◌, ◌++◌, map, filter, Contains, Option, Some, IsTrue, IsPermutation, IsSorted}
 use Rattle.std.specs.List.{list_any}
 use Rattle.std.specs.declared.cmp.Ordering.{Ordering}
 use Rattle.std.specs.Ordering.{on}
 use Rattle.sqlite.specs.Effect.{Database, Reads}
 use Rattle.sqlite.specs.Given.{IsPlain}
-use Rattle.sqlite.specs.Held.{Held, state}
 use Rattle.sqlite.specs.Listing.{understood, reads_listing}
-use Rattle.sqlite.specs.State.{State, HasCleanDisk, IsUnchanged, Survives}
-use Rattle.sqlite.specs.Store.{Ghosts}
+use Rattle.sqlite.specs.State.{State}
 use Rattle.sqlite.proofs.Callers.{command_of}
 use Rattle.sqlite_value.specs.declared.keys.Collation.TheVariants.{Binary}
 use Rattle.sqlite_value.specs.declared.value.Value.TheVariants.{Text}
@@ -24,31 +22,7 @@ use Rattle.policy.specs.Rows.{Rows}
 use Rattle.tables.specs.Cells.{number_cell, prefix_cells}
 use Rattle.tables.specs.Decode.{first_columns}
 use Rattle.tables.specs.Tables.{desk_beside, OverDesk, contents, columns}
-use Rattle.store.specs.StoreRows.{HasDeskTables}
 use Rattle.tables.specs.TablesHold.{TablesHold, items_if_any, auth_part}
-
--- nothing was committed, and what is shown is as it was
-abbrev pub IsAsBefore : State → State → Type 0
-IsAsBefore old new = IsTrue old.is_open × (new.now ≡ old.now) × (new.committed ≡ old.committed)
-
--- the disk of a connection returned what was written
-abbrev pub IsOnCleanDisk : {S : Type 0} → Ghosts S → Held S → Type 0
-IsOnCleanDisk g conn = HasCleanDisk (state g conn)
-
--- what a query needs: no transaction, and the tables of a desk
-pub record IsReadyToAsk {S : Type 0} (g : Ghosts S) (conn : Held S) : Type 0 where
-  pub idle : conn.in_transaction ≡ false
-  pub tables : HasDeskTables (state g conn)
-
--- What a query leaves: all as it was, where the connection stays open, and after an answer the
--- savepoints and the counts too. A crash leaves nothing else than before.
-pub record IsAsked {S X E : Type 0} (g : Ghosts S) (old new : Held S) (result : Result X E) : Type 0
-  where
-    pub idle : new.in_transaction ≡ false
-    pub same : IsOnCleanDisk g new → OnOk result (IsUnchanged (state g old) (state g new))
-    pub kept :
-        IsOnCleanDisk g new → IsTrue (state g new).is_open → IsAsBefore (state g old) (state g new)
-    pub survives : Survives (state g old) (state g new) (λ _. ⊥)
 
 -- it is so of the rows of every holder, and of those of one, whatever charter and rows the tables
 -- hold

@@ -1,5 +1,5 @@
 use Rattle.store.proofs.EditSteps.{amends_auth}
-use Rattle.store.proofs.RowSteps.{means}
+use Rattle.database.proofs.StatementLemmas.{means}
 use Rattle.store.proofs.auth.amend_auth.Goals as goal
 
 pub returns-clause-done : goal.returns-clause-done

@@ -3,8 +3,9 @@ use Rattle.std.proofs.lemmas.List.{take_more}
 use Rattle.policy.specs.declared.change.Edit.TheVariants.{Withdraw}
 use Rattle.policy.specs.Rows.{edited}
 use Rattle.store.specs.steps.RowEdits.{without_auths}
-use Rattle.store.specs.steps.Statements.{state_in}
-use Rattle.store.proofs.RowSteps.{one_auth_less, no_auths, done_none, done_then, stays, stays_then}
+use Rattle.database.specs.Statements.{state_in}
+use Rattle.store.proofs.RowSteps.{one_auth_less, no_auths, done_none, done_then}
+use Rattle.database.proofs.StatementLemmas.{stays, stays_then}
 use Rattle.store.proofs.auth.take_auths.Goals as goal
 
 pub loop-number-init : goal.loop-number-init

@@ -1,7 +1,8 @@
 use Rattle.std.proofs.Common.{take}
 use Rattle.sqlite.specs.State.{HasCleanDisk}
 use Rattle.store.specs.steps.RowEdits.{without_auths}
-use Rattle.store.specs.steps.Statements.{state_in, StaysInside, EditsHolder}
+use Rattle.database.specs.Statements.{state_in, StaysInside}
+use Rattle.store.specs.steps.Statements.{EditsHolder}
 use Rattle.store.proofs.auth.take_auths.Given as goal
 
 abbrev pub invariant-loop-number : goal.invariant-loop-number

@@ -2,7 +2,8 @@ use Rattle.std.proofs.Common.{refl}
 use Rattle.policy.specs.declared.change.Edit.TheVariants.{Create}
 use Rattle.policy.specs.Rows.{edited}
 use Rattle.store.specs.steps.RowEdits.{with_auth, with_created}
-use Rattle.store.proofs.RowSteps.{done_after, stays_then}
+use Rattle.store.proofs.RowSteps.{done_after}
+use Rattle.database.proofs.StatementLemmas.{stays_then}
 use Rattle.store.proofs.change.create.Goals as goal
 
 pub returns-clause-done : goal.returns-clause-done

@@ -1,7 +1,8 @@
 use Rattle.std.proofs.Common.{arith, sym, ◌∙◌}
 use Rattle.std.proofs.lemmas.Result.{on_ok_weaker}
-use Rattle.store.specs.steps.Statements.{state_in}
-use Rattle.store.proofs.RowSteps.{turned_registered, turned_new, turned_none, stays_then}
+use Rattle.database.specs.Statements.{state_in}
+use Rattle.store.proofs.RowSteps.{turned_registered, turned_new, turned_none}
+use Rattle.database.proofs.StatementLemmas.{stays_then}
 use Rattle.store.proofs.change.edit_holder.Goals as goal
 
 pub returns-then-branch-clause-done : goal.returns-then-branch-clause-done

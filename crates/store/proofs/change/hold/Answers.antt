@@ -1,7 +1,8 @@
 use Rattle.std.proofs.Common.{arith, refl}
 use Rattle.policy.specs.Rows.{Rows}
 use Rattle.store.specs.steps.RowEdits.{with_holdings, without_holdings, without_auths, held}
-use Rattle.store.proofs.RowSteps.{done_then, done_after, stays_then}
+use Rattle.store.proofs.RowSteps.{done_then, done_after}
+use Rattle.database.proofs.StatementLemmas.{stays_then}
 use Rattle.store.proofs.change.hold.Goals as goal
 
 pub returns-in_err-put_holdings-clause-inside : goal.returns-in_err-put_holdings-clause-inside

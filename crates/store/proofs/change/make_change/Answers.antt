@@ -1,8 +1,10 @@
 use Rattle.std.proofs.Common.{arith, sym, subst, Option}
 use Rattle.policy.specs.declared.change.HolderChange.{HolderChange}
 use Rattle.policy.specs.Rows.{changed_by_one, changed_by_second}
-use Rattle.store.specs.steps.Statements.{state_in, MakesChange}
-use Rattle.store.proofs.RowSteps.{turned_then, stays_then}
+use Rattle.database.specs.Statements.{state_in}
+use Rattle.store.specs.steps.Statements.{MakesChange}
+use Rattle.store.proofs.RowSteps.{turned_then}
+use Rattle.database.proofs.StatementLemmas.{stays_then}
 use Rattle.store.proofs.change.make_change.Goals as goal
 
 pub returns-in_err-edit_holder-2-clause-inside : goal.returns-in_err-edit_holder-2-clause-inside

@@ -1,5 +1,5 @@
 use Rattle.store.proofs.EditSteps.{takes_grant}
-use Rattle.store.proofs.RowSteps.{means}
+use Rattle.database.proofs.StatementLemmas.{means}
 use Rattle.store.proofs.granted.take_grant.Goals as goal
 
 pub returns-clause-done : goal.returns-clause-done

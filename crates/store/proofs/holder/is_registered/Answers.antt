@@ -1,8 +1,8 @@
 use Rattle.std.proofs.Common.{arith, inl}
 use Rattle.sqlite.proofs.InsideLemmas.{unchanged_keeps}
-use Rattle.store.specs.steps.Statements.{state_in}
+use Rattle.database.specs.Statements.{state_in}
 use Rattle.store.proofs.HolderSteps.{asked, told}
-use Rattle.store.proofs.QueryLemmas.{kept_inside}
+use Rattle.database.proofs.QueryLemmas.{kept_inside}
 use Rattle.store.proofs.holder.is_registered.Goals as goal
 
 pub returns-in_err-found-clause-inside : goal.returns-in_err-found-clause-inside

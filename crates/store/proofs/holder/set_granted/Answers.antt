@@ -1,5 +1,5 @@
 use Rattle.store.proofs.EditSteps.{sets_granted}
-use Rattle.store.proofs.RowSteps.{means}
+use Rattle.database.proofs.StatementLemmas.{means}
 use Rattle.store.proofs.holder.set_granted.Goals as goal
 
 pub returns-clause-done : goal.returns-clause-done

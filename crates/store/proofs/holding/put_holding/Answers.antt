@@ -1,5 +1,5 @@
 use Rattle.store.proofs.EditSteps.{puts_holding}
-use Rattle.store.proofs.RowSteps.{means}
+use Rattle.database.proofs.StatementLemmas.{means}
 use Rattle.store.proofs.holding.put_holding.Goals as goal
 
 pub returns-clause-done : goal.returns-clause-done

@@ -1,7 +1,8 @@
 use Rattle.std.proofs.Common.{take}
 use Rattle.sqlite.specs.State.{HasCleanDisk}
 use Rattle.store.specs.steps.RowEdits.{with_holdings}
-use Rattle.store.specs.steps.Statements.{state_in, StaysInside, EditsHolder}
+use Rattle.database.specs.Statements.{state_in, StaysInside}
+use Rattle.store.specs.steps.Statements.{EditsHolder}
 use Rattle.store.proofs.holding.put_holdings.Given as goal
 
 abbrev pub invariant-loop-span : goal.invariant-loop-span

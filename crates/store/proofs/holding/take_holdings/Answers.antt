@@ -1,7 +1,8 @@
 use Rattle.std.proofs.Common.{arith, ap, sym, ◌∙◌, [], ◌∷◌, take, ◌+◌}
 use Rattle.store.specs.steps.RowEdits.{without_holdings}
-use Rattle.store.specs.steps.Statements.{state_in}
-use Rattle.store.proofs.RowSteps.{none_taken, one_holding_less, taken_more, done_none, done_then, stays, stays_then}
+use Rattle.database.specs.Statements.{state_in}
+use Rattle.store.proofs.RowSteps.{none_taken, one_holding_less, done_none, done_then}
+use Rattle.database.proofs.StatementLemmas.{taken_more, stays, stays_then}
 use Rattle.store.proofs.holding.take_holdings.Goals as goal
 
 pub loop-span-init : goal.loop-span-init

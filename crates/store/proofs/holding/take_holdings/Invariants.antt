@@ -1,7 +1,8 @@
 use Rattle.std.proofs.Common.{take}
 use Rattle.sqlite.specs.State.{HasCleanDisk}
 use Rattle.store.specs.steps.RowEdits.{without_holdings}
-use Rattle.store.specs.steps.Statements.{state_in, StaysInside, EditsHolder}
+use Rattle.database.specs.Statements.{state_in, StaysInside}
+use Rattle.store.specs.steps.Statements.{EditsHolder}
 use Rattle.store.proofs.holding.take_holdings.Given as goal
 
 abbrev pub invariant-loop-span : goal.invariant-loop-span

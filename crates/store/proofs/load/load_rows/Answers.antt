@@ -6,7 +6,8 @@ use Rattle.tables.specs.Cells.{grant_cells, auth_cells}
 use Rattle.policy.specs.Values.{GrantFits, AuthFits}
 use Rattle.tables.specs.TablesHold.{items_if_any}
 use Rattle.tables.proofs.CellsOnce.{counters_of_rows}
-use Rattle.store.proofs.Loading.{AreCounters, CountersFit, counters_fit, all_spans_fit, grants_fit, auths_fit, first_counters, by_number, same_addresses, held_before, never_fit, refused_by, none_loaded, all_loaded}
+use Rattle.store.proofs.Loading.{AreCounters, CountersFit, counters_fit, all_spans_fit, grants_fit, auths_fit, first_counters, by_number, same_addresses, held_before, never_fit, none_loaded, all_loaded}
+use Rattle.database.proofs.QueryLemmas.{refused_by}
 use Rattle.store.proofs.load.load_rows.Goals as goal
 
 pub returns-in_err-counters-clause-schema : goal.returns-in_err-counters-clause-schema

@@ -5,7 +5,7 @@ use Rattle.sqlite.specs.Held.{state}
 use Rattle.sqlite.specs.State.{HasCleanDisk}
 use Rattle.tables.specs.TablesHold.{items_if_any}
 use Rattle.tables.proofs.CellsOnce.{values_shown}
-use Rattle.store.proofs.QueryLemmas.{selected}
+use Rattle.store.proofs.Finding.{selected}
 use Rattle.tables.proofs.ReadLemmas.{all_show}
 use Rattle.store.proofs.load.load_values.Goals as goal
 

@@ -1,0 +1,13 @@
+pub mod Columns
+pub mod StatementLemmas
+pub mod QueryLemmas
+pub mod SameCharter
+mod Creates
+mod MakingSteps
+mod CharterSteps
+mod Rowids
+mod AllTexts
+mod Obeyed
+mod SomeRows
+mod Unread
+mod Opened

@@ -1,0 +1,77 @@
+-- Databases that have the tables of a desk.
+use Rattle.std.specs.Prelude.{◌≡◌, ◌⊎◌, false, None, IsTrue}
+use Rattle.sqlite.specs.Effect.{Database}
+use Rattle.sqlite.specs.Held.{Held, state}
+use Rattle.sqlite.specs.State.{State, HasCleanDisk}
+use Rattle.sqlite.specs.Store.{Ghosts}
+use Rattle.sqlite_trees.specs.Tree.{Trees}
+use Rattle.policy.specs.CharterSets.{CharterSets}
+use Rattle.tables.specs.Tables.{blank_schema, desk_schema, desk_tables, SameRows}
+use Rattle.tables.specs.Schemas.{has_names}
+use Rattle.tables.specs.TablesHold.{TablesHold}
+use Rattle.database.specs.TablesRead.{TablesRead, HoldSome}
+
+-- the database has the tables of a desk, unless the disk returned what was not written, or the
+-- connection is shut
+abbrev pub HasDeskTables : State → Type 0
+HasDeskTables s = HasCleanDisk s → IsTrue s.is_open → s.now.schema.tables ≡ desk_tables
+
+-- the database has the tables of a desk, and all that it shows is committed
+pub record IsDesk (s : State) : Type 0 where
+  pub tables : s.now.schema.tables ≡ desk_tables
+  pub settled : s.committed ≡ s.now
+
+abbrev pub IsDeskWhileOpen : State → Type 0
+IsDeskWhileOpen s = HasCleanDisk s → IsTrue s.is_open → IsDesk s
+
+-- The disk returns what was written, whatever the connection does. Memory is such a one.
+abbrev pub IsHonest : {S : Type 0} → Ghosts S → Type 0
+IsHonest {S} g = (h : Held S) → HasCleanDisk (state g h)
+
+-- ---- a new database
+
+-- no transaction goes on, and the database has no table, index or view
+pub record IsUnused (s : State) : Type 0 where
+  pub idle : s.in_transaction ≡ false
+  pub blank : s.now.schema ≡ blank_schema
+
+-- the tables hold the charter and no holder, and are committed
+pub record IsNew (charter : CharterSets) (s : State) : Type 0 where
+  pub is_open : IsTrue s.is_open
+  pub schema : s.now.schema ≡ desk_schema
+  pub settled : s.committed ≡ s.now
+  pub rows : TablesHold charter (λ h. None) s.now.trees
+
+-- a crash leaves the tables with the charter and no holder
+abbrev pub LeavesNew : CharterSets → State → Type 0
+LeavesNew charter s = (trees : Trees) → s.may_leave trees → TablesHold charter (λ h. None) trees
+
+-- a crash leaves what it left before, or, of an unused database, the tables with the charter and no holder
+abbrev pub LeavesOldOrNew : CharterSets → State → State → Type 0
+LeavesOldOrNew charter old new =
+    (trees : Trees) → new.may_leave trees
+    → old.may_leave trees ⊎ (IsUnused old × TablesHold charter (λ h. None) trees)
+
+-- ---- an opened database
+
+-- the database is a desk, no row of it changed, and its tables hold the charter and some rows
+pub record OpensDesk (charter : CharterSets) (old new : State) : Type 0 where
+  pub idle : old.in_transaction ≡ false
+  pub tables : old.now.schema.tables ≡ desk_tables
+  pub is_open : IsTrue new.is_open
+  pub desk : IsDesk new
+  pub rows : SameRows old.now.trees new.now.trees
+  pub some : HoldSome charter old.now.trees
+
+-- what the commit of an added index may put on the disk: the same rows
+abbrev pub MayCommitIndex : State → Trees → Type 0
+MayCommitIndex old trees = IsTrue old.is_open × SameRows old.now.trees trees
+
+-- a crash leaves what it left before, or tables with the same rows
+abbrev pub LeavesSameRows : State → State → Type 0
+LeavesSameRows old new = (trees : Trees) → new.may_leave trees → old.may_leave trees ⊎ MayCommitIndex old trees
+
+-- A name of a table or a column of a desk is missing, or the tables are there and do not read.
+abbrev pub IsOfAnotherSchema : Database → Type 0
+IsOfAnotherSchema db =
+    (has_names db.schema desk_tables ≡ false) ⊎ ((db.schema.tables ≡ desk_tables) × ¬ TablesRead db.trees)

@@ -1,0 +1,29 @@
+-- What a query needs, and what it leaves of a connection.
+use Rattle.std.specs.Prelude.{◌≡◌, false, Result, OnOk, IsTrue}
+use Rattle.sqlite.specs.Held.{Held, state}
+use Rattle.sqlite.specs.State.{State, HasCleanDisk, IsUnchanged, Survives}
+use Rattle.sqlite.specs.Store.{Ghosts}
+use Rattle.database.specs.Databases.{HasDeskTables}
+
+-- nothing was committed, and what is shown is as it was
+abbrev pub IsAsBefore : State → State → Type 0
+IsAsBefore old new = IsTrue old.is_open × (new.now ≡ old.now) × (new.committed ≡ old.committed)
+
+-- the disk of a connection returned what was written
+abbrev pub IsOnCleanDisk : {S : Type 0} → Ghosts S → Held S → Type 0
+IsOnCleanDisk g conn = HasCleanDisk (state g conn)
+
+-- what a query needs: no transaction, and the tables of a desk
+pub record IsReadyToAsk {S : Type 0} (g : Ghosts S) (conn : Held S) : Type 0 where
+  pub idle : conn.in_transaction ≡ false
+  pub tables : HasDeskTables (state g conn)
+
+-- What a query leaves: all as it was, where the connection stays open, and after an answer the
+-- savepoints and the counts too. A crash leaves nothing else than before.
+pub record IsAsked {S X E : Type 0} (g : Ghosts S) (old new : Held S) (result : Result X E) : Type 0
+  where
+    pub idle : new.in_transaction ≡ false
+    pub same : IsOnCleanDisk g new → OnOk result (IsUnchanged (state g old) (state g new))
+    pub kept :
+        IsOnCleanDisk g new → IsTrue (state g new).is_open → IsAsBefore (state g old) (state g new)
+    pub survives : Survives (state g old) (state g new) (λ _. ⊥)

@@ -1,0 +1,5 @@
+-- The steps of the code, which no public contract cites.
+pub mod Making
+pub mod Numbered
+pub mod Opened
+pub mod OpenedDesk

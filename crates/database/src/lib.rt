@@ -1,0 +1,20 @@
+//! Databases that have the tables of a desk: making one, and opening one.
+#![tactic(auto)]
+
+mod charter;
+mod fault;
+mod index;
+mod making;
+mod opening;
+mod query;
+mod reading;
+mod rise;
+mod statement;
+mod values;
+
+pub use fault::StoreFault;
+pub use making::make_desk;
+pub use opening::open_desk;
+pub use query::ask;
+pub use statement::run;
+pub use values::read_all;

@@ -1,0 +1,143 @@
+//! Making the tables of a desk in a database that has none.
+ghost use Rattle.std.specs.Prelude.{◌≡◌, ◌≢◌, ◌↔◌, false, None, Err, OnOk, OnErr, IsTrue};
+ghost use Rattle.sqlite.specs.Held.{state};
+ghost use Rattle.sqlite.specs.State.{HasCleanDisk};
+ghost use Rattle.database.specs.Databases.{IsUnused, IsNew, LeavesOldOrNew};
+ghost use Rattle.tables.specs.Tables.{blank_schema};
+ghost use Rattle.tables.specs.TablesHold.{TablesHold};
+ghost use Rattle.database.specs.Statements.{IfCommitted, IfRolledBack, CommitsAtMost};
+ghost use Rattle.database.specs.Statements.{WhenClean, IfDone, StaysInside};
+ghost use Rattle.database.specs.steps.Making.{IsMadeTo};
+
+use crate::StoreFault;
+use crate::charter::put_charter;
+use crate::index::make_index;
+use crate::statement::run;
+use policy::Charter;
+use sqlite::{Alter, Connection, Error, Transaction};
+use sqlite_schema::schema::Schema;
+
+/// Makes the tables `meta`, `operator`, `pool` and `holder` in a database that has no table.
+fn make_first_tables<S: Alter>(tx: &mut Transaction<'_, S>) -> Result<(), Error>
+    requires { WhenClean S.Store (IsMadeTo 0) tx.old }
+    ensures made { IfDone S.Store result (λ _. IsMadeTo 4) tx.old tx.new }
+    ensures inside { StaysInside S.Store tx.old tx.new }
+{
+    run(
+        tx,
+        "CREATE TABLE meta (name TEXT NOT NULL, value INTEGER NOT NULL, PRIMARY KEY (name)) STRICT",
+        &[],
+    )?;
+    run(
+        tx,
+        "CREATE TABLE operator (name TEXT NOT NULL, PRIMARY KEY (name)) STRICT",
+        &[],
+    )?;
+    run(
+        tx,
+        "CREATE TABLE pool (family INTEGER NOT NULL, lo BLOB NOT NULL, len INTEGER NOT NULL, PRIMARY KEY (family, lo, len)) STRICT",
+        &[],
+    )?;
+    run(
+        tx,
+        "CREATE TABLE holder (name TEXT NOT NULL, grants INTEGER NOT NULL, auths INTEGER NOT NULL, PRIMARY KEY (name)) STRICT",
+        &[],
+    )
+}
+
+/// Makes the tables `holding`, `granted`, `auth` and `slurm` after those.
+fn make_other_tables<S: Alter>(tx: &mut Transaction<'_, S>) -> Result<(), Error>
+    requires { WhenClean S.Store (IsMadeTo 4) tx.old }
+    ensures made { IfDone S.Store result (λ _. IsMadeTo 8) tx.old tx.new }
+    ensures inside { StaysInside S.Store tx.old tx.new }
+{
+    run(
+        tx,
+        "CREATE TABLE holding (family INTEGER NOT NULL, lo BLOB NOT NULL, hi BLOB NOT NULL, holder TEXT NOT NULL REFERENCES holder (name), PRIMARY KEY (family, lo)) STRICT",
+        &[],
+    )?;
+    run(
+        tx,
+        "CREATE TABLE granted (holder TEXT NOT NULL REFERENCES holder (name), number INTEGER NOT NULL, caller TEXT NOT NULL, role INTEGER NOT NULL, family INTEGER, lo BLOB, len INTEGER, until INTEGER NOT NULL, PRIMARY KEY (holder, number)) STRICT",
+        &[],
+    )?;
+    run(
+        tx,
+        "CREATE TABLE auth (holder TEXT NOT NULL REFERENCES holder (name), number INTEGER NOT NULL, asn INTEGER NOT NULL, family INTEGER NOT NULL, lo BLOB NOT NULL, len INTEGER NOT NULL, max INTEGER NOT NULL, opens INTEGER NOT NULL, ends INTEGER NOT NULL, PRIMARY KEY (holder, number), UNIQUE (asn, family, lo, len, max)) STRICT",
+        &[],
+    )?;
+    run(
+        tx,
+        "CREATE TABLE slurm (file TEXT NOT NULL, kind INTEGER NOT NULL, position INTEGER NOT NULL, family INTEGER, lo BLOB, len INTEGER, max INTEGER, asn INTEGER, PRIMARY KEY (file, kind, position)) STRICT",
+        &[],
+    )
+}
+
+/// Makes the tables of a desk in a database that has no table.
+pub(crate) fn make_all_tables<S: Alter>(tx: &mut Transaction<'_, S>) -> Result<(), Error>
+    requires { WhenClean S.Store (IsMadeTo 0) tx.old }
+    ensures made { IfDone S.Store result (λ _. IsMadeTo 8) tx.old tx.new }
+    ensures inside { StaysInside S.Store tx.old tx.new }
+{
+    make_first_tables(tx)?;
+    make_other_tables(tx)
+}
+
+/// Makes those tables and the index of a holder's runs.
+fn make_schema<S: Alter>(tx: &mut Transaction<'_, S>) -> Result<(), Error>
+    requires { WhenClean S.Store (IsMadeTo 0) tx.old }
+    ensures made { IfDone S.Store result (λ _. IsMadeTo 9) tx.old tx.new }
+    ensures inside { StaysInside S.Store tx.old tx.new }
+{
+    make_all_tables(tx)?;
+    make_index(tx)
+}
+
+/// Whether the database has no table, index or view.
+fn is_blank(schema: &Schema) -> bool
+    ensures { IsTrue result ↔ (schema.now ≡ blank_schema) }
+{
+    schema.tables.is_empty() && schema.indexes.is_empty() && schema.views.is_empty()
+}
+
+/// Makes the tables of a desk and the index in a database that has none, with its charter, in one
+/// transaction.
+fn make_tables<S: Alter>(conn: &mut Connection<S>, charter: &Charter) -> Result<(), StoreFault>
+    requires idle { conn.old.in_transaction ≡ false }
+    requires blank { HasCleanDisk (state S.Store conn.old)
+        → (state S.Store conn.old).now.schema ≡ blank_schema }
+    ensures idle { conn.new.in_transaction ≡ false }
+    ensures made { IfCommitted S.Store result (λ _. IsNew charter.now) conn.old conn.new }
+    ensures err { IfRolledBack S.Store result conn.old conn.new }
+    ensures crash { CommitsAtMost S.Store
+        (λ _. TablesHold charter.now (λ h. None)) conn.old conn.new }
+    ensures no_schema { result ≢ Err StoreFault.Schema }
+{
+    let _idle = conn.is_autocommit();
+    let mut tx = conn.transaction();
+    make_schema(&mut tx)?;
+    put_charter(&mut tx, charter)?;
+    tx.commit()?;
+    Ok(())
+}
+
+/// Makes a desk of a database that has no table yet, and lifts the limit of its steps. Every other
+/// database stays as it is, and one in a transaction too.
+pub fn make_desk<S: Alter>(conn: &mut Connection<S>, charter: &Charter) -> Result<(), StoreFault>
+    ensures unused { OnOk result (IsUnused (state S.Store conn.old)) }
+    ensures idle { OnOk result (conn.new.in_transaction ≡ false) }
+    ensures unlimited { OnOk result (conn.new.step_limit ≡ None) }
+    ensures made { IfCommitted S.Store result (λ _. IsNew charter.now) conn.old conn.new }
+    ensures mode { OnErr result (conn.new.in_transaction ≡ conn.old.in_transaction) }
+    ensures err { IfRolledBack S.Store result conn.old conn.new }
+    ensures clean { HasCleanDisk (state S.Store conn.new) → HasCleanDisk (state S.Store conn.old) }
+    ensures crash { HasCleanDisk (state S.Store conn.new)
+        → LeavesOldOrNew charter.now (state S.Store conn.old) (state S.Store conn.new) }
+    ensures no_schema { result ≢ Err StoreFault.Schema }
+{
+    if !conn.is_autocommit() || !is_blank(conn.schema()) {
+        return Err(StoreFault::Database);
+    }
+    conn.set_step_limit(None);
+    make_tables(conn, charter)
+}

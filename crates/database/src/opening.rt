@@ -1,0 +1,125 @@
+//! Whether a database that is opened has the tables of a desk.
+ghost use Rattle.std.specs.Prelude.{◌≡◌, ◌≢◌, ◌↔◌, false, None, Err, OnOk, IfOk, IsTrue};
+ghost use Rattle.sqlite.specs.Held.{state};
+ghost use Rattle.tables.specs.Schemas.{has_names, HasPlainTables};
+ghost use Rattle.tables.specs.Tables.{desk_tables, unindexed_schema};
+ghost use Rattle.database.specs.Databases.{IsOfAnotherSchema, MayCommitIndex};
+ghost use Rattle.database.specs.steps.Making.{StaysDesk};
+ghost use Rattle.database.specs.steps.OpenedDesk.{IsOpenDesk};
+ghost use Rattle.database.specs.Databases.{LeavesSameRows, OpensDesk};
+ghost use Rattle.database.specs.Queries.{IsOnCleanDisk};
+ghost use Rattle.database.specs.Statements.{IfCommitted, IfRolledBack, CommitsAtMost};
+
+use crate::StoreFault;
+use crate::index::add_index;
+use crate::making::make_all_tables;
+use crate::reading::read_tables;
+use policy::Charter;
+use sqlite::{Alter, Connection, Error, MemStore};
+use sqlite_schema::schema::Schema;
+use std::alloc::Global;
+use tables::{has_names, same_schema, same_tables};
+
+/// A database in memory with the tables of a desk and nothing else, with which others are
+/// compared.
+fn tables_in_memory(alloc: Global) -> Result<Connection<MemStore>, Error>
+    ensures { IfOk result (λ conn. conn.schema ≡ unindexed_schema) }
+{
+    let mut conn = Connection::open_in_memory(alloc)?;
+    let mut tx = conn.transaction();
+    make_all_tables(&mut tx)?;
+    tx.commit()?;
+    Ok(conn)
+}
+
+/// Whether the schema has the tables of the other. One that lacks a name of theirs is another
+/// schema.
+fn compare(schema: &Schema, desk: &Schema) -> Result<(), StoreFault>
+    ensures tables { OnOk result (schema.now.tables ≡ desk.now.tables) }
+    ensures names { result ≡ Err StoreFault.Schema
+        ↔ (has_names schema.now desk.now.tables ≡ false) }
+    ensures others { result ≡ Err StoreFault.Database
+        → ¬ (HasPlainTables schema.now × (schema.now.tables ≡ desk.now.tables)) }
+{
+    if !has_names(schema, desk) {
+        return Err(StoreFault::Schema);
+    }
+    if !same_tables(schema, desk) {
+        return Err(StoreFault::Database);
+    }
+    Ok(())
+}
+
+/// Tells of a schema that has the tables of a desk whether it has nothing else.
+fn judge_schema(alloc: Global, schema: &Schema) -> Result<bool, StoreFault>
+    ensures tables { OnOk result (schema.now.tables ≡ desk_tables) }
+    ensures unindexed { IfOk result
+        (λ unindexed. IsTrue unindexed ↔ (schema.now ≡ unindexed_schema)) }
+    ensures names { result ≡ Err StoreFault.Schema → has_names schema.now desk_tables ≡ false }
+{
+    let desk = tables_in_memory(alloc)?;
+    compare(schema, desk.schema())?;
+    Ok(same_schema(schema, desk.schema()))
+}
+
+/// Tells of a database that has the tables of a desk whether it has nothing else, so that the index
+/// of a holder's runs may be added. A connection in a transaction is refused, and a limit of its
+/// steps is lifted.
+fn judge<S: Alter>(conn: &mut Connection<S>, alloc: Global) -> Result<bool, StoreFault>
+    ensures same { conn.new ≡ record conn.old { step_limit = conn.new.step_limit } }
+    ensures idle { OnOk result (conn.new.in_transaction ≡ false) }
+    ensures unlimited { OnOk result (conn.new.step_limit ≡ None) }
+    ensures settled { OnOk result (IsTrue (state S.Store conn.new).is_open
+        → (state S.Store conn.new).committed ≡ (state S.Store conn.new).now) }
+    ensures tables { OnOk result (conn.new.schema.tables ≡ desk_tables) }
+    ensures unindexed { IfOk result
+        (λ unindexed. IsTrue unindexed ↔ (conn.new.schema ≡ unindexed_schema)) }
+    ensures names { result ≡ Err StoreFault.Schema
+        → has_names conn.new.schema desk_tables ≡ false }
+{
+    if !conn.is_autocommit() {
+        return Err(StoreFault::Database);
+    }
+    conn.set_step_limit(None);
+    let is_unindexed = judge_schema(alloc, conn.schema())?;
+    Ok(is_unindexed)
+}
+
+/// Adds the index of a holder's runs to a desk that has nothing beside its tables.
+fn add_missing_index<S: Alter>(
+    conn: &mut Connection<S>,
+    is_unindexed: bool,
+) -> Result<(), StoreFault>
+    requires idle { conn.old.in_transaction ≡ false }
+    requires desk { IsOnCleanDisk S.Store conn.old
+        → IsOpenDesk is_unindexed (state S.Store conn.old) }
+    ensures idle { conn.new.in_transaction ≡ false }
+    ensures kept { IfCommitted S.Store result StaysDesk conn.old conn.new }
+    ensures err { IfRolledBack S.Store result conn.old conn.new }
+    ensures crash { CommitsAtMost S.Store MayCommitIndex conn.old conn.new }
+    ensures no_schema { result ≢ Err StoreFault.Schema }
+{
+    if is_unindexed {
+        add_index(conn)?;
+    }
+    Ok(())
+}
+
+/// Reads a desk, whose charter it answers.
+pub fn open_desk<S: Alter>(conn: &mut Connection<S>, alloc: Global) -> Result<Charter, StoreFault>
+    ensures idle { OnOk result (conn.new.in_transaction ≡ false) }
+    ensures unlimited { OnOk result (conn.new.step_limit ≡ None) }
+    ensures clean { IsOnCleanDisk S.Store conn.new → IsOnCleanDisk S.Store conn.old }
+    ensures opened { IsOnCleanDisk S.Store conn.new → IfOk result
+        (λ charter. OpensDesk charter (state S.Store conn.old) (state S.Store conn.new)) }
+    ensures err { IfRolledBack S.Store result conn.old conn.new }
+    ensures crash { IsOnCleanDisk S.Store conn.new
+        → LeavesSameRows (state S.Store conn.old) (state S.Store conn.new) }
+    ensures schema { IsOnCleanDisk S.Store conn.new → result ≡ Err StoreFault.Schema
+        → IsOfAnotherSchema (state S.Store conn.old).now }
+{
+    let is_unindexed = judge(conn, alloc)?;
+    let charter = read_tables(conn, alloc)?;
+    add_missing_index(conn, is_unindexed)?;
+    Ok(charter)
+}

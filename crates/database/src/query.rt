@@ -1,0 +1,32 @@
+ghost use Rattle.std.specs.Prelude.{IfOk};
+ghost use Rattle.sqlite.specs.Given.{IsPlain};
+ghost use Rattle.sqlite.specs.Held.{state};
+ghost use Rattle.sqlite.specs.Listing.{understood};
+ghost use Rattle.sqlite.specs.State.{Shown};
+ghost use Rattle.sqlite.specs.Values.{bound};
+ghost use Rattle.tables.specs.Tables.{OverDesk};
+ghost use Rattle.database.specs.Queries.{IsAsked, IsOnCleanDisk, IsReadyToAsk};
+
+use sqlite::types::ValueRef;
+use sqlite::{Alter, Connection, Error, Row};
+
+/// All rows that a query answers. The database stays as it is.
+///
+/// The text is compiled first, since only a connection that compiled it is known to be open, and of
+/// one that is shut it is not known that the text commits nothing.
+pub fn ask<S: Alter>(
+    conn: &mut Connection<S>,
+    sql: &str,
+    values: &[ValueRef<'_>],
+) -> Result<Vec<Row>, Error>
+    requires ready { IsReadyToAsk S.Store conn.old }
+    requires plain { OverDesk (λ s. IsPlain (understood s sql.now)) }
+    ensures asked { IsAsked S.Store conn.old conn.new result }
+    ensures shown { IsOnCleanDisk S.Store conn.new → IfOk result (λ rows.
+        Shown sql.now (bound values.now) (state S.Store conn.old) (state S.Store conn.new)
+        rows.items) }
+{
+    let _idle = conn.is_autocommit();
+    let query = conn.prepare(sql)?;
+    query.query_all(conn, values)
+}

@@ -1,6 +1,0 @@
-use Rattle.store.proofs.CharterSteps.{puts_operator}
-use Rattle.store.proofs.RowSteps.{means}
-use Rattle.store.proofs.charter.put_operator.Goals as goal
-
-pub returns-clause-put : goal.returns-clause-put
-returns-clause-put g c = means g.S.Store c.run.result _ _ _ _ _ _ c.requires c.run.ensures.inside c.run.ensures.ran c.name_values.ensures (λ old new. puts_operator old new c.args.name.now)
