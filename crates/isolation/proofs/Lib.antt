@@ -1,0 +1,3 @@
+pub mod Agree
+pub mod Parts
+pub mod Isolation
