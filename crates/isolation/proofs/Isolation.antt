@@ -1,15 +1,17 @@
 -- The laws.
-use Rattle.std.proofs.Common.{◌≡◌, ℕ, List, ◌↔◌, ◌⊎◌, inl, inr, subst}
-use Rattle.std.specs.List.{All, Contains}
+use Rattle.std.proofs.Common.{ℕ, List, inl, inr, subst}
+use Rattle.std.specs.List.{Contains}
 use Rattle.addr.specs.declared.vrp.Vrp.{Vrp}
 use Rattle.policy.specs.declared.authorization.Auth.{Auth}
 use Rattle.policy.specs.DailyVrps.{IsVrpInForce, IsAfterExceptions}
 use Rattle.policy.specs.History.{History}
-use Rattle.policy.specs.Terms.{IsActive, IsInForce}
+use Rattle.policy.specs.HolderEntries.{entries_for}
+use Rattle.policy.specs.Terms.{IsActive}
 use Rattle.policy.proofs.Moved.{within}
-use Rattle.isolation.specs.Isolation.{RowsOfEntries, OthersKeepRows, IsVrpInForceByEntries, VrpsOfEntries}
+use Rattle.isolation.specs.Isolation.{CommandsByEntries, QueriesByEntries, RowsOfEntries, OthersKeepRows, IsVrpInForceByEntries, VrpsOfEntries}
 use Rattle.isolation.proofs.Agree.{Agree, agree-sym, agree-rows}
-use Rattle.isolation.proofs.Parts.{agree-unnamed, agree-entries}
+use Rattle.isolation.proofs.Parts.{agree-unnamed, agree-entries, agree-for}
+use Rattle.isolation.proofs.Judged.{judged_alike, seen_alike}
 
 pub rows_of_entries : RowsOfEntries
 rows_of_entries charter history h rows legal =
@@ -38,3 +40,11 @@ vrps_of_entries charter history day v legal =
       after_exceptions history (IsVrpInForce history day v) (IsVrpInForceByEntries history day v) v entries,
       after_exceptions history (IsVrpInForceByEntries history day v) (IsVrpInForce history day v) v whole,
     )
+
+pub commands_by_entries : CommandsByEntries
+commands_by_entries charter history day caller command legal own =
+    let same = agree-for charter history command legal in
+    judged_alike charter history (entries_for command history) day caller command same.0 same.1 own
+
+pub queries_by_entries : QueriesByEntries
+queries_by_entries charter history h day caller legal = seen_alike (agree-entries charter history h legal) day caller

@@ -1,3 +1,4 @@
 pub mod Agree
 pub mod Parts
+pub mod Judged
 pub mod Isolation

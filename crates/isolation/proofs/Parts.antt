@@ -1,6 +1,7 @@
 -- A part of a legal history that has all entries naming a holder agrees with it on what the holder has.
 use Rattle.std.proofs.Common.{◌≡◌, ℕ, ◌≤◌, Bool, true, false, ◌||◌, cond, List, [], ◌∷◌, inl, inr, Option, Some, None, refl, sym, ap, ◌∙◌, subst, filter}
 use Rattle.std.proofs.lemmas.Bool.{cases_Bool, cond-true, cond-false, false≢true, or_parts}
+use Rattle.std.proofs.Math.Bool.{or-true}
 use Rattle.addr.specs.Address.{Address, has_address}
 use Rattle.addr.specs.declared.prefix.Prefix.{Prefix}
 use Rattle.policy.specs.declared.charter.Charter.{Charter}
@@ -8,7 +9,7 @@ use Rattle.policy.specs.declared.command.Command.{Command}
 use Rattle.policy.specs.declared.command.Command.TheVariants.{Register, Delegate, Transfer, Reclaim, Grant, Revoke, Create, Amend, Withdraw}
 use Rattle.policy.specs.Answer.{holder_of, taker_of}
 use Rattle.policy.specs.History.{Entry, History, same_name, is_registered}
-use Rattle.policy.specs.HolderEntries.{names, entries_naming}
+use Rattle.policy.specs.HolderEntries.{names, entries_naming, entries_naming_either, entries_for}
 use Rattle.policy.specs.Resources.{resource_holder, is_held_by}
 use Rattle.policy.specs.Terms.{authorizations_made, authorization_terms, grants_made, grant_terms}
 use Rattle.policy.specs.Verdict.{Verdict, IsLegal}
@@ -93,3 +94,28 @@ agree-part charter part h has (e ∷ before) legal =
 pub agree-entries : (charter : Charter) (history : History) (h : List ℕ) → IsLegal charter history
     → Agree history (entries_naming h history) h
 agree-entries charter history h legal = agree-part charter (λ e. names h e.command) h (λ e t. t) history legal
+
+-- the entries that name one of two holders have those of each
+agree-either : (charter : Charter) (history : History) (g h : List ℕ) → IsLegal charter history
+    → Agree history (entries_naming_either g h history) g × Agree history (entries_naming_either g h history) h
+agree-either charter history g h legal =
+    let part = λ (e : Entry). names g e.command || names h e.command in (
+      agree-part charter part g (λ e t. ap (λ b. b || names h e.command) t) history legal,
+      agree-part charter part h (λ e t. ap (λ b. names g e.command || b) t ∙ or-true (names g e.command)) history legal,
+    )
+
+twice : {P : Type 0} → P → P × P
+twice p = (p, p)
+
+-- the entries for a command have those of its holders
+pub agree-for : (charter : Charter) (history : History) (c : Command) → IsLegal charter history
+    → Agree history (entries_for c history) (holder_of c) × Agree history (entries_for c history) (taker_of c)
+agree-for charter history (Register holder) legal = twice (agree-entries charter history holder legal)
+agree-for charter history (Delegate holder p) legal = twice (agree-entries charter history holder legal)
+agree-for charter history (Transfer p giver taker) legal = agree-either charter history giver taker legal
+agree-for charter history (Reclaim holder p) legal = twice (agree-entries charter history holder legal)
+agree-for charter history (Grant holder name role scope until) legal = twice (agree-entries charter history holder legal)
+agree-for charter history (Revoke holder n) legal = twice (agree-entries charter history holder legal)
+agree-for charter history (Create holder asn p max from until) legal = twice (agree-entries charter history holder legal)
+agree-for charter history (Amend holder n max until) legal = twice (agree-entries charter history holder legal)
+agree-for charter history (Withdraw holder n) legal = twice (agree-entries charter history holder legal)

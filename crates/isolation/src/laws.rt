@@ -1,6 +1,12 @@
 //! Each function's contract states a law, and its body does nothing.
 
-ghost use Rattle.isolation.specs.Isolation.{OthersKeepRows, RowsOfEntries, VrpsOfEntries};
+ghost use Rattle.isolation.specs.Isolation.{
+  CommandsByEntries,
+  OthersKeepRows,
+  QueriesByEntries,
+  RowsOfEntries,
+  VrpsOfEntries,
+};
 
 /// After a legal history the rows of a holder are those of the entries that name it.
 #[tactic(auto, using(crate::proofs::Isolation::rows_of_entries))]
@@ -18,4 +24,17 @@ pub fn others_keep_rows()
 /// holder are taken from the entries that name it.
 pub fn parts()
     ensures { VrpsOfEntries }
+{}
+
+/// After a legal history a command at a holder, but for a delegation, is accepted or denied, and its
+/// grant or authorization numbered, as after the entries that name the holder alone; a transfer as
+/// after those that name giver or taker.
+pub fn commands_by_entries()
+    ensures { CommandsByEntries }
+{}
+
+/// After a legal history what is shown and listed at a holder, or denied, is the same as after the
+/// entries that name the holder alone.
+pub fn queries_by_entries()
+    ensures { QueriesByEntries }
 {}
