@@ -1,9 +1,10 @@
 -- A part of a legal history that has all entries naming a holder agrees with it on what the holder has.
-use Rattle.std.proofs.Common.{◌≡◌, ℕ, ◌≤◌, Bool, true, false, ◌||◌, cond, List, [], ◌∷◌, inl, inr, Option, Some, None, refl, sym, ap, ◌∙◌, subst, filter}
+use Rattle.std.proofs.Common.{◌<◌, ◌≡◌, ℕ, ◌≤◌, Bool, true, false, ◌||◌, cond, List, [], ◌∷◌, inl, inr, Option, Some, None, refl, sym, ap, ◌∙◌, subst, filter, ◌↔◌, ◌++◌}
 use Rattle.std.proofs.lemmas.Bool.{cases_Bool, cond-true, cond-false, false≢true, or_parts}
 use Rattle.std.proofs.Math.Bool.{or-true}
 use Rattle.addr.specs.Address.{Address, has_address}
 use Rattle.addr.specs.declared.prefix.Prefix.{Prefix}
+use Rattle.policy.specs.declared.authorization.Auth.{Auth}
 use Rattle.policy.specs.declared.charter.Charter.{Charter}
 use Rattle.policy.specs.declared.command.Command.{Command}
 use Rattle.policy.specs.declared.command.Command.TheVariants.{Register, Delegate, Transfer, Reclaim, Grant, Revoke, Create, Amend, Withdraw}
@@ -11,11 +12,12 @@ use Rattle.policy.specs.Answer.{holder_of, taker_of}
 use Rattle.policy.specs.History.{Entry, History, same_name, is_registered}
 use Rattle.policy.specs.HolderEntries.{names, entries_naming, entries_naming_either, entries_for}
 use Rattle.policy.specs.Resources.{resource_holder, is_held_by}
-use Rattle.policy.specs.Terms.{authorizations_made, authorization_terms, grants_made, grant_terms}
+use Rattle.policy.specs.Terms.{authorizations_made, authorization_terms, grants_made, grant_terms, HeldSinceMade}
 use Rattle.policy.specs.Verdict.{Verdict, IsLegal}
 use Rattle.policy.proofs.Names.{held_by_same}
 use Rattle.policy.proofs.Held.{held_now}
 use Rattle.policy.proofs.Carry.{stays, LeavesHeld}
+use Rattle.isolation.specs.RepeatedRequests.{is_named}
 use Rattle.isolation.proofs.Agree.{Agree, agree-same, agree-trans, agree-after}
 
 -- the addresses of a prefix, which the holder did not hold, go to another or to nobody
@@ -45,7 +47,20 @@ leaves_held charter before day caller (Create holder asn p max from until) h acc
 leaves_held charter before day caller (Amend holder n max until) h accepted other other_taker a = refl
 leaves_held charter before day caller (Withdraw holder n) h accepted other other_taker a = refl
 
--- nor does it change anything else that the holder has
+-- where a holder keeps what it holds and none is made, the same authorizations are held since their making
+pub since_left : (e : Entry) (before : History) (h : List ℕ) → LeavesHeld e before h
+    → authorizations_made (e ∷ before) h ≡ authorizations_made before h
+    → (x : Auth) → 0 < x.number → HeldSinceMade (e ∷ before) h x ↔ HeldSinceMade before h x
+since_left e before h holders created x positive = (
+  λ since. since.1,
+  λ since. (
+    λ made. λ p is a has. held_by_same h (resource_holder before a) (resource_holder (e ∷ before) a) (holders a)
+        (held_now before h x positive (subst (λ (k : ℕ). x.number ≤ k) created made) since p is a has),
+    since,
+  ),
+)
+
+-- an accepted command changes nothing that a holder has which it does not name
 pub agree-unnamed : (charter : Charter) (e : Entry) (before : History) (h : List ℕ) → Verdict charter before e.day e.caller e.command None
     → names h e.command ≡ false → Agree (e ∷ before) before h
 agree-unnamed charter e before h accepted unnamed =
@@ -60,15 +75,16 @@ agree-unnamed charter e before h accepted unnamed =
       granted = same.2;
       terms = same.3;
       created = same.4;
-      since = λ x positive. (
-        λ since. since.1,
-        λ since. (
-          λ made. λ p is a has. held_by_same h (resource_holder before a) (resource_holder (e ∷ before) a) (holders a)
-              (held_now before h x positive (subst (λ (k : ℕ). x.number ≤ k) same.4 made) since p is a has),
-          since,
-        ),
-      );
+      since = since_left e before h holders same.4;
     }
+
+-- nor do more of them
+pub agree-later : (charter : Charter) (h : List ℕ) (later before : History) → IsLegal charter (later ++ before) → is_named h later ≡ false
+    → Agree (later ++ before) before h
+agree-later charter h [] before legal none = agree-same before h
+agree-later charter h (e ∷ later) before legal none =
+    let parts = or_parts (names h e.command) (is_named h later) none in
+    agree-trans (agree-unnamed charter e (later ++ before) h legal.0 parts.0) (agree-later charter h later before legal.1 parts.1)
 
 -- the part has every entry that names the holder
 abbrev pub HasEntries : (Entry → Bool) → List ℕ → Type 0

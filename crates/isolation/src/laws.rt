@@ -7,6 +7,7 @@ ghost use Rattle.isolation.specs.Isolation.{
   RowsOfEntries,
   VrpsOfEntries,
 };
+ghost use Rattle.isolation.specs.RepeatedRequests.{RepeatsLeaveRows};
 
 /// After a legal history the rows of a holder are those of the entries that name it.
 #[tactic(auto, using(crate::proofs::Isolation::rows_of_entries))]
@@ -37,4 +38,11 @@ pub fn commands_by_entries()
 /// entries that name the holder alone.
 pub fn queries_by_entries()
     ensures { QueriesByEntries }
+{}
+
+/// Where a legal history accepted a command other than a grant, and no later entry names one of its
+/// holders, the same command by any caller on any day, if it is accepted again, leaves the rows of
+/// every holder.
+pub fn again()
+    ensures { RepeatsLeaveRows }
 {}
