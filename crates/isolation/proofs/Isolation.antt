@@ -1,4 +1,4 @@
--- The laws.
+-- Each law, from what histories agree on.
 use Rattle.std.proofs.Common.{ℕ, List, inl, inr, subst}
 use Rattle.std.specs.List.{Contains}
 use Rattle.addr.specs.declared.vrp.Vrp.{Vrp}

@@ -1,5 +1,5 @@
--- The entries of a history that name a holder. Nothing here asks that a history is legal; those of a
--- legal one need not be.
+-- The entries of a history that name a holder. By themselves those of a legal history may be no legal
+-- one: a transfer from another holder is among them, but not the registration of that holder.
 use Rattle.std.specs.Prelude.{ℕ, Bool, ◌||◌, List, filter}
 use Rattle.policy.specs.declared.command.Command.{Command}
 use Rattle.policy.specs.declared.command.Command.TheVariants.{Transfer}
