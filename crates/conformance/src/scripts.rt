@@ -23,14 +23,14 @@ mod resources;
 mod vrps;
 
 /// `alpha` has 192.0.2.0/24, and `ann` is its manager.
-const ALPHA: &str = r#"
+pub(crate) const ALPHA: &str = r#"
 reg {"do":"register","holder":"alpha"} => {"done":null}
 reg {"do":"delegate","holder":"alpha","prefix":"192.0.2.0/24"} => {"done":null}
 reg {"do":"grant","holder":"alpha","name":"ann","role":"manager","scope":"all","until":"2026-12-31"} => {"done":1}
 "#;
 
 /// Beyond that, AS 64496 is authorized for all of it.
-const AUTHORIZATION: &str = r#"
+pub(crate) const AUTHORIZATION: &str = r#"
 ann {"do":"create","holder":"alpha","asn":64496,"prefix":"192.0.2.0/24","max":24,"from":"2026-01-01","until":"2026-12-31"} => {"done":1}
 "#;
 
@@ -73,9 +73,9 @@ pub(crate) fn example_desk(alloc: Global) -> Result<Desk<MemStore>, Fail> {
     desk_of(alloc, EXAMPLE_POOL)
 }
 
-// The lines of a script, and the replies that are expected.
+/// The lines of a script, and the replies that are expected.
 #[derive(Drop)]
-struct Dialogue {
+pub(crate) struct Dialogue {
     alloc: Global,
     script: String,
     expected: String,
@@ -88,6 +88,15 @@ impl Dialogue {
             script: String::new(alloc),
             expected: String::new(alloc),
         }
+    }
+
+    /// The lines of these texts, one after the other.
+    pub(crate) fn of(alloc: Global, texts: &[&str]) -> Result<Dialogue, Fail> {
+        let mut dialogue = Dialogue::new(alloc);
+        for text in texts {
+            dialogue.add(text)?;
+        }
+        Ok(dialogue)
     }
 
     fn add(&mut self, text: &str) -> Result<(), Fail> {
@@ -128,6 +137,18 @@ impl Dialogue {
         };
         result?;
         Ok(sheet.bytes)
+    }
+
+    /// The lines, asked of the desk one by one, have their replies.
+    pub(crate) fn assert_replies_of_lines(
+        &self,
+        rt: &impl Abort,
+        name: &str,
+        desk: &mut Desk<MemStore>,
+    ) -> Result<(), Fail> {
+        let written = String::from_utf8(self.replies(desk)?)?;
+        assert_eq!(rt; written.as_str(), self.expected.as_str(), "{name}");
+        Ok(())
     }
 
     // The lines that are requests, asked as one list, have the same replies.
@@ -173,14 +194,9 @@ fn assert_replies(
     texts: &[&str],
     lines: &str,
 ) -> Result<(), Fail> {
-    let mut dialogue = Dialogue::new(alloc);
-    for text in texts {
-        dialogue.add(text)?;
-    }
+    let mut dialogue = Dialogue::of(alloc, texts)?;
     dialogue.add(lines)?;
-    let written = dialogue.replies(&mut desk_of(alloc, pool)?)?;
-    let written = String::from_utf8(written)?;
-    assert_eq!(rt; written.as_str(), dialogue.expected.as_str(), "{name}");
+    dialogue.assert_replies_of_lines(rt, name, &mut desk_of(alloc, pool)?)?;
     dialogue.assert_replies_of_run(rt, name, &mut desk_of(alloc, pool)?)
 }
 

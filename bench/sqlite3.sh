@@ -1,0 +1,83 @@
+#!/usr/bin/env bash
+# Whether the command sqlite3 reads a database that a store made, and a store one that sqlite3 wrote.
+#
+#     sqlite3.sh
+#
+# Needs rt and sqlite3. Files go to a temporary folder, or stay in BENCH_WORK; the next run there is
+# quicker, since the programs are proved. Ends with 1 where something else is found, with 2 where
+# something could not be run.
+set -u
+bench=$(cd "$(dirname "${BASH_SOURCE[0]}")" && pwd)
+failed=0
+
+fail() {
+    echo "sqlite3.sh: $1" >&2
+    exit 2
+}
+
+if [ -n "${BENCH_WORK:-}" ]; then
+    mkdir -p "$BENCH_WORK" || fail "no folder $BENCH_WORK"
+    work=$(realpath "$BENCH_WORK")
+else
+    work=$(mktemp -d) || fail "no temporary folder"
+    trap 'rm -rf "$work"' EXIT
+fi
+rm -f "$work"/*.db*
+
+# expect NAME FOUND EXPECTED
+expect() {
+    if [ "$2" = "$3" ]; then
+        echo "$1: ok"
+    else
+        printf '%s: found\n%s\nexpected\n%s\n' "$1" "$2" "$3"
+        failed=1
+    fi
+}
+
+# What a store made, read by sqlite3.
+store=$("$bench/build.sh" store "$work" memory 2 2) || fail "store.rs was not built"
+made=$work/made.db
+"$store" "$made" 10 10 >"$work/made.lines" || fail "store.rs failed"
+expect 'the schema of a new store' "$(sqlite3 "$made" .schema | sort)" "$(sort "$bench/tables.sql")"
+expect 'its integrity' "$(sqlite3 "$made" 'PRAGMA integrity_check')" ok
+expect 'its foreign keys' "$(sqlite3 "$made" 'PRAGMA foreign_key_check')" ''
+expect 'its number' "$(sqlite3 "$made" 'SELECT name, value FROM meta')" 'schema|1'
+expect 'its holders' "$(sqlite3 "$made" 'SELECT count(*), sum(grants) FROM holder')" '10|10'
+expect 'its authorizations' "$(sqlite3 "$made" 'SELECT count(*), sum(asn) FROM auth')" '100|550'
+
+# What sqlite3 wrote, opened as a store.
+open=$("$bench/build.sh" open "$work" "$work/first.db") || fail "open.rs was not built"
+rows="
+INSERT INTO meta VALUES ('schema', 1);
+INSERT INTO operator VALUES ('reg');
+INSERT INTO pool VALUES (4, x'000000000000000000000000c0000200', 24);
+INSERT INTO holder VALUES ('alpha', 1, 1);
+INSERT INTO holding VALUES (4, x'000000000000000000000000c0000200', x'000000000000000000000000c00002ff', 'alpha');
+INSERT INTO granted VALUES ('alpha', 1, 'ann', 1, NULL, NULL, NULL, 20818);
+INSERT INTO auth VALUES ('alpha', 1, 64496, 4, x'000000000000000000000000c0000200', 24, 24, 20454, 20818);"
+whole='operators 1, pool 1
+AS64496 192.0.2.0/24 24'
+
+# expect_opened NAME EXPECTED TABLES [SQL]: of a database with these tables, the rows above and more.
+expect_opened() {
+    rm -f "$work"/written.db*
+    printf '%s\n' "$3" "$rows" "${4:-}" | sqlite3 "$work/written.db" || fail "sqlite3 failed: $1"
+    expect "$1" "$("$open" "$work/written.db")" "$2"
+}
+
+tables=$(cat "$bench/tables.sql")
+expect_opened 'tables of sqlite3' "$whole" "$tables"
+expect 'its integrity afterwards' "$(sqlite3 "$work/written.db" 'PRAGMA integrity_check')" ok
+expect_opened 'without the index' "$whole" "$(grep -v INDEX "$bench/tables.sql")"
+expect 'the schema afterwards' "$(sqlite3 "$work/written.db" .schema | sort)" "$(sort "$bench/tables.sql")"
+expect_opened 'with a write-ahead log' "$whole" "PRAGMA journal_mode = WAL; $tables"
+expect_opened 'after a vacuum' "$whole" "CREATE TABLE notes (text); $tables" 'DROP TABLE notes; VACUUM;'
+expect_opened 'tables in another order' database "$(tac "$bench/tables.sql" | grep -v INDEX)"
+expect_opened 'another number' schema "$tables" 'UPDATE meta SET value = 2;'
+expect_opened 'a run of nobody' refused "$tables" 'DELETE FROM holder;'
+: >"$work/empty.db"
+expect 'an empty file' "$("$open" "$work/empty.db")" schema
+echo 'register,alpha' >"$work/text.db"
+expect 'a file that is no database' "$("$open" "$work/text.db")" refused
+
+exit "$failed"

@@ -1,0 +1,66 @@
+#!/usr/bin/env bash
+# Measures the store against store.c, the same statements in C over libsqlite3, in memory and over files.
+#
+#     store.sh [RUNS]      (5 where left out)
+#
+# Needs rt, gcc and libsqlite3 with its header. Files go to a temporary folder, or stay in BENCH_WORK;
+# the next run there is quicker, since the program is proved. The two programs run in turn, and of the
+# medians of an operation's times the least counts. Ends with 1 where they answer otherwise than each other, with 2
+# where something could not be run.
+set -u
+bench=$(cd "$(dirname "${BASH_SOURCE[0]}")" && pwd)
+runs=${1:-5}
+
+fail() {
+    echo "store.sh: $1" >&2
+    exit 2
+}
+
+if [ -n "${BENCH_WORK:-}" ]; then
+    mkdir -p "$BENCH_WORK" || fail "no folder $BENCH_WORK"
+    work=$(realpath "$BENCH_WORK")
+else
+    work=$(mktemp -d) || fail "no temporary folder"
+    trap 'rm -rf "$work"' EXIT
+fi
+
+gcc -O2 -Wall -o "$work/plain" "$bench/store.c" -lsqlite3 || fail "store.c was not built"
+program=$("$bench/build.sh" store "$work" memory 2 2) || fail "store.rs was not built"
+
+# A line an operation: the place, the numbers of holders and authorizations, the operation,
+# nanoseconds, and the sum of what was answered.
+measure() {
+    local place=$1 path=$1
+    [ "$place" = memory ] || path=$work/measured.db
+    rm -f "$work"/measured.db*
+    "$4" "$path" "$2" "$3" "${@:5}" | sed "s/^/$place $2 $3 /"
+    return "${PIPESTATUS[0]}"
+}
+
+: >"$work/roadesk.lines"
+: >"$work/plain.lines"
+for _ in $(seq "$runs"); do
+    for place in memory file; do
+        for size in '1000 10' '100 100'; do
+            measure "$place" $size "$program" >>"$work/roadesk.lines" || fail "store.rs failed"
+            measure "$place" $size "$work/plain" "$bench/tables.sql" >>"$work/plain.lines" || fail "store.c failed"
+        done
+    done
+done
+
+awk '
+    { key = $1 " " $2 " " $3 " " $4 }
+    !(key in order) { order[key] = ++keys; names[keys] = key; sum[key] = $6 }
+    sum[key] != $6 { print "other answers: " key; differ = 1 }
+    FNR == NR { if (!(key in roadesk) || $5 < roadesk[key]) roadesk[key] = $5; next }
+    !(key in plain) || $5 < plain[key] { plain[key] = $5 }
+    END {
+        printf "%-6s  %12s  %-15s  %9s  %9s  %6s\n", "", "rows", "operation", "roadesk", "C", "ratio"
+        for (at = 1; at <= keys; at++) {
+            key = names[at]
+            split(key, part, " ")
+            printf "%-6s  %12s  %-15s  %6.1f us  %6.1f us  %6.2f\n", part[1], part[2] " of " part[3], part[4],
+                roadesk[key] / 1000, plain[key] / 1000, roadesk[key] / plain[key]
+        }
+        exit differ
+    }' "$work/roadesk.lines" "$work/plain.lines"
