@@ -21,9 +21,9 @@ mod scripts;
 #[cfg(test)]
 mod slurm_files;
 #[cfg(test)]
-mod streams;
+mod stores;
 #[cfg(test)]
-mod tables;
+mod streams;
 #[cfg(test)]
 mod values;
 #[cfg(test)]

@@ -10,7 +10,7 @@ use Rattle.policy.specs.Answer.{IsAccepted, IsAnswer, IsListRefusal, number_made
 use Rattle.policy.specs.declared.rule.Refusal.{Refusal}
 use Rattle.policy.specs.declared.rule.Refusal.TheVariants.{Denied, Memory}
 use Rattle.policy.specs.declared.change.Change.{Change}
-use Rattle.desk.specs.Answer.{is_done, refused_with, AnswersCommand, AnswersList, IsAnswered}
+use Rattle.desk.specs.Answer.{refused_with, AnswersCommand, AnswersList, IsAnswered}
 use Rattle.desk.specs.declared.asked.Request.TheVariants.{Command as CommandRequest}
 use Rattle.desk.specs.declared.reply.Reply.{Reply}
 use Rattle.desk.specs.declared.reply.Reply.TheVariants.{Done}

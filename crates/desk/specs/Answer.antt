@@ -3,7 +3,7 @@
 -- and is answered with the first rule that fails; what is shown, exported and judged is what the
 -- history defines. Where no memory is found, or the database does not answer, the reply is Unavailable
 -- and nothing has changed.
-use Rattle.std.specs.Prelude.{◌≡◌, ℕ, Bool, true, false, List, [], ◌∷◌, Option, Some, None, ◌↔◌, Contains}
+use Rattle.std.specs.Prelude.{◌≡◌, ℕ, Bool, true, false, List, [], ◌∷◌, Some, None, ◌↔◌, Contains}
 use Rattle.std.specs.String.{string_bytes}
 use Rattle.addr.specs.OriginValidation.{HasState}
 use Rattle.addr.specs.declared.route.Route.{Route}

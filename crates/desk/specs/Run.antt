@@ -1,5 +1,5 @@
 -- Requests that are asked one after the other.
-use Rattle.std.specs.Prelude.{◌≡◌, ℕ, List, [], ◌∷◌}
+use Rattle.std.specs.Prelude.{◌≡◌, List, [], ◌∷◌}
 use Rattle.policy.specs.History.{History}
 use Rattle.policy.specs.Values.{HistoryFits}
 use Rattle.policy.specs.Verdict.{IsLegal}

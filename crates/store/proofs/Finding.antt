@@ -1,5 +1,5 @@
 -- What the queries of the values of one holder answer.
-use Rattle.std.proofs.Common.{◌≡◌, ℕ, suc, Bool, List, [], ◌∷◌, map, filter, drop, Option, Some, None, Ordering, Equal, refl, sym, ap, subst, ◌∙◌, codes, IsPermutation, IsSorted}
+use Rattle.std.proofs.Common.{◌≡◌, ℕ, suc, Bool, List, [], ◌∷◌, map, filter, drop, length, Option, Some, None, Ordering, Equal, refl, sym, ap, subst, ◌∙◌, codes, IsPermutation, IsSorted}
 use Rattle.std.specs.Ordering.{then_cmp, ordering_then}
 use Rattle.std.proofs.lemmas.List.Sorted.{IsPermutation-trans, IsPermutation-map}
 use Rattle.sqlite.specs.Effect.{Database, Reads}
@@ -22,6 +22,8 @@ use Rattle.policy.specs.Rows.{Rows}
 use Rattle.tables.specs.Cells.{span_cells, grant_cells, auth_cells, holding_row, granted_row, auth_row}
 use Rattle.tables.specs.Tables.{contents, columns}
 use Rattle.tables.specs.TablesHold.{Part, TablesHold, items_if_any, HoldsPart, part_rows, holder_part, holding_part, granted_part, auth_part}
+use Rattle.tables.specs.Decode.{first_columns}
+use Rattle.tables.proofs.ReadLemmas.{are_whole}
 use Rattle.store.specs.steps.Queries.{by_column, AreSelected, Selects}
 use Rattle.tables.proofs.Selecting.{from_table, no_limit, picks, permuted, sorted}
 use Rattle.store.proofs.StepLemmas.{column_after, holder_test}
@@ -43,9 +45,10 @@ of_contents shows cells passes goes same tests rows =
 
 -- The query of a holder's values: their table, the columns that it shows, its text, what it is sorted by, and
 -- the titles of its columns.
-pub record Query {X : Type 0} (cells : X → Row) (items : Rows → List X) (cmp : Row → Row → Ordering) : Type 0 where
+pub record Query {X : Type 0} (cells : X → Row) (width : ℕ) (items : Rows → List X) (cmp : Row → Row → Ordering) : Type 0 where
   pub part : Part
   pub places : List ℕ
+  pub counted : length places ≡ width
   pub text : List ℕ
   pub order : List (Term × Key)
   pub titles : List (List ℕ)
@@ -71,7 +74,7 @@ pub record Query {X : Type 0} (cells : X → Row) (items : Rows → List X) (cmp
       → key_cmp 0 (map (λ (k : Term × Key). k.1) order) (map (column x) keys) (map (column y) keys) ≡ cmp x y
   pub once : (x y : X) → cells x ≡ cells y → x ≡ y
 
-module _ {X : Type 0} (cells : X → Row) (items : Rows → List X) (cmp : Row → Row → Ordering) (q : Query cells items cmp) where
+module _ {X : Type 0} (cells : X → Row) (width : ℕ) (items : Rows → List X) (cmp : Row → Row → Ordering) (q : Query cells width items cmp) where
   abbrev tests : List Term
   tests = equals (suc q.part.place) 0 ∷ []
 
@@ -98,15 +101,19 @@ module _ {X : Type 0} (cells : X → Row) (items : Rows → List X) (cmp : Row �
         go None same = same
         go (Some r) same = subst (λ l. IsPermutation l rows) (q.shows h r) same
 
-  pub selects : Selects cells items cmp q.text
-  selects = record { plain = q.means.plain; unlisted = q.means.unlisted; found = found; rising = rises; once = q.once }
+    whole : map (first_columns width) rows ≡ rows
+    whole = subst (λ count. map (first_columns count) rows ≡ rows) q.counted (are_whole q.places _ rows finds)
+
+  pub selects : Selects cells width items cmp q.text
+  selects = record { plain = q.means.plain; unlisted = q.means.unlisted; found = found; rising = rises; whole = whole; once = q.once }
 
 -- ---- the four queries
 
-abbrev pub counters_query : Query cells_of_counters counters_of_rows (λ _ _. Equal)
+abbrev pub counters_query : Query cells_of_counters 2 counters_of_rows (λ _ _. Equal)
 counters_query = record {
   part = holder_part;
   places = 1 ∷ 2 ∷ [];
+  counted = refl;
   text = counters_text;
   order = [];
   titles = codes "grants" ∷ codes "auths" ∷ [];
@@ -119,10 +126,11 @@ counters_query = record {
   once = one_counters;
 }
 
-abbrev pub spans_query : Query span_cells (λ (r : Rows). r.holdings) (then_cmp (by_column 0) (by_column 1))
+abbrev pub spans_query : Query span_cells 3 (λ (r : Rows). r.holdings) (then_cmp (by_column 0) (by_column 1))
 spans_query = record {
   part = holding_part;
   places = 0 ∷ 1 ∷ 2 ∷ [];
+  counted = refl;
   text = spans_text;
   order = upwards 1 ∷ upwards 2 ∷ [];
   titles = codes "family" ∷ codes "lo" ∷ codes "hi" ∷ [];
@@ -145,10 +153,11 @@ grant_shown h g = go g.scope
     go All = refl
     go (Only p) = refl
 
-abbrev pub grants_query : Query grant_cells (λ (r : Rows). r.grants) (by_column 0)
+abbrev pub grants_query : Query grant_cells 7 (λ (r : Rows). r.grants) (by_column 0)
 grants_query = record {
   part = granted_part;
   places = grant_places;
+  counted = refl;
   text = grants_text;
   order = upwards 2 ∷ [];
   titles = codes "number" ∷ codes "caller" ∷ codes "role" ∷ codes "family" ∷ codes "lo" ∷ codes "len" ∷ codes "until" ∷ [];
@@ -164,10 +173,11 @@ grants_query = record {
 abbrev auth_places : List ℕ
 auth_places = 1 ∷ 2 ∷ 3 ∷ 4 ∷ 5 ∷ 6 ∷ 7 ∷ 8 ∷ []
 
-abbrev pub auths_query : Query auth_cells (λ (r : Rows). r.auths) (by_column 0)
+abbrev pub auths_query : Query auth_cells 8 (λ (r : Rows). r.auths) (by_column 0)
 auths_query = record {
   part = auth_part;
   places = auth_places;
+  counted = refl;
   text = auths_text;
   order = upwards 2 ∷ [];
   titles = codes "number" ∷ codes "asn" ∷ codes "family" ∷ codes "lo" ∷ codes "len" ∷ codes "max" ∷ codes "opens" ∷ codes "ends" ∷ [];

@@ -14,4 +14,12 @@ mod Overlapping
 mod InForce
 mod Giving
 mod HistoryRows
-pub mod SameCharter
+mod Rowids
+mod AllTexts
+mod Obeyed
+mod SomeRows
+mod Unread
+mod HeldRead
+mod Opened
+mod SameCharter
+mod OpenedStore

@@ -137,16 +137,21 @@ answer_survives sql text params old mid new has plain compiled one two =
     let it = compiled before in
     asked_commits sql params old mid new (has (omega (arith, one.clean))) plain it.1 db (subst (λ t. CommitsShowing t params mid db) it.0 commits)) one two
 
--- ---- what is shown of a holder, as what the text answers over the tables of a desk
+-- what is shown, as what the text answers over the tables of a desk
+pub answered :
+    (sql : List ℕ) (params values : Row) (old new : State) (rows : List Row)
+    → OverDesk (λ s. IsPlain (understood s sql)) → OverDesk (λ s. reads_listing s sql ≡ false) → (IsTrue old.is_open → old.now.schema.tables ≡ desk_tables)
+    → values ≡ params → Shown sql values old new rows → Reads (command_of (understood (desk_beside old.now.schema) sql)) old.now params rows
+answered sql params values old new rows plain unlisted has is shown =
+    let of_params = subst (λ p. Shown sql p old new rows) is shown in
+    let same = beside old.now.schema (has (shown_open sql params old new rows of_params)) in
+    reads_as sql params old new (desk_beside old.now.schema) same (command_of (understood (desk_beside old.now.schema) sql)) refl (plain old.now.schema) (unlisted old.now.schema) rows of_params
 
 pub selected :
     (sql h : List ℕ) (values : Row) (old new : State) (rows : List Row)
     → OverDesk (λ s. IsPlain (understood s sql)) → OverDesk (λ s. reads_listing s sql ≡ false) → (IsTrue old.is_open → old.now.schema.tables ≡ desk_tables)
     → values ≡ Text h ∷ [] → Shown sql values old new rows → AreSelected sql h old.now rows
-selected sql h values old new rows plain unlisted has is shown =
-    let of_name = subst (λ params. Shown sql params old new rows) is shown in
-    let same = beside old.now.schema (has (shown_open sql (Text h ∷ []) old new rows of_name)) in
-    reads_as sql (Text h ∷ []) old new (desk_beside old.now.schema) same (command_of (understood (desk_beside old.now.schema) sql)) refl (plain old.now.schema) (unlisted old.now.schema) rows of_name
+selected sql h = answered sql (Text h ∷ [])
 
 pub no_answer : {Y F : Type 0} (P : Type 0) (s : Result Y F) → IsErr s → OnOk s P
 no_answer P (Ok y) none = absurd cc

@@ -1,8 +1,7 @@
 -- Tables hold one charter at most.
 use Rattle.std.proofs.Common.{◌≡◌, ℕ, ◌<◌, zero, suc, Bool, true, false, ◌||◌, List, [], ◌∷◌, map, length, get_or, refl, sym, ap, ◌∙◌, subst, add-one, arith, Ordering, Less, Equal, Greater, is_lt, nat_eq, nat_cmp, IsPermutation, IsSorted}
-use Rattle.std.specs.Cmp.{IsTotalOrder}
 use Rattle.std.specs.Cmp.Lexicographic.{pointwise, slice_cmp}
-use Rattle.std.specs.FinMap.{IsAntisymmetric, nat_cmp-IsAntisymmetric, slice_cmp-IsAntisymmetric}
+use Rattle.std.specs.FinMap.{nat_cmp-IsAntisymmetric, slice_cmp-IsAntisymmetric}
 use Rattle.std.specs.Ordering.{ordering_reverse}
 use Rattle.std.specs.List.Sorted.{IsStrictlySortedBy}
 use Rattle.std.proofs.lemmas.Bool.{and_from, eq-eqb}
@@ -12,7 +11,6 @@ use Rattle.std.proofs.lemmas.Map.Keys.{sorted_head, sorted_tail, sorted_from_all
 use Rattle.sqlite_keyed.proofs.SortLemmas.{sorted_unique}
 use Rattle.sqlite_trees.specs.Tree.{Trees, IsAscending}
 use Rattle.sqlite_value.specs.Order.{Row}
-use Rattle.sqlite_value.specs.declared.value.Value.TheVariants.{Text}
 use Rattle.addr.specs.Address.{prefix_eq}
 use Rattle.addr.specs.Order.{IsOrder, prefix_cmp}
 use Rattle.addr.proofs.Equality.{prefix_itself}
@@ -78,7 +76,7 @@ name_order = record { total = nat_list_cmp_total; exact = slice_cmp-IsAntisymmet
 pub same_charter : (c d : CharterSets) (trees : Trees) → IsCharter c → IsCharter d → HoldsCharter c trees → HoldsCharter d trees → c ≡ d
 same_charter c d trees one other held holds =
     let operators = one_order (slice_cmp nat_cmp) name_order (pointwise nat_eq) name_itself c.operators d.operators one.operators_rise other.operators_rise one.operators_once
-        (same_members operator_row one_operator c.operators d.operators _ held.operators holds.operators) in
+    (same_members operator_row one_operator c.operators d.operators _ held.operators holds.operators) in
     let pool = one_order prefix_cmp prefix_order prefix_eq prefix_itself c.pool d.pool one.pool_rises other.pool_rises one.pool_once
-        (same_members prefix_cells one_prefix c.pool d.pool _ held.pool holds.pool) in
+    (same_members prefix_cells one_prefix c.pool d.pool _ held.pool holds.pool) in
     λ i. record { operators = operators i; pool = pool i }

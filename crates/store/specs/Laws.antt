@@ -1,5 +1,11 @@
 -- What follows for the rows of a history.
-use Rattle.std.specs.Prelude.{ℕ, List, Option}
+use Rattle.std.specs.Prelude.{◌≡◌, ℕ, List, Option, IsTrue}
+use Rattle.std.specs.List.{AllByRecursion}
+use Rattle.sqlite_trees.specs.Tree.{Trees}
+use Rattle.addr.specs.Name.{is_name}
+use Rattle.policy.specs.CharterSets.{IsCharter}
+use Rattle.sqlite.specs.Effect.{Database}
+use Rattle.sqlite.specs.Steps.{over_memory}
 use Rattle.policy.specs.declared.charter.Charter.{Charter}
 use Rattle.policy.specs.declared.rows.HolderRows.{HolderRows}
 use Rattle.policy.specs.History.{History}
@@ -7,6 +13,10 @@ use Rattle.policy.specs.Rows.{Rows, rows_if_any, RowsIfAny}
 use Rattle.policy.specs.RowsOfAll.{HasRows}
 use Rattle.policy.specs.Values.{HistoryFits, FitIfAny}
 use Rattle.policy.specs.Verdict.{IsLegal}
+use Rattle.tables.specs.TablesHold.{TablesHold}
+use Rattle.tables.specs.Tables.{desk_tables}
+use Rattle.store.specs.StoreRows.{IsHonest, IsOfAnotherSchema}
+use Rattle.store.specs.TablesRead.{TablesRead}
 use Rattle.store.specs.Loads.{AreLoaded, AllGiveOn}
 
 -- The rows of a holder after a history, as they are loaded, are its rows after the history.
@@ -31,3 +41,21 @@ AuthsOfHistoriesGive =
     (charter : Charter) (history : History) (rows : List ℕ → Option Rows) (day : ℕ)
     → IsLegal charter history → HistoryFits history → HasRows rows history
     → AllGiveOn rows day
+
+-- Tables that hold a charter of names and the rows of such a history read, so that no opening of what a desk
+-- left finds a row that shows none.
+abbrev pub HistoriesRead : Type 0
+HistoriesRead =
+    (charter : Charter) (history : History) (rows : List ℕ → Option Rows) (trees : Trees)
+    → IsLegal charter history → HistoryFits history → HasRows rows history
+    → IsCharter charter → AllByRecursion (λ name. IsTrue (is_name name)) charter.operators
+    → TablesHold charter rows trees → TablesRead trees
+
+-- memory returns what was written
+abbrev pub MemoryIsHonest : Type 0
+MemoryIsHonest = IsHonest over_memory
+
+-- Tables of a desk that read are not of another schema.
+abbrev pub TablesThatReadAreOurs : Type 0
+TablesThatReadAreOurs =
+    (db : Database) → db.schema.tables ≡ desk_tables → TablesRead db.trees → ¬ IsOfAnotherSchema db

@@ -1,4 +1,5 @@
 pub mod Fault
+pub mod TablesRead
 pub mod StoreRows
 pub mod Loads
 pub mod Laws

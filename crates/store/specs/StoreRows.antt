@@ -1,16 +1,19 @@
 -- What a store shows and holds, as it is and after a crash.
 use Rattle.std.specs.Prelude.{◌≡◌, ◌⊎◌, ℕ, false, List, Option, None, IsTrue, refl}
 use Rattle.std.specs.Coded.{Coded, code_by, coded×}
+use Rattle.sqlite.specs.Effect.{Database}
 use Rattle.sqlite.specs.Held.{Held, held_code, state}
 use Rattle.sqlite.specs.State.{State, HasCleanDisk}
 use Rattle.sqlite.specs.Store.{Ghosts}
 use Rattle.sqlite_trees.specs.Tree.{Trees}
 use Rattle.policy.specs.contracts.charter.Charter as charter
-use Rattle.policy.specs.CharterSets.{CharterSets}
+use Rattle.policy.specs.CharterSets.{CharterSets, IsCharter}
 use Rattle.policy.specs.declared.change.Change.{Change}
 use Rattle.policy.specs.Rows.{Rows, changed}
 use Rattle.tables.specs.Tables.{blank_schema, desk_schema, desk_tables}
+use Rattle.tables.specs.Schemas.{has_names}
 use Rattle.tables.specs.TablesHold.{TablesHold}
+use Rattle.store.specs.TablesRead.{TablesRead}
 
 -- a store as its connection and its charter
 pub record StoreView (S : Type 0) : Type 0 where
@@ -104,3 +107,28 @@ abbrev pub LeavesOldOrNew : CharterSets → State → State → Type 0
 LeavesOldOrNew charter old new =
     (trees : Trees) → new.may_leave trees
     → old.may_leave trees ⊎ (IsUnused old × TablesHold charter (λ h. None) trees)
+
+-- ---- an opened store
+
+-- A name of a table or a column of a desk is missing, or the tables are there and do not read.
+abbrev pub IsOfAnotherSchema : Database → Type 0
+IsOfAnotherSchema db =
+    (has_names db.schema desk_tables ≡ false) ⊎ ((db.schema.tables ≡ desk_tables) × ¬ TablesRead db.trees)
+
+-- The disk returns what was written, whatever the connection does. Memory is such a one.
+abbrev pub IsHonest : {S : Type 0} → Ghosts S → Type 0
+IsHonest {S} g = (h : Held S) → HasCleanDisk (state g h)
+
+-- A store over a database that was found. It holds some rows, and what the tables held before, with its
+-- charter; and a crash leaves the rows that it holds.
+pub record IsOpened {S : Type 0} (g : Ghosts S) (found : State) (store : StoreView S) : Type 0 where
+  pub idle : found.in_transaction ≡ false
+  pub tables : found.now.schema.tables ≡ desk_tables
+  pub is_open : IsTrue (state_of g store).is_open
+  pub some : (rows : List ℕ → Option Rows) × Holds g store rows
+  pub same :
+      (charter : CharterSets) (rows : List ℕ → Option Rows) → IsCharter charter
+      → TablesHold charter rows found.now.trees → (store.charter ≡ charter) × Holds g store rows
+  pub left :
+      (rows : List ℕ → Option Rows) → Holds g store rows → (trees : Trees)
+      → (state_of g store).may_leave trees → TablesHold store.charter rows trees

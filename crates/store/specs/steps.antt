@@ -3,3 +3,6 @@ pub mod RowEdits
 pub mod Statements
 pub mod Making
 pub mod Queries
+pub mod Numbered
+pub mod Opened
+pub mod OpenedDesk

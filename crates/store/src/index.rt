@@ -3,7 +3,7 @@ ghost use Rattle.std.specs.Prelude.{◌≡◌, ◌≢◌, false, Err, IsTrue};
 ghost use Rattle.sqlite.specs.Held.{state};
 ghost use Rattle.sqlite.specs.State.{HasCleanDisk};
 ghost use Rattle.tables.specs.Tables.{unindexed_schema};
-ghost use Rattle.store.specs.steps.Making.{IsUnindexed, MakesIndex, AddsIndex, MayCommitIndex};
+ghost use Rattle.store.specs.steps.Making.{IsUnindexed, MakesIndex, StaysDesk, MayCommitIndex};
 ghost use Rattle.store.specs.steps.Statements.{WhenClean, IfDone, StaysInside};
 ghost use Rattle.store.specs.steps.Statements.{IfCommitted, IfRolledBack, CommitsAtMost};
 
@@ -26,7 +26,7 @@ pub(crate) fn add_index<S: Alter>(conn: &mut Connection<S>) -> Result<(), StoreF
     requires unindexed { HasCleanDisk (state S.Store conn.old)
         → IsTrue (state S.Store conn.old).is_open → conn.old.schema ≡ unindexed_schema }
     ensures idle { conn.new.in_transaction ≡ false }
-    ensures added { IfCommitted S.Store result AddsIndex conn.old conn.new }
+    ensures added { IfCommitted S.Store result StaysDesk conn.old conn.new }
     ensures err { IfRolledBack S.Store result conn.old conn.new }
     ensures crash { CommitsAtMost S.Store MayCommitIndex conn.old conn.new }
     ensures no_schema { result ≢ Err StoreFault.Schema }

@@ -1,6 +1,7 @@
 //! Laws over the definitions alone: each function's contract states one, and its body does nothing.
 
-ghost use Rattle.store.specs.Laws.{AuthsOfHistoriesGive, LoadsRowsOfHistories, RowsOfHistoriesFit};
+ghost use Rattle.store.specs.Laws.{AuthsOfHistoriesGive, HistoriesRead, LoadsRowsOfHistories};
+ghost use Rattle.store.specs.Laws.{MemoryIsHonest, RowsOfHistoriesFit, TablesThatReadAreOurs};
 
 /// Where the tables hold the rows of a history, what is loaded of a holder are its rows after that
 /// history, as `policy` asks for them.
@@ -25,3 +26,21 @@ pub fn auths_of_a_history_give()
     policy::laws::legal_rows_fit();
     policy::laws::max_lengths_fit();
 }
+
+/// Where the tables hold a charter and the rows of a legal history whose values are those of their
+/// types, no opening answers `Schema`.
+pub fn tables_of_a_history_read()
+    ensures { HistoriesRead }
+{
+    policy::laws::legal_rows_fit();
+}
+
+/// A connection to memory is honest, so that what is said of an honest disk is said of it.
+pub fn memory_is_honest()
+    ensures { MemoryIsHonest }
+{}
+
+/// Tables of a desk that read are never refused as those of another schema.
+pub fn tables_that_read_are_ours()
+    ensures { TablesThatReadAreOurs }
+{}

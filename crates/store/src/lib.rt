@@ -15,6 +15,8 @@ pub mod laws;
 mod load;
 mod making;
 mod opening;
+mod reading;
+mod rise;
 mod select;
 mod statement;
 mod store;

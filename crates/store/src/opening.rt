@@ -1,10 +1,19 @@
 //! Whether a database that is opened has the tables of a desk.
-ghost use Rattle.std.specs.Prelude.{◌≡◌, ◌↔◌, false, None, Err, OnOk, IfOk, IsTrue};
+ghost use Rattle.std.specs.Prelude.{◌≡◌, ◌≢◌, ◌↔◌, false, None, Err, OnOk, IfOk, IsTrue};
+ghost use Rattle.sqlite.specs.Held.{state};
 ghost use Rattle.tables.specs.Schemas.{has_names, HasPlainTables};
 ghost use Rattle.tables.specs.Tables.{desk_tables, unindexed_schema};
+ghost use Rattle.store.specs.StoreRows.{IsOfAnotherSchema};
+ghost use Rattle.store.specs.steps.Making.{StaysDesk, MayCommitIndex};
+ghost use Rattle.store.specs.steps.OpenedDesk.{IsOpenDesk, LeavesSameRows, OpensDesk};
+ghost use Rattle.store.specs.steps.Queries.{IsOnCleanDisk};
+ghost use Rattle.store.specs.steps.Statements.{IfCommitted, IfRolledBack, CommitsAtMost};
 
 use crate::StoreFault;
+use crate::index::add_index;
 use crate::making::make_all_tables;
+use crate::reading::read_tables;
+use policy::Charter;
 use sqlite::{Alter, Connection, Error, MemStore};
 use sqlite_schema::schema::Schema;
 use std::alloc::Global;
@@ -55,10 +64,12 @@ fn judge_schema(alloc: Global, schema: &Schema) -> Result<bool, StoreFault>
 /// Tells of a database that has the tables of a desk whether it has nothing else, so that the index
 /// of a holder's runs may be added. A connection in a transaction is refused, and a limit of its
 /// steps is lifted.
-pub(crate) fn judge<S: Alter>(conn: &mut Connection<S>, alloc: Global) -> Result<bool, StoreFault>
+fn judge<S: Alter>(conn: &mut Connection<S>, alloc: Global) -> Result<bool, StoreFault>
     ensures same { conn.new ≡ record conn.old { step_limit = conn.new.step_limit } }
     ensures idle { OnOk result (conn.new.in_transaction ≡ false) }
     ensures unlimited { OnOk result (conn.new.step_limit ≡ None) }
+    ensures settled { OnOk result (IsTrue (state S.Store conn.new).is_open
+        → (state S.Store conn.new).committed ≡ (state S.Store conn.new).now) }
     ensures tables { OnOk result (conn.new.schema.tables ≡ desk_tables) }
     ensures unindexed { IfOk result
         (λ unindexed. IsTrue unindexed ↔ (conn.new.schema ≡ unindexed_schema)) }
@@ -71,4 +82,46 @@ pub(crate) fn judge<S: Alter>(conn: &mut Connection<S>, alloc: Global) -> Result
     conn.set_step_limit(None);
     let is_unindexed = judge_schema(alloc, conn.schema())?;
     Ok(is_unindexed)
+}
+
+/// Adds the index of a holder's runs to a desk that has nothing beside its tables.
+fn add_missing_index<S: Alter>(
+    conn: &mut Connection<S>,
+    is_unindexed: bool,
+) -> Result<(), StoreFault>
+    requires idle { conn.old.in_transaction ≡ false }
+    requires desk { IsOnCleanDisk S.Store conn.old
+        → IsOpenDesk is_unindexed (state S.Store conn.old) }
+    ensures idle { conn.new.in_transaction ≡ false }
+    ensures kept { IfCommitted S.Store result StaysDesk conn.old conn.new }
+    ensures err { IfRolledBack S.Store result conn.old conn.new }
+    ensures crash { CommitsAtMost S.Store MayCommitIndex conn.old conn.new }
+    ensures no_schema { result ≢ Err StoreFault.Schema }
+{
+    if is_unindexed {
+        add_index(conn)?;
+    }
+    Ok(())
+}
+
+/// Reads a desk, whose charter it answers.
+pub(crate) fn open_desk<S: Alter>(
+    conn: &mut Connection<S>,
+    alloc: Global,
+) -> Result<Charter, StoreFault>
+    ensures idle { OnOk result (conn.new.in_transaction ≡ false) }
+    ensures unlimited { OnOk result (conn.new.step_limit ≡ None) }
+    ensures clean { IsOnCleanDisk S.Store conn.new → IsOnCleanDisk S.Store conn.old }
+    ensures opened { IsOnCleanDisk S.Store conn.new → IfOk result
+        (λ charter. OpensDesk charter (state S.Store conn.old) (state S.Store conn.new)) }
+    ensures err { IfRolledBack S.Store result conn.old conn.new }
+    ensures crash { IsOnCleanDisk S.Store conn.new
+        → LeavesSameRows (state S.Store conn.old) (state S.Store conn.new) }
+    ensures schema { IsOnCleanDisk S.Store conn.new → result ≡ Err StoreFault.Schema
+        → IsOfAnotherSchema (state S.Store conn.old).now }
+{
+    let is_unindexed = judge(conn, alloc)?;
+    let charter = read_tables(conn, alloc)?;
+    add_missing_index(conn, is_unindexed)?;
+    Ok(charter)
 }

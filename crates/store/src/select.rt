@@ -5,7 +5,7 @@ ghost use Rattle.std.specs.declared.cmp.Ordering.TheVariants.{Equal};
 ghost use Rattle.std.specs.Ordering.{then_cmp};
 ghost use Rattle.policy.specs.Rows.{Rows};
 ghost use Rattle.sqlite_value.specs.Order.{Row as Cells};
-ghost use Rattle.tables.specs.Decode.{ShowsNone};
+ghost use Rattle.tables.specs.Decode.{ShowsNone, first_columns};
 ghost use Rattle.store.specs.steps.Queries.{Selects, by_column};
 
 use crate::StoreFault;
@@ -15,11 +15,14 @@ use sqlite::Row;
 use std::alloc::Global;
 use tables::{Counters, FromRow, in_rows};
 
-/// The values that the rows show, in their order. A row that shows none is one of another schema.
+/// The values that the first columns of the rows show, in their order. A row that shows none is one
+/// of another schema.
 pub(crate) fn read_all<T: FromRow>(alloc: Global, rows: &[Row]) -> Result<Vec<T>, StoreFault>
-    ensures shown { IfOk result (λ values. rows.now ≡ map T.cells values.items) }
+    ensures shown { IfOk result (λ values.
+        map (first_columns T.width) rows.now ≡ map T.cells values.items) }
     ensures fits { IfOk result (λ values. All T.fits values.items) }
-    ensures schema { result ≡ Err StoreFault.Schema → Any (ShowsNone T.cells T.fits) rows.now }
+    ensures schema { result ≡ Err StoreFault.Schema
+        → Any (ShowsNone T.cells T.fits) (map (first_columns T.width) rows.now) }
 {
     read_within(Vec::with_capacity(alloc, rows.len())?, rows)
 }
@@ -28,9 +31,11 @@ pub(crate) fn read_all<T: FromRow>(alloc: Global, rows: &[Row]) -> Result<Vec<T>
 fn read_within<T: FromRow>(values: Vec<T>, rows: &[Row]) -> Result<Vec<T>, StoreFault>
     requires empty { values.items ≡ [] }
     requires room { length rows.now ≤ vec_capacity values }
-    ensures shown { IfOk result (λ values. rows.now ≡ map T.cells values.items) }
+    ensures shown { IfOk result (λ values.
+        map (first_columns T.width) rows.now ≡ map T.cells values.items) }
     ensures fits { IfOk result (λ values. All T.fits values.items) }
-    ensures schema { result ≡ Err StoreFault.Schema ↔ Any (ShowsNone T.cells T.fits) rows.now }
+    ensures schema { result ≡ Err StoreFault.Schema
+        ↔ Any (ShowsNone T.cells T.fits) (map (first_columns T.width) rows.now) }
     ensures no_database { result ≢ Err StoreFault.Database }
 {
     in_rows(values, rows).ok_or(StoreFault::Schema)
@@ -46,7 +51,7 @@ pub(crate) trait OfHolder: FromRow {
 
     /// The query of a holder's values, whose parameter is the holder's name.
     fn select() -> &'static str
-        ensures { Selects Self.cells items order result.now };
+        ensures { Selects Self.cells Self.width items order result.now };
 }
 
 impl OfHolder for Span {

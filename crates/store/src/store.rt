@@ -3,6 +3,7 @@ ghost use Rattle.sqlite.specs.Held.{state};
 ghost use Rattle.sqlite.specs.State.{HasCleanDisk};
 ghost use Rattle.store.specs.StoreRows.{changed_rows, HasDeskTables};
 ghost use Rattle.store.specs.StoreRows.{IsUnused, IsNew, LeavesNew, LeavesOldOrNew};
+ghost use Rattle.store.specs.StoreRows.{IsHonest, IsOfAnotherSchema, IsOpened};
 ghost use Rattle.tables.specs.Tables.{blank_schema};
 ghost use Rattle.tables.specs.TablesHold.{TablesHold};
 ghost use Rattle.store.specs.steps.Statements.{CommitsChange, MayCommit};
@@ -14,6 +15,7 @@ use crate::change::make_change;
 use crate::charter::put_charter;
 use crate::load::{load_rows, load_vrps};
 use crate::making::make_schema;
+use crate::opening::open_desk;
 use addr::{Day, Name, Prefix, Vrp};
 use policy::{Change, Charter, HolderRows};
 use sqlite::{Alter, Connection, MemStore};
@@ -138,6 +140,23 @@ impl<S: Alter + Drop> Store<S> {
             conn,
             charter: kept,
         })
+    }
+
+    /// A store over a database that has the tables of a desk. A connection in a transaction is
+    /// refused, and a limit of its steps is lifted. Where there is nothing beside the tables, the
+    /// index of a holder's runs is added; other indexes and views are left alone.
+    pub fn open_from(alloc: Global, mut conn: Connection<S>) -> Result<Self, StoreFault>
+        ensures opened { IfOk result (λ store. IfClean S.Store store
+            (IsOpened S.Store (state S.Store conn) store)) }
+        ensures unlimited { IfOk result (λ store. store.connection.step_limit ≡ None) }
+        ensures clean { IfOk result (λ store. IfClean S.Store store
+            (HasCleanDisk (state S.Store conn))) }
+        ensures schema { IsHonest S.Store → result ≡ Err StoreFault.Schema
+            → IsOfAnotherSchema (state S.Store conn).now }
+    {
+        let charter = open_desk(&mut conn, alloc)?;
+        let _rising = charter.operators();
+        Ok(Store { conn, charter })
     }
 }
 

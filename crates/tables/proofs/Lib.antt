@@ -11,5 +11,5 @@ pub mod ReadLemmas
 pub mod CellsOnce
 pub mod Addresses
 pub mod SomeRow
-pub mod PlainTables
+pub mod DeskTables
 pub mod RowsStay

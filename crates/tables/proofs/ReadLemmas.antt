@@ -1,12 +1,15 @@
 -- The parts of typed values in the cells that show them.
 use Rattle.std.proofs.Common.{◌≡◌, ◌≢◌, ℕ, ◌^◌, ◌<◌, ◌≤◌, ◌↔◌, List, [], ◌∷◌, length, get_or, arith, ap, sym, ◌∙◌, refl, subst}
 use Rattle.std.specs.Prelude.{Option, Some, None, IsSome, IfSome, ⊤, map, All, Any}
+use Rattle.std.specs.List.{AllByRecursion}
 use Rattle.std.specs.List.Sorted.{IsPermutation}
+use Rattle.std.proofs.lemmas.List.{length-map, get_or-map}
 use Rattle.std.proofs.lemmas.List.Elements.{All-map}
 use Rattle.std.proofs.lemmas.List.Sorted.{All-permutation}
 use Rattle.std.proofs.lemmas.List.FromFn.{fill_by_all}
 use Rattle.sqlite_value.specs.declared.value.Value.TheVariants.{Null, Blob}
 use Rattle.sqlite_value.specs.Order.{Row, column}
+use Rattle.sqlite_trees.proofs.ListLemmas.{all_of, all-map, all-permutation}
 use Rattle.addr.specs.declared.family.Family.{Family}
 use Rattle.addr.specs.declared.prefix.Prefix.{Prefix}
 use Rattle.addr.specs.declared.span.Span.{Span}
@@ -14,12 +17,24 @@ use Rattle.addr.specs.Family.{width}
 use Rattle.addr.specs.Address.{IsPrefix}
 use Rattle.addr.proofs.AddressLemmas.{below_widest, first_below}
 use Rattle.tables.specs.Cells.{address, number_cell, family_number, prefix_cells, span_cells}
+use Rattle.tables.specs.Tables.{columns}
 use Rattle.tables.specs.Decode.{Decodes, first_columns}
 use Rattle.tables.proofs.AddressBytes.{address_once, length-address}
 use Rattle.tables.proofs.CellsOnce.{one_family}
 
 pub all_columns : (count : ℕ) (row : Row) → length row ≡ count → row ≡ first_columns count row
 all_columns count row whole = fill_by_all (column row) row count Null whole (λ k within. refl)
+
+-- rows of so many columns are their first columns
+pub first_of_all : (count : ℕ) (rows : List Row) → AllByRecursion (λ c. length c ≡ count) rows → map (first_columns count) rows ≡ rows
+first_of_all count [] all = refl
+first_of_all count (c ∷ rows) all = λ i. sym (all_columns count c all.0) i ∷ first_of_all count rows all.1 i
+
+-- rows that show these columns have no others
+pub are_whole : (places : List ℕ) (kept rows : List Row) → IsPermutation (map (columns places) kept) rows → map (first_columns (length places)) rows ≡ rows
+are_whole places kept rows same =
+    let count = length places in
+    first_of_all count rows (all-permutation (λ c. length c ≡ count) _ rows same (all-map _ (columns places) kept (all_of _ (λ c. length-map places (column c)) kept)))
 
 pub address_reads :
     (bytes : List ℕ) (r : Option ℕ) → IfSome r (λ n. bytes ≡ address n) → (r ≡ None → length bytes ≢ 16)
@@ -83,3 +98,7 @@ all_show {X} cells fits xs rows fit same other =
     let each : All Shows rows = All-permutation Shows (map cells xs) rows same (All-map Shows cells xs (λ k d within. (get_or xs k d, fit k d within, refl))) in
     let shown : Shows (get_or rows other.0 other.1) = each other.0 other.1 other.2 in
     other.4 shown.0 shown.1 (shown.2 ∙ other.3)
+
+-- what holds of the image of one element holds of some image
+pub any_mapped : {X Y : Type 0} (P : Y → Type 0) (f : X → Y) (xs : List X) (k : ℕ) (x : X) → k < length xs → x ≡ get_or xs k x → P (f x) → Any P (map f xs)
+any_mapped P f xs k x low is holds = (k, f x, omega (arith, length-map xs f), get_or-map f xs k x (f x) low ∙ ap f (sym is), holds)

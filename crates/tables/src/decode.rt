@@ -37,14 +37,6 @@ pub(crate) fn cell(row: &Row, at: usize) -> ValueRef<'_>
     row.get_ref(at).unwrap_or(ValueRef::Null)
 }
 
-/// Whether the row has so many columns, and no more.
-pub(crate) fn has_columns(row: &Row, count: usize) -> bool
-    ensures whole { OnTrue result (row.now ≡ first_columns count row.now) }
-    ensures other { OnFalse result (length row.now ≢ count) }
-{
-    row.column_count() == count
-}
-
 pub(crate) fn number_in(value: ValueRef<'_>) -> Option<u32>
     ensures { Decodes number_cell IsU32 (owned value.entry) result }
 {

@@ -12,5 +12,5 @@ pub use cells::{
     number_values, prefix_values, scope_first,
 };
 pub use names::has_names;
-pub use rows::{Counters, FromRow, in_rows};
+pub use rows::{Counters, FromRow, Registered, in_rows, tells_schema};
 pub use same::{same_schema, same_tables};

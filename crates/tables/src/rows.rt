@@ -1,31 +1,35 @@
 //! The values that rows show: how a row of each type is read. A row that shows no value of its type
 //! is one of another schema.
-ghost use Rattle.std.specs.Prelude.{◌≡◌, ◌≤◌, [], ◌∷◌, length, ⊤, IsTrue, vec_capacity};
+ghost use Rattle.std.specs.Prelude.{◌≡◌, ◌≤◌, ◌↔◌, ℕ, [], ◌∷◌, map, length, ⊤, IsTrue, vec_capacity};
 ghost use Rattle.addr.specs.Name.{is_name};
 ghost use Rattle.policy.specs.Values.{IsU32, AuthFits, GrantFits};
 ghost use Rattle.sqlite_value.specs.declared.value.Value.TheVariants.{Text};
 ghost use Rattle.sqlite_value.specs.Order.{Row as Cells};
-ghost use Rattle.tables.specs.Cells.{prefix_cells, span_cells, counter_cells, grant_cells, auth_cells, vrp_cells};
-ghost use Rattle.tables.specs.Decode.{Decodes, DecodesAll, VrpFits};
+ghost use Rattle.tables.specs.Cells.{schema_row, prefix_cells, span_cells, counter_cells, grant_cells, auth_cells, vrp_cells, holder_row};
+ghost use Rattle.tables.specs.Decode.{Decodes, DecodesAll, first_columns, VrpFits};
 
 use crate::decode::{
-    byte_in, cell, day_in, has_columns, name_in, number_in, prefix_in, role_in, scope_in, span_in,
+    byte_in, cell, day_in, name_in, number_in, prefix_in, role_in, scope_in, span_in,
 };
 use addr::{Asn, Name, Prefix, Span, Vrp};
 use policy::{Auth, Granted};
 use sqlite::Row;
+use sqlite::types::ValueRef;
 
-/// A value that a row shows.
+/// A value that the first columns of a row show.
 pub trait FromRow: Drop {
     ghost cells: { Self → Cells };
+
+    // How many columns those are.
+    ghost width: { ℕ };
 
     // The value is one of its Rust type, as a number below 2 ^ 32 is one of `u32`. Each such value
     // is read from the cells that it shows, whatever rules it breaks.
     ghost fits: { Self → Type 0 };
 
-    /// The value that the row shows, if it shows one.
+    /// The value that the first columns show, if they show one.
     fn in_row(row: &Row) -> Option<Self>
-        ensures { Decodes cells fits row.now result };
+        ensures { Decodes cells fits (first_columns width row.now) result };
 }
 
 /// The values that the rows show, in their order, in a vector that has room for them; none where
@@ -33,7 +37,7 @@ pub trait FromRow: Drop {
 pub fn in_rows<T: FromRow>(mut values: Vec<T>, rows: &[Row]) -> Option<Vec<T>>
     requires empty { values.items ≡ [] }
     requires room { length rows.now ≤ vec_capacity values }
-    ensures { DecodesAll T.cells T.fits rows.now result }
+    ensures { DecodesAll T.cells T.fits (map (first_columns T.width) rows.now) result }
 {
     for row in rows {
         let value = T::in_row(row)?;
@@ -45,12 +49,11 @@ pub fn in_rows<T: FromRow>(mut values: Vec<T>, rows: &[Row]) -> Option<Vec<T>>
 impl FromRow for Name {
     ghost cells = { λ text. Text text ∷ [] };
 
+    ghost width = { 1 };
+
     ghost fits = { λ text. IsTrue (is_name text) };
 
     fn in_row(row: &Row) -> Option<Name> {
-        if !has_columns(row, 1) {
-            return None;
-        }
         name_in(cell(row, 0))
     }
 }
@@ -58,12 +61,11 @@ impl FromRow for Name {
 impl FromRow for Prefix {
     ghost cells = { prefix_cells };
 
+    ghost width = { 3 };
+
     ghost fits = { λ _. ⊤ };
 
     fn in_row(row: &Row) -> Option<Prefix> {
-        if !has_columns(row, 3) {
-            return None;
-        }
         prefix_in(cell(row, 0), cell(row, 1), cell(row, 2))
     }
 }
@@ -71,12 +73,11 @@ impl FromRow for Prefix {
 impl FromRow for Span {
     ghost cells = { span_cells };
 
+    ghost width = { 3 };
+
     ghost fits = { λ _. ⊤ };
 
     fn in_row(row: &Row) -> Option<Span> {
-        if !has_columns(row, 3) {
-            return None;
-        }
         span_in(cell(row, 0), cell(row, 1), cell(row, 2))
     }
 }
@@ -91,12 +92,11 @@ pub struct Counters {
 impl FromRow for Counters {
     ghost cells = { λ counters. counter_cells counters.granted counters.created };
 
+    ghost width = { 2 };
+
     ghost fits = { λ counters. IsU32 counters.granted × IsU32 counters.created };
 
     fn in_row(row: &Row) -> Option<Counters> {
-        if !has_columns(row, 2) {
-            return None;
-        }
         Some(Counters {
             granted: number_in(cell(row, 0))?,
             created: number_in(cell(row, 1))?,
@@ -104,15 +104,41 @@ impl FromRow for Counters {
     }
 }
 
+/// A registered resource holder.
+#[derive(Drop)]
+pub struct Registered {
+    pub name: Name,
+    pub counters: Counters,
+}
+
+impl FromRow for Registered {
+    ghost cells = { λ holder.
+        holder_row holder.name holder.counters.granted holder.counters.created };
+
+    ghost width = { 3 };
+
+    ghost fits = { λ holder. IsTrue (is_name holder.name)
+        × IsU32 holder.counters.granted × IsU32 holder.counters.created };
+
+    fn in_row(row: &Row) -> Option<Registered> {
+        Some(Registered {
+            name: name_in(cell(row, 0))?,
+            counters: Counters {
+                granted: number_in(cell(row, 1))?,
+                created: number_in(cell(row, 2))?,
+            },
+        })
+    }
+}
+
 impl FromRow for Granted {
     ghost cells = { grant_cells };
+
+    ghost width = { 7 };
 
     ghost fits = { GrantFits };
 
     fn in_row(row: &Row) -> Option<Granted> {
-        if !has_columns(row, 7) {
-            return None;
-        }
         Some(Granted {
             number: number_in(cell(row, 0))?,
             caller: name_in(cell(row, 1))?,
@@ -126,12 +152,11 @@ impl FromRow for Granted {
 impl FromRow for Auth {
     ghost cells = { auth_cells };
 
+    ghost width = { 8 };
+
     ghost fits = { AuthFits };
 
     fn in_row(row: &Row) -> Option<Auth> {
-        if !has_columns(row, 8) {
-            return None;
-        }
         Some(Auth {
             number: number_in(cell(row, 0))?,
             asn: Asn(number_in(cell(row, 1))?),
@@ -146,15 +171,25 @@ impl FromRow for Auth {
 impl FromRow for Vrp {
     ghost cells = { vrp_cells };
 
+    ghost width = { 5 };
+
     ghost fits = { VrpFits };
 
     fn in_row(row: &Row) -> Option<Vrp> {
-        if !has_columns(row, 5) {
-            return None;
-        }
         let asn = Asn(number_in(cell(row, 0))?);
         let prefix = prefix_in(cell(row, 1), cell(row, 2), cell(row, 3))?;
         let max = byte_in(cell(row, 4))?;
         Vrp::from_parts(prefix, max, asn)
+    }
+}
+
+/// Whether the row is the one of the table `meta` that tells this schema.
+pub fn tells_schema(row: &Row) -> bool
+    ensures { IsTrue result ↔ (first_columns 2 row.now ≡ schema_row) }
+{
+    match (cell(row, 0), cell(row, 1)) {
+        (ValueRef::Text(name), ValueRef::Int(number)) => name == b"schema".as_slice()
+            && number == 1,
+        _ => false,
     }
 }

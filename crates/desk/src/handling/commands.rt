@@ -1,11 +1,9 @@
 ghost use Rattle.std.specs.Prelude.{◌≡◌, false, IfOk, IfErr, MatchResult};
 ghost use Rattle.policy.specs.Answer.{holder_of, taker_of, IsAccepted, IsViewOf, TellsTaken};
-ghost use Rattle.policy.specs.History.{History};
 ghost use Rattle.policy.specs.Rows.{rows_if_any, RowsIfAny};
-ghost use Rattle.policy.specs.Verdict.{IsLegal};
 ghost use Rattle.store.specs.StoreRows.{IsRead};
 ghost use Rattle.desk.specs.Answer.{is_done, AnswersCommand, IsAnswered};
-ghost use Rattle.desk.specs.Desk.{charter_of, HoldsHistory, IsOnCleanDisk, KeepsRows};
+ghost use Rattle.desk.specs.Desk.{charter_of, IsOnCleanDisk, KeepsRows};
 ghost use Rattle.desk.specs.steps.Reading.{OfHistories};
 
 use super::Desk;
@@ -19,11 +17,9 @@ impl<S: Alter> Desk<S> {
     /// Judges the command, and makes its change where it is accepted. The commit comes last, so
     /// that nothing fails after it.
     pub(super) fn carry_out(&mut self, day: Day, caller: &Name, command: &Command) -> Reply
-        ensures answered { IsOnCleanDisk S.Store self.new
-            → (history : History) → IsLegal (charter_of self.old) history
-            → HoldsHistory S.Store self.old history
-            → IsAnswered S.Store (charter_of self.old) history day caller.now
-            (Request.Command command.now) result self.new }
+        ensures answered { OfHistories S.Store self.old self.new (λ history.
+            IsAnswered S.Store (charter_of self.old) history day caller.now
+            (Request.Command command.now) result self.new) }
         ensures charter { charter_of self.new ≡ charter_of self.old }
         ensures clean { IsOnCleanDisk S.Store self.new → IsOnCleanDisk S.Store self.old }
         ensures kept { is_done result ≡ false → KeepsRows S.Store self.old self.new }

@@ -35,8 +35,8 @@ pub record MakesIndex (old new : State) : Type 0 where
   pub schema : new.now.schema ≡ desk_schema
   pub rows : SameRows old.now.trees new.now.trees
 
--- the index is made and committed, and no row changed
-pub record AddsIndex (old new : State) : Type 0 where
+-- the connection stays open over a desk, which is committed, and no row changed
+pub record StaysDesk (old new : State) : Type 0 where
   pub was_open : IsTrue old.is_open
   pub is_open : IsTrue new.is_open
   pub desk : IsDesk new

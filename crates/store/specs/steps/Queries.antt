@@ -22,6 +22,7 @@ use Rattle.policy.specs.CharterSets.{CharterSets}
 use Rattle.policy.specs.declared.authorization.Auth.{Auth}
 use Rattle.policy.specs.Rows.{Rows}
 use Rattle.tables.specs.Cells.{number_cell, prefix_cells}
+use Rattle.tables.specs.Decode.{first_columns}
 use Rattle.tables.specs.Tables.{desk_beside, OverDesk, contents, columns}
 use Rattle.store.specs.StoreRows.{HasDeskTables}
 use Rattle.tables.specs.TablesHold.{TablesHold, items_if_any, auth_part}
@@ -73,9 +74,11 @@ abbrev pub AreSelected : List ℕ → List ℕ → Database → List Row → Typ
 AreSelected sql h db rows = Reads (command_of (understood (desk_beside db.schema) sql)) db (Text h ∷ []) rows
 
 -- The text selects these values of a holder: its answer has the row of each, and no other, and rises
--- by this order. No two values have one row. It reads the tables alone.
+-- by this order, and its rows have so many columns. No two values have one row. It reads the tables
+-- alone.
 pub record Selects
-    {X : Type 0} (cells : X → Row) (items : Rows → List X) (cmp : Row → Row → Ordering) (sql : List ℕ)
+    {X : Type 0} (cells : X → Row) (width : ℕ) (items : Rows → List X) (cmp : Row → Row → Ordering)
+    (sql : List ℕ)
     : Type 0 where
   pub plain : OverDesk (λ s. IsPlain (understood s sql))
   pub unlisted : OverDesk (λ s. reads_listing s sql ≡ false)
@@ -85,6 +88,9 @@ pub record Selects
       → IsPermutation (map cells (items_if_any items (all h))) rows
   pub rising :
       (h : List ℕ) (db : Database) (rows : List Row) → AreSelected sql h db rows → IsSorted cmp rows
+  pub whole :
+      (h : List ℕ) (db : Database) (rows : List Row) → AreSelected sql h db rows
+      → map (first_columns width) rows ≡ rows
   pub once : (x y : X) → cells x ≡ cells y → x ≡ y
 
 -- ---- queries of the rows of every holder

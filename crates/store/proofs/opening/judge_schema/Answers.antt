@@ -1,7 +1,7 @@
 use Rattle.std.proofs.Common.{◌≡◌, ◌∙◌, refl}
 use Rattle.tables.specs.Schemas.{IsPlainSchema}
 use Rattle.tables.specs.Tables.{unindexed_schema}
-use Rattle.tables.proofs.PlainTables.{desk_is_plain}
+use Rattle.tables.proofs.DeskTables.{desk_is_plain}
 use Rattle.store.proofs.opening.judge_schema.Goals as goal
 
 pub returns-clause-unindexed : goal.returns-clause-unindexed

@@ -3,7 +3,7 @@ use Rattle.std.proofs.lemmas.List.Sorted.{IsPermutation-refl}
 use Rattle.std.specs.Global.{Vec}
 use Rattle.std.specs.Option.{ok_or}
 use Rattle.sqlite_value.specs.Order.{Row}
-use Rattle.tables.specs.Decode.{ShowsNone, DecodesAll}
+use Rattle.tables.specs.Decode.{ShowsNone, DecodesAll, first_columns}
 use Rattle.tables.proofs.ReadLemmas.{all_show}
 use Rattle.store.specs.declared.fault.StoreFault.{StoreFault}
 use Rattle.store.specs.declared.fault.StoreFault.TheVariants.{Schema}
@@ -19,4 +19,4 @@ refused_iff cells fits rows (Some values) result is shown = (
 )
 
 pub returns-clause-schema : goal.returns-clause-schema
-returns-clause-schema g c = refused_iff _ _ c.args.rows.now c.in_rows.result c.ok_or.result c.ok_or.ensures.value c.in_rows.ensures
+returns-clause-schema g c = refused_iff _ _ (map (first_columns g.T.FromRow.width) c.args.rows.now) c.in_rows.result c.ok_or.result c.ok_or.ensures.value c.in_rows.ensures

@@ -1,10 +1,11 @@
 use Rattle.std.proofs.Common.{◌≡◌, ◌≤◌, map, length, take, All}
 use Rattle.std.specs.Vec.{vec_capacity}
+use Rattle.tables.specs.Decode.{first_columns}
 use Rattle.tables.proofs.rows.in_rows.Given as goal
 
 abbrev pub invariant-loop-row : goal.invariant-loop-row
 invariant-loop-row g l = record {
-  read : map g.T.FromRow.cells l.values.items ≡ take l.row-index l.rows;
+  read : map g.T.FromRow.cells l.values.items ≡ map (first_columns g.T.FromRow.width) (take l.row-index l.rows);
   fits : All g.T.FromRow.fits l.values.items;
   room : length l.rows ≤ vec_capacity l.values;
 }

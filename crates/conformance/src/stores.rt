@@ -1,6 +1,8 @@
 //! The store: what was applied is loaded, and what breaks a key is refused.
 use addr::{Asn, Day, Holdings, Name, Prefix};
-use policy::{Auth, Change, Charter, Edit, Granted, HolderChange, Role, Scope};
+use policy::{
+    Auth, Change, Charter, Command, Edit, Granted, HolderChange, Role, Scope, View, decide,
+};
 use sqlite::{Connection, MemStore};
 use std::alloc::Global;
 use std::process::Abort;
@@ -130,6 +132,43 @@ fn overlapping_after_reclaim(rt: HostRuntime) -> Result<(), Fail> {
     ] {
         let found = store.overlapping(&Prefix::read(text.as_bytes())?);
         assert!(rt; matches!(found, Ok(found) if found == overlaps), "{text}");
+    }
+    Ok(())
+}
+
+// The rows of `alpha`, of which no delegation's prefix is taken.
+fn view(alloc: Global, store: &mut Store<MemStore>) -> Result<View, Fail> {
+    match store.load_holder(alloc, &name("alpha")?) {
+        Ok(holder) => Ok(View {
+            holder,
+            taken: false,
+        }),
+        Err(_) => Err("no rows".into()),
+    }
+}
+
+// How many runs a delegation to `alpha` takes away, and how many it puts.
+fn runs_moved(alloc: Global, view: &View, prefix: &str) -> Result<(usize, usize), Fail> {
+    let command = Command::Delegate {
+        holder: name("alpha")?,
+        prefix: Prefix::read(prefix.as_bytes())?,
+    };
+    let (day, caller) = (first_of_march()?, name("reg")?);
+    let change = decide(alloc, &charter(alloc)?, view, day, &caller, &command)?;
+    match &change.first.edit {
+        Edit::Hold { removed, added, .. } => Ok((removed.len(), added.len())),
+        _ => Err("another edit".into()),
+    }
+}
+
+#[test]
+fn delegation_takes_away_only_what_it_touches(rt: HostRuntime) -> Result<(), Fail> {
+    let mut store = registered_holder(rt.alloc())?;
+    apply(&mut store, hold(rt.alloc(), None)?)?;
+    let view = view(rt.alloc(), &mut store)?;
+    for (prefix, moved) in [("192.0.3.0/24", (1, 1)), ("192.0.4.0/24", (0, 1))] {
+        let found = runs_moved(rt.alloc(), &view, prefix)?;
+        assert_eq!(rt; found, moved, "{prefix}");
     }
     Ok(())
 }

@@ -1,0 +1,85 @@
+-- Tables that hold a charter and rows that fit read.
+use Rattle.std.proofs.Common.{◌≡◌, ℕ, Bool, true, false, ◌||◌, List, [], ◌∷◌, Option, Some, refl, inl, inr, subst, IsTrue}
+use Rattle.std.specs.Prelude.{⊤}
+use Rattle.std.specs.List.{AllByRecursion}
+use Rattle.std.proofs.lemmas.List.Elements.{recursion_from_All}
+use Rattle.sqlite_value.specs.Order.{Row}
+use Rattle.sqlite_trees.specs.Tree.{Trees}
+use Rattle.sqlite_rules.specs.Lists.{Has}
+use Rattle.sqlite_rules.proofs.ListLemmas.{all_has, all_from, contains_had}
+use Rattle.sqlite_rules.proofs.ProbeLemmas.{has_mapped}
+use Rattle.addr.specs.Name.{is_name}
+use Rattle.policy.specs.CharterSets.{CharterSets, IsCharter}
+use Rattle.policy.specs.declared.command.Command.{Command}
+use Rattle.policy.specs.declared.command.Command.TheVariants.{Register}
+use Rattle.policy.specs.History.{History, registers, is_registered}
+use Rattle.policy.specs.Rows.{Rows, RowsIfAny}
+use Rattle.policy.specs.Values.{RowsFit, AuthFits, GrantFits, CommandFits, HistoryFits, LegalRowsFit}
+use Rattle.policy.proofs.Names.{same_name-true}
+use Rattle.tables.specs.Cells.{schema_row, holder_row, holding_row, granted_row, auth_row}
+use Rattle.tables.specs.Tables.{meta, holder, contents}
+use Rattle.tables.specs.TablesHold.{Part, TablesHold, HoldsPart, holder_part, holding_part, granted_part, auth_part}
+use Rattle.tables.proofs.SomeRow.{has_permuted, of_some}
+use Rattle.store.specs.Laws.{HistoriesRead}
+use Rattle.store.specs.TablesRead.{ShowsHolder, ShowsOfHolder, TablesRead}
+
+-- each row of a part shows what the rows of its holder are
+of_part : (part : Part) (rows : List ℕ → Option Rows) (table : List Row) (So : Row → Type 0) → HoldsPart part rows table
+    → ((h : List ℕ) (r : Rows) (c : Row) → rows h ≡ Some r → Has (part.rows h r) c → So c) → AllByRecursion So table
+of_part part rows table So holds shows = all_from So table (λ c has. let it = of_some part rows table holds c has in shows it.0 it.1 c it.2 it.3)
+
+pub held_read : (charter : CharterSets) (rows : List ℕ → Option Rows) (trees : Trees) → IsCharter charter → AllByRecursion (λ name. IsTrue (is_name name)) charter.operators
+    → ((h : List ℕ) (r : Rows) → rows h ≡ Some r → IsTrue (is_name h) × RowsFit r) → TablesHold charter rows trees → TablesRead trees
+held_read charter rows trees is named fit holds = record {
+  schema = contains_had _ schema_row (has_permuted (schema_row ∷ []) (contents (trees meta.tree)) schema_row holds.charter_kept.schema (inl refl));
+  charter = record {
+    operators = charter.operators;
+    prefixes = charter.pool;
+    named = named;
+    number = is.number;
+    operators_once = is.operators_once;
+    prefixes_once = is.pool_once;
+    operators_shown = holds.charter_kept.operators;
+    prefixes_shown = holds.charter_kept.pool;
+  };
+  holders =
+      of_part holder_part rows _ ShowsHolder holds.holders
+      (λ h r c there has. let it = fit h r there in (h, r.granted, r.created, it.0, it.1.granted, it.1.created, one_row (holder_row h r.granted r.created) c has));
+  holdings =
+      of_part holding_part rows _ (ShowsOfHolder holding_row (λ _. ⊤)) holds.holdings
+      (λ h r c there has. let it = has_mapped (holding_row h) r.holdings c has in (h, it.0, tt, it.2));
+  grants =
+      of_part granted_part rows _ (ShowsOfHolder granted_row GrantFits) holds.grants
+      (λ h r c there has.
+      let it = has_mapped (granted_row h) r.grants c has in
+      (h, it.0, all_has GrantFits r.grants it.0 (recursion_from_All GrantFits r.grants (fit h r there).1.grants) it.1, it.2));
+  auths =
+      of_part auth_part rows _ (ShowsOfHolder auth_row AuthFits) holds.auths
+      (λ h r c there has.
+      let it = has_mapped (auth_row h) r.auths c has in
+      (h, it.0, all_has AuthFits r.auths it.0 (recursion_from_All AuthFits r.auths (fit h r there).1.auths) it.1, it.2));
+}
+  where
+    one_row : (row c : Row) → Has (row ∷ []) c → c ≡ row
+    one_row row c (inl is) = is
+    one_row row c (inr none) = absurd none
+
+-- ---- after a history
+
+named_by : (command : Command) (h : List ℕ) → registers command h ≡ true → CommandFits command → IsTrue (is_name h)
+named_by (Register holder) h is fit = subst (λ k. IsTrue (is_name k)) (same_name-true holder h is) fit
+named_by _ h is fit = absurd cc
+
+pub registered_named : (history : History) (h : List ℕ) → is_registered history h ≡ true → HistoryFits history → IsTrue (is_name h)
+registered_named [] h is fit = absurd cc
+registered_named (e ∷ before) h is fit = go (registers e.command h) refl is (λ later. registered_named before h later fit.1)
+  where
+    go : (b : Bool) → registers e.command h ≡ b → (b || is_registered before h) ≡ true → (is_registered before h ≡ true → IsTrue (is_name h)) → IsTrue (is_name h)
+    go true here is later = named_by e.command h here fit.0.command
+    go false there is later = later is
+
+pub opens_again : LegalRowsFit → HistoriesRead
+opens_again rows_fit charter history rows trees legal fits have is named holds =
+    held_read charter rows trees is named (λ h r there.
+    let of = subst (RowsIfAny history h) there (have h) in
+    (registered_named history h of.0 fits, (rows_fit charter history h r legal fits of.1).0)) holds

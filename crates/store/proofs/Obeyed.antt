@@ -1,0 +1,149 @@
+-- What the rules of SQLite say of the rows of a desk's tables: how many columns they have, that a holder is
+-- registered, and that no holder is registered twice.
+use Rattle.std.proofs.Common.{◌≡◌, ℕ, zero, suc, ◌+◌, ◌<◌, ◌≤◌, Bool, true, false, not, ◌&&◌, ◌||◌, List, [], ◌∷◌, drop, length, slice_get, Some, None, Ordering, Less, Equal, Greater, refl, inl, inr, sym, ap, subst, ◌∙◌, is_eq, arith}
+use Rattle.std.specs.List.{AllByRecursion, list_all}
+use Rattle.std.specs.Ordering.{is_ne}
+use Rattle.std.proofs.lemmas.Bool.{and_parts, and_from, both_ways, not-true}
+use Rattle.std.proofs.Math.Bool.{and-true}
+use Rattle.std.proofs.lemmas.List.{length-drop}
+use Rattle.sqlite_value.specs.declared.value.Value.{Value}
+use Rattle.sqlite_value.specs.declared.value.Value.TheVariants.{Null, Int, Real, Text, Blob}
+use Rattle.sqlite_value.specs.declared.keys.Collation.TheVariants.{Binary}
+use Rattle.sqlite_value.specs.Order.{Row, column, value_cmp}
+use Rattle.sqlite_value.specs.Keys.{first_key, joined}
+use Rattle.sqlite_value.proofs.OrderLemmas.{value_cmp-apart}
+use Rattle.sqlite_trees.specs.Tree.{Trees, rowid}
+use Rattle.sqlite_trees.specs.View.{is_int}
+use Rattle.sqlite_trees.proofs.ListLemmas.{all_weaker, all_both}
+use Rattle.sqlite_sql.specs.Ops.{is_null, binary, is_true, from_truth}
+use Rattle.sqlite_schema.specs.declared.schema.Column.{Column}
+use Rattle.sqlite_schema.specs.declared.schema.Constraint.{Constraint}
+use Rattle.sqlite_schema.specs.declared.schema.Constraint.TheVariants.{Datatype, NotNull, Unique, ForeignKey}
+use Rattle.sqlite_schema.specs.declared.schema.Schema.{Schema}
+use Rattle.sqlite_schema.specs.declared.schema.Table.{Table}
+use Rattle.sqlite_schema.specs.Names.{same_name}
+use Rattle.sqlite_schema.specs.Rules.{are_typed, are_present, passes, agree, equal, differ, clashes, guards, parent_key, has_parent, is_held}
+use Rattle.sqlite_rules.specs.Lists.{Has}
+use Rattle.sqlite_rules.proofs.ListLemmas.{all_has, test_has, some_has, some_from}
+use Rattle.sqlite_catalog.specs.Listing.{IsSound, IsGuarded, automatic}
+use Rattle.tables.specs.Tables.{desk_tables, names_holder, rising, holder}
+use Rattle.tables.specs.TablesHold.{is_name_of}
+use Rattle.tables.proofs.TreeRows.{alike_flip}
+
+-- ---- the number of columns
+
+wide : (columns : List Column) (at : ℕ) (c : Row) → are_typed None at columns c ≡ true → length c ≤ length columns
+wide [] at [] is = omega arith
+wide [] at (v ∷ c) is = absurd cc
+wide (one ∷ columns) at [] is = omega arith
+wide (one ∷ columns) at (v ∷ c) is = let rest = wide columns (at + 1) c (and_parts _ _ is).1 in omega (arith, rest)
+
+there : (r : Row) (at : ℕ) → is_null (column r at) ≡ false → at < length r
+there [] at is = absurd cc
+there (v ∷ r) zero is = omega arith
+there (v ∷ r) (suc at) is = let rest = there r at is in omega (arith, rest)
+
+present : (columns : List Column) (k : ℕ) (c : Column) (at : ℕ) (r : Row) → slice_get columns k ≡ Some c → c.not_null ≡ true → are_present None at columns r ≡ true
+    → is_null (column r (at + k + 1)) ≡ false
+present [] k c at r is required all = absurd cc
+present (one ∷ columns) zero c at r is required all =
+    let same : one ≡ c = cc in
+    let first : (not one.not_null || not (is_null (column r (at + 1)))) ≡ true = (and_parts _ _ all).0 in
+    let here : is_null (column r (at + 1)) ≡ false = not-true _ (rw (same, required) at first) in
+    subst (λ n. is_null (column r n) ≡ false) (omega arith) here
+present (one ∷ columns) (suc k) c at r is required all =
+    let rest = present columns k c (at + 1) r is required (and_parts _ _ all).1 in
+    let same : at + 1 + k + 1 ≡ at + suc k + 1 = omega arith in
+    subst (λ n. is_null (column r n) ≡ false) same rest
+
+-- a row has as many columns as its table, where the last is NOT NULL
+whole : (columns : List Column) (k : ℕ) (last : Column) (r : Row) → slice_get columns k ≡ Some last → last.not_null ≡ true → length columns ≡ k + 1
+    → are_typed None 0 columns (drop 1 r) ≡ true → are_present None 0 columns r ≡ true → length (drop 1 r) ≡ k + 1
+whole columns k last r is required count typed filled =
+    let most = wide columns 0 (drop 1 r) typed in
+    let least = there r (0 + k + 1) (present columns k last 0 r is required filled) in
+    omega (arith, most, least, count, length-drop 1 r)
+
+-- ---- equal and different values
+
+true_back : (b : Bool) → is_true (from_truth (Some b)) ≡ b
+true_back true = refl
+true_back false = refl
+
+rowids_differ : (a b : Value) → is_int a ≡ true → is_int b ≡ true → is_eq (value_cmp a b) ≡ false → differ a b ≡ true
+unfolding binary
+rowids_differ (Int m) (Int n) one other apart = true_back _ ∙ go (value_cmp (Int m) (Int n)) apart
+  where
+    go : (o : Ordering) → is_eq o ≡ false → is_ne o ≡ true
+    go Less apart = refl
+    go Equal apart = absurd cc
+    go Greater apart = refl
+rowids_differ _ _ one other apart = absurd cc
+
+pub equal_texts : (h : List ℕ) (v : Value) → equal Binary (Text h) v ≡ is_name_of h v
+unfolding binary
+equal_texts h Null = sym (ap is_eq (value_cmp-apart Null (Text h) (λ e. cc)))
+equal_texts h (Int n) = true_back _ ∙ alike_flip (Text h) (Int n)
+equal_texts h (Real x) = true_back _ ∙ alike_flip (Text h) (Real x)
+equal_texts h (Text t) = true_back _ ∙ alike_flip (Text h) (Text t)
+equal_texts h (Blob b) = true_back _ ∙ alike_flip (Text h) (Blob b)
+
+-- ---- the key of a holder
+
+parent_is : (place : ℕ) → parent_key desk_tables (names_holder place) ≡ Some (holder.tree, 1 ∷ [], rising)
+unfolding same_name joined
+parent_is place = refl
+
+agree_is : (at other : ℕ) (a b : Row) → agree rising (at ∷ []) a (other ∷ []) b ≡ equal Binary (column a at) (column b other)
+unfolding first_key
+agree_is at other a b = and-true _
+
+module _ (schema : Schema) (db : Trees) (tables : schema.tables ≡ desk_tables) (sound : IsSound schema db) where
+  passed : (rule : Constraint) (t : Table) → Has desk_tables t → AllByRecursion (λ r. passes rule schema db t r ≡ true) (db t.tree)
+  passed rule t has =
+      all_has (λ t. AllByRecursion (λ r. passes rule schema db t r ≡ true) (db t.tree)) desk_tables t
+      (subst (AllByRecursion (λ t. AllByRecursion (λ r. passes rule schema db t r ≡ true) (db t.tree))) tables (sound.obeys.rules rule)) has
+
+  module _ (t : Table) (has : Has desk_tables t) (key : t.key ≡ None) where
+    filled : AllByRecursion (λ r. are_present None 0 t.columns r ≡ true) (db t.tree)
+    filled = all_weaker _ _ (λ r is. rw key at is) (db t.tree) (passed NotNull t has)
+
+    -- each row has as many columns as the table, where the last is NOT NULL
+    pub all_whole : (k : ℕ) (last : Column) → slice_get t.columns k ≡ Some last → last.not_null ≡ true → length t.columns ≡ k + 1 → AllByRecursion (λ r. length (drop 1 r) ≡ k + 1) (db t.tree)
+    all_whole k last is required count =
+        all_both (λ r. passes Datatype schema db t r ≡ true) (λ r. are_present None 0 t.columns r ≡ true) (λ r. length (drop 1 r) ≡ k + 1)
+        (λ r typed all. let types : (are_typed t.key 0 t.columns (drop 1 r) ≡ true) = (and_parts _ _ typed).0 in whole t.columns k last r is required count (rw key at types) all)
+        (db t.tree) (passed Datatype t has) filled
+
+    -- the holder of a row is registered
+    pub all_referred : (k : ℕ) (c : Column) → slice_get t.columns k ≡ Some c → c.not_null ≡ true → t.references ≡ names_holder (k + 1) ∷ []
+        → AllByRecursion (λ r. (p : Row) × Has (db holder.tree) p × (equal Binary (column p 1) (column r (k + 1)) ≡ true)) (db t.tree)
+    all_referred k c is required references =
+        all_both (λ r. passes ForeignKey schema db t r ≡ true) (λ r. are_present None 0 t.columns r ≡ true) _
+        (λ r refers all.
+        let some : is_null (column r (k + 1)) ≡ false = subst (λ n. is_null (column r n) ≡ false) (omega arith) (present t.columns k c 0 r is required all) in
+        let parents = subst (λ ts. list_all (has_parent ts db r) t.references ≡ true) tables refers in
+        let these : list_all (has_parent desk_tables db r) (names_holder (k + 1) ∷ []) ≡ true = rw references at parents in
+        let one : (is_null (column r (k + 1)) || false || is_held db ((k + 1) ∷ []) r (parent_key desk_tables (names_holder (k + 1)))) ≡ true = (and_parts _ _ these).0 in
+        let held : is_held db ((k + 1) ∷ []) r (parent_key desk_tables (names_holder (k + 1))) ≡ true = rw some at one in
+        let at_key = subst (λ key. is_held db ((k + 1) ∷ []) r key ≡ true) (parent_is (k + 1)) held in
+        let found = some_has (λ p. agree rising (1 ∷ []) p ((k + 1) ∷ []) r) (db holder.tree) at_key in
+        (found.0, found.1, sym (agree_is 1 (k + 1) found.0 r) ∙ found.2))
+        (db t.tree) (passed ForeignKey t has) filled
+
+  -- rows of one name have one rowid
+  pub once : (a b : Row) → Has (db holder.tree) a → Has (db holder.tree) b → is_int (rowid a) ≡ true → is_int (rowid b) ≡ true → is_eq (value_cmp (rowid a) (rowid b)) ≡ false
+      → equal Binary (column a 1) (column b 1) ≡ false
+  once a b has_a has_b one other apart =
+      let rows = db holder.tree in
+      let guarded = all_has (IsGuarded schema.indexes) desk_tables holder (subst (AllByRecursion (IsGuarded schema.indexes)) tables sound.lists.guarded) (inr (inr (inr (inl refl)))) 0 (1 ∷ []) refl in
+      let index = automatic holder 0 (1 ∷ []) guarded.0 in
+      let unique = all_has (λ r. passes Unique schema db holder r ≡ true) rows b (passed Unique holder (inr (inr (inr (inl refl))))) has_b in
+      let free : not (clashes rising (1 ∷ []) rows b) ≡ true = test_has (λ i. not (guards i holder && clashes i.order i.columns rows b)) schema.indexes index unique guarded.1 in
+      go (equal Binary (column a 1) (column b 1)) refl (not-true _ free)
+    where
+      go : (same : Bool) → equal Binary (column a 1) (column b 1) ≡ same → clashes rising (1 ∷ []) (db holder.tree) b ≡ false → same ≡ false
+      go false is free = refl
+      go true is free =
+          absurd (both_ways _ free (some_from (λ other. agree rising (1 ∷ []) other (1 ∷ []) b && differ (rowid other) (rowid b)) (db holder.tree) a has_a
+          (and_from _ _ (agree_is 1 1 a b ∙ is) (rowids_differ (rowid a) (rowid b) one other apart))))

@@ -1,0 +1,167 @@
+-- From what the queries of all rows show to what the tables hold.
+use Rattle.std.proofs.Common.{◌≡◌, ℕ, ◌+◌, ◌<◌, true, false, List, [], ◌∷◌, ◌++◌, map, filter, drop, length, codes, slice_get, Option, Some, None, refl, inl, inr, sym, ap, subst, ◌∙◌, is_eq, arith, IsPermutation}
+use Rattle.std.specs.Prelude.{⊤}
+use Rattle.std.specs.List.{AllByRecursion}
+use Rattle.std.proofs.lemmas.Bool.{both_ways}
+use Rattle.std.proofs.lemmas.List.{length-map}
+use Rattle.sqlite.specs.Effect.{Database}
+use Rattle.sqlite_value.specs.declared.keys.Collation.TheVariants.{Binary}
+use Rattle.sqlite_value.specs.declared.value.Value.TheVariants.{Text}
+use Rattle.sqlite_value.specs.Order.{Row, column, value_cmp}
+use Rattle.sqlite_trees.specs.Tree.{rowid, IsAscending}
+use Rattle.sqlite_trees.specs.View.{is_int}
+use Rattle.sqlite_trees.proofs.ListLemmas.{all_weaker, all_both, all-map, all_from_map, ascending-filter, filter-map}
+use Rattle.sqlite_schema.specs.declared.schema.Column.{Column}
+use Rattle.sqlite_schema.specs.declared.schema.Kind.TheVariants.{Integer, Text as OfText}
+use Rattle.sqlite_schema.specs.declared.schema.Table.{Table}
+use Rattle.sqlite_schema.specs.Rules.{equal}
+use Rattle.sqlite_rules.specs.Lists.{Has}
+use Rattle.sqlite_rules.proofs.ListLemmas.{all_has, has_filtered}
+use Rattle.sqlite_rules.proofs.ProbeLemmas.{mapped_has}
+use Rattle.sqlite_catalog.specs.Listing.{IsSound}
+use Rattle.addr.specs.declared.span.Span.{Span}
+use Rattle.policy.specs.CharterSets.{CharterSets}
+use Rattle.policy.specs.declared.authorization.Auth.{Auth}
+use Rattle.policy.specs.declared.grant.Granted.{Granted}
+use Rattle.policy.specs.Rows.{Rows}
+use Rattle.policy.specs.Values.{AuthFits, GrantFits}
+use Rattle.tables.specs.Cells.{span_cells, grant_cells, auth_cells, holder_row, holding_row, granted_row, auth_row}
+use Rattle.tables.specs.Decode.{first_columns}
+use Rattle.tables.specs.Tables.{desk_tables, names_holder, required, meta, operator, pool, holder, holding, granted, auth, slurm, contents, columns, IsTree, AreTrees}
+use Rattle.tables.specs.TablesHold.{TablesHold}
+use Rattle.tables.proofs.Inserting.{each_table}
+use Rattle.tables.proofs.PartLemmas.{names, name_of-true, name_of_itself}
+use Rattle.tables.proofs.ReadLemmas.{all_columns, first_of_all}
+use Rattle.store.specs.TablesRead.{ShowsSome, ShowsHolder}
+use Rattle.store.specs.steps.Numbered.{shown_in}
+use Rattle.store.specs.steps.Opened.{TellsSchema, ShowsCharter, ShowHolders}
+use Rattle.store.proofs.Obeyed.{all_whole, all_referred, once, equal_texts}
+use Rattle.store.proofs.SomeRows.{IsPartRow, rows_in, holds_parts}
+use Rattle.store.proofs.StepLemmas.{column_after}
+
+module _ (db : Database) (tables : db.schema.tables ≡ desk_tables) (sound : IsSound db.schema db.trees) where
+  -- a table of so many columns shows all of its rows
+  all_shown : (t : Table) (k : ℕ) (last : Column) → Has desk_tables t → t.key ≡ None → slice_get t.columns k ≡ Some last → last.not_null ≡ true → length t.columns ≡ k + 1
+      → map (first_columns (k + 1)) (contents (db.trees t.tree)) ≡ contents (db.trees t.tree)
+  all_shown t k last has key is required count =
+      first_of_all (k + 1) (contents (db.trees t.tree))
+      (all-map (λ c. length c ≡ k + 1) (drop 1) (db.trees t.tree) (all_whole db.schema db.trees tables sound t has key k last is required count))
+
+  abbrev holders : List Row
+  holders = contents (db.trees holder.tree)
+
+  at_holder : Has desk_tables holder
+  at_holder = inr (inr (inr (inl refl)))
+
+  abbrev Makes : Row → Type 0
+  Makes c = (h : List ℕ) × (n : ℕ × ℕ) × (c ≡ holder_row h n.0 n.1)
+
+  module _ (shown : ShowHolders db) where
+    made : AllByRecursion Makes holders
+    made =
+        all_weaker ShowsHolder Makes (λ c it. (it.0, (it.1, it.2), it.6)) holders
+        (subst (AllByRecursion ShowsHolder) (all_shown holder 2 (required (codes "auths") Integer) at_holder refl refl refl refl) shown.holders.each)
+
+    -- ---- nobody is registered twice
+
+    named_at : (h : List ℕ) (r : Row) → names 0 h (drop 1 r) ≡ true → column r 1 ≡ Text h
+    named_at h r is = column_after r 0 ∙ name_of-true h (column (drop 1 r) 0) is
+
+    one_of : (h : List ℕ) (l : List Row) → ((r : Row) → Has l r → Has (db.trees holder.tree) r × (names 0 h (drop 1 r) ≡ true))
+        → IsAscending (λ a b. is_eq (value_cmp (rowid a) (rowid b)) ≡ false) l → length l < 2
+    one_of h [] from up = omega arith
+    one_of h (a ∷ []) from up = omega arith
+    one_of h (a ∷ b ∷ l) from up =
+        let one = from a (inl refl) in
+        let other = from b (inr (inl refl)) in
+        let int = λ (r : Row) (has : Has (db.trees holder.tree) r). all_has (λ r. is_int (rowid r) ≡ true) (db.trees holder.tree) r shown.holders.whole.1 has in
+        let apart = once db.schema db.trees tables sound a b one.0 other.0 (int a one.0) (int b other.0) up.0.0 in
+        let alike : equal Binary (column a 1) (column b 1) ≡ true =
+        (λ i. equal Binary (named_at h a one.1 i) (column b 1)) ∙ equal_texts h (column b 1) ∙ name_of_itself h (column b 1) (named_at h b other.1) in
+        absurd (both_ways _ apart alike)
+
+    one_counter : (h : List ℕ) (xs : List (ℕ × ℕ)) → map (λ (n : ℕ × ℕ). holder_row h n.0 n.1) xs ≡ filter (names 0 h) holders → length xs < 2
+    one_counter h xs same =
+        let rows = db.trees holder.tree in
+        let mine = λ (r : Row). names 0 h (drop 1 r) in
+        let one = one_of h (filter mine rows) (has_filtered mine rows) (ascending-filter _ mine rows shown.holders.whole.0) in
+        let as_rows = same ∙ filter-map (names 0 h) (drop 1) rows in
+        omega (arith, one, ap length as_rows, length-map xs (λ (n : ℕ × ℕ). holder_row h n.0 n.1), length-map (filter mine rows) (drop 1))
+
+    -- ---- the rows of the other tables
+
+    module _ {X : Type 0} (t : Table) (has : Has desk_tables t) (key : t.key ≡ None) (last : ℕ) (ends : Column)
+        (is : slice_get t.columns last ≡ Some ends) (filled : ends.not_null ≡ true) (count : length t.columns ≡ last + 1)
+        (place : ℕ) (column_of : Column) (at : slice_get t.columns place ≡ Some column_of) (named : column_of.not_null ≡ true) (refers : t.references ≡ names_holder (place + 1) ∷ [])
+        (places : List ℕ) (cells : X → Row) (fits : X → Type 0) (row : List ℕ → X → Row)
+        (joins : (c : Row) (h : List ℕ) (x : X) → length c ≡ last + 1 → column c place ≡ Text h → columns places c ≡ cells x → c ≡ row h x)
+        (each : AllByRecursion (ShowsSome cells fits) (shown_in t.tree places db)) where
+      abbrev Refers : Row → Type 0
+      Refers r = (p : Row) × Has (db.trees holder.tree) p × (equal Binary (column p 1) (column r (place + 1)) ≡ true)
+
+      part_row : (r : Row) → length (drop 1 r) ≡ last + 1 → Refers r → ShowsSome cells fits (columns places (drop 1 r)) → IsPartRow X place row holders (drop 1 r)
+      part_row r whole parent value =
+          let p = drop 1 parent.0 in
+          let among = mapped_has (drop 1) (db.trees holder.tree) parent.0 parent.1 in
+          let it = all_has Makes holders p made among in
+          let name : column p 0 ≡ Text it.0 = ap (λ c. column c 0) it.2 in
+          let same : equal Binary (column parent.0 1) (column r (place + 1)) ≡ equal Binary (Text it.0) (column r (place + 1)) =
+          ap (λ v. equal Binary v (column r (place + 1))) (column_after parent.0 0 ∙ name) in
+          let held = name_of-true it.0 (column r (place + 1)) (sym (equal_texts it.0 (column r (place + 1))) ∙ sym same ∙ parent.2) in
+          let after : column r (place + 1) ≡ column (drop 1 r) place = subst (λ n. column r n ≡ column (drop 1 r) place) (omega arith) (column_after r place) in
+          record { name = it.0; value = value.0; is = joins (drop 1 r) it.0 value.0 whole (sym after ∙ held) value.2; registered = (p, among, name) }
+
+      part_rows_of : AllByRecursion (IsPartRow X place row holders) (contents (db.trees t.tree))
+      part_rows_of =
+          let rows = db.trees t.tree in
+          let values = all_from_map (λ c. ShowsSome cells fits (columns places c)) (drop 1) rows (all_from_map (ShowsSome cells fits) (columns places) (contents rows) each) in
+          let widths = all_whole db.schema db.trees tables sound t has key last ends is filled count in
+          let parents = all_referred db.schema db.trees tables sound t has key place column_of at named refers in
+          let both = all_both (λ r. length (drop 1 r) ≡ last + 1) Refers (λ r. (length (drop 1 r) ≡ last + 1) × Refers r) (λ r w p. (w, p)) rows widths parents in
+          all-map (IsPartRow X place row holders) (drop 1) rows
+          (all_both (λ r. (length (drop 1 r) ≡ last + 1) × Refers r) (λ r. ShowsSome cells fits (columns places (drop 1 r))) _ (λ r it value. part_row r it.0 it.1 value) rows both values)
+
+    held : AllByRecursion (IsPartRow Span 3 holding_row holders) (contents (db.trees holding.tree))
+    held =
+        part_rows_of holding (inr (inr (inr (inr (inl refl))))) refl 3 (required (codes "holder") OfText) refl refl refl 3 (required (codes "holder") OfText) refl refl refl
+        (0 ∷ 1 ∷ 2 ∷ []) span_cells (λ _. ⊤) holding_row
+        (λ c h s whole name shows. all_columns 4 c whole ∙ (λ i. shows i ++ name i ∷ [])) shown.holdings.each
+
+    given : AllByRecursion (IsPartRow Granted 0 granted_row holders) (contents (db.trees granted.tree))
+    given =
+        part_rows_of granted (inr (inr (inr (inr (inr (inl refl)))))) refl 7 (required (codes "until") Integer) refl refl refl 0 (required (codes "holder") OfText) refl refl refl
+        (1 ∷ 2 ∷ 3 ∷ 4 ∷ 5 ∷ 6 ∷ 7 ∷ []) grant_cells GrantFits granted_row
+        (λ c h g whole name shows. all_columns 8 c whole ∙ (λ i. name i ∷ shows i)) shown.grants.each
+
+    active : AllByRecursion (IsPartRow Auth 0 auth_row holders) (contents (db.trees auth.tree))
+    active =
+        part_rows_of auth (inr (inr (inr (inr (inr (inr (inl refl))))))) refl 8 (required (codes "ends") Integer) refl refl refl 0 (required (codes "holder") OfText) refl refl refl
+        (1 ∷ 2 ∷ 3 ∷ 4 ∷ 5 ∷ 6 ∷ 7 ∷ 8 ∷ []) auth_cells AuthFits auth_row
+        (λ c h x whole name shows. all_columns 9 c whole ∙ (λ i. name i ∷ shows i)) shown.auths.each
+
+    -- ---- all of them
+
+    module _ (charter : CharterSets) (schema : TellsSchema db) (chartered : ShowsCharter charter db) (empty : contents (db.trees slurm.tree) ≡ []) (whole : IsTree (db.trees slurm.tree)) where
+      trees_whole : AreTrees db.trees
+      trees_whole =
+          each_table (λ t. IsTree (db.trees t)) desk_tables
+          (schema.whole, (chartered.operators.whole, (chartered.pool.whole, (shown.holders.whole, (shown.holdings.whole, (shown.grants.whole, (shown.auths.whole, (whole, tt))))))))
+
+      pub some_rows : (rows : List ℕ → Option Rows) × TablesHold charter rows db.trees
+      some_rows =
+          let parts = holds_parts holders made one_counter (contents (db.trees holding.tree)) (contents (db.trees granted.tree)) (contents (db.trees auth.tree)) held given active in (
+            rows_in holders made one_counter (contents (db.trees holding.tree)) (contents (db.trees granted.tree)) (contents (db.trees auth.tree)) held given active,
+            record {
+              charter_kept = record {
+                schema = subst (IsPermutation _) (all_shown meta 1 (required (codes "value") Integer) (inl refl) refl refl refl refl) schema.shown;
+                operators = subst (IsPermutation _) (all_shown operator 0 (required (codes "name") OfText) (inr (inl refl)) refl refl refl refl) chartered.operators.shown;
+                pool = subst (IsPermutation _) (all_shown pool 2 (required (codes "len") Integer) (inr (inr (inl refl))) refl refl refl refl) chartered.pool.shown;
+              };
+              holders = parts.holders_held;
+              holdings = parts.holdings_held;
+              grants = parts.grants_held;
+              auths = parts.auths_held;
+              exceptions = empty;
+              whole = trees_whole;
+            },
+          )

@@ -1,0 +1,34 @@
+-- What an opened store holds.
+use Rattle.std.proofs.Common.{◌≡◌, ℕ, List, Option, IsTrue, sym, ap, subst, ◌∙◌}
+use Rattle.sqlite.specs.Effect.{Database}
+use Rattle.sqlite.specs.Held.{Held, state}
+use Rattle.sqlite.specs.State.{State, HasCleanDisk}
+use Rattle.sqlite.specs.Store.{Ghosts}
+use Rattle.sqlite_trees.specs.Tree.{Trees}
+use Rattle.policy.specs.CharterSets.{CharterSets, IsCharter}
+use Rattle.policy.specs.Rows.{Rows}
+use Rattle.tables.specs.TablesHold.{TablesHold}
+use Rattle.tables.proofs.RowsStay.{hold_still}
+use Rattle.store.specs.StoreRows.{IsOpened}
+use Rattle.store.specs.steps.OpenedDesk.{OpensDesk}
+use Rattle.store.proofs.SameCharter.{same_charter}
+use Rattle.store.proofs.StoreLemmas.{over}
+
+module _ {S : Type 0} (g : Ghosts S) (charter : CharterSets) (found : State) (h : Held S) (is : OpensDesk charter found (state g h)) where
+  now_held : (rows : List ℕ → Option Rows) → TablesHold charter rows found.now.trees → TablesHold charter rows (state g h).now.trees
+  now_held = hold_still found.now.trees (state g h).now.trees is.rows charter
+
+  pub opened_store : IsCharter charter → HasCleanDisk (state g h)
+      → ((trees : Trees) → IsTrue (state g h).is_open → (state g h).may_leave trees → trees ≡ (state g h).committed.trees)
+      → IsOpened g found (over charter h)
+  opened_store rising clean settled = record {
+    idle = is.idle;
+    tables = is.tables;
+    is_open = is.is_open;
+    some = (is.some.0, λ _ _. now_held is.some.0 is.some.1);
+    same = λ other rows valid holds.
+        let one : charter ≡ other = same_charter charter other found.now.trees rising valid is.some.1.charter_kept holds.charter_kept in
+        (one, λ _ _. now_held rows (subst (λ c. TablesHold c rows found.now.trees) (sym one) holds));
+    left = λ rows holds trees leaves.
+        subst (TablesHold charter rows) (sym (settled trees is.is_open leaves ∙ ap (λ (d : Database). d.trees) is.desk.settled)) (holds clean is.is_open);
+  }

@@ -1,0 +1,56 @@
+-- Rows of a table that end in their rowids.
+use Rattle.std.specs.Prelude.{◌≡◌, ℕ, ◌-◌, Bool, true, false, List, [], ◌∷◌, ◌++◌, drop, map, length, All, IsPermutation}
+use Rattle.std.specs.List.{AllByRecursion}
+use Rattle.std.specs.Ordering.{is_eq, is_lt, int_cmp}
+use Rattle.sqlite.specs.Effect.{Database, Reads}
+use Rattle.sqlite.specs.Given.{IsPlain}
+use Rattle.sqlite.specs.Listing.{understood, reads_listing}
+use Rattle.sqlite.proofs.Callers.{command_of}
+use Rattle.sqlite_value.specs.declared.value.Value.{Value}
+use Rattle.sqlite_value.specs.declared.value.Value.TheVariants.{Int}
+use Rattle.sqlite_value.specs.Order.{Row, column, value_cmp}
+use Rattle.sqlite_trees.specs.Tree.{rowid, IsAscending}
+use Rattle.sqlite_trees.specs.View.{is_int}
+use Rattle.tables.specs.Tables.{desk_beside, OverDesk, contents, columns}
+
+-- the last value of a row; NULL where there is none
+abbrev pub last_value : Row → Value
+last_value c = column c (length c - 1)
+
+-- both are integers, and the first is below the second
+abbrev pub is_below : Value → Value → Bool
+is_below (Int m) (Int n) = is_lt (int_cmp m n)
+is_below _ _ = false
+
+-- the rows end in integers, of which no two are equal
+abbrev pub Rise : List Row → Type 0
+Rise rows =
+    IsAscending (λ a b. is_eq (value_cmp (last_value a) (last_value b)) ≡ false) rows
+    × AllByRecursion (λ c. is_int (last_value c) ≡ true) rows
+
+-- these columns of a row of a tree, and its rowid
+abbrev pub numbered : List ℕ → Row → Row
+numbered places r = columns places (drop 1 r) ++ rowid r ∷ []
+
+-- over the tables of a desk the text, which has no parameter, answers these rows
+abbrev pub AreAnswered : List ℕ → Database → List Row → Type 0
+AreAnswered sql db rows = Reads (command_of (understood (desk_beside db.schema) sql)) db [] rows
+
+-- The text selects these columns of all rows of a table, which are so many, and the rowids after them. It reads the tables alone.
+pub record SelectsAll (width tree : ℕ) (places : List ℕ) (sql : List ℕ) : Type 0 where
+  pub counted : length places ≡ width
+  pub plain : OverDesk (λ s. IsPlain (understood s sql))
+  pub unlisted : OverDesk (λ s. reads_listing s sql ≡ false)
+  pub found :
+      (db : Database) (rows : List Row) → AreAnswered sql db rows
+      → IsPermutation (map (numbered places) (db.trees tree)) rows
+
+-- these columns of all rows of a table
+abbrev pub shown_in : ℕ → List ℕ → Database → List Row
+shown_in tree places db = map (columns places) (contents (db.trees tree))
+
+-- the values are those that the rows show, in some order
+pub record AreRead {X : Type 0} (cells : X → Row) (fits : X → Type 0) (shown : List Row) (values : List X) : Type 0
+  where
+    pub fit : All fits values
+    pub same : IsPermutation shown (map cells values)

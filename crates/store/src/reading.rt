@@ -1,0 +1,243 @@
+//! Reading all rows of a database that has the tables of a desk.
+ghost use Rattle.std.specs.Prelude.{◌≡◌, ◌≢◌, ◌↔◌, true, false, ◌||◌, nat_eq, ℕ, List, [], ◌∷◌, Any, Err, OnOk, OnErr, IfOk, IsPermutation, IsTrue};
+ghost use Rattle.std.specs.Cmp.Lexicographic.{pointwise};
+ghost use Rattle.std.specs.List.{AllByRecursion};
+ghost use Rattle.sqlite.specs.Given.{IsPlain};
+ghost use Rattle.sqlite.specs.Held.{state};
+ghost use Rattle.sqlite.specs.Listing.{understood, reads_listing};
+ghost use Rattle.addr.specs.Address.{prefix_eq};
+ghost use Rattle.policy.specs.Charter.{operators_of, pool_of};
+ghost use Rattle.policy.specs.CharterSets.{AreInNumber};
+ghost use Rattle.policy.specs.Repeats.{has_repeat};
+ghost use Rattle.tables.specs.Cells.{schema_row};
+ghost use Rattle.tables.specs.Decode.{first_columns};
+ghost use Rattle.tables.specs.Tables.{operator, pool, holder, holding, granted, auth, slurm, IsTree, OverDesk};
+ghost use Rattle.store.specs.TablesRead.{HoldSome, ShowsSome, TablesRead};
+ghost use Rattle.store.specs.steps.Numbered.{AreAnswered, AreRead, Rise, SelectsAll, shown_in};
+ghost use Rattle.store.specs.steps.Opened.{ShowHolders, ShowsCharter, TellsSchema};
+ghost use Rattle.store.specs.steps.Queries.{IsAsked, IsOnCleanDisk, IsReadyToAsk};
+
+use crate::StoreFault;
+use crate::ask::ask;
+use crate::rise::rise;
+use crate::select::read_all;
+use addr::{Name, Prefix, Span};
+use policy::{Auth, Charter, Granted};
+use sqlite::{Alter, Connection, Row};
+use std::alloc::Global;
+use tables::{FromRow, Registered, tells_schema};
+
+/// A value that each row of one table shows.
+trait InTable: FromRow {
+    // The tree of the table, and the columns that show the value.
+    ghost tree: { ℕ };
+
+    ghost places: { List ℕ };
+
+    /// The query of those columns of all rows, and of their rowids after them.
+    fn select_all() -> &'static str
+        ensures { SelectsAll Self.width tree places result.now };
+}
+
+/// All rows that a query of numbered rows answers.
+fn ask_all<S: Alter>(conn: &mut Connection<S>, sql: &str) -> Result<Vec<Row>, StoreFault>
+    requires ready { IsReadyToAsk S.Store conn.old }
+    requires plain { OverDesk (λ s. IsPlain (understood s sql.now)) }
+    requires unlisted { OverDesk (λ s. reads_listing s sql.now ≡ false) }
+    ensures asked { IsAsked S.Store conn.old conn.new result }
+    ensures answered { IsOnCleanDisk S.Store conn.new → IfOk result (λ rows.
+        AreAnswered sql.now (state S.Store conn.old).now rows.items) }
+    ensures rise { IfOk result (λ rows. Rise rows.items) }
+    ensures no_schema { result ≢ Err StoreFault.Schema }
+{
+    let rows = ask(conn, sql, &[])?;
+    if !rise(&rows) {
+        return Err(StoreFault::Database);
+    }
+    Ok(rows)
+}
+
+/// The values of all rows of a table.
+fn read_table<T: InTable, S: Alter>(
+    conn: &mut Connection<S>,
+    alloc: Global,
+) -> Result<Vec<T>, StoreFault>
+    requires { IsReadyToAsk S.Store conn.old }
+    ensures asked { IsAsked S.Store conn.old conn.new result }
+    ensures tree { IsOnCleanDisk S.Store conn.new
+        → OnOk result (IsTree ((state S.Store conn.old).now.trees T.tree)) }
+    ensures read { IsOnCleanDisk S.Store conn.new → IfOk result (λ values.
+        AreRead T.cells T.fits (shown_in T.tree T.places (state S.Store conn.old).now) values.items) }
+    ensures schema { IsOnCleanDisk S.Store conn.new → result ≡ Err StoreFault.Schema
+        → ¬ AllByRecursion (ShowsSome T.cells T.fits)
+        (shown_in T.tree T.places (state S.Store conn.old).now) }
+{
+    let rows = ask_all(conn, T::select_all())?;
+    read_all(alloc, &rows)
+}
+
+impl InTable for Name {
+    ghost tree = { operator.tree };
+
+    ghost places = { 0 ∷ [] };
+
+    fn select_all() -> &'static str {
+        "SELECT name, rowid FROM operator ORDER BY rowid"
+    }
+}
+
+impl InTable for Prefix {
+    ghost tree = { pool.tree };
+
+    ghost places = { 0 ∷ 1 ∷ 2 ∷ [] };
+
+    fn select_all() -> &'static str {
+        "SELECT family, lo, len, rowid FROM pool ORDER BY rowid"
+    }
+}
+
+impl InTable for Registered {
+    ghost tree = { holder.tree };
+
+    ghost places = { 0 ∷ 1 ∷ 2 ∷ [] };
+
+    fn select_all() -> &'static str {
+        "SELECT name, grants, auths, rowid FROM holder ORDER BY rowid"
+    }
+}
+
+impl InTable for Span {
+    ghost tree = { holding.tree };
+
+    ghost places = { 0 ∷ 1 ∷ 2 ∷ [] };
+
+    fn select_all() -> &'static str {
+        "SELECT family, lo, hi, rowid FROM holding ORDER BY rowid"
+    }
+}
+
+impl InTable for Granted {
+    ghost tree = { granted.tree };
+
+    ghost places = { 1 ∷ 2 ∷ 3 ∷ 4 ∷ 5 ∷ 6 ∷ 7 ∷ [] };
+
+    fn select_all() -> &'static str {
+        "SELECT number, caller, role, family, lo, len, until, rowid FROM granted ORDER BY rowid"
+    }
+}
+
+impl InTable for Auth {
+    ghost tree = { auth.tree };
+
+    ghost places = { 1 ∷ 2 ∷ 3 ∷ 4 ∷ 5 ∷ 6 ∷ 7 ∷ 8 ∷ [] };
+
+    fn select_all() -> &'static str {
+        "SELECT number, asn, family, lo, len, max, opens, ends, rowid FROM auth ORDER BY rowid"
+    }
+}
+
+fn some_tells_schema(rows: &[Row]) -> bool
+    ensures { IsTrue result ↔ Any (λ row. first_columns 2 row ≡ schema_row) rows.now }
+{
+    rows.iter().any(|row| tells_schema(row))
+}
+
+/// Whether the table `meta` tells this schema, and has no other row.
+fn read_schema<S: Alter>(conn: &mut Connection<S>) -> Result<(), StoreFault>
+    requires { IsReadyToAsk S.Store conn.old }
+    ensures asked { IsAsked S.Store conn.old conn.new result }
+    ensures found { IsOnCleanDisk S.Store conn.new
+        → OnOk result (TellsSchema (state S.Store conn.old).now) }
+    ensures schema { IsOnCleanDisk S.Store conn.new → result ≡ Err StoreFault.Schema
+        → ¬ TablesRead (state S.Store conn.old).now.trees }
+{
+    let rows = ask_all(conn, "SELECT name, value, rowid FROM meta ORDER BY rowid")?;
+    if !some_tells_schema(&rows) {
+        return Err(StoreFault::Schema);
+    }
+    if rows.len() != 1 {
+        return Err(StoreFault::Database);
+    }
+    Ok(())
+}
+
+/// The charter of these operators and this pool. Where they make none, it is another schema.
+fn make_charter(operators: Vec<Name>, pool: Vec<Prefix>) -> Result<Charter, StoreFault>
+    ensures operators { IfOk result
+        (λ charter. IsPermutation operators.items (operators_of charter)) }
+    ensures pool { IfOk result (λ charter. IsPermutation pool.items (pool_of charter)) }
+    ensures schema { OnErr result (AreInNumber operators.items pool.items
+        → (has_repeat (pointwise nat_eq) operators.items || has_repeat prefix_eq pool.items)
+        ≡ true) }
+{
+    Charter::make(operators, pool).map_err(|_| StoreFault::Schema)
+}
+
+/// The charter that the tables have.
+fn read_charter<S: Alter>(conn: &mut Connection<S>, alloc: Global) -> Result<Charter, StoreFault>
+    requires { IsReadyToAsk S.Store conn.old }
+    ensures asked { IsAsked S.Store conn.old conn.new result }
+    ensures found { IsOnCleanDisk S.Store conn.new → IfOk result (λ charter.
+        ShowsCharter charter (state S.Store conn.old).now) }
+    ensures schema { IsOnCleanDisk S.Store conn.new → result ≡ Err StoreFault.Schema
+        → ¬ TablesRead (state S.Store conn.old).now.trees }
+{
+    let operators = read_table(conn, alloc)?;
+    let pool = read_table(conn, alloc)?;
+    make_charter(operators, pool)
+}
+
+/// Whether each row of a table of holders reads.
+fn read_holders<S: Alter>(conn: &mut Connection<S>, alloc: Global) -> Result<(), StoreFault>
+    requires { IsReadyToAsk S.Store conn.old }
+    ensures asked { IsAsked S.Store conn.old conn.new result }
+    ensures found { IsOnCleanDisk S.Store conn.new
+        → OnOk result (ShowHolders (state S.Store conn.old).now) }
+    ensures schema { IsOnCleanDisk S.Store conn.new → result ≡ Err StoreFault.Schema
+        → ¬ TablesRead (state S.Store conn.old).now.trees }
+{
+    let _holders: Vec<Registered> = read_table(conn, alloc)?;
+    let _holdings: Vec<Span> = read_table(conn, alloc)?;
+    let _grants: Vec<Granted> = read_table(conn, alloc)?;
+    let _auths: Vec<Auth> = read_table(conn, alloc)?;
+    Ok(())
+}
+
+/// Whether the table `slurm` has no row.
+fn read_exceptions<S: Alter>(conn: &mut Connection<S>) -> Result<(), StoreFault>
+    requires { IsReadyToAsk S.Store conn.old }
+    ensures asked { IsAsked S.Store conn.old conn.new result }
+    ensures found { IsOnCleanDisk S.Store conn.new
+        → OnOk result ((state S.Store conn.old).now.trees slurm.tree ≡ []) }
+    ensures no_schema { result ≢ Err StoreFault.Schema }
+{
+    let rows = ask_all(
+        conn,
+        "SELECT file, kind, position, family, lo, len, max, asn, rowid FROM slurm ORDER BY rowid",
+    )?;
+    if !rows.is_empty() {
+        return Err(StoreFault::Database);
+    }
+    Ok(())
+}
+
+/// Reads all rows of a database that has the tables of a desk, and answers the charter that they
+/// have. Rows of SLURM files are refused.
+pub(crate) fn read_tables<S: Alter>(
+    conn: &mut Connection<S>,
+    alloc: Global,
+) -> Result<Charter, StoreFault>
+    requires { IsReadyToAsk S.Store conn.old }
+    ensures asked { IsAsked S.Store conn.old conn.new result }
+    ensures held { IsOnCleanDisk S.Store conn.new → IfOk result (λ charter.
+        HoldSome charter (state S.Store conn.old).now.trees) }
+    ensures schema { IsOnCleanDisk S.Store conn.new → result ≡ Err StoreFault.Schema
+        → ¬ TablesRead (state S.Store conn.old).now.trees }
+{
+    let _schema = conn.schema();
+    read_schema(conn)?;
+    let charter = read_charter(conn, alloc)?;
+    read_holders(conn, alloc)?;
+    read_exceptions(conn)?;
+    Ok(charter)
+}

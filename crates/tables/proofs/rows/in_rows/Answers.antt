@@ -1,0 +1,9 @@
+use Rattle.std.proofs.Common.{arith}
+use Rattle.tables.specs.Decode.{first_columns}
+use Rattle.tables.proofs.ReadLemmas.{any_mapped}
+use Rattle.tables.proofs.rows.in_rows.Goals as goal
+
+pub returns-in_err-value : goal.returns-in_err-value
+returns-in_err-value g c =
+    rw c.from_residual.ensures
+    (any_mapped _ (first_columns g.T.FromRow.width) c.args.rows.now c.loop-row.row-index c.row-item.result (omega arith) c.row-item.is c.in_err-value.ensures)
