@@ -43,7 +43,8 @@ expect 'its integrity' "$(sqlite3 "$made" 'PRAGMA integrity_check')" ok
 expect 'its foreign keys' "$(sqlite3 "$made" 'PRAGMA foreign_key_check')" ''
 expect 'its number' "$(sqlite3 "$made" 'SELECT name, value FROM meta')" 'schema|1'
 expect 'its holders' "$(sqlite3 "$made" 'SELECT count(*), sum(grants) FROM holder')" '10|10'
-expect 'its authorizations' "$(sqlite3 "$made" 'SELECT count(*), sum(asn) FROM auth')" '100|550'
+# The AS of an authorization is its number: 1 to 10 at each of the 10 holders, and one each from 211 to 410.
+expect 'its authorizations' "$(sqlite3 "$made" 'SELECT count(*), sum(asn) FROM auth')" '300|62650'
 
 # What sqlite3 wrote, opened as a store.
 open=$("$bench/build.sh" open "$work" "$work/first.db") || fail "open.rs was not built"

@@ -5,6 +5,8 @@
 #[cfg(test)]
 mod contents;
 #[cfg(test)]
+mod databases;
+#[cfg(test)]
 mod fakes;
 #[cfg(test)]
 mod memory;

@@ -85,7 +85,7 @@ pub active-kept : (e : Entry) (before : History) (h : List ℕ) (active : List A
     → AreActive before h active → Keeps (HeldSinceMade (e ∷ before) h) (authorization_terms before h) active
 active-kept e before h active keeps are =
     Keeps-same (HeldSinceMade before h) (HeldSinceMade (e ∷ before) h) 0 (authorization_terms before h) active (authorizations_made before h)
-    (authorization_terms-numbered before h) (since_more e before h keeps) (λ x since. since.1) are
+    (authorization_terms-numbered before h) (λ x positive made. (since_more e before h keeps x positive made, λ since. since.1)) are
 
 -- equal prefixes and numbers, equally held
 pub since_same : (history : History) (h : List ℕ) (x y : Auth) → y.number ≡ x.number → y.prefix ≡ x.prefix → HeldSinceMade history h x → HeldSinceMade history h y

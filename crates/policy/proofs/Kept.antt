@@ -1,5 +1,5 @@
 -- A list that keeps those of another for which a fact holds.
-use Rattle.std.proofs.Common.{◌≡◌, ℕ, ◌<◌, ◌≤◌, Bool, true, false, not, cond, List, [], ◌∷◌, ◌++◌, inl, inr, refl, sym, ap, ◌∙◌, subst, arith, map, filter}
+use Rattle.std.proofs.Common.{◌≡◌, ℕ, ◌<◌, ◌≤◌, Bool, true, false, not, cond, List, [], ◌∷◌, ◌++◌, ◌↔◌, inl, inr, refl, sym, ap, ◌∙◌, subst, arith, map, filter}
 use Rattle.std.specs.List.{All}
 use Rattle.std.proofs.lemmas.List.Elements.{All-nil, All-cons, All-head, All-tail}
 use Rattle.policy.specs.declared.authorization.Auth.{Auth}
@@ -85,16 +85,16 @@ Keeps-numbered P low (x ∷ xs) (y ∷ ys) high (inr k) n =
 
 -- another fact that holds of the same ones, where the numbers lie from above low up to high
 pub Keeps-same : (P Q : Auth → Type 0) (low : ℕ) (xs ys : List Auth) (high : ℕ) → Numbered low xs high
-    → ((x : Auth) → low < x.number → x.number ≤ high → P x → Q x) → ((x : Auth) → Q x → P x)
+    → ((x : Auth) → low < x.number → x.number ≤ high → P x ↔ Q x)
     → Keeps P xs ys → Keeps Q xs ys
-Keeps-same P Q low [] [] high n to from k = tt
-Keeps-same P Q low [] (y ∷ ys) high n to from k = absurd k
-Keeps-same P Q low (x ∷ xs) [] high n to from k =
-    (λ q. k.0 (from x q), Keeps-same P Q x.number xs [] high n.1 (λ y above. to y (later n.0 above)) from k.1)
-Keeps-same P Q low (x ∷ xs) (y ∷ ys) high n to from (inl k) =
-    inl (to x n.0 (Numbered-high x.number xs high n.1) k.0, k.1, Keeps-same P Q x.number xs ys high n.1 (λ z above. to z (later n.0 above)) from k.2)
-Keeps-same P Q low (x ∷ xs) (y ∷ ys) high n to from (inr k) =
-    inr (λ q. k.0 (from x q), Keeps-same P Q x.number xs (y ∷ ys) high n.1 (λ z above. to z (later n.0 above)) from k.1)
+Keeps-same P Q low [] [] high n same k = tt
+Keeps-same P Q low [] (y ∷ ys) high n same k = absurd k
+Keeps-same P Q low (x ∷ xs) [] high n same k =
+    (λ q. k.0 ((same x n.0 (Numbered-high x.number xs high n.1)).1 q), Keeps-same P Q x.number xs [] high n.1 (λ y above. same y (later n.0 above)) k.1)
+Keeps-same P Q low (x ∷ xs) (y ∷ ys) high n same (inl k) =
+    inl ((same x n.0 (Numbered-high x.number xs high n.1)).0 k.0, k.1, Keeps-same P Q x.number xs ys high n.1 (λ z above. same z (later n.0 above)) k.2)
+Keeps-same P Q low (x ∷ xs) (y ∷ ys) high n same (inr k) =
+    inr (λ q. k.0 ((same x n.0 (Numbered-high x.number xs high n.1)).1 q), Keeps-same P Q x.number xs (y ∷ ys) high n.1 (λ z above. same z (later n.0 above)) k.1)
 
 -- a fact that holds of those for which the first did and which are not dropped
 pub Keeps-filter : (P Q : Auth → Type 0) (drop : Auth → Bool) (low : ℕ) (xs ys : List Auth) (high : ℕ) → Numbered low xs high

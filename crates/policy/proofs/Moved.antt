@@ -33,7 +33,7 @@ numbers_within floor low (x ∷ xs) high above n =
     All-cons (IsWithin floor high) x xs here (numbers_within floor x.number xs high (omega (arith, above)) n.1)
 
 -- so do those of the authorizations that were made
-within : (history : History) (h : List ℕ) (x : Auth) → Contains (authorization_terms history h) x → IsWithin 0 (authorizations_made history h) x
+pub within : (history : History) (h : List ℕ) (x : Auth) → Contains (authorization_terms history h) x → IsWithin 0 (authorizations_made history h) x
 within history h x there =
     let terms = authorization_terms history h in
     let made = authorizations_made history h in

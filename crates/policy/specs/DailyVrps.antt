@@ -18,7 +18,11 @@ filters_in_force history = []
 abbrev pub assertions_in_force : History → List Vrp
 assertions_in_force history = []
 
-abbrev pub IsVrpOn : History → ℕ → Vrp → Type 0
-IsVrpOn history day v =
-    (IsVrpInForce history day v × All (λ filters. filters v ≡ false) (filters_in_force history))
+-- given, and matched by no prefix filter in force; or an assertion in force
+abbrev pub IsAfterExceptions : History → Type 0 → Vrp → Type 0
+IsAfterExceptions history given v =
+    (given × All (λ filters. filters v ≡ false) (filters_in_force history))
     ⊎ Contains (assertions_in_force history) v
+
+abbrev pub IsVrpOn : History → ℕ → Vrp → Type 0
+IsVrpOn history day v = IsAfterExceptions history (IsVrpInForce history day v) v

@@ -18,3 +18,4 @@ pub mod SharedVrps
 pub mod Unregistered
 pub mod steps
 pub mod Ended
+pub mod HolderEntries

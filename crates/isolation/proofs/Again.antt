@@ -1,0 +1,193 @@
+-- A command that is accepted again leaves the rows: only an amendment is, since what the first time gave,
+-- took or made is still so.
+use Rattle.std.proofs.Common.{◌≡◌, ℕ, ◌+◌, Bool, true, false, not, ◌||◌, ◌&&◌, cond, eqb, List, [], ◌∷◌, ◌++◌, inl, inr, Option, Some, None, IsSomeAnd, refl, sym, ap, ◌∙◌, subst, arith, map, filter}
+use Rattle.std.specs.List.{list_any}
+use Rattle.std.proofs.lemmas.Bool.{cases_Bool, cond-true, cond-false, false≢true, or_parts}
+use Rattle.std.proofs.lemmas.Bool.Decides.{nat_tests}
+use Rattle.std.proofs.Math.Bool.{or-true}
+use Rattle.addr.specs.Address.{Address, has_address, prefix_eq}
+use Rattle.addr.specs.declared.asn.Asn.{Asn}
+use Rattle.addr.specs.declared.prefix.Prefix.{Prefix}
+use Rattle.addr.proofs.AddressLemmas.{between_at, first-last}
+use Rattle.addr.proofs.Equality.{prefix_itself}
+use Rattle.addr.specs.Address.{last_of}
+use Rattle.policy.specs.declared.authorization.Auth.{Auth}
+use Rattle.policy.specs.declared.charter.Charter.{Charter}
+use Rattle.policy.specs.declared.command.Command.{Command}
+use Rattle.policy.specs.declared.command.Command.TheVariants.{Register, Delegate, Transfer, Reclaim, Grant, Revoke, Create, Amend, Withdraw}
+use Rattle.policy.specs.declared.grant.Access.TheVariants.{Alter}
+use Rattle.policy.specs.declared.grant.Granted.{Granted}
+use Rattle.policy.specs.Answer.{holder_of}
+use Rattle.policy.specs.History.{Entry, History, same_name, is_registered}
+use Rattle.policy.specs.HolderEntries.{names}
+use Rattle.policy.specs.Permission.{is_permitted_terms}
+use Rattle.policy.specs.Resources.{resource_holder, is_held_by, HoldsPrefix}
+use Rattle.policy.specs.Terms.{gives_vrp, grant_terms, authorizations_made, authorization_terms, amended, HeldSinceMade, Keeps, OfActive}
+use Rattle.policy.specs.Verdict.{Verdict, HasAccessTo, IsLegal, numbered}
+use Rattle.policy.proofs.Names.{same_name-same, same_name-true, same_name-false}
+use Rattle.policy.proofs.Held.{not_yet_made}
+use Rattle.isolation.specs.RepeatedRequests.{is_grant, RepeatsLeaveRows}
+use Rattle.isolation.proofs.Agree.{Agree, agree-sym, agree-active, agree-rows}
+use Rattle.isolation.proofs.Parts.{since_left, agree-unnamed, agree-later}
+
+-- a prefix has an address
+first_address : (p : Prefix) → (a : Address) × (has_address p a ≡ true)
+first_address p = (record { family = p.family; number = p.first }, between_at p.family p.first (last_of p) p.first (omega arith) (first-last p))
+
+-- what does not pass has none that passes
+any_filtered : {A : Type 0} (test : A → Bool) (xs : List A) → list_any test (filter (λ x. not (test x)) xs) ≡ false
+any_filtered test [] = refl
+any_filtered {A} test (x ∷ xs) =
+    let rest = any_filtered test xs in
+    let kept = filter (λ y. not (test y)) xs in
+    let P : Bool → Type 0 = λ b. list_any test (cond (not b) (x ∷ kept) kept) ≡ false in
+    elim (cases_Bool (test x)) [
+      | inl t ↦ subst P (sym t) rest
+      | inr f ↦ subst P (sym f) (ap (λ b. b || list_any test kept) f ∙ rest)
+    ]
+
+-- nor have those that are kept of it
+any_kept : (P : Auth → Type 0) (test : Auth → Bool) (xs ys : List Auth) → Keeps P xs ys → list_any test xs ≡ false → list_any test ys ≡ false
+any_kept P test xs [] k none = refl
+any_kept P test [] (y ∷ ys) k none = absurd k
+any_kept P test (x ∷ xs) (y ∷ ys) (inl k) none =
+    let parts = or_parts (test x) (list_any test xs) none in
+    ap (λ z. test z || list_any test ys) k.1 ∙ ap (λ b. b || list_any test ys) parts.0 ∙ any_kept P test xs ys k.2 parts.1
+any_kept P test (x ∷ xs) (y ∷ ys) (inr k) none = any_kept P test xs (y ∷ ys) k.1 (or_parts (test x) (list_any test xs) none).1
+
+-- the last, kept, passes
+last_kept : (P : Auth → Type 0) (test : Auth → Bool) (xs ys : List Auth) (x : Auth) → Keeps P (xs ++ x ∷ []) ys → P x → test x ≡ true
+    → list_any test ys ≡ true
+last_kept P test [] [] x k is passes = absurd (k.0 is)
+last_kept P test [] (y ∷ ys) x (inl k) is passes = ap (λ b. b || list_any test ys) (ap test k.1 ∙ passes)
+last_kept P test [] (y ∷ ys) x (inr k) is passes = absurd k.1
+last_kept P test (z ∷ zs) [] x k is passes = last_kept P test zs [] x k.1 is passes
+last_kept P test (z ∷ zs) (y ∷ ys) x (inl k) is passes = ap (λ b. test y || b) (last_kept P test zs ys x k.2 is passes) ∙ or-true (test y)
+last_kept P test (z ∷ zs) (y ∷ ys) x (inr k) is passes = last_kept P test zs (y ∷ ys) x k.1 is passes
+
+none_numbered : (n : ℕ) (xs : List Auth) (P : Auth → Type 0) → list_any (λ x. eqb x.number n) xs ≡ false → IsSomeAnd (numbered n xs) P → ⊥
+none_numbered n [] P none some = some
+none_numbered n (x ∷ xs) P none some =
+    let parts = or_parts (eqb x.number n) (list_any (λ y. eqb y.number n) xs) none in
+    none_numbered n xs P parts.1 (subst (λ (o : Option Auth). IsSomeAnd o P) (cond-false _ _ _ parts.0) some)
+
+-- an address of the prefix that is held again, or by nobody, as the rule asks, while the first time left it to another
+still_held : (history other : History) (h : List ℕ) (p : Prefix) (to : Option (List ℕ)) (asked : Option (List ℕ)) → Agree history other h
+    → ((a : Address) → has_address p a ≡ true → resource_holder other a ≡ to)
+    → ((a : Address) → has_address p a ≡ true → resource_holder history a ≡ asked)
+    → is_held_by h asked ≡ is_held_by h to
+still_held history other h p to asked same left rule =
+    let a = first_address p in
+    ap (is_held_by h) (sym (rule a.0 a.1)) ∙ same.holders a.0 ∙ ap (is_held_by h) (left a.0 a.1)
+
+-- an amendment made twice is made once
+amended_twice : (n max until : ℕ) (x : Auth) → amended n max until (amended n max until x) ≡ amended n max until x
+amended_twice n max until x =
+    elim (cases_Bool (eqb x.number n)) [
+      | inl t ↦
+          let new : Auth = record x { max = max; until = until } in
+          let once : amended n max until x ≡ new = cond-true _ _ _ t in
+          let twice : amended n max until new ≡ new = cond-true _ _ _ t in
+          ap (amended n max until) once ∙ twice ∙ sym once
+      | inr f ↦ ap (amended n max until) (cond-false _ _ _ f)
+    ]
+
+map_twice : (f : Auth → Auth) → ((x : Auth) → f (f x) ≡ f x) → (xs : List Auth) → map f (map f xs) ≡ map f xs
+map_twice f twice [] = refl
+map_twice f twice (x ∷ xs) = ap (λ y. y ∷ map f (map f xs)) (twice x) ∙ ap (λ ys. f x ∷ ys) (map_twice f twice xs)
+
+or_itself : (b : Bool) → b || b ≡ true → b ≡ true
+or_itself true t = refl
+or_itself false t = t
+
+abbrev entry : ℕ → List ℕ → Command → Entry
+entry day caller c = record { day = day; caller = caller; command = c }
+
+-- the holder has the same after the amendment is made again
+amended_again : (history before : History) (then day : ℕ) (by caller holder : List ℕ) (n max until : ℕ)
+    → Agree history (entry then by (Amend holder n max until) ∷ before) holder
+    → Agree (entry day caller (Amend holder n max until) ∷ history) history holder
+amended_again history before then day by caller holder n max until same =
+    let f = amended n max until in
+    let itself = same_name-same holder in
+    let made : authorization_terms history holder ≡ map f (authorization_terms before holder) = same.terms ∙ cond-true _ _ _ itself in
+    record {
+      registered = refl;
+      holders = λ a. refl;
+      grants = refl;
+      granted = refl;
+      terms = cond-true _ _ _ itself ∙ ap (map f) made ∙ map_twice f (amended_twice n max until) (authorization_terms before holder) ∙ sym made;
+      created = refl;
+      since = since_left (entry day caller (Amend holder n max until)) history holder (λ a. refl) refl;
+    }
+
+-- the authorization that was made is active, so that the rule `same` denies it
+created_again : (history before : History) (then : ℕ) (by holder : List ℕ) (asn : Asn) (p : Prefix) (max from until : ℕ)
+    → HoldsPrefix before holder p → Agree history (entry then by (Create holder asn p max from until) ∷ before) holder
+    → OfActive history holder (λ active. list_any (λ y. gives_vrp y asn p max) active ≡ false) → ⊥
+created_again history before then by holder asn p max from until holds same new =
+    let made = entry then by (Create holder asn p max from until) ∷ before in
+    let x : Auth = record { number = authorizations_made before holder + 1; asn = asn; prefix = p; max = max; from = from; until = until } in
+    let since : HeldSinceMade made holder x = (
+      λ _. λ q is a has. holds a (subst (λ (r : Prefix). has_address r a ≡ true) is has),
+      not_yet_made before holder x (omega arith),
+    ) in
+    let test : Auth → Bool = λ y. gives_vrp y asn p max in
+    let same_asn : eqb asn.0 asn.0 ≡ true = grind (arith, nat_tests) in
+    let same_max : eqb max max ≡ true = grind (arith, nat_tests) in
+    let gives : test x ≡ true =
+    ap (λ b. b && (prefix_eq p p && eqb max max)) same_asn ∙ ap (λ b. b && eqb max max) (prefix_itself p) ∙ same_max in
+    let kept : Keeps (HeldSinceMade made holder) (authorization_terms before holder ++ x ∷ []) new.0 =
+    subst (λ (xs : List Auth). Keeps (HeldSinceMade made holder) xs new.0) (cond-true _ _ _ (same_name-same holder)) (agree-active same new.0 new.1) in
+    false≢true (sym new.2 ∙ last_kept (HeldSinceMade made holder) test (authorization_terms before holder) new.0 x kept since gives)
+
+-- the authorization that was withdrawn is not active
+withdrawn_again : (history before : History) (then day : ℕ) (by caller holder : List ℕ) (n : ℕ)
+    → Agree history (entry then by (Withdraw holder n) ∷ before) holder → HasAccessTo history holder day caller Alter n → ⊥
+withdrawn_again history before then day by caller holder n same has =
+    let made = entry then by (Withdraw holder n) ∷ before in
+    let test : Auth → Bool = λ x. eqb x.number n in
+    let kept : Keeps (HeldSinceMade made holder) (filter (λ x. not (test x)) (authorization_terms before holder)) has.0 =
+    subst (λ (xs : List Auth). Keeps (HeldSinceMade made holder) xs has.0) (cond-true _ _ _ (same_name-same holder)) (agree-active same has.0 has.1) in
+    none_numbered n has.0 (λ x. is_permitted_terms (grant_terms history holder) day caller Alter x ≡ true)
+    (any_kept (HeldSinceMade made holder) test _ has.0 kept (any_filtered test (authorization_terms before holder))) has.2
+
+agree-again : (charter : Charter) (history before : History) (then day : ℕ) (by caller : List ℕ) (c : Command)
+    → Verdict charter before then by c None → Agree history (entry then by c ∷ before) (holder_of c) → is_grant c ≡ false
+    → Verdict charter history day caller c None → (h : List ℕ) → Agree (entry day caller c ∷ history) history h
+agree-again charter history before then day by caller (Register holder) first same other accepted h =
+    let registered : is_registered (entry then by (Register holder) ∷ before) holder ≡ true = ap (λ b. b || is_registered before holder) (same_name-same holder) in
+    absurd (false≢true (sym accepted.1.0 ∙ same.registered ∙ registered))
+agree-again charter history before then day by caller (Delegate holder p) first same other accepted h =
+    absurd (false≢true (still_held history _ holder p (Some holder) None same (λ a has. cond-true _ _ _ has) accepted.1.1.1.0 ∙ same_name-same holder))
+agree-again charter history before then day by caller (Transfer p giver taker) first same other accepted h =
+    absurd (false≢true (sym (same_name-false giver taker first.1.1.0) ∙ sym (still_held history _ giver p (Some taker) (Some giver) same (λ a has. cond-true _ _ _ has) accepted.1.1.1.0) ∙ same_name-same giver))
+agree-again charter history before then day by caller (Reclaim holder p) first same other accepted h =
+    absurd (false≢true (sym (still_held history _ holder p None (Some holder) same (λ a has. cond-true _ _ _ has) accepted.1.1.0) ∙ same_name-same holder))
+agree-again charter history before then day by caller (Grant holder name role scope until) first same other accepted h = cc
+agree-again charter history before then day by caller (Revoke holder n) first same other accepted h =
+    let test = list_any (λ (g : Granted). eqb g.number n) in
+    absurd (false≢true (sym (any_filtered (λ g. eqb g.number n) (grant_terms before holder)) ∙ sym (ap test (same.grants ∙ cond-true _ _ _ (same_name-same holder))) ∙ accepted.1.0))
+agree-again charter history before then day by caller (Create holder asn p max from until) first same other accepted h =
+    absurd (created_again history before then by holder asn p max from until first.1.1.1.1.0 same accepted.1.1.1.1.1.0)
+agree-again charter history before then day by caller (Amend holder n max until) first same other accepted h =
+    let e = entry day caller (Amend holder n max until) in
+    elim (cases_Bool (names h e.command)) [
+      | inl t ↦ subst (λ (g : List ℕ). Agree (e ∷ history) history g) (same_name-true holder h (or_itself (same_name holder h) t))
+          (amended_again history before then day by caller holder n max until same)
+      | inr f ↦ agree-unnamed charter e history h accepted f
+    ]
+agree-again charter history before then day by caller (Withdraw holder n) first same other accepted h =
+    absurd (withdrawn_again history before then day by caller holder n same accepted.1.0)
+
+legal_before : (charter : Charter) (later before : History) → IsLegal charter (later ++ before) → IsLegal charter before
+legal_before charter [] before legal = legal
+legal_before charter (e ∷ later) before legal = legal_before charter later before legal.1
+
+pub repeats_leave_rows : RepeatsLeaveRows
+repeats_leave_rows charter before first later day caller legal other none accepted h rows =
+    let c = first.command in
+    let same = agree-later charter (holder_of c) later (first ∷ before) legal none.0 in
+    let history = later ++ first ∷ before in
+    let again = agree-again charter history before first.day day first.caller caller c (legal_before charter later (first ∷ before) legal).0 same other accepted h in
+    (agree-rows (agree-sym again) rows, agree-rows again rows)

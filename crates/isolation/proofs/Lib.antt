@@ -1,0 +1,5 @@
+pub mod Agree
+pub mod Parts
+pub mod Judged
+pub mod Again
+pub mod Isolation

@@ -1,0 +1,71 @@
+-- What a holder has and what is answered at it comes from the entries that name it.
+use Rattle.std.specs.Prelude.{◌≡◌, ℕ, Bool, true, false, List, ◌∷◌, ◌↔◌, Option}
+use Rattle.addr.specs.declared.vrp.Vrp.{Vrp}
+use Rattle.policy.specs.declared.authorization.Auth.{Auth}
+use Rattle.policy.specs.declared.charter.Charter.{Charter}
+use Rattle.policy.specs.declared.command.Command.{Command}
+use Rattle.policy.specs.declared.command.Command.TheVariants.{Delegate}
+use Rattle.policy.specs.declared.rule.Rule.{Rule}
+use Rattle.policy.specs.Answer.{number_given, IsShown, IsListed}
+use Rattle.policy.specs.DailyVrps.{IsAfterExceptions, IsVrpOn}
+use Rattle.policy.specs.HolderEntries.{names, entries_naming, entries_for}
+use Rattle.policy.specs.History.{Entry, History}
+use Rattle.policy.specs.Rows.{Rows, RowsIfAny}
+use Rattle.policy.specs.Terms.{IsVrpOf, IsInForce}
+use Rattle.policy.specs.Verdict.{Verdict, ShowVerdict, ListVerdict, IsLegal}
+
+-- the rows of a holder are those of the entries that name it
+abbrev pub RowsOfEntries : Type 0
+RowsOfEntries =
+    (charter : Charter) (history : History) (h : List ℕ) (rows : Option Rows) → IsLegal charter history
+    → RowsIfAny history h rows ↔ RowsIfAny (entries_naming h history) h rows
+
+-- an accepted command leaves the rows of a holder that it does not name
+abbrev pub OthersKeepRows : Type 0
+OthersKeepRows =
+    (charter : Charter) (e : Entry) (before : History) (h : List ℕ) (rows : Option Rows)
+    → IsLegal charter (e ∷ before) → names h e.command ≡ false
+    → RowsIfAny before h rows ↔ RowsIfAny (e ∷ before) h rows
+
+-- an authorization of some holder that is in force on the day by the entries that name the holder has the
+-- VRP
+abbrev pub IsVrpInForceByEntries : History → ℕ → Vrp → Type 0
+IsVrpInForceByEntries history day v =
+    (h : List ℕ) × (x : Auth) × IsInForce (entries_naming h history) h x day × IsVrpOf x v
+
+-- the VRPs of a day are the same where the authorizations in force of each holder are taken from the
+-- entries that name it
+abbrev pub VrpsOfEntries : Type 0
+VrpsOfEntries =
+    (charter : Charter) (history : History) (day : ℕ) (v : Vrp) → IsLegal charter history
+    → IsVrpOn history day v ↔ IsAfterExceptions history (IsVrpInForceByEntries history day v) v
+
+-- a delegation asks of all holders whether one holds an address of the prefix
+abbrev pub asks_of_all : Command → Bool
+asks_of_all (Delegate holder p) = true
+asks_of_all _ = false
+
+-- a command gets the same verdicts, and the same number for what it makes
+pub record AreJudgedAlike (charter : Charter) (one other : History) (day : ℕ) (caller : List ℕ) (command : Command) : Type 0 where
+  pub verdict : (rule : Option Rule) → Verdict charter one day caller command rule ↔ Verdict charter other day caller command rule
+  pub number : number_given one command ≡ number_given other command
+
+-- but for a delegation, a command is judged by the entries that name one of its holders
+abbrev pub CommandsByEntries : Type 0
+CommandsByEntries =
+    (charter : Charter) (history : History) (day : ℕ) (caller : List ℕ) (command : Command)
+    → IsLegal charter history → asks_of_all command ≡ false
+    → AreJudgedAlike charter history (entries_for command history) day caller command
+
+-- what is shown and listed to the caller is the same, and what is denied
+pub record AreSeenAlike (one other : History) (h : List ℕ) (day : ℕ) (caller : List ℕ) : Type 0 where
+  pub show : (n : ℕ) (rule : Option Rule) → ShowVerdict one h day caller n rule ↔ ShowVerdict other h day caller n rule
+  pub shown : (n : ℕ) (x : Auth) → IsShown one h day caller n x ↔ IsShown other h day caller n x
+  pub list : (rule : Option Rule) → ListVerdict one h day caller rule ↔ ListVerdict other h day caller rule
+  pub listed : (xs : List Auth) → IsListed one h day caller xs ↔ IsListed other h day caller xs
+
+-- what is shown and listed at a holder comes from the entries that name it
+abbrev pub QueriesByEntries : Type 0
+QueriesByEntries =
+    (charter : Charter) (history : History) (h : List ℕ) (day : ℕ) (caller : List ℕ) → IsLegal charter history
+    → AreSeenAlike history (entries_naming h history) h day caller

@@ -1,0 +1,48 @@
+//! Each function's contract states a law, and its body does nothing.
+
+ghost use Rattle.isolation.specs.Isolation.{
+  CommandsByEntries,
+  OthersKeepRows,
+  QueriesByEntries,
+  RowsOfEntries,
+  VrpsOfEntries,
+};
+ghost use Rattle.isolation.specs.RepeatedRequests.{RepeatsLeaveRows};
+
+/// After a legal history the rows of a holder are those of the entries that name it.
+#[tactic(auto, using(crate::proofs::Isolation::rows_of_entries))]
+pub fn rows_of_entries()
+    ensures { RowsOfEntries }
+{}
+
+/// An accepted command leaves the rows of each holder that it does not name.
+#[tactic(auto, using(crate::proofs::Isolation::others_keep_rows))]
+pub fn others_keep_rows()
+    ensures { OthersKeepRows }
+{}
+
+/// After a legal history the VRPs of a day are the same where the authorizations in force of each
+/// holder are taken from the entries that name it.
+pub fn parts()
+    ensures { VrpsOfEntries }
+{}
+
+/// After a legal history a command at a holder, but for a delegation, is accepted or denied, and its
+/// grant or authorization numbered, as after the entries that name the holder alone; a transfer as
+/// after those that name giver or taker.
+pub fn commands_by_entries()
+    ensures { CommandsByEntries }
+{}
+
+/// After a legal history what is shown and listed at a holder, or denied, is the same as after the
+/// entries that name the holder alone.
+pub fn queries_by_entries()
+    ensures { QueriesByEntries }
+{}
+
+/// Where a legal history accepted a command other than a grant, and no later entry names one of its
+/// holders, the same command by any caller on any day, if it is accepted again, leaves the rows of
+/// every holder.
+pub fn again()
+    ensures { RepeatsLeaveRows }
+{}

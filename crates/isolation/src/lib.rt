@@ -1,0 +1,5 @@
+//! What competing holders may rely on where they share a desk, over the definitions of `policy`
+//! alone.
+#![tactic(auto)]
+
+pub mod laws;

@@ -1,0 +1,24 @@
+-- The entries of a history that name a holder. By themselves those of a legal history may be no legal
+-- one: a transfer from another holder is among them, but not the registration of that holder.
+use Rattle.std.specs.Prelude.{ℕ, Bool, ◌||◌, List, filter}
+use Rattle.policy.specs.declared.command.Command.{Command}
+use Rattle.policy.specs.declared.command.Command.TheVariants.{Transfer}
+use Rattle.policy.specs.Answer.{holder_of, taker_of}
+use Rattle.policy.specs.History.{History, same_name}
+
+-- the command names the holder, a transfer as giver or taker
+abbrev pub names : List ℕ → Command → Bool
+names h command = same_name (holder_of command) h || same_name (taker_of command) h
+
+-- the entries that name the holder, in their order
+abbrev pub entries_naming : List ℕ → History → History
+entries_naming h history = filter (λ e. names h e.command) history
+
+-- the entries that name one of two holders, in their order
+abbrev pub entries_naming_either : List ℕ → List ℕ → History → History
+entries_naming_either g h history = filter (λ e. names g e.command || names h e.command) history
+
+-- the entries that name a holder that the command names
+abbrev pub entries_for : Command → History → History
+entries_for (Transfer p giver taker) history = entries_naming_either giver taker history
+entries_for command history = entries_naming (holder_of command) history
