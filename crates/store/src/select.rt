@@ -1,4 +1,4 @@
-//! The values of a holder: how they are asked for, and what the rows of the answer are read as.
+//! The values of a holder, and how they are asked for.
 ghost use Rattle.std.specs.Prelude.{List, [], ◌∷◌};
 ghost use Rattle.std.specs.declared.cmp.Ordering.{Ordering};
 ghost use Rattle.std.specs.declared.cmp.Ordering.TheVariants.{Equal};

@@ -15,7 +15,6 @@ use addr::{Day, Name, Prefix, Vrp};
 use database::{make_desk, open_desk};
 use policy::{Change, Charter, HolderRows};
 use sqlite::{Alter, Connection, MemStore};
-use sqlite_schema::schema::Schema;
 use std::alloc::Global;
 use std::marker::Model;
 
