@@ -8,15 +8,10 @@
 # Each runs three times: cpu is the least user and system seconds, memory the greatest peak.
 # Ends with 1 where the two outputs differ, with 2 where something could not be run.
 set -u
-bench=$(cd "$(dirname "${BASH_SOURCE[0]}")" && pwd)
+. "$(dirname "${BASH_SOURCE[0]}")/work.sh"
 program=${PROGRAM:-$bench/../crates/cli/out/cli}
 vrps=${1:-500000}
 routes=${2:-1000000}
-
-fail() {
-    echo "check.sh: $1" >&2
-    exit 2
-}
 
 order=()
 case ${3:-} in
@@ -25,14 +20,6 @@ case ${3:-} in
     *) fail "the third word can only be: shuffled" ;;
 esac
 [ -x "$program" ] || fail "the program is not built: run ./roadesk first"
-
-if [ -n "${BENCH_WORK:-}" ]; then
-    work=$BENCH_WORK
-    mkdir -p "$work" || fail "no folder $work"
-else
-    work=$(mktemp -d) || fail "no temporary folder"
-    trap 'rm -rf "$work"' EXIT
-fi
 
 rustc --edition 2021 -O -o "$work/plain" "$bench/plain.rs" || fail "plain.rs was not built"
 python3 "$bench/generate.py" ${order[@]+"${order[@]}"} "$vrps" "$routes" "$work/payloads.csv" "$work/routes.csv" ||

@@ -7,21 +7,8 @@
 # quicker, since the programs are proved. Ends with 1 where something else is found, with 2 where
 # something could not be run.
 set -u
-bench=$(cd "$(dirname "${BASH_SOURCE[0]}")" && pwd)
+. "$(dirname "${BASH_SOURCE[0]}")/work.sh"
 failed=0
-
-fail() {
-    echo "sqlite3.sh: $1" >&2
-    exit 2
-}
-
-if [ -n "${BENCH_WORK:-}" ]; then
-    mkdir -p "$BENCH_WORK" || fail "no folder $BENCH_WORK"
-    work=$(realpath "$BENCH_WORK")
-else
-    work=$(mktemp -d) || fail "no temporary folder"
-    trap 'rm -rf "$work"' EXIT
-fi
 rm -f "$work"/*.db*
 
 # expect NAME FOUND EXPECTED

@@ -8,21 +8,8 @@
 # medians of an operation's times the least counts. Ends with 1 where they answer otherwise than each other, with 2
 # where something could not be run.
 set -u
-bench=$(cd "$(dirname "${BASH_SOURCE[0]}")" && pwd)
+. "$(dirname "${BASH_SOURCE[0]}")/work.sh"
 runs=${1:-5}
-
-fail() {
-    echo "store.sh: $1" >&2
-    exit 2
-}
-
-if [ -n "${BENCH_WORK:-}" ]; then
-    mkdir -p "$BENCH_WORK" || fail "no folder $BENCH_WORK"
-    work=$(realpath "$BENCH_WORK")
-else
-    work=$(mktemp -d) || fail "no temporary folder"
-    trap 'rm -rf "$work"' EXIT
-fi
 
 gcc -O2 -Wall -o "$work/plain" "$bench/store.c" -lsqlite3 || fail "store.c was not built"
 program=$("$bench/build.sh" store "$work" memory 2 2) || fail "store.rs was not built"

@@ -1,0 +1,18 @@
+# Sourced by the scripts beside it: `fail`, the folder of the benchmarks and the folder `work`, which is a temporary one
+# or, so that the next run is quicker, that in BENCH_WORK.
+
+bench=$(cd "$(dirname "${BASH_SOURCE[0]}")" && pwd)
+
+# fail TEXT: something could not be run.
+fail() {
+    echo "$(basename "$0"): $1" >&2
+    exit 2
+}
+
+if [ -n "${BENCH_WORK:-}" ]; then
+    mkdir -p "$BENCH_WORK" || fail "no folder $BENCH_WORK"
+    work=$(realpath "$BENCH_WORK")
+else
+    work=$(mktemp -d) || fail "no temporary folder"
+    trap 'rm -rf "$work"' EXIT
+fi
