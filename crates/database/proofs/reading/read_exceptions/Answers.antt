@@ -1,6 +1,5 @@
-use Rattle.std.proofs.Common.{◌≡◌, ◌<◌, length, sym, ap, ◌∙◌, arith}
+use Rattle.std.proofs.Common.{length, sym, ap, ◌∙◌, arith}
 use Rattle.sqlite.specs.Held.{state}
-use Rattle.slurm.specs.declared.exceptions.TheConstants.{MOST_ENTRIES}
 use Rattle.tables.specs.Cells.{exception_row}
 use Rattle.tables.specs.Decode.{ExceptionRowFits}
 use Rattle.tables.specs.Tables.{slurm}
