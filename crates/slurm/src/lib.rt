@@ -10,6 +10,6 @@ mod filter;
 mod lists;
 mod members;
 
-pub use exceptions::Slurm;
+pub use exceptions::{MOST_ENTRIES, Slurm};
 pub use fault::SlurmFault;
 pub use filter::Filter;
