@@ -1,5 +1,5 @@
 -- Replies by the entries that decide them, and the rows that a request leaves.
-use Rattle.std.proofs.Common.{◌≡◌, ℕ, Bool, false, ◌||◌, cond, List, [], ◌∷◌, ◌++◌, Option, Some, None, IfSome, inl, inr, refl, sym, ap, ◌∙◌, subst}
+use Rattle.std.proofs.Common.{◌≡◌, ℕ, Bool, false, cond, List, [], ◌∷◌, Option, Some, None, IfSome, inl, inr, refl, sym, ap, ◌∙◌, subst}
 use Rattle.std.proofs.lemmas.Bool.{cases_Bool, cond-false, or_parts}
 use Rattle.isolation.specs.Isolation.{asks_of_all, AreJudgedAlike, AreSeenAlike, CommandsByEntries, QueriesByEntries}
 use Rattle.policy.specs.declared.change.Change.{Change}
@@ -10,7 +10,7 @@ use Rattle.policy.specs.declared.command.Query.{Query}
 use Rattle.policy.specs.declared.command.Query.TheVariants.{Show as ShowQuery, Content as ContentQuery, List as ListQuery, Payloads as PayloadsQuery, Validity as ValidityQuery}
 use Rattle.policy.specs.Answer.{holder_of, taker_of, IsOfHolders}
 use Rattle.policy.specs.History.{History, same_name}
-use Rattle.policy.specs.HolderEntries.{names, entries_naming, entries_for, holder_asked}
+use Rattle.policy.specs.HolderEntries.{names, entries_naming, entries_for}
 use Rattle.policy.specs.Rows.{Rows, changed, changed_by_one, changed_by_second}
 use Rattle.policy.specs.Verdict.{IsLegal}
 use Rattle.desk.specs.Answer.{AnswersCommand, AnswersShow, AnswersContent, AnswersList, AnswersQuery, AnswersRequest}

@@ -63,7 +63,10 @@ pub others_more : {S : Type 0} (g : Ghosts S) (asked : List Asked) (index : ℕ)
 others_more g asked index a start old new below here first second rows holds =
     let one = first rows holds in
     let two = second one.0 one.1 in
-    let both = λ (h : List ℕ). let p = λ (x : Asked). may_change x.request h in list_any_more p asked index a below ∙ ap (λ x. list_any p (take index asked) || p x) (sym here) in
-    (two.0, two.1, λ h other.
-      let parts = or_parts (may_change_any (take index asked) h) (may_change a.request h) (sym (both h) ∙ other) in
-      two.2 h parts.1 ∙ one.2 h parts.0)
+    let both = λ (h : List ℕ). let p = λ (x : Asked). may_change x.request h in list_any_more p asked index a below ∙ ap (λ x. list_any p (take index asked) || p x) (sym here) in (
+      two.0,
+      two.1,
+      λ h other.
+          let parts = or_parts (may_change_any (take index asked) h) (may_change a.request h) (sym (both h) ∙ other) in
+          two.2 h parts.1 ∙ one.2 h parts.0,
+    )
