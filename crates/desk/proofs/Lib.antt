@@ -1,4 +1,5 @@
 pub mod ContentLemmas
+pub mod HolderLemmas
 pub mod DeskLemmas
 pub mod RunLemmas
 pub mod DailyLemmas

@@ -1,0 +1,14 @@
+//! Laws over the definitions alone: each function's contract states one, and its body does nothing else.
+
+ghost use Rattle.desk.specs.HolderAnswers.{AnswersByEntries};
+
+pub use isolation::laws::{again, parts};
+
+/// What answers a request on a legal history answers it on the entries that name its holders, but
+/// for a delegation, the VRPs of a day and the validity of routes, which ask about all holders.
+pub(crate) fn answers_by_entries()
+    ensures { AnswersByEntries }
+{
+    isolation::laws::commands_by_entries();
+    isolation::laws::queries_by_entries();
+}
