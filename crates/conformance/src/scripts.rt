@@ -5,7 +5,6 @@
 //! stand before its own. A line is `CALLER {"do":..} => REPLY`, asked on the first of March, or
 //! `day DAY`, the day of the lines that follow it.
 use crate::fakes::{Sheet, Tape};
-use crate::rows::line_of;
 use addr::{Name, Prefix};
 use desk::Desk;
 use policy::Charter;
@@ -71,6 +70,12 @@ pub(crate) fn desk_of(alloc: Global, pool: &[&str]) -> Result<Desk<MemStore>, Fa
 
 pub(crate) fn example_desk(alloc: Global) -> Result<Desk<MemStore>, Fail> {
     desk_of(alloc, EXAMPLE_POOL)
+}
+
+/// The line of a script on a day, of a request with its caller before it.
+pub(crate) fn line_of(alloc: Global, day: &str, request: &str) -> Result<String, Fail> {
+    let (caller, members) = request.split_once(" {").ok_or("no caller")?;
+    Ok(format!(in alloc; "{{\"day\":\"{day}\",\"caller\":\"{caller}\",{members}")?)
 }
 
 /// The lines of a script, and the replies that are expected.
@@ -227,10 +232,8 @@ fn assert_script(rt: &impl Abort, alloc: Global, script: &str) -> Result<(), Fai
 }
 
 fn assert_all(rt: &impl Abort, alloc: Global, scripts: &str) -> Result<(), Fail> {
-    for script in scripts.split("\n# ") {
-        if !script.is_empty() {
-            assert_script(rt, alloc, script)?;
-        }
+    for script in scripts.split("\n# ").skip(1) {
+        assert_script(rt, alloc, script)?;
     }
     Ok(())
 }
