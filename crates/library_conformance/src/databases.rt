@@ -39,6 +39,8 @@ INSERT INTO holder VALUES ('Alpha', 0, 0) => schema
 INSERT INTO holder VALUES ('-alpha', 0, 0) => schema
 INSERT INTO holder VALUES ('ålpha', 0, 0) => schema
 UPDATE holder SET grants = 999999, auths = 999999 => ok
+UPDATE holder SET grants = 1000000 => schema
+UPDATE holder SET auths = 1000000 => schema
 UPDATE holder SET grants = -1 => schema
 UPDATE holder SET auths = 4294967296 => schema
 # runs_of_addresses
@@ -54,6 +56,8 @@ UPDATE holding SET family = 5 => schema
 UPDATE holding SET family = 0 => schema
 # grants
 UPDATE granted SET number = 999999 => ok
+UPDATE granted SET number = 0 => schema
+UPDATE granted SET number = 1000000 => schema
 UPDATE granted SET number = -1 => schema
 UPDATE granted SET caller = 'a23456789012345678901234567890123' => schema
 UPDATE granted SET role = 3 => ok
@@ -70,6 +74,8 @@ UPDATE granted SET until = 2932897 => schema
 UPDATE granted SET until = -1 => schema
 # authorizations
 UPDATE auth SET number = 999999 => ok
+UPDATE auth SET number = 0 => schema
+UPDATE auth SET number = 1000000 => schema
 UPDATE auth SET asn = 4294967295 => ok
 UPDATE auth SET asn = 4294967296 => schema
 UPDATE auth SET asn = -1 => schema
@@ -84,6 +90,9 @@ UPDATE auth SET len = 33, max = 33 => schema
 UPDATE auth SET len = 22 => schema
 UPDATE auth SET len = -1 => schema
 UPDATE auth SET max = 32 => ok
+UPDATE auth SET max = 33 => schema
+UPDATE auth SET max = 23 => schema
+UPDATE auth SET family = 6, len = 120, max = 129 => schema
 UPDATE auth SET max = 280 => schema
 UPDATE auth SET opens = 0, ends = 2932896 => ok
 UPDATE auth SET ends = 2932897 => schema
@@ -102,6 +111,25 @@ INSERT INTO slurm VALUES ('main', 1, 1, 4, x'000000000000000000000000c0000200', 
 INSERT INTO slurm VALUES ('main', 1, 7, 4, x'000000000000000000000000c0000200', 24, NULL, 0) => database
 INSERT INTO slurm VALUES ('main', 2, 1, 4, x'000000000000000000000000c6336400', 24, 24, 64496) => database
 INSERT INTO slurm VALUES ('main', 2, 1, 6, x'20010db8000000000000000000000000', 32, 128, 4294967295) => database
+INSERT INTO slurm WITH RECURSIVE n (i) AS (SELECT 1 UNION ALL SELECT i + 1 FROM n WHERE i < 4096) SELECT 'main', 1, i, NULL, NULL, NULL, NULL, i FROM n => database
+# exceptions_that_do_not_read
+INSERT INTO slurm VALUES ('other', 1, 1, NULL, NULL, NULL, NULL, 64496) => schema
+INSERT INTO slurm VALUES ('main', 0, 1, NULL, NULL, NULL, NULL, 64496) => schema
+INSERT INTO slurm VALUES ('main', 3, 1, NULL, NULL, NULL, NULL, 64496) => schema
+INSERT INTO slurm VALUES ('main', 1, 0, NULL, NULL, NULL, NULL, 64496) => schema
+INSERT INTO slurm VALUES ('main', 1, 1, NULL, NULL, NULL, NULL, NULL) => schema
+INSERT INTO slurm VALUES ('main', 1, 1, NULL, NULL, NULL, NULL, 4294967296) => schema
+INSERT INTO slurm VALUES ('main', 1, 1, 4, NULL, 24, NULL, NULL) => schema
+INSERT INTO slurm VALUES ('main', 1, 1, NULL, x'000000000000000000000000c0000200', 24, NULL, 64496) => schema
+INSERT INTO slurm VALUES ('main', 1, 1, 4, x'000000000000000000000000c0000200', NULL, NULL, NULL) => schema
+INSERT INTO slurm VALUES ('main', 1, 1, 4, x'000000000000000000000000c0000201', 24, NULL, NULL) => schema
+INSERT INTO slurm VALUES ('main', 1, 1, 4, x'000000000000000000000000c0000200', 24, 24, NULL) => schema
+INSERT INTO slurm VALUES ('main', 2, 1, 4, x'000000000000000000000000c0000200', 24, 24, NULL) => schema
+INSERT INTO slurm VALUES ('main', 2, 1, 4, x'000000000000000000000000c0000200', 24, NULL, 64496) => schema
+INSERT INTO slurm VALUES ('main', 2, 1, NULL, NULL, NULL, NULL, 64496) => schema
+INSERT INTO slurm VALUES ('main', 2, 1, 4, x'000000000000000000000000c0000200', 24, 23, 64496) => schema
+INSERT INTO slurm VALUES ('main', 2, 1, 4, x'000000000000000000000000c0000200', 24, 33, 64496) => schema
+INSERT INTO slurm WITH RECURSIVE n (i) AS (SELECT 1 UNION ALL SELECT i + 1 FROM n WHERE i < 4097) SELECT 'main', 1, i, NULL, NULL, NULL, NULL, i FROM n => schema
 # indexes_and_views_beside_the_tables
 DROP INDEX holding_of => ok
 CREATE INDEX auth_by_as ON auth (asn, family) => ok
