@@ -7,6 +7,7 @@
 use crate::fakes::{Sheet, Tape};
 use addr::{Name, Prefix};
 use desk::Desk;
+use library_conformance::rows::parts_of;
 use policy::Charter;
 use sqlite::MemStore;
 use std::alloc::Global;
@@ -18,6 +19,8 @@ mod amendments;
 mod authorizations;
 mod contents;
 mod grants;
+mod isolation;
+mod repeats;
 mod resources;
 mod vrps;
 
@@ -46,6 +49,13 @@ reg {"do":"register","holder":"beta"} => {"done":null}
 reg {"do":"transfer","prefix":"192.0.2.0/25","giver":"alpha","taker":"beta"} => {"done":null}
 reg {"do":"reclaim","holder":"beta","prefix":"192.0.2.0/26"} => {"done":null}
 reg {"do":"revoke","holder":"alpha","number":1} => {"done":null}
+"#;
+
+/// Beside `alpha`, `beta` has 198.51.100.0/24, and `bea` is its manager.
+const BETA: &str = r#"
+reg {"do":"register","holder":"beta"} => {"done":null}
+reg {"do":"delegate","holder":"beta","prefix":"198.51.100.0/24"} => {"done":null}
+reg {"do":"grant","holder":"beta","name":"bea","role":"manager","scope":"all","until":"2026-12-31"} => {"done":1}
 "#;
 
 /// The pool of the scripts that name no other.
@@ -212,6 +222,7 @@ fn setup_of(name: &str) -> Result<&'static str, Fail> {
         "authorization" => Ok(AUTHORIZATION),
         "amendment" => Ok(amendments::AMENDMENT),
         "clerk" => Ok(grants::CLERK_OF_THE_LOWER_HALF),
+        "other holder" => Ok(BETA),
         "reclaimed part" => Ok(resources::PART_RECLAIMED),
         _ => Err("no set-up of that name".into()),
     }
@@ -238,6 +249,29 @@ fn assert_all(rt: &impl Abort, alloc: Global, scripts: &str) -> Result<(), Fail>
     Ok(())
 }
 
+// Of a pair of scripts the one whose own lines begin so; the other's begin with `other`.
+fn one_of_pair(alloc: Global, pair: &str, own: &str, other: &str) -> Result<String, Fail> {
+    let mut script = String::new(alloc);
+    for line in pair.lines() {
+        if !line.starts_with(other) {
+            script.push_str(line.strip_prefix(own).unwrap_or(line))?;
+            script.push('\n')?;
+        }
+    }
+    Ok(script)
+}
+
+// A script that asks its first line twice, and all after the second reply after each of the two.
+fn asked_twice(alloc: Global, script: &str) -> Result<String, Fail> {
+    let (heading, lines) = script.split_once('\n').ok_or("no lines")?;
+    let (first, after_first) = lines.split_once('\n').ok_or("no second reply")?;
+    let (again, looks) = after_first.split_once('\n').ok_or("nothing is looked at")?;
+    let (request, _) = parts_of(first)?;
+    let second = again.strip_prefix("again").ok_or("no second reply")?;
+    let asked = format!(in alloc; "{heading}\n{first}\n{looks}\n{request}{second}\n{looks}")?;
+    Ok(asked)
+}
+
 #[test]
 fn scripts_have_their_replies(rt: HostRuntime) -> Result<(), Fail> {
     assert_all(&rt, rt.alloc(), resources::SCRIPTS)?;
@@ -246,6 +280,26 @@ fn scripts_have_their_replies(rt: HostRuntime) -> Result<(), Fail> {
     assert_all(&rt, rt.alloc(), amendments::SCRIPTS)?;
     assert_all(&rt, rt.alloc(), contents::SCRIPTS)?;
     assert_all(&rt, rt.alloc(), vrps::SCRIPTS)
+}
+
+#[test]
+fn other_holders_change_no_reply(rt: HostRuntime) -> Result<(), Fail> {
+    for pair in isolation::PAIRS.split("\n# ").skip(1) {
+        for (own, other) in [("first: ", "second: "), ("second: ", "first: ")] {
+            let script = one_of_pair(rt.alloc(), pair, own, other)?;
+            assert_script(&rt, rt.alloc(), &script)?;
+        }
+    }
+    Ok(())
+}
+
+#[test]
+fn asked_again_changes_nothing(rt: HostRuntime) -> Result<(), Fail> {
+    for script in repeats::TWICE.split("\n# ").skip(1) {
+        let script = asked_twice(rt.alloc(), script)?;
+        assert_script(&rt, rt.alloc(), &script)?;
+    }
+    Ok(())
 }
 
 #[test]
