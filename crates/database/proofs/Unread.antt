@@ -20,7 +20,7 @@ use Rattle.addr.specs.Name.{is_name}
 use Rattle.addr.specs.declared.prefix.Prefix.{Prefix}
 use Rattle.policy.specs.CharterSets.{AreInNumber, CharterSets}
 use Rattle.policy.specs.Repeats.{has_repeat}
-use Rattle.policy.specs.Values.{IsU32, AuthFits, GrantFits}
+use Rattle.policy.specs.Values.{IsCount, AuthFits, GrantFits}
 use Rattle.policy.proofs.Repeats.{has_repeat-moved, prefix_eq-flips}
 use Rattle.tables.specs.declared.rows.Registered.{Registered}
 use Rattle.tables.specs.Cells.{schema_row, operator_row, prefix_cells, span_cells, grant_cells, auth_cells, holder_row, holding_row, granted_row, auth_row, exception_row}
@@ -79,7 +79,7 @@ abbrev holder_cells : Registered → Row
 holder_cells x = holder_row x.name x.counters.granted x.counters.created
 
 abbrev HolderFits : Registered → Type 0
-HolderFits x = IsTrue (is_name x.name) × IsU32 x.counters.granted × IsU32 x.counters.created
+HolderFits x = IsTrue (is_name x.name) × IsCount x.counters.granted × IsCount x.counters.created
 
 shows_registered : (c : Row) → ShowsHolder c → ShowsSome holder_cells HolderFits c
 shows_registered c it = (record { name = it.0; counters = record { granted = it.1; created = it.2 } }, (it.3, it.4, it.5), it.6)

@@ -10,9 +10,9 @@ use Rattle.addr.specs.declared.prefix.Prefix.{Prefix}
 use Rattle.policy.specs.CharterSets.{AreInNumber, CharterSets}
 use Rattle.policy.specs.Repeats.{has_repeat}
 use Rattle.policy.specs.Rows.{Rows}
-use Rattle.policy.specs.Values.{IsU32, AuthFits, GrantFits}
-use Rattle.tables.specs.Cells.{schema_row, operator_row, prefix_cells, holder_row, holding_row, granted_row, auth_row, exception_row}
+use Rattle.policy.specs.Values.{IsCount, AuthFits, GrantFits}
 use Rattle.slurm.specs.declared.exceptions.TheConstants.{MOST_ENTRIES}
+use Rattle.tables.specs.Cells.{schema_row, operator_row, prefix_cells, holder_row, holding_row, granted_row, auth_row, exception_row}
 use Rattle.tables.specs.Decode.{ExceptionRowFits}
 use Rattle.tables.specs.Tables.{meta, operator, pool, holder, holding, granted, auth, slurm, contents}
 use Rattle.tables.specs.TablesHold.{TablesHold}
@@ -25,7 +25,7 @@ ShowsSome {X} cells fits c = (x : X) × fits x × (c ≡ cells x)
 abbrev pub ShowsHolder : Row → Type 0
 ShowsHolder c =
     (h : List ℕ) × (granted created : ℕ)
-    × IsTrue (is_name h) × IsU32 granted × IsU32 created × (c ≡ holder_row h granted created)
+    × IsTrue (is_name h) × IsCount granted × IsCount created × (c ≡ holder_row h granted created)
 
 -- the row shows some value of the type beside some name
 abbrev pub ShowsOfHolder : {X : Type 0} → (List ℕ → X → Row) → (X → Type 0) → Row → Type 0

@@ -84,4 +84,4 @@ pub opens_again : LegalRowsFit → HistoriesRead
 opens_again rows_fit charter history rows trees legal fits have is named holds =
     held_read charter rows trees is named (λ h r there.
     let of = subst (RowsIfAny history h) there (have h) in
-    (registered_named history h of.0 fits, (rows_fit charter history h r legal fits of.1).0)) holds
+    (registered_named history h of.0 fits, rows_fit charter history h r legal fits of.1)) holds

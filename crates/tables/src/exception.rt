@@ -80,9 +80,7 @@ fn exception_in(row: &Row) -> Option<Exception>
     let (family, first, length) = (cell(row, 3), cell(row, 4), cell(row, 5));
     let (max, asn) = (cell(row, 6), cell(row, 7));
     match cell(row, 1) {
-        ValueRef::Int(1) => {
-            Some(Exception::Filter(filter_in(family, first, length, max, asn)?))
-        }
+        ValueRef::Int(1) => { Some(Exception::Filter(filter_in(family, first, length, max, asn)?)) }
         ValueRef::Int(2) => {
             Some(Exception::Assertion(assertion_in(family, first, length, max, asn)?))
         }
