@@ -11,8 +11,8 @@ use Rattle.policy.specs.CharterSets.{AreInNumber, CharterSets}
 use Rattle.policy.specs.Repeats.{has_repeat}
 use Rattle.policy.specs.Rows.{Rows}
 use Rattle.policy.specs.Values.{IsCount, AuthFits, GrantFits}
-use Rattle.tables.specs.Cells.{schema_row, operator_row, prefix_cells, holder_row, holding_row, granted_row, auth_row, exception_row}
 use Rattle.slurm.specs.declared.exceptions.TheConstants.{MOST_ENTRIES}
+use Rattle.tables.specs.Cells.{schema_row, operator_row, prefix_cells, holder_row, holding_row, granted_row, auth_row, exception_row}
 use Rattle.tables.specs.Decode.{ExceptionRowFits}
 use Rattle.tables.specs.Tables.{meta, operator, pool, holder, holding, granted, auth, slurm, contents}
 use Rattle.tables.specs.TablesHold.{TablesHold}

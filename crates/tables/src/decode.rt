@@ -8,10 +8,10 @@ ghost use Rattle.policy.specs.Values.{IsU8, IsU32, IsCount, IsNumber};
 ghost use Rattle.sqlite_value.specs.declared.value.Value.TheVariants.{Text, Blob};
 ghost use Rattle.sqlite_value.specs.Order.{column};
 ghost use Rattle.sqlite_value.specs.Value.{owned};
-ghost use Rattle.tables.specs.Cells.{address, number_cell, family_number, role_number, prefix_cells, scope_cells, span_cells};
-ghost use Rattle.tables.specs.Decode.{Decodes, first_columns};
+ghost use Rattle.tables.specs.Cells.{address, number_cell, family_number, role_number, prefix_cells, scope_cells, span_cells, vrp_cells};
+ghost use Rattle.tables.specs.Decode.{Decodes, first_columns, VrpFits};
 
-use addr::{Day, Family, Name, Prefix, Span};
+use addr::{Asn, Day, Family, Name, Prefix, Span, Vrp};
 use policy::{LAST_NUMBER, Role, Scope};
 use sqlite::Row;
 use sqlite::types::ValueRef;
@@ -162,4 +162,26 @@ pub(crate) fn span_in(family: ValueRef<'_>, lo: ValueRef<'_>, hi: ValueRef<'_>) 
     let lo = number_of_address_in(lo)?;
     let hi = number_of_address_in(hi)?;
     Span::from_parts(family, lo, hi)
+}
+
+pub(crate) fn asn_in(value: ValueRef<'_>) -> Option<Asn>
+    ensures { Decodes (λ asn. number_cell asn.0) (λ asn. IsU32 asn.0) (owned value.entry) result }
+{
+    Some(Asn(number_in(value)?))
+}
+
+pub(crate) fn vrp_in(
+    asn: ValueRef<'_>,
+    family: ValueRef<'_>,
+    first: ValueRef<'_>,
+    length: ValueRef<'_>,
+    max: ValueRef<'_>,
+) -> Option<Vrp>
+    ensures { Decodes vrp_cells VrpFits
+        (owned asn.entry ∷ owned family.entry ∷ owned first.entry ∷ owned length.entry
+        ∷ owned max.entry ∷ []) result }
+{
+    let asn = asn_in(asn)?;
+    let prefix = prefix_in(family, first, length)?;
+    Vrp::from_parts(prefix, byte_in(max)?, asn)
 }

@@ -1,15 +1,14 @@
 //! Reading the rows of the table `slurm`: the exceptions of the SLURM file in force.
 ghost use Rattle.std.specs.Prelude.{◌≡◌, ◌↔◌, [], ◌∷◌, codes, IsTrue};
-ghost use Rattle.policy.specs.Values.{IsU32};
 ghost use Rattle.sqlite_value.specs.declared.value.Value.TheVariants.{Text};
 ghost use Rattle.sqlite_value.specs.Value.{owned};
-ghost use Rattle.tables.specs.Cells.{number_cell, kind_number, filter_cells, assertion_cells, exception_cells, exception_row};
-ghost use Rattle.tables.specs.Decode.{Decodes, VrpFits, IsPosition, FilterFits, ExceptionFits, ExceptionRowFits};
+ghost use Rattle.tables.specs.Cells.{number_cell, kind_number, filter_cells, exception_cells, exception_row};
+ghost use Rattle.tables.specs.Decode.{Decodes, IsPosition, FilterFits, ExceptionFits, ExceptionRowFits};
 ghost use Rattle.tables.specs.Tables.{columns};
 
 use crate::FromRow;
-use crate::decode::{byte_in, cell, number_in, prefix_in};
-use addr::{Asn, Vrp};
+use crate::decode::{asn_in, cell, number_in, prefix_in, vrp_in};
+use addr::Vrp;
 use slurm::Filter;
 use sqlite::Row;
 use sqlite::types::ValueRef;
@@ -66,12 +65,6 @@ fn position_in(value: ValueRef<'_>) -> Option<u32>
     }
 }
 
-fn asn_in(value: ValueRef<'_>) -> Option<Asn>
-    ensures { Decodes (λ asn. number_cell asn.0) (λ asn. IsU32 asn.0) (owned value.entry) result }
-{
-    Some(Asn(number_in(value)?))
-}
-
 /// The exception that the columns show beside those of the file and the position.
 fn exception_in(row: &Row) -> Option<Exception>
     ensures { Decodes (λ e. number_cell (kind_number e) ∷ exception_cells e) ExceptionFits
@@ -80,12 +73,8 @@ fn exception_in(row: &Row) -> Option<Exception>
     let (family, first, length) = (cell(row, 3), cell(row, 4), cell(row, 5));
     let (max, asn) = (cell(row, 6), cell(row, 7));
     match cell(row, 1) {
-        ValueRef::Int(1) => {
-            Some(Exception::Filter(filter_in(family, first, length, max, asn)?))
-        }
-        ValueRef::Int(2) => {
-            Some(Exception::Assertion(assertion_in(family, first, length, max, asn)?))
-        }
+        ValueRef::Int(1) => Some(Exception::Filter(filter_in(family, first, length, max, asn)?)),
+        ValueRef::Int(2) => Some(Exception::Assertion(vrp_in(asn, family, first, length, max)?)),
         _ => None,
     }
 }
@@ -113,19 +102,4 @@ fn filter_in(
         }
         _ => None,
     }
-}
-
-fn assertion_in(
-    family: ValueRef<'_>,
-    first: ValueRef<'_>,
-    length: ValueRef<'_>,
-    max: ValueRef<'_>,
-    asn: ValueRef<'_>,
-) -> Option<Vrp>
-    ensures { Decodes assertion_cells VrpFits
-        (owned family.entry ∷ owned first.entry ∷ owned length.entry ∷ owned max.entry
-        ∷ owned asn.entry ∷ []) result }
-{
-    let prefix = prefix_in(family, first, length)?;
-    Vrp::from_parts(prefix, byte_in(max)?, asn_in(asn)?)
 }

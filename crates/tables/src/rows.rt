@@ -9,10 +9,10 @@ ghost use Rattle.tables.specs.Cells.{schema_row, prefix_cells, span_cells, count
 ghost use Rattle.tables.specs.Decode.{Decodes, DecodesAll, first_columns, VrpFits};
 
 use crate::decode::{
-    byte_in, cell, count_in, day_in, given_number_in, max_length_in, name_in, number_in, prefix_in,
-    role_in, scope_in, span_in,
+    asn_in, cell, count_in, day_in, given_number_in, max_length_in, name_in, prefix_in, role_in,
+    scope_in, span_in, vrp_in,
 };
-use addr::{Asn, Name, Prefix, Span, Vrp};
+use addr::{Name, Prefix, Span, Vrp};
 use policy::{Auth, Granted};
 use sqlite::Row;
 use sqlite::types::ValueRef;
@@ -161,7 +161,7 @@ impl FromRow for Auth {
         let prefix = prefix_in(cell(row, 2), cell(row, 3), cell(row, 4))?;
         Some(Auth {
             number: given_number_in(cell(row, 0))?,
-            asn: Asn(number_in(cell(row, 1))?),
+            asn: asn_in(cell(row, 1))?,
             prefix,
             max: max_length_in(&prefix, cell(row, 5))?,
             from: day_in(cell(row, 6))?,
@@ -178,10 +178,13 @@ impl FromRow for Vrp {
     ghost fits = { VrpFits };
 
     fn in_row(row: &Row) -> Option<Vrp> {
-        let asn = Asn(number_in(cell(row, 0))?);
-        let prefix = prefix_in(cell(row, 1), cell(row, 2), cell(row, 3))?;
-        let max = byte_in(cell(row, 4))?;
-        Vrp::from_parts(prefix, max, asn)
+        vrp_in(
+            cell(row, 0),
+            cell(row, 1),
+            cell(row, 2),
+            cell(row, 3),
+            cell(row, 4),
+        )
     }
 }
 
