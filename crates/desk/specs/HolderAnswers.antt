@@ -1,8 +1,10 @@
 -- Holders that share a desk: which entries of the history decide the reply to a request, and whose rows a
 -- request may change.
-use Rattle.std.specs.Prelude.{◌≡◌, ℕ, Bool, false, List, [], ◌∷◌, Option, Some, None, IfSome, option_map, if◌then◌else◌}
+use Rattle.std.specs.Prelude.{◌≡◌, ℕ, Bool, false, List, [], ◌∷◌, Option, Some, None, IsSome, IfSome, option_map, if◌then◌else◌}
 use Rattle.std.specs.List.{list_any}
+use Rattle.std.specs.String.{string_bytes}
 use Rattle.isolation.specs.Isolation.{asks_of_all}
+use Rattle.policy.specs.declared.authorization.Auth.{Auth}
 use Rattle.policy.specs.declared.charter.Charter.{Charter}
 use Rattle.policy.specs.History.{History}
 use Rattle.policy.specs.HolderEntries.{names, entries_naming, entries_for, holder_asked}
@@ -11,11 +13,13 @@ use Rattle.policy.specs.Verdict.{IsLegal}
 use Rattle.sqlite.specs.Store.{Ghosts}
 use Rattle.store.specs.StoreRows.{Holds}
 use Rattle.desk.specs.Answer.{AnswersRequest}
+use Rattle.desk.specs.ContentText.{IsContentText}
 use Rattle.desk.specs.declared.asked.Asked.{Asked}
 use Rattle.desk.specs.declared.asked.Request.{Request}
 use Rattle.desk.specs.declared.asked.Request.TheVariants.{Command as CommandRequest, Query as QueryRequest}
 use Rattle.desk.specs.declared.handling.Desk.{Desk}
 use Rattle.desk.specs.declared.reply.Reply.{Reply}
+use Rattle.desk.specs.declared.reply.Reply.TheVariants.{Content, Listed, Unavailable}
 
 -- the entries that decide the reply to a request: those that name one of its holders; none where the
 -- request asks about all holders
@@ -39,7 +43,26 @@ AnswersByEntries =
     → AnswersRequest charter history day caller request reply after
     → IsAnswerByEntries charter history day caller request reply
 
--- each reply does, on the history that the replies before it left
+-- The replies say the same: of lists the items, of contents that they are texts of one authorization's. Of
+-- Unavailable nothing is asked.
+abbrev pub SaySame : Reply → Reply → Type 0
+SaySame Unavailable other = Unit {0}
+SaySame one Unavailable = Unit {0}
+SaySame (Listed xs) (Listed ys) = xs.items ≡ ys.items
+SaySame (Content text) (Content other) =
+    (x : Auth) × IsContentText x (string_bytes text) × IsContentText x (string_bytes other)
+SaySame one other = one ≡ other
+
+-- histories that agree on the entries that decide a request give it the same reply
+abbrev pub OneReply : Type 0
+OneReply =
+    (charter : Charter) (one other : History) (day : ℕ) (caller : List ℕ) (request : Request) (reply again : Reply)
+    → IsSome (deciding_entries request one) → deciding_entries request one ≡ deciding_entries request other
+    → IsAnswerByEntries charter one day caller request reply
+    → IsAnswerByEntries charter other day caller request again
+    → SaySame reply again
+
+-- each reply answers by the entries that decide it, of the history that the replies before it left
 abbrev pub RunsByEntries : Charter → History → List Asked → List Reply → Type 0
 RunsByEntries charter before [] [] = Unit {0}
 RunsByEntries charter before [] (reply ∷ replies) = ⊥

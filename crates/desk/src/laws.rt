@@ -1,6 +1,6 @@
 //! Laws over the definitions alone: each function's contract states one, and its body does nothing else.
 
-ghost use Rattle.desk.specs.HolderAnswers.{AnswersByEntries};
+ghost use Rattle.desk.specs.HolderAnswers.{AnswersByEntries, OneReply};
 
 pub use isolation::laws::{again, parts};
 
@@ -12,3 +12,9 @@ pub(crate) fn answers_by_entries()
     isolation::laws::commands_by_entries();
     isolation::laws::queries_by_entries();
 }
+
+/// Two desks of one charter whose histories agree on the entries that decide a request give it the
+/// same reply, unless one of them is Unavailable.
+pub fn one_reply()
+    ensures { OneReply }
+{}
