@@ -6,6 +6,7 @@ use sqlite::{Alter, Connection};
 use sqlite_disk::{Disk, Files, Memory};
 use sqlite_pager::Options;
 use std::alloc::Global;
+use std::process::Abort;
 use std::test::Fail;
 use store::{Store, StoreFault};
 
@@ -105,13 +106,26 @@ UPDATE granted SET family = 4, lo = x'000000000000000000000000c0000200', len = 2
 DELETE FROM holding => ok
 INSERT INTO holding VALUES (4, x'000000000000000000000000c0000300', x'000000000000000000000000c00003ff', 'alpha') => ok
 INSERT INTO holder VALUES ('beta', 0, 0); INSERT INTO holding VALUES (4, x'000000000000000000000000c0000280', x'000000000000000000000000c00002ff', 'beta') => ok
+# indexes_and_views_beside_the_tables
+DROP INDEX holding_of => ok
+CREATE INDEX auth_by_as ON auth (asn, family) => ok
+CREATE UNIQUE INDEX one_caller ON granted (caller) => ok
+CREATE VIEW in_force AS SELECT holder, number FROM auth WHERE opens <= 20513 AND ends >= 20513 => ok
+# tables_made_again
+CREATE TABLE notes (text TEXT) STRICT => database
+DROP TABLE slurm => schema
+DROP TABLE slurm; CREATE TABLE exceptions (file TEXT) STRICT => schema
+DROP TABLE meta; CREATE TABLE meta (name TEXT NOT NULL, value INTEGER NOT NULL, PRIMARY KEY (name)) STRICT; INSERT INTO meta VALUES ('schema', 1) => database
+"#;
+
+/// Rows of exceptions, and what the opening answers then.
+const EXCEPTIONS: &str = r#"
 # exceptions_that_read
 INSERT INTO slurm VALUES ('main', 1, 1, NULL, NULL, NULL, NULL, 64496) => database
 INSERT INTO slurm VALUES ('main', 1, 1, 4, x'000000000000000000000000c0000200', 24, NULL, NULL) => database
 INSERT INTO slurm VALUES ('main', 1, 7, 4, x'000000000000000000000000c0000200', 24, NULL, 0) => database
 INSERT INTO slurm VALUES ('main', 2, 1, 4, x'000000000000000000000000c6336400', 24, 24, 64496) => database
 INSERT INTO slurm VALUES ('main', 2, 1, 6, x'20010db8000000000000000000000000', 32, 128, 4294967295) => database
-INSERT INTO slurm WITH RECURSIVE n (i) AS (SELECT 1 UNION ALL SELECT i + 1 FROM n WHERE i < 4096) SELECT 'main', 1, i, NULL, NULL, NULL, NULL, i FROM n => database
 # exceptions_that_do_not_read
 INSERT INTO slurm VALUES ('other', 1, 1, NULL, NULL, NULL, NULL, 64496) => schema
 INSERT INTO slurm VALUES ('main', 0, 1, NULL, NULL, NULL, NULL, 64496) => schema
@@ -129,17 +143,6 @@ INSERT INTO slurm VALUES ('main', 2, 1, 4, x'000000000000000000000000c0000200', 
 INSERT INTO slurm VALUES ('main', 2, 1, NULL, NULL, NULL, NULL, 64496) => schema
 INSERT INTO slurm VALUES ('main', 2, 1, 4, x'000000000000000000000000c0000200', 24, 23, 64496) => schema
 INSERT INTO slurm VALUES ('main', 2, 1, 4, x'000000000000000000000000c0000200', 24, 33, 64496) => schema
-INSERT INTO slurm WITH RECURSIVE n (i) AS (SELECT 1 UNION ALL SELECT i + 1 FROM n WHERE i < 4097) SELECT 'main', 1, i, NULL, NULL, NULL, NULL, i FROM n => schema
-# indexes_and_views_beside_the_tables
-DROP INDEX holding_of => ok
-CREATE INDEX auth_by_as ON auth (asn, family) => ok
-CREATE UNIQUE INDEX one_caller ON granted (caller) => ok
-CREATE VIEW in_force AS SELECT holder, number FROM auth WHERE opens <= 20513 AND ends >= 20513 => ok
-# tables_made_again
-CREATE TABLE notes (text TEXT) STRICT => database
-DROP TABLE slurm => schema
-DROP TABLE slurm; CREATE TABLE exceptions (file TEXT) STRICT => schema
-DROP TABLE meta; CREATE TABLE meta (name TEXT NOT NULL, value INTEGER NOT NULL, PRIMARY KEY (name)) STRICT; INSERT INTO meta VALUES ('schema', 1) => database
 "#;
 
 /// A part of the statements that make the tables, what stands in its place, and what the opening
@@ -186,15 +189,24 @@ fn answer_of<S: Alter + Drop>(alloc: Global, conn: Connection<S>) -> &'static st
     }
 }
 
-#[test]
-fn opening_asks_each_row(rt: HostRuntime) -> Result<(), Fail> {
-    for row in rows_of(rt.alloc(), CHANGED_ROWS)? {
-        let mut conn = made(rt.alloc(), TABLES)?;
+fn assert_answers(rt: &impl Abort, alloc: Global, rows: &str) -> Result<(), Fail> {
+    for row in rows_of(alloc, rows)? {
+        let mut conn = made(alloc, TABLES)?;
         conn.execute_batch(row.input)?;
-        let answer = answer_of(rt.alloc(), conn);
+        let answer = answer_of(alloc, conn);
         assert_eq!(rt; answer, row.output, "{}: {}", row.name, row.input);
     }
     Ok(())
+}
+
+#[test]
+fn opening_asks_each_row(rt: HostRuntime) -> Result<(), Fail> {
+    assert_answers(&rt, rt.alloc(), CHANGED_ROWS)
+}
+
+#[test]
+fn opening_asks_each_exception(rt: HostRuntime) -> Result<(), Fail> {
+    assert_answers(&rt, rt.alloc(), EXCEPTIONS)
 }
 
 #[test]
