@@ -10,11 +10,11 @@ use denote.Signature.{types_at}
 use denote.Steps.{nothing}
 use denote.Triple.Entry.{alive}
 use denote.Triple.Walked.{walk_of, says, ends_at}
-use Rattle.web.specs.contracts.trail.Trail.{the_row}
-use Rattle.web.specs.contracts.trail.Trail.new as f
-use Rattle.web.proofs.TrailMade.{held, trail_made}
-use Rattle.web.proofs.trail.Trail.new.Statement.{statement}
-use Rattle.web.proofs.trail.Trail.new.Code as code
+use Rattle.streams.specs.contracts.trail.Trail.{the_row}
+use Rattle.streams.specs.contracts.trail.Trail.new as f
+use Rattle.streams.proofs.TrailMade.{held, trail_made}
+use Rattle.streams.proofs.trail.Trail.new.Statement.{statement}
+use Rattle.streams.proofs.trail.Trail.new.Code as code
 
 pub new_spec : {M : Type 1} → statement M
 new_spec 𝓤 𝓛 𝓜 𝓡 wired =

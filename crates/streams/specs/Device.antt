@@ -1,6 +1,6 @@
 -- A reader or writer of std with what has passed it.
 use Rattle.std.specs.Prelude.{ℕ, Bool, List, ◌-◌, ◌^◌}
-use Rattle.web.specs.declared.device.Device.{Device}
+use Rattle.streams.specs.declared.device.Device.{Device}
 
 -- the reader or writer
 abbrev pub device_inner : {T : Type 0} → Device T → T

@@ -1,7 +1,7 @@
 use Rattle.std.specs.Io.KnownBytes.{Keeps}
-use Rattle.web.specs.Device.{device_inner, device_calls_left}
-use Rattle.web.specs.steps.Devices.{IsCalled}
-use Rattle.web.proofs.device.Device.write_uninterrupted.Given as goal
+use Rattle.streams.specs.Device.{device_inner, device_calls_left}
+use Rattle.streams.specs.steps.Devices.{IsCalled}
+use Rattle.streams.proofs.device.Device.flush_uninterrupted.Given as goal
 
 abbrev pub invariant-loop-self : goal.invariant-loop-self
 invariant-loop-self g l = IsCalled l.initial.self l.self

@@ -1,9 +1,15 @@
 -- Lemmas on what has passed a stream.
-use Rattle.std.proofs.Common.{◌≡◌, ℕ, List, ◌++◌, length, take, drop, sym, ◌∙◌, ap, append_assoc}
+use Rattle.std.proofs.Common.{◌≡◌, ℕ, List, ◌++◌, length, take, drop, sym, ◌∙◌, ap, append_assoc, Result, Ok, Err}
+use Rattle.std.specs.Result.{OnErr}
 use Rattle.std.proofs.lemmas.List.{append-nil, take-append-drop}
 use Rattle.std.proofs.Math.Seq.{drop-append_seam}
 use Rattle.std.specs.Io.{appended_bytes}
-use Rattle.web.specs.Streams.{AppendsBeginning}
+use Rattle.streams.specs.Streams.{AppendsBeginning}
+
+-- what holds in any case holds where there is an error
+pub on-err : {T E : Type 0} (r : Result T E) (P : Type 0) → P → OnErr r P
+on-err (Ok x) P p = tt
+on-err (Err e) P p = p
 
 -- the first n bytes of a text are a beginning of it
 pub AppendsBeginning-take : (old new text : List ℕ) (n : ℕ) → new ≡ old ++ take n text → AppendsBeginning old new text

@@ -14,12 +14,12 @@ use denote.Signature.{plain, types_at, named_lft}
 use denote.Steps.{nothing}
 use denote.Triple.Entry.{alive}
 use denote.Triple.Walked.{Stays, stay_dropped, Goes-dropped, walk_of, says, ends_at}
-use Rattle.web.specs.contracts.trail.Trail as Trail
-use Rattle.web.specs.contracts.trail.Piece as Piece
-use Rattle.web.specs.contracts.trail.Trail.then as f
-use Rattle.web.proofs.TrailMade.{held, trail_made}
-use Rattle.web.proofs.trail.Trail.then.Statement.{statement}
-use Rattle.web.proofs.trail.Trail.then.Code as code
+use Rattle.streams.specs.contracts.trail.Trail as Trail
+use Rattle.streams.specs.contracts.trail.Piece as Piece
+use Rattle.streams.specs.contracts.trail.Trail.then as f
+use Rattle.streams.proofs.TrailMade.{held, trail_made}
+use Rattle.streams.proofs.trail.Trail.then.Statement.{statement}
+use Rattle.streams.proofs.trail.Trail.then.Code as code
 
 abbrev stayed : Stays f.ended.signature.params f.ended.kept
 stayed = (stay_dropped _ yes, (stay_dropped _ yes, tt))

@@ -1,7 +1,7 @@
 //! Where bytes come from and where they go, each told by what has passed so far, since what a file
 //! or a socket will give is not known.
 ghost use Rattle.std.specs.Prelude.{◌≡◌, ℕ, Bool, List, true, ◌++◌, ◌<◌, ◌≤◌, ◌^◌, ◌&&◌, ◌==◌, nat_lt, length, take, is_err, IsErr, IfOk, OnOk, OnErr};
-ghost use Rattle.web.specs.Streams.{AppendsBeginning};
+ghost use Rattle.streams.specs.Streams.{AppendsBeginning};
 
 /// A stream failed. From then on it always fails.
 #[derive(Clone, Copy, Debug, PartialEq, Eq)]

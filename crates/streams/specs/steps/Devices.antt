@@ -1,7 +1,7 @@
 -- What a call of a reader or writer leaves of its device.
 use Rattle.std.specs.Prelude.{◌≡◌, ◌≤◌}
-use Rattle.web.specs.Device.{device_bytes, device_calls_left, device_has_ended, device_has_failed}
-use Rattle.web.specs.declared.device.Device.{Device}
+use Rattle.streams.specs.Device.{device_bytes, device_calls_left, device_has_ended, device_has_failed}
+use Rattle.streams.specs.declared.device.Device.{Device}
 
 -- nothing but the reader or writer and the calls has changed, and no call was taken back
 pub record IsCalled {T : Type 0} (old new : Device T) : Type 0 where

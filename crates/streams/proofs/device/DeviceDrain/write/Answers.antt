@@ -1,7 +1,6 @@
 use Rattle.std.proofs.Common.{◌∙◌}
-use Rattle.payload.proofs.Visits.{on-err}
-use Rattle.web.proofs.StreamLemmas.{AppendsBeginning-take}
-use Rattle.web.proofs.device.DeviceDrain.write.Goals as goal
+use Rattle.streams.proofs.StreamLemmas.{AppendsBeginning-take, on-err}
+use Rattle.streams.proofs.device.DeviceDrain.write.Goals as goal
 
 pub returns-in_err-flush-clause-err : goal.returns-in_err-flush-clause-err
 returns-in_err-flush-clause-err g c =

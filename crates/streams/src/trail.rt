@@ -1,7 +1,7 @@
 // The bytes that passed a device. They exist only in proofs.
 ghost use Rattle.std.specs.Prelude.{◌≡◌, ◌++◌, ℕ, List, []};
 ghost use base.Fml.{ftrue};
-ghost use Rattle.web.specs.steps.Trail.{bytes_code};
+ghost use Rattle.streams.specs.steps.Trail.{bytes_code};
 
 use std::marker::Model;
 

@@ -3,9 +3,9 @@ ghost use Rattle.std.specs.Prelude.{◌≡◌, ◌≢◌, ◌++◌, ◌-◌, ◌
 ghost use Rattle.std.specs.Io.{ReadsAtMost, WritesAtMost, appended_bytes};
 ghost use Rattle.std.specs.Io.KnownBytes.{Appends, Keeps, ReadConsumes, WriteAppends};
 ghost use Rattle.std.specs.IoError.{error_kind};
-ghost use Rattle.web.specs.Device.{device_inner, device_bytes, device_has_ended, device_has_failed, device_calls_left};
-ghost use Rattle.web.specs.steps.Devices.{IsCalled};
-ghost use Rattle.web.specs.Streams.{AppendsBeginning};
+ghost use Rattle.streams.specs.Device.{device_inner, device_bytes, device_has_ended, device_has_failed, device_calls_left};
+ghost use Rattle.streams.specs.steps.Devices.{IsCalled};
+ghost use Rattle.streams.specs.Streams.{AppendsBeginning};
 
 use crate::stream::{Drain, Failed, Source};
 use crate::trail::{Piece, Trail};

@@ -8,7 +8,7 @@ use types.Kit.{◌$◌, ◌∵◌, !, qed, fjoin, fpack, feq_i, done}
 use denote.RattleType.{Valss}
 use denote.Steps.{nothing}
 use denote.Struct.Struct.{within}
-use Rattle.web.specs.contracts.trail.Trail.{the_row}
+use Rattle.streams.specs.contracts.trail.Trail.{the_row}
 
 -- how the machine holds it: a struct without fields
 abbrev pub held : Val
