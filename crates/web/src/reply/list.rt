@@ -4,9 +4,9 @@ ghost use Rattle.streams.specs.Streams.{AppendsBeginning};
 ghost use Rattle.web.specs.ReplyText.{comma_joined, list_text};
 ghost use Rattle.web.specs.steps.ReplyItems.{item_after};
 
+use super::items::ItemText;
 use arrayvec::ArrayString;
 use streams::{Drain, Failed, write_all};
-use super::items::ItemText;
 
 /// Writes the object whose one member is the list, from `opening` on, with its line feed.
 pub(super) fn write_list<T: ItemText, D: Drain>(
