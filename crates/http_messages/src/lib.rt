@@ -4,10 +4,13 @@
 
 mod action;
 mod body;
+mod field;
 mod head;
+mod length;
 mod method;
 mod path;
 mod reading;
+mod refusal;
 mod response;
 mod status;
 
@@ -16,5 +19,6 @@ pub use body::{BODY_LIMIT, BodyFault, read_body};
 pub use head::{HEAD_LIMIT, HeadFault, read_head};
 pub use method::Method;
 pub use path::Path;
+pub use refusal::Refusal;
 pub use response::{ContentType, response_head, write_response};
 pub use status::Status;
