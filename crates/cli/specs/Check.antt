@@ -6,7 +6,7 @@ use Rattle.addr.specs.declared.route.Route.{Route}
 use Rattle.addr.specs.declared.vrp.Vrp.{Vrp}
 use Rattle.payload.specs.VrpSet as set
 use Rattle.std.specs.Prelude.{Bool, true, option_map}
-use Rattle.web.specs.Streams.{AppendsBeginning}
+use Rattle.streams.specs.Streams.{AppendsBeginning}
 use Rattle.cli.specs.ProgramFaults.{fault_of_file}
 use Rattle.cli.specs.declared.fault.InputFile.TheVariants.{Payloads, Routes}
 use Rattle.cli.specs.declared.fault.ProgramFault.{ProgramFault}

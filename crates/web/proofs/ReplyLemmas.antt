@@ -3,7 +3,7 @@ use Rattle.std.proofs.Common.{◌≡◌, ℕ, ◌+◌, ◌<◌, Bool, true, fals
 use Rattle.std.proofs.lemmas.List.{append-nil}
 use Rattle.web.specs.steps.ReplyItems.{after_commas, item_after, items_left}
 use Rattle.web.specs.ReplyText.{comma_joined}
-use Rattle.web.specs.Streams.{AppendsBeginning}
+use Rattle.streams.specs.Streams.{AppendsBeginning}
 
 -- a beginning of a text is one of a longer text
 pub AppendsBeginning-longer : (old new first rest : List ℕ) → AppendsBeginning old new first → AppendsBeginning old new (first ++ rest)

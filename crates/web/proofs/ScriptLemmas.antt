@@ -1,7 +1,7 @@
 -- Replies to lines that come one after the other.
 use Rattle.std.proofs.Common.{◌≡◌, ℕ, List, [], ◌∷◌, ◌++◌, Option, refl, sym, ◌∙◌, ap, append_assoc}
 use Rattle.std.proofs.lemmas.List.{append-nil}
-use Rattle.web.specs.Streams.{AppendsBeginning}
+use Rattle.streams.specs.Streams.{AppendsBeginning}
 use Rattle.web.specs.ScriptLines.{within_limit}
 use Rattle.web.specs.Script.{Replies, AnswersEach, BreaksOff}
 

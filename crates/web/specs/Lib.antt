@@ -1,9 +1,7 @@
-pub mod Device
 pub mod ReplyText
 pub mod Script
 pub mod ScriptFault
 pub mod ScriptLines
-pub mod Streams
 pub mod RequestFaults
 pub mod RequestText
 pub mod RequestValues

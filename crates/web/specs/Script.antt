@@ -1,7 +1,7 @@
 -- Lines in and replies out. `answers state line reply next` says what may be replied to a line,
 -- `None` where it is too long, and which state that leaves.
 use Rattle.std.specs.Prelude.{◌≡◌, ℕ, List, [], ◌∷◌, ◌++◌, Option}
-use Rattle.web.specs.Streams.{AppendsBeginning}
+use Rattle.streams.specs.Streams.{AppendsBeginning}
 use Rattle.web.specs.ScriptLines.{within_limit}
 
 -- the text is the replies to the lines, each line asked on the state that the one before it left

@@ -1,6 +1,4 @@
 -- Steps of the code, which no public contract cites.
-pub mod Devices
 pub mod LineSplitting
 pub mod ReplyItems
 pub mod RequestReading
-pub mod Trail

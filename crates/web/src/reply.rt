@@ -1,18 +1,18 @@
 //! The texts of replies.
 ghost use Rattle.std.specs.Prelude.{◌≡◌, ◌++◌, true, codes, option_map, OnOk, OnErr};
-ghost use Rattle.web.specs.Streams.{AppendsBeginning};
+ghost use Rattle.streams.specs.Streams.{AppendsBeginning};
 ghost use Rattle.web.specs.ReplyText.{auth_text, content_text, denied_text, done_text, line_text, short_text, unavailable_text};
 
 mod items;
 mod list;
 
-use crate::stream::{Drain, Failed, write_all};
 use addr::digits;
 use arrayvec::ArrayString;
 use desk::Reply;
 use items::ItemText;
 use list::write_list;
 use policy::{Auth, Rule};
+use streams::{Drain, Failed, write_all};
 
 /// Writes the reply's text, with its line feed.
 pub fn write_reply<D: Drain>(reply: &Reply, drain: &mut D) -> Result<(), Failed>

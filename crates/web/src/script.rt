@@ -2,14 +2,14 @@
 ghost use Rattle.std.specs.Prelude.{◌≡◌, ◌++◌, ◌∷◌, ℕ, List, [], Option, Err, true, OnOk, OnErr};
 ghost use Rattle.std.specs.Io.{StartsWith, appended_bytes};
 ghost use Rattle.std.specs.Option.{option_copied};
-ghost use Rattle.web.specs.Streams.{AppendsBeginning};
+ghost use Rattle.streams.specs.Streams.{AppendsBeginning};
 ghost use Rattle.web.specs.ScriptLines.{lines_read, script_lines, unless_empty, whole_lines, within_limit};
 ghost use Rattle.web.specs.steps.LineSplitting.{completed_lines, unfinished_line};
 ghost use Rattle.web.specs.Script.{AnswersEach, BreaksOff};
 
 use crate::lines::{LineBuffer, cut_at_line_feed};
-use crate::stream::{Drain, Failed, Source};
 use std::alloc::Global;
+use streams::{Drain, Failed, Source};
 
 /// How a script ended early.
 #[derive(Clone, Copy, Debug, PartialEq, Eq)]

@@ -4,17 +4,17 @@ ghost use Rattle.std.specs.Io.{StartsWith, appended_bytes};
 ghost use Rattle.std.specs.Option.{option_copied};
 ghost use Rattle.web.specs.ScriptAnswer.{AnswersLineAt, AnswersLines, BreaksOffLines, IsLaterDesk, answer_text};
 ghost use Rattle.web.specs.ScriptLines.{lines_read, script_lines, whole_lines};
-ghost use Rattle.web.specs.Streams.{AppendsBeginning};
+ghost use Rattle.streams.specs.Streams.{AppendsBeginning};
 
 use crate::malformed::Malformed;
 use crate::reply::write_reply;
 use crate::request::fault::Fault;
 use crate::request::{LineFault, read_line_request};
 use crate::script::{AnswerLines, ScriptFault, run_lines};
-use crate::stream::{Drain, Failed, Source, write_all};
 use desk::{Desk, Reply};
 use sqlite::Alter;
 use std::alloc::Global;
+use streams::{Drain, Failed, Source, write_all};
 
 /// What a line of a script is answered with.
 #[derive(Debug, Drop)]

@@ -1,12 +1,12 @@
 // Lists, written item by item.
 ghost use Rattle.std.specs.Prelude.{◌≡◌, ◌++◌, true, map, OnOk, OnErr};
-ghost use Rattle.web.specs.Streams.{AppendsBeginning};
+ghost use Rattle.streams.specs.Streams.{AppendsBeginning};
 ghost use Rattle.web.specs.ReplyText.{comma_joined, list_text};
 ghost use Rattle.web.specs.steps.ReplyItems.{item_after};
 
 use super::items::ItemText;
-use crate::stream::{Drain, Failed, write_all};
 use arrayvec::ArrayString;
+use streams::{Drain, Failed, write_all};
 
 /// Writes the object whose one member is the list, from `opening` on, with its line feed.
 pub(super) fn write_list<T: ItemText, D: Drain>(

@@ -1,0 +1,3 @@
+pub mod HeadEndLemmas
+pub mod LengthLemmas
+pub mod ResponseLemmas

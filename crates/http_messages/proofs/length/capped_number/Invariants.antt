@@ -1,0 +1,7 @@
+use Rattle.std.proofs.Common.{◌≡◌, ◌+◌, min, take}
+use Rattle.std.specs.Str.Parse.{digits_value}
+use Rattle.http_messages.specs.declared.body.TheConstants.{BODY_LIMIT}
+use Rattle.http_messages.proofs.length.capped_number.Given as goal
+
+abbrev pub invariant-loop-digit : goal.invariant-loop-digit
+invariant-loop-digit l = l.number ≡ min (digits_value 10 (take l.digit-index l.digits)) (BODY_LIMIT + 1)

@@ -1,0 +1,9 @@
+pub mod Actions
+pub mod Fields
+pub mod HeadEnd
+pub mod Input
+pub mod Lengths
+pub mod Methods
+pub mod ResponseText
+pub mod Routes
+pub mod steps

@@ -1,0 +1,43 @@
+-- The table of routes: the paths, their methods in order, and what each asks for. A path's parameters stand in braces.
+use Rattle.std.specs.Prelude.{ℕ, List, [], ◌∷◌, codes, if◌then◌else◌, Option, Some, None}
+use Rattle.std.specs.Str.{bytes_eq}
+use Rattle.http_messages.specs.Methods.{method_name}
+use Rattle.http_messages.specs.declared.method.Method.{Method}
+use Rattle.http_messages.specs.declared.method.Method.TheVariants as method
+use Rattle.http_messages.specs.declared.action.Action.{Action}
+use Rattle.http_messages.specs.declared.action.Action.TheVariants as action
+use Rattle.http_messages.specs.declared.path.Path.{Path}
+use Rattle.http_messages.specs.declared.path.Path.TheVariants.{Holder, Delegations, Reclaims, Transfers, Grants, Grant, Auths, Auth, Content, Payloads, Validity}
+
+abbrev pub template_of : Path → List ℕ
+template_of Holder = codes "/holders/{holder}"
+template_of Delegations = codes "/holders/{holder}/delegations"
+template_of Reclaims = codes "/holders/{holder}/reclaims"
+template_of Transfers = codes "/transfers"
+template_of Grants = codes "/holders/{holder}/grants"
+template_of Grant = codes "/holders/{holder}/grants/{number}"
+template_of Auths = codes "/holders/{holder}/auths"
+template_of Auth = codes "/holders/{holder}/auths/{number}"
+template_of Content = codes "/holders/{holder}/auths/{number}/content"
+template_of Payloads = codes "/payloads"
+template_of Validity = codes "/validity"
+
+abbrev pub actions_of : Path → List (Method × Action)
+actions_of Holder = (method.Put, action.Register) ∷ []
+actions_of Delegations = (method.Post, action.Delegate) ∷ []
+actions_of Reclaims = (method.Post, action.Reclaim) ∷ []
+actions_of Transfers = (method.Post, action.Transfer) ∷ []
+actions_of Grants = (method.Post, action.Grant) ∷ []
+actions_of Grant = (method.Delete, action.Revoke) ∷ []
+actions_of Auths = (method.Get, action.List) ∷ (method.Post, action.Create) ∷ []
+actions_of Auth =
+    (method.Get, action.Show) ∷ (method.Patch, action.Amend) ∷ (method.Delete, action.Withdraw) ∷ []
+actions_of Content = (method.Get, action.Content) ∷ []
+actions_of Payloads = (method.Get, action.Payloads) ∷ []
+actions_of Validity = (method.Post, action.Validity) ∷ []
+
+-- what the method of this name asks for, of a path's methods
+abbrev pub action_at : List ℕ → List (Method × Action) → Option Action
+action_at name [] = None
+action_at name ((method, action) ∷ rest) =
+    if bytes_eq (method_name method) name then Some action else action_at name rest

@@ -1,0 +1,110 @@
+//! The texts of responses.
+ghost use Rattle.std.specs.Prelude.{◌≡◌, ◌++◌, ◌+◌, ◌≤◌, true, codes, decimal, length, OnOk, OnErr};
+ghost use Rattle.arrayvec.specs.ArrayString.{array_string_len};
+ghost use Rattle.streams.specs.Streams.{AppendsBeginning};
+ghost use Rattle.http_messages.specs.Methods.{method_name};
+ghost use Rattle.http_messages.specs.ResponseText.{allow_line, methods_text, response_head, response_text, separator_before, type_text};
+
+use crate::action::Action;
+use crate::method::Method;
+use crate::status::Status;
+use addr::digits;
+use arrayvec::ArrayString;
+use streams::{Drain, Failed, write_all};
+
+/// What a response's body is.
+#[derive(Clone, Copy, Debug, PartialEq, Eq)]
+pub enum ContentType {
+    Json,
+    Csv,
+}
+
+impl ContentType {
+    /// The media type.
+    pub fn name(self) -> &'static str
+        ensures text { result.now ≡ type_text self }
+        ensures short { length result.now ≤ 16 }
+    {
+        match self {
+            ContentType::Json => "application/json",
+            ContentType::Csv => "text/csv",
+        }
+    }
+}
+
+/// Writes a whole response.
+pub fn write_response<D: Drain>(
+    drain: &mut D,
+    status: Status,
+    content_type: ContentType,
+    body: &[u8],
+) -> Result<(), Failed>
+    ensures ok { OnOk result (D.written drain.new
+        ≡ D.written drain.old ++ response_text status content_type body.now) }
+    ensures err { OnErr result (AppendsBeginning (D.written drain.old) (D.written drain.new)
+        (response_text status content_type body.now)) }
+    ensures failed { OnErr result (D.has_failed drain.new ≡ true) }
+{
+    let head = response_head(status, content_type, body.len() as u64);
+    write_all(drain, head.as_str().as_bytes())?;
+    write_all(drain, body)
+}
+
+#[tactic(auto, unfolding(crate::specs::ResponseText::response_head))]
+/// The head of a response with a body of so many bytes, its empty line included.
+pub fn response_head(status: Status, content_type: ContentType, length: u64) -> ArrayString<256>
+    ensures { result.bytes ≡ response_head status content_type length }
+{
+    let mut text = ArrayString::new();
+    text.push_str("HTTP/1.1 ");
+    text.push_str(status.line());
+    text.push_str("\r\nContent-Type: ");
+    text.push_str(content_type.name());
+    text.push_str("\r\nContent-Length: ");
+    text.push_str(digits(length).as_str());
+    text.push_str("\r\n");
+    text.push_str(allow_line(status).as_str());
+    text.push_str("Connection: close\r\n\r\n");
+    text
+}
+
+// The field `Allow`, which a response has that tells a path's methods.
+fn allow_line(status: Status) -> ArrayString<64>
+    ensures text { result.bytes ≡ allow_line status }
+    ensures short { array_string_len result ≤ 35 }
+{
+    let mut text = ArrayString::new();
+    if let Status::MethodNotAllowed(path) = status {
+        text.push_str("Allow: ");
+        text.push_str(methods_text(path.actions()).as_str());
+        text.push_str("\r\n");
+    }
+    text
+}
+
+// The names of up to three methods.
+fn methods_text(actions: &[(Method, Action)]) -> ArrayString<26>
+    requires { length actions.now ≤ 3 }
+    ensures text { result.bytes ≡ methods_text actions.now }
+    ensures short { array_string_len result ≤ 26 }
+{
+    let mut text = ArrayString::new();
+    let mut is_first = true;
+    for (method, _) in actions {
+        push_method(&mut text, is_first, *method);
+        is_first = false;
+    }
+    text
+}
+
+// One name more.
+fn push_method(text: &mut ArrayString<26>, is_first: bool, method: Method)
+    requires { array_string_len text.old + 8 ≤ 26 }
+    ensures text { text.new.bytes ≡ text.old.bytes ++ separator_before is_first ++ method_name method }
+    ensures short { array_string_len text.new ≤ array_string_len text.old + 8 }
+{
+    if !is_first {
+        text.push_str(", ");
+    }
+    text.push_str(method.name());
+}

@@ -1,0 +1,11 @@
+use Rattle.std.specs.Io.KnownBytes.{Keeps}
+use Rattle.streams.specs.Device.{device_inner, device_calls_left}
+use Rattle.streams.specs.steps.Devices.{IsCalled}
+use Rattle.streams.proofs.device.Device.flush_uninterrupted.Given as goal
+
+abbrev pub invariant-loop-self : goal.invariant-loop-self
+invariant-loop-self g l = IsCalled l.initial.self l.self
+    × Keeps (g.T.Write.contents (device_inner l.initial.self)) (g.T.Write.contents (device_inner l.self))
+
+abbrev pub decreases-loop-self : goal.decreases-loop-self
+decreases-loop-self g l = device_calls_left l.self
