@@ -71,14 +71,16 @@ fn prints_authorizations(rt: HostRuntime) -> Result<(), Fail> {
     let alloc = rt.alloc();
     let one = auth(1, "192.0.2.0/24")?;
     let other = auth(4_294_967_295, "2001:db8::/32")?;
-    let shown = "{\"shown\":{\"number\":1,\"asn\":64496,\"prefix\":\"192.0.2.0/24\",\"max\":24,\"from\":\"2026-01-01\",\"until\":\"2026-12-31\"}}\n";
+    let shown =
+        "{\"shown\":{\"number\":1,\"asn\":64496,\"prefix\":\"192.0.2.0/24\",\"max\":24,\"from\":\"2026-01-01\",\"until\":\"2026-12-31\"}}\n";
     assert_printed(&rt, alloc, &Reply::Shown(one), shown);
     let content = Reply::Content(String::from_str(alloc, "3017c0")?);
     assert_printed(&rt, alloc, &content, "{\"content\":\"3017c0\"}\n");
     let none = Reply::Listed(Vec::new(alloc));
     assert_printed(&rt, alloc, &none, "{\"listed\":[]}\n");
     let two = Reply::Listed(vec![in alloc; one, other]?);
-    let listed = "{\"listed\":[{\"number\":1,\"asn\":64496,\"prefix\":\"192.0.2.0/24\",\"max\":24,\"from\":\"2026-01-01\",\"until\":\"2026-12-31\"},{\"number\":4294967295,\"asn\":64496,\"prefix\":\"2001:db8::/32\",\"max\":32,\"from\":\"2026-01-01\",\"until\":\"2026-12-31\"}]}\n";
+    let listed =
+        "{\"listed\":[{\"number\":1,\"asn\":64496,\"prefix\":\"192.0.2.0/24\",\"max\":24,\"from\":\"2026-01-01\",\"until\":\"2026-12-31\"},{\"number\":4294967295,\"asn\":64496,\"prefix\":\"2001:db8::/32\",\"max\":32,\"from\":\"2026-01-01\",\"until\":\"2026-12-31\"}]}\n";
     assert_printed(&rt, alloc, &two, listed);
     Ok(())
 }
@@ -91,7 +93,8 @@ fn prints_vrps_and_states(rt: HostRuntime) -> Result<(), Fail> {
     let v4 = vrp(64496, "192.0.2.0/24", 24)?;
     let v6 = vrp(4_294_967_295, "::/0", 128)?;
     let two = Reply::Payloads(vec![in alloc; v4, v6]?);
-    let payloads = "{\"payloads\":[{\"asn\":64496,\"prefix\":\"192.0.2.0/24\",\"max\":24},{\"asn\":4294967295,\"prefix\":\"::/0\",\"max\":128}]}\n";
+    let payloads =
+        "{\"payloads\":[{\"asn\":64496,\"prefix\":\"192.0.2.0/24\",\"max\":24},{\"asn\":4294967295,\"prefix\":\"::/0\",\"max\":128}]}\n";
     assert_printed(&rt, alloc, &two, payloads);
     let states = [Validity::Valid, Validity::NotFound, Validity::Invalid];
     let answers = Reply::Answers(Vec::from_slice(alloc, &states)?);
