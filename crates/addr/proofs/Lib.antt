@@ -1,6 +1,7 @@
 pub mod AddressLemmas
 pub mod Equality
 pub mod OrderLemmas
+pub mod PrefixOrderLemmas
 pub mod SpanLemmas
 pub mod SpanSteps
 pub mod RunLemmas

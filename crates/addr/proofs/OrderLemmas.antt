@@ -1,8 +1,9 @@
 -- The order of families, prefixes and VRPs is total, what ties in it is one, and the derived comparisons are it.
-use Rattle.std.proofs.Common.{◌≡◌, Bool, true, ◌&&◌, ◌==◌, refl, ap, sym, subst, ◌∙◌, Ordering}
+use Rattle.std.proofs.Common.{◌≡◌, Bool, true, false, ◌&&◌, ◌==◌, refl, ap, sym, subst, ◌∙◌, Ordering}
 use Rattle.std.proofs.lemmas.Bool.{and_parts, and_from, eqb-true, eq-eqb}
+use Rattle.std.proofs.lemmas.Cmp.{upto}
 use Rattle.std.specs.declared.cmp.Ordering.TheVariants.{Less, Equal, Greater}
-use Rattle.std.specs.Ordering.{nat_cmp, ordering_then, ordering_reverse, is_lt}
+use Rattle.std.specs.Ordering.{nat_cmp, ordering_then, ordering_reverse, is_lt, is_le, is_gt}
 use Rattle.std.specs.Cmp.{IsTotalOrder, nat_cmp_total, on_total, then_total}
 use Rattle.std.specs.FinMap.{IsAntisymmetric, nat_cmp-IsAntisymmetric}
 use Rattle.addr.specs.Address.{prefix_eq, same_prefix}
@@ -19,6 +20,22 @@ use Rattle.addr.specs.contracts.prefix.PrefixPartialEq.TheImpl as PrefixPartialE
 use Rattle.addr.specs.contracts.vrp.VrpOrd.TheImpl as VrpOrd
 use Rattle.addr.specs.contracts.vrp.VrpPartialEq.TheImpl as VrpPartialEq
 use Rattle.addr.proofs.Equality.{equal_prefix, prefix_itself}
+
+-- ---- at or before
+
+not_after : (o : Ordering) → is_le o ≡ true → is_gt o ≡ false
+not_after Less h = refl
+not_after Equal h = refl
+not_after Greater h = cc
+
+pub not_greater : (o : Ordering) → is_gt o ≡ false → is_le o ≡ true
+not_greater Less h = refl
+not_greater Equal h = refl
+not_greater Greater h = cc
+
+-- what is at or before something is at or before all that this is at or before
+pub le-trans : {K : Type 0} {R : K → K → Ordering} (o : IsTotalOrder R) (x y z : K) → is_le (R x y) ≡ true → is_le (R y z) ≡ true → is_le (R x z) ≡ true
+le-trans {K} {R} o x y z one two = not_greater (R x z) (upto o x y z (not_after (R x y) one) (not_after (R y z) two))
 
 -- ---- the order is total
 

@@ -1,11 +1,11 @@
 //! The texts of replies, and writes that fail.
 use crate::fakes::Sheet;
-use crate::vrps::vrps_of;
-use addr::{Asn, Day, Prefix};
+use addr::{Asn, Day, Prefix, Vrp};
 use desk::Reply;
 use payload::Validity;
 use policy::{Auth, Rule};
 use std::alloc::Global;
+use std::process::Abort;
 use std::test::Fail;
 use web::{Device, Failed, Malformed, short_text, write_reply};
 
@@ -19,6 +19,11 @@ fn auth(number: u32, prefix: &str) -> Result<Auth, Fail> {
         from: Day::read(b"2026-01-01").ok_or("no day")?,
         until: Day::read(b"2026-12-31").ok_or("no day")?,
     })
+}
+
+fn vrp(asn: u32, prefix: &str, max: u8) -> Result<Vrp, Fail> {
+    let prefix = Prefix::read(prefix.as_bytes())?;
+    Ok(Vrp::from_parts(prefix, max, Asn(asn)).ok_or("a VRP")?)
 }
 
 // What the reply writes to a device that takes `room` bytes.
@@ -35,57 +40,63 @@ fn written(alloc: Global, reply: &Reply, room: usize) -> (Result<(), Failed>, Ve
     (result, sheet.bytes)
 }
 
-const VRPS: &str = r#"
-AS64496 192.0.2.0/24 24
-AS4294967295 ::/0 128
-"#;
+// The reply writes this text, which is its short text if it has one.
+fn assert_printed(rt: &impl Abort, alloc: Global, reply: &Reply, text: &str) {
+    let (result, bytes) = written(alloc, reply, usize::MAX);
+    assert_eq!(rt; result, Ok(()), "of {text}");
+    assert_eq!(rt; bytes.as_slice(), text.as_bytes(), "of {text}");
+    if let Some(short) = short_text(reply) {
+        assert_eq!(rt; short.as_str(), text);
+    }
+}
 
 #[test]
-fn prints_each_reply(rt: HostRuntime) -> Result<(), Fail> {
-    let alloc = rt.alloc();
-    let one = auth(1, "192.0.2.0/24")?;
-    let other = auth(4_294_967_295, "2001:db8::/32")?;
-    let states = [Validity::Valid, Validity::NotFound, Validity::Invalid];
-    let table = [
+fn prints_short_replies(rt: HostRuntime) {
+    for (reply, text) in [
         (Reply::Done(None), "{\"done\":null}\n"),
         (Reply::Done(Some(7)), "{\"done\":7}\n"),
-        (
-            Reply::Shown(one),
-            "{\"shown\":{\"number\":1,\"asn\":64496,\"prefix\":\"192.0.2.0/24\",\"max\":24,\"from\":\"2026-01-01\",\"until\":\"2026-12-31\"}}\n",
-        ),
-        (
-            Reply::Content(String::from_str(alloc, "3017c0")?),
-            "{\"content\":\"3017c0\"}\n",
-        ),
-        (Reply::Listed(Vec::new(alloc)), "{\"listed\":[]}\n"),
-        (
-            Reply::Listed(vec![in alloc; one, other]?),
-            "{\"listed\":[{\"number\":1,\"asn\":64496,\"prefix\":\"192.0.2.0/24\",\"max\":24,\"from\":\"2026-01-01\",\"until\":\"2026-12-31\"},{\"number\":4294967295,\"asn\":64496,\"prefix\":\"2001:db8::/32\",\"max\":32,\"from\":\"2026-01-01\",\"until\":\"2026-12-31\"}]}\n",
-        ),
-        (Reply::Payloads(Vec::new(alloc)), "{\"payloads\":[]}\n"),
-        (
-            Reply::Payloads(vrps_of(alloc, VRPS)?),
-            "{\"payloads\":[{\"asn\":64496,\"prefix\":\"192.0.2.0/24\",\"max\":24},{\"asn\":4294967295,\"prefix\":\"::/0\",\"max\":128}]}\n",
-        ),
-        (
-            Reply::Answers(Vec::from_slice(alloc, &states)?),
-            "{\"answers\":[\"Valid\",\"NotFound\",\"Invalid\"]}\n",
-        ),
         (Reply::Denied(Rule::Grant, None), "{\"denied\":\"grant\"}\n"),
         (
             Reply::Denied(Rule::Held, Some(2)),
             "{\"denied\":\"held\",\"row\":2}\n",
         ),
         (Reply::Unavailable, "{\"unavailable\":true}\n"),
-    ];
-    for (reply, text) in table {
-        let (result, bytes) = written(alloc, &reply, usize::MAX);
-        assert_eq!(rt; result, Ok(()), "of {text}");
-        assert_eq!(rt; bytes.as_slice(), text.as_bytes(), "of {text}");
-        if let Some(short) = short_text(&reply) {
-            assert_eq!(rt; short.as_str(), text);
-        }
+    ] {
+        assert_printed(&rt, rt.alloc(), &reply, text);
     }
+}
+
+#[test]
+fn prints_authorizations(rt: HostRuntime) -> Result<(), Fail> {
+    let alloc = rt.alloc();
+    let one = auth(1, "192.0.2.0/24")?;
+    let other = auth(4_294_967_295, "2001:db8::/32")?;
+    let shown = "{\"shown\":{\"number\":1,\"asn\":64496,\"prefix\":\"192.0.2.0/24\",\"max\":24,\"from\":\"2026-01-01\",\"until\":\"2026-12-31\"}}\n";
+    assert_printed(&rt, alloc, &Reply::Shown(one), shown);
+    let content = Reply::Content(String::from_str(alloc, "3017c0")?);
+    assert_printed(&rt, alloc, &content, "{\"content\":\"3017c0\"}\n");
+    let none = Reply::Listed(Vec::new(alloc));
+    assert_printed(&rt, alloc, &none, "{\"listed\":[]}\n");
+    let two = Reply::Listed(vec![in alloc; one, other]?);
+    let listed = "{\"listed\":[{\"number\":1,\"asn\":64496,\"prefix\":\"192.0.2.0/24\",\"max\":24,\"from\":\"2026-01-01\",\"until\":\"2026-12-31\"},{\"number\":4294967295,\"asn\":64496,\"prefix\":\"2001:db8::/32\",\"max\":32,\"from\":\"2026-01-01\",\"until\":\"2026-12-31\"}]}\n";
+    assert_printed(&rt, alloc, &two, listed);
+    Ok(())
+}
+
+#[test]
+fn prints_vrps_and_states(rt: HostRuntime) -> Result<(), Fail> {
+    let alloc = rt.alloc();
+    let none = Reply::Payloads(Vec::new(alloc));
+    assert_printed(&rt, alloc, &none, "{\"payloads\":[]}\n");
+    let v4 = vrp(64496, "192.0.2.0/24", 24)?;
+    let v6 = vrp(4_294_967_295, "::/0", 128)?;
+    let two = Reply::Payloads(vec![in alloc; v4, v6]?);
+    let payloads = "{\"payloads\":[{\"asn\":64496,\"prefix\":\"192.0.2.0/24\",\"max\":24},{\"asn\":4294967295,\"prefix\":\"::/0\",\"max\":128}]}\n";
+    assert_printed(&rt, alloc, &two, payloads);
+    let states = [Validity::Valid, Validity::NotFound, Validity::Invalid];
+    let answers = Reply::Answers(Vec::from_slice(alloc, &states)?);
+    let text = "{\"answers\":[\"Valid\",\"NotFound\",\"Invalid\"]}\n";
+    assert_printed(&rt, alloc, &answers, text);
     Ok(())
 }
 

@@ -1,5 +1,6 @@
 //! Lines of a script: the number that is reported of a malformed one, 0 where it is a request.
-use crate::rows::{line_of, nested, rows_of};
+use crate::scripts::line_of;
+use library_conformance::rows::{nested, rows_of};
 use std::alloc::Global;
 use std::test::Fail;
 use web::{LineFault, read_line_request};

@@ -5,9 +5,9 @@
 //! stand before its own. A line is `CALLER {"do":..} => REPLY`, asked on the first of March, or
 //! `day DAY`, the day of the lines that follow it.
 use crate::fakes::{Sheet, Tape};
-use crate::rows::line_of;
 use addr::{Name, Prefix};
 use desk::Desk;
+use library_conformance::rows::parts_of;
 use policy::Charter;
 use sqlite::MemStore;
 use std::alloc::Global;
@@ -19,6 +19,8 @@ mod amendments;
 mod authorizations;
 mod contents;
 mod grants;
+mod isolation;
+mod repeats;
 mod resources;
 mod vrps;
 
@@ -49,6 +51,13 @@ reg {"do":"reclaim","holder":"beta","prefix":"192.0.2.0/26"} => {"done":null}
 reg {"do":"revoke","holder":"alpha","number":1} => {"done":null}
 "#;
 
+/// Beside `alpha`, `beta` has 198.51.100.0/24, and `bea` is its manager.
+const BETA: &str = r#"
+reg {"do":"register","holder":"beta"} => {"done":null}
+reg {"do":"delegate","holder":"beta","prefix":"198.51.100.0/24"} => {"done":null}
+reg {"do":"grant","holder":"beta","name":"bea","role":"manager","scope":"all","until":"2026-12-31"} => {"done":1}
+"#;
+
 /// The pool of the scripts that name no other.
 const EXAMPLE_POOL: &[&str] = &["192.0.2.0/24", "198.51.100.0/24", "2001:db8::/32"];
 
@@ -71,6 +80,12 @@ pub(crate) fn desk_of(alloc: Global, pool: &[&str]) -> Result<Desk<MemStore>, Fa
 
 pub(crate) fn example_desk(alloc: Global) -> Result<Desk<MemStore>, Fail> {
     desk_of(alloc, EXAMPLE_POOL)
+}
+
+/// The line of a script on a day, of a request with its caller before it.
+pub(crate) fn line_of(alloc: Global, day: &str, request: &str) -> Result<String, Fail> {
+    let (caller, members) = request.split_once(" {").ok_or("no caller")?;
+    Ok(format!(in alloc; "{{\"day\":\"{day}\",\"caller\":\"{caller}\",{members}")?)
 }
 
 /// The lines of a script, and the replies that are expected.
@@ -207,6 +222,7 @@ fn setup_of(name: &str) -> Result<&'static str, Fail> {
         "authorization" => Ok(AUTHORIZATION),
         "amendment" => Ok(amendments::AMENDMENT),
         "clerk" => Ok(grants::CLERK_OF_THE_LOWER_HALF),
+        "other holder" => Ok(BETA),
         "reclaimed part" => Ok(resources::PART_RECLAIMED),
         _ => Err("no set-up of that name".into()),
     }
@@ -227,12 +243,33 @@ fn assert_script(rt: &impl Abort, alloc: Global, script: &str) -> Result<(), Fai
 }
 
 fn assert_all(rt: &impl Abort, alloc: Global, scripts: &str) -> Result<(), Fail> {
-    for script in scripts.split("\n# ") {
-        if !script.is_empty() {
-            assert_script(rt, alloc, script)?;
-        }
+    for script in scripts.split("\n# ").skip(1) {
+        assert_script(rt, alloc, script)?;
     }
     Ok(())
+}
+
+// Of a pair of scripts the one whose own lines begin so; the other's begin with `other`.
+fn one_of_pair(alloc: Global, pair: &str, own: &str, other: &str) -> Result<String, Fail> {
+    let mut script = String::new(alloc);
+    for line in pair.lines() {
+        if !line.starts_with(other) {
+            script.push_str(line.strip_prefix(own).unwrap_or(line))?;
+            script.push('\n')?;
+        }
+    }
+    Ok(script)
+}
+
+// A script that asks its first line twice, and all after the second reply after each of the two.
+fn asked_twice(alloc: Global, script: &str) -> Result<String, Fail> {
+    let (heading, lines) = script.split_once('\n').ok_or("no lines")?;
+    let (first, after_first) = lines.split_once('\n').ok_or("no second reply")?;
+    let (again, looks) = after_first.split_once('\n').ok_or("nothing is looked at")?;
+    let (request, _) = parts_of(first)?;
+    let second = again.strip_prefix("again").ok_or("no second reply")?;
+    let asked = format!(in alloc; "{heading}\n{first}\n{looks}\n{request}{second}\n{looks}")?;
+    Ok(asked)
 }
 
 #[test]
@@ -243,6 +280,26 @@ fn scripts_have_their_replies(rt: HostRuntime) -> Result<(), Fail> {
     assert_all(&rt, rt.alloc(), amendments::SCRIPTS)?;
     assert_all(&rt, rt.alloc(), contents::SCRIPTS)?;
     assert_all(&rt, rt.alloc(), vrps::SCRIPTS)
+}
+
+#[test]
+fn other_holders_change_no_reply(rt: HostRuntime) -> Result<(), Fail> {
+    for pair in isolation::PAIRS.split("\n# ").skip(1) {
+        for (own, other) in [("first: ", "second: "), ("second: ", "first: ")] {
+            let script = one_of_pair(rt.alloc(), pair, own, other)?;
+            assert_script(&rt, rt.alloc(), &script)?;
+        }
+    }
+    Ok(())
+}
+
+#[test]
+fn asked_again_changes_nothing(rt: HostRuntime) -> Result<(), Fail> {
+    for script in repeats::TWICE.split("\n# ").skip(1) {
+        let script = asked_twice(rt.alloc(), script)?;
+        assert_script(&rt, rt.alloc(), &script)?;
+    }
+    Ok(())
 }
 
 #[test]

@@ -1,10 +1,11 @@
 -- Tables that read show values of the types that each query asks for.
-use Rattle.std.proofs.Common.{◌≡◌, inl, inr, ℕ, true, ◌||◌, List, [], ◌∷◌, map, length, Result, Ok, Err, IfOk, OnErr, nat_eq, refl, sym, ap, subst, ◌∙◌, arith, IsPermutation, IsTrue}
+use Rattle.std.proofs.Common.{◌≡◌, inl, inr, ℕ, true, ◌||◌, List, [], ◌∷◌, map, length, Result, Ok, Err, IfOk, OnOk, IsOk, OnErr, nat_eq, refl, sym, ap, subst, ◌∙◌, arith, rules, IsPermutation, IsTrue}
 use Rattle.std.specs.Prelude.{⊤, Any}
 use Rattle.std.specs.Cmp.Lexicographic.{pointwise}
 use Rattle.std.specs.List.{AllByRecursion}
 use Rattle.std.proofs.lemmas.Bool.{both_ways}
 use Rattle.std.proofs.lemmas.Cmp.{nat_list_eq_equiv}
+use Rattle.std.proofs.lemmas.List.{length-map}
 use Rattle.std.proofs.lemmas.List.Elements.{recursion_from_All}
 use Rattle.std.proofs.lemmas.List.Sorted.{IsPermutation-sym, IsPermutation-trans, IsPermutation-map, length_permutation}
 use Rattle.sqlite.specs.Effect.{Database}
@@ -19,18 +20,19 @@ use Rattle.addr.specs.Name.{is_name}
 use Rattle.addr.specs.declared.prefix.Prefix.{Prefix}
 use Rattle.policy.specs.CharterSets.{AreInNumber, CharterSets}
 use Rattle.policy.specs.Repeats.{has_repeat}
-use Rattle.policy.specs.Values.{IsU32, AuthFits, GrantFits}
+use Rattle.policy.specs.Values.{IsCount, AuthFits, GrantFits}
 use Rattle.policy.proofs.Repeats.{has_repeat-moved, prefix_eq-flips}
 use Rattle.tables.specs.declared.rows.Registered.{Registered}
-use Rattle.tables.specs.Cells.{schema_row, operator_row, prefix_cells, span_cells, grant_cells, auth_cells, holder_row, holding_row, granted_row, auth_row}
-use Rattle.tables.specs.Tables.{meta, operator, pool, holder, holding, granted, auth, contents, columns}
+use Rattle.tables.specs.Cells.{schema_row, operator_row, prefix_cells, span_cells, grant_cells, auth_cells, holder_row, holding_row, granted_row, auth_row, exception_row}
+use Rattle.tables.specs.Decode.{ExceptionRowFits}
+use Rattle.tables.specs.Tables.{meta, operator, pool, holder, holding, granted, auth, slurm, contents, columns}
 use Rattle.tables.proofs.CellsOnce.{one_prefix, values_shown}
 use Rattle.database.specs.declared.fault.StoreFault.{StoreFault}
 use Rattle.database.specs.declared.fault.StoreFault.TheVariants.{Schema}
-use Rattle.database.specs.TablesRead.{ShowsSome, ShowsHolder, ShowsOfHolder, TablesRead}
+use Rattle.database.specs.TablesRead.{ShowsSome, ShowsHolder, ShowsOfHolder, ShowsException, TablesRead}
 use Rattle.database.specs.steps.Numbered.{shown_in, AreRead}
 use Rattle.database.specs.steps.Opened.{ShowsRows, ShowsCharter}
-use Rattle.database.proofs.Columns.{grant_shown}
+use Rattle.database.proofs.Columns.{grant_shown, exception_places, exception_shown}
 
 -- ---- what was read
 
@@ -56,9 +58,17 @@ only_one (y ∷ []) x (inl is) one = λ i. sym is i ∷ []
 only_one (y ∷ []) x (inr none) one = absurd none
 only_one (y ∷ z ∷ xs) x has one = absurd (omega arith)
 
-pub no_rows : {X Y : Type 0} (f : X → Y) (xs : List X) (ys : List Y) → length ys ≡ 0 → IsPermutation (map f xs) ys → xs ≡ []
-no_rows f [] ys none same = refl
-no_rows f (x ∷ xs) ys none same = absurd (omega (arith, length_permutation _ _ same))
+-- ---- the number of rows
+
+pub as_many : {X : Type 0} (cells : X → Row) (fits : X → Type 0) (tree : ℕ) (places : List ℕ) (db : Database) (values : List X)
+    → AreRead cells fits (shown_in tree places db) values → length (contents (db.trees tree)) ≡ length values
+as_many cells fits tree places db values read =
+    let rows = contents (db.trees tree) in
+    omega (arith, length_permutation _ _ read.same, length-map rows (columns places), length-map values cells)
+
+pub no_rows : (rows : List Row) → length (contents rows) ≡ 0 → rows ≡ []
+no_rows [] none = refl
+no_rows (r ∷ rows) none = absurd (omega (arith, none))
 
 -- ---- tables that read
 
@@ -69,7 +79,7 @@ abbrev holder_cells : Registered → Row
 holder_cells x = holder_row x.name x.counters.granted x.counters.created
 
 abbrev HolderFits : Registered → Type 0
-HolderFits x = IsTrue (is_name x.name) × IsU32 x.counters.granted × IsU32 x.counters.created
+HolderFits x = IsTrue (is_name x.name) × IsCount x.counters.granted × IsCount x.counters.created
 
 shows_registered : (c : Row) → ShowsHolder c → ShowsSome holder_cells HolderFits c
 shows_registered c it = (record { name = it.0; counters = record { granted = it.1; created = it.2 } }, (it.3, it.4, it.5), it.6)
@@ -121,6 +131,9 @@ module _ (db : Database) (read : TablesRead db.trees) where
   pub auths_in : AllByRecursion (ShowsSome auth_cells AuthFits) (shown_in auth.tree auth_places db)
   auths_in = shows_in auth.tree auth_places (ShowsOfHolder auth_row AuthFits) _ (λ c it. (it.1, it.2, ap (columns auth_places) it.3)) db read.auths
 
+  pub exceptions_in : AllByRecursion (ShowsSome exception_row ExceptionRowFits) (shown_in slurm.tree exception_places db)
+  exceptions_in = shows_in slurm.tree exception_places ShowsException _ (λ c it. (it.0, it.1, ap (columns exception_places) it.2 ∙ exception_shown it.0)) db read.exceptions
+
 -- ---- charters
 
 pub charter_shown :
@@ -152,6 +165,10 @@ some_charter db read names prefixes named pooled refused =
     let once = has_repeat-moved (pointwise nat_eq) nat_list_eq_equiv.symm kept.operators names operators kept.operators_once in
     let apart = has_repeat-moved prefix_eq prefix_eq-flips kept.prefixes prefixes pool kept.prefixes_once in
     both_ways _ (λ i. once i || apart i) (refused number)
+
+pub on_ok : {Y F : Type 0} (P : Type 0) (r : Result Y F) → (IsOk r → P) → OnOk r P
+on_ok P (Ok y) holds = holds (search rules)
+on_ok P (Err f) holds = tt
 
 pub err_fact : {Y : Type 0} (P : Type 0) (r : Result Y StoreFault) → r ≡ Err Schema → OnErr r P → P
 err_fact P r is holds = subst (λ s. OnErr s P) is holds

@@ -1,5 +1,5 @@
 -- What it is for the tables of a database to read.
-use Rattle.std.specs.Prelude.{◌≡◌, ℕ, false, List, map, nat_eq, Contains, Option, IsPermutation, IsTrue, ⊤}
+use Rattle.std.specs.Prelude.{◌≡◌, ◌≤◌, ℕ, false, List, length, map, nat_eq, Contains, Option, IsPermutation, IsTrue, ⊤}
 use Rattle.std.specs.Cmp.Lexicographic.{pointwise}
 use Rattle.std.specs.List.{AllByRecursion}
 use Rattle.sqlite_value.specs.Order.{Row}
@@ -10,9 +10,11 @@ use Rattle.addr.specs.declared.prefix.Prefix.{Prefix}
 use Rattle.policy.specs.CharterSets.{AreInNumber, CharterSets}
 use Rattle.policy.specs.Repeats.{has_repeat}
 use Rattle.policy.specs.Rows.{Rows}
-use Rattle.policy.specs.Values.{IsU32, AuthFits, GrantFits}
-use Rattle.tables.specs.Cells.{schema_row, operator_row, prefix_cells, holder_row, holding_row, granted_row, auth_row}
-use Rattle.tables.specs.Tables.{meta, operator, pool, holder, holding, granted, auth, contents}
+use Rattle.policy.specs.Values.{IsCount, AuthFits, GrantFits}
+use Rattle.slurm.specs.declared.exceptions.TheConstants.{MOST_ENTRIES}
+use Rattle.tables.specs.Cells.{schema_row, operator_row, prefix_cells, holder_row, holding_row, granted_row, auth_row, exception_row}
+use Rattle.tables.specs.Decode.{ExceptionRowFits}
+use Rattle.tables.specs.Tables.{meta, operator, pool, holder, holding, granted, auth, slurm, contents}
 use Rattle.tables.specs.TablesHold.{TablesHold}
 
 -- the row shows some value of the type
@@ -23,11 +25,15 @@ ShowsSome {X} cells fits c = (x : X) × fits x × (c ≡ cells x)
 abbrev pub ShowsHolder : Row → Type 0
 ShowsHolder c =
     (h : List ℕ) × (granted created : ℕ)
-    × IsTrue (is_name h) × IsU32 granted × IsU32 created × (c ≡ holder_row h granted created)
+    × IsTrue (is_name h) × IsCount granted × IsCount created × (c ≡ holder_row h granted created)
 
 -- the row shows some value of the type beside some name
 abbrev pub ShowsOfHolder : {X : Type 0} → (List ℕ → X → Row) → (X → Type 0) → Row → Type 0
 ShowsOfHolder {X} row fits c = (h : List ℕ) × (x : X) × fits x × (c ≡ row h x)
+
+-- the row shows an exception of the one SLURM file and its position
+abbrev pub ShowsException : Row → Type 0
+ShowsException = ShowsSome exception_row ExceptionRowFits
 
 -- the tables have operators and prefixes that make a charter
 pub record HasSomeCharter (trees : Trees) : Type 0 where
@@ -41,7 +47,7 @@ pub record HasSomeCharter (trees : Trees) : Type 0 where
   pub prefixes_shown : IsPermutation (map prefix_cells prefixes) (contents (trees pool.tree))
 
 -- The number of the schema is there, the operators and the pool make a charter, and each row of each
--- table shows a value of its type.
+-- table shows a value of its type. Exceptions are no more than those of one SLURM file.
 pub record TablesRead (trees : Trees) : Type 0 where
   pub schema : Contains (contents (trees meta.tree)) schema_row
   pub charter : HasSomeCharter trees
@@ -49,6 +55,8 @@ pub record TablesRead (trees : Trees) : Type 0 where
   pub holdings : AllByRecursion (ShowsOfHolder holding_row (λ _. ⊤)) (contents (trees holding.tree))
   pub grants : AllByRecursion (ShowsOfHolder granted_row GrantFits) (contents (trees granted.tree))
   pub auths : AllByRecursion (ShowsOfHolder auth_row AuthFits) (contents (trees auth.tree))
+  pub exceptions : AllByRecursion ShowsException (contents (trees slurm.tree))
+  pub exceptions_number : length (contents (trees slurm.tree)) ≤ MOST_ENTRIES
 
 -- the tables hold this charter and some rows
 abbrev pub HoldSome : CharterSets → Trees → Type 0

@@ -1,5 +1,5 @@
 //! Reading all rows of a database that has the tables of a desk.
-ghost use Rattle.std.specs.Prelude.{◌≡◌, ◌≢◌, ◌↔◌, true, false, ◌||◌, nat_eq, ℕ, List, [], ◌∷◌, Any, Err, OnOk, OnErr, IfOk, IsPermutation, IsTrue};
+ghost use Rattle.std.specs.Prelude.{◌≡◌, ◌≢◌, ◌<◌, ◌↔◌, true, false, ◌||◌, nat_eq, ℕ, List, [], ◌∷◌, length, Any, Err, OnOk, OnErr, IfOk, IsOk, IsPermutation, IsTrue};
 ghost use Rattle.std.specs.Cmp.Lexicographic.{pointwise};
 ghost use Rattle.std.specs.List.{AllByRecursion};
 ghost use Rattle.sqlite.specs.Given.{IsPlain};
@@ -9,6 +9,7 @@ ghost use Rattle.addr.specs.Address.{prefix_eq};
 ghost use Rattle.policy.specs.Charter.{operators_of, pool_of};
 ghost use Rattle.policy.specs.CharterSets.{AreInNumber};
 ghost use Rattle.policy.specs.Repeats.{has_repeat};
+ghost use Rattle.slurm.specs.declared.exceptions.TheConstants.{MOST_ENTRIES};
 ghost use Rattle.tables.specs.Cells.{schema_row};
 ghost use Rattle.tables.specs.Decode.{first_columns};
 ghost use Rattle.tables.specs.Tables.{operator, pool, holder, holding, granted, auth, slurm, IsTree, OverDesk};
@@ -23,9 +24,10 @@ use crate::rise::rise;
 use crate::values::read_all;
 use addr::{Name, Prefix, Span};
 use policy::{Auth, Charter, Granted};
+use slurm::MOST_ENTRIES;
 use sqlite::{Alter, Connection, Row};
 use std::alloc::Global;
-use tables::{FromRow, Registered, tells_schema};
+use tables::{ExceptionRow, FromRow, Registered, tells_schema};
 
 /// A value that each row of one table shows.
 trait InTable: FromRow {
@@ -136,6 +138,16 @@ impl InTable for Auth {
     }
 }
 
+impl InTable for ExceptionRow {
+    ghost tree = { slurm.tree };
+
+    ghost places = { 0 ∷ 1 ∷ 2 ∷ 3 ∷ 4 ∷ 5 ∷ 6 ∷ 7 ∷ [] };
+
+    fn select_all() -> &'static str {
+        "SELECT file, kind, position, family, lo, len, max, asn, rowid FROM slurm ORDER BY rowid"
+    }
+}
+
 fn some_tells_schema(rows: &[Row]) -> bool
     ensures { IsTrue result ↔ Any (λ row. first_columns 2 row ≡ schema_row) rows.now }
 {
@@ -203,26 +215,36 @@ fn read_holders<S: Alter>(conn: &mut Connection<S>, alloc: Global) -> Result<(),
     Ok(())
 }
 
-/// Whether the table `slurm` has no row.
-fn read_exceptions<S: Alter>(conn: &mut Connection<S>) -> Result<(), StoreFault>
-    requires { IsReadyToAsk S.Store conn.old }
-    ensures asked { IsAsked S.Store conn.old conn.new result }
-    ensures found { IsOnCleanDisk S.Store conn.new
-        → OnOk result ((state S.Store conn.old).now.trees slurm.tree ≡ []) }
-    ensures no_schema { result ≢ Err StoreFault.Schema }
+/// Refuses exceptions, since no request brings any yet. More than a SLURM file may have are those of
+/// another schema.
+fn refuse_exceptions(exceptions: &[ExceptionRow]) -> Result<(), StoreFault>
+    ensures none { IsOk result ↔ (exceptions.now ≡ []) }
+    ensures schema { result ≡ Err StoreFault.Schema ↔ (MOST_ENTRIES < length exceptions.now) }
 {
-    let rows = ask_all(
-        conn,
-        "SELECT file, kind, position, family, lo, len, max, asn, rowid FROM slurm ORDER BY rowid",
-    )?;
-    if !rows.is_empty() {
+    if exceptions.len() > MOST_ENTRIES {
+        return Err(StoreFault::Schema);
+    }
+    if !exceptions.is_empty() {
         return Err(StoreFault::Database);
     }
     Ok(())
 }
 
+/// Whether the table `slurm` has no row. Rows that all read are the database's fault.
+fn read_exceptions<S: Alter>(conn: &mut Connection<S>, alloc: Global) -> Result<(), StoreFault>
+    requires { IsReadyToAsk S.Store conn.old }
+    ensures asked { IsAsked S.Store conn.old conn.new result }
+    ensures found { IsOnCleanDisk S.Store conn.new
+        → OnOk result ((state S.Store conn.old).now.trees slurm.tree ≡ []) }
+    ensures schema { IsOnCleanDisk S.Store conn.new → result ≡ Err StoreFault.Schema
+        → ¬ TablesRead (state S.Store conn.old).now.trees }
+{
+    let exceptions: Vec<ExceptionRow> = read_table(conn, alloc)?;
+    refuse_exceptions(&exceptions)
+}
+
 /// Reads all rows of a database that has the tables of a desk, and answers the charter that they
-/// have. Rows of SLURM files are refused.
+/// have. Exceptions are refused.
 pub(crate) fn read_tables<S: Alter>(
     conn: &mut Connection<S>,
     alloc: Global,
@@ -238,6 +260,6 @@ pub(crate) fn read_tables<S: Alter>(
     read_schema(conn)?;
     let charter = read_charter(conn, alloc)?;
     read_holders(conn, alloc)?;
-    read_exceptions(conn)?;
+    read_exceptions(conn, alloc)?;
     Ok(charter)
 }

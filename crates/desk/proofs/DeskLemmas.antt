@@ -6,7 +6,7 @@ use Rattle.addr.specs.declared.prefix.Prefix.{Prefix}
 use Rattle.policy.specs.History.{History, is_registered}
 use Rattle.policy.specs.Resources.{resource_holder, is_held_by, IsFree}
 use Rattle.policy.specs.Rows.{Rows, RowsOf, RowsIfAny}
-use Rattle.policy.specs.Answer.{IsAccepted, IsAnswer, IsListRefusal, number_made}
+use Rattle.policy.specs.Answer.{IsAccepted, IsAnswer, IsListRefusal, IsOfHolders, number_made}
 use Rattle.policy.specs.declared.rule.Refusal.{Refusal}
 use Rattle.policy.specs.declared.rule.Refusal.TheVariants.{Denied, Memory}
 use Rattle.policy.specs.declared.change.Change.{Change}
@@ -16,6 +16,7 @@ use Rattle.desk.specs.declared.reply.Reply.{Reply}
 use Rattle.desk.specs.declared.reply.Reply.TheVariants.{Done}
 use Rattle.desk.specs.declared.handling.Desk.{Desk}
 use Rattle.desk.specs.Desk.{charter_of, HoldsHistory, IsOnCleanDisk, KeepsRows}
+use Rattle.desk.specs.HolderAnswers.{may_change, KeepsOthers}
 use Rattle.desk.specs.steps.Reading.{OfHistories}
 use Rattle.sqlite.specs.Store.{Ghosts}
 use Rattle.store.specs.StoreRows.{StoreView, IsRead, IfClean, HoldsAfter, changed_rows}
@@ -27,6 +28,7 @@ use Rattle.policy.specs.declared.charter.Charter.{Charter}
 use Rattle.policy.proofs.Names.{held_by_itself}
 use Rattle.policy.proofs.Unregistered.{has_nothing}
 use Rattle.policy.specs.RowsOfAll.{IsTaken, HasRows}
+use Rattle.desk.proofs.HolderLemmas.{others_left}
 
 -- the rows of a registered holder
 pub rows_present : (rows : List ℕ → Option Rows) (history : History) → HasRows rows history → (h : List ℕ) (r : Rows) → rows h ≡ Some r → (is_registered history h ≡ true) × RowsOf history h r
@@ -114,6 +116,16 @@ module _ {S : Type 0} (g : Ghosts S) where
         answers = (accepted.0, made ∙ accepted.1, refl);
         rows_after = (changed_rows change rows, λ h. accepted.2 h (rows h) (held.1 h), applied rows held.2);
       }
+
+  -- where all rows are kept, so are those of other holders
+  pub all_kept : (changes : List ℕ → Bool) (old new : Desk S) → KeepsRows g old new → IsOnCleanDisk g new → KeepsOthers g changes old new
+  all_kept changes old new keeps clean rows holds = (rows, keeps clean rows holds, λ h other. refl)
+
+  -- and where a change was made of holders that the command names
+  pub changed_kept : (command : Command) (change : Change) (old mid new : Desk S) → IsOfHolders command change → KeepsRows g old mid → IsOnCleanDisk g mid
+      → HoldsAfter g mid.store new.store (changed_rows change) → KeepsOthers g (may_change (CommandRequest command)) old new
+  changed_kept command change old mid new of keeps clean made rows holds =
+      (changed_rows change rows, made rows (keeps clean rows holds), λ h unnamed. others_left command change h (rows h) of unnamed)
 
 -- ---- refusals
 

@@ -1,4 +1,6 @@
 pub mod ContentLemmas
+pub mod HolderLemmas
+pub mod OneReply
 pub mod DeskLemmas
 pub mod RunLemmas
 pub mod DailyLemmas

@@ -1,6 +1,9 @@
 -- Runs that go on by one request.
-use Rattle.std.proofs.Common.{◌≡◌, ℕ, ◌+◌, ◌<◌, List, [], ◌∷◌, ◌++◌, length, get_or, take, refl, sym, ap, ◌∙◌, subst}
+use Rattle.std.proofs.Common.{◌≡◌, ℕ, ◌+◌, ◌<◌, ◌||◌, List, [], ◌∷◌, ◌++◌, length, get_or, take, refl, sym, ap, ◌∙◌, subst}
+use Rattle.std.specs.List.{list_any}
+use Rattle.std.proofs.lemmas.Bool.{or_parts}
 use Rattle.std.proofs.lemmas.List.{take_more}
+use Rattle.std.proofs.lemmas.List.Folds.{list_any_more}
 use Rattle.policy.specs.History.{History}
 use Rattle.policy.specs.Verdict.{IsLegal}
 use Rattle.policy.specs.declared.charter.Charter.{Charter}
@@ -8,6 +11,7 @@ use Rattle.desk.specs.Answer.{AnswersRequest, IsAnswered}
 use Rattle.sqlite.specs.Store.{Ghosts}
 use Rattle.desk.specs.Desk.{HoldsHistory}
 use Rattle.desk.specs.declared.handling.Desk.{Desk}
+use Rattle.desk.specs.HolderAnswers.{may_change, may_change_any, KeepsOthers}
 use Rattle.desk.specs.Run.{Runs, AreAnswered}
 use Rattle.desk.specs.declared.asked.Asked.{Asked}
 use Rattle.desk.specs.declared.reply.Reply.{Reply}
@@ -50,3 +54,19 @@ answered_more g charter here history asked index a replies grown reply old new s
     let is = subst (λ (k : Charter). IsLegal k so_far.after → IsAnswered g k so_far.after a.day a.caller a.request reply new) same
     (λ legal. answers so_far.after legal so_far.rows_after) so_far.legal in
     rw pushed (answered_next g charter history asked index a replies reply old new below at so_far is)
+
+-- one more request leaves the rows of those that neither it nor those before it may change
+pub others_more : {S : Type 0} (g : Ghosts S) (asked : List Asked) (index : ℕ) (a : Asked) (start old new : Desk S)
+    → index < length asked → a ≡ get_or asked index a
+    → KeepsOthers g (may_change_any (take index asked)) start old → KeepsOthers g (may_change a.request) old new
+    → KeepsOthers g (may_change_any (take (index + 1) asked)) start new
+others_more g asked index a start old new below here first second rows holds =
+    let one = first rows holds in
+    let two = second one.0 one.1 in
+    let both = λ (h : List ℕ). let p = λ (x : Asked). may_change x.request h in list_any_more p asked index a below ∙ ap (λ x. list_any p (take index asked) || p x) (sym here) in (
+      two.0,
+      two.1,
+      λ h other.
+          let parts = or_parts (may_change_any (take index asked) h) (may_change a.request h) (sym (both h) ∙ other) in
+          two.2 h parts.1 ∙ one.2 h parts.0,
+    )

@@ -10,6 +10,7 @@ ghost use Rattle.database.specs.Databases.{IsDeskWhileOpen, IsNew, IsUnused, Lea
 ghost use Rattle.database.specs.Databases.{IsHonest, IsOfAnotherSchema};
 ghost use Rattle.desk.specs.Answer.{is_done, IsAnswered};
 ghost use Rattle.desk.specs.Run.{AreAnswered};
+ghost use Rattle.desk.specs.HolderAnswers.{may_change, may_change_any, IsAnswerByEntries, KeepsOthers, RunsByEntries};
 ghost use Rattle.desk.specs.Desk.{charter_of, ContinuesHistories, HoldsHistory, IsOnCleanDisk, KeepsRows};
 ghost use Rattle.desk.specs.steps.Reading.{OfHistories};
 
@@ -84,7 +85,16 @@ impl<S: Alter> Desk<S> {
         ensures charter { charter_of self.new ≡ charter_of self.old }
         ensures clean { IsOnCleanDisk S.Store self.new → IsOnCleanDisk S.Store self.old }
         ensures kept { is_done result ≡ false → KeepsRows S.Store self.old self.new }
+        ensures isolated { IsOnCleanDisk S.Store self.new
+            → (history : History) → IsLegal (charter_of self.old) history
+            → HoldsHistory S.Store self.old history
+            → IsAnswerByEntries (charter_of self.old) history day caller.now request.now result }
+        ensures others { IsOnCleanDisk S.Store self.new
+            → (history : History) → IsLegal (charter_of self.old) history
+            → HoldsHistory S.Store self.old history
+            → KeepsOthers S.Store (may_change request.now) self.old self.new }
     {
+        crate::laws::answers_by_entries();
         match request {
             Request::Command(command) => self.carry_out(day, caller, command),
             Request::Query(query) => self.answer(day, caller, query),
@@ -101,7 +111,16 @@ impl<S: Alter> Desk<S> {
         ensures charter { charter_of self.new ≡ charter_of self.old }
         ensures clean { IsOnCleanDisk S.Store self.new → IsOnCleanDisk S.Store self.old }
         ensures err { OnErr result (self.new ≡ self.old) }
+        ensures isolated { IsOnCleanDisk S.Store self.new → IfOk result (λ replies.
+            (history : History) → IsLegal (charter_of self.old) history
+            → HoldsHistory S.Store self.old history
+            → RunsByEntries (charter_of self.old) history asked.now replies.items) }
+        ensures others { IsOnCleanDisk S.Store self.new
+            → (history : History) → IsLegal (charter_of self.old) history
+            → HoldsHistory S.Store self.old history
+            → KeepsOthers S.Store (may_change_any asked.now) self.old self.new }
     {
+        crate::laws::answers_by_entries();
         let mut replies = Vec::with_capacity(self.alloc, asked.len())?;
         for one in asked {
             let reply = self.handle(one.day, &one.caller, &one.request);

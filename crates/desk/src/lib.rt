@@ -5,6 +5,7 @@ mod asked;
 mod content;
 mod gathering;
 mod handling;
+pub mod laws;
 mod reply;
 
 pub use asked::{Asked, Request};

@@ -2,20 +2,19 @@
 use Rattle.std.proofs.Common.{◌∙◌, ap, ◌≡◌, ℕ, ◌+◌, ◌-◌, ◌≤◌, ◌<◌, true, false, List, [], ◌∷◌, ◌++◌, take, drop, length, get_or, refl, sym, subst, length-append, arith, inl, inr, Ordering}
 use Rattle.std.specs.List.{All, AllWithin, slice_range}
 use Rattle.std.specs.List.Sorted.{IsPartitionPoint, IsPartitionedBy}
-use Rattle.std.specs.Ordering.{is_le, is_gt, ordering_then}
+use Rattle.std.specs.Ordering.{is_le, ordering_then}
 use Rattle.std.specs.declared.cmp.Ordering.TheVariants.{Less, Equal, Greater}
 use Rattle.std.proofs.lemmas.Bool.{both_ways, cases_Bool, cases_lt}
-use Rattle.std.proofs.lemmas.Cmp.{upto}
 use Rattle.std.proofs.lemmas.List.Edits.{get_or-between, length-between}
 use Rattle.std.proofs.lemmas.List.{get_or_read, take-append-drop, get_or_append_left, get_or-take, get_or-drop, get_or-append-add, get_or_at, length-take-le, length-drop}
 use Rattle.addr.specs.declared.prefix.Prefix.{Prefix}
 use Rattle.addr.specs.declared.vrp.Vrp.{Vrp}
 use Rattle.addr.specs.Address.{contains}
-use Rattle.payload.proofs.Prefixes.{contains-between, contains-at_most}
+use Rattle.addr.proofs.PrefixOrderLemmas.{contains-between, contains-at_most}
 use Rattle.payload.specs.Rising.{AreRising}
 use Rattle.payload.specs.steps.Search.{is_at_most, IsFrontUpTo, HasAllEnclosing}
 use Rattle.addr.specs.Order.{vrp_cmp}
-use Rattle.addr.proofs.OrderLemmas.{prefix_order}
+use Rattle.addr.proofs.OrderLemmas.{le-trans, prefix_order}
 
 pub rising-front : (xs ys : List Vrp) → AreRising (xs ++ ys) → AreRising xs
 rising-front xs ys rising i j d less within =
@@ -24,18 +23,8 @@ rising-front xs ys rising i j d less within =
     let whole : vrp_cmp (get_or (xs ++ ys) i d) (get_or (xs ++ ys) j d) ≡ Less = rising i j d less (omega (arith, length-append xs ys)) in
     subst (λ v. vrp_cmp v (get_or xs j d) ≡ Less) first (subst (λ w. vrp_cmp (get_or (xs ++ ys) i d) w ≡ Less) second whole)
 
-not_after : (o : Ordering) → is_le o ≡ true → is_gt o ≡ false
-not_after Less h = refl
-not_after Equal h = refl
-not_after Greater h = cc
-
-not_greater : (o : Ordering) → is_gt o ≡ false → is_le o ≡ true
-not_greater Less h = refl
-not_greater Equal h = refl
-not_greater Greater h = cc
-
 pub at_most-trans : (p q r : Prefix) → is_at_most p q ≡ true → is_at_most q r ≡ true → is_at_most p r ≡ true
-at_most-trans p q r one two = not_greater _ (upto prefix_order.total p q r (not_after _ one) (not_after _ two))
+at_most-trans p q r one two = le-trans prefix_order.total p q r one two
 
 first-less : (o r : Ordering) → ordering_then o r ≡ Less → is_le o ≡ true
 first-less Less r h = refl

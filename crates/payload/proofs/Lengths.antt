@@ -8,7 +8,7 @@ use Rattle.addr.specs.Address.{contains}
 use Rattle.addr.specs.declared.prefix.Prefix.{Prefix}
 use Rattle.payload.specs.steps.Search.{is_at_most, HasAllEnclosing}
 use Rattle.payload.proofs.Fronts.{All-front}
-use Rattle.payload.proofs.Prefixes.{contains-between, contains-ends}
+use Rattle.addr.proofs.PrefixOrderLemmas.{contains-between, contains-ends}
 use Rattle.addr.specs.declared.family.Family.{Family}
 use Rattle.addr.specs.declared.vrp.Vrp.{Vrp}
 use Rattle.payload.specs.declared.shortest.Shortest.{Shortest}

@@ -16,7 +16,7 @@ use Rattle.addr.specs.declared.route.Route.{Route}
 use Rattle.addr.specs.declared.vrp.Vrp.{Vrp}
 use Rattle.payload.specs.Rising.{AreRising}
 use Rattle.payload.specs.steps.Search.{is_below, HasAllMatching}
-use Rattle.payload.proofs.Prefixes.{cmp-less, cmp-equal, cmp-greater}
+use Rattle.addr.proofs.PrefixOrderLemmas.{cmp-less, cmp-equal, cmp-greater}
 
 less-numbers : (a b l m : ℕ) → ordering_then (nat_cmp a b) (nat_cmp l m) ≡ Less → (a < b) ⊎ ((a ≡ b) × (l < m))
 less-numbers a b l m h =

@@ -1,30 +1,31 @@
--- The rows of a legal history whose values are those of their types have such values too.
-use Rattle.std.proofs.Common.{ℕ, ◌+◌, ◌<◌, ◌≤◌, true, false, not, cond, eqb, List, [], ◌∷◌, inl, inr, None, subst, arith, map, filter}
+-- The rows of a legal history whose values are those of their types are in their ranges.
+use Rattle.std.proofs.Common.{◌≡◌, ℕ, ◌+◌, ◌<◌, ◌≤◌, true, false, not, cond, eqb, List, [], ◌∷◌, inl, inr, Option, Some, None, IsSomeAnd, refl, sym, subst, arith, filter}
 use Rattle.std.specs.List.{All}
 use Rattle.std.proofs.lemmas.Bool.{cases_Bool}
-use Rattle.std.proofs.lemmas.List.Elements.{All-nil, All-push, All-filter, All-map, All-weaker}
+use Rattle.std.proofs.lemmas.Bool.Decides.{nat_tests}
+use Rattle.std.proofs.lemmas.List.Elements.{All-nil, All-cons, All-head, All-tail, All-push, All-filter, All-map, All-weaker}
+use Rattle.addr.specs.Address.{FitsMaxLength, fits_max_length}
 use Rattle.addr.specs.Day.{IsDay}
+use Rattle.addr.specs.declared.prefix.Prefix.{Prefix}
 use Rattle.policy.specs.declared.admission.TheConstants.{LAST_NUMBER}
 use Rattle.policy.specs.declared.authorization.Auth.{Auth}
 use Rattle.policy.specs.declared.charter.Charter.{Charter}
 use Rattle.policy.specs.declared.command.Command.{Command}
 use Rattle.policy.specs.declared.command.Command.TheVariants.{Register, Delegate, Transfer, Reclaim, Grant, Revoke, Create, Amend, Withdraw}
 use Rattle.policy.specs.declared.grant.Granted.{Granted}
-use Rattle.policy.specs.History.{History, same_name}
+use Rattle.policy.specs.History.{Entry, History, same_name}
 use Rattle.policy.specs.Terms.{granted_after, grants_after, grants_made, grant_terms, created_after, terms_after, authorizations_made, authorization_terms, amended, HeldSinceMade}
-use Rattle.policy.specs.Values.{IsU8, CommandFits, HistoryFits, AuthFits, GrantFits, LegalRowsFit}
-use Rattle.policy.specs.Verdict.{Verdict, IsLegal}
+use Rattle.policy.specs.Values.{CommandFits, HistoryFits, AuthFits, GrantFits, LegalRowsFit}
+use Rattle.policy.specs.Verdict.{Verdict, IsLegal, numbered, terms_fit_length, OfNumber}
 use Rattle.policy.proofs.Names.{same_name-true}
 use Rattle.policy.proofs.Kept.{Keeps-all}
+use Rattle.policy.proofs.Held.{authorization_terms-numbered, since_same, amended-number, amended-prefix}
+use Rattle.policy.proofs.SharedVrps.{Each, found_one, amended-other, amended-it}
 
 -- the grants that were made at a holder, and how many they are
 record GrantsFit (granted : ℕ) (grants : List Granted) : Type 0 where
   made : granted ≤ LAST_NUMBER
   terms : All GrantFits grants
-
-record AuthsFit (created : ℕ) (auths : List Auth) : Type 0 where
-  made : created ≤ LAST_NUMBER
-  terms : All AuthFits auths
 
 grants_after-fit : (charter : Charter) (before : History) (day : ℕ) (caller : List ℕ) (c : Command) (h : List ℕ)
     → Verdict charter before day caller c None → CommandFits c → GrantsFit (grants_made before h) (grant_terms before h)
@@ -40,7 +41,7 @@ grants_after-fit charter before day caller (Grant holder name role scope until) 
     elim (cases_Bool (same_name holder h)) [
       | inl t ↦
           let room : made < LAST_NUMBER = subst (λ (k : List ℕ). grants_made before k < LAST_NUMBER) (same_name-true holder h t) accepted.1.1.1.0.1 in
-          let fits : GrantFits g = record { number = omega (arith, room); caller = values.1; until = values.2 } in
+          let fits : GrantFits g = record { number = (omega arith, omega (arith, room)); caller = values.1; until = values.2 } in
           rw t (record { made = omega (arith, room); terms = All-push GrantFits grants g fit.terms fits })
       | inr f ↦ rw f fit
     ]
@@ -57,15 +58,64 @@ grants_fit charter [] h legal fits = record { made = omega arith; terms = All-ni
 grants_fit charter (e ∷ before) h legal fits =
     grants_after-fit charter before e.day e.caller e.command h legal.0 fits.0.command (grants_fit charter before h legal.1 fits.1)
 
-amended_fits : (n max until : ℕ) → IsU8 max → IsDay until → (x : Auth) → AuthFits x → AuthFits (amended n max until x)
-amended_fits n max until small day x fits =
-    let changed : Auth = record x { max = max; until = until } in
-    elim (eqb x.number n) as (λ b. AuthFits (cond b changed x))
-    [ true ↦ record { number = fits.number; asn = fits.asn; max = small; from = fits.from; until = day } | false ↦ fits ]
+-- ---- authorizations
 
-auths_after-fit : (charter : Charter) (before : History) (day : ℕ) (caller : List ℕ) (c : Command) (h : List ℕ)
-    → Verdict charter before day caller c None → CommandFits c → AuthsFit (authorizations_made before h) (authorization_terms before h)
-    → AuthsFit (created_after c h (authorizations_made before h)) (terms_after c h (authorizations_made before h) (authorization_terms before h))
+-- an authorization is in its ranges where it is held since its making
+abbrev FitsWhereHeld : History → List ℕ → Auth → Type 0
+FitsWhereHeld history h x = HeldSinceMade history h x → AuthFits x
+
+-- the authorizations that were made at a holder and not withdrawn, and how many were made
+record AuthsFit (history : History) (h : List ℕ) (created : ℕ) (auths : List Auth) : Type 0 where
+  made : created ≤ LAST_NUMBER
+  terms : All (FitsWhereHeld history h) auths
+
+in_range : (p : Prefix) (max : ℕ) → fits_max_length p max ≡ true → FitsMaxLength p max
+in_range p max fits = (grind (arith, nat_tests), grind (arith, nat_tests))
+
+-- the one authorization of the number, for which the maxLength is in range
+record Found (before : History) (h : List ℕ) (n max : ℕ) : Type 0 where
+  one : Auth
+  fits : FitsMaxLength one.prefix max
+  only : Each (λ x. HeldSinceMade before h x → eqb x.number n ≡ true → x ≡ one) (authorization_terms before h)
+
+found : (before : History) (h : List ℕ) (n max : ℕ) → OfNumber before h n (λ x. terms_fit_length x max ≡ true) → Found before h n max
+found before h n max of = by_case (numbered n of.0) refl of.2
+  where
+    by_case : (o : Option Auth) → numbered n of.0 ≡ o → IsSomeAnd o (λ x. terms_fit_length x max ≡ true) → Found before h n max
+    by_case None is none = absurd none
+    by_case (Some z) is fits = record {
+      one = z;
+      fits = in_range z.prefix max fits;
+      only = found_one (HeldSinceMade before h) n 0 (authorization_terms before h) of.0 (authorizations_made before h) z
+          (authorization_terms-numbered before h) of.1 is;
+    }
+
+amended_fit : (e : Entry) (before : History) (h : List ℕ) (n max until : ℕ) (z : Auth) → FitsMaxLength z.prefix max → IsDay until → (xs : List Auth)
+    → Each (λ x. HeldSinceMade before h x → eqb x.number n ≡ true → x ≡ z) xs → All (FitsWhereHeld (e ∷ before) h) xs
+    → All (λ x. FitsWhereHeld (e ∷ before) h (amended n max until x)) xs
+amended_fit e before h n max until z range day [] only all = All-nil (λ x. FitsWhereHeld (e ∷ before) h (amended n max until x))
+amended_fit e before h n max until z range day (x ∷ xs) only all =
+    All-cons (λ y. FitsWhereHeld (e ∷ before) h (amended n max until y)) x xs first
+    (amended_fit e before h n max until z range day xs only.1 (All-tail (FitsWhereHeld (e ∷ before) h) x xs all))
+  where
+    first : FitsWhereHeld (e ∷ before) h (amended n max until x)
+    first since =
+        let number = sym (amended-number n max until x) in
+        let held = since_same (e ∷ before) h (amended n max until x) x number (sym (amended-prefix n max until x)) since in
+        let had = All-head (FitsWhereHeld (e ∷ before) h) x xs all held in
+        elim (cases_Bool (eqb x.number n)) [
+          | inl t ↦
+              let one = only.0 held.1 t in
+              let fits = subst AuthFits one had in
+              subst AuthFits (sym (amended-it n max until x z t one))
+              (record { number = fits.number; asn = fits.asn; max = range; from = fits.from; until = day })
+          | inr f ↦ subst AuthFits (sym (amended-other n max until x f)) had
+        ]
+
+auths_after-fit : (charter : Charter) (before : History) (day : ℕ) (caller : List ℕ) (c : Command) (h : List ℕ) → Verdict charter before day caller c None → CommandFits c
+    → AuthsFit (record { day = day; caller = caller; command = c } ∷ before) h (authorizations_made before h) (authorization_terms before h)
+    → AuthsFit (record { day = day; caller = caller; command = c } ∷ before) h
+    (created_after c h (authorizations_made before h)) (terms_after c h (authorizations_made before h) (authorization_terms before h))
 auths_after-fit charter before day caller (Register holder) h accepted values fit = fit
 auths_after-fit charter before day caller (Delegate holder p) h accepted values fit = fit
 auths_after-fit charter before day caller (Transfer p giver taker) h accepted values fit = fit
@@ -73,6 +123,8 @@ auths_after-fit charter before day caller (Reclaim holder p) h accepted values f
 auths_after-fit charter before day caller (Grant holder name role scope until) h accepted values fit = fit
 auths_after-fit charter before day caller (Revoke holder n) h accepted values fit = fit
 auths_after-fit charter before day caller (Create holder asn p max from until) h accepted values fit =
+    let e : Entry = record { day = day; caller = caller; command = Create holder asn p max from until } in
+    let F = FitsWhereHeld (e ∷ before) h in
     let auths = authorization_terms before h in
     let made = authorizations_made before h in
     let x : Auth = record { number = made + 1; asn = asn; prefix = p; max = max; from = from; until = until } in
@@ -80,44 +132,51 @@ auths_after-fit charter before day caller (Create holder asn p max from until) h
       | inl t ↦
           let room : made < LAST_NUMBER =
           subst (λ (k : List ℕ). authorizations_made before k < LAST_NUMBER) (same_name-true holder h t) accepted.1.1.1.1.1.1.0.1 in
-          let fits : AuthFits x = record { number = omega (arith, room); asn = values.1; max = values.2; from = values.3; until = values.4 } in
-          rw t (record { made = omega (arith, room); terms = All-push AuthFits auths x fit.terms fits })
+          let fits : AuthFits x = record {
+            number = (omega arith, omega (arith, room));
+            asn = values.1;
+            max = in_range p max accepted.1.1.1.0;
+            from = values.3;
+            until = values.4;
+          } in
+          rw t (record { made = omega (arith, room); terms = All-push F auths x fit.terms (λ _. fits) })
       | inr f ↦ rw f fit
     ]
 auths_after-fit charter before day caller (Amend holder n max until) h accepted values fit =
+    let e : Entry = record { day = day; caller = caller; command = Amend holder n max until } in
     let auths = authorization_terms before h in
-    let f = amended n max until in
-    elim (same_name holder h) as (λ b. AuthsFit (authorizations_made before h) (cond b (map f auths) auths)) [
-      | true ↦ record {
-        made = fit.made;
-        terms = All-map AuthFits f auths (All-weaker AuthFits (λ y. AuthFits (f y)) (amended_fits n max until values.2 values.3) auths fit.terms);
-      }
-      | false ↦ fit
+    elim (cases_Bool (same_name holder h)) [
+      | inl t ↦
+          let here = subst (λ (g : List ℕ). Found before g n max) (same_name-true holder h t) (found before holder n max accepted.1.1.1.0) in
+          let terms = amended_fit e before h n max until here.one here.fits values.3 auths here.only fit.terms in
+          rw t (record { made = fit.made; terms = All-map (FitsWhereHeld (e ∷ before) h) (amended n max until) auths terms })
+      | inr f ↦ rw f fit
     ]
 auths_after-fit charter before day caller (Withdraw holder n) h accepted values fit =
-    elim (same_name holder h) as (λ b. AuthsFit (authorizations_made before h) (cond b (filter (λ x. not (eqb x.number n)) (authorization_terms before h)) (authorization_terms before h)))
-    [ true ↦ record { made = fit.made; terms = All-filter (λ x. not (eqb x.number n)) AuthFits (authorization_terms before h) fit.terms } | false ↦ fit ]
+    let e : Entry = record { day = day; caller = caller; command = Withdraw holder n } in
+    let F = FitsWhereHeld (e ∷ before) h in
+    let auths = authorization_terms before h in
+    let keep = λ (x : Auth). not (eqb x.number n) in
+    elim (same_name holder h) as (λ b. AuthsFit (e ∷ before) h (authorizations_made before h) (cond b (filter keep auths) auths))
+    [ true ↦ record { made = fit.made; terms = All-filter keep F auths fit.terms } | false ↦ fit ]
 
 auths_fit : (charter : Charter) (history : History) (h : List ℕ) → IsLegal charter history → HistoryFits history
-    → AuthsFit (authorizations_made history h) (authorization_terms history h)
-auths_fit charter [] h legal fits = record { made = omega arith; terms = All-nil AuthFits }
+    → AuthsFit history h (authorizations_made history h) (authorization_terms history h)
+auths_fit charter [] h legal fits = record { made = omega arith; terms = All-nil (FitsWhereHeld [] h) }
 auths_fit charter (e ∷ before) h legal fits =
-    auths_after-fit charter before e.day e.caller e.command h legal.0 fits.0.command (auths_fit charter before h legal.1 fits.1)
+    let fit = auths_fit charter before h legal.1 fits.1 in
+    let still = All-weaker (FitsWhereHeld before h) (FitsWhereHeld (e ∷ before) h) (λ x had since. had since.1) (authorization_terms before h) fit.terms in
+    auths_after-fit charter before e.day e.caller e.command h legal.0 fits.0.command (record { made = fit.made; terms = still })
+
+-- ---- rows
 
 pub legal_rows_fit : LegalRowsFit
 legal_rows_fit charter history h rows legal fits of =
     let grants = grants_fit charter history h legal fits in
     let auths = auths_fit charter history h legal fits in
-    let since = HeldSinceMade history h in
-    let terms = authorization_terms history h in
-    let granted : rows.granted ≤ LAST_NUMBER = rw of.granted grants.made in
-    let created : rows.created ≤ LAST_NUMBER = rw of.created auths.made in (
-      record {
-        granted = omega (arith, granted);
-        created = omega (arith, created);
-        grants = rw of.grants grants.terms;
-        auths = Keeps-all since AuthFits terms rows.auths of.auths (All-weaker AuthFits (λ x. since x → AuthFits x) (λ x has _. has) terms auths.terms);
-      },
-      granted,
-      created,
-    )
+    record {
+      granted = rw of.granted grants.made;
+      created = rw of.created auths.made;
+      grants = rw of.grants grants.terms;
+      auths = Keeps-all (HeldSinceMade history h) AuthFits (authorization_terms history h) rows.auths of.auths auths.terms;
+    }

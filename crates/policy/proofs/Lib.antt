@@ -15,4 +15,3 @@ pub mod Repeats
 pub mod SharedVrps
 pub mod Moved
 pub mod Fitting
-pub mod MaxLengths

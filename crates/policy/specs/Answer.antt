@@ -74,14 +74,20 @@ pub record IsViewOf (history : History) (command : Command) (view : View) : Type
   pub rows : RowsIfAny history (holder_of command) (rows_if_any view.holder)
   pub taken : TellsTaken history command view.taken
 
--- accepted by the verdict, with the number made, and with a change that carries the rows of every holder
--- to the history with the command and puts no run of addresses back
+-- a change is of holders that the command names
+abbrev pub IsOfHolders : Command → Change → Type 0
+IsOfHolders command change =
+    (change.first.holder ≡ holder_of command) × IfSome change.second (λ c. c.holder ≡ taker_of command)
+
+-- accepted by the verdict, with the number made, and with a change of the holders that the command names,
+-- which carries the rows of every holder to the history with the command and puts no run of addresses back
 abbrev pub IsAccepted : Charter → History → ℕ → List ℕ → Command → Change → Type 0
 IsAccepted charter history day caller command change =
     Verdict charter history day caller command None
     × (number_made change.first.edit ≡ number_given history command)
     × Carries change history (record { day = day; caller = caller; command = command } ∷ history)
     × IsSparing change
+    × IsOfHolders command change
 
 -- denied exactly by the verdict, with no row; else accepted
 abbrev pub IsAnswer : Charter → History → ℕ → List ℕ → Command → Result Change Refusal → Type 0

@@ -1,8 +1,10 @@
 -- The entries of a history that name a holder. By themselves those of a legal history may be no legal
 -- one: a transfer from another holder is among them, but not the registration of that holder.
-use Rattle.std.specs.Prelude.{ℕ, Bool, ◌||◌, List, filter}
+use Rattle.std.specs.Prelude.{ℕ, Bool, ◌||◌, List, filter, Option, Some, None}
 use Rattle.policy.specs.declared.command.Command.{Command}
 use Rattle.policy.specs.declared.command.Command.TheVariants.{Transfer}
+use Rattle.policy.specs.declared.command.Query.{Query}
+use Rattle.policy.specs.declared.command.Query.TheVariants.{Show, Content, List as ListQuery}
 use Rattle.policy.specs.Answer.{holder_of, taker_of}
 use Rattle.policy.specs.History.{History, same_name}
 
@@ -22,3 +24,10 @@ entries_naming_either g h history = filter (λ e. names g e.command || names h e
 abbrev pub entries_for : Command → History → History
 entries_for (Transfer p giver taker) history = entries_naming_either giver taker history
 entries_for command history = entries_naming (holder_of command) history
+
+-- the holder that a query names; none where it asks about all holders
+abbrev pub holder_asked : Query → Option (List ℕ)
+holder_asked (Show h n) = Some h
+holder_asked (Content h n) = Some h
+holder_asked (ListQuery h) = Some h
+holder_asked _ = None

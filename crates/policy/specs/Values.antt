@@ -1,5 +1,6 @@
--- What the types of the values promise. Elsewhere a history ranges over all numbers and texts: a day, a
--- number of a `u32` and a name are seen as any number and any text there.
+-- What the types of the values of a history promise, and the ranges of the values of rows. Elsewhere a
+-- history ranges over all numbers and texts: a day, a number of a `u32` and a name are seen as any
+-- number and any text there.
 use Rattle.std.specs.Prelude.{ℕ, ◌^◌, ◌<◌, ◌≤◌, IsTrue, List, [], ◌∷◌, Option, Some, None, All}
 use Rattle.addr.specs.Address.{FitsMaxLength}
 use Rattle.addr.specs.Day.{IsDay}
@@ -12,7 +13,6 @@ use Rattle.policy.specs.declared.command.Command.TheVariants.{Register, Delegate
 use Rattle.policy.specs.declared.grant.Granted.{Granted}
 use Rattle.policy.specs.History.{Entry, History}
 use Rattle.policy.specs.Rows.{Rows, RowsOf}
-use Rattle.policy.specs.Terms.{AreActive}
 use Rattle.policy.specs.Verdict.{IsLegal}
 
 abbrev pub IsU8 : ℕ → Type 0
@@ -20,6 +20,14 @@ IsU8 n = n < 2 ^ 8
 
 abbrev pub IsU32 : ℕ → Type 0
 IsU32 n = n < 2 ^ 32
+
+-- a number that a grant or an authorization can get
+abbrev pub IsNumber : ℕ → Type 0
+IsNumber n = (1 ≤ n) × (n ≤ LAST_NUMBER)
+
+-- how many of them can have been made
+abbrev pub IsCount : ℕ → Type 0
+IsCount n = n ≤ LAST_NUMBER
 
 -- the values of a command are those of their types; prefixes are so anyhow
 abbrev pub CommandFits : Command → Type 0
@@ -43,22 +51,22 @@ abbrev pub HistoryFits : History → Type 0
 HistoryFits [] = Unit {0}
 HistoryFits (e ∷ before) = EntryFits e × HistoryFits before
 
+-- each value is of its type and in its range
 pub record AuthFits (x : Auth) : Type 0 where
-  pub number : IsU32 x.number
+  pub number : IsNumber x.number
   pub asn : IsU32 x.asn.0
-  pub max : IsU8 x.max
+  pub max : FitsMaxLength x.prefix x.max
   pub from : IsDay x.from
   pub until : IsDay x.until
 
 pub record GrantFits (g : Granted) : Type 0 where
-  pub number : IsU32 g.number
+  pub number : IsNumber g.number
   pub caller : IsTrue (is_name g.caller)
   pub until : IsDay g.until
 
--- each value of the rows is one of its type
 pub record RowsFit (r : Rows) : Type 0 where
-  pub granted : IsU32 r.granted
-  pub created : IsU32 r.created
+  pub granted : IsCount r.granted
+  pub created : IsCount r.created
   pub grants : All GrantFits r.grants
   pub auths : All AuthFits r.auths
 
@@ -66,16 +74,9 @@ abbrev pub FitIfAny : Option Rows → Type 0
 FitIfAny None = Unit {0}
 FitIfAny (Some r) = RowsFit r
 
--- the rows of a legal history of such values have such values too, and their counters end where no more
--- is made
+-- the rows of a legal history of such values are in their ranges: create and amend ask it of the
+-- maxLength, and no number is given after the last one
 abbrev pub LegalRowsFit : Type 0
 LegalRowsFit =
     (charter : Charter) (history : History) (h : List ℕ) (rows : Rows)
-    → IsLegal charter history → HistoryFits history → RowsOf history h rows
-    → RowsFit rows × (rows.granted ≤ LAST_NUMBER) × (rows.created ≤ LAST_NUMBER)
-
--- each active authorization after a legal history has its maxLength in range: create and amend ask it
-abbrev pub MaxLengthsFit : Type 0
-MaxLengthsFit =
-    (charter : Charter) (history : History) (h : List ℕ) (active : List Auth)
-    → IsLegal charter history → AreActive history h active → All (λ x. FitsMaxLength x.prefix x.max) active
+    → IsLegal charter history → HistoryFits history → RowsOf history h rows → RowsFit rows

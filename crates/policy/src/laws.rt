@@ -3,7 +3,7 @@
 ghost use Rattle.policy.specs.Ended.{EndsJustOverlapping};
 ghost use Rattle.policy.specs.SharedVrps.{NoSharedVrp};
 ghost use Rattle.policy.specs.Unregistered.{UnregisteredHaveNothing};
-ghost use Rattle.policy.specs.Values.{EntryFits, LegalRowsFit, MaxLengthsFit};
+ghost use Rattle.policy.specs.Values.{EntryFits, LegalRowsFit};
 
 use crate::Command;
 use crate::values::{tell_command, tell_day, tell_name};
@@ -28,17 +28,11 @@ pub fn ends_just_overlapping()
     ensures { EndsJustOverlapping }
 {}
 
-/// The rows of a holder after a legal history whose values are those of their types have such
-/// values too, and at most 999,999 grants and as many authorizations were made.
+/// The rows of a holder after a legal history whose values are those of their types are in their
+/// ranges: numbers from 1 to 999,999, at most 999,999 grants and as many authorizations made, and each
+/// maxLength neither below its prefix's length nor over its family's width.
 pub fn legal_rows_fit()
     ensures { LegalRowsFit }
-{}
-
-/// After a legal history each active authorization has its maxLength in range: not below its
-/// prefix's length, not over its family's width.
-#[tactic(auto, using(crate::proofs::MaxLengths::max_lengths_fit))]
-pub fn max_lengths_fit()
-    ensures { MaxLengthsFit }
 {}
 
 /// The values of an entry that a call can make are those of their types.

@@ -1,4 +1,5 @@
 pub mod FilterLemmas
+pub mod ReachLemmas
 pub mod FileLemmas
 pub mod VrpLemmas
 pub mod SlurmFaultLemmas

@@ -1,2 +1,3 @@
--- What the reader's steps answer, which no public clause speaks of.
+-- What the reader's steps answer and what an index keeps of filters: no public clause speaks of it.
 pub mod SlurmFile
+pub mod Reach

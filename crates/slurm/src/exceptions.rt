@@ -14,7 +14,7 @@ use std::alloc::Global;
 use std::marker::Model;
 
 /// How many filters and assertions a file may have together.
-const MOST_ENTRIES: usize = 4096;
+pub const MOST_ENTRIES: usize = 4096;
 
 /// The local exceptions of one SLURM file: its prefix filters and its prefix assertions.
 #[derive(Debug, Drop)]

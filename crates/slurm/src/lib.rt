@@ -7,9 +7,12 @@ mod exceptions;
 mod fault;
 mod file;
 mod filter;
+mod index;
 mod lists;
 mod members;
+mod reach;
 
-pub use exceptions::Slurm;
+pub use exceptions::{MOST_ENTRIES, Slurm};
 pub use fault::SlurmFault;
 pub use filter::Filter;
+pub use index::FilterIndex;

@@ -4,7 +4,7 @@ use Rattle.std.proofs.lemmas.Bool.{and_parts, and_from, eqb-true, eq-eqb}
 use Rattle.sqlite_value.specs.Order.{Row}
 use Rattle.sqlite_rules.proofs.ListLemmas.{has_contained, contains_had}
 use Rattle.sqlite_rules.proofs.ProbeLemmas.{mapped_has, has_mapped}
-use Rattle.addr.specs.Address.{prefix_eq, FitsMaxLength}
+use Rattle.addr.specs.Address.{prefix_eq}
 use Rattle.addr.specs.Order.{same_vrp}
 use Rattle.addr.specs.declared.asn.Asn.{Asn}
 use Rattle.addr.specs.declared.prefix.Prefix.{Prefix}
@@ -68,10 +68,10 @@ module _ (day : ℕ) (all : List ℕ → Option Rows) (rows : List Row) (each : 
       let v = give it.0 it.1 it.2 it.3 it.4 it.5 it.6 in
       none v.0 v.2 (cells_of_vrp it.2 v.0 v.1 ∙ sym it.7)
 
--- an authorization whose maxLength is in range gives a VRP
-pub gives_one : (x : Auth) → AuthFits x → FitsMaxLength x.prefix x.max → (v : Vrp) × IsVrpOf x v × VrpFits v
-gives_one x fits range =
-    let v : Vrp = record { prefix = x.prefix; max = x.max; asn = x.asn; at_least_length = range.0; at_most_width = range.1 } in
+-- an authorization in its ranges gives a VRP
+pub gives_one : (x : Auth) → AuthFits x → (v : Vrp) × IsVrpOf x v × VrpFits v
+gives_one x fits =
+    let v : Vrp = record { prefix = x.prefix; max = x.max; asn = x.asn; at_least_length = fits.max.0; at_most_width = fits.max.1 } in
     (v, vrp_of_cells x v refl, fits.asn)
 
 -- ---- what is held

@@ -1,5 +1,5 @@
 -- Tables that hold a charter and rows that fit read.
-use Rattle.std.proofs.Common.{◌≡◌, ℕ, Bool, true, false, ◌||◌, List, [], ◌∷◌, Option, Some, refl, inl, inr, subst, IsTrue}
+use Rattle.std.proofs.Common.{◌≡◌, ℕ, Bool, true, false, ◌||◌, List, [], ◌∷◌, Option, Some, refl, inl, inr, sym, ap, subst, length, arith, IsTrue}
 use Rattle.std.specs.Prelude.{⊤}
 use Rattle.std.specs.List.{AllByRecursion}
 use Rattle.std.proofs.lemmas.List.Elements.{recursion_from_All}
@@ -21,7 +21,7 @@ use Rattle.tables.specs.Tables.{meta, holder, contents}
 use Rattle.tables.specs.TablesHold.{Part, TablesHold, HoldsPart, holder_part, holding_part, granted_part, auth_part}
 use Rattle.tables.proofs.SomeRow.{has_permuted, of_some}
 use Rattle.store.specs.Laws.{HistoriesRead}
-use Rattle.database.specs.TablesRead.{ShowsHolder, ShowsOfHolder, TablesRead}
+use Rattle.database.specs.TablesRead.{ShowsHolder, ShowsOfHolder, ShowsException, TablesRead}
 
 -- each row of a part shows what the rows of its holder are
 of_part : (part : Part) (rows : List ℕ → Option Rows) (table : List Row) (So : Row → Type 0) → HoldsPart part rows table
@@ -58,6 +58,8 @@ held_read charter rows trees is named fit holds = record {
       (λ h r c there has.
       let it = has_mapped (auth_row h) r.auths c has in
       (h, it.0, all_has AuthFits r.auths it.0 (recursion_from_All AuthFits r.auths (fit h r there).1.auths) it.1, it.2));
+  exceptions = subst (AllByRecursion ShowsException) (sym holds.exceptions) tt;
+  exceptions_number = omega (arith, ap length holds.exceptions);
 }
   where
     one_row : (row c : Row) → Has (row ∷ []) c → c ≡ row
@@ -82,4 +84,4 @@ pub opens_again : LegalRowsFit → HistoriesRead
 opens_again rows_fit charter history rows trees legal fits have is named holds =
     held_read charter rows trees is named (λ h r there.
     let of = subst (RowsIfAny history h) there (have h) in
-    (registered_named history h of.0 fits, (rows_fit charter history h r legal fits of.1).0)) holds
+    (registered_named history h of.0 fits, rows_fit charter history h r legal fits of.1)) holds

@@ -24,7 +24,7 @@ use Rattle.tables.specs.Cells.{number_cell}
 use Rattle.tables.specs.TablesHold.{items_if_any, TablesHold}
 use Rattle.store.specs.steps.Queries.{by_column, WasRead}
 use Rattle.tables.specs.declared.rows.Counters.{Counters}
-use Rattle.policy.specs.Values.{IsU32, GrantFits, AuthFits, FitIfAny}
+use Rattle.policy.specs.Values.{IsCount, GrantFits, AuthFits, FitIfAny}
 use Rattle.store.specs.Loads.{AreInOrder, HaveSame, AreLoaded}
 use Rattle.tables.proofs.CellsOnce.{counters_of_rows}
 use Rattle.database.proofs.StatementLemmas.{taken_more}
@@ -56,7 +56,7 @@ one_run_more spans i s before after low is same added a =
 pub same_addresses : (xs ys : List Span) → IsPermutation xs ys → HaveSame xs ys
 same_addresses xs ys same a = sym (list_any-IsPermutation (λ s. span_has s a) xs ys same)
 
--- ---- rows that fit their types
+-- ---- rows that fit
 
 pub grants_fit : (o : Option Rows) → FitIfAny o → All GrantFits (items_if_any (λ r. r.grants) o)
 grants_fit None fit = All-nil GrantFits
@@ -88,7 +88,7 @@ first_counters None xs same = rw (none_in xs same) tt
 first_counters (Some r) xs same = rw (one_permutation (record { granted = r.granted; created = r.created }) xs same) (refl, refl)
 
 abbrev pub CountersFit : Counters → Type 0
-CountersFit c = IsU32 c.granted × IsU32 c.created
+CountersFit c = IsCount c.granted × IsCount c.created
 
 pub counters_fit : (o : Option Rows) → FitIfAny o → All CountersFit (items_if_any counters_of_rows o)
 counters_fit None fit = All-nil CountersFit
@@ -102,7 +102,7 @@ pub held_before :
     → TablesHold charter rows old.now.trees → TablesHold charter rows mid.now.trees
 held_before old mid same charter rows holds = subst (λ (d : Database). TablesHold charter rows d.trees) (sym same) holds
 
--- rows of which some do not fit their types after such calls did not fit them before
+-- rows of which some do not fit after such calls did not fit before
 pub never_fit :
     {X : Type 0} (fits : X → Type 0) (items : Rows → List X) → ((o : Option Rows) → FitIfAny o → All fits (items_if_any items o))
     → (h : List ℕ) (old mid : State) → IsTrue old.is_open → mid.now ≡ old.now

@@ -24,7 +24,6 @@ pub fn auths_of_a_history_give()
     ensures { AuthsOfHistoriesGive }
 {
     policy::laws::legal_rows_fit();
-    policy::laws::max_lengths_fit();
 }
 
 /// Where the tables hold a charter and the rows of a legal history whose values are those of their

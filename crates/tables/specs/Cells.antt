@@ -1,4 +1,4 @@
--- How the rows of a holder are written as rows of the tables, without their rowids.
+-- How the rows of a holder and exceptions are written as rows of the tables, without their rowids.
 use Rattle.std.specs.Prelude.{ℕ, pos, List, [], ◌∷◌, ◌++◌, codes}
 use Rattle.std.specs.Int.{w128, to_be_bytes}
 use Rattle.sqlite_value.specs.declared.value.Value.{Value}
@@ -15,6 +15,11 @@ use Rattle.policy.specs.declared.grant.Role.{Role}
 use Rattle.policy.specs.declared.grant.Role.TheVariants.{Manager, Clerk, Auditor}
 use Rattle.policy.specs.declared.grant.Scope.{Scope}
 use Rattle.policy.specs.declared.grant.Scope.TheVariants.{All, Only}
+use Rattle.slurm.specs.declared.filter.Filter.{Filter}
+use Rattle.slurm.specs.declared.filter.Filter.TheVariants.{Under, By, Both}
+use Rattle.tables.specs.declared.exception.Exception.{Exception}
+use Rattle.tables.specs.declared.exception.Exception.TheVariants.{Filter as FilterOf, Assertion}
+use Rattle.tables.specs.declared.exception.ExceptionRow.{ExceptionRow}
 
 abbrev pub number_cell : ℕ → Value
 number_cell n = Int (pos n)
@@ -84,3 +89,27 @@ granted_row h g = Text h ∷ grant_cells g
 
 abbrev pub auth_row : List ℕ → Auth → Row
 auth_row h x = Text h ∷ auth_cells x
+
+-- how the table `slurm` numbers the kinds of exceptions
+abbrev pub kind_number : Exception → ℕ
+kind_number (FilterOf f) = 1
+kind_number (Assertion v) = 2
+
+-- the prefix of a filter, no maxLength, and its AS; NULL where it has none
+abbrev pub filter_cells : Filter → Row
+filter_cells (Under p) = prefix_cells p ++ Null ∷ Null ∷ []
+filter_cells (By asn) = Null ∷ Null ∷ Null ∷ Null ∷ number_cell asn.0 ∷ []
+filter_cells (Both p asn) = prefix_cells p ++ Null ∷ number_cell asn.0 ∷ []
+
+abbrev pub assertion_cells : Vrp → Row
+assertion_cells v = prefix_cells v.prefix ++ number_cell v.max ∷ number_cell v.asn.0 ∷ []
+
+abbrev pub exception_cells : Exception → Row
+exception_cells (FilterOf f) = filter_cells f
+exception_cells (Assertion v) = assertion_cells v
+
+-- the row of an exception in the table `slurm`, whose one file is `main`
+abbrev pub exception_row : ExceptionRow → Row
+exception_row r =
+    Text (codes "main") ∷ number_cell (kind_number r.exception) ∷ number_cell r.position
+    ∷ exception_cells r.exception

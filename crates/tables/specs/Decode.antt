@@ -1,10 +1,15 @@
 -- What it is to read typed values from the cells that show them.
-use Rattle.std.specs.Prelude.{◌≡◌, ◌≢◌, ℕ, List, map, All, Any, Option, MatchOption}
+use Rattle.std.specs.Prelude.{◌≡◌, ◌≢◌, ◌≤◌, ℕ, List, map, All, Any, Option, MatchOption, ⊤}
 use Rattle.std.specs.Global.{Vec}
 use Rattle.std.specs.List.{range_with_len}
 use Rattle.sqlite_value.specs.Order.{Row}
 use Rattle.addr.specs.declared.vrp.Vrp.{Vrp}
 use Rattle.policy.specs.Values.{IsU32}
+use Rattle.slurm.specs.declared.filter.Filter.{Filter}
+use Rattle.slurm.specs.declared.filter.Filter.TheVariants.{Under, By, Both}
+use Rattle.tables.specs.declared.exception.Exception.{Exception}
+use Rattle.tables.specs.declared.exception.Exception.TheVariants.{Filter as FilterOf, Assertion}
+use Rattle.tables.specs.declared.exception.ExceptionRow.{ExceptionRow}
 use Rattle.tables.specs.Tables.{columns}
 
 -- No value shows these cells. Only values that fit their Rust type count, since a `u32` is any number
@@ -29,3 +34,20 @@ first_columns count = columns (range_with_len 0 count)
 -- the other terms are in range by the VRP's own fields
 abbrev pub VrpFits : Vrp → Type 0
 VrpFits v = IsU32 v.asn.0
+
+-- a place among the exceptions of one kind, counted from 1
+abbrev pub IsPosition : ℕ → Type 0
+IsPosition n = (1 ≤ n) × IsU32 n
+
+abbrev pub FilterFits : Filter → Type 0
+FilterFits (Under p) = ⊤
+FilterFits (By asn) = IsU32 asn.0
+FilterFits (Both p asn) = IsU32 asn.0
+
+abbrev pub ExceptionFits : Exception → Type 0
+ExceptionFits (FilterOf f) = FilterFits f
+ExceptionFits (Assertion v) = VrpFits v
+
+pub record ExceptionRowFits (r : ExceptionRow) : Type 0 where
+  pub position : IsPosition r.position
+  pub exception : ExceptionFits r.exception

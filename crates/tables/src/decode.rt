@@ -1,17 +1,18 @@
 //! Typed values of the cells that show them.
 ghost use Rattle.std.specs.Prelude.{◌≡◌, ◌≢◌, [], ◌∷◌, length, ⊤, IfSome, IsTrue};
 ghost use Rattle.std.specs.Bool.{OnTrue, OnFalse};
+ghost use Rattle.addr.specs.Address.{FitsMaxLength};
 ghost use Rattle.addr.specs.Day.{IsDay};
 ghost use Rattle.addr.specs.Name.{is_name};
-ghost use Rattle.policy.specs.Values.{IsU8, IsU32};
+ghost use Rattle.policy.specs.Values.{IsU8, IsU32, IsCount, IsNumber};
 ghost use Rattle.sqlite_value.specs.declared.value.Value.TheVariants.{Text, Blob};
 ghost use Rattle.sqlite_value.specs.Order.{column};
 ghost use Rattle.sqlite_value.specs.Value.{owned};
-ghost use Rattle.tables.specs.Cells.{address, number_cell, family_number, role_number, prefix_cells, scope_cells, span_cells};
-ghost use Rattle.tables.specs.Decode.{Decodes, first_columns};
+ghost use Rattle.tables.specs.Cells.{address, number_cell, family_number, role_number, prefix_cells, scope_cells, span_cells, vrp_cells};
+ghost use Rattle.tables.specs.Decode.{Decodes, first_columns, VrpFits};
 
-use addr::{Day, Family, Name, Prefix, Span};
-use policy::{Role, Scope};
+use addr::{Asn, Day, Family, Name, Prefix, Span, Vrp};
+use policy::{LAST_NUMBER, Role, Scope};
 use sqlite::Row;
 use sqlite::types::ValueRef;
 
@@ -44,6 +45,22 @@ pub(crate) fn number_in(value: ValueRef<'_>) -> Option<u32>
         ValueRef::Int(number) => u32::try_from(number).ok(),
         _ => None,
     }
+}
+
+/// How many grants or authorizations were made.
+pub(crate) fn count_in(value: ValueRef<'_>) -> Option<u32>
+    ensures { Decodes number_cell IsCount (owned value.entry) result }
+{
+    let count = number_in(value)?;
+    (count <= LAST_NUMBER).then_some(count)
+}
+
+/// The number of a grant or an authorization.
+pub(crate) fn given_number_in(value: ValueRef<'_>) -> Option<u32>
+    ensures { Decodes number_cell IsNumber (owned value.entry) result }
+{
+    let number = count_in(value)?;
+    (number >= 1).then_some(number)
 }
 
 pub(crate) fn byte_in(value: ValueRef<'_>) -> Option<u8>
@@ -115,6 +132,14 @@ pub(crate) fn prefix_in(
     Prefix::from_parts(family, first, length)
 }
 
+/// A maxLength of the prefix.
+pub(crate) fn max_length_in(prefix: &Prefix, value: ValueRef<'_>) -> Option<u8>
+    ensures { Decodes number_cell (FitsMaxLength prefix.now) (owned value.entry) result }
+{
+    let max = byte_in(value)?;
+    prefix.fits_max_length(max).then_some(max)
+}
+
 pub(crate) fn scope_in(
     family: ValueRef<'_>,
     first: ValueRef<'_>,
@@ -137,4 +162,26 @@ pub(crate) fn span_in(family: ValueRef<'_>, lo: ValueRef<'_>, hi: ValueRef<'_>) 
     let lo = number_of_address_in(lo)?;
     let hi = number_of_address_in(hi)?;
     Span::from_parts(family, lo, hi)
+}
+
+pub(crate) fn asn_in(value: ValueRef<'_>) -> Option<Asn>
+    ensures { Decodes (λ asn. number_cell asn.0) (λ asn. IsU32 asn.0) (owned value.entry) result }
+{
+    Some(Asn(number_in(value)?))
+}
+
+pub(crate) fn vrp_in(
+    asn: ValueRef<'_>,
+    family: ValueRef<'_>,
+    first: ValueRef<'_>,
+    length: ValueRef<'_>,
+    max: ValueRef<'_>,
+) -> Option<Vrp>
+    ensures { Decodes vrp_cells VrpFits
+        (owned asn.entry ∷ owned family.entry ∷ owned first.entry ∷ owned length.entry
+        ∷ owned max.entry ∷ []) result }
+{
+    let asn = asn_in(asn)?;
+    let prefix = prefix_in(family, first, length)?;
+    Vrp::from_parts(prefix, byte_in(max)?, asn)
 }

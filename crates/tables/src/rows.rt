@@ -2,16 +2,17 @@
 //! is one of another schema.
 ghost use Rattle.std.specs.Prelude.{◌≡◌, ◌≤◌, ◌↔◌, ℕ, [], ◌∷◌, map, length, ⊤, IsTrue, vec_capacity};
 ghost use Rattle.addr.specs.Name.{is_name};
-ghost use Rattle.policy.specs.Values.{IsU32, AuthFits, GrantFits};
+ghost use Rattle.policy.specs.Values.{IsCount, AuthFits, GrantFits};
 ghost use Rattle.sqlite_value.specs.declared.value.Value.TheVariants.{Text};
 ghost use Rattle.sqlite_value.specs.Order.{Row as Cells};
 ghost use Rattle.tables.specs.Cells.{schema_row, prefix_cells, span_cells, counter_cells, grant_cells, auth_cells, vrp_cells, holder_row};
 ghost use Rattle.tables.specs.Decode.{Decodes, DecodesAll, first_columns, VrpFits};
 
 use crate::decode::{
-    byte_in, cell, day_in, name_in, number_in, prefix_in, role_in, scope_in, span_in,
+    asn_in, cell, count_in, day_in, given_number_in, max_length_in, name_in, prefix_in, role_in,
+    scope_in, span_in, vrp_in,
 };
-use addr::{Asn, Name, Prefix, Span, Vrp};
+use addr::{Name, Prefix, Span, Vrp};
 use policy::{Auth, Granted};
 use sqlite::Row;
 use sqlite::types::ValueRef;
@@ -23,8 +24,8 @@ pub trait FromRow: Drop {
     // How many columns those are.
     ghost width: { ℕ };
 
-    // The value is one of its Rust type, as a number below 2 ^ 32 is one of `u32`. Each such value
-    // is read from the cells that it shows, whatever rules it breaks.
+    // The value is one of its Rust type, as a number below 2 ^ 32 is one of `u32`, and in the range
+    // that a row asks of it. Each such value is read from the cells that it shows.
     ghost fits: { Self → Type 0 };
 
     /// The value that the first columns show, if they show one.
@@ -94,12 +95,12 @@ impl FromRow for Counters {
 
     ghost width = { 2 };
 
-    ghost fits = { λ counters. IsU32 counters.granted × IsU32 counters.created };
+    ghost fits = { λ counters. IsCount counters.granted × IsCount counters.created };
 
     fn in_row(row: &Row) -> Option<Counters> {
         Some(Counters {
-            granted: number_in(cell(row, 0))?,
-            created: number_in(cell(row, 1))?,
+            granted: count_in(cell(row, 0))?,
+            created: count_in(cell(row, 1))?,
         })
     }
 }
@@ -118,14 +119,14 @@ impl FromRow for Registered {
     ghost width = { 3 };
 
     ghost fits = { λ holder. IsTrue (is_name holder.name)
-        × IsU32 holder.counters.granted × IsU32 holder.counters.created };
+        × IsCount holder.counters.granted × IsCount holder.counters.created };
 
     fn in_row(row: &Row) -> Option<Registered> {
         Some(Registered {
             name: name_in(cell(row, 0))?,
             counters: Counters {
-                granted: number_in(cell(row, 1))?,
-                created: number_in(cell(row, 2))?,
+                granted: count_in(cell(row, 1))?,
+                created: count_in(cell(row, 2))?,
             },
         })
     }
@@ -140,7 +141,7 @@ impl FromRow for Granted {
 
     fn in_row(row: &Row) -> Option<Granted> {
         Some(Granted {
-            number: number_in(cell(row, 0))?,
+            number: given_number_in(cell(row, 0))?,
             caller: name_in(cell(row, 1))?,
             role: role_in(cell(row, 2))?,
             scope: scope_in(cell(row, 3), cell(row, 4), cell(row, 5))?,
@@ -157,11 +158,12 @@ impl FromRow for Auth {
     ghost fits = { AuthFits };
 
     fn in_row(row: &Row) -> Option<Auth> {
+        let prefix = prefix_in(cell(row, 2), cell(row, 3), cell(row, 4))?;
         Some(Auth {
-            number: number_in(cell(row, 0))?,
-            asn: Asn(number_in(cell(row, 1))?),
-            prefix: prefix_in(cell(row, 2), cell(row, 3), cell(row, 4))?,
-            max: byte_in(cell(row, 5))?,
+            number: given_number_in(cell(row, 0))?,
+            asn: asn_in(cell(row, 1))?,
+            prefix,
+            max: max_length_in(&prefix, cell(row, 5))?,
             from: day_in(cell(row, 6))?,
             until: day_in(cell(row, 7))?,
         })
@@ -176,10 +178,13 @@ impl FromRow for Vrp {
     ghost fits = { VrpFits };
 
     fn in_row(row: &Row) -> Option<Vrp> {
-        let asn = Asn(number_in(cell(row, 0))?);
-        let prefix = prefix_in(cell(row, 1), cell(row, 2), cell(row, 3))?;
-        let max = byte_in(cell(row, 4))?;
-        Vrp::from_parts(prefix, max, asn)
+        vrp_in(
+            cell(row, 0),
+            cell(row, 1),
+            cell(row, 2),
+            cell(row, 3),
+            cell(row, 4),
+        )
     }
 }
 

@@ -4,6 +4,7 @@ ghost use Rattle.policy.specs.Rows.{rows_if_any, RowsIfAny};
 ghost use Rattle.store.specs.StoreRows.{IsRead};
 ghost use Rattle.desk.specs.Answer.{is_done, AnswersCommand, IsAnswered};
 ghost use Rattle.desk.specs.Desk.{charter_of, IsOnCleanDisk, KeepsRows};
+ghost use Rattle.desk.specs.HolderAnswers.{may_change, KeepsOthers};
 ghost use Rattle.desk.specs.steps.Reading.{OfHistories};
 
 use super::Desk;
@@ -23,6 +24,8 @@ impl<S: Alter> Desk<S> {
         ensures charter { charter_of self.new ≡ charter_of self.old }
         ensures clean { IsOnCleanDisk S.Store self.new → IsOnCleanDisk S.Store self.old }
         ensures kept { is_done result ≡ false → KeepsRows S.Store self.old self.new }
+        ensures others { OfHistories S.Store self.old self.new (λ _.
+            KeepsOthers S.Store (may_change (Request.Command command.now)) self.old self.new) }
     {
         policy::laws::entry_fits(day, caller, command);
         let change = match self.decide(day, caller, command) {

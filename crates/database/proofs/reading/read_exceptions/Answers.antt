@@ -1,21 +1,27 @@
-use Rattle.std.proofs.Common.{[], ◌∷◌, ◌≡◌, length, arith, sym, ◌∙◌}
-use Rattle.std.proofs.lemmas.Bool.{eqb-true}
+use Rattle.std.proofs.Common.{length, sym, ap, ◌∙◌, arith}
 use Rattle.sqlite.specs.Held.{state}
-use Rattle.database.specs.steps.Numbered.{numbered}
-use Rattle.database.proofs.AllTexts.{selects_slurm}
-use Rattle.database.proofs.Unread.{no_rows}
+use Rattle.tables.specs.Cells.{exception_row}
+use Rattle.tables.specs.Decode.{ExceptionRowFits}
+use Rattle.tables.specs.Tables.{slurm}
+use Rattle.database.proofs.Columns.{exception_places}
+use Rattle.database.proofs.QueryLemmas.{refused_by}
+use Rattle.database.proofs.Unread.{as_many, no_rows, on_ok, exceptions_in}
 use Rattle.database.proofs.reading.read_exceptions.Goals as goal
 
-pub ask_all-requires-clause-plain : goal.ask_all-requires-clause-plain
-ask_all-requires-clause-plain g c = selects_slurm.plain
-
-pub ask_all-requires-clause-unlisted : goal.ask_all-requires-clause-unlisted
-ask_all-requires-clause-unlisted g c = selects_slurm.unlisted
+pub returns-in_err-exceptions-clause-schema : goal.returns-in_err-exceptions-clause-schema
+returns-in_err-exceptions-clause-schema g c clean is read =
+    c.read_table.ensures.schema clean (refused_by c.read_table.result c.from_residual.result c.in_err-exceptions.field-0.0 c.in_err-exceptions.was c.from_residual.ensures.1 is)
+    (exceptions_in (state g.S.Store c.args.conn.now).now read)
 
 pub returns-clause-found : goal.returns-clause-found
 returns-clause-found g c clean =
     let db = (state g.S.Store c.args.conn.now).now in
-    let rows = c.in_ok-rows.rows.items in
-    let none : c.in_ok-rows.rows.len ≡ 0 = eqb-true _ _ (sym c.is_empty.ensures ∙ c.if-not-is_empty.false) in
-    let empty : length rows ≡ 0 = omega (arith, none, c.in_ok-rows.rows.ok.0) in
-    no_rows (numbered (0 ∷ 1 ∷ 2 ∷ 3 ∷ 4 ∷ 5 ∷ 6 ∷ 7 ∷ [])) (db.trees 15) rows empty (selects_slurm.found db rows (c.in_ok-rows.ensures.answered clean))
+    let many = as_many exception_row ExceptionRowFits slurm.tree exception_places db c.in_ok-exceptions.exceptions.items (c.in_ok-exceptions.ensures.read clean) in
+    on_ok _ c.refuse_exceptions.result (λ kept. no_rows (db.trees slurm.tree) (many ∙ ap length (sym c.deref.ensures.value ∙ c.refuse_exceptions.ensures.none.0 kept)))
+
+pub returns-clause-schema : goal.returns-clause-schema
+returns-clause-schema g c clean is read =
+    let db = (state g.S.Store c.args.conn.now).now in
+    let many = as_many exception_row ExceptionRowFits slurm.tree exception_places db c.in_ok-exceptions.exceptions.items (c.in_ok-exceptions.ensures.read clean) in
+    let more = c.refuse_exceptions.ensures.schema.0 is in
+    omega (arith, many, more, ap length c.deref.ensures.value, read.exceptions_number)

@@ -72,4 +72,5 @@ returns c history legal are =
       refl,
       carries-amend history a.basis.day a.basis.caller.now h a.number a.max a.until rows x _ had.1 had.2 number.0 refl,
       (tt, tt),
+      (refl, tt),
     )

@@ -1,4 +1,4 @@
-use Rattle.std.proofs.Common.{ℕ, ◌+◌, sym, ◌∙◌, ap, Some, subst}
+use Rattle.std.proofs.Common.{ℕ, ◌+◌, sym, ◌∙◌, ap, Some, subst, refl}
 use Rattle.policy.specs.declared.authorization.Auth.{Auth}
 use Rattle.policy.specs.declared.command.Command.TheVariants.{Create}
 use Rattle.policy.specs.Answer.{IsAccepted}
@@ -27,4 +27,5 @@ returns c history legal are =
           ∙ ap (λ n. Some (n + 1)) had.2.created,
       carries-create history a.basis.day a.basis.caller.now h t.asn t.prefix t.max t.from t.until _ had.1 held (c.numbered-auth.ensures ∙ ap new had.2.created),
       (tt, tt),
+      (refl, tt),
     )

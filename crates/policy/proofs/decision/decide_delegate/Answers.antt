@@ -1,4 +1,4 @@
-use Rattle.std.proofs.Common.{sym, ◌∙◌, ap, subst}
+use Rattle.std.proofs.Common.{sym, ◌∙◌, ap, subst, refl}
 use Rattle.std.proofs.lemmas.Bool.{not-true}
 use Rattle.std.proofs.lemmas.Bool.Decides.{when_false}
 use Rattle.policy.specs.declared.command.Command.TheVariants.{Delegate}
@@ -22,4 +22,5 @@ returns c history legal are told =
       carries-delegate history a.basis.day a.basis.caller.now h p c.in_ok-more.more c.new.result c.in_ok-edit.edit (rows_of c.in_ok-rows.rows.now)
           had.0 free had.1 c.in_ok-edit.ensures c.in_ok-more.ensures c.new.ensures.items,
       (sparing _ _ _ _ c.in_ok-edit.ensures, tt),
+      (refl, tt),
     )

@@ -1,4 +1,4 @@
-use Rattle.std.proofs.Common.{ℕ, ◌<◌, ◌≤◌, sym, ◌∙◌, ap, subst, length, Some, arith, ◌+◌}
+use Rattle.std.proofs.Common.{ℕ, ◌<◌, ◌≤◌, sym, ◌∙◌, ap, subst, length, Some, arith, ◌+◌, refl}
 use Rattle.std.proofs.lemmas.Bool.Decides.{nat_tests}
 use Rattle.policy.specs.declared.admission.TheConstants.{MOST_GRANTS, LAST_NUMBER}
 use Rattle.policy.specs.declared.command.Command.TheVariants.{Grant}
@@ -29,4 +29,5 @@ returns c history legal are =
           ∙ ap (λ n. Some (n + 1)) had.1.granted,
       carries-grant history a.basis.day a.basis.caller.now h t.caller t.role t.scope t.until _ had.0 (c.numbered-grant.ensures ∙ ap new had.1.granted),
       (tt, tt),
+      (refl, tt),
     )

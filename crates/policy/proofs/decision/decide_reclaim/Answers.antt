@@ -1,4 +1,4 @@
-use Rattle.std.proofs.Common.{sym, ◌∙◌, ap, subst}
+use Rattle.std.proofs.Common.{sym, ◌∙◌, ap, subst, refl}
 use Rattle.policy.specs.declared.command.Command.TheVariants.{Reclaim}
 use Rattle.policy.specs.Answer.{number_made, IsAccepted}
 use Rattle.policy.specs.Rows.{rows_of}
@@ -21,4 +21,5 @@ returns c history legal are =
       carries-reclaim history a.basis.day a.basis.caller.now h p c.in_ok-less.less c.in_ok-ended.ended c.in_ok-edit.edit (rows_of c.in_ok-rows.rows.now)
           had.0 held had.1 c.in_ok-edit.ensures c.in_ok-less.ensures numbers,
       (sparing _ _ _ _ c.in_ok-edit.ensures, tt),
+      (refl, tt),
     )

@@ -14,4 +14,5 @@ returns c history legal are =
       refl,
       carries-register a.basis.charter.now history a.basis.day a.basis.caller.now a.holder.name.now legal fresh,
       (tt, tt),
+      (refl, tt),
     )

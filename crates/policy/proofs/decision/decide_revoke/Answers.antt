@@ -18,6 +18,7 @@ returns c history legal are =
       refl,
       carries-revoke history a.basis.day a.basis.caller.now h a.number registered,
       (tt, tt),
+      (refl, tt),
     )
 
 pub returns-in_err-require-2 : goal.returns-in_err-require-2

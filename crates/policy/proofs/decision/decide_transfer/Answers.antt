@@ -1,4 +1,4 @@
-use Rattle.std.proofs.Common.{sym, ◌∙◌, ap}
+use Rattle.std.proofs.Common.{sym, ◌∙◌, ap, refl}
 use Rattle.std.proofs.lemmas.Bool.{not-true}
 use Rattle.policy.specs.declared.command.Command.TheVariants.{Transfer}
 use Rattle.policy.specs.Answer.{number_made}
@@ -27,4 +27,5 @@ returns c history day legal giver_are taker_are =
           gave.0 took.0 (same_name-false a.giver.name.now a.taker.name.now differ) held gave.1 took.1
           c.in_ok-from_giver.ensures c.in_ok-less.ensures c.in_ok-to_taker.ensures c.in_ok-more.ensures numbers c.new.ensures.items,
       (sparing _ _ _ _ c.in_ok-from_giver.ensures, sparing _ _ _ _ c.in_ok-to_taker.ensures),
+      (refl, refl),
     )

@@ -15,4 +15,5 @@ returns c history legal are =
       refl,
       carries-withdraw history a.basis.day a.basis.caller.now h a.number had.1,
       (tt, tt),
+      (refl, tt),
     )

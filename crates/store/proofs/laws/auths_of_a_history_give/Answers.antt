@@ -1,6 +1,5 @@
 use Rattle.std.proofs.Common.{subst}
 use Rattle.std.proofs.lemmas.List.Elements.{All-contains}
-use Rattle.addr.specs.Address.{FitsMaxLength}
 use Rattle.policy.specs.Rows.{RowsIfAny}
 use Rattle.policy.specs.Values.{AuthFits}
 use Rattle.store.proofs.Giving.{gives_one}
@@ -9,7 +8,5 @@ use Rattle.store.proofs.laws.auths_of_a_history_give.Goals as goal
 pub returns : goal.returns
 returns c charter history rows day legal fits have h r x is there from until =
     let of = subst (RowsIfAny history h) is (have h) in
-    let values = (c.legal_rows_fit.ensures charter history h r legal fits of.1).0 in
-    let lengths = c.max_lengths_fit.ensures charter history h r.auths legal of.1.auths in
+    let values = c.legal_rows_fit.ensures charter history h r legal fits of.1 in
     gives_one x (All-contains AuthFits r.auths x values.auths there)
-    (All-contains (λ y. FitsMaxLength y.prefix y.max) r.auths x lengths there)

@@ -1,7 +1,9 @@
 use Rattle.std.proofs.Common.{refl}
 use Rattle.desk.specs.Desk.{charter_of}
+use Rattle.desk.specs.HolderAnswers.{may_change}
+use Rattle.desk.specs.declared.asked.Request.TheVariants.{Command as CommandRequest}
 use Rattle.desk.specs.declared.reply.Reply.TheVariants.{Unavailable}
-use Rattle.desk.proofs.DeskLemmas.{still_held, not_done, done_answered}
+use Rattle.desk.proofs.DeskLemmas.{still_held, not_done, done_answered, all_kept, changed_kept}
 use Rattle.desk.proofs.handling.Desk.carry_out.Goals as goal
 
 pub returns-in-Err-clause-answered : goal.returns-in-Err-clause-answered
@@ -26,3 +28,18 @@ returns-clause-answered g c clean history legal held =
     let new = record c.decide.new.self { store = c.apply.new.self } in
     not_done g.S.Store (charter_of c.args.self.now) history c.args.day c.args.caller.now c.args.command.now Unavailable new legal refl
     (still_held g.S.Store c.args.self.now new history (returns-clause-kept g c refl) clean held)
+
+pub returns-in-Err-clause-others : goal.returns-in-Err-clause-others
+returns-in-Err-clause-others g c clean history legal held =
+    all_kept g.S.Store (may_change (CommandRequest c.args.command.now)) c.args.self.now c.decide.new.self c.in-Err.ensures.read.rows clean
+
+pub returns-in-Ok-apply-clause-others : goal.returns-in-Ok-apply-clause-others
+returns-in-Ok-apply-clause-others g c clean history legal held =
+    let mid = c.decide.new.self in
+    let before = c.in-Ok-apply.ensures.clean clean in
+    changed_kept g.S.Store c.args.command.now c.in-Ok.change c.args.self.now mid (record mid { store = c.apply.new.self })
+    (c.in-Ok.ensures.answer before history legal held).4 c.in-Ok.ensures.read.rows before (c.in-Ok-apply.ensures.ok clean)
+
+pub returns-clause-others : goal.returns-clause-others
+returns-clause-others g c clean history legal held =
+    all_kept g.S.Store (may_change (CommandRequest c.args.command.now)) c.args.self.now (record c.decide.new.self { store = c.apply.new.self }) (returns-clause-kept g c refl) clean

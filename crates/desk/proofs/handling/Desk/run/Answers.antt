@@ -1,8 +1,20 @@
-use Rattle.std.proofs.Common.{◌∙◌, refl, arith}
+use Rattle.std.proofs.Common.{◌∙◌, refl, arith, take_all}
 use Rattle.std.specs.Prelude.{IsOk}
 use Rattle.desk.specs.Desk.{charter_of}
-use Rattle.desk.proofs.RunLemmas.{answered_more}
+use Rattle.desk.proofs.HolderLemmas.{runs_by_entries}
+use Rattle.desk.proofs.RunLemmas.{answered_more, others_more}
 use Rattle.desk.proofs.handling.Desk.run.Goals as goal
+
+pub loop-one-init : goal.loop-one-init
+loop-one-init g c = record {
+  chartered = refl;
+  clean = λ clean. clean;
+  room = omega (arith, c.in_ok-replies.ensures.capacity);
+  count = c.in_ok-replies.ensures.len;
+  answered = λ clean history legal held.
+      rw c.in_ok-replies.ensures.items (record { after = history; legal = legal; values = λ fit. fit; runs = refl; rows_after = held });
+  others = λ clean history legal held rows holds. (rows, holds, λ h other. refl);
+}
 
 pub loop-one-preserved : goal.loop-one-preserved
 loop-one-preserved g c =
@@ -18,4 +30,19 @@ loop-one-preserved g c =
           c.loop-one.replies.items c.push.new.self.items c.handle-reply.result c.loop-one.self c.handle-reply.new.self
           so_far.chartered c.loop-one-test.true c.one-item.is (rw pushed at c.push.ensures.items) (so_far.answered (c.handle-reply.ensures.clean clean) history legal held)
           (c.handle-reply.ensures.answered clean);
+      others = λ clean history legal held.
+          let before = c.handle-reply.ensures.clean clean in
+          let is = so_far.answered before history legal held in
+          others_more g.S.Store c.args.asked.now c.loop-one.one-index c.one-item.result c.args.self.now c.loop-one.self c.handle-reply.new.self
+          c.loop-one-test.true c.one-item.is (so_far.others before history legal held)
+          (c.handle-reply.ensures.others clean is.after (rw so_far.chartered is.legal) is.rows_after);
     }
+
+pub returns-clause-isolated : goal.returns-clause-isolated
+returns-clause-isolated g c clean history legal held =
+    let is = rw (take_all c.loop-one.one-index c.args.asked.now (omega (arith, c.loop-one-test.false))) at (c.loop-one.invariant.answered clean history legal held) in
+    runs_by_entries c.answers_by_entries.ensures (charter_of c.args.self.now) history c.args.asked.now c.loop-one.replies.items is.after legal is.runs
+
+pub returns-clause-others : goal.returns-clause-others
+returns-clause-others g c clean history legal held =
+    rw (take_all c.loop-one.one-index c.args.asked.now (omega (arith, c.loop-one-test.false))) at (c.loop-one.invariant.others clean history legal held)

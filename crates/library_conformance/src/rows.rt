@@ -4,14 +4,14 @@ use std::test::Fail;
 
 /// A row of a table, and the name over it.
 #[derive(Clone, Copy)]
-pub(crate) struct Row<'a> {
-    pub(crate) name: &'a str,
-    pub(crate) input: &'a str,
-    pub(crate) output: &'a str,
+pub struct Row<'a> {
+    pub name: &'a str,
+    pub input: &'a str,
+    pub output: &'a str,
 }
 
 /// The rows of a table, of which there are some.
-pub(crate) fn rows_of(alloc: Global, table: &str) -> Result<Vec<Row<'_>>, Fail> {
+pub fn rows_of(alloc: Global, table: &str) -> Result<Vec<Row<'_>>, Fail> {
     let mut rows = Vec::new(alloc);
     for section in table.split("\n# ") {
         if let Some((name, lines)) = section.split_once('\n') {
@@ -39,18 +39,12 @@ fn push_rows<'a>(rows: &mut Vec<Row<'a>>, name: &'a str, lines: &'a str) -> Resu
 }
 
 /// The input and the output of a row.
-pub(crate) fn parts_of(row: &str) -> Result<(&str, &str), Fail> {
+pub fn parts_of(row: &str) -> Result<(&str, &str), Fail> {
     Ok(row.split_once(" => ").ok_or("a row without an output")?)
 }
 
-/// The line of a script on a day, of a request with its caller before it.
-pub(crate) fn line_of(alloc: Global, day: &str, request: &str) -> Result<String, Fail> {
-    let (caller, members) = request.split_once(" {").ok_or("no caller")?;
-    Ok(format!(in alloc; "{{\"day\":\"{day}\",\"caller\":\"{caller}\",{members}")?)
-}
-
 /// A text that is `depth` arrays deep.
-pub(crate) fn nested(alloc: Global, depth: u32) -> Result<String, AllocError> {
+pub fn nested(alloc: Global, depth: u32) -> Result<String, AllocError> {
     let mut text = String::new(alloc);
     for _ in 0..depth {
         text.push('[')?;

@@ -263,36 +263,38 @@ fn file_of_filters(alloc: Global, count: u32, last: &str) -> Result<String, Allo
     file(alloc, "1", &filters, "{\"prefix\":\"::/8\",\"asn\":1}", "")
 }
 
+// How many entries the file has as a value, 0 where it is none.
+fn entries_read(alloc: Global, text: &str) -> Result<usize, Fail> {
+    let value = Value::from_str(alloc, text)?;
+    match Slurm::of(alloc, &value) {
+        Ok(slurm) => Ok(slurm.filters().len() + slurm.assertions().len()),
+        Err(_) => Ok(0),
+    }
+}
+
 // A fault in the last of too many entries is the lower one.
 #[test]
 fn limit_of_entries(rt: HostRuntime) -> Result<(), Fail> {
     let alloc = rt.alloc();
-    for (name, before, last, number) in [
-        ("limit_of_entries", 4094, "{\"asn\":1}", 0),
-        ("limit_of_entries", 4095, "{\"asn\":1}", 11),
-        (
-            "faulty_entry_past_the_limit",
-            4096,
-            "{\"asn\":1,\"comment\":0}",
-            10,
-        ),
+    for (before, last, number, entries) in [
+        (4094, "{\"asn\":1}", 0, 4096),
+        (4095, "{\"asn\":1}", 11, 0),
+        (4096, "{\"asn\":1,\"comment\":0}", 10, 0),
     ] {
         let text = file_of_filters(alloc, before, last)?;
-        assert_eq!(rt; fault(alloc, &text), number, "{name}");
-        let value = Value::from_str(alloc, &text)?;
-        let read = match Slurm::of(alloc, &value) {
-            Ok(slurm) => slurm.filters().len() + slurm.assertions().len(),
-            Err(_) => 0,
-        };
-        assert_eq!(rt; read, if number == 0 { 4096 } else { 0 }, "{name}");
+        assert_eq!(rt; fault(alloc, &text), number, "{before} and {last}");
+        assert_eq!(rt; entries_read(alloc, &text)?, entries, "{before} and {last}");
     }
+    Ok(())
+}
+
+#[test]
+fn limit_of_made_files(rt: HostRuntime) -> Result<(), Fail> {
+    let alloc = rt.alloc();
     for (count, fault) in [(4096, None), (4097, Some(SlurmFault::TooMany))] {
         let filters = vec![in alloc; Filter::By(Asn(1)); count]?;
-        assert_eq!(rt;
-            Slurm::make(filters, Vec::new(alloc)).err(),
-            fault,
-            "{count} filters"
-        );
+        let made = Slurm::make(filters, Vec::new(alloc));
+        assert_eq!(rt; made.err(), fault, "{count} filters");
     }
     Ok(())
 }

@@ -1,9 +1,8 @@
 //! Databases that were made by SQL, and what opening them as a store answers: `ok`, or the fault.
 //! The statements and the answers follow from the formats of the tables.
+use crate::example_database::{TABLES, made};
 use crate::rows::rows_of;
-use crate::scripts::{ALPHA, AUTHORIZATION, Dialogue, example_desk};
-use desk::Desk;
-use sqlite::{Alter, Connection, MemStore};
+use sqlite::{Alter, Connection};
 use sqlite_disk::{Disk, Files, Memory};
 use sqlite_pager::Options;
 use std::alloc::Global;
@@ -11,31 +10,7 @@ use std::process::Abort;
 use std::test::Fail;
 use store::{Store, StoreFault};
 
-/// The tables of a desk.
-const TABLES: &str = "
-CREATE TABLE meta (name TEXT NOT NULL, value INTEGER NOT NULL, PRIMARY KEY (name)) STRICT;
-CREATE TABLE operator (name TEXT NOT NULL, PRIMARY KEY (name)) STRICT;
-CREATE TABLE pool (family INTEGER NOT NULL, lo BLOB NOT NULL, len INTEGER NOT NULL, PRIMARY KEY (family, lo, len)) STRICT;
-CREATE TABLE holder (name TEXT NOT NULL, grants INTEGER NOT NULL, auths INTEGER NOT NULL, PRIMARY KEY (name)) STRICT;
-CREATE TABLE holding (family INTEGER NOT NULL, lo BLOB NOT NULL, hi BLOB NOT NULL, holder TEXT NOT NULL REFERENCES holder (name), PRIMARY KEY (family, lo)) STRICT;
-CREATE TABLE granted (holder TEXT NOT NULL REFERENCES holder (name), number INTEGER NOT NULL, caller TEXT NOT NULL, role INTEGER NOT NULL, family INTEGER, lo BLOB, len INTEGER, until INTEGER NOT NULL, PRIMARY KEY (holder, number)) STRICT;
-CREATE TABLE auth (holder TEXT NOT NULL REFERENCES holder (name), number INTEGER NOT NULL, asn INTEGER NOT NULL, family INTEGER NOT NULL, lo BLOB NOT NULL, len INTEGER NOT NULL, max INTEGER NOT NULL, opens INTEGER NOT NULL, ends INTEGER NOT NULL, PRIMARY KEY (holder, number), UNIQUE (asn, family, lo, len, max)) STRICT;
-CREATE TABLE slurm (file TEXT NOT NULL, kind INTEGER NOT NULL, position INTEGER NOT NULL, family INTEGER, lo BLOB, len INTEGER, max INTEGER, asn INTEGER, PRIMARY KEY (file, kind, position)) STRICT;
-CREATE INDEX holding_of ON holding (holder);
-";
-
-/// `alpha` has 192.0.2.0/24, `ann` is its manager, and AS 64496 is authorized for all of it in 2026.
-const ROWS: &str = "
-INSERT INTO meta VALUES ('schema', 1);
-INSERT INTO operator VALUES ('reg');
-INSERT INTO pool VALUES (4, x'000000000000000000000000c0000200', 24), (4, x'000000000000000000000000c6336400', 24);
-INSERT INTO holder VALUES ('alpha', 1, 1);
-INSERT INTO holding VALUES (4, x'000000000000000000000000c0000200', x'000000000000000000000000c00002ff', 'alpha');
-INSERT INTO granted VALUES ('alpha', 1, 'ann', 1, NULL, NULL, NULL, 20818);
-INSERT INTO auth VALUES ('alpha', 1, 64496, 4, x'000000000000000000000000c0000200', 24, 24, 20454, 20818);
-";
-
-/// Statements over these rows, and what the opening answers then.
+/// Statements over the rows of the example, and what the opening answers then.
 const CHANGED_ROWS: &str = r#"
 # number_of_the_schema
 UPDATE meta SET value = 1 => ok
@@ -65,6 +40,8 @@ INSERT INTO holder VALUES ('Alpha', 0, 0) => schema
 INSERT INTO holder VALUES ('-alpha', 0, 0) => schema
 INSERT INTO holder VALUES ('ålpha', 0, 0) => schema
 UPDATE holder SET grants = 999999, auths = 999999 => ok
+UPDATE holder SET grants = 1000000 => schema
+UPDATE holder SET auths = 1000000 => schema
 UPDATE holder SET grants = -1 => schema
 UPDATE holder SET auths = 4294967296 => schema
 # runs_of_addresses
@@ -80,6 +57,8 @@ UPDATE holding SET family = 5 => schema
 UPDATE holding SET family = 0 => schema
 # grants
 UPDATE granted SET number = 999999 => ok
+UPDATE granted SET number = 0 => schema
+UPDATE granted SET number = 1000000 => schema
 UPDATE granted SET number = -1 => schema
 UPDATE granted SET caller = 'a23456789012345678901234567890123' => schema
 UPDATE granted SET role = 3 => ok
@@ -96,6 +75,8 @@ UPDATE granted SET until = 2932897 => schema
 UPDATE granted SET until = -1 => schema
 # authorizations
 UPDATE auth SET number = 999999 => ok
+UPDATE auth SET number = 0 => schema
+UPDATE auth SET number = 1000000 => schema
 UPDATE auth SET asn = 4294967295 => ok
 UPDATE auth SET asn = 4294967296 => schema
 UPDATE auth SET asn = -1 => schema
@@ -110,6 +91,9 @@ UPDATE auth SET len = 33, max = 33 => schema
 UPDATE auth SET len = 22 => schema
 UPDATE auth SET len = -1 => schema
 UPDATE auth SET max = 32 => ok
+UPDATE auth SET max = 33 => schema
+UPDATE auth SET max = 23 => schema
+UPDATE auth SET family = 6, len = 120, max = 129 => schema
 UPDATE auth SET max = 280 => schema
 UPDATE auth SET opens = 0, ends = 2932896 => ok
 UPDATE auth SET ends = 2932897 => schema
@@ -122,12 +106,6 @@ UPDATE granted SET family = 4, lo = x'000000000000000000000000c0000200', len = 2
 DELETE FROM holding => ok
 INSERT INTO holding VALUES (4, x'000000000000000000000000c0000300', x'000000000000000000000000c00003ff', 'alpha') => ok
 INSERT INTO holder VALUES ('beta', 0, 0); INSERT INTO holding VALUES (4, x'000000000000000000000000c0000280', x'000000000000000000000000c00002ff', 'beta') => ok
-# exceptions_that_read
-INSERT INTO slurm VALUES ('main', 1, 1, NULL, NULL, NULL, NULL, 64496) => database
-INSERT INTO slurm VALUES ('main', 1, 1, 4, x'000000000000000000000000c0000200', 24, NULL, NULL) => database
-INSERT INTO slurm VALUES ('main', 1, 7, 4, x'000000000000000000000000c0000200', 24, NULL, 0) => database
-INSERT INTO slurm VALUES ('main', 2, 1, 4, x'000000000000000000000000c6336400', 24, 24, 64496) => database
-INSERT INTO slurm VALUES ('main', 2, 1, 6, x'20010db8000000000000000000000000', 32, 128, 4294967295) => database
 # indexes_and_views_beside_the_tables
 DROP INDEX holding_of => ok
 CREATE INDEX auth_by_as ON auth (asn, family) => ok
@@ -138,6 +116,33 @@ CREATE TABLE notes (text TEXT) STRICT => database
 DROP TABLE slurm => schema
 DROP TABLE slurm; CREATE TABLE exceptions (file TEXT) STRICT => schema
 DROP TABLE meta; CREATE TABLE meta (name TEXT NOT NULL, value INTEGER NOT NULL, PRIMARY KEY (name)) STRICT; INSERT INTO meta VALUES ('schema', 1) => database
+"#;
+
+/// Rows of exceptions, and what the opening answers then.
+const EXCEPTIONS: &str = r#"
+# exceptions_that_read
+INSERT INTO slurm VALUES ('main', 1, 1, NULL, NULL, NULL, NULL, 64496) => database
+INSERT INTO slurm VALUES ('main', 1, 1, 4, x'000000000000000000000000c0000200', 24, NULL, NULL) => database
+INSERT INTO slurm VALUES ('main', 1, 7, 4, x'000000000000000000000000c0000200', 24, NULL, 0) => database
+INSERT INTO slurm VALUES ('main', 2, 1, 4, x'000000000000000000000000c6336400', 24, 24, 64496) => database
+INSERT INTO slurm VALUES ('main', 2, 1, 6, x'20010db8000000000000000000000000', 32, 128, 4294967295) => database
+# exceptions_that_do_not_read
+INSERT INTO slurm VALUES ('other', 1, 1, NULL, NULL, NULL, NULL, 64496) => schema
+INSERT INTO slurm VALUES ('main', 0, 1, NULL, NULL, NULL, NULL, 64496) => schema
+INSERT INTO slurm VALUES ('main', 3, 1, NULL, NULL, NULL, NULL, 64496) => schema
+INSERT INTO slurm VALUES ('main', 1, 0, NULL, NULL, NULL, NULL, 64496) => schema
+INSERT INTO slurm VALUES ('main', 1, 1, NULL, NULL, NULL, NULL, NULL) => schema
+INSERT INTO slurm VALUES ('main', 1, 1, NULL, NULL, NULL, NULL, 4294967296) => schema
+INSERT INTO slurm VALUES ('main', 1, 1, 4, NULL, 24, NULL, NULL) => schema
+INSERT INTO slurm VALUES ('main', 1, 1, NULL, x'000000000000000000000000c0000200', 24, NULL, 64496) => schema
+INSERT INTO slurm VALUES ('main', 1, 1, 4, x'000000000000000000000000c0000200', NULL, NULL, NULL) => schema
+INSERT INTO slurm VALUES ('main', 1, 1, 4, x'000000000000000000000000c0000201', 24, NULL, NULL) => schema
+INSERT INTO slurm VALUES ('main', 1, 1, 4, x'000000000000000000000000c0000200', 24, 24, NULL) => schema
+INSERT INTO slurm VALUES ('main', 2, 1, 4, x'000000000000000000000000c0000200', 24, 24, NULL) => schema
+INSERT INTO slurm VALUES ('main', 2, 1, 4, x'000000000000000000000000c0000200', 24, NULL, 64496) => schema
+INSERT INTO slurm VALUES ('main', 2, 1, NULL, NULL, NULL, NULL, 64496) => schema
+INSERT INTO slurm VALUES ('main', 2, 1, 4, x'000000000000000000000000c0000200', 24, 23, 64496) => schema
+INSERT INTO slurm VALUES ('main', 2, 1, 4, x'000000000000000000000000c0000200', 24, 33, 64496) => schema
 "#;
 
 /// A part of the statements that make the tables, what stands in its place, and what the opening
@@ -176,26 +181,6 @@ CREATE TABLE meta | CREATE TABLE notes (text TEXT) STRICT; CREATE TABLE meta => 
 CREATE INDEX holding_of | CREATE INDEX run_of => ok
 "#;
 
-/// What comes after the opening, over the rows above.
-const AFTERWARDS: &str = r#"
-ann {"do":"show","holder":"alpha","number":1} => {"shown":{"number":1,"asn":64496,"prefix":"192.0.2.0/24","max":24,"from":"2026-01-01","until":"2026-12-31"}}
-ann {"do":"list","holder":"alpha"} => {"listed":[{"number":1,"asn":64496,"prefix":"192.0.2.0/24","max":24,"from":"2026-01-01","until":"2026-12-31"}]}
-bob {"do":"payloads"} => {"payloads":[{"asn":64496,"prefix":"192.0.2.0/24","max":24}]}
-ann {"do":"create","holder":"alpha","asn":64497,"prefix":"192.0.2.0/24","max":24,"from":"2026-01-01","until":"2026-12-31"} => {"done":2}
-reg {"do":"grant","holder":"alpha","name":"cora","role":"auditor","scope":"all","until":"2026-12-31"} => {"done":2}
-reg {"do":"register","holder":"beta"} => {"done":null}
-reg {"do":"delegate","holder":"beta","prefix":"192.0.2.0/25"} => {"denied":"free"}
-reg {"do":"delegate","holder":"beta","prefix":"198.51.100.0/24"} => {"done":null}
-reg {"do":"delegate","holder":"beta","prefix":"203.0.113.0/24"} => {"denied":"pool"}
-"#;
-
-fn made(alloc: Global, tables: &str) -> Result<Connection<MemStore>, Fail> {
-    let mut conn = Connection::open_in_memory(alloc)?;
-    conn.execute_batch(tables)?;
-    conn.execute_batch(ROWS)?;
-    Ok(conn)
-}
-
 fn answer_of<S: Alter + Drop>(alloc: Global, conn: Connection<S>) -> &'static str {
     match Store::open_from(alloc, conn) {
         Ok(_store) => "ok",
@@ -204,15 +189,24 @@ fn answer_of<S: Alter + Drop>(alloc: Global, conn: Connection<S>) -> &'static st
     }
 }
 
-#[test]
-fn opening_asks_each_row(rt: HostRuntime) -> Result<(), Fail> {
-    for row in rows_of(rt.alloc(), CHANGED_ROWS)? {
-        let mut conn = made(rt.alloc(), TABLES)?;
+fn assert_answers(rt: &impl Abort, alloc: Global, rows: &str) -> Result<(), Fail> {
+    for row in rows_of(alloc, rows)? {
+        let mut conn = made(alloc, TABLES)?;
         conn.execute_batch(row.input)?;
-        let answer = answer_of(rt.alloc(), conn);
+        let answer = answer_of(alloc, conn);
         assert_eq!(rt; answer, row.output, "{}: {}", row.name, row.input);
     }
     Ok(())
+}
+
+#[test]
+fn opening_asks_each_row(rt: HostRuntime) -> Result<(), Fail> {
+    assert_answers(&rt, rt.alloc(), CHANGED_ROWS)
+}
+
+#[test]
+fn opening_asks_each_exception(rt: HostRuntime) -> Result<(), Fail> {
+    assert_answers(&rt, rt.alloc(), EXCEPTIONS)
 }
 
 #[test]
@@ -261,32 +255,4 @@ fn files_that_have_no_table(rt: HostRuntime) -> Result<(), Fail> {
         assert_eq!(rt; answer, expected, "{bytes:?}");
     }
     Ok(())
-}
-
-fn assert_goes_on(
-    rt: &impl Abort,
-    alloc: Global,
-    name: &str,
-    conn: Connection<MemStore>,
-) -> Result<(), Fail> {
-    let Ok(mut desk) = Desk::open_from(alloc, conn) else {
-        return Err("not opened".into());
-    };
-    Dialogue::of(alloc, &[AFTERWARDS])?.assert_replies_of_lines(rt, name, &mut desk)
-}
-
-#[test]
-fn closed_desk_is_opened(rt: HostRuntime) -> Result<(), Fail> {
-    let name = "closed_desk_is_opened";
-    let mut desk = example_desk(rt.alloc())?;
-    let setup = Dialogue::of(rt.alloc(), &[ALPHA, AUTHORIZATION])?;
-    setup.assert_replies_of_lines(&rt, name, &mut desk)?;
-    assert_goes_on(&rt, rt.alloc(), name, desk.close())
-}
-
-#[test]
-fn rows_of_another_program_are_a_desk(rt: HostRuntime) -> Result<(), Fail> {
-    let conn = made(rt.alloc(), TABLES)?;
-    let name = "rows_of_another_program_are_a_desk";
-    assert_goes_on(&rt, rt.alloc(), name, conn)
 }

@@ -1,0 +1,49 @@
+//! Desks that go on where another one ended.
+use crate::scripts::{ALPHA, AUTHORIZATION, Dialogue, example_desk};
+use desk::Desk;
+use library_conformance::example_database::{TABLES, made};
+use sqlite::{Connection, MemStore};
+use std::alloc::Global;
+use std::process::Abort;
+use std::test::Fail;
+
+/// What comes after the opening, over the rows above.
+const AFTERWARDS: &str = r#"
+ann {"do":"show","holder":"alpha","number":1} => {"shown":{"number":1,"asn":64496,"prefix":"192.0.2.0/24","max":24,"from":"2026-01-01","until":"2026-12-31"}}
+ann {"do":"list","holder":"alpha"} => {"listed":[{"number":1,"asn":64496,"prefix":"192.0.2.0/24","max":24,"from":"2026-01-01","until":"2026-12-31"}]}
+bob {"do":"payloads"} => {"payloads":[{"asn":64496,"prefix":"192.0.2.0/24","max":24}]}
+ann {"do":"create","holder":"alpha","asn":64497,"prefix":"192.0.2.0/24","max":24,"from":"2026-01-01","until":"2026-12-31"} => {"done":2}
+reg {"do":"grant","holder":"alpha","name":"cora","role":"auditor","scope":"all","until":"2026-12-31"} => {"done":2}
+reg {"do":"register","holder":"beta"} => {"done":null}
+reg {"do":"delegate","holder":"beta","prefix":"192.0.2.0/25"} => {"denied":"free"}
+reg {"do":"delegate","holder":"beta","prefix":"198.51.100.0/24"} => {"done":null}
+reg {"do":"delegate","holder":"beta","prefix":"203.0.113.0/24"} => {"denied":"pool"}
+"#;
+
+fn assert_goes_on(
+    rt: &impl Abort,
+    alloc: Global,
+    name: &str,
+    conn: Connection<MemStore>,
+) -> Result<(), Fail> {
+    let Ok(mut desk) = Desk::open_from(alloc, conn) else {
+        return Err("not opened".into());
+    };
+    Dialogue::of(alloc, &[AFTERWARDS])?.assert_replies_of_lines(rt, name, &mut desk)
+}
+
+#[test]
+fn closed_desk_is_opened(rt: HostRuntime) -> Result<(), Fail> {
+    let name = "closed_desk_is_opened";
+    let mut desk = example_desk(rt.alloc())?;
+    let setup = Dialogue::of(rt.alloc(), &[ALPHA, AUTHORIZATION])?;
+    setup.assert_replies_of_lines(&rt, name, &mut desk)?;
+    assert_goes_on(&rt, rt.alloc(), name, desk.close())
+}
+
+#[test]
+fn rows_of_another_program_are_a_desk(rt: HostRuntime) -> Result<(), Fail> {
+    let conn = made(rt.alloc(), TABLES)?;
+    let name = "rows_of_another_program_are_a_desk";
+    assert_goes_on(&rt, rt.alloc(), name, conn)
+}

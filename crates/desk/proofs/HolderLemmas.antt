@@ -1,0 +1,122 @@
+-- Replies by the entries that decide them, and the rows that a request leaves.
+use Rattle.std.proofs.Common.{◌≡◌, ℕ, Bool, false, cond, List, [], ◌∷◌, Option, Some, None, IfSome, inl, inr, refl, sym, ap, ◌∙◌, subst}
+use Rattle.std.proofs.lemmas.Bool.{cases_Bool, cond-false, or_parts}
+use Rattle.isolation.specs.Isolation.{asks_of_all, AreJudgedAlike, AreSeenAlike, CommandsByEntries, QueriesByEntries}
+use Rattle.policy.specs.declared.change.Change.{Change}
+use Rattle.policy.specs.declared.change.HolderChange.{HolderChange}
+use Rattle.policy.specs.declared.charter.Charter.{Charter}
+use Rattle.policy.specs.declared.command.Command.{Command}
+use Rattle.policy.specs.declared.command.Query.{Query}
+use Rattle.policy.specs.declared.command.Query.TheVariants.{Show as ShowQuery, Content as ContentQuery, List as ListQuery, Payloads as PayloadsQuery, Validity as ValidityQuery}
+use Rattle.policy.specs.Answer.{holder_of, taker_of, IsOfHolders}
+use Rattle.policy.specs.History.{History, same_name}
+use Rattle.policy.specs.HolderEntries.{names, entries_naming, entries_for}
+use Rattle.policy.specs.Rows.{Rows, changed, changed_by_one, changed_by_second}
+use Rattle.policy.specs.Verdict.{IsLegal}
+use Rattle.desk.specs.Answer.{AnswersCommand, AnswersShow, AnswersContent, AnswersList, AnswersQuery, AnswersRequest}
+use Rattle.desk.specs.HolderAnswers.{IsAnswerByEntries, AnswersByEntries, RunsByEntries}
+use Rattle.desk.specs.Run.{Runs}
+use Rattle.desk.specs.declared.asked.Asked.{Asked}
+use Rattle.desk.specs.declared.asked.Request.{Request}
+use Rattle.desk.specs.declared.asked.Request.TheVariants.{Command as CommandRequest, Query as QueryRequest}
+use Rattle.desk.specs.declared.reply.Reply.{Reply}
+use Rattle.desk.specs.declared.reply.Reply.TheVariants.{Done, Shown, Content, Listed, Denied, Unavailable}
+
+-- ---- replies
+
+-- a command that is judged alike is answered alike
+command_alike : (charter : Charter) (one other : History) (day : ℕ) (caller : List ℕ) (command : Command) (reply : Reply) (after : History)
+    → AreJudgedAlike charter one other day caller command → AnswersCommand charter one day caller command reply after
+    → (later : History) × AnswersCommand charter other day caller command reply later
+command_alike charter one other day caller command (Done number) after alike answers =
+    (record { day = day; caller = caller; command = command } ∷ other, ((alike.verdict None).0 answers.0, answers.1 ∙ alike.number, refl))
+command_alike charter one other day caller command (Denied rule row) after alike answers =
+    (other, ((alike.verdict (Some rule)).0 answers.0, answers.1, refl))
+command_alike charter one other day caller command Unavailable after alike answers = (other, refl)
+command_alike charter one other day caller command reply after alike answers = absurd answers
+
+command_by_entries : CommandsByEntries → (charter : Charter) (history : History) (day : ℕ) (caller : List ℕ) (command : Command) (reply : Reply) (after : History)
+    → IsLegal charter history → AnswersCommand charter history day caller command reply after
+    → IsAnswerByEntries charter history day caller (CommandRequest command) reply
+command_by_entries law charter history day caller command reply after legal answers =
+    let entries = entries_for command history in
+    let By : Bool → Type 0 = λ all. IfSome (cond all None (Some entries)) (λ some. (later : History) × AnswersCommand charter some day caller command reply later) in
+    elim (cases_Bool (asks_of_all command)) [
+      | inl t ↦ subst By (sym t) tt
+      | inr f ↦ subst By (sym f) (command_alike charter history entries day caller command reply after (law charter history day caller command legal f) answers)
+    ]
+
+show_alike : {one other : History} {h : List ℕ} {day : ℕ} {caller : List ℕ} → AreSeenAlike one other h day caller → (n : ℕ) (reply : Reply)
+    → AnswersShow one h day caller n reply → AnswersShow other h day caller n reply
+show_alike alike n (Shown x) answers = (alike.shown n x).0 answers
+show_alike alike n (Denied rule row) answers = ((alike.show n (Some rule)).0 answers.0, answers.1)
+show_alike alike n Unavailable answers = tt
+show_alike alike n reply answers = absurd answers
+
+content_alike : {one other : History} {h : List ℕ} {day : ℕ} {caller : List ℕ} → AreSeenAlike one other h day caller → (n : ℕ) (reply : Reply)
+    → AnswersContent one h day caller n reply → AnswersContent other h day caller n reply
+content_alike alike n (Content text) answers = (answers.0, (alike.shown n answers.0).0 answers.1, answers.2)
+content_alike alike n (Denied rule row) answers = ((alike.show n (Some rule)).0 answers.0, answers.1)
+content_alike alike n Unavailable answers = tt
+content_alike alike n reply answers = absurd answers
+
+list_alike : {one other : History} {h : List ℕ} {day : ℕ} {caller : List ℕ} → AreSeenAlike one other h day caller → (reply : Reply)
+    → AnswersList one h day caller reply → AnswersList other h day caller reply
+list_alike alike (Listed xs) answers = (alike.listed xs.items).0 answers
+list_alike alike (Denied rule row) answers = ((alike.list (Some rule)).0 answers.0, answers.1)
+list_alike alike Unavailable answers = tt
+list_alike alike reply answers = absurd answers
+
+query_by_entries : QueriesByEntries → (charter : Charter) (history : History) (day : ℕ) (caller : List ℕ) (query : Query) (reply : Reply)
+    → IsLegal charter history → AnswersQuery history day caller query reply → IsAnswerByEntries charter history day caller (QueryRequest query) reply
+query_by_entries law charter history day caller (ShowQuery h n) reply legal answers =
+    (entries_naming h history, (show_alike (law charter history h day caller legal) n reply answers, refl))
+query_by_entries law charter history day caller (ContentQuery h n) reply legal answers =
+    (entries_naming h history, (content_alike (law charter history h day caller legal) n reply answers, refl))
+query_by_entries law charter history day caller (ListQuery h) reply legal answers =
+    (entries_naming h history, (list_alike (law charter history h day caller legal) reply answers, refl))
+query_by_entries law charter history day caller PayloadsQuery reply legal answers = tt
+query_by_entries law charter history day caller (ValidityQuery routes) reply legal answers = tt
+
+pub answers_by_entries : CommandsByEntries → QueriesByEntries → AnswersByEntries
+answers_by_entries commands queries charter history day caller (CommandRequest command) reply after legal answers =
+    command_by_entries commands charter history day caller command reply after legal answers
+answers_by_entries commands queries charter history day caller (QueryRequest query) reply after legal answers =
+    query_by_entries queries charter history day caller query reply legal answers.0
+
+-- ---- runs
+
+legal_after : (charter : Charter) (before : History) (day : ℕ) (caller : List ℕ) (request : Request) (reply : Reply) (after : History)
+    → IsLegal charter before → AnswersRequest charter before day caller request reply after → IsLegal charter after
+legal_after charter before day caller (CommandRequest command) (Done number) after legal answers = subst (IsLegal charter) (sym answers.2) (answers.0, legal)
+legal_after charter before day caller (CommandRequest command) (Denied rule row) after legal answers = subst (IsLegal charter) (sym answers.2) legal
+legal_after charter before day caller (CommandRequest command) Unavailable after legal answers = subst (IsLegal charter) (sym answers) legal
+legal_after charter before day caller (CommandRequest command) reply after legal answers = absurd answers
+legal_after charter before day caller (QueryRequest query) reply after legal answers = subst (IsLegal charter) (sym answers.1) legal
+
+pub runs_by_entries : AnswersByEntries → (charter : Charter) (before : History) (asked : List Asked) (replies : List Reply) (after : History)
+    → IsLegal charter before → Runs charter before asked replies after → RunsByEntries charter before asked replies
+runs_by_entries law charter before [] [] after legal runs = tt
+runs_by_entries law charter before [] (reply ∷ replies) after legal runs = absurd runs
+runs_by_entries law charter before (a ∷ more) [] after legal runs = absurd runs
+runs_by_entries law charter before (a ∷ more) (reply ∷ replies) after legal runs =
+    let later = legal_after charter before a.day a.caller a.request reply runs.0 legal runs.1 in
+    (law charter before a.day a.caller a.request reply runs.0 legal runs.1, runs.0, runs.1, runs_by_entries law charter runs.0 more replies after later runs.2)
+
+-- ---- rows
+
+left_by_one : (c : HolderChange) (named h : List ℕ) (rows : Option Rows) → c.holder ≡ named → same_name named h ≡ false → changed_by_one c h rows ≡ rows
+left_by_one c named h rows of other = cond-false _ _ _ (ap (λ g. same_name g h) of ∙ other)
+
+left_by_second : (second : Option HolderChange) (named h : List ℕ) (rows : Option Rows) → IfSome second (λ c. c.holder ≡ named) → same_name named h ≡ false
+    → changed_by_second second h rows ≡ rows
+left_by_second None named h rows of other = refl
+left_by_second (Some c) named h rows of other = left_by_one c named h rows of other
+
+-- a change of holders that the command names leaves the rows of any other
+pub others_left : (command : Command) (change : Change) (h : List ℕ) (rows : Option Rows) → IsOfHolders command change → names h command ≡ false
+    → changed change h rows ≡ rows
+others_left command change h rows of unnamed =
+    let others = or_parts (same_name (holder_of command) h) (same_name (taker_of command) h) unnamed in
+    left_by_second change.second (taker_of command) h (changed_by_one change.first h rows) of.1 others.1
+    ∙ left_by_one change.first (holder_of command) h rows of.0 others.0

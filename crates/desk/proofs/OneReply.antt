@@ -1,0 +1,191 @@
+-- A request has one reply on given entries.
+use Rattle.std.proofs.Common.{◌≡◌, ℕ, List, [], ◌∷◌, Option, Some, None, IfSome, inl, inr, refl, sym, ap, ◌∙◌, subst, filter}
+use Rattle.std.specs.Prelude.{IsSome}
+use Rattle.std.specs.String.{string_bytes}
+use Rattle.std.proofs.lemmas.Bool.{false≢true}
+use Rattle.policy.specs.declared.authorization.Auth.{Auth}
+use Rattle.policy.specs.declared.charter.Charter.{Charter}
+use Rattle.policy.specs.declared.command.Command.{Command}
+use Rattle.policy.specs.declared.command.Command.TheVariants.{Register, Delegate, Transfer, Reclaim, Grant, Revoke, Create, Amend, Withdraw}
+use Rattle.policy.specs.declared.command.Query.TheVariants.{Show as ShowQuery, Content as ContentQuery, List as ListQuery, Payloads as PayloadsQuery, Validity as ValidityQuery}
+use Rattle.policy.specs.declared.grant.Access.TheVariants.{Look}
+use Rattle.policy.specs.declared.rule.Rule.{Rule}
+use Rattle.policy.specs.Answer.{IsShown}
+use Rattle.policy.specs.History.{History}
+use Rattle.policy.specs.Permission.{is_permitted_terms}
+use Rattle.policy.specs.Terms.{grant_terms, Keeps, AreActive, HeldSinceMade, authorization_terms}
+use Rattle.policy.specs.Verdict.{ask, accept, numbered, Verdict, ShowVerdict, ListVerdict}
+use Rattle.desk.specs.Answer.{AnswersCommand, AnswersShow, AnswersContent, AnswersList, AnswersRequest}
+use Rattle.desk.specs.ContentText.{IsContentText}
+use Rattle.desk.specs.HolderAnswers.{deciding_entries, SaySame, OneReply}
+use Rattle.desk.specs.declared.asked.Request.{Request}
+use Rattle.desk.specs.declared.asked.Request.TheVariants.{Command as CommandRequest, Query as QueryRequest}
+use Rattle.desk.specs.declared.reply.Reply.{Reply}
+use Rattle.desk.specs.declared.reply.Reply.TheVariants.{Done, Shown, Content, Listed, Denied, Unavailable}
+
+-- ---- verdicts
+
+-- there is one verdict
+record One (verdict : Option Rule → Type 0) : Type 0 where
+  same : (a b : Option Rule) → verdict a → verdict b → a ≡ b
+
+asked : {rule : Rule} {P : Type 0} {rest : Option Rule → Type 0} → One rest → One (ask rule P rest)
+asked {rule} {P} {rest} one = record { same = both }
+  where
+    both : (a b : Option Rule) → ask rule P rest a → ask rule P rest b → a ≡ b
+    both None None x y = refl
+    both None (Some s) x (inl fails) = absurd (fails.0 x.0)
+    both None (Some s) x (inr holds) = one.same None (Some s) x.1 holds.1
+    both (Some r) None (inl fails) y = absurd (fails.0 y.0)
+    both (Some r) None (inr holds) y = one.same (Some r) None holds.1 y.1
+    both (Some r) (Some s) (inl fails) (inl also) = ap Some (fails.1 ∙ sym also.1)
+    both (Some r) (Some s) (inl fails) (inr holds) = absurd (fails.0 holds.0)
+    both (Some r) (Some s) (inr holds) (inl fails) = absurd (fails.0 holds.0)
+    both (Some r) (Some s) (inr holds) (inr also) = one.same (Some r) (Some s) holds.1 also.1
+
+accepted : One accept
+accepted = record { same = both }
+  where
+    both : (a b : Option Rule) → accept a → accept b → a ≡ b
+    both None None x y = refl
+    both None (Some s) x y = absurd y
+    both (Some r) b x y = absurd x
+
+one_verdict : (charter : Charter) (history : History) (day : ℕ) (caller : List ℕ) (c : Command) → One (Verdict charter history day caller c)
+one_verdict charter history day caller (Register holder) = asked (asked accepted)
+one_verdict charter history day caller (Delegate holder p) = asked (asked (asked (asked accepted)))
+one_verdict charter history day caller (Transfer p giver taker) = asked (asked (asked (asked accepted)))
+one_verdict charter history day caller (Reclaim holder p) = asked (asked (asked accepted))
+one_verdict charter history day caller (Grant holder name role scope until) = asked (asked (asked (asked accepted)))
+one_verdict charter history day caller (Revoke holder n) = asked (asked accepted)
+one_verdict charter history day caller (Create holder asn p max from until) = asked (asked (asked (asked (asked (asked (asked accepted))))))
+one_verdict charter history day caller (Amend holder n max until) = asked (asked (asked (asked (asked accepted))))
+one_verdict charter history day caller (Withdraw holder n) = asked (asked accepted)
+
+one_show : (history : History) (h : List ℕ) (day : ℕ) (caller : List ℕ) (n : ℕ) → One (ShowVerdict history h day caller n)
+one_show history h day caller n = asked (asked accepted)
+
+one_list : (history : History) (h : List ℕ) (day : ℕ) (caller : List ℕ) → One (ListVerdict history h day caller)
+one_list history h day caller = asked accepted
+
+none≢some : {r : Rule} {A : Type 0} → None ≡ Some r → A
+none≢some same = absurd cc
+
+denied : (r s : Rule) (row other : Option ℕ) → Some r ≡ Some s → row ≡ None → other ≡ None → Denied r row ≡ Denied s other
+denied r s row other rule left right = cc
+
+-- ---- active authorizations
+
+one_kept : (P : Auth → Type 0) (xs ys zs : List Auth) → Keeps P xs ys → Keeps P xs zs → ys ≡ zs
+one_kept P [] [] [] a b = refl
+one_kept P [] [] (z ∷ zs) a b = absurd b
+one_kept P [] (y ∷ ys) zs a b = absurd a
+one_kept P (x ∷ xs) [] [] a b = refl
+one_kept P (x ∷ xs) [] (z ∷ zs) a (inl b) = absurd (a.0 b.0)
+one_kept P (x ∷ xs) [] (z ∷ zs) a (inr b) = one_kept P xs [] (z ∷ zs) a.1 b.1
+one_kept P (x ∷ xs) (y ∷ ys) [] (inl a) b = absurd (b.0 a.0)
+one_kept P (x ∷ xs) (y ∷ ys) [] (inr a) b = one_kept P xs (y ∷ ys) [] a.1 b.1
+one_kept P (x ∷ xs) (y ∷ ys) (z ∷ zs) (inl a) (inl b) = ap (λ v. v ∷ ys) (a.1 ∙ sym b.1) ∙ ap (λ rest. z ∷ rest) (one_kept P xs ys zs a.2 b.2)
+one_kept P (x ∷ xs) (y ∷ ys) (z ∷ zs) (inl a) (inr b) = absurd (b.0 a.0)
+one_kept P (x ∷ xs) (y ∷ ys) (z ∷ zs) (inr a) (inl b) = absurd (a.0 b.0)
+one_kept P (x ∷ xs) (y ∷ ys) (z ∷ zs) (inr a) (inr b) = one_kept P xs (y ∷ ys) (z ∷ zs) a.1 b.1
+
+one_active : (history : History) (h : List ℕ) (xs ys : List Auth) → AreActive history h xs → AreActive history h ys → xs ≡ ys
+one_active history h xs ys a b = one_kept (HeldSinceMade history h) (authorization_terms history h) xs ys a b
+
+one_shown : (history : History) (h : List ℕ) (day : ℕ) (caller : List ℕ) (n : ℕ) (x y : Auth) → IsShown history h day caller n x → IsShown history h day caller n y → x ≡ y
+one_shown history h day caller n x y a b =
+    let found : Some x ≡ Some y = sym a.1.2 ∙ ap (numbered n) (one_active history h a.1.0 b.1.0 a.1.1 b.1.1) ∙ b.1.2 in
+    cc
+
+-- ---- replies
+
+one_of_command : (charter : Charter) (history : History) (day : ℕ) (caller : List ℕ) (c : Command) (a b : Reply) (after later : History)
+    → AnswersCommand charter history day caller c a after → AnswersCommand charter history day caller c b later → SaySame a b
+one_of_command charter history day caller c Unavailable b after later x y = tt
+one_of_command charter history day caller c (Done m) (Done n) after later x y = ap Done (x.1 ∙ sym y.1)
+one_of_command charter history day caller c (Done m) (Denied s row) after later x y = none≢some ((one_verdict charter history day caller c).same None (Some s) x.0 y.0)
+one_of_command charter history day caller c (Done m) Unavailable after later x y = tt
+one_of_command charter history day caller c (Done m) b after later x y = absurd y
+one_of_command charter history day caller c (Denied r row) (Done n) after later x y = none≢some ((one_verdict charter history day caller c).same None (Some r) y.0 x.0)
+one_of_command charter history day caller c (Denied r row) (Denied s other) after later x y =
+    denied r s row other ((one_verdict charter history day caller c).same (Some r) (Some s) x.0 y.0) x.1 y.1
+one_of_command charter history day caller c (Denied r row) Unavailable after later x y = tt
+one_of_command charter history day caller c (Denied r row) b after later x y = absurd y
+one_of_command charter history day caller c a b after later x y = absurd x
+
+one_of_show : (history : History) (h : List ℕ) (day : ℕ) (caller : List ℕ) (n : ℕ) (a b : Reply)
+    → AnswersShow history h day caller n a → AnswersShow history h day caller n b → SaySame a b
+one_of_show history h day caller n Unavailable b x y = tt
+one_of_show history h day caller n (Shown u) (Shown v) x y = ap Shown (one_shown history h day caller n u v x y)
+one_of_show history h day caller n (Shown u) (Denied s row) x y = none≢some ((one_show history h day caller n).same None (Some s) x.0 y.0)
+one_of_show history h day caller n (Shown u) Unavailable x y = tt
+one_of_show history h day caller n (Shown u) b x y = absurd y
+one_of_show history h day caller n (Denied r row) (Shown v) x y = none≢some ((one_show history h day caller n).same None (Some r) y.0 x.0)
+one_of_show history h day caller n (Denied r row) (Denied s other) x y =
+    denied r s row other ((one_show history h day caller n).same (Some r) (Some s) x.0 y.0) x.1 y.1
+one_of_show history h day caller n (Denied r row) Unavailable x y = tt
+one_of_show history h day caller n (Denied r row) b x y = absurd y
+one_of_show history h day caller n a b x y = absurd x
+
+one_of_content : (history : History) (h : List ℕ) (day : ℕ) (caller : List ℕ) (n : ℕ) (a b : Reply)
+    → AnswersContent history h day caller n a → AnswersContent history h day caller n b → SaySame a b
+one_of_content history h day caller n Unavailable b x y = tt
+one_of_content history h day caller n (Content s) (Content t) x y =
+    (x.0, x.2, subst (λ (auth : Auth). IsContentText auth (string_bytes t)) (sym (one_shown history h day caller n x.0 y.0 x.1 y.1)) y.2)
+one_of_content history h day caller n (Content text) (Denied s row) x y = none≢some ((one_show history h day caller n).same None (Some s) x.1.0 y.0)
+one_of_content history h day caller n (Content text) Unavailable x y = tt
+one_of_content history h day caller n (Content text) b x y = absurd y
+one_of_content history h day caller n (Denied r row) (Content text) x y = none≢some ((one_show history h day caller n).same None (Some r) y.1.0 x.0)
+one_of_content history h day caller n (Denied r row) (Denied s other) x y =
+    denied r s row other ((one_show history h day caller n).same (Some r) (Some s) x.0 y.0) x.1 y.1
+one_of_content history h day caller n (Denied r row) Unavailable x y = tt
+one_of_content history h day caller n (Denied r row) b x y = absurd y
+one_of_content history h day caller n a b x y = absurd x
+
+one_of_list : (history : History) (h : List ℕ) (day : ℕ) (caller : List ℕ) (a b : Reply)
+    → AnswersList history h day caller a → AnswersList history h day caller b → SaySame a b
+one_of_list history h day caller Unavailable b x y = tt
+one_of_list history h day caller (Listed us) (Listed vs) x y =
+    x.1.2 ∙ ap (filter (λ z. is_permitted_terms (grant_terms history h) day caller Look z)) (one_active history h x.1.0 y.1.0 x.1.1 y.1.1) ∙ sym y.1.2
+one_of_list history h day caller (Listed us) (Denied s row) x y = none≢some ((one_list history h day caller).same None (Some s) x.0 y.0)
+one_of_list history h day caller (Listed us) Unavailable x y = tt
+one_of_list history h day caller (Listed us) b x y = absurd y
+one_of_list history h day caller (Denied r row) (Listed vs) x y = none≢some ((one_list history h day caller).same None (Some r) y.0 x.0)
+one_of_list history h day caller (Denied r row) (Denied s other) x y =
+    denied r s row other ((one_list history h day caller).same (Some r) (Some s) x.0 y.0) x.1 y.1
+one_of_list history h day caller (Denied r row) Unavailable x y = tt
+one_of_list history h day caller (Denied r row) b x y = absurd y
+one_of_list history h day caller a b x y = absurd x
+
+-- ---- the entries that decide a request
+
+abbrev AnswersOn : Charter → ℕ → List ℕ → Request → Reply → Option History → Type 0
+AnswersOn charter day caller request reply entries =
+    IfSome entries (λ some. (after : History) × AnswersRequest charter some day caller request reply after)
+
+one_on : (charter : Charter) (day : ℕ) (caller : List ℕ) (request : Request) (a b : Reply) (entries : Option History)
+    → ((history after later : History) → AnswersRequest charter history day caller request a after → AnswersRequest charter history day caller request b later → SaySame a b)
+    → IsSome entries → AnswersOn charter day caller request a entries → AnswersOn charter day caller request b entries → SaySame a b
+one_on charter day caller request a b None one some x y = absurd (false≢true some)
+one_on charter day caller request a b (Some entries) one some x y = one entries x.0 y.0 x.1 y.1
+
+-- the same, of two histories that agree on them
+agreed : (charter : Charter) (one other : History) (day : ℕ) (caller : List ℕ) (request : Request) (a b : Reply)
+    → ((history after later : History) → AnswersRequest charter history day caller request a after → AnswersRequest charter history day caller request b later → SaySame a b)
+    → IsSome (deciding_entries request one) → deciding_entries request one ≡ deciding_entries request other
+    → AnswersOn charter day caller request a (deciding_entries request one) → AnswersOn charter day caller request b (deciding_entries request other) → SaySame a b
+agreed charter one other day caller request a b determined some same x y =
+    one_on charter day caller request a b (deciding_entries request one) determined some x (subst (AnswersOn charter day caller request b) (sym same) y)
+
+pub one_reply : OneReply
+one_reply charter one other day caller (CommandRequest c) a b some same x y =
+    agreed charter one other day caller (CommandRequest c) a b (λ history after later p q. one_of_command charter history day caller c a b after later p q) some same x y
+one_reply charter one other day caller (QueryRequest (ShowQuery h n)) a b some same x y =
+    agreed charter one other day caller (QueryRequest (ShowQuery h n)) a b (λ history after later p q. one_of_show history h day caller n a b p.0 q.0) some same x y
+one_reply charter one other day caller (QueryRequest (ContentQuery h n)) a b some same x y =
+    agreed charter one other day caller (QueryRequest (ContentQuery h n)) a b (λ history after later p q. one_of_content history h day caller n a b p.0 q.0) some same x y
+one_reply charter one other day caller (QueryRequest (ListQuery h)) a b some same x y =
+    agreed charter one other day caller (QueryRequest (ListQuery h)) a b (λ history after later p q. one_of_list history h day caller a b p.0 q.0) some same x y
+one_reply charter one other day caller (QueryRequest PayloadsQuery) a b some same x y = absurd (false≢true some)
+one_reply charter one other day caller (QueryRequest (ValidityQuery routes)) a b some same x y = absurd (false≢true some)

@@ -1,0 +1,5 @@
+use Rattle.desk.proofs.OneReply.{one_reply}
+use Rattle.desk.proofs.laws.one_reply.Goals as goal
+
+pub returns : goal.returns
+returns c = one_reply

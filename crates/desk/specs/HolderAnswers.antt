@@ -1,0 +1,90 @@
+-- Holders that share a desk: which entries of the history decide the reply to a request, and whose rows a
+-- request may change.
+use Rattle.std.specs.Prelude.{◌≡◌, ℕ, Bool, false, List, [], ◌∷◌, Option, Some, None, IsSome, IfSome, option_map, if◌then◌else◌}
+use Rattle.std.specs.List.{list_any}
+use Rattle.std.specs.String.{string_bytes}
+use Rattle.isolation.specs.Isolation.{asks_of_all}
+use Rattle.policy.specs.declared.authorization.Auth.{Auth}
+use Rattle.policy.specs.declared.charter.Charter.{Charter}
+use Rattle.policy.specs.History.{History}
+use Rattle.policy.specs.HolderEntries.{names, entries_naming, entries_for, holder_asked}
+use Rattle.policy.specs.Rows.{Rows}
+use Rattle.policy.specs.Verdict.{IsLegal}
+use Rattle.sqlite.specs.Store.{Ghosts}
+use Rattle.store.specs.StoreRows.{Holds}
+use Rattle.desk.specs.Answer.{AnswersRequest}
+use Rattle.desk.specs.ContentText.{IsContentText}
+use Rattle.desk.specs.declared.asked.Asked.{Asked}
+use Rattle.desk.specs.declared.asked.Request.{Request}
+use Rattle.desk.specs.declared.asked.Request.TheVariants.{Command as CommandRequest, Query as QueryRequest}
+use Rattle.desk.specs.declared.handling.Desk.{Desk}
+use Rattle.desk.specs.declared.reply.Reply.{Reply}
+use Rattle.desk.specs.declared.reply.Reply.TheVariants.{Content, Listed, Unavailable}
+
+-- the entries that decide the reply to a request: those that name one of its holders; none where the
+-- request asks about all holders
+abbrev pub deciding_entries : Request → History → Option History
+deciding_entries (CommandRequest command) history =
+    if asks_of_all command then None else Some (entries_for command history)
+deciding_entries (QueryRequest query) history =
+    option_map (λ h. entries_naming h history) (holder_asked query)
+
+-- the reply answers the request on the entries that decide it alone
+abbrev pub IsAnswerByEntries : Charter → History → ℕ → List ℕ → Request → Reply → Type 0
+IsAnswerByEntries charter history day caller request reply =
+    IfSome (deciding_entries request history) (λ entries.
+    (after : History) × AnswersRequest charter entries day caller request reply after)
+
+-- what answers a request on a legal history does so by the entries that decide it
+abbrev pub AnswersByEntries : Type 0
+AnswersByEntries =
+    (charter : Charter) (history : History) (day : ℕ) (caller : List ℕ) (request : Request) (reply : Reply)
+    (after : History) → IsLegal charter history
+    → AnswersRequest charter history day caller request reply after
+    → IsAnswerByEntries charter history day caller request reply
+
+-- The replies say the same: of lists the items, of contents that they are texts of one authorization's. Of
+-- Unavailable nothing is asked.
+abbrev pub SaySame : Reply → Reply → Type 0
+SaySame Unavailable other = Unit {0}
+SaySame one Unavailable = Unit {0}
+SaySame (Listed xs) (Listed ys) = xs.items ≡ ys.items
+SaySame (Content text) (Content other) =
+    (x : Auth) × IsContentText x (string_bytes text) × IsContentText x (string_bytes other)
+SaySame one other = one ≡ other
+
+-- histories that agree on the entries that decide a request give it the same reply
+abbrev pub OneReply : Type 0
+OneReply =
+    (charter : Charter) (one other : History) (day : ℕ) (caller : List ℕ) (request : Request) (reply again : Reply)
+    → IsSome (deciding_entries request one) → deciding_entries request one ≡ deciding_entries request other
+    → IsAnswerByEntries charter one day caller request reply
+    → IsAnswerByEntries charter other day caller request again
+    → SaySame reply again
+
+-- each reply answers by the entries that decide it, of the history that the replies before it left
+abbrev pub RunsByEntries : Charter → History → List Asked → List Reply → Type 0
+RunsByEntries charter before [] [] = Unit {0}
+RunsByEntries charter before [] (reply ∷ replies) = ⊥
+RunsByEntries charter before (asked ∷ more) [] = ⊥
+RunsByEntries charter before (asked ∷ more) (reply ∷ replies) =
+    IsAnswerByEntries charter before asked.day asked.caller asked.request reply
+    × (next : History)
+    × AnswersRequest charter before asked.day asked.caller asked.request reply next
+    × RunsByEntries charter next more replies
+
+-- a command may change the rows of the holders that it names, and no other request changes rows
+abbrev pub may_change : Request → List ℕ → Bool
+may_change (CommandRequest command) h = names h command
+may_change (QueryRequest query) h = false
+
+-- one of the requests may
+abbrev pub may_change_any : List Asked → List ℕ → Bool
+may_change_any asked h = list_any (λ a. may_change a.request h) asked
+
+-- of each holder for which the test is false the tables hold, in every one, the rows that they held
+abbrev pub KeepsOthers : {S : Type 0} → Ghosts S → (List ℕ → Bool) → Desk S → Desk S → Type 0
+KeepsOthers g changes old new =
+    (rows : List ℕ → Option Rows) → Holds g old.store rows
+    → (after : List ℕ → Option Rows) × Holds g new.store after
+    × ((h : List ℕ) → changes h ≡ false → after h ≡ rows h)

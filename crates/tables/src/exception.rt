@@ -1,0 +1,105 @@
+//! Reading the rows of the table `slurm`: the exceptions of the SLURM file in force.
+ghost use Rattle.std.specs.Prelude.{◌≡◌, ◌↔◌, [], ◌∷◌, codes, IsTrue};
+ghost use Rattle.sqlite_value.specs.declared.value.Value.TheVariants.{Text};
+ghost use Rattle.sqlite_value.specs.Value.{owned};
+ghost use Rattle.tables.specs.Cells.{number_cell, kind_number, filter_cells, exception_cells, exception_row};
+ghost use Rattle.tables.specs.Decode.{Decodes, IsPosition, FilterFits, ExceptionFits, ExceptionRowFits};
+ghost use Rattle.tables.specs.Tables.{columns};
+
+use crate::FromRow;
+use crate::decode::{asn_in, cell, number_in, prefix_in, vrp_in};
+use addr::Vrp;
+use slurm::Filter;
+use sqlite::Row;
+use sqlite::types::ValueRef;
+
+/// A prefix filter or a prefix assertion.
+#[derive(Clone, Copy, Debug, PartialEq, Eq)]
+pub enum Exception {
+    Filter(Filter),
+    Assertion(Vrp),
+}
+
+/// An exception, and its place among those of its kind.
+#[derive(Clone, Copy, Debug, PartialEq, Eq)]
+pub struct ExceptionRow {
+    /// Counted from 1.
+    pub position: u32,
+    pub exception: Exception,
+}
+
+impl FromRow for ExceptionRow {
+    ghost cells = { exception_row };
+
+    ghost width = { 8 };
+
+    ghost fits = { ExceptionRowFits };
+
+    fn in_row(row: &Row) -> Option<ExceptionRow> {
+        if !is_main(cell(row, 0)) {
+            return None;
+        }
+        Some(ExceptionRow {
+            position: position_in(cell(row, 2))?,
+            exception: exception_in(row)?,
+        })
+    }
+}
+
+/// Whether the value names the one SLURM file that a desk has.
+fn is_main(file: ValueRef<'_>) -> bool
+    ensures { IsTrue result ↔ (owned file.entry ≡ Text (codes "main")) }
+{
+    match file {
+        ValueRef::Text(name) => name == b"main".as_slice(),
+        _ => false,
+    }
+}
+
+fn position_in(value: ValueRef<'_>) -> Option<u32>
+    ensures { Decodes number_cell IsPosition (owned value.entry) result }
+{
+    match number_in(value)? {
+        0 => None,
+        position => Some(position),
+    }
+}
+
+/// The exception that the columns show beside those of the file and the position.
+fn exception_in(row: &Row) -> Option<Exception>
+    ensures { Decodes (λ e. number_cell (kind_number e) ∷ exception_cells e) ExceptionFits
+        (columns (1 ∷ 3 ∷ 4 ∷ 5 ∷ 6 ∷ 7 ∷ []) row.now) result }
+{
+    let (family, first, length) = (cell(row, 3), cell(row, 4), cell(row, 5));
+    let (max, asn) = (cell(row, 6), cell(row, 7));
+    match cell(row, 1) {
+        ValueRef::Int(1) => Some(Exception::Filter(filter_in(family, first, length, max, asn)?)),
+        ValueRef::Int(2) => Some(Exception::Assertion(vrp_in(asn, family, first, length, max)?)),
+        _ => None,
+    }
+}
+
+fn filter_in(
+    family: ValueRef<'_>,
+    first: ValueRef<'_>,
+    length: ValueRef<'_>,
+    max: ValueRef<'_>,
+    asn: ValueRef<'_>,
+) -> Option<Filter>
+    ensures { Decodes filter_cells FilterFits
+        (owned family.entry ∷ owned first.entry ∷ owned length.entry ∷ owned max.entry
+        ∷ owned asn.entry ∷ []) result }
+{
+    match (family, first, length, max, asn) {
+        (ValueRef::Null, ValueRef::Null, ValueRef::Null, ValueRef::Null, _) => {
+            Some(Filter::By(asn_in(asn)?))
+        }
+        (_, _, _, ValueRef::Null, ValueRef::Null) => {
+            Some(Filter::Under(prefix_in(family, first, length)?))
+        }
+        (_, _, _, ValueRef::Null, _) => {
+            Some(Filter::Both(prefix_in(family, first, length)?, asn_in(asn)?))
+        }
+        _ => None,
+    }
+}
