@@ -7,7 +7,7 @@ use Rattle.addr.specs.Family.{width}
 use Rattle.addr.specs.Address.{bit_of, contains, last_of, same_prefix}
 use Rattle.addr.specs.declared.prefix.Prefix.{Prefix}
 use Rattle.addr.proofs.AddressLemmas.{below_widest, first_below, multiple-at_most, width_small}
-use Rattle.payload.proofs.Prefixes.{block-within, contains-ends, ends-contains}
+use Rattle.addr.proofs.PrefixOrderLemmas.{block-within, contains-ends, ends-contains}
 
 -- how many addresses half of the prefix has
 abbrev pub half_size : Prefix → ℕ

@@ -20,7 +20,7 @@ use Rattle.payload.specs.declared.trie.originator.Originator.{Originator}
 use Rattle.payload.specs.steps.Tree.{Tree, Leaf, Fork, IsPruned, originator_cmp}
 use Rattle.payload.specs.steps.Trie.{node_vrps, originator_of, vrps_at}
 use Rattle.payload.proofs.Halves.{half_size, lower, upper, contains-lower, contains-upper, contains-trans, contains-longer, within-first}
-use Rattle.payload.proofs.Prefixes.{cmp-less, cmp-equal, contains-ends}
+use Rattle.addr.proofs.PrefixOrderLemmas.{cmp-less, cmp-equal, contains-ends}
 use Rattle.payload.proofs.TrieVrps.{HasLengths, node_vrps-cons, lower_vrps, upper_vrps, leaf-or-room, vrp_of, All-node, All-within}
 
 -- each item of the one list before each of the other

@@ -15,7 +15,7 @@ use Rattle.payload.specs.declared.trie.originator.Originator.{Originator}
 use Rattle.payload.specs.steps.Tree.{Tree, Leaf, Fork, IsPruned, is_bare}
 use Rattle.payload.specs.steps.Trie.{node_vrps, originator_of, vrp_at, vrp_if, vrp_with, vrps_at, vrps_below}
 use Rattle.payload.proofs.Halves.{half_size, lower, upper, contains-lower, contains-upper, contains-trans, contains-longer, lower-bit, upper-bit}
-use Rattle.payload.proofs.Prefixes.{ends-contains}
+use Rattle.addr.proofs.PrefixOrderLemmas.{ends-contains}
 
 abbrev pub HasLengths : Prefix → Originator → Type 0
 HasLengths p o = (p.length ≤ o.max) × (o.max ≤ width p.family)

@@ -19,7 +19,7 @@ use Rattle.payload.specs.steps.Tree.{Tree, Leaf, Fork, IsPruned, has, has_on_pat
 use Rattle.payload.specs.steps.Trie.{bits_from, node_vrps, originator_of, vrps_at}
 use Rattle.payload.proofs.Bits.{bits_from-end, bits_from-next}
 use Rattle.payload.proofs.Halves.{lower, upper, contains-longer, contains-same, lower-contains, upper-contains}
-use Rattle.payload.proofs.Prefixes.{ends-contains}
+use Rattle.addr.proofs.PrefixOrderLemmas.{ends-contains}
 use Rattle.payload.proofs.Sets.{is_vrp, same_vrp-equal}
 use Rattle.payload.proofs.Trees.{has-leaf, is_originator}
 use Rattle.payload.proofs.TrieVrps.{lower_vrps, upper_vrps, leaf-or-room, IsRound, any-node, any-here, any-zero, any-one}

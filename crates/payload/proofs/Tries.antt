@@ -18,7 +18,7 @@ use Rattle.payload.specs.steps.Tree.{Tree, Leaf, IsInserted, IsRemoved, IsPruned
 use Rattle.payload.specs.steps.Trie.{bits_from, originator_of, trie_vrps, vrps_at, vrps_below}
 use Rattle.payload.proofs.Bits.{length-bits_from}
 use Rattle.payload.proofs.Halves.{lower, upper, contains-longer}
-use Rattle.payload.proofs.Prefixes.{contains-ends, ends-contains}
+use Rattle.addr.proofs.PrefixOrderLemmas.{contains-ends, ends-contains}
 use Rattle.payload.proofs.Sets.{is_vrp, same_vrp-equal, contains-from_list}
 use Rattle.payload.proofs.Trees.{has-leaf, inserted-only, pruned-only, place-itself}
 use Rattle.payload.proofs.TrieVrps.{All-within, leaf-or-room, node_vrps-cons}
