@@ -32,7 +32,7 @@ multiple-more x i j le h =
     rw parts (add-mul-mod_self_right x (2 ^ (i - j)) (2 ^ j) ∙ h)
 
 -- an aligned block that begins in another, not after z, and not before x where both begin together, lies in it
-block-within : (x y z i j : ℕ) → x % 2 ^ i ≡ 0 → y % 2 ^ j ≡ 0 → x ≤ y → y ≤ z → z < x + 2 ^ i → (x ≡ y → j ≤ i) → y + 2 ^ j ≤ x + 2 ^ i
+pub block-within : (x y z i j : ℕ) → x % 2 ^ i ≡ 0 → y % 2 ^ j ≡ 0 → x ≤ y → y ≤ z → z < x + 2 ^ i → (x ≡ y → j ≤ i) → y + 2 ^ j ≤ x + 2 ^ i
 block-within x y z i j mx my le most within tie =
     elim (cases_lt i j) [
       | inl greater ↦

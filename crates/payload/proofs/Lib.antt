@@ -1,9 +1,17 @@
+pub mod Bits
 pub mod Dedup
 pub mod Fronts
+pub mod Halves
 pub mod Left
 pub mod Lengths
 pub mod Places
 pub mod Prefixes
 pub mod Sets
+pub mod SortedItems
+pub mod Trees
+pub mod TrieOrder
+pub mod TrieVrps
+pub mod TrieWalks
+pub mod Tries
 pub mod Unlike
 pub mod Visits

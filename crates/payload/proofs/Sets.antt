@@ -67,6 +67,20 @@ from_list-insert vrps at v = same_set _ _ (λ w.
 pub same_vrp-equal : (v w : Vrp) → is_vrp v w ≡ true → v ≡ w
 same_vrp-equal v w h = vrp_order.exact v w ((Equal-is (vrp_cmp v w)).0 h)
 
+-- a list with one VRP more makes the set with it inserted
+pub members-insert : (s : set.VrpSet) (xs zs : List Vrp) (v : Vrp) → set.from_list xs ≡ s → ((w : Vrp) → list_any (is_vrp w) zs ≡ (is_vrp w v || list_any (is_vrp w) xs)) → set.from_list zs ≡ set.insert s v
+members-insert s xs zs v view members = same_set _ _ (λ w.
+    contains-from_list zs w ∙ members w
+    ∙ ap (λ b. is_vrp w v || b) (sym (contains-from_list xs w) ∙ ap (λ t. set.contains t w) view)
+    ∙ sym (contains-insert s v w))
+
+-- and one with one VRP less the set with it removed
+pub members-remove : (s : set.VrpSet) (xs zs : List Vrp) (v : Vrp) → set.from_list xs ≡ s → ((w : Vrp) → list_any (is_vrp w) zs ≡ (not (is_vrp w v) && list_any (is_vrp w) xs)) → set.from_list zs ≡ set.remove s v
+members-remove s xs zs v view members = same_set _ _ (λ w.
+    contains-from_list zs w ∙ members w
+    ∙ ap (λ b. not (is_vrp w v) && b) (sym (contains-from_list xs w) ∙ ap (λ t. set.contains t w) view)
+    ∙ sym (contains-remove s v w))
+
 -- a VRP that is there is inserted to no effect
 pub insert-present : (s : set.VrpSet) (v : Vrp) → set.contains s v ≡ true → s ≡ set.insert s v
 insert-present s v there = same_set _ _ (λ w. at w (is_vrp w v) refl ∙ sym (contains-insert s v w))

@@ -1,3 +1,7 @@
--- What the steps of a search leave, and how short its prefixes may be, which no public clause speaks of.
+-- What the steps of a search leave, how short its prefixes may be, and what the nodes of a trie are seen as, which no
+-- public clause speaks of.
 pub mod Search
 pub mod Shortest
+pub mod Shrinks
+pub mod Tree
+pub mod Trie

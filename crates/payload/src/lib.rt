@@ -6,9 +6,12 @@ mod list;
 mod search;
 mod shortest;
 mod sink;
+mod sorted;
+mod trie;
 mod validity;
 
 pub use index::PayloadIndex;
 pub use list::ListIndex;
 pub use sink::{Sink, Stop};
+pub use trie::Trie;
 pub use validity::Validity;

@@ -1,0 +1,163 @@
+-- Trees, by what stands at the end of each path.
+use Rattle.std.proofs.Common.{◌≡◌, ℕ, ◌+◌, ◌≤◌, ◌<◌, Bool, true, false, not, ◌&&◌, ◌||◌, List, [], ◌∷◌, length, refl, sym, ap, ◌∙◌, subst, arith, Result, Ok, Err}
+use Rattle.std.specs.Prelude.{OnOk, OnErr}
+use Rattle.std.specs.Cmp.{IsTotalOrder, nat_cmp_total, on_total, then_total}
+use Rattle.std.specs.FinMap.{nat_cmp-IsAntisymmetric}
+use Rattle.std.specs.List.{All, list_any}
+use Rattle.std.specs.Ordering.{eq_by_cmp, is_eq}
+use Rattle.std.specs.declared.cmp.Ordering.TheVariants.{Equal}
+use Rattle.std.proofs.lemmas.Cmp.{tied_itself}
+use Rattle.std.proofs.lemmas.List.Elements.{All-nil, All-cons}
+use Rattle.addr.proofs.OrderLemmas.{both_equal}
+use Rattle.payload.specs.Rising.{RiseBy}
+use Rattle.payload.specs.declared.trie.originator.Originator.{Originator}
+use Rattle.payload.specs.steps.Tree.{Tree, Leaf, Fork, Top, tree,  AreOriginators, IsInserted, IsRemoved, IsPruned, below, has, here, is_bare, is_place, only, originator_cmp, same_numbers}
+use Rattle.payload.proofs.SortedItems.{All-inserted, All-removed}
+
+abbrev pub is_originator : Originator → Originator → Bool
+is_originator o q = eq_by_cmp originator_cmp o q
+
+pub originators_total : IsTotalOrder originator_cmp
+originators_total = then_total (on_total (λ o. o.max) nat_cmp_total) (on_total (λ o. o.asn.0) nat_cmp_total)
+
+pub originators_exact : (o q : Originator) → originator_cmp o q ≡ Equal → o ≡ q
+originators_exact o q e =
+    let parts = both_equal _ _ e in
+    let max = nat_cmp-IsAntisymmetric _ _ parts.0 in
+    let asn = nat_cmp-IsAntisymmetric _ _ parts.1 in
+    same_numbers o q (λ i. (max i, asn i))
+
+pub has-leaf : (path : List Bool) (o : Originator) → has path o Leaf ≡ false
+has-leaf [] o = refl
+has-leaf (bit ∷ path) o = has-leaf path o
+
+-- a tree that has an originator is not bare
+pub full-has : (path : List Bool) (o : Originator) (t : Tree) → has path o t ≡ true → is_bare t ≡ false
+full-has path o Leaf there = refl
+full-has path o (Fork (q ∷ originators) zero one) there = refl
+full-has path o (Fork [] (Fork xs z u) one) there = refl
+full-has path o (Fork [] Leaf (Fork xs z u)) there = refl
+full-has [] o (Fork [] Leaf Leaf) there = cc
+full-has (false ∷ path) o (Fork [] Leaf Leaf) there = let none = has-leaf path o in cc
+full-has (true ∷ path) o (Fork [] Leaf Leaf) there = let none = has-leaf path o in cc
+
+pub place-itself : (path : List Bool) (o : Originator) → is_place path o path o ≡ true
+place-itself [] o = ap is_eq (tied_itself originators_total o)
+place-itself (false ∷ path) o = place-itself path o
+place-itself (true ∷ path) o = place-itself path o
+
+pub full-inserted : (path : List Bool) (o : Originator) (old new : Tree) → IsInserted path o old new → is_bare new ≡ false
+full-inserted path o old new is = full-has path o new (is path o ∙ ap (λ b. b || has path o old) (place-itself path o))
+
+-- ---- a node changes at itself or in one child
+
+pub inserted-here : (o : Originator) (xs ys : List Originator) (zero one : Tree) → ((q : Originator) → list_any (is_originator q) ys ≡ (is_originator q o || list_any (is_originator q) xs)) → IsInserted [] o (Fork xs zero one) (Fork ys zero one)
+inserted-here o xs ys zero one members [] q = members q
+inserted-here o xs ys zero one members (false ∷ other) q = refl
+inserted-here o xs ys zero one members (true ∷ other) q = refl
+
+pub inserted-zero : (path : List Bool) (o : Originator) (xs : List Originator) (zero zero' one : Tree) → IsInserted path o zero zero' → IsInserted (false ∷ path) o (Fork xs zero one) (Fork xs zero' one)
+inserted-zero path o xs zero zero' one is [] q = refl
+inserted-zero path o xs zero zero' one is (false ∷ other) q = is other q
+inserted-zero path o xs zero zero' one is (true ∷ other) q = refl
+
+pub inserted-one : (path : List Bool) (o : Originator) (xs : List Originator) (zero one one' : Tree) → IsInserted path o one one' → IsInserted (true ∷ path) o (Fork xs zero one) (Fork xs zero one')
+inserted-one path o xs zero one one' is [] q = refl
+inserted-one path o xs zero one one' is (false ∷ other) q = refl
+inserted-one path o xs zero one one' is (true ∷ other) q = is other q
+
+pub removed-here : (o : Originator) (xs ys : List Originator) (zero one : Tree) → ((q : Originator) → list_any (is_originator q) ys ≡ (not (is_originator q o) && list_any (is_originator q) xs)) → IsRemoved [] o (Fork xs zero one) (Fork ys zero one)
+removed-here o xs ys zero one members [] q = members q
+removed-here o xs ys zero one members (false ∷ other) q = refl
+removed-here o xs ys zero one members (true ∷ other) q = refl
+
+pub removed-zero : (path : List Bool) (o : Originator) (xs : List Originator) (zero zero' one : Tree) → IsRemoved path o zero zero' → IsRemoved (false ∷ path) o (Fork xs zero one) (Fork xs zero' one)
+removed-zero path o xs zero zero' one is [] q = refl
+removed-zero path o xs zero zero' one is (false ∷ other) q = is other q
+removed-zero path o xs zero zero' one is (true ∷ other) q = refl
+
+pub removed-one : (path : List Bool) (o : Originator) (xs : List Originator) (zero one one' : Tree) → IsRemoved path o one one' → IsRemoved (true ∷ path) o (Fork xs zero one) (Fork xs zero one')
+removed-one path o xs zero one one' is [] q = refl
+removed-one path o xs zero one one' is (false ∷ other) q = refl
+removed-one path o xs zero one one' is (true ∷ other) q = is other q
+
+and-none : (b : Bool) → false ≡ (b && false)
+and-none true = refl
+and-none false = refl
+
+-- from no node nothing is taken out
+pub removed-leaf : (path : List Bool) (o : Originator) → IsRemoved path o Leaf Leaf
+removed-leaf path o other q = has-leaf other q ∙ and-none (not (is_place path o other q)) ∙ ap (λ b. not (is_place path o other q) && b) (sym (has-leaf other q))
+
+bare-none : (t : Tree) → is_bare t ≡ true → (path : List Bool) (o : Originator) → has path o t ≡ false
+bare-none Leaf bare path o = has-leaf path o
+bare-none (Fork [] Leaf Leaf) bare [] o = refl
+bare-none (Fork [] Leaf Leaf) bare (false ∷ path) o = has-leaf path o
+bare-none (Fork [] Leaf Leaf) bare (true ∷ path) o = has-leaf path o
+bare-none (Fork [] Leaf (Fork xs zero one)) bare path o = cc
+bare-none (Fork [] (Fork xs zero one) other) bare path o = cc
+bare-none (Fork (q ∷ originators) zero one) bare path o = cc
+
+-- a bare node that is let go had nothing
+pub removed-bare : (path : List Bool) (o : Originator) (old new : Tree) → is_bare new ≡ true → IsRemoved path o old new → IsRemoved path o old Leaf
+removed-bare path o old new bare is other q = has-leaf other q ∙ sym (bare-none new bare other q) ∙ is other q
+
+-- ---- new nodes
+
+pub inserted-only : (path : List Bool) (o : Originator) → IsInserted path o Leaf (only path o)
+inserted-only [] o [] q = refl
+inserted-only [] o (false ∷ other) q = refl
+inserted-only [] o (true ∷ other) q = refl
+inserted-only (false ∷ path) o [] q = refl
+inserted-only (false ∷ path) o (false ∷ other) q = inserted-only path o other q
+inserted-only (false ∷ path) o (true ∷ other) q = refl
+inserted-only (true ∷ path) o [] q = refl
+inserted-only (true ∷ path) o (false ∷ other) q = refl
+inserted-only (true ∷ path) o (true ∷ other) q = inserted-only path o other q
+
+none-rise : RiseBy originator_cmp []
+none-rise i j d less within = absurd (omega arith)
+
+one-rises : (o : Originator) → RiseBy originator_cmp (o ∷ [])
+one-rises o i j d less within = absurd (omega arith)
+
+pub no_originators : (width len : ℕ) → len ≤ width → AreOriginators width len []
+no_originators width len fits = record { fits = fits; rise = none-rise; lengths = All-nil _ }
+
+pub pruned-only : (width len : ℕ) (path : List Bool) (o : Originator) → len + length path ≤ o.max → o.max ≤ width → IsPruned width len (only path o)
+pruned-only width len [] o low high = (
+  record { fits = omega arith; rise = one-rises o; lengths = All-cons (λ q. (len ≤ q.max) × (q.max ≤ width)) o [] (omega arith, high) (All-nil _) },
+  (refl, tt),
+  (refl, tt),
+)
+pruned-only width len (false ∷ path) o low high =
+    let rest : IsPruned width (len + 1) (only path o) = pruned-only width (len + 1) path o (omega arith) high in
+    (no_originators width len (omega arith), (full-inserted path o Leaf (only path o) (inserted-only path o), rest), (refl, tt))
+pruned-only width len (true ∷ path) o low high =
+    let rest : IsPruned width (len + 1) (only path o) = pruned-only width (len + 1) path o (omega arith) high in
+    (no_originators width len (omega arith), (refl, tt), (full-inserted path o Leaf (only path o) (inserted-only path o), rest))
+
+-- ---- the originators at one node
+
+pub originators-inserted : (width len : ℕ) (xs ys : List Originator) (o : Originator) → AreOriginators width len xs → len ≤ o.max → o.max ≤ width → RiseBy originator_cmp ys → ((q : Originator) → list_any (is_originator q) ys ≡ (is_originator q o || list_any (is_originator q) xs)) → AreOriginators width len ys
+originators-inserted width len xs ys o are low high rise members = record {
+  fits = are.fits;
+  rise = rise;
+  lengths = All-inserted originators_total originators_exact (λ q. (len ≤ q.max) × (q.max ≤ width)) xs ys o are.lengths (low, high) members;
+}
+
+pub originators-removed : (width len : ℕ) (xs ys : List Originator) (o : Originator) → AreOriginators width len xs → RiseBy originator_cmp ys → ((q : Originator) → list_any (is_originator q) ys ≡ (not (is_originator q o) && list_any (is_originator q) xs)) → AreOriginators width len ys
+originators-removed width len xs ys o are rise members = record {
+  fits = are.fits;
+  rise = rise;
+  lengths = All-removed originators_total originators_exact (λ q. (len ≤ q.max) × (q.max ≤ width)) xs ys o are.lengths members;
+}
+
+-- a child that something was put in, or that stayed as it was, is not bare
+pub full-after : {E : Type 0} (r : Result Bool E) (path : List Bool) (o : Originator) (old new : Top) → OnOk r (IsInserted path o (tree old) (tree new)) → OnErr r (tree new ≡ tree old) → is_bare (tree old) ≡ false → is_bare (tree new) ≡ false
+full-after (Ok is_new) path o old new ok err full = full-inserted path o (tree old) (tree new) ok
+full-after (Err e) path o old new ok err full = ap is_bare err ∙ full
+
+pub originators-after : {E : Type 0} (r : Result Bool E) (width len : ℕ) (xs ys : List Originator) (o : Originator) → AreOriginators width len xs → len ≤ o.max → o.max ≤ width → RiseBy originator_cmp ys → OnOk r ((q : Originator) → list_any (is_originator q) ys ≡ (is_originator q o || list_any (is_originator q) xs)) → OnErr r (ys ≡ xs) → AreOriginators width len ys
+originators-after (Ok is_new) width len xs ys o are low high rise ok err = originators-inserted width len xs ys o are low high rise ok
+originators-after (Err e) width len xs ys o are low high rise ok err = subst (AreOriginators width len) (sym err) are

@@ -1,0 +1,119 @@
+-- The VRPs of a tree rise.
+use Rattle.std.proofs.Common.{◌≡◌, ℕ, suc, ◌+◌, ◌≤◌, ◌<◌, true, List, [], ◌∷◌, ◌++◌, refl, sym, ap, ◌∙◌, subst, arith, inl, inr, Ordering}
+use Rattle.std.specs.List.{All, AllPairs}
+use Rattle.std.specs.Ordering.{nat_cmp, ordering_then}
+use Rattle.std.specs.declared.cmp.Ordering.TheVariants.{Less, Equal}
+use Rattle.std.proofs.lemmas.Bool.{cases_lt}
+use Rattle.std.proofs.lemmas.Cmp.{tied_itself}
+use Rattle.std.proofs.lemmas.List.Elements.{All-append, All-head, All-nil, All-tail, All-weaker}
+use Rattle.std.proofs.lemmas.List.Kept.{AllPairs-cons}
+use Rattle.addr.specs.Address.{contains}
+use Rattle.addr.specs.Family.{width}
+use Rattle.addr.specs.Order.{family_cmp, prefix_cmp, vrp_cmp}
+use Rattle.addr.specs.declared.family.Family.{Family}
+use Rattle.addr.specs.declared.family.Family.TheVariants.{V4, V6}
+use Rattle.addr.specs.declared.prefix.Prefix.{Prefix}
+use Rattle.addr.specs.declared.vrp.Vrp.{Vrp}
+use Rattle.addr.proofs.OrderLemmas.{prefix_order}
+use Rattle.payload.specs.Rising.{AreRising, RiseBy}
+use Rattle.payload.specs.declared.trie.originator.Originator.{Originator}
+use Rattle.payload.specs.steps.Tree.{Tree, Leaf, Fork, IsPruned, originator_cmp}
+use Rattle.payload.specs.steps.Trie.{node_vrps, originator_of, vrps_at}
+use Rattle.payload.proofs.Halves.{half_size, lower, upper, contains-lower, contains-upper, contains-trans, contains-longer, within-first}
+use Rattle.addr.proofs.PrefixOrderLemmas.{cmp-less, cmp-equal, contains-ends}
+use Rattle.payload.proofs.TrieVrps.{HasLengths, node_vrps-cons, lower_vrps, upper_vrps, leaf-or-room, vrp_of, All-node, All-within}
+
+-- each item of the one list before each of the other
+pub pairs-append : {X : Type 0} (R : X → X → Type 0) (xs ys : List X) → AllPairs R xs → AllPairs R ys → All (λ x. All (R x) ys) xs → AllPairs R (xs ++ ys)
+pairs-append R [] ys first later cross = later
+pairs-append R (x ∷ xs) ys first later cross =
+    AllPairs-cons R x (xs ++ ys)
+    (All-append (R x) xs ys (λ k d within. first 0 (suc k) d (omega arith) (omega arith)) (All-head (λ z. All (R z) ys) x xs cross))
+    (pairs-append R xs ys (λ i j d less within. first (suc i) (suc j) d (omega arith) (omega arith)) later (All-tail (λ z. All (R z) ys) x xs cross))
+
+one-family : (f g : Family) → f ≡ g → family_cmp f g ≡ Equal
+one-family V4 V4 e = refl
+one-family V6 V6 e = refl
+one-family V4 V6 e = cc
+one-family V6 V4 e = cc
+
+less-first : (v w : Vrp) → v.prefix.family ≡ w.prefix.family → v.prefix.first < w.prefix.first → vrp_cmp v w ≡ Less
+less-first v w family less = rw (one-family _ _ family, cmp-less v.prefix.first w.prefix.first less)
+
+less-length : (v w : Vrp) → v.prefix.family ≡ w.prefix.family → v.prefix.first ≡ w.prefix.first → v.prefix.length < w.prefix.length → vrp_cmp v w ≡ Less
+less-length v w family same less = rw (one-family _ _ family, cmp-equal v.prefix.first w.prefix.first same, cmp-less v.prefix.length w.prefix.length less)
+
+-- a VRP sorts before those of longer prefixes in its own
+less-within : (p : Prefix) (v w : Vrp) → v.prefix ≡ p → contains p w.prefix ≡ true → p.length < w.prefix.length → vrp_cmp v w ≡ Less
+less-within p v w same inside longer =
+    let ends = contains-ends p w.prefix inside in
+    let family : v.prefix.family ≡ w.prefix.family = ap (λ q. q.family) same ∙ ends.family in
+    let first : v.prefix.first ≡ p.first = ap (λ q. q.first) same in
+    let len : v.prefix.length ≡ p.length = ap (λ q. q.length) same in
+    elim (cases_lt p.first w.prefix.first) [
+      | inl less ↦ less-first v w family (omega arith)
+      | inr most ↦ less-length v w family (omega (arith, ends.first)) (omega arith)
+    ]
+
+node-rises : (p : Prefix) (os : List Originator) → All (HasLengths p) os → RiseBy originator_cmp os → AreRising (node_vrps p os)
+node-rises p [] all rise = λ i j d less within. absurd (omega arith)
+node-rises p (o ∷ os) all rise =
+    let fits = All-head (HasLengths p) o os all in
+    let rest = All-tail (HasLengths p) o os all in
+    subst AreRising (sym (node_vrps-cons p o os fits))
+    (AllPairs-cons (λ v w. vrp_cmp v w ≡ Less) (vrp_of p o fits) (node_vrps p os)
+      (All-node (λ q. originator_cmp o q ≡ Less) (λ w. vrp_cmp (vrp_of p o fits) w ≡ Less) p os rest (λ k d within. rise 0 (suc k) d (omega arith) (omega arith))
+        (λ w at less.
+          let tie : prefix_cmp p w.prefix ≡ Equal = subst (λ q. prefix_cmp p q ≡ Equal) (sym at) (tied_itself prefix_order.total p) in
+          rw tie less))
+      (node-rises p os rest (λ i j d less within. rise (suc i) (suc j) d (omega arith) (omega arith))))
+
+All-lower : (P : Vrp → Type 0) (p : Prefix) (zero : Tree) → IsPruned (width p.family) (p.length + 1) zero → ((room : p.length < width p.family) (v : Vrp) → contains (lower p room) v.prefix ≡ true → P v) → All P (lower_vrps p zero)
+All-lower P p zero pruned each =
+    elim (leaf-or-room p zero pruned) [
+      | inl leaf ↦ rw leaf (All-nil P)
+      | inr room ↦ All-weaker _ P (each room) _ (All-within (lower p room) zero pruned)
+    ]
+
+All-upper : (P : Vrp → Type 0) (p : Prefix) (one : Tree) → IsPruned (width p.family) (p.length + 1) one → ((room : p.length < width p.family) (v : Vrp) → contains (upper p room) v.prefix ≡ true → P v) → All P (upper_vrps p one)
+All-upper P p one pruned each =
+    elim (leaf-or-room p one pruned) [
+      | inl leaf ↦ rw leaf (All-nil P)
+      | inr room ↦ All-weaker _ P (each room) _ (All-within (upper p room) one pruned)
+    ]
+
+none-rise : AreRising []
+none-rise i j d less within = absurd (omega arith)
+
+abbrev Before : Vrp → Vrp → Type 0
+Before v w = vrp_cmp v w ≡ Less
+
+pub vrps-rise : (p : Prefix) (t : Tree) → IsPruned (width p.family) p.length t → AreRising (vrps_at p t)
+vrps-rise p Leaf pruned = none-rise
+vrps-rise p (Fork os zero one) pruned =
+    pairs-append Before (node_vrps p os) _ (node-rises p os pruned.0.lengths pruned.0.rise)
+    (pairs-append Before (lower_vrps p zero) (upper_vrps p one)
+      (elim (leaf-or-room p zero pruned.1.1) [
+        | inl leaf ↦ rw leaf none-rise
+        | inr room ↦ vrps-rise (lower p room) zero pruned.1.1
+      ])
+      (elim (leaf-or-room p one pruned.2.1) [
+        | inl leaf ↦ rw leaf none-rise
+        | inr room ↦ vrps-rise (upper p room) one pruned.2.1
+      ])
+      (All-lower (λ v. All (Before v) (upper_vrps p one)) p zero pruned.1.1 (λ room v low.
+        All-upper (Before v) p one pruned.2.1 (λ room' w high.
+          let below = contains-ends (lower p room) v.prefix low in
+          let above = contains-ends (upper p room') w.prefix high in
+          less-first v w (sym below.family ∙ above.family) (first-below p room v low w room' high)))))
+    (All-node (HasLengths p) (λ v. All (Before v) (lower_vrps p zero ++ upper_vrps p one)) p os pruned.0.lengths pruned.0.lengths (λ v at fits.
+      All-append (Before v) (lower_vrps p zero) (upper_vrps p one)
+      (All-lower (Before v) p zero pruned.1.1 (λ room w inside.
+        less-within p v w at (contains-trans p (lower p room) w.prefix (contains-lower p room) inside) (omega (arith, contains-longer (lower p room) w.prefix inside))))
+      (All-upper (Before v) p one pruned.2.1 (λ room w inside.
+        less-within p v w at (contains-trans p (upper p room) w.prefix (contains-upper p room) inside) (omega (arith, contains-longer (upper p room) w.prefix inside))))))
+  where
+    first-below : (p : Prefix) (room : p.length < width p.family) (v : Vrp) → contains (lower p room) v.prefix ≡ true → (w : Vrp) (room' : p.length < width p.family) → contains (upper p room') w.prefix ≡ true → v.prefix.first < w.prefix.first
+    first-below p room v low w room' high =
+        let above = contains-ends (upper p room') w.prefix high in
+        omega (arith, above.first, within-first (lower p room) v.prefix low)

@@ -1,0 +1,79 @@
+-- VRPs and routes on the nodes of a trie.
+use Rattle.std.specs.Prelude.{◌≡◌, ℕ, zero, suc, ◌+◌, ◌-◌, ◌^◌, ◌≤◌, Bool, true, false, ◌==◌, ◌&&◌, nat_le, List, [], ◌∷◌, ◌++◌, Option, Some, None}
+use Rattle.std.specs.List.{filter_map}
+use Rattle.std.specs.Option.{option_and_then}
+use Rattle.std.proofs.Math.Decide.{dec_le}
+use Rattle.addr.specs.Address.{bit_of}
+use Rattle.addr.specs.Family.{width}
+use Rattle.addr.specs.OriginValidation.{is_from}
+use Rattle.addr.specs.PrefixText.{prefix_with}
+use Rattle.addr.specs.declared.asn.Asn.{Asn}
+use Rattle.addr.specs.declared.family.Family.{Family}
+use Rattle.addr.specs.declared.family.Family.TheVariants.{V4, V6}
+use Rattle.addr.specs.declared.prefix.Prefix.{Prefix}
+use Rattle.addr.specs.declared.route.Route.{Route}
+use Rattle.addr.specs.declared.vrp.Vrp.{Vrp}
+use Rattle.payload.specs.declared.trie.originator.Originator.{Originator}
+use Rattle.payload.specs.steps.Tree.{Tree, Leaf, Fork}
+
+abbrev pub originator_of : Vrp → Originator
+originator_of v = record { max = v.max; asn = v.asn }
+
+-- an originator of a prefix that contains the route's is that of a VRP that matches the route
+abbrev pub authorizes : Route → Originator → Bool
+authorizes route o = nat_le route.prefix.length o.max && is_from route.origin o.asn
+
+-- the last n bits of the prefix
+abbrev pub last_bits : Prefix → ℕ → List Bool
+last_bits p zero = []
+last_bits p (suc n) = (bit_of p (p.length - suc n) == 1) ∷ last_bits p n
+
+-- the bits of the prefix from this place on
+abbrev pub bits_from : Prefix → ℕ → List Bool
+bits_from p at = last_bits p (p.length - at)
+
+-- ---- the VRPs of a tree
+
+abbrev pub vrp_if : (p : Prefix) (max : ℕ) (asn : Asn)
+    → Dec (p.length ≤ max) → Dec (max ≤ width p.family) → Option Vrp
+vrp_if p max asn (yes low) (yes high) =
+    Some (record { prefix = p; max = max; asn = asn; at_least_length = low; at_most_width = high })
+vrp_if p max asn _ _ = None
+
+-- the VRP of these parts, if there is one
+abbrev pub vrp_with : Originator → Prefix → Option Vrp
+vrp_with o p = vrp_if p o.max o.asn (dec_le p.length o.max) (dec_le o.max (width p.family))
+
+abbrev pub vrp_at : Family → ℕ → ℕ → Originator → Option Vrp
+vrp_at family first len o =
+    option_and_then (vrp_with o) (prefix_with (record { family = family; address = first; length = len }))
+
+-- the VRPs of a tree whose root stands at the prefix of this first address and length: those of its node, those of the
+-- prefix's lower half and those of its upper half
+abbrev pub vrps_below : Family → ℕ → ℕ → Tree → List Vrp
+vrps_below family first len Leaf = []
+vrps_below family first len (Fork originators low high) =
+    filter_map (vrp_at family first len) originators
+    ++ (vrps_below family first (len + 1) low
+        ++ vrps_below family (first + 2 ^ (width family - (len + 1))) (len + 1) high)
+
+-- the VRPs of a tree whose root stands at the prefix
+abbrev pub vrps_at : Prefix → Tree → List Vrp
+vrps_at p t = vrps_below p.family p.first p.length t
+
+-- those of its node
+abbrev pub node_vrps : Prefix → List Originator → List Vrp
+node_vrps p originators = filter_map (vrp_at p.family p.first p.length) originators
+
+-- the first address of the half of the prefix whose next bit is this one
+abbrev pub half_first : Bool → Prefix → ℕ
+half_first false p = p.first
+half_first true p = p.first + 2 ^ (width p.family - (p.length + 1))
+
+-- the VRPs of a tree whose root stands at that half
+abbrev pub half_vrps : Bool → Prefix → Tree → List Vrp
+half_vrps bit p t = vrps_below p.family (half_first bit p) (p.length + 1) t
+
+-- the VRPs of a tree for IPv4 and one for IPv6
+abbrev pub trie_vrps : Tree → Tree → List Vrp
+trie_vrps four six = vrps_below V4 0 0 four ++ vrps_below V6 0 0 six
