@@ -3,6 +3,8 @@
 #![tactic(auto)]
 
 #[cfg(test)]
+mod devices;
+#[cfg(test)]
 mod fakes;
 #[cfg(test)]
 mod opened_desks;
@@ -12,5 +14,3 @@ mod replies;
 mod requests;
 #[cfg(test)]
 mod scripts;
-#[cfg(test)]
-mod streams;

@@ -20,9 +20,9 @@ ends_with-before : (bytes more p q : List ℕ) → length more ≡ length q
 ends_with-before bytes more p q lengths ends =
     let front : List ℕ = take (length (bytes ++ more) - length (p ++ q)) (bytes ++ more) in
     let whole : bytes ++ more ≡ (front ++ p) ++ q =
-        (ends_is {E = nat_eq} Decides-eqb (bytes ++ more) (p ++ q) _ refl).0 ends ∙ sym (append_assoc front p q) in
+    (ends_is {E = nat_eq} Decides-eqb (bytes ++ more) (p ++ q) _ refl).0 ends ∙ sym (append_assoc front p q) in
     let long : length bytes ≡ length (front ++ p) =
-        omega (arith, ap length whole, length-append bytes more, length-append (front ++ p) q, lengths) in
+    omega (arith, ap length whole, length-append bytes more, length-append (front ++ p) q, lengths) in
     (ends_is {E = nat_eq} Decides-eqb bytes p _ refl).1 front (begins-alike bytes (front ++ p) more q whole long)
 
 -- no beginning of the end leaves as many bytes of it to come
@@ -80,12 +80,12 @@ pub ends-late : (bytes more : List ℕ) (room : ℕ) → LacksEnd bytes → Ends
     → (k : ℕ) → k < length (bytes ++ more) → has_end (take k (bytes ++ more)) ≡ false
 ends-late bytes more room before after few k within =
     elim (cases_lt (length bytes) k) [
-      inl past ↦
+      | inl past ↦
           let is : k ≡ length bytes + (k - length bytes) = omega (arith, past) in
           ap (λ n. has_end (take n (bytes ++ more))) is
           ∙ ap has_end (take-append-add bytes more (k - length bytes))
           ∙ not-yet bytes more room (k - length bytes) after few (omega (arith, past))
-              (omega (arith, past, within, length-append bytes more))
+          (omega (arith, past, within, length-append bytes more))
       | inr low ↦ ap has_end (take-append-le k bytes more low) ∙ before k
     ]
 
@@ -94,7 +94,7 @@ pub LacksEnd-more : (bytes more : List ℕ) (room : ℕ) → LacksEnd bytes → 
     → has_end (bytes ++ more) ≡ false → LacksEnd (bytes ++ more)
 LacksEnd-more bytes more room before after few test k =
     elim (cases_lt k (length (bytes ++ more))) [
-      inl within ↦ ends-late bytes more room before after few k within
+      | inl within ↦ ends-late bytes more room before after few k within
       | inr past ↦ ap has_end (take_all k (bytes ++ more) past) ∙ test
     ]
 
@@ -122,7 +122,7 @@ pub handed-on : (old middle new head longer buffer tail : List ℕ) (count : ℕ
     → (longer ≡ head ++ take count buffer) × (new ≡ old ++ longer)
 handed-on old middle new head longer buffer tail count before after put within =
     let grown : longer ≡ head ++ take count buffer =
-        put ∙ ap (λ more. head ++ more) (take-append-le count buffer tail within) in (
+    put ∙ ap (λ more. head ++ more) (take-append-le count buffer tail within) in (
       grown,
       after ∙ ap (λ u. u ++ take count buffer) before ∙ append_assoc old head (take count buffer)
           ∙ ap (λ u. old ++ u) (sym grown),

@@ -11,7 +11,7 @@ use Rattle.std.proofs.lemmas.List.Elements.{All-nil, All-cons}
 use Rattle.addr.proofs.OrderLemmas.{both_equal}
 use Rattle.payload.specs.Rising.{RiseBy}
 use Rattle.payload.specs.declared.trie.originator.Originator.{Originator}
-use Rattle.payload.specs.steps.Tree.{Tree, Leaf, Fork, Top, tree,  AreOriginators, IsInserted, IsRemoved, IsPruned, below, has, here, is_bare, is_place, only, originator_cmp, same_numbers}
+use Rattle.payload.specs.steps.Tree.{Tree, Leaf, Fork, Top, tree, AreOriginators, IsInserted, IsRemoved, IsPruned, below, has, here, is_bare, is_place, only, originator_cmp, same_numbers}
 use Rattle.payload.proofs.SortedItems.{All-inserted, All-removed}
 
 abbrev pub is_originator : Originator → Originator → Bool

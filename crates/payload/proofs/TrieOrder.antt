@@ -62,11 +62,11 @@ node-rises p (o ∷ os) all rise =
     let rest = All-tail (HasLengths p) o os all in
     subst AreRising (sym (node_vrps-cons p o os fits))
     (AllPairs-cons (λ v w. vrp_cmp v w ≡ Less) (vrp_of p o fits) (node_vrps p os)
-      (All-node (λ q. originator_cmp o q ≡ Less) (λ w. vrp_cmp (vrp_of p o fits) w ≡ Less) p os rest (λ k d within. rise 0 (suc k) d (omega arith) (omega arith))
-        (λ w at less.
-          let tie : prefix_cmp p w.prefix ≡ Equal = subst (λ q. prefix_cmp p q ≡ Equal) (sym at) (tied_itself prefix_order.total p) in
-          rw tie less))
-      (node-rises p os rest (λ i j d less within. rise (suc i) (suc j) d (omega arith) (omega arith))))
+    (All-node (λ q. originator_cmp o q ≡ Less) (λ w. vrp_cmp (vrp_of p o fits) w ≡ Less) p os rest (λ k d within. rise 0 (suc k) d (omega arith) (omega arith))
+    (λ w at less.
+    let tie : prefix_cmp p w.prefix ≡ Equal = subst (λ q. prefix_cmp p q ≡ Equal) (sym at) (tied_itself prefix_order.total p) in
+    rw tie less))
+    (node-rises p os rest (λ i j d less within. rise (suc i) (suc j) d (omega arith) (omega arith))))
 
 All-lower : (P : Vrp → Type 0) (p : Prefix) (zero : Tree) → IsPruned (width p.family) (p.length + 1) zero → ((room : p.length < width p.family) (v : Vrp) → contains (lower p room) v.prefix ≡ true → P v) → All P (lower_vrps p zero)
 All-lower P p zero pruned each =
@@ -93,25 +93,25 @@ vrps-rise p Leaf pruned = none-rise
 vrps-rise p (Fork os zero one) pruned =
     pairs-append Before (node_vrps p os) _ (node-rises p os pruned.0.lengths pruned.0.rise)
     (pairs-append Before (lower_vrps p zero) (upper_vrps p one)
-      (elim (leaf-or-room p zero pruned.1.1) [
-        | inl leaf ↦ rw leaf none-rise
-        | inr room ↦ vrps-rise (lower p room) zero pruned.1.1
-      ])
-      (elim (leaf-or-room p one pruned.2.1) [
-        | inl leaf ↦ rw leaf none-rise
-        | inr room ↦ vrps-rise (upper p room) one pruned.2.1
-      ])
-      (All-lower (λ v. All (Before v) (upper_vrps p one)) p zero pruned.1.1 (λ room v low.
-        All-upper (Before v) p one pruned.2.1 (λ room' w high.
-          let below = contains-ends (lower p room) v.prefix low in
-          let above = contains-ends (upper p room') w.prefix high in
-          less-first v w (sym below.family ∙ above.family) (first-below p room v low w room' high)))))
+    (elim (leaf-or-room p zero pruned.1.1) [
+      | inl leaf ↦ rw leaf none-rise
+      | inr room ↦ vrps-rise (lower p room) zero pruned.1.1
+    ])
+    (elim (leaf-or-room p one pruned.2.1) [
+      | inl leaf ↦ rw leaf none-rise
+      | inr room ↦ vrps-rise (upper p room) one pruned.2.1
+    ])
+    (All-lower (λ v. All (Before v) (upper_vrps p one)) p zero pruned.1.1 (λ room v low.
+    All-upper (Before v) p one pruned.2.1 (λ room' w high.
+    let below = contains-ends (lower p room) v.prefix low in
+    let above = contains-ends (upper p room') w.prefix high in
+    less-first v w (sym below.family ∙ above.family) (first-below p room v low w room' high)))))
     (All-node (HasLengths p) (λ v. All (Before v) (lower_vrps p zero ++ upper_vrps p one)) p os pruned.0.lengths pruned.0.lengths (λ v at fits.
-      All-append (Before v) (lower_vrps p zero) (upper_vrps p one)
-      (All-lower (Before v) p zero pruned.1.1 (λ room w inside.
-        less-within p v w at (contains-trans p (lower p room) w.prefix (contains-lower p room) inside) (omega (arith, contains-longer (lower p room) w.prefix inside))))
-      (All-upper (Before v) p one pruned.2.1 (λ room w inside.
-        less-within p v w at (contains-trans p (upper p room) w.prefix (contains-upper p room) inside) (omega (arith, contains-longer (upper p room) w.prefix inside))))))
+    All-append (Before v) (lower_vrps p zero) (upper_vrps p one)
+    (All-lower (Before v) p zero pruned.1.1 (λ room w inside.
+    less-within p v w at (contains-trans p (lower p room) w.prefix (contains-lower p room) inside) (omega (arith, contains-longer (lower p room) w.prefix inside))))
+    (All-upper (Before v) p one pruned.2.1 (λ room w inside.
+    less-within p v w at (contains-trans p (upper p room) w.prefix (contains-upper p room) inside) (omega (arith, contains-longer (upper p room) w.prefix inside))))))
   where
     first-below : (p : Prefix) (room : p.length < width p.family) (v : Vrp) → contains (lower p room) v.prefix ≡ true → (w : Vrp) (room' : p.length < width p.family) → contains (upper p room') w.prefix ≡ true → v.prefix.first < w.prefix.first
     first-below p room v low w room' high =

@@ -62,7 +62,7 @@ All-node Q P p (o ∷ os) all each same =
     let fits = All-head (HasLengths p) o os all in
     subst (All P) (sym (node_vrps-cons p o os fits))
     (All-cons P (vrp_of p o fits) (node_vrps p os) (same (vrp_of p o fits) refl (All-head Q o os each))
-      (All-node Q P p os (All-tail (HasLengths p) o os all) (All-tail Q o os each) same))
+    (All-node Q P p os (All-tail (HasLengths p) o os all) (All-tail Q o os each) same))
 
 -- below a prefix that cannot be halved there is no node
 pub leaf-or-room : (p : Prefix) (t : Tree) → IsPruned (width p.family) (p.length + 1) t → (t ≡ Leaf) ⊎ (p.length < width p.family)
@@ -82,14 +82,14 @@ All-within p (Fork os zero one) pruned =
     All-append (IsInside p) (node_vrps p os) _
     (All-node (HasLengths p) (IsInside p) p os pruned.0.lengths pruned.0.lengths (λ v same fits. contains-itself p v.prefix same))
     (All-append (IsInside p) (vrps_below p.family p.first (p.length + 1) zero) _
-      (elim (leaf-or-room p zero pruned.1.1) [
-        | inl leaf ↦ rw leaf (All-nil (IsInside p))
-        | inr room ↦ All-weaker _ (IsInside p) (λ v inside. contains-trans p (lower p room) v.prefix (contains-lower p room) inside) _ (All-within (lower p room) zero pruned.1.1)
-      ])
-      (elim (leaf-or-room p one pruned.2.1) [
-        | inl leaf ↦ rw leaf (All-nil (IsInside p))
-        | inr room ↦ All-weaker _ (IsInside p) (λ v inside. contains-trans p (upper p room) v.prefix (contains-upper p room) inside) _ (All-within (upper p room) one pruned.2.1)
-      ]))
+    (elim (leaf-or-room p zero pruned.1.1) [
+      | inl leaf ↦ rw leaf (All-nil (IsInside p))
+      | inr room ↦ All-weaker _ (IsInside p) (λ v inside. contains-trans p (lower p room) v.prefix (contains-lower p room) inside) _ (All-within (lower p room) zero pruned.1.1)
+    ])
+    (elim (leaf-or-room p one pruned.2.1) [
+      | inl leaf ↦ rw leaf (All-nil (IsInside p))
+      | inr room ↦ All-weaker _ (IsInside p) (λ v inside. contains-trans p (upper p room) v.prefix (contains-upper p room) inside) _ (All-within (upper p room) one pruned.2.1)
+    ]))
 
 -- the children's VRPs
 abbrev pub lower_vrps : Prefix → Tree → List Vrp
@@ -127,20 +127,20 @@ pub any-here : (test : Vrp → Bool) (p q : Prefix) (os : List Originator) (zero
 any-here test p q os zero one round pruned short =
     any-parts test p os zero one
     ∙ ap (λ b. list_any test (node_vrps p os) || (b || list_any test (upper_vrps p one))) (none-lower test p zero pruned.1.1 (λ room v inside. false_from_ne_true _ (λ passes.
-      absurd (omega (arith, contains-longer v.prefix q (round v passes), contains-longer (lower p room) v.prefix inside)))))
+    absurd (omega (arith, contains-longer v.prefix q (round v passes), contains-longer (lower p room) v.prefix inside)))))
     ∙ ap (λ b. list_any test (node_vrps p os) || b) (none-upper test p one pruned.2.1 (λ room v inside. false_from_ne_true _ (λ passes.
-      absurd (omega (arith, contains-longer v.prefix q (round v passes), contains-longer (upper p room) v.prefix inside)))))
+    absurd (omega (arith, contains-longer v.prefix q (round v passes), contains-longer (upper p room) v.prefix inside)))))
     ∙ or-false _
 
 pub any-zero : (test : Vrp → Bool) (p q : Prefix) (os : List Originator) (zero one : Tree) → IsRound q test → IsPruned (width p.family) p.length (Fork os zero one) → bit_of q p.length ≡ 0 → list_any test (vrps_at p (Fork os zero one)) ≡ (list_any test (node_vrps p os) || list_any test (lower_vrps p zero))
 any-zero test p q os zero one round pruned bit =
     any-parts test p os zero one
     ∙ ap (λ b. list_any test (node_vrps p os) || (list_any test (lower_vrps p zero) || b)) (none-upper test p one pruned.2.1 (λ room v inside. false_from_ne_true _ (λ passes.
-      absurd (omega (arith, bit, upper-bit p q room (contains-trans (upper p room) v.prefix q inside (round v passes)))))))
+    absurd (omega (arith, bit, upper-bit p q room (contains-trans (upper p room) v.prefix q inside (round v passes)))))))
     ∙ ap (λ b. list_any test (node_vrps p os) || b) (or-false _)
 
 pub any-one : (test : Vrp → Bool) (p q : Prefix) (os : List Originator) (zero one : Tree) → IsRound q test → IsPruned (width p.family) p.length (Fork os zero one) → bit_of q p.length ≡ 1 → list_any test (vrps_at p (Fork os zero one)) ≡ (list_any test (node_vrps p os) || list_any test (upper_vrps p one))
 any-one test p q os zero one round pruned bit =
     any-parts test p os zero one
     ∙ ap (λ b. list_any test (node_vrps p os) || (b || list_any test (upper_vrps p one))) (none-lower test p zero pruned.1.1 (λ room v inside. false_from_ne_true _ (λ passes.
-      absurd (omega (arith, bit, lower-bit p q room (contains-trans (lower p room) v.prefix q inside (round v passes)))))))
+    absurd (omega (arith, bit, lower-bit p q room (contains-trans (lower p room) v.prefix q inside (round v passes)))))))

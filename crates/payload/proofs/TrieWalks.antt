@@ -67,24 +67,24 @@ any-is_vrp v p (Fork os zero one) pruned inside =
           let same : p ≡ v.prefix = contains-same p v.prefix inside short in
           rw (bits_from-end v.prefix p.length short)
           (any-here (is_vrp v) p v.prefix os zero one (around-itself v) pruned short
-           ∙ any-node (is_vrp v) (is_originator (originator_of v)) p os pruned.0.lengths (λ w at. same-originators v w (sym same ∙ sym at)))
+          ∙ any-node (is_vrp v) (is_originator (originator_of v)) p os pruned.0.lengths (λ w at. same-originators v w (sym same ∙ sym at)))
       | inl longer ↦ elim (bit-of-cases v.prefix p.length) [
         | inl bit ↦
             rw (next-zero v.prefix p.length longer bit)
             (any-zero (is_vrp v) p v.prefix os zero one (around-itself v) pruned bit
-             ∙ ap (λ b. b || list_any (is_vrp v) (lower_vrps p zero)) (none-above v p os zero one pruned longer)
-             ∙ elim (leaf-or-room p zero pruned.1.1) [
-               | inl leaf ↦ rw leaf (sym (has-leaf (bits_from v.prefix (p.length + 1)) (originator_of v)))
-               | inr room ↦ any-is_vrp v (lower p room) zero pruned.1.1 (lower-contains p v.prefix room inside longer bit)
-             ])
+            ∙ ap (λ b. b || list_any (is_vrp v) (lower_vrps p zero)) (none-above v p os zero one pruned longer)
+            ∙ elim (leaf-or-room p zero pruned.1.1) [
+              | inl leaf ↦ rw leaf (sym (has-leaf (bits_from v.prefix (p.length + 1)) (originator_of v)))
+              | inr room ↦ any-is_vrp v (lower p room) zero pruned.1.1 (lower-contains p v.prefix room inside longer bit)
+            ])
         | inr bit ↦
             rw (next-one v.prefix p.length longer bit)
             (any-one (is_vrp v) p v.prefix os zero one (around-itself v) pruned bit
-             ∙ ap (λ b. b || list_any (is_vrp v) (upper_vrps p one)) (none-above v p os zero one pruned longer)
-             ∙ elim (leaf-or-room p one pruned.2.1) [
-               | inl leaf ↦ rw leaf (sym (has-leaf (bits_from v.prefix (p.length + 1)) (originator_of v)))
-               | inr room ↦ any-is_vrp v (upper p room) one pruned.2.1 (upper-contains p v.prefix room inside longer bit)
-             ])
+            ∙ ap (λ b. b || list_any (is_vrp v) (upper_vrps p one)) (none-above v p os zero one pruned longer)
+            ∙ elim (leaf-or-room p one pruned.2.1) [
+              | inl leaf ↦ rw leaf (sym (has-leaf (bits_from v.prefix (p.length + 1)) (originator_of v)))
+              | inr room ↦ any-is_vrp v (upper p room) one pruned.2.1 (upper-contains p v.prefix room inside longer bit)
+            ])
       ]
     ]
 
@@ -120,18 +120,18 @@ any-covers route passes p (Fork os zero one) pruned inside =
         | inl bit ↦
             rw (next-zero q p.length longer bit)
             (any-zero test p q os zero one round pruned bit
-             ∙ ap (λ b. b || list_any test (lower_vrps p zero)) node
-             ∙ ap (λ b. list_any passes os || b) (elim (leaf-or-room p zero pruned.1.1) [
-               | inl leaf ↦ rw leaf (sym (on-path-leaf passes (bits_from q (p.length + 1))))
-               | inr room ↦ any-covers route passes (lower p room) zero pruned.1.1 (lower-contains p q room inside longer bit)
-             ]))
+            ∙ ap (λ b. b || list_any test (lower_vrps p zero)) node
+            ∙ ap (λ b. list_any passes os || b) (elim (leaf-or-room p zero pruned.1.1) [
+              | inl leaf ↦ rw leaf (sym (on-path-leaf passes (bits_from q (p.length + 1))))
+              | inr room ↦ any-covers route passes (lower p room) zero pruned.1.1 (lower-contains p q room inside longer bit)
+            ]))
         | inr bit ↦
             rw (next-one q p.length longer bit)
             (any-one test p q os zero one round pruned bit
-             ∙ ap (λ b. b || list_any test (upper_vrps p one)) node
-             ∙ ap (λ b. list_any passes os || b) (elim (leaf-or-room p one pruned.2.1) [
-               | inl leaf ↦ rw leaf (sym (on-path-leaf passes (bits_from q (p.length + 1))))
-               | inr room ↦ any-covers route passes (upper p room) one pruned.2.1 (upper-contains p q room inside longer bit)
-             ]))
+            ∙ ap (λ b. b || list_any test (upper_vrps p one)) node
+            ∙ ap (λ b. list_any passes os || b) (elim (leaf-or-room p one pruned.2.1) [
+              | inl leaf ↦ rw leaf (sym (on-path-leaf passes (bits_from q (p.length + 1))))
+              | inr room ↦ any-covers route passes (upper p room) one pruned.2.1 (upper-contains p q room inside longer bit)
+            ]))
       ]
     ]

@@ -50,4 +50,3 @@ pub(crate) fn remove<T: Ord + Drop>(items: &mut Vec<T>, item: &T) -> bool
         Err(_) => false,
     }
 }
-

@@ -55,7 +55,7 @@ vrps_below family first len Leaf = []
 vrps_below family first len (Fork originators low high) =
     filter_map (vrp_at family first len) originators
     ++ (vrps_below family first (len + 1) low
-        ++ vrps_below family (first + 2 ^ (width family - (len + 1))) (len + 1) high)
+    ++ vrps_below family (first + 2 ^ (width family - (len + 1))) (len + 1) high)
 
 -- the VRPs of a tree whose root stands at the prefix
 abbrev pub vrps_at : Prefix → Tree → List Vrp

@@ -20,7 +20,10 @@ impl Model for Node {
     ghost coded = { coded_top };
 
     ghost view = { λ a. record {
-        originators = a.originators.items; zero = subtree a.zero; one = subtree a.one } };
+      originators = a.originators.items;
+      zero = subtree a.zero;
+      one = subtree a.one;
+    } };
 
     ghost size = { λ top. weight (tree top) };
 
