@@ -19,7 +19,7 @@ mod amendments;
 mod authorizations;
 mod contents;
 mod grants;
-mod isolation;
+mod other_holders;
 mod repeats;
 mod resources;
 mod vrps;
@@ -284,7 +284,7 @@ fn scripts_have_their_replies(rt: HostRuntime) -> Result<(), Fail> {
 
 #[test]
 fn other_holders_change_no_reply(rt: HostRuntime) -> Result<(), Fail> {
-    for pair in isolation::PAIRS.split("\n# ").skip(1) {
+    for pair in other_holders::PAIRS.split("\n# ").skip(1) {
         for (own, other) in [("first: ", "second: "), ("second: ", "first: ")] {
             let script = one_of_pair(rt.alloc(), pair, own, other)?;
             assert_script(&rt, rt.alloc(), &script)?;

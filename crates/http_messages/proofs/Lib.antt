@@ -1,3 +1,4 @@
 pub mod HeadEndLemmas
 pub mod LengthLemmas
+pub mod PathLemmas
 pub mod ResponseLemmas

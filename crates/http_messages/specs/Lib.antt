@@ -4,6 +4,8 @@ pub mod HeadEnd
 pub mod Input
 pub mod Lengths
 pub mod Methods
+pub mod Paths
+pub mod Requests
 pub mod ResponseText
 pub mod Routes
 pub mod steps

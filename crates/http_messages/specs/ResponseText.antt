@@ -6,19 +6,46 @@ use Rattle.http_messages.specs.declared.method.Method.{Method}
 use Rattle.http_messages.specs.declared.action.Action.{Action}
 use Rattle.http_messages.specs.declared.status.Status.{Status}
 use Rattle.http_messages.specs.declared.status.Status.TheVariants.{Done, BadRequest, Forbidden, NotFound, MethodNotAllowed, LengthRequired, ContentTooLarge, ServiceUnavailable}
+use Rattle.http_messages.specs.declared.refusal.Refusal.{Refusal}
+use Rattle.http_messages.specs.declared.refusal.Refusal.TheVariants as refusal
 use Rattle.http_messages.specs.declared.response.ContentType.{ContentType}
 use Rattle.http_messages.specs.declared.response.ContentType.TheVariants.{Json, Csv}
 
--- the status code and its reason (RFC 9110 section 15)
+-- status codes and their reasons (RFC 9110 section 15)
+abbrev pub status_code : Status → ℕ
+status_code Done = 200
+status_code BadRequest = 400
+status_code Forbidden = 403
+status_code NotFound = 404
+status_code (MethodNotAllowed _) = 405
+status_code LengthRequired = 411
+status_code ContentTooLarge = 413
+status_code ServiceUnavailable = 503
+
+abbrev pub status_reason : Status → List ℕ
+status_reason Done = codes "OK"
+status_reason BadRequest = codes "Bad Request"
+status_reason Forbidden = codes "Forbidden"
+status_reason NotFound = codes "Not Found"
+status_reason (MethodNotAllowed _) = codes "Method Not Allowed"
+status_reason LengthRequired = codes "Length Required"
+status_reason ContentTooLarge = codes "Content Too Large"
+status_reason ServiceUnavailable = codes "Service Unavailable"
+
 abbrev pub status_line : Status → List ℕ
-status_line Done = codes "200 OK"
-status_line BadRequest = codes "400 Bad Request"
-status_line Forbidden = codes "403 Forbidden"
-status_line NotFound = codes "404 Not Found"
-status_line (MethodNotAllowed _) = codes "405 Method Not Allowed"
-status_line LengthRequired = codes "411 Length Required"
-status_line ContentTooLarge = codes "413 Content Too Large"
-status_line ServiceUnavailable = codes "503 Service Unavailable"
+status_line status = decimal (status_code status) ++ codes " " ++ status_reason status
+
+-- the status of a fault of the protocol
+abbrev pub refused_status : Refusal → Status
+refused_status refusal.BadRequest = BadRequest
+refused_status refusal.NotFound = NotFound
+refused_status (refusal.MethodNotAllowed path) = MethodNotAllowed path
+refused_status refusal.LengthRequired = LengthRequired
+refused_status refusal.ContentTooLarge = ContentTooLarge
+
+-- the body that tells a fault of the protocol, with its line feed
+abbrev pub fault_text : Status → List ℕ
+fault_text status = codes "{\"error\":" ++ decimal (status_code status) ++ codes "}\n"
 
 abbrev pub type_text : ContentType → List ℕ
 type_text Json = codes "application/json"

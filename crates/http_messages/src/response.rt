@@ -3,7 +3,7 @@ ghost use Rattle.std.specs.Prelude.{◌≡◌, ◌++◌, ◌+◌, ◌≤◌, tru
 ghost use Rattle.arrayvec.specs.ArrayString.{array_string_len};
 ghost use Rattle.streams.specs.Streams.{AppendsBeginning};
 ghost use Rattle.http_messages.specs.Methods.{method_name};
-ghost use Rattle.http_messages.specs.ResponseText.{allow_line, methods_text, response_head, response_text, separator_before, type_text};
+ghost use Rattle.http_messages.specs.ResponseText.{allow_line, fault_text, methods_text, response_head, response_text, separator_before, status_line, type_text};
 
 use crate::action::Action;
 use crate::method::Method;
@@ -57,7 +57,7 @@ pub fn response_head(status: Status, content_type: ContentType, length: u64) -> 
 {
     let mut text = ArrayString::new();
     text.push_str("HTTP/1.1 ");
-    text.push_str(status.line());
+    text.push_str(status_line(status).as_str());
     text.push_str("\r\nContent-Type: ");
     text.push_str(content_type.name());
     text.push_str("\r\nContent-Length: ");
@@ -65,6 +65,29 @@ pub fn response_head(status: Status, content_type: ContentType, length: u64) -> 
     text.push_str("\r\n");
     text.push_str(allow_line(status).as_str());
     text.push_str("Connection: close\r\n\r\n");
+    text
+}
+
+// A status code and its reason.
+fn status_line(status: Status) -> ArrayString<64>
+    ensures text { result.bytes ≡ status_line status }
+    ensures short { array_string_len result ≤ 40 }
+{
+    let mut text = ArrayString::new();
+    text.push_str(digits(u64::from(status.code())).as_str());
+    text.push_str(" ");
+    text.push_str(status.reason());
+    text
+}
+
+/// The body of a response that tells a fault of the protocol, with its line feed.
+pub fn fault_text(status: Status) -> ArrayString<64>
+    ensures { result.bytes ≡ fault_text status }
+{
+    let mut text = ArrayString::new();
+    text.push_str("{\"error\":");
+    text.push_str(digits(u64::from(status.code())).as_str());
+    text.push_str("}\n");
     text
 }
 

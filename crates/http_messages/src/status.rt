@@ -1,8 +1,9 @@
 //! Statuses of responses.
 ghost use Rattle.std.specs.Prelude.{◌≡◌, ◌≤◌, length};
-ghost use Rattle.http_messages.specs.ResponseText.{status_line};
+ghost use Rattle.http_messages.specs.ResponseText.{refused_status, status_code, status_reason};
 
 use crate::path::Path;
+use crate::refusal::Refusal;
 
 /// The statuses of the desk's responses.
 #[derive(Clone, Copy, Debug, PartialEq, Eq)]
@@ -19,20 +20,50 @@ pub enum Status {
 }
 
 impl Status {
-    /// The status code and the reason.
-    pub fn line(self) -> &'static str
-        ensures text { result.now ≡ status_line self }
-        ensures short { length result.now ≤ 24 }
+    pub fn code(self) -> u16
+        ensures { result ≡ status_code self }
     {
         match self {
-            Status::Done => "200 OK",
-            Status::BadRequest => "400 Bad Request",
-            Status::Forbidden => "403 Forbidden",
-            Status::NotFound => "404 Not Found",
-            Status::MethodNotAllowed(_) => "405 Method Not Allowed",
-            Status::LengthRequired => "411 Length Required",
-            Status::ContentTooLarge => "413 Content Too Large",
-            Status::ServiceUnavailable => "503 Service Unavailable",
+            Status::Done => 200,
+            Status::BadRequest => 400,
+            Status::Forbidden => 403,
+            Status::NotFound => 404,
+            Status::MethodNotAllowed(_) => 405,
+            Status::LengthRequired => 411,
+            Status::ContentTooLarge => 413,
+            Status::ServiceUnavailable => 503,
+        }
+    }
+
+    /// The reason that stands after the code.
+    pub fn reason(self) -> &'static str
+        ensures text { result.now ≡ status_reason self }
+        ensures short { length result.now ≤ 19 }
+    {
+        match self {
+            Status::Done => "OK",
+            Status::BadRequest => "Bad Request",
+            Status::Forbidden => "Forbidden",
+            Status::NotFound => "Not Found",
+            Status::MethodNotAllowed(_) => "Method Not Allowed",
+            Status::LengthRequired => "Length Required",
+            Status::ContentTooLarge => "Content Too Large",
+            Status::ServiceUnavailable => "Service Unavailable",
+        }
+    }
+}
+
+impl Refusal {
+    /// The status that tells it.
+    pub fn status(self) -> Status
+        ensures { result ≡ refused_status self }
+    {
+        match self {
+            Refusal::BadRequest => Status::BadRequest,
+            Refusal::NotFound => Status::NotFound,
+            Refusal::MethodNotAllowed(path) => Status::MethodNotAllowed(path),
+            Refusal::LengthRequired => Status::LengthRequired,
+            Refusal::ContentTooLarge => Status::ContentTooLarge,
         }
     }
 }

@@ -1,0 +1,13 @@
+-- The path of a target without a query.
+use Rattle.std.proofs.Common.{◌≡◌, ℕ, Bool, true, false, List, None, Option, sym, refl, IsUtf8}
+use Rattle.std.specs.Str.{is_utf8}
+use Rattle.std.proofs.lemmas.Str.{is_utf8-from_IsUtf8, IsUtf8-from_is_utf8}
+use Rattle.std.proofs.lemmas.Bool.{false_from_ne_true}
+use Rattle.http_messages.specs.Paths.{has_query, path_of, route_at}
+
+pub path_of-bytes : (target : List ℕ) → false ≡ has_query target → ¬ (IsUtf8 target) → None ≡ path_of target
+path_of-bytes target no_query no_text =
+    rw (sym no_query, false_from_ne_true (is_utf8 target) (λ text. no_text (IsUtf8-from_is_utf8 target text))) refl
+
+pub path_of-text : (target : List ℕ) → false ≡ has_query target → IsUtf8 target → path_of target ≡ route_at target
+path_of-text target no_query text = rw (sym no_query, is_utf8-from_IsUtf8 target text) refl
