@@ -49,7 +49,7 @@ AS64496 192.0.2.0/24 24'
 # expect_opened NAME EXPECTED TABLES [SQL]: of a database with these tables, the rows above and more.
 expect_opened() {
     rm -f "$work"/written.db*
-    printf '%s\n' "$3" "$rows" "${4:-}" | sqlite3 "$work/written.db" || fail "sqlite3 failed: $1"
+    printf '%s\n' "$3" "$rows" "${4:-}" | sqlite3 "$work/written.db" >"$work/written.lines" || fail "sqlite3 failed: $1"
     expect "$1" "$("$open" "$work/written.db")" "$2"
 }
 
