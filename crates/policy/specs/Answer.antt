@@ -5,8 +5,9 @@ use Rattle.addr.specs.Spans.{is_one_of}
 use Rattle.policy.specs.declared.authorization.Auth.{Auth}
 use Rattle.policy.specs.declared.charter.Charter.{Charter}
 use Rattle.policy.specs.declared.command.Command.{Command}
-use Rattle.policy.specs.declared.command.Command.TheVariants.{Register, Delegate, Transfer, Reclaim, Grant, Revoke, Create, Amend, Withdraw}
+use Rattle.policy.specs.declared.command.Command.TheVariants.{Register, Delegate, Transfer, Reclaim, Grant, Revoke, Create, Amend, Withdraw, Slurm}
 use Rattle.policy.specs.declared.change.Change.{Change}
+use Rattle.policy.specs.declared.change.Change.TheVariants.{Holders, Exceptions}
 use Rattle.policy.specs.declared.change.Edit.{Edit}
 use Rattle.policy.specs.declared.change.Edit.TheVariants.{Hold, Grant as GrantEdit, Create as CreateEdit}
 use Rattle.policy.specs.declared.grant.Access.TheVariants.{Look}
@@ -25,21 +26,22 @@ abbrev pub is_transfer : Command → Bool
 is_transfer (Transfer p giver taker) = true
 is_transfer _ = false
 
--- the holder that the command names; of a transfer the giver
-abbrev pub holder_of : Command → List ℕ
-holder_of (Register holder) = holder
-holder_of (Delegate holder p) = holder
-holder_of (Transfer p giver taker) = giver
-holder_of (Reclaim holder p) = holder
-holder_of (Grant holder name role scope until) = holder
-holder_of (Revoke holder n) = holder
-holder_of (Create holder asn p max from until) = holder
-holder_of (Amend holder n max until) = holder
-holder_of (Withdraw holder n) = holder
+-- the holder that the command names; of a transfer the giver, and of a SLURM file none
+abbrev pub holder_of : Command → Option (List ℕ)
+holder_of (Register holder) = Some holder
+holder_of (Delegate holder p) = Some holder
+holder_of (Transfer p giver taker) = Some giver
+holder_of (Reclaim holder p) = Some holder
+holder_of (Grant holder name role scope until) = Some holder
+holder_of (Revoke holder n) = Some holder
+holder_of (Create holder asn p max from until) = Some holder
+holder_of (Amend holder n max until) = Some holder
+holder_of (Withdraw holder n) = Some holder
+holder_of (Slurm file) = None
 
 -- the taker of a transfer; of another command its holder
-abbrev pub taker_of : Command → List ℕ
-taker_of (Transfer p giver taker) = taker
+abbrev pub taker_of : Command → Option (List ℕ)
+taker_of (Transfer p giver taker) = Some taker
 taker_of command = holder_of command
 
 -- the number that the new grant or authorization gets; other commands answer none
@@ -48,11 +50,16 @@ number_given history (Grant holder name role scope until) = Some (grants_made hi
 number_given history (Create holder asn p max from until) = Some (authorizations_made history holder + 1)
 number_given history _ = None
 
--- the number of the grant or authorization that a change makes
-abbrev pub number_made : Edit → Option ℕ
-number_made (GrantEdit g) = Some g.number
-number_made (CreateEdit x) = Some x.number
-number_made _ = None
+-- the number of the grant or authorization that an edit makes
+abbrev pub edit_number : Edit → Option ℕ
+edit_number (GrantEdit g) = Some g.number
+edit_number (CreateEdit x) = Some x.number
+edit_number _ = None
+
+-- the same of a change
+abbrev pub number_made : Change → Option ℕ
+number_made (Holders first second) = edit_number first.edit
+number_made (Exceptions file) = None
 
 -- no run of addresses that an edit puts is one that it takes away
 abbrev pub PutsNoneBack : Edit → Type 0
@@ -61,7 +68,8 @@ PutsNoneBack _ = Unit {0}
 
 -- no edit of a change does
 abbrev pub IsSparing : Change → Type 0
-IsSparing change = PutsNoneBack change.first.edit × IfSome change.second (λ c. PutsNoneBack c.edit)
+IsSparing (Holders first second) = PutsNoneBack first.edit × IfSome second (λ c. PutsNoneBack c.edit)
+IsSparing (Exceptions file) = Unit {0}
 
 -- whether some address of a delegation's prefix has a resource holder is told rightly; of any other
 -- command it is not asked
@@ -69,25 +77,30 @@ abbrev pub TellsTaken : History → Command → Bool → Type 0
 TellsTaken history (Delegate holder p) taken = MatchBool taken (IsFree history p → ⊥) (IsFree history p)
 TellsTaken history _ taken = Unit {0}
 
+-- the rows are those of the holder, where one is named
+abbrev pub RowsOfNamed : History → Option (List ℕ) → Option Rows → Type 0
+RowsOfNamed history holder rows = IfSome holder (λ h. RowsIfAny history h rows)
+
 -- what a command is judged on is that of the history
 pub record IsViewOf (history : History) (command : Command) (view : View) : Type 0 where
-  pub rows : RowsIfAny history (holder_of command) (rows_if_any view.holder)
+  pub rows : RowsOfNamed history (holder_of command) (rows_if_any view.holder)
   pub taken : TellsTaken history command view.taken
 
--- a change is of holders that the command names
-abbrev pub IsOfHolders : Command → Change → Type 0
-IsOfHolders command change =
-    (change.first.holder ≡ holder_of command) × IfSome change.second (λ c. c.holder ≡ taker_of command)
+-- a change is of holders that the command names, or puts the SLURM file that it brings
+abbrev pub IsOfCommand : Command → Change → Type 0
+IsOfCommand command (Holders first second) =
+    (holder_of command ≡ Some first.holder) × IfSome second (λ c. taker_of command ≡ Some c.holder)
+IsOfCommand command (Exceptions file) = command ≡ Slurm file
 
--- accepted by the verdict, with the number made, and with a change of the holders that the command names,
--- which carries the rows of every holder to the history with the command and puts no run of addresses back
+-- accepted by the verdict, with the number made, and with a change of what the command names, which carries
+-- all rows to the history with the command and puts no run of addresses back
 abbrev pub IsAccepted : Charter → History → ℕ → List ℕ → Command → Change → Type 0
 IsAccepted charter history day caller command change =
     Verdict charter history day caller command None
-    × (number_made change.first.edit ≡ number_given history command)
+    × (number_made change ≡ number_given history command)
     × Carries change history (record { day = day; caller = caller; command = command } ∷ history)
     × IsSparing change
-    × IsOfHolders command change
+    × IsOfCommand command change
 
 -- denied exactly by the verdict, with no row; else accepted
 abbrev pub IsAnswer : Charter → History → ℕ → List ℕ → Command → Result Change Refusal → Type 0
@@ -96,11 +109,12 @@ IsAnswer charter history day caller command (Err (Denied rule row)) =
 IsAnswer charter history day caller command (Err Memory) = Unit {0}
 IsAnswer charter history day caller command (Ok change) = IsAccepted charter history day caller command change
 
--- the command moves addresses, and no other takes memory to decide
+-- the command moves addresses or brings a SLURM file; no other takes memory to decide
 abbrev pub takes_memory : Command → Bool
 takes_memory (Delegate holder p) = true
 takes_memory (Transfer p giver taker) = true
 takes_memory (Reclaim holder p) = true
+takes_memory (Slurm file) = true
 takes_memory _ = false
 
 -- what is shown is the active authorization of that number
@@ -122,12 +136,12 @@ IsListRefusal history h day caller Memory = Unit {0}
 -- what is answered is that of every legal history with these rows of the holder
 abbrev pub AnswersRows : Charter → Option Rows → ℕ → List ℕ → Command → Result Change Refusal → Type 0
 AnswersRows charter rows day caller command result =
-    (history : History) → IsLegal charter history → RowsIfAny history (holder_of command) rows
+    (history : History) → IsLegal charter history → RowsOfNamed history (holder_of command) rows
     → IsAnswer charter history day caller command result
 
 -- the same of what takes no memory
 abbrev pub JudgesRows : Charter → Option Rows → ℕ → List ℕ → Command → Result Change Rule → Type 0
 JudgesRows charter rows day caller command result =
-    (history : History) → IsLegal charter history → RowsIfAny history (holder_of command) rows
+    (history : History) → IsLegal charter history → RowsOfNamed history (holder_of command) rows
     → MatchResult result (IsAccepted charter history day caller command)
     (λ rule. Verdict charter history day caller command (Some rule))

@@ -1,6 +1,6 @@
 -- The entries of a history that name a holder. By themselves those of a legal history may be no legal
 -- one: a transfer from another holder is among them, but not the registration of that holder.
-use Rattle.std.specs.Prelude.{ℕ, Bool, ◌||◌, List, filter, Option, Some, None}
+use Rattle.std.specs.Prelude.{ℕ, Bool, false, ◌||◌, List, [], filter, Option, Some, None}
 use Rattle.policy.specs.declared.command.Command.{Command}
 use Rattle.policy.specs.declared.command.Command.TheVariants.{Transfer}
 use Rattle.policy.specs.declared.command.Query.{Query}
@@ -8,9 +8,14 @@ use Rattle.policy.specs.declared.command.Query.TheVariants.{Show, Content, List 
 use Rattle.policy.specs.Answer.{holder_of, taker_of}
 use Rattle.policy.specs.History.{History, same_name}
 
+-- a holder is named, and it is this one
+abbrev pub is_this : List ℕ → Option (List ℕ) → Bool
+is_this h None = false
+is_this h (Some named) = same_name named h
+
 -- the command names the holder, a transfer as giver or taker
 abbrev pub names : List ℕ → Command → Bool
-names h command = same_name (holder_of command) h || same_name (taker_of command) h
+names h command = is_this h (holder_of command) || is_this h (taker_of command)
 
 -- the entries that name the holder, in their order
 abbrev pub entries_naming : List ℕ → History → History
@@ -20,10 +25,15 @@ entries_naming h history = filter (λ e. names h e.command) history
 abbrev pub entries_naming_either : List ℕ → List ℕ → History → History
 entries_naming_either g h history = filter (λ e. names g e.command || names h e.command) history
 
+-- the entries that name the holder; none where no holder is named
+abbrev pub entries_of : Option (List ℕ) → History → History
+entries_of None history = []
+entries_of (Some h) history = entries_naming h history
+
 -- the entries that name a holder that the command names
 abbrev pub entries_for : Command → History → History
 entries_for (Transfer p giver taker) history = entries_naming_either giver taker history
-entries_for command history = entries_naming (holder_of command) history
+entries_for command history = entries_of (holder_of command) history
 
 -- the holder that a query names; none where it asks about all holders
 abbrev pub holder_asked : Query → Option (List ℕ)

@@ -5,6 +5,7 @@ pub mod Charter
 pub mod CharterFault
 pub mod Rule
 pub mod History
+pub mod ExceptionsInForce
 pub mod Resources
 pub mod Terms
 pub mod Permission

@@ -7,10 +7,13 @@ use Rattle.addr.specs.declared.span.Span.{Span}
 use Rattle.policy.specs.declared.authorization.Auth.{Auth}
 use Rattle.policy.specs.declared.grant.Granted.{Granted}
 use Rattle.policy.specs.declared.rows.HolderRows.{HolderRows}
+use Rattle.slurm.specs.Exceptions.{Exceptions}
 use Rattle.policy.specs.declared.change.Change.{Change}
+use Rattle.policy.specs.declared.change.Change.TheVariants.{Holders, Exceptions as Replace}
 use Rattle.policy.specs.declared.change.HolderChange.{HolderChange}
 use Rattle.policy.specs.declared.change.Edit.{Edit}
 use Rattle.policy.specs.declared.change.Edit.TheVariants.{Register, Hold, Grant, Revoke, Create, Amend, Withdraw}
+use Rattle.policy.specs.ExceptionsInForce.{exceptions_in_force}
 use Rattle.policy.specs.History.{History, same_name, is_registered}
 use Rattle.policy.specs.Resources.{resource_holder, is_held_by}
 use Rattle.policy.specs.Terms.{grant_terms, grants_made, authorizations_made, AreActive}
@@ -88,9 +91,18 @@ changed_by_second (Some c) h rows = changed_by_one c h rows
 
 -- what a change means: the rows of a holder after it, from its rows before
 abbrev pub changed : Change → List ℕ → Option Rows → Option Rows
-changed change h rows = changed_by_second change.second h (changed_by_one change.first h rows)
+changed (Holders first second) h rows = changed_by_second second h (changed_by_one first h rows)
+changed (Replace file) h rows = rows
 
--- the change turns the rows of every holder of the first history into its rows of the second
-abbrev pub Carries : Change → History → History → Type 0
-Carries change before after =
-    (h : List ℕ) (rows : Option Rows) → RowsIfAny before h rows → RowsIfAny after h (changed change h rows)
+-- and the exceptions after it, from those before
+abbrev pub changed_exceptions : Change → Exceptions → Exceptions
+changed_exceptions (Holders first second) before = before
+changed_exceptions (Replace file) before = file
+
+-- the change turns the rows of every holder of the first history into its rows of the second, and the
+-- exceptions in force of the first into those of the second
+pub record Carries (change : Change) (before after : History) : Type 0 where
+  pub holders :
+      (h : List ℕ) (rows : Option Rows)
+      → RowsIfAny before h rows → RowsIfAny after h (changed change h rows)
+  pub exceptions : exceptions_in_force after ≡ changed_exceptions change (exceptions_in_force before)

@@ -1,16 +1,22 @@
 -- What the types of the values of a history promise, and the ranges of the values of rows. Elsewhere a
 -- history ranges over all numbers and texts: a day, a number of a `u32` and a name are seen as any
 -- number and any text there.
-use Rattle.std.specs.Prelude.{ℕ, ◌^◌, ◌<◌, ◌≤◌, IsTrue, List, [], ◌∷◌, Option, Some, None, All}
+use Rattle.std.specs.Prelude.{ℕ, ◌+◌, ◌^◌, ◌<◌, ◌≤◌, IsTrue, List, [], ◌∷◌, length, Option, Some, None, All, ⊤}
 use Rattle.addr.specs.Address.{FitsMaxLength}
 use Rattle.addr.specs.Day.{IsDay}
 use Rattle.addr.specs.Name.{is_name}
+use Rattle.addr.specs.declared.vrp.Vrp.{Vrp}
+use Rattle.slurm.specs.Exceptions.{Exceptions}
+use Rattle.slurm.specs.declared.exceptions.TheConstants.{MOST_ENTRIES}
+use Rattle.slurm.specs.declared.filter.Filter.{Filter}
+use Rattle.slurm.specs.declared.filter.Filter.TheVariants.{Under, By, Both}
 use Rattle.policy.specs.declared.admission.TheConstants.{LAST_NUMBER}
 use Rattle.policy.specs.declared.authorization.Auth.{Auth}
 use Rattle.policy.specs.declared.charter.Charter.{Charter}
 use Rattle.policy.specs.declared.command.Command.{Command}
-use Rattle.policy.specs.declared.command.Command.TheVariants.{Register, Delegate, Transfer, Reclaim, Grant, Revoke, Create, Amend, Withdraw}
+use Rattle.policy.specs.declared.command.Command.TheVariants.{Register, Delegate, Transfer, Reclaim, Grant, Revoke, Create, Amend, Withdraw, Slurm}
 use Rattle.policy.specs.declared.grant.Granted.{Granted}
+use Rattle.policy.specs.ExceptionsInForce.{exceptions_in_force}
 use Rattle.policy.specs.History.{Entry, History}
 use Rattle.policy.specs.Rows.{Rows, RowsOf}
 use Rattle.policy.specs.Verdict.{IsLegal}
@@ -29,6 +35,22 @@ IsNumber n = (1 ≤ n) × (n ≤ LAST_NUMBER)
 abbrev pub IsCount : ℕ → Type 0
 IsCount n = n ≤ LAST_NUMBER
 
+-- the AS number of a filter is one, where it has one
+abbrev pub FilterFits : Filter → Type 0
+FilterFits (Under p) = ⊤
+FilterFits (By asn) = IsU32 asn.0
+FilterFits (Both p asn) = IsU32 asn.0
+
+-- the other terms of a VRP are in range by its own fields
+abbrev pub VrpFits : Vrp → Type 0
+VrpFits v = IsU32 v.asn.0
+
+-- exceptions of one SLURM file
+pub record ExceptionsFit (exceptions : Exceptions) : Type 0 where
+  pub number : length exceptions.filters + length exceptions.assertions ≤ MOST_ENTRIES
+  pub filters : All FilterFits exceptions.filters
+  pub assertions : All VrpFits exceptions.assertions
+
 -- the values of a command are those of their types; prefixes are so anyhow
 abbrev pub CommandFits : Command → Type 0
 CommandFits (Register holder) = IsTrue (is_name holder)
@@ -41,6 +63,7 @@ CommandFits (Create holder asn p max from until) =
     IsTrue (is_name holder) × IsU32 asn.0 × IsU8 max × IsDay from × IsDay until
 CommandFits (Amend holder n max until) = IsTrue (is_name holder) × IsU32 n × IsU8 max × IsDay until
 CommandFits (Withdraw holder n) = IsTrue (is_name holder) × IsU32 n
+CommandFits (Slurm file) = ExceptionsFit file
 
 pub record EntryFits (e : Entry) : Type 0 where
   pub day : IsDay e.day
@@ -80,3 +103,8 @@ abbrev pub LegalRowsFit : Type 0
 LegalRowsFit =
     (charter : Charter) (history : History) (h : List ℕ) (rows : Rows)
     → IsLegal charter history → HistoryFits history → RowsOf history h rows → RowsFit rows
+
+-- the exceptions in force of such values are those of one file
+abbrev pub ExceptionsInForceFit : Type 0
+ExceptionsInForceFit =
+    (history : History) → HistoryFits history → ExceptionsFit (exceptions_in_force history)

@@ -1,5 +1,6 @@
 use crate::{Auth, Granted};
 use addr::{Name, Span};
+use slurm::Slurm;
 
 /// What an accepted command does to the rows of one resource holder.
 #[derive(Drop)]
@@ -32,22 +33,27 @@ pub struct HolderChange {
     pub edit: Edit,
 }
 
-/// What an accepted command does to the rows: those of one holder, for a transfer of two.
+/// What an accepted command does to the rows.
 #[derive(Drop)]
-pub struct Change {
-    pub first: HolderChange,
-    pub second: Option<HolderChange>,
+pub enum Change {
+    /// Edits those of one holder, for a transfer of two.
+    Holders {
+        first: HolderChange,
+        second: Option<HolderChange>,
+    },
+    /// Puts these exceptions in the place of all that there were.
+    Exceptions(Slurm),
 }
 
-impl Change {
+impl Edit {
     ghost use Rattle.std.specs.Prelude.{◌≡◌};
-    ghost use Rattle.policy.specs.Answer.{number_made};
+    ghost use Rattle.policy.specs.Answer.{edit_number};
 
-    /// The number of the grant or authorization that the change makes; other changes have none.
-    pub fn number(&self) -> Option<u32>
-        ensures { result ≡ number_made self.now.first.edit }
+    /// The number of the grant or authorization that the edit makes; other edits make none.
+    fn number(&self) -> Option<u32>
+        ensures { result ≡ edit_number self.now }
     {
-        match &self.first.edit {
+        match self {
             Edit::Grant(grant) => Some(grant.number),
             Edit::Create(auth) => Some(auth.number),
             Edit::Register
@@ -55,6 +61,21 @@ impl Change {
             | Edit::Revoke(_)
             | Edit::Amend(_)
             | Edit::Withdraw(_) => None,
+        }
+    }
+}
+
+impl Change {
+    ghost use Rattle.std.specs.Prelude.{◌≡◌};
+    ghost use Rattle.policy.specs.Answer.{number_made};
+
+    /// The number of the grant or authorization that the change makes; other changes make none.
+    pub fn number(&self) -> Option<u32>
+        ensures { result ≡ number_made self.now }
+    {
+        match self {
+            Change::Holders { first, .. } => first.edit.number(),
+            Change::Exceptions(_) => None,
         }
     }
 }

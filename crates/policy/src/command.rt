@@ -2,9 +2,10 @@ ghost use Rattle.std.specs.Prelude.{◌≡◌};
 
 use crate::{Role, Scope};
 use addr::{Asn, Day, Name, Prefix, Route};
+use slurm::Slurm;
 
 /// A request that enters the history where it is accepted.
-#[derive(Clone, Copy, Debug, PartialEq, Eq)]
+#[derive(Debug, Drop)]
 pub enum Command {
     /// Makes the holder known to the desk; it has no addresses yet.
     Register {
@@ -60,6 +61,10 @@ pub enum Command {
         holder: Name,
         number: u32,
     },
+    /// Puts the exceptions of a SLURM file in the place of those of the last one.
+    Slurm {
+        file: Slurm,
+    },
 }
 
 /// A request that changes nothing.
@@ -78,7 +83,8 @@ pub enum Query {
 }
 
 impl Command {
-    ghost use Rattle.policy.specs.Answer.{is_transfer, holder_of, taker_of};
+    ghost use Rattle.std.specs.Prelude.{option_copied};
+    ghost use Rattle.policy.specs.Answer.{is_transfer, holder_of};
 
     /// Whether `decide_two` is asked, with the rows of two holders, and not `decide`.
     pub fn is_transfer(&self) -> bool
@@ -87,9 +93,9 @@ impl Command {
         matches!(self, Command::Transfer { .. })
     }
 
-    /// The holder that the command names; of a transfer the giver.
-    pub fn holder(&self) -> &Name
-        ensures { result.now ≡ holder_of self.now }
+    /// The holder that the command names; of a transfer the giver, and of a SLURM file none.
+    pub fn holder(&self) -> Option<&Name>
+        ensures { option_copied result.entry ≡ holder_of self.now }
     {
         match self {
             Command::Register { holder }
@@ -100,17 +106,8 @@ impl Command {
             | Command::Revoke { holder, .. }
             | Command::Create { holder, .. }
             | Command::Amend { holder, .. }
-            | Command::Withdraw { holder, .. } => holder,
-        }
-    }
-
-    /// The taker of a transfer; of another command its holder.
-    pub fn taker(&self) -> &Name
-        ensures { result.now ≡ taker_of self.now }
-    {
-        match self {
-            Command::Transfer { taker, .. } => taker,
-            _ => self.holder(),
+            | Command::Withdraw { holder, .. } => Some(holder),
+            Command::Slurm { .. } => None,
         }
     }
 }

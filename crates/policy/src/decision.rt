@@ -7,7 +7,7 @@ ghost use Rattle.policy.specs.Terms.{terms_overlap};
 ghost use Rattle.policy.specs.Verdict.{IsLegal};
 ghost use Rattle.policy.specs.Rows.{rows_if_any, RowsIfAny};
 ghost use Rattle.policy.specs.steps.Exchange.{Exchanges};
-ghost use Rattle.policy.specs.Answer.{AnswersRows, JudgesRows, IsAnswer, IsViewOf, is_transfer, takes_memory, holder_of, taker_of};
+ghost use Rattle.policy.specs.Answer.{AnswersRows, JudgesRows, RowsOfNamed, IsAnswer, IsViewOf, is_transfer, takes_memory, holder_of, taker_of};
 
 mod terms;
 
@@ -20,6 +20,7 @@ use crate::{
     Access, Auth, Change, Charter, Command, Edit, HolderChange, HolderRows, Refusal, Rule, View,
 };
 use addr::{Day, Holdings, Name, Prefix};
+use slurm::Slurm;
 use std::alloc::{AllocError, Global};
 use terms::{AuthTerms, GrantTerms};
 
@@ -40,9 +41,9 @@ struct Holder<'a> {
 
 fn change_of(holder: &Name, edit: Edit) -> Change
     ensures { result
-        ≡ record { first = record { holder = holder.now; edit = edit }; second = None } }
+        ≡ Change.Holders (record { holder = holder.now; edit = edit }) None }
 {
-    Change {
+    Change::Holders {
         first: HolderChange {
             holder: *holder,
             edit,
@@ -266,7 +267,7 @@ fn decide_transfer(
     let ended = numbers_overlapping(alloc, &giving.auths, prefix)?;
     let from_giver = hold(&giving.holdings, &less, ended)?;
     let to_taker = hold(&taking.holdings, &more, Vec::new(alloc))?;
-    Ok(Change {
+    Ok(Change::Holders {
         first: HolderChange {
             holder: *giver.name,
             edit: from_giver,
@@ -278,10 +279,19 @@ fn decide_transfer(
     })
 }
 
+/// Every file is taken whole, whatever the last one was.
+fn decide_slurm(charter: &Charter, caller: &Name, file: &Slurm) -> Result<Change, Refusal>
+    ensures { (history : History) (day : ℕ) → IsLegal charter.now history
+        → IsAnswer charter.now history day caller.now (Command.Slurm file.now) result }
+{
+    require(charter.is_operator(caller), Rule::Operator)?;
+    Ok(Change::Exceptions(file.clone()?))
+}
+
 /// What a command of the caller on the day does, or the first rule of its line that does not hold.
 ///
 /// Of a history whose rows the view has it gives that history's answer; of other rows it gives
-/// some answer. Memory is wanted only to delegate and to reclaim.
+/// some answer. Memory is wanted only to delegate, to reclaim and to take a SLURM file.
 pub fn decide(
     alloc: Global,
     charter: &Charter,
@@ -301,23 +311,26 @@ pub fn decide(
         day,
         caller,
     };
-    let holder = Holder {
-        name: command.holder(),
-        rows: view.holder.as_ref(),
-    };
+    let rows = view.holder.as_ref();
     match command {
-        Command::Delegate { prefix, .. } => {
-            decide_delegate(alloc, basis, holder, view.taken, prefix)
-        }
-        Command::Reclaim { prefix, .. } => decide_reclaim(alloc, basis, holder, prefix),
+        Command::Register { holder } => Ok(decide_register(basis, Holder { name: holder, rows })?),
+        Command::Delegate { holder, prefix } => decide_delegate(
+            alloc,
+            basis,
+            Holder { name: holder, rows },
+            view.taken,
+            prefix,
+        ),
         Command::Transfer { .. } => unreachable!(),
-        Command::Register { .. } => Ok(decide_register(basis, holder)?),
+        Command::Reclaim { holder, prefix } => {
+            decide_reclaim(alloc, basis, Holder { name: holder, rows }, prefix)
+        }
         Command::Grant {
+            holder,
             name,
             role,
             scope,
             until,
-            ..
         } => {
             let terms = GrantTerms {
                 caller: *name,
@@ -325,16 +338,18 @@ pub fn decide(
                 scope: *scope,
                 until: *until,
             };
-            Ok(decide_grant(basis, holder, &terms)?)
+            Ok(decide_grant(basis, Holder { name: holder, rows }, &terms)?)
         }
-        Command::Revoke { number, .. } => Ok(decide_revoke(basis, holder, *number)?),
+        Command::Revoke { holder, number } => {
+            Ok(decide_revoke(basis, Holder { name: holder, rows }, *number)?)
+        }
         Command::Create {
+            holder,
             asn,
             prefix,
             max,
             from,
             until,
-            ..
         } => {
             let terms = AuthTerms {
                 asn: *asn,
@@ -343,15 +358,24 @@ pub fn decide(
                 from: *from,
                 until: *until,
             };
-            Ok(decide_create(basis, holder, &terms)?)
+            Ok(decide_create(basis, Holder { name: holder, rows }, &terms)?)
         }
         Command::Amend {
+            holder,
             number,
             max,
             until,
-            ..
-        } => Ok(decide_amend(basis, holder, *number, *max, *until)?),
-        Command::Withdraw { number, .. } => Ok(decide_withdraw(basis, holder, *number)?),
+        } => Ok(decide_amend(
+            basis,
+            Holder { name: holder, rows },
+            *number,
+            *max,
+            *until,
+        )?),
+        Command::Withdraw { holder, number } => {
+            Ok(decide_withdraw(basis, Holder { name: holder, rows }, *number)?)
+        }
+        Command::Slurm { file } => decide_slurm(charter, caller, file),
     }
 }
 
@@ -367,8 +391,8 @@ pub fn decide_two(
 ) -> Result<Change, Refusal>
     requires { is_transfer command.now ≡ true }
     ensures { (history : History) (day : ℕ) → IsLegal charter.now history
-        → RowsIfAny history (holder_of command.now) (rows_if_any (option_copied giver.entry))
-        → RowsIfAny history (taker_of command.now) (rows_if_any (option_copied taker.entry))
+        → RowsOfNamed history (holder_of command.now) (rows_if_any (option_copied giver.entry))
+        → RowsOfNamed history (taker_of command.now) (rows_if_any (option_copied taker.entry))
         → IsAnswer charter.now history day caller.now command.now result }
 {
     match command {

@@ -3,7 +3,7 @@
 ghost use Rattle.policy.specs.Ended.{EndsJustOverlapping};
 ghost use Rattle.policy.specs.SharedVrps.{NoSharedVrp};
 ghost use Rattle.policy.specs.Unregistered.{UnregisteredHaveNothing};
-ghost use Rattle.policy.specs.Values.{EntryFits, LegalRowsFit};
+ghost use Rattle.policy.specs.Values.{EntryFits, ExceptionsInForceFit, LegalRowsFit};
 
 use crate::Command;
 use crate::values::{tell_command, tell_day, tell_name};
@@ -33,6 +33,12 @@ pub fn ends_just_overlapping()
 /// maxLength neither below its prefix's length nor over its family's width.
 pub fn legal_rows_fit()
     ensures { LegalRowsFit }
+{}
+
+/// The exceptions in force after a history whose values are those of their types are those of one SLURM
+/// file: at most 4096, each AS number below 2^32.
+pub fn exceptions_in_force_fit()
+    ensures { ExceptionsInForceFit }
 {}
 
 /// The values of an entry that a call can make are those of their types.

@@ -1,12 +1,13 @@
 // A contract sees a day, a name and a number of a type as any number and any text, so a proof that
 // rests on what their types promise is told of it here.
-ghost use Rattle.std.specs.Prelude.{IsTrue};
+ghost use Rattle.std.specs.Prelude.{All, IsTrue};
 ghost use Rattle.addr.specs.Day.{IsDay};
 ghost use Rattle.addr.specs.Name.{is_name};
-ghost use Rattle.policy.specs.Values.{IsU8, IsU32, CommandFits};
+ghost use Rattle.policy.specs.Values.{IsU8, IsU32, CommandFits, ExceptionsFit, FilterFits, VrpFits};
 
 use crate::Command;
-use addr::{Day, Name};
+use addr::{Day, Name, Vrp};
+use slurm::{Filter, Slurm};
 
 pub(crate) fn tell_command(command: &Command)
     ensures { CommandFits command.now }
@@ -58,6 +59,7 @@ pub(crate) fn tell_command(command: &Command)
             tell_max_length(*max);
             tell_day(*until);
         }
+        Command::Slurm { file } => tell_exceptions(file),
     }
 }
 
@@ -80,3 +82,35 @@ fn tell_number(number: u32)
 fn tell_max_length(max: u8)
     ensures { IsU8 max }
 {}
+
+fn tell_exceptions(file: &Slurm)
+    ensures { ExceptionsFit file.now }
+{
+    tell_filters(file.filters());
+    tell_assertions(file.assertions());
+}
+
+fn tell_filters(filters: &[Filter])
+    ensures { All FilterFits filters.now }
+{
+    for filter in filters {
+        tell_filter(filter);
+    }
+}
+
+fn tell_filter(filter: &Filter)
+    ensures { FilterFits filter.now }
+{
+    match filter {
+        Filter::Under(_) => {}
+        Filter::By(asn) | Filter::Both(_, asn) => tell_number(asn.0),
+    }
+}
+
+fn tell_assertions(assertions: &[Vrp])
+    ensures { All VrpFits assertions.now }
+{
+    for assertion in assertions {
+        tell_number(assertion.asn.0);
+    }
+}

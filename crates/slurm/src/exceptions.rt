@@ -10,7 +10,7 @@ use crate::{Filter, SlurmFault};
 use addr::Vrp;
 use json_values::tree_of;
 use serde_json::Value;
-use std::alloc::Global;
+use std::alloc::{AllocError, Global};
 use std::marker::Model;
 
 /// How many filters and assertions a file may have together.
@@ -29,6 +29,19 @@ impl Model for Slurm {
     ghost view = { λ s. record { filters = s.filters.items; assertions = s.assertions.items } };
 
     ghost invariant = { λ s. length s.filters.items + length s.assertions.items ≤ MOST_ENTRIES };
+}
+
+impl Clone for Slurm {
+    ghost use Rattle.std.specs.Prelude.{◌≡◌};
+
+    ghost is_clone = { λ file copy. copy ≡ file };
+
+    fn clone(&self) -> Result<Self, AllocError> {
+        Ok(Slurm {
+            filters: self.filters.clone()?,
+            assertions: self.assertions.clone()?,
+        })
+    }
 }
 
 impl Slurm {
@@ -88,7 +101,8 @@ impl Slurm {
 
     /// The prefix filters, in the file's order.
     pub fn filters(&self) -> &[Filter]
-        ensures { result.now ≡ self.now.filters }
+        ensures list { result.now ≡ self.now.filters }
+        ensures number { length self.now.filters + length self.now.assertions ≤ MOST_ENTRIES }
     {
         &self.filters
     }
