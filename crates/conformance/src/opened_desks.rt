@@ -1,4 +1,5 @@
 //! Desks that go on where another one ended.
+use crate::scripts::exceptions::FILTER_AND_ASSERTION;
 use crate::scripts::{ALPHA, AUTHORIZATION, Dialogue, example_desk};
 use desk::Desk;
 use library_conformance::example_database::{TABLES, made};
@@ -46,4 +47,26 @@ fn rows_of_another_program_are_a_desk(rt: HostRuntime) -> Result<(), Fail> {
     let conn = made(rt.alloc(), TABLES)?;
     let name = "rows_of_another_program_are_a_desk";
     assert_goes_on(&rt, rt.alloc(), name, conn)
+}
+
+/// A desk that was left with a SLURM file goes on with it.
+const EXCEPTIONS_AFTERWARDS: &str = r#"
+ann {"do":"withdraw","holder":"alpha","number":1} => {"done":null}
+bob {"do":"payloads"} => {"payloads":[{"asn":64496,"prefix":"192.0.2.0/24","max":24}]}
+bob {"do":"validity","routes":[{"prefix":"192.0.2.0/24","origin":64496}]} => {"answers":["Valid"]}
+slurm ; => {"done":null}
+bob {"do":"payloads"} => {"payloads":[]}
+"#;
+
+#[test]
+fn opened_desk_has_its_exceptions(rt: HostRuntime) -> Result<(), Fail> {
+    let name = "opened_desk_has_its_exceptions";
+    let mut desk = example_desk(rt.alloc())?;
+    let setup = Dialogue::of(rt.alloc(), &[ALPHA, AUTHORIZATION, FILTER_AND_ASSERTION])?;
+    setup.assert_replies_of_lines(&rt, name, &mut desk)?;
+    let Ok(mut opened) = Desk::open_from(rt.alloc(), desk.close()) else {
+        return Err("not opened".into());
+    };
+    let afterwards = Dialogue::of(rt.alloc(), &[EXCEPTIONS_AFTERWARDS])?;
+    afterwards.assert_replies_of_lines(&rt, name, &mut opened)
 }

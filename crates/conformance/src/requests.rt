@@ -1,4 +1,5 @@
 //! Lines of a script: the number that is reported of a malformed one, 0 where it is a request.
+use crate::scripts::exceptions::file_of_many;
 use crate::scripts::line_of;
 use library_conformance::rows::{nested, rows_of};
 use std::alloc::Global;
@@ -99,7 +100,7 @@ reg {"do":"validity","routes":[{"prefix":"192.0.2.0/24","origin":1,"max":24}]} =
 reg {"do":"validity","routes":[{"prefix":"192.0.2.0/24","origin":"AS1"}]} => 6
 reg {"do":"validity","routes":[{"prefix":"192.0.2.0/24","origin":"AS1"},{"prefix":"all","origin":1}]} => 5
 reg {"do":"import","holder":"alpha","rows":[]} => 2
-reg {"do":"slurm","file":{}} => 2
+reg {"do":"slurm","file":{}} => 11
 reg {"do":"whatif","holder":"alpha","changes":[],"routes":[]} => 2
 # takes_numbers_in_plain_digits_alone
 reg {"do":"amend","holder":"alpha","number":1,"max":24,"until":"2026-12-31"} => 0
@@ -177,6 +178,41 @@ fn nesting_over_127_is_no_json(rt: HostRuntime) -> Result<(), Fail> {
         assert_eq!(rt;
             reported(rt.alloc(), line.as_bytes()),
             number,
+            "{depth} deep"
+        );
+    }
+    Ok(())
+}
+
+// The numbers of a line that brings this file, both 0 where it is a request.
+fn reported_of_file(alloc: Global, file: &str) -> Result<(u8, u8), Fail> {
+    let request = format!(in alloc; "reg {{\"do\":\"slurm\",\"file\":{file}}}")?;
+    let line = line_of(alloc, "2026-03-01", &request)?;
+    match read_line_request(alloc, line.as_bytes()) {
+        Ok(_) => Ok((0, 0)),
+        Err(LineFault::Malformed(malformed)) => {
+            Ok((malformed.number, malformed.slurm.unwrap_or(0)))
+        }
+        Err(LineFault::Memory) => Err("no memory".into()),
+    }
+}
+
+// The line's own object is one level more.
+#[test]
+fn limits_of_slurm_files(rt: HostRuntime) -> Result<(), Fail> {
+    for (filters, numbers) in [(4095, (0, 0)), (4096, (11, 11))] {
+        let file = file_of_many(rt.alloc(), filters)?;
+        assert_eq!(rt;
+            reported_of_file(rt.alloc(), &file)?,
+            numbers,
+            "{filters} filters"
+        );
+    }
+    for (depth, numbers) in [(126, (11, 2)), (127, (1, 0))] {
+        let file = nested(rt.alloc(), depth)?;
+        assert_eq!(rt;
+            reported_of_file(rt.alloc(), &file)?,
+            numbers,
             "{depth} deep"
         );
     }

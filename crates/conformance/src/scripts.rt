@@ -18,6 +18,7 @@ use web::{Device, read_line_request, run_script, write_reply};
 mod amendments;
 mod authorizations;
 mod contents;
+pub(crate) mod exceptions;
 mod grants;
 mod other_holders;
 mod repeats;
@@ -44,6 +45,8 @@ ann {"do":"content","holder":"alpha","number":1} => {"content":"301a020300fbf030
 ann {"do":"list","holder":"alpha"} => {"listed":[{"number":1,"asn":64496,"prefix":"192.0.2.0/24","max":26,"from":"2026-01-01","until":"2026-06-30"}]}
 bob {"do":"payloads"} => {"payloads":[{"asn":64496,"prefix":"192.0.2.0/24","max":26}]}
 bob {"do":"validity","routes":[{"prefix":"192.0.2.64/26","origin":64496}]} => {"answers":["Valid"]}
+slurm {"asn":64497} ; {"asn":64500,"prefix":"192.0.2.0/24"} => {"done":null}
+bob {"do":"payloads"} => {"payloads":[{"asn":64500,"prefix":"192.0.2.0/24","max":24},{"asn":64496,"prefix":"192.0.2.0/24","max":26}]}
 ann {"do":"withdraw","holder":"alpha","number":1} => {"done":null}
 reg {"do":"register","holder":"beta"} => {"done":null}
 reg {"do":"transfer","prefix":"192.0.2.0/25","giver":"alpha","taker":"beta"} => {"done":null}
@@ -121,7 +124,8 @@ impl Dialogue {
                 day.clear();
                 day.push_str(next)?;
             } else if let Some((request, reply)) = line.split_once(" => ") {
-                let line = line_of(self.alloc, &day, request)?;
+                let request = exceptions::request_of(self.alloc, request)?;
+                let line = line_of(self.alloc, &day, &request)?;
                 self.script.push_str(&line)?;
                 self.script.push('\n')?;
                 self.expected.push_str(reply)?;
@@ -222,6 +226,7 @@ fn setup_of(name: &str) -> Result<&'static str, Fail> {
         "authorization" => Ok(AUTHORIZATION),
         "amendment" => Ok(amendments::AMENDMENT),
         "clerk" => Ok(grants::CLERK_OF_THE_LOWER_HALF),
+        "exceptions" => Ok(exceptions::FILTER_AND_ASSERTION),
         "other holder" => Ok(BETA),
         "reclaimed part" => Ok(resources::PART_RECLAIMED),
         _ => Err("no set-up of that name".into()),
@@ -279,7 +284,8 @@ fn scripts_have_their_replies(rt: HostRuntime) -> Result<(), Fail> {
     assert_all(&rt, rt.alloc(), authorizations::SCRIPTS)?;
     assert_all(&rt, rt.alloc(), amendments::SCRIPTS)?;
     assert_all(&rt, rt.alloc(), contents::SCRIPTS)?;
-    assert_all(&rt, rt.alloc(), vrps::SCRIPTS)
+    assert_all(&rt, rt.alloc(), vrps::SCRIPTS)?;
+    assert_all(&rt, rt.alloc(), exceptions::SCRIPTS)
 }
 
 #[test]

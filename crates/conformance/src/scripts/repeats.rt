@@ -52,6 +52,10 @@ ann {"do":"list","holder":"alpha"} => {"listed":[{"number":1,"asn":64496,"prefix
 cleo {"do":"list","holder":"alpha"} => {"listed":[]}
 again => {"listed":[]}
 ann {"do":"list","holder":"alpha"} => {"listed":[{"number":1,"asn":64496,"prefix":"192.0.2.128/25","max":25,"from":"2026-01-01","until":"2026-12-31"}]}
+# slurm_file_twice after holder, authorization
+slurm {"prefix":"192.0.2.0/24"} ; {"asn":64500,"prefix":"198.51.100.0/24"} => {"done":null}
+again => {"done":null}
+bob {"do":"payloads"} => {"payloads":[{"asn":64500,"prefix":"198.51.100.0/24","max":24}]}
 # payloads_twice after holder, authorization
 bob {"do":"payloads"} => {"payloads":[{"asn":64496,"prefix":"192.0.2.0/24","max":24}]}
 again => {"payloads":[{"asn":64496,"prefix":"192.0.2.0/24","max":24}]}
