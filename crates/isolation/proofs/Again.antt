@@ -1,7 +1,8 @@
--- A command that is accepted again leaves the rows: only an amendment is, since what the first time gave,
--- took or made is still so.
+-- A command that is accepted again leaves the rows and the exceptions: only an amendment and a SLURM file
+-- are, since what another command gave, took or made the first time is still so.
 use Rattle.std.proofs.Common.{◌≡◌, ℕ, ◌+◌, Bool, true, false, not, ◌||◌, ◌&&◌, cond, eqb, List, [], ◌∷◌, ◌++◌, inl, inr, Option, Some, None, IsSomeAnd, refl, sym, ap, ◌∙◌, subst, arith, map, filter}
 use Rattle.std.specs.List.{list_any}
+use Rattle.std.proofs.lemmas.Option.{IfSome_then}
 use Rattle.std.proofs.lemmas.Bool.{cases_Bool, cond-true, cond-false, false≢true, or_parts}
 use Rattle.std.proofs.lemmas.Bool.Decides.{nat_tests}
 use Rattle.std.proofs.Math.Bool.{or-true}
@@ -11,13 +12,15 @@ use Rattle.addr.specs.declared.prefix.Prefix.{Prefix}
 use Rattle.addr.proofs.AddressLemmas.{between_at, first-last}
 use Rattle.addr.proofs.Equality.{prefix_itself}
 use Rattle.addr.specs.Address.{last_of}
+use Rattle.slurm.specs.Exceptions.{Exceptions}
 use Rattle.policy.specs.declared.authorization.Auth.{Auth}
 use Rattle.policy.specs.declared.charter.Charter.{Charter}
 use Rattle.policy.specs.declared.command.Command.{Command}
-use Rattle.policy.specs.declared.command.Command.TheVariants.{Register, Delegate, Transfer, Reclaim, Grant, Revoke, Create, Amend, Withdraw}
+use Rattle.policy.specs.declared.command.Command.TheVariants.{Register, Delegate, Transfer, Reclaim, Grant, Revoke, Create, Amend, Withdraw, Slurm}
 use Rattle.policy.specs.declared.grant.Access.TheVariants.{Alter}
 use Rattle.policy.specs.declared.grant.Granted.{Granted}
 use Rattle.policy.specs.Answer.{holder_of}
+use Rattle.policy.specs.ExceptionsInForce.{brings_exceptions, exceptions_after, exceptions_in_force}
 use Rattle.policy.specs.History.{Entry, History, same_name, is_registered}
 use Rattle.policy.specs.HolderEntries.{names}
 use Rattle.policy.specs.Permission.{is_permitted_terms}
@@ -26,8 +29,8 @@ use Rattle.policy.specs.Terms.{gives_vrp, grant_terms, authorizations_made, auth
 use Rattle.policy.specs.Verdict.{Verdict, HasAccessTo, IsLegal, numbered}
 use Rattle.policy.proofs.Names.{same_name-same, same_name-true, same_name-false}
 use Rattle.policy.proofs.Held.{not_yet_made}
-use Rattle.isolation.specs.RepeatedRequests.{is_grant, RepeatsLeaveRows}
-use Rattle.isolation.proofs.Agree.{Agree, agree-sym, agree-active, agree-rows}
+use Rattle.isolation.specs.RepeatedRequests.{is_grant, has_slurm_file, RepeatsLeaveRows}
+use Rattle.isolation.proofs.Agree.{Agree, AgreeIfNamed, agree-sym, agree-active, agree-rows}
 use Rattle.isolation.proofs.Parts.{since_left, agree-unnamed, agree-later}
 
 -- a prefix has an address
@@ -153,7 +156,7 @@ withdrawn_again history before then day by caller holder n same has =
     (any_kept (HeldSinceMade made holder) test _ has.0 kept (any_filtered test (authorization_terms before holder))) has.2
 
 agree-again : (charter : Charter) (history before : History) (then day : ℕ) (by caller : List ℕ) (c : Command)
-    → Verdict charter before then by c None → Agree history (entry then by c ∷ before) (holder_of c) → is_grant c ≡ false
+    → Verdict charter before then by c None → AgreeIfNamed history (entry then by c ∷ before) (holder_of c) → is_grant c ≡ false
     → Verdict charter history day caller c None → (h : List ℕ) → Agree (entry day caller c ∷ history) history h
 agree-again charter history before then day by caller (Register holder) first same other accepted h =
     let registered : is_registered (entry then by (Register holder) ∷ before) holder ≡ true = ap (λ b. b || is_registered before holder) (same_name-same holder) in
@@ -179,15 +182,40 @@ agree-again charter history before then day by caller (Amend holder n max until)
     ]
 agree-again charter history before then day by caller (Withdraw holder n) first same other accepted h =
     absurd (withdrawn_again history before then day by caller holder n same accepted.1.0)
+agree-again charter history before then day by caller (Slurm file) first same other accepted h =
+    agree-unnamed charter (entry day caller (Slurm file)) history h accepted refl
+
+-- a command that brings no file leaves the exceptions
+exceptions_stay : (c : Command) (exceptions : Exceptions) → brings_exceptions c ≡ false → exceptions_after c exceptions ≡ exceptions
+exceptions_stay (Slurm file) exceptions none = cc
+exceptions_stay _ exceptions none = refl
+
+exceptions_later : (later before : History) → has_slurm_file later ≡ false
+    → exceptions_in_force (later ++ before) ≡ exceptions_in_force before
+exceptions_later [] before none = refl
+exceptions_later (e ∷ later) before none =
+    let parts = or_parts (brings_exceptions e.command) (has_slurm_file later) none in
+    exceptions_stay e.command (exceptions_in_force (later ++ before)) parts.0 ∙ exceptions_later later before parts.1
+
+-- and so does the command when it comes again, where no other file came since its own
+exceptions_again : (c : Command) (later before : History) (then : ℕ) (by : List ℕ)
+    → (brings_exceptions c ≡ true → has_slurm_file later ≡ false)
+    → exceptions_in_force (later ++ entry then by c ∷ before) ≡ exceptions_after c (exceptions_in_force (later ++ entry then by c ∷ before))
+exceptions_again (Slurm file) later before then by none = exceptions_later later (entry then by (Slurm file) ∷ before) (none refl)
+exceptions_again _ later before then by none = refl
 
 legal_before : (charter : Charter) (later before : History) → IsLegal charter (later ++ before) → IsLegal charter before
 legal_before charter [] before legal = legal
 legal_before charter (e ∷ later) before legal = legal_before charter later before legal.1
 
 pub repeats_leave_rows : RepeatsLeaveRows
-repeats_leave_rows charter before first later day caller legal other none accepted h rows =
+repeats_leave_rows charter before first later day caller legal other none accepted =
     let c = first.command in
-    let same = agree-later charter (holder_of c) later (first ∷ before) legal none.0 in
     let history = later ++ first ∷ before in
-    let again = agree-again charter history before first.day day first.caller caller c (legal_before charter later (first ∷ before) legal).0 same other accepted h in
-    (agree-rows (agree-sym again) rows, agree-rows again rows)
+    let same : AgreeIfNamed history (first ∷ before) (holder_of c) =
+    IfSome_then (holder_of c) none.holder (λ h unnamed. agree-later charter h later (first ∷ before) legal unnamed) in
+    let again = agree-again charter history before first.day day first.caller caller c (legal_before charter later (first ∷ before) legal).0 same other accepted in
+    record {
+      holders = λ h rows. (agree-rows (agree-sym (again h)) rows, agree-rows (again h) rows);
+      exceptions = exceptions_again c later before first.day first.caller none.file;
+    }

@@ -1,10 +1,12 @@
 -- Histories that agree on all that a holder has.
 use Rattle.std.proofs.Common.{◌≡◌, ℕ, ◌<◌, ◌≤◌, true, false, ◌||◌, cond, List, ◌∷◌, ◌↔◌, Option, Some, None, refl, sym, ap, ◌∙◌, subst}
+use Rattle.std.specs.Option.{IfSome}
+use Rattle.std.proofs.lemmas.Option.{IfSome_then}
 use Rattle.addr.specs.Address.{Address, has_address}
 use Rattle.addr.specs.declared.prefix.Prefix.{Prefix}
 use Rattle.policy.specs.declared.authorization.Auth.{Auth}
 use Rattle.policy.specs.declared.command.Command.{Command}
-use Rattle.policy.specs.declared.command.Command.TheVariants.{Register, Delegate, Transfer, Reclaim, Grant, Revoke, Create, Amend, Withdraw}
+use Rattle.policy.specs.declared.command.Command.TheVariants.{Register, Delegate, Transfer, Reclaim, Grant, Revoke, Create, Amend, Withdraw, Slurm}
 use Rattle.policy.specs.History.{Entry, History, registers, is_registered}
 use Rattle.policy.specs.Resources.{holder_after, resource_holder, is_held_by, HoldsPrefix}
 use Rattle.policy.specs.Terms.{granted_after, grants_after, grants_made, grant_terms, created_after, terms_after, authorizations_made, authorization_terms, HeldSinceMade, Keeps, AreActive}
@@ -56,6 +58,13 @@ agree-trans same next = record {
   since = λ x positive. (λ s. (next.since x positive).0 ((same.since x positive).0 s), λ s. (same.since x positive).1 ((next.since x positive).1 s));
 }
 
+-- they agree on what the holder has that a command names, where it names one
+abbrev pub AgreeIfNamed : History → History → Option (List ℕ) → Type 0
+AgreeIfNamed one other named = IfSome named (λ h. Agree one other h)
+
+pub agree-sym-named : (one other : History) (named : Option (List ℕ)) → AgreeIfNamed one other named → AgreeIfNamed other one named
+agree-sym-named one other named same = IfSome_then named same (λ h is. agree-sym is)
+
 -- what is held on the one is held on the other
 pub agree-holds : {one other : History} {h : List ℕ} → Agree one other h → (p : Prefix) → HoldsPrefix one h p → HoldsPrefix other h p
 agree-holds {one} {other} {h} same p holds a has = held_by_same h (resource_holder one a) (resource_holder other a) (sym (same.holders a)) (holds a has)
@@ -95,6 +104,7 @@ held_after (Revoke holder n) h a o p same = same
 held_after (Create holder asn q max from until) h a o p same = same
 held_after (Amend holder n max until) h a o p same = same
 held_after (Withdraw holder n) h a o p same = same
+held_after (Slurm file) h a o p same = same
 
 -- an authorization held since its making on the one, where what is held and made after the entry is the same
 since_after : (e : Entry) (one other : History) (h : List ℕ) (x : Auth)

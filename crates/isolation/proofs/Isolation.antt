@@ -2,8 +2,10 @@
 use Rattle.std.proofs.Common.{ℕ, List, inl, inr, subst}
 use Rattle.std.specs.List.{Contains}
 use Rattle.addr.specs.declared.vrp.Vrp.{Vrp}
+use Rattle.slurm.specs.Exceptions.{Exceptions}
 use Rattle.policy.specs.declared.authorization.Auth.{Auth}
 use Rattle.policy.specs.DailyVrps.{IsVrpInForce, IsAfterExceptions}
+use Rattle.policy.specs.ExceptionsInForce.{exceptions_in_force}
 use Rattle.policy.specs.History.{History}
 use Rattle.policy.specs.HolderEntries.{entries_for}
 use Rattle.policy.specs.Terms.{IsActive}
@@ -27,18 +29,20 @@ active_on {one} {other} {h} same x active = (
   (same.since x (within one h x active.0).0).0 active.1,
 )
 
-after_exceptions : (history : History) (given other : Type 0) (v : Vrp) → (given → other) → IsAfterExceptions history given v → IsAfterExceptions history other v
-after_exceptions history given other v to (inl is) = inl (to is.0, is.1)
-after_exceptions history given other v to (inr is) = inr is
+after_exceptions : (exceptions : Exceptions) (given other : Type 0) (v : Vrp) → (given → other)
+    → IsAfterExceptions exceptions given v → IsAfterExceptions exceptions other v
+after_exceptions exceptions given other v to (inl is) = inl (to is.0, is.1)
+after_exceptions exceptions given other v to (inr is) = inr is
 
 pub vrps_of_entries : VrpsOfEntries
 vrps_of_entries charter history day v legal =
+    let exceptions = exceptions_in_force history in
     let entries : IsVrpInForce history day v → IsVrpInForceByEntries history day v =
     λ given. (given.0, given.1, (active_on (agree-entries charter history given.0 legal) given.1 given.2.0, given.2.1, given.2.2), given.3) in
     let whole : IsVrpInForceByEntries history day v → IsVrpInForce history day v =
     λ given. (given.0, given.1, (active_on (agree-sym (agree-entries charter history given.0 legal)) given.1 given.2.0, given.2.1, given.2.2), given.3) in (
-      after_exceptions history (IsVrpInForce history day v) (IsVrpInForceByEntries history day v) v entries,
-      after_exceptions history (IsVrpInForceByEntries history day v) (IsVrpInForce history day v) v whole,
+      after_exceptions exceptions (IsVrpInForce history day v) (IsVrpInForceByEntries history day v) v entries,
+      after_exceptions exceptions (IsVrpInForceByEntries history day v) (IsVrpInForce history day v) v whole,
     )
 
 pub commands_by_entries : CommandsByEntries

@@ -4,7 +4,7 @@ use Rattle.std.specs.List.{list_any}
 use Rattle.policy.specs.declared.authorization.Auth.{Auth}
 use Rattle.policy.specs.declared.charter.Charter.{Charter}
 use Rattle.policy.specs.declared.command.Command.{Command}
-use Rattle.policy.specs.declared.command.Command.TheVariants.{Register, Delegate, Transfer, Reclaim, Grant, Revoke, Create, Amend, Withdraw}
+use Rattle.policy.specs.declared.command.Command.TheVariants.{Register, Delegate, Transfer, Reclaim, Grant, Revoke, Create, Amend, Withdraw, Slurm}
 use Rattle.policy.specs.declared.grant.Access.{Access}
 use Rattle.policy.specs.declared.grant.Access.TheVariants.{Manage, Alter, Look}
 use Rattle.policy.specs.declared.grant.Granted.{Granted}
@@ -18,7 +18,7 @@ use Rattle.policy.specs.Terms.{grant_terms, OfActive}
 use Rattle.policy.specs.Verdict.{ask, accept, numbered, HasAccessTo, Verdict, ShowVerdict, ListVerdict}
 use Rattle.addr.specs.declared.prefix.Prefix.{Prefix}
 use Rattle.isolation.specs.Isolation.{asks_of_all, AreJudgedAlike, AreSeenAlike}
-use Rattle.isolation.proofs.Agree.{Agree, agree-sym, agree-holds, agree-active}
+use Rattle.isolation.proofs.Agree.{Agree, AgreeIfNamed, agree-sym, agree-sym-named, agree-holds, agree-active}
 
 -- equal values have equal facts
 by_value : {A : Type 0} {x y : A} (P : A → Type 0) → x ≡ y → P x ↔ P y
@@ -76,7 +76,7 @@ access_alike {one} {other} {h} same day caller access n =
     of_active same (Has (grant_terms one h)) (Has (grant_terms other h)) (λ active. by_value (λ grants. Has grants active) same.grants)
 
 judged : (charter : Charter) (one other : History) (day : ℕ) (caller : List ℕ) (c : Command)
-    → Agree one other (holder_of c) → Agree one other (taker_of c) → asks_of_all c ≡ false
+    → AgreeIfNamed one other (holder_of c) → AgreeIfNamed one other (taker_of c) → asks_of_all c ≡ false
     → Leads (Verdict charter one day caller c) (Verdict charter other day caller c)
 judged charter one other day caller (Register holder) same taker own =
     asked itself (asked (by_value (λ b. b ≡ false) same.registered) accepted)
@@ -113,8 +113,9 @@ judged charter one other day caller (Amend holder n max until) same taker own =
 judged charter one other day caller (Withdraw holder n) same taker own =
     asked (of_grants same (λ grants. has_access grants day caller Alter)) (
     asked (access_alike same day caller Alter n) accepted)
+judged charter one other day caller (Slurm file) same taker own = asked itself accepted
 
-number_alike : (one other : History) (c : Command) → Agree one other (holder_of c) → number_given one c ≡ number_given other c
+number_alike : (one other : History) (c : Command) → AgreeIfNamed one other (holder_of c) → number_given one c ≡ number_given other c
 number_alike one other (Register holder) same = refl
 number_alike one other (Delegate holder p) same = refl
 number_alike one other (Transfer p giver taker) same = refl
@@ -124,14 +125,15 @@ number_alike one other (Revoke holder n) same = refl
 number_alike one other (Create holder asn p max from until) same = ap (λ made. Some (made + 1)) same.created
 number_alike one other (Amend holder n max until) same = refl
 number_alike one other (Withdraw holder n) same = refl
+number_alike one other (Slurm file) same = refl
 
 pub judged_alike : (charter : Charter) (one other : History) (day : ℕ) (caller : List ℕ) (c : Command)
-    → Agree one other (holder_of c) → Agree one other (taker_of c) → asks_of_all c ≡ false
+    → AgreeIfNamed one other (holder_of c) → AgreeIfNamed one other (taker_of c) → asks_of_all c ≡ false
     → AreJudgedAlike charter one other day caller c
 judged_alike charter one other day caller c same taker own = record {
   verdict = λ rule. (
     (judged charter one other day caller c same taker own).to rule,
-    (judged charter other one day caller c (agree-sym same) (agree-sym taker) own).to rule,
+    (judged charter other one day caller c (agree-sym-named one other (holder_of c) same) (agree-sym-named one other (taker_of c) taker) own).to rule,
   );
   number = number_alike one other c same;
 }

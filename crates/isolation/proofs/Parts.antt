@@ -7,10 +7,10 @@ use Rattle.addr.specs.declared.prefix.Prefix.{Prefix}
 use Rattle.policy.specs.declared.authorization.Auth.{Auth}
 use Rattle.policy.specs.declared.charter.Charter.{Charter}
 use Rattle.policy.specs.declared.command.Command.{Command}
-use Rattle.policy.specs.declared.command.Command.TheVariants.{Register, Delegate, Transfer, Reclaim, Grant, Revoke, Create, Amend, Withdraw}
+use Rattle.policy.specs.declared.command.Command.TheVariants.{Register, Delegate, Transfer, Reclaim, Grant, Revoke, Create, Amend, Withdraw, Slurm}
 use Rattle.policy.specs.Answer.{holder_of, taker_of}
-use Rattle.policy.specs.History.{Entry, History, same_name, is_registered}
-use Rattle.policy.specs.HolderEntries.{names, entries_naming, entries_naming_either, entries_for}
+use Rattle.policy.specs.History.{Entry, History, is_registered}
+use Rattle.policy.specs.HolderEntries.{is_this, names, entries_naming, entries_naming_either, entries_for}
 use Rattle.policy.specs.Resources.{resource_holder, is_held_by}
 use Rattle.policy.specs.Terms.{authorizations_made, authorization_terms, grants_made, grant_terms, HeldSinceMade}
 use Rattle.policy.specs.Verdict.{Verdict, IsLegal}
@@ -18,7 +18,7 @@ use Rattle.policy.proofs.Names.{held_by_same}
 use Rattle.policy.proofs.Held.{held_now}
 use Rattle.policy.proofs.Carry.{stays, LeavesHeld}
 use Rattle.isolation.specs.RepeatedRequests.{is_named}
-use Rattle.isolation.proofs.Agree.{Agree, agree-same, agree-trans, agree-after}
+use Rattle.isolation.proofs.Agree.{Agree, AgreeIfNamed, agree-same, agree-trans, agree-after}
 
 -- the addresses of a prefix, which the holder did not hold, go to another or to nobody
 moved : (h : List ℕ) (p : Prefix) (to held : Option (List ℕ)) (a : Address) → is_held_by h to ≡ false
@@ -32,7 +32,7 @@ moved h p to held a other none =
 
 -- an accepted command leaves what a holder holds that it does not name
 leaves_held : (charter : Charter) (before : History) (day : ℕ) (caller : List ℕ) (c : Command) (h : List ℕ)
-    → Verdict charter before day caller c None → same_name (holder_of c) h ≡ false → same_name (taker_of c) h ≡ false
+    → Verdict charter before day caller c None → is_this h (holder_of c) ≡ false → is_this h (taker_of c) ≡ false
     → LeavesHeld (record { day = day; caller = caller; command = c }) before h
 leaves_held charter before day caller (Register holder) h accepted other other_taker a = refl
 leaves_held charter before day caller (Delegate holder p) h accepted other other_taker a =
@@ -46,6 +46,7 @@ leaves_held charter before day caller (Revoke holder n) h accepted other other_t
 leaves_held charter before day caller (Create holder asn p max from until) h accepted other other_taker a = refl
 leaves_held charter before day caller (Amend holder n max until) h accepted other other_taker a = refl
 leaves_held charter before day caller (Withdraw holder n) h accepted other other_taker a = refl
+leaves_held charter before day caller (Slurm file) h accepted other other_taker a = refl
 
 -- where a holder keeps what it holds and none is made, the same authorizations are held since their making
 pub since_left : (e : Entry) (before : History) (h : List ℕ) → LeavesHeld e before h
@@ -65,7 +66,7 @@ pub agree-unnamed : (charter : Charter) (e : Entry) (before : History) (h : List
     → names h e.command ≡ false → Agree (e ∷ before) before h
 agree-unnamed charter e before h accepted unnamed =
     let c = e.command in
-    let others = or_parts (same_name (holder_of c) h) (same_name (taker_of c) h) unnamed in
+    let others = or_parts (is_this h (holder_of c)) (is_this h (taker_of c)) unnamed in
     let same = stays c h (grants_made before h) (authorizations_made before h) (grant_terms before h) (authorization_terms before h) others.0 in
     let holders = leaves_held charter before e.day e.caller c h accepted others.0 others.1 in
     record {
@@ -125,7 +126,7 @@ twice p = (p, p)
 
 -- the entries for a command have those of its holders
 pub agree-for : (charter : Charter) (history : History) (c : Command) → IsLegal charter history
-    → Agree history (entries_for c history) (holder_of c) × Agree history (entries_for c history) (taker_of c)
+    → AgreeIfNamed history (entries_for c history) (holder_of c) × AgreeIfNamed history (entries_for c history) (taker_of c)
 agree-for charter history (Register holder) legal = twice (agree-entries charter history holder legal)
 agree-for charter history (Delegate holder p) legal = twice (agree-entries charter history holder legal)
 agree-for charter history (Transfer p giver taker) legal = agree-either charter history giver taker legal
@@ -135,3 +136,4 @@ agree-for charter history (Revoke holder n) legal = twice (agree-entries charter
 agree-for charter history (Create holder asn p max from until) legal = twice (agree-entries charter history holder legal)
 agree-for charter history (Amend holder n max until) legal = twice (agree-entries charter history holder legal)
 agree-for charter history (Withdraw holder n) legal = twice (agree-entries charter history holder legal)
+agree-for charter history (Slurm file) legal = (tt, tt)

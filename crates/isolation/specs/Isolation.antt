@@ -8,6 +8,7 @@ use Rattle.policy.specs.declared.command.Command.TheVariants.{Delegate}
 use Rattle.policy.specs.declared.rule.Rule.{Rule}
 use Rattle.policy.specs.Answer.{number_given, IsShown, IsListed}
 use Rattle.policy.specs.DailyVrps.{IsAfterExceptions, IsVrpOn}
+use Rattle.policy.specs.ExceptionsInForce.{exceptions_in_force}
 use Rattle.policy.specs.HolderEntries.{names, entries_naming, entries_for}
 use Rattle.policy.specs.History.{Entry, History}
 use Rattle.policy.specs.Rows.{Rows, RowsIfAny}
@@ -38,7 +39,8 @@ IsVrpInForceByEntries history day v =
 abbrev pub VrpsOfEntries : Type 0
 VrpsOfEntries =
     (charter : Charter) (history : History) (day : ℕ) (v : Vrp) → IsLegal charter history
-    → IsVrpOn history day v ↔ IsAfterExceptions history (IsVrpInForceByEntries history day v) v
+    → IsVrpOn history day v
+    ↔ IsAfterExceptions (exceptions_in_force history) (IsVrpInForceByEntries history day v) v
 
 -- a delegation asks of all holders whether one holds an address of the prefix
 abbrev pub asks_of_all : Command → Bool
@@ -50,7 +52,8 @@ pub record AreJudgedAlike (charter : Charter) (one other : History) (day : ℕ) 
   pub verdict : (rule : Option Rule) → Verdict charter one day caller command rule ↔ Verdict charter other day caller command rule
   pub number : number_given one command ≡ number_given other command
 
--- but for a delegation, a command is judged by the entries that name one of its holders
+-- but for a delegation, a command is judged by the entries that name one of its holders; a SLURM file,
+-- which names none, by no entry
 abbrev pub CommandsByEntries : Type 0
 CommandsByEntries =
     (charter : Charter) (history : History) (day : ℕ) (caller : List ℕ) (command : Command)

@@ -1,10 +1,13 @@
--- A command that is asked again. Where it is denied the history stays as it is, and the rows with it.
+-- A command that is asked again. Where it is denied the history stays as it is, and the rows and the
+-- exceptions with it.
 use Rattle.std.specs.Prelude.{◌≡◌, ℕ, Bool, true, false, List, ◌∷◌, ◌++◌, Option, None, ◌↔◌}
 use Rattle.std.specs.List.{list_any}
+use Rattle.std.specs.Option.{IfSome}
 use Rattle.policy.specs.declared.charter.Charter.{Charter}
 use Rattle.policy.specs.declared.command.Command.{Command}
 use Rattle.policy.specs.declared.command.Command.TheVariants.{Grant}
 use Rattle.policy.specs.Answer.{holder_of, taker_of}
+use Rattle.policy.specs.ExceptionsInForce.{brings_exceptions, exceptions_in_force}
 use Rattle.policy.specs.History.{Entry, History}
 use Rattle.policy.specs.HolderEntries.{names}
 use Rattle.policy.specs.Rows.{Rows, RowsIfAny}
@@ -19,17 +22,28 @@ is_grant _ = false
 abbrev pub is_named : List ℕ → History → Bool
 is_named h entries = list_any (λ e. names h e.command) entries
 
--- no entry names a holder that the command names
-abbrev pub NoneNames : Command → History → Type 0
-NoneNames command entries = (is_named (holder_of command) entries ≡ false) × (is_named (taker_of command) entries ≡ false)
+-- some entry brings a SLURM file
+abbrev pub has_slurm_file : History → Bool
+has_slurm_file entries = list_any (λ e. brings_exceptions e.command) entries
 
--- after a command other than a grant was accepted, and no later entry names one of its holders, the same
--- command of any caller on any day, accepted again, leaves the rows of every holder
+-- no entry names a holder that the command names, nor brings a SLURM file where the command brings one
+pub record NoneNames (command : Command) (entries : History) : Type 0 where
+  pub holder : IfSome (holder_of command) (λ h. is_named h entries ≡ false)
+  pub taker : IfSome (taker_of command) (λ h. is_named h entries ≡ false)
+  pub file : brings_exceptions command ≡ true → has_slurm_file entries ≡ false
+
+-- the rows of every holder and the exceptions in force are the same after both
+pub record HaveSameRows (one other : History) : Type 0 where
+  pub holders : (h : List ℕ) (rows : Option Rows) → RowsIfAny one h rows ↔ RowsIfAny other h rows
+  pub exceptions : exceptions_in_force one ≡ exceptions_in_force other
+
+-- after a command other than a grant was accepted, and no later entry names one of its holders or, where
+-- it brought a SLURM file, brings another, the same command of any caller on any day, accepted again,
+-- leaves the rows of every holder and the exceptions in force
 abbrev pub RepeatsLeaveRows : Type 0
 RepeatsLeaveRows =
     (charter : Charter) (before : History) (first : Entry) (later : History) (day : ℕ) (caller : List ℕ)
     → IsLegal charter (later ++ first ∷ before) → is_grant first.command ≡ false → NoneNames first.command later
     → Verdict charter (later ++ first ∷ before) day caller first.command None
-    → (h : List ℕ) (rows : Option Rows)
-    → RowsIfAny (later ++ first ∷ before) h rows
-    ↔ RowsIfAny (record { day = day; caller = caller; command = first.command } ∷ later ++ first ∷ before) h rows
+    → HaveSameRows (later ++ first ∷ before)
+    (record { day = day; caller = caller; command = first.command } ∷ later ++ first ∷ before)

@@ -29,7 +29,7 @@ pub fn parts()
 
 /// After a legal history a command at a holder, but for a delegation, is accepted or denied, and its
 /// grant or authorization numbered, as after the entries that name the holder alone; a transfer as
-/// after those that name giver or taker.
+/// after those that name giver or taker, and a SLURM file as after no entry.
 pub fn commands_by_entries()
     ensures { CommandsByEntries }
 {}
@@ -41,8 +41,8 @@ pub fn queries_by_entries()
 {}
 
 /// Where a legal history accepted a command other than a grant, and no later entry names one of its
-/// holders, the same command by any caller on any day, if it is accepted again, leaves the rows of
-/// every holder.
+/// holders or, where it brought a SLURM file, brings another, the same command by any caller on any
+/// day, if it is accepted again, leaves the rows of every holder and the exceptions in force.
 pub fn again()
     ensures { RepeatsLeaveRows }
 {}
