@@ -1,5 +1,5 @@
 -- The SLURM exceptions in force: those of the last file of the history, all of them and no others
--- (RFC 8416 section 4.2: a file takes effect as a whole). Before the first file there are none.
+-- (RFC 8416 section 4.1: a file takes effect as a whole). Before the first file there are none.
 use Rattle.std.specs.Prelude.{Bool, true, false, [], ◌∷◌}
 use Rattle.slurm.specs.Exceptions.{Exceptions}
 use Rattle.policy.specs.declared.command.Command.{Command}

@@ -1,0 +1,62 @@
+#!/usr/bin/env python3
+"""Writes a script of `roadesk script` for the benchmark of prefix filters.
+
+    filters.py FILTERS QUERIES CHARTER.csv > SCRIPT.jsonl
+
+A desk gets 100 holders with 100 authorizations each, a SLURM file of so many filters of which none
+matches any of their VRPs, and is asked for the VRPs of a day so many times. The charter is written too.
+"""
+
+import json
+import sys
+
+HOLDERS = 100
+AUTHORIZATIONS = 100
+DAY = "2026-03-01"
+
+
+def line(caller, **members):
+    print(json.dumps({"day": DAY, "caller": caller, **members}, separators=(",", ":")))
+
+
+def block(number):
+    """The /16 of a holder."""
+    return f"10.{number}.0.0/16"
+
+
+def filter_of(number):
+    """Filters of every form, of prefixes beside those of the VRPs or of an AS that none of them has."""
+    prefix = f"172.{16 + number // 256}.{number % 256}.0/24"
+    return [
+        {"prefix": prefix},
+        {"asn": 65536 + number},
+        {"prefix": block(number % HOLDERS), "asn": 65536 + number},
+    ][number % 3]
+
+
+def slurm_file(filters):
+    return {
+        "slurmVersion": 1,
+        "validationOutputFilters": {"prefixFilters": [filter_of(n) for n in range(filters)], "bgpsecFilters": []},
+        "locallyAddedAssertions": {"prefixAssertions": [], "bgpsecAssertions": []},
+    }
+
+
+def main():
+    filters, queries, charter = int(sys.argv[1]), int(sys.argv[2]), sys.argv[3]
+    with open(charter, "w", encoding="ascii") as out:
+        out.write("kind,value\noperator,reg\npool,10.0.0.0/8\n")
+    for number in range(HOLDERS):
+        holder = f"holder-{number}"
+        line("reg", do="register", holder=holder)
+        line("reg", do="delegate", holder=holder, prefix=block(number))
+        line("reg", do="grant", holder=holder, name="ann", role="manager", scope="all", until="2026-12-31")
+        for third in range(AUTHORIZATIONS):
+            line("ann", do="create", holder=holder, asn=64496 + third, prefix=f"10.{number}.{third}.0/24", max=24,
+                 **{"from": "2026-01-01"}, until="2026-12-31")
+    line("reg", do="slurm", file=slurm_file(filters))
+    for _ in range(queries):
+        line("bob", do="payloads")
+
+
+main()

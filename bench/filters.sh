@@ -1,0 +1,43 @@
+#!/usr/bin/env bash
+# Measures what prefix filters cost: the VRPs of a day of 10,000 authorizations, with 4096 filters that match
+# none of them and with none.
+#
+#     filters.sh [RUNS]      (5 where left out)
+#
+# The time of one answer is that of a script which asks 20 times less that of one which asks once, by 19. The
+# least of the runs counts. Ends with 1 where a filter changed what is answered, with 2 where something could
+# not be run. The program has to be built first, by ./roadesk at the top.
+set -u
+. "$(dirname "${BASH_SOURCE[0]}")/work.sh"
+runs=${1:-5}
+program=$(realpath "$bench/../crates/cli/out/cli") || fail "the program is not built"
+
+for filters in 0 4096; do
+    for queries in 1 20; do
+        python3 "$bench/filters.py" "$filters" "$queries" "$work/charter.csv" >"$work/$filters-$queries.jsonl" ||
+            fail "no script"
+    done
+done
+
+# seconds FILTERS QUERIES: the processor time of the script.
+seconds() {
+    local TIMEFORMAT=%U
+    { time "$program" script --charter "$work/charter.csv" <"$work/$1-$2.jsonl" >"$work/$1-$2.out"; } 2>&1 ||
+        fail "the script failed"
+}
+
+for filters in 0 4096; do
+    for _ in $(seq "$runs"); do
+        echo "$filters $(seconds "$filters" 1) $(seconds "$filters" 20)"
+    done
+done >"$work/times"
+
+cmp -s "$work/0-1.out" "$work/4096-1.out" || { echo "filters.sh: other answers" >&2; exit 1; }
+
+awk '
+    { answer = ($3 - $2) / 19 }
+    !($1 in least) || answer < least[$1] { least[$1] = answer }
+    END {
+        printf "no filters    %6.2f ms\n4096 filters  %6.2f ms\nratio         %6.2f\n",
+            least[0] * 1000, least[4096] * 1000, least[4096] / least[0]
+    }' "$work/times"
