@@ -121,11 +121,11 @@ DROP TABLE meta; CREATE TABLE meta (name TEXT NOT NULL, value INTEGER NOT NULL, 
 /// Rows of exceptions, and what the opening answers then.
 const EXCEPTIONS: &str = r#"
 # exceptions_that_read
-INSERT INTO slurm VALUES ('main', 1, 1, NULL, NULL, NULL, NULL, 64496) => database
-INSERT INTO slurm VALUES ('main', 1, 1, 4, x'000000000000000000000000c0000200', 24, NULL, NULL) => database
-INSERT INTO slurm VALUES ('main', 1, 7, 4, x'000000000000000000000000c0000200', 24, NULL, 0) => database
-INSERT INTO slurm VALUES ('main', 2, 1, 4, x'000000000000000000000000c6336400', 24, 24, 64496) => database
-INSERT INTO slurm VALUES ('main', 2, 1, 6, x'20010db8000000000000000000000000', 32, 128, 4294967295) => database
+INSERT INTO slurm VALUES ('main', 1, 1, NULL, NULL, NULL, NULL, 64496) => ok
+INSERT INTO slurm VALUES ('main', 1, 1, 4, x'000000000000000000000000c0000200', 24, NULL, NULL) => ok
+INSERT INTO slurm VALUES ('main', 1, 7, 4, x'000000000000000000000000c0000200', 24, NULL, 0) => ok
+INSERT INTO slurm VALUES ('main', 2, 1, 4, x'000000000000000000000000c6336400', 24, 24, 64496) => ok
+INSERT INTO slurm VALUES ('main', 2, 1, 6, x'20010db8000000000000000000000000', 32, 128, 4294967295) => ok
 # exceptions_that_do_not_read
 INSERT INTO slurm VALUES ('other', 1, 1, NULL, NULL, NULL, NULL, 64496) => schema
 INSERT INTO slurm VALUES ('main', 0, 1, NULL, NULL, NULL, NULL, 64496) => schema

@@ -1,8 +1,11 @@
 //! The store: what was applied is loaded, and what breaks a key is refused.
+use crate::example_database::{TABLES, made};
+use crate::slurm_files::SAMPLE;
 use addr::{Asn, Day, Holdings, Name, Prefix};
 use policy::{
     Auth, Change, Charter, Command, Edit, Granted, HolderChange, Role, Scope, View, decide,
 };
+use slurm::{Filter, Slurm};
 use sqlite::{Connection, MemStore};
 use std::alloc::Global;
 use std::process::Abort;
@@ -38,7 +41,7 @@ fn registered_holder(alloc: Global) -> Result<Store<MemStore>, Fail> {
 // Changes the rows of `alpha`.
 fn change(store: &mut Store<MemStore>, edit: Edit) -> Result<Result<(), StoreFault>, Fail> {
     let holder = name("alpha")?;
-    let change = Change {
+    let change = Change::Holders {
         first: HolderChange { holder, edit },
         second: None,
     };
@@ -206,5 +209,58 @@ fn authorization_that_gives_no_vrp_is_another_schema(rt: HostRuntime) -> Result<
     apply(&mut store, Edit::Create(auth))?;
     let vrps = store.all_auths_on(rt.alloc(), first_of_march()?);
     assert!(rt; matches!(vrps, Err(StoreFault::Schema)));
+    Ok(())
+}
+
+// The one file of the store.
+fn only_file(alloc: Global, store: &mut Store<MemStore>) -> Result<Slurm, Fail> {
+    let Ok(mut files) = store.slurm_files(alloc) else {
+        return Err("no files".into());
+    };
+    if files.len() > 1 {
+        return Err("more than one file".into());
+    }
+    Ok(files.pop().ok_or("a file")?)
+}
+
+#[test]
+fn slurm_file_is_loaded_as_it_was_applied(rt: HostRuntime) -> Result<(), Fail> {
+    let mut store = registered_holder(rt.alloc())?;
+    let file = Slurm::read(rt.alloc(), SAMPLE.as_bytes())?;
+    let applied = store.apply(&Change::Exceptions(file.clone()?));
+    assert!(rt; matches!(applied, Ok(())));
+    let loaded = only_file(rt.alloc(), &mut store)?;
+    assert_eq!(rt; loaded.filters(), file.filters());
+    assert_eq!(rt; loaded.assertions(), file.assertions());
+    let empty = Slurm::make(Vec::new(rt.alloc()), Vec::new(rt.alloc()))?;
+    let applied = store.apply(&Change::Exceptions(empty));
+    assert!(rt; matches!(applied, Ok(())));
+    let files = store.slurm_files(rt.alloc());
+    assert!(rt; matches!(files, Ok(files) if files.is_empty()));
+    Ok(())
+}
+
+/// Exceptions of another program, out of their order and with positions left out.
+const EXCEPTIONS: &str = "
+INSERT INTO slurm VALUES ('main', 1, 900, NULL, NULL, NULL, NULL, 64499), ('main', 2, 5, 4, x'000000000000000000000000c6336400', 24, 25, 64500);
+INSERT INTO slurm VALUES ('main', 1, 8, 4, x'000000000000000000000000c0000200', 24, NULL, NULL), ('main', 1, 70, 4, x'000000000000000000000000c0000200', 24, NULL, 64497);
+";
+
+#[test]
+fn exceptions_are_loaded_by_their_positions(rt: HostRuntime) -> Result<(), Fail> {
+    let mut conn = made(rt.alloc(), TABLES)?;
+    conn.execute_batch(EXCEPTIONS)?;
+    let Ok(mut store) = Store::open_from(rt.alloc(), conn) else {
+        return Err("not opened".into());
+    };
+    let file = only_file(rt.alloc(), &mut store)?;
+    let prefix = Prefix::read(b"192.0.2.0/24")?;
+    let filters = [
+        Filter::Under(prefix),
+        Filter::Both(prefix, Asn(64_497)),
+        Filter::By(Asn(64_499)),
+    ];
+    assert_eq!(rt; file.filters(), &filters);
+    assert_eq!(rt; file.assertions().len(), 1);
     Ok(())
 }
