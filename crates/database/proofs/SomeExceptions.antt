@@ -1,11 +1,11 @@
 -- The exceptions that a table holds whose rows show exceptions, each at a place of its own.
-use Rattle.std.proofs.Common.{◌≡◌, ◌≢◌, ℕ, ◌<◌, true, false, not, ◌==◌, List, [], ◌∷◌, ◌++◌, map, filter, refl, inl, inr, sym, ap, subst, ◌∙◌, arith, IsPermutation}
+use Rattle.std.proofs.Common.{◌≡◌, ◌≢◌, ℕ, ◌<◌, not, ◌==◌, List, [], ◌∷◌, ◌++◌, map, filter, refl, inl, inr, sym, subst, ◌∙◌, arith, IsPermutation}
 use Rattle.std.specs.List.{AllByRecursion}
 use Rattle.std.proofs.lemmas.Bool.{cases_lt, eqb-true}
 use Rattle.std.proofs.lemmas.List.Sorted.{IsPermutation-refl, IsPermutation-sym, IsPermutation-trans, IsPermutation-cons, IsPermutation-middle, IsPermutation-append, IsPermutation-map, IsPermutation-filter_both}
 use Rattle.sqlite_value.specs.Order.{Row}
 use Rattle.sqlite_trees.specs.Tree.{IsAscending}
-use Rattle.sqlite_trees.proofs.ListLemmas.{all_weaker, all_both, all-filter, all-permutation, ascending-filter, ascending_from_map, ascending_weaker}
+use Rattle.sqlite_trees.proofs.ListLemmas.{all_weaker, all_both, all-filter, all-permutation, ascending-filter}
 use Rattle.sqlite_rules.proofs.ListLemmas.{all_from, has_filtered}
 use Rattle.addr.specs.declared.vrp.Vrp.{Vrp}
 use Rattle.slurm.specs.declared.filter.Filter.{Filter}
@@ -46,10 +46,10 @@ put r [] apart up = (r ∷ [], IsPermutation-refl _, (tt, tt))
 put r (s ∷ rows) apart up = elim (cases_lt r.position s.position) [
   | inl low ↦ (r ∷ s ∷ rows, IsPermutation-refl _, ((low, all_weaker (IsBefore s) (IsBefore r) (λ t later. omega (arith, low, later)) rows up.0), up))
   | inr high ↦
-    let differ = apart.0 in
-    let low : s.position < r.position = omega (arith, high, differ) in
-    let more = put r rows apart.1 up.1 in
-    (s ∷ more.0, IsPermutation-trans _ _ _ (IsPermutation-middle (r ∷ []) s rows) (IsPermutation-cons s _ _ more.1), (all-permutation (IsBefore s) _ _ more.1 (low, up.0), more.2))
+      let differ = apart.0 in
+      let low : s.position < r.position = omega (arith, high, differ) in
+      let more = put r rows apart.1 up.1 in
+      (s ∷ more.0, IsPermutation-trans _ _ _ (IsPermutation-middle (r ∷ []) s rows) (IsPermutation-cons s _ _ more.1), (all-permutation (IsBefore s) _ _ more.1 (low, up.0), more.2))
 ]
 
 in_order : (rows : List ExceptionRow) → IsAscending AreApart rows → (all : List ExceptionRow) × IsPermutation rows all × IsAscending IsBefore all

@@ -1,5 +1,5 @@
 -- Tables that read show values of the types that each query asks for.
-use Rattle.std.proofs.Common.{◌≡◌, inl, inr, ℕ, true, ◌||◌, List, [], ◌∷◌, map, length, Result, Ok, Err, IfOk, OnOk, IsOk, OnErr, nat_eq, refl, sym, ap, subst, ◌∙◌, arith, rules, IsPermutation, IsTrue}
+use Rattle.std.proofs.Common.{◌≡◌, inl, inr, ℕ, true, ◌||◌, List, [], ◌∷◌, map, length, Result, Ok, Err, IfOk, OnErr, nat_eq, refl, sym, ap, subst, ◌∙◌, arith, IsPermutation, IsTrue}
 use Rattle.std.specs.Prelude.{⊤, Any}
 use Rattle.std.specs.Cmp.Lexicographic.{pointwise}
 use Rattle.std.specs.List.{AllByRecursion}
@@ -29,10 +29,10 @@ use Rattle.tables.specs.Tables.{meta, operator, pool, holder, holding, granted, 
 use Rattle.tables.proofs.CellsOnce.{one_prefix, values_shown}
 use Rattle.database.specs.declared.fault.StoreFault.{StoreFault}
 use Rattle.database.specs.declared.fault.StoreFault.TheVariants.{Schema}
-use Rattle.database.specs.TablesRead.{ShowsSome, ShowsHolder, ShowsOfHolder, ShowsException, TablesRead}
+use Rattle.database.specs.TablesRead.{ShowsSome, ShowsHolder, ShowsOfHolder, TablesRead}
 use Rattle.database.specs.steps.Numbered.{shown_in, AreRead}
 use Rattle.database.specs.steps.Opened.{ShowsRows, ShowsCharter}
-use Rattle.database.proofs.Columns.{grant_shown, exception_places, exception_shown}
+use Rattle.database.proofs.Columns.{grant_shown, exception_places}
 
 -- ---- what was read
 
