@@ -1,9 +1,10 @@
 //! Reading the rows of the table `slurm`: the exceptions of the SLURM file in force.
 ghost use Rattle.std.specs.Prelude.{◌≡◌, ◌↔◌, [], ◌∷◌, codes, IsTrue};
+ghost use Rattle.policy.specs.Values.{FilterFits};
 ghost use Rattle.sqlite_value.specs.declared.value.Value.TheVariants.{Text};
 ghost use Rattle.sqlite_value.specs.Value.{owned};
 ghost use Rattle.tables.specs.Cells.{number_cell, kind_number, filter_cells, exception_cells, exception_row};
-ghost use Rattle.tables.specs.Decode.{Decodes, IsPosition, FilterFits, ExceptionFits, ExceptionRowFits};
+ghost use Rattle.tables.specs.Decode.{Decodes, IsPosition, ExceptionFits, ExceptionRowFits};
 ghost use Rattle.tables.specs.Tables.{columns};
 
 use crate::FromRow;
