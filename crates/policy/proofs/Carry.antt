@@ -3,21 +3,26 @@ use Rattle.std.proofs.Common.{◌≡◌, ℕ, Bool, true, false, ◌||◌, cond,
 use Rattle.std.proofs.lemmas.Bool.{cases_Bool, cond-false, false≢true}
 use Rattle.std.proofs.Math.Bool.{or-true}
 use Rattle.addr.specs.Address.{Address}
+use Rattle.slurm.specs.Exceptions.{Exceptions}
 use Rattle.policy.specs.declared.authorization.Auth.{Auth}
+use Rattle.policy.specs.declared.change.Change.{Change}
+use Rattle.policy.specs.declared.change.Change.TheVariants.{Holders, Exceptions as Replace}
 use Rattle.policy.specs.declared.change.Edit.{Edit}
 use Rattle.policy.specs.declared.command.Command.{Command}
-use Rattle.policy.specs.declared.command.Command.TheVariants.{Register, Delegate, Transfer, Reclaim, Grant, Revoke, Create, Amend, Withdraw}
+use Rattle.policy.specs.declared.command.Command.TheVariants.{Register, Delegate, Transfer, Reclaim, Grant, Revoke, Create, Amend, Withdraw, Slurm}
 use Rattle.policy.specs.declared.grant.Granted.{Granted}
 use Rattle.policy.specs.History.{Entry, History, same_name, registers, is_registered}
 use Rattle.policy.specs.Resources.{resource_holder, is_held_by}
 use Rattle.policy.specs.Terms.{granted_after, grants_after, grants_made, grant_terms, created_after, terms_after, authorizations_made, authorization_terms, HeldSinceMade, Keeps, AreActive}
 use Rattle.policy.specs.Answer.{holder_of}
-use Rattle.policy.specs.Rows.{Rows, RowsOf, RowsIfAny, edited, edited_if_any, Carries}
+use Rattle.policy.specs.ExceptionsInForce.{exceptions_after, exceptions_in_force}
+use Rattle.policy.specs.HolderEntries.{is_this}
+use Rattle.policy.specs.Rows.{Rows, RowsOf, RowsIfAny, edited, edited_if_any, changed, Carries}
 use Rattle.policy.proofs.Names.{same_name-true, held_by_same}
 use Rattle.policy.proofs.Held.{active-kept}
 
 -- a command registers no holder but the one that it names, and changes no other's grants and terms
-pub stays : (c : Command) (h : List ℕ) (made count : ℕ) (grants : List Granted) (terms : List Auth) → same_name (holder_of c) h ≡ false
+pub stays : (c : Command) (h : List ℕ) (made count : ℕ) (grants : List Granted) (terms : List Auth) → is_this h (holder_of c) ≡ false
     → (registers c h ≡ false) × (grants_after c h made grants ≡ grants) × (granted_after c h made ≡ made)
     × (terms_after c h count terms ≡ terms) × (created_after c h count ≡ count)
 stays (Register holder) h made count grants terms other = (other, refl, refl, refl, refl)
@@ -29,6 +34,7 @@ stays (Revoke holder n) h made count grants terms other = (refl, cond-false _ _ 
 stays (Create holder asn p max from until) h made count grants terms other = (refl, refl, refl, cond-false _ _ _ other, cond-false _ _ _ other)
 stays (Amend holder n max until) h made count grants terms other = (refl, refl, refl, cond-false _ _ _ other, refl)
 stays (Withdraw holder n) h made count grants terms other = (refl, refl, refl, cond-false _ _ _ other, refl)
+stays (Slurm file) h made count grants terms other = (refl, refl, refl, refl, refl)
 
 -- the command leaves who holds what, as far as this holder goes
 abbrev pub LeavesHeld : Entry → History → List ℕ → Type 0
@@ -44,7 +50,7 @@ active-left e before h active holders terms are =
     subst P (sym terms) kept
 
 -- the rows of a holder that the command does not name
-left : (e : Entry) (before : History) (h : List ℕ) → same_name (holder_of e.command) h ≡ false → LeavesHeld e before h
+left : (e : Entry) (before : History) (h : List ℕ) → is_this h (holder_of e.command) ≡ false → LeavesHeld e before h
     → (rows : Option Rows) → RowsIfAny before h rows → RowsIfAny (e ∷ before) h rows
 left e before h other holders rows are =
     let same = stays e.command h (grants_made before h) (authorizations_made before h) (grant_terms before h) (authorization_terms before h) other in
@@ -64,21 +70,32 @@ left e before h other holders rows are =
       )
     ] are
 
+-- the command names this holder, and brings no exceptions
+pub record IsAt (holder : List ℕ) (e : Entry) (before : History) : Type 0 where
+  pub named : holder_of e.command ≡ Some holder
+  pub exceptions : exceptions_in_force (e ∷ before) ≡ exceptions_in_force before
+
+not_named : (holder h : List ℕ) (e : Entry) (before : History) → IsAt holder e before → same_name holder h ≡ false → is_this h (holder_of e.command) ≡ false
+not_named holder h e before at other = ap (is_this h) at.named ∙ other
+
 -- a change of the one holder that the command names
-pub carries-one : (e : Entry) (before : History) (edit : Edit)
-    → ((rows : Option Rows) → RowsIfAny before (holder_of e.command) rows → RowsIfAny (e ∷ before) (holder_of e.command) (edited_if_any edit rows))
-    → ((h : List ℕ) → same_name (holder_of e.command) h ≡ false → LeavesHeld e before h)
-    → Carries (record { first = record { holder = holder_of e.command; edit = edit }; second = None }) before (e ∷ before)
-carries-one e before edit named others h rows are =
-    let holder = holder_of e.command in
-    let P : Bool → Type 0 = λ b. RowsIfAny (e ∷ before) h (cond b (edited_if_any edit rows) rows) in
-    elim (cases_Bool (same_name holder h)) [
-      | inl t ↦
-          let same = same_name-true holder h t in
-          let Q : List ℕ → Type 0 = λ g. RowsIfAny before g rows → RowsIfAny (e ∷ before) g (edited_if_any edit rows) in
-          subst P (sym t) (subst Q same (named rows) are)
-      | inr f ↦ subst P (sym f) (left e before h f (others h f) rows are)
-    ]
+pub carries-one : (e : Entry) (before : History) (holder : List ℕ) (edit : Edit) → IsAt holder e before
+    → ((rows : Option Rows) → RowsIfAny before holder rows → RowsIfAny (e ∷ before) holder (edited_if_any edit rows))
+    → ((h : List ℕ) → same_name holder h ≡ false → LeavesHeld e before h)
+    → Carries (Holders (record { holder = holder; edit = edit }) None) before (e ∷ before)
+carries-one e before holder edit at step others = record { holders = carried; exceptions = at.exceptions }
+  where
+    carried : (h : List ℕ) (rows : Option Rows) → RowsIfAny before h rows
+        → RowsIfAny (e ∷ before) h (changed (Holders (record { holder = holder; edit = edit }) None) h rows)
+    carried h rows are =
+        let P : Bool → Type 0 = λ b. RowsIfAny (e ∷ before) h (cond b (edited_if_any edit rows) rows) in
+        elim (cases_Bool (same_name holder h)) [
+          | inl t ↦
+              let same = same_name-true holder h t in
+              let Q : List ℕ → Type 0 = λ g. RowsIfAny before g rows → RowsIfAny (e ∷ before) g (edited_if_any edit rows) in
+              subst P (sym t) (subst Q same (step rows) are)
+          | inr f ↦ subst P (sym f) (left e before h (not_named holder h e before at f) (others h f) rows are)
+        ]
 
 -- an edit of a registered holder's rows
 rows-edited : (e : Entry) (before : History) (h : List ℕ) (edit : Edit) → is_registered before h ≡ true
@@ -89,43 +106,55 @@ rows-edited e before h edit registered step (Some rows) are =
     (ap (λ b. registers e.command h || b) registered ∙ or-true (registers e.command h), step rows are.1)
 
 -- a change of the one holder that the command names, which is registered
-pub carries-edit : (e : Entry) (before : History) (edit : Edit) → is_registered before (holder_of e.command) ≡ true
-    → ((rows : Rows) → RowsOf before (holder_of e.command) rows → RowsOf (e ∷ before) (holder_of e.command) (edited edit rows))
-    → ((h : List ℕ) → same_name (holder_of e.command) h ≡ false → LeavesHeld e before h)
-    → Carries (record { first = record { holder = holder_of e.command; edit = edit }; second = None }) before (e ∷ before)
-carries-edit e before edit registered step others =
-    carries-one e before edit (rows-edited e before (holder_of e.command) edit registered step) others
+pub carries-edit : (e : Entry) (before : History) (holder : List ℕ) (edit : Edit) → IsAt holder e before → is_registered before holder ≡ true
+    → ((rows : Rows) → RowsOf before holder rows → RowsOf (e ∷ before) holder (edited edit rows))
+    → ((h : List ℕ) → same_name holder h ≡ false → LeavesHeld e before h)
+    → Carries (Holders (record { holder = holder; edit = edit }) None) before (e ∷ before)
+carries-edit e before holder edit at registered step others =
+    carries-one e before holder edit at (rows-edited e before holder edit registered step) others
 
 -- a change of the holder that the command names and then of another, both registered
-pub carries-two : (e : Entry) (before : History) (other : List ℕ) (edit_one edit_other : Edit)
-    → is_registered before (holder_of e.command) ≡ true → is_registered before other ≡ true → same_name other (holder_of e.command) ≡ false
-    → ((rows : Rows) → RowsOf before (holder_of e.command) rows → RowsOf (e ∷ before) (holder_of e.command) (edited edit_one rows))
+pub carries-two : (e : Entry) (before : History) (one other : List ℕ) (edit_one edit_other : Edit) → IsAt one e before
+    → is_registered before one ≡ true → is_registered before other ≡ true → same_name other one ≡ false
+    → ((rows : Rows) → RowsOf before one rows → RowsOf (e ∷ before) one (edited edit_one rows))
     → ((rows : Rows) → RowsOf before other rows → RowsOf (e ∷ before) other (edited edit_other rows))
-    → ((h : List ℕ) → same_name (holder_of e.command) h ≡ false → same_name other h ≡ false → LeavesHeld e before h)
-    → Carries (record { first = record { holder = holder_of e.command; edit = edit_one }; second = Some (record { holder = other; edit = edit_other }) }) before (e ∷ before)
-carries-two e before other edit_one edit_other one_registered other_registered differ step_one step_other others h rows are =
-    let one = holder_of e.command in
-    let P : Bool → Bool → Type 0 = λ b c.
-    RowsIfAny (e ∷ before) h (cond c (edited_if_any edit_other (cond b (edited_if_any edit_one rows) rows)) (cond b (edited_if_any edit_one rows) rows)) in
-    elim (cases_Bool (same_name one h)) [
-      | inl t ↦
-          let same = same_name-true one h t in
-          let Q : List ℕ → Type 0 = λ g. RowsIfAny before g rows → RowsIfAny (e ∷ before) g (edited_if_any edit_one rows) in
-          let not_other : same_name other h ≡ false = subst (λ (g : List ℕ). same_name other g ≡ false) same differ in
-          let at : P true false = subst Q same (rows-edited e before one edit_one one_registered step_one rows) are in
-          let with_first : P (same_name one h) false = subst (λ (b : Bool). P b false) (sym t) at in
-          subst (λ (c : Bool). P (same_name one h) c) (sym not_other) with_first
-      | inr f ↦
-          elim (cases_Bool (same_name other h)) [
-            | inl u ↦
-                let same = same_name-true other h u in
-                let Q : List ℕ → Type 0 = λ g. RowsIfAny before g rows → RowsIfAny (e ∷ before) g (edited_if_any edit_other rows) in
-                let at : P false true = subst Q same (rows-edited e before other edit_other other_registered step_other rows) are in
-                let with_first : P (same_name one h) true = subst (λ (b : Bool). P b true) (sym f) at in
-                subst (λ (c : Bool). P (same_name one h) c) (sym u) with_first
-            | inr g ↦
-                let at : P false false = left e before h f (others h f g) rows are in
-                let with_first : P (same_name one h) false = subst (λ (b : Bool). P b false) (sym f) at in
-                subst (λ (c : Bool). P (same_name one h) c) (sym g) with_first
-          ]
-    ]
+    → ((h : List ℕ) → same_name one h ≡ false → same_name other h ≡ false → LeavesHeld e before h)
+    → Carries (Holders (record { holder = one; edit = edit_one }) (Some (record { holder = other; edit = edit_other }))) before (e ∷ before)
+carries-two e before one other edit_one edit_other at one_registered other_registered differ step_one step_other others =
+    record { holders = carried; exceptions = at.exceptions }
+  where
+    carried : (h : List ℕ) (rows : Option Rows) → RowsIfAny before h rows
+        → RowsIfAny (e ∷ before) h (changed (Holders (record { holder = one; edit = edit_one }) (Some (record { holder = other; edit = edit_other }))) h rows)
+    carried h rows are =
+        let P : Bool → Bool → Type 0 = λ b c.
+        RowsIfAny (e ∷ before) h (cond c (edited_if_any edit_other (cond b (edited_if_any edit_one rows) rows)) (cond b (edited_if_any edit_one rows) rows)) in
+        elim (cases_Bool (same_name one h)) [
+          | inl t ↦
+              let same = same_name-true one h t in
+              let Q : List ℕ → Type 0 = λ g. RowsIfAny before g rows → RowsIfAny (e ∷ before) g (edited_if_any edit_one rows) in
+              let not_other : same_name other h ≡ false = subst (λ (g : List ℕ). same_name other g ≡ false) same differ in
+              let at_one : P true false = subst Q same (rows-edited e before one edit_one one_registered step_one rows) are in
+              let with_first : P (same_name one h) false = subst (λ (b : Bool). P b false) (sym t) at_one in
+              subst (λ (c : Bool). P (same_name one h) c) (sym not_other) with_first
+          | inr f ↦
+              elim (cases_Bool (same_name other h)) [
+                | inl u ↦
+                    let same = same_name-true other h u in
+                    let Q : List ℕ → Type 0 = λ g. RowsIfAny before g rows → RowsIfAny (e ∷ before) g (edited_if_any edit_other rows) in
+                    let at_other : P false true = subst Q same (rows-edited e before other edit_other other_registered step_other rows) are in
+                    let with_first : P (same_name one h) true = subst (λ (b : Bool). P b true) (sym f) at_other in
+                    subst (λ (c : Bool). P (same_name one h) c) (sym u) with_first
+                | inr g ↦
+                    let at_neither : P false false = left e before h (not_named one h e before at f) (others h f g) rows are in
+                    let with_first : P (same_name one h) false = subst (λ (b : Bool). P b false) (sym f) at_neither in
+                    subst (λ (c : Bool). P (same_name one h) c) (sym g) with_first
+              ]
+        ]
+
+-- the exceptions of a SLURM file, in the place of those in force
+pub carries-exceptions : (before : History) (day : ℕ) (caller : List ℕ) (file : Exceptions)
+    → Carries (Replace file) before (record { day = day; caller = caller; command = Slurm file } ∷ before)
+carries-exceptions before day caller file = record {
+  holders = λ h rows are. left (record { day = day; caller = caller; command = Slurm file }) before h refl (λ a. refl) rows are;
+  exceptions = refl;
+}

@@ -4,6 +4,7 @@ use Rattle.std.proofs.lemmas.Bool.{cond-true}
 use Rattle.policy.specs.declared.grant.Granted.{Granted}
 use Rattle.policy.specs.declared.grant.Role.{Role}
 use Rattle.policy.specs.declared.grant.Scope.{Scope}
+use Rattle.policy.specs.declared.change.Change.TheVariants.{Holders}
 use Rattle.policy.specs.declared.change.Edit.TheVariants.{Grant as GrantEdit, Revoke as RevokeEdit}
 use Rattle.policy.specs.declared.command.Command.TheVariants.{Grant, Revoke}
 use Rattle.policy.specs.History.{Entry, History, is_registered}
@@ -15,11 +16,11 @@ use Rattle.policy.proofs.Carry.{active-left, carries-edit}
 pub carries-grant : (before : History) (day : ℕ) (caller holder name : List ℕ) (role : Role) (scope : Scope) (until : ℕ) (g : Granted)
     → is_registered before holder ≡ true
     → g ≡ record { number = grants_made before holder + 1; caller = name; role = role; scope = scope; until = until }
-    → Carries (record { first = record { holder = holder; edit = GrantEdit g }; second = None }) before
+    → Carries (Holders (record { holder = holder; edit = GrantEdit g }) None) before
     (record { day = day; caller = caller; command = Grant holder name role scope until } ∷ before)
 carries-grant before day caller holder name role scope until g registered is =
     let e : Entry = record { day = day; caller = caller; command = Grant holder name role scope until } in
-    carries-edit e before (GrantEdit g) registered
+    carries-edit e before holder (GrantEdit g) (record { named = refl; exceptions = refl }) registered
     (λ rows had. record {
       apart = had.apart;
       holdings = had.holdings;
@@ -32,11 +33,11 @@ carries-grant before day caller holder name role scope until g registered is =
 
 pub carries-revoke : (before : History) (day : ℕ) (caller holder : List ℕ) (n : ℕ)
     → is_registered before holder ≡ true
-    → Carries (record { first = record { holder = holder; edit = RevokeEdit n }; second = None }) before
+    → Carries (Holders (record { holder = holder; edit = RevokeEdit n }) None) before
     (record { day = day; caller = caller; command = Revoke holder n } ∷ before)
 carries-revoke before day caller holder n registered =
     let e : Entry = record { day = day; caller = caller; command = Revoke holder n } in
-    carries-edit e before (RevokeEdit n) registered
+    carries-edit e before holder (RevokeEdit n) (record { named = refl; exceptions = refl }) registered
     (λ rows had. record {
       apart = had.apart;
       holdings = had.holdings;

@@ -11,6 +11,7 @@ use Rattle.addr.specs.Spans.{spans_have, is_one_of, without_runs, AddsAddresses,
 use Rattle.addr.proofs.RunLemmas.{runs_exchanged, none_back}
 use Rattle.policy.specs.declared.authorization.Auth.{Auth}
 use Rattle.policy.specs.declared.charter.Charter.{Charter}
+use Rattle.policy.specs.declared.change.Change.TheVariants.{Holders}
 use Rattle.policy.specs.declared.change.Edit.{Edit}
 use Rattle.policy.specs.declared.change.Edit.TheVariants.{Register as RegisterEdit}
 use Rattle.policy.specs.declared.command.Command.TheVariants.{Register, Delegate, Transfer, Reclaim}
@@ -31,14 +32,14 @@ use Rattle.policy.proofs.Unregistered.{has_nothing}
 -- a registration: a holder that was not registered has nothing yet
 pub carries-register : (charter : Charter) (before : History) (day : ℕ) (caller holder : List ℕ) → IsLegal charter before
     → is_registered before holder ≡ false
-    → Carries (record { first = record { holder = holder; edit = RegisterEdit }; second = None }) before (record { day = day; caller = caller; command = Register holder } ∷ before)
+    → Carries (Holders (record { holder = holder; edit = RegisterEdit }) None) before (record { day = day; caller = caller; command = Register holder } ∷ before)
 carries-register charter before day caller holder legal fresh =
     let none = has_nothing charter before holder legal fresh in
     let e : Entry = record { day = day; caller = caller; command = Register holder } in
     let registered : is_registered (e ∷ before) holder ≡ true = ap (λ b. b || is_registered before holder) (same_name-same holder) in
     let no_terms : AreActive (e ∷ before) holder [] =
     subst (λ (xs : List Auth). Keeps (HeldSinceMade (e ∷ before) holder) xs []) (sym none.terms) tt in
-    carries-one e before RegisterEdit
+    carries-one e before holder RegisterEdit (record { named = refl; exceptions = refl })
     (λ rows are. elim rows as (λ r. RowsIfAny before holder r → RowsIfAny (e ∷ before) holder (edited_if_any RegisterEdit r)) [
       | None ↦ λ _. (
         registered,
@@ -153,10 +154,10 @@ giver-rows e before h p spans ended edit v rows gives others x without numbers g
 pub carries-delegate : (before : History) (day : ℕ) (caller holder : List ℕ) (p : Prefix) (spans : List Span) (ended : Vec ℕ) (edit : Edit) (v : Rows)
     → is_registered before holder ≡ true → IsFree before p → RowsOf before holder v
     → Exchanges v.holdings spans ended edit → AddsAddresses v.holdings spans (has_address p) → ended.items ≡ []
-    → Carries (record { first = record { holder = holder; edit = edit }; second = None }) before (record { day = day; caller = caller; command = Delegate holder p } ∷ before)
+    → Carries (Holders (record { holder = holder; edit = edit }) None) before (record { day = day; caller = caller; command = Delegate holder p } ∷ before)
 carries-delegate before day caller holder p spans ended edit v registered free had x united none =
     let e : Entry = record { day = day; caller = caller; command = Delegate holder p } in
-    carries-edit e before edit registered
+    carries-edit e before holder edit (record { named = refl; exceptions = refl }) registered
     (λ rows are. receiver-rows e before holder p spans ended edit v rows (λ a. refl) x united none refl refl refl refl had are)
     (λ h other a. elim (cases_Bool (has_address p a)) [
       | inl t ↦ ap (is_held_by h) (cond-true _ _ _ t) ∙ other ∙ ap (is_held_by h) (sym (free a t))
@@ -167,10 +168,10 @@ pub carries-reclaim : (before : History) (day : ℕ) (caller holder : List ℕ) 
     → is_registered before holder ≡ true → HoldsPrefix before holder p → RowsOf before holder v
     → Exchanges v.holdings spans ended edit → TakesAddresses v.holdings spans (has_address p)
     → ended.items ≡ numbers_where (λ x. terms_overlap x p) v.auths
-    → Carries (record { first = record { holder = holder; edit = edit }; second = None }) before (record { day = day; caller = caller; command = Reclaim holder p } ∷ before)
+    → Carries (Holders (record { holder = holder; edit = edit }) None) before (record { day = day; caller = caller; command = Reclaim holder p } ∷ before)
 carries-reclaim before day caller holder p spans ended edit v registered holds had x without numbers =
     let e : Entry = record { day = day; caller = caller; command = Reclaim holder p } in
-    carries-edit e before edit registered
+    carries-edit e before holder edit (record { named = refl; exceptions = refl }) registered
     (λ rows are. giver-rows e before holder p spans ended edit v rows
     (λ a. elim (has_address p a) as (λ b. is_held_by holder (cond b None (resource_holder before a)) ≡ cond b false (is_held_by holder (resource_holder before a))) [ true ↦ refl | false ↦ refl ])
     (λ a f. cond-false _ _ _ f)
@@ -186,11 +187,11 @@ pub carries-transfer : (before : History) (day : ℕ) (caller giver taker : List
     → Exchanges v.holdings less ended edit_giver → TakesAddresses v.holdings less (has_address p)
     → Exchanges w.holdings more none edit_taker → AddsAddresses w.holdings more (has_address p)
     → ended.items ≡ numbers_where (λ x. terms_overlap x p) v.auths → none.items ≡ []
-    → Carries (record { first = record { holder = giver; edit = edit_giver }; second = Some (record { holder = taker; edit = edit_taker }) }) before
+    → Carries (Holders (record { holder = giver; edit = edit_giver }) (Some (record { holder = taker; edit = edit_taker }))) before
     (record { day = day; caller = caller; command = Transfer p giver taker } ∷ before)
 carries-transfer before day caller giver taker p less more ended none edit_giver edit_taker v w giver_registered taker_registered differ holds had_v had_w x without y united numbers nothing =
     let e : Entry = record { day = day; caller = caller; command = Transfer p giver taker } in
-    carries-two e before taker edit_giver edit_taker giver_registered taker_registered differ
+    carries-two e before giver taker edit_giver edit_taker (record { named = refl; exceptions = refl }) giver_registered taker_registered differ
     (λ rows are. giver-rows e before giver p less ended edit_giver v rows
     (λ a. elim (has_address p a) as (λ b. is_held_by giver (cond b (Some taker) (resource_holder before a)) ≡ cond b false (is_held_by giver (resource_holder before a))) [ true ↦ differ | false ↦ refl ])
     (λ a f. cond-false _ _ _ f)

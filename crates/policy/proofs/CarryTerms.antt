@@ -7,6 +7,7 @@ use Rattle.addr.specs.Address.{has_address}
 use Rattle.addr.specs.declared.asn.Asn.{Asn}
 use Rattle.addr.specs.declared.prefix.Prefix.{Prefix}
 use Rattle.policy.specs.declared.authorization.Auth.{Auth}
+use Rattle.policy.specs.declared.change.Change.TheVariants.{Holders}
 use Rattle.policy.specs.declared.change.Edit.TheVariants.{Create as CreateEdit, Amend as AmendEdit, Withdraw as WithdrawEdit}
 use Rattle.policy.specs.declared.command.Command.TheVariants.{Create, Amend, Withdraw}
 use Rattle.policy.specs.History.{Entry, History, is_registered}
@@ -23,7 +24,7 @@ use Rattle.policy.proofs.Carry.{carries-edit}
 pub carries-create : (before : History) (day : ℕ) (caller holder : List ℕ) (asn : Asn) (p : Prefix) (max from until : ℕ) (x : Auth)
     → is_registered before holder ≡ true → HoldsPrefix before holder p
     → x ≡ record { number = authorizations_made before holder + 1; asn = asn; prefix = p; max = max; from = from; until = until }
-    → Carries (record { first = record { holder = holder; edit = CreateEdit x }; second = None }) before
+    → Carries (Holders (record { holder = holder; edit = CreateEdit x }) None) before
     (record { day = day; caller = caller; command = Create holder asn p max from until } ∷ before)
 carries-create before day caller holder asn p max from until x registered holds is =
     let e : Entry = record { day = day; caller = caller; command = Create holder asn p max from until } in
@@ -34,7 +35,7 @@ carries-create before day caller holder asn p max from until x registered holds 
     ) in
     let terms : authorization_terms before holder ++ x ∷ [] ≡ authorization_terms (e ∷ before) holder =
     ap (λ y. authorization_terms before holder ++ y ∷ []) is ∙ sym (cond-true _ _ _ (same_name-same holder)) in
-    carries-edit e before (CreateEdit x) registered
+    carries-edit e before holder (CreateEdit x) (record { named = refl; exceptions = refl }) registered
     (λ rows had. record {
       apart = had.apart;
       holdings = had.holdings;
@@ -49,14 +50,14 @@ carries-create before day caller holder asn p max from until x registered holds 
 
 pub carries-withdraw : (before : History) (day : ℕ) (caller holder : List ℕ) (n : ℕ)
     → is_registered before holder ≡ true
-    → Carries (record { first = record { holder = holder; edit = WithdrawEdit n }; second = None }) before
+    → Carries (Holders (record { holder = holder; edit = WithdrawEdit n }) None) before
     (record { day = day; caller = caller; command = Withdraw holder n } ∷ before)
 carries-withdraw before day caller holder n registered =
     let e : Entry = record { day = day; caller = caller; command = Withdraw holder n } in
     let keep = λ (x : Auth). not (eqb x.number n) in
     let terms : filter keep (authorization_terms before holder) ≡ authorization_terms (e ∷ before) holder =
     sym (cond-true _ _ _ (same_name-same holder)) in
-    carries-edit e before (WithdrawEdit n) registered
+    carries-edit e before holder (WithdrawEdit n) (record { named = refl; exceptions = refl }) registered
     (λ rows had. record {
       apart = had.apart;
       holdings = had.holdings;
@@ -122,7 +123,7 @@ replaced-amended low n (z ∷ zs) high max until x y numbers found is =
 
 pub carries-amend : (before : History) (day : ℕ) (caller holder : List ℕ) (n max until : ℕ) (v : Rows) (x y : Auth)
     → is_registered before holder ≡ true → RowsOf before holder v → numbered n v.auths ≡ Some x → y ≡ record x { max = max; until = until }
-    → Carries (record { first = record { holder = holder; edit = AmendEdit y }; second = None }) before
+    → Carries (Holders (record { holder = holder; edit = AmendEdit y }) None) before
     (record { day = day; caller = caller; command = Amend holder n max until } ∷ before)
 carries-amend before day caller holder n max until v x y registered had_v found is =
     let e : Entry = record { day = day; caller = caller; command = Amend holder n max until } in
@@ -131,7 +132,7 @@ carries-amend before day caller holder n max until v x y registered had_v found 
     sym (cond-true _ _ _ (same_name-same holder)) in
     let to = λ (z : Auth) (since : HeldSinceMade (e ∷ before) holder z). since_same (e ∷ before) holder z (f z) (amended-number n max until z) (amended-prefix n max until z) since in
     let back = λ (z : Auth) (since : HeldSinceMade (e ∷ before) holder (f z)). since_same (e ∷ before) holder (f z) z (sym (amended-number n max until z)) (sym (amended-prefix n max until z)) since in
-    carries-edit e before (AmendEdit y) registered
+    carries-edit e before holder (AmendEdit y) (record { named = refl; exceptions = refl }) registered
     (λ rows had.
     let same_auths : v.auths ≡ rows.auths = Keeps-unique (HeldSinceMade before holder) (authorization_terms before holder) v.auths rows.auths had_v.auths had.auths in
     let mapped : map (replaced_by y) rows.auths ≡ map f rows.auths =

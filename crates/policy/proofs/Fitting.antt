@@ -11,11 +11,13 @@ use Rattle.policy.specs.declared.admission.TheConstants.{LAST_NUMBER}
 use Rattle.policy.specs.declared.authorization.Auth.{Auth}
 use Rattle.policy.specs.declared.charter.Charter.{Charter}
 use Rattle.policy.specs.declared.command.Command.{Command}
-use Rattle.policy.specs.declared.command.Command.TheVariants.{Register, Delegate, Transfer, Reclaim, Grant, Revoke, Create, Amend, Withdraw}
+use Rattle.policy.specs.declared.command.Command.TheVariants.{Register, Delegate, Transfer, Reclaim, Grant, Revoke, Create, Amend, Withdraw, Slurm}
 use Rattle.policy.specs.declared.grant.Granted.{Granted}
+use Rattle.slurm.specs.Exceptions.{Exceptions}
+use Rattle.policy.specs.ExceptionsInForce.{exceptions_after, exceptions_in_force}
 use Rattle.policy.specs.History.{Entry, History, same_name}
 use Rattle.policy.specs.Terms.{granted_after, grants_after, grants_made, grant_terms, created_after, terms_after, authorizations_made, authorization_terms, amended, HeldSinceMade}
-use Rattle.policy.specs.Values.{CommandFits, HistoryFits, AuthFits, GrantFits, LegalRowsFit}
+use Rattle.policy.specs.Values.{CommandFits, ExceptionsFit, ExceptionsInForceFit, FilterFits, HistoryFits, AuthFits, GrantFits, LegalRowsFit, VrpFits}
 use Rattle.policy.specs.Verdict.{Verdict, IsLegal, numbered, terms_fit_length, OfNumber}
 use Rattle.policy.proofs.Names.{same_name-true}
 use Rattle.policy.proofs.Kept.{Keeps-all}
@@ -51,6 +53,7 @@ grants_after-fit charter before day caller (Revoke holder n) h accepted values f
 grants_after-fit charter before day caller (Create holder asn p max from until) h accepted values fit = fit
 grants_after-fit charter before day caller (Amend holder n max until) h accepted values fit = fit
 grants_after-fit charter before day caller (Withdraw holder n) h accepted values fit = fit
+grants_after-fit charter before day caller (Slurm file) h accepted values fit = fit
 
 grants_fit : (charter : Charter) (history : History) (h : List ℕ) → IsLegal charter history → HistoryFits history
     → GrantsFit (grants_made history h) (grant_terms history h)
@@ -159,6 +162,7 @@ auths_after-fit charter before day caller (Withdraw holder n) h accepted values 
     let keep = λ (x : Auth). not (eqb x.number n) in
     elim (same_name holder h) as (λ b. AuthsFit (e ∷ before) h (authorizations_made before h) (cond b (filter keep auths) auths))
     [ true ↦ record { made = fit.made; terms = All-filter keep F auths fit.terms } | false ↦ fit ]
+auths_after-fit charter before day caller (Slurm file) h accepted values fit = fit
 
 auths_fit : (charter : Charter) (history : History) (h : List ℕ) → IsLegal charter history → HistoryFits history
     → AuthsFit history h (authorizations_made history h) (authorization_terms history h)
@@ -180,3 +184,20 @@ legal_rows_fit charter history h rows legal fits of =
       grants = rw of.grants grants.terms;
       auths = Keeps-all (HeldSinceMade history h) AuthFits (authorization_terms history h) rows.auths of.auths auths.terms;
     }
+
+exceptions_after-fit : (c : Command) (before : Exceptions) → CommandFits c → ExceptionsFit before → ExceptionsFit (exceptions_after c before)
+exceptions_after-fit (Slurm file) before values fit = values
+exceptions_after-fit (Register holder) before values fit = fit
+exceptions_after-fit (Delegate holder p) before values fit = fit
+exceptions_after-fit (Transfer p giver taker) before values fit = fit
+exceptions_after-fit (Reclaim holder p) before values fit = fit
+exceptions_after-fit (Grant holder name role scope until) before values fit = fit
+exceptions_after-fit (Revoke holder n) before values fit = fit
+exceptions_after-fit (Create holder asn p max from until) before values fit = fit
+exceptions_after-fit (Amend holder n max until) before values fit = fit
+exceptions_after-fit (Withdraw holder n) before values fit = fit
+
+pub exceptions_in_force_fit : ExceptionsInForceFit
+exceptions_in_force_fit [] fits = record { number = omega arith; filters = All-nil FilterFits; assertions = All-nil VrpFits }
+exceptions_in_force_fit (e ∷ before) fits =
+    exceptions_after-fit e.command (exceptions_in_force before) fits.0.command (exceptions_in_force_fit before fits.1)

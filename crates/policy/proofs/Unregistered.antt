@@ -7,12 +7,13 @@ use Rattle.policy.specs.declared.charter.Charter.{Charter}
 use Rattle.policy.specs.declared.grant.Granted.{Granted}
 use Rattle.policy.specs.declared.grant.Access.TheVariants.{Alter}
 use Rattle.policy.specs.declared.command.Command.{Command}
-use Rattle.policy.specs.declared.command.Command.TheVariants.{Register, Delegate, Transfer, Reclaim, Grant, Revoke, Create, Amend, Withdraw}
+use Rattle.policy.specs.declared.command.Command.TheVariants.{Register, Delegate, Transfer, Reclaim, Grant, Revoke, Create, Amend, Withdraw, Slurm}
 use Rattle.policy.specs.History.{Entry, History, same_name, registers, is_registered}
 use Rattle.policy.specs.Resources.{resource_holder, is_held_by}
 use Rattle.policy.specs.Terms.{grant_terms, grants_made, authorizations_made, authorization_terms}
 use Rattle.policy.specs.Permission.{has_access}
 use Rattle.policy.specs.Answer.{holder_of}
+use Rattle.policy.specs.HolderEntries.{is_this}
 use Rattle.policy.specs.Verdict.{Verdict}
 use Rattle.policy.specs.Unregistered.{HasNothing, UnregisteredHaveNothing}
 use Rattle.policy.proofs.Names.{same_name-true}
@@ -33,7 +34,7 @@ without_access before day caller holder h has none =
     differ_by (λ g. has_access (grant_terms before g) day caller Alter) holder h has (ap (λ gs. has_access gs day caller Alter) none.grants)
 
 -- a command that does not name the holder, and gives it no address
-nothing_stays : (e : Entry) (before : History) (h : List ℕ) → same_name (holder_of e.command) h ≡ false
+nothing_stays : (e : Entry) (before : History) (h : List ℕ) → is_this h (holder_of e.command) ≡ false
     → ((a : Address) → is_held_by h (resource_holder (e ∷ before) a) ≡ false) → HasNothing before h → HasNothing (e ∷ before) h
 nothing_stays e before h other holders none =
     let same = stays e.command h (grants_made before h) (authorizations_made before h) (grant_terms before h) (authorization_terms before h) other in
@@ -80,6 +81,8 @@ nothing_after charter before day caller (Amend holder n max until) h accepted un
     nothing_stays _ before h (without_access before day caller holder h accepted.0 none) none.holders none
 nothing_after charter before day caller (Withdraw holder n) h accepted unregistered none =
     nothing_stays _ before h (without_access before day caller holder h accepted.0 none) none.holders none
+nothing_after charter before day caller (Slurm file) h accepted unregistered none =
+    nothing_stays _ before h refl none.holders none
 
 pub has_nothing : UnregisteredHaveNothing
 has_nothing charter [] h legal unregistered = record { holders = λ a. refl; grants = refl; granted = refl; terms = refl; created = refl }

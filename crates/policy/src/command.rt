@@ -95,7 +95,7 @@ impl Command {
 
     /// The holder that the command names; of a transfer the giver, and of a SLURM file none.
     pub fn holder(&self) -> Option<&Name>
-        ensures { option_copied result.entry ≡ holder_of self.now }
+        ensures { option_copied result ≡ holder_of self.now }
     {
         match self {
             Command::Register { holder }

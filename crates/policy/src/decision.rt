@@ -280,11 +280,12 @@ fn decide_transfer(
 }
 
 /// Every file is taken whole, whatever the last one was.
-fn decide_slurm(charter: &Charter, caller: &Name, file: &Slurm) -> Result<Change, Refusal>
-    ensures { (history : History) (day : ℕ) → IsLegal charter.now history
-        → IsAnswer charter.now history day caller.now (Command.Slurm file.now) result }
+fn decide_slurm(basis: Basis<'_>, file: &Slurm) -> Result<Change, Refusal>
+    ensures { (history : History) → IsLegal basis.entry.charter.now history
+        → IsAnswer basis.entry.charter.now history basis.entry.day basis.entry.caller.now
+        (Command.Slurm file.now) result }
 {
-    require(charter.is_operator(caller), Rule::Operator)?;
+    require(basis.charter.is_operator(basis.caller), Rule::Operator)?;
     Ok(Change::Exceptions(file.clone()?))
 }
 
@@ -365,17 +366,11 @@ pub fn decide(
             number,
             max,
             until,
-        } => Ok(decide_amend(
-            basis,
-            Holder { name: holder, rows },
-            *number,
-            *max,
-            *until,
-        )?),
+        } => Ok(decide_amend(basis, Holder { name: holder, rows }, *number, *max, *until)?),
         Command::Withdraw { holder, number } => {
             Ok(decide_withdraw(basis, Holder { name: holder, rows }, *number)?)
         }
-        Command::Slurm { file } => decide_slurm(charter, caller, file),
+        Command::Slurm { file } => decide_slurm(basis, file),
     }
 }
 

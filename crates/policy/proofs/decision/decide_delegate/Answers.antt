@@ -2,7 +2,7 @@ use Rattle.std.proofs.Common.{sym, ◌∙◌, ap, subst, refl}
 use Rattle.std.proofs.lemmas.Bool.{not-true}
 use Rattle.std.proofs.lemmas.Bool.Decides.{when_false}
 use Rattle.policy.specs.declared.command.Command.TheVariants.{Delegate}
-use Rattle.policy.specs.Answer.{number_made, IsAccepted}
+use Rattle.policy.specs.Answer.{edit_number, IsAccepted}
 use Rattle.policy.specs.Resources.{IsFree}
 use Rattle.policy.specs.Rows.{rows_of}
 use Rattle.policy.proofs.CarrySpace.{sparing, carries-delegate}
@@ -18,7 +18,7 @@ returns c history legal are told =
     let free = when_false (IsFree history p → ⊥) (IsFree history p) (not-true a.taken c.in_ok-require-3.ensures) told in
     subst (IsAccepted a.basis.charter.now history a.basis.day a.basis.caller.now (Delegate h p)) (sym c.change_of.ensures) (
       (sym c.is_operator.ensures ∙ c.in_ok-require.ensures, (had.0, (pool, (free, tt)))),
-      ap number_made c.in_ok-edit.ensures.is,
+      ap edit_number c.in_ok-edit.ensures.is,
       carries-delegate history a.basis.day a.basis.caller.now h p c.in_ok-more.more c.new.result c.in_ok-edit.edit (rows_of c.in_ok-rows.rows.now)
           had.0 free had.1 c.in_ok-edit.ensures c.in_ok-more.ensures c.new.ensures.items,
       (sparing _ _ _ _ c.in_ok-edit.ensures, tt),

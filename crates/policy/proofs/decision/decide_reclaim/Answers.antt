@@ -1,6 +1,6 @@
 use Rattle.std.proofs.Common.{sym, ◌∙◌, ap, subst, refl}
 use Rattle.policy.specs.declared.command.Command.TheVariants.{Reclaim}
-use Rattle.policy.specs.Answer.{number_made, IsAccepted}
+use Rattle.policy.specs.Answer.{edit_number, IsAccepted}
 use Rattle.policy.specs.Rows.{rows_of}
 use Rattle.policy.specs.Terms.{terms_overlap}
 use Rattle.policy.proofs.Ended.{numbers_where}
@@ -17,7 +17,7 @@ returns c history legal are =
     let numbers = c.in_ok-ended.ensures ∙ ap (numbers_where (λ x. terms_overlap x p)) c.deref.ensures.value in
     subst (IsAccepted a.basis.charter.now history a.basis.day a.basis.caller.now (Reclaim h p)) (sym c.change_of.ensures) (
       (sym c.is_operator.ensures ∙ c.in_ok-require.ensures, (had.0, (held, tt))),
-      ap number_made c.in_ok-edit.ensures.is,
+      ap edit_number c.in_ok-edit.ensures.is,
       carries-reclaim history a.basis.day a.basis.caller.now h p c.in_ok-less.less c.in_ok-ended.ended c.in_ok-edit.edit (rows_of c.in_ok-rows.rows.now)
           had.0 held had.1 c.in_ok-edit.ensures c.in_ok-less.ensures numbers,
       (sparing _ _ _ _ c.in_ok-edit.ensures, tt),

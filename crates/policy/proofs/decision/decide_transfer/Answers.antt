@@ -1,7 +1,7 @@
 use Rattle.std.proofs.Common.{sym, ◌∙◌, ap, refl}
 use Rattle.std.proofs.lemmas.Bool.{not-true}
 use Rattle.policy.specs.declared.command.Command.TheVariants.{Transfer}
-use Rattle.policy.specs.Answer.{number_made}
+use Rattle.policy.specs.Answer.{edit_number}
 use Rattle.policy.specs.History.{Entry, same_name}
 use Rattle.policy.specs.Rows.{rows_of}
 use Rattle.policy.specs.Terms.{terms_overlap}
@@ -21,7 +21,7 @@ returns c history day legal giver_are taker_are =
     let held = (c.holds.ensures history a.giver.name.now gave.1).0 c.in_ok-require-3.ensures in
     let numbers = c.in_ok-ended.ensures ∙ ap (numbers_where (λ x. terms_overlap x p)) c.deref.ensures.value in (
       (sym c.is_operator.ensures ∙ c.in_ok-require.ensures, ((gave.0, took.0), (differ, (held, tt)))),
-      ap number_made c.in_ok-from_giver.ensures.is,
+      ap edit_number c.in_ok-from_giver.ensures.is,
       carries-transfer history day a.caller.now a.giver.name.now a.taker.name.now p c.in_ok-less.less c.in_ok-more.more c.in_ok-ended.ended c.new.result c.in_ok-from_giver.from_giver c.in_ok-to_taker.to_taker
           (rows_of c.in_ok-giving.giving.now) (rows_of c.in_ok-taking.taking.now)
           gave.0 took.0 (same_name-false a.giver.name.now a.taker.name.now differ) held gave.1 took.1

@@ -1,0 +1,20 @@
+use Rattle.std.proofs.Common.{refl, sym, ◌∙◌, subst}
+use Rattle.slurm.specs.Exceptions.{Exceptions}
+use Rattle.policy.specs.declared.change.Change.TheVariants.{Exceptions as Replace}
+use Rattle.policy.specs.declared.command.Command.TheVariants.{Slurm}
+use Rattle.policy.specs.Answer.{IsAccepted}
+use Rattle.policy.proofs.Carry.{carries-exceptions}
+use Rattle.policy.proofs.decision.decide_slurm.Goals as goal
+
+pub returns : goal.returns
+returns c history legal =
+    let b = c.args.basis in
+    let file = c.args.file.now in
+    let Accepted : Exceptions → Type 0 = λ copy. IsAccepted b.charter.now history b.day b.caller.now (Slurm file) (Replace copy) in
+    subst Accepted (sym c.in_ok-clone.ensures.cases) (
+      (sym c.is_operator.ensures ∙ c.in_ok-require.ensures, tt),
+      refl,
+      carries-exceptions history b.day b.caller.now file,
+      tt,
+      refl,
+    )
