@@ -13,7 +13,7 @@ use Rattle.policy.specs.RowsOfAll.{AllRows}
 use Rattle.policy.specs.Values.{IsCount, AuthFits, GrantFits}
 use Rattle.slurm.specs.declared.exceptions.TheConstants.{MOST_ENTRIES}
 use Rattle.tables.specs.Cells.{schema_row, operator_row, prefix_cells, holder_row, holding_row, granted_row, auth_row, exception_row}
-use Rattle.tables.specs.Decode.{ExceptionRowFits}
+use Rattle.tables.specs.Decode.{ExceptionRowFits, exception_columns}
 use Rattle.tables.specs.Tables.{meta, operator, pool, holder, holding, granted, auth, slurm, contents}
 use Rattle.tables.specs.TablesHold.{TablesHold}
 
@@ -55,7 +55,7 @@ pub record TablesRead (trees : Trees) : Type 0 where
   pub holdings : AllByRecursion (ShowsOfHolder holding_row (λ _. ⊤)) (contents (trees holding.tree))
   pub grants : AllByRecursion (ShowsOfHolder granted_row GrantFits) (contents (trees granted.tree))
   pub auths : AllByRecursion (ShowsOfHolder auth_row AuthFits) (contents (trees auth.tree))
-  pub exceptions : AllByRecursion ShowsException (contents (trees slurm.tree))
+  pub exceptions : AllByRecursion ShowsException (map exception_columns (contents (trees slurm.tree)))
   pub exceptions_number : length (contents (trees slurm.tree)) ≤ MOST_ENTRIES
 
 -- the tables hold this charter and some rows

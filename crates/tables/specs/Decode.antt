@@ -28,6 +28,10 @@ DecodesAll cells fits shown result =
 abbrev pub first_columns : ℕ → Row → Row
 first_columns count = columns (range_with_len 0 count)
 
+-- a row of the table `slurm` as SQL shows it: one that ends before its last columns has NULL in them
+abbrev pub exception_columns : Row → Row
+exception_columns = first_columns 8
+
 -- a place among the exceptions of one kind, counted from 1
 abbrev pub IsPosition : ℕ → Type 0
 IsPosition n = (1 ≤ n) × IsU32 n

@@ -13,7 +13,7 @@ use Rattle.slurm.specs.Exceptions.{Exceptions}
 use Rattle.tables.specs.declared.exception.Exception.{Exception}
 use Rattle.tables.specs.declared.exception.Exception.TheVariants.{Filter as FilterOf, Assertion}
 use Rattle.tables.specs.declared.exception.ExceptionRow.{ExceptionRow}
-use Rattle.tables.specs.Decode.{IsPosition}
+use Rattle.tables.specs.Decode.{IsPosition, exception_columns}
 use Rattle.tables.specs.Tables.{meta, operator, pool, holder, holding, granted, auth, slurm, contents, AreTrees}
 use Rattle.tables.specs.Cells.{schema_row, operator_row, prefix_cells, holder_row, holding_row, granted_row, auth_row, exception_row}
 
@@ -68,7 +68,7 @@ pub record HoldsExceptions (exceptions : Exceptions) (table : List Row) : Type 0
   pub assertions : List ExceptionRow
   pub filters_placed : ArePlaced (map FilterOf exceptions.filters) filters
   pub assertions_placed : ArePlaced (map Assertion exceptions.assertions) assertions
-  pub rows : IsPermutation (map exception_row (filters ++ assertions)) table
+  pub rows : IsPermutation (map exception_row (filters ++ assertions)) (map exception_columns table)
 
 -- the tables have the number of the schema, the operators and the pool, in some order, and nothing else
 pub record HoldsCharter (charter : CharterSets) (trees : Trees) : Type 0 where
