@@ -1,12 +1,12 @@
 -- What an opened store holds.
-use Rattle.std.proofs.Common.{◌≡◌, ℕ, List, Option, IsTrue, sym, ap, subst, ◌∙◌}
+use Rattle.std.proofs.Common.{◌≡◌, IsTrue, sym, ap, subst, ◌∙◌}
 use Rattle.sqlite.specs.Effect.{Database}
 use Rattle.sqlite.specs.Held.{Held, state}
 use Rattle.sqlite.specs.State.{State, HasCleanDisk}
 use Rattle.sqlite.specs.Store.{Ghosts}
 use Rattle.sqlite_trees.specs.Tree.{Trees}
 use Rattle.policy.specs.CharterSets.{CharterSets, IsCharter}
-use Rattle.policy.specs.Rows.{Rows}
+use Rattle.policy.specs.RowsOfAll.{AllRows}
 use Rattle.tables.specs.TablesHold.{TablesHold}
 use Rattle.tables.proofs.RowsStay.{hold_still}
 use Rattle.store.specs.StoreRows.{IsOpened}
@@ -15,7 +15,7 @@ use Rattle.database.proofs.SameCharter.{same_charter}
 use Rattle.store.proofs.StoreLemmas.{over}
 
 module _ {S : Type 0} (g : Ghosts S) (charter : CharterSets) (found : State) (h : Held S) (is : OpensDesk charter found (state g h)) where
-  now_held : (rows : List ℕ → Option Rows) → TablesHold charter rows found.now.trees → TablesHold charter rows (state g h).now.trees
+  now_held : (rows : AllRows) → TablesHold charter rows found.now.trees → TablesHold charter rows (state g h).now.trees
   now_held = hold_still found.now.trees (state g h).now.trees is.rows charter
 
   pub opened_store : IsCharter charter → HasCleanDisk (state g h)
