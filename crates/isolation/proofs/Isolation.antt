@@ -9,7 +9,7 @@ use Rattle.policy.specs.ExceptionsInForce.{exceptions_in_force}
 use Rattle.policy.specs.History.{History}
 use Rattle.policy.specs.HolderEntries.{entries_for}
 use Rattle.policy.specs.Terms.{IsActive}
-use Rattle.policy.proofs.Moved.{within}
+use Rattle.policy.proofs.Held.{within}
 use Rattle.isolation.specs.Isolation.{CommandsByEntries, QueriesByEntries, RowsOfEntries, OthersKeepRows, IsVrpInForceByEntries, VrpsOfEntries}
 use Rattle.isolation.proofs.Agree.{Agree, agree-sym, agree-rows}
 use Rattle.isolation.proofs.Parts.{agree-unnamed, agree-entries, agree-for}

@@ -5,7 +5,6 @@ use Rattle.std.proofs.Math.Bool.{or-true}
 use Rattle.addr.specs.Address.{Address}
 use Rattle.slurm.specs.Exceptions.{Exceptions}
 use Rattle.policy.specs.declared.authorization.Auth.{Auth}
-use Rattle.policy.specs.declared.change.Change.{Change}
 use Rattle.policy.specs.declared.change.Change.TheVariants.{Holders, Exceptions as Replace}
 use Rattle.policy.specs.declared.change.Edit.{Edit}
 use Rattle.policy.specs.declared.command.Command.{Command}
@@ -15,7 +14,7 @@ use Rattle.policy.specs.History.{Entry, History, same_name, registers, is_regist
 use Rattle.policy.specs.Resources.{resource_holder, is_held_by}
 use Rattle.policy.specs.Terms.{granted_after, grants_after, grants_made, grant_terms, created_after, terms_after, authorizations_made, authorization_terms, HeldSinceMade, Keeps, AreActive}
 use Rattle.policy.specs.Answer.{holder_of}
-use Rattle.policy.specs.ExceptionsInForce.{exceptions_after, exceptions_in_force}
+use Rattle.policy.specs.ExceptionsInForce.{exceptions_in_force}
 use Rattle.policy.specs.HolderEntries.{is_this}
 use Rattle.policy.specs.Rows.{Rows, RowsOf, RowsIfAny, edited, edited_if_any, changed, Carries}
 use Rattle.policy.proofs.Names.{same_name-true, held_by_same}

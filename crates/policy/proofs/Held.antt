@@ -1,5 +1,7 @@
 -- The active authorizations after a command, from those before it.
 use Rattle.std.proofs.Common.{◌≡◌, ℕ, ◌+◌, ◌<◌, ◌≤◌, true, false, not, cond, eqb, List, [], ◌∷◌, ◌++◌, Some, refl, ◌∙◌, subst, arith, map, filter}
+use Rattle.std.specs.List.{All, Contains}
+use Rattle.std.proofs.lemmas.List.Elements.{All-nil, All-cons, All-contains}
 use Rattle.addr.specs.Address.{Address}
 use Rattle.policy.specs.declared.authorization.Auth.{Auth}
 use Rattle.policy.specs.declared.command.Command.{Command}
@@ -7,7 +9,7 @@ use Rattle.policy.specs.declared.command.Command.TheVariants.{Register, Delegate
 use Rattle.policy.specs.History.{Entry, History, same_name}
 use Rattle.policy.specs.Resources.{resource_holder}
 use Rattle.policy.specs.Terms.{HoldsTerms, created_after, terms_after, authorizations_made, authorization_terms, amended, HeldSinceMade, Keeps, AreActive}
-use Rattle.policy.proofs.Numbers.{Numbered, Numbered-append, Numbered-filter, Numbered-map}
+use Rattle.policy.proofs.Numbers.{Numbered, Numbered-high, Numbered-append, Numbered-filter, Numbered-map}
 use Rattle.policy.proofs.Kept.{Keeps-numbered, Keeps-same}
 
 -- a command takes nothing back
@@ -60,6 +62,25 @@ authorization_terms-numbered (e ∷ before) h =
 pub active-numbered : (history : History) (h : List ℕ) (active : List Auth) → AreActive history h active → Numbered 0 active (authorizations_made history h)
 active-numbered history h active are =
     Keeps-numbered (HeldSinceMade history h) 0 (authorization_terms history h) active (authorizations_made history h) are (authorization_terms-numbered history h)
+
+-- the number lies above one number and up to another
+abbrev IsWithin : ℕ → ℕ → Auth → Type 0
+IsWithin floor high x = (floor < x.number) × (x.number ≤ high)
+
+-- numbers that rise lie above the lowest, and up to the highest
+numbers_within : (floor low : ℕ) (xs : List Auth) (high : ℕ) → floor ≤ low → Numbered low xs high → All (IsWithin floor high) xs
+numbers_within floor low [] high above n = All-nil (IsWithin floor high)
+numbers_within floor low (x ∷ xs) high above n =
+    let first : low < x.number = n.0 in
+    let here : IsWithin floor high x = (omega (arith, above), Numbered-high x.number xs high n.1) in
+    All-cons (IsWithin floor high) x xs here (numbers_within floor x.number xs high (omega (arith, above)) n.1)
+
+-- so do those of the authorizations that were made
+pub within : (history : History) (h : List ℕ) (x : Auth) → Contains (authorization_terms history h) x → IsWithin 0 (authorizations_made history h) x
+within history h x there =
+    let terms = authorization_terms history h in
+    let made = authorizations_made history h in
+    All-contains (IsWithin 0 made) terms x (numbers_within 0 0 terms made (omega arith) (authorization_terms-numbered history h)) there
 
 -- what is held since its making is held now
 pub held_now : (history : History) (h : List ℕ) (x : Auth) → 0 < x.number → x.number ≤ authorizations_made history h → HeldSinceMade history h x → HoldsTerms history h x

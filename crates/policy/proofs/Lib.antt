@@ -12,6 +12,3 @@ pub mod PoolLemmas
 pub mod RowsLemmas
 pub mod AmendLemmas
 pub mod Repeats
-pub mod SharedVrps
-pub mod Moved
-pub mod Fitting

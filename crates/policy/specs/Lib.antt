@@ -15,8 +15,6 @@ pub mod RowsOfAll
 pub mod Values
 pub mod Answer
 pub mod DailyVrps
-pub mod SharedVrps
 pub mod Unregistered
 pub mod steps
-pub mod Ended
 pub mod HolderEntries

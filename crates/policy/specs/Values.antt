@@ -1,7 +1,7 @@
 -- What the types of the values of a history promise, and the ranges of the values of rows. Elsewhere a
 -- history ranges over all numbers and texts: a day, a number of a `u32` and a name are seen as any
 -- number and any text there.
-use Rattle.std.specs.Prelude.{ℕ, ◌+◌, ◌^◌, ◌<◌, ◌≤◌, IsTrue, List, [], ◌∷◌, length, Option, Some, None, All, ⊤}
+use Rattle.std.specs.Prelude.{ℕ, ◌+◌, ◌^◌, ◌<◌, ◌≤◌, IsTrue, [], ◌∷◌, length, Option, Some, None, All, ⊤}
 use Rattle.addr.specs.Address.{FitsMaxLength}
 use Rattle.addr.specs.Day.{IsDay}
 use Rattle.addr.specs.Name.{is_name}
@@ -12,14 +12,11 @@ use Rattle.slurm.specs.declared.filter.Filter.{Filter}
 use Rattle.slurm.specs.declared.filter.Filter.TheVariants.{Under, By, Both}
 use Rattle.policy.specs.declared.admission.TheConstants.{LAST_NUMBER}
 use Rattle.policy.specs.declared.authorization.Auth.{Auth}
-use Rattle.policy.specs.declared.charter.Charter.{Charter}
 use Rattle.policy.specs.declared.command.Command.{Command}
 use Rattle.policy.specs.declared.command.Command.TheVariants.{Register, Delegate, Transfer, Reclaim, Grant, Revoke, Create, Amend, Withdraw, Slurm}
 use Rattle.policy.specs.declared.grant.Granted.{Granted}
-use Rattle.policy.specs.ExceptionsInForce.{exceptions_in_force}
 use Rattle.policy.specs.History.{Entry, History}
-use Rattle.policy.specs.Rows.{Rows, RowsOf}
-use Rattle.policy.specs.Verdict.{IsLegal}
+use Rattle.policy.specs.Rows.{Rows}
 
 abbrev pub IsU8 : ℕ → Type 0
 IsU8 n = n < 2 ^ 8
@@ -96,15 +93,3 @@ pub record RowsFit (r : Rows) : Type 0 where
 abbrev pub FitIfAny : Option Rows → Type 0
 FitIfAny None = Unit {0}
 FitIfAny (Some r) = RowsFit r
-
--- the rows of a legal history of such values are in their ranges: create and amend ask it of the
--- maxLength, and no number is given after the last one
-abbrev pub LegalRowsFit : Type 0
-LegalRowsFit =
-    (charter : Charter) (history : History) (h : List ℕ) (rows : Rows)
-    → IsLegal charter history → HistoryFits history → RowsOf history h rows → RowsFit rows
-
--- the exceptions in force of such values are those of one file
-abbrev pub ExceptionsInForceFit : Type 0
-ExceptionsInForceFit =
-    (history : History) → HistoryFits history → ExceptionsFit (exceptions_in_force history)

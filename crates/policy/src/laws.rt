@@ -1,44 +1,16 @@
-//! Laws of the definitions: each function's contract states one, and its body does nothing.
+//! Laws of the definitions: each function's contract states one, and its body does nothing else.
 
-ghost use Rattle.policy.specs.Ended.{EndsJustOverlapping};
-ghost use Rattle.policy.specs.SharedVrps.{NoSharedVrp};
 ghost use Rattle.policy.specs.Unregistered.{UnregisteredHaveNothing};
-ghost use Rattle.policy.specs.Values.{EntryFits, ExceptionsInForceFit, LegalRowsFit};
+ghost use Rattle.policy.specs.Values.{EntryFits};
 
 use crate::Command;
 use crate::values::{tell_command, tell_day, tell_name};
 use addr::{Day, Name};
 
-/// Over a legal history no two active authorizations, of whatever holders, give the same AS, prefix
-/// and maxLength.
-#[tactic(auto, using(crate::proofs::SharedVrps::no_shared_vrp))]
-pub fn no_shared_vrp()
-    ensures { NoSharedVrp }
-{}
-
 /// A holder that is not registered in a legal history has no address, no grant and no
 /// authorization, and none was ever made at it.
 pub fn unregistered_have_nothing()
     ensures { UnregisteredHaveNothing }
-{}
-
-/// An accepted transfer or reclaim ends just those active authorizations of the former holder that
-/// share an address with its prefix, and no authorization of another holder.
-pub fn ends_just_overlapping()
-    ensures { EndsJustOverlapping }
-{}
-
-/// The rows of a holder after a legal history whose values are those of their types are in their
-/// ranges: numbers from 1 to 999,999, at most 999,999 grants and as many authorizations made, and each
-/// maxLength neither below its prefix's length nor over its family's width.
-pub fn legal_rows_fit()
-    ensures { LegalRowsFit }
-{}
-
-/// The exceptions in force after a history whose values are those of their types are those of one SLURM
-/// file: at most 4096, each AS number below 2^32.
-pub fn exceptions_in_force_fit()
-    ensures { ExceptionsInForceFit }
 {}
 
 /// The values of an entry that a call can make are those of their types.

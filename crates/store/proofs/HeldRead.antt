@@ -17,7 +17,8 @@ use Rattle.policy.specs.declared.command.Command.{Command}
 use Rattle.policy.specs.declared.command.Command.TheVariants.{Register}
 use Rattle.policy.specs.History.{History, registers, is_registered}
 use Rattle.policy.specs.Rows.{Rows, RowsIfAny}
-use Rattle.policy.specs.Values.{RowsFit, AuthFits, GrantFits, CommandFits, HistoryFits, LegalRowsFit, ExceptionsFit, FilterFits, VrpFits, ExceptionsInForceFit}
+use Rattle.policy.specs.Values.{RowsFit, AuthFits, GrantFits, CommandFits, HistoryFits, ExceptionsFit, FilterFits, VrpFits}
+use Rattle.histories.specs.Ranges.{LegalRowsFit, ExceptionsInForceFit}
 use Rattle.policy.specs.RowsOfAll.{AllRows}
 use Rattle.policy.proofs.Names.{same_name-true}
 use Rattle.tables.specs.Cells.{schema_row, holder_row, holding_row, granted_row, auth_row, exception_row}

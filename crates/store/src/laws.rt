@@ -16,7 +16,7 @@ pub fn rows_of_a_history()
 pub fn rows_of_a_history_fit()
     ensures { RowsOfHistoriesFit }
 {
-    policy::laws::legal_rows_fit();
+    histories::laws::legal_rows_fit();
 }
 
 /// Where the tables hold the rows of a history whose values are those of their types, no load of the
@@ -24,7 +24,7 @@ pub fn rows_of_a_history_fit()
 pub fn exceptions_of_a_history_fit()
     ensures { ExceptionsOfHistoriesFit }
 {
-    policy::laws::exceptions_in_force_fit();
+    histories::laws::exceptions_in_force_fit();
 }
 
 /// Where the tables hold the rows of a legal history whose values are those of their types, no load
@@ -32,7 +32,7 @@ pub fn exceptions_of_a_history_fit()
 pub fn auths_of_a_history_give()
     ensures { AuthsOfHistoriesGive }
 {
-    policy::laws::legal_rows_fit();
+    histories::laws::legal_rows_fit();
 }
 
 /// Where the tables hold a charter and the rows of a legal history whose values are those of their
@@ -40,8 +40,8 @@ pub fn auths_of_a_history_give()
 pub fn tables_of_a_history_read()
     ensures { HistoriesRead }
 {
-    policy::laws::legal_rows_fit();
-    policy::laws::exceptions_in_force_fit();
+    histories::laws::legal_rows_fit();
+    histories::laws::exceptions_in_force_fit();
 }
 
 /// A connection to memory is honest, so that what is said of an honest disk is said of it.

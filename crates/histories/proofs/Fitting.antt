@@ -17,12 +17,13 @@ use Rattle.slurm.specs.Exceptions.{Exceptions}
 use Rattle.policy.specs.ExceptionsInForce.{exceptions_after, exceptions_in_force}
 use Rattle.policy.specs.History.{Entry, History, same_name}
 use Rattle.policy.specs.Terms.{granted_after, grants_after, grants_made, grant_terms, created_after, terms_after, authorizations_made, authorization_terms, amended, HeldSinceMade}
-use Rattle.policy.specs.Values.{CommandFits, ExceptionsFit, ExceptionsInForceFit, FilterFits, HistoryFits, AuthFits, GrantFits, LegalRowsFit, VrpFits}
+use Rattle.policy.specs.Values.{CommandFits, ExceptionsFit, FilterFits, HistoryFits, AuthFits, GrantFits, VrpFits}
 use Rattle.policy.specs.Verdict.{Verdict, IsLegal, numbered, terms_fit_length, OfNumber}
 use Rattle.policy.proofs.Names.{same_name-true}
 use Rattle.policy.proofs.Kept.{Keeps-all}
 use Rattle.policy.proofs.Held.{authorization_terms-numbered, since_same, amended-number, amended-prefix}
-use Rattle.policy.proofs.SharedVrps.{Each, found_one, amended-other, amended-it}
+use Rattle.histories.specs.Ranges.{ExceptionsInForceFit, LegalRowsFit}
+use Rattle.histories.proofs.SharedVrps.{Each, found_one, amended-other, amended-it}
 
 -- the grants that were made at a holder, and how many they are
 record GrantsFit (granted : ℕ) (grants : List Granted) : Type 0 where

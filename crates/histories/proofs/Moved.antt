@@ -1,43 +1,22 @@
 -- A transfer or a reclaim ends just the authorizations of the former holder that share an address with
 -- the prefix.
-use Rattle.std.proofs.Common.{◌≡◌, ℕ, ◌<◌, ◌≤◌, true, false, cond, List, [], ◌∷◌, Option, inl, inr, Some, None, refl, sym, ap, ◌∙◌, subst, arith}
-use Rattle.std.specs.List.{All, Contains}
+use Rattle.std.proofs.Common.{◌≡◌, ℕ, true, false, cond, List, ◌∷◌, Option, inl, inr, Some, None, refl, sym, ap, ◌∙◌, subst}
+use Rattle.std.specs.List.{Contains}
 use Rattle.std.proofs.lemmas.Bool.{cases_Bool, cond-true, cond-false, false≢true}
-use Rattle.std.proofs.lemmas.List.Elements.{All-nil, All-cons, All-contains}
 use Rattle.addr.specs.Address.{Address, has_address}
 use Rattle.addr.specs.declared.prefix.Prefix.{Prefix}
 use Rattle.policy.specs.declared.authorization.Auth.{Auth}
 use Rattle.policy.specs.declared.charter.Charter.{Charter}
 use Rattle.policy.specs.declared.command.Command.{Command}
 use Rattle.policy.specs.declared.command.Command.TheVariants.{Register, Delegate, Transfer, Reclaim, Grant, Revoke, Create, Amend, Withdraw, Slurm}
-use Rattle.policy.specs.Ended.{TakesFrom, EndsJustOverlapping}
+use Rattle.histories.specs.Ended.{TakesFrom, EndsJustOverlapping}
 use Rattle.policy.specs.History.{Entry, History, same_name}
 use Rattle.policy.specs.Resources.{resource_holder, is_held_by, HoldsPrefix}
 use Rattle.policy.specs.Terms.{authorizations_made, authorization_terms}
 use Rattle.policy.specs.Verdict.{Verdict}
 use Rattle.policy.proofs.Names.{same_name-same, same_name-true, same_name-false, held_by_itself}
-use Rattle.policy.proofs.Numbers.{Numbered, Numbered-high}
-use Rattle.policy.proofs.Held.{LosesNothing, authorization_terms-numbered, since_more}
+use Rattle.policy.proofs.Held.{LosesNothing, since_more, within}
 use Rattle.policy.proofs.Ended.{LosesPrefix, since_ended}
-
--- the number lies above one number and up to another
-abbrev IsWithin : ℕ → ℕ → Auth → Type 0
-IsWithin floor high x = (floor < x.number) × (x.number ≤ high)
-
--- numbers that rise lie above the lowest, and up to the highest
-numbers_within : (floor low : ℕ) (xs : List Auth) (high : ℕ) → floor ≤ low → Numbered low xs high → All (IsWithin floor high) xs
-numbers_within floor low [] high above n = All-nil (IsWithin floor high)
-numbers_within floor low (x ∷ xs) high above n =
-    let first : low < x.number = n.0 in
-    let here : IsWithin floor high x = (omega (arith, above), Numbered-high x.number xs high n.1) in
-    All-cons (IsWithin floor high) x xs here (numbers_within floor x.number xs high (omega (arith, above)) n.1)
-
--- so do those of the authorizations that were made
-pub within : (history : History) (h : List ℕ) (x : Auth) → Contains (authorization_terms history h) x → IsWithin 0 (authorizations_made history h) x
-within history h x there =
-    let terms = authorization_terms history h in
-    let made = authorizations_made history h in
-    All-contains (IsWithin 0 made) terms x (numbers_within 0 0 terms made (omega arith) (authorization_terms-numbered history h)) there
 
 -- a command that leaves the terms of every holder, and what it changes of who holds what
 record Takes (e : Entry) (before : History) (former : List ℕ) (p : Prefix) : Type 0 where

@@ -18,7 +18,7 @@ use Rattle.policy.specs.History.{Entry, History, same_name}
 use Rattle.policy.specs.Repeats.{has_repeat}
 use Rattle.policy.specs.Terms.{gives_vrp, share_vrp, authorizations_made, authorization_terms, amended, HeldSinceMade, HoldsTerms, Keeps, AreActive}
 use Rattle.policy.specs.Verdict.{Verdict, IsLegal, numbered}
-use Rattle.policy.specs.SharedVrps.{share_none, NoSharedVrp}
+use Rattle.histories.specs.SharedVrps.{share_none, NoSharedVrp}
 use Rattle.policy.proofs.Names.{same_name-same, same_name-true}
 use Rattle.policy.proofs.Numbers.{Numbered, Numbered-high, later}
 use Rattle.policy.proofs.Held.{authorization_terms-numbered, held_now, since_same, amended-number, amended-prefix}

@@ -1,0 +1,3 @@
+pub mod SharedVrps
+pub mod Moved
+pub mod Fitting

@@ -1,0 +1,3 @@
+pub mod SharedVrps
+pub mod Ended
+pub mod Ranges
