@@ -1,3 +1,4 @@
+pub mod HttpReadLemmas
 pub mod LineSplits
 pub mod ReplyLemmas
 pub mod ScriptAlong

@@ -73,11 +73,11 @@ member-read d (Some value) = items-read (as_array value)
 
 -- ---- requests
 
-abbrev SaysTerms : Heading → Data → RequestTerms → Type 0
+abbrev pub SaysTerms : Heading → Data → RequestTerms → Type 0
 SaysTerms h d (request r) = SaysRequest h d r
 SaysTerms h d (validity listed) = Does AskValidity h × HasRoutes d listed
 
-terms-said : (h : Heading) (d : Data) (r : Request) → SaysTerms h d (request_terms r) → SaysRequest h d r
+pub terms-said : (h : Heading) (d : Data) (r : Request) → SaysTerms h d (request_terms r) → SaysRequest h d r
 terms-said h d (CommandRequest c) says = says
 terms-said h d (QueryRequest (Show holder n)) says = says
 terms-said h d (QueryRequest (Content holder n)) says = says
@@ -86,7 +86,7 @@ terms-said h d (QueryRequest Payloads) says = says
 terms-said h d (QueryRequest (Validity listed)) says = says
 
 -- of each of what a request names, and of its further members
-abbrev said_faults : (Named → List Fault) → Action → Data → List Fault
+abbrev pub said_faults : (Named → List Fault) → Action → Data → List Fault
 said_faults named action d = flat_map named (named_by action) ++ member_faults (body_members action) d
 
 module _ (h : Heading) (subject : Subject) (named : Named → List Fault)
@@ -96,7 +96,7 @@ module _ (h : Heading) (subject : Subject) (named : Named → List Fault)
       (flat_map named (HolderName ∷ NumberGiven ∷ [])) (λ p. NamesHolder h p.0 × NamesNumber h p.1)
   holder_and_number = reads-both holder (reads-last number)
 
-  reads-request : (action : Action) (d : Data) → Does action h →
+  pub reads-request : (action : Action) (d : Data) → Does action h →
       ReadsUnlessFaulty (request_in action subject d) (said_faults named action d) (SaysTerms h d)
   reads-request AskRegister d does = reads-mapped _ (λ p says. (does, says)) (reads-last (reads-last holder))
   reads-request AskDelegate d does =

@@ -1,3 +1,6 @@
+pub mod HttpFaults
+pub mod HttpRequests
+pub mod HttpResponses
 pub mod ReplyText
 pub mod Script
 pub mod ScriptFault

@@ -197,8 +197,12 @@ abbrev pub request_faults : List ℕ → List Fault
 request_faults line =
     if nat_lt LINE_LENGTH_LIMIT (length line) then TooLong ∷ [] else tree_faults (tree_of line)
 
+-- what is told of these faults
+abbrev pub malformed_of : List Fault → Option Malformed
+malformed_of faults =
+    option_map (λ fault. record { number = malformed_number fault; slurm = None })
+    (lowest malformed_number faults)
+
 -- why a line is no request
 abbrev pub request_fault : List ℕ → Option Malformed
-request_fault line =
-    option_map (λ fault. record { number = malformed_number fault; slurm = None })
-    (lowest malformed_number (request_faults line))
+request_fault line = malformed_of (request_faults line)

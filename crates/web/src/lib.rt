@@ -1,6 +1,7 @@
 //! Bytes in and bytes out: lines, scripts, requests and replies.
 #![tactic(auto)]
 
+mod http;
 mod lines;
 mod malformed;
 mod reply;

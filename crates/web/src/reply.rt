@@ -3,7 +3,7 @@ ghost use Rattle.std.specs.Prelude.{◌≡◌, ◌++◌, true, codes, option_map
 ghost use Rattle.streams.specs.Streams.{AppendsBeginning};
 ghost use Rattle.web.specs.ReplyText.{auth_text, content_text, denied_text, done_text, line_text, short_text, unavailable_text};
 
-mod items;
+pub(crate) mod items;
 mod list;
 
 use addr::digits;

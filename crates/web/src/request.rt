@@ -1,4 +1,4 @@
-//! Reading requests from JSON lines.
+//! Reading requests: here from JSON lines.
 ghost use Rattle.std.specs.Prelude.{◌≡◌, Some, Err, IfOk};
 ghost use Rattle.serde_json.specs.View.{view};
 ghost use Rattle.json_values.specs.Parts.{mapped};
@@ -11,6 +11,7 @@ mod action;
 mod commands;
 pub(crate) mod fault;
 pub(crate) mod members;
+pub(crate) mod message;
 mod routes;
 
 use crate::lines::LINE_LENGTH_LIMIT;
@@ -27,11 +28,11 @@ use policy::Query;
 use serde_json::Value;
 use std::alloc::{AllocError, Global};
 
-/// Why a line is no request.
+/// Why bytes are no request.
 #[derive(Clone, Copy, Debug, PartialEq, Eq)]
 pub enum LineFault {
     Malformed(Malformed),
-    /// A growth of memory was refused. Nothing is said of the line.
+    /// A growth of memory was refused. Nothing is said of the bytes.
     Memory,
 }
 

@@ -1,0 +1,2 @@
+//! Requests and responses of HTTP.
+mod body;
