@@ -1,3 +1,4 @@
+pub mod HttpLemmas
 pub mod HttpReadLemmas
 pub mod LineSplits
 pub mod ReplyLemmas

@@ -1,3 +1,4 @@
+pub mod HttpAnswers
 pub mod HttpFaults
 pub mod HttpRequests
 pub mod HttpResponses
@@ -10,3 +11,4 @@ pub mod RequestText
 pub mod RequestValues
 pub mod ScriptAnswer
 pub mod steps
+pub mod WebFault

@@ -1,4 +1,5 @@
 -- Steps of the code, which no public contract cites.
+pub mod HttpAnswering
 pub mod HttpReading
 pub mod LineSplitting
 pub mod ReplyItems

@@ -9,6 +9,7 @@ mod request;
 mod script;
 mod session;
 
+pub use http::{WebFault, serve_one};
 pub use malformed::Malformed;
 pub use reply::{short_text, write_reply};
 pub use request::{LineFault, read_line_request};
