@@ -1,4 +1,6 @@
 //! A database with the tables of a desk, made by SQL as the formats of the tables say.
+ghost use Rattle.std.specs.Prelude.{◌≡◌, None, IfOk};
+
 use sqlite::{Connection, MemStore};
 use std::alloc::Global;
 use std::test::Fail;
@@ -27,8 +29,11 @@ INSERT INTO granted VALUES ('alpha', 1, 'ann', 1, NULL, NULL, NULL, 20818);
 INSERT INTO auth VALUES ('alpha', 1, 64496, 4, x'000000000000000000000000c0000200', 24, 24, 20454, 20818);
 ";
 
-/// A database in memory that these statements gave its tables, with the rows above.
-pub fn made(alloc: Global, tables: &str) -> Result<Connection<MemStore>, Fail> {
+/// A database in memory that these statements gave its tables, with the rows above. No limit is set
+/// on its steps.
+pub fn made(alloc: Global, tables: &str) -> Result<Connection<MemStore>, Fail>
+    ensures { IfOk result (λ conn. conn.step_limit ≡ None) }
+{
     let mut conn = Connection::open_in_memory(alloc)?;
     conn.execute_batch(tables)?;
     conn.execute_batch(ROWS)?;

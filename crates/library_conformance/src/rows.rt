@@ -1,4 +1,7 @@
 //! Tables as raw texts. Their rows are lines `INPUT => OUTPUT`, under lines `# NAME`.
+ghost use Rattle.std.specs.Prelude.{◌≡◌, ◌≢◌, ◌++◌, ℕ, List, [], codes, IfOk, MatchResult, string_bytes};
+ghost use Rattle.std.specs.List.{repeat};
+
 use std::alloc::{AllocError, Global};
 use std::test::Fail;
 
@@ -11,7 +14,9 @@ pub struct Row<'a> {
 }
 
 /// The rows of a table, of which there are some.
-pub fn rows_of(alloc: Global, table: &str) -> Result<Vec<Row<'_>>, Fail> {
+pub fn rows_of(alloc: Global, table: &str) -> Result<Vec<Row<'_>>, Fail>
+    ensures { IfOk result (λ rows. rows.items ≢ []) }
+{
     let mut rows = Vec::new(alloc);
     for section in table.split("\n# ") {
         if let Some((name, lines)) = section.split_once('\n') {
@@ -38,19 +43,21 @@ fn push_rows<'a>(rows: &mut Vec<Row<'a>>, name: &'a str, lines: &'a str) -> Resu
     Ok(())
 }
 
-/// The input and the output of a row.
-pub fn parts_of(row: &str) -> Result<(&str, &str), Fail> {
+/// The input and the output of a row; an error where it has no arrow.
+pub fn parts_of(row: &str) -> Result<(&str, &str), Fail>
+    ensures { MatchResult result
+        (λ parts. row.now ≡ parts.0.now ++ (codes " => " ++ parts.1.now))
+        (λ _. (input output : List ℕ) → row.now ≢ input ++ (codes " => " ++ output)) }
+{
     Ok(row.split_once(" => ").ok_or("a row without an output")?)
 }
 
 /// A text that is `depth` arrays deep.
-pub fn nested(alloc: Global, depth: u32) -> Result<String, AllocError> {
-    let mut text = String::new(alloc);
-    for _ in 0..depth {
-        text.push('[')?;
-    }
-    for _ in 0..depth {
-        text.push(']')?;
-    }
+pub fn nested(alloc: Global, depth: u32) -> Result<String, AllocError>
+    ensures { IfOk result
+        (λ text. string_bytes text ≡ repeat depth (codes "[") ++ repeat depth (codes "]")) }
+{
+    let mut text = "[".repeat(alloc, depth as usize)?;
+    text.push_str(&"]".repeat(alloc, depth as usize)?)?;
     Ok(text)
 }
