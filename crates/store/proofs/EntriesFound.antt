@@ -148,7 +148,7 @@ module _ {X : Type 0} (cells : X → Row) (items : Exceptions → List X) (q : E
     found charter all holds =
         let mine = q.rows all.exceptions (contents (db.trees slurm.tree)) holds.exceptions in
         let show = subst (λ l. IsPermutation l (map (columns q.places) (filter (λ c. is_number q.kind (column c 1)) (map exception_columns (contents (db.trees slurm.tree))))))
-            (map-map (columns q.places) exception_row mine.0) (IsPermutation-map (columns q.places) _ _ mine.2) in
+        (map-map (columns q.places) exception_row mine.0) (IsPermutation-map (columns q.places) _ _ mine.2) in
         let same = in_order mine.0 mine.1.rise (IsPermutation-trans _ _ _ show (subst (λ l. IsPermutation l rows) (sym (seen (contents (db.trees slurm.tree)))) finds)) in
         let of : Exception → Row = λ e. columns q.of_exception (exception_cells e) in
         ap (map (first_columns 5)) same ∙ map-map (first_columns 5) shown mine.0 ∙ (λ i. map (λ r. q.shows r i) mine.0)
@@ -214,9 +214,11 @@ assertions_query = record {
   text = assertions_text;
   titles = codes "asn" ∷ codes "family" ∷ codes "lo" ∷ codes "len" ∷ codes "max" ∷ codes "position" ∷ [];
   means = assertions_is;
-  rows = λ e table holds.
-      (holds.assertions, holds.assertions_placed,
-      rows_of_kind 2 table (holds.filters ++ holds.assertions) holds.assertions holds.rows (just_assertions e holds.filters holds.assertions holds.filters_placed holds.assertions_placed));
+  rows = λ e table holds. (
+    holds.assertions,
+    holds.assertions_placed,
+    rows_of_kind 2 table (holds.filters ++ holds.assertions) holds.assertions holds.rows (just_assertions e holds.filters holds.assertions holds.filters_placed holds.assertions_placed),
+  );
   whole = λ _. refl;
   position = λ _. refl;
   keyed = λ _ _. refl;

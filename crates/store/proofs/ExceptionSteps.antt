@@ -77,7 +77,7 @@ module _ {X : Type 0} (of_kind : X → Exception) where
   puts_entry xs i x n a b c low is at before put =
       let row : ExceptionRow = record { position = n; exception = of_kind x } in
       let more = ap (entry_rows of_kind) (taken_more xs i x low is) ∙ ap (map exception_row) (one_more 0 (take i xs) x n (omega (arith, at, length-take i xs)))
-          ∙ map-append exception_row (placed_after 0 of_kind (take i xs)) (row ∷ []) in
+      ∙ map-append exception_row (placed_after 0 of_kind (take i xs)) (row ∷ []) in
       subst (λ rows. PutsRows slurm.tree rows a c) (sym more) (puts_then slurm.tree (entry_rows of_kind (take i xs)) (exception_row row) a b c before put)
 
   brought : (at : ℕ) (xs : List X) → map (λ (r : ExceptionRow). r.exception) (placed_after at of_kind xs) ≡ map of_kind xs

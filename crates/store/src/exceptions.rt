@@ -24,7 +24,7 @@ use sqlite::{Alter, Connection, Error, Transaction};
 use std::alloc::Global;
 use tables::{Exception, ExceptionRow, FromRow, address_bytes, exception_first, exception_values};
 
-/// An entry of a SLURM file, of one kind of exceptions.
+/// An entry of a SLURM file, which a row of the table of exceptions shows.
 pub(crate) trait Entry: FromRow {
     // Such entries of a file.
     ghost items: { Exceptions → List Self };
@@ -96,10 +96,7 @@ fn put_exception<S: Alter>(tx: &mut Transaction<'_, S>, row: &ExceptionRow) -> R
 }
 
 /// Puts the entries of one kind, at the positions from 1 up.
-fn put_entries<T: Entry, S: Alter>(
-    tx: &mut Transaction<'_, S>,
-    entries: &[T],
-) -> Result<(), Error>
+fn put_entries<T: Entry, S: Alter>(tx: &mut Transaction<'_, S>, entries: &[T]) -> Result<(), Error>
     requires ready { WhenClean S.Store IsReady tx.old }
     requires number { length entries.now ≤ MOST_ENTRIES }
     ensures done { IfDone S.Store result

@@ -69,12 +69,13 @@ pub record TakesRows (tree : ℕ) (old new : State) : Type 0 where
   pub ready : IsReady new
   pub edits : IsTree (old.now.trees tree) → Edits tree (λ _. []) old.now new.now
 
--- their rows, with the positions that follow this one
+-- exceptions of one kind, at the positions that follow this one
 abbrev pub placed_after : {X : Type 0} → ℕ → (X → Exception) → List X → List ExceptionRow
 placed_after at of_kind [] = []
-placed_after at of_kind (x ∷ xs) = record { position = suc at; exception = of_kind x } ∷ placed_after (suc at) of_kind xs
+placed_after at of_kind (x ∷ xs) =
+    record { position = suc at; exception = of_kind x } ∷ placed_after (suc at) of_kind xs
 
--- the rows of exceptions of one kind, in their order
+-- their rows, at the positions from 1 up
 abbrev pub entry_rows : {X : Type 0} → (X → Exception) → List X → List Row
 entry_rows of_kind xs = map exception_row (placed_after 0 of_kind xs)
 

@@ -20,7 +20,7 @@ returns-in_err-assertions-clause-schema g c clean is =
     let mid = state g.S.Store c.load_entries.new.conn in
     let first = c.in_ok-filters.ensures.asked.same (omega (arith, clean, c.load_entries-2.ensures.asked.survives.clean)) in
     let told = c.load_entries-2.ensures.schema clean
-        (refused_by c.load_entries-2.result c.from_residual-in_err-assertions.result c.in_err-assertions.field-0.0 c.in_err-assertions.was c.from_residual-in_err-assertions.ensures.1 is) in
+    (refused_by c.load_entries-2.result c.from_residual-in_err-assertions.result c.in_err-assertions.field-0.0 c.in_err-assertions.was c.from_residual-in_err-assertions.ensures.1 is) in
     (first.0.was_open, λ charter rows holds fit. told.1 charter rows (held_before old mid first.0.now_is charter rows holds) fit.assertions)
 
 pub returns-clause-found : goal.returns-clause-found
