@@ -23,7 +23,7 @@ use Rattle.addr.specs.declared.span.Span.{Span}
 use Rattle.policy.specs.CharterSets.{CharterSets}
 use Rattle.policy.specs.declared.authorization.Auth.{Auth}
 use Rattle.policy.specs.declared.grant.Granted.{Granted}
-use Rattle.policy.specs.Values.{AuthFits, GrantFits}
+use Rattle.policy.specs.Values.{AuthFits, GrantFits, ExceptionsFit}
 use Rattle.slurm.specs.Exceptions.{Exceptions}
 use Rattle.tables.specs.declared.exception.ExceptionRow.{ExceptionRow}
 use Rattle.tables.specs.Cells.{number_cell, kind_number, exception_row, span_cells, grant_cells, auth_cells, holder_row, holding_row, granted_row, auth_row}
@@ -73,7 +73,7 @@ module _ (db : Database) (tables : db.schema.tables ≡ desk_tables) (sound : Is
     -- rows of two rowids show exceptions at different places
     elsewhere : (a b : Row) → Has tree a → Has tree b → is_eq (value_cmp (rowid a) (rowid b)) ≡ false → (r s : ExceptionRow) → Shows a r → Shows b s → AreElsewhere r s
     elsewhere a b has_a has_b apart r s one other kind position =
-        let int = λ (c : Row) (has : Has tree c). all_has (λ c. is_int (rowid c) ≡ true) tree c shown.whole.1 has in
+        let int = λ (c : Row) (has : Has tree c). all_has (λ c. is_int (rowid c) ≡ true) tree c shown.rows.whole.1 has in
         let cell = λ (c : Row) (x : ExceptionRow) (is : Shows c x) (at : ℕ) (same : column (exception_columns (drop 1 c)) at ≡ column (drop 1 c) at).
         column_after c at ∙ sym same ∙ ap (λ l. column l at) is in
         let differ = once_by_key db.schema db.trees tables sound slurm at_slurm slurm_key refl refl a b has_a has_b (int a has_a) (int b has_b) apart in
@@ -88,12 +88,12 @@ module _ (db : Database) (tables : db.schema.tables ≡ desk_tables) (sound : Is
 
     all_elsewhere : (rows : List ExceptionRow) → map exception_row rows ≡ map exception_columns (contents tree) → IsAscending AreElsewhere rows
     all_elsewhere rows is =
-        let apart = ascending_where (Has tree) _ (λ a b. AreOf (exception_columns (drop 1 a)) (exception_columns (drop 1 b))) (λ a b has_a has_b. elsewhere a b has_a has_b) tree (all_from (Has tree) tree (λ r has. has)) shown.whole.0 in
+        let apart = ascending_where (Has tree) _ (λ a b. AreOf (exception_columns (drop 1 a)) (exception_columns (drop 1 b))) (λ a b has_a has_b. elsewhere a b has_a has_b) tree (all_from (Has tree) tree (λ r has. has)) shown.rows.whole.0 in
         let in_columns = ascending-map AreOf exception_columns (contents tree) (ascending-map (λ c d. AreOf (exception_columns c) (exception_columns d)) (drop 1) tree apart) in
         ascending_weaker _ AreElsewhere (λ r s of. of r s refl refl) rows (ascending_from_map AreOf exception_row rows (subst (IsAscending AreOf) (sym is) in_columns))
 
-    exceptions_held : (exceptions : Exceptions) × HoldsExceptions exceptions (contents tree)
-    exceptions_held = some_exceptions (contents tree) shown.each all_elsewhere
+    exceptions_held : (exceptions : Exceptions) × HoldsExceptions exceptions (contents tree) × ExceptionsFit exceptions
+    exceptions_held = some_exceptions (contents tree) shown.rows.each shown.number all_elsewhere
 
   -- ---- holders
 
@@ -186,7 +186,7 @@ module _ (db : Database) (tables : db.schema.tables ≡ desk_tables) (sound : Is
       trees_whole : AreTrees db.trees
       trees_whole =
           each_table (λ t. IsTree (db.trees t)) desk_tables
-          (schema.whole, (chartered.operators.whole, (chartered.pool.whole, (shown.holders.whole, (shown.holdings.whole, (shown.grants.whole, (shown.auths.whole, (excepted.whole, tt))))))))
+          (schema.whole, (chartered.operators.whole, (chartered.pool.whole, (shown.holders.whole, (shown.holdings.whole, (shown.grants.whole, (shown.auths.whole, (excepted.rows.whole, tt))))))))
 
       pub some_rows : HoldSome charter db.trees
       some_rows =
@@ -209,4 +209,5 @@ module _ (db : Database) (tables : db.schema.tables ≡ desk_tables) (sound : Is
               exceptions = exceptions.1;
               whole = trees_whole;
             },
+            exceptions.2,
           )

@@ -1,7 +1,8 @@
 -- The exceptions that a table holds whose rows show exceptions, each at a place of its own.
-use Rattle.std.proofs.Common.{◌≡◌, ◌≢◌, ℕ, ◌<◌, not, ◌==◌, List, [], ◌∷◌, ◌++◌, map, filter, refl, inl, inr, sym, subst, ◌∙◌, arith, IsPermutation}
+use Rattle.std.proofs.Common.{◌≡◌, ◌≢◌, ℕ, ◌<◌, ◌≤◌, not, length, ◌==◌, List, [], ◌∷◌, ◌++◌, map, filter, refl, inl, inr, sym, subst, ◌∙◌, arith, IsPermutation}
 use Rattle.std.specs.List.{AllByRecursion}
 use Rattle.std.proofs.lemmas.Bool.{cases_lt, eqb-true}
+use Rattle.std.proofs.lemmas.List.Elements.{All-from_recursion}
 use Rattle.std.proofs.lemmas.List.Sorted.{IsPermutation-refl, IsPermutation-sym, IsPermutation-trans, IsPermutation-cons, IsPermutation-middle, IsPermutation-append, IsPermutation-map, IsPermutation-filter_both}
 use Rattle.sqlite_value.specs.Order.{Row}
 use Rattle.sqlite_trees.specs.Tree.{IsAscending}
@@ -9,13 +10,16 @@ use Rattle.sqlite_trees.proofs.ListLemmas.{all_weaker, all_both, all-filter, all
 use Rattle.sqlite_rules.proofs.ListLemmas.{all_from, has_filtered}
 use Rattle.addr.specs.declared.vrp.Vrp.{Vrp}
 use Rattle.slurm.specs.declared.filter.Filter.{Filter}
+use Rattle.policy.specs.Values.{FilterFits, VrpFits, ExceptionsFit}
 use Rattle.slurm.specs.Exceptions.{Exceptions}
+use Rattle.slurm.specs.declared.exceptions.TheConstants.{MOST_ENTRIES}
 use Rattle.tables.specs.declared.exception.Exception.{Exception}
 use Rattle.tables.specs.declared.exception.Exception.TheVariants.{Filter as FilterOf, Assertion}
 use Rattle.tables.specs.declared.exception.ExceptionRow.{ExceptionRow}
 use Rattle.tables.specs.Cells.{kind_number, exception_row}
-use Rattle.tables.specs.Decode.{ExceptionRowFits, IsPosition, exception_columns}
+use Rattle.tables.specs.Decode.{ExceptionFits, ExceptionRowFits, IsPosition, exception_columns}
 use Rattle.tables.specs.TablesHold.{ArePlaced, HoldsExceptions}
+use Rattle.tables.proofs.HeldExceptions.{held_number}
 use Rattle.database.specs.TablesRead.{ShowsSome, ShowsException}
 
 -- a relation of each element and each later one, where it holds of all that are so
@@ -67,27 +71,29 @@ IsOfKind kind r = kind_number r.exception ≡ kind
 abbrev of_kind : ℕ → List ExceptionRow → List ExceptionRow
 of_kind kind = filter (λ (r : ExceptionRow). kind_number r.exception == kind)
 
-filters_of : (rows : List ExceptionRow) → AllByRecursion (IsOfKind 1) rows → (filters : List Filter) × (map (λ (r : ExceptionRow). r.exception) rows ≡ map FilterOf filters)
-filters_of [] all = ([], refl)
-filters_of (r ∷ rows) all =
-    let one = a_filter r.exception all.0 in
-    let more = filters_of rows all.1 in
-    (one.0 ∷ more.0, λ i. one.1 i ∷ more.1 i)
+filters_of : (rows : List ExceptionRow) → AllByRecursion (IsOfKind 1) rows → AllByRecursion ExceptionRowFits rows
+    → (filters : List Filter) × (map (λ (r : ExceptionRow). r.exception) rows ≡ map FilterOf filters) × AllByRecursion FilterFits filters
+filters_of [] all fit = ([], refl, tt)
+filters_of (r ∷ rows) all fit =
+    let one = a_filter r.exception all.0 fit.0.exception in
+    let more = filters_of rows all.1 fit.1 in
+    (one.0 ∷ more.0, λ i. one.1 i ∷ more.1 i, (one.2, more.2))
   where
-    a_filter : (e : Exception) → kind_number e ≡ 1 → (f : Filter) × (e ≡ FilterOf f)
-    a_filter (FilterOf f) is = (f, refl)
-    a_filter (Assertion v) is = absurd cc
+    a_filter : (e : Exception) → kind_number e ≡ 1 → ExceptionFits e → (f : Filter) × (e ≡ FilterOf f) × FilterFits f
+    a_filter (FilterOf f) is fits = (f, refl, fits)
+    a_filter (Assertion v) is fits = absurd cc
 
-assertions_of : (rows : List ExceptionRow) → AllByRecursion (IsOfKind 2) rows → (vrps : List Vrp) × (map (λ (r : ExceptionRow). r.exception) rows ≡ map Assertion vrps)
-assertions_of [] all = ([], refl)
-assertions_of (r ∷ rows) all =
-    let one = an_assertion r.exception all.0 in
-    let more = assertions_of rows all.1 in
-    (one.0 ∷ more.0, λ i. one.1 i ∷ more.1 i)
+assertions_of : (rows : List ExceptionRow) → AllByRecursion (IsOfKind 2) rows → AllByRecursion ExceptionRowFits rows
+    → (vrps : List Vrp) × (map (λ (r : ExceptionRow). r.exception) rows ≡ map Assertion vrps) × AllByRecursion VrpFits vrps
+assertions_of [] all fit = ([], refl, tt)
+assertions_of (r ∷ rows) all fit =
+    let one = an_assertion r.exception all.0 fit.0.exception in
+    let more = assertions_of rows all.1 fit.1 in
+    (one.0 ∷ more.0, λ i. one.1 i ∷ more.1 i, (one.2, more.2))
   where
-    an_assertion : (e : Exception) → kind_number e ≡ 2 → (v : Vrp) × (e ≡ Assertion v)
-    an_assertion (FilterOf f) is = absurd cc
-    an_assertion (Assertion v) is = (v, refl)
+    an_assertion : (e : Exception) → kind_number e ≡ 2 → ExceptionFits e → (v : Vrp) × (e ≡ Assertion v) × VrpFits v
+    an_assertion (FilterOf f) is fits = absurd cc
+    an_assertion (Assertion v) is fits = (v, refl, fits)
 
 -- rows of one kind are at different positions
 abbrev pub AreElsewhere : ExceptionRow → ExceptionRow → Type 0
@@ -109,11 +115,13 @@ module _ (rows : List ExceptionRow) (fit : AllByRecursion ExceptionRowFits rows)
   placed_of_kind : AllByRecursion (IsOfKind kind) ordered.0
   placed_of_kind = all-permutation (IsOfKind kind) _ _ ordered.1 are_of_kind
 
+  placed_fit : AllByRecursion ExceptionRowFits ordered.0
+  placed_fit = all-permutation ExceptionRowFits _ _ ordered.1 (all-filter ExceptionRowFits (λ (r : ExceptionRow). kind_number r.exception == kind) rows fit)
+
   placed : (exceptions : List Exception) → map (λ (r : ExceptionRow). r.exception) ordered.0 ≡ exceptions → ArePlaced exceptions ordered.0
   placed exceptions is = record {
     brought = is;
-    positions = all-permutation (λ (r : ExceptionRow). IsPosition r.position) _ _ ordered.1
-        (all-filter _ (λ (r : ExceptionRow). kind_number r.exception == kind) rows (all_weaker _ _ (λ r (fits : ExceptionRowFits r). fits.position) rows fit));
+    positions = all_weaker ExceptionRowFits (λ (r : ExceptionRow). IsPosition r.position) (λ r fits. fits.position) ordered.0 placed_fit;
     rise = ordered.2;
   }
 
@@ -124,25 +132,32 @@ other_kind (Assertion v) = refl
 -- ---- the table
 
 -- rows at different places show some exceptions
-pub some_exceptions : (table : List Row) → AllByRecursion ShowsException (map exception_columns table)
+pub some_exceptions : (table : List Row) → AllByRecursion ShowsException (map exception_columns table) → length table ≤ MOST_ENTRIES
     → ((rows : List ExceptionRow) → map exception_row rows ≡ map exception_columns table → IsAscending AreElsewhere rows)
-    → (exceptions : Exceptions) × HoldsExceptions exceptions table
-some_exceptions table each apart =
+    → (exceptions : Exceptions) × HoldsExceptions exceptions table × ExceptionsFit exceptions
+some_exceptions table each few apart =
     let shown = values_of exception_row ExceptionRowFits (map exception_columns table) each in
     let rows = shown.0 in
     let elsewhere = apart rows shown.1 in
     let first = ordered rows shown.2 elsewhere 1 in
     let second = ordered rows shown.2 elsewhere 2 in
-    let filters = filters_of first.0 (placed_of_kind rows shown.2 elsewhere 1) in
-    let assertions = assertions_of second.0 (placed_of_kind rows shown.2 elsewhere 2) in
+    let filters = filters_of first.0 (placed_of_kind rows shown.2 elsewhere 1) (placed_fit rows shown.2 elsewhere 1) in
+    let assertions = assertions_of second.0 (placed_of_kind rows shown.2 elsewhere 2) (placed_fit rows shown.2 elsewhere 2) in
     let both : IsPermutation rows (first.0 ++ second.0) =
-    IsPermutation-trans _ _ _ (IsPermutation-filter_both _ _ (λ (r : ExceptionRow). other_kind r.exception) rows) (IsPermutation-append _ _ _ _ first.1 second.1) in (
-      record { filters = filters.0; assertions = assertions.0 },
+    IsPermutation-trans _ _ _ (IsPermutation-filter_both _ _ (λ (r : ExceptionRow). other_kind r.exception) rows) (IsPermutation-append _ _ _ _ first.1 second.1) in
+    let exceptions : Exceptions = record { filters = filters.0; assertions = assertions.0 } in
+    let held : HoldsExceptions exceptions table = record {
+      filters = first.0;
+      assertions = second.0;
+      filters_placed = placed rows shown.2 elsewhere 1 (map FilterOf filters.0) filters.1;
+      assertions_placed = placed rows shown.2 elsewhere 2 (map Assertion assertions.0) assertions.1;
+      rows = subst (IsPermutation (map exception_row (first.0 ++ second.0))) shown.1 (IsPermutation-map exception_row _ _ (IsPermutation-sym _ _ both));
+    } in (
+      exceptions,
+      held,
       record {
-        filters = first.0;
-        assertions = second.0;
-        filters_placed = placed rows shown.2 elsewhere 1 (map FilterOf filters.0) filters.1;
-        assertions_placed = placed rows shown.2 elsewhere 2 (map Assertion assertions.0) assertions.1;
-        rows = subst (IsPermutation (map exception_row (first.0 ++ second.0))) shown.1 (IsPermutation-map exception_row _ _ (IsPermutation-sym _ _ both));
+        number = omega (arith, few, held_number exceptions table held);
+        filters = All-from_recursion FilterFits filters.0 filters.2;
+        assertions = All-from_recursion VrpFits assertions.0 assertions.2;
       },
     )

@@ -37,7 +37,7 @@ vrp_of_cells x v is =
     let prefix : v.prefix ≡ x.prefix = one_prefix v.prefix x.prefix cc in
     and_from _ _ (eq-eqb x.asn.0 v.asn.0 asn) (and_from _ _ (subst (λ p. prefix_eq x.prefix p ≡ true) (sym prefix) (prefix_itself x.prefix)) (eq-eqb x.max v.max max))
 
-one_vrp : (v w : Vrp) → vrp_cells v ≡ vrp_cells w → v ≡ w
+pub one_vrp : (v w : Vrp) → vrp_cells v ≡ vrp_cells w → v ≡ w
 one_vrp v w is =
     let asn : v.asn.0 ≡ w.asn.0 = cc in
     let max : v.max ≡ w.max = cc in

@@ -1,10 +1,8 @@
 -- Tables that hold a charter and rows that fit read.
-use Rattle.std.proofs.Common.{◌≡◌, ℕ, Bool, true, false, ◌||◌, List, [], ◌∷◌, Option, Some, refl, inl, inr, sym, ap, subst, length, arith, IsTrue, map, ◌≤◌, ◌++◌}
+use Rattle.std.proofs.Common.{◌≡◌, ℕ, Bool, true, false, ◌||◌, List, [], ◌∷◌, Option, Some, refl, inl, inr, sym, subst, arith, IsTrue, map, ◌++◌}
 use Rattle.std.specs.Prelude.{⊤}
 use Rattle.std.specs.List.{AllByRecursion}
 use Rattle.std.proofs.lemmas.List.Elements.{recursion_from_All}
-use Rattle.std.proofs.lemmas.List.{length-append, length-map}
-use Rattle.std.proofs.lemmas.List.Sorted.{length_permutation}
 use Rattle.sqlite_value.specs.Order.{Row}
 use Rattle.sqlite_trees.specs.Tree.{Trees}
 use Rattle.sqlite_trees.proofs.ListLemmas.{all-append, all-map, all-permutation}
@@ -28,11 +26,11 @@ use Rattle.tables.specs.declared.exception.Exception.{Exception}
 use Rattle.tables.specs.declared.exception.Exception.TheVariants.{Filter as FilterOf, Assertion}
 use Rattle.tables.specs.declared.exception.ExceptionRow.{ExceptionRow}
 use Rattle.tables.specs.Decode.{IsPosition, ExceptionFits, ExceptionRowFits, exception_columns}
+use Rattle.tables.proofs.HeldExceptions.{held_number}
 use Rattle.tables.proofs.SomeRow.{has_permuted, of_some}
 use Rattle.store.specs.Laws.{HistoriesRead}
 use Rattle.database.specs.TablesRead.{ShowsHolder, ShowsOfHolder, ShowsException, TablesRead}
 use Rattle.slurm.specs.Exceptions.{Exceptions}
-use Rattle.slurm.specs.declared.exceptions.TheConstants.{MOST_ENTRIES}
 
 -- each row of a part shows what the rows of its holder are
 of_part : (part : Part) (rows : List ℕ → Option Rows) (table : List Row) (So : Row → Type 0) → HoldsPart part rows table
@@ -47,24 +45,13 @@ placed_fit exceptions rows placed fit = go rows placed.positions (subst (AllByRe
     go [] positions fit = tt
     go (r ∷ rows) positions fit = (record { position = positions.0; exception = fit.0 }, go rows positions.1 fit.1)
 
-module _ (exceptions : Exceptions) (table : List Row) (holds : HoldsExceptions exceptions table) (fit : ExceptionsFit exceptions) where
-  exceptions_read : AllByRecursion ShowsException (map exception_columns table)
-  exceptions_read =
-      let filters = placed_fit _ holds.filters holds.filters_placed (all-map ExceptionFits FilterOf exceptions.filters (recursion_from_All FilterFits exceptions.filters fit.filters)) in
-      let assertions = placed_fit _ holds.assertions holds.assertions_placed (all-map ExceptionFits Assertion exceptions.assertions (recursion_from_All VrpFits exceptions.assertions fit.assertions)) in
-      all-permutation ShowsException _ _ holds.rows
-      (all-map ShowsException exception_row (holds.filters ++ holds.assertions)
-      (all_from _ (holds.filters ++ holds.assertions) (λ r has. (r, all_has ExceptionRowFits _ r (all-append ExceptionRowFits holds.filters holds.assertions filters assertions) has, refl))))
-
-  exceptions_few : length table ≤ MOST_ENTRIES
-  exceptions_few =
-      let shown = length_permutation _ _ holds.rows in
-      let filters = ap length holds.filters_placed.brought in
-      let assertions = ap length holds.assertions_placed.brought in
-      omega (
-        arith, fit.number, shown, filters, assertions, length-map table exception_columns, length-map (holds.filters ++ holds.assertions) exception_row, length-append holds.filters holds.assertions,
-        length-map holds.filters (λ (r : ExceptionRow). r.exception), length-map holds.assertions (λ (r : ExceptionRow). r.exception), length-map exceptions.filters FilterOf, length-map exceptions.assertions Assertion
-      )
+exceptions_read : (exceptions : Exceptions) (table : List Row) → HoldsExceptions exceptions table → ExceptionsFit exceptions → AllByRecursion ShowsException (map exception_columns table)
+exceptions_read exceptions table holds fit =
+    let filters = placed_fit _ holds.filters holds.filters_placed (all-map ExceptionFits FilterOf exceptions.filters (recursion_from_All FilterFits exceptions.filters fit.filters)) in
+    let assertions = placed_fit _ holds.assertions holds.assertions_placed (all-map ExceptionFits Assertion exceptions.assertions (recursion_from_All VrpFits exceptions.assertions fit.assertions)) in
+    all-permutation ShowsException _ _ holds.rows
+    (all-map ShowsException exception_row (holds.filters ++ holds.assertions)
+    (all_from _ (holds.filters ++ holds.assertions) (λ r has. (r, all_has ExceptionRowFits _ r (all-append ExceptionRowFits holds.filters holds.assertions filters assertions) has, refl))))
 
 pub held_read : (charter : CharterSets) (rows : AllRows) (trees : Trees) → IsCharter charter → AllByRecursion (λ name. IsTrue (is_name name)) charter.operators
     → ((h : List ℕ) (r : Rows) → rows.of_holder h ≡ Some r → IsTrue (is_name h) × RowsFit r) → ExceptionsFit rows.exceptions → TablesHold charter rows trees → TablesRead trees
@@ -97,7 +84,7 @@ held_read charter rows trees is named fit exceptions_fit holds = record {
       let it = has_mapped (auth_row h) r.auths c has in
       (h, it.0, all_has AuthFits r.auths it.0 (recursion_from_All AuthFits r.auths (fit h r there).1.auths) it.1, it.2));
   exceptions = exceptions_read rows.exceptions _ holds.exceptions exceptions_fit;
-  exceptions_number = exceptions_few rows.exceptions _ holds.exceptions exceptions_fit;
+  exceptions_number = omega (arith, exceptions_fit.number, held_number rows.exceptions _ holds.exceptions);
 }
   where
     one_row : (row c : Row) → Has (row ∷ []) c → c ≡ row

@@ -1,6 +1,7 @@
 mod PartSteps
 mod StepLemmas
 mod EditSteps
+mod ExceptionSteps
 mod HolderSteps
 mod RowSteps
 mod StoreLemmas
@@ -9,6 +10,7 @@ mod Loading
 mod Overlapping
 mod InForce
 mod Giving
+mod EntriesFound
 mod HistoryRows
 mod HeldRead
 mod OpenedStore

@@ -8,6 +8,7 @@ use Rattle.sqlite_trees.specs.Tree.{Trees}
 use Rattle.policy.specs.contracts.charter.Charter as charter
 use Rattle.policy.specs.CharterSets.{CharterSets, IsCharter}
 use Rattle.policy.specs.RowsOfAll.{AllRows}
+use Rattle.policy.specs.Values.{ExceptionsFit}
 use Rattle.tables.specs.Tables.{desk_tables}
 use Rattle.tables.specs.TablesHold.{TablesHold}
 
@@ -66,13 +67,13 @@ pub record IsRead {S : Type 0} (g : Ghosts S) (old new : StoreView S) : Type 0 w
 
 -- ---- an opened store
 
--- A store over a database that was found. It holds some rows, and what the tables held before, with its
--- charter; and a crash leaves the rows that it holds.
+-- A store over a database that was found. It holds some rows, with the exceptions of one SLURM file, and what
+-- the tables held before, with its charter; and a crash leaves the rows that it holds.
 pub record IsOpened {S : Type 0} (g : Ghosts S) (found : State) (store : StoreView S) : Type 0 where
   pub idle : found.in_transaction ≡ false
   pub tables : found.now.schema.tables ≡ desk_tables
   pub is_open : IsTrue (state_of g store).is_open
-  pub some : (rows : AllRows) × Holds g store rows
+  pub some : (rows : AllRows) × Holds g store rows × ExceptionsFit rows.exceptions
   pub same :
       (charter : CharterSets) (rows : AllRows) → IsCharter charter
       → TablesHold charter rows found.now.trees → (store.charter ≡ charter) × Holds g store rows

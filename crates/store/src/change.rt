@@ -7,6 +7,7 @@ ghost use Rattle.store.specs.steps.Statements.{IfEdited, MakesChange, each_holde
 
 use crate::StoreFault;
 use crate::auth::{amend_auth, put_auth, take_auth, take_auths};
+use crate::exceptions::replace_exceptions;
 use crate::granted::{put_grant, take_grant};
 use crate::holder::{is_registered, register, set_created, set_granted};
 use crate::holding::{put_holdings, take_holdings};
@@ -126,7 +127,7 @@ pub(crate) fn make_change<S: Alter>(
                 edit_holder(tx, second)?;
             }
         }
-        Change::Exceptions(_) => return Err(StoreFault::Database),
+        Change::Exceptions(file) => replace_exceptions(tx, file)?,
     }
     Ok(())
 }

@@ -4,6 +4,7 @@
 mod across;
 mod auth;
 mod change;
+mod exceptions;
 mod granted;
 mod holder;
 mod holding;

@@ -11,6 +11,7 @@ ghost use Rattle.database.specs.Statements.{IfCommitted, IfRolledBack, CommitsAt
 use crate::StoreFault;
 use crate::across::some_overlap;
 use crate::change::make_change;
+use crate::exceptions::load_files;
 use crate::load::{load_rows, load_vrps};
 use addr::{Day, Name, Prefix, Vrp};
 use database::{make_desk, open_desk};
@@ -191,7 +192,7 @@ impl<S: Alter> Store<S> {
         ensures schema { IfClean S.Store self.new (result ≡ Err StoreFault.Schema
             → OfHeldRows S.Store self.old (λ rows. ¬ ExceptionsFit rows.exceptions)) }
     {
-        Err(StoreFault::Database)
+        load_files(&mut self.conn, alloc)
     }
 
     /// Makes the change in one transaction: all of it, or after a fault nothing.

@@ -20,10 +20,12 @@ use Rattle.policy.specs.CharterSets.{CharterSets}
 use Rattle.policy.specs.declared.authorization.Auth.{Auth}
 use Rattle.policy.specs.Rows.{Rows}
 use Rattle.policy.specs.RowsOfAll.{AllRows}
+use Rattle.slurm.specs.Exceptions.{Exceptions}
 use Rattle.tables.specs.Cells.{number_cell, prefix_cells}
 use Rattle.tables.specs.Decode.{first_columns}
 use Rattle.tables.specs.Tables.{desk_beside, OverDesk, contents, columns}
 use Rattle.tables.specs.TablesHold.{TablesHold, items_if_any, auth_part}
+use Rattle.database.specs.steps.Numbered.{AreAnswered}
 
 -- it is so of all rows, and of those of one holder, whatever charter and rows the tables hold
 abbrev pub IsOfAll : (AllRows → Type 0) → State → Type 0
@@ -65,6 +67,21 @@ pub record Selects
   pub whole :
       (h : List ℕ) (db : Database) (rows : List Row) → AreSelected sql h db rows
       → map (first_columns width) rows ≡ rows
+  pub once : (x y : X) → cells x ≡ cells y → x ≡ y
+
+-- ---- queries of exceptions
+
+-- The text selects the entries of one kind: the first columns of its answer are the rows of the entries, in the
+-- file's order. No two entries have one row. It reads the tables alone.
+pub record SelectsEntries
+    {X : Type 0} (cells : X → Row) (width : ℕ) (items : Exceptions → List X) (sql : List ℕ)
+    : Type 0 where
+  pub plain : OverDesk (λ s. IsPlain (understood s sql))
+  pub unlisted : OverDesk (λ s. reads_listing s sql ≡ false)
+  pub found :
+      (db : Database) (rows : List Row) → AreAnswered sql db rows
+      → (charter : CharterSets) (all : AllRows) → TablesHold charter all db.trees
+      → map (first_columns width) rows ≡ map cells (items all.exceptions)
   pub once : (x y : X) → cells x ≡ cells y → x ≡ y
 
 -- ---- queries of the rows of every holder

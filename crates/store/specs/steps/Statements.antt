@@ -12,7 +12,7 @@ use Rattle.policy.specs.Rows.{Rows, new_rows}
 use Rattle.policy.specs.RowsOfAll.{AllRows}
 use Rattle.store.specs.StoreRows.{RowChange}
 use Rattle.tables.specs.Cells.{exception_row}
-use Rattle.tables.specs.Tables.{desk_tables}
+use Rattle.tables.specs.Tables.{desk_tables, IsTree}
 use Rattle.tables.specs.declared.exception.Exception.{Exception}
 use Rattle.tables.specs.declared.exception.ExceptionRow.{ExceptionRow}
 use Rattle.tables.specs.steps.Edits.{Edits}
@@ -63,18 +63,19 @@ pub record Registers (h : List ℕ) (old new : State) : Type 0 where
 
 -- ---- the exceptions
 
--- the transaction goes on, and the table has no row
+-- the transaction goes on, and every row of a table that has rowids is taken away
 pub record TakesRows (tree : ℕ) (old new : State) : Type 0 where
   pub was_open : IsTrue old.is_open
   pub ready : IsReady new
-  pub edits : Edits tree (λ _. []) old.now new.now
+  pub edits : IsTree (old.now.trees tree) → Edits tree (λ _. []) old.now new.now
 
--- their rows, with the positions that follow this one
+-- exceptions of one kind, at the positions that follow this one
 abbrev pub placed_after : {X : Type 0} → ℕ → (X → Exception) → List X → List ExceptionRow
 placed_after at of_kind [] = []
-placed_after at of_kind (x ∷ xs) = record { position = suc at; exception = of_kind x } ∷ placed_after (suc at) of_kind xs
+placed_after at of_kind (x ∷ xs) =
+    record { position = suc at; exception = of_kind x } ∷ placed_after (suc at) of_kind xs
 
--- the rows of exceptions of one kind, in their order
+-- their rows, at the positions from 1 up
 abbrev pub entry_rows : {X : Type 0} → (X → Exception) → List X → List Row
 entry_rows of_kind xs = map exception_row (placed_after 0 of_kind xs)
 

@@ -21,4 +21,9 @@ returns-then-len-gt-MOST_ENTRIES-clause-schema g c clean is read =
 
 pub returns-clause-found : goal.returns-clause-found
 returns-clause-found g c clean =
-    record { whole = c.in_ok-exceptions.ensures.tree clean; each = each_read exception_row ExceptionRowFits _ _ (c.in_ok-exceptions.ensures.read clean) }
+    let db = (state g.S.Store c.args.conn.now).now in
+    let many = as_many exception_row ExceptionRowFits slurm.tree exception_places db c.in_ok-exceptions.exceptions.items (c.in_ok-exceptions.ensures.read clean) in
+    record {
+      rows = record { whole = c.in_ok-exceptions.ensures.tree clean; each = each_read exception_row ExceptionRowFits _ _ (c.in_ok-exceptions.ensures.read clean) };
+      number = omega (arith, many, c.if-len-gt-MOST_ENTRIES.false, c.len.ensures);
+    }
