@@ -1,11 +1,12 @@
 -- Databases that have the tables of a desk.
-use Rattle.std.specs.Prelude.{◌≡◌, ◌⊎◌, false, None, IsTrue}
+use Rattle.std.specs.Prelude.{◌≡◌, ◌⊎◌, false, IsTrue}
 use Rattle.sqlite.specs.Effect.{Database}
 use Rattle.sqlite.specs.Held.{Held, state}
 use Rattle.sqlite.specs.State.{State, HasCleanDisk}
 use Rattle.sqlite.specs.Store.{Ghosts}
 use Rattle.sqlite_trees.specs.Tree.{Trees}
 use Rattle.policy.specs.CharterSets.{CharterSets}
+use Rattle.policy.specs.RowsOfAll.{blank_rows}
 use Rattle.tables.specs.Tables.{blank_schema, desk_schema, desk_tables, SameRows}
 use Rattle.tables.specs.Schemas.{has_names}
 use Rattle.tables.specs.TablesHold.{TablesHold}
@@ -35,22 +36,22 @@ pub record IsUnused (s : State) : Type 0 where
   pub idle : s.in_transaction ≡ false
   pub blank : s.now.schema ≡ blank_schema
 
--- the tables hold the charter and no holder, and are committed
+-- the tables hold the charter and blank rows, and are committed
 pub record IsNew (charter : CharterSets) (s : State) : Type 0 where
   pub is_open : IsTrue s.is_open
   pub schema : s.now.schema ≡ desk_schema
   pub settled : s.committed ≡ s.now
-  pub rows : TablesHold charter (λ h. None) s.now.trees
+  pub rows : TablesHold charter blank_rows s.now.trees
 
--- a crash leaves the tables with the charter and no holder
+-- a crash leaves the tables with the charter and blank rows
 abbrev pub LeavesNew : CharterSets → State → Type 0
-LeavesNew charter s = (trees : Trees) → s.may_leave trees → TablesHold charter (λ h. None) trees
+LeavesNew charter s = (trees : Trees) → s.may_leave trees → TablesHold charter blank_rows trees
 
--- a crash leaves what it left before, or, of an unused database, the tables with the charter and no holder
+-- a crash leaves what it left before, or, of an unused database, the tables with the charter and blank rows
 abbrev pub LeavesOldOrNew : CharterSets → State → State → Type 0
 LeavesOldOrNew charter old new =
     (trees : Trees) → new.may_leave trees
-    → old.may_leave trees ⊎ (IsUnused old × TablesHold charter (λ h. None) trees)
+    → old.may_leave trees ⊎ (IsUnused old × TablesHold charter blank_rows trees)
 
 -- ---- an opened database
 

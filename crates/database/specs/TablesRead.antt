@@ -1,5 +1,5 @@
 -- What it is for the tables of a database to read.
-use Rattle.std.specs.Prelude.{◌≡◌, ◌≤◌, ℕ, false, List, length, map, nat_eq, Contains, Option, IsPermutation, IsTrue, ⊤}
+use Rattle.std.specs.Prelude.{◌≡◌, ◌≤◌, ℕ, false, List, length, map, nat_eq, Contains, IsPermutation, IsTrue, ⊤}
 use Rattle.std.specs.Cmp.Lexicographic.{pointwise}
 use Rattle.std.specs.List.{AllByRecursion}
 use Rattle.sqlite_value.specs.Order.{Row}
@@ -9,11 +9,11 @@ use Rattle.addr.specs.Name.{is_name}
 use Rattle.addr.specs.declared.prefix.Prefix.{Prefix}
 use Rattle.policy.specs.CharterSets.{AreInNumber, CharterSets}
 use Rattle.policy.specs.Repeats.{has_repeat}
-use Rattle.policy.specs.Rows.{Rows}
+use Rattle.policy.specs.RowsOfAll.{AllRows}
 use Rattle.policy.specs.Values.{IsCount, AuthFits, GrantFits}
 use Rattle.slurm.specs.declared.exceptions.TheConstants.{MOST_ENTRIES}
 use Rattle.tables.specs.Cells.{schema_row, operator_row, prefix_cells, holder_row, holding_row, granted_row, auth_row, exception_row}
-use Rattle.tables.specs.Decode.{ExceptionRowFits}
+use Rattle.tables.specs.Decode.{ExceptionRowFits, exception_columns}
 use Rattle.tables.specs.Tables.{meta, operator, pool, holder, holding, granted, auth, slurm, contents}
 use Rattle.tables.specs.TablesHold.{TablesHold}
 
@@ -55,9 +55,9 @@ pub record TablesRead (trees : Trees) : Type 0 where
   pub holdings : AllByRecursion (ShowsOfHolder holding_row (λ _. ⊤)) (contents (trees holding.tree))
   pub grants : AllByRecursion (ShowsOfHolder granted_row GrantFits) (contents (trees granted.tree))
   pub auths : AllByRecursion (ShowsOfHolder auth_row AuthFits) (contents (trees auth.tree))
-  pub exceptions : AllByRecursion ShowsException (contents (trees slurm.tree))
+  pub exceptions : AllByRecursion ShowsException (map exception_columns (contents (trees slurm.tree)))
   pub exceptions_number : length (contents (trees slurm.tree)) ≤ MOST_ENTRIES
 
 -- the tables hold this charter and some rows
 abbrev pub HoldSome : CharterSets → Trees → Type 0
-HoldSome charter trees = (rows : List ℕ → Option Rows) × TablesHold charter rows trees
+HoldSome charter trees = (rows : AllRows) × TablesHold charter rows trees

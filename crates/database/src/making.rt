@@ -2,6 +2,7 @@
 ghost use Rattle.std.specs.Prelude.{◌≡◌, ◌≢◌, ◌↔◌, false, None, Err, OnOk, OnErr, IsTrue};
 ghost use Rattle.sqlite.specs.Held.{state};
 ghost use Rattle.sqlite.specs.State.{HasCleanDisk};
+ghost use Rattle.policy.specs.RowsOfAll.{blank_rows};
 ghost use Rattle.database.specs.Databases.{IsUnused, IsNew, LeavesOldOrNew};
 ghost use Rattle.tables.specs.Tables.{blank_schema};
 ghost use Rattle.tables.specs.TablesHold.{TablesHold};
@@ -110,7 +111,7 @@ fn make_tables<S: Alter>(conn: &mut Connection<S>, charter: &Charter) -> Result<
     ensures made { IfCommitted S.Store result (λ _. IsNew charter.now) conn.old conn.new }
     ensures err { IfRolledBack S.Store result conn.old conn.new }
     ensures crash { CommitsAtMost S.Store
-        (λ _. TablesHold charter.now (λ h. None)) conn.old conn.new }
+        (λ _. TablesHold charter.now blank_rows) conn.old conn.new }
     ensures no_schema { result ≢ Err StoreFault.Schema }
 {
     let _idle = conn.is_autocommit();

@@ -1,5 +1,5 @@
 //! Reading all rows of a database that has the tables of a desk.
-ghost use Rattle.std.specs.Prelude.{◌≡◌, ◌≢◌, ◌<◌, ◌↔◌, true, false, ◌||◌, nat_eq, ℕ, List, [], ◌∷◌, length, Any, Err, OnOk, OnErr, IfOk, IsOk, IsPermutation, IsTrue};
+ghost use Rattle.std.specs.Prelude.{◌≡◌, ◌≢◌, ◌↔◌, true, false, ◌||◌, nat_eq, ℕ, List, [], ◌∷◌, Any, Err, OnOk, OnErr, IfOk, IsPermutation, IsTrue};
 ghost use Rattle.std.specs.Cmp.Lexicographic.{pointwise};
 ghost use Rattle.std.specs.List.{AllByRecursion};
 ghost use Rattle.sqlite.specs.Given.{IsPlain};
@@ -9,13 +9,12 @@ ghost use Rattle.addr.specs.Address.{prefix_eq};
 ghost use Rattle.policy.specs.Charter.{operators_of, pool_of};
 ghost use Rattle.policy.specs.CharterSets.{AreInNumber};
 ghost use Rattle.policy.specs.Repeats.{has_repeat};
-ghost use Rattle.slurm.specs.declared.exceptions.TheConstants.{MOST_ENTRIES};
 ghost use Rattle.tables.specs.Cells.{schema_row};
 ghost use Rattle.tables.specs.Decode.{first_columns};
 ghost use Rattle.tables.specs.Tables.{operator, pool, holder, holding, granted, auth, slurm, IsTree, OverDesk};
 ghost use Rattle.database.specs.TablesRead.{HoldSome, ShowsSome, TablesRead};
 ghost use Rattle.database.specs.steps.Numbered.{AreAnswered, AreRead, Rise, SelectsAll, shown_in};
-ghost use Rattle.database.specs.steps.Opened.{ShowHolders, ShowsCharter, TellsSchema};
+ghost use Rattle.database.specs.steps.Opened.{ShowExceptions, ShowHolders, ShowsCharter, TellsSchema};
 ghost use Rattle.database.specs.Queries.{IsAsked, IsOnCleanDisk, IsReadyToAsk};
 
 use crate::StoreFault;
@@ -215,36 +214,25 @@ fn read_holders<S: Alter>(conn: &mut Connection<S>, alloc: Global) -> Result<(),
     Ok(())
 }
 
-/// Refuses exceptions, since no request brings any yet. More than a SLURM file may have are those of
-/// another schema.
-fn refuse_exceptions(exceptions: &[ExceptionRow]) -> Result<(), StoreFault>
-    ensures none { IsOk result ↔ (exceptions.now ≡ []) }
-    ensures schema { result ≡ Err StoreFault.Schema ↔ (MOST_ENTRIES < length exceptions.now) }
-{
-    if exceptions.len() > MOST_ENTRIES {
-        return Err(StoreFault::Schema);
-    }
-    if !exceptions.is_empty() {
-        return Err(StoreFault::Database);
-    }
-    Ok(())
-}
-
-/// Whether the table `slurm` has no row. Rows that all read are the database's fault.
+/// Whether each row of the table `slurm` reads. More than a SLURM file may have are those of another
+/// schema.
 fn read_exceptions<S: Alter>(conn: &mut Connection<S>, alloc: Global) -> Result<(), StoreFault>
     requires { IsReadyToAsk S.Store conn.old }
     ensures asked { IsAsked S.Store conn.old conn.new result }
     ensures found { IsOnCleanDisk S.Store conn.new
-        → OnOk result ((state S.Store conn.old).now.trees slurm.tree ≡ []) }
+        → OnOk result (ShowExceptions (state S.Store conn.old).now) }
     ensures schema { IsOnCleanDisk S.Store conn.new → result ≡ Err StoreFault.Schema
         → ¬ TablesRead (state S.Store conn.old).now.trees }
 {
     let exceptions: Vec<ExceptionRow> = read_table(conn, alloc)?;
-    refuse_exceptions(&exceptions)
+    if exceptions.len() > MOST_ENTRIES {
+        return Err(StoreFault::Schema);
+    }
+    Ok(())
 }
 
 /// Reads all rows of a database that has the tables of a desk, and answers the charter that they
-/// have. Exceptions are refused.
+/// have.
 pub(crate) fn read_tables<S: Alter>(
     conn: &mut Connection<S>,
     alloc: Global,

@@ -16,8 +16,12 @@ use Rattle.policy.specs.declared.authorization.Auth.{Auth}
 use Rattle.policy.specs.declared.grant.Granted.{Granted}
 use Rattle.policy.specs.declared.grant.Scope.{Scope}
 use Rattle.policy.specs.declared.grant.Scope.TheVariants.{All, Only}
-use Rattle.tables.specs.Tables.{meta, pool, holder, holding, granted, auth}
-use Rattle.tables.specs.Cells.{number_cell, family_number, role_number, address, schema_row, prefix_cells, scope_cells, holder_row, holding_row, granted_row, auth_row}
+use Rattle.slurm.specs.declared.filter.Filter.TheVariants.{Under, By, Both}
+use Rattle.tables.specs.declared.exception.Exception.{Exception}
+use Rattle.tables.specs.declared.exception.Exception.TheVariants.{Filter as FilterOf, Assertion}
+use Rattle.tables.specs.declared.exception.ExceptionRow.{ExceptionRow}
+use Rattle.tables.specs.Tables.{meta, pool, holder, holding, granted, auth, slurm}
+use Rattle.tables.specs.Cells.{number_cell, family_number, role_number, address, schema_row, prefix_cells, scope_cells, holder_row, holding_row, granted_row, auth_row, exception_row}
 use Rattle.tables.proofs.Inserting.{either, cast_null}
 
 pub cast_number : (n : ℕ) → cast Integer (number_cell n) ≡ number_cell n
@@ -46,6 +50,15 @@ cast_granted h g = go g.scope
 pub cast_auth : (h : List ℕ) (x : Auth) → cast_all auth.columns (auth_row h x) ≡ auth_row h x
 cast_auth h x = λ i. Text h ∷ cast_number x.number i ∷ cast_number x.asn.0 i ∷ cast_number (family_number x.prefix.family) i ∷ Blob (address x.prefix.first) ∷ cast_number x.prefix.length i
     ∷ cast_number x.max i ∷ cast_number x.from i ∷ cast_number x.until i ∷ []
+
+pub cast_exception : (r : ExceptionRow) → cast_all slurm.columns (exception_row r) ≡ exception_row r
+cast_exception r = go r.exception
+  where
+    go : (e : Exception) → cast_all slurm.columns (exception_row (record r { exception = e })) ≡ exception_row (record r { exception = e })
+    go (FilterOf (Under p)) = λ i. Text (codes "main") ∷ cast_number 1 i ∷ cast_number r.position i ∷ cast_number (family_number p.family) i ∷ Blob (address p.first) ∷ cast_number p.length i ∷ cast_null i ∷ cast_null i ∷ []
+    go (FilterOf (By asn)) = λ i. Text (codes "main") ∷ cast_number 1 i ∷ cast_number r.position i ∷ cast_null i ∷ Null ∷ cast_null i ∷ cast_null i ∷ cast_number asn.0 i ∷ []
+    go (FilterOf (Both p asn)) = λ i. Text (codes "main") ∷ cast_number 1 i ∷ cast_number r.position i ∷ cast_number (family_number p.family) i ∷ Blob (address p.first) ∷ cast_number p.length i ∷ cast_null i ∷ cast_number asn.0 i ∷ []
+    go (Assertion v) = λ i. Text (codes "main") ∷ cast_number 2 i ∷ cast_number r.position i ∷ cast_number (family_number v.prefix.family) i ∷ Blob (address v.prefix.first) ∷ cast_number v.prefix.length i ∷ cast_number v.max i ∷ cast_number v.asn.0 i ∷ []
 
 -- a value is this number
 abbrev pub is_number : ℕ → Value → Bool

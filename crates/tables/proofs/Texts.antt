@@ -189,3 +189,35 @@ in_force_text = codes "SELECT asn, family, lo, len, max FROM auth WHERE opens <=
 pub in_force_is : Means in_force_text (Select (record { lets = []; body = from_table 12 in_force_tests (col 1 3 ∷ col 1 4 ∷ col 1 5 ∷ col 1 6 ∷ col 1 7 ∷ []) [] no_limit }) (codes "asn" ∷ codes "family" ∷ codes "lo" ∷ codes "len" ∷ codes "max" ∷ []))
 unfolding understood everything
 in_force_is = record { is = λ s. refl; plain = λ s. (refl, refl); unlisted = λ s. refl }
+
+abbrev pub take_exceptions_text : List ℕ
+take_exceptions_text = codes "DELETE FROM slurm"
+
+pub take_exceptions_is : Means take_exceptions_text (Delete 7 (record { lets = []; body = from_table 15 [] (col 1 0 ∷ []) [] no_limit }))
+unfolding understood everything
+take_exceptions_is = record { is = λ s. refl; plain = λ s. (refl, refl); unlisted = λ s. refl }
+
+abbrev pub put_exception_text : List ℕ
+put_exception_text = codes "INSERT INTO slurm (file, kind, position, family, lo, len, max, asn) VALUES (?1, ?2, ?3, ?4, ?5, ?6, ?7, ?8)"
+
+pub put_exception_is : Means put_exception_text (Insert 7 (Values (put_terms 8) 9))
+unfolding understood everything
+put_exception_is = record { is = λ s. refl; plain = λ s. (refl, refl); unlisted = λ s. refl }
+
+-- the exceptions of one kind
+abbrev pub kind_tests : ℕ → List Term
+kind_tests kind = op2 (Compare Eq Binary) (col 1 2) (lit (Int (pos kind))) ∷ []
+
+abbrev pub filters_text : List ℕ
+filters_text = codes "SELECT family, lo, len, max, asn, position FROM slurm WHERE kind = 1 ORDER BY position"
+
+pub filters_is : Means filters_text (Select (record { lets = []; body = from_table 15 (kind_tests 1) (col 1 4 ∷ col 1 5 ∷ col 1 6 ∷ col 1 7 ∷ col 1 8 ∷ col 1 3 ∷ []) (upwards 3 ∷ []) no_limit }) (codes "family" ∷ codes "lo" ∷ codes "len" ∷ codes "max" ∷ codes "asn" ∷ codes "position" ∷ []))
+unfolding understood everything
+filters_is = record { is = λ s. refl; plain = λ s. (refl, refl); unlisted = λ s. refl }
+
+abbrev pub assertions_text : List ℕ
+assertions_text = codes "SELECT asn, family, lo, len, max, position FROM slurm WHERE kind = 2 ORDER BY position"
+
+pub assertions_is : Means assertions_text (Select (record { lets = []; body = from_table 15 (kind_tests 2) (col 1 8 ∷ col 1 4 ∷ col 1 5 ∷ col 1 6 ∷ col 1 7 ∷ col 1 3 ∷ []) (upwards 3 ∷ []) no_limit }) (codes "asn" ∷ codes "family" ∷ codes "lo" ∷ codes "len" ∷ codes "max" ∷ codes "position" ∷ []))
+unfolding understood everything
+assertions_is = record { is = λ s. refl; plain = λ s. (refl, refl); unlisted = λ s. refl }

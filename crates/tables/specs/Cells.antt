@@ -108,6 +108,16 @@ abbrev pub exception_cells : Exception → Row
 exception_cells (FilterOf f) = filter_cells f
 exception_cells (Assertion v) = assertion_cells v
 
+-- the first address of the prefix of an exception; 0 where it has none
+abbrev pub filter_first : Filter → ℕ
+filter_first (Under p) = p.first
+filter_first (By asn) = 0
+filter_first (Both p asn) = p.first
+
+abbrev pub exception_first : Exception → ℕ
+exception_first (FilterOf f) = filter_first f
+exception_first (Assertion v) = v.prefix.first
+
 -- the row of an exception in the table `slurm`, whose one file is `main`
 abbrev pub exception_row : ExceptionRow → Row
 exception_row r =

@@ -1,12 +1,9 @@
 -- What it is to read typed values from the cells that show them.
-use Rattle.std.specs.Prelude.{◌≡◌, ◌≢◌, ◌≤◌, ℕ, List, map, All, Any, Option, MatchOption, ⊤}
+use Rattle.std.specs.Prelude.{◌≡◌, ◌≢◌, ◌≤◌, ℕ, List, map, All, Any, Option, MatchOption}
 use Rattle.std.specs.Global.{Vec}
 use Rattle.std.specs.List.{range_with_len}
 use Rattle.sqlite_value.specs.Order.{Row}
-use Rattle.addr.specs.declared.vrp.Vrp.{Vrp}
-use Rattle.policy.specs.Values.{IsU32}
-use Rattle.slurm.specs.declared.filter.Filter.{Filter}
-use Rattle.slurm.specs.declared.filter.Filter.TheVariants.{Under, By, Both}
+use Rattle.policy.specs.Values.{IsU32, FilterFits, VrpFits}
 use Rattle.tables.specs.declared.exception.Exception.{Exception}
 use Rattle.tables.specs.declared.exception.Exception.TheVariants.{Filter as FilterOf, Assertion}
 use Rattle.tables.specs.declared.exception.ExceptionRow.{ExceptionRow}
@@ -31,18 +28,13 @@ DecodesAll cells fits shown result =
 abbrev pub first_columns : ℕ → Row → Row
 first_columns count = columns (range_with_len 0 count)
 
--- the other terms are in range by the VRP's own fields
-abbrev pub VrpFits : Vrp → Type 0
-VrpFits v = IsU32 v.asn.0
+-- a row of the table `slurm` as SQL shows it: one that ends before its last columns has NULL in them
+abbrev pub exception_columns : Row → Row
+exception_columns = first_columns 8
 
 -- a place among the exceptions of one kind, counted from 1
 abbrev pub IsPosition : ℕ → Type 0
 IsPosition n = (1 ≤ n) × IsU32 n
-
-abbrev pub FilterFits : Filter → Type 0
-FilterFits (Under p) = ⊤
-FilterFits (By asn) = IsU32 asn.0
-FilterFits (Both p asn) = IsU32 asn.0
 
 abbrev pub ExceptionFits : Exception → Type 0
 ExceptionFits (FilterOf f) = FilterFits f

@@ -1,15 +1,21 @@
--- What the tables hold: the charter, and the rows of every holder.
-use Rattle.std.specs.Prelude.{◌≡◌, ℕ, Bool, true, false, List, [], ◌∷◌, map, filter, Option, Some, None, IsPermutation}
+-- What the tables hold: the charter, the rows of every holder, and the exceptions of the SLURM file in force.
+use Rattle.std.specs.Prelude.{◌≡◌, ℕ, ◌<◌, Bool, true, false, List, [], ◌∷◌, ◌++◌, map, filter, Option, Some, None, IsPermutation}
 use Rattle.std.specs.List.{AllByRecursion}
 use Rattle.std.specs.Ordering.{is_eq}
 use Rattle.sqlite_value.specs.declared.value.Value.{Value}
 use Rattle.sqlite_value.specs.declared.value.Value.TheVariants.{Text}
 use Rattle.sqlite_value.specs.Order.{Row, column, value_cmp}
-use Rattle.sqlite_trees.specs.Tree.{Trees}
+use Rattle.sqlite_trees.specs.Tree.{Trees, IsAscending}
 use Rattle.policy.specs.CharterSets.{CharterSets}
 use Rattle.policy.specs.Rows.{Rows}
+use Rattle.policy.specs.RowsOfAll.{AllRows}
+use Rattle.slurm.specs.Exceptions.{Exceptions}
+use Rattle.tables.specs.declared.exception.Exception.{Exception}
+use Rattle.tables.specs.declared.exception.Exception.TheVariants.{Filter as FilterOf, Assertion}
+use Rattle.tables.specs.declared.exception.ExceptionRow.{ExceptionRow}
+use Rattle.tables.specs.Decode.{IsPosition, exception_columns}
 use Rattle.tables.specs.Tables.{meta, operator, pool, holder, holding, granted, auth, slurm, contents, AreTrees}
-use Rattle.tables.specs.Cells.{schema_row, operator_row, prefix_cells, holder_row, holding_row, granted_row, auth_row}
+use Rattle.tables.specs.Cells.{schema_row, operator_row, prefix_cells, holder_row, holding_row, granted_row, auth_row, exception_row}
 
 -- A table that has rows of holders: its tree, the column that names the holder, and the rows of one holder.
 pub record Part : Type 0 where
@@ -50,18 +56,32 @@ pub record HoldsPart (part : Part) (rows : List ℕ → Option Rows) (table : Li
   pub each : (h : List ℕ) → IsPermutation (part_rows part h (rows h)) (filter (λ c. is_name_of h (column c part.place)) table)
   pub named : AllByRecursion (λ c. is_text (column c part.place) ≡ true) table
 
+-- the rows bring these exceptions in their order, at positions that rise, with gaps or without
+pub record ArePlaced (exceptions : List Exception) (rows : List ExceptionRow) : Type 0 where
+  pub brought : map (λ (r : ExceptionRow). r.exception) rows ≡ exceptions
+  pub positions : AllByRecursion (λ (r : ExceptionRow). IsPosition r.position) rows
+  pub rise : IsAscending (λ (a b : ExceptionRow). a.position < b.position) rows
+
+-- the table has the rows of the filters and of the assertions, each kind in the file's order, and no others
+pub record HoldsExceptions (exceptions : Exceptions) (table : List Row) : Type 0 where
+  pub filters : List ExceptionRow
+  pub assertions : List ExceptionRow
+  pub filters_placed : ArePlaced (map FilterOf exceptions.filters) filters
+  pub assertions_placed : ArePlaced (map Assertion exceptions.assertions) assertions
+  pub rows : IsPermutation (map exception_row (filters ++ assertions)) (map exception_columns table)
+
 -- the tables have the number of the schema, the operators and the pool, in some order, and nothing else
 pub record HoldsCharter (charter : CharterSets) (trees : Trees) : Type 0 where
   pub schema : IsPermutation (schema_row ∷ []) (contents (trees meta.tree))
   pub operators : IsPermutation (map operator_row charter.operators) (contents (trees operator.tree))
   pub pool : IsPermutation (map prefix_cells charter.pool) (contents (trees pool.tree))
 
--- the tables hold this charter and these rows, and no exception of a SLURM file
-pub record TablesHold (charter : CharterSets) (rows : List ℕ → Option Rows) (trees : Trees) : Type 0 where
+-- the tables hold this charter and these rows
+pub record TablesHold (charter : CharterSets) (rows : AllRows) (trees : Trees) : Type 0 where
   pub charter_kept : HoldsCharter charter trees
-  pub holders : HoldsPart holder_part rows (contents (trees holder_part.tree))
-  pub holdings : HoldsPart holding_part rows (contents (trees holding_part.tree))
-  pub grants : HoldsPart granted_part rows (contents (trees granted_part.tree))
-  pub auths : HoldsPart auth_part rows (contents (trees auth_part.tree))
-  pub exceptions : contents (trees slurm.tree) ≡ []
+  pub holders : HoldsPart holder_part rows.of_holder (contents (trees holder_part.tree))
+  pub holdings : HoldsPart holding_part rows.of_holder (contents (trees holding_part.tree))
+  pub grants : HoldsPart granted_part rows.of_holder (contents (trees granted_part.tree))
+  pub auths : HoldsPart auth_part rows.of_holder (contents (trees auth_part.tree))
+  pub exceptions : HoldsExceptions rows.exceptions (contents (trees slurm.tree))
   pub whole : AreTrees trees

@@ -1,17 +1,20 @@
-//! Reading the rows of the table `slurm`: the exceptions of the SLURM file in force.
+//! The rows of the table `slurm`: the exceptions of the SLURM file in force.
 ghost use Rattle.std.specs.Prelude.{◌≡◌, ◌↔◌, [], ◌∷◌, codes, IsTrue};
+ghost use Rattle.sqlite.specs.Values.{bound};
+ghost use Rattle.policy.specs.Values.{FilterFits};
 ghost use Rattle.sqlite_value.specs.declared.value.Value.TheVariants.{Text};
 ghost use Rattle.sqlite_value.specs.Value.{owned};
-ghost use Rattle.tables.specs.Cells.{number_cell, kind_number, filter_cells, exception_cells, exception_row};
-ghost use Rattle.tables.specs.Decode.{Decodes, IsPosition, FilterFits, ExceptionFits, ExceptionRowFits};
+ghost use Rattle.tables.specs.Cells.{address, number_cell, kind_number, filter_first, filter_cells, assertion_cells, exception_first, exception_cells, exception_row};
+ghost use Rattle.tables.specs.Decode.{Decodes, IsPosition, ExceptionFits, ExceptionRowFits};
 ghost use Rattle.tables.specs.Tables.{columns};
 
 use crate::FromRow;
+use crate::cells::prefix_values;
 use crate::decode::{asn_in, cell, number_in, prefix_in, vrp_in};
 use addr::Vrp;
 use slurm::Filter;
 use sqlite::Row;
-use sqlite::types::ValueRef;
+use sqlite::types::{ToSql, ValueRef};
 
 /// A prefix filter or a prefix assertion.
 #[derive(Clone, Copy, Debug, PartialEq, Eq)]
@@ -43,6 +46,24 @@ impl FromRow for ExceptionRow {
             position: position_in(cell(row, 2))?,
             exception: exception_in(row)?,
         })
+    }
+}
+
+impl FromRow for Filter {
+    ghost cells = { filter_cells };
+
+    ghost width = { 5 };
+
+    ghost fits = { FilterFits };
+
+    fn in_row(row: &Row) -> Option<Filter> {
+        filter_in(
+            cell(row, 0),
+            cell(row, 1),
+            cell(row, 2),
+            cell(row, 3),
+            cell(row, 4),
+        )
     }
 }
 
@@ -102,4 +123,73 @@ fn filter_in(
         }
         _ => None,
     }
+}
+
+/// The first address of the prefix of an exception, as a number; 0 where it has none.
+pub fn exception_first(exception: &Exception) -> u128
+    ensures { result ≡ exception_first exception.now }
+{
+    match exception {
+        Exception::Filter(Filter::Under(prefix) | Filter::Both(prefix, _)) => prefix.first,
+        Exception::Filter(Filter::By(_)) => 0,
+        Exception::Assertion(vrp) => vrp.prefix.first,
+    }
+}
+
+fn filter_values<'a>(filter: &Filter, first: &'a [u8]) -> [ValueRef<'a>; 5]
+    requires { first.now ≡ address (filter_first filter.now) }
+    ensures { bound result ≡ filter_cells filter.now }
+{
+    match filter {
+        Filter::Under(prefix) => {
+            let [family, lo, length] = prefix_values(prefix, first);
+            [family, lo, length, ValueRef::Null, ValueRef::Null]
+        }
+        Filter::By(asn) => [
+            ValueRef::Null,
+            ValueRef::Null,
+            ValueRef::Null,
+            ValueRef::Null,
+            asn.0.to_sql(),
+        ],
+        Filter::Both(prefix, asn) => {
+            let [family, lo, length] = prefix_values(prefix, first);
+            [family, lo, length, ValueRef::Null, asn.0.to_sql()]
+        }
+    }
+}
+
+fn assertion_values<'a>(vrp: &Vrp, first: &'a [u8]) -> [ValueRef<'a>; 5]
+    requires { first.now ≡ address vrp.now.prefix.first }
+    ensures { bound result ≡ assertion_cells vrp.now }
+{
+    let [family, lo, length] = prefix_values(&vrp.prefix, first);
+    [
+        family,
+        lo,
+        length,
+        u32::from(vrp.max).to_sql(),
+        vrp.asn.0.to_sql(),
+    ]
+}
+
+/// A row of `slurm`, with the bytes of the first address of its prefix.
+pub fn exception_values<'a>(row: &ExceptionRow, first: &'a [u8]) -> [ValueRef<'a>; 8]
+    requires { first.now ≡ address (exception_first row.now.exception) }
+    ensures { bound result ≡ exception_row row.now }
+{
+    let (kind, [family, lo, length, max, asn]) = match &row.exception {
+        Exception::Filter(filter) => (1u32, filter_values(filter, first)),
+        Exception::Assertion(vrp) => (2, assertion_values(vrp, first)),
+    };
+    [
+        "main".to_sql(),
+        kind.to_sql(),
+        row.position.to_sql(),
+        family,
+        lo,
+        length,
+        max,
+        asn,
+    ]
 }

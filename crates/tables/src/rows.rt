@@ -2,11 +2,11 @@
 //! is one of another schema.
 ghost use Rattle.std.specs.Prelude.{◌≡◌, ◌≤◌, ◌↔◌, ℕ, [], ◌∷◌, map, length, ⊤, IsTrue, vec_capacity};
 ghost use Rattle.addr.specs.Name.{is_name};
-ghost use Rattle.policy.specs.Values.{IsCount, AuthFits, GrantFits};
+ghost use Rattle.policy.specs.Values.{IsCount, AuthFits, GrantFits, VrpFits};
 ghost use Rattle.sqlite_value.specs.declared.value.Value.TheVariants.{Text};
 ghost use Rattle.sqlite_value.specs.Order.{Row as Cells};
 ghost use Rattle.tables.specs.Cells.{schema_row, prefix_cells, span_cells, counter_cells, grant_cells, auth_cells, vrp_cells, holder_row};
-ghost use Rattle.tables.specs.Decode.{Decodes, DecodesAll, first_columns, VrpFits};
+ghost use Rattle.tables.specs.Decode.{Decodes, DecodesAll, first_columns};
 
 use crate::decode::{
     asn_in, cell, count_in, day_in, given_number_in, max_length_in, name_in, prefix_in, role_in,

@@ -1,10 +1,11 @@
 -- The making of the tables, one after another, and their first rows.
-use Rattle.std.specs.Prelude.{◌≡◌, ℕ, suc, true, List, [], ◌++◌, None, IsTrue, take, nat_le, if◌then◌else◌}
+use Rattle.std.specs.Prelude.{◌≡◌, ℕ, suc, true, List, [], ◌++◌, IsTrue, take, nat_le, if◌then◌else◌}
 use Rattle.std.specs.List.{AllByRecursion}
 use Rattle.sqlite.specs.State.{State}
 use Rattle.sqlite_schema.specs.declared.schema.Schema.{Schema}
 use Rattle.sqlite_value.specs.Order.{Row}
 use Rattle.policy.specs.CharterSets.{CharterSets}
+use Rattle.policy.specs.RowsOfAll.{blank_rows}
 use Rattle.tables.specs.Tables.{desk_tables, desk_indexes, desk_schema, unindexed_schema, SameRows}
 use Rattle.tables.specs.steps.Edits.{Edits}
 use Rattle.tables.specs.TablesHold.{TablesHold}
@@ -46,8 +47,8 @@ pub record PutsRows (tree : ℕ) (rows : List Row) (old new : State) : Type 0 wh
   pub ready : IsReady new
   pub edits : Edits tree (λ table. rows ++ table) old.now new.now
 
--- a transaction in which the tables hold the charter, and no holder is registered
+-- a transaction in which the tables hold the charter and blank rows
 pub record HasCharter (charter : CharterSets) (s : State) : Type 0 where
   pub inside : s.in_transaction ≡ true
   pub schema : s.now.schema ≡ desk_schema
-  pub rows : TablesHold charter (λ h. None) s.now.trees
+  pub rows : TablesHold charter blank_rows s.now.trees

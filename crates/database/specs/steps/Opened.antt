@@ -6,8 +6,8 @@ use Rattle.sqlite_value.specs.Order.{Row}
 use Rattle.policy.specs.CharterSets.{CharterSets}
 use Rattle.policy.specs.Values.{AuthFits, GrantFits}
 use Rattle.tables.specs.Cells.{schema_row, operator_row, prefix_cells, span_cells, grant_cells, auth_cells}
-use Rattle.tables.specs.Tables.{meta, operator, pool, holder, holding, granted, auth, IsTree}
-use Rattle.database.specs.TablesRead.{ShowsSome, ShowsHolder}
+use Rattle.tables.specs.Tables.{meta, operator, pool, holder, holding, granted, auth, slurm, IsTree}
+use Rattle.database.specs.TablesRead.{ShowsSome, ShowsHolder, ShowsException}
 use Rattle.database.specs.steps.Numbered.{shown_in}
 
 -- a table that has rowids shows these rows in some columns
@@ -34,3 +34,7 @@ pub record ShowHolders (db : Database) : Type 0 where
   pub holdings : ShowsEach holding.tree (0 ∷ 1 ∷ 2 ∷ []) (ShowsSome span_cells (λ _. ⊤)) db
   pub grants : ShowsEach granted.tree (1 ∷ 2 ∷ 3 ∷ 4 ∷ 5 ∷ 6 ∷ 7 ∷ []) (ShowsSome grant_cells GrantFits) db
   pub auths : ShowsEach auth.tree (1 ∷ 2 ∷ 3 ∷ 4 ∷ 5 ∷ 6 ∷ 7 ∷ 8 ∷ []) (ShowsSome auth_cells AuthFits) db
+
+-- each row of the table of exceptions shows one
+abbrev pub ShowExceptions : Database → Type 0
+ShowExceptions = ShowsEach slurm.tree (0 ∷ 1 ∷ 2 ∷ 3 ∷ 4 ∷ 5 ∷ 6 ∷ 7 ∷ []) ShowsException
