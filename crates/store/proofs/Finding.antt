@@ -62,8 +62,8 @@ pub record Query {X : Type 0} (cells : X → Row) (width : ℕ) (items : Rows �
         body = from_table part.tree (equals (suc part.place) 0 ∷ []) (shown_at places) order no_limit;
       }) titles)
   pub held :
-      (charter : CharterSets) (rows : List ℕ → Option Rows) (trees : Trees) → TablesHold charter rows trees
-      → HoldsPart part rows (contents (trees part.tree))
+      (charter : CharterSets) (rows : AllRows) (trees : Trees) → TablesHold charter rows trees
+      → HoldsPart part rows.of_holder (contents (trees part.tree))
   pub shows : (h : List ℕ) (r : Rows) → map (columns places) (part.rows h r) ≡ map cells (items r)
   -- the columns that it is sorted by, of those that it shows
   pub keys : List ℕ
@@ -95,9 +95,9 @@ module _ {X : Type 0} (cells : X → Row) (width : ℕ) (items : Rows → List X
         let same = of_contents (λ r. eval_all (shown_at q.places) (params ∷ r ∷ [])) (columns q.places) (picks params tests) (names q.part.place h) (shown_columns q.places params) (holder_test q.part.place h []) (db.trees q.part.tree) in
         subst (λ l. IsPermutation l rows) same (permuted q.part.tree tests (shown_at q.places) q.order db.trees params rows answers)
 
-    found : (charter : CharterSets) (all : List ℕ → Option Rows) → TablesHold charter all db.trees → IsPermutation (map cells (items_if_any items (all h))) rows
+    found : (charter : CharterSets) (all : AllRows) → TablesHold charter all db.trees → IsPermutation (map cells (items_if_any items (all.of_holder h))) rows
     found charter all holds =
-        go (all h) (IsPermutation-trans _ _ _ (IsPermutation-map (columns q.places) _ _ ((q.held charter all db.trees holds).each h)) finds)
+        go (all.of_holder h) (IsPermutation-trans _ _ _ (IsPermutation-map (columns q.places) _ _ ((q.held charter all db.trees holds).each h)) finds)
       where
         go : (o : Option Rows) → IsPermutation (map (columns q.places) (part_rows q.part h o)) rows → IsPermutation (map cells (items_if_any items o)) rows
         go None same = same

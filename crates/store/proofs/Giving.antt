@@ -12,13 +12,12 @@ use Rattle.addr.specs.declared.vrp.Vrp.{Vrp}
 use Rattle.policy.specs.declared.authorization.Auth.{Auth}
 use Rattle.policy.specs.Rows.{Rows}
 use Rattle.policy.specs.Terms.{IsVrpOf}
-use Rattle.policy.specs.Values.{AuthFits}
+use Rattle.policy.specs.Values.{AuthFits, VrpFits}
 use Rattle.tables.specs.Cells.{vrp_cells}
-use Rattle.tables.specs.Decode.{VrpFits}
 use Rattle.addr.proofs.Equality.{equal_prefix, prefix_itself}
 use Rattle.addr.proofs.SpanLemmas.{met_iff}
 use Rattle.store.specs.steps.Queries.{payload_cells, IsPayloadOn, MeetsSome}
-use Rattle.policy.specs.RowsOfAll.{IsGivenOn, IsTaken}
+use Rattle.policy.specs.RowsOfAll.{AllRows, IsGivenOn, IsTaken}
 use Rattle.store.specs.Loads.{AllGiveOn}
 use Rattle.tables.proofs.CellsOnce.{one_prefix}
 
@@ -45,7 +44,7 @@ one_vrp v w is =
     let max : v.max ≡ w.max = cc in
     same_vrp v w (one_prefix v.prefix w.prefix cc) max (ap (λ (n : ℕ). let a : Asn = record { 0 = n } in a) asn)
 
-module _ (day : ℕ) (all : List ℕ → Option Rows) (rows : List Row) (each : (row : Row) → Contains rows row ↔ IsPayloadOn all day row) where
+module _ (day : ℕ) (all : AllRows) (rows : List Row) (each : (row : Row) → Contains rows row ↔ IsPayloadOn all day row) where
   is_given : (vrps : List Vrp) → rows ≡ map vrp_cells vrps → (v : Vrp) → Contains vrps v → IsGivenOn all day v
   is_given vrps shown v there =
       let row = subst (λ l. Contains l (vrp_cells v)) (sym shown) (contains_had (map vrp_cells vrps) (vrp_cells v) (mapped_has vrp_cells vrps v (has_contained vrps v there))) in
@@ -76,5 +75,5 @@ gives_one x fits =
 
 -- ---- what is held
 
-pub taken_iff : (rows : List ℕ → Option Rows) (p : Prefix) → MeetsSome rows p ↔ IsTaken rows p
+pub taken_iff : (rows : AllRows) (p : Prefix) → MeetsSome rows p ↔ IsTaken rows p
 taken_iff rows p = (λ it. (it.0, it.1, it.2, (met_iff it.1.holdings p).0 it.3), λ it. (it.0, it.1, it.2, (met_iff it.1.holdings p).1 it.3))

@@ -28,8 +28,8 @@ of_part : (part : Part) (rows : List ℕ → Option Rows) (table : List Row) (So
     → ((h : List ℕ) (r : Rows) (c : Row) → rows h ≡ Some r → Has (part.rows h r) c → So c) → AllByRecursion So table
 of_part part rows table So holds shows = all_from So table (λ c has. let it = of_some part rows table holds c has in shows it.0 it.1 c it.2 it.3)
 
-pub held_read : (charter : CharterSets) (rows : List ℕ → Option Rows) (trees : Trees) → IsCharter charter → AllByRecursion (λ name. IsTrue (is_name name)) charter.operators
-    → ((h : List ℕ) (r : Rows) → rows h ≡ Some r → IsTrue (is_name h) × RowsFit r) → TablesHold charter rows trees → TablesRead trees
+pub held_read : (charter : CharterSets) (rows : AllRows) (trees : Trees) → IsCharter charter → AllByRecursion (λ name. IsTrue (is_name name)) charter.operators
+    → ((h : List ℕ) (r : Rows) → rows.of_holder h ≡ Some r → IsTrue (is_name h) × RowsFit r) → TablesHold charter rows trees → TablesRead trees
 held_read charter rows trees is named fit holds = record {
   schema = contains_had _ schema_row (has_permuted (schema_row ∷ []) (contents (trees meta.tree)) schema_row holds.charter_kept.schema (inl refl));
   charter = record {
@@ -43,18 +43,18 @@ held_read charter rows trees is named fit holds = record {
     prefixes_shown = holds.charter_kept.pool;
   };
   holders =
-      of_part holder_part rows _ ShowsHolder holds.holders
+      of_part holder_part rows.of_holder _ ShowsHolder holds.holders
       (λ h r c there has. let it = fit h r there in (h, r.granted, r.created, it.0, it.1.granted, it.1.created, one_row (holder_row h r.granted r.created) c has));
   holdings =
-      of_part holding_part rows _ (ShowsOfHolder holding_row (λ _. ⊤)) holds.holdings
+      of_part holding_part rows.of_holder _ (ShowsOfHolder holding_row (λ _. ⊤)) holds.holdings
       (λ h r c there has. let it = has_mapped (holding_row h) r.holdings c has in (h, it.0, tt, it.2));
   grants =
-      of_part granted_part rows _ (ShowsOfHolder granted_row GrantFits) holds.grants
+      of_part granted_part rows.of_holder _ (ShowsOfHolder granted_row GrantFits) holds.grants
       (λ h r c there has.
       let it = has_mapped (granted_row h) r.grants c has in
       (h, it.0, all_has GrantFits r.grants it.0 (recursion_from_All GrantFits r.grants (fit h r there).1.grants) it.1, it.2));
   auths =
-      of_part auth_part rows _ (ShowsOfHolder auth_row AuthFits) holds.auths
+      of_part auth_part rows.of_holder _ (ShowsOfHolder auth_row AuthFits) holds.auths
       (λ h r c there has.
       let it = has_mapped (auth_row h) r.auths c has in
       (h, it.0, all_has AuthFits r.auths it.0 (recursion_from_All AuthFits r.auths (fit h r there).1.auths) it.1, it.2));
@@ -83,5 +83,5 @@ registered_named (e ∷ before) h is fit = go (registers e.command h) refl is (�
 pub opens_again : LegalRowsFit → HistoriesRead
 opens_again rows_fit charter history rows trees legal fits have is named holds =
     held_read charter rows trees is named (λ h r there.
-    let of = subst (RowsIfAny history h) there (have h) in
+    let of = subst (RowsIfAny history h) there (have.holders h) in
     (registered_named history h of.0 fits, rows_fit charter history h r legal fits of.1)) holds

@@ -22,7 +22,7 @@ use Rattle.tables.proofs.Texts.{equals, counters_text, counters_is}
 
 module _ (h : List ℕ) (old new : State) (ready : IsReady old) where
   -- as many rows are found as the holder has in its table
-  found : (rows : List Row) (charter : CharterSets) (all : List ℕ → Option Rows) → old.now.schema.tables ≡ desk_tables → Shown counters_text (Text h ∷ []) old new rows → TablesHold charter all old.now.trees → length rows ≡ length (part_rows holder_part h (all h))
+  found : (rows : List Row) (charter : CharterSets) (all : AllRows) → old.now.schema.tables ≡ desk_tables → Shown counters_text (Text h ∷ []) old new rows → TablesHold charter all old.now.trees → length rows ≡ length (part_rows holder_part h (all.of_holder h))
   found rows charter all has shown holds =
       let read = reads_desk counters_is (Text h ∷ []) old new rows (λ _. has) shown in
       let same = permuted 6 (equals 1 0 ∷ []) (col 1 2 ∷ col 1 3 ∷ []) [] old.now.trees (Text h ∷ []) rows (read.answer Null) in
@@ -40,7 +40,7 @@ module _ (h : List ℕ) (old new : State) (ready : IsReady old) where
         was_open = same.0.was_open;
         ready = record { tables = λ _. ap (λ (d : Database). d.schema.tables) same.0.now_is ∙ has; inside = same.0.mode ∙ ready.inside };
         same = same.0.now_is;
-        answer = λ charter all holds. ap not (is ∙ ap (λ n. n == 0) (counted ∙ found rows charter all has shown holds)) ∙ go (all h);
+        answer = λ charter all holds. ap not (is ∙ ap (λ n. n == 0) (counted ∙ found rows charter all has shown holds)) ∙ go (all.of_holder h);
       }
     where
       go : (o : Option Rows) → not (length (part_rows holder_part h o) == 0) ≡ is_some o

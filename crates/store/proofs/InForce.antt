@@ -49,13 +49,13 @@ module _ (day : ℕ) (old new : State) (has : IsTrue old.is_open → old.now.sch
 open_is : (day : ℕ) (h : List ℕ) (x : Auth) → is_open_on day (auth_row h x) ≡ (nat_le x.from day && nat_le day x.until)
 open_is day h x = then_term (at_ints false Le (pos x.from) (pos day)) (last_term (at_ints false Ge (pos x.until) (pos day)))
 
-module _ (day : ℕ) (all : List ℕ → Option Rows) (db : Database) (rows : List Row) (holds : HoldsPart auth_part all (contents (db.trees auth_part.tree))) (found : FindsInForce day db rows) where
+module _ (day : ℕ) (all : AllRows) (db : Database) (rows : List Row) (holds : HoldsPart auth_part all.of_holder (contents (db.trees auth_part.tree))) (found : FindsInForce day db rows) where
   is_in_force : (v : Row) → Contains rows v → IsPayloadOn all day v
   is_in_force v there =
       let table = contents (db.trees auth_part.tree) in
       let shown = has_mapped (columns payload_places) (filter (is_open_on day) table) v (has_permuted _ _ v (IsPermutation-sym _ _ found) (has_contained rows v there)) in
       let row = has_filtered (is_open_on day) table shown.0 shown.1 in
-      let mine = of_some auth_part all table holds shown.0 row.0 in
+      let mine = of_some auth_part all.of_holder table holds shown.0 row.0 in
       let auth = has_mapped (auth_row mine.0) mine.1.auths shown.0 mine.3 in
       let days = and_parts _ _ (sym (open_is day mine.0 auth.0) ∙ ap (is_open_on day) (sym auth.2) ∙ row.1) in
       (mine.0, mine.1, auth.0, mine.2, contains_had mine.1.auths auth.0 auth.1, leb-true _ _ days.0, leb-true _ _ days.1, shown.2 ∙ ap (columns payload_places) auth.2)
@@ -64,7 +64,7 @@ module _ (day : ℕ) (all : List ℕ → Option Rows) (db : Database) (rows : Li
   has_in_force v it =
       let table = contents (db.trees auth_part.tree) in
       let c = auth_row it.0 it.2 in
-      let kept = in_table auth_part all table holds c it.0 it.1 it.3 (mapped_has (auth_row it.0) it.1.auths it.2 (has_contained it.1.auths it.2 it.4)) in
+      let kept = in_table auth_part all.of_holder table holds c it.0 it.1 it.3 (mapped_has (auth_row it.0) it.1.auths it.2 (has_contained it.1.auths it.2 it.4)) in
       let picked = has_kept (is_open_on day) table c kept (open_is day it.0 it.2 ∙ and_from _ _ (le-leb _ _ it.5) (le-leb _ _ it.6)) in
       subst (Contains rows) (sym it.7) (contains_had rows _ (has_permuted _ _ (columns payload_places c) found (mapped_has (columns payload_places) (filter (is_open_on day) table) c picked)))
 

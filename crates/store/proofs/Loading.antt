@@ -98,7 +98,7 @@ counters_fit (Some r) fit = All-cons CountersFit (record { granted = r.granted; 
 
 -- what the tables held before calls that changed nothing they hold after them
 pub held_before :
-    (old mid : State) → mid.now ≡ old.now → (charter : CharterSets) (rows : List ℕ → Option Rows)
+    (old mid : State) → mid.now ≡ old.now → (charter : CharterSets) (rows : AllRows)
     → TablesHold charter rows old.now.trees → TablesHold charter rows mid.now.trees
 held_before old mid same charter rows holds = subst (λ (d : Database). TablesHold charter rows d.trees) (sym same) holds
 
@@ -106,9 +106,9 @@ held_before old mid same charter rows holds = subst (λ (d : Database). TablesHo
 pub never_fit :
     {X : Type 0} (fits : X → Type 0) (items : Rows → List X) → ((o : Option Rows) → FitIfAny o → All fits (items_if_any items o))
     → (h : List ℕ) (old mid : State) → IsTrue old.is_open → mid.now ≡ old.now
-    → WasRead (λ all. ¬ All fits (items_if_any items (all h))) mid → WasRead (λ all. ¬ FitIfAny (all h)) old
+    → WasRead (λ all. ¬ All fits (items_if_any items (all.of_holder h))) mid → WasRead (λ all. ¬ FitIfAny (all.of_holder h)) old
 never_fit fits items each h old mid opened same told =
-    (opened, λ charter rows holds fit. told.1 charter rows (held_before old mid same charter rows holds) (each (rows h) fit))
+    (opened, λ charter rows holds fit. told.1 charter rows (held_before old mid same charter rows holds) (each (rows.of_holder h) fit))
 
 pub none_loaded : (o : Option Rows) → AreCounters o None → AreLoaded o None
 none_loaded None none = tt

@@ -15,7 +15,7 @@ use Rattle.database.proofs.SameCharter.{same_charter}
 use Rattle.store.proofs.StoreLemmas.{over}
 
 module _ {S : Type 0} (g : Ghosts S) (charter : CharterSets) (found : State) (h : Held S) (is : OpensDesk charter found (state g h)) where
-  now_held : (rows : List ℕ → Option Rows) → TablesHold charter rows found.now.trees → TablesHold charter rows (state g h).now.trees
+  now_held : (rows : AllRows) → TablesHold charter rows found.now.trees → TablesHold charter rows (state g h).now.trees
   now_held = hold_still found.now.trees (state g h).now.trees is.rows charter
 
   pub opened_store : IsCharter charter → HasCleanDisk (state g h)

@@ -85,18 +85,18 @@ some_pass picked goes same (r ∷ tree) = (λ i. not (length (cond (same r i) (r
     go true more = ap not (not_zero (length (filter picked tree)))
     go false more = more
 
-module _ (p : Prefix) (all : List ℕ → Option Rows) (table : List Row) (holds : HoldsPart holding_part all table) where
+module _ (p : Prefix) (all : AllRows) (table : List Row) (holds : HoldsPart holding_part all.of_holder table) where
   meets_some : list_any (overlaps p) table ≡ true → MeetsSome all p
   meets_some any =
       let found = some_has (overlaps p) table any in
-      let mine = of_some holding_part all table holds found.0 found.1 in
+      let mine = of_some holding_part all.of_holder table holds found.0 found.1 in
       let run = has_mapped (holding_row mine.0) mine.1.holdings found.0 mine.3 in
       (mine.0, mine.1, mine.2, some_from (λ s. span_meets s p) mine.1.holdings run.0 run.1 (sym (overlaps_run p mine.0 run.0) ∙ ap (overlaps p) (sym run.2) ∙ found.2))
 
   some_meets : MeetsSome all p → list_any (overlaps p) table ≡ true
   some_meets it =
       let run = some_has (λ s. span_meets s p) it.1.holdings it.3 in
-      some_from (overlaps p) table (holding_row it.0 run.0) (in_table holding_part all table holds (holding_row it.0 run.0) it.0 it.1 it.2 (mapped_has (holding_row it.0) it.1.holdings run.0 run.1)) (overlaps_run p it.0 run.0 ∙ run.2)
+      some_from (overlaps p) table (holding_row it.0 run.0) (in_table holding_part all.of_holder table holds (holding_row it.0 run.0) it.0 it.1 it.2 (mapped_has (holding_row it.0) it.1.holdings run.0 run.1)) (overlaps_run p it.0 run.0 ∙ run.2)
 
 module _ (p : Prefix) (old new : State) (has : IsTrue old.is_open → old.now.schema.tables ≡ desk_tables) (params : Row) (is : params ≡ run_params p) (rows : List Row) (shown : Shown overlap_text params old new rows) where
   not_empty : not (length rows == 0) ≡ list_any (overlaps p) (contents (old.now.trees 8))
@@ -106,7 +106,7 @@ module _ (p : Prefix) (old new : State) (has : IsTrue old.is_open → old.now.sc
       let first = first_shown 8 overlap_tests (lit (Int (pos 1)) ∷ []) old.now.trees (run_params p) rows (read.answer Null) in
       ap not (ap (λ l. length l == 0) first.2 ∙ one_or_none first.0 _ first.1) ∙ some_pass (picks (run_params p) overlap_tests) (overlaps p) (columns_alone p) (old.now.trees 8)
 
-  pub told_overlap : (empty : Bool) (count : ℕ) → count ≡ length rows → empty ≡ (count == 0) → (all : List ℕ → Option Rows) → HoldsPart holding_part all (contents (old.now.trees 8)) → IsTrue (not empty) ↔ MeetsSome all p
+  pub told_overlap : (empty : Bool) (count : ℕ) → count ≡ length rows → empty ≡ (count == 0) → (all : AllRows) → HoldsPart holding_part all.of_holder (contents (old.now.trees 8)) → IsTrue (not empty) ↔ MeetsSome all p
   told_overlap empty count counted tells all holds =
       let same : not empty ≡ list_any (overlaps p) (contents (old.now.trees 8)) = ap not (tells ∙ ap (λ n. n == 0) counted) ∙ not_empty in
       (λ yes. meets_some p all _ holds (sym same ∙ yes), λ some. same ∙ some_meets p all _ holds some)

@@ -18,16 +18,19 @@ use Rattle.policy.specs.History.{same_name}
 use Rattle.policy.specs.declared.change.Edit.{Edit}
 use Rattle.policy.specs.declared.change.Edit.TheVariants.{Register, Hold, Grant, Revoke, Create, Amend, Withdraw}
 use Rattle.policy.specs.Rows.{Rows, new_rows, edited, edited_if_any}
+use Rattle.policy.specs.RowsOfAll.{AllRows}
 use Rattle.policy.proofs.Names.{same_name-true}
 use Rattle.tables.specs.TablesHold.{TablesHold}
 use Rattle.store.specs.steps.RowEdits.{with_holdings, without_holdings, without_auths, is_registration}
 use Rattle.database.specs.Statements.{state_in, IfDone, StaysInside, IsReady}
-use Rattle.store.specs.steps.Statements.{at_holder, EditsRows, EditsHolder, TellsWhetherRegistered, Registers, registered, MakesChange}
+use Rattle.store.specs.StoreRows.{RowChange}
+use Rattle.store.specs.steps.Statements.{at_holder, EditsRows, EditsHolder, TellsWhetherRegistered, Registers, MakesChange}
 use Rattle.tables.proofs.TreeRows.{filter_twice, all_kept, neither}
 
 -- equal rows of every holder
-pub same_rows : (charter : CharterSets) (rows other : List ℕ → Option Rows) (trees : Trees) → ((k : List ℕ) → rows k ≡ other k) → TablesHold charter rows trees → TablesHold charter other trees
-same_rows charter rows other trees same holds = subst (λ r. TablesHold charter r trees) (λ i k. same k i) holds
+pub same_rows : (charter : CharterSets) (rows : AllRows) (other : List ℕ → Option Rows) (trees : Trees) → ((k : List ℕ) → rows.of_holder k ≡ other k)
+    → TablesHold charter rows trees → TablesHold charter (record rows { of_holder = other }) trees
+same_rows charter rows other trees same holds = subst (λ of_holder. TablesHold charter (record rows { of_holder = of_holder }) trees) (λ i k. same k i) holds
 
 edited_still : (o : Option Rows) (edit : Rows → Rows) (b : Bool) → IsSome o → IsSome (cond b (option_map edit o) o)
 edited_still None edit b some = absurd cc
@@ -42,8 +45,10 @@ module _ (h : List ℕ) where
 
   pub edits_then : (f g : Rows → Rows) (a b c : Database) → EditsRows h f a b → EditsRows h g b c → EditsRows h (λ r. g (f r)) a c
   edits_then f g a b c first second charter rows holds some =
-      same_rows charter (at_holder h g (at_holder h f rows)) (at_holder h (λ r. g (f r)) rows) c.trees (λ k. in_turn f g (rows k) (same_name h k))
-      (second charter (at_holder h f rows) (first charter rows holds some) (edited_still (rows h) f (same_name h h) some))
+      let once : AllRows = at_holder h (option_map f) rows in
+      let both : AllRows = at_holder h (option_map (λ r. g (f r))) rows in
+      same_rows charter (at_holder h (option_map g) once) both.of_holder c.trees (λ k. in_turn f g (rows.of_holder k) (same_name h k))
+      (second charter once (first charter rows holds some) (edited_still (rows.of_holder h) f (same_name h h) some))
 
   none_edited : (f : Rows → Rows) → ((r : Rows) → f r ≡ r) → (o : Option Rows) (b : Bool) → o ≡ cond b (option_map f o) o
   none_edited f same None true = refl
@@ -51,7 +56,9 @@ module _ (h : List ℕ) where
   none_edited f same o false = refl
 
   pub edits_none : (f : Rows → Rows) (a : Database) → ((r : Rows) → f r ≡ r) → EditsRows h f a a
-  edits_none f a same charter rows holds some = same_rows charter rows (at_holder h f rows) a.trees (λ k. none_edited f same (rows k) (same_name h k)) holds
+  edits_none f a same charter rows holds some =
+      let after : AllRows = at_holder h (option_map f) rows in
+      same_rows charter rows after.of_holder a.trees (λ k. none_edited f same (rows.of_holder k) (same_name h k)) holds
 
   pub edits_as : (f g : Rows → Rows) (a b : Database) → ((r : Rows) → f r ≡ g r) → EditsRows h f a b → EditsRows h g a b
   edits_as f g a b same = subst (λ e. EditsRows h e a b) (λ i r. same r i)
@@ -103,11 +110,11 @@ module _ {S : Type 0} (g : Ghosts S) where
 -- ---- a change
 
 module _ (h : List ℕ) (edit : Edit) where
-  abbrev pub edited_at : (List ℕ → Option Rows) → List ℕ → Option Rows
-  edited_at rows k = if same_name h k then edited_if_any edit (rows k) else rows k
+  abbrev pub edited_at : RowChange
+  edited_at = at_holder h (edited_if_any edit)
 
   -- what the edit makes of the holder's rows is all that matters
-  at_name : (to : Option Rows → Option Rows) (rows : List ℕ → Option Rows) → to (rows h) ≡ edited_if_any edit (rows h) → (k : List ℕ) → cond (same_name h k) (to (rows k)) (rows k) ≡ edited_at rows k
+  at_name : (to : Option Rows → Option Rows) (rows : List ℕ → Option Rows) → to (rows h) ≡ edited_if_any edit (rows h) → (k : List ℕ) → cond (same_name h k) (to (rows k)) (rows k) ≡ cond (same_name h k) (edited_if_any edit (rows k)) (rows k)
   at_name to rows same k = go (same_name h k) refl
     where
       go : (b : Bool) → same_name h k ≡ b → cond b (to (rows k)) (rows k) ≡ cond b (edited_if_any edit (rows k)) (rows k)
@@ -123,8 +130,9 @@ module _ (h : List ℕ) (edit : Edit) where
     was_open = tells.was_open;
     ready = done.ready;
     rows = λ charter rows was.
-        let some : IsSome (rows h) = sym (tells.answer charter rows was) ∙ is in
-        same_rows charter (at_holder h (edited edit) rows) (edited_at rows) c.now.trees (at_name (option_map (edited edit)) rows (some_edited (rows h) some))
+        let some : IsSome (rows.of_holder h) = sym (tells.answer charter rows was) ∙ is in
+        let after : AllRows = edited_at rows in
+        same_rows charter (at_holder h (option_map (edited edit)) rows) after.of_holder c.now.trees (at_name (option_map (edited edit)) rows.of_holder (some_edited (rows.of_holder h) some))
         (done.rows charter rows (subst (λ (d : Database). TablesHold charter rows d.trees) (sym tells.same) was) some);
   }
 
@@ -146,8 +154,9 @@ module _ (h : List ℕ) (edit : Edit) where
     was_open = tells.was_open;
     ready = done.ready;
     rows = λ charter rows was.
-        let none = none_there (rows h) (sym (tells.answer charter rows was) ∙ is) in
-        same_rows charter (registered h rows) (edited_at rows) c.now.trees (at_name (λ _. Some new_rows) rows (sym (from_none edit ∙ cond-true _ _ _ registers) ∙ ap (edited_if_any edit) (sym none)))
+        let none = none_there (rows.of_holder h) (sym (tells.answer charter rows was) ∙ is) in
+        let after : AllRows = edited_at rows in
+        same_rows charter (at_holder h (λ _. Some new_rows) rows) after.of_holder c.now.trees (at_name (λ _. Some new_rows) rows.of_holder (sym (from_none edit ∙ cond-true _ _ _ registers) ∙ ap (edited_if_any edit) (sym none)))
         (done.rows charter rows (subst (λ (d : Database). TablesHold charter rows d.trees) (sym tells.same) was) none);
   }
 
@@ -156,8 +165,9 @@ module _ (h : List ℕ) (edit : Edit) where
     was_open = tells.was_open;
     ready = tells.ready;
     rows = λ charter rows was.
-        let none = none_there (rows h) (sym (tells.answer charter rows was) ∙ is) in
-        same_rows charter rows (edited_at rows) b.now.trees (λ k. kept (same_name h k) (rows k) ∙ at_name (λ o. o) rows (none ∙ sym (from_none edit ∙ cond-false _ _ _ leaves) ∙ ap (edited_if_any edit) (sym none)) k)
+        let none = none_there (rows.of_holder h) (sym (tells.answer charter rows was) ∙ is) in
+        let after : AllRows = edited_at rows in
+        same_rows charter rows after.of_holder b.now.trees (λ k. kept (same_name h k) (rows.of_holder k) ∙ at_name (λ o. o) rows.of_holder (none ∙ sym (from_none edit ∙ cond-false _ _ _ leaves) ∙ ap (edited_if_any edit) (sym none)) k)
         (subst (λ (d : Database). TablesHold charter rows d.trees) (sym tells.same) was);
   }
     where
@@ -165,5 +175,5 @@ module _ (h : List ℕ) (edit : Edit) where
       kept true o = refl
       kept false o = refl
 
-pub turned_then : (f g : (List ℕ → Option Rows) → List ℕ → Option Rows) (a b c : State) → MakesChange f a b → MakesChange g b c → MakesChange (λ rows. g (f rows)) a c
+pub turned_then : (f g : RowChange) (a b c : State) → MakesChange f a b → MakesChange g b c → MakesChange (λ rows. g (f rows)) a c
 turned_then f g a b c first second = record { was_open = first.was_open; ready = second.ready; rows = λ charter rows was. second.rows charter (f rows) (first.rows charter rows was) }

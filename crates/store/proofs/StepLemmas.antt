@@ -17,11 +17,12 @@ use Rattle.policy.specs.declared.authorization.Auth.{Auth}
 use Rattle.policy.specs.declared.grant.Granted.{Granted}
 use Rattle.policy.specs.CharterSets.{CharterSets}
 use Rattle.policy.specs.Rows.{Rows}
+use Rattle.policy.specs.RowsOfAll.{AllRows}
 use Rattle.tables.specs.Tables.{contents, is_table}
 use Rattle.tables.specs.Cells.{schema_row, operator_row, prefix_cells}
 use Rattle.tables.specs.steps.Edits.{Edits}
-use Rattle.tables.specs.TablesHold.{Part, part_rows, is_name_of, holder_part, holding_part, granted_part, auth_part, HoldsPart, HoldsCharter, TablesHold}
-use Rattle.store.specs.steps.Statements.{EditsRows}
+use Rattle.tables.specs.TablesHold.{Part, part_rows, is_name_of, holder_part, holding_part, granted_part, auth_part, HoldsPart, HoldsCharter, HoldsExceptions, TablesHold}
+use Rattle.store.specs.steps.Statements.{EditsRows, at_holder}
 use Rattle.tables.proofs.PartLemmas.{names, IsLocal, EditsPart, turned_at, part_same, part_turned}
 use Rattle.tables.proofs.Selecting.{picks}
 use Rattle.tables.proofs.Texts.{equals}
@@ -95,14 +96,14 @@ module _ (so : Option Rows → Type 0) (h : List ℕ) (to : Option Rows → Opti
         part_same p rows h to (contents (new.trees p.tree))
         (subst (λ t. HoldsPart p rows (contents t)) (sym (e.others p.tree other.1 (λ it. both_ways _ other.0 (rw it (eq-eqb part.tree part.tree refl))))) holds) (other.2 (rows h) is)
 
-    pub turns_rows : is_part_tree part.tree ≡ true → AllFollow → (charter : CharterSets) (rows : List ℕ → Option Rows) → TablesHold charter rows old.trees → so (rows h) → TablesHold charter (turned_at h to rows) new.trees
+    pub turns_rows : is_part_tree part.tree ≡ true → AllFollow → (charter : CharterSets) (rows : AllRows) → TablesHold charter rows old.trees → so (rows.of_holder h) → TablesHold charter (at_holder h to rows) new.trees
     turns_rows is parts charter rows was is_so = record {
       charter_kept = charter_still part.tree by old new e is charter was.charter_kept;
-      holders = turned_part holder_part rows is_so parts.0 was.holders;
-      holdings = turned_part holding_part rows is_so parts.1 was.holdings;
-      grants = turned_part granted_part rows is_so parts.2 was.grants;
-      auths = turned_part auth_part rows is_so parts.3 was.auths;
-      exceptions = sym (still part.tree by old new e is 15 refl refl) ∙ was.exceptions;
+      holders = turned_part holder_part rows.of_holder is_so parts.0 was.holders;
+      holdings = turned_part holding_part rows.of_holder is_so parts.1 was.holdings;
+      grants = turned_part granted_part rows.of_holder is_so parts.2 was.grants;
+      auths = turned_part auth_part rows.of_holder is_so parts.3 was.auths;
+      exceptions = subst (HoldsExceptions rows.exceptions) (still part.tree by old new e is 15 refl refl) was.exceptions;
       whole = sound_still part.tree by old new e was.whole;
     }
 

@@ -32,10 +32,10 @@ abbrev pub over : {S : Type 0} → CharterSets → Held S → StoreView S
 over charter connection = record { connection = connection; charter = charter }
 
 module _ {S X E : Type 0} (g : Ghosts S) (r : Result X E) (to : RowChange) (charter : CharterSets) (old new : Held S) (clean : HasCleanDisk (state g new)) (before : HasCleanDisk (state g new) → HasCleanDisk (state g old)) where
-  pub holds_ok : OnOk r (CommitsChange to (state g old) (state g new)) → OnOk r ((rows : List ℕ → Option Rows) → Holds g (over charter old) rows → Holds g (over charter new) (to rows))
+  pub holds_ok : OnOk r (CommitsChange to (state g old) (state g new)) → OnOk r ((rows : AllRows) → Holds g (over charter old) rows → Holds g (over charter new) (to rows))
   holds_ok = go r
     where
-      go : (r : Result X E) → OnOk r (CommitsChange to (state g old) (state g new)) → OnOk r ((rows : List ℕ → Option Rows) → Holds g (over charter old) rows → Holds g (over charter new) (to rows))
+      go : (r : Result X E) → OnOk r (CommitsChange to (state g old) (state g new)) → OnOk r ((rows : AllRows) → Holds g (over charter old) rows → Holds g (over charter new) (to rows))
       go (Ok a) made = λ rows holds _ opened. made.rows charter rows (holds (before clean) made.was_open)
       go (Err e) made = tt
 
@@ -56,8 +56,8 @@ module _ {S X E : Type 0} (g : Ghosts S) (r : Result X E) (to : RowChange) (char
 
 -- a new store leaves its charter and no holder
 pub leaves_new : {S : Type 0} (g : Ghosts S) (charter : CharterSets) (h : Held S) → ((trees : Trees) → IsTrue (state g h).is_open → (state g h).may_leave trees → trees ≡ (state g h).committed.trees) → IsNew charter (state g h)
-    → (trees : Trees) → (state g h).may_leave trees → TablesHold charter (λ h. None) trees
-leaves_new g charter h settled new trees left = subst (TablesHold charter (λ h. None)) (sym (settled trees new.is_open left ∙ ap (λ (d : Database). d.trees) new.settled)) new.rows
+    → (trees : Trees) → (state g h).may_leave trees → TablesHold charter blank_rows trees
+leaves_new g charter h settled new trees left = subst (TablesHold charter blank_rows) (sym (settled trees new.is_open left ∙ ap (λ (d : Database). d.trees) new.settled)) new.rows
 
 -- ---- a read
 
@@ -70,8 +70,8 @@ read_then g a b c first second = record {
 }
 
 -- what was found in the tables is found of the rows that the store holds
-pub of_store : {S X E : Type 0} (g : Ghosts S) (charter : CharterSets) (old new : Held S) (r : Result X E) (so : X → (List ℕ → Option Rows) → Type 0) → HasCleanDisk (state g old) → OnOk r (IsUnchanged (state g old) (state g new))
-    → IfOk r (λ x. IsOfAll (so x) (state g old)) → IfOk r (λ x. (rows : List ℕ → Option Rows) → Holds g (over charter old) rows → so x rows)
+pub of_store : {S X E : Type 0} (g : Ghosts S) (charter : CharterSets) (old new : Held S) (r : Result X E) (so : X → AllRows → Type 0) → HasCleanDisk (state g old) → OnOk r (IsUnchanged (state g old) (state g new))
+    → IfOk r (λ x. IsOfAll (so x) (state g old)) → IfOk r (λ x. (rows : AllRows) → Holds g (over charter old) rows → so x rows)
 of_store g charter old new (Ok x) so clean same found = λ rows holds. found charter rows (holds clean same.0.was_open)
 of_store g charter old new (Err e) so clean same found = tt
 

@@ -10,8 +10,8 @@ use Rattle.policy.specs.declared.charter.Charter.{Charter}
 use Rattle.policy.specs.declared.rows.HolderRows.{HolderRows}
 use Rattle.policy.specs.History.{History}
 use Rattle.policy.specs.Rows.{Rows, rows_if_any, RowsIfAny}
-use Rattle.policy.specs.RowsOfAll.{HasRows}
-use Rattle.policy.specs.Values.{HistoryFits, FitIfAny}
+use Rattle.policy.specs.RowsOfAll.{AllRows, HasRows}
+use Rattle.policy.specs.Values.{HistoryFits, FitIfAny, ExceptionsFit}
 use Rattle.policy.specs.Verdict.{IsLegal}
 use Rattle.tables.specs.TablesHold.{TablesHold}
 use Rattle.tables.specs.Tables.{desk_tables}
@@ -30,15 +30,22 @@ LoadsRowsOfHistories =
 -- finds a row that shows none.
 abbrev pub RowsOfHistoriesFit : Type 0
 RowsOfHistoriesFit =
-    (charter : Charter) (history : History) (rows : List ℕ → Option Rows)
+    (charter : Charter) (history : History) (rows : AllRows)
     → IsLegal charter history → HistoryFits history → HasRows rows history
-    → (h : List ℕ) → FitIfAny (rows h)
+    → (h : List ℕ) → FitIfAny (rows.of_holder h)
+
+-- The exceptions in force of such a history fit, so that no load of the SLURM files finds a row that shows
+-- none, or more of them than a file may have.
+abbrev pub ExceptionsOfHistoriesFit : Type 0
+ExceptionsOfHistoriesFit =
+    (history : History) (rows : AllRows) → HistoryFits history → HasRows rows history
+    → ExceptionsFit rows.exceptions
 
 -- On each day the authorizations in force of such a history give VRPs, so that no load of the VRPs finds a
 -- row that shows none.
 abbrev pub AuthsOfHistoriesGive : Type 0
 AuthsOfHistoriesGive =
-    (charter : Charter) (history : History) (rows : List ℕ → Option Rows) (day : ℕ)
+    (charter : Charter) (history : History) (rows : AllRows) (day : ℕ)
     → IsLegal charter history → HistoryFits history → HasRows rows history
     → AllGiveOn rows day
 
@@ -46,7 +53,7 @@ AuthsOfHistoriesGive =
 -- left finds a row that shows none.
 abbrev pub HistoriesRead : Type 0
 HistoriesRead =
-    (charter : Charter) (history : History) (rows : List ℕ → Option Rows) (trees : Trees)
+    (charter : Charter) (history : History) (rows : AllRows) (trees : Trees)
     → IsLegal charter history → HistoryFits history → HasRows rows history
     → IsCharter charter → AllByRecursion (λ name. IsTrue (is_name name)) charter.operators
     → TablesHold charter rows trees → TablesRead trees

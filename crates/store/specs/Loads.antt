@@ -1,5 +1,5 @@
 -- What is loaded of the rows that the tables hold.
-use Rattle.std.specs.Prelude.{◌≡◌, ◌≤◌, ℕ, List, Option, Some, None, Contains, IsPermutation, IsSortedByKey, ⊤}
+use Rattle.std.specs.Prelude.{◌≡◌, ◌≢◌, ◌≤◌, ℕ, List, [], ◌∷◌, Option, Some, None, Contains, IsPermutation, IsSortedByKey, ⊤}
 use Rattle.std.specs.Ordering.{nat_cmp}
 use Rattle.sqlite.specs.Store.{Ghosts}
 use Rattle.addr.specs.Address.{Address}
@@ -9,15 +9,18 @@ use Rattle.addr.specs.declared.vrp.Vrp.{Vrp}
 use Rattle.policy.specs.declared.authorization.Auth.{Auth}
 use Rattle.policy.specs.declared.grant.Granted.{Granted}
 use Rattle.policy.specs.declared.rows.HolderRows.{HolderRows}
+use Rattle.policy.specs.ExceptionsInForce.{no_exceptions}
 use Rattle.policy.specs.Rows.{Rows}
+use Rattle.policy.specs.RowsOfAll.{AllRows}
 use Rattle.policy.specs.Terms.{IsVrpOf}
+use Rattle.policy.specs.Values.{VrpFits}
+use Rattle.slurm.specs.Exceptions.{Exceptions}
 use Rattle.store.specs.StoreRows.{StoreView, Holds}
-use Rattle.tables.specs.Decode.{VrpFits}
 
 -- it is so of the rows that a store holds
 abbrev pub OfHeldRows :
-    {S : Type 0} → Ghosts S → StoreView S → ((List ℕ → Option Rows) → Type 0) → Type 0
-OfHeldRows g store so = (rows : List ℕ → Option Rows) → Holds g store rows → so rows
+    {S : Type 0} → Ghosts S → StoreView S → (AllRows → Type 0) → Type 0
+OfHeldRows g store so = (rows : AllRows) → Holds g store rows → so rows
 
 -- the same items, by rising number
 abbrev pub AreInOrder : {X : Type 0} → (X → ℕ) → List X → List X → Type 0
@@ -43,9 +46,16 @@ AreLoaded None (Some loaded) = ⊥
 AreLoaded (Some r) None = ⊥
 AreLoaded (Some r) (Some loaded) = IsLoaded r loaded
 
+-- The SLURM files that are loaded of exceptions: none where there are none, else one that has all of
+-- them.
+abbrev pub AreFilesOf : Exceptions → List Exceptions → Type 0
+AreFilesOf exceptions [] = exceptions ≡ no_exceptions
+AreFilesOf exceptions (file ∷ []) = (file ≡ exceptions) × (exceptions ≢ no_exceptions)
+AreFilesOf _ _ = ⊥
+
 -- each authorization that is in force on the day gives a VRP
-abbrev pub AllGiveOn : (List ℕ → Option Rows) → ℕ → Type 0
+abbrev pub AllGiveOn : AllRows → ℕ → Type 0
 AllGiveOn rows day =
     (h : List ℕ) (r : Rows) (x : Auth)
-    → rows h ≡ Some r → Contains r.auths x → x.from ≤ day → day ≤ x.until
+    → rows.of_holder h ≡ Some r → Contains r.auths x → x.from ≤ day → day ≤ x.until
     → (v : Vrp) × IsVrpOf x v × VrpFits v

@@ -1,5 +1,5 @@
 -- What a store shows and holds, as it is and after a crash.
-use Rattle.std.specs.Prelude.{◌≡◌, ◌⊎◌, ℕ, false, List, Option, IsTrue, refl}
+use Rattle.std.specs.Prelude.{◌≡◌, ◌⊎◌, false, IsTrue, refl}
 use Rattle.std.specs.Coded.{Coded, code_by, coded×}
 use Rattle.sqlite.specs.Held.{Held, held_code, state}
 use Rattle.sqlite.specs.State.{State, HasCleanDisk}
@@ -7,8 +7,7 @@ use Rattle.sqlite.specs.Store.{Ghosts}
 use Rattle.sqlite_trees.specs.Tree.{Trees}
 use Rattle.policy.specs.contracts.charter.Charter as charter
 use Rattle.policy.specs.CharterSets.{CharterSets, IsCharter}
-use Rattle.policy.specs.declared.change.Change.{Change}
-use Rattle.policy.specs.Rows.{Rows, changed}
+use Rattle.policy.specs.RowsOfAll.{AllRows}
 use Rattle.tables.specs.Tables.{desk_tables}
 use Rattle.tables.specs.TablesHold.{TablesHold}
 
@@ -25,16 +24,13 @@ view_code {S} store =
 abbrev pub state_of : {S : Type 0} → Ghosts S → StoreView S → State
 state_of g store = state g store.connection
 
--- the rows of every holder after a change, from those before it
+-- all rows after a change, from those before it
 abbrev pub RowChange : Type 0
-RowChange = (List ℕ → Option Rows) → List ℕ → Option Rows
-
-abbrev pub changed_rows : Change → RowChange
-changed_rows change rows h = changed change h (rows h)
+RowChange = AllRows → AllRows
 
 -- The tables hold the store's charter and these rows. Nothing is said where the disk returned what was not written, or where a
 -- failure of the disk shut the connection, which then answers nothing more.
-abbrev pub Holds : {S : Type 0} → Ghosts S → StoreView S → (List ℕ → Option Rows) → Type 0
+abbrev pub Holds : {S : Type 0} → Ghosts S → StoreView S → AllRows → Type 0
 Holds g store rows =
     HasCleanDisk (state_of g store) → IsTrue (state_of g store).is_open
     → TablesHold store.charter rows (state_of g store).now.trees
@@ -45,19 +41,19 @@ IfClean g store so = HasCleanDisk (state_of g store) → so
 
 -- the tables hold the rows after the change, if they held those before it
 abbrev pub HoldsAfter : {S : Type 0} → Ghosts S → StoreView S → StoreView S → RowChange → Type 0
-HoldsAfter g old new to = (rows : List ℕ → Option Rows) → Holds g old rows → Holds g new (to rows)
+HoldsAfter g old new to = (rows : AllRows) → Holds g old rows → Holds g new (to rows)
 
 -- A crash leaves what it left before, or rows turned so.
 abbrev pub MayLeave : {S : Type 0} → Ghosts S → StoreView S → StoreView S → RowChange → Type 0
 MayLeave g old new to =
     (trees : Trees) → (state_of g new).may_leave trees
     → (state_of g old).may_leave trees
-    ⊎ ((rows : List ℕ → Option Rows) → Holds g old rows → TablesHold old.charter (to rows) trees)
+    ⊎ ((rows : AllRows) → Holds g old rows → TablesHold old.charter (to rows) trees)
 
 -- A crash leaves rows turned so, and nothing else.
 abbrev pub LeavesOnly : {S : Type 0} → Ghosts S → StoreView S → StoreView S → RowChange → Type 0
 LeavesOnly g old new to =
-    (rows : List ℕ → Option Rows) → Holds g old rows → (trees : Trees)
+    (rows : AllRows) → Holds g old rows → (trees : Trees)
     → (state_of g new).may_leave trees → TablesHold old.charter (to rows) trees
 
 -- A read: the charter and the rows stay, and a crash leaves nothing else than before. A disk that returns what
@@ -65,7 +61,7 @@ LeavesOnly g old new to =
 pub record IsRead {S : Type 0} (g : Ghosts S) (old new : StoreView S) : Type 0 where
   pub clean : HasCleanDisk (state_of g new) → HasCleanDisk (state_of g old)
   pub charter : new.charter ≡ old.charter
-  pub rows : HasCleanDisk (state_of g new) → (rows : List ℕ → Option Rows) → Holds g old rows → Holds g new rows
+  pub rows : HasCleanDisk (state_of g new) → (rows : AllRows) → Holds g old rows → Holds g new rows
   pub crash : HasCleanDisk (state_of g new) → (trees : Trees) → (state_of g new).may_leave trees → (state_of g old).may_leave trees
 
 -- ---- an opened store
@@ -76,10 +72,10 @@ pub record IsOpened {S : Type 0} (g : Ghosts S) (found : State) (store : StoreVi
   pub idle : found.in_transaction ≡ false
   pub tables : found.now.schema.tables ≡ desk_tables
   pub is_open : IsTrue (state_of g store).is_open
-  pub some : (rows : List ℕ → Option Rows) × Holds g store rows
+  pub some : (rows : AllRows) × Holds g store rows
   pub same :
-      (charter : CharterSets) (rows : List ℕ → Option Rows) → IsCharter charter
+      (charter : CharterSets) (rows : AllRows) → IsCharter charter
       → TablesHold charter rows found.now.trees → (store.charter ≡ charter) × Holds g store rows
   pub left :
-      (rows : List ℕ → Option Rows) → Holds g store rows → (trees : Trees)
+      (rows : AllRows) → Holds g store rows → (trees : Trees)
       → (state_of g store).may_leave trees → TablesHold store.charter rows trees

@@ -1,9 +1,9 @@
 ghost use Rattle.std.specs.Prelude.{◌≡◌, ◌≢◌, Err};
 ghost use Rattle.policy.specs.Rows.{edited, changed_by_one};
-ghost use Rattle.store.specs.StoreRows.{changed_rows};
+ghost use Rattle.policy.specs.RowsOfAll.{changed_rows};
 ghost use Rattle.store.specs.steps.RowEdits.{held, is_registration};
 ghost use Rattle.database.specs.Statements.{IsReady, WhenClean, StaysInside, IfDone};
-ghost use Rattle.store.specs.steps.Statements.{IfEdited, MakesChange};
+ghost use Rattle.store.specs.steps.Statements.{IfEdited, MakesChange, each_holder};
 
 use crate::StoreFault;
 use crate::auth::{amend_auth, put_auth, take_auth, take_auths};
@@ -95,7 +95,7 @@ fn edit_holder<S: Alter>(
 ) -> Result<(), StoreFault>
     requires { WhenClean S.Store IsReady tx.old }
     ensures done { IfDone S.Store result
-        (MakesChange (λ rows h. changed_by_one change.now h (rows h))) tx.old tx.new }
+        (MakesChange (each_holder (changed_by_one change.now))) tx.old tx.new }
     ensures inside { StaysInside S.Store tx.old tx.new }
     ensures no_schema { result ≢ Err StoreFault.Schema }
 {
@@ -119,9 +119,14 @@ pub(crate) fn make_change<S: Alter>(
     ensures inside { StaysInside S.Store tx.old tx.new }
     ensures no_schema { result ≢ Err StoreFault.Schema }
 {
-    edit_holder(tx, &change.first)?;
-    if let Some(second) = &change.second {
-        edit_holder(tx, second)?;
+    match change {
+        Change::Holders { first, second } => {
+            edit_holder(tx, first)?;
+            if let Some(second) = second {
+                edit_holder(tx, second)?;
+            }
+        }
+        Change::Exceptions(_) => return Err(StoreFault::Database),
     }
     Ok(())
 }

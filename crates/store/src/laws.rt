@@ -1,7 +1,8 @@
 //! Laws over the definitions alone: each function's contract states one, and its body does nothing.
 
-ghost use Rattle.store.specs.Laws.{AuthsOfHistoriesGive, HistoriesRead, LoadsRowsOfHistories};
-ghost use Rattle.store.specs.Laws.{MemoryIsHonest, RowsOfHistoriesFit, TablesThatReadAreOurs};
+ghost use Rattle.store.specs.Laws.{AuthsOfHistoriesGive, ExceptionsOfHistoriesFit, HistoriesRead};
+ghost use Rattle.store.specs.Laws.{LoadsRowsOfHistories, MemoryIsHonest, RowsOfHistoriesFit};
+ghost use Rattle.store.specs.Laws.{TablesThatReadAreOurs};
 
 /// Where the tables hold the rows of a history, what is loaded of a holder are its rows after that
 /// history, as `policy` asks for them.
@@ -18,6 +19,14 @@ pub fn rows_of_a_history_fit()
     policy::laws::legal_rows_fit();
 }
 
+/// Where the tables hold the rows of a history whose values are those of their types, no load of the
+/// SLURM files answers `Schema`.
+pub fn exceptions_of_a_history_fit()
+    ensures { ExceptionsOfHistoriesFit }
+{
+    policy::laws::exceptions_in_force_fit();
+}
+
 /// Where the tables hold the rows of a legal history whose values are those of their types, no load
 /// of the VRPs of a day answers `Schema`.
 pub fn auths_of_a_history_give()
@@ -32,6 +41,7 @@ pub fn tables_of_a_history_read()
     ensures { HistoriesRead }
 {
     policy::laws::legal_rows_fit();
+    policy::laws::exceptions_in_force_fit();
 }
 
 /// A connection to memory is honest, so that what is said of an honest disk is said of it.

@@ -47,7 +47,7 @@ fn load_values<T: OfHolder, S: Alter>(
     ensures rising { IsOnCleanDisk S.Store conn.new → IfOk result (λ values.
         IsSorted T.order (map T.cells values.items)) }
     ensures schema { IsOnCleanDisk S.Store conn.new → result ≡ Err StoreFault.Schema
-        → WasRead (λ all. ¬ All T.fits (items_if_any T.items (all holder.now)))
+        → WasRead (λ all. ¬ All T.fits (items_if_any T.items (all.of_holder holder.now)))
         (state S.Store conn.old) }
 {
     let rows = ask(conn, T::select(), &name_values(holder))?;
@@ -65,7 +65,7 @@ pub(crate) fn load_rows<S: Alter>(
     ensures found { IsOnCleanDisk S.Store conn.new → IfOk result (λ loaded.
         IsOf (λ rows. AreLoaded rows loaded) holder.now (state S.Store conn.old)) }
     ensures schema { IsOnCleanDisk S.Store conn.new → result ≡ Err StoreFault.Schema
-        → WasRead (λ all. ¬ FitIfAny (all holder.now)) (state S.Store conn.old) }
+        → WasRead (λ all. ¬ FitIfAny (all.of_holder holder.now)) (state S.Store conn.old) }
 {
     let counters: Vec<Counters> = load_values(conn, alloc, holder)?;
     let Some(Counters { granted, created }) = counters.first().copied() else {

@@ -1,7 +1,8 @@
 ghost use Rattle.std.specs.Prelude.{◌≡◌, ◌≢◌, ◌↔◌, false, None, Err, OnOk, OnErr, IfOk, IsTrue};
 ghost use Rattle.sqlite.specs.Held.{state};
 ghost use Rattle.sqlite.specs.State.{HasCleanDisk};
-ghost use Rattle.store.specs.StoreRows.{changed_rows, IsOpened};
+ghost use Rattle.policy.specs.RowsOfAll.{blank_rows, changed_rows};
+ghost use Rattle.store.specs.StoreRows.{IsOpened};
 ghost use Rattle.database.specs.Databases.{HasDeskTables, IsUnused, IsNew, LeavesNew};
 ghost use Rattle.database.specs.Databases.{IsHonest, IsOfAnotherSchema};
 ghost use Rattle.store.specs.steps.Statements.{CommitsChange, MayCommit};
@@ -14,6 +15,7 @@ use crate::load::{load_rows, load_vrps};
 use addr::{Day, Name, Prefix, Vrp};
 use database::{make_desk, open_desk};
 use policy::{Change, Charter, HolderRows};
+use slurm::Slurm;
 use sqlite::{Alter, Connection, MemStore};
 use std::alloc::Global;
 use std::marker::Model;
@@ -66,11 +68,11 @@ impl<S: Alter + Drop> Store<S> {
     ghost use Rattle.store.specs.StoreRows.{state_of, Holds, IfClean};
 
     /// A store over a connection to a database that has no table yet, with this charter, where no
-    /// holder is registered. A connection in a transaction is refused, and a limit of its steps is
+    /// holder is registered and no exception is in force. A connection in a transaction is refused, and a limit of its steps is
     /// lifted.
     pub fn create_on(mut conn: Connection<S>, charter: &Charter) -> Result<Self, StoreFault>
         ensures charter { IfOk result (λ store. store.charter ≡ charter.now) }
-        ensures rows { IfOk result (λ store. Holds S.Store store (λ h. None)) }
+        ensures rows { IfOk result (λ store. Holds S.Store store blank_rows) }
         ensures unused { OnOk result (IsUnused (state S.Store conn)) }
         ensures unlimited { IfOk result (λ store. store.connection.step_limit ≡ None) }
         ensures made { IfOk result (λ store. IfClean S.Store store
@@ -111,8 +113,8 @@ impl<S: Alter> Store<S> {
     ghost use Rattle.std.specs.Prelude.{Option, Contains};
     ghost use Rattle.addr.specs.declared.vrp.Vrp.{Vrp};
     ghost use Rattle.policy.specs.RowsOfAll.{IsTaken, IsGivenOn};
-    ghost use Rattle.policy.specs.Values.{FitIfAny};
-    ghost use Rattle.store.specs.Loads.{OfHeldRows, AreLoaded, AllGiveOn};
+    ghost use Rattle.policy.specs.Values.{FitIfAny, ExceptionsFit};
+    ghost use Rattle.store.specs.Loads.{OfHeldRows, AreLoaded, AllGiveOn, AreFilesOf};
     ghost use Rattle.store.specs.StoreRows.{state_of, Holds, IsRead};
     ghost use Rattle.database.specs.Databases.{IsDeskWhileOpen};
     ghost use Rattle.store.specs.StoreRows.{IfClean, HoldsAfter, MayLeave, LeavesOnly};
@@ -132,9 +134,9 @@ impl<S: Alter> Store<S> {
     ) -> Result<Option<HolderRows>, StoreFault>
         ensures read { IsRead S.Store self.old self.new }
         ensures found { IfClean S.Store self.new (IfOk result (λ loaded.
-            OfHeldRows S.Store self.old (λ rows. AreLoaded (rows holder.now) loaded))) }
+            OfHeldRows S.Store self.old (λ rows. AreLoaded (rows.of_holder holder.now) loaded))) }
         ensures schema { IfClean S.Store self.new (result ≡ Err StoreFault.Schema
-            → OfHeldRows S.Store self.old (λ rows. ¬ FitIfAny (rows holder.now))) }
+            → OfHeldRows S.Store self.old (λ rows. ¬ FitIfAny (rows.of_holder holder.now))) }
     {
         load_rows(&mut self.conn, alloc, holder)
     }
@@ -149,10 +151,10 @@ impl<S: Alter> Store<S> {
         ensures read { IsRead S.Store self.old self.new }
         ensures found { IfClean S.Store self.new (IfOk result (λ both.
             OfHeldRows S.Store self.old (λ rows.
-            AreLoaded (rows first.now) both.0 × AreLoaded (rows second.now) both.1))) }
+            AreLoaded (rows.of_holder first.now) both.0 × AreLoaded (rows.of_holder second.now) both.1))) }
         ensures schema { IfClean S.Store self.new (result ≡ Err StoreFault.Schema
             → OfHeldRows S.Store self.old
-            (λ rows. ¬ (FitIfAny (rows first.now) × FitIfAny (rows second.now)))) }
+            (λ rows. ¬ (FitIfAny (rows.of_holder first.now) × FitIfAny (rows.of_holder second.now)))) }
     {
         let one = self.load_holder(alloc, first)?;
         let other = self.load_holder(alloc, second)?;
@@ -179,6 +181,17 @@ impl<S: Alter> Store<S> {
             → OfHeldRows S.Store self.old (λ rows. ¬ AllGiveOn rows day)) }
     {
         load_vrps(&mut self.conn, alloc, day)
+    }
+
+    /// The SLURM files in force; none where there is no exception.
+    pub fn slurm_files(&mut self, alloc: Global) -> Result<Vec<Slurm>, StoreFault>
+        ensures read { IsRead S.Store self.old self.new }
+        ensures found { IfClean S.Store self.new (IfOk result (λ files.
+            OfHeldRows S.Store self.old (λ rows. AreFilesOf rows.exceptions files.items))) }
+        ensures schema { IfClean S.Store self.new (result ≡ Err StoreFault.Schema
+            → OfHeldRows S.Store self.old (λ rows. ¬ ExceptionsFit rows.exceptions)) }
+    {
+        Err(StoreFault::Database)
     }
 
     /// Makes the change in one transaction: all of it, or after a fault nothing.
@@ -215,10 +228,11 @@ impl Store<MemStore> {
     ghost use Rattle.sqlite.specs.Steps.{over_memory};
     ghost use Rattle.store.specs.StoreRows.{Holds};
 
-    /// A store in memory with this charter, where no holder is registered.
+    /// A store in memory with this charter, where no holder is registered and no exception is in
+    /// force.
     pub fn open_memory(alloc: Global, charter: &Charter) -> Result<Self, StoreFault>
         ensures charter { IfOk result (λ store. store.charter ≡ charter.now) }
-        ensures rows { IfOk result (λ store. Holds over_memory store (λ h. None)) }
+        ensures rows { IfOk result (λ store. Holds over_memory store blank_rows) }
         ensures no_schema { result ≢ Err StoreFault.Schema }
     {
         let conn = Connection::open_in_memory(alloc)?;

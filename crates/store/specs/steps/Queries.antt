@@ -19,23 +19,23 @@ use Rattle.addr.specs.declared.prefix.Prefix.{Prefix}
 use Rattle.policy.specs.CharterSets.{CharterSets}
 use Rattle.policy.specs.declared.authorization.Auth.{Auth}
 use Rattle.policy.specs.Rows.{Rows}
+use Rattle.policy.specs.RowsOfAll.{AllRows}
 use Rattle.tables.specs.Cells.{number_cell, prefix_cells}
 use Rattle.tables.specs.Decode.{first_columns}
 use Rattle.tables.specs.Tables.{desk_beside, OverDesk, contents, columns}
 use Rattle.tables.specs.TablesHold.{TablesHold, items_if_any, auth_part}
 
--- it is so of the rows of every holder, and of those of one, whatever charter and rows the tables
--- hold
-abbrev pub IsOfAll : ((List ℕ → Option Rows) → Type 0) → State → Type 0
+-- it is so of all rows, and of those of one holder, whatever charter and rows the tables hold
+abbrev pub IsOfAll : (AllRows → Type 0) → State → Type 0
 IsOfAll so s =
-    (charter : CharterSets) (rows : List ℕ → Option Rows)
+    (charter : CharterSets) (rows : AllRows)
     → TablesHold charter rows s.now.trees → so rows
 
 abbrev pub IsOf : (Option Rows → Type 0) → List ℕ → State → Type 0
-IsOf so h s = IsOfAll (λ rows. so (rows h)) s
+IsOf so h s = IsOfAll (λ rows. so (rows.of_holder h)) s
 
--- the database could be read, and it is so of the rows of every holder
-abbrev pub WasRead : ((List ℕ → Option Rows) → Type 0) → State → Type 0
+-- the database could be read, and it is so of all rows
+abbrev pub WasRead : (AllRows → Type 0) → State → Type 0
 WasRead so s = IsTrue s.is_open × IsOfAll so s
 
 abbrev pub by_column : ℕ → Row → Row → Ordering
@@ -58,8 +58,8 @@ pub record Selects
   pub unlisted : OverDesk (λ s. reads_listing s sql ≡ false)
   pub found :
       (h : List ℕ) (db : Database) (rows : List Row) → AreSelected sql h db rows
-      → (charter : CharterSets) (all : List ℕ → Option Rows) → TablesHold charter all db.trees
-      → IsPermutation (map cells (items_if_any items (all h))) rows
+      → (charter : CharterSets) (all : AllRows) → TablesHold charter all db.trees
+      → IsPermutation (map cells (items_if_any items (all.of_holder h))) rows
   pub rising :
       (h : List ℕ) (db : Database) (rows : List Row) → AreSelected sql h db rows → IsSorted cmp rows
   pub whole :
@@ -70,10 +70,10 @@ pub record Selects
 -- ---- queries of the rows of every holder
 
 -- an address of the prefix is in a run of some holder
-abbrev pub MeetsSome : (List ℕ → Option Rows) → Prefix → Type 0
+abbrev pub MeetsSome : AllRows → Prefix → Type 0
 MeetsSome rows p =
     (h : List ℕ) × (r : Rows)
-    × (rows h ≡ Some r) × (list_any (λ s. span_meets s p) r.holdings ≡ true)
+    × (rows.of_holder h ≡ Some r) × (list_any (λ s. span_meets s p) r.holdings ≡ true)
 
 -- the origin and the prefix of an authorization, with the greatest length
 abbrev pub payload_cells : Auth → Row
@@ -91,7 +91,7 @@ FindsInForce day db rows =
     (map (columns (2 ∷ 3 ∷ 4 ∷ 5 ∷ 6 ∷ [])) (filter (is_open_on day) (contents (db.trees auth_part.tree)))) rows
 
 -- an authorization of some holder is in force on the day, and this is its payload
-abbrev pub IsPayloadOn : (List ℕ → Option Rows) → ℕ → Row → Type 0
+abbrev pub IsPayloadOn : AllRows → ℕ → Row → Type 0
 IsPayloadOn rows day v =
     (h : List ℕ) × (r : Rows) × (x : Auth)
-    × (rows h ≡ Some r) × Contains r.auths x × (x.from ≤ day) × (day ≤ x.until) × (v ≡ payload_cells x)
+    × (rows.of_holder h ≡ Some r) × Contains r.auths x × (x.from ≤ day) × (day ≤ x.until) × (v ≡ payload_cells x)

@@ -1,30 +1,40 @@
--- What a statement within a transaction does to the rows of a holder.
-use Rattle.std.specs.Prelude.{◌≡◌, ℕ, Bool, List, IsTrue, Option, Some, None, option_map, is_some, IsSome, Result, if◌then◌else◌}
+-- What a statement within a transaction does to the rows of a holder, or to the exceptions.
+use Rattle.std.specs.Prelude.{◌≡◌, ℕ, suc, Bool, List, [], ◌∷◌, map, IsTrue, Option, Some, None, option_map, is_some, IsSome, Result, if◌then◌else◌}
 use Rattle.sqlite.specs.declared.transaction.Transaction.{Transaction}
 use Rattle.sqlite.specs.Effect.{Database}
 use Rattle.sqlite.specs.State.{State}
 use Rattle.sqlite.specs.Store.{Ghosts}
 use Rattle.sqlite_trees.specs.Tree.{Trees}
+use Rattle.sqlite_value.specs.Order.{Row}
 use Rattle.policy.specs.CharterSets.{CharterSets}
 use Rattle.policy.specs.History.{same_name}
 use Rattle.policy.specs.Rows.{Rows, new_rows}
+use Rattle.policy.specs.RowsOfAll.{AllRows}
 use Rattle.store.specs.StoreRows.{RowChange}
+use Rattle.tables.specs.Cells.{exception_row}
 use Rattle.tables.specs.Tables.{desk_tables}
+use Rattle.tables.specs.declared.exception.Exception.{Exception}
+use Rattle.tables.specs.declared.exception.ExceptionRow.{ExceptionRow}
+use Rattle.tables.specs.steps.Edits.{Edits}
 use Rattle.tables.specs.TablesHold.{TablesHold}
 use Rattle.database.specs.Statements.{IfDone, IsReady}
 
+-- the rows of every holder turned; the exceptions stay
+abbrev pub each_holder : (List ℕ → Option Rows → Option Rows) → RowChange
+each_holder to rows = record rows { of_holder = λ k. to k (rows.of_holder k) }
+
 -- ---- the rows of one holder
 
--- the rows with those of one holder edited
-abbrev pub at_holder : List ℕ → (Rows → Rows) → RowChange
-at_holder h edit rows k = if same_name h k then option_map edit (rows k) else rows k
+-- those of one holder turned, and those of every other as they are
+abbrev pub at_holder : List ℕ → (Option Rows → Option Rows) → RowChange
+at_holder h to = each_holder (λ k rows. if same_name h k then to rows else rows)
 
 -- Where the holder is registered, its rows are edited, and those of every other holder stay, as the charter
--- does.
+-- and the exceptions do.
 abbrev pub EditsRows : List ℕ → (Rows → Rows) → Database → Database → Type 0
 EditsRows h edit old new =
-    (charter : CharterSets) (rows : List ℕ → Option Rows) → TablesHold charter rows old.trees → IsSome (rows h)
-    → TablesHold charter (at_holder h edit rows) new.trees
+    (charter : CharterSets) (rows : AllRows) → TablesHold charter rows old.trees → IsSome (rows.of_holder h)
+    → TablesHold charter (at_holder h (option_map edit) rows) new.trees
 
 -- the transaction goes on, and the rows of the holder are edited
 pub record EditsHolder (h : List ℕ) (edit : Rows → Rows) (old new : State) : Type 0 where
@@ -41,26 +51,39 @@ pub record TellsWhetherRegistered (h : List ℕ) (told : Bool) (old new : State)
   pub ready : IsReady new
   pub same : new.now ≡ old.now
   pub answer :
-      (charter : CharterSets) (rows : List ℕ → Option Rows) → TablesHold charter rows old.now.trees
-      → told ≡ is_some (rows h)
-
--- the rows where a holder is registered
-abbrev pub registered : List ℕ → RowChange
-registered h rows k = if same_name h k then Some new_rows else rows k
+      (charter : CharterSets) (rows : AllRows) → TablesHold charter rows old.now.trees
+      → told ≡ is_some (rows.of_holder h)
 
 -- the transaction goes on, and the holder is registered, if it was not
 pub record Registers (h : List ℕ) (old new : State) : Type 0 where
   pub ready : IsReady new
   pub rows :
-      (charter : CharterSets) (rows : List ℕ → Option Rows) → TablesHold charter rows old.now.trees
-      → rows h ≡ None → TablesHold charter (registered h rows) new.now.trees
+      (charter : CharterSets) (rows : AllRows) → TablesHold charter rows old.now.trees
+      → rows.of_holder h ≡ None → TablesHold charter (at_holder h (λ _. Some new_rows) rows) new.now.trees
 
--- ---- the rows of every holder
+-- ---- the exceptions
+
+-- the transaction goes on, and the table has no row
+pub record TakesRows (tree : ℕ) (old new : State) : Type 0 where
+  pub was_open : IsTrue old.is_open
+  pub ready : IsReady new
+  pub edits : Edits tree (λ _. []) old.now new.now
+
+-- their rows, with the positions that follow this one
+abbrev pub placed_after : {X : Type 0} → ℕ → (X → Exception) → List X → List ExceptionRow
+placed_after at of_kind [] = []
+placed_after at of_kind (x ∷ xs) = record { position = suc at; exception = of_kind x } ∷ placed_after (suc at) of_kind xs
+
+-- the rows of exceptions of one kind, in their order
+abbrev pub entry_rows : {X : Type 0} → (X → Exception) → List X → List Row
+entry_rows of_kind xs = map exception_row (placed_after 0 of_kind xs)
+
+-- ---- all rows
 
 -- the tables hold the rows after the change, if they held those before it
 abbrev pub RowsBecome : RowChange → Database → Database → Type 0
 RowsBecome to old new =
-    (charter : CharterSets) (rows : List ℕ → Option Rows) → TablesHold charter rows old.trees
+    (charter : CharterSets) (rows : AllRows) → TablesHold charter rows old.trees
     → TablesHold charter (to rows) new.trees
 
 -- the transaction goes on, and the change is made

@@ -7,6 +7,6 @@ use Rattle.store.proofs.laws.auths_of_a_history_give.Goals as goal
 
 pub returns : goal.returns
 returns c charter history rows day legal fits have h r x is there from until =
-    let of = subst (RowsIfAny history h) is (have h) in
+    let of = subst (RowsIfAny history h) is (have.holders h) in
     let values = c.legal_rows_fit.ensures charter history h r legal fits of.1 in
     gives_one x (All-contains AuthFits r.auths x values.auths there)

@@ -18,7 +18,7 @@ returns-in_err-counters-clause-schema g c clean is =
 
 pub returns-in_default-clause-found : goal.returns-in_default-clause-found
 returns-in_default-clause-found g c clean charter all holds =
-    let o = all c.args.holder.now in
+    let o = all.of_holder c.args.holder.now in
     let first : c.copied.result ≡ slice_get c.in_ok-counters.counters.items 0 = rw c.deref.ensures.value at (c.copied.ensures ∙ c.first.ensures.value) in
     none_loaded o (subst (AreCounters o) (sym first ∙ c.in_default.is) (first_counters o c.in_ok-counters.counters.items (c.in_ok-counters.ensures.found clean charter all holds)))
 
@@ -51,7 +51,7 @@ returns-in_err-auths-clause-schema g c clean is =
 
 pub returns-clause-found : goal.returns-clause-found
 returns-clause-found g c clean charter all holds =
-    let o = all c.args.holder.now in
+    let o = all.of_holder c.args.holder.now in
     let old = state g.S.Store c.args.conn.now in
     let clean_3 : HasCleanDisk (state g.S.Store c.load_values-3.new.conn) = omega (arith, clean, c.load_values-4.ensures.asked.survives.clean) in
     let clean_2 : HasCleanDisk (state g.S.Store c.load_values-2.new.conn) = omega (arith, clean_3, c.load_values-3.ensures.asked.survives.clean) in

@@ -21,7 +21,7 @@ returns-clause-found g c clean =
     let asks = c.select.ensures in
     let it = selected c.select.result.now h _ old (state g.S.Store c.ask.new.conn) rows asks.plain asks.unlisted (c.requires.tables first) c.name_values.ensures (c.in_ok-rows.ensures.shown clean) in
     IfOk-weaker c.read_all.result _ _ (λ values shown charter all holds.
-    values_shown g.T.FromRow.cells asks.once (items_if_any g.T.OfHolder.items (all h)) values.items rows (asks.found h old.now rows it charter all holds) (sym (asks.whole h old.now rows it) ∙ shown))
+    values_shown g.T.FromRow.cells asks.once (items_if_any g.T.OfHolder.items (all.of_holder h)) values.items rows (asks.found h old.now rows it charter all holds) (sym (asks.whole h old.now rows it) ∙ shown))
     (rw c.deref.ensures.value at c.read_all.ensures.shown)
 
 pub returns-clause-rising : goal.returns-clause-rising
@@ -45,6 +45,6 @@ returns-clause-schema g c clean refused =
     let it = selected c.select.result.now h _ old (state g.S.Store c.ask.new.conn) rows asks.plain asks.unlisted (c.requires.tables first) c.name_values.ensures (c.in_ok-rows.ensures.shown clean) in
     let whole = asks.whole h old.now rows it in (
       (c.in_ok-rows.ensures.asked.same clean).0.was_open,
-      λ charter all holds fit. all_show g.T.FromRow.cells g.T.FromRow.fits (items_if_any g.T.OfHolder.items (all h)) rows fit (asks.found h old.now rows it charter all holds)
+      λ charter all holds fit. all_show g.T.FromRow.cells g.T.FromRow.fits (items_if_any g.T.OfHolder.items (all.of_holder h)) rows fit (asks.found h old.now rows it charter all holds)
           (rw whole at (rw c.deref.ensures.value at (c.read_all.ensures.schema refused))),
     )

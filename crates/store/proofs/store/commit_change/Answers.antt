@@ -10,7 +10,7 @@ use Rattle.store.proofs.store.commit_change.Goals as goal
 pub returns-in_err-commit-clause-crash : goal.returns-in_err-commit-clause-crash
 returns-in_err-commit-clause-crash g c =
     let first = c.args.conn.now in
-    let to : RowChange = λ rows h. changed c.args.change.now h (rows h) in
+    let to : RowChange = changed_rows c.args.change.now in
     let end = c.commit.new.self.0 in
     let same : end ≡ c.conn-2-1.given.0 = search rules in
     let whole = commit_crash g.S.Store to first c.transaction-tx.result.conn.now c.make_change.new.tx.conn.now end c.transaction-tx.ensures.begun c.make_change.ensures.inside.survives c.commit.ensures.survives c.in_ok-make_change.ensures.done in
@@ -19,7 +19,7 @@ returns-in_err-commit-clause-crash g c =
 pub returns-clause-ok : goal.returns-clause-ok
 returns-clause-ok g c clean =
     let first = c.args.conn.now in
-    let to : RowChange = λ rows h. changed c.args.change.now h (rows h) in
+    let to : RowChange = changed_rows c.args.change.now in
     let end = c.commit.new.self.0 in
     let same : end ≡ c.conn-2-1.given.0 = search rules in
     let late : HasCleanDisk (state g.S.Store end) = search rules in
@@ -30,7 +30,7 @@ returns-clause-ok g c clean =
 pub returns-clause-crash : goal.returns-clause-crash
 returns-clause-crash g c =
     let first = c.args.conn.now in
-    let to : RowChange = λ rows h. changed c.args.change.now h (rows h) in
+    let to : RowChange = changed_rows c.args.change.now in
     let end = c.commit.new.self.0 in
     let same : end ≡ c.conn-2-1.given.0 = search rules in
     let whole = commit_crash g.S.Store to first c.transaction-tx.result.conn.now c.make_change.new.tx.conn.now end c.transaction-tx.ensures.begun c.make_change.ensures.inside.survives c.commit.ensures.survives c.in_ok-make_change.ensures.done in

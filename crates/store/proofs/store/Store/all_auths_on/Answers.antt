@@ -15,7 +15,7 @@ returns-clause-found g c clean =
     let charter = c.self.inside.charter in
     let was : over charter old ≡ c.args.self.now = c.self.view_is in
     let before : HasCleanDisk (state g.S.Store old) = omega (arith, c.load_vrps.ensures.asked.survives.clean) in
-    subst (λ store. IfOk c.load_vrps.result (λ vrps. (rows : List ℕ → Option Rows) → Holds g.S.Store store rows → (v : Vrp) → Contains vrps.items v ↔ IsGivenOn rows c.args.day v)) was
+    subst (λ store. IfOk c.load_vrps.result (λ vrps. (rows : AllRows) → Holds g.S.Store store rows → (v : Vrp) → Contains vrps.items v ↔ IsGivenOn rows c.args.day v)) was
     (of_store g.S.Store charter old c.load_vrps.new.conn c.load_vrps.result (λ vrps rows. (v : Vrp) → Contains vrps.items v ↔ IsGivenOn rows c.args.day v) before (c.load_vrps.ensures.asked.same clean) (c.load_vrps.ensures.found clean))
 
 pub returns-clause-schema : goal.returns-clause-schema
@@ -25,4 +25,4 @@ returns-clause-schema g c clean refused =
     let was : over charter old ≡ c.args.self.now = c.self.view_is in
     let before : HasCleanDisk (state g.S.Store old) = omega (arith, c.load_vrps.ensures.asked.survives.clean) in
     let told = c.load_vrps.ensures.schema clean refused in
-    subst (λ store. (rows : List ℕ → Option Rows) → Holds g.S.Store store rows → ¬ AllGiveOn rows c.args.day) was (λ rows holds. told.1 charter rows (holds before told.0))
+    subst (λ store. (rows : AllRows) → Holds g.S.Store store rows → ¬ AllGiveOn rows c.args.day) was (λ rows holds. told.1 charter rows (holds before told.0))

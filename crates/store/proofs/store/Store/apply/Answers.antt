@@ -8,18 +8,18 @@ use Rattle.store.proofs.store.Store.apply.Goals as goal
 
 pub returns-clause-ok : goal.returns-clause-ok
 returns-clause-ok g c clean =
-    let to : RowChange = λ rows h. changed c.args.change.now h (rows h) in
+    let to : RowChange = changed_rows c.args.change.now in
     let old = c.self.inside.conn in
     let new = c.commit_change.new.conn in
     let charter = c.self.inside.charter in
     let was : over charter old ≡ c.args.self.now = c.self.view_is in
     let before : HasCleanDisk (state g.S.Store new) → HasCleanDisk (state g.S.Store old) = λ clean. omega (arith, c.commit_change.ensures.crash.clean) in
-    subst (λ store. OnOk c.commit_change.result ((rows : List ℕ → Option Rows) → Holds g.S.Store store rows → Holds g.S.Store (over charter new) (to rows))) was
+    subst (λ store. OnOk c.commit_change.result ((rows : AllRows) → Holds g.S.Store store rows → Holds g.S.Store (over charter new) (to rows))) was
     (holds_ok g.S.Store c.commit_change.result to charter old new clean before (c.commit_change.ensures.ok clean))
 
 pub returns-clause-crash : goal.returns-clause-crash
 returns-clause-crash g c clean =
-    let to : RowChange = λ rows h. changed c.args.change.now h (rows h) in
+    let to : RowChange = changed_rows c.args.change.now in
     let old = c.self.inside.conn in
     let new = c.commit_change.new.conn in
     let charter = c.self.inside.charter in
@@ -29,7 +29,7 @@ returns-clause-crash g c clean =
 
 pub returns-clause-left : goal.returns-clause-left
 returns-clause-left g c clean =
-    let to : RowChange = λ rows h. changed c.args.change.now h (rows h) in
+    let to : RowChange = changed_rows c.args.change.now in
     let old = c.self.inside.conn in
     let new = c.commit_change.new.conn in
     let charter = c.self.inside.charter in

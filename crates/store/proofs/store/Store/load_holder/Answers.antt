@@ -13,5 +13,5 @@ returns-clause-schema g c clean refused =
     let was : over c.self.inside.charter old ≡ c.args.self.now = c.self.view_is in
     let before : HasCleanDisk (state g.S.Store old) = omega (arith, c.load_rows.ensures.asked.survives.clean) in
     let told = c.load_rows.ensures.schema clean refused in
-    subst (λ store. (rows : List ℕ → Option Rows) → Holds g.S.Store store rows → ¬ FitIfAny (rows c.args.holder.now)) was
+    subst (λ store. (rows : AllRows) → Holds g.S.Store store rows → ¬ FitIfAny (rows.of_holder c.args.holder.now)) was
     (λ rows holds. told.1 c.self.inside.charter rows (holds before told.0))
