@@ -1,5 +1,5 @@
 -- What putting the charter does to tables that were just made.
-use Rattle.std.proofs.Common.{◌≡◌, ◌≢◌, ℕ, pos, ◌+◌, ◌<◌, List, [], ◌∷◌, ◌++◌, map, take, get_or, length, codes, true, false, None, refl, sym, ap, subst, ◌∙◌, append-nil, append_assoc, IsPermutation}
+use Rattle.std.proofs.Common.{◌≡◌, ◌≢◌, ℕ, pos, ◌+◌, ◌<◌, List, [], ◌∷◌, ◌++◌, map, take, get_or, length, codes, true, false, refl, sym, ap, subst, ◌∙◌, append-nil, append_assoc, IsPermutation}
 use Rattle.std.proofs.lemmas.List.{map-append}
 use Rattle.std.proofs.lemmas.List.Sorted.{IsPermutation-refl, IsPermutation-trans, IsPermutation-cons, IsPermutation-middle}
 use Rattle.sqlite.specs.Effect.{Database}
@@ -9,6 +9,7 @@ use Rattle.sqlite_value.specs.Order.{Row}
 use Rattle.sqlite_sql.specs.Term.{lit}
 use Rattle.addr.specs.declared.prefix.Prefix.{Prefix}
 use Rattle.policy.specs.CharterSets.{CharterSets}
+use Rattle.policy.specs.RowsOfAll.{blank_rows}
 use Rattle.database.specs.Databases.{IsNew}
 use Rattle.tables.specs.Tables.{meta, operator, pool, desk_tables, contents, is_table, IsTree, AreTrees}
 use Rattle.tables.specs.Cells.{schema_row, operator_row, prefix_cells}
@@ -19,7 +20,7 @@ use Rattle.database.specs.steps.Making.{IsMadeTo, PutsRows, HasCharter}
 use Rattle.tables.proofs.CellLemmas.{cast_schema, cast_prefix}
 use Rattle.database.proofs.StatementLemmas.{sound_still, puts_row, taken_more}
 use Rattle.tables.proofs.Inserting.{each_table}
-use Rattle.database.proofs.MakingSteps.{none_held}
+use Rattle.database.proofs.MakingSteps.{none_held, no_exceptions_held}
 use Rattle.tables.proofs.Texts.{put_terms, put_schema_text, put_schema_is, put_operator_text, put_operator_is, put_prefix_text, put_prefix_is}
 
 module _ (old new : State) where
@@ -86,7 +87,7 @@ has_charter charter a b c d made schema operators prefixes =
         holdings = none_held holding_part (d.now.trees 8) (still 8 refl (λ same. cc) (λ same. cc) (λ same. cc));
         grants = none_held granted_part (d.now.trees 10) (still 10 refl (λ same. cc) (λ same. cc) (λ same. cc));
         auths = none_held auth_part (d.now.trees 12) (still 12 refl (λ same. cc) (λ same. cc) (λ same. cc));
-        exceptions = ap contents (still 15 refl (λ same. cc) (λ same. cc) (λ same. cc));
+        exceptions = no_exceptions_held (d.now.trees 15) (still 15 refl (λ same. cc) (λ same. cc) (λ same. cc));
         whole = sound_still 4 _ c.now d.now third (sound_still 2 _ b.now c.now second (sound_still 0 _ a.now b.now first sound));
       };
     }
@@ -97,5 +98,5 @@ new_after charter mid last has shown = record {
   is_open = shown.is_open;
   schema = ap (λ (d : Database). d.schema) shown.now_is ∙ has.schema;
   settled = shown.committed_is ∙ sym shown.now_is;
-  rows = subst (λ (d : Database). TablesHold charter (λ h. None) d.trees) (sym shown.now_is) has.rows;
+  rows = subst (λ (d : Database). TablesHold charter blank_rows d.trees) (sym shown.now_is) has.rows;
 }

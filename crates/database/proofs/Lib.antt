@@ -9,5 +9,6 @@ mod Rowids
 mod AllTexts
 mod Obeyed
 mod SomeRows
+mod SomeExceptions
 mod Unread
 mod Opened

@@ -13,7 +13,8 @@ use Rattle.sqlite_schema.specs.declared.command.Command.TheVariants.{CreateTable
 use Rattle.sqlite_schema.specs.declared.schema.Schema.{Schema}
 use Rattle.sqlite_schema.specs.declared.schema.Table.{Table}
 use Rattle.tables.specs.Tables.{holding, holding_of, desk_tables, unindexed_schema, contents}
-use Rattle.tables.specs.TablesHold.{Part, HoldsPart}
+use Rattle.policy.specs.ExceptionsInForce.{no_exceptions}
+use Rattle.tables.specs.TablesHold.{Part, HoldsPart, ArePlaced, HoldsExceptions}
 use Rattle.database.specs.steps.Making.{so_far, IsMadeTo, IsUnindexed, MakesIndex}
 use Rattle.database.specs.Statements.{IsExecuted}
 use Rattle.tables.proofs.Inserting.{went, same_value, each_table}
@@ -51,6 +52,12 @@ makes n sql table d next old new before ran =
 -- an empty table has the rows of no holder
 pub none_held : (part : Part) (table : List Row) → table ≡ [] → HoldsPart part (λ h. None) (contents table)
 none_held part table none = rw none (record { each = λ h. IsPermutation-refl []; named = tt })
+
+-- and no exceptions
+pub no_exceptions_held : (table : List Row) → table ≡ [] → HoldsExceptions no_exceptions (contents table)
+no_exceptions_held table none =
+    let placed : ArePlaced [] [] = record { brought = refl; positions = tt; rise = tt } in
+    rw none (record { filters = []; assertions = []; filters_placed = placed; assertions_placed = placed; rows = IsPermutation-refl [] })
 
 -- the index changes no row
 pub adds : (old new : State) → IsUnindexed old → IsExecuted index_text [] old new → MakesIndex old new

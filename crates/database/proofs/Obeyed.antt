@@ -1,17 +1,18 @@
 -- What the rules of SQLite say of the rows of a desk's tables: how many columns they have, that a holder is
--- registered, and that no holder is registered twice.
-use Rattle.std.proofs.Common.{◌≡◌, ℕ, zero, suc, ◌+◌, ◌<◌, ◌≤◌, Bool, true, false, not, ◌&&◌, ◌||◌, List, [], ◌∷◌, drop, length, slice_get, Some, None, Ordering, Less, Equal, Greater, refl, inl, inr, sym, ap, subst, ◌∙◌, is_eq, arith}
+-- registered, that no holder is registered twice, and that no two exceptions of one kind have one position.
+use Rattle.std.proofs.Common.{◌≡◌, ℕ, zero, suc, ◌+◌, ◌<◌, ◌≤◌, Bool, true, false, not, ◌&&◌, ◌||◌, List, [], ◌∷◌, drop, length, slice_get, slice_index_or, ◌==◌, Some, None, Ordering, Less, Equal, Greater, refl, inl, inr, sym, ap, subst, ◌∙◌, is_eq, arith}
 use Rattle.std.specs.List.{AllByRecursion, list_all}
 use Rattle.std.specs.Ordering.{is_ne}
-use Rattle.std.proofs.lemmas.Bool.{and_parts, and_from, both_ways, not-true}
+use Rattle.std.proofs.lemmas.Bool.{and_parts, and_from, both_ways, not-true, eq-eqb}
+use Rattle.std.proofs.lemmas.Cmp.{tied_itself}
 use Rattle.std.proofs.Math.Bool.{and-true}
 use Rattle.std.proofs.lemmas.List.{length-drop}
 use Rattle.sqlite_value.specs.declared.value.Value.{Value}
 use Rattle.sqlite_value.specs.declared.value.Value.TheVariants.{Null, Int, Real, Text, Blob}
 use Rattle.sqlite_value.specs.declared.keys.Collation.TheVariants.{Binary}
 use Rattle.sqlite_value.specs.Order.{Row, column, value_cmp}
-use Rattle.sqlite_value.specs.Keys.{first_key, joined}
-use Rattle.sqlite_value.proofs.OrderLemmas.{value_cmp-apart}
+use Rattle.sqlite_value.specs.Keys.{first_key, joined, plain}
+use Rattle.sqlite_value.proofs.OrderLemmas.{value_cmp-apart, value_cmp_total}
 use Rattle.sqlite_trees.specs.Tree.{Trees, rowid}
 use Rattle.sqlite_trees.specs.View.{is_int}
 use Rattle.sqlite_trees.proofs.ListLemmas.{all_weaker, all_both}
@@ -88,7 +89,16 @@ equal_texts h (Real x) = true_back _ ∙ alike_flip (Text h) (Real x)
 equal_texts h (Text t) = true_back _ ∙ alike_flip (Text h) (Text t)
 equal_texts h (Blob b) = true_back _ ∙ alike_flip (Text h) (Blob b)
 
--- ---- the key of a holder
+-- a value equals itself, unless it is NULL
+equal_itself : (v : Value) → is_null v ≡ false → equal Binary v v ≡ true
+unfolding binary
+equal_itself Null some = absurd cc
+equal_itself (Int n) some = true_back _ ∙ ap is_eq (tied_itself value_cmp_total (Int n))
+equal_itself (Real x) some = true_back _ ∙ ap is_eq (tied_itself value_cmp_total (Real x))
+equal_itself (Text t) some = true_back _ ∙ ap is_eq (tied_itself value_cmp_total (Text t))
+equal_itself (Blob b) some = true_back _ ∙ ap is_eq (tied_itself value_cmp_total (Blob b))
+
+-- ---- keys
 
 parent_is : (place : ℕ) → parent_key desk_tables (names_holder place) ≡ Some (holder.tree, 1 ∷ [], rising)
 unfolding same_name joined
@@ -97,6 +107,27 @@ parent_is place = refl
 agree_is : (at other : ℕ) (a b : Row) → agree rising (at ∷ []) a (other ∷ []) b ≡ equal Binary (column a at) (column b other)
 unfolding first_key
 agree_is at other a b = and-true _
+
+abbrev pub slurm_key : List ℕ
+slurm_key = 1 ∷ 2 ∷ 3 ∷ []
+
+abbrev same_at : ℕ → Row → Row → Bool
+same_at at a b = equal Binary (column a at) (column b at)
+
+slurm_key_is : (a b : Row) → agree rising slurm_key a slurm_key b ≡ (same_at 1 a b && (same_at 2 a b && (same_at 3 a b && true)))
+unfolding first_key
+slurm_key_is a b = refl
+
+-- the row has this value, which is not NULL, in the column
+abbrev pub HasAt : ℕ → Value → Row → Type 0
+HasAt at v c = (column c at ≡ v) × (is_null v ≡ false)
+
+have_same : (at : ℕ) (v : Value) (a b : Row) → HasAt at v a → HasAt at v b → same_at at a b ≡ true
+have_same at v a b one other = (λ i. equal Binary (one.0 i) (other.0 i)) ∙ equal_itself v one.1
+
+pub agree_in_key : (u v w : Value) (a b : Row) → HasAt 1 u a → HasAt 1 u b → HasAt 2 v a → HasAt 2 v b → HasAt 3 w a → HasAt 3 w b → agree rising slurm_key a slurm_key b ≡ true
+agree_in_key u v w a b u_a u_b v_a v_b w_a w_b =
+    slurm_key_is a b ∙ and_from _ _ (have_same 1 u a b u_a u_b) (and_from _ _ (have_same 2 v a b v_a v_b) (and_from _ _ (have_same 3 w a b w_a w_b) refl))
 
 module _ (schema : Schema) (db : Trees) (tables : schema.tables ≡ desk_tables) (sound : IsSound schema db) where
   passed : (rule : Constraint) (t : Table) → Has desk_tables t → AllByRecursion (λ r. passes rule schema db t r ≡ true) (db t.tree)
@@ -131,19 +162,28 @@ module _ (schema : Schema) (db : Trees) (tables : schema.tables ≡ desk_tables)
         (found.0, found.1, sym (agree_is 1 (k + 1) found.0 r) ∙ found.2))
         (db t.tree) (passed ForeignKey t has) filled
 
+  -- rows of a table that agree in its key have one rowid
+  module _ (t : Table) (has : Has desk_tables t) (key : List ℕ) (is_key : slice_get t.uniques 0 ≡ Some key) (upwards : slice_index_or t.orders 0 plain ≡ rising) where
+    unclashed : (b : Row) → Has (db t.tree) b → clashes rising key (db t.tree) b ≡ false
+    unclashed b has_b =
+        let rows = db t.tree in
+        let guarded = all_has (IsGuarded schema.indexes) desk_tables t (subst (AllByRecursion (IsGuarded schema.indexes)) tables sound.lists.guarded) has 0 key is_key in
+        let unique = all_has (λ r. passes Unique schema db t r ≡ true) rows b (passed Unique t has) has_b in
+        let free : not ((t.tree == t.tree) && clashes (slice_index_or t.orders 0 plain) key rows b) ≡ true =
+        test_has (λ i. not (guards i t && clashes i.order i.columns rows b)) schema.indexes (automatic t 0 key guarded.0) unique guarded.1 in
+        not-true _ (rw (eq-eqb t.tree t.tree refl, upwards) at free)
+
+    pub once_by_key : (a b : Row) → Has (db t.tree) a → Has (db t.tree) b → is_int (rowid a) ≡ true → is_int (rowid b) ≡ true → is_eq (value_cmp (rowid a) (rowid b)) ≡ false
+        → agree rising key a key b ≡ false
+    once_by_key a b has_a has_b one other apart = go (agree rising key a key b) refl
+      where
+        go : (same : Bool) → agree rising key a key b ≡ same → same ≡ false
+        go false is = refl
+        go true is =
+            absurd (both_ways _ (unclashed b has_b) (some_from (λ other. agree rising key other key b && differ (rowid other) (rowid b)) (db t.tree) a has_a
+            (and_from _ _ is (rowids_differ (rowid a) (rowid b) one other apart))))
+
   -- rows of one name have one rowid
   pub once : (a b : Row) → Has (db holder.tree) a → Has (db holder.tree) b → is_int (rowid a) ≡ true → is_int (rowid b) ≡ true → is_eq (value_cmp (rowid a) (rowid b)) ≡ false
       → equal Binary (column a 1) (column b 1) ≡ false
-  once a b has_a has_b one other apart =
-      let rows = db holder.tree in
-      let guarded = all_has (IsGuarded schema.indexes) desk_tables holder (subst (AllByRecursion (IsGuarded schema.indexes)) tables sound.lists.guarded) (inr (inr (inr (inl refl)))) 0 (1 ∷ []) refl in
-      let index = automatic holder 0 (1 ∷ []) guarded.0 in
-      let unique = all_has (λ r. passes Unique schema db holder r ≡ true) rows b (passed Unique holder (inr (inr (inr (inl refl))))) has_b in
-      let free : not (clashes rising (1 ∷ []) rows b) ≡ true = test_has (λ i. not (guards i holder && clashes i.order i.columns rows b)) schema.indexes index unique guarded.1 in
-      go (equal Binary (column a 1) (column b 1)) refl (not-true _ free)
-    where
-      go : (same : Bool) → equal Binary (column a 1) (column b 1) ≡ same → clashes rising (1 ∷ []) (db holder.tree) b ≡ false → same ≡ false
-      go false is free = refl
-      go true is free =
-          absurd (both_ways _ free (some_from (λ other. agree rising (1 ∷ []) other (1 ∷ []) b && differ (rowid other) (rowid b)) (db holder.tree) a has_a
-          (and_from _ _ (agree_is 1 1 a b ∙ is) (rowids_differ (rowid a) (rowid b) one other apart))))
+  once a b has_a has_b one other apart = sym (agree_is 1 1 a b) ∙ once_by_key holder (inr (inr (inr (inl refl)))) (1 ∷ []) refl refl a b has_a has_b one other apart

@@ -1,5 +1,5 @@
 -- From what the queries of all rows show to what the tables hold.
-use Rattle.std.proofs.Common.{◌≡◌, ℕ, ◌+◌, ◌<◌, true, false, List, [], ◌∷◌, ◌++◌, map, filter, drop, length, codes, slice_get, Option, Some, None, refl, inl, inr, sym, ap, subst, ◌∙◌, is_eq, arith, IsPermutation}
+use Rattle.std.proofs.Common.{◌≡◌, ℕ, ◌+◌, ◌<◌, true, false, List, [], ◌∷◌, ◌++◌, map, filter, drop, length, codes, slice_get, Some, None, refl, inl, inr, sym, ap, subst, ◌∙◌, is_eq, arith, IsPermutation}
 use Rattle.std.specs.Prelude.{⊤}
 use Rattle.std.specs.List.{AllByRecursion}
 use Rattle.std.proofs.lemmas.Bool.{both_ways}
@@ -10,33 +10,35 @@ use Rattle.sqlite_value.specs.declared.value.Value.TheVariants.{Text}
 use Rattle.sqlite_value.specs.Order.{Row, column, value_cmp}
 use Rattle.sqlite_trees.specs.Tree.{rowid, IsAscending}
 use Rattle.sqlite_trees.specs.View.{is_int}
-use Rattle.sqlite_trees.proofs.ListLemmas.{all_weaker, all_both, all-map, all_from_map, ascending-filter, filter-map}
+use Rattle.sqlite_trees.proofs.ListLemmas.{all_weaker, all_both, all-map, all_from_map, ascending-filter, ascending-map, ascending_from_map, ascending_weaker, filter-map}
 use Rattle.sqlite_schema.specs.declared.schema.Column.{Column}
 use Rattle.sqlite_schema.specs.declared.schema.Kind.TheVariants.{Integer, Text as OfText}
 use Rattle.sqlite_schema.specs.declared.schema.Table.{Table}
 use Rattle.sqlite_schema.specs.Rules.{equal}
 use Rattle.sqlite_rules.specs.Lists.{Has}
-use Rattle.sqlite_rules.proofs.ListLemmas.{all_has, has_filtered}
+use Rattle.sqlite_rules.proofs.ListLemmas.{all_has, all_from, has_filtered}
 use Rattle.sqlite_rules.proofs.ProbeLemmas.{mapped_has}
 use Rattle.sqlite_catalog.specs.Listing.{IsSound}
 use Rattle.addr.specs.declared.span.Span.{Span}
 use Rattle.policy.specs.CharterSets.{CharterSets}
 use Rattle.policy.specs.declared.authorization.Auth.{Auth}
 use Rattle.policy.specs.declared.grant.Granted.{Granted}
-use Rattle.policy.specs.Rows.{Rows}
-use Rattle.policy.specs.Values.{AuthFits, GrantFits}
-use Rattle.tables.specs.Cells.{span_cells, grant_cells, auth_cells, holder_row, holding_row, granted_row, auth_row}
-use Rattle.tables.specs.Decode.{first_columns}
+use Rattle.policy.specs.Values.{AuthFits, GrantFits, ExceptionsFit}
+use Rattle.slurm.specs.Exceptions.{Exceptions}
+use Rattle.tables.specs.declared.exception.ExceptionRow.{ExceptionRow}
+use Rattle.tables.specs.Cells.{number_cell, kind_number, exception_row, span_cells, grant_cells, auth_cells, holder_row, holding_row, granted_row, auth_row}
+use Rattle.tables.specs.Decode.{first_columns, exception_columns}
 use Rattle.tables.specs.Tables.{desk_tables, names_holder, required, meta, operator, pool, holder, holding, granted, auth, slurm, contents, columns, IsTree, AreTrees}
-use Rattle.tables.specs.TablesHold.{TablesHold}
+use Rattle.tables.specs.TablesHold.{HoldsExceptions}
 use Rattle.tables.proofs.Inserting.{each_table}
 use Rattle.tables.proofs.PartLemmas.{names, name_of-true, name_of_itself}
 use Rattle.tables.proofs.ReadLemmas.{all_columns, first_of_all}
-use Rattle.database.specs.TablesRead.{ShowsSome, ShowsHolder}
+use Rattle.database.specs.TablesRead.{ShowsSome, ShowsHolder, HoldSome}
 use Rattle.database.specs.steps.Numbered.{shown_in}
-use Rattle.database.specs.steps.Opened.{TellsSchema, ShowsCharter, ShowHolders}
-use Rattle.database.proofs.Obeyed.{all_whole, all_referred, once, equal_texts}
+use Rattle.database.specs.steps.Opened.{TellsSchema, ShowsCharter, ShowExceptions, ShowHolders}
+use Rattle.database.proofs.Obeyed.{slurm_key, agree_in_key, all_whole, all_referred, once_by_key, once, equal_texts}
 use Rattle.database.proofs.SomeRows.{IsPartRow, rows_in, holds_parts}
+use Rattle.database.proofs.SomeExceptions.{AreElsewhere, ascending_where, some_exceptions}
 use Rattle.database.proofs.Columns.{column_after}
 
 module _ (db : Database) (tables : db.schema.tables ≡ desk_tables) (sound : IsSound db.schema db.trees) where
@@ -55,6 +57,45 @@ module _ (db : Database) (tables : db.schema.tables ≡ desk_tables) (sound : Is
 
   abbrev Makes : Row → Type 0
   Makes c = (h : List ℕ) × (n : ℕ × ℕ) × (c ≡ holder_row h n.0 n.1)
+
+  -- ---- exceptions
+
+  module _ (shown : ShowExceptions db) where
+    abbrev tree : List Row
+    tree = db.trees slurm.tree
+
+    abbrev Shows : Row → ExceptionRow → Type 0
+    Shows c r = exception_columns (drop 1 c) ≡ exception_row r
+
+    at_slurm : Has desk_tables slurm
+    at_slurm = inr (inr (inr (inr (inr (inr (inr (inl refl)))))))
+
+    -- rows of two rowids show exceptions at different places
+    elsewhere : (a b : Row) → Has tree a → Has tree b → is_eq (value_cmp (rowid a) (rowid b)) ≡ false → (r s : ExceptionRow) → Shows a r → Shows b s → AreElsewhere r s
+    elsewhere a b has_a has_b apart r s one other kind position =
+        let int = λ (c : Row) (has : Has tree c). all_has (λ c. is_int (rowid c) ≡ true) tree c shown.rows.whole.1 has in
+        let cell = λ (c : Row) (x : ExceptionRow) (is : Shows c x) (at : ℕ) (same : column (exception_columns (drop 1 c)) at ≡ column (drop 1 c) at).
+        column_after c at ∙ sym same ∙ ap (λ l. column l at) is in
+        let differ = once_by_key db.schema db.trees tables sound slurm at_slurm slurm_key refl refl a b has_a has_b (int a has_a) (int b has_b) apart in
+        both_ways _ differ
+        (agree_in_key (Text (codes "main")) (number_cell (kind_number s.exception)) (number_cell s.position) a b
+        (cell a r one 0 refl, refl) (cell b s other 0 refl, refl)
+        (cell a r one 1 refl ∙ ap number_cell kind, refl) (cell b s other 1 refl, refl)
+        (cell a r one 2 refl ∙ ap number_cell position, refl) (cell b s other 2 refl, refl))
+
+    abbrev AreOf : Row → Row → Type 0
+    AreOf c d = (r s : ExceptionRow) → c ≡ exception_row r → d ≡ exception_row s → AreElsewhere r s
+
+    all_elsewhere : (rows : List ExceptionRow) → map exception_row rows ≡ map exception_columns (contents tree) → IsAscending AreElsewhere rows
+    all_elsewhere rows is =
+        let apart = ascending_where (Has tree) _ (λ a b. AreOf (exception_columns (drop 1 a)) (exception_columns (drop 1 b))) (λ a b has_a has_b. elsewhere a b has_a has_b) tree (all_from (Has tree) tree (λ r has. has)) shown.rows.whole.0 in
+        let in_columns = ascending-map AreOf exception_columns (contents tree) (ascending-map (λ c d. AreOf (exception_columns c) (exception_columns d)) (drop 1) tree apart) in
+        ascending_weaker _ AreElsewhere (λ r s of. of r s refl refl) rows (ascending_from_map AreOf exception_row rows (subst (IsAscending AreOf) (sym is) in_columns))
+
+    exceptions_held : (exceptions : Exceptions) × HoldsExceptions exceptions (contents tree) × ExceptionsFit exceptions
+    exceptions_held = some_exceptions (contents tree) shown.rows.each shown.number all_elsewhere
+
+  -- ---- holders
 
   module _ (shown : ShowHolders db) where
     made : AllByRecursion Makes holders
@@ -141,16 +182,20 @@ module _ (db : Database) (tables : db.schema.tables ≡ desk_tables) (sound : Is
 
     -- ---- all of them
 
-    module _ (charter : CharterSets) (schema : TellsSchema db) (chartered : ShowsCharter charter db) (empty : contents (db.trees slurm.tree) ≡ []) (whole : IsTree (db.trees slurm.tree)) where
+    module _ (charter : CharterSets) (schema : TellsSchema db) (chartered : ShowsCharter charter db) (excepted : ShowExceptions db) where
       trees_whole : AreTrees db.trees
       trees_whole =
           each_table (λ t. IsTree (db.trees t)) desk_tables
-          (schema.whole, (chartered.operators.whole, (chartered.pool.whole, (shown.holders.whole, (shown.holdings.whole, (shown.grants.whole, (shown.auths.whole, (whole, tt))))))))
+          (schema.whole, (chartered.operators.whole, (chartered.pool.whole, (shown.holders.whole, (shown.holdings.whole, (shown.grants.whole, (shown.auths.whole, (excepted.rows.whole, tt))))))))
 
-      pub some_rows : (rows : List ℕ → Option Rows) × TablesHold charter rows db.trees
+      pub some_rows : HoldSome charter db.trees
       some_rows =
-          let parts = holds_parts holders made one_counter (contents (db.trees holding.tree)) (contents (db.trees granted.tree)) (contents (db.trees auth.tree)) held given active in (
-            rows_in holders made one_counter (contents (db.trees holding.tree)) (contents (db.trees granted.tree)) (contents (db.trees auth.tree)) held given active,
+          let parts = holds_parts holders made one_counter (contents (db.trees holding.tree)) (contents (db.trees granted.tree)) (contents (db.trees auth.tree)) held given active in
+          let exceptions = exceptions_held excepted in (
+            record {
+              of_holder = rows_in holders made one_counter (contents (db.trees holding.tree)) (contents (db.trees granted.tree)) (contents (db.trees auth.tree)) held given active;
+              exceptions = exceptions.0;
+            },
             record {
               charter_kept = record {
                 schema = subst (IsPermutation _) (all_shown meta 1 (required (codes "value") Integer) (inl refl) refl refl refl refl) schema.shown;
@@ -161,7 +206,8 @@ module _ (db : Database) (tables : db.schema.tables ≡ desk_tables) (sound : Is
               holdings = parts.holdings_held;
               grants = parts.grants_held;
               auths = parts.auths_held;
-              exceptions = empty;
+              exceptions = exceptions.1;
               whole = trees_whole;
             },
+            exceptions.2,
           )

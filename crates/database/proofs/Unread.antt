@@ -1,5 +1,5 @@
 -- Tables that read show values of the types that each query asks for.
-use Rattle.std.proofs.Common.{◌≡◌, inl, inr, ℕ, true, ◌||◌, List, [], ◌∷◌, map, length, Result, Ok, Err, IfOk, OnOk, IsOk, OnErr, nat_eq, refl, sym, ap, subst, ◌∙◌, arith, rules, IsPermutation, IsTrue}
+use Rattle.std.proofs.Common.{◌≡◌, inl, inr, ℕ, true, ◌||◌, List, [], ◌∷◌, map, length, Result, Ok, Err, IfOk, OnErr, nat_eq, refl, sym, ap, subst, ◌∙◌, arith, IsPermutation, IsTrue}
 use Rattle.std.specs.Prelude.{⊤, Any}
 use Rattle.std.specs.Cmp.Lexicographic.{pointwise}
 use Rattle.std.specs.List.{AllByRecursion}
@@ -29,10 +29,10 @@ use Rattle.tables.specs.Tables.{meta, operator, pool, holder, holding, granted, 
 use Rattle.tables.proofs.CellsOnce.{one_prefix, values_shown}
 use Rattle.database.specs.declared.fault.StoreFault.{StoreFault}
 use Rattle.database.specs.declared.fault.StoreFault.TheVariants.{Schema}
-use Rattle.database.specs.TablesRead.{ShowsSome, ShowsHolder, ShowsOfHolder, ShowsException, TablesRead}
+use Rattle.database.specs.TablesRead.{ShowsSome, ShowsHolder, ShowsOfHolder, TablesRead}
 use Rattle.database.specs.steps.Numbered.{shown_in, AreRead}
 use Rattle.database.specs.steps.Opened.{ShowsRows, ShowsCharter}
-use Rattle.database.proofs.Columns.{grant_shown, exception_places, exception_shown}
+use Rattle.database.proofs.Columns.{grant_shown, exception_places}
 
 -- ---- what was read
 
@@ -65,10 +65,6 @@ pub as_many : {X : Type 0} (cells : X → Row) (fits : X → Type 0) (tree : ℕ
 as_many cells fits tree places db values read =
     let rows = contents (db.trees tree) in
     omega (arith, length_permutation _ _ read.same, length-map rows (columns places), length-map values cells)
-
-pub no_rows : (rows : List Row) → length (contents rows) ≡ 0 → rows ≡ []
-no_rows [] none = refl
-no_rows (r ∷ rows) none = absurd (omega (arith, none))
 
 -- ---- tables that read
 
@@ -132,7 +128,7 @@ module _ (db : Database) (read : TablesRead db.trees) where
   auths_in = shows_in auth.tree auth_places (ShowsOfHolder auth_row AuthFits) _ (λ c it. (it.1, it.2, ap (columns auth_places) it.3)) db read.auths
 
   pub exceptions_in : AllByRecursion (ShowsSome exception_row ExceptionRowFits) (shown_in slurm.tree exception_places db)
-  exceptions_in = shows_in slurm.tree exception_places ShowsException _ (λ c it. (it.0, it.1, ap (columns exception_places) it.2 ∙ exception_shown it.0)) db read.exceptions
+  exceptions_in = read.exceptions
 
 -- ---- charters
 
@@ -165,10 +161,6 @@ some_charter db read names prefixes named pooled refused =
     let once = has_repeat-moved (pointwise nat_eq) nat_list_eq_equiv.symm kept.operators names operators kept.operators_once in
     let apart = has_repeat-moved prefix_eq prefix_eq-flips kept.prefixes prefixes pool kept.prefixes_once in
     both_ways _ (λ i. once i || apart i) (refused number)
-
-pub on_ok : {Y F : Type 0} (P : Type 0) (r : Result Y F) → (IsOk r → P) → OnOk r P
-on_ok P (Ok y) holds = holds (search rules)
-on_ok P (Err f) holds = tt
 
 pub err_fact : {Y : Type 0} (P : Type 0) (r : Result Y StoreFault) → r ≡ Err Schema → OnErr r P → P
 err_fact P r is holds = subst (λ s. OnErr s P) is holds

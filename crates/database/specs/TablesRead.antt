@@ -10,7 +10,7 @@ use Rattle.addr.specs.declared.prefix.Prefix.{Prefix}
 use Rattle.policy.specs.CharterSets.{AreInNumber, CharterSets}
 use Rattle.policy.specs.Repeats.{has_repeat}
 use Rattle.policy.specs.RowsOfAll.{AllRows}
-use Rattle.policy.specs.Values.{IsCount, AuthFits, GrantFits}
+use Rattle.policy.specs.Values.{IsCount, AuthFits, GrantFits, ExceptionsFit}
 use Rattle.slurm.specs.declared.exceptions.TheConstants.{MOST_ENTRIES}
 use Rattle.tables.specs.Cells.{schema_row, operator_row, prefix_cells, holder_row, holding_row, granted_row, auth_row, exception_row}
 use Rattle.tables.specs.Decode.{ExceptionRowFits, exception_columns}
@@ -58,6 +58,7 @@ pub record TablesRead (trees : Trees) : Type 0 where
   pub exceptions : AllByRecursion ShowsException (map exception_columns (contents (trees slurm.tree)))
   pub exceptions_number : length (contents (trees slurm.tree)) ≤ MOST_ENTRIES
 
--- the tables hold this charter and some rows
+-- the tables hold this charter and some rows, with the exceptions of one SLURM file
 abbrev pub HoldSome : CharterSets → Trees → Type 0
-HoldSome charter trees = (rows : AllRows) × TablesHold charter rows trees
+HoldSome charter trees =
+    (rows : AllRows) × TablesHold charter rows trees × ExceptionsFit rows.exceptions

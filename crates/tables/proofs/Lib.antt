@@ -13,3 +13,4 @@ pub mod Addresses
 pub mod SomeRow
 pub mod DeskTables
 pub mod RowsStay
+pub mod HeldExceptions

@@ -1,12 +1,13 @@
 -- What the queries of all rows of the tables show.
-use Rattle.std.specs.Prelude.{ℕ, List, [], ◌∷◌, map, IsPermutation, ⊤}
+use Rattle.std.specs.Prelude.{ℕ, ◌≤◌, List, [], ◌∷◌, length, map, IsPermutation, ⊤}
 use Rattle.std.specs.List.{AllByRecursion}
 use Rattle.sqlite.specs.Effect.{Database}
 use Rattle.sqlite_value.specs.Order.{Row}
 use Rattle.policy.specs.CharterSets.{CharterSets}
 use Rattle.policy.specs.Values.{AuthFits, GrantFits}
+use Rattle.slurm.specs.declared.exceptions.TheConstants.{MOST_ENTRIES}
 use Rattle.tables.specs.Cells.{schema_row, operator_row, prefix_cells, span_cells, grant_cells, auth_cells}
-use Rattle.tables.specs.Tables.{meta, operator, pool, holder, holding, granted, auth, slurm, IsTree}
+use Rattle.tables.specs.Tables.{meta, operator, pool, holder, holding, granted, auth, slurm, contents, IsTree}
 use Rattle.database.specs.TablesRead.{ShowsSome, ShowsHolder, ShowsException}
 use Rattle.database.specs.steps.Numbered.{shown_in}
 
@@ -35,6 +36,7 @@ pub record ShowHolders (db : Database) : Type 0 where
   pub grants : ShowsEach granted.tree (1 ∷ 2 ∷ 3 ∷ 4 ∷ 5 ∷ 6 ∷ 7 ∷ []) (ShowsSome grant_cells GrantFits) db
   pub auths : ShowsEach auth.tree (1 ∷ 2 ∷ 3 ∷ 4 ∷ 5 ∷ 6 ∷ 7 ∷ 8 ∷ []) (ShowsSome auth_cells AuthFits) db
 
--- each row of the table of exceptions shows one
-abbrev pub ShowExceptions : Database → Type 0
-ShowExceptions = ShowsEach slurm.tree (0 ∷ 1 ∷ 2 ∷ 3 ∷ 4 ∷ 5 ∷ 6 ∷ 7 ∷ []) ShowsException
+-- each row of the table of exceptions shows one, and they are no more than those of one SLURM file
+pub record ShowExceptions (db : Database) : Type 0 where
+  pub rows : ShowsEach slurm.tree (0 ∷ 1 ∷ 2 ∷ 3 ∷ 4 ∷ 5 ∷ 6 ∷ 7 ∷ []) ShowsException db
+  pub number : length (contents (db.trees slurm.tree)) ≤ MOST_ENTRIES

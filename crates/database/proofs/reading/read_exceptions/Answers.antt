@@ -1,11 +1,11 @@
-use Rattle.std.proofs.Common.{length, sym, ap, ◌∙◌, arith}
+use Rattle.std.proofs.Common.{arith}
 use Rattle.sqlite.specs.Held.{state}
 use Rattle.tables.specs.Cells.{exception_row}
 use Rattle.tables.specs.Decode.{ExceptionRowFits}
 use Rattle.tables.specs.Tables.{slurm}
 use Rattle.database.proofs.Columns.{exception_places}
 use Rattle.database.proofs.QueryLemmas.{refused_by}
-use Rattle.database.proofs.Unread.{as_many, no_rows, on_ok, exceptions_in}
+use Rattle.database.proofs.Unread.{as_many, each_read, exceptions_in}
 use Rattle.database.proofs.reading.read_exceptions.Goals as goal
 
 pub returns-in_err-exceptions-clause-schema : goal.returns-in_err-exceptions-clause-schema
@@ -13,15 +13,17 @@ returns-in_err-exceptions-clause-schema g c clean is read =
     c.read_table.ensures.schema clean (refused_by c.read_table.result c.from_residual.result c.in_err-exceptions.field-0.0 c.in_err-exceptions.was c.from_residual.ensures.1 is)
     (exceptions_in (state g.S.Store c.args.conn.now).now read)
 
+pub returns-then-len-gt-MOST_ENTRIES-clause-schema : goal.returns-then-len-gt-MOST_ENTRIES-clause-schema
+returns-then-len-gt-MOST_ENTRIES-clause-schema g c clean is read =
+    let db = (state g.S.Store c.args.conn.now).now in
+    let many = as_many exception_row ExceptionRowFits slurm.tree exception_places db c.in_ok-exceptions.exceptions.items (c.in_ok-exceptions.ensures.read clean) in
+    omega (arith, many, read.exceptions_number, c.if-len-gt-MOST_ENTRIES.true, c.len.ensures)
+
 pub returns-clause-found : goal.returns-clause-found
 returns-clause-found g c clean =
     let db = (state g.S.Store c.args.conn.now).now in
     let many = as_many exception_row ExceptionRowFits slurm.tree exception_places db c.in_ok-exceptions.exceptions.items (c.in_ok-exceptions.ensures.read clean) in
-    on_ok _ c.refuse_exceptions.result (λ kept. no_rows (db.trees slurm.tree) (many ∙ ap length (sym c.deref.ensures.value ∙ c.refuse_exceptions.ensures.none.0 kept)))
-
-pub returns-clause-schema : goal.returns-clause-schema
-returns-clause-schema g c clean is read =
-    let db = (state g.S.Store c.args.conn.now).now in
-    let many = as_many exception_row ExceptionRowFits slurm.tree exception_places db c.in_ok-exceptions.exceptions.items (c.in_ok-exceptions.ensures.read clean) in
-    let more = c.refuse_exceptions.ensures.schema.0 is in
-    omega (arith, many, more, ap length c.deref.ensures.value, read.exceptions_number)
+    record {
+      rows = record { whole = c.in_ok-exceptions.ensures.tree clean; each = each_read exception_row ExceptionRowFits _ _ (c.in_ok-exceptions.ensures.read clean) };
+      number = omega (arith, many, c.if-len-gt-MOST_ENTRIES.false, c.len.ensures);
+    }

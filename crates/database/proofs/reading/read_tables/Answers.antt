@@ -1,9 +1,7 @@
-use Rattle.std.proofs.Common.{ap, subst, sym, ◌∙◌, arith}
-use Rattle.sqlite.specs.Effect.{Database}
+use Rattle.std.proofs.Common.{subst, ◌∙◌, arith}
 use Rattle.sqlite.specs.Held.{state}
 use Rattle.sqlite.specs.State.{HasCleanDisk}
-use Rattle.tables.specs.Tables.{slurm, contents, IsTree}
-use Rattle.database.specs.steps.Opened.{ShowsCharter, ShowHolders}
+use Rattle.database.specs.steps.Opened.{ShowsCharter, ShowExceptions, ShowHolders}
 use Rattle.database.proofs.Opened.{some_rows}
 use Rattle.database.proofs.reading.read_tables.Goals as goal
 
@@ -17,7 +15,5 @@ returns-clause-held g c clean =
     let one = c.in_ok-read_schema.ensures.asked.same clean_1 in
     let after_2 = (c.in_ok-charter.ensures.asked.same clean_2).0.now_is ∙ one.0.now_is in
     let after_3 = (c.in_ok-read_holders.ensures.asked.same clean_3).0.now_is ∙ after_2 in
-    let empty = ap (λ (d : Database). d.trees slurm.tree) (sym after_3) ∙ c.in_ok-read_exceptions.ensures.found clean in
     some_rows old.now (c.requires.tables first one.0.was_open) (c.schema-schema.ensures.live one.0.was_open).0 (subst ShowHolders after_2 (c.in_ok-read_holders.ensures.found clean_3))
-    c.in_ok-charter.charter (c.in_ok-read_schema.ensures.found clean_1) (subst (ShowsCharter _) one.0.now_is (c.in_ok-charter.ensures.found clean_2)) (ap contents empty)
-    (subst IsTree (sym empty) (tt, tt))
+    c.in_ok-charter.charter (c.in_ok-read_schema.ensures.found clean_1) (subst (ShowsCharter _) one.0.now_is (c.in_ok-charter.ensures.found clean_2)) (subst ShowExceptions after_3 (c.in_ok-read_exceptions.ensures.found clean))
