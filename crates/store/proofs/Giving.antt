@@ -1,5 +1,5 @@
 -- The VRPs that the authorizations in force give, and the prefixes that are taken.
-use Rattle.std.proofs.Common.{◌≡◌, ◌↔◌, ◌≢◌, ℕ, true, ◌&&◌, ◌==◌, List, map, Any, Contains, Option, refl, sym, ap, subst, ◌∙◌}
+use Rattle.std.proofs.Common.{◌≡◌, ◌↔◌, ◌≢◌, ℕ, true, ◌&&◌, ◌==◌, List, map, Any, Contains, refl, sym, ap, subst, ◌∙◌}
 use Rattle.std.proofs.lemmas.Bool.{and_parts, and_from, eqb-true, eq-eqb}
 use Rattle.sqlite_value.specs.Order.{Row}
 use Rattle.sqlite_rules.proofs.ListLemmas.{has_contained, contains_had}
@@ -10,7 +10,6 @@ use Rattle.addr.specs.declared.asn.Asn.{Asn}
 use Rattle.addr.specs.declared.prefix.Prefix.{Prefix}
 use Rattle.addr.specs.declared.vrp.Vrp.{Vrp}
 use Rattle.policy.specs.declared.authorization.Auth.{Auth}
-use Rattle.policy.specs.Rows.{Rows}
 use Rattle.policy.specs.Terms.{IsVrpOf}
 use Rattle.policy.specs.Values.{AuthFits, VrpFits}
 use Rattle.tables.specs.Cells.{vrp_cells}

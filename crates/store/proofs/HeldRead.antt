@@ -1,10 +1,13 @@
 -- Tables that hold a charter and rows that fit read.
-use Rattle.std.proofs.Common.{◌≡◌, ℕ, Bool, true, false, ◌||◌, List, [], ◌∷◌, Option, Some, refl, inl, inr, sym, ap, subst, length, arith, IsTrue}
+use Rattle.std.proofs.Common.{◌≡◌, ℕ, Bool, true, false, ◌||◌, List, [], ◌∷◌, Option, Some, refl, inl, inr, sym, ap, subst, length, arith, IsTrue, map, ◌≤◌, ◌++◌}
 use Rattle.std.specs.Prelude.{⊤}
 use Rattle.std.specs.List.{AllByRecursion}
 use Rattle.std.proofs.lemmas.List.Elements.{recursion_from_All}
+use Rattle.std.proofs.lemmas.List.{length-append, length-map}
+use Rattle.std.proofs.lemmas.List.Sorted.{length_permutation}
 use Rattle.sqlite_value.specs.Order.{Row}
 use Rattle.sqlite_trees.specs.Tree.{Trees}
+use Rattle.sqlite_trees.proofs.ListLemmas.{all-append, all-map, all-permutation}
 use Rattle.sqlite_rules.specs.Lists.{Has}
 use Rattle.sqlite_rules.proofs.ListLemmas.{all_has, all_from, contains_had}
 use Rattle.sqlite_rules.proofs.ProbeLemmas.{has_mapped}
@@ -14,23 +17,57 @@ use Rattle.policy.specs.declared.command.Command.{Command}
 use Rattle.policy.specs.declared.command.Command.TheVariants.{Register}
 use Rattle.policy.specs.History.{History, registers, is_registered}
 use Rattle.policy.specs.Rows.{Rows, RowsIfAny}
-use Rattle.policy.specs.Values.{RowsFit, AuthFits, GrantFits, CommandFits, HistoryFits, LegalRowsFit}
+use Rattle.policy.specs.Values.{RowsFit, AuthFits, GrantFits, CommandFits, HistoryFits, LegalRowsFit, ExceptionsFit, FilterFits, VrpFits, ExceptionsInForceFit}
+use Rattle.policy.specs.RowsOfAll.{AllRows}
 use Rattle.policy.proofs.Names.{same_name-true}
-use Rattle.tables.specs.Cells.{schema_row, holder_row, holding_row, granted_row, auth_row}
+use Rattle.tables.specs.Cells.{schema_row, holder_row, holding_row, granted_row, auth_row, exception_row}
 use Rattle.tables.specs.Tables.{meta, holder, contents}
-use Rattle.tables.specs.TablesHold.{Part, TablesHold, HoldsPart, holder_part, holding_part, granted_part, auth_part}
+use Rattle.tables.specs.TablesHold.{Part, TablesHold, HoldsPart, holder_part, holding_part, granted_part, auth_part, ArePlaced, HoldsExceptions}
+use Rattle.tables.specs.declared.exception.Exception.{Exception}
+use Rattle.tables.specs.declared.exception.Exception.TheVariants.{Filter as FilterOf, Assertion}
+use Rattle.tables.specs.declared.exception.ExceptionRow.{ExceptionRow}
+use Rattle.tables.specs.Decode.{IsPosition, ExceptionFits, ExceptionRowFits, exception_columns}
 use Rattle.tables.proofs.SomeRow.{has_permuted, of_some}
 use Rattle.store.specs.Laws.{HistoriesRead}
 use Rattle.database.specs.TablesRead.{ShowsHolder, ShowsOfHolder, ShowsException, TablesRead}
+use Rattle.slurm.specs.Exceptions.{Exceptions}
+use Rattle.slurm.specs.declared.exceptions.TheConstants.{MOST_ENTRIES}
 
 -- each row of a part shows what the rows of its holder are
 of_part : (part : Part) (rows : List ℕ → Option Rows) (table : List Row) (So : Row → Type 0) → HoldsPart part rows table
     → ((h : List ℕ) (r : Rows) (c : Row) → rows h ≡ Some r → Has (part.rows h r) c → So c) → AllByRecursion So table
 of_part part rows table So holds shows = all_from So table (λ c has. let it = of_some part rows table holds c has in shows it.0 it.1 c it.2 it.3)
 
+-- rows of exceptions that fit, at their positions, fit
+placed_fit : (exceptions : List Exception) (rows : List ExceptionRow) → ArePlaced exceptions rows → AllByRecursion ExceptionFits exceptions → AllByRecursion ExceptionRowFits rows
+placed_fit exceptions rows placed fit = go rows placed.positions (subst (AllByRecursion ExceptionFits) (sym placed.brought) fit)
+  where
+    go : (rows : List ExceptionRow) → AllByRecursion (λ (r : ExceptionRow). IsPosition r.position) rows → AllByRecursion ExceptionFits (map (λ (r : ExceptionRow). r.exception) rows) → AllByRecursion ExceptionRowFits rows
+    go [] positions fit = tt
+    go (r ∷ rows) positions fit = (record { position = positions.0; exception = fit.0 }, go rows positions.1 fit.1)
+
+module _ (exceptions : Exceptions) (table : List Row) (holds : HoldsExceptions exceptions table) (fit : ExceptionsFit exceptions) where
+  exceptions_read : AllByRecursion ShowsException (map exception_columns table)
+  exceptions_read =
+      let filters = placed_fit _ holds.filters holds.filters_placed (all-map ExceptionFits FilterOf exceptions.filters (recursion_from_All FilterFits exceptions.filters fit.filters)) in
+      let assertions = placed_fit _ holds.assertions holds.assertions_placed (all-map ExceptionFits Assertion exceptions.assertions (recursion_from_All VrpFits exceptions.assertions fit.assertions)) in
+      all-permutation ShowsException _ _ holds.rows
+      (all-map ShowsException exception_row (holds.filters ++ holds.assertions)
+      (all_from _ (holds.filters ++ holds.assertions) (λ r has. (r, all_has ExceptionRowFits _ r (all-append ExceptionRowFits holds.filters holds.assertions filters assertions) has, refl))))
+
+  exceptions_few : length table ≤ MOST_ENTRIES
+  exceptions_few =
+      let shown = length_permutation _ _ holds.rows in
+      let filters = ap length holds.filters_placed.brought in
+      let assertions = ap length holds.assertions_placed.brought in
+      omega (
+        arith, fit.number, shown, filters, assertions, length-map table exception_columns, length-map (holds.filters ++ holds.assertions) exception_row, length-append holds.filters holds.assertions,
+        length-map holds.filters (λ (r : ExceptionRow). r.exception), length-map holds.assertions (λ (r : ExceptionRow). r.exception), length-map exceptions.filters FilterOf, length-map exceptions.assertions Assertion
+      )
+
 pub held_read : (charter : CharterSets) (rows : AllRows) (trees : Trees) → IsCharter charter → AllByRecursion (λ name. IsTrue (is_name name)) charter.operators
-    → ((h : List ℕ) (r : Rows) → rows.of_holder h ≡ Some r → IsTrue (is_name h) × RowsFit r) → TablesHold charter rows trees → TablesRead trees
-held_read charter rows trees is named fit holds = record {
+    → ((h : List ℕ) (r : Rows) → rows.of_holder h ≡ Some r → IsTrue (is_name h) × RowsFit r) → ExceptionsFit rows.exceptions → TablesHold charter rows trees → TablesRead trees
+held_read charter rows trees is named fit exceptions_fit holds = record {
   schema = contains_had _ schema_row (has_permuted (schema_row ∷ []) (contents (trees meta.tree)) schema_row holds.charter_kept.schema (inl refl));
   charter = record {
     operators = charter.operators;
@@ -58,8 +95,8 @@ held_read charter rows trees is named fit holds = record {
       (λ h r c there has.
       let it = has_mapped (auth_row h) r.auths c has in
       (h, it.0, all_has AuthFits r.auths it.0 (recursion_from_All AuthFits r.auths (fit h r there).1.auths) it.1, it.2));
-  exceptions = subst (AllByRecursion ShowsException) (sym holds.exceptions) tt;
-  exceptions_number = omega (arith, ap length holds.exceptions);
+  exceptions = exceptions_read rows.exceptions _ holds.exceptions exceptions_fit;
+  exceptions_number = exceptions_few rows.exceptions _ holds.exceptions exceptions_fit;
 }
   where
     one_row : (row c : Row) → Has (row ∷ []) c → c ≡ row
@@ -80,8 +117,9 @@ registered_named (e ∷ before) h is fit = go (registers e.command h) refl is (�
     go true here is later = named_by e.command h here fit.0.command
     go false there is later = later is
 
-pub opens_again : LegalRowsFit → HistoriesRead
-opens_again rows_fit charter history rows trees legal fits have is named holds =
+pub opens_again : LegalRowsFit → ExceptionsInForceFit → HistoriesRead
+opens_again rows_fit in_force_fit charter history rows trees legal fits have is named holds =
     held_read charter rows trees is named (λ h r there.
     let of = subst (RowsIfAny history h) there (have.holders h) in
-    (registered_named history h of.0 fits, rows_fit charter history h r legal fits of.1)) holds
+    (registered_named history h of.0 fits, rows_fit charter history h r legal fits of.1))
+    (subst ExceptionsFit (sym have.exceptions) (in_force_fit history fits)) holds

@@ -10,6 +10,7 @@ use Rattle.sqlite_trees.proofs.ListLemmas.{filter-map}
 use Rattle.sqlite_sql.specs.Term.{col}
 use Rattle.policy.specs.CharterSets.{CharterSets}
 use Rattle.policy.specs.Rows.{Rows}
+use Rattle.policy.specs.RowsOfAll.{AllRows}
 use Rattle.tables.specs.Tables.{desk_tables}
 use Rattle.tables.specs.TablesHold.{part_rows, holder_part, TablesHold}
 use Rattle.database.specs.Statements.{IsReady}

@@ -1,5 +1,5 @@
 -- The authorizations of all holders that are in force on a day.
-use Rattle.std.proofs.Common.{◌≡◌, ◌↔◌, ℕ, pos, false, ◌&&◌, List, [], ◌∷◌, filter, drop, Contains, Option, Result, IfOk, IsTrue, nat_le, refl, sym, ap, subst, ◌∙◌, IsPermutation}
+use Rattle.std.proofs.Common.{◌≡◌, ◌↔◌, ℕ, pos, false, ◌&&◌, List, [], ◌∷◌, filter, drop, Contains, Result, IfOk, IsTrue, nat_le, refl, sym, ap, subst, ◌∙◌, IsPermutation}
 use Rattle.std.proofs.lemmas.Bool.{and_parts, and_from, leb-true, le-leb}
 use Rattle.std.proofs.lemmas.List.Sorted.{IsPermutation-sym}
 use Rattle.std.proofs.lemmas.Result.{IfOk-weaker}
@@ -14,7 +14,7 @@ use Rattle.sqlite_rules.proofs.ListLemmas.{has_filtered, has_kept, has_contained
 use Rattle.sqlite_rules.proofs.ProbeLemmas.{mapped_has, has_mapped}
 use Rattle.sqlite_typed.proofs.TestLemmas.{at_ints, then_term, last_term}
 use Rattle.policy.specs.declared.authorization.Auth.{Auth}
-use Rattle.policy.specs.Rows.{Rows}
+use Rattle.policy.specs.RowsOfAll.{AllRows}
 use Rattle.tables.specs.Cells.{number_cell, auth_row}
 use Rattle.tables.specs.Tables.{desk_tables, contents, columns}
 use Rattle.tables.specs.TablesHold.{HoldsPart, auth_part}

@@ -25,6 +25,7 @@ use Rattle.tables.specs.TablesHold.{items_if_any, TablesHold}
 use Rattle.store.specs.steps.Queries.{by_column, WasRead}
 use Rattle.tables.specs.declared.rows.Counters.{Counters}
 use Rattle.policy.specs.Values.{IsCount, GrantFits, AuthFits, FitIfAny}
+use Rattle.policy.specs.RowsOfAll.{AllRows}
 use Rattle.store.specs.Loads.{AreInOrder, HaveSame, AreLoaded}
 use Rattle.tables.proofs.CellsOnce.{counters_of_rows}
 use Rattle.database.proofs.StatementLemmas.{taken_more}

@@ -1,12 +1,12 @@
 -- What an opened store holds.
-use Rattle.std.proofs.Common.{◌≡◌, ℕ, List, Option, IsTrue, sym, ap, subst, ◌∙◌}
+use Rattle.std.proofs.Common.{◌≡◌, IsTrue, sym, ap, subst, ◌∙◌}
 use Rattle.sqlite.specs.Effect.{Database}
 use Rattle.sqlite.specs.Held.{Held, state}
 use Rattle.sqlite.specs.State.{State, HasCleanDisk}
 use Rattle.sqlite.specs.Store.{Ghosts}
 use Rattle.sqlite_trees.specs.Tree.{Trees}
 use Rattle.policy.specs.CharterSets.{CharterSets, IsCharter}
-use Rattle.policy.specs.Rows.{Rows}
+use Rattle.policy.specs.RowsOfAll.{AllRows}
 use Rattle.tables.specs.TablesHold.{TablesHold}
 use Rattle.tables.proofs.RowsStay.{hold_still}
 use Rattle.store.specs.StoreRows.{IsOpened}

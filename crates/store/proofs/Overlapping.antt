@@ -1,5 +1,5 @@
 -- Whether a run of some holder shares an address with a prefix.
-use Rattle.std.proofs.Common.{◌≡◌, ◌↔◌, ℕ, suc, pos, ◌-◌, ◌^◌, ◌<◌, ◌==◌, Bool, true, false, not, ◌||◌, cond, List, [], ◌∷◌, filter, drop, length, take, Option, IsTrue, nat_le, is_le, nat_cmp, int_eq, refl, sym, ap, subst, ◌∙◌, arith, pow_pos}
+use Rattle.std.proofs.Common.{◌≡◌, ◌↔◌, ℕ, suc, pos, ◌-◌, ◌^◌, ◌<◌, ◌==◌, Bool, true, false, not, ◌||◌, cond, List, [], ◌∷◌, filter, drop, length, take, IsTrue, nat_le, is_le, nat_cmp, int_eq, refl, sym, ap, subst, ◌∙◌, arith, pow_pos}
 use Rattle.std.specs.List.{list_any}
 use Rattle.std.proofs.lemmas.Bool.Decides.{nat_tests}
 use Rattle.sqlite.specs.State.{State, Shown}
@@ -21,7 +21,7 @@ use Rattle.addr.specs.declared.family.Family.TheVariants.{V4, V6}
 use Rattle.addr.specs.declared.prefix.Prefix.{Prefix}
 use Rattle.addr.specs.declared.span.Span.{Span}
 use Rattle.addr.proofs.AddressLemmas.{below_widest, first_below}
-use Rattle.policy.specs.Rows.{Rows}
+use Rattle.policy.specs.RowsOfAll.{AllRows}
 use Rattle.tables.specs.Tables.{desk_tables, contents}
 use Rattle.tables.specs.Cells.{number_cell, family_number, address, holding_row}
 use Rattle.tables.specs.TablesHold.{HoldsPart, holding_part}

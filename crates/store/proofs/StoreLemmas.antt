@@ -1,5 +1,5 @@
 -- What a change that was tried leaves of a store.
-use Rattle.std.proofs.Common.{◌≡◌, inl, inr, ℕ, List, Option, None, Result, Ok, Err, OnOk, OnErr, IfOk, IsTrue, true, false, arith, sym, ap, subst, ◌∙◌}
+use Rattle.std.proofs.Common.{◌≡◌, inl, inr, Result, Ok, Err, OnOk, OnErr, IfOk, IsTrue, true, false, arith, sym, ap, subst, ◌∙◌}
 use Rattle.sqlite.specs.Effect.{Database}
 use Rattle.sqlite.specs.Held.{Held, state}
 use Rattle.sqlite.specs.State.{State, HasCleanDisk, IsUnchanged, Survives, Shows}
@@ -8,7 +8,7 @@ use Rattle.sqlite.proofs.StateLemmas.{survives_then}
 use Rattle.sqlite.specs.Store.{Ghosts}
 use Rattle.sqlite_trees.specs.Tree.{Trees}
 use Rattle.policy.specs.CharterSets.{CharterSets}
-use Rattle.policy.specs.Rows.{Rows}
+use Rattle.policy.specs.RowsOfAll.{AllRows, blank_rows}
 use Rattle.database.specs.Queries.{IsAsBefore}
 use Rattle.store.specs.steps.Queries.{IsOfAll}
 use Rattle.store.specs.StoreRows.{RowChange, StoreView, Holds, IsRead, MayLeave, LeavesOnly}

@@ -1,30 +1,28 @@
 use Rattle.std.proofs.Common.{arith, sym, subst, Option}
+use Rattle.policy.specs.declared.change.Change.{Change}
+use Rattle.policy.specs.declared.change.Change.TheVariants.{Holders}
 use Rattle.policy.specs.declared.change.HolderChange.{HolderChange}
-use Rattle.policy.specs.Rows.{changed_by_one, changed_by_second}
+use Rattle.policy.specs.Rows.{changed_by_one}
+use Rattle.policy.specs.RowsOfAll.{changed_rows}
 use Rattle.database.specs.Statements.{state_in}
-use Rattle.store.specs.steps.Statements.{MakesChange}
+use Rattle.store.specs.steps.Statements.{each_holder, MakesChange}
 use Rattle.store.proofs.RowSteps.{turned_then}
-use Rattle.database.proofs.StatementLemmas.{stays_then}
 use Rattle.store.proofs.change.make_change.Goals as goal
 
-pub returns-in_err-edit_holder-2-clause-inside : goal.returns-in_err-edit_holder-2-clause-inside
-returns-in_err-edit_holder-2-clause-inside g c = stays_then g.S.Store _ _ _ c.edit_holder.ensures.inside c.edit_holder-in-Some.ensures.inside
-
-pub returns-in_ok-edit_holder-2-clause-inside : goal.returns-in_ok-edit_holder-2-clause-inside
-returns-in_ok-edit_holder-2-clause-inside g c = stays_then g.S.Store _ _ _ c.edit_holder.ensures.inside c.edit_holder-in-Some.ensures.inside
-
-pub returns-in_ok-edit_holder-2-clause-done : goal.returns-in_ok-edit_holder-2-clause-done
-returns-in_ok-edit_holder-2-clause-done g c clean =
+pub returns-in_ok-edit_holder-in-Holders-2-clause-done : goal.returns-in_ok-edit_holder-in-Holders-2-clause-done
+returns-in_ok-edit_holder-in-Holders-2-clause-done g c clean =
     let old = state_in g.S.Store c.args.tx.now in
     let new = state_in g.S.Store c.edit_holder-in-Some.new.tx in
-    let one = c.args.change.now.first in
-    let first = c.in_ok-edit_holder.ensures.done (omega (arith, c.edit_holder-in-Some.ensures.inside.survives.clean)) in
-    let both = turned_then (λ rows h. changed_by_one one h (rows h)) (λ rows h. changed_by_one c.in-Some.second h (rows h)) old _ new first (c.in_ok-edit_holder-2.ensures.done clean) in
-    subst (λ (s : Option HolderChange). MakesChange (λ rows h. changed_by_second s h (changed_by_one one h (rows h))) old new) (sym c.in-Some.is) both
+    let one = c.in-Holders.first in
+    let two = c.in-Some.second in
+    let first = c.in_ok-edit_holder-in-Holders.ensures.done (omega (arith, c.edit_holder-in-Some.ensures.inside.survives.clean)) in
+    let both = turned_then (each_holder (changed_by_one one)) (each_holder (changed_by_one two)) old _ new first (c.in_ok-edit_holder-in-Holders-2.ensures.done clean) in
+    subst (λ (change : Change). MakesChange (changed_rows change) old new) (sym c.in-Holders.is)
+    (subst (λ (second : Option HolderChange). MakesChange (changed_rows (Holders one second)) old new) (sym c.in-Some.is) both)
 
 pub returns-in_default-clause-done : goal.returns-in_default-clause-done
 returns-in_default-clause-done g c clean =
     let old = state_in g.S.Store c.args.tx.now in
     let new = state_in g.S.Store c.edit_holder.new.tx in
-    let one = c.args.change.now.first in
-    subst (λ (s : Option HolderChange). MakesChange (λ rows h. changed_by_second s h (changed_by_one one h (rows h))) old new) (sym c.in_default.is) (c.in_ok-edit_holder.ensures.done clean)
+    subst (λ (change : Change). MakesChange (changed_rows change) old new) (sym c.in-Holders.is)
+    (subst (λ (second : Option HolderChange). MakesChange (changed_rows (Holders c.in-Holders.first second)) old new) (sym c.in_default.is) (c.in_ok-edit_holder-in-Holders.ensures.done clean))
