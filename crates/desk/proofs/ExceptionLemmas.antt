@@ -1,15 +1,16 @@
 -- What local exceptions leave of VRPs.
-use Rattle.std.proofs.Common.{◌≡◌, Bool, true, false, not, ◌↔◌, ◌⊎◌, inl, inr, List, [], ◌∷◌, ◌++◌, refl, sym, ap, ◌∙◌, subst, Contains, filter, cond}
+use Rattle.std.proofs.Common.{◌≡◌, Bool, true, false, not, ◌↔◌, ◌⊎◌, inl, inr, List, [], ◌∷◌, ◌++◌, Option, Some, refl, sym, ap, ◌∙◌, subst, Contains, filter, cond}
 use Rattle.std.specs.Prelude.{Any}
-use Rattle.std.specs.List.{list_any}
+use Rattle.std.specs.List.{list_any, slice_get}
 use Rattle.std.proofs.lemmas.Bool.{cases_Bool, true≢false, not-true, not-false}
+use Rattle.std.proofs.lemmas.Option.{none-some, same_Some}
 use Rattle.std.proofs.lemmas.List.Elements.{Contains-append_left, Contains-append_right, Contains-append_cases}
 use Rattle.addr.specs.declared.vrp.Vrp.{Vrp}
 use Rattle.slurm.proofs.FilterLemmas.{some_filter}
-use Rattle.policy.specs.ExceptionsInForce.{no_exceptions}
 use Rattle.slurm.specs.Exceptions.{Exceptions}
 use Rattle.slurm.specs.Filter.{FilterMatches, filter_matches}
 use Rattle.policy.specs.DailyVrps.{IsAfterExceptions}
+use Rattle.store.specs.Loads.{AreFilesOf}
 use Rattle.desk.proofs.DailyLemmas.{at_head, in_tail, head_or_tail, none_in_nil}
 
 module _ {X : Type 0} (p : X → Bool) where
@@ -73,9 +74,8 @@ after_alike file v to from = (
   λ is. elim is [ inl given ↦ inl (from given.0, given.1) | inr asserted ↦ inr asserted ],
 )
 
--- without exceptions what is after them was given
-pub after_none : (v : Vrp) (P : Type 0) → P ↔ IsAfterExceptions no_exceptions P v
-after_none v P = (
-  λ given. inl (given, λ some. none_in_nil some.1 (some.0, some.2, some.3)),
-  λ is. elim is [ inl given ↦ given.0 | inr asserted ↦ absurd (none_in_nil v asserted) ],
-)
+-- the first of the files that are loaded of exceptions has them
+pub first_file : (exceptions : Exceptions) (files : List Exceptions) (file : Exceptions) → Some file ≡ slice_get files 0 → AreFilesOf exceptions files → file ≡ exceptions
+first_file exceptions [] file is loaded = absurd (none-some file (sym is))
+first_file exceptions (one ∷ []) file is loaded = same_Some file one is ∙ loaded.0
+first_file exceptions (one ∷ other ∷ files) file is loaded = absurd loaded

@@ -83,4 +83,4 @@ items_on charter rows history legal has day vrps after given excepted v =
     let on = given_on charter rows history legal has day v in
     let alike = after_alike rows.exceptions v (λ there. on.0 ((given v).0 there)) (λ is. (given v).1 (on.1 is)) in
     let listed = items_of_list after v in
-    rw has.exceptions at ((λ there. alike.0 ((excepted v).0 (listed.0 there))), (λ is. listed.1 ((excepted v).1 (alike.1 is))))
+    rw (← has.exceptions) ((λ there. alike.0 ((excepted v).0 (listed.0 there))), (λ is. listed.1 ((excepted v).1 (alike.1 is))))

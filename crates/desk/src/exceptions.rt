@@ -9,7 +9,8 @@ use addr::Vrp;
 use slurm::{FilterIndex, Slurm};
 use std::alloc::{AllocError, Global};
 
-/// Makes the exceptions of the SLURM files in force, of which there is at most one.
+/// Takes away the VRPs that some filter of the SLURM file in force matches, if there is one, and
+/// then adds its assertions, which no filter removes.
 pub(crate) fn except(
     alloc: Global,
     files: &[Slurm],
@@ -19,18 +20,9 @@ pub(crate) fn except(
         → (v : Vrp) → Contains vrps.new.items v
         ↔ IsAfterExceptions exceptions (Contains vrps.old.items v) v) }
 {
-    match files.first() {
-        Some(file) => apply(alloc, file, vrps),
-        None => Ok(()),
-    }
-}
-
-/// Takes away the VRPs that some filter matches, and then adds the assertions, which no filter
-/// removes.
-fn apply(alloc: Global, file: &Slurm, vrps: &mut Vec<Vrp>) -> Result<(), AllocError>
-    ensures { OnOk result ((v : Vrp) → Contains vrps.new.items v
-        ↔ IsAfterExceptions file.now (Contains vrps.old.items v) v) }
-{
+    let Some(file) = files.first() else {
+        return Ok(());
+    };
     let filters = FilterIndex::of(alloc, file.filters())?;
     vrps.retain(|vrp| !filters.matches(vrp));
     vrps.extend_from_slice(file.assertions())?;

@@ -1,5 +1,5 @@
-ghost use Rattle.std.specs.Prelude.{◌≡◌, false, IfOk, IfErr, MatchResult};
-ghost use Rattle.policy.specs.Answer.{IsAccepted, IsViewOf, TellsTaken};
+ghost use Rattle.std.specs.Prelude.{◌≡◌, false, option_copied, IfOk, IfErr, MatchResult};
+ghost use Rattle.policy.specs.Answer.{IsAccepted, IsViewOf, RowsOfNamed, TellsTaken};
 ghost use Rattle.policy.specs.Rows.{rows_if_any, RowsIfAny};
 ghost use Rattle.store.specs.StoreRows.{IsRead};
 ghost use Rattle.desk.specs.Answer.{is_done, AnswersCommand, IsAnswered};
@@ -88,12 +88,21 @@ impl<S: Alter> Desk<S> {
         ensures view { IfOk result (λ view. OfHistories S.Store self.old self.new (λ history.
             IsViewOf history command.now view)) }
     {
-        let holder = match command.holder() {
-            Some(holder) => self.load(holder)?,
-            None => None,
-        };
+        let holder = self.load_named(command.holder())?;
         let taken = self.is_taken(command)?;
         Ok(View { holder, taken })
+    }
+
+    /// The rows of the holder, where the command names one.
+    fn load_named(&mut self, holder: Option<&Name>) -> Result<Option<HolderRows>, StoreFault>
+        ensures read { IsRead S.Store self.old.store self.new.store }
+        ensures rows { IfOk result (λ rows. OfHistories S.Store self.old self.new (λ history.
+            RowsOfNamed history (option_copied holder.entry) (rows_if_any rows))) }
+    {
+        match holder {
+            Some(holder) => self.load(holder),
+            None => Ok(None),
+        }
     }
 
     /// Whether some address of a delegation's prefix is held. Not asked of any other command.
