@@ -1,3 +1,5 @@
+pub mod HttpLemmas
+pub mod HttpReadLemmas
 pub mod LineSplits
 pub mod ReplyLemmas
 pub mod ScriptAlong

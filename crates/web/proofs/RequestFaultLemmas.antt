@@ -1,6 +1,6 @@
 -- What the code reads of the parts of a request, combinator by combinator: a value where they have
 -- no fault, and else the lowest of their faults.
-use Rattle.std.proofs.Common.{◌≡◌, ℕ, List, [], ◌∷◌, ◌++◌, Option, Some, None, option_and_then, Result, Ok, Err, refl}
+use Rattle.std.proofs.Common.{◌≡◌, ℕ, List, [], ◌∷◌, ◌++◌, Option, Some, None, is_some, option_and_then, Result, Ok, Err, refl}
 use Rattle.std.proofs.lemmas.List.{append-nil}
 use Rattle.std.specs.Prelude.{IfOk}
 use Rattle.std.specs.List.{AllZip, flat_map}
@@ -8,7 +8,7 @@ use Rattle.std.specs.Option.{ok_or}
 use Rattle.serde_json.specs.Data.{Data}
 use Rattle.serde_json.specs.Find.{get}
 use Rattle.json_values.proofs.FaultLemmas.{Told, told-both, told-mapped, told-ok_or, told-required}
-use Rattle.json_values.specs.Faults.{lower_of, lowest, reading_faults, required_faults}
+use Rattle.json_values.specs.Faults.{fault_unless, lower_of, lowest, reading_faults, required_faults}
 use Rattle.json_values.specs.Parts.{both, mapped, unless, each}
 use Rattle.json_values.specs.Tree.{required}
 use Rattle.web.specs.RequestFaults.{malformed_number}
@@ -96,6 +96,11 @@ reads-last {xs = xs} read =
 value-member : {A : Type 0} (o : Option A) (n : Fault) → IfOk (ok_or o n) (λ a. o ≡ Some a)
 value-member None n = tt
 value-member (Some a) n = refl
+
+-- a value that may be missing
+pub reads-ok_or : {A : Type 0} (o : Option A) (n : Fault) →
+    ReadsUnlessFaulty (ok_or o n) (fault_unless (is_some o) n) (λ a. o ≡ Some a)
+reads-ok_or o n = record { told = told-ok_or malformed_number o n; value = value-member o n }
 
 found-reads : {A : Type 0} (reading : Data → Option A) (n : Fault) (o : Option Data) →
     IfOk (required Members (λ found. ok_or (reading found) n) o)

@@ -1,3 +1,7 @@
+pub mod HttpAnswers
+pub mod HttpFaults
+pub mod HttpRequests
+pub mod HttpResponses
 pub mod ReplyText
 pub mod Script
 pub mod ScriptFault
@@ -7,3 +11,4 @@ pub mod RequestText
 pub mod RequestValues
 pub mod ScriptAnswer
 pub mod steps
+pub mod WebFault

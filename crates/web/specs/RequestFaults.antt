@@ -12,8 +12,8 @@ use Rattle.json_values.specs.Values.{as_name, as_prefix, as_day, as_asn}
 use Rattle.web.specs.RequestValues.{as_origin, as_max, as_number, as_role, as_scope}
 use Rattle.web.specs.declared.lines.TheConstants.{LINE_LENGTH_LIMIT}
 use Rattle.web.specs.declared.malformed.Malformed.{Malformed}
-use Rattle.web.specs.declared.request.action.Action.{Action}
-use Rattle.web.specs.declared.request.action.Action.TheVariants.{Register, Delegate, Transfer, Reclaim, Grant, Revoke, Create, Amend, Withdraw, Show, Content, List as ListAction, Payloads, Validity}
+use Rattle.http_messages.specs.declared.action.Action.{Action}
+use Rattle.http_messages.specs.declared.action.Action.TheVariants.{Register, Delegate, Transfer, Reclaim, Grant, Revoke, Create, Amend, Withdraw, Show, Content, List as ListAction, Payloads, Validity}
 use Rattle.web.specs.declared.request.fault.Fault.{Fault}
 use Rattle.web.specs.declared.request.fault.Fault.TheVariants.{Json, Members, Holder, Caller, Prefix, Asn, Max, Day, Role as RoleFault, Number, Count, TooLong}
 use Rattle.web.specs.declared.request.routes.TheConstants.{MOST_ROUTES}
@@ -82,10 +82,14 @@ any_value d value = []
 abbrev pub names_of : List (List ℕ × Kind) → List (List ℕ)
 names_of members = map (λ m. m.0) members
 
+-- of each of these members, which have to be there
+abbrev pub member_faults : List (List ℕ × Kind) → Data → List Fault
+member_faults members d = flat_map (λ m. required_faults Members (m.1 d) (get m.0 d)) members
+
 -- of what is to be an object with each of these members and with no other
 abbrev pub object_faults : List (List ℕ × Kind) → Data → List Fault
 object_faults members d =
-    flat_map (λ m. required_faults Members (m.1 d) (get m.0 d)) members
+    member_faults members d
     ++ name_faults Members (names_of members) d
 
 abbrev pub is_count : ℕ → ℕ → Bool
@@ -128,34 +132,57 @@ action_of text =
 abbrev pub action_in : Data → Option Action
 action_in d = option_and_then action_of (option_and_then as_str (get (codes "do") d))
 
--- the further members of a request
-abbrev pub own_members : Action → List (List ℕ × Kind)
-own_members Register = (codes "holder", holder_name) ∷ []
-own_members Delegate = (codes "holder", holder_name) ∷ (codes "prefix", prefix) ∷ []
-own_members Transfer =
-    (codes "prefix", prefix) ∷ (codes "giver", holder_name) ∷ (codes "taker", holder_name) ∷ []
-own_members Reclaim = (codes "holder", holder_name) ∷ (codes "prefix", prefix) ∷ []
-own_members Grant =
-    (codes "holder", holder_name) ∷ (codes "name", caller_name) ∷ (codes "role", role)
-    ∷ (codes "scope", scope) ∷ (codes "until", day) ∷ []
-own_members Revoke = (codes "holder", holder_name) ∷ (codes "number", number) ∷ []
-own_members Create =
-    (codes "holder", holder_name) ∷ (codes "asn", asn) ∷ (codes "prefix", prefix)
-    ∷ (codes "max", max_length) ∷ (codes "from", day) ∷ (codes "until", day) ∷ []
-own_members Amend =
-    (codes "holder", holder_name) ∷ (codes "number", number) ∷ (codes "max", max_length)
-    ∷ (codes "until", day) ∷ []
-own_members Withdraw = (codes "holder", holder_name) ∷ (codes "number", number) ∷ []
-own_members Show = (codes "holder", holder_name) ∷ (codes "number", number) ∷ []
-own_members Content = (codes "holder", holder_name) ∷ (codes "number", number) ∷ []
-own_members ListAction = (codes "holder", holder_name) ∷ []
-own_members Payloads = []
-own_members Validity = (codes "routes", routes) ∷ []
+-- what a request names, where it names something: a line by a member, an HTTP request in its path
+pub data Named : Type 0 where
+  HolderName : Named
+  NumberGiven : Named
 
+abbrev pub named_by : Action → List Named
+named_by Register = HolderName ∷ []
+named_by Delegate = HolderName ∷ []
+named_by Transfer = []
+named_by Reclaim = HolderName ∷ []
+named_by Grant = HolderName ∷ []
+named_by Revoke = HolderName ∷ NumberGiven ∷ []
+named_by Create = HolderName ∷ []
+named_by Amend = HolderName ∷ NumberGiven ∷ []
+named_by Withdraw = HolderName ∷ NumberGiven ∷ []
+named_by Show = HolderName ∷ NumberGiven ∷ []
+named_by Content = HolderName ∷ NumberGiven ∷ []
+named_by ListAction = HolderName ∷ []
+named_by Payloads = []
+named_by Validity = []
+
+-- and the members of what it says further, of which the body of an HTTP request is made
+abbrev pub body_members : Action → List (List ℕ × Kind)
+body_members Register = []
+body_members Delegate = (codes "prefix", prefix) ∷ []
+body_members Transfer =
+    (codes "prefix", prefix) ∷ (codes "giver", holder_name) ∷ (codes "taker", holder_name) ∷ []
+body_members Reclaim = (codes "prefix", prefix) ∷ []
+body_members Grant =
+    (codes "name", caller_name) ∷ (codes "role", role) ∷ (codes "scope", scope) ∷ (codes "until", day) ∷ []
+body_members Revoke = []
+body_members Create =
+    (codes "asn", asn) ∷ (codes "prefix", prefix) ∷ (codes "max", max_length) ∷ (codes "from", day)
+    ∷ (codes "until", day) ∷ []
+body_members Amend = (codes "max", max_length) ∷ (codes "until", day) ∷ []
+body_members Withdraw = []
+body_members Show = []
+body_members Content = []
+body_members ListAction = []
+body_members Payloads = []
+body_members Validity = (codes "routes", routes) ∷ []
+
+abbrev pub named_member : Named → List ℕ × Kind
+named_member HolderName = (codes "holder", holder_name)
+named_member NumberGiven = (codes "number", number)
+
+-- the members of a line
 abbrev pub members_of : Action → List (List ℕ × Kind)
 members_of action =
     (codes "day", day) ∷ (codes "caller", caller_name) ∷ (codes "do", any_value)
-    ∷ own_members action
+    ∷ map named_member (named_by action) ++ body_members action
 
 abbrev pub action_faults : Option Action → Data → List Fault
 action_faults None d = Members ∷ []
@@ -170,8 +197,12 @@ abbrev pub request_faults : List ℕ → List Fault
 request_faults line =
     if nat_lt LINE_LENGTH_LIMIT (length line) then TooLong ∷ [] else tree_faults (tree_of line)
 
+-- what is told of these faults
+abbrev pub malformed_of : List Fault → Option Malformed
+malformed_of faults =
+    option_map (λ fault. record { number = malformed_number fault; slurm = None })
+    (lowest malformed_number faults)
+
 -- why a line is no request
 abbrev pub request_fault : List ℕ → Option Malformed
-request_fault line =
-    option_map (λ fault. record { number = malformed_number fault; slurm = None })
-    (lowest malformed_number (request_faults line))
+request_fault line = malformed_of (request_faults line)

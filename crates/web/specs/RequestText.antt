@@ -16,8 +16,8 @@ use Rattle.desk.specs.declared.asked.Request.TheVariants.{Command as CommandRequ
 use Rattle.web.specs.RequestFaults.{action_in, request_faults, role_at}
 use Rattle.json_values.specs.Values.{as_name, as_prefix, as_day, as_asn}
 use Rattle.web.specs.RequestValues.{as_origin, as_max, as_number, as_role, as_scope}
-use Rattle.web.specs.declared.request.action.Action.{Action}
-use Rattle.web.specs.declared.request.action.Action.TheVariants.{Register as AskRegister, Delegate as AskDelegate, Transfer as AskTransfer, Reclaim as AskReclaim, Grant as AskGrant, Revoke as AskRevoke, Create as AskCreate, Amend as AskAmend, Withdraw as AskWithdraw, Show as AskShow, Content as AskContent, List as AskList, Payloads as AskPayloads, Validity as AskValidity}
+use Rattle.http_messages.specs.declared.action.Action.{Action}
+use Rattle.http_messages.specs.declared.action.Action.TheVariants.{Register as AskRegister, Delegate as AskDelegate, Transfer as AskTransfer, Reclaim as AskReclaim, Grant as AskGrant, Revoke as AskRevoke, Create as AskCreate, Amend as AskAmend, Withdraw as AskWithdraw, Show as AskShow, Content as AskContent, List as AskList, Payloads as AskPayloads, Validity as AskValidity}
 
 -- the member of this name is there, and reads as this value
 abbrev pub HasMember : {A : Type 0} → (Data → Option A) → List ℕ → Data → A → Type 0
@@ -28,9 +28,6 @@ HasName = HasMember as_name
 
 abbrev pub HasPrefix : Data → Prefix → Type 0
 HasPrefix = HasMember as_prefix (codes "prefix")
-
-abbrev pub HasNumber : Data → ℕ → Type 0
-HasNumber = HasMember as_number (codes "number")
 
 abbrev pub HasMax : Data → ℕ → Type 0
 HasMax = HasMember as_max (codes "max")
@@ -46,46 +43,67 @@ HasRoutes d routes = (items : Items)
     × (option_and_then as_array (get (codes "routes") d) ≡ Some items)
     × AllZip SaysRoute (list_of items) routes
 
-abbrev pub Does : Action → Data → Type 0
-Does action d = action_in d ≡ Some action
+-- what a request says outside of the members that lines and bodies have in common: what it asks, and the holder
+-- and the number that it names
+pub record Heading : Type 0 where
+  pub action : Option Action
+  pub holder : Option (List ℕ)
+  pub number : Option ℕ
 
-abbrev pub SaysCommand : Data → Command → Type 0
-SaysCommand d (Register holder) = Does AskRegister d × HasName (codes "holder") d holder
-SaysCommand d (Delegate holder prefix) =
-    Does AskDelegate d × HasName (codes "holder") d holder × HasPrefix d prefix
-SaysCommand d (Transfer prefix giver taker) =
-    Does AskTransfer d × HasPrefix d prefix
+abbrev pub Does : Action → Heading → Type 0
+Does action h = h.action ≡ Some action
+
+abbrev pub NamesHolder : Heading → List ℕ → Type 0
+NamesHolder h holder = h.holder ≡ Some holder
+
+abbrev pub NamesNumber : Heading → ℕ → Type 0
+NamesNumber h number = h.number ≡ Some number
+
+abbrev pub SaysCommand : Heading → Data → Command → Type 0
+SaysCommand h d (Register holder) = Does AskRegister h × NamesHolder h holder
+SaysCommand h d (Delegate holder prefix) =
+    Does AskDelegate h × NamesHolder h holder × HasPrefix d prefix
+SaysCommand h d (Transfer prefix giver taker) =
+    Does AskTransfer h × HasPrefix d prefix
     × HasName (codes "giver") d giver × HasName (codes "taker") d taker
-SaysCommand d (Reclaim holder prefix) =
-    Does AskReclaim d × HasName (codes "holder") d holder × HasPrefix d prefix
-SaysCommand d (Grant holder name role scope until) =
-    Does AskGrant d × HasName (codes "holder") d holder × HasName (codes "name") d name
+SaysCommand h d (Reclaim holder prefix) =
+    Does AskReclaim h × NamesHolder h holder × HasPrefix d prefix
+SaysCommand h d (Grant holder name role scope until) =
+    Does AskGrant h × NamesHolder h holder × HasName (codes "name") d name
     × HasMember as_role (codes "role") d role
     × HasMember (as_scope (role_at d)) (codes "scope") d scope × HasDay (codes "until") d until
-SaysCommand d (Revoke holder number) =
-    Does AskRevoke d × HasName (codes "holder") d holder × HasNumber d number
-SaysCommand d (Create holder asn prefix max from until) =
-    Does AskCreate d × HasName (codes "holder") d holder
+SaysCommand h d (Revoke holder number) =
+    Does AskRevoke h × NamesHolder h holder × NamesNumber h number
+SaysCommand h d (Create holder asn prefix max from until) =
+    Does AskCreate h × NamesHolder h holder
     × HasMember as_asn (codes "asn") d asn × HasPrefix d prefix × HasMax d max
     × HasDay (codes "from") d from × HasDay (codes "until") d until
-SaysCommand d (Amend holder number max until) =
-    Does AskAmend d × HasName (codes "holder") d holder × HasNumber d number
+SaysCommand h d (Amend holder number max until) =
+    Does AskAmend h × NamesHolder h holder × NamesNumber h number
     × HasMax d max × HasDay (codes "until") d until
-SaysCommand d (Withdraw holder number) =
-    Does AskWithdraw d × HasName (codes "holder") d holder × HasNumber d number
+SaysCommand h d (Withdraw holder number) =
+    Does AskWithdraw h × NamesHolder h holder × NamesNumber h number
 
-abbrev pub SaysQuery : Data → Query → Type 0
-SaysQuery d (Show holder number) =
-    Does AskShow d × HasName (codes "holder") d holder × HasNumber d number
-SaysQuery d (Content holder number) =
-    Does AskContent d × HasName (codes "holder") d holder × HasNumber d number
-SaysQuery d (ListQuery holder) = Does AskList d × HasName (codes "holder") d holder
-SaysQuery d Payloads = Does AskPayloads d
-SaysQuery d (Validity routes) = Does AskValidity d × HasRoutes d routes.items
+abbrev pub SaysQuery : Heading → Data → Query → Type 0
+SaysQuery h d (Show holder number) = Does AskShow h × NamesHolder h holder × NamesNumber h number
+SaysQuery h d (Content holder number) =
+    Does AskContent h × NamesHolder h holder × NamesNumber h number
+SaysQuery h d (ListQuery holder) = Does AskList h × NamesHolder h holder
+SaysQuery h d Payloads = Does AskPayloads h
+SaysQuery h d (Validity routes) = Does AskValidity h × HasRoutes d routes.items
 
-abbrev pub SaysRequest : Data → Request → Type 0
-SaysRequest d (CommandRequest c) = SaysCommand d c
-SaysRequest d (QueryRequest q) = SaysQuery d q
+-- a heading and an object say this request
+abbrev pub SaysRequest : Heading → Data → Request → Type 0
+SaysRequest h d (CommandRequest c) = SaysCommand h d c
+SaysRequest h d (QueryRequest q) = SaysQuery h d q
+
+-- a line has members for all of that
+abbrev pub line_heading : Data → Heading
+line_heading d = record {
+  action = action_in d;
+  holder = option_and_then as_name (get (codes "holder") d);
+  number = option_and_then as_number (get (codes "number") d);
+}
 
 -- the line is this request, and has no fault
 pub record ReadsLine (line : List ℕ) (asked : Asked) : Type 0 where
@@ -93,5 +111,5 @@ pub record ReadsLine (line : List ℕ) (asked : Asked) : Type 0 where
   pub is_json : tree_of line ≡ Some tree
   pub day : HasDay (codes "day") tree asked.day
   pub caller : HasName (codes "caller") tree asked.caller
-  pub request : SaysRequest tree asked.request
+  pub request : SaysRequest (line_heading tree) tree asked.request
   pub faultless : request_faults line ≡ []

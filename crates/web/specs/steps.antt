@@ -1,4 +1,6 @@
 -- Steps of the code, which no public contract cites.
+pub mod HttpAnswering
+pub mod HttpReading
 pub mod LineSplitting
 pub mod ReplyItems
 pub mod RequestReading

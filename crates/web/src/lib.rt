@@ -1,6 +1,7 @@
 //! Bytes in and bytes out: lines, scripts, requests and replies.
 #![tactic(auto)]
 
+mod http;
 mod lines;
 mod malformed;
 mod reply;
@@ -8,6 +9,7 @@ mod request;
 mod script;
 mod session;
 
+pub use http::{WebFault, serve_one};
 pub use malformed::Malformed;
 pub use reply::{short_text, write_reply};
 pub use request::{LineFault, read_line_request};

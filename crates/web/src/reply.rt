@@ -3,7 +3,7 @@ ghost use Rattle.std.specs.Prelude.{◌≡◌, ◌++◌, true, codes, option_map
 ghost use Rattle.streams.specs.Streams.{AppendsBeginning};
 ghost use Rattle.web.specs.ReplyText.{auth_text, content_text, denied_text, done_text, line_text, short_text, unavailable_text};
 
-mod items;
+pub(crate) mod items;
 mod list;
 
 use addr::digits;
@@ -50,7 +50,7 @@ pub fn short_text(reply: &Reply) -> Option<ArrayString<128>>
     }
 }
 
-fn done_text(number: Option<u32>) -> ArrayString<128>
+pub(crate) fn done_text(number: Option<u32>) -> ArrayString<128>
     ensures { result.bytes ≡ done_text number }
 {
     let mut text = ArrayString::new();
@@ -93,7 +93,7 @@ fn write_content<D: Drain>(hex: &str, drain: &mut D) -> Result<(), Failed>
     Ok(())
 }
 
-fn denied_text(rule: Rule, row: Option<u64>) -> ArrayString<128>
+pub(crate) fn denied_text(rule: Rule, row: Option<u64>) -> ArrayString<128>
     ensures { result.bytes ≡ denied_text rule row }
 {
     let mut text = ArrayString::new();
@@ -110,7 +110,7 @@ fn denied_text(rule: Rule, row: Option<u64>) -> ArrayString<128>
     text
 }
 
-fn unavailable_text() -> ArrayString<128>
+pub(crate) fn unavailable_text() -> ArrayString<128>
     ensures { result.bytes ≡ unavailable_text }
 {
     let mut text = ArrayString::new();

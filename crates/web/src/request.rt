@@ -1,35 +1,38 @@
-//! Reading requests from JSON lines.
+//! Reading requests: here from JSON lines.
 ghost use Rattle.std.specs.Prelude.{◌≡◌, Some, Err, IfOk};
 ghost use Rattle.serde_json.specs.View.{view};
 ghost use Rattle.json_values.specs.Parts.{mapped};
 ghost use Rattle.json_values.specs.Tree.{tree_of};
 ghost use Rattle.web.specs.RequestFaults.{action_in, request_fault};
 ghost use Rattle.web.specs.RequestText.{ReadsLine};
-ghost use Rattle.web.specs.steps.RequestReading.{asked_as, asked_by, asked_in, asked_terms, request_in, request_terms};
+ghost use Rattle.web.specs.steps.RequestReading.{asked_as, asked_by, asked_in, asked_terms, line_subject, request_in, request_terms};
 
 mod action;
 mod commands;
 pub(crate) mod fault;
 pub(crate) mod members;
+pub(crate) mod message;
 mod routes;
 
 use crate::lines::LINE_LENGTH_LIMIT;
 use crate::malformed::Malformed;
-use action::{Action, action_in, only_members_of};
+use action::{action_in, only_members_of};
 use addr::{Day, Name};
+use commands::Subject;
 use desk::{Asked, Request};
 use fault::Fault;
+use http_messages::Action;
 use json_values::{both, tree_of, unless};
-use members::{caller_in, day_in};
+use members::{caller_in, day_in, holder_in, number_in};
 use policy::Query;
 use serde_json::Value;
 use std::alloc::{AllocError, Global};
 
-/// Why a line is no request.
+/// Why bytes are no request.
 #[derive(Clone, Copy, Debug, PartialEq, Eq)]
 pub enum LineFault {
     Malformed(Malformed),
-    /// A growth of memory was refused. Nothing is said of the line.
+    /// A growth of memory was refused. Nothing is said of the bytes.
     Memory,
 }
 
@@ -78,7 +81,7 @@ fn asked_as(
 ) -> Result<Result<Asked, Fault>, AllocError>
     ensures { IfOk result (λ asked. mapped asked_terms asked ≡ asked_as action (view value.now)) }
 {
-    let request = request_in(alloc, action, value)?;
+    let request = request_in(alloc, action, line_subject(value), value)?;
     let asked = asked_with(both(
         day_in(value, "day"),
         both(caller_in(value, "caller"), request),
@@ -97,27 +100,38 @@ fn asked_with(parts: Result<(Day, (Name, Request)), Fault>) -> Result<Asked, Fau
     })
 }
 
+fn line_subject(value: &Value) -> Subject
+    ensures { result ≡ line_subject (view value.now) }
+{
+    Subject {
+        holder: holder_in(value, "holder"),
+        number: number_in(value),
+    }
+}
+
+// The request that is asked of the subject with these further members.
 fn request_in(
     alloc: Global,
     action: Action,
+    subject: Subject,
     value: &Value,
 ) -> Result<Result<Request, Fault>, AllocError>
     ensures { IfOk result (λ request. mapped request_terms request
-        ≡ request_in action (view value.now)) }
+        ≡ request_in action subject (view value.now)) }
 {
     match action {
-        Action::Register => Ok(commands::register_in(value)),
-        Action::Delegate => Ok(commands::delegate_in(value)),
+        Action::Register => Ok(commands::register_in(subject)),
+        Action::Delegate => Ok(commands::delegate_in(subject, value)),
         Action::Transfer => Ok(commands::transfer_in(value)),
-        Action::Reclaim => Ok(commands::reclaim_in(value)),
-        Action::Grant => Ok(commands::grant_in(value)),
-        Action::Revoke => Ok(commands::revoke_in(value)),
-        Action::Create => Ok(commands::create_in(value)),
-        Action::Amend => Ok(commands::amend_in(value)),
-        Action::Withdraw => Ok(commands::withdraw_in(value)),
-        Action::Show => Ok(commands::show_in(value)),
-        Action::Content => Ok(commands::content_in(value)),
-        Action::List => Ok(commands::list_in(value)),
+        Action::Reclaim => Ok(commands::reclaim_in(subject, value)),
+        Action::Grant => Ok(commands::grant_in(subject, value)),
+        Action::Revoke => Ok(commands::revoke_in(subject)),
+        Action::Create => Ok(commands::create_in(subject, value)),
+        Action::Amend => Ok(commands::amend_in(subject, value)),
+        Action::Withdraw => Ok(commands::withdraw_in(subject)),
+        Action::Show => Ok(commands::show_in(subject)),
+        Action::Content => Ok(commands::content_in(subject)),
+        Action::List => Ok(commands::list_in(subject)),
         Action::Payloads => Ok(Ok(Request::Query(Query::Payloads))),
         Action::Validity => routes::validity_in(alloc, value),
     }

@@ -18,10 +18,11 @@ use Rattle.web.specs.RequestFaults.{malformed_number, role_at, route_members, na
 use Rattle.json_values.specs.Values.{as_name, as_prefix, as_day, as_asn}
 use Rattle.web.specs.RequestValues.{as_origin, as_max, as_number, as_role, as_scope}
 use Rattle.web.specs.declared.lines.TheConstants.{LINE_LENGTH_LIMIT}
-use Rattle.web.specs.declared.request.action.Action.{Action}
-use Rattle.web.specs.declared.request.action.Action.TheVariants.{Register as AskRegister, Delegate as AskDelegate, Transfer as AskTransfer, Reclaim as AskReclaim, Grant as AskGrant, Revoke as AskRevoke, Create as AskCreate, Amend as AskAmend, Withdraw as AskWithdraw, Show as AskShow, Content as AskContent, List as AskList, Payloads as AskPayloads, Validity as AskValidity}
+use Rattle.http_messages.specs.declared.action.Action.{Action}
+use Rattle.http_messages.specs.declared.action.Action.TheVariants.{Register as AskRegister, Delegate as AskDelegate, Transfer as AskTransfer, Reclaim as AskReclaim, Grant as AskGrant, Revoke as AskRevoke, Create as AskCreate, Amend as AskAmend, Withdraw as AskWithdraw, Show as AskShow, Content as AskContent, List as AskList, Payloads as AskPayloads, Validity as AskValidity}
 use Rattle.web.specs.declared.request.routes.TheConstants.{MOST_ROUTES}
 use Rattle.web.specs.declared.request.fault.Fault.{Fault}
+use Rattle.web.specs.declared.request.commands.Subject.{Subject}
 use Rattle.web.specs.declared.request.fault.Fault.TheVariants.{Json, Members, Holder, Caller, Prefix as PrefixFault, Asn, Max, Day, Role, Number, Count, TooLong}
 
 -- ---- what is asked, with its routes as a list
@@ -90,62 +91,66 @@ routes_in d = routes_of (option_and_then as_array (get (codes "routes") d))
 
 -- ---- requests
 
-abbrev pub holder_and_prefix : Data → Result (List ℕ × Prefix) Fault
-holder_and_prefix d = both malformed_number (holder_in (codes "holder") d) (prefix_in d)
+abbrev pub holder_and_prefix : Subject → Data → Result (List ℕ × Prefix) Fault
+holder_and_prefix subject d = both malformed_number subject.holder (prefix_in d)
 
-abbrev pub holder_and_number : Data → Result (List ℕ × ℕ) Fault
-holder_and_number d = both malformed_number (holder_in (codes "holder") d) (number_in d)
+abbrev pub holder_and_number : Subject → Result (List ℕ × ℕ) Fault
+holder_and_number subject = both malformed_number subject.holder subject.number
 
-abbrev pub request_in : Action → Data → Result RequestTerms Fault
-request_in AskRegister d =
-    mapped (λ p. request (CommandRequest (Register p))) (holder_in (codes "holder") d)
-request_in AskDelegate d =
-    mapped (λ p. request (CommandRequest (Delegate p.0 p.1))) (holder_and_prefix d)
-request_in AskTransfer d =
+abbrev pub request_in : Action → Subject → Data → Result RequestTerms Fault
+request_in AskRegister subject d =
+    mapped (λ p. request (CommandRequest (Register p))) subject.holder
+request_in AskDelegate subject d =
+    mapped (λ p. request (CommandRequest (Delegate p.0 p.1))) (holder_and_prefix subject d)
+request_in AskTransfer subject d =
     mapped (λ p. request (CommandRequest (Transfer p.0 p.1.0 p.1.1)))
     (both malformed_number (prefix_in d)
     (both malformed_number (holder_in (codes "giver") d) (holder_in (codes "taker") d)))
-request_in AskReclaim d =
-    mapped (λ p. request (CommandRequest (Reclaim p.0 p.1))) (holder_and_prefix d)
-request_in AskGrant d =
+request_in AskReclaim subject d =
+    mapped (λ p. request (CommandRequest (Reclaim p.0 p.1))) (holder_and_prefix subject d)
+request_in AskGrant subject d =
     mapped (λ p. request (CommandRequest (Grant p.0 p.1.0 p.1.1.0 p.1.1.1.0 p.1.1.1.1)))
-    (both malformed_number (holder_in (codes "holder") d)
+    (both malformed_number subject.holder
     (both malformed_number (caller_in (codes "name") d)
     (both malformed_number (member_in as_role Role (codes "role") d)
     (both malformed_number (member_in (as_scope (role_at d)) Role (codes "scope") d)
     (day_in (codes "until") d)))))
-request_in AskRevoke d =
-    mapped (λ p. request (CommandRequest (Revoke p.0 p.1))) (holder_and_number d)
-request_in AskCreate d =
+request_in AskRevoke subject d =
+    mapped (λ p. request (CommandRequest (Revoke p.0 p.1))) (holder_and_number subject)
+request_in AskCreate subject d =
     mapped (λ p. request
     (CommandRequest (Create p.0 p.1.0 p.1.1.0 p.1.1.1.0 p.1.1.1.1.0 p.1.1.1.1.1)))
-    (both malformed_number (holder_in (codes "holder") d)
+    (both malformed_number subject.holder
     (both malformed_number (member_in as_asn Asn (codes "asn") d)
     (both malformed_number (prefix_in d)
     (both malformed_number (max_in d)
     (both malformed_number (day_in (codes "from") d) (day_in (codes "until") d))))))
-request_in AskAmend d =
-    mapped (λ p. request (CommandRequest (Amend p.0 p.1.0 p.1.1.0 p.1.1.1)))
-    (both malformed_number (holder_in (codes "holder") d)
-    (both malformed_number (number_in d)
-    (both malformed_number (max_in d) (day_in (codes "until") d))))
-request_in AskWithdraw d =
-    mapped (λ p. request (CommandRequest (Withdraw p.0 p.1))) (holder_and_number d)
-request_in AskShow d = mapped (λ p. request (QueryRequest (Show p.0 p.1))) (holder_and_number d)
-request_in AskContent d =
-    mapped (λ p. request (QueryRequest (Content p.0 p.1))) (holder_and_number d)
-request_in AskList d =
-    mapped (λ p. request (QueryRequest (ListQuery p))) (holder_in (codes "holder") d)
-request_in AskPayloads d = Ok (request (QueryRequest Payloads))
-request_in AskValidity d = mapped validity (routes_in d)
+request_in AskAmend subject d =
+    mapped (λ p. request (CommandRequest (Amend p.0.0 p.0.1 p.1.0 p.1.1)))
+    (both malformed_number (holder_and_number subject)
+    (both malformed_number (max_in d) (day_in (codes "until") d)))
+request_in AskWithdraw subject d =
+    mapped (λ p. request (CommandRequest (Withdraw p.0 p.1))) (holder_and_number subject)
+request_in AskShow subject d =
+    mapped (λ p. request (QueryRequest (Show p.0 p.1))) (holder_and_number subject)
+request_in AskContent subject d =
+    mapped (λ p. request (QueryRequest (Content p.0 p.1))) (holder_and_number subject)
+request_in AskList subject d =
+    mapped (λ p. request (QueryRequest (ListQuery p))) subject.holder
+request_in AskPayloads subject d = Ok (request (QueryRequest Payloads))
+request_in AskValidity subject d = mapped validity (routes_in d)
 
 -- ---- lines
+
+-- a line has members for its holder and its number
+abbrev pub line_subject : Data → Subject
+line_subject d = record { holder = holder_in (codes "holder") d; number = number_in d }
 
 abbrev pub asked_as : Action → Data → Result AskedTerms Fault
 asked_as action d =
     unless malformed_number
     (both malformed_number (day_in (codes "day") d)
-    (both malformed_number (caller_in (codes "caller") d) (request_in action d)))
+    (both malformed_number (caller_in (codes "caller") d) (request_in action (line_subject d) d)))
     (only Members (names_of (members_of action)) d)
 
 abbrev pub asked_by : Option Action → Data → Result AskedTerms Fault

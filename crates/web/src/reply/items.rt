@@ -9,7 +9,7 @@ use arrayvec::ArrayString;
 use payload::Validity;
 use policy::Auth;
 
-pub(super) trait ItemText {
+pub(crate) trait ItemText {
     ghost text: { Self → List ℕ };
 
     fn item_text(&self) -> ArrayString<255>
@@ -73,7 +73,7 @@ fn terms_text(asn: Asn, prefix: &Prefix, max: u8) -> ArrayString<120>
     text
 }
 
-fn prefix_text(prefix: &Prefix) -> ArrayString<48>
+pub(crate) fn prefix_text(prefix: &Prefix) -> ArrayString<48>
     ensures { result.bytes ≡ spelling prefix.now.family prefix.now.first prefix.now.length }
 {
     let mut text = ArrayString::new();

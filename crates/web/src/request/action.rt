@@ -1,30 +1,13 @@
 // What a request's `do` says.
-ghost use Rattle.std.specs.Prelude.{◌≡◌};
+ghost use Rattle.std.specs.Prelude.{◌≡◌, ◌+◌, map, length};
 ghost use Rattle.serde_json.specs.View.{view};
 ghost use Rattle.json_values.specs.Tree.{only};
-ghost use Rattle.web.specs.RequestFaults.{action_in, action_of, members_of, names_of};
+ghost use Rattle.web.specs.RequestFaults.{action_in, action_of, body_members, members_of, named_by, names_of};
 
 use super::fault::Fault;
+use http_messages::Action;
 use json_values::only;
 use serde_json::Value;
-
-#[derive(Clone, Copy, Debug, PartialEq, Eq)]
-pub(crate) enum Action {
-    Register,
-    Delegate,
-    Transfer,
-    Reclaim,
-    Grant,
-    Revoke,
-    Create,
-    Amend,
-    Withdraw,
-    Show,
-    Content,
-    List,
-    Payloads,
-    Validity,
-}
 
 pub(crate) fn action_in(value: &Value) -> Option<Action>
     ensures { result ≡ action_in (view value.now) }
@@ -71,36 +54,61 @@ fn action_of(text: &str) -> Option<Action>
     }
 }
 
-/// Refuses what is no object, or has a member that the request does not have.
+/// Refuses what is no object, or has a member that the request's line does not have.
 pub(crate) fn only_members_of(action: Action, value: &Value) -> Result<(), Fault>
     ensures { result ≡ only Fault.Members (names_of (members_of action)) (view value.now) }
 {
+    only(value, line_members(action))
+}
+
+/// Refuses what is no object, or has a member that the request's body does not have.
+pub(crate) fn only_body_members_of(action: Action, value: &Value) -> Result<(), Fault>
+    ensures { result ≡ only Fault.Members (names_of (body_members action)) (view value.now) }
+{
+    only(value, body_members(action))
+}
+
+/// The members of the request's line: those of every line, what the request names, and those that
+/// a body has too.
+fn line_members(action: Action) -> &'static [&'static str]
+    ensures { map (λ name. name.now) result.now ≡ names_of (members_of action) }
+{
     match action {
-        Action::Register | Action::List => only(value, &["day", "caller", "do", "holder"]),
-        Action::Delegate | Action::Reclaim => {
-            only(value, &["day", "caller", "do", "holder", "prefix"])
-        }
-        Action::Transfer => only(value, &["day", "caller", "do", "prefix", "giver", "taker"]),
-        Action::Grant => only(
-            value,
-            &[
-                "day", "caller", "do", "holder", "name", "role", "scope", "until",
-            ],
-        ),
+        Action::Register | Action::List => &["day", "caller", "do", "holder"],
+        Action::Delegate | Action::Reclaim => &["day", "caller", "do", "holder", "prefix"],
+        Action::Transfer => &["day", "caller", "do", "prefix", "giver", "taker"],
+        Action::Grant => &[
+            "day", "caller", "do", "holder", "name", "role", "scope", "until",
+        ],
         Action::Revoke | Action::Withdraw | Action::Show | Action::Content => {
-            only(value, &["day", "caller", "do", "holder", "number"])
+            &["day", "caller", "do", "holder", "number"]
         }
-        Action::Create => only(
-            value,
-            &[
-                "day", "caller", "do", "holder", "asn", "prefix", "max", "from", "until",
-            ],
-        ),
-        Action::Amend => only(
-            value,
-            &["day", "caller", "do", "holder", "number", "max", "until"],
-        ),
-        Action::Payloads => only(value, &["day", "caller", "do"]),
-        Action::Validity => only(value, &["day", "caller", "do", "routes"]),
+        Action::Create => &[
+            "day", "caller", "do", "holder", "asn", "prefix", "max", "from", "until",
+        ],
+        Action::Amend => &["day", "caller", "do", "holder", "number", "max", "until"],
+        Action::Payloads => &["day", "caller", "do"],
+        Action::Validity => &["day", "caller", "do", "routes"],
+    }
+}
+
+fn body_members(action: Action) -> &'static [&'static str]
+    ensures { map (λ name. name.now) result.now ≡ names_of (body_members action) }
+{
+    &line_members(action)[members_before_body(action)..]
+}
+
+fn members_before_body(action: Action) -> usize
+    ensures { result ≡ 3 + length (named_by action) }
+{
+    match action {
+        Action::Transfer | Action::Payloads | Action::Validity => 3,
+        Action::Revoke | Action::Amend | Action::Withdraw | Action::Show | Action::Content => 5,
+        Action::Register
+        | Action::Delegate
+        | Action::Reclaim
+        | Action::Grant
+        | Action::Create
+        | Action::List => 4,
     }
 }

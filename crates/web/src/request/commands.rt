@@ -1,48 +1,57 @@
 // One reader for each request, of the members that are its own.
 ghost use Rattle.std.specs.Prelude.{◌≡◌};
+ghost use Rattle.serde_json.specs.Data.{null};
 ghost use Rattle.serde_json.specs.View.{view};
 ghost use Rattle.json_values.specs.Parts.{mapped};
 ghost use Rattle.web.specs.steps.RequestReading.{holder_and_number, holder_and_prefix, request_in, request_terms};
 
-use super::action::Action;
 use super::fault::Fault;
 use super::members::{
-    asn_in, caller_in, day_in, holder_in, max_in, number_in, prefix_in, role_in, scope_in,
+    asn_in, caller_in, day_in, holder_in, max_in, prefix_in, role_in, scope_in,
 };
 use addr::{Name, Prefix};
 use desk::Request;
+use http_messages::Action;
 use json_values::both;
 use policy::{Command, Query};
 use serde_json::Value;
 
-fn holder_and_prefix(value: &Value) -> Result<(Name, Prefix), Fault>
-    ensures { result ≡ holder_and_prefix (view value.now) }
-{
-    both(holder_in(value, "holder"), prefix_in(value))
+/// The holder and the number that a request names. Where it names none, the fault counts for nothing.
+#[derive(Clone, Copy, Debug)]
+pub(crate) struct Subject {
+    pub(crate) holder: Result<Name, Fault>,
+    pub(crate) number: Result<u32, Fault>,
 }
 
-fn holder_and_number(value: &Value) -> Result<(Name, u32), Fault>
-    ensures { result ≡ holder_and_number (view value.now) }
+fn holder_and_prefix(subject: Subject, value: &Value) -> Result<(Name, Prefix), Fault>
+    ensures { result ≡ holder_and_prefix subject (view value.now) }
 {
-    both(holder_in(value, "holder"), number_in(value))
+    both(subject.holder, prefix_in(value))
 }
 
-pub(crate) fn register_in(value: &Value) -> Result<Request, Fault>
-    ensures { mapped request_terms result ≡ request_in Action.Register (view value.now) }
+fn holder_and_number(subject: Subject) -> Result<(Name, u32), Fault>
+    ensures { result ≡ holder_and_number subject }
 {
-    let holder = holder_in(value, "holder")?;
+    both(subject.holder, subject.number)
+}
+
+pub(crate) fn register_in(subject: Subject) -> Result<Request, Fault>
+    ensures { mapped request_terms result ≡ request_in Action.Register subject null }
+{
+    let holder = subject.holder?;
     Ok(Request::Command(Command::Register { holder }))
 }
 
-pub(crate) fn delegate_in(value: &Value) -> Result<Request, Fault>
-    ensures { mapped request_terms result ≡ request_in Action.Delegate (view value.now) }
+pub(crate) fn delegate_in(subject: Subject, value: &Value) -> Result<Request, Fault>
+    ensures { mapped request_terms result ≡ request_in Action.Delegate subject (view value.now) }
 {
-    let (holder, prefix) = holder_and_prefix(value)?;
+    let (holder, prefix) = holder_and_prefix(subject, value)?;
     Ok(Request::Command(Command::Delegate { holder, prefix }))
 }
 
 pub(crate) fn transfer_in(value: &Value) -> Result<Request, Fault>
-    ensures { mapped request_terms result ≡ request_in Action.Transfer (view value.now) }
+    ensures { (subject : Subject) → mapped request_terms result
+        ≡ request_in Action.Transfer subject (view value.now) }
 {
     let holders = both(holder_in(value, "giver"), holder_in(value, "taker"));
     let (prefix, (giver, taker)) = both(prefix_in(value), holders)?;
@@ -53,24 +62,21 @@ pub(crate) fn transfer_in(value: &Value) -> Result<Request, Fault>
     }))
 }
 
-pub(crate) fn reclaim_in(value: &Value) -> Result<Request, Fault>
-    ensures { mapped request_terms result ≡ request_in Action.Reclaim (view value.now) }
+pub(crate) fn reclaim_in(subject: Subject, value: &Value) -> Result<Request, Fault>
+    ensures { mapped request_terms result ≡ request_in Action.Reclaim subject (view value.now) }
 {
-    let (holder, prefix) = holder_and_prefix(value)?;
+    let (holder, prefix) = holder_and_prefix(subject, value)?;
     Ok(Request::Command(Command::Reclaim { holder, prefix }))
 }
 
-pub(crate) fn grant_in(value: &Value) -> Result<Request, Fault>
-    ensures { mapped request_terms result ≡ request_in Action.Grant (view value.now) }
+pub(crate) fn grant_in(subject: Subject, value: &Value) -> Result<Request, Fault>
+    ensures { mapped request_terms result ≡ request_in Action.Grant subject (view value.now) }
 {
     let access = both(
         role_in(value),
         both(scope_in(value), day_in(value, "until")),
     );
-    let members = both(
-        holder_in(value, "holder"),
-        both(caller_in(value, "name"), access),
-    );
+    let members = both(subject.holder, both(caller_in(value, "name"), access));
     let (holder, (name, (role, (scope, until)))) = members?;
     Ok(Request::Command(Command::Grant {
         holder,
@@ -81,22 +87,22 @@ pub(crate) fn grant_in(value: &Value) -> Result<Request, Fault>
     }))
 }
 
-pub(crate) fn revoke_in(value: &Value) -> Result<Request, Fault>
-    ensures { mapped request_terms result ≡ request_in Action.Revoke (view value.now) }
+pub(crate) fn revoke_in(subject: Subject) -> Result<Request, Fault>
+    ensures { mapped request_terms result ≡ request_in Action.Revoke subject null }
 {
-    let (holder, number) = holder_and_number(value)?;
+    let (holder, number) = holder_and_number(subject)?;
     Ok(Request::Command(Command::Revoke { holder, number }))
 }
 
-pub(crate) fn create_in(value: &Value) -> Result<Request, Fault>
-    ensures { mapped request_terms result ≡ request_in Action.Create (view value.now) }
+pub(crate) fn create_in(subject: Subject, value: &Value) -> Result<Request, Fault>
+    ensures { mapped request_terms result ≡ request_in Action.Create subject (view value.now) }
 {
     let days = both(day_in(value, "from"), day_in(value, "until"));
     let terms = both(
         asn_in(value),
         both(prefix_in(value), both(max_in(value), days)),
     );
-    let members = both(holder_in(value, "holder"), terms);
+    let members = both(subject.holder, terms);
     let (holder, (asn, (prefix, (max, (from, until))))) = members?;
     Ok(Request::Command(Command::Create {
         holder,
@@ -108,12 +114,11 @@ pub(crate) fn create_in(value: &Value) -> Result<Request, Fault>
     }))
 }
 
-pub(crate) fn amend_in(value: &Value) -> Result<Request, Fault>
-    ensures { mapped request_terms result ≡ request_in Action.Amend (view value.now) }
+pub(crate) fn amend_in(subject: Subject, value: &Value) -> Result<Request, Fault>
+    ensures { mapped request_terms result ≡ request_in Action.Amend subject (view value.now) }
 {
     let terms = both(max_in(value), day_in(value, "until"));
-    let members = both(holder_in(value, "holder"), both(number_in(value), terms));
-    let (holder, (number, (max, until))) = members?;
+    let ((holder, number), (max, until)) = both(holder_and_number(subject), terms)?;
     Ok(Request::Command(Command::Amend {
         holder,
         number,
@@ -122,30 +127,30 @@ pub(crate) fn amend_in(value: &Value) -> Result<Request, Fault>
     }))
 }
 
-pub(crate) fn withdraw_in(value: &Value) -> Result<Request, Fault>
-    ensures { mapped request_terms result ≡ request_in Action.Withdraw (view value.now) }
+pub(crate) fn withdraw_in(subject: Subject) -> Result<Request, Fault>
+    ensures { mapped request_terms result ≡ request_in Action.Withdraw subject null }
 {
-    let (holder, number) = holder_and_number(value)?;
+    let (holder, number) = holder_and_number(subject)?;
     Ok(Request::Command(Command::Withdraw { holder, number }))
 }
 
-pub(crate) fn show_in(value: &Value) -> Result<Request, Fault>
-    ensures { mapped request_terms result ≡ request_in Action.Show (view value.now) }
+pub(crate) fn show_in(subject: Subject) -> Result<Request, Fault>
+    ensures { mapped request_terms result ≡ request_in Action.Show subject null }
 {
-    let (holder, number) = holder_and_number(value)?;
+    let (holder, number) = holder_and_number(subject)?;
     Ok(Request::Query(Query::Show { holder, number }))
 }
 
-pub(crate) fn content_in(value: &Value) -> Result<Request, Fault>
-    ensures { mapped request_terms result ≡ request_in Action.Content (view value.now) }
+pub(crate) fn content_in(subject: Subject) -> Result<Request, Fault>
+    ensures { mapped request_terms result ≡ request_in Action.Content subject null }
 {
-    let (holder, number) = holder_and_number(value)?;
+    let (holder, number) = holder_and_number(subject)?;
     Ok(Request::Query(Query::Content { holder, number }))
 }
 
-pub(crate) fn list_in(value: &Value) -> Result<Request, Fault>
-    ensures { mapped request_terms result ≡ request_in Action.List (view value.now) }
+pub(crate) fn list_in(subject: Subject) -> Result<Request, Fault>
+    ensures { mapped request_terms result ≡ request_in Action.List subject null }
 {
-    let holder = holder_in(value, "holder")?;
+    let holder = subject.holder?;
     Ok(Request::Query(Query::List { holder }))
 }

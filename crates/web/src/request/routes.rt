@@ -2,8 +2,7 @@
 ghost use Rattle.std.specs.Prelude.{◌≡◌, IfOk};
 ghost use Rattle.serde_json.specs.View.{view};
 ghost use Rattle.json_values.specs.Parts.{mapped};
-ghost use Rattle.web.specs.steps.RequestReading.{count_of, request_in, request_terms, routes_in};
-ghost use Rattle.web.specs.declared.request.action.Action.TheVariants.{Validity};
+ghost use Rattle.web.specs.steps.RequestReading.{count_of, request_terms, routes_in, validity};
 
 use super::fault::Fault;
 use super::members::{origin_in, prefix_in};
@@ -23,7 +22,7 @@ pub(crate) fn validity_in(
     value: &Value,
 ) -> Result<Result<Request, Fault>, AllocError>
     ensures { IfOk result (λ request. mapped request_terms request
-        ≡ request_in Validity (view value.now)) }
+        ≡ mapped validity (routes_in (view value.now))) }
 {
     let routes = routes_in(alloc, value)?;
     Ok(asked_validity(routes))

@@ -8,12 +8,10 @@ returns-in_err-holder c =
     rw (
       p.1,
       p.2,
-      ← c.holder_in.ensures,
-      ← c.number_in.ensures,
+      ← c.holder_and_number.ensures,
       ← c.max_in.ensures,
       ← c.day_in.ensures,
       ← c.both-terms.ensures,
       ← c.both.ensures,
-      ← c.both-members.ensures,
       c.in_err-holder.was,
     ) refl

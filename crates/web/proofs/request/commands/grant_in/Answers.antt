@@ -8,7 +8,6 @@ returns-in_err-holder c =
     rw (
       p.1,
       p.2,
-      ← c.holder_in.ensures,
       ← c.caller_in.ensures,
       ← c.role_in.ensures,
       ← c.scope_in.ensures,

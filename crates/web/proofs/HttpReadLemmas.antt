@@ -1,0 +1,106 @@
+-- What the code reads of an HTTP message is the request that the message is, and its fault the lowest.
+use Rattle.std.proofs.Common.{◌≡◌, ℕ, List, [], ◌∷◌, ◌++◌, Option, Some, None, is_some, Ok, Err, refl, sym, ap, ◌∙◌, append_assoc}
+use Rattle.std.specs.List.{flat_map}
+use Rattle.serde_json.specs.Data.{Data, null}
+use Rattle.json_values.proofs.FaultLemmas.{told-only}
+use Rattle.json_values.specs.Faults.{fault_unless, lower_of, lowest, name_faults}
+use Rattle.json_values.specs.Parts.{lower, mapped}
+use Rattle.json_values.specs.Tree.{tree_of}
+use Rattle.desk.specs.declared.asked.Asked.{Asked}
+use Rattle.http_messages.specs.Requests.{Asked as Head}
+use Rattle.web.specs.HttpFaults.{body_faults, caller_name, http_fault, http_faults, path_faults, tree_faults}
+use Rattle.web.specs.HttpRequests.{body_tree, http_heading, SaysAsked}
+use Rattle.web.specs.RequestFaults.{body_members, malformed_number, member_faults, named_by, names_of}
+use Rattle.web.specs.declared.request.fault.Fault.{Fault}
+use Rattle.web.specs.declared.request.fault.Fault.TheVariants.{Json, Members, Holder, Caller, Prefix, Asn, Max, Day, Role, Number, Count, TooLong}
+use Rattle.web.specs.steps.HttpReading.{asked_of, path_subject, request_of, tree_request}
+use Rattle.web.specs.steps.RequestReading.{AskedTerms, RequestTerms, asked_terms}
+use Rattle.web.proofs.RequestFaultLemmas.{ReadsUnlessFaulty, lowest-none, reads-both, reads-ok_or, reads-says, reads-unless}
+use Rattle.web.proofs.RequestReadLemmas.{SaysTerms, reads-request, terms-said}
+
+-- no fault is lower than this one
+lower-json : (fault : Fault) → lower malformed_number fault Json ≡ Json
+unfolding lower
+lower-json Json = refl
+lower-json Members = refl
+lower-json Holder = refl
+lower-json Caller = refl
+lower-json Prefix = refl
+lower-json Asn = refl
+lower-json Max = refl
+lower-json Day = refl
+lower-json Role = refl
+lower-json Number = refl
+lower-json Count = refl
+lower-json TooLong = refl
+
+lowest-json : (faults : List Fault) → Some Json ≡ lowest malformed_number (faults ++ Json ∷ [])
+lowest-json [] = refl
+lowest-json (fault ∷ faults) =
+    ap Some (sym (lower-json fault)) ∙ ap (lower_of malformed_number (Some fault)) (lowest-json faults)
+
+reads-day : (day : ℕ) → ReadsUnlessFaulty (Ok day) [] (λ asked_day. asked_day ≡ day)
+reads-day day = record { told = record { is = refl }; value = refl }
+
+module _ (head : Head) where
+  -- the faults of the path
+  abbrev in_path : List Fault
+  in_path = flat_map (path_faults head) (named_by head.action)
+
+  -- the request that the body's value says
+  abbrev SaysTree : Option Data → RequestTerms → Type 0
+  SaysTree found terms = (d : Data) × (found ≡ Some d) × SaysTerms (http_heading head) d terms
+
+  reads-tree : (found : Option Data)
+      → ReadsUnlessFaulty (tree_request head.action (path_subject head) found)
+      (in_path ++ tree_faults head.action found) (SaysTree found)
+  reads-tree None = record { told = record { is = lowest-json in_path }; value = tt }
+  reads-tree (Some d) =
+      reads-says (λ terms says. (d, refl, says))
+      (rw (← append_assoc in_path (member_faults (body_members head.action) d)
+      (name_faults Members (names_of (body_members head.action)) d))
+      (reads-unless (reads-request (http_heading head) (path_subject head) (path_faults head)
+      (reads-ok_or _ Holder) (reads-ok_or _ Number) head.action d refl)
+      (told-only malformed_number Members (names_of (body_members head.action)) d)))
+
+  reads-body : (body : Option (List ℕ))
+      → ReadsUnlessFaulty (request_of head body) (in_path ++ body_faults head.action body) (SaysTree (body_tree body))
+  reads-body None =
+      reads-says (λ terms says. (null, refl, says))
+      (reads-request (http_heading head) (path_subject head) (path_faults head)
+      (reads-ok_or _ Holder) (reads-ok_or _ Number) head.action null refl)
+  reads-body (Some bytes) = reads-tree (tree_of bytes)
+
+  -- what is asked on the day, but for the faults
+  abbrev AsksTerms : ℕ → Option (List ℕ) → AskedTerms → Type 0
+  AsksTerms day body asked =
+      (asked.0 ≡ day) × (caller_name head ≡ Some asked.1.0) × SaysTree (body_tree body) asked.1.1
+
+  reads-http : (day : ℕ) (body : Option (List ℕ))
+      → ReadsUnlessFaulty (asked_of day head body) (http_faults head body) (AsksTerms day body)
+  reads-http day body =
+      rw (append_assoc (fault_unless (is_some (caller_name head)) Caller) in_path (body_faults head.action body))
+      (reads-says (λ asked says. (says.0, says.1.0, says.1.1))
+      (reads-both (reads-day day) (reads-both (reads-ok_or (caller_name head) Caller) (reads-body body))))
+
+  -- what was read of a message is what the message says
+  pub http-read : (day : ℕ) (body : Option (List ℕ)) (asked : Asked) →
+      mapped asked_terms (Ok asked) ≡ asked_of day head body → SaysAsked day head body asked
+  http-read day body asked read =
+      let reads = reads-http day body in
+      let says = rw (← read) at reads.value in
+      let fault = rw (← read) at reads.told.is in record {
+        tree = says.2.0;
+        is_tree = says.2.1;
+        on_day = says.0;
+        caller = says.1;
+        request = terms-said (http_heading head) says.2.0 asked.request says.2.2;
+        faultless = lowest-none (http_faults head body) (sym fault);
+      }
+
+  -- what is told of a message is its lowest fault
+  pub http-refused : (day : ℕ) (body : Option (List ℕ)) (fault : Fault) →
+      mapped asked_terms (Err fault) ≡ asked_of day head body →
+      http_fault head body ≡ Some (record { number = malformed_number fault; slurm = None })
+  http-refused day body fault read =
+      let told = rw (← read) at (reads-http day body).told.is in rw (← told) refl

@@ -1,0 +1,35 @@
+-- What a desk answers to an HTTP request, and the history that this leaves.
+use Rattle.std.specs.Prelude.{◌≡◌, ◌⊎◌, ℕ, List}
+use Rattle.sqlite.specs.Store.{Ghosts}
+use Rattle.desk.specs.Answer.{AnswersRequest}
+use Rattle.desk.specs.Desk.{charter_of}
+use Rattle.desk.specs.declared.asked.Asked.{Asked}
+use Rattle.desk.specs.declared.handling.Desk.{Desk}
+use Rattle.desk.specs.declared.reply.Reply.{Reply}
+use Rattle.desk.specs.declared.reply.Reply.TheVariants.{Unavailable}
+use Rattle.web.specs.HttpRequests.{asked, HttpRequest, IsWithinMessage, malformed, ReadsHttp, refused}
+use Rattle.web.specs.HttpResponses.{malformed_response, refusal_response, reply_response}
+use Rattle.web.specs.ScriptAnswer.{OnHistories}
+
+-- the reply to a request, on each history that the desk stands for
+abbrev pub RepliesAt : {S : Type 0} → Ghosts S → Desk S → Asked → Reply → Desk S → Type 0
+RepliesAt g old request reply new = OnHistories g old new (λ before after.
+    AnswersRequest (charter_of old) before request.day request.caller request.request reply after)
+
+-- each history that the desk stands for stays
+abbrev pub KeepsHistories : {S : Type 0} → Ghosts S → Desk S → Desk S → Type 0
+KeepsHistories g old new = OnHistories g old new (λ before after. after ≡ before)
+
+-- the response to what the bytes ask for; what is refused or malformed is not asked of the desk
+abbrev pub AnswersHttp : {S : Type 0} → Ghosts S → Desk S → HttpRequest → List ℕ → Desk S → Type 0
+AnswersHttp g old (refused refusal) text new = (text ≡ refusal_response refusal) × (new ≡ old)
+AnswersHttp g old (malformed fault) text new = (text ≡ malformed_response fault) × (new ≡ old)
+AnswersHttp g old (asked request) text new =
+    (reply : Reply) × (text ≡ reply_response reply) × RepliesAt g old request reply new
+
+-- The response of a desk to the bytes that were read, on a day. Where no memory was found to read the request or to
+-- write what it shows, the response says so and nothing has changed.
+abbrev pub RespondsTo : {S : Type 0} → Ghosts S → Desk S → ℕ → List ℕ → List ℕ → Desk S → Type 0
+RespondsTo g old day bytes text new =
+    ((request : HttpRequest) × ReadsHttp day bytes request × AnswersHttp g old request text new)
+    ⊎ (IsWithinMessage bytes × (text ≡ reply_response Unavailable) × KeepsHistories g old new)

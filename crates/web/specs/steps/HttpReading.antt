@@ -1,0 +1,41 @@
+-- A step of the code, not a definition: how it reads the request of an HTTP message, from all of its parts at once.
+use Rattle.std.specs.Prelude.{ℕ, List, Option, Some, None, Result, Ok, Err}
+use Rattle.std.specs.Option.{ok_or}
+use Rattle.addr.specs.Name.{name_in}
+use Rattle.serde_json.specs.Data.{Data, null}
+use Rattle.json_values.specs.Parts.{both, unless}
+use Rattle.json_values.specs.Tree.{only, tree_of}
+use Rattle.http_messages.specs.Requests.{Asked as Head}
+use Rattle.http_messages.specs.declared.action.Action.{Action}
+use Rattle.web.specs.HttpFaults.{caller_name, path_number}
+use Rattle.web.specs.RequestFaults.{body_members, malformed_number, names_of}
+use Rattle.web.specs.declared.request.commands.Subject.{Subject}
+use Rattle.web.specs.declared.request.fault.Fault.{Fault}
+use Rattle.web.specs.declared.request.fault.Fault.TheVariants.{Json, Members, Holder, Caller, Number}
+use Rattle.web.specs.steps.RequestReading.{AskedTerms, RequestTerms, request_in}
+
+abbrev pub path_subject : Head → Subject
+path_subject head = record {
+  holder = ok_or (name_in head.holder) Holder;
+  number = ok_or (path_number head.number) Number;
+}
+
+abbrev pub caller_of : Head → Result (List ℕ) Fault
+caller_of head = ok_or (caller_name head) Caller
+
+abbrev pub object_request : Action → Subject → Data → Result RequestTerms Fault
+object_request action subject d =
+    unless malformed_number (request_in action subject d) (only Members (names_of (body_members action)) d)
+
+abbrev pub tree_request : Action → Subject → Option Data → Result RequestTerms Fault
+tree_request action subject None = Err Json
+tree_request action subject (Some d) = object_request action subject d
+
+abbrev pub request_of : Head → Option (List ℕ) → Result RequestTerms Fault
+request_of head None = request_in head.action (path_subject head) null
+request_of head (Some bytes) = tree_request head.action (path_subject head) (tree_of bytes)
+
+-- the request of a head and a body on the day, or its lowest fault
+abbrev pub asked_of : ℕ → Head → Option (List ℕ) → Result AskedTerms Fault
+asked_of day head body =
+    both malformed_number (Ok day) (both malformed_number (caller_of head) (request_of head body))

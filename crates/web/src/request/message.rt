@@ -1,0 +1,114 @@
+//! Reading requests from HTTP messages.
+ghost use Rattle.std.specs.Prelude.{◌≡◌, ◌&&◌, Some, Err, IfOk};
+ghost use Rattle.std.specs.Option.{option_copied};
+ghost use Rattle.serde_json.specs.View.{view};
+ghost use Rattle.json_values.specs.Parts.{mapped};
+ghost use Rattle.http_messages.specs.Requests.{asked_by};
+ghost use Rattle.web.specs.HttpFaults.{http_fault, path_number};
+ghost use Rattle.web.specs.HttpRequests.{SaysAsked};
+ghost use Rattle.web.specs.steps.HttpReading.{asked_of, caller_of, object_request, path_subject, request_of};
+ghost use Rattle.web.specs.steps.RequestReading.{asked_terms, request_terms};
+
+use super::action::only_body_members_of;
+use super::commands::Subject;
+use super::fault::Fault;
+use super::{LineFault, asked_with, request_in};
+use crate::malformed::Malformed;
+use addr::{Day, Name, number_from_text};
+use desk::{Asked, Request};
+use http_messages::{Action, Request as Head};
+use json_values::{both, tree_of, unless};
+use policy::LAST_NUMBER;
+use serde_json::Value;
+use std::alloc::{AllocError, Global};
+
+/// Reads the request that a head and its body are, or tells its lowest fault.
+pub(crate) fn read_http_request(
+    alloc: Global,
+    day: Day,
+    head: &Head<'_>,
+    body: Option<&[u8]>,
+) -> Result<Asked, LineFault>
+    ensures ok { IfOk result (SaysAsked day (asked_by head.now) (option_copied body.entry)) }
+    ensures malformed { (m : Malformed) → result ≡ Err (LineFault.Malformed m)
+        → http_fault (asked_by head.now) (option_copied body.entry) ≡ Some m }
+{
+    match asked_of(alloc, day, head, body) {
+        Ok(Ok(asked)) => Ok(asked),
+        Ok(Err(fault)) => Err(LineFault::Malformed(fault.malformed())),
+        Err(_) => Err(LineFault::Memory),
+    }
+}
+
+// In what follows an outer error is want of memory.
+
+fn asked_of(
+    alloc: Global,
+    day: Day,
+    head: &Head<'_>,
+    body: Option<&[u8]>,
+) -> Result<Result<Asked, Fault>, AllocError>
+    ensures { IfOk result (λ asked. mapped asked_terms asked
+        ≡ asked_of day (asked_by head.now) (option_copied body.entry)) }
+{
+    let request = request_of(alloc, head, body)?;
+    Ok(asked_with(both(Ok(day), both(caller_of(head), request))))
+}
+
+fn caller_of(head: &Head<'_>) -> Result<Name, Fault>
+    ensures { result ≡ caller_of (asked_by head.now) }
+{
+    match head.caller {
+        Some(caller) => Name::read(caller).ok_or(Fault::Caller),
+        None => Err(Fault::Caller),
+    }
+}
+
+fn request_of(
+    alloc: Global,
+    head: &Head<'_>,
+    body: Option<&[u8]>,
+) -> Result<Result<Request, Fault>, AllocError>
+    ensures { IfOk result (λ request. mapped request_terms request
+        ≡ request_of (asked_by head.now) (option_copied body.entry)) }
+{
+    let subject = path_subject(head);
+    let Some(bytes) = body else {
+        return request_in(alloc, head.action, subject, &Value::Null);
+    };
+    match tree_of(alloc, bytes)? {
+        Some(value) => object_request(alloc, head.action, subject, &value),
+        None => Ok(Err(Fault::Json)),
+    }
+}
+
+fn path_subject(head: &Head<'_>) -> Subject
+    ensures { result ≡ path_subject (asked_by head.now) }
+{
+    Subject {
+        holder: Name::read(head.holder).ok_or(Fault::Holder),
+        number: path_number(head.number).ok_or(Fault::Number),
+    }
+}
+
+fn path_number(text: &[u8]) -> Option<u32>
+    ensures { result ≡ path_number text.now }
+{
+    match number_from_text(text) {
+        Some(number) if 1 <= number && number <= u64::from(LAST_NUMBER) => Some(number as u32),
+        _ => None,
+    }
+}
+
+fn object_request(
+    alloc: Global,
+    action: Action,
+    subject: Subject,
+    value: &Value,
+) -> Result<Result<Request, Fault>, AllocError>
+    ensures { IfOk result (λ request. mapped request_terms request
+        ≡ object_request action subject (view value.now)) }
+{
+    let request = request_in(alloc, action, subject, value)?;
+    Ok(unless(request, only_body_members_of(action, value)))
+}
