@@ -3,7 +3,7 @@ use Rattle.std.proofs.Common.{◌≡◌, ℕ, zero, suc, ◌<◌, Bool, true, �
 use Rattle.std.specs.List.{list_any}
 use Rattle.std.proofs.lemmas.List.Folds.{Any-from_list_any, list_any-from_Any}
 use Rattle.addr.specs.declared.vrp.Vrp.{Vrp}
-use Rattle.policy.specs.DailyVrps.{IsVrpOn, IsVrpInForce}
+use Rattle.policy.specs.DailyVrps.{IsVrpInForce}
 use Rattle.policy.specs.History.{History}
 use Rattle.policy.specs.Rows.{Rows}
 use Rattle.policy.specs.Terms.{HeldSinceMade, authorization_terms, Keeps}
@@ -11,7 +11,7 @@ use Rattle.policy.specs.Verdict.{IsLegal}
 use Rattle.policy.specs.declared.authorization.Auth.{Auth}
 use Rattle.policy.specs.declared.charter.Charter.{Charter}
 use Rattle.policy.proofs.Unregistered.{has_nothing}
-use Rattle.policy.specs.RowsOfAll.{HasRows, IsGivenOn}
+use Rattle.policy.specs.RowsOfAll.{AllRows, HasRows, IsGivenOn}
 use Rattle.desk.proofs.DeskLemmas.{rows_present, rows_absent}
 
 pub at_head : {X : Type 0} (x : X) (xs : List X) → Contains (x ∷ xs) x
@@ -71,16 +71,16 @@ kept_is P (z ∷ zs) (y ∷ ys) x keeps there holds =
       ]
     ]
 
-given_in_force : (charter : Charter) (rows : List ℕ → Option Rows) (history : History) → HasRows rows history → (day : ℕ) (v : Vrp) → IsGivenOn rows day v → IsVrpInForce history day v
+given_in_force : (charter : Charter) (rows : AllRows) (history : History) → HasRows rows history → (day : ℕ) (v : Vrp) → IsGivenOn rows day v → IsVrpInForce history day v
 given_in_force charter rows history has day v given =
     let of = rows_present rows history has given.0 given.1 given.3 in
     let was = kept_was (HeldSinceMade history given.0) (authorization_terms history given.0) given.1.auths given.2 of.1.auths given.4 in
     (given.0, given.2, (was, given.5, given.6), given.7)
 
-in_force_given : (charter : Charter) (rows : List ℕ → Option Rows) (history : History) → IsLegal charter history → HasRows rows history → (day : ℕ) (v : Vrp) → IsVrpInForce history day v → IsGivenOn rows day v
-in_force_given charter rows history legal has day v is = go (rows is.0) refl
+in_force_given : (charter : Charter) (rows : AllRows) (history : History) → IsLegal charter history → HasRows rows history → (day : ℕ) (v : Vrp) → IsVrpInForce history day v → IsGivenOn rows day v
+in_force_given charter rows history legal has day v is = go (rows.of_holder is.0) refl
   where
-    go : (found : Option Rows) → rows is.0 ≡ found → IsGivenOn rows day v
+    go : (found : Option Rows) → rows.of_holder is.0 ≡ found → IsGivenOn rows day v
     go None none =
         let nothing = has_nothing charter history is.0 legal (rows_absent rows history has is.0 none) in
         let active = is.2.0 in
@@ -91,12 +91,6 @@ in_force_given charter rows history legal has day v is = go (rows is.0) refl
         let kept = kept_is (HeldSinceMade history is.0) (authorization_terms history is.0) r.auths is.1 of.1.auths active.0 active.1 in
         (is.0, r, is.1, some, kept, is.2.1, is.2.2, is.3)
 
--- the VRPs that the rows give are the VRPs of the day
-pub given_on : (charter : Charter) (rows : List ℕ → Option Rows) (history : History) → IsLegal charter history → HasRows rows history → (day : ℕ) (v : Vrp) → IsGivenOn rows day v ↔ IsVrpOn history day v
-given_on charter rows history legal has day v = (
-  λ given. inl (given_in_force charter rows history has day v given, λ k d below. absurd (omega (arith, below))),
-  λ on. elim on [
-    | inl in_force ↦ in_force_given charter rows history legal has day v in_force.0
-    | inr asserted ↦ absurd (none_in_nil v asserted)
-  ],
-)
+-- the VRPs that the rows give are those of the authorizations in force
+pub given_on : (charter : Charter) (rows : AllRows) (history : History) → IsLegal charter history → HasRows rows history → (day : ℕ) (v : Vrp) → IsGivenOn rows day v ↔ IsVrpInForce history day v
+given_on charter rows history legal has day v = (given_in_force charter rows history has day v, in_force_given charter rows history legal has day v)

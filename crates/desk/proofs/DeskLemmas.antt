@@ -5,8 +5,8 @@ use Rattle.addr.specs.Address.{Address}
 use Rattle.addr.specs.declared.prefix.Prefix.{Prefix}
 use Rattle.policy.specs.History.{History, is_registered}
 use Rattle.policy.specs.Resources.{resource_holder, is_held_by, IsFree}
-use Rattle.policy.specs.Rows.{Rows, RowsOf, RowsIfAny}
-use Rattle.policy.specs.Answer.{IsAccepted, IsAnswer, IsListRefusal, IsOfHolders, number_made}
+use Rattle.policy.specs.Rows.{Rows, RowsOf, RowsIfAny, changed_exceptions}
+use Rattle.policy.specs.Answer.{IsAccepted, IsAnswer, IsListRefusal, IsOfCommand, number_made}
 use Rattle.policy.specs.declared.rule.Refusal.{Refusal}
 use Rattle.policy.specs.declared.rule.Refusal.TheVariants.{Denied, Memory}
 use Rattle.policy.specs.declared.change.Change.{Change}
@@ -16,10 +16,10 @@ use Rattle.desk.specs.declared.reply.Reply.{Reply}
 use Rattle.desk.specs.declared.reply.Reply.TheVariants.{Done}
 use Rattle.desk.specs.declared.handling.Desk.{Desk}
 use Rattle.desk.specs.Desk.{charter_of, HoldsHistory, IsOnCleanDisk, KeepsRows}
-use Rattle.desk.specs.HolderAnswers.{may_change, KeepsOthers}
+use Rattle.desk.specs.HolderAnswers.{may_change, may_except, KeepsOthers}
 use Rattle.desk.specs.steps.Reading.{OfHistories}
 use Rattle.sqlite.specs.Store.{Ghosts}
-use Rattle.store.specs.StoreRows.{StoreView, IsRead, IfClean, HoldsAfter, changed_rows}
+use Rattle.store.specs.StoreRows.{StoreView, IsRead, IfClean, HoldsAfter}
 use Rattle.store.specs.Loads.{OfHeldRows}
 use Rattle.policy.specs.declared.command.Command.{Command}
 use Rattle.policy.specs.Values.{EntryFits}
@@ -27,34 +27,34 @@ use Rattle.policy.specs.Verdict.{IsLegal}
 use Rattle.policy.specs.declared.charter.Charter.{Charter}
 use Rattle.policy.proofs.Names.{held_by_itself}
 use Rattle.policy.proofs.Unregistered.{has_nothing}
-use Rattle.policy.specs.RowsOfAll.{IsTaken, HasRows}
-use Rattle.desk.proofs.HolderLemmas.{others_left}
+use Rattle.policy.specs.RowsOfAll.{AllRows, changed_rows, IsTaken, HasRows}
+use Rattle.desk.proofs.HolderLemmas.{others_left, exceptions_left}
 
 -- the rows of a registered holder
-pub rows_present : (rows : List ℕ → Option Rows) (history : History) → HasRows rows history → (h : List ℕ) (r : Rows) → rows h ≡ Some r → (is_registered history h ≡ true) × RowsOf history h r
-rows_present rows history has h r there = subst (RowsIfAny history h) there (has h)
+pub rows_present : (rows : AllRows) (history : History) → HasRows rows history → (h : List ℕ) (r : Rows) → rows.of_holder h ≡ Some r → (is_registered history h ≡ true) × RowsOf history h r
+rows_present rows history has h r there = subst (RowsIfAny history h) there (has.holders h)
 
 -- a holder without rows is not registered
-pub rows_absent : (rows : List ℕ → Option Rows) (history : History) → HasRows rows history → (h : List ℕ) → rows h ≡ None → is_registered history h ≡ false
-rows_absent rows history has h there = subst (RowsIfAny history h) there (has h)
+pub rows_absent : (rows : AllRows) (history : History) → HasRows rows history → (h : List ℕ) → rows.of_holder h ≡ None → is_registered history h ≡ false
+rows_absent rows history has h there = subst (RowsIfAny history h) there (has.holders h)
 
 -- a holder of an address has rows
-pub holder_has_rows : (charter : Charter) (rows : List ℕ → Option Rows) (history : History) → IsLegal charter history → HasRows rows history → (h : List ℕ) (a : Address) → resource_holder history a ≡ Some h → (r : Rows) × (rows h ≡ Some r)
-holder_has_rows charter rows history legal has h a held = go (rows h) refl
+pub holder_has_rows : (charter : Charter) (rows : AllRows) (history : History) → IsLegal charter history → HasRows rows history → (h : List ℕ) (a : Address) → resource_holder history a ≡ Some h → (r : Rows) × (rows.of_holder h ≡ Some r)
+holder_has_rows charter rows history legal has h a held = go (rows.of_holder h) refl
   where
-    go : (found : Option Rows) → rows h ≡ found → (r : Rows) × (rows h ≡ Some r)
+    go : (found : Option Rows) → rows.of_holder h ≡ found → (r : Rows) × (rows.of_holder h ≡ Some r)
     go (Some r) is = (r, is)
     go None is = absurd (false≢true (sym ((has_nothing charter history h legal (rows_absent rows history has h is)).holders a) ∙ ap (is_held_by h) held ∙ held_by_itself h))
 
 -- what is taken is not free
-pub taken_not_free : (rows : List ℕ → Option Rows) (history : History) → HasRows rows history → (p : Prefix) → IsTaken rows p → IsFree history p → ⊥
+pub taken_not_free : (rows : AllRows) (history : History) → HasRows rows history → (p : Prefix) → IsTaken rows p → IsFree history p → ⊥
 taken_not_free rows history has p taken free =
     let of = rows_present rows history has taken.0 taken.1 taken.2 in
     let a = taken.3.0 in
     false≢true (sym (ap (is_held_by taken.0) (free a taken.3.1)) ∙ sym (of.1.holdings a) ∙ taken.3.2)
 
 -- what is not taken is free
-pub untaken_free : (charter : Charter) (rows : List ℕ → Option Rows) (history : History) → IsLegal charter history → HasRows rows history → (p : Prefix) → (IsTaken rows p → ⊥) → IsFree history p
+pub untaken_free : (charter : Charter) (rows : AllRows) (history : History) → IsLegal charter history → HasRows rows history → (p : Prefix) → (IsTaken rows p → ⊥) → IsFree history p
 untaken_free charter rows history legal has p untaken a inside = go (resource_holder history a) refl
   where
     go : (held : Option (List ℕ)) → resource_holder history a ≡ held → resource_holder history a ≡ None
@@ -64,7 +64,7 @@ untaken_free charter rows history legal has p untaken a inside = go (resource_ho
         let of = rows_present rows history has h found.0 found.1 in
         absurd (untaken (h, found.0, found.1, (a, inside, of.1.holdings a ∙ ap (is_held_by h) is ∙ held_by_itself h)))
 
-pub tells_taken : (charter : Charter) (rows : List ℕ → Option Rows) (history : History) → IsLegal charter history → HasRows rows history → (p : Prefix) (taken : Bool) → IsTrue taken ↔ IsTaken rows p → MatchBool taken (IsFree history p → ⊥) (IsFree history p)
+pub tells_taken : (charter : Charter) (rows : AllRows) (history : History) → IsLegal charter history → HasRows rows history → (p : Prefix) (taken : Bool) → IsTrue taken ↔ IsTaken rows p → MatchBool taken (IsFree history p → ⊥) (IsFree history p)
 tells_taken charter rows history legal has p true tells = taken_not_free rows history has p (tells.0 refl)
 tells_taken charter rows history legal has p false tells = untaken_free charter rows history legal has p (λ taken. false≢true (tells.1 taken))
 
@@ -84,8 +84,8 @@ module _ {S : Type 0} (g : Ghosts S) where
   }
 
   -- what was found of the rows is so of the histories
-  pub of_held : {X E : Type 0} (so : X → (List ℕ → Option Rows) → Type 0) (is : X → History → Type 0) (old new : Desk S)
-      → ((x : X) (rows : List ℕ → Option Rows) (history : History) → IsLegal (charter_of old) history → HasRows rows history → so x rows → is x history)
+  pub of_held : {X E : Type 0} (so : X → AllRows → Type 0) (is : X → History → Type 0) (old new : Desk S)
+      → ((x : X) (rows : AllRows) (history : History) → IsLegal (charter_of old) history → HasRows rows history → so x rows → is x history)
       → (r : Result X E) → IfClean g new.store (IfOk r (λ x. OfHeldRows g old.store (so x))) → IfOk r (λ x. OfHistories g old new (is x))
   of_held so is old new turn (Ok x) found = λ clean history legal held. turn x held.0 history legal held.1 (found clean held.0 held.2)
   of_held so is old new turn (Err e) found = tt
@@ -105,7 +105,7 @@ module _ {S : Type 0} (g : Ghosts S) where
   -- a command that was accepted, whose change was made
   pub done_answered : (charter : Charter) (history : History) (day : ℕ) (caller : List ℕ) (command : Command) (change : Change) (number : Option ℕ) (old new : Desk S)
       → EntryFits (record { day = day; caller = caller; command = command }) → IsLegal charter history → HoldsHistory g old history → IsAccepted charter history day caller command change
-      → number ≡ number_made change.first.edit → HoldsAfter g old.store new.store (changed_rows change)
+      → number ≡ number_made change → HoldsAfter g old.store new.store (changed_rows change)
       → IsAnswered g charter history day caller (CommandRequest command) (Done number) new
   done_answered charter history day caller command change number old new values legal held accepted made applied =
       let rows = held.0 in
@@ -114,18 +114,25 @@ module _ {S : Type 0} (g : Ghosts S) where
         legal = (accepted.0, legal);
         values = λ fit. (values, fit);
         answers = (accepted.0, made ∙ accepted.1, refl);
-        rows_after = (changed_rows change rows, λ h. accepted.2 h (rows h) (held.1 h), applied rows held.2);
+        rows_after = (
+          changed_rows change rows,
+          record {
+            holders = λ h. accepted.2.holders h (rows.of_holder h) (held.1.holders h);
+            exceptions = ap (changed_exceptions change) held.1.exceptions ∙ sym accepted.2.exceptions;
+          },
+          applied rows held.2,
+        );
       }
 
   -- where all rows are kept, so are those of other holders
-  pub all_kept : (changes : List ℕ → Bool) (old new : Desk S) → KeepsRows g old new → IsOnCleanDisk g new → KeepsOthers g changes old new
-  all_kept changes old new keeps clean rows holds = (rows, keeps clean rows holds, λ h other. refl)
+  pub all_kept : (changes : List ℕ → Bool) (excepts : Bool) (old new : Desk S) → KeepsRows g old new → IsOnCleanDisk g new → KeepsOthers g changes excepts old new
+  all_kept changes excepts old new keeps clean rows holds = (rows, keeps clean rows holds, λ h other. refl, λ other. refl)
 
-  -- and where a change was made of holders that the command names
-  pub changed_kept : (command : Command) (change : Change) (old mid new : Desk S) → IsOfHolders command change → KeepsRows g old mid → IsOnCleanDisk g mid
-      → HoldsAfter g mid.store new.store (changed_rows change) → KeepsOthers g (may_change (CommandRequest command)) old new
+  -- and where a change was made of what the command names
+  pub changed_kept : (command : Command) (change : Change) (old mid new : Desk S) → IsOfCommand command change → KeepsRows g old mid → IsOnCleanDisk g mid
+      → HoldsAfter g mid.store new.store (changed_rows change) → KeepsOthers g (may_change (CommandRequest command)) (may_except (CommandRequest command)) old new
   changed_kept command change old mid new of keeps clean made rows holds =
-      (changed_rows change rows, made rows (keeps clean rows holds), λ h unnamed. others_left command change h (rows h) of unnamed)
+      (changed_rows change rows, made rows (keeps clean rows holds), λ h unnamed. others_left command change h (rows.of_holder h) of unnamed, exceptions_left command change rows.exceptions of)
 
 -- ---- refusals
 

@@ -12,14 +12,15 @@ use Rattle.payload.specs.ValidityState.{state_of}
 use Rattle.payload.specs.VrpSet as set
 use Rattle.payload.specs.declared.validity.Validity.{Validity}
 use Rattle.payload.proofs.Sets.{is_vrp, same_vrp-equal, contains-items, contains-from_list}
-use Rattle.policy.specs.DailyVrps.{IsVrpOn}
+use Rattle.policy.specs.DailyVrps.{IsAfterExceptions, IsVrpOn}
 use Rattle.policy.specs.History.{History}
 use Rattle.desk.specs.Answer.{AreStatesOn}
-use Rattle.policy.specs.Rows.{Rows}
 use Rattle.policy.specs.Verdict.{IsLegal}
 use Rattle.policy.specs.declared.charter.Charter.{Charter}
-use Rattle.policy.specs.RowsOfAll.{HasRows, IsGivenOn}
+use Rattle.policy.specs.RowsOfAll.{AllRows, HasRows, IsGivenOn}
+use Rattle.slurm.specs.Exceptions.{Exceptions}
 use Rattle.desk.proofs.DailyLemmas.{given_on, any_among, among_any}
+use Rattle.desk.proofs.ExceptionLemmas.{after_alike}
 
 is_vrp-itself : (v : Vrp) → is_vrp v v ≡ true
 is_vrp-itself v = ap is_eq (tied_itself vrp_order.total v)
@@ -74,10 +75,12 @@ states_on history day items same (r ∷ routes) (s ∷ states) equal =
     let rest : map state_of states ≡ map (λ r. validation_state items r) routes = cc in
     (subst (HasState (IsVrpOn history day) r) (sym first) (state_has (IsVrpOn history day) items same r), states_on history day items same routes states rest)
 
--- the set of the VRPs that the rows give has the VRPs of the day
-pub items_on : (charter : Charter) (rows : List ℕ → Option Rows) (history : History) → IsLegal charter history → HasRows rows history → (day : ℕ) (vrps : List Vrp) → ((v : Vrp) → Contains vrps v ↔ IsGivenOn rows day v)
-    → (v : Vrp) → Contains (set.items (set.from_list vrps)) v ↔ IsVrpOn history day v
-items_on charter rows history legal has day vrps given v =
+-- the set of the VRPs that the rows give, after the exceptions of the rows, has the VRPs of the day
+pub items_on : (charter : Charter) (rows : AllRows) (history : History) → IsLegal charter history → HasRows rows history → (day : ℕ) (vrps after : List Vrp)
+    → ((v : Vrp) → Contains vrps v ↔ IsGivenOn rows day v) → ((v : Vrp) → Contains after v ↔ IsAfterExceptions rows.exceptions (Contains vrps v) v)
+    → (v : Vrp) → Contains (set.items (set.from_list after)) v ↔ IsVrpOn history day v
+items_on charter rows history legal has day vrps after given excepted v =
     let on = given_on charter rows history legal has day v in
-    let listed = items_of_list vrps v in
-    (λ there. on.0 ((given v).0 (listed.0 there)), λ is. listed.1 ((given v).1 (on.1 is)))
+    let alike = after_alike rows.exceptions v (λ there. on.0 ((given v).0 there)) (λ is. (given v).1 (on.1 is)) in
+    let listed = items_of_list after v in
+    rw (← has.exceptions) ((λ there. alike.0 ((excepted v).0 (listed.0 there))), (λ is. listed.1 ((excepted v).1 (alike.1 is))))

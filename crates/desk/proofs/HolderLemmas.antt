@@ -1,18 +1,21 @@
 -- Replies by the entries that decide them, and the rows that a request leaves.
 use Rattle.std.proofs.Common.{◌≡◌, ℕ, Bool, false, cond, List, [], ◌∷◌, Option, Some, None, IfSome, inl, inr, refl, sym, ap, ◌∙◌, subst}
-use Rattle.std.proofs.lemmas.Bool.{cases_Bool, cond-false, or_parts}
+use Rattle.std.proofs.lemmas.Bool.{cases_Bool, cond-false, or_parts, true≢false}
 use Rattle.isolation.specs.Isolation.{asks_of_all, AreJudgedAlike, AreSeenAlike, CommandsByEntries, QueriesByEntries}
 use Rattle.policy.specs.declared.change.Change.{Change}
+use Rattle.policy.specs.declared.change.Change.TheVariants.{Holders, Exceptions as Replace}
 use Rattle.policy.specs.declared.change.HolderChange.{HolderChange}
 use Rattle.policy.specs.declared.charter.Charter.{Charter}
 use Rattle.policy.specs.declared.command.Command.{Command}
 use Rattle.policy.specs.declared.command.Query.{Query}
 use Rattle.policy.specs.declared.command.Query.TheVariants.{Show as ShowQuery, Content as ContentQuery, List as ListQuery, Payloads as PayloadsQuery, Validity as ValidityQuery}
-use Rattle.policy.specs.Answer.{holder_of, taker_of, IsOfHolders}
+use Rattle.policy.specs.Answer.{holder_of, taker_of, IsOfCommand}
+use Rattle.policy.specs.ExceptionsInForce.{brings_exceptions}
 use Rattle.policy.specs.History.{History, same_name}
-use Rattle.policy.specs.HolderEntries.{names, entries_naming, entries_for}
-use Rattle.policy.specs.Rows.{Rows, changed, changed_by_one, changed_by_second}
+use Rattle.policy.specs.HolderEntries.{is_this, names, entries_naming, entries_for}
+use Rattle.policy.specs.Rows.{Rows, changed, changed_by_one, changed_by_second, changed_exceptions}
 use Rattle.policy.specs.Verdict.{IsLegal}
+use Rattle.slurm.specs.Exceptions.{Exceptions}
 use Rattle.desk.specs.Answer.{AnswersCommand, AnswersShow, AnswersContent, AnswersList, AnswersQuery, AnswersRequest}
 use Rattle.desk.specs.HolderAnswers.{IsAnswerByEntries, AnswersByEntries, RunsByEntries}
 use Rattle.desk.specs.Run.{Runs}
@@ -105,18 +108,25 @@ runs_by_entries law charter before (a ∷ more) (reply ∷ replies) after legal 
 
 -- ---- rows
 
-left_by_one : (c : HolderChange) (named h : List ℕ) (rows : Option Rows) → c.holder ≡ named → same_name named h ≡ false → changed_by_one c h rows ≡ rows
-left_by_one c named h rows of other = cond-false _ _ _ (ap (λ g. same_name g h) of ∙ other)
+left_by_one : (c : HolderChange) (named : Option (List ℕ)) (h : List ℕ) (rows : Option Rows) → named ≡ Some c.holder → is_this h named ≡ false → changed_by_one c h rows ≡ rows
+left_by_one c named h rows of other = cond-false _ _ _ (sym (ap (is_this h) of) ∙ other)
 
-left_by_second : (second : Option HolderChange) (named h : List ℕ) (rows : Option Rows) → IfSome second (λ c. c.holder ≡ named) → same_name named h ≡ false
+left_by_second : (second : Option HolderChange) (named : Option (List ℕ)) (h : List ℕ) (rows : Option Rows) → IfSome second (λ c. named ≡ Some c.holder) → is_this h named ≡ false
     → changed_by_second second h rows ≡ rows
 left_by_second None named h rows of other = refl
 left_by_second (Some c) named h rows of other = left_by_one c named h rows of other
 
--- a change of holders that the command names leaves the rows of any other
-pub others_left : (command : Command) (change : Change) (h : List ℕ) (rows : Option Rows) → IsOfHolders command change → names h command ≡ false
+-- a change of what the command names leaves the rows of any other holder
+pub others_left : (command : Command) (change : Change) (h : List ℕ) (rows : Option Rows) → IsOfCommand command change → names h command ≡ false
     → changed change h rows ≡ rows
-others_left command change h rows of unnamed =
-    let others = or_parts (same_name (holder_of command) h) (same_name (taker_of command) h) unnamed in
-    left_by_second change.second (taker_of command) h (changed_by_one change.first h rows) of.1 others.1
-    ∙ left_by_one change.first (holder_of command) h rows of.0 others.0
+others_left command (Holders first second) h rows of unnamed =
+    let others = or_parts (is_this h (holder_of command)) (is_this h (taker_of command)) unnamed in
+    left_by_second second (taker_of command) h (changed_by_one first h rows) of.1 others.1
+    ∙ left_by_one first (holder_of command) h rows of.0 others.0
+others_left command (Replace file) h rows of unnamed = refl
+
+-- and where the command brings no SLURM file, the exceptions
+pub exceptions_left : (command : Command) (change : Change) (exceptions : Exceptions) → IsOfCommand command change → brings_exceptions command ≡ false
+    → changed_exceptions change exceptions ≡ exceptions
+exceptions_left command (Holders first second) exceptions of other = refl
+exceptions_left command (Replace file) exceptions of other = absurd (true≢false (sym (ap brings_exceptions of) ∙ other))

@@ -5,3 +5,4 @@ pub mod DeskLemmas
 pub mod RunLemmas
 pub mod DailyLemmas
 pub mod ExportLemmas
+pub mod ExceptionLemmas

@@ -6,7 +6,7 @@ use Rattle.std.proofs.lemmas.Bool.{false≢true}
 use Rattle.policy.specs.declared.authorization.Auth.{Auth}
 use Rattle.policy.specs.declared.charter.Charter.{Charter}
 use Rattle.policy.specs.declared.command.Command.{Command}
-use Rattle.policy.specs.declared.command.Command.TheVariants.{Register, Delegate, Transfer, Reclaim, Grant, Revoke, Create, Amend, Withdraw}
+use Rattle.policy.specs.declared.command.Command.TheVariants.{Register, Delegate, Transfer, Reclaim, Grant, Revoke, Create, Amend, Withdraw, Slurm}
 use Rattle.policy.specs.declared.command.Query.TheVariants.{Show as ShowQuery, Content as ContentQuery, List as ListQuery, Payloads as PayloadsQuery, Validity as ValidityQuery}
 use Rattle.policy.specs.declared.grant.Access.TheVariants.{Look}
 use Rattle.policy.specs.declared.rule.Rule.{Rule}
@@ -61,6 +61,7 @@ one_verdict charter history day caller (Revoke holder n) = asked (asked accepted
 one_verdict charter history day caller (Create holder asn p max from until) = asked (asked (asked (asked (asked (asked (asked accepted))))))
 one_verdict charter history day caller (Amend holder n max until) = asked (asked (asked (asked (asked accepted))))
 one_verdict charter history day caller (Withdraw holder n) = asked (asked accepted)
+one_verdict charter history day caller (Slurm file) = asked accepted
 
 one_show : (history : History) (h : List ℕ) (day : ℕ) (caller : List ℕ) (n : ℕ) → One (ShowVerdict history h day caller n)
 one_show history h day caller n = asked (asked accepted)

@@ -1,5 +1,5 @@
 -- Runs that go on by one request.
-use Rattle.std.proofs.Common.{◌≡◌, ℕ, ◌+◌, ◌<◌, ◌||◌, List, [], ◌∷◌, ◌++◌, length, get_or, take, refl, sym, ap, ◌∙◌, subst}
+use Rattle.std.proofs.Common.{◌≡◌, ℕ, Bool, ◌+◌, ◌<◌, ◌||◌, List, [], ◌∷◌, ◌++◌, length, get_or, take, refl, sym, ap, ◌∙◌, subst}
 use Rattle.std.specs.List.{list_any}
 use Rattle.std.proofs.lemmas.Bool.{or_parts}
 use Rattle.std.proofs.lemmas.List.{take_more}
@@ -11,7 +11,7 @@ use Rattle.desk.specs.Answer.{AnswersRequest, IsAnswered}
 use Rattle.sqlite.specs.Store.{Ghosts}
 use Rattle.desk.specs.Desk.{HoldsHistory}
 use Rattle.desk.specs.declared.handling.Desk.{Desk}
-use Rattle.desk.specs.HolderAnswers.{may_change, may_change_any, KeepsOthers}
+use Rattle.desk.specs.HolderAnswers.{may_change, may_change_any, may_except, may_except_any, KeepsOthers}
 use Rattle.desk.specs.Run.{Runs, AreAnswered}
 use Rattle.desk.specs.declared.asked.Asked.{Asked}
 use Rattle.desk.specs.declared.reply.Reply.{Reply}
@@ -58,15 +58,19 @@ answered_more g charter here history asked index a replies grown reply old new s
 -- one more request leaves the rows of those that neither it nor those before it may change
 pub others_more : {S : Type 0} (g : Ghosts S) (asked : List Asked) (index : ℕ) (a : Asked) (start old new : Desk S)
     → index < length asked → a ≡ get_or asked index a
-    → KeepsOthers g (may_change_any (take index asked)) start old → KeepsOthers g (may_change a.request) old new
-    → KeepsOthers g (may_change_any (take (index + 1) asked)) start new
+    → KeepsOthers g (may_change_any (take index asked)) (may_except_any (take index asked)) start old
+    → KeepsOthers g (may_change a.request) (may_except a.request) old new
+    → KeepsOthers g (may_change_any (take (index + 1) asked)) (may_except_any (take (index + 1) asked)) start new
 others_more g asked index a start old new below here first second rows holds =
     let one = first rows holds in
     let two = second one.0 one.1 in
-    let both = λ (h : List ℕ). let p = λ (x : Asked). may_change x.request h in list_any_more p asked index a below ∙ ap (λ x. list_any p (take index asked) || p x) (sym here) in (
+    let more = λ (p : Asked → Bool). list_any_more p asked index a below ∙ ap (λ x. list_any p (take index asked) || p x) (sym here) in (
       two.0,
       two.1,
       λ h other.
-          let parts = or_parts (may_change_any (take index asked) h) (may_change a.request h) (sym (both h) ∙ other) in
+          let parts = or_parts (may_change_any (take index asked) h) (may_change a.request h) (sym (more (λ x. may_change x.request h)) ∙ other) in
           two.2 h parts.1 ∙ one.2 h parts.0,
+      λ other.
+          let parts = or_parts (may_except_any (take index asked)) (may_except a.request) (sym (more (λ x. may_except x.request)) ∙ other) in
+          two.3 parts.1 ∙ one.3 parts.0,
     )

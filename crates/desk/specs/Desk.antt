@@ -1,11 +1,11 @@
--- What a desk keeps: its charter, and in the tables of its store the rows of each holder.
-use Rattle.std.specs.Prelude.{◌≡◌, ℕ, List, Option}
+-- What a desk keeps: its charter, and in the tables of its store the rows of each holder and the
+-- exceptions.
+use Rattle.std.specs.Prelude.{◌≡◌}
 use Rattle.sqlite.specs.State.{State, HasCleanDisk}
 use Rattle.sqlite.specs.Store.{Ghosts}
 use Rattle.policy.specs.CharterSets.{IsCharter}
 use Rattle.policy.specs.History.{History}
-use Rattle.policy.specs.Rows.{Rows}
-use Rattle.policy.specs.RowsOfAll.{HasRows}
+use Rattle.policy.specs.RowsOfAll.{AllRows, HasRows}
 use Rattle.policy.specs.Verdict.{IsLegal}
 use Rattle.policy.specs.declared.charter.Charter.{Charter}
 use Rattle.tables.specs.TablesHold.{TablesHold}
@@ -22,12 +22,12 @@ IsOnCleanDisk g desk = HasCleanDisk (state_of g desk.store)
 
 -- the tables of the desk hold the rows of the history
 abbrev pub HoldsHistory : {S : Type 0} → Ghosts S → Desk S → History → Type 0
-HoldsHistory g desk history = (rows : List ℕ → Option Rows) × HasRows rows history × Holds g desk.store rows
+HoldsHistory g desk history = (rows : AllRows) × HasRows rows history × Holds g desk.store rows
 
 -- the tables hold the rows that they held
 abbrev pub KeepsRows : {S : Type 0} → Ghosts S → Desk S → Desk S → Type 0
 KeepsRows g old new =
-    IsOnCleanDisk g new → (rows : List ℕ → Option Rows) → Holds g old.store rows → Holds g new.store rows
+    IsOnCleanDisk g new → (rows : AllRows) → Holds g old.store rows → Holds g new.store rows
 
 -- the desk has the charter and the rows of the history, which is legal for it
 pub record StandsFor {S : Type 0} (g : Ghosts S) (charter : Charter) (desk : Desk S) (history : History) : Type 0 where
@@ -39,6 +39,6 @@ pub record StandsFor {S : Type 0} (g : Ghosts S) (charter : Charter) (desk : Des
 -- that history.
 abbrev pub ContinuesHistories : {S : Type 0} → Ghosts S → State → Desk S → Type 0
 ContinuesHistories g found desk =
-    (charter : Charter) (history : History) (rows : List ℕ → Option Rows)
+    (charter : Charter) (history : History) (rows : AllRows)
     → IsCharter charter → IsLegal charter history → HasRows rows history
     → TablesHold charter rows found.now.trees → StandsFor g charter desk history

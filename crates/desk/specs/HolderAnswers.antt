@@ -1,14 +1,15 @@
--- Holders that share a desk: which entries of the history decide the reply to a request, and whose rows a
--- request may change.
+-- Holders that share a desk: which entries of the history decide the reply to a request, and which rows
+-- a request may change.
 use Rattle.std.specs.Prelude.{◌≡◌, ℕ, Bool, false, List, [], ◌∷◌, Option, Some, None, IsSome, IfSome, option_map, if◌then◌else◌}
 use Rattle.std.specs.List.{list_any}
 use Rattle.std.specs.String.{string_bytes}
 use Rattle.isolation.specs.Isolation.{asks_of_all}
 use Rattle.policy.specs.declared.authorization.Auth.{Auth}
 use Rattle.policy.specs.declared.charter.Charter.{Charter}
+use Rattle.policy.specs.ExceptionsInForce.{brings_exceptions}
 use Rattle.policy.specs.History.{History}
 use Rattle.policy.specs.HolderEntries.{names, entries_naming, entries_for, holder_asked}
-use Rattle.policy.specs.Rows.{Rows}
+use Rattle.policy.specs.RowsOfAll.{AllRows}
 use Rattle.policy.specs.Verdict.{IsLegal}
 use Rattle.sqlite.specs.Store.{Ghosts}
 use Rattle.store.specs.StoreRows.{Holds}
@@ -78,13 +79,23 @@ abbrev pub may_change : Request → List ℕ → Bool
 may_change (CommandRequest command) h = names h command
 may_change (QueryRequest query) h = false
 
+-- a SLURM file may change the exceptions, and no other request does
+abbrev pub may_except : Request → Bool
+may_except (CommandRequest command) = brings_exceptions command
+may_except (QueryRequest query) = false
+
 -- one of the requests may
 abbrev pub may_change_any : List Asked → List ℕ → Bool
 may_change_any asked h = list_any (λ a. may_change a.request h) asked
 
--- of each holder for which the test is false the tables hold, in every one, the rows that they held
-abbrev pub KeepsOthers : {S : Type 0} → Ghosts S → (List ℕ → Bool) → Desk S → Desk S → Type 0
-KeepsOthers g changes old new =
-    (rows : List ℕ → Option Rows) → Holds g old.store rows
-    → (after : List ℕ → Option Rows) × Holds g new.store after
-    × ((h : List ℕ) → changes h ≡ false → after h ≡ rows h)
+abbrev pub may_except_any : List Asked → Bool
+may_except_any asked = list_any (λ a. may_except a.request) asked
+
+-- of each holder for which the test is false the tables hold, in every one, the rows that they held; and
+-- the exceptions that they held, unless these may change
+abbrev pub KeepsOthers : {S : Type 0} → Ghosts S → (List ℕ → Bool) → Bool → Desk S → Desk S → Type 0
+KeepsOthers g changes excepts old new =
+    (rows : AllRows) → Holds g old.store rows
+    → (after : AllRows) × Holds g new.store after
+    × ((h : List ℕ) → changes h ≡ false → after.of_holder h ≡ rows.of_holder h)
+    × (excepts ≡ false → after.exceptions ≡ rows.exceptions)

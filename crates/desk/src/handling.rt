@@ -10,7 +10,8 @@ ghost use Rattle.database.specs.Databases.{IsDeskWhileOpen, IsNew, IsUnused, Lea
 ghost use Rattle.database.specs.Databases.{IsHonest, IsOfAnotherSchema};
 ghost use Rattle.desk.specs.Answer.{is_done, IsAnswered};
 ghost use Rattle.desk.specs.Run.{AreAnswered};
-ghost use Rattle.desk.specs.HolderAnswers.{may_change, may_change_any, IsAnswerByEntries, KeepsOthers, RunsByEntries};
+ghost use Rattle.desk.specs.HolderAnswers.{may_change, may_change_any, may_except, may_except_any};
+ghost use Rattle.desk.specs.HolderAnswers.{IsAnswerByEntries, KeepsOthers, RunsByEntries};
 ghost use Rattle.desk.specs.Desk.{charter_of, ContinuesHistories, HoldsHistory, IsOnCleanDisk, KeepsRows};
 ghost use Rattle.desk.specs.steps.Reading.{OfHistories};
 
@@ -92,7 +93,8 @@ impl<S: Alter> Desk<S> {
         ensures others { IsOnCleanDisk S.Store self.new
             → (history : History) → IsLegal (charter_of self.old) history
             → HoldsHistory S.Store self.old history
-            → KeepsOthers S.Store (may_change request.now) self.old self.new }
+            → KeepsOthers S.Store (may_change request.now) (may_except request.now)
+            self.old self.new }
     {
         crate::laws::answers_by_entries();
         match request {
@@ -118,7 +120,8 @@ impl<S: Alter> Desk<S> {
         ensures others { IsOnCleanDisk S.Store self.new
             → (history : History) → IsLegal (charter_of self.old) history
             → HoldsHistory S.Store self.old history
-            → KeepsOthers S.Store (may_change_any asked.now) self.old self.new }
+            → KeepsOthers S.Store (may_change_any asked.now) (may_except_any asked.now)
+            self.old self.new }
     {
         crate::laws::answers_by_entries();
         let mut replies = Vec::with_capacity(self.alloc, asked.len())?;

@@ -3,6 +3,7 @@
 
 mod asked;
 mod content;
+mod exceptions;
 mod gathering;
 mod handling;
 pub mod laws;

@@ -1,16 +1,35 @@
 -- The answers to HTTP requests and the responses that tell them.
-use Rattle.std.proofs.Common.{◌≡◌, ℕ, List, ◌++◌, None, Result, Ok, Err, refl, sym, ap, ◌∙◌, inl, inr, subst}
+use Rattle.std.proofs.Common.{◌≡◌, ℕ, List, ◌++◌, Option, Some, None, Result, Ok, Err, refl, ap, ◌∙◌, append_assoc, inl, inr}
 use Rattle.std.specs.Global.{Vec}
-use Rattle.std.specs.Prelude.{IfOk}
+use Rattle.std.specs.Prelude.{IfOk, IfSome}
 use Rattle.std.specs.Result.{OnErr, OnOk}
 use Rattle.std.specs.declared.alloc.AllocError.{AllocError}
+use Rattle.sqlite.specs.Store.{Ghosts}
+use Rattle.policy.specs.History.{History}
+use Rattle.policy.specs.Verdict.{IsLegal}
+use Rattle.policy.specs.declared.charter.Charter.{Charter}
+use Rattle.http_messages.specs.HeadEnd.{IsWholeHead}
+use Rattle.http_messages.specs.Input.{Gives}
+use Rattle.http_messages.specs.Requests.{AnswersHead, asked_by, Asked as Head}
 use Rattle.http_messages.specs.ResponseText.{response_text}
+use Rattle.http_messages.specs.declared.request.Request.{Request as HeadRequest}
 use Rattle.http_messages.specs.declared.response.ContentType.{ContentType}
 use Rattle.http_messages.specs.declared.status.Status.TheVariants.{Done as DoneStatus}
+use Rattle.desk.specs.Answer.{AnswersRequest, IsAnswered}
+use Rattle.desk.specs.Desk.{charter_of, HoldsHistory, IsOnCleanDisk}
+use Rattle.desk.specs.declared.asked.Asked.{Asked}
+use Rattle.desk.specs.declared.asked.Request.{Request}
+use Rattle.desk.specs.declared.asked.Request.TheVariants.{Command as CommandRequest, Query as QueryRequest}
+use Rattle.desk.specs.declared.handling.Desk.{Desk}
 use Rattle.desk.specs.declared.reply.Reply.{Reply}
+use Rattle.desk.specs.declared.reply.Reply.TheVariants.{Done, Shown, Content, Listed, Payloads, Answers, Denied, Unavailable}
+use Rattle.web.specs.HttpAnswers.{KeepsHistories, RepliesAt, RespondsTo}
+use Rattle.web.specs.HttpRequests.{asked, malformed, refused, SaysHead}
 use Rattle.web.specs.HttpResponses.{reply_response}
 use Rattle.web.specs.ReplyText.{short_text}
-use Rattle.web.specs.steps.HttpAnswering.{IsReplyResponse, shown_response}
+use Rattle.web.specs.steps.HttpAnswering.{AnswersWith, IsReplyResponse, IsResponse, shown_response}
+use Rattle.web.specs.declared.http.answer.HttpAnswer.{HttpAnswer}
+use Rattle.web.specs.declared.http.answer.HttpAnswer.TheVariants.{Malformed, Refused, Replied}
 
 -- a text of which this holds, where a call ended well or ill
 pub text-ok : {T E : Type 0} (r : Result T E) (P Q : List ℕ → Type 0) (text : List ℕ)
@@ -29,3 +48,75 @@ pub shown-is : (content_type : ContentType) (text : List ℕ) (body : Result (Ve
     → short_text reply ≡ None → IsReplyResponse reply (shown_response content_type body)
 shown-is content_type text (Ok body) reply is whole long = inl (ap (response_text DoneStatus content_type) is ∙ whole)
 shown-is content_type text (Err error) reply is whole long = inr (long, refl)
+
+-- ---- bytes
+
+pub gives-more : (before between after head rest : List ℕ) → Gives head before between → Gives rest between after
+    → Gives (head ++ rest) before after
+gives-more before between after head rest given given_rest =
+    given_rest ∙ ap (λ u. u ++ rest) given ∙ append_assoc before head rest
+
+-- ---- heads
+
+-- what was read of a head is what it says
+pub head-said : (bytes : List ℕ) (request : HeadRequest) → AnswersHead bytes (Ok request) → SaysHead bytes (Ok (asked_by request))
+head-said bytes request (inl (head, is, says)) = inl (head, is, says)
+head-said bytes request (inr (none, refusal)) = cc
+
+-- ---- desks
+
+-- only a query is answered with what it shows, and a query changes nothing
+long-keeps : (charter : Charter) (before after : History) (day : ℕ) (caller : List ℕ) (request : Request) (reply : Reply)
+    → AnswersRequest charter before day caller request reply after → short_text reply ≡ None → after ≡ before
+long-keeps charter before after day caller (QueryRequest query) reply answers long = answers.1
+long-keeps charter before after day caller (CommandRequest command) (Done number) answers long = cc
+long-keeps charter before after day caller (CommandRequest command) (Shown x) answers long = absurd answers
+long-keeps charter before after day caller (CommandRequest command) (Content x) answers long = absurd answers
+long-keeps charter before after day caller (CommandRequest command) (Listed x) answers long = absurd answers
+long-keeps charter before after day caller (CommandRequest command) (Payloads x) answers long = absurd answers
+long-keeps charter before after day caller (CommandRequest command) (Answers x) answers long = absurd answers
+long-keeps charter before after day caller (CommandRequest command) (Denied rule row) answers long = cc
+long-keeps charter before after day caller (CommandRequest command) Unavailable answers long = answers
+
+module _ {S : Type 0} (g : Ghosts S) where
+  -- a request was asked of the desk
+  pub replies_at : (old new : Desk S) (request : Asked) (reply : Reply) → charter_of new ≡ charter_of old
+      → (IsOnCleanDisk g new → (history : History) → IsLegal (charter_of old) history → HoldsHistory g old history
+      → IsAnswered g (charter_of old) history request.day request.caller request.request reply new)
+      → RepliesAt g old request reply new
+  replies_at old new request reply charter answered = λ clean before stands.
+      let is = answered clean before stands.legal stands.rows in
+      (is.after, record { chartered = charter; legal = is.legal; rows = is.rows_after }, is.values, is.answers)
+
+  same_keeps : (desk : Desk S) → KeepsHistories g desk desk
+  same_keeps desk = λ clean before stands. (before, stands, λ fits. fits, refl)
+
+  shown_keeps : (old new : Desk S) (request : Asked) (reply : Reply) → RepliesAt g old request reply new
+      → short_text reply ≡ None → KeepsHistories g old new
+  shown_keeps old new request reply replies long = λ clean before stands.
+      let (after, stands_after, values, answers) = replies clean before stands in
+      (after, stands_after, values, long-keeps (charter_of old) before after request.day request.caller request.request reply answers long)
+
+  -- the response tells what the bytes were answered with
+  pub responds : (old new : Desk S) (day : ℕ) (bytes text : List ℕ) (answer : HttpAnswer)
+      → AnswersWith g old day bytes answer new → IsResponse answer text → RespondsTo g old day bytes text new
+  responds old new day bytes text (Refused refusal) (reads, same) is = inl (refused refusal, reads, (is, same))
+  responds old new day bytes text (Malformed fault) (reads, same) is = inl (malformed fault, reads, (is, same))
+  responds old new day bytes text (Replied reply) (inl (request, reads, replies)) (inl is) =
+      inl (asked request, reads, (reply, is, replies))
+  responds old new day bytes text (Replied reply) (inl (request, reads, replies)) (inr (long, is)) =
+      inr (inr (reads.0, reads.1, reads.2), is, shown_keeps old new request reply replies long)
+  responds old new day bytes text (Replied reply) (inr (within, unavailable, same)) (inl is) =
+      inr (within, rw unavailable at is, rw same (same_keeps old))
+  responds old new day bytes text (Replied reply) (inr (within, unavailable, same)) (inr (long, is)) =
+      inr (within, is, rw same (same_keeps old))
+
+  -- the head, and then the rest of the message
+  pub next-answered : (old new : Desk S) (day : ℕ) (r : Option HttpAnswer) (said : Head) (head before between after : List ℕ)
+      → IsWholeHead head → SaysHead head (Ok said) → Gives head before between
+      → IfSome r (λ answer. (rest : List ℕ) × Gives rest between after
+      × ((whole : List ℕ) → IsWholeHead whole → SaysHead whole (Ok said) → AnswersWith g old day (whole ++ rest) answer new))
+      → IfSome r (λ answer. (bytes : List ℕ) × Gives bytes before after × AnswersWith g old day bytes answer new)
+  next-answered old new day None said head before between after whole says given read = tt
+  next-answered old new day (Some answer) said head before between after whole says given (rest, given_rest, answered) =
+      (head ++ rest, gives-more before between after head rest given given_rest, answered head whole says)

@@ -8,9 +8,9 @@ use Rattle.json_values.specs.Parts.{lower, mapped}
 use Rattle.json_values.specs.Tree.{tree_of}
 use Rattle.desk.specs.declared.asked.Asked.{Asked}
 use Rattle.http_messages.specs.Requests.{Asked as Head}
-use Rattle.web.specs.HttpFaults.{body_faults, caller_name, http_fault, http_faults, path_faults, path_number, tree_faults}
+use Rattle.web.specs.HttpFaults.{body_faults, caller_name, http_fault, http_faults, path_faults, tree_faults}
 use Rattle.web.specs.HttpRequests.{body_tree, http_heading, SaysAsked}
-use Rattle.web.specs.RequestFaults.{body_members, malformed_number, malformed_of, member_faults, named_by, names_of}
+use Rattle.web.specs.RequestFaults.{body_members, malformed_number, member_faults, named_by, names_of}
 use Rattle.web.specs.declared.request.fault.Fault.{Fault}
 use Rattle.web.specs.declared.request.fault.Fault.TheVariants.{Json, Members, Holder, Caller, Prefix, Asn, Max, Day, Role, Number, Count, TooLong}
 use Rattle.web.specs.steps.HttpReading.{asked_of, path_subject, request_of, tree_request}

@@ -1,10 +1,10 @@
-ghost use Rattle.std.specs.Prelude.{◌≡◌, false, IfOk, IfErr, MatchResult};
-ghost use Rattle.policy.specs.Answer.{holder_of, taker_of, IsAccepted, IsViewOf, TellsTaken};
+ghost use Rattle.std.specs.Prelude.{◌≡◌, false, option_copied, IfOk, IfErr, MatchResult};
+ghost use Rattle.policy.specs.Answer.{IsAccepted, IsViewOf, RowsOfNamed, TellsTaken};
 ghost use Rattle.policy.specs.Rows.{rows_if_any, RowsIfAny};
 ghost use Rattle.store.specs.StoreRows.{IsRead};
 ghost use Rattle.desk.specs.Answer.{is_done, AnswersCommand, IsAnswered};
 ghost use Rattle.desk.specs.Desk.{charter_of, IsOnCleanDisk, KeepsRows};
-ghost use Rattle.desk.specs.HolderAnswers.{may_change, KeepsOthers};
+ghost use Rattle.desk.specs.HolderAnswers.{may_change, may_except, KeepsOthers};
 ghost use Rattle.desk.specs.steps.Reading.{OfHistories};
 
 use super::Desk;
@@ -25,7 +25,8 @@ impl<S: Alter> Desk<S> {
         ensures clean { IsOnCleanDisk S.Store self.new → IsOnCleanDisk S.Store self.old }
         ensures kept { is_done result ≡ false → KeepsRows S.Store self.old self.new }
         ensures others { OfHistories S.Store self.old self.new (λ _.
-            KeepsOthers S.Store (may_change (Request.Command command.now)) self.old self.new) }
+            KeepsOthers S.Store (may_change (Request.Command command.now))
+            (may_except (Request.Command command.now)) self.old self.new) }
     {
         policy::laws::entry_fits(day, caller, command);
         let change = match self.decide(day, caller, command) {
@@ -48,8 +49,8 @@ impl<S: Alter> Desk<S> {
             reply history)) }
         ensures never_done { IfErr result (λ reply. is_done reply ≡ false) }
     {
-        if command.is_transfer() {
-            let (giver, taker) = self.load_two(command)?;
+        if let Command::Transfer { giver, taker, .. } = command {
+            let (giver, taker) = self.load_two(giver, taker)?;
             let charter = self.store.charter();
             Ok(policy::decide_two(
                 self.alloc,
@@ -69,15 +70,15 @@ impl<S: Alter> Desk<S> {
     /// The rows of both holders that a transfer names, the giver's first.
     fn load_two(
         &mut self,
-        command: &Command,
+        giver: &Name,
+        taker: &Name,
     ) -> Result<(Option<HolderRows>, Option<HolderRows>), StoreFault>
         ensures read { IsRead S.Store self.old.store self.new.store }
         ensures rows { IfOk result (λ both. OfHistories S.Store self.old self.new (λ history.
-            RowsIfAny history (holder_of command.now) (rows_if_any both.0)
-            × RowsIfAny history (taker_of command.now) (rows_if_any both.1))) }
+            RowsIfAny history giver.now (rows_if_any both.0)
+            × RowsIfAny history taker.now (rows_if_any both.1))) }
     {
         store::laws::rows_of_a_history();
-        let (giver, taker) = (command.holder(), command.taker());
         self.store.load_two(self.alloc, giver, taker)
     }
 
@@ -87,9 +88,21 @@ impl<S: Alter> Desk<S> {
         ensures view { IfOk result (λ view. OfHistories S.Store self.old self.new (λ history.
             IsViewOf history command.now view)) }
     {
-        let holder = self.load(command.holder())?;
+        let holder = self.load_named(command.holder())?;
         let taken = self.is_taken(command)?;
         Ok(View { holder, taken })
+    }
+
+    /// The rows of the holder, where the command names one.
+    fn load_named(&mut self, holder: Option<&Name>) -> Result<Option<HolderRows>, StoreFault>
+        ensures read { IsRead S.Store self.old.store self.new.store }
+        ensures rows { IfOk result (λ rows. OfHistories S.Store self.old self.new (λ history.
+            RowsOfNamed history (option_copied holder.entry) (rows_if_any rows))) }
+    {
+        match holder {
+            Some(holder) => self.load(holder),
+            None => Ok(None),
+        }
     }
 
     /// Whether some address of a delegation's prefix is held. Not asked of any other command.

@@ -9,6 +9,7 @@ ghost use Rattle.desk.specs.steps.Reading.{OfHistories};
 use super::Desk;
 use crate::Reply;
 use crate::content::content_text;
+use crate::exceptions::except;
 use crate::gathering::{gather, judge};
 use addr::{Day, Name, Route};
 use payload::ListIndex;
@@ -110,13 +111,15 @@ impl<S: Alter> Desk<S> {
         Reply::Answers(states)
     }
 
-    /// The VRPs of the day.
+    /// The VRPs of the day, with the exceptions in force.
     fn index_on(&mut self, day: Day) -> Result<ListIndex, StoreFault>
         ensures read { IsRead S.Store self.old.store self.new.store }
         ensures given { IfOk result (λ index. OfHistories S.Store self.old self.new (λ history.
             (v : Vrp) → Contains (set.items index) v ↔ IsVrpOn history day v)) }
     {
-        let vrps = self.store.all_auths_on(self.alloc, day)?;
+        let mut vrps = self.store.all_auths_on(self.alloc, day)?;
+        let files = self.store.slurm_files(self.alloc)?;
+        except(self.alloc, &files, &mut vrps)?;
         Ok(ListIndex::from(vrps))
     }
 }

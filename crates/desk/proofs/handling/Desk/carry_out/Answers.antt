@@ -1,6 +1,6 @@
 use Rattle.std.proofs.Common.{refl}
 use Rattle.desk.specs.Desk.{charter_of}
-use Rattle.desk.specs.HolderAnswers.{may_change}
+use Rattle.desk.specs.HolderAnswers.{may_change, may_except}
 use Rattle.desk.specs.declared.asked.Request.TheVariants.{Command as CommandRequest}
 use Rattle.desk.specs.declared.reply.Reply.TheVariants.{Unavailable}
 use Rattle.desk.proofs.DeskLemmas.{still_held, not_done, done_answered, all_kept, changed_kept}
@@ -31,7 +31,7 @@ returns-clause-answered g c clean history legal held =
 
 pub returns-in-Err-clause-others : goal.returns-in-Err-clause-others
 returns-in-Err-clause-others g c clean history legal held =
-    all_kept g.S.Store (may_change (CommandRequest c.args.command.now)) c.args.self.now c.decide.new.self c.in-Err.ensures.read.rows clean
+    all_kept g.S.Store (may_change (CommandRequest c.args.command.now)) (may_except (CommandRequest c.args.command.now)) c.args.self.now c.decide.new.self c.in-Err.ensures.read.rows clean
 
 pub returns-in-Ok-apply-clause-others : goal.returns-in-Ok-apply-clause-others
 returns-in-Ok-apply-clause-others g c clean history legal held =
@@ -42,4 +42,4 @@ returns-in-Ok-apply-clause-others g c clean history legal held =
 
 pub returns-clause-others : goal.returns-clause-others
 returns-clause-others g c clean history legal held =
-    all_kept g.S.Store (may_change (CommandRequest c.args.command.now)) c.args.self.now (record c.decide.new.self { store = c.apply.new.self }) (returns-clause-kept g c refl) clean
+    all_kept g.S.Store (may_change (CommandRequest c.args.command.now)) (may_except (CommandRequest c.args.command.now)) c.args.self.now (record c.decide.new.self { store = c.apply.new.self }) (returns-clause-kept g c refl) clean

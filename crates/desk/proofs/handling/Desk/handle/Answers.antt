@@ -1,6 +1,6 @@
 use Rattle.std.proofs.Common.{refl}
 use Rattle.desk.specs.Desk.{charter_of}
-use Rattle.desk.specs.HolderAnswers.{may_change}
+use Rattle.desk.specs.HolderAnswers.{may_change, may_except}
 use Rattle.desk.specs.declared.asked.Request.TheVariants.{Command as CommandRequest}
 use Rattle.desk.proofs.DeskLemmas.{still_held, all_kept}
 use Rattle.desk.proofs.handling.Desk.handle.Goals as goal
@@ -29,4 +29,4 @@ returns-in-Query-clause-isolated g c clean history legal held =
 
 pub returns-in-Query-clause-others : goal.returns-in-Query-clause-others
 returns-in-Query-clause-others g c clean history legal held =
-    all_kept g.S.Store (may_change c.args.request.now) c.args.self.now c.answer.new.self c.answer.ensures.read.rows clean
+    all_kept g.S.Store (may_change c.args.request.now) (may_except c.args.request.now) c.args.self.now c.answer.new.self c.answer.ensures.read.rows clean

@@ -13,7 +13,7 @@ loop-one-init g c = record {
   count = c.in_ok-replies.ensures.len;
   answered = λ clean history legal held.
       rw c.in_ok-replies.ensures.items (record { after = history; legal = legal; values = λ fit. fit; runs = refl; rows_after = held });
-  others = λ clean history legal held rows holds. (rows, holds, λ h other. refl);
+  others = λ clean history legal held rows holds. (rows, holds, λ h other. refl, λ other. refl);
 }
 
 pub loop-one-preserved : goal.loop-one-preserved

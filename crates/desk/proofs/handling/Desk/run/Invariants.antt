@@ -3,7 +3,7 @@ use Rattle.std.specs.Prelude.{vec_len, vec_capacity}
 use Rattle.policy.specs.History.{History}
 use Rattle.policy.specs.Verdict.{IsLegal}
 use Rattle.desk.specs.Desk.{charter_of, HoldsHistory, IsOnCleanDisk}
-use Rattle.desk.specs.HolderAnswers.{may_change_any, KeepsOthers}
+use Rattle.desk.specs.HolderAnswers.{may_change_any, may_except_any, KeepsOthers}
 use Rattle.desk.specs.Run.{AreAnswered}
 use Rattle.desk.proofs.handling.Desk.run.Given as goal
 
@@ -18,5 +18,5 @@ invariant-loop-one g l = record {
       → AreAnswered g.S.Store (charter_of l.initial.self) history (take l.one-index l.asked) l.replies.items l.self;
   others : IsOnCleanDisk g.S.Store l.self
       → (history : History) → IsLegal (charter_of l.initial.self) history → HoldsHistory g.S.Store l.initial.self history
-      → KeepsOthers g.S.Store (may_change_any (take l.one-index l.asked)) l.initial.self l.self;
+      → KeepsOthers g.S.Store (may_change_any (take l.one-index l.asked)) (may_except_any (take l.one-index l.asked)) l.initial.self l.self;
 }

@@ -1,4 +1,4 @@
-use Rattle.std.proofs.Common.{◌≡◌, ◌++◌, ℕ, List, None, Result, refl, inl, inr}
+use Rattle.std.proofs.Common.{◌≡◌, ◌++◌, ℕ, None, Result, refl, inl, inr}
 use Rattle.std.specs.Global.{Vec}
 use Rattle.std.specs.Prelude.{IfOk}
 use Rattle.std.specs.declared.alloc.AllocError.{AllocError}
