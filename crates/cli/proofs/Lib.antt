@@ -5,3 +5,5 @@ pub mod RecordsLeft
 pub mod RowLemmas
 pub mod CharterSteps
 pub mod WordsSteps
+pub mod DeskFileLemmas
+pub mod ServingLemmas

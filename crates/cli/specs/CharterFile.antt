@@ -109,7 +109,10 @@ RefusesCharter fault.Words text = ⊥
 RefusesCharter fault.Day text = ⊥
 RefusesCharter fault.File text = ⊥
 RefusesCharter fault.Database text = ⊥
+RefusesCharter fault.Socket text = ⊥
 RefusesCharter fault.Stream text = ⊥
+RefusesCharter fault.Schema text = ⊥
+RefusesCharter fault.Exists text = ⊥
 
 -- ---- rows that were read
 

@@ -52,4 +52,7 @@ EndsCheck fault.Words payloads routes old new failed = ⊥
 EndsCheck fault.Day payloads routes old new failed = ⊥
 EndsCheck fault.File payloads routes old new failed = ⊥
 EndsCheck fault.Database payloads routes old new failed = ⊥
+EndsCheck fault.Socket payloads routes old new failed = ⊥
 EndsCheck fault.CharterCount payloads routes old new failed = ⊥
+EndsCheck fault.Schema payloads routes old new failed = ⊥
+EndsCheck fault.Exists payloads routes old new failed = ⊥

@@ -5,3 +5,5 @@ pub mod ProgramFaults
 pub mod Words
 pub mod WordsFault
 pub mod CharterFile
+pub mod DeskFiles
+pub mod Serving

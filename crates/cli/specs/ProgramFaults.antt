@@ -9,24 +9,29 @@ use Rattle.cli.specs.declared.fault.InputFile.TheVariants as input
 use Rattle.cli.specs.declared.fault.ProgramFault.{ProgramFault}
 use Rattle.cli.specs.declared.fault.RowFault.{RowFault}
 use Rattle.cli.specs.declared.fault.RowFault.TheVariants as row
-use Rattle.cli.specs.declared.fault.ProgramFault.TheVariants.{Words, Day, File, Database, Stream, Memory, Header, Row, CharterCount}
+use Rattle.cli.specs.declared.fault.ProgramFault.TheVariants.{Words, Day, File, Database, Socket, Stream, Memory, Header, Row, CharterCount, Schema, Exists}
+use Rattle.database.specs.declared.fault.StoreFault.{StoreFault}
+use Rattle.database.specs.declared.fault.StoreFault.TheVariants as store
 use Rattle.web.specs.declared.script.ScriptFault.{ScriptFault}
 use Rattle.web.specs.declared.script.ScriptFault.TheVariants as script
 use Rattle.cli.specs.declared.words.WordsFault.{WordsFault}
 use Rattle.cli.specs.declared.words.WordsFault.TheVariants as words
 
--- 2 other words or no day, 3 a file, the database or a stream failed, 4 no memory, 5 the content of a file is
--- refused
+-- 2 other words or no day, 3 a file, the database, a socket or a stream failed, 4 no memory, 5 what a file
+-- holds is refused
 abbrev pub status_of : ProgramFault → ℕ
 status_of Words = 2
 status_of Day = 2
 status_of File = 3
 status_of Database = 3
+status_of Socket = 3
 status_of Stream = 3
 status_of Memory = 4
 status_of (Header file) = 5
 status_of (Row file row fault) = 5
 status_of CharterCount = 5
+status_of Schema = 5
+status_of Exists = 5
 
 abbrev pub file_name : InputFile → List ℕ
 file_name input.Charter = codes "charter"
@@ -49,6 +54,7 @@ line_text Words = codes "roadesk: words"
 line_text Day = codes "roadesk: day"
 line_text File = codes "roadesk: file"
 line_text Database = codes "roadesk: database"
+line_text Socket = codes "roadesk: socket"
 line_text Stream = codes "roadesk: stream"
 line_text Memory = codes "roadesk: memory"
 line_text (Header file) = codes "roadesk: " ++ file_name file ++ codes " header"
@@ -56,6 +62,8 @@ line_text (Row file number fault) =
     codes "roadesk: " ++ file_name file ++ codes " row " ++ decimal number
     ++ codes ": " ++ row_fault_text fault
 line_text CharterCount = codes "roadesk: charter count"
+line_text Schema = codes "roadesk: schema"
+line_text Exists = codes "roadesk: exists"
 
 abbrev pub told_words : WordsFault → ProgramFault
 told_words words.Words = Words
@@ -66,6 +74,10 @@ abbrev pub told_script : ScriptFault → ProgramFault
 told_script script.Read = Stream
 told_script script.Write = Stream
 told_script script.Memory = Memory
+
+abbrev pub told_store : StoreFault → ProgramFault
+told_store store.Database = Database
+told_store store.Schema = Schema
 
 abbrev pub fault_of_file : InputFile → FileFault → ProgramFault
 fault_of_file which file.Memory = Memory

@@ -1,12 +1,13 @@
 //! How the program ends where it does not do its task: a line on standard error and a status.
 ghost use Rattle.std.specs.Prelude.{◌≡◌, ◌≤◌, length};
 ghost use Rattle.cli.specs.declared.fault.FileFault.TheVariants.{Memory};
-ghost use Rattle.cli.specs.ProgramFaults.{fault_of_file, file_name, line_text, row_fault_text, status_of, told_script, told_words};
+ghost use Rattle.cli.specs.ProgramFaults.{fault_of_file, file_name, line_text, row_fault_text, status_of, told_script, told_store, told_words};
 
 use crate::words::WordsFault;
 use addr::{PrefixFault, digits};
 use arrayvec::ArrayString;
 use std::alloc::AllocError;
+use store::StoreFault;
 use web::ScriptFault;
 
 /// A file that the program reads, by what stands in it.
@@ -103,6 +104,8 @@ pub enum ProgramFault {
     File,
     /// The database refused, or there was no memory for it.
     Database,
+    /// A socket was not bound, or did not accept.
+    Socket,
     /// Standard input or output failed.
     Stream,
     /// No memory was found.
@@ -117,6 +120,10 @@ pub enum ProgramFault {
     },
     /// The charter has not 1 to 16 operators and 1 to 64 prefixes.
     CharterCount,
+    /// The database is none of a desk.
+    Schema,
+    /// There is a database, or another file with content, where one was to be made.
+    Exists,
 }
 
 impl ProgramFault {
@@ -126,9 +133,16 @@ impl ProgramFault {
     {
         match self {
             ProgramFault::Words | ProgramFault::Day => 2,
-            ProgramFault::File | ProgramFault::Database | ProgramFault::Stream => 3,
+            ProgramFault::File
+            | ProgramFault::Database
+            | ProgramFault::Socket
+            | ProgramFault::Stream => 3,
             ProgramFault::Memory => 4,
-            ProgramFault::Header(_) | ProgramFault::Row { .. } | ProgramFault::CharterCount => 5,
+            ProgramFault::Header(_)
+            | ProgramFault::Row { .. }
+            | ProgramFault::CharterCount
+            | ProgramFault::Schema
+            | ProgramFault::Exists => 5,
         }
     }
 
@@ -143,6 +157,7 @@ impl ProgramFault {
             ProgramFault::Day => text.push_str("day"),
             ProgramFault::File => text.push_str("file"),
             ProgramFault::Database => text.push_str("database"),
+            ProgramFault::Socket => text.push_str("socket"),
             ProgramFault::Stream => text.push_str("stream"),
             ProgramFault::Memory => text.push_str("memory"),
             ProgramFault::Header(file) => {
@@ -157,6 +172,8 @@ impl ProgramFault {
                 text.push_str(fault.text().as_str());
             }
             ProgramFault::CharterCount => text.push_str("charter count"),
+            ProgramFault::Schema => text.push_str("schema"),
+            ProgramFault::Exists => text.push_str("exists"),
         }
         text
     }
@@ -180,6 +197,17 @@ impl From<ScriptFault> for ProgramFault {
         match fault {
             ScriptFault::Read | ScriptFault::Write => ProgramFault::Stream,
             ScriptFault::Memory => ProgramFault::Memory,
+        }
+    }
+}
+
+impl From<StoreFault> for ProgramFault {
+    ghost from_gives = { λ fault told. told ≡ told_store fault };
+
+    fn from(fault: StoreFault) -> ProgramFault {
+        match fault {
+            StoreFault::Database => ProgramFault::Database,
+            StoreFault::Schema => ProgramFault::Schema,
         }
     }
 }

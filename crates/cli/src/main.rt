@@ -3,21 +3,31 @@
 
 pub mod charter_file;
 pub mod check;
+pub mod desk_file;
 #[cfg(test)]
 mod fakes;
 pub mod fault;
 mod files;
+pub mod help;
+pub mod serve;
 pub mod words;
 
+use addr::Day;
 use charter_file::charter_from;
 use check::check_on;
 use desk::Desk;
+use desk_file::{close_desk, connect, make_desk, open_desk};
 use fault::ProgramFault;
+use help::help_text;
+use serve::serve_on;
+use sqlite::Alter;
+use sqlite_std_file::Unknown;
 use std::io::{self, ErrorKind};
+use std::net::TcpListener;
 use std::process::ExitCode;
 use std::rt::HostRuntime;
 use std::{env, fs};
-use web::{Device, run_script};
+use web::{Device, Failed, run_script, write_all};
 use words::{Task, read_words};
 
 fn main(rt: HostRuntime) -> ExitCode {
@@ -42,11 +52,23 @@ fn run(rt: &HostRuntime) -> Result<(), ProgramFault> {
         words.push(arg.as_str()).map_err(|_| ProgramFault::Memory)?;
     }
     match read_words(&words) {
-        Ok(Task::Script { charter }) => run_script_task(rt, charter),
-        Ok(Task::Check { payloads, routes }) => run_check_task(rt, payloads, routes),
-        // A task that the program does not do ends as other words do.
-        Ok(Task::Init { .. } | Task::Serve { .. } | Task::Help) => Err(ProgramFault::Words),
+        Ok(task) => run_task(rt, &task),
         Err(fault) => Err(ProgramFault::from(fault)),
+    }
+}
+
+fn run_task(rt: &HostRuntime, task: &Task<'_>) -> Result<(), ProgramFault> {
+    match task {
+        Task::Script { charter } => run_script_task(rt, charter),
+        Task::Init { database, charter } => run_init_task(rt, database, charter),
+        Task::Serve {
+            database,
+            address,
+            count,
+            day,
+        } => run_serve_task(rt, database, address, *count, *day),
+        Task::Check { payloads, routes } => run_check_task(rt, payloads, routes),
+        Task::Help => run_help_task(rt),
     }
 }
 
@@ -61,6 +83,66 @@ fn run_script_task(rt: &HostRuntime, charter: &str) -> Result<(), ProgramFault> 
     run_script(rt.alloc(), &mut source, &mut drain, &mut desk).map_err(ProgramFault::from)
 }
 
+fn run_init_task(rt: &HostRuntime, database: &str, charter: &str) -> Result<(), ProgramFault> {
+    let text = read_file(rt, charter)?;
+    let charter = charter_from(rt.alloc(), &text)?;
+    match size_of(rt, database)? {
+        None | Some(0) => {}
+        Some(_) => return Err(ProgramFault::Exists),
+    }
+    let conn = connect(rt, database, Unknown)?;
+    make_desk(rt.alloc(), conn, &charter)?;
+    Ok(())
+}
+
+fn run_serve_task(
+    rt: &HostRuntime,
+    database: &str,
+    address: &str,
+    count: u32,
+    day: Day,
+) -> Result<(), ProgramFault> {
+    // An open would make a database where there is none.
+    match size_of(rt, database)? {
+        None => return Err(ProgramFault::Database),
+        Some(_) => {}
+    }
+    let mut desk = open_desk(rt, database, Unknown)?;
+    let served = serve_at(rt, address, count, &mut desk, day);
+    // The files are closed after a fault of the socket too.
+    let closed = close_desk(desk);
+    served?;
+    closed?;
+    Ok(())
+}
+
+fn serve_at<S: Alter>(
+    rt: &HostRuntime,
+    address: &str,
+    count: u32,
+    desk: &mut Desk<S>,
+    day: Day,
+) -> Result<(), ProgramFault> {
+    let listener = match TcpListener::bind(rt, address) {
+        Ok(listener) => listener,
+        Err(error) => return Err(told(&error, ProgramFault::Socket)),
+    };
+    let mut errors = rt.stderr();
+    match serve_on(rt.alloc(), rt, &listener, count, desk, day, &mut errors) {
+        Ok(()) => Ok(()),
+        Err(Failed) => Err(ProgramFault::Socket),
+    }
+}
+
+fn run_help_task(rt: &HostRuntime) -> Result<(), ProgramFault> {
+    let text = help_text(rt.alloc())?;
+    let mut drain = Device::new(io::writer(rt));
+    match write_all(&mut drain, text.as_bytes()) {
+        Ok(()) => Ok(()),
+        Err(Failed) => Err(ProgramFault::Stream),
+    }
+}
+
 // Both files are read before either is judged.
 fn run_check_task(rt: &HostRuntime, payloads: &str, routes: &str) -> Result<(), ProgramFault> {
     let payloads = read_file(rt, payloads)?;
@@ -73,6 +155,15 @@ fn read_file(rt: &HostRuntime, path: &str) -> Result<Vec<u8>, ProgramFault> {
     match fs::read(rt, path) {
         Ok(bytes) => Ok(bytes),
         Err(error) => Err(told(&error, ProgramFault::File)),
+    }
+}
+
+// How many bytes the file has; none where there is no such file.
+fn size_of(rt: &HostRuntime, path: &str) -> Result<Option<u64>, ProgramFault> {
+    match fs::metadata(rt, path) {
+        Ok(metadata) => Ok(Some(metadata.len())),
+        Err(error) if error.kind() == ErrorKind::NotFound => Ok(None),
+        Err(error) => Err(told(&error, ProgramFault::Database)),
     }
 }
 

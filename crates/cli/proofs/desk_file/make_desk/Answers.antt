@@ -1,0 +1,9 @@
+use Rattle.std.proofs.Common.{subst, []}
+use Rattle.cli.specs.DeskFiles.{KeepDesk}
+use Rattle.cli.proofs.desk_file.make_desk.Goals as goal
+
+pub returns-clause-made : goal.returns-clause-made
+returns-clause-made g c clean =
+    let made = c.in_ok-desk.ensures in
+    subst (λ charter. KeepDesk g.D.Disk charter [] c.in_ok-files.files) made.charter
+    (c.in_ok-files.ensures.kept clean [] made.empty)

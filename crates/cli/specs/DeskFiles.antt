@@ -1,0 +1,38 @@
+-- The files of a desk: a database file and its log.
+use Rattle.std.specs.Prelude.{◌≡◌, ◌⊎◌, ℕ, List, Option}
+use Rattle.sqlite_disk.specs.declared.Disk.{Ghosts}
+use Rattle.sqlite_disk.specs.declared.Files.{Files}
+use Rattle.sqlite_wal.specs.Recovery.{Image}
+use Rattle.sqlite_wal.specs.Files.{outcomes}
+use Rattle.sqlite_trees.specs.Tree.{Trees}
+use Rattle.sqlite.specs.Closing.{HoldsAlone}
+use Rattle.sqlite.specs.Files.{HoldsDatabase, image_of}
+use Rattle.policy.specs.History.{History}
+use Rattle.policy.specs.Rows.{Rows}
+use Rattle.policy.specs.RowsOfAll.{HasRows}
+use Rattle.policy.specs.declared.charter.Charter.{Charter}
+use Rattle.tables.specs.TablesHold.{TablesHold}
+use Rattle.cli.specs.declared.fault.ProgramFault.{ProgramFault}
+use Rattle.cli.specs.declared.fault.ProgramFault.TheVariants.{Database, Memory}
+
+-- the tables hold the charter and the rows of the history
+abbrev pub HoldDesk : Charter → History → Trees → Type 0
+HoldDesk charter history trees =
+    (rows : List ℕ → Option Rows) × HasRows rows history × TablesHold charter rows trees
+
+-- the files hold a database with these tables
+abbrev pub AreDeskFiles : Image → Charter → History → Type 0
+AreDeskFiles image charter history =
+    (trees : Trees) × HoldDesk charter history trees × ∥ HoldsDatabase image trees ∥₁
+
+-- The files hold a desk, as they read now and as a crash leaves them, and the database file does so
+-- without its log.
+pub record KeepDesk {D : Type 0} (g : Ghosts D) (charter : Charter) (history : History) (files : Files D) : Type 0 where
+  pub trees : Trees
+  pub desk : HoldDesk charter history trees
+  pub seen : HoldsAlone (image_of g files) trees
+  pub left : (image : Image) → outcomes g files.log files.db image → HoldsAlone image trees
+
+-- the database or memory failed
+abbrev pub IsOfDatabase : ProgramFault → Type 0
+IsOfDatabase fault = (fault ≡ Database) ⊎ (fault ≡ Memory)
