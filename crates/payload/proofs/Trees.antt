@@ -1,17 +1,17 @@
 -- Trees, by what stands at the end of each path.
-use Rattle.std.proofs.Common.{◌≡◌, ℕ, ◌+◌, ◌≤◌, ◌<◌, Bool, true, false, not, ◌&&◌, ◌||◌, List, [], ◌∷◌, length, refl, sym, ap, ◌∙◌, subst, arith, Result, Ok, Err}
+use Rattle.std.proofs.Common.{◌≡◌, ℕ, ◌+◌, ◌≤◌, Bool, true, false, not, ◌&&◌, ◌||◌, List, [], ◌∷◌, length, refl, sym, ap, ◌∙◌, subst, arith, Result, Ok, Err}
 use Rattle.std.specs.Prelude.{OnOk, OnErr}
 use Rattle.std.specs.Cmp.{IsTotalOrder, nat_cmp_total, on_total, then_total}
 use Rattle.std.specs.FinMap.{nat_cmp-IsAntisymmetric}
-use Rattle.std.specs.List.{All, list_any}
+use Rattle.std.specs.List.{list_any}
 use Rattle.std.specs.Ordering.{eq_by_cmp, is_eq}
 use Rattle.std.specs.declared.cmp.Ordering.TheVariants.{Equal}
 use Rattle.std.proofs.lemmas.Cmp.{tied_itself}
 use Rattle.std.proofs.lemmas.List.Elements.{All-nil, All-cons}
 use Rattle.addr.proofs.OrderLemmas.{both_equal}
 use Rattle.payload.specs.Rising.{RiseBy}
-use Rattle.payload.specs.declared.trie.originator.Originator.{Originator}
-use Rattle.payload.specs.steps.Tree.{Tree, Leaf, Fork, Top, tree, AreOriginators, IsInserted, IsRemoved, IsPruned, below, has, here, is_bare, is_place, only, originator_cmp, same_numbers}
+use Rattle.payload.specs.declared.originator.Originator.{Originator}
+use Rattle.payload.specs.steps.Tree.{Tree, Leaf, Fork, Top, tree, AreOriginators, IsInserted, IsRemoved, IsPruned, has, is_bare, is_place, only, originator_cmp, same_numbers}
 use Rattle.payload.proofs.SortedItems.{All-inserted, All-removed}
 
 abbrev pub is_originator : Originator → Originator → Bool

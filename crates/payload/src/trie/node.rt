@@ -1,4 +1,4 @@
-use crate::trie::originator::Originator;
+use crate::originator::Originator;
 use std::alloc::Global;
 use std::marker::Model;
 

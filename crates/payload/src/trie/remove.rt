@@ -3,9 +3,9 @@ ghost use Rattle.addr.specs.Family.{width};
 ghost use Rattle.payload.specs.steps.Tree.{IsPruned, IsRemoved, has, is_bare, subtree, tree};
 ghost use Rattle.payload.specs.steps.Trie.{bits_from, originator_of};
 
+use crate::originator::Originator;
 use crate::sorted;
 use crate::trie::node::Node;
-use crate::trie::originator::Originator;
 use addr::Vrp;
 
 impl Node {
