@@ -98,7 +98,7 @@ unless : (a b c : Bool) → (a && not (b || c)) ≡ (if b then false else a && n
 unless a true c = and-false a
 unless a false c = refl
 
--- past a node, a length stands where no VRP of the node matches and the length stands in the half to which the bits go
+-- past a node, a length stands where no VRP of the node matches and it stands in the half to which the bits go
 stands-zero : (route : Route) (p : Prefix) (os : List Originator) (low high : Tree) (k : ℕ) → IsPruned (width p.family) p.length (Fork os low high) → contains p route.prefix ≡ true → p.length < k → bit_of route.prefix p.length ≡ 0 → stands route (vrps_at p (Fork os low high)) k ≡ (if list_any (authorizes route) os then false else stands route (lower_vrps p low) k)
 stands-zero route p os low high k pruned inside longer bit =
     ap (λ b. b && not (is_matched_before (vrps_at p (Fork os low high)) route k)) agreeing

@@ -93,9 +93,6 @@ bit-in_upper p q room inside high =
 
 -- ---- what the halves contain
 
-last-size : (p : Prefix) (n : ℕ) → p.first + 2 ^ (width p.family - p.length) ≤ n → last_of p < n
-last-size p n le = omega (arith, first-last p)
-
 -- a longer prefix in p lies in the lower half, or in the upper one, as its next bit says
 pub lower-contains : (p q : Prefix) (room : p.length < width p.family) → contains p q ≡ true → p.length < q.length → bit_of q p.length ≡ 0 → contains (lower p room) q ≡ true
 lower-contains p q room inside longer bit =

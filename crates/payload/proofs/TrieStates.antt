@@ -20,9 +20,6 @@ walked-next route above bit path os zero one none =
     joined above _ (list_any (λ o. true) os) _
     ∙ ap (λ b. if b || has_on_path (authorizes route) path (below bit (Fork os zero one)) then Valid else state_below above (list_any (λ (o : Originator). true) os || has_on_path (λ o. true) path (below bit (Fork os zero one)))) (sym none)
 
-pub walked-end : (route : Route) (above : ValidationState) (os : List Originator) (zero one : Tree) → list_any (authorizes route) os ≡ false → state_below above (list_any (λ o. true) os) ≡ walked_state route above [] (Fork os zero one)
-walked-end route above os zero one none = ap (λ b. if b then Valid else state_below above (list_any (λ (o : Originator). true) os)) (sym none)
-
 -- where there is no node the state stays
 pub walked-leaf : (route : Route) (above : ValidationState) (path : List Bool) → above ≡ walked_state route above path Leaf
 walked-leaf route above path =

@@ -1,4 +1,4 @@
--- The VRPs of a trie rise; the state of a route by them, and the lengths at which a search for it has something to look at.
+-- The VRPs of a trie: they rise, what state they give a route, and at which lengths a search looks.
 use Rattle.std.proofs.Common.{◌≡◌, ℕ, suc, ◌+◌, ◌≤◌, Bool, true, false, not, ◌&&◌, ◌||◌, nat_lt, get_or, if◌then◌else◌, List, length, sym, ap, ◌∙◌, arith}
 use Rattle.std.proofs.Math.Bool.{or-false, and-false, and-true}
 use Rattle.std.specs.List.{All, list_any, range_with_len}

@@ -23,6 +23,8 @@ is_reached vrps r k = (k == 0) || list_any (λ v. agrees k v.prefix r.prefix) vr
 abbrev pub is_matched_before : List Vrp → Route → ℕ → Bool
 is_matched_before vrps r k = list_any (λ v. matches v r && nat_lt v.prefix.length k) vrps
 
--- the lengths from 0 to the route's that are reached, where some VRP matches only those up to the shortest such VRP's
+-- the lengths from 0 to the route's that are reached; where some VRP matches, only those up to the
+-- shortest such VRP's length
 abbrev pub search_depths : List Vrp → Route → List ℕ
-search_depths vrps r = filter (λ k. is_reached vrps r k && not (is_matched_before vrps r k)) (range_with_len 0 (r.prefix.length + 1))
+search_depths vrps r =
+    filter (λ k. is_reached vrps r k && not (is_matched_before vrps r k)) (range_with_len 0 (r.prefix.length + 1))

@@ -2,8 +2,8 @@ ghost use Rattle.std.specs.Prelude.{◌≡◌};
 
 use addr::{Asn, Origin, Route, Vrp};
 
-/// An AS that may originate a prefix, and its more specifics up to `max` bits: what is left of a VRP
-/// where its prefix is known.
+/// An AS that may originate a prefix, and its more specifics up to `max` bits: what is left of a
+/// VRP where its prefix is known.
 #[derive(Clone, Copy, Debug, PartialEq, Eq, PartialOrd, Ord)]
 pub(crate) struct Originator {
     pub(crate) max: u8,

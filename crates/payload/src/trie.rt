@@ -18,7 +18,8 @@ use addr::{Family, Prefix, Route, Vrp};
 use std::alloc::{AllocError, Global};
 use std::marker::Model;
 
-/// A set of VRPs in a tree for each family, which branches by the bits of the prefixes, seen as the set.
+/// A set of VRPs in a tree for each family, which branches by the bits of the prefixes, seen as
+/// the set.
 #[derive(Drop)]
 pub struct Trie {
     alloc: Global,
@@ -52,7 +53,8 @@ impl Trie {
         }
     }
 
-    /// As `validity`, and at how many lengths of prefixes the search looked: how many nodes it went to.
+    /// As `validity`, with the number of nodes that the search went to: one for each length at
+    /// which the set has something to look at, the root's always.
     pub fn validity_counted(&self, route: &Route) -> (Validity, u32)
         ensures state { state_of result.0 ≡ validation_state (set.items self.now) route.now }
         ensures count { result.1 ≡ length (search_depths (set.items self.now) route.now) }

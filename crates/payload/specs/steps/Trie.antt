@@ -28,7 +28,7 @@ authorizes route o = nat_le route.prefix.length o.max && is_from route.origin o.
 abbrev pub state_below : ValidationState → Bool → ValidationState
 state_below above is_covered = if is_covered then Invalid else above
 
--- the state of a route by the VRPs on a path, where it is `above` by those before them, none of which matches
+-- the state of a route by the VRPs on a path, where it is `above` by those before them, which do not match
 abbrev pub walked_state : Route → ValidationState → List Bool → Tree → ValidationState
 walked_state route above path t =
     if has_on_path (authorizes route) path t then Valid

@@ -11,10 +11,10 @@ use crate::trie::node::Node;
 use addr::Route;
 
 impl Node {
-    /// The state of the route by this node and those below it, and the count with the nodes gone to.
-    /// `above` is the state by the nodes above it, none of whose VRPs matches.
+    /// The state of the route by this node and those below it, and the count with the nodes that
+    /// the search went to. `above` is the state by the nodes above it, whose VRPs do not match.
     ///
-    /// The one step that goes to a node. The search stops at the first VRP that matches.
+    /// This is the one step that goes to a node. The search stops at the first VRP that matches.
     #[cycle(validity)]
     pub(crate) fn validity(
         &self,
@@ -26,10 +26,10 @@ impl Node {
         requires within { at ≤ route.now.prefix.length }
         requires pruned { IsPruned (width route.now.prefix.family) at (tree self.now) }
         requires so_far { count ≤ at }
-        ensures state { state_of result.0
-            ≡ walked_state route.now (state_of above) (bits_from route.now.prefix at) (tree self.now) }
-        ensures count { result.1
-            ≡ count + nodes_on_path (authorizes route.now) (bits_from route.now.prefix at) (tree self.now) }
+        ensures state { state_of result.0 ≡ walked_state route.now (state_of above)
+            (bits_from route.now.prefix at) (tree self.now) }
+        ensures count { result.1 ≡ count + nodes_on_path (authorizes route.now)
+            (bits_from route.now.prefix at) (tree self.now) }
     {
         let count = count + 1;
         if some_authorizes(&self.originators, route) {
@@ -58,10 +58,10 @@ fn validity_below(
     requires within { at ≤ route.now.prefix.length }
     requires pruned { IsPruned (width route.now.prefix.family) at (subtree child.now) }
     requires so_far { count ≤ at }
-    ensures state { state_of result.0
-        ≡ walked_state route.now (state_of above) (bits_from route.now.prefix at) (subtree child.now) }
-    ensures count { result.1
-        ≡ count + nodes_on_path (authorizes route.now) (bits_from route.now.prefix at) (subtree child.now) }
+    ensures state { state_of result.0 ≡ walked_state route.now (state_of above)
+        (bits_from route.now.prefix at) (subtree child.now) }
+    ensures count { result.1 ≡ count + nodes_on_path (authorizes route.now)
+        (bits_from route.now.prefix at) (subtree child.now) }
 {
     match child {
         Some(node) => node.validity(route, at, above, count),
@@ -80,7 +80,8 @@ fn some_authorizes(originators: &[Originator], route: &Route) -> bool
 
 /// The state where none of these originators' VRPs, which cover the route, matches it.
 fn unmatched(originators: &[Originator], above: Validity) -> Validity
-    ensures { state_of result ≡ state_below (state_of above) (list_any (λ o. true) originators.now) }
+    ensures { state_of result
+        ≡ state_below (state_of above) (list_any (λ o. true) originators.now) }
 {
     if originators.is_empty() {
         above

@@ -1,4 +1,4 @@
-ghost use Rattle.std.specs.Prelude.{◌≡◌, ◌+◌, ◌<◌, ◌++◌, Bool, true, false, OnOk, OnErr};
+ghost use Rattle.std.specs.Prelude.{◌≡◌, ◌+◌, ◌<◌, ◌++◌, true, false, OnOk, OnErr};
 ghost use Rattle.addr.specs.Family.{width};
 ghost use Rattle.payload.specs.Visit.{WasGivenBeginning};
 ghost use Rattle.payload.specs.steps.Tree.{IsPruned, subtree, tree};
@@ -18,7 +18,8 @@ impl Node {
         ensures goes_on { OnOk result (S.has_stopped sink.old ≡ false
             → S.has_stopped sink.new ≡ false) }
         ensures beginning { OnErr result (S.has_stopped sink.old ≡ false
-            → WasGivenBeginning (vrps_at prefix.now (tree self.now)) (S.given sink.old) (S.given sink.new)) }
+            → WasGivenBeginning (vrps_at prefix.now (tree self.now))
+            (S.given sink.old) (S.given sink.new)) }
         ensures stopped { OnErr result (S.has_stopped sink.new ≡ true) }
     {
         for originator in &self.originators {
@@ -47,7 +48,8 @@ fn visit_below<S: Sink>(
     ensures goes_on { OnOk result (S.has_stopped sink.old ≡ false
         → S.has_stopped sink.new ≡ false) }
     ensures beginning { OnErr result (S.has_stopped sink.old ≡ false
-        → WasGivenBeginning (half_vrps bit prefix.now (subtree child.now)) (S.given sink.old) (S.given sink.new)) }
+        → WasGivenBeginning (half_vrps bit prefix.now (subtree child.now))
+        (S.given sink.old) (S.given sink.new)) }
     ensures stopped { OnErr result (S.has_stopped sink.new ≡ true) }
 {
     match child {
