@@ -1,5 +1,5 @@
 #!/usr/bin/env bash
-# Builds a program over the store that stands outside the gate.
+# Builds a program of this folder that stands outside the gate, store.rs or trie.rs.
 #
 #     build.sh PROGRAM WORK WORD...
 #
@@ -11,6 +11,11 @@ bench=$(cd "$(dirname "${BASH_SOURCE[0]}")" && pwd)
 top=$(dirname "$bench")
 name=bench_$1
 work=$2
+case $1 in
+    store) uses='addr arrayvec policy sqlite store' ;;
+    trie) uses='addr payload' ;;
+    *) exit 2 ;;
+esac
 
 # The crates of the repository that a crate uses, and it itself, lowest first.
 crates_below() {
@@ -23,12 +28,12 @@ crates_below() {
 
 mkdir -p "$work/crates/$name/src" || exit 2
 : >"$work/crates.txt"
-for crate in $(crates_below store | awk '!seen[$0]++'); do
+for crate in $(for used in $uses; do [ ! -d "$top/crates/$used" ] || crates_below "$used"; done | awk '!seen[$0]++'); do
     rm -rf "$work/crates/$crate"
     cp -a "$top/crates/$crate" "$work/crates/" || exit 2
     grep "^$crate:" "$top/crates.txt" >>"$work/crates.txt"
 done
-echo "$name: addr arrayvec policy sqlite store" >>"$work/crates.txt"
+echo "$name: $uses" >>"$work/crates.txt"
 cp "$bench/$1.rs" "$work/crates/$name/src/main.rt" || exit 2
 
 cd "$work/crates/$name" || exit 2

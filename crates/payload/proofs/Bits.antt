@@ -1,5 +1,5 @@
 -- The bits of a prefix from some place on.
-use Rattle.std.proofs.Common.{◌≡◌, ℕ, zero, suc, ◌+◌, ◌-◌, ◌≤◌, ◌<◌, Bool, true, false, ◌==◌, List, [], ◌∷◌, length, refl, ap, ◌∙◌, arith, ◌↔◌, IsTrue}
+use Rattle.std.proofs.Common.{◌≡◌, ℕ, zero, suc, ◌+◌, ◌-◌, ◌≤◌, ◌<◌, Bool, true, false, ◌==◌, [], ◌∷◌, length, refl, ap, ◌∙◌, arith, ◌↔◌, IsTrue}
 use Rattle.std.proofs.lemmas.Bool.{eq-eqb, ne_eqb, false≢true}
 use Rattle.addr.specs.Address.{bit_of}
 use Rattle.addr.specs.declared.prefix.Prefix.{Prefix}

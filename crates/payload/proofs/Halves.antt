@@ -1,13 +1,14 @@
 -- The two halves of a prefix, by the bit after its last.
-use Rattle.std.proofs.Common.{lit<, ◌≡◌, ℕ, suc, ◌+◌, ◌-◌, ◌*◌, ◌/◌, ◌%◌, ◌^◌, ◌≤◌, ◌<◌, Bool, true, false, refl, sym, ap, ◌∙◌, arith, inl, inr}
-use Rattle.std.proofs.lemmas.Bool.{cases_lt, both_ways, false_from_ne_true}
+use Rattle.std.proofs.Common.{◌≡◌, ℕ, suc, ◌+◌, ◌-◌, ◌*◌, ◌/◌, ◌%◌, ◌^◌, ◌≤◌, ◌<◌, Bool, true, false, refl, sym, ap, ◌∙◌, arith, inl, inr}
+use Rattle.std.proofs.lemmas.Bool.{cases_lt}
 use Rattle.std.proofs.lemmas.Nat.{one_shl, pow_pos, pow-add, pow_below, div-add-mod', div-mul-add}
-use Rattle.std.proofs.Math.Nat.{mul-add, add-mul, add-mul-mod_self_right, pow-le-pow_right}
+use Rattle.std.proofs.Math.Nat.{mul-add, add-mul, add-mul-mod_self_right}
 use Rattle.addr.specs.Family.{width}
 use Rattle.addr.specs.Address.{bit_of, contains, last_of, same_prefix}
 use Rattle.addr.specs.declared.prefix.Prefix.{Prefix}
 use Rattle.addr.proofs.AddressLemmas.{below_widest, first_below, multiple-at_most, width_small}
 use Rattle.addr.proofs.PrefixOrderLemmas.{block-within, contains-ends, ends-contains}
+use Rattle.payload.specs.steps.Trie.{half_first}
 
 -- how many addresses half of the prefix has
 abbrev pub half_size : Prefix → ℕ
@@ -92,9 +93,6 @@ bit-in_upper p q room inside high =
 
 -- ---- what the halves contain
 
-last-size : (p : Prefix) (n : ℕ) → p.first + 2 ^ (width p.family - p.length) ≤ n → last_of p < n
-last-size p n le = omega (arith, first-last p)
-
 -- a longer prefix in p lies in the lower half, or in the upper one, as its next bit says
 pub lower-contains : (p q : Prefix) (room : p.length < width p.family) → contains p q ≡ true → p.length < q.length → bit_of q p.length ≡ 0 → contains (lower p room) q ≡ true
 lower-contains p q room inside longer bit =
@@ -166,3 +164,21 @@ shifted-half p w room is = rw is (one_shl (width p.family - (p.length + 1)) 128 
 
 pub upper-fits : (p : Prefix) (room : p.length < width p.family) → p.first + half_size p < 2 ^ 128
 upper-fits p room = below_widest p.family (p.first + half_size p) (first_below (upper p room))
+
+-- ---- the half whose next bit is this one
+
+abbrev pub half : (bit : Bool) (p : Prefix) → p.length < width p.family → Prefix
+half false p room = lower p room
+half true p room = upper p room
+
+pub half-aligned : (bit : Bool) (p : Prefix) (first : ℕ) → p.length < width p.family → first ≡ half_first bit p → first % half_size p ≡ 0
+half-aligned false p first room is = rw is (lower p room).aligned
+half-aligned true p first room is = rw is (upper p room).aligned
+
+pub half-in_family : (bit : Bool) (p : Prefix) (first : ℕ) → p.length < width p.family → first ≡ half_first bit p → first + half_size p ≤ 2 ^ width p.family
+half-in_family false p first room is = rw is (lower p room).in_family
+half-in_family true p first room is = rw is (upper p room).in_family
+
+pub half-fits : (bit : Bool) (p : Prefix) → p.length < width p.family → half_first bit p < 2 ^ 128
+half-fits false p room = below_widest p.family p.first (first_below p)
+half-fits true p room = upper-fits p room

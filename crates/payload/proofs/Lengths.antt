@@ -1,8 +1,8 @@
 -- Lists of VRPs whose prefixes are no shorter than some length.
-use Rattle.std.proofs.Common.{◌≡◌, ℕ, ◌+◌, ◌≤◌, ◌<◌, List, [], ◌++◌, take, length, get_or, true, refl, ap, sym, subst, arith, inl, inr}
-use Rattle.std.specs.List.{All, insert}
+use Rattle.std.proofs.Common.{◌≡◌, ℕ, ◌+◌, ◌≤◌, ◌<◌, List, [], ◌++◌, take, length, get_or, true, not, ◌&&◌, ◌||◌, refl, ap, subst, arith, inl, inr}
+use Rattle.std.specs.List.{All, list_any}
 use Rattle.std.proofs.lemmas.List.{take_all}
-use Rattle.std.proofs.lemmas.List.Elements.{All-append, All-cons, All-drop, All-more, All-take, All-weaker}
+use Rattle.std.proofs.lemmas.List.Elements.{All-more, All-weaker}
 use Rattle.std.proofs.lemmas.Bool.{cases_Bool}
 use Rattle.addr.specs.Address.{contains}
 use Rattle.addr.specs.declared.prefix.Prefix.{Prefix}
@@ -11,6 +11,9 @@ use Rattle.payload.proofs.Fronts.{All-front}
 use Rattle.addr.proofs.PrefixOrderLemmas.{contains-between, contains-ends}
 use Rattle.addr.specs.declared.family.Family.{Family}
 use Rattle.addr.specs.declared.vrp.Vrp.{Vrp}
+use Rattle.addr.proofs.OrderLemmas.{vrp_order}
+use Rattle.payload.proofs.Sets.{is_vrp}
+use Rattle.payload.proofs.SortedItems.{All-inserted, All-removed}
 use Rattle.payload.specs.declared.shortest.Shortest.{Shortest}
 use Rattle.payload.specs.steps.Shortest.{shortest_in, AreNoShorter}
 
@@ -26,11 +29,12 @@ no_shorter-more s t vrps i v all within read here less =
 pub no_shorter-all : (s : Shortest) (vrps : List Vrp) (i : ℕ) → AreNoShorter s (take i vrps) → length vrps ≤ i → AreNoShorter s vrps
 no_shorter-all s vrps i all past = subst (AreNoShorter s) (take_all i vrps past) all
 
-pub no_shorter-insert : (s t : Shortest) (vrps news : List Vrp) (at : ℕ) (v : Vrp) → AreNoShorter s vrps → news ≡ insert vrps at v → shortest_in t v.prefix.family ≤ v.prefix.length → ((f : Family) → shortest_in t f ≤ shortest_in s f) → AreNoShorter t news
-no_shorter-insert s t vrps news at v all new here less =
-    let P = λ (v : Vrp). shortest_in t v.prefix.family ≤ v.prefix.length in
-    let all' = weaker s t vrps less all in
-    subst (AreNoShorter t) (sym new) (All-append P (take at vrps) _ (All-take P at vrps all') (All-cons P v _ here (All-drop P at vrps all')))
+pub no_shorter-inserted : (s t : Shortest) (vrps news : List Vrp) (v : Vrp) → AreNoShorter s vrps → ((w : Vrp) → list_any (is_vrp w) news ≡ (is_vrp w v || list_any (is_vrp w) vrps)) → shortest_in t v.prefix.family ≤ v.prefix.length → ((f : Family) → shortest_in t f ≤ shortest_in s f) → AreNoShorter t news
+no_shorter-inserted s t vrps news v all members here less =
+    All-inserted vrp_order.total vrp_order.exact (λ v. shortest_in t v.prefix.family ≤ v.prefix.length) vrps news v (weaker s t vrps less all) here members
+
+pub no_shorter-removed : (s : Shortest) (vrps news : List Vrp) (v : Vrp) → AreNoShorter s vrps → ((w : Vrp) → list_any (is_vrp w) news ≡ (not (is_vrp w v) && list_any (is_vrp w) vrps)) → AreNoShorter s news
+no_shorter-removed s vrps news v all members = All-removed vrp_order.total vrp_order.exact (λ v. shortest_in s v.prefix.family ≤ v.prefix.length) vrps news v all members
 
 -- no prefix that contains two of one family is longer than the last round both
 pub none-so_short : (s : Shortest) (low high : Prefix) (last : ℕ) (vrps : List Vrp) → AreNoShorter s vrps → All (λ v. is_at_most v.prefix low ≡ true) vrps → is_at_most low high ≡ true → ((p : Prefix) → contains p low ≡ true → contains p high ≡ true → p.length ≤ last) → last < shortest_in s low.family → HasAllEnclosing high vrps []

@@ -1,5 +1,6 @@
 pub mod Bits
 pub mod Dedup
+pub mod Depths
 pub mod Fronts
 pub mod Halves
 pub mod Left
@@ -10,6 +11,9 @@ pub mod Sets
 pub mod SortedItems
 pub mod Trees
 pub mod TrieOrder
+pub mod TrieStates
+pub mod TrieValidity
+pub mod TrieVisits
 pub mod TrieVrps
 pub mod TrieWalks
 pub mod Tries

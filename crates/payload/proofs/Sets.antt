@@ -3,10 +3,9 @@ use Rattle.std.proofs.Common.{T, zero, get_or, ◌<◌, ◌≡◌, ℕ, suc, Boo
 use Rattle.std.specs.Cmp.{Equal-is}
 use Rattle.std.specs.FinMap as maps
 use Rattle.std.specs.FinMap.Entries.{below_all, by_order, is_sorted, put}
-use Rattle.std.specs.List.{list_any, insert}
+use Rattle.std.specs.List.{list_any}
 use Rattle.std.specs.Ordering.{eq_by_cmp, is_lt}
 use Rattle.std.specs.declared.cmp.Ordering.TheVariants.{Less, Equal, Greater}
-use Rattle.std.proofs.lemmas.List.Sorted.{IsPermutation-insert, list_any-IsPermutation}
 use Rattle.addr.specs.declared.vrp.Vrp.{Vrp}
 use Rattle.payload.specs.Rising.{AreRising}
 use Rattle.addr.specs.Order.{vrp_cmp}
@@ -56,14 +55,6 @@ same_from_list xs ys each = same_set _ _ (λ v. contains-from_list xs v ∙ each
 pub contains-items : (s : set.VrpSet) (v : Vrp) → set.contains s v ≡ list_any (is_vrp v) (set.items s)
 contains-items s v = maps.contains_key-keys s v
 
--- an insertion anywhere in the list is one into the set
-pub from_list-insert : (vrps : List Vrp) (at : ℕ) (v : Vrp) → set.from_list (insert vrps at v) ≡ set.insert (set.from_list vrps) v
-from_list-insert vrps at v = same_set _ _ (λ w.
-    contains-from_list (insert vrps at v) w
-    ∙ sym (list_any-IsPermutation (is_vrp w) (v ∷ vrps) (insert vrps at v) (IsPermutation-insert vrps at v))
-    ∙ ap (λ b. is_vrp w v || b) (sym (contains-from_list vrps w))
-    ∙ sym (contains-insert (set.from_list vrps) v w))
-
 pub same_vrp-equal : (v w : Vrp) → is_vrp v w ≡ true → v ≡ w
 same_vrp-equal v w h = vrp_order.exact v w ((Equal-is (vrp_cmp v w)).0 h)
 
@@ -80,22 +71,6 @@ members-remove s xs zs v view members = same_set _ _ (λ w.
     contains-from_list zs w ∙ members w
     ∙ ap (λ b. not (is_vrp w v) && b) (sym (contains-from_list xs w) ∙ ap (λ t. set.contains t w) view)
     ∙ sym (contains-remove s v w))
-
--- a VRP that is there is inserted to no effect
-pub insert-present : (s : set.VrpSet) (v : Vrp) → set.contains s v ≡ true → s ≡ set.insert s v
-insert-present s v there = same_set _ _ (λ w. at w (is_vrp w v) refl ∙ sym (contains-insert s v w))
-  where
-    at : (w : Vrp) (b : Bool) → is_vrp w v ≡ b → set.contains s w ≡ (is_vrp w v || set.contains s w)
-    at w true e = ap (set.contains s) (same_vrp-equal w v e) ∙ there ∙ sym (ap (λ b. b || set.contains s w) e)
-    at w false e = sym (ap (λ b. b || set.contains s w) e)
-
--- a VRP that is not there is removed to no effect
-pub remove-absent : (s : set.VrpSet) (v : Vrp) → set.contains s v ≡ false → s ≡ set.remove s v
-remove-absent s v absent = same_set _ _ (λ w. at w (is_vrp w v) refl ∙ sym (contains-remove s v w))
-  where
-    at : (w : Vrp) (b : Bool) → is_vrp w v ≡ b → set.contains s w ≡ (not (is_vrp w v) && set.contains s w)
-    at w true e = ap (set.contains s) (same_vrp-equal w v e) ∙ absent ∙ sym (ap (λ b. not b && set.contains s w) e)
-    at w false e = sym (ap (λ b. not b && set.contains s w) e)
 
 abbrev mark : Vrp → Vrp × Unit {0}
 mark v = (v, tt)

@@ -12,7 +12,6 @@ use Rattle.std.proofs.lemmas.List.Edits.{length-insert, get_or-insert_below, get
 use Rattle.std.proofs.lemmas.List.Folds.{list_any_none, list_any_at}
 use Rattle.std.proofs.lemmas.List.Sorted.{searchable_from_sorted, IsPermutation-insert, IsPermutation-remove, list_any-IsPermutation}
 use Rattle.std.proofs.lemmas.List.Elements.{All-head, All-tail}
-use Rattle.std.proofs.lemmas.List.Quantifiers.{all_pairs_remove}
 use Rattle.payload.specs.Rising.{RiseBy}
 
 module _ {X : Type 0} {cmp : X → X → Ordering} (total : IsTotalOrder cmp) where
@@ -168,9 +167,6 @@ module _ {X : Type 0} {cmp : X → X → Ordering} (total : IsTotalOrder cmp) wh
       by : (b : Bool) → is y x ≡ b → list_any (is y) (remove xs at) ≡ (not (is y x) && list_any (is y) xs)
       by true e = any-alike item y (one ∙ e) (remove xs at) ∙ others-differ xs at item rising within there ∙ sym (ap (λ b. not b && list_any (is y) xs) e)
       by false e = sym (ap (λ b. not b && list_any (is y) xs) e ∙ split ∙ ap (λ b. b || list_any (is y) (remove xs at)) (one ∙ e))
-
-  pub remove-rises : (xs zs : List X) (at : ℕ) → RiseBy cmp xs → at < length xs → zs ≡ remove xs at → RiseBy cmp zs
-  remove-rises xs zs at rising within new = subst (RiseBy cmp) (sym new) (all_pairs_remove (λ x y. cmp x y ≡ Less) xs at within rising)
 
 -- items that tie are equal
 module _ {X : Type 0} {cmp : X → X → Ordering} (total : IsTotalOrder cmp) (exact : (x y : X) → cmp x y ≡ Equal → x ≡ y) where

@@ -1,17 +1,17 @@
 -- Trees, by what stands at the end of each path.
-use Rattle.std.proofs.Common.{◌≡◌, ℕ, ◌+◌, ◌≤◌, ◌<◌, Bool, true, false, not, ◌&&◌, ◌||◌, List, [], ◌∷◌, length, refl, sym, ap, ◌∙◌, subst, arith, Result, Ok, Err}
+use Rattle.std.proofs.Common.{◌≡◌, ℕ, ◌+◌, ◌≤◌, Bool, true, false, not, ◌&&◌, ◌||◌, List, [], ◌∷◌, length, refl, sym, ap, ◌∙◌, subst, arith, Result, Ok, Err}
 use Rattle.std.specs.Prelude.{OnOk, OnErr}
 use Rattle.std.specs.Cmp.{IsTotalOrder, nat_cmp_total, on_total, then_total}
 use Rattle.std.specs.FinMap.{nat_cmp-IsAntisymmetric}
-use Rattle.std.specs.List.{All, list_any}
+use Rattle.std.specs.List.{list_any}
 use Rattle.std.specs.Ordering.{eq_by_cmp, is_eq}
 use Rattle.std.specs.declared.cmp.Ordering.TheVariants.{Equal}
 use Rattle.std.proofs.lemmas.Cmp.{tied_itself}
 use Rattle.std.proofs.lemmas.List.Elements.{All-nil, All-cons}
 use Rattle.addr.proofs.OrderLemmas.{both_equal}
 use Rattle.payload.specs.Rising.{RiseBy}
-use Rattle.payload.specs.declared.trie.originator.Originator.{Originator}
-use Rattle.payload.specs.steps.Tree.{Tree, Leaf, Fork, Top, tree, AreOriginators, IsInserted, IsRemoved, IsPruned, below, has, here, is_bare, is_place, only, originator_cmp, same_numbers}
+use Rattle.payload.specs.declared.originator.Originator.{Originator}
+use Rattle.payload.specs.steps.Tree.{Tree, Leaf, Fork, Top, tree, AreOriginators, IsInserted, IsRemoved, IsPruned, has, is_bare, is_place, only, originator_cmp, same_numbers}
 use Rattle.payload.proofs.SortedItems.{All-inserted, All-removed}
 
 abbrev pub is_originator : Originator → Originator → Bool
@@ -49,12 +49,7 @@ place-itself (true ∷ path) o = place-itself path o
 pub full-inserted : (path : List Bool) (o : Originator) (old new : Tree) → IsInserted path o old new → is_bare new ≡ false
 full-inserted path o old new is = full-has path o new (is path o ∙ ap (λ b. b || has path o old) (place-itself path o))
 
--- ---- a node changes at itself or in one child
-
-pub inserted-here : (o : Originator) (xs ys : List Originator) (zero one : Tree) → ((q : Originator) → list_any (is_originator q) ys ≡ (is_originator q o || list_any (is_originator q) xs)) → IsInserted [] o (Fork xs zero one) (Fork ys zero one)
-inserted-here o xs ys zero one members [] q = members q
-inserted-here o xs ys zero one members (false ∷ other) q = refl
-inserted-here o xs ys zero one members (true ∷ other) q = refl
+-- ---- a node changes in one child
 
 pub inserted-zero : (path : List Bool) (o : Originator) (xs : List Originator) (zero zero' one : Tree) → IsInserted path o zero zero' → IsInserted (false ∷ path) o (Fork xs zero one) (Fork xs zero' one)
 inserted-zero path o xs zero zero' one is [] q = refl
@@ -65,11 +60,6 @@ pub inserted-one : (path : List Bool) (o : Originator) (xs : List Originator) (z
 inserted-one path o xs zero one one' is [] q = refl
 inserted-one path o xs zero one one' is (false ∷ other) q = refl
 inserted-one path o xs zero one one' is (true ∷ other) q = is other q
-
-pub removed-here : (o : Originator) (xs ys : List Originator) (zero one : Tree) → ((q : Originator) → list_any (is_originator q) ys ≡ (not (is_originator q o) && list_any (is_originator q) xs)) → IsRemoved [] o (Fork xs zero one) (Fork ys zero one)
-removed-here o xs ys zero one members [] q = members q
-removed-here o xs ys zero one members (false ∷ other) q = refl
-removed-here o xs ys zero one members (true ∷ other) q = refl
 
 pub removed-zero : (path : List Bool) (o : Originator) (xs : List Originator) (zero zero' one : Tree) → IsRemoved path o zero zero' → IsRemoved (false ∷ path) o (Fork xs zero one) (Fork xs zero' one)
 removed-zero path o xs zero zero' one is [] q = refl

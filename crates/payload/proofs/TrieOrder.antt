@@ -1,7 +1,6 @@
 -- The VRPs of a tree rise.
-use Rattle.std.proofs.Common.{◌≡◌, ℕ, suc, ◌+◌, ◌≤◌, ◌<◌, true, List, [], ◌∷◌, ◌++◌, refl, sym, ap, ◌∙◌, subst, arith, inl, inr, Ordering}
+use Rattle.std.proofs.Common.{◌≡◌, suc, ◌+◌, ◌<◌, true, List, [], ◌∷◌, ◌++◌, refl, sym, ap, ◌∙◌, subst, arith, inl, inr}
 use Rattle.std.specs.List.{All, AllPairs}
-use Rattle.std.specs.Ordering.{nat_cmp, ordering_then}
 use Rattle.std.specs.declared.cmp.Ordering.TheVariants.{Less, Equal}
 use Rattle.std.proofs.lemmas.Bool.{cases_lt}
 use Rattle.std.proofs.lemmas.Cmp.{tied_itself}
@@ -16,10 +15,10 @@ use Rattle.addr.specs.declared.prefix.Prefix.{Prefix}
 use Rattle.addr.specs.declared.vrp.Vrp.{Vrp}
 use Rattle.addr.proofs.OrderLemmas.{prefix_order}
 use Rattle.payload.specs.Rising.{AreRising, RiseBy}
-use Rattle.payload.specs.declared.trie.originator.Originator.{Originator}
+use Rattle.payload.specs.declared.originator.Originator.{Originator}
 use Rattle.payload.specs.steps.Tree.{Tree, Leaf, Fork, IsPruned, originator_cmp}
-use Rattle.payload.specs.steps.Trie.{node_vrps, originator_of, vrps_at}
-use Rattle.payload.proofs.Halves.{half_size, lower, upper, contains-lower, contains-upper, contains-trans, contains-longer, within-first}
+use Rattle.payload.specs.steps.Trie.{node_vrps, vrps_at}
+use Rattle.payload.proofs.Halves.{lower, upper, contains-lower, contains-upper, contains-trans, contains-longer, within-first}
 use Rattle.addr.proofs.PrefixOrderLemmas.{cmp-less, cmp-equal, contains-ends}
 use Rattle.payload.proofs.TrieVrps.{HasLengths, node_vrps-cons, lower_vrps, upper_vrps, leaf-or-room, vrp_of, All-node, All-within}
 

@@ -1,7 +1,7 @@
 -- The VRPs of a tree, and what tests say of them.
-use Rattle.std.proofs.Common.{◌≡◌, ℕ, ◌+◌, ◌≤◌, ◌<◌, Bool, true, false, ◌&&◌, ◌||◌, List, [], ◌∷◌, ◌++◌, Some, refl, sym, ap, ◌∙◌, subst, arith, inl, inr, ◌⊎◌}
+use Rattle.std.proofs.Common.{◌≡◌, ◌+◌, ◌≤◌, ◌<◌, Bool, true, false, ◌||◌, List, [], ◌∷◌, Some, refl, sym, ap, ◌∙◌, subst, arith, inl, inr, ◌⊎◌}
 use Rattle.std.proofs.Math.Bool.{or-false}
-use Rattle.std.specs.List.{All, filter_map, list_any}
+use Rattle.std.specs.List.{All, list_any}
 use Rattle.std.proofs.lemmas.Bool.{false_from_ne_true}
 use Rattle.std.proofs.lemmas.List.Elements.{All-append, All-cons, All-head, All-nil, All-tail, All-weaker}
 use Rattle.std.proofs.lemmas.List.Folds.{list_any-append, list_any_none}
@@ -11,8 +11,8 @@ use Rattle.addr.specs.Order.{same_vrp}
 use Rattle.addr.specs.PrefixText.{prefix_if, prefix_with}
 use Rattle.addr.specs.declared.prefix.Prefix.{Prefix}
 use Rattle.addr.specs.declared.vrp.Vrp.{Vrp}
-use Rattle.payload.specs.declared.trie.originator.Originator.{Originator}
-use Rattle.payload.specs.steps.Tree.{Tree, Leaf, Fork, IsPruned, is_bare}
+use Rattle.payload.specs.declared.originator.Originator.{Originator}
+use Rattle.payload.specs.steps.Tree.{Tree, Leaf, Fork, IsPruned}
 use Rattle.payload.specs.steps.Trie.{node_vrps, originator_of, vrp_at, vrp_if, vrp_with, vrps_at, vrps_below}
 use Rattle.payload.proofs.Halves.{half_size, lower, upper, contains-lower, contains-upper, contains-trans, contains-longer, lower-bit, upper-bit}
 use Rattle.addr.proofs.PrefixOrderLemmas.{ends-contains}
@@ -69,7 +69,7 @@ pub leaf-or-room : (p : Prefix) (t : Tree) → IsPruned (width p.family) (p.leng
 leaf-or-room p Leaf pruned = inl refl
 leaf-or-room p (Fork os zero one) pruned = inr (omega (arith, pruned.0.fits))
 
-contains-itself : (p q : Prefix) → q ≡ p → contains p q ≡ true
+pub contains-itself : (p q : Prefix) → q ≡ p → contains p q ≡ true
 contains-itself p q same = ends-contains p q (ap (λ r. r.family) (sym same)) (omega (arith, ap (λ r. r.first) same)) (subst (λ r. last_of r ≤ last_of p) (sym same) (omega arith))
 
 abbrev IsInside : Prefix → Vrp → Type 0
@@ -112,7 +112,7 @@ none-upper test p one pruned out =
       | inr room ↦ list_any_none test _ (All-weaker _ (λ v. test v ≡ false) (out room) _ (All-within (upper p room) one pruned))
     ]
 
-any-parts : (test : Vrp → Bool) (p : Prefix) (os : List Originator) (zero one : Tree) → list_any test (vrps_at p (Fork os zero one)) ≡ (list_any test (node_vrps p os) || (list_any test (lower_vrps p zero) || list_any test (upper_vrps p one)))
+pub any-parts : (test : Vrp → Bool) (p : Prefix) (os : List Originator) (zero one : Tree) → list_any test (vrps_at p (Fork os zero one)) ≡ (list_any test (node_vrps p os) || (list_any test (lower_vrps p zero) || list_any test (upper_vrps p one)))
 any-parts test p os zero one =
     list_any-append test (node_vrps p os) _
     ∙ ap (λ b. list_any test (node_vrps p os) || b) (list_any-append test (lower_vrps p zero) (upper_vrps p one))

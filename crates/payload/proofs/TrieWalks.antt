@@ -1,6 +1,5 @@
 -- What the walk down the bits of a prefix meets in a tree, as tests of the tree's VRPs.
-use Rattle.std.proofs.Common.{◌≡◌, ℕ, ◌+◌, ◌-◌, ◌/◌, ◌%◌, ◌^◌, ◌≤◌, ◌<◌, Bool, true, false, ◌&&◌, ◌||◌, ◌==◌, nat_le, List, [], ◌∷◌, refl, sym, ap, ◌∙◌, subst, arith, inl, inr, ◌⊎◌, IsTrue, ◌↔◌, Ordering}
-use Rattle.std.proofs.Math.Bool.{or-false}
+use Rattle.std.proofs.Common.{◌≡◌, ℕ, ◌+◌, ◌-◌, ◌/◌, ◌%◌, ◌^◌, ◌<◌, Bool, true, false, ◌&&◌, ◌||◌, List, [], ◌∷◌, refl, sym, ap, ◌∙◌, subst, arith, inl, inr, ◌⊎◌}
 use Rattle.std.specs.List.{list_any}
 use Rattle.std.specs.Ordering.{is_eq, nat_cmp, ordering_then}
 use Rattle.std.specs.declared.cmp.Ordering.TheVariants.{Equal}
@@ -8,17 +7,17 @@ use Rattle.std.proofs.lemmas.Bool.{cases_lt, and_parts, false_from_ne_true}
 use Rattle.std.proofs.lemmas.Cmp.{tied_itself}
 use Rattle.addr.specs.Address.{bit_of, contains}
 use Rattle.addr.specs.Family.{width}
-use Rattle.addr.specs.Order.{prefix_cmp, vrp_cmp}
-use Rattle.addr.specs.OriginValidation.{covers, matches, is_from}
+use Rattle.addr.specs.Order.{prefix_cmp}
+use Rattle.addr.specs.OriginValidation.{covers}
 use Rattle.addr.specs.declared.prefix.Prefix.{Prefix}
 use Rattle.addr.specs.declared.route.Route.{Route}
 use Rattle.addr.specs.declared.vrp.Vrp.{Vrp}
 use Rattle.addr.proofs.OrderLemmas.{prefix_order}
-use Rattle.payload.specs.declared.trie.originator.Originator.{Originator}
-use Rattle.payload.specs.steps.Tree.{Tree, Leaf, Fork, IsPruned, has, has_on_path, below}
+use Rattle.payload.specs.declared.originator.Originator.{Originator}
+use Rattle.payload.specs.steps.Tree.{Tree, Leaf, Fork, IsPruned, has, has_on_path}
 use Rattle.payload.specs.steps.Trie.{bits_from, node_vrps, originator_of, vrps_at}
 use Rattle.payload.proofs.Bits.{bits_from-end, bits_from-next}
-use Rattle.payload.proofs.Halves.{lower, upper, contains-longer, contains-same, lower-contains, upper-contains}
+use Rattle.payload.proofs.Halves.{lower, upper, contains-same, lower-contains, upper-contains}
 use Rattle.addr.proofs.PrefixOrderLemmas.{ends-contains}
 use Rattle.payload.proofs.Sets.{is_vrp, same_vrp-equal}
 use Rattle.payload.proofs.Trees.{has-leaf, is_originator}
@@ -94,7 +93,7 @@ any-is_vrp v p (Fork os zero one) pruned inside =
 abbrev pub covers_with : Route → (Originator → Bool) → Vrp → Bool
 covers_with route passes v = covers v route && passes (originator_of v)
 
-on-path-leaf : (passes : Originator → Bool) (path : List Bool) → has_on_path passes path Leaf ≡ false
+pub on-path-leaf : (passes : Originator → Bool) (path : List Bool) → has_on_path passes path Leaf ≡ false
 on-path-leaf passes [] = refl
 on-path-leaf passes (bit ∷ path) = on-path-leaf passes path
 

@@ -1,5 +1,5 @@
 -- The set of a trie's two trees.
-use Rattle.std.proofs.Common.{lit≤, lit<, ◌≡◌, ℕ, ◌+◌, ◌-◌, ◌^◌, ◌%◌, ◌≤◌, ◌<◌, Bool, true, false, not, ◌&&◌, ◌||◌, List, [], ◌∷◌, ◌++◌, length, refl, sym, ap, ◌∙◌, subst, arith, inl, inr, ◌⊎◌}
+use Rattle.std.proofs.Common.{lit<, ◌≡◌, ◌+◌, ◌-◌, ◌^◌, ◌≤◌, Bool, true, false, not, ◌&&◌, ◌||◌, List, [], ◌∷◌, ◌++◌, length, refl, sym, ap, ◌∙◌, subst, arith, inl, inr, ◌⊎◌}
 use Rattle.std.proofs.Math.Bool.{or-false}
 use Rattle.std.specs.List.{list_any}
 use Rattle.std.proofs.lemmas.Bool.{false_from_ne_true}
@@ -13,9 +13,9 @@ use Rattle.addr.specs.declared.family.Family.TheVariants.{V4, V6}
 use Rattle.addr.specs.declared.prefix.Prefix.{Prefix}
 use Rattle.addr.specs.declared.vrp.Vrp.{Vrp}
 use Rattle.payload.specs.VrpSet as set
-use Rattle.payload.specs.declared.trie.originator.Originator.{Originator}
+use Rattle.payload.specs.declared.originator.Originator.{Originator}
 use Rattle.payload.specs.steps.Tree.{Tree, Leaf, IsInserted, IsRemoved, IsPruned, has, is_place, only}
-use Rattle.payload.specs.steps.Trie.{bits_from, originator_of, trie_vrps, vrps_at, vrps_below}
+use Rattle.payload.specs.steps.Trie.{bits_from, originator_of, trie_vrps, vrps_at, vrps_below, whole}
 use Rattle.payload.proofs.Bits.{length-bits_from}
 use Rattle.payload.proofs.Halves.{lower, upper, contains-longer}
 use Rattle.addr.proofs.PrefixOrderLemmas.{contains-ends, ends-contains}
@@ -23,11 +23,6 @@ use Rattle.payload.proofs.Sets.{is_vrp, same_vrp-equal, contains-from_list}
 use Rattle.payload.proofs.Trees.{has-leaf, inserted-only, pruned-only, place-itself}
 use Rattle.payload.proofs.TrieVrps.{All-within, leaf-or-room, node_vrps-cons}
 use Rattle.payload.proofs.TrieWalks.{any-is_vrp}
-
--- the prefix of all addresses of the family
-abbrev pub whole : Family → Prefix
-whole V4 = record { family = V4; first = 0; length = 0; length_fits = lit≤ tt; aligned = refl; in_family = lit≤ tt }
-whole V6 = record { family = V6; first = 0; length = 0; length_fits = lit≤ tt; aligned = refl; in_family = lit≤ tt }
 
 pub whole-four : (q : Prefix) → q.family ≡ V4 → contains (whole V4) q ≡ true
 whole-four q is =

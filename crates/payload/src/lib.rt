@@ -3,6 +3,7 @@
 
 mod index;
 mod list;
+mod originator;
 mod search;
 mod shortest;
 mod sink;

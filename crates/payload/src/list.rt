@@ -5,7 +5,7 @@ ghost use Rattle.std.specs.Ordering.{eq_by_cmp};
 ghost use Rattle.payload.specs.VrpSet as set;
 
 use crate::shortest::Shortest;
-use crate::{PayloadIndex, Sink, Stop, Validity, search};
+use crate::{PayloadIndex, Sink, Stop, Validity, search, sorted};
 use addr::{Route, Vrp};
 use std::alloc::{AllocError, Global};
 use std::marker::Model;
@@ -69,28 +69,17 @@ impl PayloadIndex for ListIndex {
     ghost vrps = { λ index. index };
 
     fn insert(&mut self, vrp: Vrp) -> Result<bool, AllocError> {
-        match self.vrps.binary_search(&vrp) {
-            Ok(_) => Ok(false),
-            Err(at) => {
-                self.vrps.insert(at, vrp)?;
-                self.shortest = self.shortest.with(&vrp.prefix);
-                Ok(true)
-            }
-        }
+        let is_new = sorted::insert(&mut self.vrps, vrp)?;
+        self.shortest = self.shortest.with(&vrp.prefix);
+        Ok(is_new)
     }
 
     fn remove(&mut self, vrp: &Vrp) -> bool {
-        match self.vrps.binary_search(vrp) {
-            Ok(at) => {
-                self.vrps.remove(at);
-                true
-            }
-            Err(_) => false,
-        }
+        sorted::remove(&mut self.vrps, vrp)
     }
 
     fn contains(&self, vrp: &Vrp) -> bool {
-        self.vrps.binary_search(vrp).is_ok()
+        sorted::contains(&self.vrps, vrp)
     }
 
     fn validity(&self, route: &Route) -> Validity {

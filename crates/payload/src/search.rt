@@ -1,4 +1,4 @@
-ghost use Rattle.std.specs.Prelude.{◌≡◌, ◌-◌, ◌%◌, ◌^◌, ◌<◌, ◌≤◌, true, false, ◌&&◌, nat_le};
+ghost use Rattle.std.specs.Prelude.{◌≡◌, ◌-◌, ◌%◌, ◌^◌, ◌<◌, ◌≤◌, true, false};
 ghost use Rattle.std.specs.List.{All};
 ghost use Rattle.addr.specs.Address.{contains};
 ghost use Rattle.addr.specs.OriginValidation.{is_from, matches, validation_state};
@@ -13,6 +13,7 @@ ghost use Rattle.payload.specs.steps.Shortest.{AreNoShorter};
 ghost use Rattle.payload.specs.ValidityState.{state_of};
 
 use crate::Validity;
+use crate::originator::Originator;
 use crate::shortest::Shortest;
 use addr::{Asn, Origin, Prefix, Route, Vrp};
 
@@ -34,7 +35,7 @@ pub(crate) fn validity(vrps: &[Vrp], shortest: Shortest, route: &Route) -> Valid
             rest = enclosing_both(before, shortest, &vrp.prefix, &route.prefix);
             continue;
         }
-        if is_authorized(vrp, route) {
+        if Originator::of(vrp).authorizes(route) {
             return Validity::Valid;
         }
         is_covered = true;
@@ -44,17 +45,6 @@ pub(crate) fn validity(vrps: &[Vrp], shortest: Shortest, route: &Route) -> Valid
         Validity::Invalid
     } else {
         Validity::NotFound
-    }
-}
-
-/// Whether a VRP that covers the route matches it.
-fn is_authorized(vrp: &Vrp, route: &Route) -> bool
-    ensures { result
-        ≡ (nat_le route.now.prefix.length vrp.now.max && is_from route.now.origin vrp.now.asn) }
-{
-    match route.origin {
-        Origin::As(asn) => route.prefix.length <= vrp.max && asn.0 != 0 && asn.0 == vrp.asn.0,
-        Origin::None => false,
     }
 }
 

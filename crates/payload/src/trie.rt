@@ -1,18 +1,25 @@
-ghost use Rattle.std.specs.Prelude.{◌≡◌, ◌≤◌, ◌+◌};
+ghost use Rattle.std.specs.Prelude.{◌≡◌, ◌≤◌, ◌+◌, length};
+ghost use Rattle.addr.specs.OriginValidation.{validation_state};
+ghost use Rattle.payload.specs.SearchDepths.{search_depths};
+ghost use Rattle.payload.specs.ValidityState.{state_of};
 ghost use Rattle.payload.specs.VrpSet as set;
+ghost use Rattle.payload.specs.steps.Trie.{whole};
 
 mod contains;
 mod insert;
 mod node;
-mod originator;
 mod remove;
+mod validity;
+mod visit;
 
 use crate::trie::node::Node;
-use addr::{Family, Vrp};
+use crate::{PayloadIndex, Sink, Stop, Validity};
+use addr::{Family, Prefix, Route, Vrp};
 use std::alloc::{AllocError, Global};
 use std::marker::Model;
 
-/// A set of VRPs in a tree for each family, which branches by the bits of the prefixes, seen as the set.
+/// A set of VRPs in a tree for each family, which branches by the bits of the prefixes, seen as
+/// the set.
 #[derive(Drop)]
 pub struct Trie {
     alloc: Global,
@@ -35,8 +42,6 @@ impl Model for Trie {
 }
 
 impl Trie {
-    ghost use Rattle.std.specs.Prelude.{not, IfOk, OnOk, OnErr};
-
     /// The empty set. It allocates nothing.
     pub fn new(alloc: Global) -> Trie
         ensures { result ≡ set.empty }
@@ -48,33 +53,62 @@ impl Trie {
         }
     }
 
-    pub fn insert(&mut self, vrp: Vrp) -> Result<bool, AllocError>
-        ensures new { IfOk result (λ is_new. is_new ≡ not (set.contains self.old vrp)) }
-        ensures ok { OnOk result (self.new ≡ set.insert self.old vrp) }
-        ensures err { OnErr result (self.new ≡ self.old) }
+    /// As `validity`, with the number of nodes that the search went to: one for each length at
+    /// which the set has something to look at, the root's always.
+    pub fn validity_counted(&self, route: &Route) -> (Validity, u32)
+        ensures state { state_of result.0 ≡ validation_state (set.items self.now) route.now }
+        ensures count { result.1 ≡ length (search_depths (set.items self.now) route.now) }
+        ensures most { result.1 ≤ route.now.prefix.length + 1 }
     {
+        match route.prefix.family {
+            Family::V4 => self.four.validity(route, 0, Validity::NotFound, 0),
+            Family::V6 => self.six.validity(route, 0, Validity::NotFound, 0),
+        }
+    }
+}
+
+impl PayloadIndex for Trie {
+    ghost vrps = { λ trie. trie };
+
+    fn insert(&mut self, vrp: Vrp) -> Result<bool, AllocError> {
         match vrp.prefix.family {
             Family::V4 => self.four.insert(self.alloc, &vrp, 0),
             Family::V6 => self.six.insert(self.alloc, &vrp, 0),
         }
     }
 
-    pub fn remove(&mut self, vrp: &Vrp) -> bool
-        ensures found { result ≡ set.contains self.old vrp.now }
-        ensures rest { self.new ≡ set.remove self.old vrp.now }
-    {
+    fn remove(&mut self, vrp: &Vrp) -> bool {
         match vrp.prefix.family {
             Family::V4 => self.four.remove(vrp, 0),
             Family::V6 => self.six.remove(vrp, 0),
         }
     }
 
-    pub fn contains(&self, vrp: &Vrp) -> bool
-        ensures { result ≡ set.contains self.now vrp.now }
-    {
+    fn contains(&self, vrp: &Vrp) -> bool {
         match vrp.prefix.family {
             Family::V4 => self.four.contains(vrp, 0),
             Family::V6 => self.six.contains(vrp, 0),
         }
+    }
+
+    fn validity(&self, route: &Route) -> Validity {
+        self.validity_counted(route).0
+    }
+
+    #[tactic(auto, using(crate::proofs::Sets::items_rise))]
+    fn visit<S: Sink>(&self, sink: &mut S) -> Result<(), Stop> {
+        self.four.visit(&whole(Family::V4), sink)?;
+        self.six.visit(&whole(Family::V6), sink)
+    }
+}
+
+/// The prefix of all addresses of the family.
+fn whole(family: Family) -> Prefix
+    ensures { result ≡ whole family }
+{
+    Prefix {
+        family,
+        first: 0,
+        length: 0,
     }
 }

@@ -8,7 +8,7 @@ use Rattle.std.specs.List.{All, AllPairs, list_any}
 use Rattle.std.specs.Ordering.{eq_by_cmp, nat_cmp, ordering_then}
 use Rattle.std.specs.declared.cmp.Ordering.{Ordering}
 use Rattle.std.specs.declared.cmp.Ordering.TheVariants.{Less}
-use Rattle.payload.specs.declared.trie.originator.Originator.{Originator}
+use Rattle.payload.specs.declared.originator.Originator.{Originator}
 
 -- no node, or a node with its originators and what lies below it by bit 0 and by bit 1
 pub data Tree : Type 0 where

@@ -1,11 +1,12 @@
 -- VRPs and routes on the nodes of a trie.
-use Rattle.std.specs.Prelude.{◌≡◌, ℕ, zero, suc, ◌+◌, ◌-◌, ◌^◌, ◌≤◌, Bool, true, false, ◌==◌, ◌&&◌, nat_le, List, [], ◌∷◌, ◌++◌, Option, Some, None}
+use Rattle.std.specs.Prelude.{refl, ℕ, zero, suc, ◌+◌, ◌-◌, ◌^◌, ◌≤◌, Bool, true, false, ◌==◌, ◌&&◌, nat_le, if◌then◌else◌, List, [], ◌∷◌, ◌++◌, Option, Some, None}
 use Rattle.std.specs.List.{filter_map}
 use Rattle.std.specs.Option.{option_and_then}
+use Rattle.std.proofs.Common.{lit≤}
 use Rattle.std.proofs.Math.Decide.{dec_le}
 use Rattle.addr.specs.Address.{bit_of}
 use Rattle.addr.specs.Family.{width}
-use Rattle.addr.specs.OriginValidation.{is_from}
+use Rattle.addr.specs.OriginValidation.{ValidationState, Valid, Invalid, is_from}
 use Rattle.addr.specs.PrefixText.{prefix_with}
 use Rattle.addr.specs.declared.asn.Asn.{Asn}
 use Rattle.addr.specs.declared.family.Family.{Family}
@@ -13,8 +14,8 @@ use Rattle.addr.specs.declared.family.Family.TheVariants.{V4, V6}
 use Rattle.addr.specs.declared.prefix.Prefix.{Prefix}
 use Rattle.addr.specs.declared.route.Route.{Route}
 use Rattle.addr.specs.declared.vrp.Vrp.{Vrp}
-use Rattle.payload.specs.declared.trie.originator.Originator.{Originator}
-use Rattle.payload.specs.steps.Tree.{Tree, Leaf, Fork}
+use Rattle.payload.specs.declared.originator.Originator.{Originator}
+use Rattle.payload.specs.steps.Tree.{Tree, Leaf, Fork, has_on_path}
 
 abbrev pub originator_of : Vrp → Originator
 originator_of v = record { max = v.max; asn = v.asn }
@@ -22,6 +23,16 @@ originator_of v = record { max = v.max; asn = v.asn }
 -- an originator of a prefix that contains the route's is that of a VRP that matches the route
 abbrev pub authorizes : Route → Originator → Bool
 authorizes route o = nat_le route.prefix.length o.max && is_from route.origin o.asn
+
+-- the state of a route that no VRP so far matches
+abbrev pub state_below : ValidationState → Bool → ValidationState
+state_below above is_covered = if is_covered then Invalid else above
+
+-- the state of a route by the VRPs on a path, where it is `above` by those before them, which do not match
+abbrev pub walked_state : Route → ValidationState → List Bool → Tree → ValidationState
+walked_state route above path t =
+    if has_on_path (authorizes route) path t then Valid
+    else state_below above (has_on_path (λ o. true) path t)
 
 -- the last n bits of the prefix
 abbrev pub last_bits : Prefix → ℕ → List Bool
@@ -77,3 +88,8 @@ half_vrps bit p t = vrps_below p.family (half_first bit p) (p.length + 1) t
 -- the VRPs of a tree for IPv4 and one for IPv6
 abbrev pub trie_vrps : Tree → Tree → List Vrp
 trie_vrps four six = vrps_below V4 0 0 four ++ vrps_below V6 0 0 six
+
+-- the prefix of all addresses of the family
+abbrev pub whole : Family → Prefix
+whole V4 = record { family = V4; first = 0; length = 0; length_fits = lit≤ tt; aligned = refl; in_family = lit≤ tt }
+whole V6 = record { family = V6; first = 0; length = 0; length_fits = lit≤ tt; aligned = refl; in_family = lit≤ tt }

@@ -3,9 +3,9 @@ ghost use Rattle.addr.specs.Family.{width};
 ghost use Rattle.payload.specs.steps.Tree.{IsPruned, has, subtree, tree};
 ghost use Rattle.payload.specs.steps.Trie.{bits_from, originator_of};
 
+use crate::originator::Originator;
 use crate::sorted;
 use crate::trie::node::Node;
-use crate::trie::originator::Originator;
 use addr::Vrp;
 
 impl Node {
@@ -14,7 +14,8 @@ impl Node {
     pub(crate) fn contains(&self, vrp: &Vrp, at: u8) -> bool
         requires within { at ≤ vrp.now.prefix.length }
         requires pruned { IsPruned (width vrp.now.prefix.family) at (tree self.now) }
-        ensures { result ≡ has (bits_from vrp.now.prefix at) (originator_of vrp.now) (tree self.now) }
+        ensures { result
+            ≡ has (bits_from vrp.now.prefix at) (originator_of vrp.now) (tree self.now) }
     {
         if at == vrp.prefix.length {
             sorted::contains(&self.originators, &Originator::of(vrp))
@@ -30,7 +31,8 @@ impl Node {
 fn contains_below(child: &Option<Box<Node>>, vrp: &Vrp, at: u8) -> bool
     requires within { at ≤ vrp.now.prefix.length }
     requires pruned { IsPruned (width vrp.now.prefix.family) at (subtree child.now) }
-    ensures { result ≡ has (bits_from vrp.now.prefix at) (originator_of vrp.now) (subtree child.now) }
+    ensures { result
+        ≡ has (bits_from vrp.now.prefix at) (originator_of vrp.now) (subtree child.now) }
 {
     match child {
         Some(node) => node.contains(vrp, at),

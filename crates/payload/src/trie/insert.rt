@@ -1,11 +1,11 @@
-ghost use Rattle.std.specs.Prelude.{◌≡◌, ◌≤◌, not, false, [], ◌∷◌, IfOk, OnOk, OnErr};
+ghost use Rattle.std.specs.Prelude.{◌≡◌, ◌≤◌, not, false, IfOk, OnOk, OnErr};
 ghost use Rattle.addr.specs.Family.{width};
 ghost use Rattle.payload.specs.steps.Tree.{IsInserted, IsPruned, has, is_bare, only, subtree, tree};
 ghost use Rattle.payload.specs.steps.Trie.{bits_from, originator_of};
 
+use crate::originator::Originator;
 use crate::sorted;
 use crate::trie::node::Node;
-use crate::trie::originator::Originator;
 use addr::Vrp;
 use std::alloc::{AllocError, Global};
 
@@ -15,11 +15,11 @@ impl Node {
     pub(crate) fn insert(&mut self, alloc: Global, vrp: &Vrp, at: u8) -> Result<bool, AllocError>
         requires within { at ≤ vrp.now.prefix.length }
         requires pruned { IsPruned (width vrp.now.prefix.family) at (tree self.old) }
-        ensures new { IfOk result (λ is_new.
-            is_new ≡ not (has (bits_from vrp.now.prefix at) (originator_of vrp.now) (tree self.old))) }
-        ensures ok { OnOk result
-            (IsInserted (bits_from vrp.now.prefix at) (originator_of vrp.now) (tree self.old) (tree self.new)) }
-        ensures err { OnErr result ((tree self.new) ≡ (tree self.old)) }
+        ensures new { IfOk result (λ is_new. is_new
+            ≡ not (has (bits_from vrp.now.prefix at) (originator_of vrp.now) (tree self.old))) }
+        ensures ok { OnOk result (IsInserted (bits_from vrp.now.prefix at) (originator_of vrp.now)
+            (tree self.old) (tree self.new)) }
+        ensures err { OnErr result (tree self.new ≡ tree self.old) }
         ensures pruned { IsPruned (width vrp.now.prefix.family) at (tree self.new) }
     {
         if at == vrp.prefix.length {
@@ -43,8 +43,8 @@ fn insert_below(
     requires within { at ≤ vrp.now.prefix.length }
     requires pruned { IsPruned (width vrp.now.prefix.family) at (subtree child.old) }
     requires full { is_bare (subtree child.old) ≡ false }
-    ensures new { IfOk result (λ is_new.
-        is_new ≡ not (has (bits_from vrp.now.prefix at) (originator_of vrp.now) (subtree child.old))) }
+    ensures new { IfOk result (λ is_new. is_new
+        ≡ not (has (bits_from vrp.now.prefix at) (originator_of vrp.now) (subtree child.old))) }
     ensures ok { OnOk result (IsInserted (bits_from vrp.now.prefix at) (originator_of vrp.now)
         (subtree child.old) (subtree child.new)) }
     ensures err { OnErr result (subtree child.new ≡ subtree child.old) }

@@ -1,8 +1,9 @@
-use crate::trie::originator::Originator;
+use crate::originator::Originator;
 use std::alloc::Global;
 use std::marker::Model;
 
-/// A node of a trie: the originators of its prefix, and the nodes of longer prefixes by their next bit.
+/// A node of a trie: the originators of its prefix, and the nodes of longer prefixes by their next
+/// bit.
 ///
 /// It does not know its prefix: whoever goes down to it does.
 #[derive(Drop)]

@@ -3,19 +3,21 @@ ghost use Rattle.addr.specs.Family.{width};
 ghost use Rattle.payload.specs.steps.Tree.{IsPruned, IsRemoved, has, is_bare, subtree, tree};
 ghost use Rattle.payload.specs.steps.Trie.{bits_from, originator_of};
 
+use crate::originator::Originator;
 use crate::sorted;
 use crate::trie::node::Node;
-use crate::trie::originator::Originator;
 use addr::Vrp;
 
 impl Node {
-    /// Takes the VRP out that is at the end of its prefix's bits from `at` on. Whether it was there.
+    /// Takes out the VRP at the end of its prefix's bits from `at` on. Whether it was there.
     #[cycle(remove)]
     pub(crate) fn remove(&mut self, vrp: &Vrp, at: u8) -> bool
         requires within { at ≤ vrp.now.prefix.length }
         requires pruned { IsPruned (width vrp.now.prefix.family) at (tree self.old) }
-        ensures found { result ≡ has (bits_from vrp.now.prefix at) (originator_of vrp.now) (tree self.old) }
-        ensures rest { IsRemoved (bits_from vrp.now.prefix at) (originator_of vrp.now) (tree self.old) (tree self.new) }
+        ensures found { result
+            ≡ has (bits_from vrp.now.prefix at) (originator_of vrp.now) (tree self.old) }
+        ensures rest { IsRemoved (bits_from vrp.now.prefix at) (originator_of vrp.now)
+            (tree self.old) (tree self.new) }
         ensures pruned { IsPruned (width vrp.now.prefix.family) at (tree self.new) }
     {
         if at == vrp.prefix.length {

@@ -35,6 +35,6 @@ past_unlike-rest-requires-clause-less c = left-less _ _ _ _ _ _ c.loop-vrp.invar
 
 pub loop-vrp-preserved : goal.loop-vrp-preserved
 loop-vrp-preserved c = record {
-  left = left-covering _ _ _ _ _ _ _ c.loop-vrp.invariant.left c.in-Some.ensures.cases.0 (sym c.if-not-contains.ensures.by_ends) (sym c.if-is_authorized.ensures) c.past_unlike-rest.ensures;
+  left = left-covering _ _ _ _ _ _ _ c.loop-vrp.invariant.left c.in-Some.ensures.cases.0 (sym c.if-not-contains.ensures.by_ends) (rw c.of.ensures at (sym c.if-authorizes.ensures)) c.past_unlike-rest.ensures;
   no_shorter = no_shorter-front _ _ _ _ c.past_unlike-rest.ensures.parts (no_shorter-front _ _ _ _ c.in-Some.ensures.cases.0 c.loop-vrp.invariant.no_shorter);
 }

@@ -1,4 +1,4 @@
-use Rattle.std.proofs.Common.{false, sym, arith, ◌<◌}
+use Rattle.std.proofs.Common.{false, sym, arith}
 use Rattle.payload.proofs.Bits.{bits_from-next}
 use Rattle.payload.proofs.Trees.{has-leaf}
 use Rattle.payload.specs.steps.Trie.{bits_from, originator_of}

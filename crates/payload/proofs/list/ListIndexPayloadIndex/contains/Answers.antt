@@ -1,8 +1,6 @@
 use Rattle.std.proofs.Common.{◌∙◌}
-use Rattle.payload.proofs.Places.{search-contains}
+use Rattle.payload.proofs.Places.{contains-derived}
 use Rattle.payload.proofs.list.ListIndexPayloadIndex.contains.Goals as goal
 
 pub returns : goal.returns
-returns c =
-    c.is_ok.ensures.value
-    ∙ search-contains _ _ _ c.args.vrp.now c.binary_search.result c.deref.ensures.value c.self.view_is c.self.invariant.0 c.binary_search.ensures.bound c.binary_search.ensures.position
+returns c = rw c.deref.ensures.value at c.contains.ensures ∙ contains-derived c.args.self.now c.self.inside.vrps.items c.args.vrp.now c.self.view_is

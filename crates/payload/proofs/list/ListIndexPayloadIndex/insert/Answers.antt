@@ -1,27 +1,18 @@
-use Rattle.std.proofs.Common.{ap, not, sym}
-use Rattle.payload.proofs.Lengths.{no_shorter-insert}
-use Rattle.payload.proofs.Places.{search-found, search-absent, insert-rising, insert-view}
-use Rattle.payload.proofs.Sets.{insert-present}
+use Rattle.std.proofs.Common.{not, ap, ◌∙◌}
+use Rattle.payload.proofs.Lengths.{no_shorter-inserted}
+use Rattle.payload.proofs.Places.{contains-derived, inserted-defined, rise-defined}
+use Rattle.payload.proofs.Sets.{members-insert}
 use Rattle.payload.proofs.list.ListIndexPayloadIndex.insert.Goals as goal
 
-pub invariant_of-self-in-Err : goal.invariant_of-self-in-Err
-invariant_of-self-in-Err c = (
-  insert-rising c.self.inside.vrps.items _ _ c.args.vrp _ c.deref.ensures.value c.self.invariant.0 c.in-Err.ensures.bound c.in-Err.ensures.position c.in_ok-insert-in-Err.ensures.items,
-  no_shorter-insert _ _ _ _ _ c.args.vrp c.self.invariant.1 c.in_ok-insert-in-Err.ensures.items c.with-self-inside.ensures.here c.with-self-inside.ensures.others,
+pub invariant_of-self-2 : goal.invariant_of-self-2
+invariant_of-self-2 c = (
+  rise-defined _ c.in_ok-is_new.ensures.rise,
+  no_shorter-inserted _ _ _ _ c.args.vrp c.self.invariant.1 (inserted-defined _ _ c.args.vrp c.in_ok-is_new.ensures.members) c.with-self-inside.ensures.here c.with-self-inside.ensures.others,
 )
 
-pub returns-in-Ok-clause-new : goal.returns-in-Ok-clause-new
-returns-in-Ok-clause-new c =
-    sym (ap not (search-found c.args.self.now _ _ c.args.vrp _ c.deref.ensures.value c.self.view_is c.in-Ok.ensures.bound c.in-Ok.ensures.position))
+pub returns-clause-new : goal.returns-clause-new
+returns-clause-new c = c.in_ok-is_new.ensures.new ∙ ap not (contains-derived c.args.self.now c.self.inside.vrps.items c.args.vrp c.self.view_is)
 
-pub returns-in-Ok-clause-ok : goal.returns-in-Ok-clause-ok
-returns-in-Ok-clause-ok c =
-    insert-present c.args.self.now c.args.vrp (search-found c.args.self.now _ _ c.args.vrp _ c.deref.ensures.value c.self.view_is c.in-Ok.ensures.bound c.in-Ok.ensures.position)
-
-pub returns-in_ok-insert-in-Err-clause-new : goal.returns-in_ok-insert-in-Err-clause-new
-returns-in_ok-insert-in-Err-clause-new c =
-    sym (ap not (search-absent c.args.self.now _ _ c.args.vrp _ c.deref.ensures.value c.self.view_is c.self.invariant.0 c.in-Err.ensures.position))
-
-pub returns-in_ok-insert-in-Err-clause-ok : goal.returns-in_ok-insert-in-Err-clause-ok
-returns-in_ok-insert-in-Err-clause-ok c =
-    insert-view c.args.self.now c.self.inside.vrps.items _ c.args.vrp _ c.self.view_is c.in_ok-insert-in-Err.ensures.items
+pub returns-clause-ok : goal.returns-clause-ok
+returns-clause-ok c =
+    members-insert c.args.self.now c.self.inside.vrps.items c.insert.new.items.items c.args.vrp c.self.view_is (inserted-defined _ _ c.args.vrp c.in_ok-is_new.ensures.members)

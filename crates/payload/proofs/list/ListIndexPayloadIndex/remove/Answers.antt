@@ -1,20 +1,18 @@
-use Rattle.std.proofs.Common.{sym}
-use Rattle.payload.proofs.Places.{search-found, search-absent, remove-view}
-use Rattle.payload.proofs.Sets.{remove-absent}
+use Rattle.std.proofs.Common.{◌∙◌}
+use Rattle.payload.proofs.Lengths.{no_shorter-removed}
+use Rattle.payload.proofs.Places.{contains-derived, removed-defined, rise-defined}
+use Rattle.payload.proofs.Sets.{members-remove}
 use Rattle.payload.proofs.list.ListIndexPayloadIndex.remove.Goals as goal
 
-pub returns-in-Ok-clause-found : goal.returns-in-Ok-clause-found
-returns-in-Ok-clause-found c =
-    sym (search-found c.args.self.now _ _ c.args.vrp.now _ c.deref.ensures.value c.self.view_is c.in-Ok.ensures.bound c.in-Ok.ensures.position)
+pub invariant_of-self : goal.invariant_of-self
+invariant_of-self c = (
+  rise-defined _ c.remove.ensures.rise,
+  no_shorter-removed _ _ _ c.args.vrp.now c.self.invariant.1 (removed-defined _ _ c.args.vrp.now c.remove.ensures.members),
+)
 
-pub returns-in-Ok-clause-rest : goal.returns-in-Ok-clause-rest
-returns-in-Ok-clause-rest c =
-    remove-view c.args.self.now _ _ _ c.args.vrp.now _ c.deref.ensures.value c.self.view_is c.self.invariant.0 c.in-Ok.ensures.bound c.in-Ok.ensures.position c.remove.ensures.items
+pub returns-clause-found : goal.returns-clause-found
+returns-clause-found c = c.remove.ensures.found ∙ contains-derived c.args.self.now c.self.inside.vrps.items c.args.vrp.now c.self.view_is
 
-pub returns-in-Err-clause-found : goal.returns-in-Err-clause-found
-returns-in-Err-clause-found c =
-    sym (search-absent c.args.self.now _ _ c.args.vrp.now _ c.deref.ensures.value c.self.view_is c.self.invariant.0 c.in-Err.ensures.position)
-
-pub returns-in-Err-clause-rest : goal.returns-in-Err-clause-rest
-returns-in-Err-clause-rest c =
-    remove-absent c.args.self.now c.args.vrp.now (search-absent c.args.self.now _ _ c.args.vrp.now _ c.deref.ensures.value c.self.view_is c.self.invariant.0 c.in-Err.ensures.position)
+pub returns-clause-rest : goal.returns-clause-rest
+returns-clause-rest c =
+    members-remove c.args.self.now c.self.inside.vrps.items c.remove.new.items.items c.args.vrp.now c.self.view_is (removed-defined _ _ c.args.vrp.now c.remove.ensures.members)

@@ -1,7 +1,7 @@
 use Rattle.std.proofs.Common.{◌∙◌}
 use Rattle.payload.specs.steps.Tree.{tree}
 use Rattle.payload.proofs.Tries.{contains-in_four, contains-in_six}
-use Rattle.payload.proofs.trie.Trie.contains.Goals as goal
+use Rattle.payload.proofs.trie.TriePayloadIndex.contains.Goals as goal
 
 pub returns-in-V4 : goal.returns-in-V4
 returns-in-V4 c = c.contains.ensures ∙ contains-in_four c.args.self.now c.args.vrp.now (tree c.self.inside.four) (tree c.self.inside.six) c.self.view_is c.self.invariant.0 c.self.invariant.1 c.in-V4.is

@@ -4,7 +4,7 @@ use Rattle.payload.specs.steps.Tree.{IsPruned, tree}
 use Rattle.payload.specs.steps.Trie.{trie_vrps}
 use Rattle.payload.proofs.Sets.{members-remove}
 use Rattle.payload.proofs.Tries.{contains-in_four, contains-in_six, remove-four, remove-six}
-use Rattle.payload.proofs.trie.Trie.remove.Goals as goal
+use Rattle.payload.proofs.trie.TriePayloadIndex.remove.Goals as goal
 
 pub returns-in-V4-clause-found : goal.returns-in-V4-clause-found
 returns-in-V4-clause-found c = c.remove.ensures.found ∙ contains-in_four c.args.self.now c.args.vrp.now (tree c.self.inside.four) (tree c.self.inside.six) c.self.view_is c.self.invariant.0 c.self.invariant.1 c.in-V4.is

@@ -5,7 +5,7 @@ use Rattle.payload.specs.steps.Tree.{IsPruned, tree}
 use Rattle.payload.specs.steps.Trie.{trie_vrps}
 use Rattle.payload.proofs.Sets.{members-insert}
 use Rattle.payload.proofs.Tries.{contains-in_four, contains-in_six, insert-four, insert-six}
-use Rattle.payload.proofs.trie.Trie.insert.Goals as goal
+use Rattle.payload.proofs.trie.TriePayloadIndex.insert.Goals as goal
 
 pub returns-in-V4-clause-new : goal.returns-in-V4-clause-new
 returns-in-V4-clause-new c =

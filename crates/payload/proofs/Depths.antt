@@ -1,0 +1,246 @@
+-- The lengths at which a search has something to look at, as the nodes of a tree on a route's path.
+use Rattle.std.proofs.Common.{◌≡◌, ℕ, zero, suc, ◌+◌, ◌-◌, ◌*◌, ◌/◌, ◌%◌, ◌^◌, ◌≤◌, ◌<◌, Bool, true, false, not, ◌&&◌, ◌||◌, nat_lt, if◌then◌else◌, List, [], ◌∷◌, length, filter, refl, sym, ap, ◌∙◌, subst, arith, inl, inr}
+use Rattle.std.specs.List.{All, list_any, range_with_len}
+use Rattle.std.proofs.Math.Bool.{or-false, and-false, and-true}
+use Rattle.std.proofs.Math.Nat.{div-div-eq-div-mul}
+use Rattle.std.proofs.lemmas.Bool.{and_parts, and_from, false_from_ne_true, le-leb, leb-true, lt-leb, eqb-true, eq-eqb}
+use Rattle.std.proofs.lemmas.List.Elements.{All-head, All-weaker}
+use Rattle.std.proofs.lemmas.List.Folds.{list_any_none}
+use Rattle.std.proofs.lemmas.Nat.{pow-add, div-add-mod', div-mul-add}
+use Rattle.addr.specs.Address.{bit_of, contains}
+use Rattle.addr.specs.Family.{width, family_eq}
+use Rattle.addr.specs.OriginValidation.{matches}
+use Rattle.addr.specs.declared.family.Family.{Family}
+use Rattle.addr.specs.declared.prefix.Prefix.{Prefix}
+use Rattle.addr.specs.declared.route.Route.{Route}
+use Rattle.addr.specs.declared.vrp.Vrp.{Vrp}
+use Rattle.addr.proofs.Equality.{family_itself, same_family}
+use Rattle.addr.proofs.PrefixOrderLemmas.{contains-ends}
+use Rattle.payload.specs.SearchDepths.{agrees, first_bits, is_matched_before}
+use Rattle.payload.specs.declared.originator.Originator.{Originator}
+use Rattle.payload.specs.steps.Tree.{Tree, Leaf, Fork, IsPruned, below, is_bare, nodes_on_path}
+use Rattle.payload.specs.steps.Trie.{authorizes, bits_from, node_vrps, originator_of, vrps_at, vrps_below}
+use Rattle.payload.proofs.Bits.{bits_from-end}
+use Rattle.payload.proofs.Halves.{half_size, lower, upper, contains-lower, contains-upper, contains-trans, contains-longer, lower-bit, upper-bit, lower-contains, upper-contains, within-first}
+use Rattle.payload.proofs.TrieVrps.{HasLengths, contains-itself, lower_vrps, upper_vrps, leaf-or-room, node_vrps-cons, vrp_of, IsRound, any-node, any-parts, any-zero, any-one, none-lower, none-upper, All-within}
+use Rattle.payload.proofs.TrieWalks.{bit-of-cases, next-zero, next-one}
+
+-- ---- the first bits of prefixes
+
+-- prefixes that agree on their first k bits have the same bit at each place before
+agree-bit : (p q : Prefix) (k at : ℕ) → at < k → p.family ≡ q.family → first_bits k p ≡ first_bits k q → bit_of p at ≡ bit_of q at
+agree-bit p q k at before family same = ap (λ n. n % 2) (shorter p ∙ ap (λ n. n / 2 ^ more p) same ∙ ap (λ e. first_bits k q / 2 ^ e) (ap (λ (f : Family). width f - 1 - at - (width f - k)) family) ∙ sym (shorter q))
+  where
+    more : Prefix → ℕ
+    more p = width p.family - 1 - at - (width p.family - k)
+
+    shorter : (p : Prefix) → p.first / 2 ^ (width p.family - 1 - at) ≡ first_bits k p / 2 ^ more p
+    shorter p =
+        let parts : width p.family - 1 - at ≡ (width p.family - k) + more p = omega (arith, before) in
+        ap (λ e. p.first / 2 ^ e) parts ∙ ap (λ n. p.first / n) (pow-add 2 (width p.family - k) (more p)) ∙ sym (div-div-eq-div-mul p.first (2 ^ (width p.family - k)) (2 ^ more p))
+
+-- what lies in p has its bits
+first_bits-within : (p q : Prefix) → contains p q ≡ true → first_bits p.length q ≡ first_bits p.length p
+first_bits-within p q inside =
+    let ends = contains-ends p q inside in
+    let size = 2 ^ (width p.family - p.length) in
+    let a = p.first / size in
+    let whole : a * size ≡ p.first = omega (arith, div-add-mod' p.first size, p.aligned) in
+    let place : a * size + (q.first - a * size) ≡ q.first = omega (arith, ends.first) in
+    ap (λ (f : Family). q.first / 2 ^ (width f - p.length)) (sym ends.family)
+    ∙ ap (λ n. n / size) (sym place) ∙ div-mul-add a size (q.first - a * size) (omega (arith, within-first p q inside))
+
+-- prefixes in p agree on its bits
+agrees-within : (p v q : Prefix) → contains p v ≡ true → contains p q ≡ true → agrees p.length v q ≡ true
+agrees-within p v q inside inside' =
+    let family : v.family ≡ q.family = sym (contains-ends p v inside).family ∙ (contains-ends p q inside').family in
+    and_from _ _ (subst (λ f. family_eq v.family f ≡ true) family (family_itself v.family))
+    (and_from _ _ (le-leb p.length v.length (contains-longer p v inside)) (eq-eqb _ _ (first_bits-within p v inside ∙ sym (first_bits-within p q inside'))))
+
+-- where the bits of q go to the one half, no prefix in the other agrees on more of them
+not-agrees : (p v q : Prefix) (k : ℕ) → p.length < k → (bit_of v p.length ≡ bit_of q p.length → ⊥) → agrees k v q ≡ false
+not-agrees p v q k longer apart = false_from_ne_true (agrees k v q) (λ is.
+    let parts = and_parts _ _ is in
+    let later = and_parts _ _ parts.1 in
+    apart (agree-bit v q k p.length longer (same_family _ _ parts.0) (eqb-true _ _ later.1)))
+
+not-agrees-short : (v q : Prefix) (k : ℕ) → v.length < k → agrees k v q ≡ false
+not-agrees-short v q k short = false_from_ne_true (agrees k v q) (λ is. absurd (omega (arith, leb-true k v.length (and_parts _ _ (and_parts _ _ is).1).0)))
+
+-- ---- one length
+
+-- some VRP of the list agrees with the route on the first k bits, and none of fewer bits matches it
+abbrev pub stands : Route → List Vrp → ℕ → Bool
+stands route vrps k = list_any (λ v. agrees k v.prefix route.prefix) vrps && not (is_matched_before vrps route k)
+
+abbrev matches_before : Route → ℕ → Vrp → Bool
+matches_before route k v = matches v route && nat_lt v.prefix.length k
+
+around-match : (route : Route) (k : ℕ) → IsRound route.prefix (matches_before route k)
+around-match route k v is = (and_parts _ _ (and_parts _ _ is).0).0
+
+-- a VRP of a node on the way that has fewer than k bits
+node-matches : (route : Route) (p : Prefix) (os : List Originator) (k : ℕ) → All (HasLengths p) os → contains p route.prefix ≡ true → p.length < k → list_any (matches_before route k) (node_vrps p os) ≡ list_any (authorizes route) os
+node-matches route p os k lengths inside longer =
+    any-node (matches_before route k) (authorizes route) p os lengths (λ v at.
+    ap (λ b. matches v route && b) (le-leb (suc v.prefix.length) k (omega (arith, longer, ap (λ q. q.length) at)))
+    ∙ and-true _
+    ∙ ap (λ b. b && authorizes route (originator_of v)) (subst (λ q. contains q route.prefix ≡ true) (sym at) inside))
+
+node-agrees : (p q : Prefix) (os : List Originator) (k : ℕ) → All (HasLengths p) os → p.length < k → list_any (λ v. agrees k v.prefix q) (node_vrps p os) ≡ false
+node-agrees p q os k lengths longer = any-node (λ v. agrees k v.prefix q) (λ o. false) p os lengths (λ v at. not-agrees-short v.prefix q k (subst (λ r. r.length < k) (sym at) longer)) ∙ none os
+  where
+    none : (os : List Originator) → list_any (λ (o : Originator). false) os ≡ false
+    none [] = refl
+    none (o ∷ os) = none os
+
+unless : (a b c : Bool) → (a && not (b || c)) ≡ (if b then false else a && not c)
+unless a true c = and-false a
+unless a false c = refl
+
+-- past a node, a length stands where no VRP of the node matches and it stands in the half to which the bits go
+stands-zero : (route : Route) (p : Prefix) (os : List Originator) (low high : Tree) (k : ℕ) → IsPruned (width p.family) p.length (Fork os low high) → contains p route.prefix ≡ true → p.length < k → bit_of route.prefix p.length ≡ 0 → stands route (vrps_at p (Fork os low high)) k ≡ (if list_any (authorizes route) os then false else stands route (lower_vrps p low) k)
+stands-zero route p os low high k pruned inside longer bit =
+    ap (λ b. b && not (is_matched_before (vrps_at p (Fork os low high)) route k)) agreeing
+    ∙ ap (λ b. list_any test (lower_vrps p low) && not b) matching
+    ∙ unless _ (list_any (authorizes route) os) _
+  where
+    test : Vrp → Bool
+    test v = agrees k v.prefix route.prefix
+
+    agreeing : list_any test (vrps_at p (Fork os low high)) ≡ list_any test (lower_vrps p low)
+    agreeing =
+        any-parts test p os low high
+        ∙ ap (λ b. b || (list_any test (lower_vrps p low) || list_any test (upper_vrps p high))) (node-agrees p route.prefix os k pruned.0.lengths longer)
+        ∙ ap (λ b. list_any test (lower_vrps p low) || b) (none-upper test p high pruned.2.1 (λ room v inside. not-agrees p v.prefix route.prefix k longer (λ same. absurd (omega (arith, bit, same, upper-bit p v.prefix room inside)))))
+        ∙ or-false _
+
+    matching : list_any (matches_before route k) (vrps_at p (Fork os low high)) ≡ (list_any (authorizes route) os || list_any (matches_before route k) (lower_vrps p low))
+    matching =
+        any-zero (matches_before route k) p route.prefix os low high (around-match route k) pruned bit
+        ∙ ap (λ b. b || list_any (matches_before route k) (lower_vrps p low)) (node-matches route p os k pruned.0.lengths inside longer)
+
+stands-one : (route : Route) (p : Prefix) (os : List Originator) (low high : Tree) (k : ℕ) → IsPruned (width p.family) p.length (Fork os low high) → contains p route.prefix ≡ true → p.length < k → bit_of route.prefix p.length ≡ 1 → stands route (vrps_at p (Fork os low high)) k ≡ (if list_any (authorizes route) os then false else stands route (upper_vrps p high) k)
+stands-one route p os low high k pruned inside longer bit =
+    ap (λ b. b && not (is_matched_before (vrps_at p (Fork os low high)) route k)) agreeing
+    ∙ ap (λ b. list_any test (upper_vrps p high) && not b) matching
+    ∙ unless _ (list_any (authorizes route) os) _
+  where
+    test : Vrp → Bool
+    test v = agrees k v.prefix route.prefix
+
+    agreeing : list_any test (vrps_at p (Fork os low high)) ≡ list_any test (upper_vrps p high)
+    agreeing =
+        any-parts test p os low high
+        ∙ ap (λ b. b || (list_any test (lower_vrps p low) || list_any test (upper_vrps p high))) (node-agrees p route.prefix os k pruned.0.lengths longer)
+        ∙ ap (λ b. b || list_any test (upper_vrps p high)) (none-lower test p low pruned.1.1 (λ room v inside. not-agrees p v.prefix route.prefix k longer (λ same. absurd (omega (arith, bit, same, lower-bit p v.prefix room inside)))))
+
+    matching : list_any (matches_before route k) (vrps_at p (Fork os low high)) ≡ (list_any (authorizes route) os || list_any (matches_before route k) (upper_vrps p high))
+    matching =
+        any-one (matches_before route k) p route.prefix os low high (around-match route k) pruned bit
+        ∙ ap (λ b. b || list_any (matches_before route k) (upper_vrps p high)) (node-matches route p os k pruned.0.lengths inside longer)
+
+-- a node that is not bare, or one below it, has a VRP
+some-vrp : (test : Vrp → Bool) (p : Prefix) (t : Tree) → IsPruned (width p.family) p.length t → (t ≡ Leaf → ⊥) → is_bare t ≡ false → ((v : Vrp) → contains p v.prefix ≡ true → test v ≡ true) → list_any test (vrps_at p t) ≡ true
+some-vrp test p Leaf pruned node full each = absurd (node refl)
+some-vrp test p (Fork (o ∷ os) low high) pruned node full each =
+    let fits = All-head (HasLengths p) o os pruned.0.lengths in
+    any-parts test p (o ∷ os) low high
+    ∙ ap (λ b. b || (list_any test (lower_vrps p low) || list_any test (upper_vrps p high)))
+    (ap (list_any test) (node_vrps-cons p o os fits) ∙ ap (λ b. b || list_any test (node_vrps p os)) (each (vrp_of p o fits) (contains-itself p p refl)))
+some-vrp test p (Fork [] (Fork os low high) other) pruned node full each =
+    let room : p.length < width p.family = omega (arith, pruned.1.1.0.fits) in
+    any-parts test p [] (Fork os low high) other
+    ∙ ap (λ b. b || list_any test (upper_vrps p other))
+    (some-vrp test (lower p room) (Fork os low high) pruned.1.1 (λ e. cc) pruned.1.0 (λ v inside. each v (contains-trans p (lower p room) v.prefix (contains-lower p room) inside)))
+some-vrp test p (Fork [] Leaf (Fork os low high)) pruned node full each =
+    let room : p.length < width p.family = omega (arith, pruned.2.1.0.fits) in
+    some-vrp test (upper p room) (Fork os low high) pruned.2.1 (λ e. cc) pruned.2.0 (λ v inside. each v (contains-trans p (upper p room) v.prefix (contains-upper p room) inside))
+some-vrp test p (Fork [] Leaf Leaf) pruned node full each = cc
+
+-- the length at which a node stands
+stands-here : (route : Route) (p : Prefix) (os : List Originator) (low high : Tree) → IsPruned (width p.family) p.length (Fork os low high) → is_bare (Fork os low high) ≡ false → contains p route.prefix ≡ true → stands route (vrps_at p (Fork os low high)) p.length ≡ true
+stands-here route p os low high pruned full inside =
+    and_from _ _ (some-vrp (λ v. agrees p.length v.prefix route.prefix) p (Fork os low high) pruned (λ e. cc) full (λ v inside'. agrees-within p v.prefix route.prefix inside' inside))
+    (ap not (list_any_none (matches_before route p.length) _ (All-weaker _ (λ v. matches_before route p.length v ≡ false) (λ (v : Vrp) (inside' : contains p v.prefix ≡ true).
+    ap (λ b. matches v route && b) (lt-leb (suc v.prefix.length) p.length (omega (arith, contains-longer p v.prefix inside'))) ∙ and-false _) _ (All-within p (Fork os low high) pruned))))
+
+-- ---- all lengths
+
+-- how many of the m numbers from a on pass
+abbrev pub passing : (ℕ → Bool) → ℕ → ℕ → ℕ
+passing f a m = length (filter f (range_with_len a m))
+
+pub passing-same : (f g : ℕ → Bool) (a m : ℕ) → ((k : ℕ) → a ≤ k → f k ≡ g k) → passing f a m ≡ passing g a m
+passing-same f g a zero same = refl
+passing-same f g a (suc m) same = one-more (f a) (g a) (same a (omega arith)) _ _ (passing-same f g (a + 1) m (λ k later. same k (omega arith)))
+  where
+    one-more : (b c : Bool) → b ≡ c → (xs ys : List ℕ) → length xs ≡ length ys → length (if b then a ∷ xs else xs) ≡ length (if c then a ∷ ys else ys)
+    one-more true true e xs ys rest = ap suc rest
+    one-more false false e xs ys rest = rest
+    one-more true false e xs ys rest = cc
+    one-more false true e xs ys rest = cc
+
+pub passing-none : (f : ℕ → Bool) (a m : ℕ) → ((k : ℕ) → a ≤ k → f k ≡ false) → passing f a m ≡ 0
+passing-none f a zero none = refl
+passing-none f a (suc m) none = rw (none a (omega arith)) (passing-none f (a + 1) m (λ k later. none k (omega arith)))
+
+pub passing-first : (f : ℕ → Bool) (a m : ℕ) → f a ≡ true → passing f a (suc m) ≡ suc (passing f (a + 1) m)
+passing-first f a m is = rw is
+
+-- ---- the nodes on the route's path
+
+-- how many nodes stand on the path below the first one, up to the first that passes
+abbrev pub nodes_below : (Originator → Bool) → List Bool → Tree → ℕ
+nodes_below test path Leaf = 0
+nodes_below test [] (Fork os low high) = 0
+nodes_below test (bit ∷ path) (Fork os low high) =
+    if list_any test os then 0 else nodes_on_path test path (below bit (Fork os low high))
+
+pub nodes-parts : (test : Originator → Bool) (path : List Bool) (os : List Originator) (low high : Tree) → nodes_on_path test path (Fork os low high) ≡ 1 + nodes_below test path (Fork os low high)
+nodes-parts test [] os low high = refl
+nodes-parts test (bit ∷ path) os low high = refl
+
+-- from the length at which a node below the root stands
+with-node : (route : Route) (p : Prefix) (t : Tree) (m : ℕ) → is_bare t ≡ false → IsPruned (width p.family) p.length t → contains p route.prefix ≡ true → passing (stands route (vrps_at p t)) (p.length + 1) m ≡ nodes_below (authorizes route) (bits_from route.prefix p.length) t → passing (stands route (vrps_at p t)) p.length (suc m) ≡ nodes_on_path (authorizes route) (bits_from route.prefix p.length) t
+with-node route p Leaf m full pruned inside rest = passing-none (stands route []) p.length (suc m) (λ k later. refl)
+with-node route p (Fork os low high) m full pruned inside rest =
+    let here = passing-first (stands route (vrps_at p (Fork os low high))) p.length m (stands-here route p os low high pruned full inside) in
+    omega (arith, here, rest, nodes-parts (authorizes route) (bits_from route.prefix p.length) os low high)
+
+passing-unless : (b : Bool) (f : ℕ → Bool) (a m n : ℕ) → passing f a m ≡ n → passing (λ k. if b then false else f k) a m ≡ (if b then 0 else n)
+passing-unless true f a m n same = passing-none (λ k. false) a m (λ k later. refl)
+passing-unless false f a m n same = same
+
+-- where there is no node no length stands
+without-node : (route : Route) (family : Family) (first len : ℕ) (t : Tree) (a m : ℕ) (path : List Bool) → t ≡ Leaf → passing (stands route (vrps_below family first len t)) a m ≡ nodes_on_path (authorizes route) path t
+without-node route family first len Leaf a m path leaf = passing-none (stands route []) a m (λ k later. refl)
+without-node route family first len (Fork os low high) a m path leaf = cc
+
+-- past the length at which a node stands, as many lengths stand as there are nodes on the path below it
+pub passing-below : (route : Route) (p : Prefix) (t : Tree) (m : ℕ) → IsPruned (width p.family) p.length t → contains p route.prefix ≡ true → route.prefix.length ≡ p.length + m → passing (stands route (vrps_at p t)) (p.length + 1) m ≡ nodes_below (authorizes route) (bits_from route.prefix p.length) t
+passing-below route p Leaf m pruned inside long = passing-none (stands route []) (p.length + 1) m (λ k later. refl)
+passing-below route p (Fork os low high) zero pruned inside long = rw (bits_from-end route.prefix p.length (omega arith))
+passing-below route p (Fork os low high) (suc m) pruned inside long =
+    let q = route.prefix in
+    let longer : p.length < q.length = omega arith in
+    elim (bit-of-cases q p.length) [
+      | inl bit ↦
+          rw (next-zero q p.length longer bit)
+          (passing-same _ _ (p.length + 1) (suc m) (λ k later. stands-zero route p os low high k pruned inside (omega arith) bit)
+          ∙ passing-unless (list_any (authorizes route) os) (stands route (lower_vrps p low)) (p.length + 1) (suc m) (nodes_on_path (authorizes route) (bits_from q (p.length + 1)) low) (elim (leaf-or-room p low pruned.1.1) [
+            | inl leaf ↦ without-node route p.family p.first (p.length + 1) low (p.length + 1) (suc m) (bits_from q (p.length + 1)) leaf
+            | inr room ↦
+                let inside' = lower-contains p q room inside longer bit in
+                with-node route (lower p room) low m pruned.1.0 pruned.1.1 inside' (passing-below route (lower p room) low m pruned.1.1 inside' (omega arith))
+          ]))
+      | inr bit ↦
+          rw (next-one q p.length longer bit)
+          (passing-same _ _ (p.length + 1) (suc m) (λ k later. stands-one route p os low high k pruned inside (omega arith) bit)
+          ∙ passing-unless (list_any (authorizes route) os) (stands route (upper_vrps p high)) (p.length + 1) (suc m) (nodes_on_path (authorizes route) (bits_from q (p.length + 1)) high) (elim (leaf-or-room p high pruned.2.1) [
+            | inl leaf ↦ without-node route p.family (p.first + half_size p) (p.length + 1) high (p.length + 1) (suc m) (bits_from q (p.length + 1)) leaf
+            | inr room ↦
+                let inside' = upper-contains p q room inside longer bit in
+                with-node route (upper p room) high m pruned.2.0 pruned.2.1 inside' (passing-below route (upper p room) high m pruned.2.1 inside' (omega arith))
+          ]))
+    ]

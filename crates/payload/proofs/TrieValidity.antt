@@ -1,0 +1,134 @@
+-- The VRPs of a trie: they rise, what state they give a route, and at which lengths a search looks.
+use Rattle.std.proofs.Common.{◌≡◌, ℕ, suc, ◌+◌, ◌≤◌, Bool, true, false, not, ◌&&◌, ◌||◌, nat_lt, get_or, if◌then◌else◌, List, length, sym, ap, ◌∙◌, arith}
+use Rattle.std.proofs.Math.Bool.{or-false, and-false, and-true}
+use Rattle.std.specs.List.{All, list_any, range_with_len}
+use Rattle.std.specs.declared.cmp.Ordering.TheVariants.{Less}
+use Rattle.std.proofs.lemmas.Bool.{false_from_ne_true, and_parts, lt-leb, ne_eqb}
+use Rattle.std.proofs.lemmas.List.Elements.{All-weaker}
+use Rattle.std.proofs.lemmas.List.FromFn.{length-range_with_len}
+use Rattle.std.proofs.lemmas.List.Sums.{count_by-le-length, length-filter}
+use Rattle.std.proofs.lemmas.List.Folds.{list_any-append, list_any_none}
+use Rattle.addr.specs.OriginValidation.{Valid, NotFound, covers, matches, validation_state}
+use Rattle.addr.specs.Order.{vrp_cmp}
+use Rattle.addr.specs.declared.family.Family.{Family}
+use Rattle.addr.specs.declared.family.Family.TheVariants.{V4, V6}
+use Rattle.addr.specs.declared.route.Route.{Route}
+use Rattle.addr.specs.declared.vrp.Vrp.{Vrp}
+use Rattle.addr.proofs.Equality.{same_family}
+use Rattle.addr.proofs.PrefixOrderLemmas.{contains-ends}
+use Rattle.payload.specs.Rising.{AreRising}
+use Rattle.payload.specs.SearchDepths.{agrees, is_matched_before, is_reached, search_depths}
+use Rattle.payload.specs.VrpSet as set
+use Rattle.payload.specs.declared.originator.Originator.{Originator}
+use Rattle.payload.specs.steps.Tree.{Tree, Fork, IsPruned, has_on_path, nodes_on_path}
+use Rattle.payload.specs.steps.Trie.{authorizes, bits_from, originator_of, state_below, trie_vrps, vrps_below, walked_state, whole}
+use Rattle.payload.proofs.Depths.{nodes-parts, nodes_below, passing, passing-below, passing-first, passing-same, stands}
+use Rattle.payload.proofs.Sets.{items-from_list}
+use Rattle.payload.proofs.TrieOrder.{pairs-append, vrps-rise}
+use Rattle.payload.proofs.TrieVrps.{All-within}
+use Rattle.payload.proofs.TrieWalks.{any-covers, covers_with}
+use Rattle.payload.proofs.Tries.{none-of_four, none-of_six, whole-four, whole-six}
+
+-- ---- the VRPs rise
+
+abbrev Before : Vrp → Vrp → Type 0
+Before v w = vrp_cmp v w ≡ Less
+
+first-family : (v w : Vrp) → v.prefix.family ≡ V4 → w.prefix.family ≡ V6 → vrp_cmp v w ≡ Less
+first-family v w four six = rw (four, six)
+
+pub trie-rises : (four six : Tree) → IsPruned 32 0 four → IsPruned 128 0 six → AreRising (trie_vrps four six)
+trie-rises four six prune4 prune6 =
+    pairs-append Before (vrps_below V4 0 0 four) (vrps_below V6 0 0 six) (vrps-rise (whole V4) four prune4) (vrps-rise (whole V6) six prune6)
+    (All-weaker _ (λ v. All (Before v) (vrps_below V6 0 0 six)) (λ v inside. All-weaker _ (Before v) (λ w inside'. first-family v w (sym (contains-ends (whole V4) v.prefix inside).family) (sym (contains-ends (whole V6) w.prefix inside').family)) _ (All-within (whole V6) six prune6)) _ (All-within (whole V4) four prune4))
+
+-- the VRPs of the set are those of the trees, in their order
+pub trie-items : (s : set.VrpSet) (four six : Tree) → set.from_list (trie_vrps four six) ≡ s → IsPruned 32 0 four → IsPruned 128 0 six → set.items s ≡ trie_vrps four six
+trie-items s four six view prune4 prune6 = ap set.items (sym view) ∙ items-from_list (trie_vrps four six) (trie-rises four six prune4 prune6)
+
+-- ---- a test that no VRP of the other family passes
+
+any-four : (test : Vrp → Bool) (four six : Tree) → IsPruned 128 0 six → ((v : Vrp) → v.prefix.family ≡ V6 → test v ≡ false) → list_any test (trie_vrps four six) ≡ list_any test (vrps_below V4 0 0 four)
+any-four test four six prune6 out =
+    list_any-append test (vrps_below V4 0 0 four) (vrps_below V6 0 0 six)
+    ∙ ap (λ b. list_any test (vrps_below V4 0 0 four) || b) (none-of_six test six prune6 out) ∙ or-false _
+
+any-six : (test : Vrp → Bool) (four six : Tree) → IsPruned 32 0 four → ((v : Vrp) → v.prefix.family ≡ V4 → test v ≡ false) → list_any test (trie_vrps four six) ≡ list_any test (vrps_below V6 0 0 six)
+any-six test four six prune4 out =
+    list_any-append test (vrps_below V4 0 0 four) (vrps_below V6 0 0 six)
+    ∙ ap (λ b. b || list_any test (vrps_below V6 0 0 six)) (none-of_four test four prune4 out)
+
+-- ---- the state of a route
+
+any-same : (f g : Vrp → Bool) (vrps : List Vrp) → ((v : Vrp) → f v ≡ g v) → list_any f vrps ≡ list_any g vrps
+any-same f g vrps same = ap (λ (h : Vrp → Bool). list_any h vrps) (λ i v. same v i)
+
+-- the state by what a walk down the bits of the route meets
+walked : (route : Route) (vrps : List Vrp) (path : List Bool) (t : Tree) → list_any (covers_with route (authorizes route)) vrps ≡ has_on_path (authorizes route) path t → list_any (covers_with route (λ o. true)) vrps ≡ has_on_path (λ o. true) path t → walked_state route NotFound path t ≡ validation_state vrps route
+walked route vrps path t matched covered =
+    ap (λ b. if b then Valid else state_below NotFound (has_on_path (λ o. true) path t)) (sym matched)
+    ∙ ap (λ b. if list_any (λ v. matches v route) vrps then Valid else state_below NotFound b) (sym covered ∙ any-same (covers_with route (λ o. true)) (λ v. covers v route) vrps (λ v. and-true (covers v route)))
+
+other-covers : (v : Vrp) (route : Route) (f g : Family) → v.prefix.family ≡ f → route.prefix.family ≡ g → (f ≡ g → ⊥) → covers v route ≡ false
+other-covers v route f g one two apart = false_from_ne_true (covers v route) (λ is. apart (sym one ∙ (contains-ends v.prefix route.prefix is).family ∙ two))
+
+pub state-four : (route : Route) (four six : Tree) → IsPruned 32 0 four → IsPruned 128 0 six → route.prefix.family ≡ V4 → walked_state route NotFound (bits_from route.prefix 0) four ≡ validation_state (trie_vrps four six) route
+state-four route four six prune4 prune6 is = walked route (trie_vrps four six) (bits_from route.prefix 0) four (each (authorizes route)) (each (λ o. true))
+  where
+    each : (passes : Originator → Bool) → list_any (covers_with route passes) (trie_vrps four six) ≡ has_on_path passes (bits_from route.prefix 0) four
+    each passes =
+        any-four (covers_with route passes) four six prune6 (λ v other. ap (λ b. b && passes (originator_of v)) (other-covers v route V6 V4 other is (λ e. cc)))
+        ∙ any-covers route passes (whole V4) four prune4 (whole-four route.prefix is)
+
+pub state-six : (route : Route) (four six : Tree) → IsPruned 32 0 four → IsPruned 128 0 six → route.prefix.family ≡ V6 → walked_state route NotFound (bits_from route.prefix 0) six ≡ validation_state (trie_vrps four six) route
+state-six route four six prune4 prune6 is = walked route (trie_vrps four six) (bits_from route.prefix 0) six (each (authorizes route)) (each (λ o. true))
+  where
+    each : (passes : Originator → Bool) → list_any (covers_with route passes) (trie_vrps four six) ≡ has_on_path passes (bits_from route.prefix 0) six
+    each passes =
+        any-six (covers_with route passes) four six prune4 (λ v other. ap (λ b. b && passes (originator_of v)) (other-covers v route V4 V6 other is (λ e. cc)))
+        ∙ any-covers route passes (whole V6) six prune6 (whole-six route.prefix is)
+
+-- ---- the lengths
+
+-- the nodes on the route's path, the root among them, are as many as the lengths that stand
+depths : (route : Route) (all vrps : List Vrp) (os : List Originator) (low high : Tree) → ((k : ℕ) → list_any (λ v. agrees k v.prefix route.prefix) all ≡ list_any (λ v. agrees k v.prefix route.prefix) vrps) → ((k : ℕ) → is_matched_before all route k ≡ is_matched_before vrps route k) → passing (stands route vrps) 1 route.prefix.length ≡ nodes_below (authorizes route) (bits_from route.prefix 0) (Fork os low high) → nodes_on_path (authorizes route) (bits_from route.prefix 0) (Fork os low high) ≡ length (search_depths all route)
+depths route all vrps os low high agree match below =
+    let long : route.prefix.length + 1 ≡ suc route.prefix.length = omega arith in
+    let first = passing-first offers 0 route.prefix.length (ap not (list_any_none (λ v. matches v route && nat_lt v.prefix.length 0) all (λ k d within.
+    ap (λ b. matches (get_or all k d) route && b) (lt-leb (suc (get_or all k d).prefix.length) 0 (omega arith)) ∙ and-false _))) in
+    let later = passing-same offers (stands route vrps) 1 route.prefix.length (λ k positive.
+    ap (λ b. (b || list_any (λ v. agrees k v.prefix route.prefix) all) && not (is_matched_before all route k)) (ne_eqb k 0 (λ zero. absurd (omega arith)))
+    ∙ ap (λ b. b && not (is_matched_before all route k)) (agree k)
+    ∙ ap (λ b. list_any (λ v. agrees k v.prefix route.prefix) vrps && not b) (match k)) in
+    omega (arith, ap (passing offers 0) long, first, later, below, nodes-parts (authorizes route) (bits_from route.prefix 0) os low high)
+  where
+    offers : ℕ → Bool
+    offers k = is_reached all route k && not (is_matched_before all route k)
+
+other-agrees : (k : ℕ) (v : Vrp) (route : Route) (f g : Family) → v.prefix.family ≡ f → route.prefix.family ≡ g → (f ≡ g → ⊥) → agrees k v.prefix route.prefix ≡ false
+other-agrees k v route f g one two apart = false_from_ne_true (agrees k v.prefix route.prefix) (λ is. apart (sym one ∙ same_family _ _ (and_parts _ _ is).0 ∙ two))
+
+other-matches : (k : ℕ) (v : Vrp) (route : Route) (f g : Family) → v.prefix.family ≡ f → route.prefix.family ≡ g → (f ≡ g → ⊥) → (matches v route && nat_lt v.prefix.length k) ≡ false
+other-matches k v route f g one two apart = ap (λ b. (b && authorizes route (originator_of v)) && nat_lt v.prefix.length k) (other-covers v route f g one two apart)
+
+pub depths-four : (route : Route) (os : List Originator) (low high six : Tree) → IsPruned 32 0 (Fork os low high) → IsPruned 128 0 six → route.prefix.family ≡ V4 → nodes_on_path (authorizes route) (bits_from route.prefix 0) (Fork os low high) ≡ length (search_depths (trie_vrps (Fork os low high) six) route)
+depths-four route os low high six prune4 prune6 is =
+    let four = Fork os low high in
+    depths route (trie_vrps four six) (vrps_below V4 0 0 four) os low high
+    (λ k. any-four (λ v. agrees k v.prefix route.prefix) four six prune6 (λ v other. other-agrees k v route V6 V4 other is (λ e. cc)))
+    (λ k. any-four (λ v. matches v route && nat_lt v.prefix.length k) four six prune6 (λ v other. other-matches k v route V6 V4 other is (λ e. cc)))
+    (passing-below route (whole V4) four route.prefix.length prune4 (whole-four route.prefix is) (omega arith))
+
+pub depths-six : (route : Route) (four : Tree) (os : List Originator) (low high : Tree) → IsPruned 32 0 four → IsPruned 128 0 (Fork os low high) → route.prefix.family ≡ V6 → nodes_on_path (authorizes route) (bits_from route.prefix 0) (Fork os low high) ≡ length (search_depths (trie_vrps four (Fork os low high)) route)
+depths-six route four os low high prune4 prune6 is =
+    let six = Fork os low high in
+    depths route (trie_vrps four six) (vrps_below V6 0 0 six) os low high
+    (λ k. any-six (λ v. agrees k v.prefix route.prefix) four six prune4 (λ v other. other-agrees k v route V4 V6 other is (λ e. cc)))
+    (λ k. any-six (λ v. matches v route && nat_lt v.prefix.length k) four six prune4 (λ v other. other-matches k v route V4 V6 other is (λ e. cc)))
+    (passing-below route (whole V6) six route.prefix.length prune6 (whole-six route.prefix is) (omega arith))
+
+pub search_depths-most : (vrps : List Vrp) (route : Route) → length (search_depths vrps route) ≤ route.prefix.length + 1
+search_depths-most vrps route =
+    let offers = λ (k : ℕ). is_reached vrps route k && not (is_matched_before vrps route k) in
+    let lengths = range_with_len 0 (route.prefix.length + 1) in
+    omega (arith, length-filter offers lengths, count_by-le-length offers lengths, length-range_with_len 0 (route.prefix.length + 1))

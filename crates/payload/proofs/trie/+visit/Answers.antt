@@ -1,0 +1,38 @@
+use Rattle.std.proofs.Common.{refl, sym}
+use Rattle.std.specs.List.{All}
+use Rattle.std.proofs.lemmas.Result.{on_err_weaker}
+use Rattle.payload.proofs.TrieVisits.{node-beginning, node-given, node-given_all}
+use Rattle.payload.proofs.TrieVrps.{HasLengths}
+use Rattle.payload.proofs.Visits.{beginning-later, beginning-longer, on-err}
+use Rattle.payload.proofs.trie.+visit.Goals as goal
+
+pub node::Node::visit-loop-originator-preserved : goal.node::Node::visit-loop-originator-preserved
+node::Node::visit-loop-originator-preserved g t c =
+    let lengths : All (HasLengths c.args.prefix.now) c.deref-originator-items.result.now = rw c.deref-originator-items.ensures.value (rw (← c.self.view_is) at c.requires).0.lengths in
+    record {
+      taken = λ fresh. node-given c.args.prefix.now _ _ _ _ _ _ _ lengths c.loop-originator-test.true refl refl (c.loop-originator.invariant.taken fresh) (c.take.ensures.given (c.loop-originator.invariant.goes_on fresh));
+      goes_on = λ fresh. sym c.in_ok-take.ensures.stopped;
+    }
+
+pub node::Node::visit-returns-in_err-take-clause-beginning : goal.node::Node::visit-returns-in_err-take-clause-beginning
+node::Node::visit-returns-in_err-take-clause-beginning g t c =
+    let lengths : All (HasLengths c.args.prefix.now) c.deref-originator-items.result.now = rw c.deref-originator-items.ensures.value (rw (← c.self.view_is) at c.requires).0.lengths in
+    rw (← c.self.view_is, ← c.deref-originator-items.ensures.value)
+    (on-err c.from_residual.result _ (λ fresh.
+    node-beginning c.args.prefix.now _ _ _ _ _ _ _ _ lengths c.loop-originator-test.true refl refl (c.loop-originator.invariant.taken fresh) (c.take.ensures.given (c.loop-originator.invariant.goes_on fresh))))
+
+pub node::Node::visit-returns-in_err-visit_below-clause-beginning : goal.node::Node::visit-returns-in_err-visit_below-clause-beginning
+node::Node::visit-returns-in_err-visit_below-clause-beginning g t c =
+    rw (← c.self.view_is, ← c.deref-originator-items.ensures.value)
+    (on-err c.from_residual-in_err-visit_below.result _ (λ fresh.
+    beginning-later _ _ _ _ _ (node-given_all c.args.prefix.now _ _ _ _ (c.loop-originator.invariant.taken fresh) c.loop-originator-test.false)
+    (beginning-longer _ _ _ _ (c.in_err-visit_below.ensures.beginning (c.loop-originator.invariant.goes_on fresh)))))
+
+pub node::Node::visit-returns-clause-beginning : goal.node::Node::visit-returns-clause-beginning
+node::Node::visit-returns-clause-beginning g t c =
+    rw (← c.self.view_is, ← c.deref-originator-items.ensures.value)
+    (on_err_weaker c.visit_below-2.result (λ is fresh.
+    let going = c.loop-originator.invariant.goes_on fresh in
+    beginning-later _ _ _ _ _ (node-given_all c.args.prefix.now _ _ _ _ (c.loop-originator.invariant.taken fresh) c.loop-originator-test.false)
+    (beginning-later _ _ _ _ _ (c.in_ok-visit_below.ensures.all going) (is (c.in_ok-visit_below.ensures.goes_on going))))
+    c.visit_below-2.ensures.beginning)

@@ -1,0 +1,79 @@
+ghost use Rattle.std.specs.Prelude.{◌≡◌, ◌+◌, ◌<◌, ◌++◌, true, false, OnOk, OnErr};
+ghost use Rattle.addr.specs.Family.{width};
+ghost use Rattle.payload.specs.Visit.{WasGivenBeginning};
+ghost use Rattle.payload.specs.steps.Tree.{IsPruned, subtree, tree};
+ghost use Rattle.payload.specs.steps.Trie.{half_first, half_vrps, vrps_at};
+
+use crate::trie::node::Node;
+use crate::{Sink, Stop};
+use addr::{Prefix, Vrp};
+
+impl Node {
+    /// Hands out the VRPs at the node of this prefix and below it, rising, each once.
+    #[cycle(visit)]
+    pub(crate) fn visit<S: Sink>(&self, prefix: &Prefix, sink: &mut S) -> Result<(), Stop>
+        requires { IsPruned (width prefix.now.family) prefix.now.length (tree self.now) }
+        ensures all { OnOk result (S.has_stopped sink.old ≡ false
+            → S.given sink.new ≡ S.given sink.old ++ vrps_at prefix.now (tree self.now)) }
+        ensures goes_on { OnOk result (S.has_stopped sink.old ≡ false
+            → S.has_stopped sink.new ≡ false) }
+        ensures beginning { OnErr result (S.has_stopped sink.old ≡ false
+            → WasGivenBeginning (vrps_at prefix.now (tree self.now))
+            (S.given sink.old) (S.given sink.new)) }
+        ensures stopped { OnErr result (S.has_stopped sink.new ≡ true) }
+    {
+        for originator in &self.originators {
+            sink.take(&Vrp {
+                prefix: *prefix,
+                max: originator.max,
+                asn: originator.asn,
+            })?;
+        }
+        visit_below(&self.zero, prefix, false, sink)?;
+        visit_below(&self.one, prefix, true, sink)
+    }
+}
+
+/// As `Node::visit`, of the half of the prefix whose next bit is this one.
+#[cycle(visit)]
+fn visit_below<S: Sink>(
+    child: &Option<Box<Node>>,
+    prefix: &Prefix,
+    bit: bool,
+    sink: &mut S,
+) -> Result<(), Stop>
+    requires { IsPruned (width prefix.now.family) (prefix.now.length + 1) (subtree child.now) }
+    ensures all { OnOk result (S.has_stopped sink.old ≡ false
+        → S.given sink.new ≡ S.given sink.old ++ half_vrps bit prefix.now (subtree child.now)) }
+    ensures goes_on { OnOk result (S.has_stopped sink.old ≡ false
+        → S.has_stopped sink.new ≡ false) }
+    ensures beginning { OnErr result (S.has_stopped sink.old ≡ false
+        → WasGivenBeginning (half_vrps bit prefix.now (subtree child.now))
+        (S.given sink.old) (S.given sink.new)) }
+    ensures stopped { OnErr result (S.has_stopped sink.new ≡ true) }
+{
+    match child {
+        Some(node) => node.visit(&half(prefix, bit), sink),
+        None => Ok(()),
+    }
+}
+
+/// The half of the prefix whose next bit is this one.
+fn half(prefix: &Prefix, bit: bool) -> Prefix
+    requires { prefix.now.length < width prefix.now.family }
+    ensures family { result.family ≡ prefix.now.family }
+    ensures first { result.first ≡ half_first bit prefix.now }
+    ensures length { result.length ≡ prefix.now.length + 1 }
+{
+    let length = prefix.length + 1;
+    let upper = if bit {
+        1u128 << (prefix.family.width() - length)
+    } else {
+        0
+    };
+    Prefix {
+        family: prefix.family,
+        first: prefix.first + upper,
+        length,
+    }
+}
