@@ -11,7 +11,7 @@ set -u
 . "$(dirname "${BASH_SOURCE[0]}")/work.sh"
 runs=${1:-5}
 
-gcc -O2 -Wall -o "$work/plain" "$bench/store.c" -lsqlite3 || fail "store.c was not built"
+gcc -O2 -Wall -o "$work/plain" "$bench/store.c" "$bench/tables.c" -lsqlite3 || fail "store.c was not built"
 program=$("$bench/build.sh" store "$work" memory 2 2) || fail "store.rs was not built"
 
 # A line an operation: the place, the numbers of holders and authorizations, the operation,

@@ -1,0 +1,485 @@
+/* Answers some requests of the desk over HTTP, as `roadesk serve` does, in C over libsqlite3:
+ *
+ *     serve --db FILE --listen ADDRESS:PORT --count N --day DAY
+ *
+ * README.md says which requests, and what is left out. One connection after the other, one request a
+ * connection, and 30 seconds for a whole connection.
+ */
+#define _GNU_SOURCE
+#include <arpa/inet.h>
+#include <err.h>
+#include <stdio.h>
+#include <stdlib.h>
+#include <string.h>
+#include <strings.h>
+#include <sys/socket.h>
+#include <unistd.h>
+
+#include "tables.h"
+#include "texts.h"
+#include "times.h"
+
+enum { HEAD_MOST = 8192, BODY_MOST = 1 << 20, ANSWER_HEAD = 256, ANSWER_ROOM = 1 << 24, MOST_MADE = 999999 };
+
+static const int64_t TIME_LIMIT = 30000000000;
+
+static int64_t today;
+
+/* A connection, and when its time is up. */
+struct stream {
+    int socket;
+    int64_t end;
+};
+
+/* Sets what is left of the time; 0 where nothing is. */
+static int set_time(const struct stream *stream, int option)
+{
+    int64_t left = (stream->end - nanoseconds()) / 1000;
+    struct timeval time = {left / 1000000, left % 1000000};
+    return left > 0 && !setsockopt(stream->socket, SOL_SOCKET, option, &time, sizeof time);
+}
+
+/* How many bytes came, at most these; 0 where none will. */
+static size_t read_some(const struct stream *stream, char *bytes, size_t most)
+{
+    ssize_t count = set_time(stream, SO_RCVTIMEO) ? read(stream->socket, bytes, most) : -1;
+    return count > 0 ? count : 0;
+}
+
+static int write_all(const struct stream *stream, const char *bytes, size_t count)
+{
+    while (count) {
+        ssize_t taken = set_time(stream, SO_SNDTIMEO) ? send(stream->socket, bytes, count, MSG_NOSIGNAL) : -1;
+        if (taken <= 0)
+            return 0;
+        bytes += taken;
+        count -= taken;
+    }
+    return 1;
+}
+
+/* A request as it came; `bytes` is its head, which ends with `body`, and what was read of its body. */
+struct request {
+    char bytes[HEAD_MOST + BODY_MOST + 1];
+    size_t length, body_length;
+    char *method, *target, *body, *caller;
+};
+
+/* Reads until the head has ended; 0 where it does not. */
+static int read_head(const struct stream *stream, struct request *request)
+{
+    char *end = NULL;
+    request->length = 0;
+    while (!end && request->length < HEAD_MOST) {
+        size_t count = read_some(stream, request->bytes + request->length, HEAD_MOST - request->length);
+        if (!count)
+            return 0;
+        request->length += count;
+        end = memmem(request->bytes, request->length, "\r\n\r\n", 4);
+    }
+    if (!end)
+        return 0;
+    *end = 0;
+    request->body = end + 4;
+    return 1;
+}
+
+/* The value of a field of this name, or none; the text begins with a line of the head. */
+static char *value_in(char *line, const char *name)
+{
+    size_t length = strlen(name);
+    if (strncasecmp(line, name, length) || line[length] != ':')
+        return NULL;
+    char *value = line + length + 1;
+    return value + strspn(value, " \t");
+}
+
+/* Cuts the head into its lines and these into their parts; 0 where it is none. */
+static int split_head(struct request *request)
+{
+    char *rest = request->bytes, *line = strsep(&rest, "\r"), *value;
+    uint64_t length = 0;
+    request->caller = NULL;
+    request->method = strsep(&line, " ");
+    request->target = strsep(&line, " ");
+    while (rest && (line = strsep(&rest, "\r"))) {
+        line++;
+        if ((value = value_in(line, "Desk-Caller")))
+            request->caller = value;
+        else if ((value = value_in(line, "Content-Length")) && !read_number(value, BODY_MOST, &length))
+            return 0;
+        else if (value_in(line, "Transfer-Encoding"))
+            return 0;
+    }
+    request->body_length = length;
+    return request->target && request->caller;
+}
+
+static int read_body(const struct stream *stream, struct request *request)
+{
+    char *end = request->body + request->body_length;
+    while (request->bytes + request->length < end) {
+        char *next = request->bytes + request->length;
+        size_t count = read_some(stream, next, end - next);
+        if (!count)
+            return 0;
+        request->length += count;
+    }
+    *end = 0;
+    return 1;
+}
+
+static char *skipped(char *at)
+{
+    return at + strspn(at, " \t\r\n");
+}
+
+/* Cuts a member of an object out of JSON, and leaves the mark that follows it. Gives what comes after
+ * the mark, or none where there is no member. */
+static char *cut_member(char *at, char **name, char **value, char *mark)
+{
+    char *end = *at == '"' ? strchr(*name = at + 1, '"') : NULL;
+    if (!end)
+        return NULL;
+    *end = 0;
+    at = skipped(end + 1);
+    if (*at != ':')
+        return NULL;
+    at = skipped(at + 1);
+    *value = *at == '"' ? at + 1 : at;
+    end = *at == '"' ? strchr(at + 1, '"') : at + strspn(at, "0123456789");
+    if (!end)
+        return NULL;
+    at = skipped(*end == '"' ? end + 1 : end);
+    *mark = *at;
+    *end = 0;
+    return at + 1;
+}
+
+enum member { ASN = 1, PREFIX = 2, MAX = 4, FROM = 8, UNTIL = 16, EVERY_MEMBER = 31 };
+
+/* Puts the value in its place; 0 where it is no member of a `create`. */
+static int take_member(const char *name, const char *value, struct auth *auth)
+{
+    uint64_t number;
+    if (!strcmp(name, "asn") && read_number(value, UINT32_MAX, &number)) {
+        auth->asn = number;
+        return ASN;
+    }
+    if (!strcmp(name, "max") && read_number(value, UINT8_MAX, &number)) {
+        auth->max = number;
+        return MAX;
+    }
+    if (!strcmp(name, "prefix") && read_prefix(value, &auth->prefix))
+        return PREFIX;
+    if (!strcmp(name, "from") && read_day(value, &auth->opens))
+        return FROM;
+    if (!strcmp(name, "until") && read_day(value, &auth->ends))
+        return UNTIL;
+    return 0;
+}
+
+/* Whether the body is an object with each member of a `create` once. */
+static int read_auth(char *body, struct auth *auth)
+{
+    char *name, *value, *at = skipped(body), mark = ',';
+    int taken = 0, member;
+    if (*at++ != '{')
+        return 0;
+    while (mark == ',') {
+        at = cut_member(skipped(at), &name, &value, &mark);
+        member = at ? take_member(name, value, auth) : 0;
+        if (!member || taken & member)
+            return 0;
+        taken |= member;
+    }
+    return taken == EVERY_MEMBER && mark == '}' && !*skipped(at);
+}
+
+static int contains(const struct prefix *scope, const struct prefix *prefix)
+{
+    return scope->family == prefix->family && scope->length <= prefix->length && scope->first <= prefix->first &&
+           last_of(prefix) <= last_of(scope);
+}
+
+/* Whether the caller has a current grant of the role or a lower number; where a prefix is given, one
+ * whose scope contains it. */
+static int is_granted(const struct rows *rows, const char *caller, enum role most, const struct prefix *within)
+{
+    for (unsigned i = 0; i < rows->grants_count; i++) {
+        const struct grant *grant = &rows->grants[i];
+        int is_current = !strcmp(grant->caller, caller) && grant->role <= most && today <= grant->until;
+        if (is_current && (!within || !grant->scope.family || contains(&grant->scope, within)))
+            return 1;
+    }
+    return 0;
+}
+
+static int is_held(const struct rows *rows, const struct prefix *prefix)
+{
+    for (unsigned i = 0; i < rows->runs_count; i++) {
+        const struct run *run = &rows->runs[i];
+        if (run->family == prefix->family && run->first <= prefix->first && last_of(prefix) <= run->last)
+            return 1;
+    }
+    return 0;
+}
+
+static int has_same(const struct rows *rows, const struct auth *other)
+{
+    for (unsigned i = 0; i < rows->auths_count; i++) {
+        const struct auth *auth = &rows->auths[i];
+        if (auth->asn == other->asn && auth->max == other->max && auth->prefix.family == other->prefix.family &&
+            auth->prefix.first == other->prefix.first && auth->prefix.length == other->prefix.length)
+            return 1;
+    }
+    return 0;
+}
+
+/* The first rule of `create` that does not hold, or none. */
+static const char *denial_of_create(const struct rows *rows, const char *caller, const struct auth *auth)
+{
+    if (!is_granted(rows, caller, CLERK, NULL))
+        return "grant";
+    if (!is_granted(rows, caller, CLERK, &auth->prefix))
+        return "scope";
+    if (auth->ends < auth->opens || auth->ends < today)
+        return "dates";
+    if (auth->max < auth->prefix.length || auth->max > width_of(auth->prefix.family))
+        return "length";
+    if (!is_held(rows, &auth->prefix))
+        return "held";
+    if (has_same(rows, auth))
+        return "same";
+    if (rows->auths_count >= MAX_AUTHS || rows->created >= MOST_MADE)
+        return "room";
+    return NULL;
+}
+
+static const struct auth *find_auth(const struct rows *rows, uint32_t number)
+{
+    for (unsigned i = 0; i < rows->auths_count; i++)
+        if (rows->auths[i].number == number)
+            return &rows->auths[i];
+    return NULL;
+}
+
+struct reply {
+    const char *status, *type;
+    struct text body;
+};
+
+static void refuse(struct reply *reply, const char *status, const char *error)
+{
+    reply->status = status;
+    put(&reply->body, "{\"error\":");
+    put(&reply->body, error);
+    put(&reply->body, "}\n");
+}
+
+static void deny(struct reply *reply, const char *rule)
+{
+    reply->status = "403 Forbidden";
+    put(&reply->body, "{\"denied\":\"");
+    put(&reply->body, rule);
+    put(&reply->body, "\"}\n");
+}
+
+static void put_shown(struct text *body, const struct auth *auth)
+{
+    put(body, "{\"shown\":{\"number\":");
+    put_number(body, auth->number);
+    put(body, ",\"asn\":");
+    put_number(body, auth->asn);
+    put(body, ",\"prefix\":\"");
+    put_prefix(body, &auth->prefix);
+    put(body, "\",\"max\":");
+    put_number(body, auth->max);
+    put(body, ",\"from\":\"");
+    put_day(body, auth->opens);
+    put(body, "\",\"until\":\"");
+    put_day(body, auth->ends);
+    put(body, "\"}}\n");
+}
+
+static void show(const char *holder, const char *caller, uint32_t number, struct reply *reply)
+{
+    static struct rows rows;
+    load(holder, &rows);
+    const struct auth *auth = find_auth(&rows, number);
+    if (!is_granted(&rows, caller, AUDITOR, NULL))
+        deny(reply, "grant");
+    else if (!auth || !is_granted(&rows, caller, AUDITOR, &auth->prefix))
+        deny(reply, "number");
+    else
+        put_shown(&reply->body, auth);
+}
+
+static void create(const char *holder, const char *caller, struct auth *auth, struct reply *reply)
+{
+    static struct rows rows;
+    load(holder, &rows);
+    const char *rule = denial_of_create(&rows, caller, auth);
+    if (rule) {
+        deny(reply, rule);
+        return;
+    }
+    auth->number = rows.created + 1;
+    begin_change(holder);
+    put_auth(holder, auth);
+    commit_change();
+    put(&reply->body, "{\"done\":");
+    put_number(&reply->body, auth->number);
+    put(&reply->body, "}\n");
+}
+
+static int compare(address left, address right)
+{
+    return (left > right) - (left < right);
+}
+
+static int compare_vrps(const void *a, const void *b)
+{
+    const struct vrp *left = a, *right = b;
+    int order = compare(left->prefix.family, right->prefix.family);
+    order = order ? order : compare(left->prefix.first, right->prefix.first);
+    order = order ? order : compare(left->prefix.length, right->prefix.length);
+    order = order ? order : compare(left->max, right->max);
+    return order ? order : compare(left->asn, right->asn);
+}
+
+/* The VRPs of the day in rising order, in a place that the next call takes again. */
+static struct vrp *sorted_vrps(size_t *count)
+{
+    static struct vrp *vrps;
+    static size_t room;
+    struct vrp vrp;
+    *count = 0;
+    ask_vrps(today);
+    while (next_vrp(&vrp)) {
+        if (*count == room && !(vrps = realloc(vrps, (room = 2 * room + 1) * sizeof *vrps)))
+            errx(2, "no memory");
+        vrps[(*count)++] = vrp;
+    }
+    qsort(vrps, *count, sizeof *vrps, compare_vrps);
+    return vrps;
+}
+
+static void list_payloads(struct reply *reply)
+{
+    size_t count;
+    if (has_exceptions())
+        errx(2, "SLURM exceptions are left out");
+    const struct vrp *vrps = sorted_vrps(&count);
+    reply->type = "text/csv";
+    put(&reply->body, "asn,prefix,maxlength\n");
+    for (size_t i = 0; i < count; i++) {
+        put(&reply->body, "AS");
+        put_number(&reply->body, vrps[i].asn);
+        put(&reply->body, ",");
+        put_prefix(&reply->body, &vrps[i].prefix);
+        put(&reply->body, ",");
+        put_number(&reply->body, vrps[i].max);
+        put(&reply->body, "\n");
+    }
+}
+
+static int is_name(const char *text)
+{
+    size_t length = strspn(text, "abcdefghijklmnopqrstuvwxyz0123456789-");
+    return length && length < NAME_SIZE && !text[length] && *text != '-';
+}
+
+/* Cuts a path into what its strokes part. */
+static int split_path(char *path, char **parts, int most)
+{
+    int count = 0;
+    while (path && count < most)
+        parts[count++] = strsep(&path, "/");
+    return count;
+}
+
+static void answer(const struct request *request, struct reply *reply)
+{
+    enum { HOLDER = 2, NUMBER = 4, MOST_PARTS = 6 };
+    char *parts[MOST_PARTS];
+    uint64_t number;
+    struct auth auth;
+    int count = split_path(request->target, parts, MOST_PARTS);
+    int is_get = !strcmp(request->method, "GET"), is_post = !strcmp(request->method, "POST");
+    int is_auths = count > 3 && !strcmp(parts[1], "holders") && !strcmp(parts[3], "auths");
+    if (count == 2 && is_get && !strcmp(parts[1], "payloads"))
+        list_payloads(reply);
+    else if (!is_auths || !((count == 4 && is_post) || (count == 5 && is_get)))
+        refuse(reply, "404 Not Found", "404");
+    else if (!is_name(parts[HOLDER]) || !is_name(request->caller))
+        refuse(reply, "400 Bad Request", "400");
+    else if (is_post && read_auth(request->body, &auth))
+        create(parts[HOLDER], request->caller, &auth, reply);
+    else if (is_get && read_number(parts[NUMBER], MOST_MADE, &number))
+        show(parts[HOLDER], request->caller, number, reply);
+    else
+        refuse(reply, "400 Bad Request", "400");
+}
+
+/* The head goes into the room before the body, so that both are written in one piece. */
+static int write_reply(const struct stream *stream, const struct reply *reply)
+{
+    char head[ANSWER_HEAD];
+    int length = snprintf(head, sizeof head,
+                          "HTTP/1.1 %s\r\nContent-Type: %s\r\nContent-Length: %zu\r\nConnection: close\r\n\r\n",
+                          reply->status, reply->type, reply->body.length);
+    char *start = reply->body.bytes - length;
+    memcpy(start, head, length);
+    return write_all(stream, start, length + reply->body.length);
+}
+
+/* 0 where a read or a write failed. */
+static int serve_one(const struct stream *stream)
+{
+    static struct request request;
+    static char bytes[ANSWER_HEAD + ANSWER_ROOM];
+    struct reply reply = {"200 OK", "application/json", {bytes + ANSWER_HEAD, 0, ANSWER_ROOM}};
+    if (!read_head(stream, &request))
+        return 0;
+    if (!split_head(&request))
+        refuse(&reply, "400 Bad Request", "400");
+    else if (!read_body(stream, &request))
+        return 0;
+    else
+        answer(&request, &reply);
+    return write_reply(stream, &reply);
+}
+
+static int listen_on(char *place)
+{
+    struct sockaddr_in address = {.sin_family = AF_INET};
+    char *host = strsep(&place, ":");
+    int yes = 1, listener = socket(AF_INET, SOCK_STREAM | SOCK_CLOEXEC, 0);
+    if (!place || inet_pton(AF_INET, host, &address.sin_addr) != 1)
+        errx(2, "ADDRESS:PORT is asked for");
+    address.sin_port = htons(atoi(place));
+    if (listener < 0 || setsockopt(listener, SOL_SOCKET, SO_REUSEADDR, &yes, sizeof yes) ||
+        bind(listener, (struct sockaddr *)&address, sizeof address) || listen(listener, 128))
+        err(2, "listen");
+    return listener;
+}
+
+int main(int count, char **words)
+{
+    if (count != 9 || !read_day(words[8], &today))
+        errx(2, "--db FILE --listen ADDRESS:PORT --count N --day DAY");
+    open_database(words[2], NULL);
+    int listener = listen_on(words[4]);
+    for (int left = atoi(words[6]); left > 0; left--) {
+        int socket = accept(listener, NULL, NULL);
+        if (socket < 0)
+            err(2, "accept");
+        struct stream stream = {socket, nanoseconds() + TIME_LIMIT};
+        if (!serve_one(&stream))
+            warnx("a connection failed");
+        close(socket);
+    }
+    close_database();
+    return 0;
+}

@@ -1,0 +1,320 @@
+#include "tables.h"
+
+#include <endian.h>
+#include <err.h>
+#include <sqlite3.h>
+#include <stdio.h>
+#include <string.h>
+
+static sqlite3 *db;
+
+static sqlite3_stmt *begin, *commit, *insert_holder, *insert_holding, *insert_grant, *insert_auth;
+static sqlite3_stmt *set_grants, *set_auths, *delete_auth;
+static sqlite3_stmt *counters_of, *holdings_of, *grants_of, *auths_of, *some_overlap, *in_force, *exceptions;
+
+_Noreturn void fail(const char *what)
+{
+    errx(2, "%s: %s", what, db ? sqlite3_errmsg(db) : "no database");
+}
+
+static sqlite3_stmt *prepared(const char *sql)
+{
+    sqlite3_stmt *statement;
+    if (sqlite3_prepare_v3(db, sql, -1, SQLITE_PREPARE_PERSISTENT, &statement, NULL) != SQLITE_OK)
+        fail(sql);
+    return statement;
+}
+
+static void prepare_all(void)
+{
+    begin = prepared("BEGIN");
+    commit = prepared("COMMIT");
+    insert_holder = prepared("INSERT INTO holder (name, grants, auths) VALUES (?1, 0, 0)");
+    insert_holding = prepared("INSERT INTO holding (family, lo, hi, holder) VALUES (?1, ?2, ?3, ?4)");
+    insert_grant = prepared("INSERT INTO granted (holder, number, caller, role, family, lo, len, until)"
+                            " VALUES (?1, ?2, ?3, ?4, ?5, ?6, ?7, ?8)");
+    insert_auth = prepared("INSERT INTO auth (holder, number, asn, family, lo, len, max, opens, ends)"
+                           " VALUES (?1, ?2, ?3, ?4, ?5, ?6, ?7, ?8, ?9)");
+    set_grants = prepared("UPDATE holder SET grants = ?2 WHERE name = ?1");
+    set_auths = prepared("UPDATE holder SET auths = ?2 WHERE name = ?1");
+    delete_auth = prepared("DELETE FROM auth WHERE holder = ?1 AND number = ?2");
+    counters_of = prepared("SELECT grants, auths FROM holder WHERE name = ?1");
+    holdings_of = prepared("SELECT family, lo, hi FROM holding WHERE holder = ?1 ORDER BY family, lo");
+    grants_of = prepared("SELECT number, caller, role, family, lo, len, until FROM granted"
+                         " WHERE holder = ?1 ORDER BY number");
+    auths_of = prepared("SELECT number, asn, family, lo, len, max, opens, ends FROM auth"
+                        " WHERE holder = ?1 ORDER BY number");
+    some_overlap = prepared("SELECT 1 FROM holding WHERE family = ?1 AND lo <= ?3 AND hi >= ?2 LIMIT 1");
+    in_force = prepared("SELECT asn, family, lo, len, max FROM auth WHERE opens <= ?1 AND ends >= ?1");
+    exceptions = prepared("SELECT 1 FROM slurm LIMIT 1");
+}
+
+static void run_text(const char *sql)
+{
+    if (sqlite3_exec(db, sql, NULL, NULL, NULL) != SQLITE_OK)
+        fail(sql);
+}
+
+static void run_file(const char *path)
+{
+    static char text[1 << 16];
+    FILE *file = fopen(path, "r");
+    if (!file)
+        fail(path);
+    text[fread(text, 1, sizeof text - 1, file)] = 0;
+    fclose(file);
+    run_text(text);
+}
+
+void open_database(const char *path, const char *statements)
+{
+    if (sqlite3_open(path, &db) != SQLITE_OK)
+        fail(path);
+    run_text("PRAGMA foreign_keys = ON; PRAGMA locking_mode = EXCLUSIVE;"
+             "PRAGMA journal_mode = WAL; PRAGMA synchronous = FULL");
+    if (statements)
+        run_file(statements);
+    prepare_all();
+}
+
+void close_database(void)
+{
+    sqlite3_stmt *statement;
+    while ((statement = sqlite3_next_stmt(db, NULL)))
+        sqlite3_finalize(statement);
+    if (sqlite3_close(db) != SQLITE_OK)
+        fail("close");
+}
+
+static void bind_number(sqlite3_stmt *statement, int at, int64_t number)
+{
+    if (sqlite3_bind_int64(statement, at, number) != SQLITE_OK)
+        fail("bind");
+}
+
+static void bind_text(sqlite3_stmt *statement, int at, const char *text)
+{
+    if (sqlite3_bind_text(statement, at, text, -1, SQLITE_TRANSIENT) != SQLITE_OK)
+        fail("bind");
+}
+
+/* An address is a blob of 16 bytes, the greatest one first, for both families. */
+static void bind_address(sqlite3_stmt *statement, int at, address bound)
+{
+    uint64_t halves[2] = {htobe64((uint64_t)(bound >> 64)), htobe64((uint64_t)bound)};
+    if (sqlite3_bind_blob(statement, at, halves, sizeof halves, SQLITE_TRANSIENT) != SQLITE_OK)
+        fail("bind");
+}
+
+static address address_in(sqlite3_stmt *statement, int at)
+{
+    uint64_t halves[2];
+    const void *bytes = sqlite3_column_blob(statement, at);
+    if (!bytes || sqlite3_column_bytes(statement, at) != sizeof halves)
+        fail("an address");
+    memcpy(halves, bytes, sizeof halves);
+    return (address)be64toh(halves[0]) << 64 | be64toh(halves[1]);
+}
+
+/* The prefix of the three columns from this one on. */
+static struct prefix prefix_in(sqlite3_stmt *statement, int at)
+{
+    struct prefix prefix = {.family = sqlite3_column_int(statement, at)};
+    prefix.first = address_in(statement, at + 1);
+    prefix.length = sqlite3_column_int(statement, at + 2);
+    return prefix;
+}
+
+static void bind_prefix(sqlite3_stmt *statement, int at, const struct prefix *prefix)
+{
+    bind_number(statement, at, prefix->family);
+    bind_address(statement, at + 1, prefix->first);
+    bind_number(statement, at + 2, prefix->length);
+}
+
+/* Whether there is a further row. At the end the statement is ready for its next run. */
+static int has_row(sqlite3_stmt *statement)
+{
+    int step = sqlite3_step(statement);
+    if (step == SQLITE_ROW)
+        return 1;
+    if (step != SQLITE_DONE)
+        fail("step");
+    sqlite3_reset(statement);
+    return 0;
+}
+
+static void execute(sqlite3_stmt *statement)
+{
+    while (has_row(statement))
+        ;
+}
+
+/* Whether there is a row at all. */
+static int has_any(sqlite3_stmt *statement)
+{
+    int found = has_row(statement);
+    sqlite3_reset(statement);
+    return found;
+}
+
+static void load_counters(const char *holder, struct rows *rows)
+{
+    rows->found = 0;
+    bind_text(counters_of, 1, holder);
+    while (has_row(counters_of)) {
+        rows->found = 1;
+        rows->granted = sqlite3_column_int64(counters_of, 0);
+        rows->created = sqlite3_column_int64(counters_of, 1);
+    }
+}
+
+static void load_runs(const char *holder, struct rows *rows)
+{
+    rows->runs_count = 0;
+    bind_text(holdings_of, 1, holder);
+    while (has_row(holdings_of)) {
+        if (rows->runs_count == MAX_RUNS)
+            fail("too many runs");
+        struct run *run = &rows->runs[rows->runs_count++];
+        run->family = sqlite3_column_int(holdings_of, 0);
+        run->first = address_in(holdings_of, 1);
+        run->last = address_in(holdings_of, 2);
+    }
+}
+
+static void load_grants(const char *holder, struct rows *rows)
+{
+    rows->grants_count = 0;
+    bind_text(grants_of, 1, holder);
+    while (has_row(grants_of)) {
+        if (rows->grants_count == MAX_GRANTS)
+            fail("too many grants");
+        struct grant *grant = &rows->grants[rows->grants_count++];
+        grant->number = sqlite3_column_int64(grants_of, 0);
+        snprintf(grant->caller, NAME_SIZE, "%s", (const char *)sqlite3_column_text(grants_of, 1));
+        grant->role = sqlite3_column_int(grants_of, 2);
+        grant->scope = (struct prefix){0};
+        if (sqlite3_column_type(grants_of, 3) != SQLITE_NULL)
+            grant->scope = prefix_in(grants_of, 3);
+        grant->until = sqlite3_column_int64(grants_of, 6);
+    }
+}
+
+static void load_auths(const char *holder, struct rows *rows)
+{
+    rows->auths_count = 0;
+    bind_text(auths_of, 1, holder);
+    while (has_row(auths_of)) {
+        if (rows->auths_count == MAX_AUTHS)
+            fail("too many authorizations");
+        struct auth *auth = &rows->auths[rows->auths_count++];
+        auth->number = sqlite3_column_int64(auths_of, 0);
+        auth->asn = sqlite3_column_int64(auths_of, 1);
+        auth->prefix = prefix_in(auths_of, 2);
+        auth->max = sqlite3_column_int(auths_of, 5);
+        auth->opens = sqlite3_column_int64(auths_of, 6);
+        auth->ends = sqlite3_column_int64(auths_of, 7);
+    }
+}
+
+void load(const char *holder, struct rows *rows)
+{
+    load_counters(holder, rows);
+    load_runs(holder, rows);
+    load_grants(holder, rows);
+    load_auths(holder, rows);
+}
+
+int is_overlapped(int family, address first, address last)
+{
+    bind_number(some_overlap, 1, family);
+    bind_address(some_overlap, 2, first);
+    bind_address(some_overlap, 3, last);
+    return has_any(some_overlap);
+}
+
+void ask_vrps(int64_t day)
+{
+    bind_number(in_force, 1, day);
+}
+
+int next_vrp(struct vrp *vrp)
+{
+    if (!has_row(in_force))
+        return 0;
+    vrp->asn = sqlite3_column_int64(in_force, 0);
+    vrp->prefix = prefix_in(in_force, 1);
+    vrp->max = sqlite3_column_int(in_force, 4);
+    return 1;
+}
+
+int has_exceptions(void)
+{
+    return has_any(exceptions);
+}
+
+void begin_change(const char *holder)
+{
+    execute(begin);
+    bind_text(counters_of, 1, holder);
+    execute(counters_of);
+}
+
+void commit_change(void)
+{
+    execute(commit);
+}
+
+void put_holder(const char *holder)
+{
+    bind_text(insert_holder, 1, holder);
+    execute(insert_holder);
+}
+
+void put_run(const char *holder, const struct run *run)
+{
+    bind_number(insert_holding, 1, run->family);
+    bind_address(insert_holding, 2, run->first);
+    bind_address(insert_holding, 3, run->last);
+    bind_text(insert_holding, 4, holder);
+    execute(insert_holding);
+}
+
+void put_grant(const char *holder, const struct grant *grant)
+{
+    sqlite3_clear_bindings(insert_grant);
+    bind_text(insert_grant, 1, holder);
+    bind_number(insert_grant, 2, grant->number);
+    bind_text(insert_grant, 3, grant->caller);
+    bind_number(insert_grant, 4, grant->role);
+    if (grant->scope.family)
+        bind_prefix(insert_grant, 5, &grant->scope);
+    bind_number(insert_grant, 8, grant->until);
+    execute(insert_grant);
+    bind_text(set_grants, 1, holder);
+    bind_number(set_grants, 2, grant->number);
+    execute(set_grants);
+}
+
+void put_auth(const char *holder, const struct auth *auth)
+{
+    bind_text(insert_auth, 1, holder);
+    bind_number(insert_auth, 2, auth->number);
+    bind_number(insert_auth, 3, auth->asn);
+    bind_prefix(insert_auth, 4, &auth->prefix);
+    bind_number(insert_auth, 7, auth->max);
+    bind_number(insert_auth, 8, auth->opens);
+    bind_number(insert_auth, 9, auth->ends);
+    execute(insert_auth);
+    bind_text(set_auths, 1, holder);
+    bind_number(set_auths, 2, auth->number);
+    execute(set_auths);
+}
+
+void take_auth(const char *holder, uint32_t number)
+{
+    bind_text(delete_auth, 1, holder);
+    bind_number(delete_auth, 2, number);
+    execute(delete_auth);
+}

@@ -1,0 +1,98 @@
+#!/usr/bin/env bash
+# Runs the commands of GUIDE.md and compares what they print with what it says.
+#
+#     check-guide.sh [GUIDE]
+#
+# The blocks marked sh run in one shell, in their order, in a temporary folder that has what the top of the
+# repository has, so that the files they make do not stay. What a block prints, on standard error too, has to be
+# the block after a line that ends with `prints` or `print`. Where there is none, it has to end with status 0.
+# A block that needs a command which is not there is skipped, and what builds on it may fail.
+# PROGRAM names the program to run as ./roadesk, else it is the one at the top. Ends with 1 where a block does otherwise.
+set -u
+docs=$(cd "$(dirname "${BASH_SOURCE[0]}")" && pwd)
+guide=${1:-$docs/GUIDE.md}
+program=$(realpath "${PROGRAM:-$docs/../roadesk}") || exit 2
+work=$(mktemp -d) || exit 2
+trap 'rm -rf "$work"' EXIT
+
+# Block N becomes N.sh, with its line in N.line, and what it is said to print N.said.
+awk -v work="$work" '
+    /^```/ && inside { inside = 0; next }
+    inside { if (file) print >file; next }
+    /^```/ {
+        inside = 1
+        file = ""
+        if ($0 == "```sh") {
+            file = work "/" ++blocks ".sh"
+            print FNR >(work "/" blocks ".line")
+        } else if (is_said && blocks)
+            file = work "/" blocks ".said"
+        if (file) printf "" >file
+        is_said = 0
+        next
+    }
+    NF { is_said = /(^| )prints?:?$/ }' "$guide" || exit 2
+blocks=$(find "$work" -name '*.sh' | wc -l)
+
+mkdir "$work/top"
+ln -s "$(realpath "$docs/..")"/* "$work/top" && rm "$work/top/roadesk" || exit 2
+printf '#!/bin/sh\nexec "%s" "$@"\n' "$program" >"$work/top/roadesk"
+chmod +x "$work/top/roadesk"
+# As on a terminal, curl does not show how far it is.
+printf 'silent\nshow-error\n' >"$work/.curlrc"
+
+# missing_for N: the commands that block N needs and that are not there.
+missing_for() {
+    for tool in jq openssl xxd curl nginx sqlite3; do
+        if grep -qw "$tool" "$work/$1.sh" && ! command -v "$tool" >/dev/null; then
+            echo "$tool"
+        fi
+    done
+}
+
+# Runs the blocks that miss nothing. What one leaves in the background goes on until the last has ended.
+run_blocks() {
+    trap 'kill $(jobs -p) 2>/dev/null' EXIT
+    cd "$work/top" || exit 2
+    for guide_block in $(seq "$blocks"); do
+        [ ! -s "$work/$guide_block.missing" ] || continue
+        . "$work/$guide_block.sh" >"$work/$guide_block.printed" 2>&1 </dev/null
+        echo $? >"$work/$guide_block.status"
+        # A server needs a moment until it listens.
+        ! grep -q '&$' "$work/$guide_block.sh" || sleep 2
+    done
+}
+
+# judge N: the verdict on block N; false where it did otherwise than the guide says.
+judge() {
+    local at=$work/$1
+    if [ -s "$at.missing" ]; then
+        echo "skipped, since there is no" $(cat "$at.missing")
+    elif [ ! -e "$at.status" ]; then
+        echo "did not end"
+        return 1
+    elif [ -e "$at.said" ]; then
+        diff "$at.said" "$at.printed" >"$at.diff" && echo "prints what is said" && return
+        echo "prints something else:" && cat "$at.diff"
+        return 1
+    elif [ "$(cat "$at.status")" != 0 ]; then
+        echo "ended with status $(cat "$at.status"):" && cat "$at.printed"
+        return 1
+    else
+        echo "ended well"
+    fi
+}
+
+for block in $(seq "$blocks"); do
+    missing_for "$block" >"$work/$block.missing"
+done
+export work blocks CURL_HOME=$work
+export -f run_blocks
+timeout 600 bash -c run_blocks
+
+failed=0
+for block in $(seq "$blocks"); do
+    verdict=$(judge "$block") || failed=1
+    echo "line $(cat "$work/$block.line"): $verdict"
+done
+exit "$failed"
