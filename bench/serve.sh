@@ -74,7 +74,7 @@ measure() {
 syncs() {
     ask "$2" 100 100 100 strace -f -qq -o "$work/syncs" -e trace=fsync,fdatasync \
         "${programs[$1]}" ${first_words[$1]} >/dev/null || fail "$1 failed below strace"
-    grep -c 'sync(' "$work/syncs"
+    grep 'sync(' "$work/syncs" | wc -l
 }
 
 turn=$servers
@@ -117,7 +117,8 @@ same=$?
 # The desk is the last one; what shows sync is for the opening and the end.
 if command -v strace >/dev/null; then
     for server in $servers; do
-        echo "$server synced $(syncs "$server" create) times for 100 creates, $(syncs "$server" show) for 100 shows"
+        creates=$(syncs "$server" create) && shows=$(syncs "$server" show) || exit 2
+        echo "$server synced $creates times for 100 creates, $shows for 100 shows"
     done
 fi
 exit "$same"
