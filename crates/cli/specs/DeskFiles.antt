@@ -1,5 +1,5 @@
 -- The files of a desk: a database file and its log.
-use Rattle.std.specs.Prelude.{◌≡◌, ◌⊎◌, ℕ, List, Option}
+use Rattle.std.specs.Prelude.{◌≡◌, ◌⊎◌}
 use Rattle.sqlite_disk.specs.declared.Disk.{Ghosts}
 use Rattle.sqlite_disk.specs.declared.Files.{Files}
 use Rattle.sqlite_wal.specs.Recovery.{Image}
@@ -8,8 +8,7 @@ use Rattle.sqlite_trees.specs.Tree.{Trees}
 use Rattle.sqlite.specs.Closing.{HoldsAlone}
 use Rattle.sqlite.specs.Files.{HoldsDatabase, image_of}
 use Rattle.policy.specs.History.{History}
-use Rattle.policy.specs.Rows.{Rows}
-use Rattle.policy.specs.RowsOfAll.{HasRows}
+use Rattle.policy.specs.RowsOfAll.{AllRows, HasRows}
 use Rattle.policy.specs.declared.charter.Charter.{Charter}
 use Rattle.tables.specs.TablesHold.{TablesHold}
 use Rattle.cli.specs.declared.fault.ProgramFault.{ProgramFault}
@@ -18,7 +17,7 @@ use Rattle.cli.specs.declared.fault.ProgramFault.TheVariants.{Database, Memory}
 -- the tables hold the charter and the rows of the history
 abbrev pub HoldDesk : Charter → History → Trees → Type 0
 HoldDesk charter history trees =
-    (rows : List ℕ → Option Rows) × HasRows rows history × TablesHold charter rows trees
+    (rows : AllRows) × HasRows rows history × TablesHold charter rows trees
 
 -- the files hold a database with these tables
 abbrev pub AreDeskFiles : Image → Charter → History → Type 0
