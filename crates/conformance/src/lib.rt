@@ -7,6 +7,8 @@ mod devices;
 #[cfg(test)]
 mod fakes;
 #[cfg(test)]
+mod http;
+#[cfg(test)]
 mod opened_desks;
 #[cfg(test)]
 mod replies;

@@ -2,7 +2,7 @@
 ghost use Rattle.std.specs.Prelude.{◌≡◌};
 ghost use Rattle.http_messages.specs.Actions.{takes_body};
 
-/// What a path and a method ask for.
+/// What a request asks for.
 #[derive(Clone, Copy, Debug, PartialEq, Eq)]
 pub enum Action {
     Register,
@@ -17,6 +17,7 @@ pub enum Action {
     Amend,
     Withdraw,
     Content,
+    Slurm,
     Payloads,
     Validity,
 }
@@ -33,6 +34,7 @@ impl Action {
             | Action::Grant
             | Action::Create
             | Action::Amend
+            | Action::Slurm
             | Action::Validity => true,
             Action::Register
             | Action::Revoke

@@ -10,9 +10,9 @@ use Rattle.desk.specs.declared.asked.Asked.{Asked}
 use Rattle.http_messages.specs.Requests.{Asked as Head}
 use Rattle.web.specs.HttpFaults.{body_faults, caller_name, http_fault, http_faults, path_faults, tree_faults}
 use Rattle.web.specs.HttpRequests.{body_tree, http_heading, SaysAsked}
-use Rattle.web.specs.RequestFaults.{body_members, malformed_number, member_faults, named_by, names_of}
+use Rattle.web.specs.RequestFaults.{as_malformed, body_members, malformed_number, member_faults, named_by, names_of}
 use Rattle.web.specs.declared.request.fault.Fault.{Fault}
-use Rattle.web.specs.declared.request.fault.Fault.TheVariants.{Json, Members, Holder, Caller, Prefix, Asn, Max, Day, Role, Number, Count, TooLong}
+use Rattle.web.specs.declared.request.fault.Fault.TheVariants.{Json, Members, Holder, Caller, Prefix, Asn, Max, Day, Role, Number, File, Count, TooLong}
 use Rattle.web.specs.steps.HttpReading.{asked_of, path_subject, request_of, tree_request}
 use Rattle.web.specs.steps.RequestReading.{AskedTerms, RequestTerms, asked_terms}
 use Rattle.web.proofs.RequestFaultLemmas.{ReadsUnlessFaulty, lowest-none, reads-both, reads-ok_or, reads-says, reads-unless}
@@ -31,6 +31,7 @@ lower-json Max = refl
 lower-json Day = refl
 lower-json Role = refl
 lower-json Number = refl
+lower-json (File fault) = refl
 lower-json Count = refl
 lower-json TooLong = refl
 
@@ -101,6 +102,6 @@ module _ (head : Head) where
   -- what is told of a message is its lowest fault
   pub http-refused : (day : ℕ) (body : Option (List ℕ)) (fault : Fault) →
       mapped asked_terms (Err fault) ≡ asked_of day head body →
-      http_fault head body ≡ Some (record { number = malformed_number fault; slurm = None })
+      http_fault head body ≡ Some (as_malformed fault)
   http-refused day body fault read =
       let told = rw (← read) at (reads-http day body).told.is in rw (← told) refl

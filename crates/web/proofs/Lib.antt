@@ -7,3 +7,5 @@ pub mod ScriptLemmas
 pub mod RequestFaultLemmas
 pub mod RequestReadLemmas
 pub mod SessionLemmas
+pub mod SlurmReadLemmas
+pub mod AskedLemmas

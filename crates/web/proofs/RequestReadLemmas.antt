@@ -12,19 +12,20 @@ use Rattle.json_values.specs.Tree.{tree_of, list_of}
 use Rattle.desk.specs.declared.asked.Asked.{Asked}
 use Rattle.desk.specs.declared.asked.Request.{Request}
 use Rattle.desk.specs.declared.asked.Request.TheVariants.{Command as CommandRequest, Query as QueryRequest}
-use Rattle.web.specs.RequestFaults.{malformed_number, role_at, route_members, names_of, is_count, object_faults, list_faults, routes, action_in, action_of, body_members, member_faults, named_by, named_member, Named, HolderName, NumberGiven, Kind, any_value, members_of, action_faults, tree_faults, request_faults, request_fault}
+use Rattle.web.specs.RequestFaults.{as_malformed, malformed_number, role_at, route_members, names_of, is_count, object_faults, list_faults, routes, action_in, action_of, body_members, member_faults, named_by, named_member, Named, HolderName, NumberGiven, Kind, any_value, members_of, action_faults, tree_faults, request_faults, request_fault}
 use Rattle.web.specs.RequestText.{HasName, HasDay, SaysRoute, HasRoutes, Heading, Does, NamesHolder, NamesNumber, SaysRequest, line_heading, ReadsLine}
 use Rattle.json_values.specs.Values.{as_name, as_prefix, as_day, as_asn}
 use Rattle.web.specs.RequestValues.{as_origin, as_max, as_number, as_role, as_scope}
 use Rattle.web.specs.declared.lines.TheConstants.{LINE_LENGTH_LIMIT}
 use Rattle.http_messages.specs.declared.action.Action.{Action}
-use Rattle.http_messages.specs.declared.action.Action.TheVariants.{Register as AskRegister, Delegate as AskDelegate, Transfer as AskTransfer, Reclaim as AskReclaim, Grant as AskGrant, Revoke as AskRevoke, Create as AskCreate, Amend as AskAmend, Withdraw as AskWithdraw, Show as AskShow, Content as AskContent, List as AskList, Payloads as AskPayloads, Validity as AskValidity}
+use Rattle.http_messages.specs.declared.action.Action.TheVariants.{Register as AskRegister, Delegate as AskDelegate, Transfer as AskTransfer, Reclaim as AskReclaim, Grant as AskGrant, Revoke as AskRevoke, Create as AskCreate, Amend as AskAmend, Withdraw as AskWithdraw, Slurm as AskSlurm, Show as AskShow, Content as AskContent, List as AskList, Payloads as AskPayloads, Validity as AskValidity}
 use Rattle.web.specs.declared.request.routes.TheConstants.{MOST_ROUTES}
 use Rattle.web.specs.declared.request.fault.Fault.{Fault}
 use Rattle.web.specs.declared.request.commands.Subject.{Subject}
 use Rattle.web.specs.declared.request.fault.Fault.TheVariants.{Members, Holder, Caller, Prefix as PrefixFault, Asn, Max, Day, Role, Number, Count, TooLong}
 use Rattle.web.specs.steps.RequestReading.{RequestTerms, request, validity, AskedTerms, request_terms, asked_terms, route_in, routes_of, request_in, line_subject, asked_as, asked_by, asked_from, asked_in}
 use Rattle.web.proofs.RequestFaultLemmas.{ReadsUnlessFaulty, reads-both, reads-mapped, reads-unless, reads-last, reads-says, ReadsMember, reads-member, reads-each, lowest-none}
+use Rattle.web.proofs.SlurmReadLemmas.{reads-file}
 
 -- ---- members
 
@@ -126,6 +127,7 @@ module _ (h : Heading) (subject : Subject) (named : Named → List Fault)
       (reads-both holder_and_number (reads-both (max_length d) (reads-last (until d))))
   reads-request AskWithdraw d does =
       reads-mapped _ (λ p says. (does, says.0, says.1)) (reads-last holder_and_number)
+  reads-request AskSlurm d does = reads-mapped _ (λ p says. (does, says)) (reads-last (reads-file d))
   reads-request AskShow d does =
       reads-mapped _ (λ p says. (does, says.0, says.1)) (reads-last holder_and_number)
   reads-request AskContent d does =
@@ -209,6 +211,6 @@ line-read line asked read =
 -- what is told of a line is its lowest fault
 pub line-refused : (line : List ℕ) (fault : Fault) →
     mapped asked_terms (Err fault) ≡ asked_in line →
-    request_fault line ≡ Some (record { number = malformed_number fault; slurm = None })
+    request_fault line ≡ Some (as_malformed fault)
 line-refused line fault read =
     let told = rw (← read) at (reads-line line).told.is in rw (← told) refl

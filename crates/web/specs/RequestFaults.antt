@@ -2,6 +2,7 @@
 -- A line is judged by the tree that the JSON reader gives: of a repeated member it has the last value.
 use Rattle.std.specs.Prelude.{ℕ, nat_le, nat_lt, ◌&&◌, Bool, List, [], ◌∷◌, ◌++◌, map, length, codes, if◌then◌else◌, Option, Some, None, option_map, option_and_then}
 use Rattle.std.specs.List.{flat_map}
+use Rattle.std.specs.Option.{option_to_list}
 use Rattle.std.specs.Str.{bytes_eq}
 use Rattle.policy.specs.declared.grant.Role.{Role}
 use Rattle.serde_json.specs.Data.{Data, Items}
@@ -9,13 +10,15 @@ use Rattle.serde_json.specs.Find.{get, as_array, as_str}
 use Rattle.json_values.specs.Faults.{fault_unless, lowest, name_faults, reading_faults, required_faults}
 use Rattle.json_values.specs.Tree.{tree_of, list_of}
 use Rattle.json_values.specs.Values.{as_name, as_prefix, as_day, as_asn}
+use Rattle.slurm.specs.Fault.{slurm_fault_number}
+use Rattle.slurm.specs.SlurmFaults.{slurm_fault}
 use Rattle.web.specs.RequestValues.{as_origin, as_max, as_number, as_role, as_scope}
 use Rattle.web.specs.declared.lines.TheConstants.{LINE_LENGTH_LIMIT}
 use Rattle.web.specs.declared.malformed.Malformed.{Malformed}
 use Rattle.http_messages.specs.declared.action.Action.{Action}
-use Rattle.http_messages.specs.declared.action.Action.TheVariants.{Register, Delegate, Transfer, Reclaim, Grant, Revoke, Create, Amend, Withdraw, Show, Content, List as ListAction, Payloads, Validity}
+use Rattle.http_messages.specs.declared.action.Action.TheVariants.{Register, Delegate, Transfer, Reclaim, Grant, Revoke, Create, Amend, Withdraw, Slurm, Show, Content, List as ListAction, Payloads, Validity}
 use Rattle.web.specs.declared.request.fault.Fault.{Fault}
-use Rattle.web.specs.declared.request.fault.Fault.TheVariants.{Json, Members, Holder, Caller, Prefix, Asn, Max, Day, Role as RoleFault, Number, Count, TooLong}
+use Rattle.web.specs.declared.request.fault.Fault.TheVariants.{Json, Members, Holder, Caller, Prefix, Asn, Max, Day, Role as RoleFault, Number, File, Count, TooLong}
 use Rattle.web.specs.declared.request.routes.TheConstants.{MOST_ROUTES}
 
 -- where several faults apply, the one of the lowest number is told
@@ -30,8 +33,17 @@ malformed_number Max = 7
 malformed_number Day = 8
 malformed_number RoleFault = 9
 malformed_number Number = 10
+malformed_number (File fault) = 11
 malformed_number Count = 12
 malformed_number TooLong = 13
+
+-- of a SLURM file that is refused, the number of its own fault
+abbrev pub slurm_number : Fault → Option ℕ
+slurm_number (File fault) = Some (slurm_fault_number fault)
+slurm_number _ = None
+
+abbrev pub as_malformed : Fault → Malformed
+as_malformed fault = record { number = malformed_number fault; slurm = slurm_number fault }
 
 -- ---- kinds of members
 
@@ -72,6 +84,10 @@ scope d = reading_faults (as_scope (role_at d)) RoleFault
 
 abbrev pub number : Kind
 number d = reading_faults as_number Number
+
+-- a SLURM file; of its own faults the lowest is told
+abbrev pub file : Kind
+file d value = map File (option_to_list (slurm_fault (Some value)))
 
 -- `do` is judged before its request is
 abbrev pub any_value : Kind
@@ -122,12 +138,13 @@ action_of text =
     else (if bytes_eq text (codes "create") then Some Create
     else (if bytes_eq text (codes "amend") then Some Amend
     else (if bytes_eq text (codes "withdraw") then Some Withdraw
+    else (if bytes_eq text (codes "slurm") then Some Slurm
     else (if bytes_eq text (codes "show") then Some Show
     else (if bytes_eq text (codes "content") then Some Content
     else (if bytes_eq text (codes "list") then Some ListAction
     else (if bytes_eq text (codes "payloads") then Some Payloads
     else (if bytes_eq text (codes "validity") then Some Validity
-    else None)))))))))))))
+    else None))))))))))))))
 
 abbrev pub action_in : Data → Option Action
 action_in d = option_and_then action_of (option_and_then as_str (get (codes "do") d))
@@ -147,6 +164,7 @@ named_by Revoke = HolderName ∷ NumberGiven ∷ []
 named_by Create = HolderName ∷ []
 named_by Amend = HolderName ∷ NumberGiven ∷ []
 named_by Withdraw = HolderName ∷ NumberGiven ∷ []
+named_by Slurm = []
 named_by Show = HolderName ∷ NumberGiven ∷ []
 named_by Content = HolderName ∷ NumberGiven ∷ []
 named_by ListAction = HolderName ∷ []
@@ -168,6 +186,7 @@ body_members Create =
     ∷ (codes "until", day) ∷ []
 body_members Amend = (codes "max", max_length) ∷ (codes "until", day) ∷ []
 body_members Withdraw = []
+body_members Slurm = (codes "file", file) ∷ []
 body_members Show = []
 body_members Content = []
 body_members ListAction = []
@@ -199,9 +218,7 @@ request_faults line =
 
 -- what is told of these faults
 abbrev pub malformed_of : List Fault → Option Malformed
-malformed_of faults =
-    option_map (λ fault. record { number = malformed_number fault; slurm = None })
-    (lowest malformed_number faults)
+malformed_of faults = option_map as_malformed (lowest malformed_number faults)
 
 -- why a line is no request
 abbrev pub request_fault : List ℕ → Option Malformed

@@ -4,12 +4,14 @@ use Rattle.std.specs.List.{AllZip}
 use Rattle.addr.specs.declared.prefix.Prefix.{Prefix}
 use Rattle.addr.specs.declared.route.Route.{Route}
 use Rattle.policy.specs.declared.command.Command.{Command}
-use Rattle.policy.specs.declared.command.Command.TheVariants.{Register, Delegate, Transfer, Reclaim, Grant, Revoke, Create, Amend, Withdraw}
+use Rattle.policy.specs.declared.command.Command.TheVariants.{Register, Delegate, Transfer, Reclaim, Grant, Revoke, Create, Amend, Withdraw, Slurm}
 use Rattle.policy.specs.declared.command.Query.{Query}
 use Rattle.policy.specs.declared.command.Query.TheVariants.{Show, Content, List as ListQuery, Payloads, Validity}
 use Rattle.serde_json.specs.Data.{Data, Items}
 use Rattle.serde_json.specs.Find.{get, as_array}
 use Rattle.json_values.specs.Tree.{tree_of, list_of}
+use Rattle.slurm.specs.Exceptions.{Exceptions}
+use Rattle.slurm.specs.SlurmEntries.{SaysExceptions}
 use Rattle.desk.specs.declared.asked.Asked.{Asked}
 use Rattle.desk.specs.declared.asked.Request.{Request}
 use Rattle.desk.specs.declared.asked.Request.TheVariants.{Command as CommandRequest, Query as QueryRequest}
@@ -17,7 +19,7 @@ use Rattle.web.specs.RequestFaults.{action_in, request_faults, role_at}
 use Rattle.json_values.specs.Values.{as_name, as_prefix, as_day, as_asn}
 use Rattle.web.specs.RequestValues.{as_origin, as_max, as_number, as_role, as_scope}
 use Rattle.http_messages.specs.declared.action.Action.{Action}
-use Rattle.http_messages.specs.declared.action.Action.TheVariants.{Register as AskRegister, Delegate as AskDelegate, Transfer as AskTransfer, Reclaim as AskReclaim, Grant as AskGrant, Revoke as AskRevoke, Create as AskCreate, Amend as AskAmend, Withdraw as AskWithdraw, Show as AskShow, Content as AskContent, List as AskList, Payloads as AskPayloads, Validity as AskValidity}
+use Rattle.http_messages.specs.declared.action.Action.TheVariants.{Register as AskRegister, Delegate as AskDelegate, Transfer as AskTransfer, Reclaim as AskReclaim, Grant as AskGrant, Revoke as AskRevoke, Create as AskCreate, Amend as AskAmend, Withdraw as AskWithdraw, Slurm as AskSlurm, Show as AskShow, Content as AskContent, List as AskList, Payloads as AskPayloads, Validity as AskValidity}
 
 -- the member of this name is there, and reads as this value
 abbrev pub HasMember : {A : Type 0} → (Data → Option A) → List ℕ → Data → A → Type 0
@@ -42,6 +44,10 @@ abbrev pub HasRoutes : Data → List Route → Type 0
 HasRoutes d routes = (items : Items)
     × (option_and_then as_array (get (codes "routes") d) ≡ Some items)
     × AllZip SaysRoute (list_of items) routes
+
+-- the member `file` is a SLURM file with these exceptions
+abbrev pub HasFile : Data → Exceptions → Type 0
+HasFile d exceptions = SaysExceptions (get (codes "file") d) exceptions
 
 -- what a request says outside of the members that lines and bodies have in common: what it asks, and the holder
 -- and the number that it names
@@ -83,6 +89,7 @@ SaysCommand h d (Amend holder number max until) =
     × HasMax d max × HasDay (codes "until") d until
 SaysCommand h d (Withdraw holder number) =
     Does AskWithdraw h × NamesHolder h holder × NamesNumber h number
+SaysCommand h d (Slurm file) = Does AskSlurm h × HasFile d file
 
 abbrev pub SaysQuery : Heading → Data → Query → Type 0
 SaysQuery h d (Show holder number) = Does AskShow h × NamesHolder h holder × NamesNumber h number

@@ -9,7 +9,7 @@ use Rattle.policy.specs.declared.charter.Charter.{Charter}
 use Rattle.desk.specs.Answer.{AnswersRequest}
 use Rattle.desk.specs.Desk.{charter_of, IsOnCleanDisk, StandsFor}
 use Rattle.web.specs.ReplyText.{line_text, malformed_text, unavailable_text}
-use Rattle.web.specs.RequestFaults.{malformed_number, request_fault}
+use Rattle.web.specs.RequestFaults.{as_malformed, request_fault}
 use Rattle.web.specs.RequestText.{ReadsLine}
 use Rattle.web.specs.Script.{AnswersEach, BreaksOff}
 use Rattle.desk.specs.declared.asked.Asked.{Asked}
@@ -22,7 +22,7 @@ use Rattle.web.specs.declared.session.LineAnswer.TheVariants.{Refused, Replied}
 
 -- the fault of a line that is over the limit
 abbrev pub too_long : Malformed
-too_long = record { number = malformed_number TooLong; slurm = None }
+too_long = as_malformed TooLong
 
 -- the line is no request, and the text says why
 abbrev pub IsRefused : List ℕ → List ℕ → Type 0

@@ -1,4 +1,4 @@
-//! Bytes in and bytes out: lines, scripts, requests and replies.
+//! Bytes in and bytes out: lines, scripts, requests, replies, and connections of HTTP.
 #![tactic(auto)]
 
 mod http;

@@ -9,6 +9,7 @@ ghost use Rattle.web.specs.steps.RequestReading.{asked_as, asked_by, asked_in, a
 
 mod action;
 mod commands;
+mod exceptions;
 pub(crate) mod fault;
 pub(crate) mod members;
 pub(crate) mod message;
@@ -129,6 +130,7 @@ fn request_in(
         Action::Create => Ok(commands::create_in(subject, value)),
         Action::Amend => Ok(commands::amend_in(subject, value)),
         Action::Withdraw => Ok(commands::withdraw_in(subject)),
+        Action::Slurm => exceptions::slurm_in(alloc, value),
         Action::Show => Ok(commands::show_in(subject)),
         Action::Content => Ok(commands::content_in(subject)),
         Action::List => Ok(commands::list_in(subject)),

@@ -62,11 +62,7 @@ fn write_refusal<D: Drain>(drain: &mut D, refusal: Refusal) -> Result<(), Failed
     write_json(drain, status, fault_text(status).as_str())
 }
 
-fn write_reply_response<D: Drain>(
-    alloc: Global,
-    drain: &mut D,
-    reply: &Reply,
-) -> Result<(), Failed>
+fn write_reply_response<D: Drain>(alloc: Global, drain: &mut D, reply: &Reply) -> Result<(), Failed>
     ensures ok { OnOk result ((text : List ℕ) × IsReplyResponse reply.now text
         × (D.written drain.new ≡ D.written drain.old ++ text)) }
     ensures err { OnErr result ((text : List ℕ) × IsReplyResponse reply.now text

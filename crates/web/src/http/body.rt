@@ -3,8 +3,8 @@ ghost use Rattle.std.specs.Prelude.{◌≡◌, ◌++◌, IfOk, OnOk};
 ghost use Rattle.web.specs.HttpResponses.{csv_row, csv_text};
 ghost use Rattle.web.specs.ReplyText.{line_text};
 
-use crate::reply::write_reply;
 use crate::reply::items::prefix_text;
+use crate::reply::write_reply;
 use addr::{Vrp, digits};
 use arrayvec::ArrayString;
 use desk::Reply;

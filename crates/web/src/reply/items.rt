@@ -9,7 +9,7 @@ use arrayvec::ArrayString;
 use payload::Validity;
 use policy::Auth;
 
-pub(crate) trait ItemText {
+pub(super) trait ItemText {
     ghost text: { Self → List ℕ };
 
     fn item_text(&self) -> ArrayString<255>

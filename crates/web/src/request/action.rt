@@ -39,6 +39,8 @@ fn action_of(text: &str) -> Option<Action>
         Some(Action::Amend)
     } else if text == "withdraw" {
         Some(Action::Withdraw)
+    } else if text == "slurm" {
+        Some(Action::Slurm)
     } else if text == "show" {
         Some(Action::Show)
     } else if text == "content" {
@@ -87,6 +89,7 @@ fn line_members(action: Action) -> &'static [&'static str]
             "day", "caller", "do", "holder", "asn", "prefix", "max", "from", "until",
         ],
         Action::Amend => &["day", "caller", "do", "holder", "number", "max", "until"],
+        Action::Slurm => &["day", "caller", "do", "file"],
         Action::Payloads => &["day", "caller", "do"],
         Action::Validity => &["day", "caller", "do", "routes"],
     }
@@ -102,7 +105,7 @@ fn members_before_body(action: Action) -> usize
     ensures { result ≡ 3 + length (named_by action) }
 {
     match action {
-        Action::Transfer | Action::Payloads | Action::Validity => 3,
+        Action::Transfer | Action::Slurm | Action::Payloads | Action::Validity => 3,
         Action::Revoke | Action::Amend | Action::Withdraw | Action::Show | Action::Content => 5,
         Action::Register
         | Action::Delegate

@@ -1,4 +1,4 @@
-// One reader for each request, of the members that are its own.
+// One reader for each request, of what it names and of its further members: null where it has none.
 ghost use Rattle.std.specs.Prelude.{◌≡◌};
 ghost use Rattle.serde_json.specs.Data.{null};
 ghost use Rattle.serde_json.specs.View.{view};
@@ -6,9 +6,7 @@ ghost use Rattle.json_values.specs.Parts.{mapped};
 ghost use Rattle.web.specs.steps.RequestReading.{holder_and_number, holder_and_prefix, request_in, request_terms};
 
 use super::fault::Fault;
-use super::members::{
-    asn_in, caller_in, day_in, holder_in, max_in, prefix_in, role_in, scope_in,
-};
+use super::members::{asn_in, caller_in, day_in, holder_in, max_in, prefix_in, role_in, scope_in};
 use addr::{Name, Prefix};
 use desk::Request;
 use http_messages::Action;

@@ -1,8 +1,9 @@
 // What may be wrong with a request.
-ghost use Rattle.std.specs.Prelude.{◌≡◌, None};
-ghost use Rattle.web.specs.RequestFaults.{malformed_number};
+ghost use Rattle.std.specs.Prelude.{◌≡◌};
+ghost use Rattle.web.specs.RequestFaults.{as_malformed, malformed_number, slurm_number};
 
 use crate::malformed::Malformed;
+use slurm::SlurmFault;
 
 /// Of several faults the one with the lowest number is told.
 #[derive(Clone, Copy, Debug, PartialEq, Eq)]
@@ -25,6 +26,8 @@ pub(crate) enum Fault {
     Role,
     /// `number` is not 1 to 999999.
     Number,
+    /// The SLURM file, with its own fault.
+    File(SlurmFault),
     /// A list has no items, or too many.
     Count,
     TooLong,
@@ -45,17 +48,27 @@ impl Fault {
             Fault::Day => 8,
             Fault::Role => 9,
             Fault::Number => 10,
+            Fault::File(_) => 11,
             Fault::Count => 12,
             Fault::TooLong => 13,
         }
     }
 
+    fn slurm_number(self) -> Option<u8>
+        ensures { result ≡ slurm_number self }
+    {
+        match self {
+            Fault::File(fault) => Some(fault.number()),
+            _ => None,
+        }
+    }
+
     pub(crate) fn malformed(self) -> Malformed
-        ensures { result ≡ record { number = malformed_number self; slurm = None } }
+        ensures { result ≡ as_malformed self }
     {
         Malformed {
             number: self.number(),
-            slurm: None,
+            slurm: self.slurm_number(),
         }
     }
 }
