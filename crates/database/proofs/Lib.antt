@@ -4,7 +4,7 @@ pub mod QueryLemmas
 pub mod SameCharter
 mod Creates
 mod MakingSteps
-mod CharterSteps
+pub mod CharterSteps
 mod Rowids
 mod AllTexts
 mod Obeyed

@@ -95,7 +95,7 @@ one_counters c d is =
 -- ---- lists of them
 
 module _ {X : Type 0} (cells : X → Row) (once : (x y : X) → cells x ≡ cells y → x ≡ y) where
-  same_values : (xs ys : List X) → map cells xs ≡ map cells ys → xs ≡ ys
+  pub same_values : (xs ys : List X) → map cells xs ≡ map cells ys → xs ≡ ys
   same_values [] [] is = refl
   same_values [] (y ∷ ys) is = absurd cc
   same_values (x ∷ xs) [] is = absurd cc
