@@ -181,7 +181,7 @@ passing-same f g a (suc m) same = one-more (f a) (g a) (same a (omega arith)) _ 
     one-more true false e xs ys rest = cc
     one-more false true e xs ys rest = cc
 
-pub passing-none : (f : ℕ → Bool) (a m : ℕ) → ((k : ℕ) → a ≤ k → f k ≡ false) → passing f a m ≡ 0
+passing-none : (f : ℕ → Bool) (a m : ℕ) → ((k : ℕ) → a ≤ k → f k ≡ false) → passing f a m ≡ 0
 passing-none f a zero none = refl
 passing-none f a (suc m) none = rw (none a (omega arith)) (passing-none f (a + 1) m (λ k later. none k (omega arith)))
 

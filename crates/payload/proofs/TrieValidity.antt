@@ -37,7 +37,7 @@ Before v w = vrp_cmp v w ≡ Less
 first-family : (v w : Vrp) → v.prefix.family ≡ V4 → w.prefix.family ≡ V6 → vrp_cmp v w ≡ Less
 first-family v w four six = rw (four, six)
 
-pub trie-rises : (four six : Tree) → IsPruned 32 0 four → IsPruned 128 0 six → AreRising (trie_vrps four six)
+trie-rises : (four six : Tree) → IsPruned 32 0 four → IsPruned 128 0 six → AreRising (trie_vrps four six)
 trie-rises four six prune4 prune6 =
     pairs-append Before (vrps_below V4 0 0 four) (vrps_below V6 0 0 six) (vrps-rise (whole V4) four prune4) (vrps-rise (whole V6) six prune6)
     (All-weaker _ (λ v. All (Before v) (vrps_below V6 0 0 six)) (λ v inside. All-weaker _ (Before v) (λ w inside'. first-family v w (sym (contains-ends (whole V4) v.prefix inside).family) (sym (contains-ends (whole V6) w.prefix inside').family)) _ (All-within (whole V6) six prune6)) _ (All-within (whole V4) four prune4))
