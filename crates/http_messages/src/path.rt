@@ -17,6 +17,7 @@ pub enum Path {
     Auths,
     Auth,
     Content,
+    Slurm,
     Payloads,
     Validity,
 }
@@ -36,6 +37,7 @@ impl Path {
             Path::Auths => "/holders/{holder}/auths",
             Path::Auth => "/holders/{holder}/auths/{number}",
             Path::Content => "/holders/{holder}/auths/{number}/content",
+            Path::Slurm => "/slurm",
             Path::Payloads => "/payloads",
             Path::Validity => "/validity",
         }
@@ -59,6 +61,7 @@ impl Path {
                 (Method::Delete, Action::Withdraw),
             ],
             Path::Content => &[(Method::Get, Action::Content)],
+            Path::Slurm => &[(Method::Put, Action::Slurm)],
             Path::Payloads => &[(Method::Get, Action::Payloads)],
             Path::Validity => &[(Method::Post, Action::Validity)],
         }

@@ -51,6 +51,7 @@ fn routes(alloc: Global) -> Result<Router<Path>, AllocError>
     add(&mut router, Path::Auths)?;
     add(&mut router, Path::Auth)?;
     add(&mut router, Path::Content)?;
+    add(&mut router, Path::Slurm)?;
     add(&mut router, Path::Payloads)?;
     add(&mut router, Path::Validity)?;
     Ok(router)

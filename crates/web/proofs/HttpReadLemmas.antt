@@ -1,5 +1,7 @@
 -- What the code reads of an HTTP message is the request that the message is, and its fault the lowest.
-use Rattle.std.proofs.Common.{◌≡◌, ℕ, List, [], ◌∷◌, ◌++◌, Option, Some, None, is_some, Ok, Err, refl, sym, ap, ◌∙◌, append_assoc}
+use Rattle.std.proofs.Common.{◌≡◌, ℕ, List, [], ◌∷◌, ◌++◌, Option, Some, None, is_some, Ok, Err, refl, sym, ap, ◌∙◌, append_assoc, Bool, true, false, if◌then◌else◌}
+use Rattle.std.proofs.lemmas.Bool.{false≢true}
+use Rattle.std.proofs.lemmas.Option.{same_Some}
 use Rattle.std.specs.List.{flat_map}
 use Rattle.serde_json.specs.Data.{Data, null}
 use Rattle.json_values.proofs.FaultLemmas.{told-only}
@@ -8,15 +10,18 @@ use Rattle.json_values.specs.Parts.{lower, mapped}
 use Rattle.json_values.specs.Tree.{tree_of}
 use Rattle.desk.specs.declared.asked.Asked.{Asked}
 use Rattle.http_messages.specs.Requests.{Asked as Head}
-use Rattle.web.specs.HttpFaults.{body_faults, caller_name, http_fault, http_faults, path_faults, tree_faults}
-use Rattle.web.specs.HttpRequests.{body_tree, http_heading, SaysAsked}
-use Rattle.web.specs.RequestFaults.{as_malformed, body_members, malformed_number, member_faults, named_by, names_of}
+use Rattle.http_messages.specs.declared.action.Action.{Action}
+use Rattle.http_messages.specs.declared.action.Action.TheVariants.{Register, Delegate, Reclaim, Transfer, Grant, Revoke, List as ListAction, Create, Show, Amend, Withdraw, Content, Slurm, Payloads, Validity}
+use Rattle.web.specs.HttpFaults.{body_faults, body_tree, brings_file, caller_name, http_fault, http_faults, object_body_faults, path_faults, tree_faults}
+use Rattle.web.specs.HttpRequests.{http_heading, SaysAsked}
+use Rattle.web.specs.RequestFaults.{as_malformed, body_members, file_faults, malformed_number, member_faults, named_by, names_of}
 use Rattle.web.specs.declared.request.fault.Fault.{Fault}
 use Rattle.web.specs.declared.request.fault.Fault.TheVariants.{Json, Members, Holder, Caller, Prefix, Asn, Max, Day, Role, Number, File, Count, TooLong}
-use Rattle.web.specs.steps.HttpReading.{asked_of, path_subject, request_of, tree_request}
-use Rattle.web.specs.steps.RequestReading.{AskedTerms, RequestTerms, asked_terms}
-use Rattle.web.proofs.RequestFaultLemmas.{ReadsUnlessFaulty, lowest-none, reads-both, reads-ok_or, reads-says, reads-unless}
-use Rattle.web.proofs.RequestReadLemmas.{SaysTerms, reads-request, terms-said}
+use Rattle.web.specs.steps.HttpReading.{asked_of, object_body, path_subject, request_of, tree_request}
+use Rattle.web.specs.steps.RequestReading.{AskedTerms, RequestTerms, asked_terms, file_of, slurm_request}
+use Rattle.web.proofs.RequestFaultLemmas.{ReadsUnlessFaulty, lowest-none, reads-both, reads-mapped, reads-ok_or, reads-says, reads-unless}
+use Rattle.web.proofs.RequestReadLemmas.{ReadsFile, SaysTerms, reads-request, terms-said}
+use Rattle.web.proofs.SlurmReadLemmas.{reads-file_of}
 
 -- no fault is lower than this one
 lower-json : (fault : Fault) → lower malformed_number fault Json ≡ Json
@@ -40,6 +45,24 @@ lowest-json [] = refl
 lowest-json (fault ∷ faults) =
     ap Some (sym (lower-json fault)) ∙ ap (lower_of malformed_number (Some fault)) (lowest-json faults)
 
+-- only one action brings a file
+only-slurm : (action : Action) → brings_file action ≡ true → action ≡ Slurm
+only-slurm Slurm is = refl
+only-slurm Register is = cc
+only-slurm Delegate is = cc
+only-slurm Reclaim is = cc
+only-slurm Transfer is = cc
+only-slurm Grant is = cc
+only-slurm Revoke is = cc
+only-slurm ListAction is = cc
+only-slurm Create is = cc
+only-slurm Show is = cc
+only-slurm Amend is = cc
+only-slurm Withdraw is = cc
+only-slurm Content is = cc
+only-slurm Payloads is = cc
+only-slurm Validity is = cc
+
 reads-day : (day : ℕ) → ReadsUnlessFaulty (Ok day) [] (λ asked_day. asked_day ≡ day)
 reads-day day = record { told = record { is = refl }; value = refl }
 
@@ -50,27 +73,50 @@ module _ (head : Head) where
 
   -- the request that the body's value says
   abbrev SaysTree : Option Data → RequestTerms → Type 0
-  SaysTree found terms = (d : Data) × (found ≡ Some d) × SaysTerms (http_heading head) d terms
+  SaysTree found terms = (d : Data) × (found ≡ Some d) × SaysTerms (http_heading head d) d terms
 
-  reads-tree : (found : Option Data)
-      → ReadsUnlessFaulty (tree_request head.action (path_subject head) found)
-      (in_path ++ tree_faults head.action found) (SaysTree found)
-  reads-tree None = record { told = record { is = lowest-json in_path }; value = tt }
-  reads-tree (Some d) =
-      reads-says (λ terms says. (d, refl, says))
-      (rw (← append_assoc in_path (member_faults (body_members head.action) d)
-      (name_faults Members (names_of (body_members head.action)) d))
-      (reads-unless (reads-request (http_heading head) (path_subject head) (path_faults head)
-      (reads-ok_or _ Holder) (reads-ok_or _ Number) head.action d refl)
-      (told-only malformed_number Members (names_of (body_members head.action)) d)))
+  -- a body that is to be an object, of a request that brings no file
+  module _ (brings : brings_file head.action ≡ false) where
+    no-file : (d : Data) → ReadsFile (http_heading head d) (path_subject head) (path_faults head)
+        (reads-ok_or _ Holder) (reads-ok_or _ Number) d
+    no-file d does = absurd (false≢true (sym brings ∙ ap brings_file (same_Some head.action Slurm does)))
+
+    reads-tree : (found : Option Data)
+        → ReadsUnlessFaulty (tree_request head.action (path_subject head) found)
+        (in_path ++ tree_faults head.action found) (SaysTree found)
+    reads-tree None = record { told = record { is = lowest-json in_path }; value = tt }
+    reads-tree (Some d) =
+        reads-says (λ terms says. (d, refl, says))
+        (rw (← append_assoc in_path (member_faults (body_members head.action) d)
+        (name_faults Members (names_of (body_members head.action)) d))
+        (reads-unless (reads-request (http_heading head d) (path_subject head) (path_faults head)
+        (reads-ok_or _ Holder) (reads-ok_or _ Number) head.action d refl (no-file d))
+        (told-only malformed_number Members (names_of (body_members head.action)) d)))
+
+    reads-object : (body : Option (List ℕ))
+        → ReadsUnlessFaulty (object_body head body) (in_path ++ object_body_faults head.action body) (SaysTree (body_tree body))
+    reads-object None =
+        reads-says (λ terms says. (null, refl, says))
+        (reads-request (http_heading head null) (path_subject head) (path_faults head)
+        (reads-ok_or _ Holder) (reads-ok_or _ Number) head.action null refl (no-file null))
+    reads-object (Some bytes) = reads-tree (tree_of bytes)
+
+  -- a body that is a file
+  reads-slurm : head.action ≡ Slurm → (found : Option Data)
+      → ReadsUnlessFaulty (slurm_request (file_of found)) (file_faults found) (SaysTree found)
+  reads-slurm does None = record { told = record { is = refl }; value = tt }
+  reads-slurm does (Some d) = reads-mapped _ (λ p says. (d, refl, ap Some does, says)) (reads-file_of (Some d))
 
   reads-body : (body : Option (List ℕ))
       → ReadsUnlessFaulty (request_of head body) (in_path ++ body_faults head.action body) (SaysTree (body_tree body))
-  reads-body None =
-      reads-says (λ terms says. (null, refl, says))
-      (reads-request (http_heading head) (path_subject head) (path_faults head)
-      (reads-ok_or _ Holder) (reads-ok_or _ Number) head.action null refl)
-  reads-body (Some bytes) = reads-tree (tree_of bytes)
+  reads-body body = by_kind (brings_file head.action) refl
+    where
+      by_kind : (brings : Bool) → brings_file head.action ≡ brings
+          → ReadsUnlessFaulty (if brings then slurm_request (file_of (body_tree body)) else object_body head body)
+          (in_path ++ (if brings then file_faults (body_tree body) else object_body_faults head.action body))
+          (SaysTree (body_tree body))
+      by_kind true is = rw (only-slurm head.action is) (reads-slurm (only-slurm head.action is) (body_tree body))
+      by_kind false is = reads-object is body
 
   -- what is asked on the day, but for the faults
   abbrev AsksTerms : ℕ → Option (List ℕ) → AskedTerms → Type 0
@@ -95,7 +141,7 @@ module _ (head : Head) where
         is_tree = says.2.1;
         on_day = says.0;
         caller = says.1;
-        request = terms-said (http_heading head) says.2.0 asked.request says.2.2;
+        request = terms-said (http_heading head says.2.0) says.2.0 asked.request says.2.2;
         faultless = lowest-none (http_faults head body) (sym fault);
       }
 

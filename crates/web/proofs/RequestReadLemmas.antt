@@ -5,6 +5,7 @@ use Rattle.addr.specs.declared.route.Route.{Route}
 use Rattle.policy.specs.declared.command.Query.TheVariants.{Show, Content, List as ListQuery, Payloads, Validity}
 use Rattle.serde_json.specs.Data.{Data, Items}
 use Rattle.serde_json.specs.Find.{get, as_array, as_str}
+use Rattle.slurm.specs.SlurmEntries.{SaysExceptions}
 use Rattle.json_values.proofs.FaultLemmas.{told-if, told-only}
 use Rattle.json_values.specs.Faults.{required_faults}
 use Rattle.json_values.specs.Parts.{both, mapped}
@@ -12,7 +13,7 @@ use Rattle.json_values.specs.Tree.{tree_of, list_of}
 use Rattle.desk.specs.declared.asked.Asked.{Asked}
 use Rattle.desk.specs.declared.asked.Request.{Request}
 use Rattle.desk.specs.declared.asked.Request.TheVariants.{Command as CommandRequest, Query as QueryRequest}
-use Rattle.web.specs.RequestFaults.{as_malformed, malformed_number, role_at, route_members, names_of, is_count, object_faults, list_faults, routes, action_in, action_of, body_members, member_faults, named_by, named_member, Named, HolderName, NumberGiven, Kind, any_value, members_of, action_faults, tree_faults, request_faults, request_fault}
+use Rattle.web.specs.RequestFaults.{as_malformed, malformed_number, role_at, route_members, names_of, is_count, object_faults, list_faults, routes, file, action_in, action_of, body_members, member_faults, named_by, named_member, Named, HolderName, NumberGiven, Kind, any_value, members_of, action_faults, tree_faults, request_faults, request_fault}
 use Rattle.web.specs.RequestText.{HasName, HasDay, SaysRoute, HasRoutes, Heading, Does, NamesHolder, NamesNumber, SaysRequest, line_heading, ReadsLine}
 use Rattle.json_values.specs.Values.{as_name, as_prefix, as_day, as_asn}
 use Rattle.web.specs.RequestValues.{as_origin, as_max, as_number, as_role, as_scope}
@@ -23,7 +24,7 @@ use Rattle.web.specs.declared.request.routes.TheConstants.{MOST_ROUTES}
 use Rattle.web.specs.declared.request.fault.Fault.{Fault}
 use Rattle.web.specs.declared.request.commands.Subject.{Subject}
 use Rattle.web.specs.declared.request.fault.Fault.TheVariants.{Members, Holder, Caller, Prefix as PrefixFault, Asn, Max, Day, Role, Number, Count, TooLong}
-use Rattle.web.specs.steps.RequestReading.{RequestTerms, request, validity, AskedTerms, request_terms, asked_terms, route_in, routes_of, request_in, line_subject, asked_as, asked_by, asked_from, asked_in}
+use Rattle.web.specs.steps.RequestReading.{RequestTerms, request, validity, AskedTerms, request_terms, asked_terms, route_in, routes_of, file_in, request_in, line_subject, asked_as, asked_by, asked_from, asked_in}
 use Rattle.web.proofs.RequestFaultLemmas.{ReadsUnlessFaulty, reads-both, reads-mapped, reads-unless, reads-last, reads-says, ReadsMember, reads-member, reads-each, lowest-none}
 use Rattle.web.proofs.SlurmReadLemmas.{reads-file}
 
@@ -97,44 +98,49 @@ module _ (h : Heading) (subject : Subject) (named : Named → List Fault)
       (flat_map named (HolderName ∷ NumberGiven ∷ [])) (λ p. NamesHolder h p.0 × NamesNumber h p.1)
   holder_and_number = reads-both holder (reads-last number)
 
-  pub reads-request : (action : Action) (d : Data) → Does action h →
+  -- the file of a member is the one that the heading has, where a file is brought at all
+  abbrev pub ReadsFile : Data → Type 0
+  ReadsFile d = Does AskSlurm h
+      → ReadsUnlessFaulty (file_in d) (required_faults Members (file d) (get (codes "file") d)) (SaysExceptions h.file)
+
+  pub reads-request : (action : Action) (d : Data) → Does action h → ReadsFile d →
       ReadsUnlessFaulty (request_in action subject d) (said_faults named action d) (SaysTerms h d)
-  reads-request AskRegister d does = reads-mapped _ (λ p says. (does, says)) (reads-last (reads-last holder))
-  reads-request AskDelegate d does =
+  reads-request AskRegister d does brought = reads-mapped _ (λ p says. (does, says)) (reads-last (reads-last holder))
+  reads-request AskDelegate d does brought =
       reads-mapped _ (λ p says. (does, says.0, says.1))
       (reads-both (reads-last holder) (reads-last (prefix d)))
-  reads-request AskTransfer d does =
+  reads-request AskTransfer d does brought =
       reads-mapped _ (λ p says. (does, says.0, says.1.0, says.1.1))
       (reads-both (prefix d) (reads-both (reads-member as_name Holder (codes "giver") d)
       (reads-last (reads-member as_name Holder (codes "taker") d))))
-  reads-request AskReclaim d does =
+  reads-request AskReclaim d does brought =
       reads-mapped _ (λ p says. (does, says.0, says.1))
       (reads-both (reads-last holder) (reads-last (prefix d)))
-  reads-request AskGrant d does =
+  reads-request AskGrant d does brought =
       reads-mapped _ (λ p says. (does, says.0, says.1.0, says.1.1.0, says.1.1.1.0, says.1.1.1.1))
       (reads-both (reads-last holder) (reads-both (reads-member as_name Caller (codes "name") d)
       (reads-both (reads-member as_role Role (codes "role") d)
       (reads-both (reads-member (as_scope (role_at d)) Role (codes "scope") d) (reads-last (until d))))))
-  reads-request AskRevoke d does =
+  reads-request AskRevoke d does brought =
       reads-mapped _ (λ p says. (does, says.0, says.1)) (reads-last holder_and_number)
-  reads-request AskCreate d does =
+  reads-request AskCreate d does brought =
       reads-mapped _
       (λ p says. (does, says.0, says.1.0, says.1.1.0, says.1.1.1.0, says.1.1.1.1.0, says.1.1.1.1.1))
       (reads-both (reads-last holder) (reads-both (reads-member as_asn Asn (codes "asn") d) (reads-both (prefix d)
       (reads-both (max_length d) (reads-both (reads-member as_day Day (codes "from") d) (reads-last (until d)))))))
-  reads-request AskAmend d does =
+  reads-request AskAmend d does brought =
       reads-mapped _ (λ p says. (does, says.0.0, says.0.1, says.1.0, says.1.1))
       (reads-both holder_and_number (reads-both (max_length d) (reads-last (until d))))
-  reads-request AskWithdraw d does =
+  reads-request AskWithdraw d does brought =
       reads-mapped _ (λ p says. (does, says.0, says.1)) (reads-last holder_and_number)
-  reads-request AskSlurm d does = reads-mapped _ (λ p says. (does, says)) (reads-last (reads-file d))
-  reads-request AskShow d does =
+  reads-request AskSlurm d does brought = reads-mapped _ (λ p says. (does, says)) (reads-last (brought does))
+  reads-request AskShow d does brought =
       reads-mapped _ (λ p says. (does, says.0, says.1)) (reads-last holder_and_number)
-  reads-request AskContent d does =
+  reads-request AskContent d does brought =
       reads-mapped _ (λ p says. (does, says.0, says.1)) (reads-last holder_and_number)
-  reads-request AskList d does = reads-mapped _ (λ p says. (does, says)) (reads-last (reads-last holder))
-  reads-request AskPayloads d does = record { told = record { is = refl }; value = does }
-  reads-request AskValidity d does =
+  reads-request AskList d does brought = reads-mapped _ (λ p says. (does, says)) (reads-last (reads-last holder))
+  reads-request AskPayloads d does brought = record { told = record { is = refl }; value = does }
+  reads-request AskValidity d does brought =
       reads-mapped validity (λ p says. (does, says))
       (reads-last (member-read d (get (codes "routes") d)))
 
@@ -170,7 +176,7 @@ reads-asked action d does =
     (reads-unless (reads-says (λ p says. (d, refl, says.0, says.1.0, says.1.1))
     (reads-both (reads-member as_day Day (codes "day") d)
     (reads-both (reads-member as_name Caller (codes "caller") d)
-    (reads-request (line_heading d) (line_subject d) (named_faults d) (holder d) (number d) action d does))))
+    (reads-request (line_heading d) (line_subject d) (named_faults d) (holder d) (number d) action d does (λ _. reads-file d)))))
     (told-only malformed_number Members (names_of (members_of action)) d))
 
 reads-by : (action : Option Action) (d : Data) → action_in d ≡ action →

@@ -25,11 +25,10 @@ use Rattle.slurm.specs.declared.filter.Filter.TheVariants.{Under, By, Both}
 use Rattle.slurm.specs.steps.SlurmFile.{slurm_in}
 use Rattle.json_values.specs.Faults.{lowest, required_faults}
 use Rattle.json_values.specs.Tree.{required}
-use Rattle.web.specs.RequestFaults.{file, malformed_number}
-use Rattle.web.specs.RequestText.{HasFile}
+use Rattle.web.specs.RequestFaults.{file, file_faults, malformed_number}
 use Rattle.web.specs.declared.request.fault.Fault.{Fault}
 use Rattle.web.specs.declared.request.fault.Fault.TheVariants.{File, Members}
-use Rattle.web.specs.steps.RequestReading.{as_file, file_in}
+use Rattle.web.specs.steps.RequestReading.{as_file, file_in, file_of}
 use Rattle.web.proofs.RequestFaultLemmas.{ReadsUnlessFaulty}
 
 same_prefix_member : (member : Option Data) (p q : Prefix) → IsPrefixMember member p → IsPrefixMember member q → p ≡ q
@@ -109,15 +108,20 @@ said-file value (Ok exceptions) is = answer-said value (Ok exceptions) is
 said-file value (Err n) is = tt
 
 -- what is read of a file is what it says, and its fault the lowest
-reads-as_file : (value : Data) → ReadsUnlessFaulty (as_file value) (map File (option_to_list (slurm_fault (Some value)))) (SaysExceptions (Some value))
+reads-as_file : (value : Data) → ReadsUnlessFaulty (as_file value) (file_faults (Some value)) (SaysExceptions (Some value))
 reads-as_file value = record {
   told = record { is = told-file (slurm_in value) ∙ ap (λ (fault : Option SlurmFault). lowest malformed_number (map File (option_to_list fault))) (slurm_fault-told value) };
   value = said-file value (slurm_in value) refl;
 }
 
-pub reads-file : (d : Data) → ReadsUnlessFaulty (file_in d) (required_faults Members (file d) (get (codes "file") d)) (HasFile d)
+pub reads-file : (d : Data) → ReadsUnlessFaulty (file_in d) (required_faults Members (file d) (get (codes "file") d)) (SaysExceptions (get (codes "file") d))
 reads-file d = at (get (codes "file") d)
   where
     at : (member : Option Data) → ReadsUnlessFaulty (required Members as_file member) (required_faults Members (file d) member) (SaysExceptions member)
     at None = record { told = record { is = refl }; value = tt }
     at (Some value) = reads-as_file value
+
+-- the same of a file that may be no JSON
+pub reads-file_of : (found : Option Data) → ReadsUnlessFaulty (file_of found) (file_faults found) (SaysExceptions found)
+reads-file_of None = record { told = record { is = refl }; value = tt }
+reads-file_of (Some value) = reads-as_file value

@@ -1,6 +1,6 @@
 -- Every fault of an HTTP request whose head is taken, wherever it stands: in the path, in the field of the caller or in
 -- the body. The lowest of all is told, with the number that it has in a line.
-use Rattle.std.specs.Prelude.{ℕ, List, [], ◌∷◌, ◌++◌, Option, Some, None, is_some, option_and_then}
+use Rattle.std.specs.Prelude.{ℕ, List, [], ◌∷◌, ◌++◌, Option, Some, None, is_some, option_and_then, Bool, true, false, if◌then◌else◌}
 use Rattle.std.specs.List.{flat_map}
 use Rattle.addr.specs.Digits.{number_in as number_text}
 use Rattle.addr.specs.Name.{name_in}
@@ -11,7 +11,8 @@ use Rattle.json_values.specs.Tree.{tree_of}
 use Rattle.json_values.specs.Values.{number_in}
 use Rattle.http_messages.specs.Requests.{Asked as Head}
 use Rattle.http_messages.specs.declared.action.Action.{Action}
-use Rattle.web.specs.RequestFaults.{body_members, malformed_of, member_faults, named_by, Named, HolderName, NumberGiven, object_faults}
+use Rattle.http_messages.specs.declared.action.Action.TheVariants.{Slurm}
+use Rattle.web.specs.RequestFaults.{body_members, file_faults, malformed_of, member_faults, named_by, Named, HolderName, NumberGiven, object_faults}
 use Rattle.web.specs.declared.malformed.Malformed.{Malformed}
 use Rattle.web.specs.declared.request.fault.Fault.{Fault}
 use Rattle.web.specs.declared.request.fault.Fault.TheVariants.{Json, Holder, Caller, Number}
@@ -29,14 +30,29 @@ abbrev pub path_faults : Head → Named → List Fault
 path_faults head HolderName = fault_unless (is_some (name_in head.holder)) Holder
 path_faults head NumberGiven = fault_unless (is_some (path_number head.number)) Number
 
+-- the request brings a SLURM file
+abbrev pub brings_file : Action → Bool
+brings_file Slurm = true
+brings_file _ = false
+
 abbrev pub tree_faults : Action → Option Data → List Fault
 tree_faults action None = Json ∷ []
 tree_faults action (Some d) = object_faults (body_members action) d
 
--- of a body; where there is none, every member that it ought to have is missing
+-- of a body that is to be an object; where there is none, every member that it ought to have is missing
+abbrev pub object_body_faults : Action → Option (List ℕ) → List Fault
+object_body_faults action None = member_faults (body_members action) null
+object_body_faults action (Some bytes) = tree_faults action (tree_of bytes)
+
+-- the JSON value of a body, null where there is none
+abbrev pub body_tree : Option (List ℕ) → Option Data
+body_tree None = Some null
+body_tree (Some bytes) = tree_of bytes
+
+-- a SLURM file is the whole of its body
 abbrev pub body_faults : Action → Option (List ℕ) → List Fault
-body_faults action None = member_faults (body_members action) null
-body_faults action (Some bytes) = tree_faults action (tree_of bytes)
+body_faults action body =
+    if brings_file action then file_faults (body_tree body) else object_body_faults action body
 
 abbrev pub http_faults : Head → Option (List ℕ) → List Fault
 http_faults head body =

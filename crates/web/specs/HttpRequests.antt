@@ -3,32 +3,27 @@ use Rattle.std.specs.Prelude.{◌≡◌, ◌<◌, ◌⊎◌, ℕ, List, [], ◌+
 use Rattle.addr.specs.Name.{name_in}
 use Rattle.httparse.specs.Grammar.{RequestHead}
 use Rattle.httparse.specs.Spans.{name_and_value}
-use Rattle.serde_json.specs.Data.{Data, null}
-use Rattle.json_values.specs.Tree.{tree_of}
+use Rattle.serde_json.specs.Data.{Data}
 use Rattle.http_messages.specs.HeadEnd.{IsWholeHead, LacksEnd}
 use Rattle.http_messages.specs.Requests.{Asked as Head, IsHeadOf, request_of}
 use Rattle.http_messages.specs.declared.head.TheConstants.{HEAD_LIMIT}
 use Rattle.http_messages.specs.declared.refusal.Refusal.{Refusal}
 use Rattle.http_messages.specs.declared.refusal.Refusal.TheVariants.{BadRequest}
 use Rattle.desk.specs.declared.asked.Asked.{Asked}
-use Rattle.web.specs.HttpFaults.{caller_name, http_fault, http_faults, path_number}
+use Rattle.web.specs.HttpFaults.{body_tree, caller_name, http_fault, http_faults, path_number}
 use Rattle.web.specs.RequestText.{Heading, SaysRequest}
 use Rattle.web.specs.declared.malformed.Malformed.{Malformed}
 
 -- ---- the request of a head and a body
 
--- the action is that of path and method, and the path names holder and number
-abbrev pub http_heading : Head → Heading
-http_heading head = record {
+-- the action is that of path and method, the path names holder and number, and a SLURM file is the body's value
+abbrev pub http_heading : Head → Data → Heading
+http_heading head tree = record {
   action = Some head.action;
   holder = name_in head.holder;
   number = path_number head.number;
+  file = Some tree;
 }
-
--- the JSON value of a body, null where there is none
-abbrev pub body_tree : Option (List ℕ) → Option Data
-body_tree None = Some null
-body_tree (Some bytes) = tree_of bytes
 
 -- head and body are this request on the day, and have no fault
 pub record SaysAsked (day : ℕ) (head : Head) (body : Option (List ℕ)) (asked : Asked) : Type 0 where
@@ -36,7 +31,7 @@ pub record SaysAsked (day : ℕ) (head : Head) (body : Option (List ℕ)) (asked
   pub is_tree : body_tree body ≡ Some tree
   pub on_day : asked.day ≡ day
   pub caller : caller_name head ≡ Some asked.caller
-  pub request : SaysRequest (http_heading head) tree asked.request
+  pub request : SaysRequest (http_heading head tree) tree asked.request
   pub faultless : http_faults head body ≡ []
 
 -- ---- messages

@@ -85,9 +85,12 @@ scope d = reading_faults (as_scope (role_at d)) RoleFault
 abbrev pub number : Kind
 number d = reading_faults as_number Number
 
--- a SLURM file; of its own faults the lowest is told
+-- of what is to be a SLURM file, or is no JSON; of its own faults the lowest is told
+abbrev pub file_faults : Option Data → List Fault
+file_faults found = map File (option_to_list (slurm_fault found))
+
 abbrev pub file : Kind
-file d value = map File (option_to_list (slurm_fault (Some value)))
+file d value = file_faults (Some value)
 
 -- `do` is judged before its request is
 abbrev pub any_value : Kind

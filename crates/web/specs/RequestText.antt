@@ -10,7 +10,6 @@ use Rattle.policy.specs.declared.command.Query.TheVariants.{Show, Content, List 
 use Rattle.serde_json.specs.Data.{Data, Items}
 use Rattle.serde_json.specs.Find.{get, as_array}
 use Rattle.json_values.specs.Tree.{tree_of, list_of}
-use Rattle.slurm.specs.Exceptions.{Exceptions}
 use Rattle.slurm.specs.SlurmEntries.{SaysExceptions}
 use Rattle.desk.specs.declared.asked.Asked.{Asked}
 use Rattle.desk.specs.declared.asked.Request.{Request}
@@ -45,16 +44,13 @@ HasRoutes d routes = (items : Items)
     × (option_and_then as_array (get (codes "routes") d) ≡ Some items)
     × AllZip SaysRoute (list_of items) routes
 
--- the member `file` is a SLURM file with these exceptions
-abbrev pub HasFile : Data → Exceptions → Type 0
-HasFile d exceptions = SaysExceptions (get (codes "file") d) exceptions
-
--- what a request says outside of the members that lines and bodies have in common: what it asks, and the holder
--- and the number that it names
+-- what a request says outside of the members that lines and bodies have in common: what it asks, the holder and
+-- the number that it names, and the SLURM file that it brings
 pub record Heading : Type 0 where
   pub action : Option Action
   pub holder : Option (List ℕ)
   pub number : Option ℕ
+  pub file : Option Data
 
 abbrev pub Does : Action → Heading → Type 0
 Does action h = h.action ≡ Some action
@@ -89,7 +85,7 @@ SaysCommand h d (Amend holder number max until) =
     × HasMax d max × HasDay (codes "until") d until
 SaysCommand h d (Withdraw holder number) =
     Does AskWithdraw h × NamesHolder h holder × NamesNumber h number
-SaysCommand h d (Slurm file) = Does AskSlurm h × HasFile d file
+SaysCommand h d (Slurm file) = Does AskSlurm h × SaysExceptions h.file file
 
 abbrev pub SaysQuery : Heading → Data → Query → Type 0
 SaysQuery h d (Show holder number) = Does AskShow h × NamesHolder h holder × NamesNumber h number
@@ -110,6 +106,7 @@ line_heading d = record {
   action = action_in d;
   holder = option_and_then as_name (get (codes "holder") d);
   number = option_and_then as_number (get (codes "number") d);
+  file = get (codes "file") d;
 }
 
 -- the line is this request, and has no fault

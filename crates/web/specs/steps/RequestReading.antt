@@ -13,6 +13,7 @@ use Rattle.serde_json.specs.Find.{get, as_array}
 use Rattle.json_values.specs.Parts.{both, mapped, unless, each}
 use Rattle.json_values.specs.Tree.{tree_of, required, only, list_of}
 use Rattle.slurm.specs.Exceptions.{Exceptions}
+use Rattle.slurm.specs.declared.fault.SlurmFault.TheVariants.{NotJson}
 use Rattle.slurm.specs.steps.SlurmFile.{slurm_in}
 use Rattle.desk.specs.declared.asked.Asked.{Asked}
 use Rattle.desk.specs.declared.asked.Request.{Request}
@@ -78,6 +79,11 @@ day_in = member_in as_day Day
 abbrev pub as_file : Data → Result Exceptions Fault
 as_file d = result_map_both (λ file. file) File (slurm_in d)
 
+-- where no JSON was found, there is no file
+abbrev pub file_of : Option Data → Result Exceptions Fault
+file_of None = Err (File NotJson)
+file_of (Some d) = as_file d
+
 abbrev pub file_in : Data → Result Exceptions Fault
 file_in d = required Members as_file (get (codes "file") d)
 
@@ -100,6 +106,9 @@ abbrev pub routes_in : Data → Result (List Route) Fault
 routes_in d = routes_of (option_and_then as_array (get (codes "routes") d))
 
 -- ---- requests
+
+abbrev pub slurm_request : Result Exceptions Fault → Result RequestTerms Fault
+slurm_request file = mapped (λ f. request (CommandRequest (Slurm f))) file
 
 abbrev pub holder_and_prefix : Subject → Data → Result (List ℕ × Prefix) Fault
 holder_and_prefix subject d = both malformed_number subject.holder (prefix_in d)
@@ -141,7 +150,7 @@ request_in AskAmend subject d =
     (both malformed_number (max_in d) (day_in (codes "until") d)))
 request_in AskWithdraw subject d =
     mapped (λ p. request (CommandRequest (Withdraw p.0 p.1))) (holder_and_number subject)
-request_in AskSlurm subject d = mapped (λ file. request (CommandRequest (Slurm file))) (file_in d)
+request_in AskSlurm subject d = slurm_request (file_in d)
 request_in AskShow subject d =
     mapped (λ p. request (QueryRequest (Show p.0 p.1))) (holder_and_number subject)
 request_in AskContent subject d =

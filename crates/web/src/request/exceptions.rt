@@ -2,7 +2,7 @@
 ghost use Rattle.std.specs.Prelude.{◌≡◌, IfOk};
 ghost use Rattle.serde_json.specs.View.{view};
 ghost use Rattle.json_values.specs.Parts.{mapped};
-ghost use Rattle.web.specs.steps.RequestReading.{as_file, file_in, request, request_terms};
+ghost use Rattle.web.specs.steps.RequestReading.{as_file, file_in, request_terms, slurm_request};
 
 use super::fault::Fault;
 use desk::Request;
@@ -11,14 +11,27 @@ use serde_json::Value;
 use slurm::{Slurm, SlurmFault};
 use std::alloc::{AllocError, Global};
 
+/// The request with the file that is a member.
 pub(crate) fn slurm_in(
     alloc: Global,
     value: &Value,
 ) -> Result<Result<Request, Fault>, AllocError>
     ensures { IfOk result (λ asked. mapped request_terms asked
-        ≡ mapped (λ file. request (Request.Command (Command.Slurm file))) (file_in (view value.now))) }
+        ≡ slurm_request (file_in (view value.now))) }
 {
     let file = file_in(alloc, value)?;
+    Ok(asked_slurm(file))
+}
+
+/// The request with the file that the value is.
+pub(crate) fn slurm_of(
+    alloc: Global,
+    value: &Value,
+) -> Result<Result<Request, Fault>, AllocError>
+    ensures { IfOk result (λ asked. mapped request_terms asked
+        ≡ slurm_request (as_file (view value.now))) }
+{
+    let file = as_file(alloc, value)?;
     Ok(asked_slurm(file))
 }
 

@@ -4,13 +4,14 @@ ghost use Rattle.std.specs.Option.{option_copied};
 ghost use Rattle.serde_json.specs.View.{view};
 ghost use Rattle.json_values.specs.Parts.{mapped};
 ghost use Rattle.http_messages.specs.Requests.{asked_by};
-ghost use Rattle.web.specs.HttpFaults.{http_fault, path_number};
+ghost use Rattle.web.specs.HttpFaults.{body_tree, brings_file, http_fault, path_number};
 ghost use Rattle.web.specs.HttpRequests.{SaysAsked};
-ghost use Rattle.web.specs.steps.HttpReading.{asked_of, caller_of, object_request, path_subject, request_of};
-ghost use Rattle.web.specs.steps.RequestReading.{asked_terms, request_terms};
+ghost use Rattle.web.specs.steps.HttpReading.{asked_of, caller_of, object_body, object_request, path_subject, request_of};
+ghost use Rattle.web.specs.steps.RequestReading.{asked_terms, file_of, request_terms, slurm_request};
 
 use super::action::only_body_members_of;
 use super::commands::Subject;
+use super::exceptions::slurm_of;
 use super::fault::Fault;
 use super::{LineFault, asked_with, request_in};
 use crate::malformed::Malformed;
@@ -20,6 +21,7 @@ use http_messages::{Action, Request as Head};
 use json_values::{both, tree_of, unless};
 use policy::LAST_NUMBER;
 use serde_json::Value;
+use slurm::SlurmFault;
 use std::alloc::{AllocError, Global};
 
 /// Reads the request that a head and its body are, or tells its lowest fault.
@@ -71,6 +73,44 @@ fn request_of(
 ) -> Result<Result<Request, Fault>, AllocError>
     ensures { IfOk result (λ request. mapped request_terms request
         ≡ request_of (asked_by head.now) (option_copied body.entry)) }
+{
+    if brings_file(head.action) {
+        file_body(alloc, body)
+    } else {
+        object_body(alloc, head, body)
+    }
+}
+
+/// Whether a SLURM file is the whole of the body.
+fn brings_file(action: Action) -> bool
+    ensures { result ≡ brings_file action }
+{
+    matches!(action, Action::Slurm)
+}
+
+fn file_body(
+    alloc: Global,
+    body: Option<&[u8]>,
+) -> Result<Result<Request, Fault>, AllocError>
+    ensures { IfOk result (λ request. mapped request_terms request
+        ≡ slurm_request (file_of (body_tree (option_copied body.entry)))) }
+{
+    let Some(bytes) = body else {
+        return slurm_of(alloc, &Value::Null);
+    };
+    match tree_of(alloc, bytes)? {
+        Some(value) => slurm_of(alloc, &value),
+        None => Ok(Err(Fault::File(SlurmFault::NotJson))),
+    }
+}
+
+fn object_body(
+    alloc: Global,
+    head: &Head<'_>,
+    body: Option<&[u8]>,
+) -> Result<Result<Request, Fault>, AllocError>
+    ensures { IfOk result (λ request. mapped request_terms request
+        ≡ object_body (asked_by head.now) (option_copied body.entry)) }
 {
     let subject = path_subject(head);
     let Some(bytes) = body else {
