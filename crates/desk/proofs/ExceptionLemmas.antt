@@ -1,8 +1,8 @@
 -- What local exceptions leave of VRPs.
-use Rattle.std.proofs.Common.{◌≡◌, Bool, true, false, not, ◌↔◌, ◌⊎◌, inl, inr, List, [], ◌∷◌, ◌++◌, Option, Some, refl, sym, ap, ◌∙◌, subst, Contains, filter, cond}
+use Rattle.std.proofs.Common.{◌≡◌, Bool, true, false, not, ◌↔◌, ◌⊎◌, inl, inr, List, [], ◌∷◌, ◌++◌, Some, refl, sym, ap, ◌∙◌, subst, Contains, filter, cond}
 use Rattle.std.specs.Prelude.{Any}
 use Rattle.std.specs.List.{list_any, slice_get}
-use Rattle.std.proofs.lemmas.Bool.{cases_Bool, true≢false, not-true, not-false}
+use Rattle.std.proofs.lemmas.Bool.{true≢false, not-true}
 use Rattle.std.proofs.lemmas.Option.{none-some, same_Some}
 use Rattle.std.proofs.lemmas.List.Elements.{Contains-append_left, Contains-append_right, Contains-append_cases}
 use Rattle.addr.specs.declared.vrp.Vrp.{Vrp}

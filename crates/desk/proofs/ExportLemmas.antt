@@ -1,5 +1,5 @@
 -- The VRPs of an index, and the states of routes over them.
-use Rattle.std.proofs.Common.{◌≡◌, ℕ, Bool, true, false, ◌↔◌, inl, inr, IsTrue, List, [], ◌∷◌, Option, refl, sym, ap, ◌∙◌, subst, map, Contains, if◌then◌else◌}
+use Rattle.std.proofs.Common.{◌≡◌, ℕ, Bool, true, false, ◌↔◌, inl, inr, IsTrue, List, [], ◌∷◌, refl, sym, ap, ◌∙◌, subst, map, Contains, if◌then◌else◌}
 use Rattle.std.specs.List.{list_any}
 use Rattle.std.specs.Ordering.{is_eq}
 use Rattle.std.proofs.lemmas.Cmp.{tied_itself}
@@ -18,7 +18,6 @@ use Rattle.desk.specs.Answer.{AreStatesOn}
 use Rattle.policy.specs.Verdict.{IsLegal}
 use Rattle.policy.specs.declared.charter.Charter.{Charter}
 use Rattle.policy.specs.RowsOfAll.{AllRows, HasRows, IsGivenOn}
-use Rattle.slurm.specs.Exceptions.{Exceptions}
 use Rattle.desk.proofs.DailyLemmas.{given_on, any_among, among_any}
 use Rattle.desk.proofs.ExceptionLemmas.{after_alike}
 

@@ -11,7 +11,7 @@ use Rattle.policy.specs.declared.command.Query.{Query}
 use Rattle.policy.specs.declared.command.Query.TheVariants.{Show as ShowQuery, Content as ContentQuery, List as ListQuery, Payloads as PayloadsQuery, Validity as ValidityQuery}
 use Rattle.policy.specs.Answer.{holder_of, taker_of, IsOfCommand}
 use Rattle.policy.specs.ExceptionsInForce.{brings_exceptions}
-use Rattle.policy.specs.History.{History, same_name}
+use Rattle.policy.specs.History.{History}
 use Rattle.policy.specs.HolderEntries.{is_this, names, entries_naming, entries_for}
 use Rattle.policy.specs.Rows.{Rows, changed, changed_by_one, changed_by_second, changed_exceptions}
 use Rattle.policy.specs.Verdict.{IsLegal}

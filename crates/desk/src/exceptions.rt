@@ -11,11 +11,7 @@ use std::alloc::{AllocError, Global};
 
 /// Takes away the VRPs that some filter of the SLURM file in force matches, if there is one, and
 /// then adds its assertions, which no filter removes.
-pub(crate) fn except(
-    alloc: Global,
-    files: &[Slurm],
-    vrps: &mut Vec<Vrp>,
-) -> Result<(), AllocError>
+pub(crate) fn except(alloc: Global, files: &[Slurm], vrps: &mut Vec<Vrp>) -> Result<(), AllocError>
     ensures { OnOk result ((exceptions : Exceptions) → AreFilesOf exceptions files.now
         → (v : Vrp) → Contains vrps.new.items v
         ↔ IsAfterExceptions exceptions (Contains vrps.old.items v) v) }

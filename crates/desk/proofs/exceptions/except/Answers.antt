@@ -1,6 +1,5 @@
-use Rattle.std.proofs.Common.{rules, subst}
+use Rattle.std.proofs.Common.{rules}
 use Rattle.std.proofs.lemmas.Fn.{filter_same}
-use Rattle.slurm.specs.Exceptions.{Exceptions}
 use Rattle.desk.proofs.ExceptionLemmas.{after_exceptions, first_file, passes}
 use Rattle.desk.proofs.exceptions.except.Goals as goal
 
