@@ -1,5 +1,5 @@
 //! Reading all rows of a database that has the tables of a desk.
-ghost use Rattle.std.specs.Prelude.{◌≡◌, ◌≢◌, ◌↔◌, true, false, ◌||◌, nat_eq, ℕ, List, [], ◌∷◌, Any, Err, OnOk, OnErr, IfOk, IsPermutation, IsTrue};
+ghost use Rattle.std.specs.Prelude.{◌≡◌, ◌≢◌, ◌≤◌, ◌↔◌, true, false, ◌||◌, nat_eq, ℕ, List, [], ◌∷◌, length, Any, Err, OnOk, OnErr, IfOk, IsPermutation, IsTrue};
 ghost use Rattle.std.specs.Cmp.Lexicographic.{pointwise};
 ghost use Rattle.std.specs.List.{AllByRecursion};
 ghost use Rattle.sqlite.specs.Given.{IsPlain};
@@ -9,6 +9,7 @@ ghost use Rattle.addr.specs.Address.{prefix_eq};
 ghost use Rattle.policy.specs.Charter.{operators_of, pool_of};
 ghost use Rattle.policy.specs.CharterSets.{AreInNumber};
 ghost use Rattle.policy.specs.Repeats.{has_repeat};
+ghost use Rattle.slurm.specs.declared.exceptions.TheConstants.{MOST_ENTRIES};
 ghost use Rattle.tables.specs.Cells.{schema_row};
 ghost use Rattle.tables.specs.Decode.{first_columns};
 ghost use Rattle.tables.specs.Tables.{operator, pool, holder, holding, granted, auth, slurm, IsTree, OverDesk};
@@ -214,6 +215,13 @@ fn read_holders<S: Alter>(conn: &mut Connection<S>, alloc: Global) -> Result<(),
     Ok(())
 }
 
+/// Whether a SLURM file may have so many exceptions.
+fn are_few(exceptions: &[ExceptionRow]) -> bool
+    ensures { IsTrue result ↔ (length exceptions.now ≤ MOST_ENTRIES) }
+{
+    exceptions.len() <= MOST_ENTRIES
+}
+
 /// Whether each row of the table `slurm` reads. More than a SLURM file may have are those of another
 /// schema.
 fn read_exceptions<S: Alter>(conn: &mut Connection<S>, alloc: Global) -> Result<(), StoreFault>
@@ -225,7 +233,7 @@ fn read_exceptions<S: Alter>(conn: &mut Connection<S>, alloc: Global) -> Result<
         → ¬ TablesRead (state S.Store conn.old).now.trees }
 {
     let exceptions: Vec<ExceptionRow> = read_table(conn, alloc)?;
-    if exceptions.len() > MOST_ENTRIES {
+    if !are_few(&exceptions) {
         return Err(StoreFault::Schema);
     }
     Ok(())

@@ -1,5 +1,7 @@
-use Rattle.std.proofs.Common.{arith}
+use Rattle.std.proofs.Common.{length, ◌≤◌, arith}
+use Rattle.std.proofs.lemmas.Bool.{both_ways}
 use Rattle.sqlite.specs.Held.{state}
+use Rattle.slurm.specs.declared.exceptions.TheConstants.{MOST_ENTRIES}
 use Rattle.tables.specs.Cells.{exception_row}
 use Rattle.tables.specs.Decode.{ExceptionRowFits}
 use Rattle.tables.specs.Tables.{slurm}
@@ -13,17 +15,19 @@ returns-in_err-exceptions-clause-schema g c clean is read =
     c.read_table.ensures.schema clean (refused_by c.read_table.result c.from_residual.result c.in_err-exceptions.field-0.0 c.in_err-exceptions.was c.from_residual.ensures.1 is)
     (exceptions_in (state g.S.Store c.args.conn.now).now read)
 
-pub returns-then-len-gt-MOST_ENTRIES-clause-schema : goal.returns-then-len-gt-MOST_ENTRIES-clause-schema
-returns-then-len-gt-MOST_ENTRIES-clause-schema g c clean is read =
+pub returns-then-not-are_few-clause-schema : goal.returns-then-not-are_few-clause-schema
+returns-then-not-are_few-clause-schema g c clean is read =
     let db = (state g.S.Store c.args.conn.now).now in
     let many = as_many exception_row ExceptionRowFits slurm.tree exception_places db c.in_ok-exceptions.exceptions.items (c.in_ok-exceptions.ensures.read clean) in
-    omega (arith, many, read.exceptions_number, c.if-len-gt-MOST_ENTRIES.true, c.len.ensures)
+    let few : length c.in_ok-exceptions.exceptions.items ≤ MOST_ENTRIES = omega (arith, many, read.exceptions_number) in
+    both_ways _ c.if-not-are_few.true (c.are_few.ensures.1 (rw c.deref.ensures.value few))
 
 pub returns-clause-found : goal.returns-clause-found
 returns-clause-found g c clean =
     let db = (state g.S.Store c.args.conn.now).now in
     let many = as_many exception_row ExceptionRowFits slurm.tree exception_places db c.in_ok-exceptions.exceptions.items (c.in_ok-exceptions.ensures.read clean) in
+    let few = rw c.deref.ensures.value at (c.are_few.ensures.0 c.if-not-are_few.false) in
     record {
       rows = record { whole = c.in_ok-exceptions.ensures.tree clean; each = each_read exception_row ExceptionRowFits _ _ (c.in_ok-exceptions.ensures.read clean) };
-      number = omega (arith, many, c.if-len-gt-MOST_ENTRIES.false, c.len.ensures);
+      number = omega (arith, many, few);
     }
