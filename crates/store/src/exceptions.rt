@@ -106,14 +106,11 @@ fn put_entries<T: Entry, S: Alter>(tx: &mut Transaction<'_, S>, entries: &[T]) -
     let mut position = 0;
     for entry in entries {
         position += 1;
-        let exception = entry.as_exception();
-        put_exception(
-            tx,
-            &ExceptionRow {
-                position,
-                exception,
-            },
-        )?;
+        let row = ExceptionRow {
+            position,
+            exception: entry.as_exception(),
+        };
+        put_exception(tx, &row)?;
     }
     Ok(())
 }
