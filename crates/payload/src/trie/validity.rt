@@ -1,8 +1,7 @@
 ghost use Rattle.std.specs.Prelude.{◌≡◌, ◌+◌, ◌≤◌, true};
 ghost use Rattle.std.specs.List.{list_any};
-ghost use Rattle.addr.specs.Family.{width};
 ghost use Rattle.payload.specs.ValidityState.{state_of};
-ghost use Rattle.payload.specs.steps.Tree.{IsPruned, nodes_on_path, subtree, tree};
+ghost use Rattle.payload.specs.steps.Tree.{nodes_on_path, subtree, tree};
 ghost use Rattle.payload.specs.steps.Trie.{authorizes, bits_from, state_below, walked_state};
 
 use crate::Validity;
@@ -24,7 +23,6 @@ impl Node {
         count: u32,
     ) -> (Validity, u32)
         requires within { at ≤ route.now.prefix.length }
-        requires pruned { IsPruned (width route.now.prefix.family) at (tree self.now) }
         requires so_far { count ≤ at }
         ensures state { state_of result.0 ≡ walked_state route.now (state_of above)
             (bits_from route.now.prefix at) (tree self.now) }
@@ -56,7 +54,6 @@ fn validity_below(
     count: u32,
 ) -> (Validity, u32)
     requires within { at ≤ route.now.prefix.length }
-    requires pruned { IsPruned (width route.now.prefix.family) at (subtree child.now) }
     requires so_far { count ≤ at }
     ensures state { state_of result.0 ≡ walked_state route.now (state_of above)
         (bits_from route.now.prefix at) (subtree child.now) }

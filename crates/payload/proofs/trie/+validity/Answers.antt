@@ -36,3 +36,6 @@ node::Node::validity-returns-else-bit-clause-count t c =
 
 pub validity::validity_below-returns-in-None-clause-state : goal.validity::validity_below-returns-in-None-clause-state
 validity::validity_below-returns-in-None-clause-state t c = rw c.in-None.is (walked-leaf c.args.route.now (state_of c.args.above) (bits_from c.args.route.now.prefix c.args.at))
+
+pub validity::validity_below-returns-in-Some-clause-count : goal.validity::validity_below-returns-in-Some-clause-count
+validity::validity_below-returns-in-Some-clause-count t c = rw (c.in-Some.is, ← c.deref.ensures) c.validity.ensures.count
