@@ -1,4 +1,4 @@
-ghost use Rattle.std.specs.Prelude.{◌≡◌, ◌≤◌, ◌+◌, length};
+ghost use Rattle.std.specs.Prelude.{◌≡◌, ◌≤◌, ◌+◌, length, IfOk};
 ghost use Rattle.addr.specs.OriginValidation.{validation_state};
 ghost use Rattle.payload.specs.SearchDepths.{search_depths};
 ghost use Rattle.payload.specs.ValidityState.{state_of};
@@ -51,6 +51,17 @@ impl Trie {
             four: Node::new(alloc),
             six: Node::new(alloc),
         }
+    }
+
+    /// The set of these VRPs, which may stand in any order and repeat.
+    pub fn of(alloc: Global, vrps: &[Vrp]) -> Result<Trie, AllocError>
+        ensures { IfOk result (λ trie. trie ≡ set.from_list vrps.now) }
+    {
+        let mut trie = Trie::new(alloc);
+        for vrp in vrps {
+            trie.insert(*vrp)?;
+        }
+        Ok(trie)
     }
 
     /// As `validity`, with the number of nodes that the search went to: one for each length at

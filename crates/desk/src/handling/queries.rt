@@ -12,7 +12,7 @@ use crate::content::content_text;
 use crate::exceptions::except;
 use crate::gathering::{gather, judge};
 use addr::{Day, Name, Route};
-use payload::ListIndex;
+use payload::Trie;
 use policy::{Query, Refusal};
 use sqlite::Alter;
 use store::StoreFault;
@@ -112,7 +112,7 @@ impl<S: Alter> Desk<S> {
     }
 
     /// The VRPs of the day, with the exceptions in force.
-    fn index_on(&mut self, day: Day) -> Result<ListIndex, StoreFault>
+    fn index_on(&mut self, day: Day) -> Result<Trie, StoreFault>
         ensures read { IsRead S.Store self.old.store self.new.store }
         ensures given { IfOk result (λ index. OfHistories S.Store self.old self.new (λ history.
             (v : Vrp) → Contains (set.items index) v ↔ IsVrpOn history day v)) }
@@ -120,6 +120,6 @@ impl<S: Alter> Desk<S> {
         let mut vrps = self.store.all_auths_on(self.alloc, day)?;
         let files = self.store.slurm_files(self.alloc)?;
         except(self.alloc, &files, &mut vrps)?;
-        Ok(ListIndex::from(vrps))
+        Ok(Trie::of(self.alloc, &vrps)?)
     }
 }

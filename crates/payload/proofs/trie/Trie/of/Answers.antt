@@ -1,0 +1,19 @@
+use Rattle.std.proofs.Common.{◌+◌, ◌||◌, sym, ap, ◌∙◌, take, slice_index_or, arith}
+use Rattle.std.proofs.Math.Bool.{or_comm}
+use Rattle.std.specs.List.{list_any}
+use Rattle.std.proofs.lemmas.List.Folds.{list_any_more}
+use Rattle.payload.proofs.Sets.{is_vrp, members-insert}
+use Rattle.payload.specs.VrpSet as set
+use Rattle.payload.proofs.trie.Trie.of.Goals as goal
+
+pub loop-vrp-preserved : goal.loop-vrp-preserved
+loop-vrp-preserved c =
+    let xs = c.args.vrps.now in
+    let i = c.loop-vrp.vrp-index in
+    let v = c.vrp-item.result in
+    let all = members-insert c.loop-vrp.trie (take i xs) (take (i + 1) xs) v (sym c.loop-vrp.invariant)
+    (λ w.
+    let seen = list_any (is_vrp w) (take i xs) in
+    list_any_more (is_vrp w) xs i v (omega arith) ∙ or_comm seen (is_vrp w (slice_index_or xs i v))
+        ∙ ap (λ x. is_vrp w x || seen) (sym c.vrp-item.is)) in
+    c.in_ok-insert.ensures.ok ∙ sym all
