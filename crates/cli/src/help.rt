@@ -11,9 +11,15 @@ const USAGE: &str = "roadesk script --charter FILE\n       \
 
 /// The name of each task, and what it does.
 const TASKS: [(&str, &str); 5] = [
-    ("script", "Answer JSON lines of standard input on a new desk in memory"),
+    (
+        "script",
+        "Answer JSON lines of standard input on a new desk in memory",
+    ),
     ("init", "Make a database with a charter"),
-    ("serve", "Answer HTTP requests on a database, one for each of N connections"),
+    (
+        "serve",
+        "Answer HTTP requests on a database, one for each of N connections",
+    ),
     ("check", "Judge the routes of a file on the VRPs of another"),
     ("help", "Print this text"),
 ];

@@ -3,6 +3,8 @@
 
 pub mod charter_file;
 pub mod check;
+#[cfg(test)]
+mod clients;
 pub mod desk_file;
 #[cfg(test)]
 mod fakes;
@@ -105,6 +107,7 @@ fn run_serve_task(
     // An open would make a database where there is none.
     match size_of(rt, database)? {
         None => return Err(ProgramFault::Database),
+        Some(0) => return Err(ProgramFault::Schema),
         Some(_) => {}
     }
     let mut desk = open_desk(rt, database, Unknown)?;
@@ -174,3 +177,6 @@ fn told(error: &io::Error, fault: ProgramFault) -> ProgramFault {
         _ => fault,
     }
 }
+
+#[cfg(test)]
+mod tests;

@@ -2,6 +2,7 @@ use super::{FileFault, InputFile, ProgramFault, RowFault};
 use crate::words::WordsFault;
 use addr::PrefixFault;
 use std::rt::HostRuntime;
+use store::StoreFault;
 use web::ScriptFault;
 
 #[test]
@@ -12,6 +13,7 @@ fn lines_and_statuses(rt: HostRuntime) {
         (ProgramFault::from(WordsFault::Day), "roadesk: day", 2),
         (ProgramFault::File, "roadesk: file", 3),
         (ProgramFault::Database, "roadesk: database", 3),
+        (ProgramFault::Socket, "roadesk: socket", 3),
         (ProgramFault::Stream, "roadesk: stream", 3),
         (ProgramFault::Memory, "roadesk: memory", 4),
         (
@@ -97,6 +99,13 @@ fn lines_and_statuses(rt: HostRuntime) {
             5,
         ),
         (ProgramFault::CharterCount, "roadesk: charter count", 5),
+        (ProgramFault::Exists, "roadesk: exists", 5),
+        (
+            ProgramFault::from(StoreFault::Database),
+            "roadesk: database",
+            3,
+        ),
+        (ProgramFault::from(StoreFault::Schema), "roadesk: schema", 5),
         (ProgramFault::from(ScriptFault::Read), "roadesk: stream", 3),
         (ProgramFault::from(ScriptFault::Write), "roadesk: stream", 3),
         (

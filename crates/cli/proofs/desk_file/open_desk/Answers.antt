@@ -5,7 +5,7 @@ use Rattle.cli.proofs.desk_file.open_desk.Goals as goal
 pub returns : goal.returns
 returns g c = record {
   continued = λ clean charter history chartered legal files.
-    let was = c.in_ok-desk.ensures.clean clean in
-    opened_continues (image_at g.S.Start) c.in_ok-conn.conn c.in_ok-desk.desk (c.in_ok-conn.ensures.opened was)
-    (c.in_ok-conn.ensures.found was) (c.in_ok-desk.ensures.history clean) charter history chartered legal files;
+      let was = c.in_ok-desk.ensures.clean clean in
+      opened_continues (image_at g.S.Start) c.in_ok-conn.conn c.in_ok-desk.desk (c.in_ok-conn.ensures.opened was)
+      (c.in_ok-conn.ensures.found was) (c.in_ok-desk.ensures.history clean) charter history chartered legal files;
 }

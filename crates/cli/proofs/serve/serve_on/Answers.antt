@@ -17,11 +17,10 @@ pub loop-served-preserved : goal.loop-served-preserved
 loop-served-preserved g c =
     let inv = c.loop-served.invariant in
     let answered = c.answer-answered.ensures in
-    let count : c.loop-served.served + 1 ≤ c.args.count = omega (arith, c.loop-served-test.true) in
-    (
+    let count : c.loop-served.served + 1 ≤ c.args.count = omega (arith, c.loop-served-test.true) in (
       count,
       one_more g.S.Store c.args.day c.loop-served.served c.args.desk.now c.loop-served.desk c.answer-answered.new.desk
-      inv.1 answered.serves,
+          inv.1 answered.serves,
       later_still g.S.Store c.args.desk.now c.loop-served.desk c.answer-answered.new.desk inv.2 answered.later,
     )
 

@@ -1,0 +1,83 @@
+// Clients on the loopback for tests.
+use crate::serve::serve_on;
+use addr::Day;
+use desk::Desk;
+use sqlite::Alter;
+use std::alloc::{AllocError, Global};
+use std::io::{self, ErrorKind, Read, Write};
+use std::net::{TcpListener, TcpStream};
+use std::rt::HostRuntime;
+use std::test::Fail;
+use std::time::Clock;
+
+pub(crate) const CHARTER: &str = "kind,value\noperator,reg\npool,192.0.2.0/24\n";
+
+// Requests that leave one authorization at `alpha`, as caller, method, path and body.
+pub(crate) const SETUP: [(&str, &str, &str, &str); 4] = [
+    ("reg", "PUT", "/holders/alpha", ""),
+    (
+        "reg",
+        "POST",
+        "/holders/alpha/delegations",
+        "{\"prefix\":\"192.0.2.0/24\"}",
+    ),
+    (
+        "reg",
+        "POST",
+        "/holders/alpha/grants",
+        "{\"name\":\"ann\",\"role\":\"manager\",\"scope\":\"all\",\"until\":\"2026-12-31\"}",
+    ),
+    ("ann", "POST", "/holders/alpha/auths", CREATE),
+];
+
+pub(crate) const CREATE: &str = "{\"asn\":64496,\"prefix\":\"192.0.2.0/24\",\"max\":24,\
+    \"from\":\"2026-01-01\",\"until\":\"2026-12-31\"}";
+
+// What the clients were answered, and what the desk told of their connections.
+#[derive(Drop)]
+pub(crate) struct Served {
+    pub(crate) answers: Vec<String>,
+    pub(crate) errors: Vec<u8>,
+}
+
+pub(crate) fn request(
+    alloc: Global,
+    (caller, method, path, body): (&str, &str, &str, &str),
+) -> Result<String, AllocError> {
+    format!(in alloc;
+        "{method} {path} HTTP/1.1\r\nDesk-Caller: {caller}\r\n\
+        Content-Length: {}\r\n\r\n{body}",
+        body.len()
+    )
+}
+
+// Each client connects and sends its text, the desk serves them all, and each client reads.
+pub(crate) fn serve<R: Clock, S: Alter>(
+    rt: &HostRuntime,
+    clock: &R,
+    desk: &mut Desk<S>,
+    day: Day,
+    texts: &[String],
+) -> Result<Served, Fail> {
+    let listener = TcpListener::bind(rt, "127.0.0.1:0")?;
+    let address = listener.local_addr()?;
+    let mut clients = Vec::new(rt.alloc());
+    let mut count = 0u32;
+    for text in texts {
+        count = count.saturating_add(1);
+        let mut client = TcpStream::connect(rt, address)?;
+        client.write_all(text.as_bytes())?;
+        clients.push(client)?;
+    }
+    let mut errors = Vec::new(rt.alloc());
+    let Ok(()) = serve_on(rt.alloc(), clock, &listener, count, desk, day, &mut errors) else {
+        return Err(io::Error::from(ErrorKind::Other).into());
+    };
+    let mut answers = Vec::new(rt.alloc());
+    for client in &mut clients {
+        let mut answer = String::new(rt.alloc());
+        client.read_to_string(&mut answer)?;
+        answers.push(answer)?;
+    }
+    Ok(Served { answers, errors })
+}
