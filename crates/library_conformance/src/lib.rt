@@ -18,6 +18,8 @@ mod slurm_files;
 #[cfg(test)]
 mod stores;
 #[cfg(test)]
+mod tries;
+#[cfg(test)]
 mod values;
 #[cfg(test)]
 mod vrps;

@@ -91,10 +91,10 @@ pub(crate) fn fill<I: PayloadIndex>(index: &mut I, vrps: &[Vrp]) -> Result<usize
 
 /// Keeps the first VRPs that it is given, and stops at the next.
 #[derive(Drop)]
-struct FirstVrps {
-    vrps: Vec<Vrp>,
-    most: usize,
-    refused: Option<Vrp>,
+pub(crate) struct FirstVrps {
+    pub(crate) vrps: Vec<Vrp>,
+    pub(crate) most: usize,
+    pub(crate) refused: Option<Vrp>,
 }
 
 impl Sink for FirstVrps {
@@ -112,7 +112,7 @@ impl Sink for FirstVrps {
 }
 
 // A route by its prefix and origin.
-fn route_of(text: &str) -> Result<Route, Fail> {
+pub(crate) fn route_of(text: &str) -> Result<Route, Fail> {
     let (prefix, origin) = text.split_once(' ').ok_or("no origin")?;
     Ok(Route {
         prefix: Prefix::read(prefix.as_bytes())?,

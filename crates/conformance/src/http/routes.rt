@@ -35,6 +35,24 @@ DELETE /holders/alpha/grants/1 reg => 200 {"done":null}
 GET /holders/alpha/auths ann => 403 {"denied":"grant"}
 "#;
 
+/// A SLURM file is the whole of its body.
+const SLURM_FILES: &str = r#"
+# slurm_file_is_put
+PUT /slurm reg {"slurmVersion":1,"validationOutputFilters":{"prefixFilters":[],"bgpsecFilters":[]},"locallyAddedAssertions":{"prefixAssertions":[{"asn":64500,"prefix":"198.51.100.0/24"}],"bgpsecAssertions":[]}} => 200 {"done":null}
+POST /validity bob {"routes":[{"prefix":"198.51.100.0/24","origin":64500}]} => 200 {"answers":["Valid"]}
+# refused_slurm_file_leaves_the_last
+PUT /slurm ann {"slurmVersion":1,"validationOutputFilters":{"prefixFilters":[],"bgpsecFilters":[]},"locallyAddedAssertions":{"prefixAssertions":[],"bgpsecAssertions":[]}} => 403 {"denied":"operator"}
+PUT /slurm reg x => 400 {"malformed":11,"slurm":1}
+PUT /slurm reg [] => 400 {"malformed":11,"slurm":2}
+PUT /slurm reg {"file":{"slurmVersion":1,"validationOutputFilters":{"prefixFilters":[],"bgpsecFilters":[]},"locallyAddedAssertions":{"prefixAssertions":[],"bgpsecAssertions":[]}}} => 400 {"malformed":11,"slurm":3}
+PUT /slurm reg {"slurmVersion":1,"validationOutputFilters":{"prefixFilters":[{}],"bgpsecFilters":[]},"locallyAddedAssertions":{"prefixAssertions":[],"bgpsecAssertions":[]}} => 400 {"malformed":11,"slurm":9}
+PUT /slurm Reg x => 400 {"malformed":4}
+POST /validity bob {"routes":[{"prefix":"198.51.100.0/24","origin":64500}]} => 200 {"answers":["Valid"]}
+# file_without_entries_ends_the_exceptions
+PUT /slurm reg {"slurmVersion":1,"validationOutputFilters":{"prefixFilters":[],"bgpsecFilters":[]},"locallyAddedAssertions":{"prefixAssertions":[],"bgpsecAssertions":[]}} => 200 {"done":null}
+POST /validity bob {"routes":[{"prefix":"198.51.100.0/24","origin":64500}]} => 200 {"answers":["NotFound"]}
+"#;
+
 const MALFORMED: &str = r#"
 # holder_or_number_of_the_path
 PUT /holders/Alpha reg => 400 {"malformed":3}
@@ -90,7 +108,7 @@ const NOT_FOUND: [&str; 14] = [
 ];
 
 /// Paths, and the methods that each has in the order of the table of routes.
-const ALLOWED: [(&str, &str); 11] = [
+const ALLOWED: [(&str, &str); 12] = [
     ("/holders/alpha", "PUT"),
     ("/holders/alpha/delegations", "POST"),
     ("/holders/alpha/reclaims", "POST"),
@@ -100,6 +118,7 @@ const ALLOWED: [(&str, &str); 11] = [
     ("/holders/alpha/auths", "GET, POST"),
     ("/holders/alpha/auths/1", "GET, PATCH, DELETE"),
     ("/holders/alpha/auths/1/content", "GET"),
+    ("/slurm", "PUT"),
     ("/payloads", "GET"),
     ("/validity", "POST"),
 ];
@@ -117,6 +136,12 @@ fn bare_request(alloc: Global, method: &str, target: &str, fields: &str) -> Resu
 fn every_path_is_answered(rt: HostRuntime) -> Result<(), Fail> {
     let mut desk = registered_holder(&rt, rt.alloc())?;
     assert_rows(&rt, rt.alloc(), &mut desk, EVERY_PATH)
+}
+
+#[test]
+fn slurm_files_are_put(rt: HostRuntime) -> Result<(), Fail> {
+    let mut desk = example_desk(rt.alloc())?;
+    assert_rows(&rt, rt.alloc(), &mut desk, SLURM_FILES)
 }
 
 #[test]

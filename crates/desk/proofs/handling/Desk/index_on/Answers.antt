@@ -17,5 +17,5 @@ returns-clause-given g c clean history legal held v =
     let rows = held.0 in
     let before = c.slurm_files.ensures.read.clean clean in
     let files = c.in_ok-files.ensures.found clean rows (c.all_auths_on.ensures.read.rows before rows held.2) in
-    rw c.from.ensures (items_on (charter_of c.args.self.now) rows history legal held.1 c.args.day c.in_ok-vrps.vrps.items c.except.new.vrps.items
+    rw (c.in_ok-of.ensures, c.deref-2.ensures.value) (items_on (charter_of c.args.self.now) rows history legal held.1 c.args.day c.in_ok-vrps.vrps.items c.except.new.vrps.items
     (c.in_ok-vrps.ensures.found before rows held.2) (c.in_ok-except.ensures rows.exceptions (rw c.deref.ensures.value files)) v)

@@ -1,0 +1,250 @@
+//! The two representations of a set of VRPs, beside one another, and what a trie counts.
+use crate::rows::rows_of;
+use crate::vrps::{FirstVrps, fill, route_of, vrp_of, vrps_of};
+use addr::{Asn, Family, Prefix, Vrp};
+use payload::{ListIndex, PayloadIndex, Trie, Validity};
+use std::alloc::Global;
+use std::process::Abort;
+use std::test::Fail;
+
+/// VRPs, one of them twice, and routes with their state and the number of lengths at which a search
+/// of these VRPs has something to look at.
+const SETS: [(&str, &str); 7] = [
+    (NESTED, NESTED_ROUTES),
+    (FIRST_AND_LAST, FIRST_AND_LAST_ROUTES),
+    (AS_ZERO, AS_ZERO_ROUTES),
+    (SIBLINGS, SIBLING_ROUTES),
+    (FAMILIES, FAMILY_ROUTES),
+    (MAX_LENGTHS, MAX_LENGTH_ROUTES),
+    ("", "\n0.0.0.0/0 AS64496 => NotFound 1\n::/0 none => NotFound 1"),
+];
+
+const NESTED: &str = r#"
+AS64497 198.51.100.0/24 24
+AS64500 0.0.0.0/0 0
+AS64496 198.51.100.0/22 24
+AS64500 0.0.0.0/0 0
+"#;
+
+const NESTED_ROUTES: &str = r#"
+198.51.100.0/24 AS64496 => Valid 23
+198.51.100.0/24 AS64499 => Invalid 25
+198.51.100.0/24 AS64497 => Valid 25
+198.51.100.0/24 none => Invalid 25
+0.0.0.0/0 AS64500 => Valid 1
+0.0.0.0/0 AS64496 => Invalid 1
+198.51.100.0/23 AS64497 => Invalid 24
+198.51.100.0/25 AS64496 => Invalid 25
+198.51.103.0/24 AS64496 => Valid 23
+198.51.103.0/24 AS64497 => Invalid 23
+198.51.104.0/24 AS64496 => Invalid 21
+10.0.0.0/8 AS64496 => Invalid 1
+::/0 AS64500 => NotFound 1
+"#;
+
+const FIRST_AND_LAST: &str = r#"
+AS64496 0.0.0.0/0 32
+AS64497 0.0.0.0/32 32
+AS64498 255.255.255.255/32 32
+AS64496 ::/0 128
+AS64497 ::/128 128
+AS64498 ffff:ffff:ffff:ffff:ffff:ffff:ffff:ffff/128 128
+AS64498 255.255.255.255/32 32
+"#;
+
+const FIRST_AND_LAST_ROUTES: &str = r#"
+0.0.0.0/0 AS64496 => Valid 1
+0.0.0.0/0 AS64497 => Invalid 1
+0.0.0.0/32 AS64496 => Valid 1
+0.0.0.0/32 AS64497 => Valid 33
+0.0.0.0/32 AS64498 => Invalid 33
+0.0.0.1/32 AS64498 => Invalid 32
+255.255.255.255/32 AS64498 => Valid 33
+255.255.255.254/31 AS64498 => Invalid 32
+128.0.0.0/1 AS64498 => Invalid 2
+::/0 AS64496 => Valid 1
+::/0 none => Invalid 1
+::/128 AS64497 => Valid 129
+::/128 AS64498 => Invalid 129
+::1/128 AS64498 => Invalid 128
+ffff:ffff:ffff:ffff:ffff:ffff:ffff:ffff/128 AS64498 => Valid 129
+ffff:ffff:ffff:ffff:ffff:ffff:ffff:fffe/127 AS64497 => Invalid 128
+4000::/2 AS64497 => Invalid 2
+"#;
+
+const AS_ZERO: &str = r#"
+AS0 192.0.2.0/24 32
+AS64496 192.0.2.0/25 25
+AS0 192.0.2.0/24 32
+"#;
+
+const AS_ZERO_ROUTES: &str = r#"
+192.0.2.0/24 AS0 => Invalid 25
+192.0.2.0/24 AS64496 => Invalid 25
+192.0.2.0/25 AS64496 => Valid 26
+192.0.2.128/25 AS0 => Invalid 25
+192.0.2.0/25 none => Invalid 26
+192.0.3.0/24 AS0 => NotFound 24
+"#;
+
+const SIBLINGS: &str = r#"
+AS64496 10.128.0.0/9 9
+AS64496 10.0.0.0/9 9
+AS64497 10.0.0.0/10 10
+AS64496 10.128.0.0/9 9
+"#;
+
+const SIBLING_ROUTES: &str = r#"
+10.0.0.0/8 AS64496 => NotFound 9
+10.0.0.0/9 AS64496 => Valid 10
+10.128.0.0/9 AS64497 => Invalid 10
+10.0.0.0/10 AS64497 => Valid 11
+10.0.0.0/10 AS64498 => Invalid 11
+10.64.0.0/10 AS64497 => Invalid 10
+11.0.0.0/9 AS64496 => NotFound 8
+"#;
+
+const FAMILIES: &str = r#"
+AS64496 32.1.13.184/32 32
+AS64497 2001:db8::/32 48
+AS64497 2001:db8::/32 48
+"#;
+
+const FAMILY_ROUTES: &str = r#"
+32.1.13.184/32 AS64496 => Valid 33
+32.1.13.184/32 AS64497 => Invalid 33
+2001:db8::/32 AS64496 => Invalid 33
+2001:db8:1::/48 AS64497 => Valid 33
+2001:db8::/49 AS64497 => Invalid 33
+2001:db9::/32 AS64497 => NotFound 32
+"#;
+
+const MAX_LENGTHS: &str = r#"
+AS64496 192.0.2.0/24 24
+AS64496 192.0.2.0/24 26
+AS64497 192.0.2.0/24 25
+AS64497 192.0.2.0/26 28
+AS64496 192.0.2.0/24 26
+"#;
+
+const MAX_LENGTH_ROUTES: &str = r#"
+192.0.2.0/26 AS64496 => Valid 25
+192.0.2.0/27 AS64496 => Invalid 27
+192.0.2.0/25 AS64497 => Valid 25
+192.0.2.0/26 AS64497 => Valid 27
+192.0.2.64/26 AS64497 => Invalid 26
+192.0.2.0/28 AS64497 => Valid 27
+192.0.2.0/29 AS64497 => Invalid 27
+"#;
+
+/// What is said when nothing is left.
+const EMPTY_ROUTES: &str = "\n198.51.100.0/24 AS64496 => NotFound 1";
+
+/// What a visit hands out.
+fn listed<I: PayloadIndex>(alloc: Global, index: &I) -> Result<Vec<Vrp>, Fail> {
+    let mut all = FirstVrps {
+        vrps: Vec::new(alloc),
+        most: usize::MAX,
+        refused: None,
+    };
+    if index.visit(&mut all).is_err() {
+        return Err("a visit stopped".into());
+    }
+    Ok(all.vrps)
+}
+
+fn assert_rows(
+    rt: &impl Abort,
+    alloc: Global,
+    list: &ListIndex,
+    trie: &Trie,
+    routes: &str,
+) -> Result<(), Fail> {
+    for row in &rows_of(alloc, routes)? {
+        let (state, count) = row.output.split_once(' ').ok_or("no count")?;
+        let route = route_of(row.input)?;
+        let (counted, lengths) = trie.validity_counted(&route);
+        assert_eq!(rt; list.validity(&route).as_str(), state, "{}", row.input);
+        assert_eq!(rt; trie.validity(&route).as_str(), state, "{}", row.input);
+        assert_eq!(rt; counted.as_str(), state, "{}", row.input);
+        assert_eq!(rt; lengths, count.parse::<u32>()?, "{}", row.input);
+    }
+    Ok(())
+}
+
+#[test]
+fn search_depths_of_nested_prefixes(rt: HostRuntime) -> Result<(), Fail> {
+    let alloc = rt.alloc();
+    for (lines, routes) in SETS {
+        let vrps = vrps_of(alloc, lines)?;
+        let mut list = ListIndex::new(alloc);
+        let mut trie = Trie::new(alloc);
+        assert_eq!(rt; fill(&mut trie, &vrps)?, fill(&mut list, &vrps)?, "{lines}");
+        assert_rows(&rt, alloc, &list, &trie, routes)?;
+        assert!(rt; listed(alloc, &trie)? == listed(alloc, &list)?, "{lines}");
+    }
+    Ok(())
+}
+
+#[test]
+fn pruned_trie_is_empty(rt: HostRuntime) -> Result<(), Fail> {
+    let alloc = rt.alloc();
+    let vrps = vrps_of(alloc, NESTED)?;
+    let mut trie = Trie::new(alloc);
+    fill(&mut trie, &vrps)?;
+    for vrp in vrps.iter().take(3) {
+        assert!(rt; trie.remove(vrp) && !trie.remove(vrp));
+    }
+    assert!(rt; listed(alloc, &trie)?.is_empty());
+    assert_rows(&rt, alloc, &ListIndex::new(alloc), &trie, EMPTY_ROUTES)
+}
+
+/// The VRPs of the first prefix of each length of IPv6.
+fn chain(alloc: Global) -> Result<Vec<Vrp>, Fail> {
+    let mut vrps = Vec::new(alloc);
+    for length in 0..129 {
+        let prefix = Prefix::from_parts(Family::V6, 0, length).ok_or("a prefix")?;
+        vrps.push(Vrp::from_parts(prefix, 128, Asn(64496)).ok_or("a VRP")?)?;
+    }
+    Ok(vrps)
+}
+
+#[test]
+fn chain_of_nested_prefixes(rt: HostRuntime) -> Result<(), Fail> {
+    let alloc = rt.alloc();
+    let vrps = chain(alloc)?;
+    let host = route_of("::/128 AS64496")?;
+    let mut trie = Trie::new(alloc);
+    for vrp in vrps.iter().rev() {
+        assert!(rt; trie.insert(*vrp)?);
+    }
+    assert!(rt; listed(alloc, &trie)? == vrps);
+    assert_eq!(rt; trie.validity_counted(&route_of("::/128 AS64497")?), (Validity::Invalid, 129));
+    let mut nodes = 0u32;
+    for vrp in &vrps {
+        nodes = nodes.saturating_add(1);
+        assert_eq!(rt; trie.validity_counted(&host), (Validity::Valid, nodes));
+        assert!(rt; trie.remove(vrp));
+    }
+    assert_eq!(rt; trie.validity_counted(&host), (Validity::NotFound, 1));
+    Ok(())
+}
+
+#[test]
+fn thousand_vrps_of_one_prefix(rt: HostRuntime) -> Result<(), Fail> {
+    let alloc = rt.alloc();
+    let prefix = Prefix::read(b"192.0.2.0/24")?;
+    let mut trie = Trie::new(alloc);
+    for asn in (1..1001).rev() {
+        let vrp = Vrp::from_parts(prefix, 24, Asn(asn)).ok_or("a VRP")?;
+        assert!(rt; trie.insert(vrp)? && !trie.insert(vrp)?);
+    }
+    assert_eq!(rt; trie.validity_counted(&route_of("192.0.2.0/24 AS1000")?), (Validity::Valid, 25));
+    assert_eq!(rt; trie.validity_counted(&route_of("192.0.2.0/24 AS1001")?), (Validity::Invalid, 25));
+    for asn in 1..1000 {
+        let vrp = Vrp::from_parts(prefix, 24, Asn(asn)).ok_or("a VRP")?;
+        assert!(rt; trie.remove(&vrp));
+    }
+    assert!(rt; listed(alloc, &trie)?.as_slice() == &[vrp_of("AS1000 192.0.2.0/24 24")?][..]);
+    Ok(())
+}
