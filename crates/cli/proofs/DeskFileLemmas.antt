@@ -1,5 +1,5 @@
 -- What a close leaves of a desk's files, and what the next open finds there.
-use Rattle.std.proofs.Common.{◌≡◌, ℕ, List, ap, sym, subst, ◌∙◌, IsTrue}
+use Rattle.std.proofs.Common.{◌≡◌, ap, sym, subst, ◌∙◌, IsTrue}
 use Rattle.std.proofs.Math.Logic.{∥∥₁_elim}
 use Rattle.sqlite_disk.specs.declared.Disk.{Ghosts}
 use Rattle.sqlite_disk.specs.declared.Files.{Files}

@@ -41,7 +41,8 @@ pub fn connect<S: Start>(
     }
 }
 
-/// Makes a desk of this charter, on which nothing was accepted yet, in a database that has no table, and ends it.
+/// Makes a desk of this charter, on which nothing was accepted yet, in a database that has no
+/// table, and ends it.
 pub fn make_desk<D: Disk + Drop>(
     alloc: Global,
     conn: Connection<FileStore<D>>,
