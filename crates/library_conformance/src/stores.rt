@@ -158,7 +158,10 @@ fn runs_moved(alloc: Global, view: &View, prefix: &str) -> Result<(usize, usize)
     };
     let (day, caller) = (first_of_march()?, name("reg")?);
     let change = decide(alloc, &charter(alloc)?, view, day, &caller, &command)?;
-    match &change.first.edit {
+    let Change::Holders { first, .. } = &change else {
+        return Err("another change".into());
+    };
+    match &first.edit {
         Edit::Hold { removed, added, .. } => Ok((removed.len(), added.len())),
         _ => Err("another edit".into()),
     }
@@ -230,8 +233,8 @@ fn slurm_file_is_loaded_as_it_was_applied(rt: HostRuntime) -> Result<(), Fail> {
     let applied = store.apply(&Change::Exceptions(file.clone()?));
     assert!(rt; matches!(applied, Ok(())));
     let loaded = only_file(rt.alloc(), &mut store)?;
-    assert_eq!(rt; loaded.filters(), file.filters());
-    assert_eq!(rt; loaded.assertions(), file.assertions());
+    assert!(rt; loaded.filters() == file.filters());
+    assert!(rt; loaded.assertions() == file.assertions());
     let empty = Slurm::make(Vec::new(rt.alloc()), Vec::new(rt.alloc()))?;
     let applied = store.apply(&Change::Exceptions(empty));
     assert!(rt; matches!(applied, Ok(())));
@@ -260,7 +263,7 @@ fn exceptions_are_loaded_by_their_positions(rt: HostRuntime) -> Result<(), Fail>
         Filter::Both(prefix, Asn(64_497)),
         Filter::By(Asn(64_499)),
     ];
-    assert_eq!(rt; file.filters(), &filters);
+    assert!(rt; file.filters() == filters.as_slice());
     assert_eq!(rt; file.assertions().len(), 1);
     Ok(())
 }

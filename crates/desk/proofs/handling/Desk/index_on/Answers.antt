@@ -9,6 +9,9 @@ returns-in_err-files-clause-read g c = read_then g.S.Store c.args.self.now.store
 pub returns-in_err-except-clause-read : goal.returns-in_err-except-clause-read
 returns-in_err-except-clause-read g c = read_then g.S.Store c.args.self.now.store c.all_auths_on.new.self c.slurm_files.new.self c.all_auths_on.ensures.read c.slurm_files.ensures.read
 
+pub returns-in_err-of-clause-read : goal.returns-in_err-of-clause-read
+returns-in_err-of-clause-read g c = read_then g.S.Store c.args.self.now.store c.all_auths_on.new.self c.slurm_files.new.self c.all_auths_on.ensures.read c.slurm_files.ensures.read
+
 pub returns-clause-read : goal.returns-clause-read
 returns-clause-read g c = read_then g.S.Store c.args.self.now.store c.all_auths_on.new.self c.slurm_files.new.self c.all_auths_on.ensures.read c.slurm_files.ensures.read
 
