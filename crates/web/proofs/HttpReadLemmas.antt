@@ -1,5 +1,5 @@
 -- What the code reads of an HTTP message is the request that the message is, and its fault the lowest.
-use Rattle.std.proofs.Common.{◌≡◌, ℕ, List, [], ◌∷◌, ◌++◌, Option, Some, None, is_some, Ok, Err, refl, sym, ap, ◌∙◌, append_assoc, Bool, true, false, if◌then◌else◌}
+use Rattle.std.proofs.Common.{◌≡◌, ℕ, List, [], ◌∷◌, ◌++◌, Option, Some, None, is_some, Ok, Err, refl, sym, ap, ◌∙◌, append_assoc, Bool, true, false, if◌then◌else◌, subst}
 use Rattle.std.proofs.lemmas.Bool.{false≢true}
 use Rattle.std.proofs.lemmas.Option.{same_Some}
 use Rattle.std.specs.List.{flat_map}
@@ -105,7 +105,7 @@ module _ (head : Head) where
   reads-slurm : head.action ≡ Slurm → (found : Option Data)
       → ReadsUnlessFaulty (slurm_request (file_of found)) (file_faults found) (SaysTree found)
   reads-slurm does None = record { told = record { is = refl }; value = tt }
-  reads-slurm does (Some d) = reads-mapped _ (λ p says. (d, refl, ap Some does, says)) (reads-file_of (Some d))
+  reads-slurm does (Some d) = reads-mapped _ (λ p says. (d, refl, (ap Some does, says))) (reads-file_of (Some d))
 
   reads-body : (body : Option (List ℕ))
       → ReadsUnlessFaulty (request_of head body) (in_path ++ body_faults head.action body) (SaysTree (body_tree body))
@@ -115,7 +115,12 @@ module _ (head : Head) where
           → ReadsUnlessFaulty (if brings then slurm_request (file_of (body_tree body)) else object_body head body)
           (in_path ++ (if brings then file_faults (body_tree body) else object_body_faults head.action body))
           (SaysTree (body_tree body))
-      by_kind true is = rw (only-slurm head.action is) (reads-slurm (only-slurm head.action is) (body_tree body))
+      by_kind true is =
+          let does = only-slurm head.action is in
+          let nothing : in_path ≡ [] = ap (λ a. flat_map (path_faults head) (named_by a)) does in
+          let found = body_tree body in
+          subst (λ (faults : List Fault). ReadsUnlessFaulty (slurm_request (file_of found)) (faults ++ file_faults found) (SaysTree found))
+          (sym nothing) (reads-slurm does found)
       by_kind false is = reads-object is body
 
   -- what is asked on the day, but for the faults
