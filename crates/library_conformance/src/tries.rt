@@ -16,7 +16,10 @@ const SETS: [(&str, &str); 7] = [
     (SIBLINGS, SIBLING_ROUTES),
     (FAMILIES, FAMILY_ROUTES),
     (MAX_LENGTHS, MAX_LENGTH_ROUTES),
-    ("", "\n0.0.0.0/0 AS64496 => NotFound 1\n::/0 none => NotFound 1"),
+    (
+        "",
+        "\n0.0.0.0/0 AS64496 => NotFound 1\n::/0 none => NotFound 1",
+    ),
 ];
 
 const NESTED: &str = r#"
@@ -219,7 +222,10 @@ fn chain_of_nested_prefixes(rt: HostRuntime) -> Result<(), Fail> {
         assert!(rt; trie.insert(*vrp)?);
     }
     assert!(rt; listed(alloc, &trie)? == vrps);
-    assert_eq!(rt; trie.validity_counted(&route_of("::/128 AS64497")?), (Validity::Invalid, 129));
+    assert_eq!(rt;
+        trie.validity_counted(&route_of("::/128 AS64497")?),
+        (Validity::Invalid, 129)
+    );
     let mut nodes = 0u32;
     for vrp in &vrps {
         nodes = nodes.saturating_add(1);
@@ -239,8 +245,14 @@ fn thousand_vrps_of_one_prefix(rt: HostRuntime) -> Result<(), Fail> {
         let vrp = Vrp::from_parts(prefix, 24, Asn(asn)).ok_or("a VRP")?;
         assert!(rt; trie.insert(vrp)? && !trie.insert(vrp)?);
     }
-    assert_eq!(rt; trie.validity_counted(&route_of("192.0.2.0/24 AS1000")?), (Validity::Valid, 25));
-    assert_eq!(rt; trie.validity_counted(&route_of("192.0.2.0/24 AS1001")?), (Validity::Invalid, 25));
+    assert_eq!(rt;
+        trie.validity_counted(&route_of("192.0.2.0/24 AS1000")?),
+        (Validity::Valid, 25)
+    );
+    assert_eq!(rt;
+        trie.validity_counted(&route_of("192.0.2.0/24 AS1001")?),
+        (Validity::Invalid, 25)
+    );
     for asn in 1..1000 {
         let vrp = Vrp::from_parts(prefix, 24, Asn(asn)).ok_or("a VRP")?;
         assert!(rt; trie.remove(&vrp));

@@ -12,10 +12,7 @@ use slurm::{Slurm, SlurmFault};
 use std::alloc::{AllocError, Global};
 
 /// The request with the file that is a member.
-pub(crate) fn slurm_in(
-    alloc: Global,
-    value: &Value,
-) -> Result<Result<Request, Fault>, AllocError>
+pub(crate) fn slurm_in(alloc: Global, value: &Value) -> Result<Result<Request, Fault>, AllocError>
     ensures { IfOk result (λ asked. mapped request_terms asked
         ≡ slurm_request (file_in (view value.now))) }
 {
@@ -24,10 +21,7 @@ pub(crate) fn slurm_in(
 }
 
 /// The request with the file that the value is.
-pub(crate) fn slurm_of(
-    alloc: Global,
-    value: &Value,
-) -> Result<Result<Request, Fault>, AllocError>
+pub(crate) fn slurm_of(alloc: Global, value: &Value) -> Result<Result<Request, Fault>, AllocError>
     ensures { IfOk result (λ asked. mapped request_terms asked
         ≡ slurm_request (as_file (view value.now))) }
 {

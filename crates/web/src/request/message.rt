@@ -88,10 +88,7 @@ fn brings_file(action: Action) -> bool
     matches!(action, Action::Slurm)
 }
 
-fn file_body(
-    alloc: Global,
-    body: Option<&[u8]>,
-) -> Result<Result<Request, Fault>, AllocError>
+fn file_body(alloc: Global, body: Option<&[u8]>) -> Result<Result<Request, Fault>, AllocError>
     ensures { IfOk result (λ request. mapped request_terms request
         ≡ slurm_request (file_of (body_tree (option_copied body.entry)))) }
 {

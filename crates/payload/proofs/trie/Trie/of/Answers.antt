@@ -15,5 +15,5 @@ loop-vrp-preserved c =
     (λ w.
     let seen = list_any (is_vrp w) (take i xs) in
     list_any_more (is_vrp w) xs i v (omega arith) ∙ or_comm seen (is_vrp w (slice_index_or xs i v))
-        ∙ ap (λ x. is_vrp w x || seen) (sym c.vrp-item.is)) in
+    ∙ ap (λ x. is_vrp w x || seen) (sym c.vrp-item.is)) in
     c.in_ok-insert.ensures.ok ∙ sym all
