@@ -4,8 +4,8 @@
 #
 #     filters.sh [RUNS]      (5 where left out)
 #
-# The time of one answer is that of a script which asks 20 times less that of one which asks once, by 19. The
-# least of the runs counts. Ends with 1 where a filter changed what is answered, with 2 where something could
+# The time of one answer is that of a script which asks 101 times less that of one which asks once, by 100, each the
+# least of the runs. Ends with 1 where a filter changed what is answered, with 2 where something could
 # not be run. The program has to be built first, by ./roadesk at the top.
 set -u
 . "$(dirname "${BASH_SOURCE[0]}")/work.sh"
@@ -13,7 +13,7 @@ runs=${1:-5}
 program=$(realpath "$bench/../crates/cli/out/cli") || fail "the program is not built"
 
 for filters in 0 4096; do
-    for queries in 1 20; do
+    for queries in 1 101; do
         python3 "$bench/filters.py" "$filters" "$queries" "$work/charter.csv" >"$work/$filters-$queries.jsonl" ||
             fail "no script"
     done
@@ -28,16 +28,17 @@ seconds() {
 
 for filters in 0 4096; do
     for _ in $(seq "$runs"); do
-        echo "$filters $(seconds "$filters" 1) $(seconds "$filters" 20)"
+        echo "$filters $(seconds "$filters" 1) $(seconds "$filters" 101)"
     done
 done >"$work/times"
 
 cmp -s "$work/0-1.out" "$work/4096-1.out" || { echo "filters.sh: other answers" >&2; exit 1; }
 
 awk '
-    { answer = ($3 - $2) / 19 }
-    !($1 in least) || answer < least[$1] { least[$1] = answer }
+    !($1 in once) || $2 < once[$1] { once[$1] = $2 }
+    !($1 in often) || $3 < often[$1] { often[$1] = $3 }
     END {
-        printf "no filters    %6.2f ms\n4096 filters  %6.2f ms\nratio         %6.2f\n",
-            least[0] * 1000, least[4096] * 1000, least[4096] / least[0]
+        none = (often[0] - once[0]) * 10
+        all = (often[4096] - once[4096]) * 10
+        printf "no filters    %6.2f ms\n4096 filters  %6.2f ms\nratio         %6.2f\n", none, all, all / none
     }' "$work/times"

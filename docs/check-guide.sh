@@ -72,7 +72,8 @@ judge() {
         echo "did not end"
         return 1
     elif [ -e "$at.said" ]; then
-        diff "$at.said" "$at.printed" >"$at.diff" && echo "prints what is said" && return
+        # HTTP ends its lines with CR LF.
+        tr -d '\r' <"$at.printed" | diff "$at.said" - >"$at.diff" && echo "prints what is said" && return
         echo "prints something else:" && cat "$at.diff"
         return 1
     elif [ "$(cat "$at.status")" != 0 ]; then
