@@ -8,7 +8,7 @@ use Rattle.policy.specs.declared.authorization.Auth.{Auth}
 use Rattle.policy.specs.declared.change.Change.TheVariants.{Holders, Exceptions as Replace}
 use Rattle.policy.specs.declared.change.Edit.{Edit}
 use Rattle.policy.specs.declared.command.Command.{Command}
-use Rattle.policy.specs.declared.command.Command.TheVariants.{Register, Delegate, Transfer, Reclaim, Grant, Revoke, Create, Amend, Withdraw, Slurm}
+use Rattle.policy.specs.declared.command.Command.TheVariants.{Register, Delegate, Transfer, Reclaim, Grant, Revoke, Create, Amend, Withdraw, Import, Slurm}
 use Rattle.policy.specs.declared.grant.Granted.{Granted}
 use Rattle.policy.specs.History.{Entry, History, same_name, registers, is_registered}
 use Rattle.policy.specs.Resources.{resource_holder, is_held_by}
@@ -33,6 +33,7 @@ stays (Revoke holder n) h made count grants terms other = (refl, cond-false _ _ 
 stays (Create holder asn p max from until) h made count grants terms other = (refl, refl, refl, cond-false _ _ _ other, cond-false _ _ _ other)
 stays (Amend holder n max until) h made count grants terms other = (refl, refl, refl, cond-false _ _ _ other, refl)
 stays (Withdraw holder n) h made count grants terms other = (refl, refl, refl, cond-false _ _ _ other, refl)
+stays (Import holder rows) h made count grants terms other = (refl, refl, refl, refl, refl)
 stays (Slurm file) h made count grants terms other = (refl, refl, refl, refl, refl)
 
 -- the command leaves who holds what, as far as this holder goes

@@ -5,7 +5,7 @@ use Rattle.std.proofs.lemmas.List.Elements.{All-nil, All-cons, All-contains}
 use Rattle.addr.specs.Address.{Address}
 use Rattle.policy.specs.declared.authorization.Auth.{Auth}
 use Rattle.policy.specs.declared.command.Command.{Command}
-use Rattle.policy.specs.declared.command.Command.TheVariants.{Register, Delegate, Transfer, Reclaim, Grant, Revoke, Create, Amend, Withdraw, Slurm}
+use Rattle.policy.specs.declared.command.Command.TheVariants.{Register, Delegate, Transfer, Reclaim, Grant, Revoke, Create, Amend, Withdraw, Import, Slurm}
 use Rattle.policy.specs.History.{Entry, History, same_name}
 use Rattle.policy.specs.Resources.{resource_holder}
 use Rattle.policy.specs.Terms.{HoldsTerms, created_after, terms_after, authorizations_made, authorization_terms, amended, HeldSinceMade, Keeps, AreActive}
@@ -24,6 +24,7 @@ created_after-more (Create holder asn p max from until) h made =
     elim (same_name holder h) as (λ b. made ≤ cond b (made + 1) made) [ true ↦ omega arith | false ↦ omega arith ]
 created_after-more (Amend holder n max until) h made = omega arith
 created_after-more (Withdraw holder n) h made = omega arith
+created_after-more (Import holder rows) h made = omega arith
 created_after-more (Slurm file) h made = omega arith
 
 pub amended-number : (n max until : ℕ) (x : Auth) → (amended n max until x).number ≡ x.number
@@ -52,6 +53,7 @@ terms_after-numbered (Amend holder m max until) h made xs n =
 terms_after-numbered (Withdraw holder m) h made xs n =
     elim (same_name holder h) as (λ b. Numbered 0 (cond b (filter (λ x. not (eqb x.number m)) xs) xs) made)
     [ true ↦ Numbered-filter (λ x. not (eqb x.number m)) 0 xs made n | false ↦ n ]
+terms_after-numbered (Import holder rows) h made xs n = n
 terms_after-numbered (Slurm file) h made xs n = n
 
 pub authorization_terms-numbered : (history : History) (h : List ℕ) → Numbered 0 (authorization_terms history h) (authorizations_made history h)

@@ -7,7 +7,7 @@ use Rattle.policy.specs.declared.charter.Charter.{Charter}
 use Rattle.policy.specs.declared.grant.Granted.{Granted}
 use Rattle.policy.specs.declared.grant.Access.TheVariants.{Alter}
 use Rattle.policy.specs.declared.command.Command.{Command}
-use Rattle.policy.specs.declared.command.Command.TheVariants.{Register, Delegate, Transfer, Reclaim, Grant, Revoke, Create, Amend, Withdraw, Slurm}
+use Rattle.policy.specs.declared.command.Command.TheVariants.{Register, Delegate, Transfer, Reclaim, Grant, Revoke, Create, Amend, Withdraw, Import, Slurm}
 use Rattle.policy.specs.History.{Entry, History, same_name, registers, is_registered}
 use Rattle.policy.specs.Resources.{resource_holder, is_held_by}
 use Rattle.policy.specs.Terms.{grant_terms, grants_made, authorizations_made, authorization_terms}
@@ -81,6 +81,7 @@ nothing_after charter before day caller (Amend holder n max until) h accepted un
     nothing_stays _ before h (without_access before day caller holder h accepted.0 none) none.holders none
 nothing_after charter before day caller (Withdraw holder n) h accepted unregistered none =
     nothing_stays _ before h (without_access before day caller holder h accepted.0 none) none.holders none
+nothing_after charter before day caller (Import holder rows) h accepted unregistered none = absurd accepted
 nothing_after charter before day caller (Slurm file) h accepted unregistered none =
     nothing_stays _ before h refl none.holders none
 

@@ -1,26 +1,30 @@
 -- What the calls of this crate answer, for the rows of a history.
-use Rattle.std.specs.Prelude.{◌≡◌, ℕ, ◌+◌, Bool, true, false, List, ◌∷◌, Option, Some, None, Result, Ok, Err, not, MatchBool, MatchResult, IfSome, filter}
+use Rattle.std.specs.Prelude.{◌≡◌, ℕ, ◌+◌, Bool, true, false, List, ◌∷◌, Option, Some, None, Result, Ok, Err, not, MatchBool, MatchResult, IfSome, IsSomeAnd, length, filter}
 use Rattle.std.specs.List.{list_all}
 use Rattle.addr.specs.Spans.{is_one_of}
 use Rattle.policy.specs.declared.authorization.Auth.{Auth}
 use Rattle.policy.specs.declared.charter.Charter.{Charter}
 use Rattle.policy.specs.declared.command.Command.{Command}
-use Rattle.policy.specs.declared.command.Command.TheVariants.{Register, Delegate, Transfer, Reclaim, Grant, Revoke, Create, Amend, Withdraw, Slurm}
+use Rattle.policy.specs.declared.command.Command.TheVariants.{Register, Delegate, Transfer, Reclaim, Grant, Revoke, Create, Amend, Withdraw, Import, Slurm}
 use Rattle.policy.specs.declared.change.Change.{Change}
 use Rattle.policy.specs.declared.change.Change.TheVariants.{Holders, Exceptions}
 use Rattle.policy.specs.declared.change.Edit.{Edit}
-use Rattle.policy.specs.declared.change.Edit.TheVariants.{Hold, Grant as GrantEdit, Create as CreateEdit}
+use Rattle.policy.specs.declared.change.Edit.TheVariants.{Hold, Grant as GrantEdit, Create as CreateEdit, Import as ImportEdit}
 use Rattle.policy.specs.declared.grant.Access.TheVariants.{Look}
+use Rattle.policy.specs.declared.command.Proposed.{Proposed}
+use Rattle.policy.specs.declared.rows.HolderRows.{HolderRows}
 use Rattle.policy.specs.declared.rows.View.{View}
 use Rattle.policy.specs.declared.rule.Refusal.{Refusal}
 use Rattle.policy.specs.declared.rule.Rule.{Rule}
 use Rattle.policy.specs.declared.rule.Refusal.TheVariants.{Denied, Memory}
 use Rattle.policy.specs.History.{History}
+use Rattle.policy.specs.HypotheticalHistory.{HypotheticalHistory, IsChangeDenied}
+use Rattle.policy.specs.Import.{ImportGrows, IsImportDenied}
 use Rattle.policy.specs.Resources.{IsFree}
 use Rattle.policy.specs.Terms.{grant_terms, grants_made, authorizations_made, OfActive}
 use Rattle.policy.specs.Permission.{is_permitted_terms}
 use Rattle.policy.specs.Verdict.{Verdict, ShowVerdict, ListVerdict, IsLegal, numbered}
-use Rattle.policy.specs.Rows.{Rows, rows_if_any, RowsIfAny, Carries}
+use Rattle.policy.specs.Rows.{Rows, rows_of, rows_if_any, RowsOf, RowsIfAny, Carries}
 
 abbrev pub is_transfer : Command → Bool
 is_transfer (Transfer p giver taker) = true
@@ -37,6 +41,7 @@ holder_of (Revoke holder n) = Some holder
 holder_of (Create holder asn p max from until) = Some holder
 holder_of (Amend holder n max until) = Some holder
 holder_of (Withdraw holder n) = Some holder
+holder_of (Import holder rows) = Some holder
 holder_of (Slurm file) = None
 
 -- the taker of a transfer; of another command its holder
@@ -60,6 +65,16 @@ edit_number _ = None
 abbrev pub number_made : Change → Option ℕ
 number_made (Holders first second) = edit_number first.edit
 number_made (Exceptions file) = None
+
+-- how many authorizations an import's edit makes
+abbrev pub edit_imported : Edit → ℕ
+edit_imported (ImportEdit auths created) = length auths.items
+edit_imported _ = 0
+
+-- the same of a change
+abbrev pub imported : Change → ℕ
+imported (Holders first second) = edit_imported first.edit
+imported (Exceptions file) = 0
 
 -- no run of addresses that an edit puts is one that it takes away
 abbrev pub PutsNoneBack : Edit → Type 0
@@ -92,28 +107,70 @@ IsOfCommand command (Holders first second) =
     (holder_of command ≡ Some first.holder) × IfSome second (λ c. taker_of command ≡ Some c.holder)
 IsOfCommand command (Exceptions file) = command ≡ Slurm file
 
--- accepted by the verdict, with the number made, and with a change of what the command names, which carries
--- all rows to the history with the command and puts no run of addresses back
-abbrev pub IsAccepted : Charter → History → ℕ → List ℕ → Command → Change → Type 0
-IsAccepted charter history day caller command change =
-    Verdict charter history day caller command None
-    × (number_made change ≡ number_given history command)
-    × Carries change history (record { day = day; caller = caller; command = command } ∷ history)
-    × IsSparing change
-    × IsOfCommand command change
+-- the history that an accepted command leaves: with its own entry, and after an import with those that the
+-- rows make
+abbrev pub Leaves : Charter → History → ℕ → List ℕ → Command → History → Type 0
+Leaves charter before day caller (Import holder rows) after =
+    ImportGrows charter day caller holder before rows.items after
+Leaves charter before day caller command after =
+    Verdict charter before day caller command None
+    × (after ≡ record { day = day; caller = caller; command = command } ∷ before)
 
--- denied exactly by the verdict, with no row; else accepted
+-- the rule that denies a command, and of an import the row, counted from 1
+abbrev pub IsDenied : Charter → History → ℕ → List ℕ → Command → Rule → Option ℕ → Type 0
+IsDenied charter history day caller (Import holder rows) rule row =
+    IsSomeAnd row (λ place. IsImportDenied charter day caller holder history rows.items rule place)
+IsDenied charter history day caller command rule row =
+    Verdict charter history day caller command (Some rule) × (row ≡ None)
+
+-- how many authorizations the rows of an import made, and how many of the rows were already authorized
+abbrev pub AreCounts : History → Command → History → ℕ → ℕ → Type 0
+AreCounts before (Import holder rows) after made present =
+    (authorizations_made after holder ≡ authorizations_made before holder + made)
+    × (made + present ≡ length rows.items)
+AreCounts before _ after made present = ⊥
+
+-- a change has the number that the command is given; that of an import as many authorizations as it makes
+abbrev pub IsNumbered : History → Command → History → Change → Type 0
+IsNumbered before (Import holder rows) after change =
+    (present : ℕ) × AreCounts before (Import holder rows) after (imported change) present
+IsNumbered before command after change = number_made change ≡ number_given before command
+
+-- Accepted: the change carries all rows to the history that the command leaves. It is numbered, puts no run of
+-- addresses back, and is of what the command names.
+pub record IsAccepted (charter : Charter) (history : History) (day : ℕ) (caller : List ℕ)
+    (command : Command) (change : Change) : Type 0 where
+  pub after : History
+  pub leaves : Leaves charter history day caller command after
+  pub carries : Carries change history after
+  pub numbered : IsNumbered history command after change
+  pub sparing : IsSparing change
+  pub of_command : IsOfCommand command change
+
+-- denied exactly by the rules; else accepted
 abbrev pub IsAnswer : Charter → History → ℕ → List ℕ → Command → Result Change Refusal → Type 0
 IsAnswer charter history day caller command (Err (Denied rule row)) =
-    Verdict charter history day caller command (Some rule) × (row ≡ None)
+    IsDenied charter history day caller command rule row
 IsAnswer charter history day caller command (Err Memory) = Unit {0}
 IsAnswer charter history day caller command (Ok change) = IsAccepted charter history day caller command change
 
--- the command moves addresses or brings a SLURM file; no other takes memory to decide
+-- the supposed rows are those of the history that the changes would leave, or the first change that would be
+-- denied is told
+abbrev pub IsSupposed :
+    Charter → History → List ℕ → ℕ → List ℕ → List Proposed → Result HolderRows Refusal → Type 0
+IsSupposed charter history holder day caller changes (Err (Denied rule row)) =
+    IsSomeAnd row (λ place. IsChangeDenied charter day caller holder history changes rule place)
+IsSupposed charter history holder day caller changes (Err Memory) = Unit {0}
+IsSupposed charter history holder day caller changes (Ok rows) =
+    (after : History) × HypotheticalHistory charter day caller holder history changes after
+    × RowsOf after holder (rows_of rows)
+
+-- the command moves addresses, has rows or brings a SLURM file; no other takes memory to decide
 abbrev pub takes_memory : Command → Bool
 takes_memory (Delegate holder p) = true
 takes_memory (Transfer p giver taker) = true
 takes_memory (Reclaim holder p) = true
+takes_memory (Import holder rows) = true
 takes_memory (Slurm file) = true
 takes_memory _ = false
 

@@ -4,7 +4,7 @@ use Rattle.std.specs.Prelude.{ℕ, Bool, false, ◌||◌, List, [], filter, Opti
 use Rattle.policy.specs.declared.command.Command.{Command}
 use Rattle.policy.specs.declared.command.Command.TheVariants.{Transfer}
 use Rattle.policy.specs.declared.command.Query.{Query}
-use Rattle.policy.specs.declared.command.Query.TheVariants.{Show, Content, List as ListQuery}
+use Rattle.policy.specs.declared.command.Query.TheVariants.{Show, Content, List as ListQuery, WhatIf}
 use Rattle.policy.specs.Answer.{holder_of, taker_of}
 use Rattle.policy.specs.History.{History, same_name}
 
@@ -40,4 +40,5 @@ abbrev pub holder_asked : Query → Option (List ℕ)
 holder_asked (Show h n) = Some h
 holder_asked (Content h n) = Some h
 holder_asked (ListQuery h) = Some h
+holder_asked (WhatIf h changes routes) = Some h
 holder_asked _ = None

@@ -10,6 +10,9 @@ pub mod Resources
 pub mod Terms
 pub mod Permission
 pub mod Verdict
+pub mod GrowingHistory
+pub mod Import
+pub mod HypotheticalHistory
 pub mod Rows
 pub mod RowsOfAll
 pub mod Values

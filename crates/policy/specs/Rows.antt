@@ -12,7 +12,7 @@ use Rattle.policy.specs.declared.change.Change.{Change}
 use Rattle.policy.specs.declared.change.Change.TheVariants.{Holders, Exceptions as Replace}
 use Rattle.policy.specs.declared.change.HolderChange.{HolderChange}
 use Rattle.policy.specs.declared.change.Edit.{Edit}
-use Rattle.policy.specs.declared.change.Edit.TheVariants.{Register, Hold, Grant, Revoke, Create, Amend, Withdraw}
+use Rattle.policy.specs.declared.change.Edit.TheVariants.{Register, Hold, Grant, Revoke, Create, Import, Amend, Withdraw}
 use Rattle.policy.specs.ExceptionsInForce.{exceptions_in_force}
 use Rattle.policy.specs.History.{History, same_name, is_registered}
 use Rattle.policy.specs.Resources.{resource_holder, is_held_by}
@@ -72,6 +72,7 @@ edited (Hold removed added ended) rows = record rows {
 edited (Grant g) rows = record rows { grants = rows.grants ++ g ∷ []; granted = g.number }
 edited (Revoke n) rows = record rows { grants = filter (λ g. not (g.number == n)) rows.grants }
 edited (Create x) rows = record rows { auths = rows.auths ++ x ∷ []; created = x.number }
+edited (Import auths created) rows = record rows { auths = rows.auths ++ auths.items; created = created }
 edited (Amend x) rows = record rows { auths = map (replaced_by x) rows.auths }
 edited (Withdraw n) rows = record rows { auths = filter (λ x. not (x.number == n)) rows.auths }
 

@@ -12,8 +12,9 @@ use Rattle.slurm.specs.declared.filter.Filter.{Filter}
 use Rattle.slurm.specs.declared.filter.Filter.TheVariants.{Under, By, Both}
 use Rattle.policy.specs.declared.admission.TheConstants.{LAST_NUMBER}
 use Rattle.policy.specs.declared.authorization.Auth.{Auth}
+use Rattle.policy.specs.declared.authorization.AuthTerms.{AuthTerms}
 use Rattle.policy.specs.declared.command.Command.{Command}
-use Rattle.policy.specs.declared.command.Command.TheVariants.{Register, Delegate, Transfer, Reclaim, Grant, Revoke, Create, Amend, Withdraw, Slurm}
+use Rattle.policy.specs.declared.command.Command.TheVariants.{Register, Delegate, Transfer, Reclaim, Grant, Revoke, Create, Amend, Withdraw, Import, Slurm}
 use Rattle.policy.specs.declared.grant.Granted.{Granted}
 use Rattle.policy.specs.History.{Entry, History}
 use Rattle.policy.specs.Rows.{Rows}
@@ -48,6 +49,10 @@ pub record ExceptionsFit (exceptions : Exceptions) : Type 0 where
   pub filters : All FilterFits exceptions.filters
   pub assertions : All VrpFits exceptions.assertions
 
+-- the terms of a row of an import, as they are asked for
+abbrev pub TermsFit : AuthTerms → Type 0
+TermsFit t = IsU32 t.asn.0 × IsU8 t.max × IsDay t.from × IsDay t.until
+
 -- the values of a command are those of their types; prefixes are so anyhow
 abbrev pub CommandFits : Command → Type 0
 CommandFits (Register holder) = IsTrue (is_name holder)
@@ -60,6 +65,7 @@ CommandFits (Create holder asn p max from until) =
     IsTrue (is_name holder) × IsU32 asn.0 × IsU8 max × IsDay from × IsDay until
 CommandFits (Amend holder n max until) = IsTrue (is_name holder) × IsU32 n × IsU8 max × IsDay until
 CommandFits (Withdraw holder n) = IsTrue (is_name holder) × IsU32 n
+CommandFits (Import holder rows) = IsTrue (is_name holder) × All TermsFit rows.items
 CommandFits (Slurm file) = ExceptionsFit file
 
 pub record EntryFits (e : Entry) : Type 0 where

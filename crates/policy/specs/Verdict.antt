@@ -7,7 +7,7 @@ use Rattle.policy.specs.declared.admission.TheConstants.{MOST_GRANTS, MOST_AUTHO
 use Rattle.policy.specs.declared.authorization.Auth.{Auth}
 use Rattle.policy.specs.declared.charter.Charter.{Charter}
 use Rattle.policy.specs.declared.command.Command.{Command}
-use Rattle.policy.specs.declared.command.Command.TheVariants.{Register, Delegate, Transfer, Reclaim, Grant, Revoke, Create, Amend, Withdraw, Slurm}
+use Rattle.policy.specs.declared.command.Command.TheVariants.{Register, Delegate, Transfer, Reclaim, Grant, Revoke, Create, Amend, Withdraw, Import, Slurm}
 use Rattle.policy.specs.declared.grant.Access.{Access}
 use Rattle.policy.specs.declared.grant.Access.TheVariants.{Manage, Alter, Look}
 use Rattle.policy.specs.declared.rule.Rule.{Rule}
@@ -107,6 +107,8 @@ Verdict charter history day caller (Withdraw holder n) =
     ask GrantRule (has_access (grant_terms history holder) day caller Alter ≡ true) (
     ask Number (HasAccessTo history holder day caller Alter n)
     accept)
+-- each row of an import is judged as a create, so an import is no entry of a history
+Verdict charter history day caller (Import holder rows) = λ first. ⊥
 Verdict charter history day caller (Slurm file) =
     ask Operator (is_operator charter caller ≡ true)
     accept

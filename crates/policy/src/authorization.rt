@@ -19,6 +19,41 @@ pub struct Auth {
     pub until: Day,
 }
 
+/// What an authorization is to say, before it has a number.
+#[derive(Clone, Copy, Debug, PartialEq, Eq)]
+pub struct AuthTerms {
+    pub asn: Asn,
+    pub prefix: Prefix,
+    /// The maxLength as it is asked for; the rule `length` judges it.
+    pub max: u8,
+    /// The first day in force.
+    pub from: Day,
+    /// The last day in force.
+    pub until: Day,
+}
+
+impl AuthTerms {
+    pub(crate) fn numbered(&self, number: u32) -> Auth
+        ensures { result ≡ record {
+          number = number;
+          asn = self.now.asn;
+          prefix = self.now.prefix;
+          max = self.now.max;
+          from = self.now.from;
+          until = self.now.until;
+        } }
+    {
+        Auth {
+            number,
+            asn: self.asn,
+            prefix: self.prefix,
+            max: self.max,
+            from: self.from,
+            until: self.until,
+        }
+    }
+}
+
 impl Auth {
     /// Whether a prefix of the terms shares an address with `prefix`.
     pub(crate) fn overlaps(&self, prefix: &Prefix) -> bool

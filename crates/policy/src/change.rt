@@ -20,6 +20,8 @@ pub enum Edit {
     Revoke(u32),
     /// Puts an authorization and sets the counter of authorizations to its number.
     Create(Auth),
+    /// Puts authorizations and sets the counter of authorizations.
+    Import { auths: Vec<Auth>, created: u32 },
     /// Puts an authorization in the place of the one of its number.
     Amend(Auth),
     /// Takes away the authorization of this number.
@@ -47,7 +49,7 @@ pub enum Change {
 
 impl Edit {
     ghost use Rattle.std.specs.Prelude.{◌≡◌};
-    ghost use Rattle.policy.specs.Answer.{edit_number};
+    ghost use Rattle.policy.specs.Answer.{edit_imported, edit_number};
 
     /// The number of the grant or authorization that the edit makes; other edits make none.
     fn number(&self) -> Option<u32>
@@ -59,15 +61,25 @@ impl Edit {
             Edit::Register
             | Edit::Hold { .. }
             | Edit::Revoke(_)
+            | Edit::Import { .. }
             | Edit::Amend(_)
             | Edit::Withdraw(_) => None,
+        }
+    }
+
+    fn imported(&self) -> usize
+        ensures { result ≡ edit_imported self.now }
+    {
+        match self {
+            Edit::Import { auths, .. } => auths.len(),
+            _ => 0,
         }
     }
 }
 
 impl Change {
     ghost use Rattle.std.specs.Prelude.{◌≡◌};
-    ghost use Rattle.policy.specs.Answer.{number_made};
+    ghost use Rattle.policy.specs.Answer.{imported, number_made};
 
     /// The number of the grant or authorization that the change makes; other changes make none.
     pub fn number(&self) -> Option<u32>
@@ -76,6 +88,16 @@ impl Change {
         match self {
             Change::Holders { first, .. } => first.edit.number(),
             Change::Exceptions(_) => None,
+        }
+    }
+
+    /// How many authorizations the change of an import makes; of another change 0.
+    pub fn imported(&self) -> usize
+        ensures { result ≡ imported self.now }
+    {
+        match self {
+            Change::Holders { first, .. } => first.edit.imported(),
+            Change::Exceptions(_) => 0,
         }
     }
 }

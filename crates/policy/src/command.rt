@@ -1,6 +1,6 @@
 ghost use Rattle.std.specs.Prelude.{◌≡◌};
 
-use crate::{Role, Scope};
+use crate::{AuthTerms, Role, Scope};
 use addr::{Asn, Day, Name, Prefix, Route};
 use slurm::Slurm;
 
@@ -61,6 +61,12 @@ pub enum Command {
         holder: Name,
         number: u32,
     },
+    /// Authorizes what each row says, all rows or none. A row that is already authorized makes
+    /// nothing.
+    Import {
+        holder: Name,
+        rows: Vec<AuthTerms>,
+    },
     /// Puts the exceptions of a SLURM file in the place of those of the last one.
     Slurm {
         file: Slurm,
@@ -80,6 +86,22 @@ pub enum Query {
     Payloads,
     /// The validation state of each route on the day's VRPs.
     Validity { routes: Vec<Route> },
+    /// The validation state of each route on the day's VRPs as they are, and as they would be
+    /// after the changes.
+    WhatIf {
+        holder: Name,
+        changes: Vec<Proposed>,
+        routes: Vec<Route>,
+    },
+}
+
+/// A change of a holder's authorizations of which it is asked what it would do.
+#[derive(Clone, Copy, Debug)]
+pub enum Proposed {
+    /// Authorizes what the terms say.
+    Create(AuthTerms),
+    /// Ends the authorization of this number.
+    Withdraw(u32),
 }
 
 impl Command {
@@ -106,7 +128,8 @@ impl Command {
             | Command::Revoke { holder, .. }
             | Command::Create { holder, .. }
             | Command::Amend { holder, .. }
-            | Command::Withdraw { holder, .. } => Some(holder),
+            | Command::Withdraw { holder, .. }
+            | Command::Import { holder, .. } => Some(holder),
             Command::Slurm { .. } => None,
         }
     }

@@ -17,12 +17,13 @@ use crate::admission::{
 };
 use crate::grant::is_permitted;
 use crate::{
-    Access, Auth, Change, Charter, Command, Edit, HolderChange, HolderRows, Refusal, Rule, View,
+    Access, Auth, AuthTerms, Change, Charter, Command, Edit, HolderChange, HolderRows, Refusal, Rule,
+    View,
 };
 use addr::{Day, Holdings, Name, Prefix};
 use slurm::Slurm;
 use std::alloc::{AllocError, Global};
-use terms::{AuthTerms, GrantTerms};
+use terms::GrantTerms;
 
 /// What every command is judged by, beside what it asks for and the rows.
 #[derive(Clone, Copy)]
@@ -292,7 +293,7 @@ fn decide_slurm(basis: Basis<'_>, file: &Slurm) -> Result<Change, Refusal>
 /// What a command of the caller on the day does, or the first rule of its line that does not hold.
 ///
 /// Of a history whose rows the view has it gives that history's answer; of other rows it gives
-/// some answer. Memory is wanted only to delegate, to reclaim and to take a SLURM file.
+/// some answer. Memory is wanted only to delegate, to reclaim, to import and to take a SLURM file.
 pub fn decide(
     alloc: Global,
     charter: &Charter,
@@ -370,6 +371,7 @@ pub fn decide(
         Command::Withdraw { holder, number } => {
             Ok(decide_withdraw(basis, Holder { name: holder, rows }, *number)?)
         }
+        Command::Import { .. } => Err(Refusal::Memory),
         Command::Slurm { file } => decide_slurm(basis, file),
     }
 }

@@ -3,9 +3,9 @@
 ghost use Rattle.std.specs.Prelude.{All, IsTrue};
 ghost use Rattle.addr.specs.Day.{IsDay};
 ghost use Rattle.addr.specs.Name.{is_name};
-ghost use Rattle.policy.specs.Values.{IsU8, IsU32, CommandFits, ExceptionsFit, FilterFits, VrpFits};
+ghost use Rattle.policy.specs.Values.{IsU8, IsU32, CommandFits, ExceptionsFit, FilterFits, TermsFit, VrpFits};
 
-use crate::Command;
+use crate::{AuthTerms, Command};
 use addr::{Day, Name, Vrp};
 use slurm::{Filter, Slurm};
 
@@ -59,6 +59,10 @@ pub(crate) fn tell_command(command: &Command)
             tell_max_length(*max);
             tell_day(*until);
         }
+        Command::Import { holder, rows } => {
+            tell_name(holder);
+            tell_rows(rows);
+        }
         Command::Slurm { file } => tell_exceptions(file),
     }
 }
@@ -82,6 +86,23 @@ fn tell_number(number: u32)
 fn tell_max_length(max: u8)
     ensures { IsU8 max }
 {}
+
+fn tell_rows(rows: &[AuthTerms])
+    ensures { All TermsFit rows.now }
+{
+    for row in rows {
+        tell_terms(row);
+    }
+}
+
+fn tell_terms(terms: &AuthTerms)
+    ensures { TermsFit terms.now }
+{
+    tell_number(terms.asn.0);
+    tell_max_length(terms.max);
+    tell_day(terms.from);
+    tell_day(terms.until);
+}
 
 fn tell_exceptions(file: &Slurm)
     ensures { ExceptionsFit file.now }

@@ -1,8 +1,8 @@
-// What a grant or an authorization is to say, before it has a number.
+// What a grant is to say, before it has a number.
 ghost use Rattle.std.specs.Prelude.{◌≡◌};
 
-use crate::{Auth, Granted, Role, Scope};
-use addr::{Asn, Day, Name, Prefix};
+use crate::{Granted, Role, Scope};
+use addr::{Day, Name};
 
 #[derive(Clone, Copy)]
 pub(super) struct GrantTerms {
@@ -27,37 +27,6 @@ impl GrantTerms {
             caller: self.caller,
             role: self.role,
             scope: self.scope,
-            until: self.until,
-        }
-    }
-}
-
-#[derive(Clone, Copy)]
-pub(super) struct AuthTerms {
-    pub(super) asn: Asn,
-    pub(super) prefix: Prefix,
-    pub(super) max: u8,
-    pub(super) from: Day,
-    pub(super) until: Day,
-}
-
-impl AuthTerms {
-    pub(super) fn numbered(&self, number: u32) -> Auth
-        ensures { result ≡ record {
-          number = number;
-          asn = self.now.asn;
-          prefix = self.now.prefix;
-          max = self.now.max;
-          from = self.now.from;
-          until = self.now.until;
-        } }
-    {
-        Auth {
-            number,
-            asn: self.asn,
-            prefix: self.prefix,
-            max: self.max,
-            from: self.from,
             until: self.until,
         }
     }

@@ -67,10 +67,11 @@ returns c history legal are =
     let length = number-to history h rows a.number x (λ y. terms_fit_length y a.max ≡ true) had.2 number.0 (sym c.fits_length.ensures ∙ c.in_ok-require-2.ensures) in
     let shared = ap (shares_with_other x.number (new_terms x a.max a.until)) (sym c.deref.ensures.value) ∙ sym c.shares_with_other.ensures in
     let only = only-to history h rows a.number a.max a.until x had.2 number.0 (shared ∙ not-true c.shares_with_other.result c.in_ok-require-3.ensures) in
-    subst (IsAccepted a.basis.charter.now history a.basis.day a.basis.caller.now (Amend h a.number a.max a.until)) (sym c.change_of.ensures) (
-      (had.0, (number.1, (dates, (length, (only, tt))))),
-      refl,
-      carries-amend history a.basis.day a.basis.caller.now h a.number a.max a.until rows x _ had.1 had.2 number.0 refl,
-      (tt, tt),
-      (refl, tt),
-    )
+    subst (IsAccepted a.basis.charter.now history a.basis.day a.basis.caller.now (Amend h a.number a.max a.until)) (sym c.change_of.ensures) (record {
+      after = _;
+      leaves = ((had.0, (number.1, (dates, (length, (only, tt))))), refl);
+      numbered = refl;
+      carries = carries-amend history a.basis.day a.basis.caller.now h a.number a.max a.until rows x _ had.1 had.2 number.0 refl;
+      sparing = (tt, tt);
+      of_command = (refl, tt);
+    })

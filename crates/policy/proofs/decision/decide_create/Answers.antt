@@ -21,11 +21,12 @@ returns c history legal are =
     let same = (c.is_new.ensures history h had.2).0 c.in_ok-require-5.ensures in
     let room = (c.has_room_for_authorization.ensures.room history h had.2).0 c.in_ok-require-6.ensures in
     let new = λ (k : ℕ). let x : Auth = record { number = k + 1; asn = t.asn; prefix = t.prefix; max = t.max; from = t.from; until = t.until } in x in
-    subst (IsAccepted a.basis.charter.now history a.basis.day a.basis.caller.now (Create h t.asn t.prefix t.max t.from t.until)) (sym c.change_of.ensures) (
-      (had.0, (scope, (dates, (length, (held, (same, (room, tt))))))),
-      ap (λ (x : Auth). Some x.number) c.numbered-auth.ensures
-          ∙ ap (λ n. Some (n + 1)) had.2.created,
-      carries-create history a.basis.day a.basis.caller.now h t.asn t.prefix t.max t.from t.until _ had.1 held (c.numbered-auth.ensures ∙ ap new had.2.created),
-      (tt, tt),
-      (refl, tt),
-    )
+    subst (IsAccepted a.basis.charter.now history a.basis.day a.basis.caller.now (Create h t.asn t.prefix t.max t.from t.until)) (sym c.change_of.ensures) (record {
+      after = _;
+      leaves = ((had.0, (scope, (dates, (length, (held, (same, (room, tt))))))), refl);
+      numbered = ap (λ (x : Auth). Some x.number) c.numbered-auth.ensures
+          ∙ ap (λ n. Some (n + 1)) had.2.created;
+      carries = carries-create history a.basis.day a.basis.caller.now h t.asn t.prefix t.max t.from t.until _ had.1 held (c.numbered-auth.ensures ∙ ap new had.2.created);
+      sparing = (tt, tt);
+      of_command = (refl, tt);
+    })

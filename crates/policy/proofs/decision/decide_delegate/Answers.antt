@@ -16,11 +16,12 @@ returns c history legal are told =
     let had = c.in_ok-rows.ensures history h are in
     let pool = c.has_in_pool.ensures.0 c.in_ok-require-2.ensures in
     let free = when_false (IsFree history p → ⊥) (IsFree history p) (not-true a.taken c.in_ok-require-3.ensures) told in
-    subst (IsAccepted a.basis.charter.now history a.basis.day a.basis.caller.now (Delegate h p)) (sym c.change_of.ensures) (
-      (sym c.is_operator.ensures ∙ c.in_ok-require.ensures, (had.0, (pool, (free, tt)))),
-      ap edit_number c.in_ok-edit.ensures.is,
-      carries-delegate history a.basis.day a.basis.caller.now h p c.in_ok-more.more c.new.result c.in_ok-edit.edit (rows_of c.in_ok-rows.rows.now)
-          had.0 free had.1 c.in_ok-edit.ensures c.in_ok-more.ensures c.new.ensures.items,
-      (sparing _ _ _ _ c.in_ok-edit.ensures, tt),
-      (refl, tt),
-    )
+    subst (IsAccepted a.basis.charter.now history a.basis.day a.basis.caller.now (Delegate h p)) (sym c.change_of.ensures) (record {
+      after = _;
+      leaves = ((sym c.is_operator.ensures ∙ c.in_ok-require.ensures, (had.0, (pool, (free, tt)))), refl);
+      numbered = ap edit_number c.in_ok-edit.ensures.is;
+      carries = carries-delegate history a.basis.day a.basis.caller.now h p c.in_ok-more.more c.new.result c.in_ok-edit.edit (rows_of c.in_ok-rows.rows.now)
+          had.0 free had.1 c.in_ok-edit.ensures c.in_ok-more.ensures c.new.ensures.items;
+      sparing = (sparing _ _ _ _ c.in_ok-edit.ensures, tt);
+      of_command = (refl, tt);
+    })

@@ -23,11 +23,12 @@ returns c history legal are =
     let last = c.number-2.ensures.value in
     let in_time : a.basis.day ≤ t.until = grind (arith, nat_tests) in
     let new = λ (k : ℕ). let g : Granted = record { number = k + 1; caller = t.caller; role = t.role; scope = t.scope; until = t.until } in g in
-    subst (IsAccepted a.basis.charter.now history a.basis.day a.basis.caller.now (Grant h t.caller t.role t.scope t.until)) (sym c.change_of.ensures) (
-      (sym (c.is_steward.ensures history h legal are) ∙ c.in_ok-require.ensures, (had.0, (in_time, ((few, made), tt)))),
-      ap (λ (g : Granted). Some g.number) c.numbered-grant.ensures
-          ∙ ap (λ n. Some (n + 1)) had.1.granted,
-      carries-grant history a.basis.day a.basis.caller.now h t.caller t.role t.scope t.until _ had.0 (c.numbered-grant.ensures ∙ ap new had.1.granted),
-      (tt, tt),
-      (refl, tt),
-    )
+    subst (IsAccepted a.basis.charter.now history a.basis.day a.basis.caller.now (Grant h t.caller t.role t.scope t.until)) (sym c.change_of.ensures) (record {
+      after = _;
+      leaves = ((sym (c.is_steward.ensures history h legal are) ∙ c.in_ok-require.ensures, (had.0, (in_time, ((few, made), tt)))), refl);
+      numbered = ap (λ (g : Granted). Some g.number) c.numbered-grant.ensures
+          ∙ ap (λ n. Some (n + 1)) had.1.granted;
+      carries = carries-grant history a.basis.day a.basis.caller.now h t.caller t.role t.scope t.until _ had.0 (c.numbered-grant.ensures ∙ ap new had.1.granted);
+      sparing = (tt, tt);
+      of_command = (refl, tt);
+    })

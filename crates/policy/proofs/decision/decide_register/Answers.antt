@@ -9,10 +9,11 @@ pub returns : goal.returns
 returns c history legal are =
     let a = c.args in
     let fresh = unregistered history a.holder.name.now a.holder.rows (c.is_none.ensures ∙ ap not c.in_ok-require-2.ensures) are in
-    subst (IsAccepted a.basis.charter.now history a.basis.day a.basis.caller.now (Register a.holder.name.now)) (sym c.change_of.ensures) (
-      (sym c.is_operator.ensures ∙ c.in_ok-require.ensures, (fresh, tt)),
-      refl,
-      carries-register a.basis.charter.now history a.basis.day a.basis.caller.now a.holder.name.now legal fresh,
-      (tt, tt),
-      (refl, tt),
-    )
+    subst (IsAccepted a.basis.charter.now history a.basis.day a.basis.caller.now (Register a.holder.name.now)) (sym c.change_of.ensures) (record {
+      after = _;
+      leaves = ((sym c.is_operator.ensures ∙ c.in_ok-require.ensures, (fresh, tt)), refl);
+      numbered = refl;
+      carries = carries-register a.basis.charter.now history a.basis.day a.basis.caller.now a.holder.name.now legal fresh;
+      sparing = (tt, tt);
+      of_command = (refl, tt);
+    })

@@ -13,13 +13,14 @@ returns c history legal are =
     let h = a.holder.name.now in
     let has = sym (c.has_grant.ensures a.basis.charter.now history h legal are) ∙ c.in_ok-require-2.ensures in
     let registered = registered-by_grant a.basis.charter.now history h a.holder.rows (λ g. eqb g.number a.number) legal are has in
-    subst (IsAccepted a.basis.charter.now history a.basis.day a.basis.caller.now (Revoke h a.number)) (sym c.change_of.ensures) (
-      (sym (c.is_steward.ensures history h legal are) ∙ c.in_ok-require.ensures, (has, tt)),
-      refl,
-      carries-revoke history a.basis.day a.basis.caller.now h a.number registered,
-      (tt, tt),
-      (refl, tt),
-    )
+    subst (IsAccepted a.basis.charter.now history a.basis.day a.basis.caller.now (Revoke h a.number)) (sym c.change_of.ensures) (record {
+      after = _;
+      leaves = ((sym (c.is_steward.ensures history h legal are) ∙ c.in_ok-require.ensures, (has, tt)), refl);
+      numbered = refl;
+      carries = carries-revoke history a.basis.day a.basis.caller.now h a.number registered;
+      sparing = (tt, tt);
+      of_command = (refl, tt);
+    })
 
 pub returns-in_err-require-2 : goal.returns-in_err-require-2
 returns-in_err-require-2 c history legal are =

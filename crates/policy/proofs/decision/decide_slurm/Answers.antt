@@ -11,10 +11,11 @@ returns c history legal =
     let b = c.args.basis in
     let file = c.args.file.now in
     let Accepted : Exceptions → Type 0 = λ copy. IsAccepted b.charter.now history b.day b.caller.now (Slurm file) (Replace copy) in
-    subst Accepted (sym c.in_ok-clone.ensures.cases) (
-      (sym c.is_operator.ensures ∙ c.in_ok-require.ensures, tt),
-      refl,
-      carries-exceptions history b.day b.caller.now file,
-      tt,
-      refl,
-    )
+    subst Accepted (sym c.in_ok-clone.ensures.cases) (record {
+      after = _;
+      leaves = ((sym c.is_operator.ensures ∙ c.in_ok-require.ensures, tt), refl);
+      numbered = refl;
+      carries = carries-exceptions history b.day b.caller.now file;
+      sparing = tt;
+      of_command = refl;
+    })

@@ -19,13 +19,14 @@ returns c history day legal giver_are taker_are =
     let took = c.in_ok-taking.ensures history a.taker.name.now taker_are in
     let differ = not-true (same_name a.giver.name.now a.taker.name.now) (sym c.ne.ensures ∙ c.in_ok-require-2.ensures) in
     let held = (c.holds.ensures history a.giver.name.now gave.1).0 c.in_ok-require-3.ensures in
-    let numbers = c.in_ok-ended.ensures ∙ ap (numbers_where (λ x. terms_overlap x p)) c.deref.ensures.value in (
-      (sym c.is_operator.ensures ∙ c.in_ok-require.ensures, ((gave.0, took.0), (differ, (held, tt)))),
-      ap edit_number c.in_ok-from_giver.ensures.is,
-      carries-transfer history day a.caller.now a.giver.name.now a.taker.name.now p c.in_ok-less.less c.in_ok-more.more c.in_ok-ended.ended c.new.result c.in_ok-from_giver.from_giver c.in_ok-to_taker.to_taker
+    let numbers = c.in_ok-ended.ensures ∙ ap (numbers_where (λ x. terms_overlap x p)) c.deref.ensures.value in record {
+      after = _;
+      leaves = ((sym c.is_operator.ensures ∙ c.in_ok-require.ensures, ((gave.0, took.0), (differ, (held, tt)))), refl);
+      numbered = ap edit_number c.in_ok-from_giver.ensures.is;
+      carries = carries-transfer history day a.caller.now a.giver.name.now a.taker.name.now p c.in_ok-less.less c.in_ok-more.more c.in_ok-ended.ended c.new.result c.in_ok-from_giver.from_giver c.in_ok-to_taker.to_taker
           (rows_of c.in_ok-giving.giving.now) (rows_of c.in_ok-taking.taking.now)
           gave.0 took.0 (same_name-false a.giver.name.now a.taker.name.now differ) held gave.1 took.1
-          c.in_ok-from_giver.ensures c.in_ok-less.ensures c.in_ok-to_taker.ensures c.in_ok-more.ensures numbers c.new.ensures.items,
-      (sparing _ _ _ _ c.in_ok-from_giver.ensures, sparing _ _ _ _ c.in_ok-to_taker.ensures),
-      (refl, refl),
-    )
+          c.in_ok-from_giver.ensures c.in_ok-less.ensures c.in_ok-to_taker.ensures c.in_ok-more.ensures numbers c.new.ensures.items;
+      sparing = (sparing _ _ _ _ c.in_ok-from_giver.ensures, sparing _ _ _ _ c.in_ok-to_taker.ensures);
+      of_command = (refl, refl);
+    }

@@ -10,10 +10,11 @@ returns c history legal are =
     let h = a.holder.name.now in
     let had = c.in_ok-rows.ensures a.basis.charter.now history h legal are in
     let number = c.in_ok-auth_with_access.ensures history h had.2 in
-    subst (IsAccepted a.basis.charter.now history a.basis.day a.basis.caller.now (Withdraw h a.number)) (sym c.change_of.ensures) (
-      (had.0, (number.1, tt)),
-      refl,
-      carries-withdraw history a.basis.day a.basis.caller.now h a.number had.1,
-      (tt, tt),
-      (refl, tt),
-    )
+    subst (IsAccepted a.basis.charter.now history a.basis.day a.basis.caller.now (Withdraw h a.number)) (sym c.change_of.ensures) (record {
+      after = _;
+      leaves = ((had.0, (number.1, tt)), refl);
+      numbered = refl;
+      carries = carries-withdraw history a.basis.day a.basis.caller.now h a.number had.1;
+      sparing = (tt, tt);
+      of_command = (refl, tt);
+    })
