@@ -1,6 +1,6 @@
 -- Imports: each row makes an authorization, or is already authorized and makes nothing. An import is no
 -- entry of a history; it leaves the creates of the rows that made one, in their order.
-use Rattle.std.specs.Prelude.{◌≡◌, ℕ, ◌+◌, Bool, true, ◌&&◌, ◌==◌, List, length, Option, Some, None, Result, Ok, Err}
+use Rattle.std.specs.Prelude.{◌≡◌, ℕ, Bool, true, ◌&&◌, ◌==◌, List, Option, Some, None, Result, Ok, Err}
 use Rattle.std.specs.List.{list_any}
 use Rattle.policy.specs.declared.authorization.Auth.{Auth}
 use Rattle.policy.specs.declared.authorization.AuthTerms.{AuthTerms}

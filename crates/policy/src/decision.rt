@@ -12,10 +12,10 @@ ghost use Rattle.policy.specs.Answer.{AnswersRows, JudgesRows, RowsOfNamed, IsAn
 mod terms;
 
 use crate::admission::{
-    are_dates, auth_with_access, has_grant, has_room_for_authorization, has_room_for_grant, holds,
-    is_new, is_steward, registered, require, rows_with_access, shares_with_other,
+    are_dates, auth_with_access, has_grant, has_room_for_grant, holds, is_steward, registered,
+    require, rows_with_access, shares_with_other,
 };
-use crate::grant::is_permitted;
+use crate::creation::new_auth;
 use crate::{
     Access, Auth, AuthTerms, Change, Charter, Command, Edit, HolderChange, HolderRows, Refusal, Rule,
     View,
@@ -187,26 +187,7 @@ fn decide_create(basis: Basis<'_>, holder: Holder<'_>, terms: &AuthTerms) -> Res
         (Command.Create holder.entry.name.now terms.now.asn terms.now.prefix terms.now.max
         terms.now.from terms.now.until) result }
 {
-    let rows = rows_with_access(holder.rows, basis.day, basis.caller, Access::Alter)?;
-    require(
-        is_permitted(
-            &rows.grants,
-            basis.day,
-            basis.caller,
-            Access::Alter,
-            &terms.prefix,
-        ),
-        Rule::Scope,
-    )?;
-    require(are_dates(basis.day, terms.from, terms.until), Rule::Dates)?;
-    require(terms.prefix.fits_max_length(terms.max), Rule::Length)?;
-    require(holds(rows, &terms.prefix), Rule::Held)?;
-    require(
-        is_new(rows, terms.asn, &terms.prefix, terms.max),
-        Rule::Same,
-    )?;
-    require(has_room_for_authorization(rows), Rule::Room)?;
-    let auth = terms.numbered(rows.created + 1);
+    let auth = new_auth(holder.rows, basis.day, basis.caller, terms)?;
     Ok(change_of(holder.name, Edit::Create(auth)))
 }
 

@@ -7,6 +7,7 @@ mod authorization;
 mod change;
 mod charter;
 mod command;
+mod creation;
 mod decision;
 mod grant;
 mod hypothesis;

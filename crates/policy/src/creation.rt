@@ -1,0 +1,42 @@
+ghost use Rattle.std.specs.Prelude.{ℕ, List, Some, option_copied, MatchResult};
+ghost use Rattle.policy.specs.declared.charter.Charter.{Charter as CharterValue};
+ghost use Rattle.policy.specs.History.{History};
+ghost use Rattle.policy.specs.Import.{creation};
+ghost use Rattle.policy.specs.Rows.{rows_if_any, RowsIfAny};
+ghost use Rattle.policy.specs.Verdict.{IsLegal, Verdict};
+ghost use Rattle.policy.specs.steps.Creation.{IsCreated};
+
+use crate::admission::{
+    are_dates, has_room_for_authorization, holds, is_new, require, rows_with_access,
+};
+use crate::grant::is_permitted;
+use crate::{Access, Auth, AuthTerms, HolderRows, Rule};
+use addr::{Day, Name};
+
+/// The authorization that a create of the terms makes, or the first rule of its line that does not
+/// hold.
+pub(crate) fn new_auth(
+    rows: Option<&HolderRows>,
+    day: Day,
+    caller: &Name,
+    terms: &AuthTerms,
+) -> Result<Auth, Rule>
+    ensures { (charter : CharterValue) (history : History) (h : List ℕ) → IsLegal charter history
+        → RowsIfAny history h (rows_if_any (option_copied rows.entry))
+        → MatchResult result
+        (IsCreated charter history h day caller.now terms.now)
+        (λ rule. Verdict charter history day caller.now (creation h terms.now) (Some rule)) }
+{
+    let rows = rows_with_access(rows, day, caller, Access::Alter)?;
+    let permitted = is_permitted(&rows.grants, day, caller, Access::Alter, &terms.prefix);
+    require(permitted, Rule::Scope)?;
+    require(are_dates(day, terms.from, terms.until), Rule::Dates)?;
+    require(terms.prefix.fits_max_length(terms.max), Rule::Length)?;
+    require(holds(rows, &terms.prefix), Rule::Held)?;
+    require(
+        is_new(rows, terms.asn, &terms.prefix, terms.max),
+        Rule::Same,
+    )?;
+    require(has_room_for_authorization(rows), Rule::Room)?;
+    Ok(terms.numbered(rows.created + 1))
+}
