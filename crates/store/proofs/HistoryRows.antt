@@ -10,7 +10,7 @@ use Rattle.sqlite_keyed.proofs.SortLemmas.{sorted_unique}
 use Rattle.addr.proofs.RunLemmas.{maximal_apart}
 use Rattle.policy.specs.declared.authorization.Auth.{Auth}
 use Rattle.policy.specs.declared.command.Command.{Command}
-use Rattle.policy.specs.declared.command.Command.TheVariants.{Register, Delegate, Transfer, Reclaim, Grant, Revoke, Create, Amend, Withdraw, Slurm}
+use Rattle.policy.specs.declared.command.Command.TheVariants.{Register, Delegate, Transfer, Reclaim, Grant, Revoke, Create, Amend, Withdraw, Import, Slurm}
 use Rattle.policy.specs.declared.grant.Granted.{Granted}
 use Rattle.policy.specs.History.{History, same_name}
 use Rattle.policy.specs.Terms.{granted_after, grants_made, grants_after, grant_terms, authorizations_made, AreActive}
@@ -79,6 +79,7 @@ grants_after-rise (Revoke holder m) h made grants n =
 grants_after-rise (Create holder asn p max from until) h made grants n = n
 grants_after-rise (Amend holder m max until) h made grants n = n
 grants_after-rise (Withdraw holder m) h made grants n = n
+grants_after-rise (Import holder rows) h made grants n = n
 grants_after-rise (Slurm file) h made grants n = n
 
 grant_terms-rise : (history : History) (h : List ℕ) → GrantsRise 0 (grant_terms history h) (grants_made history h)

@@ -16,7 +16,7 @@ use Rattle.policy.specs.declared.authorization.Auth.{Auth}
 use Rattle.policy.specs.CharterSets.{CharterSets}
 use Rattle.policy.specs.History.{same_name}
 use Rattle.policy.specs.declared.change.Edit.{Edit}
-use Rattle.policy.specs.declared.change.Edit.TheVariants.{Register, Hold, Grant, Revoke, Create, Amend, Withdraw}
+use Rattle.policy.specs.declared.change.Edit.TheVariants.{Register, Hold, Grant, Revoke, Create, Import, Amend, Withdraw}
 use Rattle.policy.specs.Rows.{Rows, new_rows, edited, edited_if_any}
 use Rattle.policy.specs.RowsOfAll.{AllRows}
 use Rattle.policy.proofs.Names.{same_name-true}
@@ -146,6 +146,7 @@ module _ (h : List ℕ) (edit : Edit) where
   from_none (Grant g) = refl
   from_none (Revoke n) = refl
   from_none (Create x) = refl
+  from_none (Import auths created) = refl
   from_none (Amend x) = refl
   from_none (Withdraw n) = refl
 

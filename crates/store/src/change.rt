@@ -68,7 +68,7 @@ fn edit_rows<S: Alter>(
     ensures no_schema { result ≢ Err StoreFault.Schema }
 {
     match edit {
-        Edit::Register => return Err(StoreFault::Database),
+        Edit::Register | Edit::Import { .. } => return Err(StoreFault::Database),
         Edit::Hold {
             removed,
             added,
