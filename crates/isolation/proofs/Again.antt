@@ -16,7 +16,7 @@ use Rattle.slurm.specs.Exceptions.{Exceptions}
 use Rattle.policy.specs.declared.authorization.Auth.{Auth}
 use Rattle.policy.specs.declared.charter.Charter.{Charter}
 use Rattle.policy.specs.declared.command.Command.{Command}
-use Rattle.policy.specs.declared.command.Command.TheVariants.{Register, Delegate, Transfer, Reclaim, Grant, Revoke, Create, Amend, Withdraw, Slurm}
+use Rattle.policy.specs.declared.command.Command.TheVariants.{Register, Delegate, Transfer, Reclaim, Grant, Revoke, Create, Amend, Withdraw, Import, Slurm}
 use Rattle.policy.specs.declared.grant.Access.TheVariants.{Alter}
 use Rattle.policy.specs.declared.grant.Granted.{Granted}
 use Rattle.policy.specs.Answer.{holder_of}
@@ -182,6 +182,7 @@ agree-again charter history before then day by caller (Amend holder n max until)
     ]
 agree-again charter history before then day by caller (Withdraw holder n) first same other accepted h =
     absurd (withdrawn_again history before then day by caller holder n same accepted.1.0)
+agree-again charter history before then day by caller (Import holder rows) first same other accepted h = absurd accepted
 agree-again charter history before then day by caller (Slurm file) first same other accepted h =
     agree-unnamed charter (entry day caller (Slurm file)) history h accepted refl
 
