@@ -11,7 +11,7 @@ use Rattle.matchit.specs.Seek.{first}
 use Rattle.matchit.specs.declared.error.InsertError.{InsertError}
 use Rattle.http_messages.specs.Routes.{template_of}
 use Rattle.http_messages.specs.declared.path.Path.{Path}
-use Rattle.http_messages.specs.declared.path.Path.TheVariants.{Holder, Delegations, Reclaims, Transfers, Grants, Grant, Auths, Auth, Content, Slurm, Payloads, Validity}
+use Rattle.http_messages.specs.declared.path.Path.TheVariants.{Holder, Delegations, Reclaims, Transfers, Grants, Grant, Auths, Auth, Content, Export, Imports, WhatIf, Slurm, Payloads, Validity}
 
 -- the routes of a router, as its crate keeps them
 abbrev pub Router : Type 0
@@ -28,9 +28,10 @@ with_path path routes = with_route (parse_route (template_of path)) path routes
 -- the routes of all paths
 unfoldable pub routes : Router
 routes =
-    with_path Validity (with_path Payloads (with_path Slurm (with_path Content (with_path Auth
-    (with_path Auths (with_path Grant (with_path Grants (with_path Transfers (with_path Reclaims
-    (with_path Delegations (with_path Holder [])))))))))))
+    with_path Validity (with_path Payloads (with_path Slurm (with_path WhatIf (with_path Imports
+    (with_path Export (with_path Content (with_path Auth (with_path Auths (with_path Grant
+    (with_path Grants (with_path Transfers (with_path Reclaims (with_path Delegations
+    (with_path Holder []))))))))))))))
 
 -- the path that the routes give a text
 abbrev pub route_at : List ℕ → Option Path

@@ -7,7 +7,7 @@ use Rattle.http_messages.specs.declared.method.Method.TheVariants as method
 use Rattle.http_messages.specs.declared.action.Action.{Action}
 use Rattle.http_messages.specs.declared.action.Action.TheVariants as action
 use Rattle.http_messages.specs.declared.path.Path.{Path}
-use Rattle.http_messages.specs.declared.path.Path.TheVariants.{Holder, Delegations, Reclaims, Transfers, Grants, Grant, Auths, Auth, Content, Slurm, Payloads, Validity}
+use Rattle.http_messages.specs.declared.path.Path.TheVariants.{Holder, Delegations, Reclaims, Transfers, Grants, Grant, Auths, Auth, Content, Export, Imports, WhatIf, Slurm, Payloads, Validity}
 
 abbrev pub template_of : Path → List ℕ
 template_of Holder = codes "/holders/{holder}"
@@ -19,6 +19,9 @@ template_of Grant = codes "/holders/{holder}/grants/{number}"
 template_of Auths = codes "/holders/{holder}/auths"
 template_of Auth = codes "/holders/{holder}/auths/{number}"
 template_of Content = codes "/holders/{holder}/auths/{number}/content"
+template_of Export = codes "/holders/{holder}/export"
+template_of Imports = codes "/holders/{holder}/imports"
+template_of WhatIf = codes "/holders/{holder}/whatif"
 template_of Slurm = codes "/slurm"
 template_of Payloads = codes "/payloads"
 template_of Validity = codes "/validity"
@@ -34,6 +37,9 @@ actions_of Auths = (method.Get, action.List) ∷ (method.Post, action.Create) �
 actions_of Auth =
     (method.Get, action.Show) ∷ (method.Patch, action.Amend) ∷ (method.Delete, action.Withdraw) ∷ []
 actions_of Content = (method.Get, action.Content) ∷ []
+actions_of Export = (method.Get, action.Export) ∷ []
+actions_of Imports = (method.Post, action.Import) ∷ []
+actions_of WhatIf = (method.Post, action.WhatIf) ∷ []
 actions_of Slurm = (method.Put, action.Slurm) ∷ []
 actions_of Payloads = (method.Get, action.Payloads) ∷ []
 actions_of Validity = (method.Post, action.Validity) ∷ []

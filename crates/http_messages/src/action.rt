@@ -17,6 +17,10 @@ pub enum Action {
     Amend,
     Withdraw,
     Content,
+    /// The list, answered as CSV.
+    Export,
+    Import,
+    WhatIf,
     Slurm,
     Payloads,
     Validity,
@@ -34,6 +38,8 @@ impl Action {
             | Action::Grant
             | Action::Create
             | Action::Amend
+            | Action::Import
+            | Action::WhatIf
             | Action::Slurm
             | Action::Validity => true,
             Action::Register
@@ -42,6 +48,7 @@ impl Action {
             | Action::Show
             | Action::Withdraw
             | Action::Content
+            | Action::Export
             | Action::Payloads => false,
         }
     }

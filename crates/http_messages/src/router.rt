@@ -51,6 +51,9 @@ fn routes(alloc: Global) -> Result<Router<Path>, AllocError>
     add(&mut router, Path::Auths)?;
     add(&mut router, Path::Auth)?;
     add(&mut router, Path::Content)?;
+    add(&mut router, Path::Export)?;
+    add(&mut router, Path::Imports)?;
+    add(&mut router, Path::WhatIf)?;
     add(&mut router, Path::Slurm)?;
     add(&mut router, Path::Payloads)?;
     add(&mut router, Path::Validity)?;
