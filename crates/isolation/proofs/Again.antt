@@ -12,7 +12,6 @@ use Rattle.addr.specs.declared.prefix.Prefix.{Prefix}
 use Rattle.addr.proofs.AddressLemmas.{between_at, first-last}
 use Rattle.addr.proofs.Equality.{prefix_itself}
 use Rattle.addr.specs.Address.{last_of}
-use Rattle.slurm.specs.Exceptions.{Exceptions}
 use Rattle.policy.specs.declared.authorization.Auth.{Auth}
 use Rattle.policy.specs.declared.charter.Charter.{Charter}
 use Rattle.policy.specs.declared.command.Command.{Command}
@@ -31,6 +30,7 @@ use Rattle.policy.proofs.Names.{same_name-same, same_name-true, same_name-false}
 use Rattle.policy.proofs.Held.{not_yet_made}
 use Rattle.isolation.specs.RepeatedRequests.{is_grant, has_slurm_file, RepeatsLeaveRows}
 use Rattle.isolation.proofs.Agree.{Agree, AgreeIfNamed, agree-sym, agree-active, agree-rows}
+use Rattle.isolation.proofs.Grown.{exceptions_stay}
 use Rattle.isolation.proofs.Parts.{since_left, agree-unnamed, agree-later}
 
 -- a prefix has an address
@@ -185,11 +185,6 @@ agree-again charter history before then day by caller (Withdraw holder n) first 
 agree-again charter history before then day by caller (Import holder rows) first same other accepted h = absurd accepted
 agree-again charter history before then day by caller (Slurm file) first same other accepted h =
     agree-unnamed charter (entry day caller (Slurm file)) history h accepted refl
-
--- a command that brings no file leaves the exceptions
-exceptions_stay : (c : Command) (exceptions : Exceptions) → brings_exceptions c ≡ false → exceptions_after c exceptions ≡ exceptions
-exceptions_stay (Slurm file) exceptions none = cc
-exceptions_stay _ exceptions none = refl
 
 exceptions_later : (later before : History) → has_slurm_file later ≡ false
     → exceptions_in_force (later ++ before) ≡ exceptions_in_force before

@@ -1,5 +1,6 @@
 pub mod Agree
 pub mod Parts
+pub mod Grown
 pub mod Judged
 pub mod Again
 pub mod Isolation

@@ -1,16 +1,18 @@
 -- What a holder has and what is answered at it comes from the entries that name it.
-use Rattle.std.specs.Prelude.{◌≡◌, ℕ, Bool, true, false, List, ◌∷◌, ◌↔◌, Option}
+use Rattle.std.specs.Prelude.{◌≡◌, ℕ, Bool, true, false, List, ◌↔◌, Option}
 use Rattle.addr.specs.declared.vrp.Vrp.{Vrp}
 use Rattle.policy.specs.declared.authorization.Auth.{Auth}
 use Rattle.policy.specs.declared.charter.Charter.{Charter}
 use Rattle.policy.specs.declared.command.Command.{Command}
 use Rattle.policy.specs.declared.command.Command.TheVariants.{Delegate}
+use Rattle.policy.specs.declared.command.Proposed.{Proposed}
 use Rattle.policy.specs.declared.rule.Rule.{Rule}
-use Rattle.policy.specs.Answer.{number_given, IsShown, IsListed}
+use Rattle.policy.specs.Answer.{number_given, Leaves, IsShown, IsListed}
 use Rattle.policy.specs.DailyVrps.{IsAfterExceptions, IsVrpOn}
 use Rattle.policy.specs.ExceptionsInForce.{exceptions_in_force}
 use Rattle.policy.specs.HolderEntries.{names, entries_naming, entries_for}
-use Rattle.policy.specs.History.{Entry, History}
+use Rattle.policy.specs.History.{History, same_name}
+use Rattle.policy.specs.HypotheticalHistory.{HypotheticalHistory}
 use Rattle.policy.specs.Rows.{Rows, RowsIfAny}
 use Rattle.policy.specs.Terms.{IsVrpOf, IsInForce}
 use Rattle.policy.specs.Verdict.{Verdict, ShowVerdict, ListVerdict, IsLegal}
@@ -24,9 +26,23 @@ RowsOfEntries =
 -- an accepted command leaves the rows of a holder that it does not name
 abbrev pub OthersKeepRows : Type 0
 OthersKeepRows =
-    (charter : Charter) (e : Entry) (before : History) (h : List ℕ) (rows : Option Rows)
-    → IsLegal charter (e ∷ before) → names h e.command ≡ false
-    → RowsIfAny before h rows ↔ RowsIfAny (e ∷ before) h rows
+    (charter : Charter) (before : History) (day : ℕ) (caller : List ℕ) (command : Command) (after : History)
+    (h : List ℕ) (rows : Option Rows)
+    → IsLegal charter before → Leaves charter before day caller command after → names h command ≡ false
+    → RowsIfAny before h rows ↔ RowsIfAny after h rows
+
+-- the rows of every holder but this one are the same after both, and the exceptions in force
+pub record DifferAtMostAt (holder : List ℕ) (one other : History) : Type 0 where
+  pub others :
+      (h : List ℕ) (rows : Option Rows) → same_name holder h ≡ false → RowsIfAny one h rows ↔ RowsIfAny other h rows
+  pub exceptions : exceptions_in_force one ≡ exceptions_in_force other
+
+-- changes at a holder would leave the rows of every other, and the exceptions
+abbrev pub HypotheticalKeepsOthers : Type 0
+HypotheticalKeepsOthers =
+    (charter : Charter) (day : ℕ) (caller holder : List ℕ) (before : History) (changes : List Proposed) (after : History)
+    → IsLegal charter before → HypotheticalHistory charter day caller holder before changes after
+    → DifferAtMostAt holder before after
 
 -- an authorization of some holder that is in force on the day by the entries that name the holder has the
 -- VRP

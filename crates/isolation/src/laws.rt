@@ -2,6 +2,7 @@
 
 ghost use Rattle.isolation.specs.Isolation.{
   CommandsByEntries,
+  HypotheticalKeepsOthers,
   OthersKeepRows,
   QueriesByEntries,
   RowsOfEntries,
@@ -16,9 +17,14 @@ pub fn rows_of_entries()
 {}
 
 /// An accepted command leaves the rows of each holder that it does not name.
-#[tactic(auto, using(crate::proofs::Isolation::others_keep_rows))]
+#[tactic(auto, using(crate::proofs::Grown::others_keep_rows))]
 pub fn others_keep_rows()
     ensures { OthersKeepRows }
+{}
+
+/// Changes at a holder would leave the rows of every other, and the exceptions in force.
+pub fn hypothetical_keeps_others()
+    ensures { HypotheticalKeepsOthers }
 {}
 
 /// After a legal history the VRPs of a day are the same where the authorizations in force of each
