@@ -2,7 +2,9 @@
 
 ghost use Rattle.isolation.specs.Isolation.{
   CommandsByEntries,
+  HypotheticalByEntries,
   HypotheticalKeepsOthers,
+  ImportsByEntries,
   OthersKeepRows,
   QueriesByEntries,
   RowsOfEntries,
@@ -44,6 +46,17 @@ pub fn commands_by_entries()
 /// entries that name the holder alone.
 pub fn queries_by_entries()
     ensures { QueriesByEntries }
+{}
+
+/// After a legal history an import at a holder makes what it makes after the entries that name the
+/// holder alone, or the same row is denied by the same rule.
+pub fn imports_by_entries()
+    ensures { ImportsByEntries }
+{}
+
+/// The same of changes at a holder of which it is asked what they would do.
+pub fn hypothetical_by_entries()
+    ensures { HypotheticalByEntries }
 {}
 
 /// Where a legal history accepted a command other than a grant, and no later entry names one of its
