@@ -10,7 +10,7 @@ ghost use Rattle.isolation.specs.Isolation.{
   RowsOfEntries,
   VrpsOfEntries,
 };
-ghost use Rattle.isolation.specs.RepeatedRequests.{RepeatsLeaveRows};
+ghost use Rattle.isolation.specs.RepeatedRequests.{ImportsRepeat, RepeatsLeaveRows};
 
 /// After a legal history the rows of a holder are those of the entries that name it.
 #[tactic(auto, using(crate::proofs::Isolation::rows_of_entries))]
@@ -59,9 +59,15 @@ pub fn hypothetical_by_entries()
     ensures { HypotheticalByEntries }
 {}
 
-/// Where a legal history accepted a command other than a grant, and no later entry names one of its
+/// Where a command other than a grant was accepted, and no later entry of a legal history names one of its
 /// holders or, where it brought a SLURM file, brings another, the same command by any caller on any
 /// day, if it is accepted again, leaves the rows of every holder and the exceptions in force.
 pub fn again()
     ensures { RepeatsLeaveRows }
+{}
+
+/// Where an import was accepted and no later entry names its holder, the same import by its caller on its
+/// day is accepted and makes nothing, and by any caller on any day, if it is accepted, it makes nothing.
+pub fn import_again()
+    ensures { ImportsRepeat }
 {}
