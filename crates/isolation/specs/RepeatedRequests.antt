@@ -45,19 +45,22 @@ pub record HaveSameRows (one other : History) : Type 0 where
 -- leaves the rows of every holder and the exceptions in force
 abbrev pub RepeatsLeaveRows : Type 0
 RepeatsLeaveRows =
-    (charter : Charter) (before : History) (first_day : ℕ) (first_caller : List ℕ) (command : Command)
-    (left later : History) (day : ℕ) (caller : List ℕ) (again : History)
+    (charter : Charter) (before : History) (first_day : ℕ) (first_caller : List ℕ)
+    (command : Command) (left later : History) (day : ℕ) (caller : List ℕ) (again : History)
     → Leaves charter before first_day first_caller command left → IsLegal charter (later ++ left)
     → is_grant command ≡ false → NoneNames command later
     → Leaves charter (later ++ left) day caller command again
     → HaveSameRows (later ++ left) again
 
--- an import of these rows makes nothing: asked by this caller on this day it is accepted, no row is denied,
--- and it leaves the history as it is; and it does so where it is accepted of any caller on any day
-pub record MakesNothing (charter : Charter) (day : ℕ) (caller holder : List ℕ) (rows : List AuthTerms)
-    (history : History) : Type 0 where
+-- an import of these rows makes nothing: asked by this caller on this day it is accepted, no row is
+-- denied, and it leaves the history as it is; and it does so where it is accepted of any caller on any
+-- day
+pub record MakesNothing (charter : Charter) (day : ℕ) (caller holder : List ℕ)
+    (rows : List AuthTerms) (history : History) : Type 0 where
   pub accepted : ImportGrows charter day caller holder history rows history
-  pub denied : (rule : Rule) (place : ℕ) → IsImportDenied charter day caller holder history rows rule place → ⊥
+  pub denied :
+      (rule : Rule) (place : ℕ)
+      → IsImportDenied charter day caller holder history rows rule place → ⊥
   pub nothing :
       (other_day : ℕ) (other : List ℕ) (again : History)
       → ImportGrows charter other_day other holder history rows again → again ≡ history
@@ -65,7 +68,7 @@ pub record MakesNothing (charter : Charter) (day : ℕ) (caller holder : List �
 -- after an import was accepted, and no later entry names its holder, the same import makes nothing
 abbrev pub ImportsRepeat : Type 0
 ImportsRepeat =
-    (charter : Charter) (before : History) (day : ℕ) (caller holder : List ℕ) (rows : List AuthTerms)
-    (left later : History)
+    (charter : Charter) (before : History) (day : ℕ) (caller holder : List ℕ)
+    (rows : List AuthTerms) (left later : History)
     → ImportGrows charter day caller holder before rows left → IsLegal charter (later ++ left)
     → is_named holder later ≡ false → MakesNothing charter day caller holder rows (later ++ left)

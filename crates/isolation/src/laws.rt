@@ -59,15 +59,16 @@ pub fn hypothetical_by_entries()
     ensures { HypotheticalByEntries }
 {}
 
-/// Where a command other than a grant was accepted, and no later entry of a legal history names one of its
-/// holders or, where it brought a SLURM file, brings another, the same command by any caller on any
-/// day, if it is accepted again, leaves the rows of every holder and the exceptions in force.
+/// Where a command other than a grant was accepted, and no later entry of a legal history names one
+/// of its holders or, where it brought a SLURM file, brings another, the same command by any caller on
+/// any day, if it is accepted again, leaves the rows of every holder and the exceptions in force.
 pub fn again()
     ensures { RepeatsLeaveRows }
 {}
 
-/// Where an import was accepted and no later entry names its holder, the same import by its caller on its
-/// day is accepted and makes nothing, and by any caller on any day, if it is accepted, it makes nothing.
+/// Where an import was accepted and no later entry of a legal history names its holder, the same import
+/// by its caller on its day is accepted and makes nothing; and by any caller on any day, if it is
+/// accepted, it makes nothing.
 pub fn import_again()
     ensures { ImportsRepeat }
 {}
