@@ -32,14 +32,15 @@ pub fn exceptions_in_force_fit()
     ensures { ExceptionsInForceFit }
 {}
 
-/// A legal history is left legal by every accepted command, an import with the entries that its rows make.
+/// Every accepted command leaves a legal history legal, an import with the entries that its rows
+/// make.
 #[tactic(auto, using(crate::proofs::Growth::growth_is_legal))]
 pub fn growth_is_legal()
     ensures { GrowthIsLegal }
 {}
 
-/// The history that a command leaves has values of their types, where those of the command and of the
-/// history before it are.
+/// The history that a command leaves has values of their types, where the command and the history
+/// before it have.
 #[tactic(auto, using(crate::proofs::Growth::growth_fits))]
 pub fn growth_fits()
     ensures { GrowthFits }
@@ -51,8 +52,8 @@ pub fn hypothetical_is_legal()
     ensures { HypotheticalIsLegal }
 {}
 
-/// A command leaves one history alone, or one rule alone denies it, of an import at one row, and never
-/// both.
+/// A command leaves one history alone, or one rule alone denies it, of an import at one row, and
+/// never both.
 pub fn one_outcome()
     ensures { OneOutcome }
 {}

@@ -66,7 +66,7 @@ of_active same P Q facts = (
   λ of. (of.0, agree-active (agree-sym same) of.0 of.1, (facts of.0).1 of.2),
 )
 
-active_alike : {one other : History} {h : List ℕ} → Agree one other h → (P : List Auth → Type 0) → OfActive one h P ↔ OfActive other h P
+pub active_alike : {one other : History} {h : List ℕ} → Agree one other h → (P : List Auth → Type 0) → OfActive one h P ↔ OfActive other h P
 active_alike same P = of_active same P P (λ active. itself)
 
 access_alike : {one other : History} {h : List ℕ} → Agree one other h → (day : ℕ) (caller : List ℕ) (access : Access) (n : ℕ)
