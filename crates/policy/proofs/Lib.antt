@@ -12,3 +12,6 @@ pub mod PoolLemmas
 pub mod RowsLemmas
 pub mod AmendLemmas
 pub mod Repeats
+pub mod Growth
+pub mod Imports
+pub mod Suppositions

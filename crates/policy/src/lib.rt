@@ -16,6 +16,7 @@ mod rows;
 mod rule;
 mod sight;
 mod values;
+mod withdrawal;
 
 pub use admission::LAST_NUMBER;
 pub use authorization::{Auth, AuthTerms};
