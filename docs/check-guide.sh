@@ -13,6 +13,8 @@ docs=$(cd "$(dirname "${BASH_SOURCE[0]}")" && pwd)
 guide=${1:-$docs/GUIDE.md}
 program=$(realpath "${PROGRAM:-$docs/../roadesk}") || exit 2
 work=$(mktemp -d) || exit 2
+# The workers of an nginx that root starts are another user.
+chmod 711 "$work"
 trap 'rm -rf "$work"' EXIT
 
 # Block N becomes N.sh, with its line in N.line, what it needs in N.needs, and what it is said to print in N.said.
