@@ -29,7 +29,7 @@ use Rattle.policy.specs.declared.command.Command.{Command}
 use Rattle.policy.specs.declared.command.Command.TheVariants.{Import}
 use Rattle.policy.specs.Values.{EntryFits}
 use Rattle.policy.specs.Verdict.{IsLegal}
-use Rattle.policy.specs.declared.charter.Charter.{Charter}
+use Rattle.charters.specs.declared.charter.Charter.{Charter}
 use Rattle.policy.proofs.Names.{held_by_itself}
 use Rattle.policy.proofs.Unregistered.{has_nothing}
 use Rattle.policy.specs.RowsOfAll.{AllRows, changed_rows, IsTaken, HasRows}

@@ -16,7 +16,7 @@ use Rattle.policy.specs.DailyVrps.{IsAfterExceptions, IsVrpOn}
 use Rattle.policy.specs.History.{History}
 use Rattle.desk.specs.Answer.{AreStatesOn}
 use Rattle.policy.specs.Verdict.{IsLegal}
-use Rattle.policy.specs.declared.charter.Charter.{Charter}
+use Rattle.charters.specs.declared.charter.Charter.{Charter}
 use Rattle.policy.specs.RowsOfAll.{AllRows, HasRows, IsGivenOn}
 use Rattle.desk.proofs.DailyLemmas.{given_on, any_among, among_any}
 use Rattle.desk.proofs.ExceptionLemmas.{after_alike}

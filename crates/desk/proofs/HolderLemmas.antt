@@ -6,7 +6,7 @@ use Rattle.isolation.specs.Isolation.{asks_of_all, AreJudgedAlike, AreSeenAlike,
 use Rattle.policy.specs.declared.change.Change.{Change}
 use Rattle.policy.specs.declared.change.Change.TheVariants.{Holders, Exceptions as Replace}
 use Rattle.policy.specs.declared.change.HolderChange.{HolderChange}
-use Rattle.policy.specs.declared.charter.Charter.{Charter}
+use Rattle.charters.specs.declared.charter.Charter.{Charter}
 use Rattle.policy.specs.declared.command.Command.{Command}
 use Rattle.policy.specs.declared.command.Command.TheVariants.{Import}
 use Rattle.policy.specs.declared.command.Query.{Query}

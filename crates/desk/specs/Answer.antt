@@ -18,7 +18,7 @@ use Rattle.policy.specs.HypotheticalHistory.{HypotheticalHistory, IsChangeDenied
 use Rattle.policy.specs.Values.{HistoryFits}
 use Rattle.policy.specs.Verdict.{ShowVerdict, ListVerdict, IsLegal}
 use Rattle.policy.specs.declared.authorization.Auth.{Auth}
-use Rattle.policy.specs.declared.charter.Charter.{Charter}
+use Rattle.charters.specs.declared.charter.Charter.{Charter}
 use Rattle.policy.specs.declared.command.Command.{Command}
 use Rattle.policy.specs.declared.command.Command.TheVariants.{Import}
 use Rattle.policy.specs.declared.command.Proposed.{Proposed}

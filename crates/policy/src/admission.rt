@@ -1,7 +1,7 @@
 ghost use Rattle.std.specs.Prelude.{◌≡◌, ℕ, ◌<◌, ◌==◌, ◌&&◌, not, length, List, true, false, ◌↔◌, IsTrue, Some, ◌≤◌, option_copied, MatchResult};
 ghost use Rattle.std.specs.List.{list_any};
 ghost use Rattle.policy.specs.declared.admission.TheConstants.{MOST_GRANTS, MOST_AUTHORIZATIONS, LAST_NUMBER};
-ghost use Rattle.policy.specs.declared.charter.Charter.{Charter as CharterValue};
+ghost use Rattle.charters.specs.declared.charter.Charter.{Charter as CharterValue};
 ghost use Rattle.policy.specs.History.{History, is_registered};
 ghost use Rattle.policy.specs.Resources.{HoldsPrefix};
 ghost use Rattle.policy.specs.Terms.{grant_terms, authorizations_made, OfActive, gives_vrp, share_vrp};

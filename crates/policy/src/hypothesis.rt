@@ -1,5 +1,5 @@
 ghost use Rattle.std.specs.Prelude.{◌<◌, ℕ, List, length, Some};
-ghost use Rattle.policy.specs.declared.charter.Charter.{Charter as CharterValue};
+ghost use Rattle.charters.specs.declared.charter.Charter.{Charter as CharterValue};
 ghost use Rattle.policy.specs.History.{History};
 ghost use Rattle.policy.specs.Rows.{rows_of, rows_if_any, RowsIfAny};
 ghost use Rattle.policy.specs.Verdict.{IsLegal, Verdict};

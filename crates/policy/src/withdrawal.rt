@@ -1,6 +1,6 @@
 ghost use Rattle.std.specs.Prelude.{◌≡◌, ℕ, List, Some, option_copied, MatchResult, IfOk};
 ghost use Rattle.policy.specs.declared.change.Edit.{Edit};
-ghost use Rattle.policy.specs.declared.charter.Charter.{Charter as CharterValue};
+ghost use Rattle.charters.specs.declared.charter.Charter.{Charter as CharterValue};
 ghost use Rattle.policy.specs.declared.command.Command.{Command};
 ghost use Rattle.policy.specs.History.{History};
 ghost use Rattle.policy.specs.Rows.{rows_of, rows_if_any, RowsIfAny, edited};

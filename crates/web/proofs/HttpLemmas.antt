@@ -7,7 +7,7 @@ use Rattle.std.specs.declared.alloc.AllocError.{AllocError}
 use Rattle.sqlite.specs.Store.{Ghosts}
 use Rattle.policy.specs.History.{History}
 use Rattle.policy.specs.Verdict.{IsLegal}
-use Rattle.policy.specs.declared.charter.Charter.{Charter}
+use Rattle.charters.specs.declared.charter.Charter.{Charter}
 use Rattle.http_messages.specs.HeadEnd.{IsWholeHead}
 use Rattle.http_messages.specs.Input.{Gives}
 use Rattle.http_messages.specs.Requests.{AnswersHead, asked_by, Asked as Head}

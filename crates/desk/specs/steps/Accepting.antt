@@ -3,7 +3,7 @@ use Rattle.std.specs.Prelude.{ℕ, List}
 use Rattle.policy.specs.Answer.{IsAccepted}
 use Rattle.policy.specs.History.{History}
 use Rattle.policy.specs.declared.change.Change.{Change}
-use Rattle.policy.specs.declared.charter.Charter.{Charter}
+use Rattle.charters.specs.declared.charter.Charter.{Charter}
 use Rattle.policy.specs.declared.command.Command.{Command}
 use Rattle.desk.specs.Answer.{AnswersCommand}
 use Rattle.desk.specs.declared.reply.Reply.{Reply}

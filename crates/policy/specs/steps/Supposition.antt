@@ -1,6 +1,6 @@
 -- What one supposed change does.
 use Rattle.std.specs.Prelude.{ℕ, List, ◌∷◌, Some, None}
-use Rattle.policy.specs.declared.charter.Charter.{Charter}
+use Rattle.charters.specs.declared.charter.Charter.{Charter}
 use Rattle.policy.specs.declared.command.Proposed.{Proposed}
 use Rattle.policy.specs.History.{History}
 use Rattle.policy.specs.HypotheticalHistory.{proposed_command}

@@ -2,7 +2,7 @@
 use Rattle.std.specs.Prelude.{ℕ, List, ◌∷◌, None}
 use Rattle.policy.specs.declared.change.Change.TheVariants.{Holders}
 use Rattle.policy.specs.declared.change.Edit.TheVariants.{Withdraw as WithdrawEdit}
-use Rattle.policy.specs.declared.charter.Charter.{Charter}
+use Rattle.charters.specs.declared.charter.Charter.{Charter}
 use Rattle.policy.specs.declared.command.Command.TheVariants.{Withdraw}
 use Rattle.policy.specs.History.{History}
 use Rattle.policy.specs.Rows.{Carries}

@@ -2,7 +2,7 @@
 ghost use Rattle.std.specs.Prelude.{◌≡◌, ℕ, List, Some, Err, option_copied};
 ghost use Rattle.std.specs.Global.{Vec};
 ghost use Rattle.policy.specs.declared.authorization.AuthTerms.{AuthTerms as AuthTermsValue};
-ghost use Rattle.policy.specs.declared.charter.Charter.{Charter as CharterValue};
+ghost use Rattle.charters.specs.declared.charter.Charter.{Charter as CharterValue};
 ghost use Rattle.policy.specs.declared.command.Command.{Command};
 ghost use Rattle.policy.specs.History.{History};
 ghost use Rattle.policy.specs.Import.{JudgesRow};

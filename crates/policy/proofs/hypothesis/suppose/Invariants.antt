@@ -1,5 +1,5 @@
 use Rattle.std.proofs.Common.{◌≡◌, ℕ, List, Some, take}
-use Rattle.policy.specs.declared.charter.Charter.{Charter}
+use Rattle.charters.specs.declared.charter.Charter.{Charter}
 use Rattle.policy.specs.History.{History}
 use Rattle.policy.specs.Rows.{rows_of, RowsIfAny}
 use Rattle.policy.specs.Verdict.{IsLegal}

@@ -10,7 +10,7 @@ use Rattle.addr.specs.declared.family.Family.{Family}
 use Rattle.addr.specs.declared.family.Family.TheVariants.{V4, V6}
 use Rattle.addr.specs.declared.prefix.Prefix.{Prefix}
 use Rattle.addr.proofs.AddressLemmas.{between_at}
-use Rattle.policy.specs.Pool.{pool_has, IsInPool, HasFromTo}
+use Rattle.charters.specs.Pool.{pool_has, IsInPool, HasFromTo}
 
 find_none : (test : Prefix → Bool) (pool : List Prefix) → find test pool ≡ None → list_any test pool ≡ false
 find_none test [] is = refl

@@ -5,8 +5,8 @@ use Rattle.std.specs.Ordering.{nat_cmp}
 use Rattle.addr.specs.Address.{prefix_eq}
 use Rattle.addr.specs.Order.{prefix_cmp}
 use Rattle.addr.specs.declared.prefix.Prefix.{Prefix}
-use Rattle.policy.specs.declared.charter.TheConstants.{MOST_OPERATORS, MOST_POOL_PREFIXES}
-use Rattle.policy.specs.Repeats.{has_repeat}
+use Rattle.charters.specs.declared.charter.TheConstants.{MOST_OPERATORS, MOST_POOL_PREFIXES}
+use Rattle.charters.specs.Repeats.{has_repeat}
 
 -- both are sets
 pub record CharterSets : Type 0 where

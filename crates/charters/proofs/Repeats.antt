@@ -13,7 +13,7 @@ use Rattle.addr.specs.declared.family.Family.TheVariants.{V4, V6}
 use Rattle.addr.specs.declared.prefix.Prefix.{Prefix}
 use Rattle.addr.specs.contracts.prefix.PrefixPartialEq.TheImpl as prefix_equality
 use Rattle.addr.proofs.OrderLemmas.{derived_prefix_eq}
-use Rattle.policy.specs.Repeats.{has_repeat}
+use Rattle.charters.specs.Repeats.{has_repeat}
 
 -- the list without its first value, as a slice pattern has it
 pub rest_of : {T : Type 0} (y : T) (ys : List T) → take (length (y ∷ ys) - 1) (drop 1 (y ∷ ys)) ≡ ys

@@ -1,8 +1,8 @@
 use Rattle.std.proofs.Common.{◌≤◌, refl, arith}
 use Rattle.std.proofs.lemmas.Bool.{false≢true}
 use Rattle.addr.specs.Address.{last_of}
-use Rattle.policy.proofs.PoolLemmas.{pool-whole, pool-hole}
-use Rattle.policy.proofs.charter.is_in_pool.Goals as goal
+use Rattle.charters.proofs.PoolLemmas.{pool-whole, pool-hole}
+use Rattle.charters.proofs.charter.is_in_pool.Goals as goal
 
 pub returns-then-last-end : goal.returns-then-last-end
 returns-then-last-end c =

@@ -1,6 +1,6 @@
 use Rattle.std.proofs.Common.{◌≡◌, ℕ, ◌+◌, ◌-◌, ◌<◌, ◌≤◌, true}
-use Rattle.policy.specs.Pool.{pool_has}
-use Rattle.policy.proofs.charter.is_in_pool.Given as goal
+use Rattle.charters.specs.Pool.{pool_has}
+use Rattle.charters.proofs.charter.is_in_pool.Given as goal
 
 abbrev pub invariant-loop-end : goal.invariant-loop-end
 invariant-loop-end l =

@@ -3,11 +3,11 @@ use Rattle.std.specs.Cmp.Lexicographic.{pointwise}
 use Rattle.std.proofs.lemmas.List.Sorted.{length_permutation}
 use Rattle.std.proofs.lemmas.Cmp.{nat_list_eq_equiv}
 use Rattle.addr.specs.Address.{prefix_eq}
-use Rattle.policy.specs.declared.charter.TheConstants.{MOST_OPERATORS, MOST_POOL_PREFIXES}
-use Rattle.policy.specs.Repeats.{has_repeat}
-use Rattle.policy.proofs.Repeats.{derived_repeats, has_repeat-moved, prefix_eq-flips}
+use Rattle.charters.specs.declared.charter.TheConstants.{MOST_OPERATORS, MOST_POOL_PREFIXES}
+use Rattle.charters.specs.Repeats.{has_repeat}
+use Rattle.charters.proofs.Repeats.{derived_repeats, has_repeat-moved, prefix_eq-flips}
 use Rattle.addr.proofs.OrderLemmas.{derived_prefix}
-use Rattle.policy.proofs.charter.Charter.make.Goals as goal
+use Rattle.charters.proofs.charter.Charter.make.Goals as goal
 
 pub invariant_of-result : goal.invariant_of-result
 invariant_of-result c =

@@ -3,9 +3,9 @@ ghost use Rattle.std.specs.Ordering.{nat_cmp};
 ghost use Rattle.std.specs.Cmp.Lexicographic.{pointwise, slice_cmp};
 ghost use Rattle.addr.specs.Address.{has_address, prefix_eq};
 ghost use Rattle.addr.specs.Order.{prefix_cmp};
-ghost use Rattle.policy.specs.Repeats.{has_repeat};
-ghost use Rattle.policy.specs.CharterSets.{AreInNumber, IsCharter};
-ghost use Rattle.policy.specs.Pool.{pool_has, IsInPool, HasFromTo};
+ghost use Rattle.charters.specs.Repeats.{has_repeat};
+ghost use Rattle.charters.specs.CharterSets.{AreInNumber, IsCharter};
+ghost use Rattle.charters.specs.Pool.{pool_has, IsInPool, HasFromTo};
 
 use addr::{Family, Name, Prefix};
 use std::alloc::AllocError;
@@ -27,7 +27,7 @@ pub enum CharterFault {
 }
 
 impl CharterFault {
-    ghost use Rattle.policy.specs.CharterFault.{charter_fault_number};
+    ghost use Rattle.charters.specs.CharterFault.{charter_fault_number};
 
     /// The number of the fault, from 1 in the order above.
     pub fn number(self) -> u8
@@ -49,7 +49,7 @@ pub struct Charter {
 }
 
 impl Model for Charter {
-    ghost use Rattle.policy.specs.CharterSets.{CharterSets, IsCharter};
+    ghost use Rattle.charters.specs.CharterSets.{CharterSets, IsCharter};
 
     ghost Value = { CharterSets };
 
@@ -92,7 +92,7 @@ fn has_repeat<T: PartialEq>(items: &[T]) -> bool
 }
 
 impl Charter {
-    ghost use Rattle.policy.specs.Charter.{is_operator, operators_of, pool_of};
+    ghost use Rattle.charters.specs.Charter.{is_operator, operators_of, pool_of};
 
     /// The charter of these operators and this pool, both in rising order. It takes no memory.
     #[tactic(auto, using(crate::proofs::Repeats::derived_repeats))]
@@ -147,7 +147,7 @@ impl Charter {
     }
 
     /// Whether every address of the prefix lies in some prefix of the pool.
-    pub(crate) fn has_in_pool(&self, prefix: &Prefix) -> bool
+    pub fn has_in_pool(&self, prefix: &Prefix) -> bool
         ensures { IsTrue result ↔ IsInPool (pool_of self.now) prefix.now }
     {
         is_in_pool(&self.pool, prefix)

@@ -1,6 +1,6 @@
 use Rattle.std.proofs.Common.{refl, sym, ◌∙◌}
-use Rattle.policy.proofs.Repeats.{repeat_passed, repeat_found}
-use Rattle.policy.proofs.charter.has_repeat.Goals as goal
+use Rattle.charters.proofs.Repeats.{repeat_passed, repeat_found}
+use Rattle.charters.proofs.charter.has_repeat.Goals as goal
 
 pub loop-rest-preserved : goal.loop-rest-preserved
 loop-rest-preserved g c =
