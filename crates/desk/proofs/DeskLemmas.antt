@@ -1,5 +1,5 @@
 -- What the rows of a legal history say of it.
-use Rattle.std.proofs.Common.{◌≡◌, ℕ, Bool, true, false, ◌↔◌, IsTrue, List, Option, Some, None, refl, sym, ap, ◌∙◌, subst, arith, length, ◌-◌, MatchBool, ◌∷◌, Result, Ok, Err, IfOk}
+use Rattle.std.proofs.Common.{◌≡◌, ℕ, Bool, true, false, ◌↔◌, IsTrue, List, Option, Some, None, refl, sym, ap, ◌∙◌, subst, arith, length, ◌-◌, MatchBool, Result, Ok, Err, IfOk}
 use Rattle.std.specs.Global.{Vec}
 use Rattle.std.proofs.lemmas.Bool.{false≢true, true≢false}
 use Rattle.addr.specs.Address.{Address}

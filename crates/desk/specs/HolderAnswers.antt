@@ -1,6 +1,6 @@
 -- Holders that share a desk: which entries of the history decide the reply to a request, and which rows
 -- a request may change.
-use Rattle.std.specs.Prelude.{◌≡◌, ℕ, Bool, false, ◌||◌, List, [], ◌∷◌, Option, Some, None, IsSome, IfSome, option_map, if◌then◌else◌}
+use Rattle.std.specs.Prelude.{◌≡◌, ℕ, Bool, false, List, [], ◌∷◌, Option, Some, None, IsSome, IfSome, option_map, if◌then◌else◌}
 use Rattle.std.specs.List.{list_any}
 use Rattle.std.specs.String.{string_bytes}
 use Rattle.isolation.specs.Isolation.{asks_of_all}
@@ -15,7 +15,7 @@ use Rattle.policy.specs.RowsOfAll.{AllRows}
 use Rattle.policy.specs.Verdict.{IsLegal}
 use Rattle.sqlite.specs.Store.{Ghosts}
 use Rattle.store.specs.StoreRows.{Holds}
-use Rattle.desk.specs.Answer.{is_import, AnswersRequest}
+use Rattle.desk.specs.Answer.{AnswersRequest}
 use Rattle.desk.specs.ContentText.{IsContentText}
 use Rattle.desk.specs.declared.asked.Asked.{Asked}
 use Rattle.desk.specs.declared.asked.Request.{Request}
@@ -28,8 +28,7 @@ use Rattle.desk.specs.declared.reply.Reply.TheVariants.{Content, Listed, Report,
 -- request asks about all holders
 abbrev pub deciding_entries : Request → History → Option History
 deciding_entries (CommandRequest command) history =
-    if asks_of_all command || is_import command then None else Some (entries_for command history)
-deciding_entries (QueryRequest (WhatIf h changes routes)) history = None
+    if asks_of_all command then None else Some (entries_for command history)
 deciding_entries (QueryRequest query) history =
     option_map (λ h. entries_naming h history) (holder_asked query)
 
