@@ -6,7 +6,7 @@ use Rattle.policy.specs.Answer.{number_given}
 use Rattle.policy.specs.History.{History}
 use Rattle.policy.specs.HypotheticalHistory.{proposed_command, HypotheticalHistory}
 use Rattle.policy.specs.Verdict.{Verdict}
-use Rattle.policy.specs.declared.charter.Charter.{Charter}
+use Rattle.charters.specs.declared.charter.Charter.{Charter}
 use Rattle.policy.specs.declared.command.Command.{Command}
 use Rattle.policy.specs.declared.command.Proposed.{Proposed}
 use Rattle.policy.specs.declared.command.Proposed.TheVariants.{Create as ProposedCreate, Withdraw as ProposedWithdraw}

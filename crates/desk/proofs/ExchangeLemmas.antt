@@ -25,7 +25,7 @@ use Rattle.policy.specs.RowsOfAll.{AllRows, HasRows}
 use Rattle.policy.specs.Terms.{authorization_terms, share_vrp, AreActive, HeldSinceMade, IsActive, IsVrpOf, Keeps}
 use Rattle.policy.specs.Verdict.{terms_fit_length, IsLegal}
 use Rattle.policy.specs.declared.authorization.Auth.{Auth}
-use Rattle.policy.specs.declared.charter.Charter.{Charter}
+use Rattle.charters.specs.declared.charter.Charter.{Charter}
 use Rattle.policy.specs.declared.command.Proposed.{Proposed}
 use Rattle.policy.specs.declared.rule.Refusal.{Refusal}
 use Rattle.policy.specs.declared.rule.Refusal.TheVariants.{Denied, Memory}

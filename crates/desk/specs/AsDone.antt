@@ -6,7 +6,7 @@ use Rattle.addr.specs.declared.route.Route.{Route}
 use Rattle.payload.specs.declared.validity.Validity.{Validity}
 use Rattle.policy.specs.History.{History}
 use Rattle.policy.specs.HypotheticalHistory.{proposed_command}
-use Rattle.policy.specs.declared.charter.Charter.{Charter}
+use Rattle.charters.specs.declared.charter.Charter.{Charter}
 use Rattle.policy.specs.declared.command.Proposed.{Proposed}
 use Rattle.desk.specs.Answer.{is_accepted, states_after, AnswersWhatIf, AreStatesOn}
 use Rattle.desk.specs.Run.{Runs}

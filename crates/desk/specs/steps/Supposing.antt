@@ -9,7 +9,7 @@ use Rattle.policy.specs.HypotheticalHistory.{HypotheticalHistory}
 use Rattle.policy.specs.Rows.{Rows}
 use Rattle.policy.specs.Terms.{IsVrpOf}
 use Rattle.policy.specs.declared.authorization.Auth.{Auth}
-use Rattle.policy.specs.declared.charter.Charter.{Charter}
+use Rattle.charters.specs.declared.charter.Charter.{Charter}
 use Rattle.policy.specs.declared.command.Proposed.{Proposed}
 use Rattle.store.specs.Loads.{AreFilesOf}
 

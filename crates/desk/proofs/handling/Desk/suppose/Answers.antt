@@ -4,7 +4,7 @@ use Rattle.std.proofs.lemmas.Result.{err_from_is_err_and}
 use Rattle.payload.specs.VrpSet as set
 use Rattle.policy.specs.Answer.{IsSupposed}
 use Rattle.policy.specs.Rows.{rows_if_any, rows_of}
-use Rattle.policy.specs.declared.charter.Charter.{Charter}
+use Rattle.charters.specs.declared.charter.Charter.{Charter}
 use Rattle.desk.specs.Desk.{charter_of}
 use Rattle.desk.proofs.ExchangeLemmas.{exchanges_nothing, supposed_refused, would_exchange}
 use Rattle.desk.proofs.handling.Desk.suppose.Goals as goal
