@@ -32,8 +32,8 @@ deciding_entries (CommandRequest command) history =
 deciding_entries (QueryRequest query) history =
     option_map (λ h. entries_naming h history) (holder_asked query)
 
--- The reply answers the request on these entries. Of a report the entries say that its changes would be made,
--- and nothing of its states, which are over the VRPs of all holders.
+-- The reply answers the request on these entries. Of a report the entries say that its changes
+-- would be accepted, and nothing of its states, which are over the VRPs of all holders.
 abbrev pub IsAnswerOn : Charter → History → ℕ → List ℕ → Request → Reply → Type 0
 IsAnswerOn charter entries day caller (QueryRequest (WhatIf h changes routes)) (Report states) =
     (after : History) × HypotheticalHistory charter day caller h entries changes.items after

@@ -97,7 +97,8 @@ impl Exchange {
     /// The VRPs after the exchange.
     pub(crate) fn made_in(&self, alloc: Global, vrps: &[Vrp]) -> Result<Vec<Vrp>, AllocError>
         ensures { IfOk result (λ after. after.items
-            ≡ filter (λ v. not (set.contains self.now.removed v)) vrps.now ++ self.now.added.items) }
+            ≡ filter (λ v. not (set.contains self.now.removed v)) vrps.now
+            ++ self.now.added.items) }
     {
         let mut after = self.left_of(alloc, vrps)?;
         after.extend_from_slice(&self.added)?;

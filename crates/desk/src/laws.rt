@@ -6,9 +6,9 @@ ghost use Rattle.desk.specs.HolderAnswers.{AnswersByEntries, OneReply};
 pub use isolation::laws::{again, import_again, parts};
 
 /// What answers a request on a legal history answers it on the entries that name its holders, but
-/// for a delegation, the VRPs of a day and the validity of routes, which ask about all holders. What
-/// changes at a holder would do is denied so, or its changes are accepted so; its states are over
-/// the VRPs of all holders.
+/// for a delegation, the VRPs of a day and the validity of routes, which ask about all holders.
+/// Changes of which it is asked what they would do are accepted or denied by those entries, and
+/// their states are over the VRPs of all holders.
 pub(crate) fn answers_by_entries()
     ensures { AnswersByEntries }
 {

@@ -8,8 +8,8 @@ use Rattle.policy.specs.declared.command.Command.{Command}
 use Rattle.desk.specs.Answer.{AnswersCommand}
 use Rattle.desk.specs.declared.reply.Reply.{Reply}
 
--- on each history on which the command is accepted with this change, it is the reply that leaves the history
--- to which the change carries
+-- on each history on which the command is accepted with this change, it is the reply, and leaves
+-- the history to which the change carries
 abbrev pub AnswersAccepted : Command → Change → Reply → Type 0
 AnswersAccepted command change reply =
     (charter : Charter) (history : History) (day : ℕ) (caller : List ℕ)

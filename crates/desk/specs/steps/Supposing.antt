@@ -31,7 +31,8 @@ abbrev pub AreVrpsOf : List Auth → ℕ → List Vrp → Type 0
 AreVrpsOf auths day vrps = (v : Vrp) → Contains vrps v ↔ AreGivingOn auths day v
 
 -- the VRPs that the authorizations of all holders give on the day, and the SLURM files in force
-pub record AreInForceOn (history : History) (day : ℕ) (vrps : List Vrp) (files : List Exceptions) : Type 0 where
+pub record AreInForceOn (history : History) (day : ℕ)
+    (vrps : List Vrp) (files : List Exceptions) : Type 0 where
   pub given : (v : Vrp) → Contains vrps v ↔ IsVrpInForce history day v
   pub loaded : AreFilesOf (exceptions_in_force history) files
 
@@ -39,14 +40,17 @@ pub record AreInForceOn (history : History) (day : ℕ) (vrps : List Vrp) (files
 abbrev pub IsExchanged : List Vrp → List Vrp → Type 0 → Vrp → Type 0
 IsExchanged removed added given v = (given × ¬ Contains removed v) ⊎ Contains added v
 
--- with these VRPs removed and those added, the VRPs in force on the day after the one history are those after
--- the other; and the exceptions in force are the same
+-- with these VRPs removed and those added, the VRPs in force on the day after the one history are
+-- those after the other; and the exceptions in force are the same
 pub record Exchanges (before after : History) (day : ℕ) (removed added : List Vrp) : Type 0 where
-  pub vrps : (v : Vrp) → IsVrpInForce after day v ↔ IsExchanged removed added (IsVrpInForce before day v) v
+  pub vrps :
+      (v : Vrp) → IsVrpInForce after day v
+      ↔ IsExchanged removed added (IsVrpInForce before day v) v
   pub exceptions : exceptions_in_force after ≡ exceptions_in_force before
 
 -- and this is so of the history that the changes of the caller at the holder would leave
-abbrev pub WouldExchange : Charter → History → ℕ → List ℕ → List ℕ → List Proposed → List Vrp → List Vrp → Type 0
+abbrev pub WouldExchange :
+    Charter → History → ℕ → List ℕ → List ℕ → List Proposed → List Vrp → List Vrp → Type 0
 WouldExchange charter before day caller holder changes removed added =
     (after : History) × HypotheticalHistory charter day caller holder before changes after
     × Exchanges before after day removed added
