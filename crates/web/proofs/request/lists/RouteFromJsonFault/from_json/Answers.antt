@@ -1,5 +1,5 @@
 use Rattle.std.proofs.Common.{refl}
-use Rattle.web.proofs.request.routes.RouteFromJsonFault.from_json.Goals as goal
+use Rattle.web.proofs.request.lists.RouteFromJsonFault.from_json.Goals as goal
 
 pub returns : goal.returns
 returns c =
