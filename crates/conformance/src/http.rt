@@ -14,6 +14,7 @@ use std::test::Fail;
 use web::{Device, WebFault, serve_one};
 
 mod connections;
+mod csv_files;
 mod heads;
 mod limits;
 mod routes;

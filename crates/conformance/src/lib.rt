@@ -15,4 +15,6 @@ mod replies;
 #[cfg(test)]
 mod requests;
 #[cfg(test)]
+mod rules;
+#[cfg(test)]
 mod scripts;

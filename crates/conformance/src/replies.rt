@@ -55,13 +55,32 @@ fn prints_short_replies(rt: HostRuntime) {
     for (reply, text) in [
         (Reply::Done(None), "{\"done\":null}\n"),
         (Reply::Done(Some(7)), "{\"done\":7}\n"),
+        (
+            Reply::Imported {
+                made: 2,
+                present: 0,
+            },
+            "{\"made\":2,\"present\":0}\n",
+        ),
+        (
+            Reply::Imported {
+                made: u64::MAX,
+                present: u64::MAX,
+            },
+            "{\"made\":18446744073709551615,\"present\":18446744073709551615}\n",
+        ),
         (Reply::Denied(Rule::Grant, None), "{\"denied\":\"grant\"}\n"),
         (
             Reply::Denied(Rule::Held, Some(2)),
             "{\"denied\":\"held\",\"row\":2}\n",
         ),
+        (
+            Reply::Denied(Rule::Operator, Some(u64::MAX)),
+            "{\"denied\":\"operator\",\"row\":18446744073709551615}\n",
+        ),
         (Reply::Unavailable, "{\"unavailable\":true}\n"),
     ] {
+        assert!(rt; short_text(&reply).is_some(), "of {text}");
         assert_printed(&rt, rt.alloc(), &reply, text);
     }
 }
@@ -100,6 +119,15 @@ fn prints_vrps_and_states(rt: HostRuntime) -> Result<(), Fail> {
     let answers = Reply::Answers(Vec::from_slice(alloc, &states)?);
     let text = "{\"answers\":[\"Valid\",\"NotFound\",\"Invalid\"]}\n";
     assert_printed(&rt, alloc, &answers, text);
+    let none = Reply::Report(Vec::new(alloc));
+    assert_printed(&rt, alloc, &none, "{\"report\":[]}\n");
+    let pairs = [
+        (Validity::Valid, Validity::Invalid),
+        (Validity::NotFound, Validity::Valid),
+    ];
+    let report = Reply::Report(Vec::from_slice(alloc, &pairs)?);
+    let text = "{\"report\":[[\"Valid\",\"Invalid\"],[\"NotFound\",\"Valid\"]]}\n";
+    assert_printed(&rt, alloc, &report, text);
     Ok(())
 }
 

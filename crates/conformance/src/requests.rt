@@ -54,6 +54,89 @@ null => 2
 {"day":"","caller":"","do":"reject","holder":""} => 2
 "#;
 
+/// Imports and questions of what changes would do, with their callers before them.
+const LISTS: &str = r#"
+# rows_of_an_import
+reg {"do":"import","holder":"alpha","rows":[{"asn":64496,"prefix":"192.0.2.0/24","max":24,"from":"2026-01-01","until":"2026-12-31"}]} => 0
+reg {"do":"import","holder":"alpha","rows":[{"asn":64496,"prefix":"192.0.2.0/24","max":24,"from":"2026-01-01","until":"2026-12-31"},{"asn":64496,"prefix":"192.0.2.0/24","max":24,"from":"2026-01-01","until":"2026-12-31"}]} => 0
+reg {"do":"import","holder":"alpha","rows":[{"until":"9999-12-31","from":"1970-01-01","max":255,"prefix":"::/0","asn":4294967295}]} => 0
+reg {"do":"import","holder":"alpha","rows":[{"asn":0,"prefix":"::/0","max":0,"from":"9999-12-31","until":"1970-01-01"}]} => 0
+reg {"do":"import","holder":"alpha","rows":[]} => 12
+reg {"do":"import","holder":"alpha","rows":{}} => 2
+reg {"do":"import","holder":"alpha","rows":null} => 2
+reg {"do":"import","holder":"alpha","rows":[7]} => 2
+reg {"do":"import","holder":"alpha","rows":[[]]} => 2
+reg {"do":"import","holder":"alpha","rows":[{}]} => 2
+reg {"do":"import","holder":"alpha","rows":[{"prefix":"192.0.2.0/24","max":24,"from":"2026-01-01","until":"2026-12-31"}]} => 2
+reg {"do":"import","holder":"alpha","rows":[{"asn":64496,"prefix":"192.0.2.0/24","max":24,"from":"2026-01-01"}]} => 2
+reg {"do":"import","holder":"alpha","rows":[{"do":"create","asn":64496,"prefix":"192.0.2.0/24","max":24,"from":"2026-01-01","until":"2026-12-31"}]} => 2
+reg {"do":"import","holder":"alpha","rows":[{"asn":64496,"prefix":"192.0.2.0/24","max":24,"from":"2026-01-01","until":"2026-12-31"},{"asn":64496,"prefix":"192.0.2.0/24","max":24,"from":"2026-01-01","until":"2026-12-31","number":1}]} => 2
+reg {"do":"import","holder":"alpha","rows":[{"asn":64496,"prefix":"192.0.2.0/24","max":24,"from":"2026-01-01","until":"2026-12-31"}],"routes":[]} => 2
+reg {"do":"import","holder":"alpha","rows":[{"asn":64496,"prefix":"192.0.2.0/24","max":24,"from":"2026-01-01","until":"2026-12-31"},{"asn":"AS64496","prefix":"192.0.2.0/24","max":24,"from":"2026-01-01","until":"2026-12-31"}]} => 6
+reg {"do":"import","holder":"alpha","rows":[{"asn":4294967296,"prefix":"192.0.2.0/24","max":24,"from":"2026-01-01","until":"2026-12-31"}]} => 6
+reg {"do":"import","holder":"alpha","rows":[{"asn":64496,"prefix":"192.0.2.1/24","max":24,"from":"2026-01-01","until":"2026-12-31"}]} => 5
+reg {"do":"import","holder":"alpha","rows":[{"asn":64496,"prefix":"192.0.2.0/24","max":256,"from":"2026-01-01","until":"2026-12-31"}]} => 7
+reg {"do":"import","holder":"alpha","rows":[{"asn":64496,"prefix":"192.0.2.0/24","max":-1,"from":"2026-01-01","until":"2026-12-31"}]} => 7
+reg {"do":"import","holder":"alpha","rows":[{"asn":64496,"prefix":"192.0.2.0/24","max":"24","from":"2026-01-01","until":"2026-12-31"}]} => 7
+reg {"do":"import","holder":"alpha","rows":[{"asn":64496,"prefix":"192.0.2.0/24","max":24,"from":"2026-02-29","until":"2026-12-31"}]} => 8
+reg {"do":"import","holder":"alpha","rows":[{"asn":64496,"prefix":"192.0.2.0/24","max":24,"from":"2026-01-01","until":null}]} => 8
+reg {"do":"import","holder":"Alpha","rows":[]} => 3
+Reg {"do":"import","holder":"alpha","rows":[]} => 4
+reg {"do":"import","holder":"alpha"} => 2
+reg {"do":"export","holder":"alpha"} => 2
+# lowest_number_over_all_rows_is_told
+reg {"do":"import","holder":"alpha","rows":[{"asn":null,"prefix":"192.0.2.0/24","max":24,"from":"2026-01-01","until":"2026-12-31"},{"asn":64496,"prefix":"192.0.2.1/24","max":24,"from":"2026-01-01","until":"2026-12-31"}]} => 5
+reg {"do":"import","holder":"alpha","rows":[{"asn":64496,"prefix":"192.0.2.0/24","max":24,"from":"","until":""},{"asn":64496,"prefix":"192.0.2.0/24","max":256,"from":"2026-01-01","until":"2026-12-31"}]} => 7
+reg {"do":"import","holder":"alpha","rows":[{"asn":64496,"prefix":"192.0.2.0/24","max":24,"from":"","until":"2026-12-31"},{"asn":-1,"prefix":"192.0.2.0/24","max":256,"from":"2026-01-01","until":"2026-12-31"}]} => 6
+reg {"do":"import","holder":"alpha","rows":[{"asn":null,"prefix":null,"max":null,"from":null,"until":null},{}]} => 2
+reg {"do":"import","holder":"","rows":[{"asn":null,"prefix":null,"max":null,"from":null,"until":null}]} => 3
+-reg {"do":"import","holder":"alpha","rows":[{"asn":64496,"prefix":"192.0.2.0/24","max":24,"from":"","until":"2026-12-31"}]} => 4
+# changes_of_a_what_if
+reg {"do":"whatif","holder":"alpha","changes":[],"routes":[{"prefix":"::/0","origin":1}]} => 0
+reg {"do":"whatif","holder":"alpha","changes":[{"do":"create","asn":64496,"prefix":"192.0.2.0/24","max":24,"from":"2026-01-01","until":"2026-12-31"}],"routes":[{"prefix":"::/0","origin":1}]} => 0
+reg {"do":"whatif","holder":"alpha","changes":[{"do":"create","asn":64496,"prefix":"192.0.2.0/24","max":24,"from":"2026-01-01","until":"2026-12-31"},{"number":999999,"do":"withdraw"},{"do":"withdraw","number":1}],"routes":[{"prefix":"::/0","origin":1}]} => 0
+reg {"do":"whatif","holder":"alpha","changes":{},"routes":[{"prefix":"::/0","origin":1}]} => 2
+reg {"do":"whatif","holder":"alpha","changes":null,"routes":[{"prefix":"::/0","origin":1}]} => 2
+reg {"do":"whatif","holder":"alpha","changes":[7],"routes":[{"prefix":"::/0","origin":1}]} => 2
+reg {"do":"whatif","holder":"alpha","changes":[{}],"routes":[{"prefix":"::/0","origin":1}]} => 2
+reg {"do":"whatif","holder":"alpha","changes":["withdraw"],"routes":[{"prefix":"::/0","origin":1}]} => 2
+reg {"do":"whatif","holder":"alpha","changes":[{"do":"withdraw"}],"routes":[{"prefix":"::/0","origin":1}]} => 2
+reg {"do":"whatif","holder":"alpha","changes":[{"number":1}],"routes":[{"prefix":"::/0","origin":1}]} => 2
+reg {"do":"whatif","holder":"alpha","changes":[{"do":"amend","number":1}],"routes":[{"prefix":"::/0","origin":1}]} => 2
+reg {"do":"whatif","holder":"alpha","changes":[{"do":"Withdraw","number":1}],"routes":[{"prefix":"::/0","origin":1}]} => 2
+reg {"do":"whatif","holder":"alpha","changes":[{"do":null,"number":1}],"routes":[{"prefix":"::/0","origin":1}]} => 2
+reg {"do":"whatif","holder":"alpha","changes":[{"do":"withdraw","number":1,"max":24}],"routes":[{"prefix":"::/0","origin":1}]} => 2
+reg {"do":"whatif","holder":"alpha","changes":[{"do":"withdraw","number":1,"holder":"alpha"}],"routes":[{"prefix":"::/0","origin":1}]} => 2
+reg {"do":"whatif","holder":"alpha","changes":[{"do":"withdraw","asn":64496,"prefix":"192.0.2.0/24","max":24,"from":"2026-01-01","until":"2026-12-31"}],"routes":[{"prefix":"::/0","origin":1}]} => 2
+reg {"do":"whatif","holder":"alpha","changes":[{"do":"create","number":1}],"routes":[{"prefix":"::/0","origin":1}]} => 2
+reg {"do":"whatif","holder":"alpha","changes":[{"do":"create","asn":64496,"prefix":"192.0.2.0/24","max":24,"from":"2026-01-01","until":"2026-12-31","number":1}],"routes":[{"prefix":"::/0","origin":1}]} => 2
+reg {"do":"whatif","holder":"alpha","changes":[{"asn":64496,"prefix":"192.0.2.0/24","max":24,"from":"2026-01-01","until":"2026-12-31"}],"routes":[{"prefix":"::/0","origin":1}]} => 2
+reg {"do":"whatif","holder":"alpha","changes":[{"do":"withdraw","number":0}],"routes":[{"prefix":"::/0","origin":1}]} => 10
+reg {"do":"whatif","holder":"alpha","changes":[{"do":"withdraw","number":1000000}],"routes":[{"prefix":"::/0","origin":1}]} => 10
+reg {"do":"whatif","holder":"alpha","changes":[{"do":"withdraw","number":"1"}],"routes":[{"prefix":"::/0","origin":1}]} => 10
+reg {"do":"whatif","holder":"alpha","changes":[{"do":"create","asn":-1,"prefix":"192.0.2.0/24","max":24,"from":"2026-01-01","until":"2026-12-31"}],"routes":[{"prefix":"::/0","origin":1}]} => 6
+reg {"do":"whatif","holder":"alpha","changes":[{"do":"create","asn":64496,"prefix":"all","max":24,"from":"2026-01-01","until":"2026-12-31"}],"routes":[{"prefix":"::/0","origin":1}]} => 5
+reg {"do":"whatif","holder":"alpha","changes":[{"do":"create","asn":64496,"prefix":"192.0.2.0/24","max":256,"from":"2026-01-01","until":"2026-12-31"}],"routes":[{"prefix":"::/0","origin":1}]} => 7
+reg {"do":"whatif","holder":"alpha","changes":[{"do":"create","asn":64496,"prefix":"192.0.2.0/24","max":24,"from":"2026-1-1","until":"2026-12-31"}],"routes":[{"prefix":"::/0","origin":1}]} => 8
+reg {"do":"whatif","holder":"alpha","changes":[],"routes":[]} => 12
+reg {"do":"whatif","holder":"alpha","changes":[],"routes":null} => 2
+reg {"do":"whatif","holder":"alpha","changes":[],"routes":[{"prefix":"::/0"}]} => 2
+reg {"do":"whatif","holder":"alpha","changes":[],"routes":[{"prefix":"::","origin":1}]} => 5
+reg {"do":"whatif","holder":"alpha","changes":[],"routes":[{"prefix":"::/0","origin":"NONE"}]} => 6
+reg {"do":"whatif","holder":"alpha","changes":[],"routes":[{"prefix":"::/0","origin":1}],"file":{}} => 2
+reg {"do":"whatif","holder":"alpha ","changes":[],"routes":[{"prefix":"::/0","origin":1}]} => 3
+- {"do":"whatif","holder":"alpha","changes":[],"routes":[{"prefix":"::/0","origin":1}]} => 4
+reg {"do":"whatif","holder":"alpha","changes":[]} => 2
+reg {"do":"whatif","holder":"alpha","routes":[{"prefix":"::/0","origin":1}]} => 2
+# lowest_number_over_all_changes_and_routes_is_told
+reg {"do":"whatif","holder":"alpha","changes":[{"do":"withdraw","number":0}],"routes":[]} => 10
+reg {"do":"whatif","holder":"alpha","changes":[{"do":"withdraw","number":0},{"do":"create","asn":64496,"prefix":"192.0.2.0/24","max":256,"from":"","until":""}],"routes":[{"prefix":"::/0","origin":1}]} => 7
+reg {"do":"whatif","holder":"alpha","changes":[{"do":"withdraw","number":0}],"routes":[{"prefix":"::/0","origin":-1}]} => 6
+reg {"do":"whatif","holder":"alpha","changes":[{"do":"create","asn":-1,"prefix":"192.0.2.0/24","max":24,"from":"2026-01-01","until":"2026-12-31"}],"routes":[{"prefix":"::","origin":1}]} => 5
+reg {"do":"whatif","holder":"","changes":[{"do":"withdraw","number":0},{"do":"end","number":1}],"routes":[{"prefix":"::/0","origin":1}]} => 2
+Reg {"do":"whatif","holder":"","changes":[{"do":"withdraw","number":0}],"routes":[]} => 3
+"#;
+
 /// Requests with their callers before them.
 const REQUESTS: &str = r#"
 # tells_the_number_of_each_member
@@ -99,9 +182,7 @@ reg {"do":"validity","routes":[{"prefix":"192.0.2.0/24"}]} => 2
 reg {"do":"validity","routes":[{"prefix":"192.0.2.0/24","origin":1,"max":24}]} => 2
 reg {"do":"validity","routes":[{"prefix":"192.0.2.0/24","origin":"AS1"}]} => 6
 reg {"do":"validity","routes":[{"prefix":"192.0.2.0/24","origin":"AS1"},{"prefix":"all","origin":1}]} => 5
-reg {"do":"import","holder":"alpha","rows":[]} => 2
 reg {"do":"slurm","file":{}} => 11
-reg {"do":"whatif","holder":"alpha","changes":[],"routes":[]} => 2
 # takes_numbers_in_plain_digits_alone
 reg {"do":"amend","holder":"alpha","number":1,"max":24,"until":"2026-12-31"} => 0
 reg {"do":"amend","holder":"alpha","number":1,"max":24.0,"until":"2026-12-31"} => 7
@@ -133,40 +214,89 @@ fn tells_what_a_line_is_refused_for(rt: HostRuntime) -> Result<(), Fail> {
         let number = reported(alloc, row.input.as_bytes()).to_string(alloc)?;
         assert_eq!(rt; number.as_str(), row.output, "{}: {}", row.name, row.input);
     }
-    for row in &rows_of(alloc, REQUESTS)? {
-        let line = line_of(alloc, "2026-03-01", row.input)?;
-        let number = reported(alloc, line.as_bytes()).to_string(alloc)?;
-        assert_eq!(rt; number.as_str(), row.output, "{}: {}", row.name, row.input);
+    for table in [REQUESTS, LISTS] {
+        for row in &rows_of(alloc, table)? {
+            let line = line_of(alloc, "2026-03-01", row.input)?;
+            let number = reported(alloc, line.as_bytes()).to_string(alloc)?;
+            assert_eq!(rt; number.as_str(), row.output, "{}: {}", row.name, row.input);
+        }
     }
     Ok(())
 }
 
-// A validity line with that many routes, the last of which has this prefix.
-fn many_routes(alloc: Global, count: u32, last: &str) -> Result<String, Fail> {
-    let mut request = String::from_str(alloc, r#"reg {"do":"validity","routes":["#)?;
+/// What stands before the items of a list, what stands in an item before its prefix and after it,
+/// what stands after the list, and how many items it may have.
+const LIMITED: [(&str, &str, &str, &str, u32); 4] = [
+    (
+        r#"reg {"do":"validity","routes":["#,
+        r#"{"prefix":""#,
+        r#"","origin":1}"#,
+        "]}",
+        10_000,
+    ),
+    (
+        r#"reg {"do":"whatif","holder":"alpha","changes":[],"routes":["#,
+        r#"{"origin":null,"prefix":""#,
+        r#""}"#,
+        "]}",
+        10_000,
+    ),
+    (
+        r#"reg {"do":"import","holder":"alpha","rows":["#,
+        r#"{"asn":1,"prefix":""#,
+        r#"","max":0,"from":"2026-01-01","until":"2026-12-31"}"#,
+        "]}",
+        10_000,
+    ),
+    (
+        r#"reg {"do":"whatif","holder":"alpha","changes":["#,
+        r#"{"do":"create","asn":1,"prefix":""#,
+        r#"","max":0,"from":"2026-01-01","until":"2026-12-31"}"#,
+        r#"],"routes":[{"prefix":"::/0","origin":1}]}"#,
+        1_000,
+    ),
+];
+
+// A list of so many items, the last of which has this prefix.
+fn list_of(
+    alloc: Global,
+    before: &str,
+    after: &str,
+    count: u32,
+    last: &str,
+) -> Result<String, Fail> {
+    let mut list = String::new(alloc);
     for _ in 1..count {
-        request.push_str(r#"{"prefix":"::/0","origin":1},"#)?;
+        list.push_str(before)?;
+        list.push_str("::/0")?;
+        list.push_str(after)?;
+        list.push(',')?;
     }
-    request.push_str(r#"{"origin":1,"prefix":""#)?;
-    request.push_str(last)?;
-    request.push_str(r#""}]}"#)?;
-    line_of(alloc, "2026-03-01", &request)
+    list.push_str(before)?;
+    list.push_str(last)?;
+    list.push_str(after)?;
+    Ok(list)
 }
 
 #[test]
-fn limits_of_routes(rt: HostRuntime) -> Result<(), Fail> {
-    for (count, last, number) in [
-        (1, "::/0", 0),
-        (10_000, "::/0", 0),
-        (10_001, "::/0", 12),
-        (10_001, "::", 5),
-    ] {
-        let line = many_routes(rt.alloc(), count, last)?;
-        assert_eq!(rt;
-            reported(rt.alloc(), line.as_bytes()),
-            number,
-            "{count} routes"
-        );
+fn limits_of_lists(rt: HostRuntime) -> Result<(), Fail> {
+    let alloc = rt.alloc();
+    for (head, before, after, end, most) in LIMITED {
+        for (count, last, number) in [
+            (1, "::/0", 0),
+            (most, "::/0", 0),
+            (most + 1, "::/0", 12),
+            (most + 1, "::", 5),
+        ] {
+            let list = list_of(alloc, before, after, count, last)?;
+            let request = format!(in alloc; "{head}{list}{end}")?;
+            let line = line_of(alloc, "2026-03-01", &request)?;
+            assert_eq!(rt;
+                reported(alloc, line.as_bytes()),
+                number,
+                "{head} {count} items"
+            );
+        }
     }
     Ok(())
 }

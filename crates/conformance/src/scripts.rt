@@ -20,9 +20,11 @@ mod authorizations;
 mod contents;
 pub(crate) mod exceptions;
 mod grants;
+mod imports;
 mod other_holders;
 mod repeats;
 mod resources;
+mod suppositions;
 mod vrps;
 
 /// `alpha` has 192.0.2.0/24, and `ann` is its manager.
@@ -47,6 +49,8 @@ bob {"do":"payloads"} => {"payloads":[{"asn":64496,"prefix":"192.0.2.0/24","max"
 bob {"do":"validity","routes":[{"prefix":"192.0.2.64/26","origin":64496}]} => {"answers":["Valid"]}
 slurm {"asn":64497} ; {"asn":64500,"prefix":"192.0.2.0/24"} => {"done":null}
 bob {"do":"payloads"} => {"payloads":[{"asn":64500,"prefix":"192.0.2.0/24","max":24},{"asn":64496,"prefix":"192.0.2.0/24","max":26}]}
+ann {"do":"import","holder":"alpha","rows":[{"asn":64496,"prefix":"192.0.2.0/24","max":26,"from":"2026-01-01","until":"2026-06-30"},{"asn":64498,"prefix":"192.0.2.0/25","max":25,"from":"2026-01-01","until":"2026-12-31"}]} => {"made":1,"present":1}
+ann {"do":"whatif","holder":"alpha","changes":[{"do":"withdraw","number":1},{"do":"create","asn":64499,"prefix":"192.0.2.128/25","max":25,"from":"2026-01-01","until":"2026-12-31"}],"routes":[{"prefix":"192.0.2.0/24","origin":64496},{"prefix":"192.0.2.128/25","origin":64499}]} => {"report":[["Valid","Invalid"],["Invalid","Valid"]]}
 ann {"do":"withdraw","holder":"alpha","number":1} => {"done":null}
 reg {"do":"register","holder":"beta"} => {"done":null}
 reg {"do":"transfer","prefix":"192.0.2.0/25","giver":"alpha","taker":"beta"} => {"done":null}
@@ -66,19 +70,28 @@ const EXAMPLE_POOL: &[&str] = &["192.0.2.0/24", "198.51.100.0/24", "2001:db8::/3
 
 const HALVES: &[&str] = &["192.0.2.0/25", "192.0.2.128/25"];
 
-/// A new desk with the operator `reg` and this pool.
-pub(crate) fn desk_of(alloc: Global, pool: &[&str]) -> Result<Desk<MemStore>, Fail> {
+/// The charter of the operator `reg` and this pool.
+fn charter_of(alloc: Global, pool: &[&str]) -> Result<Charter, Fail> {
     let mut operators = Vec::new(alloc);
     operators.push(Name::read(b"reg").ok_or("a name")?)?;
     let mut prefixes = Vec::new(alloc);
     for text in pool {
         prefixes.push(Prefix::read(text.as_bytes())?)?;
     }
-    let charter = Charter::make(operators, prefixes)?;
+    Ok(Charter::make(operators, prefixes)?)
+}
+
+/// A new desk with the operator `reg` and this pool.
+pub(crate) fn desk_of(alloc: Global, pool: &[&str]) -> Result<Desk<MemStore>, Fail> {
+    let charter = charter_of(alloc, pool)?;
     let Ok(desk) = Desk::open_memory(alloc, &charter) else {
         return Err("no desk".into());
     };
     Ok(desk)
+}
+
+pub(crate) fn example_charter(alloc: Global) -> Result<Charter, Fail> {
+    charter_of(alloc, EXAMPLE_POOL)
 }
 
 pub(crate) fn example_desk(alloc: Global) -> Result<Desk<MemStore>, Fail> {
@@ -227,6 +240,7 @@ fn setup_of(name: &str) -> Result<&'static str, Fail> {
         "amendment" => Ok(amendments::AMENDMENT),
         "clerk" => Ok(grants::CLERK_OF_THE_LOWER_HALF),
         "exceptions" => Ok(exceptions::FILTER_AND_ASSERTION),
+        "import" => Ok(imports::TWO_ROWS),
         "other holder" => Ok(BETA),
         "reclaimed part" => Ok(resources::PART_RECLAIMED),
         _ => Err("no set-up of that name".into()),
@@ -284,6 +298,8 @@ fn scripts_have_their_replies(rt: HostRuntime) -> Result<(), Fail> {
     assert_all(&rt, rt.alloc(), authorizations::SCRIPTS)?;
     assert_all(&rt, rt.alloc(), amendments::SCRIPTS)?;
     assert_all(&rt, rt.alloc(), contents::SCRIPTS)?;
+    assert_all(&rt, rt.alloc(), imports::SCRIPTS)?;
+    assert_all(&rt, rt.alloc(), suppositions::SCRIPTS)?;
     assert_all(&rt, rt.alloc(), vrps::SCRIPTS)?;
     assert_all(&rt, rt.alloc(), exceptions::SCRIPTS)
 }
@@ -337,4 +353,39 @@ fn unrevoked_grants_fill_the_room(rt: HostRuntime) -> Result<(), Fail> {
     let texts = [ALPHA, filling.as_str()];
     let name = "unrevoked_grants_fill_the_room";
     assert_replies(&rt, rt.alloc(), EXAMPLE_POOL, name, &texts, grants::NO_ROOM)
+}
+
+#[test]
+fn import_of_1001_rows_has_no_room(rt: HostRuntime) -> Result<(), Fail> {
+    let alloc = rt.alloc();
+    let refused = imports::import_of_many(alloc, 1001, r#"{"denied":"room","row":1001}"#)?;
+    let made = imports::import_of_many(alloc, 1000, r#"{"made":1000,"present":0}"#)?;
+    let present = imports::import_of_many(alloc, 1000, r#"{"made":0,"present":1000}"#)?;
+    let texts = [
+        ALPHA,
+        refused.as_str(),
+        imports::NOTHING_LISTED,
+        made.as_str(),
+        present.as_str(),
+        refused.as_str(),
+    ];
+    let name = "import_of_1001_rows_has_no_room";
+    assert_replies(&rt, alloc, EXAMPLE_POOL, name, &texts, imports::FULL)
+}
+
+#[test]
+fn what_if_takes_a_thousand_changes(rt: HostRuntime) -> Result<(), Fail> {
+    let alloc = rt.alloc();
+    let most = imports::what_if_of_many(alloc, 1000, r#"{"report":[["NotFound","Valid"]]}"#)?;
+    let more = imports::what_if_of_many(alloc, 1001, r#"{"malformed":12}"#)?;
+    let texts = [ALPHA, most.as_str(), more.as_str()];
+    let name = "what_if_takes_a_thousand_changes";
+    assert_replies(
+        &rt,
+        alloc,
+        EXAMPLE_POOL,
+        name,
+        &texts,
+        imports::NOTHING_LISTED,
+    )
 }

@@ -23,6 +23,9 @@ GET /holders/alpha/auths/1/content ann => 200 {"content":"3017020300fbf03010300e
 GET /holders/alpha/auths ann => 200 {"listed":[{"number":1,"asn":64496,"prefix":"192.0.2.0/24","max":24,"from":"2026-01-01","until":"2026-12-31"}]}
 GET /holders/alpha/auths bob => 403 {"denied":"grant"}
 POST /validity bob {"routes":[{"prefix":"192.0.2.0/24","origin":64496},{"prefix":"192.0.2.0/25","origin":null}]} => 200 {"answers":["Valid","Invalid"]}
+POST /holders/alpha/whatif ann {"changes":[{"do":"withdraw","number":1}],"routes":[{"prefix":"192.0.2.0/24","origin":64496}]} => 200 {"report":[["Valid","NotFound"]]}
+POST /holders/alpha/whatif ann {"changes":[{"do":"withdraw","number":1},{"do":"create","asn":64496,"prefix":"192.0.2.0/24","max":24,"from":"2026-01-01","until":"2026-12-31"},{"do":"withdraw","number":3}],"routes":[{"prefix":"192.0.2.0/24","origin":64496}]} => 403 {"denied":"number","row":3}
+POST /holders/zeta/whatif bob { "routes" : [{"prefix":"192.0.2.0/24","origin":64496}] , "changes" : [] } => 200 {"report":[["Valid","Valid"]]}
 PATCH /holders/alpha/auths/1 ann {"max":25,"until":"2026-06-30"} => 200 {"done":null}
 GET /holders/alpha/auths/1 ann => 200 {"shown":{"number":1,"asn":64496,"prefix":"192.0.2.0/24","max":25,"from":"2026-01-01","until":"2026-06-30"}}
 DELETE /holders/alpha/auths/1 ann => 200 {"done":null}
@@ -87,10 +90,24 @@ PATCH /holders/alpha/auths/1 ann {"number":1,"max":25,"until":"2026-12-31"} => 4
 POST /validity bob {"routes":[]} => 400 {"malformed":12}
 POST /validity bob {"routes":[7]} => 400 {"malformed":2}
 POST /transfers reg {"prefix":"192.0.2.0/24","giver":"alpha","taker":"Beta"} => 400 {"malformed":3}
+# changes_and_routes
+POST /holders/alpha/whatif ann { => 400 {"malformed":1}
+POST /holders/alpha/whatif ann [] => 400 {"malformed":2}
+POST /holders/alpha/whatif ann {"holder":"alpha","changes":[],"routes":[{"prefix":"192.0.2.0/24","origin":64496}]} => 400 {"malformed":2}
+POST /holders/alpha/whatif ann {"changes":[]} => 400 {"malformed":2}
+POST /holders/alpha/whatif ann {"changes":[{"do":"amend","number":1}],"routes":[{"prefix":"192.0.2.0/24","origin":64496}]} => 400 {"malformed":2}
+POST /holders/alpha/whatif ann {"changes":[{"do":"withdraw","number":0}],"routes":[{"prefix":"192.0.2.0/24","origin":64496}]} => 400 {"malformed":10}
+POST /holders/alpha/whatif ann {"changes":[{"do":"withdraw","number":0}],"routes":[{"prefix":"192.0.2.0/24","origin":"NONE"}]} => 400 {"malformed":6}
+POST /holders/alpha/whatif ann {"changes":[],"routes":[]} => 400 {"malformed":12}
+POST /holders/alpha/whatif Ann {"changes":[],"routes":[]} => 400 {"malformed":4}
+POST /holders/Alpha/whatif Ann {"changes":[{"do":"withdraw","number":0}],"routes":[]} => 400 {"malformed":3}
+# export
+GET /holders/Alpha/export Ann => 400 {"malformed":3}
+GET /holders/alpha/export Ann => 400 {"malformed":4}
 "#;
 
 /// Targets that no path has.
-const NOT_FOUND: [&str; 14] = [
+const NOT_FOUND: [&str; 16] = [
     "/payloads?x",
     "/payloads?",
     "/payloads#x",
@@ -105,10 +122,12 @@ const NOT_FOUND: [&str; 14] = [
     "/holders/",
     "/holders//auths",
     "/holders/alpha/auths/",
+    "/holders/alpha/exports",
+    "/holders/alpha/import",
 ];
 
 /// Paths, and the methods that each has in the order of the table of routes.
-const ALLOWED: [(&str, &str); 12] = [
+const ALLOWED: [(&str, &str); 15] = [
     ("/holders/alpha", "PUT"),
     ("/holders/alpha/delegations", "POST"),
     ("/holders/alpha/reclaims", "POST"),
@@ -118,6 +137,9 @@ const ALLOWED: [(&str, &str); 12] = [
     ("/holders/alpha/auths", "GET, POST"),
     ("/holders/alpha/auths/1", "GET, PATCH, DELETE"),
     ("/holders/alpha/auths/1/content", "GET"),
+    ("/holders/alpha/export", "GET"),
+    ("/holders/alpha/imports", "POST"),
+    ("/holders/alpha/whatif", "POST"),
     ("/slurm", "PUT"),
     ("/payloads", "GET"),
     ("/validity", "POST"),

@@ -78,4 +78,23 @@ ann {"do":"withdraw","holder":"alpha","number":1} => {"done":null}
 second: ann {"do":"withdraw","holder":"gamma","number":1} => {"done":null}
 ann {"do":"amend","holder":"alpha","number":2,"max":24,"until":"2026-12-31"} => {"done":null}
 ann {"do":"list","holder":"alpha"} => {"listed":[{"number":2,"asn":64496,"prefix":"192.0.2.0/24","max":24,"from":"2026-01-01","until":"2026-12-31"}]}
+# others_import_and_ask_what_if after holder, authorization
+first: reg {"do":"register","holder":"beta"} => {"done":null}
+first: reg {"do":"delegate","holder":"beta","prefix":"198.51.100.0/24"} => {"done":null}
+first: reg {"do":"grant","holder":"beta","name":"bea","role":"manager","scope":"all","until":"2026-12-31"} => {"done":1}
+first: bea {"do":"import","holder":"beta","rows":[{"asn":64496,"prefix":"198.51.100.0/24","max":24,"from":"2026-01-01","until":"2026-12-31"},{"asn":64496,"prefix":"198.51.100.0/25","max":25,"from":"2026-01-01","until":"2026-12-31"}]} => {"made":2,"present":0}
+second: reg {"do":"register","holder":"gamma"} => {"done":null}
+second: reg {"do":"grant","holder":"gamma","name":"ann","role":"clerk","scope":"all","until":"2026-12-31"} => {"done":1}
+second: ann {"do":"import","holder":"gamma","rows":[{"asn":64496,"prefix":"192.0.2.0/24","max":24,"from":"2026-01-01","until":"2026-12-31"}]} => {"denied":"held","row":1}
+ann {"do":"import","holder":"alpha","rows":[{"asn":64496,"prefix":"192.0.2.0/24","max":24,"from":"2026-01-01","until":"2026-12-31"},{"asn":64496,"prefix":"192.0.2.0/25","max":25,"from":"2026-01-01","until":"2026-12-31"}]} => {"made":1,"present":1}
+first: bea {"do":"import","holder":"beta","rows":[{"asn":64496,"prefix":"198.51.100.0/24","max":24,"from":"2026-01-01","until":"2026-12-31"},{"asn":64496,"prefix":"198.51.100.0/25","max":25,"from":"2026-01-01","until":"2026-12-31"}]} => {"made":0,"present":2}
+second: reg {"do":"delegate","holder":"gamma","prefix":"198.51.100.0/24"} => {"done":null}
+second: ann {"do":"import","holder":"gamma","rows":[{"asn":64496,"prefix":"198.51.100.0/25","max":25,"from":"2026-01-01","until":"2026-12-31"},{"asn":64496,"prefix":"198.51.100.0/25","max":25,"from":"2026-01-01","until":"2026-12-31"}]} => {"made":1,"present":1}
+ann {"do":"whatif","holder":"alpha","changes":[{"do":"withdraw","number":1},{"do":"create","asn":64496,"prefix":"192.0.2.0/24","max":25,"from":"2026-01-01","until":"2026-12-31"},{"do":"withdraw","number":4}],"routes":[{"prefix":"192.0.2.0/24","origin":64496}]} => {"denied":"number","row":3}
+first: bea {"do":"whatif","holder":"beta","changes":[{"do":"withdraw","number":1},{"do":"withdraw","number":2}],"routes":[{"prefix":"198.51.100.0/25","origin":64496}]} => {"report":[["Valid","NotFound"]]}
+second: ann {"do":"withdraw","holder":"gamma","number":1} => {"done":null}
+ann {"do":"whatif","holder":"alpha","changes":[{"do":"withdraw","number":1},{"do":"create","asn":64496,"prefix":"192.0.2.0/24","max":25,"from":"2026-01-01","until":"2026-12-31"},{"do":"withdraw","number":3}],"routes":[{"prefix":"192.0.2.0/24","origin":64496},{"prefix":"192.0.2.0/25","origin":64496}]} => {"report":[["Valid","NotFound"],["Valid","Valid"]]}
+ann {"do":"import","holder":"alpha","rows":[{"asn":64496,"prefix":"198.51.100.0/24","max":24,"from":"2026-01-01","until":"2026-12-31"}]} => {"denied":"held","row":1}
+ann {"do":"import","holder":"alpha","rows":[{"asn":64496,"prefix":"192.0.2.0/25","max":25,"from":"2026-01-01","until":"2026-12-31"},{"asn":64496,"prefix":"192.0.2.0/24","max":24,"from":"2026-01-01","until":"2026-12-31"},{"asn":64497,"prefix":"192.0.2.128/25","max":26,"from":"2026-01-01","until":"2026-12-31"}]} => {"made":1,"present":2}
+ann {"do":"list","holder":"alpha"} => {"listed":[{"number":1,"asn":64496,"prefix":"192.0.2.0/24","max":24,"from":"2026-01-01","until":"2026-12-31"},{"number":2,"asn":64496,"prefix":"192.0.2.0/25","max":25,"from":"2026-01-01","until":"2026-12-31"},{"number":3,"asn":64497,"prefix":"192.0.2.128/25","max":26,"from":"2026-01-01","until":"2026-12-31"}]}
 "#;

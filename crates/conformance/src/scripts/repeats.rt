@@ -52,6 +52,18 @@ ann {"do":"list","holder":"alpha"} => {"listed":[{"number":1,"asn":64496,"prefix
 cleo {"do":"list","holder":"alpha"} => {"listed":[]}
 again => {"listed":[]}
 ann {"do":"list","holder":"alpha"} => {"listed":[{"number":1,"asn":64496,"prefix":"192.0.2.128/25","max":25,"from":"2026-01-01","until":"2026-12-31"}]}
+# import_twice after holder, authorization
+ann {"do":"import","holder":"alpha","rows":[{"asn":64496,"prefix":"192.0.2.0/25","max":25,"from":"2026-01-01","until":"2026-12-31"},{"asn":64496,"prefix":"192.0.2.0/24","max":24,"from":"2026-01-01","until":"2026-12-31"},{"asn":64496,"prefix":"192.0.2.0/25","max":25,"from":"2026-01-01","until":"2026-12-31"}]} => {"made":1,"present":2}
+again => {"made":0,"present":3}
+ann {"do":"list","holder":"alpha"} => {"listed":[{"number":1,"asn":64496,"prefix":"192.0.2.0/24","max":24,"from":"2026-01-01","until":"2026-12-31"},{"number":2,"asn":64496,"prefix":"192.0.2.0/25","max":25,"from":"2026-01-01","until":"2026-12-31"}]}
+# denied_import_twice after holder, authorization
+ann {"do":"import","holder":"alpha","rows":[{"asn":64496,"prefix":"192.0.2.0/25","max":25,"from":"2026-01-01","until":"2026-12-31"},{"asn":64496,"prefix":"192.0.2.0/24","max":24,"from":"2026-01-01","until":"2026-11-30"}]} => {"denied":"same","row":2}
+again => {"denied":"same","row":2}
+ann {"do":"list","holder":"alpha"} => {"listed":[{"number":1,"asn":64496,"prefix":"192.0.2.0/24","max":24,"from":"2026-01-01","until":"2026-12-31"}]}
+# what_if_twice after holder, authorization
+ann {"do":"whatif","holder":"alpha","changes":[{"do":"withdraw","number":1},{"do":"create","asn":64496,"prefix":"192.0.2.0/25","max":25,"from":"2026-01-01","until":"2026-12-31"}],"routes":[{"prefix":"192.0.2.0/24","origin":64496},{"prefix":"192.0.2.0/25","origin":64496}]} => {"report":[["Valid","NotFound"],["Invalid","Valid"]]}
+again => {"report":[["Valid","NotFound"],["Invalid","Valid"]]}
+ann {"do":"list","holder":"alpha"} => {"listed":[{"number":1,"asn":64496,"prefix":"192.0.2.0/24","max":24,"from":"2026-01-01","until":"2026-12-31"}]}
 # slurm_file_twice after holder, authorization
 slurm {"prefix":"192.0.2.0/24"} ; {"asn":64500,"prefix":"198.51.100.0/24"} => {"done":null}
 again => {"done":null}
