@@ -11,7 +11,7 @@ use Rattle.policy.specs.declared.admission.TheConstants.{LAST_NUMBER}
 use Rattle.policy.specs.declared.authorization.Auth.{Auth}
 use Rattle.policy.specs.declared.charter.Charter.{Charter}
 use Rattle.policy.specs.declared.command.Command.{Command}
-use Rattle.policy.specs.declared.command.Command.TheVariants.{Register, Delegate, Transfer, Reclaim, Grant, Revoke, Create, Amend, Withdraw, Slurm}
+use Rattle.policy.specs.declared.command.Command.TheVariants.{Register, Delegate, Transfer, Reclaim, Grant, Revoke, Create, Amend, Withdraw, Import, Slurm}
 use Rattle.policy.specs.declared.grant.Granted.{Granted}
 use Rattle.slurm.specs.Exceptions.{Exceptions}
 use Rattle.policy.specs.ExceptionsInForce.{exceptions_after, exceptions_in_force}
@@ -54,6 +54,7 @@ grants_after-fit charter before day caller (Revoke holder n) h accepted values f
 grants_after-fit charter before day caller (Create holder asn p max from until) h accepted values fit = fit
 grants_after-fit charter before day caller (Amend holder n max until) h accepted values fit = fit
 grants_after-fit charter before day caller (Withdraw holder n) h accepted values fit = fit
+grants_after-fit charter before day caller (Import holder rows) h accepted values fit = absurd accepted
 grants_after-fit charter before day caller (Slurm file) h accepted values fit = fit
 
 grants_fit : (charter : Charter) (history : History) (h : List ℕ) → IsLegal charter history → HistoryFits history
@@ -163,6 +164,7 @@ auths_after-fit charter before day caller (Withdraw holder n) h accepted values 
     let keep = λ (x : Auth). not (eqb x.number n) in
     elim (same_name holder h) as (λ b. AuthsFit (e ∷ before) h (authorizations_made before h) (cond b (filter keep auths) auths))
     [ true ↦ record { made = fit.made; terms = All-filter keep F auths fit.terms } | false ↦ fit ]
+auths_after-fit charter before day caller (Import holder rows) h accepted values fit = absurd accepted
 auths_after-fit charter before day caller (Slurm file) h accepted values fit = fit
 
 auths_fit : (charter : Charter) (history : History) (h : List ℕ) → IsLegal charter history → HistoryFits history
@@ -197,6 +199,7 @@ exceptions_after-fit (Revoke holder n) before values fit = fit
 exceptions_after-fit (Create holder asn p max from until) before values fit = fit
 exceptions_after-fit (Amend holder n max until) before values fit = fit
 exceptions_after-fit (Withdraw holder n) before values fit = fit
+exceptions_after-fit (Import holder rows) before values fit = fit
 
 pub exceptions_in_force_fit : ExceptionsInForceFit
 exceptions_in_force_fit [] fits = record { number = omega arith; filters = All-nil FilterFits; assertions = All-nil VrpFits }

@@ -8,7 +8,7 @@ use Rattle.addr.specs.declared.prefix.Prefix.{Prefix}
 use Rattle.policy.specs.declared.authorization.Auth.{Auth}
 use Rattle.policy.specs.declared.charter.Charter.{Charter}
 use Rattle.policy.specs.declared.command.Command.{Command}
-use Rattle.policy.specs.declared.command.Command.TheVariants.{Register, Delegate, Transfer, Reclaim, Grant, Revoke, Create, Amend, Withdraw, Slurm}
+use Rattle.policy.specs.declared.command.Command.TheVariants.{Register, Delegate, Transfer, Reclaim, Grant, Revoke, Create, Amend, Withdraw, Import, Slurm}
 use Rattle.histories.specs.Ended.{TakesFrom, EndsJustOverlapping}
 use Rattle.policy.specs.History.{Entry, History, same_name}
 use Rattle.policy.specs.Resources.{resource_holder, is_held_by, HoldsPrefix}
@@ -72,6 +72,7 @@ taken charter before day caller (Revoke holder n) former p accepted takes = absu
 taken charter before day caller (Create holder asn q max from until) former p accepted takes = absurd takes
 taken charter before day caller (Amend holder n max until) former p accepted takes = absurd takes
 taken charter before day caller (Withdraw holder n) former p accepted takes = absurd takes
+taken charter before day caller (Import holder rows) former p accepted takes = absurd accepted
 taken charter before day caller (Slurm file) former p accepted takes = absurd takes
 
 pub ends_just_overlapping : EndsJustOverlapping

@@ -13,7 +13,7 @@ use Rattle.addr.proofs.AddressLemmas.{overlaps_some, first-last}
 use Rattle.policy.specs.declared.authorization.Auth.{Auth}
 use Rattle.policy.specs.declared.charter.Charter.{Charter}
 use Rattle.policy.specs.declared.command.Command.{Command}
-use Rattle.policy.specs.declared.command.Command.TheVariants.{Register, Delegate, Transfer, Reclaim, Grant, Revoke, Create, Amend, Withdraw, Slurm}
+use Rattle.policy.specs.declared.command.Command.TheVariants.{Register, Delegate, Transfer, Reclaim, Grant, Revoke, Create, Amend, Withdraw, Import, Slurm}
 use Rattle.policy.specs.History.{Entry, History, same_name}
 use Rattle.policy.specs.Repeats.{has_repeat}
 use Rattle.policy.specs.Terms.{gives_vrp, share_vrp, authorizations_made, authorization_terms, amended, HeldSinceMade, HoldsTerms, Keeps, AreActive}
@@ -285,6 +285,7 @@ apart-after charter before day caller (Grant holder name role scope until) h acc
     PairsApart-weaker _ _ (authorization_terms before h) (λ x since. since.1) pairs
 apart-after charter before day caller (Revoke holder n) h accepted pairs =
     PairsApart-weaker _ _ (authorization_terms before h) (λ x since. since.1) pairs
+apart-after charter before day caller (Import holder rows) h accepted pairs = absurd accepted
 apart-after charter before day caller (Slurm file) h accepted pairs =
     PairsApart-weaker _ _ (authorization_terms before h) (λ x since. since.1) pairs
 apart-after charter before day caller (Withdraw holder n) h accepted pairs =

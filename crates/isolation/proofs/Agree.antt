@@ -6,7 +6,7 @@ use Rattle.addr.specs.Address.{Address, has_address}
 use Rattle.addr.specs.declared.prefix.Prefix.{Prefix}
 use Rattle.policy.specs.declared.authorization.Auth.{Auth}
 use Rattle.policy.specs.declared.command.Command.{Command}
-use Rattle.policy.specs.declared.command.Command.TheVariants.{Register, Delegate, Transfer, Reclaim, Grant, Revoke, Create, Amend, Withdraw, Slurm}
+use Rattle.policy.specs.declared.command.Command.TheVariants.{Register, Delegate, Transfer, Reclaim, Grant, Revoke, Create, Amend, Withdraw, Import, Slurm}
 use Rattle.policy.specs.History.{Entry, History, registers, is_registered}
 use Rattle.policy.specs.Resources.{holder_after, resource_holder, is_held_by, HoldsPrefix}
 use Rattle.policy.specs.Terms.{granted_after, grants_after, grants_made, grant_terms, created_after, terms_after, authorizations_made, authorization_terms, HeldSinceMade, Keeps, AreActive}
@@ -104,6 +104,7 @@ held_after (Revoke holder n) h a o p same = same
 held_after (Create holder asn q max from until) h a o p same = same
 held_after (Amend holder n max until) h a o p same = same
 held_after (Withdraw holder n) h a o p same = same
+held_after (Import holder rows) h a o p same = same
 held_after (Slurm file) h a o p same = same
 
 -- an authorization held since its making on the one, where what is held and made after the entry is the same

@@ -4,7 +4,7 @@ use Rattle.std.specs.List.{list_any}
 use Rattle.policy.specs.declared.authorization.Auth.{Auth}
 use Rattle.policy.specs.declared.charter.Charter.{Charter}
 use Rattle.policy.specs.declared.command.Command.{Command}
-use Rattle.policy.specs.declared.command.Command.TheVariants.{Register, Delegate, Transfer, Reclaim, Grant, Revoke, Create, Amend, Withdraw, Slurm}
+use Rattle.policy.specs.declared.command.Command.TheVariants.{Register, Delegate, Transfer, Reclaim, Grant, Revoke, Create, Amend, Withdraw, Import, Slurm}
 use Rattle.policy.specs.declared.grant.Access.{Access}
 use Rattle.policy.specs.declared.grant.Access.TheVariants.{Manage, Alter, Look}
 use Rattle.policy.specs.declared.grant.Granted.{Granted}
@@ -66,7 +66,7 @@ of_active same P Q facts = (
   λ of. (of.0, agree-active (agree-sym same) of.0 of.1, (facts of.0).1 of.2),
 )
 
-active_alike : {one other : History} {h : List ℕ} → Agree one other h → (P : List Auth → Type 0) → OfActive one h P ↔ OfActive other h P
+pub active_alike : {one other : History} {h : List ℕ} → Agree one other h → (P : List Auth → Type 0) → OfActive one h P ↔ OfActive other h P
 active_alike same P = of_active same P P (λ active. itself)
 
 access_alike : {one other : History} {h : List ℕ} → Agree one other h → (day : ℕ) (caller : List ℕ) (access : Access) (n : ℕ)
@@ -113,6 +113,7 @@ judged charter one other day caller (Amend holder n max until) same taker own =
 judged charter one other day caller (Withdraw holder n) same taker own =
     asked (of_grants same (λ grants. has_access grants day caller Alter)) (
     asked (access_alike same day caller Alter n) accepted)
+judged charter one other day caller (Import holder rows) same taker own = record { to = λ verdict is. is }
 judged charter one other day caller (Slurm file) same taker own = asked itself accepted
 
 number_alike : (one other : History) (c : Command) → AgreeIfNamed one other (holder_of c) → number_given one c ≡ number_given other c
@@ -125,6 +126,7 @@ number_alike one other (Revoke holder n) same = refl
 number_alike one other (Create holder asn p max from until) same = ap (λ made. Some (made + 1)) same.created
 number_alike one other (Amend holder n max until) same = refl
 number_alike one other (Withdraw holder n) same = refl
+number_alike one other (Import holder rows) same = refl
 number_alike one other (Slurm file) same = refl
 
 pub judged_alike : (charter : Charter) (one other : History) (day : ℕ) (caller : List ℕ) (c : Command)

@@ -7,7 +7,7 @@ use Rattle.addr.specs.declared.prefix.Prefix.{Prefix}
 use Rattle.policy.specs.declared.authorization.Auth.{Auth}
 use Rattle.policy.specs.declared.charter.Charter.{Charter}
 use Rattle.policy.specs.declared.command.Command.{Command}
-use Rattle.policy.specs.declared.command.Command.TheVariants.{Register, Delegate, Transfer, Reclaim, Grant, Revoke, Create, Amend, Withdraw, Slurm}
+use Rattle.policy.specs.declared.command.Command.TheVariants.{Register, Delegate, Transfer, Reclaim, Grant, Revoke, Create, Amend, Withdraw, Import, Slurm}
 use Rattle.policy.specs.Answer.{holder_of, taker_of}
 use Rattle.policy.specs.History.{Entry, History, is_registered}
 use Rattle.policy.specs.HolderEntries.{is_this, names, entries_naming, entries_naming_either, entries_for}
@@ -46,6 +46,7 @@ leaves_held charter before day caller (Revoke holder n) h accepted other other_t
 leaves_held charter before day caller (Create holder asn p max from until) h accepted other other_taker a = refl
 leaves_held charter before day caller (Amend holder n max until) h accepted other other_taker a = refl
 leaves_held charter before day caller (Withdraw holder n) h accepted other other_taker a = refl
+leaves_held charter before day caller (Import holder rows) h accepted other other_taker a = absurd accepted
 leaves_held charter before day caller (Slurm file) h accepted other other_taker a = refl
 
 -- where a holder keeps what it holds and none is made, the same authorizations are held since their making
@@ -136,4 +137,5 @@ agree-for charter history (Revoke holder n) legal = twice (agree-entries charter
 agree-for charter history (Create holder asn p max from until) legal = twice (agree-entries charter history holder legal)
 agree-for charter history (Amend holder n max until) legal = twice (agree-entries charter history holder legal)
 agree-for charter history (Withdraw holder n) legal = twice (agree-entries charter history holder legal)
+agree-for charter history (Import holder rows) legal = twice (agree-entries charter history holder legal)
 agree-for charter history (Slurm file) legal = (tt, tt)
