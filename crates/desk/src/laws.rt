@@ -17,4 +17,6 @@ pub(crate) fn answers_by_entries()
 /// same reply, unless one of them is Unavailable.
 pub fn one_reply()
     ensures { OneReply }
-{}
+{
+    histories::laws::one_outcome();
+}

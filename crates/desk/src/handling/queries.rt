@@ -3,7 +3,8 @@ ghost use Rattle.addr.specs.declared.vrp.Vrp.{Vrp};
 ghost use Rattle.payload.specs.VrpSet as set;
 ghost use Rattle.policy.specs.DailyVrps.{IsVrpOn};
 ghost use Rattle.store.specs.StoreRows.{IsRead};
-ghost use Rattle.desk.specs.Answer.{is_done, AnswersQuery, AnswersShow, AnswersContent, AnswersList, AnswersPayloads, AnswersValidity};
+ghost use Rattle.desk.specs.Answer.{is_accepted, AnswersQuery, AnswersShow, AnswersContent, AnswersList, AnswersPayloads, AnswersValidity};
+ghost use Rattle.desk.specs.Desk.{charter_of};
 ghost use Rattle.desk.specs.steps.Reading.{OfHistories};
 
 use super::Desk;
@@ -22,8 +23,8 @@ impl<S: Alter> Desk<S> {
     pub(super) fn answer(&mut self, day: Day, caller: &Name, query: &Query) -> Reply
         ensures read { IsRead S.Store self.old.store self.new.store }
         ensures answered { OfHistories S.Store self.old self.new (λ history.
-            AnswersQuery history day caller.now query.now result) }
-        ensures never_done { is_done result ≡ false }
+            AnswersQuery (charter_of self.old) history day caller.now query.now result) }
+        ensures never_done { is_accepted result ≡ false }
     {
         match query {
             Query::Show { holder, number } => self.show(holder, day, caller, *number),
@@ -31,6 +32,7 @@ impl<S: Alter> Desk<S> {
             Query::List { holder } => self.list(holder, day, caller),
             Query::Payloads => self.payloads(day),
             Query::Validity { routes } => self.validity(day, routes),
+            Query::WhatIf { .. } => Reply::Unavailable,
         }
     }
 
@@ -38,7 +40,7 @@ impl<S: Alter> Desk<S> {
         ensures read { IsRead S.Store self.old.store self.new.store }
         ensures answered { OfHistories S.Store self.old self.new (λ history.
             AnswersShow history holder.now day caller.now number result) }
-        ensures never_done { is_done result ≡ false }
+        ensures never_done { is_accepted result ≡ false }
     {
         let Ok(rows) = self.load(holder) else {
             return Reply::Unavailable;
@@ -53,7 +55,7 @@ impl<S: Alter> Desk<S> {
         ensures read { IsRead S.Store self.old.store self.new.store }
         ensures answered { OfHistories S.Store self.old self.new (λ history.
             AnswersContent history holder.now day caller.now number result) }
-        ensures never_done { is_done result ≡ false }
+        ensures never_done { is_accepted result ≡ false }
     {
         let auth = match self.show(holder, day, caller, number) {
             Reply::Shown(auth) => auth,
@@ -70,7 +72,7 @@ impl<S: Alter> Desk<S> {
         ensures read { IsRead S.Store self.old.store self.new.store }
         ensures answered { OfHistories S.Store self.old self.new (λ history.
             AnswersList history holder.now day caller.now result) }
-        ensures never_done { is_done result ≡ false }
+        ensures never_done { is_accepted result ≡ false }
     {
         let Ok(rows) = self.load(holder) else {
             return Reply::Unavailable;
@@ -85,7 +87,7 @@ impl<S: Alter> Desk<S> {
         ensures read { IsRead S.Store self.old.store self.new.store }
         ensures answered { OfHistories S.Store self.old self.new (λ history.
             AnswersPayloads history day result) }
-        ensures never_done { is_done result ≡ false }
+        ensures never_done { is_accepted result ≡ false }
     {
         let Ok(index) = self.index_on(day) else {
             return Reply::Unavailable;
@@ -100,7 +102,7 @@ impl<S: Alter> Desk<S> {
         ensures read { IsRead S.Store self.old.store self.new.store }
         ensures answered { OfHistories S.Store self.old self.new (λ history.
             AnswersValidity history day routes.now result) }
-        ensures never_done { is_done result ≡ false }
+        ensures never_done { is_accepted result ≡ false }
     {
         let Ok(index) = self.index_on(day) else {
             return Reply::Unavailable;
