@@ -10,7 +10,8 @@ use Rattle.addr.specs.PrefixText.{spelled_prefix}
 use Rattle.addr.specs.declared.asn.Asn.{Asn as AsnNumber}
 use Rattle.addr.specs.declared.prefix.Prefix.{Prefix as PrefixValue}
 use Rattle.policy.specs.declared.authorization.AuthTerms.{AuthTerms}
-use Rattle.json_values.proofs.FaultLemmas.{Told, lowest-append, told-both, told-each, told-if, told-mapped, told-ok_or, value-both, value-each, value-ok_or}
+use Rattle.json_values.proofs.FaultLemmas.{lowest-append, told-if}
+use Rattle.json_values.proofs.ReadingLemmas.{Reads, reads-both, reads-each, reads-mapped, reads-ok_or}
 use Rattle.json_values.specs.Faults.{fault_unless, lower_of, lowest}
 use Rattle.json_values.specs.Parts.{and_then, each, lower, mapped}
 use Rattle.csv_records.specs.CsvRecords.{csv_records}
@@ -26,73 +27,33 @@ use Rattle.csv_records.proofs.FieldLemmas.{same_fields}
 pub row_in-five : (xs : Fields) → length xs ≡ 5
     → row_in xs ≡ row_of (named_asn (field_in 0 xs)) (spelled_prefix (field_in 1 xs)) (max_in (field_in 2 xs))
     (day_in (field_in 3 xs)) (day_in (field_in 4 xs))
-row_in-five [] five = cc
-row_in-five (a ∷ []) five = cc
-row_in-five (a ∷ b ∷ []) five = cc
-row_in-five (a ∷ b ∷ c ∷ []) five = cc
-row_in-five (a ∷ b ∷ c ∷ d ∷ []) five = cc
 row_in-five (a ∷ b ∷ c ∷ d ∷ e ∷ []) five = refl
-row_in-five (a ∷ b ∷ c ∷ d ∷ e ∷ f ∷ xs) five = cc
-
-pub row_in-other : (xs : Fields) → (length xs ≡ 5 → ⊥) → Err Form ≡ row_in xs
-row_in-other [] other = refl
-row_in-other (a ∷ []) other = refl
-row_in-other (a ∷ b ∷ []) other = refl
-row_in-other (a ∷ b ∷ c ∷ []) other = refl
-row_in-other (a ∷ b ∷ c ∷ d ∷ []) other = refl
-row_in-other (a ∷ b ∷ c ∷ d ∷ e ∷ []) other = absurd (other refl)
-row_in-other (a ∷ b ∷ c ∷ d ∷ e ∷ f ∷ xs) other = refl
+row_in-five other five = cc
 
 module _ (asn : Option AsnNumber) (prefix : Option PrefixValue) (max from until : Option ℕ) where
-  told-of : Told import_fault_number (row_of asn prefix max from until)
-      (fault_unless (is_some asn) Asn ++ fault_unless (is_some prefix) Prefix ++ fault_unless (is_some max) Max
-      ++ fault_unless (is_some from) Day ++ fault_unless (is_some until) Day)
-  told-of =
-      told-mapped terms_of
-      (told-both
-      (told-both
-      (told-both
-      (told-both (told-ok_or import_fault_number asn Asn) (told-ok_or import_fault_number prefix Prefix))
-      (told-ok_or import_fault_number max Max)) (told-ok_or import_fault_number from Day)) (told-ok_or import_fault_number until Day))
+  -- of a row with these fields
+  abbrev of_fields : List ImportFault
+  of_fields =
+      fault_unless (is_some asn) Asn ++ fault_unless (is_some prefix) Prefix ++ fault_unless (is_some max) Max
+      ++ fault_unless (is_some from) Day ++ fault_unless (is_some until) Day
 
-  abbrev Said : AuthTerms → Type 0
-  Said t = (asn ≡ Some t.asn) × (prefix ≡ Some t.prefix) × (max ≡ Some t.max) × (from ≡ Some t.from) × (until ≡ Some t.until)
+  reads-of : Reads import_fault_number (row_of asn prefix max from until) of_fields
+      (λ t. (asn ≡ Some t.asn) × (prefix ≡ Some t.prefix) × (max ≡ Some t.max) × (from ≡ Some t.from) × (until ≡ Some t.until))
+  reads-of =
+      reads-mapped terms_of (λ p says. (says.0.0.0.0, says.0.0.0.1, says.0.0.1, says.0.1, says.1))
+      (reads-both
+      (reads-both
+      (reads-both
+      (reads-both (reads-ok_or asn Asn) (reads-ok_or prefix Prefix))
+      (reads-ok_or max Max)) (reads-ok_or from Day)) (reads-ok_or until Day))
 
-  -- the same, as its parts are read
-  abbrev SaidFirst : (((AsnNumber × PrefixValue) × ℕ) × ℕ) × ℕ → Type 0
-  SaidFirst p =
-      ((((asn ≡ Some p.0.0.0.0) × (prefix ≡ Some p.0.0.0.1)) × (max ≡ Some p.0.0.1)) × (from ≡ Some p.0.1)) × (until ≡ Some p.1)
+reads-row : (fields : Fields) → Reads import_fault_number (row_in fields) (row_faults fields) (SaysRow fields)
+reads-row (a ∷ b ∷ c ∷ d ∷ e ∷ []) = reads-of (named_asn a) (spelled_prefix b) (max_in c) (day_in d) (day_in e)
+reads-row other = record { told = record { is = refl }; value = tt }
 
-  regrouped : (r : Result ((((AsnNumber × PrefixValue) × ℕ) × ℕ) × ℕ) ImportFault) → IfOk r SaidFirst → IfOk (mapped terms_of r) Said
-  regrouped (Ok p) says = (says.0.0.0.0, says.0.0.0.1, says.0.0.1, says.0.1, says.1)
-  regrouped (Err fault) says = tt
-
-  says-of : IfOk (row_of asn prefix max from until) Said
-  says-of =
-      regrouped _
-      (value-both import_fault_number _ (λ d. until ≡ Some d) _ _
-      (value-both import_fault_number _ (λ d. from ≡ Some d) _ _
-      (value-both import_fault_number _ (λ m. max ≡ Some m) _ _
-      (value-both import_fault_number (λ a. asn ≡ Some a) (λ p. prefix ≡ Some p) _ _ (value-ok_or asn Asn) (value-ok_or prefix Prefix))
-      (value-ok_or max Max)) (value-ok_or from Day)) (value-ok_or until Day))
-
-told-row : (fields : Fields) → Told import_fault_number (row_in fields) (row_faults fields)
-told-row [] = record { is = refl }
-told-row (a ∷ []) = record { is = refl }
-told-row (a ∷ b ∷ []) = record { is = refl }
-told-row (a ∷ b ∷ c ∷ []) = record { is = refl }
-told-row (a ∷ b ∷ c ∷ d ∷ []) = record { is = refl }
-told-row (a ∷ b ∷ c ∷ d ∷ e ∷ []) = told-of (named_asn a) (spelled_prefix b) (max_in c) (day_in d) (day_in e)
-told-row (a ∷ b ∷ c ∷ d ∷ e ∷ f ∷ xs) = record { is = refl }
-
-says-row : (fields : Fields) → IfOk (row_in fields) (SaysRow fields)
-says-row [] = tt
-says-row (a ∷ []) = tt
-says-row (a ∷ b ∷ []) = tt
-says-row (a ∷ b ∷ c ∷ []) = tt
-says-row (a ∷ b ∷ c ∷ d ∷ []) = tt
-says-row (a ∷ b ∷ c ∷ d ∷ e ∷ []) = says-of (named_asn a) (spelled_prefix b) (max_in c) (day_in d) (day_in e)
-says-row (a ∷ b ∷ c ∷ d ∷ e ∷ f ∷ xs) = tt
+reads-rows : (rows : List Fields)
+    → Reads import_fault_number (each import_fault_number row_in rows) (flat_map row_faults rows) (AllZip SaysRow rows)
+reads-rows rows = reads-each row_in row_faults SaysRow rows reads-row
 
 -- ---- the count of rows
 
@@ -156,7 +117,7 @@ err-rows : (records : List Fields) → result_err (rows_in (rows_after import_he
 err-rows [] = refl
 err-rows (first ∷ rows) = elim (cases_Bool (fields_eq first import_header)) [
   | inl same ↦ rw same (err-counted rows (flat_map row_faults rows) (each import_fault_number row_in rows)
-      (told-each import_fault_number row_in row_faults rows told-row).is (value-each import_fault_number row_in SaysRow rows says-row))
+      (reads-rows rows).told.is (reads-rows rows).value)
   | inr other ↦ rw other (form-first (lowest import_fault_number
       (flat_map row_faults rows ++ fault_unless (is_row_count (length rows)) Count)))
 ]
@@ -166,7 +127,7 @@ says-rows : (records : List Fields) → IfOk (rows_in (rows_after import_header 
 says-rows [] = tt
 says-rows (first ∷ rows) = elim (cases_Bool (fields_eq first import_header)) [
   | inl same ↦ rw same (said (and_then counted (each import_fault_number row_in rows)) (same_fields first import_header same)
-      (says-counted rows (each import_fault_number row_in rows) (value-each import_fault_number row_in SaysRow rows says-row)))
+      (says-counted rows (each import_fault_number row_in rows) (reads-rows rows).value))
   | inr other ↦ rw other tt
 ]
   where
@@ -176,13 +137,19 @@ says-rows (first ∷ rows) = elim (cases_Bool (fields_eq first import_header)) [
     said (Err fault) is zip = tt
 
 -- its fault
+pub import_in-told : (text : List ℕ) → result_err (import_in text) ≡ import_fault text
+import_in-told text = err-rows (csv_records text)
+
 pub import-told : (text : List ℕ) (read : Result (Vec AuthTerms) ImportFault) → mapped (λ v. v.items) read ≡ import_in text
     → result_err read ≡ import_fault text
-import-told text (Ok rows) is = ap result_err is ∙ err-rows (csv_records text)
-import-told text (Err fault) is = ap result_err is ∙ err-rows (csv_records text)
+import-told text (Ok rows) is = ap result_err is ∙ import_in-told text
+import-told text (Err fault) is = ap result_err is ∙ import_in-told text
 
 -- its rows
+pub import_in-said : (text : List ℕ) → IfOk (import_in text) (IsImport text)
+import_in-said text = says-rows (csv_records text)
+
 pub import-said : (text : List ℕ) (read : Result (Vec AuthTerms) ImportFault) → mapped (λ v. v.items) read ≡ import_in text
     → IfOk read (λ rows. IsImport text rows.items)
-import-said text (Ok rows) is = rw (← is) at (says-rows (csv_records text))
+import-said text (Ok rows) is = rw (← is) at (import_in-said text)
 import-said text (Err fault) is = tt

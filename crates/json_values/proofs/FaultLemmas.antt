@@ -2,9 +2,8 @@
 use Rattle.std.proofs.Common.{◌≡◌, ℕ, Bool, true, false, if◌then◌else◌, List, [], ◌∷◌, ◌++◌, Option, Some, None, is_some, Result, Ok, Err, refl, ap, sym, ◌∙◌}
 use Rattle.std.proofs.lemmas.Bool.{and_parts}
 use Rattle.std.proofs.lemmas.List.Folds.{list_all-append}
-use Rattle.std.specs.List.{AllZip, flat_map, list_all}
+use Rattle.std.specs.List.{flat_map, list_all}
 use Rattle.std.specs.Option.{ok_or}
-use Rattle.std.specs.Prelude.{IfOk}
 use Rattle.std.specs.Result.{result_err}
 use Rattle.serde_json.specs.Data.{Data, Members}
 use Rattle.serde_json.specs.Find.{as_object}
@@ -73,28 +72,6 @@ told-optional number reading faults (Some d) h = told-mapped Some (h d)
 pub told-each : {A D F : Type 0} (number : F → ℕ) (reading : D → Result A F) (faults : D → List F) (ds : List D) → ((d : D) → Told number (reading d) (faults d)) → Told number (each number reading ds) (flat_map faults ds)
 told-each number reading faults [] h = record { is = refl }
 told-each number reading faults (d ∷ ds) h = told-mapped (λ p. p.0 ∷ p.1) (told-both (h d) (told-each number reading faults ds h))
-
--- ---- what holds of a value that is read
-
-pub value-both : {A B F : Type 0} (number : F → ℕ) (P : A → Type 0) (Q : B → Type 0) (a : Result A F) (b : Result B F) → IfOk a P → IfOk b Q → IfOk (both number a b) (λ p. P p.0 × Q p.1)
-value-both number P Q (Ok a) (Ok b) one other = (one, other)
-value-both number P Q (Ok a) (Err n) one other = tt
-value-both number P Q (Err m) (Ok b) one other = tt
-value-both number P Q (Err m) (Err n) one other = tt
-
-pub value-mapped : {A B F : Type 0} (f : A → B) (Q : B → Type 0) (r : Result A F) → IfOk r (λ a. Q (f a)) → IfOk (mapped f r) Q
-value-mapped f Q (Ok a) value = value
-value-mapped f Q (Err n) value = tt
-
-pub value-ok_or : {A F : Type 0} (o : Option A) (n : F) → IfOk (ok_or o n) (λ a. o ≡ Some a)
-value-ok_or None n = tt
-value-ok_or (Some a) n = refl
-
-pub value-each : {A D F : Type 0} (number : F → ℕ) (reading : D → Result A F) (Says : D → A → Type 0) (ds : List D) → ((d : D) → IfOk (reading d) (Says d)) → IfOk (each number reading ds) (AllZip Says ds)
-value-each number reading Says [] h = tt
-value-each number reading Says (d ∷ ds) h =
-    value-mapped (λ p. p.0 ∷ p.1) (AllZip Says (d ∷ ds)) (both number (reading d) (each number reading ds))
-    (value-both number (Says d) (AllZip Says ds) (reading d) (each number reading ds) (h d) (value-each number reading Says ds h))
 
 -- ---- a test that all faults of a list pass
 
