@@ -6,25 +6,28 @@
 # The blocks marked sh run in one shell, in their order, in a temporary folder that has what the top of the
 # repository has, so that the files they make do not stay. What a block prints, on standard error too, has to be
 # the block after a line that ends with `prints` or `print`. Where there is none, it has to end with status 0.
-# A block that needs a command which is not there is skipped, and what builds on it may fail.
+# A block marked `sh needs COMMAND..` is skipped where one of these commands is missing.
 # PROGRAM names the program to run as ./roadesk, else it is the one at the top. Ends with 1 where a block does otherwise.
 set -u
 docs=$(cd "$(dirname "${BASH_SOURCE[0]}")" && pwd)
 guide=${1:-$docs/GUIDE.md}
 program=$(realpath "${PROGRAM:-$docs/../roadesk}") || exit 2
 work=$(mktemp -d) || exit 2
+# The workers of an nginx that root starts are another user.
+chmod 711 "$work"
 trap 'rm -rf "$work"' EXIT
 
-# Block N becomes N.sh, with its line in N.line, and what it is said to print N.said.
+# Block N becomes N.sh, with its line in N.line, what it needs in N.needs, and what it is said to print in N.said.
 awk -v work="$work" '
     /^```/ && inside { inside = 0; next }
     inside { if (file) print >file; next }
     /^```/ {
         inside = 1
         file = ""
-        if ($0 == "```sh") {
+        if ($0 ~ /^```sh( needs .*)?$/) {
             file = work "/" ++blocks ".sh"
             print FNR >(work "/" blocks ".line")
+            print substr($0, length("```sh needs ") + 1) >(work "/" blocks ".needs")
         } else if (is_said && blocks)
             file = work "/" blocks ".said"
         if (file) printf "" >file
@@ -41,12 +44,10 @@ chmod +x "$work/top/roadesk"
 # As on a terminal, curl does not show how far it is.
 printf 'silent\nshow-error\n' >"$work/.curlrc"
 
-# missing_for N: the commands that block N needs and that are not there.
+# missing_for N: the commands that block N needs and that are missing.
 missing_for() {
-    for tool in jq openssl xxd curl nginx sqlite3; do
-        if grep -qw "$tool" "$work/$1.sh" && ! command -v "$tool" >/dev/null; then
-            echo "$tool"
-        fi
+    for tool in $(cat "$work/$1.needs"); do
+        command -v "$tool" >/dev/null || echo "$tool"
     done
 }
 
@@ -67,7 +68,7 @@ run_blocks() {
 judge() {
     local at=$work/$1
     if [ -s "$at.missing" ]; then
-        echo "skipped, since there is no" $(cat "$at.missing")
+        echo "skipped: missing" $(cat "$at.missing")
     elif [ ! -e "$at.status" ]; then
         echo "did not end"
         return 1

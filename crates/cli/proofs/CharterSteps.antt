@@ -26,7 +26,7 @@ use Rattle.addr.proofs.PrefixSpellingLemmas.{Spells_unique, faultless-Spells}
 use Rattle.addr.specs.declared.prefix.Prefix.{Prefix}
 use Rattle.addr.proofs.OrderLemmas.{derived_prefix_cmp, derived_prefix_order}
 use Rattle.addr.specs.Order.{family_cmp, prefix_cmp}
-use Rattle.policy.specs.Repeats.{has_repeat}
+use Rattle.charters.specs.Repeats.{has_repeat}
 use Rattle.cli.specs.CharterFile.{charter_fault, charter_row, fault_of_pair, first_charter_fault, kind_and_value_fault, kind_of, operators_in, pool_in, pool_kind, is_noted, same_row, value_of, HoldsRows}
 use Rattle.csv_records.specs.Fields.{Fields}
 use Rattle.cli.specs.CsvRows.{at_row, IsTold}

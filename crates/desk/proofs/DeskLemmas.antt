@@ -1,5 +1,5 @@
 -- What the rows of a legal history say of it.
-use Rattle.std.proofs.Common.{◌≡◌, ℕ, Bool, true, false, ◌↔◌, IsTrue, List, Option, Some, None, refl, sym, ap, ◌∙◌, subst, arith, length, ◌-◌, MatchBool, ◌∷◌, Result, Ok, Err, IfOk}
+use Rattle.std.proofs.Common.{◌≡◌, ℕ, Bool, true, false, ◌↔◌, IsTrue, List, Option, Some, None, refl, sym, ap, ◌∙◌, subst, arith, length, ◌-◌, MatchBool, Result, Ok, Err, IfOk}
 use Rattle.std.specs.Global.{Vec}
 use Rattle.std.proofs.lemmas.Bool.{false≢true, true≢false}
 use Rattle.addr.specs.Address.{Address}
@@ -29,7 +29,7 @@ use Rattle.policy.specs.declared.command.Command.{Command}
 use Rattle.policy.specs.declared.command.Command.TheVariants.{Import}
 use Rattle.policy.specs.Values.{EntryFits}
 use Rattle.policy.specs.Verdict.{IsLegal}
-use Rattle.policy.specs.declared.charter.Charter.{Charter}
+use Rattle.charters.specs.declared.charter.Charter.{Charter}
 use Rattle.policy.proofs.Names.{held_by_itself}
 use Rattle.policy.proofs.Unregistered.{has_nothing}
 use Rattle.policy.specs.RowsOfAll.{AllRows, changed_rows, IsTaken, HasRows}

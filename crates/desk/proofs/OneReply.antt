@@ -1,12 +1,15 @@
 -- A request has one reply on given entries.
 use Rattle.std.proofs.Common.{◌≡◌, ℕ, List, [], ◌∷◌, Option, Some, None, IfSome, inl, inr, refl, sym, ap, ◌∙◌, subst, filter, arith}
 use Rattle.std.specs.Prelude.{IsSome}
+use Rattle.std.specs.Global.{Vec}
 use Rattle.std.specs.String.{string_bytes}
 use Rattle.std.proofs.lemmas.Bool.{false≢true, true≢false}
+use Rattle.addr.specs.declared.route.Route.{Route}
 use Rattle.policy.specs.declared.authorization.Auth.{Auth}
-use Rattle.policy.specs.declared.charter.Charter.{Charter}
+use Rattle.charters.specs.declared.charter.Charter.{Charter}
 use Rattle.policy.specs.declared.command.Command.{Command}
 use Rattle.policy.specs.declared.command.Command.TheVariants.{Import}
+use Rattle.policy.specs.declared.command.Proposed.{Proposed}
 use Rattle.policy.specs.declared.command.Query.TheVariants.{Show as ShowQuery, Content as ContentQuery, List as ListQuery, Payloads as PayloadsQuery, Validity as ValidityQuery, WhatIf as WhatIfQuery}
 use Rattle.policy.specs.declared.grant.Access.TheVariants.{Look}
 use Rattle.policy.specs.declared.rule.Rule.{Rule}
@@ -15,15 +18,15 @@ use Rattle.policy.specs.History.{History}
 use Rattle.policy.specs.Permission.{is_permitted_terms}
 use Rattle.policy.specs.Terms.{grant_terms, Keeps, AreActive, HeldSinceMade, authorizations_made, authorization_terms}
 use Rattle.policy.specs.Verdict.{numbered, ShowVerdict, ListVerdict}
-use Rattle.histories.specs.OneOutcome.{OneOutcome}
+use Rattle.histories.specs.OneOutcome.{OneHypotheticalOutcome, OneOutcome}
 use Rattle.histories.proofs.OneOutcome.{One, asked, accepted}
-use Rattle.desk.specs.Answer.{AnswersCommand, AnswersShow, AnswersContent, AnswersList, AnswersRequest}
+use Rattle.desk.specs.Answer.{AnswersCommand, AnswersShow, AnswersContent, AnswersList}
 use Rattle.desk.specs.ContentText.{IsContentText}
-use Rattle.desk.specs.HolderAnswers.{deciding_entries, SaySame, OneReply}
+use Rattle.desk.specs.HolderAnswers.{deciding_entries, IsAnswerOn, SaySame, OneReply}
 use Rattle.desk.specs.declared.asked.Request.{Request}
 use Rattle.desk.specs.declared.asked.Request.TheVariants.{Command as CommandRequest, Query as QueryRequest}
 use Rattle.desk.specs.declared.reply.Reply.{Reply}
-use Rattle.desk.specs.declared.reply.Reply.TheVariants.{Done, Imported, Shown, Content, Listed, Denied, Unavailable}
+use Rattle.desk.specs.declared.reply.Reply.TheVariants.{Done, Imported, Shown, Content, Listed, Report, Denied, Unavailable}
 use Rattle.desk.proofs.HolderLemmas.{counts_of_import}
 
 -- ---- verdicts
@@ -149,35 +152,59 @@ one_of_list history h day caller (Denied r row) Unavailable x y = tt
 one_of_list history h day caller (Denied r row) b x y = absurd y
 one_of_list history h day caller a b x y = absurd x
 
+one_of_what_if : OneHypotheticalOutcome → (charter : Charter) (history : History) (day : ℕ) (caller h : List ℕ) (changes : Vec Proposed) (routes : Vec Route) (a b : Reply)
+    → IsAnswerOn charter history day caller (QueryRequest (WhatIfQuery h changes routes)) a
+    → IsAnswerOn charter history day caller (QueryRequest (WhatIfQuery h changes routes)) b → SaySame a b
+one_of_what_if law charter history day caller h changes routes Unavailable b x y = tt
+one_of_what_if law charter history day caller h changes routes (Report states) (Report others) x y = tt
+one_of_what_if law charter history day caller h changes routes (Report states) (Denied s (Some place)) x y =
+    absurd ((law charter day caller h history changes.items).either x.0 s place x.1 y.1.0)
+one_of_what_if law charter history day caller h changes routes (Report states) (Denied s None) x y = absurd y.1.0
+one_of_what_if law charter history day caller h changes routes (Report states) Unavailable x y = tt
+one_of_what_if law charter history day caller h changes routes (Report states) b x y = absurd y.1.0
+one_of_what_if law charter history day caller h changes routes (Denied r (Some place)) (Report states) x y =
+    absurd ((law charter day caller h history changes.items).either y.0 r place y.1 x.1.0)
+one_of_what_if law charter history day caller h changes routes (Denied r (Some place)) (Denied s (Some other)) x y =
+    let same = (law charter day caller h history changes.items).denied r s place other x.1.0 y.1.0 in
+    denied r s (Some place) (Some other) same.0 (ap Some same.1)
+one_of_what_if law charter history day caller h changes routes (Denied r (Some place)) (Denied s None) x y = absurd y.1.0
+one_of_what_if law charter history day caller h changes routes (Denied r (Some place)) Unavailable x y = tt
+one_of_what_if law charter history day caller h changes routes (Denied r (Some place)) b x y = absurd y.1.0
+one_of_what_if law charter history day caller h changes routes (Denied r None) b x y = absurd x.1.0
+one_of_what_if law charter history day caller h changes routes a b x y = absurd x.1.0
+
 -- ---- the entries that decide a request
 
 abbrev AnswersOn : Charter → ℕ → List ℕ → Request → Reply → Option History → Type 0
-AnswersOn charter day caller request reply entries =
-    IfSome entries (λ some. (after : History) × AnswersRequest charter some day caller request reply after)
+AnswersOn charter day caller request reply entries = IfSome entries (λ some. IsAnswerOn charter some day caller request reply)
 
-one_on : (charter : Charter) (day : ℕ) (caller : List ℕ) (request : Request) (a b : Reply) (entries : Option History)
-    → ((history after later : History) → AnswersRequest charter history day caller request a after → AnswersRequest charter history day caller request b later → SaySame a b)
+-- on each history there is one reply
+abbrev OneOn : Charter → ℕ → List ℕ → Request → Reply → Reply → Type 0
+OneOn charter day caller request a b =
+    (history : History) → IsAnswerOn charter history day caller request a → IsAnswerOn charter history day caller request b → SaySame a b
+
+one_on : (charter : Charter) (day : ℕ) (caller : List ℕ) (request : Request) (a b : Reply) (entries : Option History) → OneOn charter day caller request a b
     → IsSome entries → AnswersOn charter day caller request a entries → AnswersOn charter day caller request b entries → SaySame a b
 one_on charter day caller request a b None one some x y = absurd (false≢true some)
-one_on charter day caller request a b (Some entries) one some x y = one entries x.0 y.0 x.1 y.1
+one_on charter day caller request a b (Some entries) one some x y = one entries x y
 
 -- the same, of two histories that agree on them
-agreed : (charter : Charter) (one other : History) (day : ℕ) (caller : List ℕ) (request : Request) (a b : Reply)
-    → ((history after later : History) → AnswersRequest charter history day caller request a after → AnswersRequest charter history day caller request b later → SaySame a b)
+agreed : (charter : Charter) (one other : History) (day : ℕ) (caller : List ℕ) (request : Request) (a b : Reply) → OneOn charter day caller request a b
     → IsSome (deciding_entries request one) → deciding_entries request one ≡ deciding_entries request other
     → AnswersOn charter day caller request a (deciding_entries request one) → AnswersOn charter day caller request b (deciding_entries request other) → SaySame a b
 agreed charter one other day caller request a b determined some same x y =
     one_on charter day caller request a b (deciding_entries request one) determined some x (subst (AnswersOn charter day caller request b) (sym same) y)
 
-pub one_reply : OneOutcome → OneReply
-one_reply law charter one other day caller (CommandRequest c) a b some same x y =
-    agreed charter one other day caller (CommandRequest c) a b (λ history after later p q. one_of_command law charter history day caller c a b after later p q) some same x y
-one_reply law charter one other day caller (QueryRequest (ShowQuery h n)) a b some same x y =
-    agreed charter one other day caller (QueryRequest (ShowQuery h n)) a b (λ history after later p q. one_of_show history h day caller n a b p.0 q.0) some same x y
-one_reply law charter one other day caller (QueryRequest (ContentQuery h n)) a b some same x y =
-    agreed charter one other day caller (QueryRequest (ContentQuery h n)) a b (λ history after later p q. one_of_content history h day caller n a b p.0 q.0) some same x y
-one_reply law charter one other day caller (QueryRequest (ListQuery h)) a b some same x y =
-    agreed charter one other day caller (QueryRequest (ListQuery h)) a b (λ history after later p q. one_of_list history h day caller a b p.0 q.0) some same x y
-one_reply law charter one other day caller (QueryRequest PayloadsQuery) a b some same x y = absurd (false≢true some)
-one_reply law charter one other day caller (QueryRequest (ValidityQuery routes)) a b some same x y = absurd (false≢true some)
-one_reply law charter one other day caller (QueryRequest (WhatIfQuery h changes routes)) a b some same x y = absurd (false≢true some)
+pub one_reply : OneOutcome → OneHypotheticalOutcome → OneReply
+one_reply law would charter one other day caller (CommandRequest c) a b some same x y =
+    agreed charter one other day caller (CommandRequest c) a b (λ history p q. one_of_command law charter history day caller c a b p.0 q.0 p.1 q.1) some same x y
+one_reply law would charter one other day caller (QueryRequest (ShowQuery h n)) a b some same x y =
+    agreed charter one other day caller (QueryRequest (ShowQuery h n)) a b (λ history p q. one_of_show history h day caller n a b p.1.0 q.1.0) some same x y
+one_reply law would charter one other day caller (QueryRequest (ContentQuery h n)) a b some same x y =
+    agreed charter one other day caller (QueryRequest (ContentQuery h n)) a b (λ history p q. one_of_content history h day caller n a b p.1.0 q.1.0) some same x y
+one_reply law would charter one other day caller (QueryRequest (ListQuery h)) a b some same x y =
+    agreed charter one other day caller (QueryRequest (ListQuery h)) a b (λ history p q. one_of_list history h day caller a b p.1.0 q.1.0) some same x y
+one_reply law would charter one other day caller (QueryRequest PayloadsQuery) a b some same x y = absurd (false≢true some)
+one_reply law would charter one other day caller (QueryRequest (ValidityQuery routes)) a b some same x y = absurd (false≢true some)
+one_reply law would charter one other day caller (QueryRequest (WhatIfQuery h changes routes)) a b some same x y =
+    agreed charter one other day caller (QueryRequest (WhatIfQuery h changes routes)) a b (λ history p q. one_of_what_if would charter history day caller h changes routes a b p q) some same x y

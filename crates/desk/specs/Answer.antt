@@ -1,8 +1,9 @@
 -- What the desk may reply to a request on a history, and the history that this leaves: a command is
 -- accepted exactly where its rules hold on the commands accepted before it, else it changes nothing
 -- and is answered with the first rule that fails; what is shown, exported and judged is what the
--- history defines, and what changes would do is what the history that they would leave defines. Where no
--- memory is found, or the database does not answer, the reply is Unavailable and nothing has changed.
+-- history defines, and what changes would do is what the history defines that they would leave.
+-- Where no memory is found, or the database does not answer, the reply is Unavailable and nothing
+-- has changed.
 use Rattle.std.specs.Prelude.{◌≡◌, ℕ, Bool, true, false, List, [], ◌∷◌, Some, None, ◌↔◌, Contains, map, IsSomeAnd}
 use Rattle.std.specs.String.{string_bytes}
 use Rattle.addr.specs.OriginValidation.{HasState}
@@ -18,7 +19,7 @@ use Rattle.policy.specs.HypotheticalHistory.{HypotheticalHistory, IsChangeDenied
 use Rattle.policy.specs.Values.{HistoryFits}
 use Rattle.policy.specs.Verdict.{ShowVerdict, ListVerdict, IsLegal}
 use Rattle.policy.specs.declared.authorization.Auth.{Auth}
-use Rattle.policy.specs.declared.charter.Charter.{Charter}
+use Rattle.charters.specs.declared.charter.Charter.{Charter}
 use Rattle.policy.specs.declared.command.Command.{Command}
 use Rattle.policy.specs.declared.command.Command.TheVariants.{Import}
 use Rattle.policy.specs.declared.command.Proposed.{Proposed}
@@ -116,10 +117,11 @@ states_now states = map (λ both. both.0) states
 abbrev pub states_after : List (Validity × Validity) → List Validity
 states_after states = map (λ both. both.1) states
 
--- The reply to what changes at a holder would do: of each route the state now, and that over the history that
--- the changes would leave. Where one would be denied, the first rule that it fails, and the place of the first
--- such change.
-abbrev pub AnswersWhatIf : Charter → History → ℕ → List ℕ → List ℕ → List Proposed → List Route → Reply → Type 0
+-- The reply to what changes at a holder would do: of each route the state now, and that over the
+-- history that the changes would leave. Where one would be denied, its place, counted from 1, and
+-- the first rule that it fails.
+abbrev pub AnswersWhatIf :
+    Charter → History → ℕ → List ℕ → List ℕ → List Proposed → List Route → Reply → Type 0
 AnswersWhatIf charter history day caller holder changes routes (Report states) =
     (after : History) × HypotheticalHistory charter day caller holder history changes after
     × AreStatesOn history day routes (states_now states.items)

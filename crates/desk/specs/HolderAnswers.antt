@@ -1,11 +1,11 @@
 -- Holders that share a desk: which entries of the history decide the reply to a request, and which rows
 -- a request may change.
-use Rattle.std.specs.Prelude.{◌≡◌, ℕ, Bool, false, ◌||◌, List, [], ◌∷◌, Option, Some, None, IsSome, IfSome, option_map, if◌then◌else◌}
+use Rattle.std.specs.Prelude.{◌≡◌, ℕ, Bool, false, List, [], ◌∷◌, Option, Some, None, IsSome, IfSome, option_map, if◌then◌else◌}
 use Rattle.std.specs.List.{list_any}
 use Rattle.std.specs.String.{string_bytes}
 use Rattle.isolation.specs.Isolation.{asks_of_all}
 use Rattle.policy.specs.declared.authorization.Auth.{Auth}
-use Rattle.policy.specs.declared.charter.Charter.{Charter}
+use Rattle.charters.specs.declared.charter.Charter.{Charter}
 use Rattle.policy.specs.declared.command.Query.TheVariants.{WhatIf}
 use Rattle.policy.specs.ExceptionsInForce.{brings_exceptions}
 use Rattle.policy.specs.History.{History}
@@ -15,7 +15,7 @@ use Rattle.policy.specs.RowsOfAll.{AllRows}
 use Rattle.policy.specs.Verdict.{IsLegal}
 use Rattle.sqlite.specs.Store.{Ghosts}
 use Rattle.store.specs.StoreRows.{Holds}
-use Rattle.desk.specs.Answer.{is_import, AnswersRequest}
+use Rattle.desk.specs.Answer.{AnswersRequest}
 use Rattle.desk.specs.ContentText.{IsContentText}
 use Rattle.desk.specs.declared.asked.Asked.{Asked}
 use Rattle.desk.specs.declared.asked.Request.{Request}
@@ -28,13 +28,12 @@ use Rattle.desk.specs.declared.reply.Reply.TheVariants.{Content, Listed, Report,
 -- request asks about all holders
 abbrev pub deciding_entries : Request → History → Option History
 deciding_entries (CommandRequest command) history =
-    if asks_of_all command || is_import command then None else Some (entries_for command history)
-deciding_entries (QueryRequest (WhatIf h changes routes)) history = None
+    if asks_of_all command then None else Some (entries_for command history)
 deciding_entries (QueryRequest query) history =
     option_map (λ h. entries_naming h history) (holder_asked query)
 
--- The reply answers the request on these entries. Of a report the entries say that its changes would be made,
--- and nothing of its states, which are over the VRPs of all holders.
+-- The reply answers the request on these entries. Of a report the entries say that its changes
+-- would be accepted, and nothing of its states, which are over the VRPs of all holders.
 abbrev pub IsAnswerOn : Charter → History → ℕ → List ℕ → Request → Reply → Type 0
 IsAnswerOn charter entries day caller (QueryRequest (WhatIf h changes routes)) (Report states) =
     (after : History) × HypotheticalHistory charter day caller h entries changes.items after

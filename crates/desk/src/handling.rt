@@ -17,6 +17,7 @@ ghost use Rattle.desk.specs.steps.Reading.{OfHistories};
 
 mod commands;
 mod queries;
+mod what_if;
 
 use crate::{Asked, Reply, Request};
 use addr::{Day, Name};

@@ -1,6 +1,7 @@
 use addr::Vrp;
 use payload::Validity;
 use policy::{Auth, Refusal, Rule};
+use std::alloc::AllocError;
 use store::StoreFault;
 
 /// What the desk answers to a request.
@@ -49,6 +50,17 @@ impl From<StoreFault> for Reply {
     ghost from_gives = { λ _ reply. reply ≡ Unavailable };
 
     fn from(_: StoreFault) -> Reply {
+        Reply::Unavailable
+    }
+}
+
+impl From<AllocError> for Reply {
+    ghost use Rattle.std.specs.Prelude.{◌≡◌};
+    ghost use Rattle.desk.specs.declared.reply.Reply.TheVariants.{Unavailable};
+
+    ghost from_gives = { λ _ reply. reply ≡ Unavailable };
+
+    fn from(_: AllocError) -> Reply {
         Reply::Unavailable
     }
 }

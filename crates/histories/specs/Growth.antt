@@ -2,7 +2,7 @@
 -- it is, and its values are those of their types where those of the one before it and of the request
 -- are.
 use Rattle.std.specs.Prelude.{ℕ, List}
-use Rattle.policy.specs.declared.charter.Charter.{Charter}
+use Rattle.charters.specs.declared.charter.Charter.{Charter}
 use Rattle.policy.specs.declared.command.Command.{Command}
 use Rattle.policy.specs.declared.command.Proposed.{Proposed}
 use Rattle.policy.specs.Answer.{Leaves}

@@ -1,7 +1,7 @@
 -- A request on a history has one outcome: it leaves one history, or it is denied by one rule at one
 -- place.
 use Rattle.std.specs.Prelude.{◌≡◌, ℕ, List}
-use Rattle.policy.specs.declared.charter.Charter.{Charter}
+use Rattle.charters.specs.declared.charter.Charter.{Charter}
 use Rattle.policy.specs.declared.command.Command.{Command}
 use Rattle.policy.specs.declared.command.Proposed.{Proposed}
 use Rattle.policy.specs.declared.rule.Rule.{Rule}

@@ -10,7 +10,7 @@ use Rattle.addr.proofs.AddressLemmas.{between_at, first-last}
 use Rattle.addr.specs.Address.{last_of}
 use Rattle.policy.specs.declared.authorization.Auth.{Auth}
 use Rattle.policy.specs.declared.authorization.AuthTerms.{AuthTerms}
-use Rattle.policy.specs.declared.charter.Charter.{Charter}
+use Rattle.charters.specs.declared.charter.Charter.{Charter}
 use Rattle.policy.specs.declared.command.Command.{Command}
 use Rattle.policy.specs.declared.command.Command.TheVariants.{Register, Delegate, Transfer, Reclaim, Grant, Revoke, Create, Amend, Withdraw, Import, Slurm}
 use Rattle.policy.specs.declared.grant.Access.TheVariants.{Alter}

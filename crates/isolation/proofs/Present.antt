@@ -11,7 +11,7 @@ use Rattle.addr.specs.declared.prefix.Prefix.{Prefix}
 use Rattle.addr.proofs.Equality.{prefix_itself}
 use Rattle.policy.specs.declared.authorization.Auth.{Auth}
 use Rattle.policy.specs.declared.authorization.AuthTerms.{AuthTerms}
-use Rattle.policy.specs.declared.charter.Charter.{Charter}
+use Rattle.charters.specs.declared.charter.Charter.{Charter}
 use Rattle.policy.specs.declared.command.Command.{Command}
 use Rattle.policy.specs.GrowingHistory.{grown_by}
 use Rattle.policy.specs.History.{Entry, History}

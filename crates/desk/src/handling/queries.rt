@@ -6,15 +6,17 @@ ghost use Rattle.store.specs.StoreRows.{IsRead};
 ghost use Rattle.desk.specs.Answer.{is_accepted, AnswersQuery, AnswersShow, AnswersContent, AnswersList, AnswersPayloads, AnswersValidity};
 ghost use Rattle.desk.specs.Desk.{charter_of};
 ghost use Rattle.desk.specs.steps.Reading.{OfHistories};
+ghost use Rattle.desk.specs.steps.Supposing.{AreInForceOn};
 
 use super::Desk;
 use crate::Reply;
 use crate::content::content_text;
-use crate::exceptions::except;
+use crate::exceptions::excepted;
 use crate::gathering::{gather, judge};
-use addr::{Day, Name, Route};
+use addr::{Day, Name, Route, Vrp};
 use payload::Trie;
 use policy::{Query, Refusal};
+use slurm::Slurm;
 use sqlite::Alter;
 use store::StoreFault;
 
@@ -32,7 +34,11 @@ impl<S: Alter> Desk<S> {
             Query::List { holder } => self.list(holder, day, caller),
             Query::Payloads => self.payloads(day),
             Query::Validity { routes } => self.validity(day, routes),
-            Query::WhatIf { .. } => Reply::Unavailable,
+            Query::WhatIf {
+                holder,
+                changes,
+                routes,
+            } => self.what_if(holder, day, caller, changes, routes),
         }
     }
 
@@ -119,9 +125,19 @@ impl<S: Alter> Desk<S> {
         ensures given { IfOk result (λ index. OfHistories S.Store self.old self.new (λ history.
             (v : Vrp) → Contains (set.items index) v ↔ IsVrpOn history day v)) }
     {
-        let mut vrps = self.store.all_auths_on(self.alloc, day)?;
+        let (vrps, files) = self.in_force_on(day)?;
+        Ok(excepted(self.alloc, &files, vrps)?)
+    }
+
+    /// The VRPs that the authorizations of all holders give on the day, and the SLURM files in
+    /// force.
+    pub(super) fn in_force_on(&mut self, day: Day) -> Result<(Vec<Vrp>, Vec<Slurm>), StoreFault>
+        ensures read { IsRead S.Store self.old.store self.new.store }
+        ensures given { IfOk result (λ found. OfHistories S.Store self.old self.new (λ history.
+            AreInForceOn history day found.0.items found.1.items)) }
+    {
+        let vrps = self.store.all_auths_on(self.alloc, day)?;
         let files = self.store.slurm_files(self.alloc)?;
-        except(self.alloc, &files, &mut vrps)?;
-        Ok(Trie::of(self.alloc, &vrps)?)
+        Ok((vrps, files))
     }
 }

@@ -1,0 +1,70 @@
+#!/usr/bin/env bash
+# Sends the lines and the messages of FORMATS.md to the program, and compares its replies with those that it says.
+#
+# The block marked jsonl has a line and its reply in turn; the blocks marked http a request and its response in turn.
+# PROGRAM names the program, else it is ./roadesk at the top. Ends with 1 where a reply differs.
+set -u
+docs=$(cd "$(dirname "${BASH_SOURCE[0]}")" && pwd)
+program=$(realpath "${PROGRAM:-$docs/../roadesk}") || exit 2
+charter=$(realpath "$docs/../examples/charter.csv") || exit 2
+work=$(mktemp -d) || exit 2
+trap 'kill $(jobs -p) 2>/dev/null; rm -rf "$work"' EXIT
+
+# blocks LANGUAGE: each block of the language as a file N.LANGUAGE, counted from 1.
+blocks() {
+    awk -v work="$work" -v language="$1" '
+        /^```/ && file { close(file); file = ""; next }
+        file { print >file }
+        $0 == "```" language { file = work "/" ++n "." language; printf "" >file }' "$docs/FORMATS.md"
+}
+
+# A request as it is sent: the lines of its head end with CR LF, its body without the block's last line feed.
+sent() {
+    awk '!body { printf "%s\r\n", $0; body = !NF; next }
+        { printf "%s%s", (lines++ ? "\n" : ""), $0 }' "$1"
+}
+
+# A port of 127.0.0.1 where nothing listens.
+free_port() {
+    local port
+    for port in $(shuf -i 20000-30000 -n 20); do
+        (: <"/dev/tcp/127.0.0.1/$port") 2>/dev/null || { echo "$port" && return; }
+    done
+}
+
+check_lines() {
+    blocks jsonl
+    awk 'NR % 2' "$work/1.jsonl" | "$program" script --charter "$charter" >"$work/replied"
+    awk 'NR % 2 == 0' "$work/1.jsonl" | diff - "$work/replied"
+}
+
+# ask N PORT: the response to the request of block N.
+ask() {
+    local connection
+    exec {connection}<>"/dev/tcp/127.0.0.1/$2" || return
+    sent "$work/$1.http" >&"$connection"
+    tr -d '\r' <&"$connection"
+    exec {connection}>&-
+}
+
+check_messages() {
+    local count port block differs=0
+    blocks http
+    count=$(find "$work" -name '*.http' | wc -l)
+    port=$(free_port)
+    "$program" init --db "$work/desk.db" --charter "$charter" || return
+    "$program" serve --db "$work/desk.db" --listen "127.0.0.1:$port" --count $((count / 2)) --day 2026-03-01 &
+    sleep 2
+    for block in $(seq 1 2 "$count"); do
+        ask "$block" "$port" | diff "$work/$((block + 1)).http" - >"$work/differs" && continue
+        echo "$(head -n 1 "$work/$block.http"):"
+        cat "$work/differs"
+        differs=1
+    done
+    return "$differs"
+}
+
+failed=0
+check_lines && echo "lines: as said" || failed=1
+check_messages && echo "messages: as said" || failed=1
+exit "$failed"
