@@ -3,7 +3,7 @@ use Rattle.std.proofs.Common.{◌≡◌, ℕ, Bool, true, false, if◌then◌els
 use Rattle.std.specs.List.{AllZip, flat_map}
 use Rattle.policy.specs.declared.command.Command.TheVariants.{Import}
 use Rattle.policy.specs.declared.command.Proposed.TheVariants.{Create as CreateChange, Withdraw as WithdrawChange}
-use Rattle.policy.specs.declared.command.Query.TheVariants.{Validity, WhatIf}
+use Rattle.policy.specs.declared.command.Query.TheVariants.{Validity}
 use Rattle.serde_json.specs.Data.{Data, Items}
 use Rattle.serde_json.specs.Find.{get, as_array, as_str}
 use Rattle.slurm.specs.SlurmEntries.{SaysExceptions}
