@@ -1,5 +1,5 @@
 #!/usr/bin/env bash
-# Builds a program of this folder that stands outside the gate, store.rs or trie.rs.
+# Builds a program of this folder that stands outside the gate: store.rs, trie.rs, import_rules.rs or import_file.rs.
 #
 #     build.sh PROGRAM WORK WORD...
 #
@@ -14,6 +14,8 @@ work=$2
 case $1 in
     store) uses='addr arrayvec policy sqlite store' ;;
     trie) uses='addr payload' ;;
+    import_rules) uses='addr policy' ;;
+    import_file) uses='addr desk policy sqlite store' ;;
     *) exit 2 ;;
 esac
 

@@ -133,7 +133,7 @@ fn change<S: Alter>(
     edit: Edit,
 ) -> Result<(), Fault> {
     let holder = holder_name(alloc, holder)?;
-    store.apply(&Change {
+    store.apply(&Change::Holders {
         first: HolderChange { holder, edit },
         second: None,
     })?;

@@ -11,10 +11,10 @@ use Rattle.sqlite.specs.Files.{file_state, over_files, IsOpened}
 use Rattle.sqlite.specs.Held.{Held}
 use Rattle.sqlite.specs.Start.{FindsIn}
 use Rattle.sqlite.specs.State.{HasCleanDisk}
-use Rattle.policy.specs.CharterSets.{IsCharter}
+use Rattle.charters.specs.CharterSets.{IsCharter}
 use Rattle.policy.specs.History.{History}
 use Rattle.policy.specs.Verdict.{IsLegal}
-use Rattle.policy.specs.declared.charter.Charter.{Charter}
+use Rattle.charters.specs.declared.charter.Charter.{Charter}
 use Rattle.tables.specs.TablesHold.{TablesHold}
 use Rattle.database.specs.Databases.{IsDeskWhileOpen}
 use Rattle.desk.specs.Desk.{charter_of, ContinuesHistories, HoldsHistory, StandsFor}

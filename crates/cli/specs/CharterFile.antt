@@ -11,12 +11,14 @@ use Rattle.addr.specs.Address.{prefix_eq}
 use Rattle.addr.specs.Name.{name_in}
 use Rattle.addr.specs.Order.{prefix_cmp}
 use Rattle.addr.specs.declared.prefix.Prefix.{Prefix}
-use Rattle.policy.specs.Repeats.{has_repeat}
-use Rattle.policy.specs.Charter.{operators_of, pool_of}
-use Rattle.policy.specs.CharterSets.{AreInNumber}
-use Rattle.policy.specs.declared.charter.Charter.{Charter}
-use Rattle.cli.specs.CsvRecords.{Fields, csv_records}
-use Rattle.cli.specs.CsvRows.{at_row, fields_eq, header_fault, or_else, prefix_fault, prefix_text, two_of, unless}
+use Rattle.charters.specs.Repeats.{has_repeat}
+use Rattle.charters.specs.Charter.{operators_of, pool_of}
+use Rattle.charters.specs.CharterSets.{AreInNumber}
+use Rattle.charters.specs.declared.charter.Charter.{Charter}
+use Rattle.csv_records.specs.CsvRecords.{csv_records}
+use Rattle.csv_records.specs.Fields.{Fields, fields_eq, two_of}
+use Rattle.csv_records.specs.Lines.{prefix_text}
+use Rattle.cli.specs.CsvRows.{at_row, header_fault, or_else, prefix_fault, unless}
 use Rattle.cli.specs.ProgramFaults.{fault_of_file}
 use Rattle.cli.specs.declared.charter_file.CharterRow.{CharterRow}
 use Rattle.cli.specs.declared.charter_file.CharterRow.TheVariants.{Operator, Pool}

@@ -9,7 +9,7 @@ use Rattle.sqlite.specs.Closing.{HoldsAlone}
 use Rattle.sqlite.specs.Files.{HoldsDatabase, image_of}
 use Rattle.policy.specs.History.{History}
 use Rattle.policy.specs.RowsOfAll.{AllRows, HasRows}
-use Rattle.policy.specs.declared.charter.Charter.{Charter}
+use Rattle.charters.specs.declared.charter.Charter.{Charter}
 use Rattle.tables.specs.TablesHold.{TablesHold}
 use Rattle.cli.specs.declared.fault.ProgramFault.{ProgramFault}
 use Rattle.cli.specs.declared.fault.ProgramFault.TheVariants.{Database, Memory}

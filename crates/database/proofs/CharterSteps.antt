@@ -8,7 +8,7 @@ use Rattle.sqlite_value.specs.declared.value.Value.TheVariants.{Null, Int, Text}
 use Rattle.sqlite_value.specs.Order.{Row}
 use Rattle.sqlite_sql.specs.Term.{lit}
 use Rattle.addr.specs.declared.prefix.Prefix.{Prefix}
-use Rattle.policy.specs.CharterSets.{CharterSets}
+use Rattle.charters.specs.CharterSets.{CharterSets}
 use Rattle.policy.specs.RowsOfAll.{blank_rows}
 use Rattle.database.specs.Databases.{IsNew}
 use Rattle.tables.specs.Tables.{meta, operator, pool, desk_tables, contents, is_table, IsTree, AreTrees}

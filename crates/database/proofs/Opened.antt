@@ -20,7 +20,7 @@ use Rattle.sqlite_rules.proofs.ListLemmas.{all_has, all_from, has_filtered}
 use Rattle.sqlite_rules.proofs.ProbeLemmas.{mapped_has}
 use Rattle.sqlite_catalog.specs.Listing.{IsSound}
 use Rattle.addr.specs.declared.span.Span.{Span}
-use Rattle.policy.specs.CharterSets.{CharterSets}
+use Rattle.charters.specs.CharterSets.{CharterSets}
 use Rattle.policy.specs.declared.authorization.Auth.{Auth}
 use Rattle.policy.specs.declared.grant.Granted.{Granted}
 use Rattle.policy.specs.Values.{AuthFits, GrantFits, ExceptionsFit}

@@ -15,8 +15,8 @@ use Rattle.addr.specs.Address.{prefix_eq}
 use Rattle.addr.specs.Order.{IsOrder, prefix_cmp}
 use Rattle.addr.proofs.Equality.{prefix_itself}
 use Rattle.addr.proofs.OrderLemmas.{prefix_order}
-use Rattle.policy.specs.CharterSets.{CharterSets, IsCharter}
-use Rattle.policy.specs.Repeats.{has_repeat}
+use Rattle.charters.specs.CharterSets.{CharterSets, IsCharter}
+use Rattle.charters.specs.Repeats.{has_repeat}
 use Rattle.tables.specs.Cells.{operator_row, prefix_cells}
 use Rattle.tables.specs.TablesHold.{HoldsCharter}
 use Rattle.tables.proofs.CellsOnce.{one_prefix, values_shown}

@@ -7,8 +7,8 @@ use Rattle.sqlite_trees.specs.Tree.{Trees}
 use Rattle.addr.specs.Address.{prefix_eq}
 use Rattle.addr.specs.Name.{is_name}
 use Rattle.addr.specs.declared.prefix.Prefix.{Prefix}
-use Rattle.policy.specs.CharterSets.{AreInNumber, CharterSets}
-use Rattle.policy.specs.Repeats.{has_repeat}
+use Rattle.charters.specs.CharterSets.{AreInNumber, CharterSets}
+use Rattle.charters.specs.Repeats.{has_repeat}
 use Rattle.policy.specs.RowsOfAll.{AllRows}
 use Rattle.policy.specs.Values.{IsCount, AuthFits, GrantFits, ExceptionsFit}
 use Rattle.slurm.specs.declared.exceptions.TheConstants.{MOST_ENTRIES}

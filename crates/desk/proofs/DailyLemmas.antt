@@ -9,7 +9,7 @@ use Rattle.policy.specs.Rows.{Rows}
 use Rattle.policy.specs.Terms.{HeldSinceMade, authorization_terms, Keeps}
 use Rattle.policy.specs.Verdict.{IsLegal}
 use Rattle.policy.specs.declared.authorization.Auth.{Auth}
-use Rattle.policy.specs.declared.charter.Charter.{Charter}
+use Rattle.charters.specs.declared.charter.Charter.{Charter}
 use Rattle.policy.proofs.Unregistered.{has_nothing}
 use Rattle.policy.specs.RowsOfAll.{AllRows, HasRows, IsGivenOn}
 use Rattle.desk.proofs.DeskLemmas.{rows_present, rows_absent}

@@ -1,30 +1,35 @@
 -- What the rows of a legal history say of it.
-use Rattle.std.proofs.Common.{◌≡◌, ℕ, Bool, true, false, ◌↔◌, IsTrue, List, Option, Some, None, refl, sym, ap, ◌∙◌, subst, MatchBool, ◌∷◌, Result, Ok, Err, IfOk}
-use Rattle.std.proofs.lemmas.Bool.{false≢true}
+use Rattle.std.proofs.Common.{◌≡◌, ℕ, Bool, true, false, ◌↔◌, IsTrue, List, Option, Some, None, refl, sym, ap, ◌∙◌, subst, arith, length, ◌-◌, MatchBool, Result, Ok, Err, IfOk}
+use Rattle.std.specs.Global.{Vec}
+use Rattle.std.proofs.lemmas.Bool.{false≢true, true≢false}
 use Rattle.addr.specs.Address.{Address}
 use Rattle.addr.specs.declared.prefix.Prefix.{Prefix}
 use Rattle.policy.specs.History.{History, is_registered}
 use Rattle.policy.specs.Resources.{resource_holder, is_held_by, IsFree}
 use Rattle.policy.specs.Rows.{Rows, RowsOf, RowsIfAny, changed_exceptions}
-use Rattle.policy.specs.Answer.{IsAccepted, IsAnswer, IsListRefusal, IsOfCommand, number_made}
+use Rattle.policy.specs.Answer.{IsAccepted, IsAnswer, IsListRefusal, IsOfCommand, imported, number_made}
 use Rattle.policy.specs.declared.rule.Refusal.{Refusal}
 use Rattle.policy.specs.declared.rule.Refusal.TheVariants.{Denied, Memory}
 use Rattle.policy.specs.declared.change.Change.{Change}
-use Rattle.desk.specs.Answer.{refused_with, AnswersCommand, AnswersList, IsAnswered}
+use Rattle.histories.specs.Growth.{GrowthFits, GrowthIsLegal}
+use Rattle.desk.specs.Answer.{is_import, refused_with, AnswersCommand, AnswersList, IsAnswered}
 use Rattle.desk.specs.declared.asked.Request.TheVariants.{Command as CommandRequest}
 use Rattle.desk.specs.declared.reply.Reply.{Reply}
-use Rattle.desk.specs.declared.reply.Reply.TheVariants.{Done}
+use Rattle.desk.specs.declared.reply.Reply.TheVariants.{Done, Imported}
 use Rattle.desk.specs.declared.handling.Desk.{Desk}
 use Rattle.desk.specs.Desk.{charter_of, HoldsHistory, IsOnCleanDisk, KeepsRows}
 use Rattle.desk.specs.HolderAnswers.{may_change, may_except, KeepsOthers}
+use Rattle.desk.specs.steps.Accepting.{AnswersAccepted}
 use Rattle.desk.specs.steps.Reading.{OfHistories}
 use Rattle.sqlite.specs.Store.{Ghosts}
 use Rattle.store.specs.StoreRows.{StoreView, IsRead, IfClean, HoldsAfter}
 use Rattle.store.specs.Loads.{OfHeldRows}
+use Rattle.policy.specs.declared.authorization.AuthTerms.{AuthTerms}
 use Rattle.policy.specs.declared.command.Command.{Command}
+use Rattle.policy.specs.declared.command.Command.TheVariants.{Import}
 use Rattle.policy.specs.Values.{EntryFits}
 use Rattle.policy.specs.Verdict.{IsLegal}
-use Rattle.policy.specs.declared.charter.Charter.{Charter}
+use Rattle.charters.specs.declared.charter.Charter.{Charter}
 use Rattle.policy.proofs.Names.{held_by_itself}
 use Rattle.policy.proofs.Unregistered.{has_nothing}
 use Rattle.policy.specs.RowsOfAll.{AllRows, changed_rows, IsTaken, HasRows}
@@ -103,22 +108,22 @@ module _ {S : Type 0} (g : Ghosts S) where
       record { after = history; legal = legal; values = λ fit. fit; answers = answers; rows_after = held }
 
   -- a command that was accepted, whose change was made
-  pub done_answered : (charter : Charter) (history : History) (day : ℕ) (caller : List ℕ) (command : Command) (change : Change) (number : Option ℕ) (old new : Desk S)
+  pub accepted_answered : GrowthIsLegal → GrowthFits → (charter : Charter) (history : History) (day : ℕ) (caller : List ℕ) (command : Command) (change : Change) (reply : Reply) (old new : Desk S)
       → EntryFits (record { day = day; caller = caller; command = command }) → IsLegal charter history → HoldsHistory g old history → IsAccepted charter history day caller command change
-      → number ≡ number_made change → HoldsAfter g old.store new.store (changed_rows change)
-      → IsAnswered g charter history day caller (CommandRequest command) (Done number) new
-  done_answered charter history day caller command change number old new values legal held accepted made applied =
+      → AnswersAccepted command change reply → HoldsAfter g old.store new.store (changed_rows change)
+      → IsAnswered g charter history day caller (CommandRequest command) reply new
+  accepted_answered grown fits charter history day caller command change reply old new values legal held accepted answers applied =
       let rows = held.0 in
       record {
-        after = record { day = day; caller = caller; command = command } ∷ history;
-        legal = (accepted.0, legal);
-        values = λ fit. (values, fit);
-        answers = (accepted.0, made ∙ accepted.1, refl);
+        after = accepted.after;
+        legal = grown charter history day caller command accepted.after legal accepted.leaves;
+        values = λ fit. fits charter history day caller command accepted.after values fit accepted.leaves;
+        answers = answers charter history day caller accepted;
         rows_after = (
           changed_rows change rows,
           record {
-            holders = λ h. accepted.2.holders h (rows.of_holder h) (held.1.holders h);
-            exceptions = ap (changed_exceptions change) held.1.exceptions ∙ sym accepted.2.exceptions;
+            holders = λ h. accepted.carries.holders h (rows.of_holder h) (held.1.holders h);
+            exceptions = ap (changed_exceptions change) held.1.exceptions ∙ sym accepted.carries.exceptions;
           },
           applied rows held.2,
         );
@@ -137,9 +142,32 @@ module _ {S : Type 0} (g : Ghosts S) where
 -- ---- refusals
 
 pub refused_answers : (charter : Charter) (history : History) (day : ℕ) (caller : List ℕ) (command : Command) (refusal : Refusal) → IsAnswer charter history day caller command (Err refusal) → AnswersCommand charter history day caller command (refused_with refusal) history
-refused_answers charter history day caller command (Denied rule row) answer = (answer.0, answer.1, refl)
+refused_answers charter history day caller command (Denied rule row) answer = (answer, refl)
 refused_answers charter history day caller command Memory answer = refl
 
 pub list_refused : (history : History) (h : List ℕ) (day : ℕ) (caller : List ℕ) (refusal : Refusal) → IsListRefusal history h day caller refusal → AnswersList history h day caller (refused_with refusal)
 list_refused history h day caller (Denied rule row) refused = refused
 list_refused history h day caller Memory refused = tt
+
+-- ---- acceptances
+
+-- a command that is no import, however it is told
+not_import : (command : Command) → ((h : List ℕ) (rows : Vec AuthTerms) → command ≡ Import h rows → ⊥) → is_import command ≡ false
+not_import (Import h rows) other = absurd (other h rows refl)
+not_import command other = refl
+
+plain_accepted : (command : Command) (change : Change) → is_import command ≡ false → AnswersAccepted command change (Done (number_made change))
+plain_accepted (Import h rows) change plain charter history day caller accepted = absurd (true≢false plain)
+plain_accepted command change plain charter history day caller accepted = (plain, accepted.leaves, accepted.numbered)
+
+-- an accepted command other than an import has its number
+pub done_accepted : (command : Command) (change : Change) → ((h : List ℕ) (rows : Vec AuthTerms) → command ≡ Import h rows → ⊥)
+    → AnswersAccepted command change (Done (number_made change))
+done_accepted command change other = plain_accepted command change (not_import command other)
+
+-- and an import its counts
+pub imported_accepted : (holder : List ℕ) (rows : Vec AuthTerms) (change : Change) (count : ℕ) → count ≡ length rows.items
+    → AnswersAccepted (Import holder rows) change (Imported (imported change) (count - imported change))
+imported_accepted holder rows change count long charter history day caller accepted =
+    let counts = accepted.numbered.1 in
+    (accepted.leaves, (counts.0, omega (arith, counts.1, long)))

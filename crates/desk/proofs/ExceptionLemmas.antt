@@ -53,19 +53,24 @@ none-passes file v none = go (list_any (λ f. filter_matches f v) file.filters) 
     go true is = absurd (none ((some_filter file.filters v).0 is))
     go false is = refl
 
+-- what passes, with more after it, is what was there and passes, or of that more
+pub kept_or_more : {X : Type 0} (p : X → Bool) (xs more : List X) (x : X) → Contains (filter p xs ++ more) x ↔ ((Contains xs x × (p x ≡ true)) ⊎ Contains more x)
+kept_or_more p xs more x = (
+  λ there. elim (Contains-append_cases (filter p xs) more x there) [ inl given ↦ inl (kept p xs x given) | inr later ↦ inr later ],
+  λ is. elim is [
+    | inl given ↦ Contains-append_left (filter p xs) more x (keeps p xs x given.0 given.1)
+    | inr later ↦ Contains-append_right (filter p xs) more x later
+  ],
+)
+
 -- the VRPs that pass, with the assertions after them, are those after the exceptions
 pub after_exceptions : (file : Exceptions) (xs : List Vrp) (v : Vrp)
     → Contains (filter (passes file) xs ++ file.assertions) v ↔ IsAfterExceptions file (Contains xs v) v
-after_exceptions file xs v = (
-  λ there. elim (Contains-append_cases (filter (passes file) xs) file.assertions v there) [
-    | inl given ↦ let was = kept (passes file) xs v given in inl (was.0, passes-none file v was.1)
-    | inr asserted ↦ inr asserted
-  ],
-  λ is. elim is [
-    | inl given ↦ Contains-append_left (filter (passes file) xs) file.assertions v (keeps (passes file) xs v given.0 (none-passes file v given.1))
-    | inr asserted ↦ Contains-append_right (filter (passes file) xs) file.assertions v asserted
-  ],
-)
+after_exceptions file xs v =
+    let is = kept_or_more (passes file) xs file.assertions v in (
+      λ there. elim (is.0 there) [ inl given ↦ inl (given.0, passes-none file v given.1) | inr asserted ↦ inr asserted ],
+      λ given. elim given [ inl kept ↦ is.1 (inl (kept.0, none-passes file v kept.1)) | inr asserted ↦ is.1 (inr asserted) ],
+    )
 
 -- what is after the exceptions comes from what was given
 pub after_alike : {P Q : Type 0} (file : Exceptions) (v : Vrp) → (P → Q) → (Q → P) → IsAfterExceptions file P v ↔ IsAfterExceptions file Q v

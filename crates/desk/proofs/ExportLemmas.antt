@@ -13,10 +13,14 @@ use Rattle.payload.specs.VrpSet as set
 use Rattle.payload.specs.declared.validity.Validity.{Validity}
 use Rattle.payload.proofs.Sets.{is_vrp, same_vrp-equal, contains-items, contains-from_list}
 use Rattle.policy.specs.DailyVrps.{IsAfterExceptions, IsVrpOn}
+use Rattle.policy.specs.ExceptionsInForce.{exceptions_in_force}
 use Rattle.policy.specs.History.{History}
+use Rattle.slurm.specs.Exceptions.{Exceptions}
+use Rattle.store.specs.Loads.{AreFilesOf}
 use Rattle.desk.specs.Answer.{AreStatesOn}
+use Rattle.desk.specs.steps.Supposing.{AreInForceOn}
 use Rattle.policy.specs.Verdict.{IsLegal}
-use Rattle.policy.specs.declared.charter.Charter.{Charter}
+use Rattle.charters.specs.declared.charter.Charter.{Charter}
 use Rattle.policy.specs.RowsOfAll.{AllRows, HasRows, IsGivenOn}
 use Rattle.desk.proofs.DailyLemmas.{given_on, any_among, among_any}
 use Rattle.desk.proofs.ExceptionLemmas.{after_alike}
@@ -25,7 +29,7 @@ is_vrp-itself : (v : Vrp) → is_vrp v v ≡ true
 is_vrp-itself v = ap is_eq (tied_itself vrp_order.total v)
 
 -- a list has the VRPs that a test of it finds
-is_among : (vrps : List Vrp) (v : Vrp) → Contains vrps v ↔ IsTrue (list_any (is_vrp v) vrps)
+pub is_among : (vrps : List Vrp) (v : Vrp) → Contains vrps v ↔ IsTrue (list_any (is_vrp v) vrps)
 is_among vrps v = (
   λ there. any_among (is_vrp v) vrps v there (is_vrp-itself v),
   λ has.
@@ -41,6 +45,14 @@ items_of_list vrps v =
     let set_has = is_among (set.items (set.from_list vrps)) v in
     let list_has = is_among vrps v in
     (λ there. list_has.1 (sym same ∙ set_has.0 there), λ there. set_has.1 (same ∙ list_has.0 there))
+
+-- and where these are such, so are those of its set
+pub items_such : (P : Vrp → Type 0) (vrps list : List Vrp) (index : set.VrpSet) → index ≡ set.from_list list → list ≡ vrps
+    → ((v : Vrp) → Contains vrps v ↔ P v) → (v : Vrp) → Contains (set.items index) v ↔ P v
+items_such P vrps list index is same are v =
+    let listed = items_of_list vrps v in
+    let made : index ≡ set.from_list vrps = is ∙ ap set.from_list same in
+    subst (λ (s : set.VrpSet). Contains (set.items s) v ↔ P v) (sym made) ((λ there. (are v).0 (listed.0 there)), (λ holds. listed.1 ((are v).1 holds)))
 
 -- the state over a list is the state over any set with the same VRPs
 pub state_has : (S : Vrp → Type 0) (items : List Vrp) → ((v : Vrp) → Contains items v ↔ S v) → (r : Route) → HasState S r (validation_state items r)
@@ -74,12 +86,20 @@ states_on history day items same (r ∷ routes) (s ∷ states) equal =
     let rest : map state_of states ≡ map (λ r. validation_state items r) routes = cc in
     (subst (HasState (IsVrpOn history day) r) (sym first) (state_has (IsVrpOn history day) items same r), states_on history day items same routes states rest)
 
--- the set of the VRPs that the rows give, after the exceptions of the rows, has the VRPs of the day
-pub items_on : (charter : Charter) (rows : AllRows) (history : History) → IsLegal charter history → HasRows rows history → (day : ℕ) (vrps after : List Vrp)
-    → ((v : Vrp) → Contains vrps v ↔ IsGivenOn rows day v) → ((v : Vrp) → Contains after v ↔ IsAfterExceptions rows.exceptions (Contains vrps v) v)
-    → (v : Vrp) → Contains (set.items (set.from_list after)) v ↔ IsVrpOn history day v
-items_on charter rows history legal has day vrps after given excepted v =
-    let on = given_on charter rows history legal has day v in
-    let alike = after_alike rows.exceptions v (λ there. on.0 ((given v).0 there)) (λ is. (given v).1 (on.1 is)) in
-    let listed = items_of_list after v in
-    rw (← has.exceptions) ((λ there. alike.0 ((excepted v).0 (listed.0 there))), (λ is. listed.1 ((excepted v).1 (alike.1 is))))
+-- the VRPs that the rows give, and the files that are loaded of their exceptions, are those in force
+pub in_force_on : (charter : Charter) (rows : AllRows) (history : History) → IsLegal charter history → HasRows rows history → (day : ℕ) (vrps : List Vrp) (files : List Exceptions)
+    → ((v : Vrp) → Contains vrps v ↔ IsGivenOn rows day v) → AreFilesOf rows.exceptions files → AreInForceOn history day vrps files
+in_force_on charter rows history legal has day vrps files given loaded = record {
+  given = λ v. let on = given_on charter rows history legal has day v in (λ there. on.0 ((given v).0 there), λ is. (given v).1 (on.1 is));
+  loaded = subst (λ (exceptions : Exceptions). AreFilesOf exceptions files) has.exceptions loaded;
+}
+
+-- an index of them after the exceptions has the VRPs of the day
+pub exported : (history : History) (day : ℕ) (vrps items : List Vrp) (files : List Exceptions) → AreInForceOn history day vrps files
+    → ((exceptions : Exceptions) → AreFilesOf exceptions files → (v : Vrp) → Contains items v ↔ IsAfterExceptions exceptions (Contains vrps v) v)
+    → (v : Vrp) → Contains items v ↔ IsVrpOn history day v
+exported history day vrps items files are excepted v =
+    let exceptions = exceptions_in_force history in
+    let left = excepted exceptions are.loaded v in
+    let alike = after_alike exceptions v (are.given v).0 (are.given v).1 in
+    (λ there. alike.0 (left.0 there), λ is. left.1 (alike.1 is))

@@ -1,52 +1,111 @@
 -- Replies by the entries that decide them, and the rows that a request leaves.
-use Rattle.std.proofs.Common.{◌≡◌, ℕ, Bool, false, cond, List, [], ◌∷◌, Option, Some, None, IfSome, inl, inr, refl, sym, ap, ◌∙◌, subst}
+use Rattle.std.proofs.Common.{◌≡◌, ℕ, Bool, true, false, ◌↔◌, cond, List, [], ◌∷◌, Option, Some, None, IfSome, inl, inr, refl, sym, ap, ◌∙◌, subst}
+use Rattle.std.specs.Global.{Vec}
 use Rattle.std.proofs.lemmas.Bool.{cases_Bool, cond-false, or_parts, true≢false}
-use Rattle.isolation.specs.Isolation.{asks_of_all, AreJudgedAlike, AreSeenAlike, CommandsByEntries, QueriesByEntries}
+use Rattle.histories.specs.Growth.{GrowthIsLegal}
+use Rattle.isolation.specs.Isolation.{asks_of_all, AreJudgedAlike, AreSeenAlike, GrowAlike, CommandsByEntries, HypotheticalByEntries, ImportsByEntries, QueriesByEntries}
+use Rattle.addr.specs.declared.route.Route.{Route}
+use Rattle.policy.specs.declared.authorization.AuthTerms.{AuthTerms}
 use Rattle.policy.specs.declared.change.Change.{Change}
 use Rattle.policy.specs.declared.change.Change.TheVariants.{Holders, Exceptions as Replace}
 use Rattle.policy.specs.declared.change.HolderChange.{HolderChange}
-use Rattle.policy.specs.declared.charter.Charter.{Charter}
+use Rattle.charters.specs.declared.charter.Charter.{Charter}
 use Rattle.policy.specs.declared.command.Command.{Command}
+use Rattle.policy.specs.declared.command.Command.TheVariants.{Import}
+use Rattle.policy.specs.declared.command.Proposed.{Proposed}
 use Rattle.policy.specs.declared.command.Query.{Query}
-use Rattle.policy.specs.declared.command.Query.TheVariants.{Show as ShowQuery, Content as ContentQuery, List as ListQuery, Payloads as PayloadsQuery, Validity as ValidityQuery}
-use Rattle.policy.specs.Answer.{holder_of, taker_of, IsOfCommand}
+use Rattle.policy.specs.declared.command.Query.TheVariants.{Show as ShowQuery, Content as ContentQuery, List as ListQuery, Payloads as PayloadsQuery, Validity as ValidityQuery, WhatIf as WhatIfQuery}
+use Rattle.policy.specs.declared.rule.Rule.{Rule}
+use Rattle.policy.specs.Answer.{holder_of, taker_of, AreCounts, IsDenied, IsOfCommand, Leaves}
 use Rattle.policy.specs.ExceptionsInForce.{brings_exceptions}
 use Rattle.policy.specs.History.{History}
+use Rattle.policy.specs.HypotheticalHistory.{JudgesChange}
+use Rattle.policy.specs.Import.{JudgesRow}
 use Rattle.policy.specs.HolderEntries.{is_this, names, entries_naming, entries_for}
 use Rattle.policy.specs.Rows.{Rows, changed, changed_by_one, changed_by_second, changed_exceptions}
-use Rattle.policy.specs.Verdict.{IsLegal}
+use Rattle.policy.specs.Verdict.{Verdict, IsLegal}
 use Rattle.slurm.specs.Exceptions.{Exceptions}
-use Rattle.desk.specs.Answer.{AnswersCommand, AnswersShow, AnswersContent, AnswersList, AnswersQuery, AnswersRequest}
-use Rattle.desk.specs.HolderAnswers.{IsAnswerByEntries, AnswersByEntries, RunsByEntries}
+use Rattle.desk.specs.Answer.{is_import, AnswersCommand, AnswersShow, AnswersContent, AnswersList, AnswersQuery, AnswersRequest}
+use Rattle.desk.specs.HolderAnswers.{IsAnswerOn, IsAnswerByEntries, AnswersByEntries, RunsByEntries}
 use Rattle.desk.specs.Run.{Runs}
 use Rattle.desk.specs.declared.asked.Asked.{Asked}
 use Rattle.desk.specs.declared.asked.Request.{Request}
 use Rattle.desk.specs.declared.asked.Request.TheVariants.{Command as CommandRequest, Query as QueryRequest}
 use Rattle.desk.specs.declared.reply.Reply.{Reply}
-use Rattle.desk.specs.declared.reply.Reply.TheVariants.{Done, Shown, Content, Listed, Denied, Unavailable}
+use Rattle.desk.specs.declared.reply.Reply.TheVariants.{Done, Imported, Shown, Content, Listed, Report, Denied, Unavailable}
 
 -- ---- replies
 
+-- a command other than an import has an entry, and its verdict alone
+pub left_by_entry : (charter : Charter) (before : History) (day : ℕ) (caller : List ℕ) (command : Command) (after : History) → is_import command ≡ false
+    → Leaves charter before day caller command after
+    → Verdict charter before day caller command None × (after ≡ record { day = day; caller = caller; command = command } ∷ before)
+left_by_entry charter before day caller (Import h rows) after plain leaves = absurd (true≢false plain)
+left_by_entry charter before day caller command after plain leaves = leaves
+
+pub leaves_entry : (charter : Charter) (before : History) (day : ℕ) (caller : List ℕ) (command : Command) → is_import command ≡ false
+    → Verdict charter before day caller command None
+    → Leaves charter before day caller command (record { day = day; caller = caller; command = command } ∷ before)
+leaves_entry charter before day caller (Import h rows) plain verdict = absurd (true≢false plain)
+leaves_entry charter before day caller command plain verdict = (verdict, refl)
+
+denied_alone : (charter : Charter) (history : History) (day : ℕ) (caller : List ℕ) (command : Command) (rule : Rule) (row : Option ℕ) → is_import command ≡ false
+    → IsDenied charter history day caller command rule row ↔ (Verdict charter history day caller command (Some rule) × (row ≡ None))
+denied_alone charter history day caller (Import h rows) rule row plain = absurd (true≢false plain)
+denied_alone charter history day caller command rule row plain = (λ denied. denied, λ denied. denied)
+
+-- only an import has counts
+pub counts_of_import : (before : History) (command : Command) (after : History) (made present : ℕ) → AreCounts before command after made present → is_import command ≡ true
+counts_of_import before (Import h rows) after made present counts = refl
+counts_of_import before command after made present counts = absurd counts
+
 -- a command that is judged alike is answered alike
 command_alike : (charter : Charter) (one other : History) (day : ℕ) (caller : List ℕ) (command : Command) (reply : Reply) (after : History)
-    → AreJudgedAlike charter one other day caller command → AnswersCommand charter one day caller command reply after
+    → is_import command ≡ false → AreJudgedAlike charter one other day caller command → AnswersCommand charter one day caller command reply after
     → (later : History) × AnswersCommand charter other day caller command reply later
-command_alike charter one other day caller command (Done number) after alike answers =
-    (record { day = day; caller = caller; command = command } ∷ other, ((alike.verdict None).0 answers.0, answers.1 ∙ alike.number, refl))
-command_alike charter one other day caller command (Denied rule row) after alike answers =
-    (other, ((alike.verdict (Some rule)).0 answers.0, answers.1, refl))
-command_alike charter one other day caller command Unavailable after alike answers = (other, refl)
-command_alike charter one other day caller command reply after alike answers = absurd answers
+command_alike charter one other day caller command (Done number) after plain alike answers =
+    let verdict = (left_by_entry charter one day caller command after plain answers.1).0 in (
+      record { day = day; caller = caller; command = command } ∷ other,
+      (plain, leaves_entry charter other day caller command plain ((alike.verdict None).0 verdict), answers.2 ∙ alike.number),
+    )
+command_alike charter one other day caller command (Imported made present) after plain alike answers =
+    absurd (true≢false (sym (counts_of_import one command after made present answers.1) ∙ plain))
+command_alike charter one other day caller command (Denied rule row) after plain alike answers =
+    let denied = (denied_alone charter one day caller command rule row plain).0 answers.0 in
+    (other, ((denied_alone charter other day caller command rule row plain).1 ((alike.verdict (Some rule)).0 denied.0, denied.1), refl))
+command_alike charter one other day caller command Unavailable after plain alike answers = (other, refl)
+command_alike charter one other day caller command reply after plain alike answers = absurd answers
 
-command_by_entries : CommandsByEntries → (charter : Charter) (history : History) (day : ℕ) (caller : List ℕ) (command : Command) (reply : Reply) (after : History)
+-- and so is an import that comes out alike
+import_alike : (charter : Charter) (history : History) (day : ℕ) (caller holder : List ℕ) (rows : Vec AuthTerms) (reply : Reply) (after : History)
+    → GrowAlike (JudgesRow charter day caller holder) day caller holder history rows.items → AnswersCommand charter history day caller (Import holder rows) reply after
+    → (later : History) × AnswersCommand charter (entries_naming holder history) day caller (Import holder rows) reply later
+import_alike charter history day caller holder rows (Imported made present) after alike answers =
+    (entries_naming holder after, (alike.grows after answers.0, ((alike.made after made answers.0).0 answers.1.0, answers.1.1)))
+import_alike charter history day caller holder rows (Denied rule (Some place)) after alike answers =
+    (entries_naming holder history, ((alike.denied rule place).0 answers.0, refl))
+import_alike charter history day caller holder rows (Denied rule None) after alike answers = absurd answers.0
+import_alike charter history day caller holder rows Unavailable after alike answers = (entries_naming holder history, refl)
+import_alike charter history day caller holder rows (Done number) after alike answers = absurd (true≢false answers.0)
+import_alike charter history day caller holder rows reply after alike answers = absurd answers
+
+either_alike : CommandsByEntries → ImportsByEntries → (charter : Charter) (history : History) (day : ℕ) (caller : List ℕ) (command : Command) (reply : Reply) (after : History)
+    → IsLegal charter history → asks_of_all command ≡ false → AnswersCommand charter history day caller command reply after
+    → (later : History) × AnswersCommand charter (entries_for command history) day caller command reply later
+either_alike commands imports charter history day caller (Import h rows) reply after legal own answers =
+    import_alike charter history day caller h rows reply after (imports charter history day caller h rows.items legal) answers
+either_alike commands imports charter history day caller command reply after legal own answers =
+    command_alike charter history (entries_for command history) day caller command reply after refl (commands charter history day caller command legal own) answers
+
+command_by_entries : CommandsByEntries → ImportsByEntries → (charter : Charter) (history : History) (day : ℕ) (caller : List ℕ) (command : Command) (reply : Reply) (after : History)
     → IsLegal charter history → AnswersCommand charter history day caller command reply after
     → IsAnswerByEntries charter history day caller (CommandRequest command) reply
-command_by_entries law charter history day caller command reply after legal answers =
+command_by_entries commands imports charter history day caller command reply after legal answers =
     let entries = entries_for command history in
     let By : Bool → Type 0 = λ all. IfSome (cond all None (Some entries)) (λ some. (later : History) × AnswersCommand charter some day caller command reply later) in
     elim (cases_Bool (asks_of_all command)) [
       | inl t ↦ subst By (sym t) tt
-      | inr f ↦ subst By (sym f) (command_alike charter history entries day caller command reply after (law charter history day caller command legal f) answers)
+      | inr f ↦ subst By (sym f) (either_alike commands imports charter history day caller command reply after legal f answers)
     ]
 
 show_alike : {one other : History} {h : List ℕ} {day : ℕ} {caller : List ℕ} → AreSeenAlike one other h day caller → (n : ℕ) (reply : Reply)
@@ -70,41 +129,54 @@ list_alike alike (Denied rule row) answers = ((alike.list (Some rule)).0 answers
 list_alike alike Unavailable answers = tt
 list_alike alike reply answers = absurd answers
 
-query_by_entries : QueriesByEntries → (charter : Charter) (history : History) (day : ℕ) (caller : List ℕ) (query : Query) (reply : Reply)
-    → IsLegal charter history → AnswersQuery history day caller query reply → IsAnswerByEntries charter history day caller (QueryRequest query) reply
-query_by_entries law charter history day caller (ShowQuery h n) reply legal answers =
-    (entries_naming h history, (show_alike (law charter history h day caller legal) n reply answers, refl))
-query_by_entries law charter history day caller (ContentQuery h n) reply legal answers =
-    (entries_naming h history, (content_alike (law charter history h day caller legal) n reply answers, refl))
-query_by_entries law charter history day caller (ListQuery h) reply legal answers =
-    (entries_naming h history, (list_alike (law charter history h day caller legal) reply answers, refl))
-query_by_entries law charter history day caller PayloadsQuery reply legal answers = tt
-query_by_entries law charter history day caller (ValidityQuery routes) reply legal answers = tt
+what_if_alike : (charter : Charter) (history : History) (day : ℕ) (caller h : List ℕ) (changes : Vec Proposed) (routes : Vec Route) (reply : Reply)
+    → GrowAlike (JudgesChange charter day caller h) day caller h history changes.items → AnswersQuery charter history day caller (WhatIfQuery h changes routes) reply
+    → IsAnswerOn charter (entries_naming h history) day caller (QueryRequest (WhatIfQuery h changes routes)) reply
+what_if_alike charter history day caller h changes routes (Report states) alike answers = (entries_naming h answers.0, alike.grows answers.0 answers.1)
+what_if_alike charter history day caller h changes routes (Denied rule (Some place)) alike answers =
+    (entries_naming h history, ((alike.denied rule place).0 answers, refl))
+what_if_alike charter history day caller h changes routes (Denied rule None) alike answers = absurd answers
+what_if_alike charter history day caller h changes routes Unavailable alike answers = (entries_naming h history, (tt, refl))
+what_if_alike charter history day caller h changes routes reply alike answers = absurd answers
 
-pub answers_by_entries : CommandsByEntries → QueriesByEntries → AnswersByEntries
-answers_by_entries commands queries charter history day caller (CommandRequest command) reply after legal answers =
-    command_by_entries commands charter history day caller command reply after legal answers
-answers_by_entries commands queries charter history day caller (QueryRequest query) reply after legal answers =
-    query_by_entries queries charter history day caller query reply legal answers.0
+query_by_entries : QueriesByEntries → HypotheticalByEntries → (charter : Charter) (history : History) (day : ℕ) (caller : List ℕ) (query : Query) (reply : Reply)
+    → IsLegal charter history → AnswersQuery charter history day caller query reply → IsAnswerByEntries charter history day caller (QueryRequest query) reply
+query_by_entries law changed charter history day caller (ShowQuery h n) reply legal answers =
+    (entries_naming h history, (show_alike (law charter history h day caller legal) n reply answers, refl))
+query_by_entries law changed charter history day caller (ContentQuery h n) reply legal answers =
+    (entries_naming h history, (content_alike (law charter history h day caller legal) n reply answers, refl))
+query_by_entries law changed charter history day caller (ListQuery h) reply legal answers =
+    (entries_naming h history, (list_alike (law charter history h day caller legal) reply answers, refl))
+query_by_entries law changed charter history day caller PayloadsQuery reply legal answers = tt
+query_by_entries law changed charter history day caller (ValidityQuery routes) reply legal answers = tt
+query_by_entries law changed charter history day caller (WhatIfQuery h changes routes) reply legal answers =
+    what_if_alike charter history day caller h changes routes reply (changed charter history day caller h changes.items legal) answers
+
+pub answers_by_entries : CommandsByEntries → ImportsByEntries → QueriesByEntries → HypotheticalByEntries → AnswersByEntries
+answers_by_entries commands imports queries changes charter history day caller (CommandRequest command) reply after legal answers =
+    command_by_entries commands imports charter history day caller command reply after legal answers
+answers_by_entries commands imports queries changes charter history day caller (QueryRequest query) reply after legal answers =
+    query_by_entries queries changes charter history day caller query reply legal answers.0
 
 -- ---- runs
 
-legal_after : (charter : Charter) (before : History) (day : ℕ) (caller : List ℕ) (request : Request) (reply : Reply) (after : History)
+legal_after : GrowthIsLegal → (charter : Charter) (before : History) (day : ℕ) (caller : List ℕ) (request : Request) (reply : Reply) (after : History)
     → IsLegal charter before → AnswersRequest charter before day caller request reply after → IsLegal charter after
-legal_after charter before day caller (CommandRequest command) (Done number) after legal answers = subst (IsLegal charter) (sym answers.2) (answers.0, legal)
-legal_after charter before day caller (CommandRequest command) (Denied rule row) after legal answers = subst (IsLegal charter) (sym answers.2) legal
-legal_after charter before day caller (CommandRequest command) Unavailable after legal answers = subst (IsLegal charter) (sym answers) legal
-legal_after charter before day caller (CommandRequest command) reply after legal answers = absurd answers
-legal_after charter before day caller (QueryRequest query) reply after legal answers = subst (IsLegal charter) (sym answers.1) legal
+legal_after grown charter before day caller (CommandRequest command) (Done number) after legal answers = grown charter before day caller command after legal answers.1
+legal_after grown charter before day caller (CommandRequest command) (Imported made present) after legal answers = grown charter before day caller command after legal answers.0
+legal_after grown charter before day caller (CommandRequest command) (Denied rule row) after legal answers = subst (IsLegal charter) (sym answers.1) legal
+legal_after grown charter before day caller (CommandRequest command) Unavailable after legal answers = subst (IsLegal charter) (sym answers) legal
+legal_after grown charter before day caller (CommandRequest command) reply after legal answers = absurd answers
+legal_after grown charter before day caller (QueryRequest query) reply after legal answers = subst (IsLegal charter) (sym answers.1) legal
 
-pub runs_by_entries : AnswersByEntries → (charter : Charter) (before : History) (asked : List Asked) (replies : List Reply) (after : History)
+pub runs_by_entries : GrowthIsLegal → AnswersByEntries → (charter : Charter) (before : History) (asked : List Asked) (replies : List Reply) (after : History)
     → IsLegal charter before → Runs charter before asked replies after → RunsByEntries charter before asked replies
-runs_by_entries law charter before [] [] after legal runs = tt
-runs_by_entries law charter before [] (reply ∷ replies) after legal runs = absurd runs
-runs_by_entries law charter before (a ∷ more) [] after legal runs = absurd runs
-runs_by_entries law charter before (a ∷ more) (reply ∷ replies) after legal runs =
-    let later = legal_after charter before a.day a.caller a.request reply runs.0 legal runs.1 in
-    (law charter before a.day a.caller a.request reply runs.0 legal runs.1, runs.0, runs.1, runs_by_entries law charter runs.0 more replies after later runs.2)
+runs_by_entries grown law charter before [] [] after legal runs = tt
+runs_by_entries grown law charter before [] (reply ∷ replies) after legal runs = absurd runs
+runs_by_entries grown law charter before (a ∷ more) [] after legal runs = absurd runs
+runs_by_entries grown law charter before (a ∷ more) (reply ∷ replies) after legal runs =
+    let later = legal_after grown charter before a.day a.caller a.request reply runs.0 legal runs.1 in
+    (law charter before a.day a.caller a.request reply runs.0 legal runs.1, runs.0, runs.1, runs_by_entries grown law charter runs.0 more replies after later runs.2)
 
 -- ---- rows
 

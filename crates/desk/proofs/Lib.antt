@@ -1,8 +1,10 @@
 pub mod ContentLemmas
 pub mod HolderLemmas
 pub mod OneReply
+pub mod AsDone
 pub mod DeskLemmas
 pub mod RunLemmas
 pub mod DailyLemmas
 pub mod ExportLemmas
 pub mod ExceptionLemmas
+pub mod ExchangeLemmas

@@ -1,67 +1,35 @@
 -- A request has one reply on given entries.
-use Rattle.std.proofs.Common.{◌≡◌, ℕ, List, [], ◌∷◌, Option, Some, None, IfSome, inl, inr, refl, sym, ap, ◌∙◌, subst, filter}
+use Rattle.std.proofs.Common.{◌≡◌, ℕ, List, [], ◌∷◌, Option, Some, None, IfSome, inl, inr, refl, sym, ap, ◌∙◌, subst, filter, arith}
 use Rattle.std.specs.Prelude.{IsSome}
+use Rattle.std.specs.Global.{Vec}
 use Rattle.std.specs.String.{string_bytes}
-use Rattle.std.proofs.lemmas.Bool.{false≢true}
+use Rattle.std.proofs.lemmas.Bool.{false≢true, true≢false}
+use Rattle.addr.specs.declared.route.Route.{Route}
 use Rattle.policy.specs.declared.authorization.Auth.{Auth}
-use Rattle.policy.specs.declared.charter.Charter.{Charter}
+use Rattle.charters.specs.declared.charter.Charter.{Charter}
 use Rattle.policy.specs.declared.command.Command.{Command}
-use Rattle.policy.specs.declared.command.Command.TheVariants.{Register, Delegate, Transfer, Reclaim, Grant, Revoke, Create, Amend, Withdraw, Slurm}
-use Rattle.policy.specs.declared.command.Query.TheVariants.{Show as ShowQuery, Content as ContentQuery, List as ListQuery, Payloads as PayloadsQuery, Validity as ValidityQuery}
+use Rattle.policy.specs.declared.command.Command.TheVariants.{Import}
+use Rattle.policy.specs.declared.command.Proposed.{Proposed}
+use Rattle.policy.specs.declared.command.Query.TheVariants.{Show as ShowQuery, Content as ContentQuery, List as ListQuery, Payloads as PayloadsQuery, Validity as ValidityQuery, WhatIf as WhatIfQuery}
 use Rattle.policy.specs.declared.grant.Access.TheVariants.{Look}
 use Rattle.policy.specs.declared.rule.Rule.{Rule}
-use Rattle.policy.specs.Answer.{IsShown}
+use Rattle.policy.specs.Answer.{AreCounts, IsShown}
 use Rattle.policy.specs.History.{History}
 use Rattle.policy.specs.Permission.{is_permitted_terms}
-use Rattle.policy.specs.Terms.{grant_terms, Keeps, AreActive, HeldSinceMade, authorization_terms}
-use Rattle.policy.specs.Verdict.{ask, accept, numbered, Verdict, ShowVerdict, ListVerdict}
-use Rattle.desk.specs.Answer.{AnswersCommand, AnswersShow, AnswersContent, AnswersList, AnswersRequest}
+use Rattle.policy.specs.Terms.{grant_terms, Keeps, AreActive, HeldSinceMade, authorizations_made, authorization_terms}
+use Rattle.policy.specs.Verdict.{numbered, ShowVerdict, ListVerdict}
+use Rattle.histories.specs.OneOutcome.{OneHypotheticalOutcome, OneOutcome}
+use Rattle.histories.proofs.OneOutcome.{One, asked, accepted}
+use Rattle.desk.specs.Answer.{AnswersCommand, AnswersShow, AnswersContent, AnswersList}
 use Rattle.desk.specs.ContentText.{IsContentText}
-use Rattle.desk.specs.HolderAnswers.{deciding_entries, SaySame, OneReply}
+use Rattle.desk.specs.HolderAnswers.{deciding_entries, IsAnswerOn, SaySame, OneReply}
 use Rattle.desk.specs.declared.asked.Request.{Request}
 use Rattle.desk.specs.declared.asked.Request.TheVariants.{Command as CommandRequest, Query as QueryRequest}
 use Rattle.desk.specs.declared.reply.Reply.{Reply}
-use Rattle.desk.specs.declared.reply.Reply.TheVariants.{Done, Shown, Content, Listed, Denied, Unavailable}
+use Rattle.desk.specs.declared.reply.Reply.TheVariants.{Done, Imported, Shown, Content, Listed, Report, Denied, Unavailable}
+use Rattle.desk.proofs.HolderLemmas.{counts_of_import}
 
 -- ---- verdicts
-
--- there is one verdict
-record One (verdict : Option Rule → Type 0) : Type 0 where
-  same : (a b : Option Rule) → verdict a → verdict b → a ≡ b
-
-asked : {rule : Rule} {P : Type 0} {rest : Option Rule → Type 0} → One rest → One (ask rule P rest)
-asked {rule} {P} {rest} one = record { same = both }
-  where
-    both : (a b : Option Rule) → ask rule P rest a → ask rule P rest b → a ≡ b
-    both None None x y = refl
-    both None (Some s) x (inl fails) = absurd (fails.0 x.0)
-    both None (Some s) x (inr holds) = one.same None (Some s) x.1 holds.1
-    both (Some r) None (inl fails) y = absurd (fails.0 y.0)
-    both (Some r) None (inr holds) y = one.same (Some r) None holds.1 y.1
-    both (Some r) (Some s) (inl fails) (inl also) = ap Some (fails.1 ∙ sym also.1)
-    both (Some r) (Some s) (inl fails) (inr holds) = absurd (fails.0 holds.0)
-    both (Some r) (Some s) (inr holds) (inl fails) = absurd (fails.0 holds.0)
-    both (Some r) (Some s) (inr holds) (inr also) = one.same (Some r) (Some s) holds.1 also.1
-
-accepted : One accept
-accepted = record { same = both }
-  where
-    both : (a b : Option Rule) → accept a → accept b → a ≡ b
-    both None None x y = refl
-    both None (Some s) x y = absurd y
-    both (Some r) b x y = absurd x
-
-one_verdict : (charter : Charter) (history : History) (day : ℕ) (caller : List ℕ) (c : Command) → One (Verdict charter history day caller c)
-one_verdict charter history day caller (Register holder) = asked (asked accepted)
-one_verdict charter history day caller (Delegate holder p) = asked (asked (asked (asked accepted)))
-one_verdict charter history day caller (Transfer p giver taker) = asked (asked (asked (asked accepted)))
-one_verdict charter history day caller (Reclaim holder p) = asked (asked (asked accepted))
-one_verdict charter history day caller (Grant holder name role scope until) = asked (asked (asked (asked accepted)))
-one_verdict charter history day caller (Revoke holder n) = asked (asked accepted)
-one_verdict charter history day caller (Create holder asn p max from until) = asked (asked (asked (asked (asked (asked (asked accepted))))))
-one_verdict charter history day caller (Amend holder n max until) = asked (asked (asked (asked (asked accepted))))
-one_verdict charter history day caller (Withdraw holder n) = asked (asked accepted)
-one_verdict charter history day caller (Slurm file) = asked accepted
 
 one_show : (history : History) (h : List ℕ) (day : ℕ) (caller : List ℕ) (n : ℕ) → One (ShowVerdict history h day caller n)
 one_show history h day caller n = asked (asked accepted)
@@ -72,8 +40,12 @@ one_list history h day caller = asked accepted
 none≢some : {r : Rule} {A : Type 0} → None ≡ Some r → A
 none≢some same = absurd cc
 
-denied : (r s : Rule) (row other : Option ℕ) → Some r ≡ Some s → row ≡ None → other ≡ None → Denied r row ≡ Denied s other
-denied r s row other rule left right = cc
+denied : (r s : Rule) (row other : Option ℕ) → r ≡ s → row ≡ other → Denied r row ≡ Denied s other
+denied r s row other rule place = cc
+
+-- of a query no row is told
+denied_whole : (r s : Rule) (row other : Option ℕ) → Some r ≡ Some s → row ≡ None → other ≡ None → Denied r row ≡ Denied s other
+denied_whole r s row other rule left right = cc
 
 -- ---- active authorizations
 
@@ -101,19 +73,40 @@ one_shown history h day caller n x y a b =
 
 -- ---- replies
 
-one_of_command : (charter : Charter) (history : History) (day : ℕ) (caller : List ℕ) (c : Command) (a b : Reply) (after later : History)
+-- an import that leaves one history has its counts
+one_count : (before : History) (command : Command) (after later : History) (made present more others : ℕ) → after ≡ later
+    → AreCounts before command after made present → AreCounts before command later more others → Imported made present ≡ Imported more others
+one_count before (Import h rows) after later made present more others same x y =
+    let counted : authorizations_made after h ≡ authorizations_made later h = ap (λ (history : History). authorizations_made history h) same in
+    let makes : made ≡ more = omega (arith, counted, x.0, y.0) in
+    let leaves : present ≡ others = omega (arith, counted, x.0, x.1, y.0, y.1) in
+    cc
+one_count before command after later made present more others same x y = absurd x
+
+one_of_command : OneOutcome → (charter : Charter) (history : History) (day : ℕ) (caller : List ℕ) (c : Command) (a b : Reply) (after later : History)
     → AnswersCommand charter history day caller c a after → AnswersCommand charter history day caller c b later → SaySame a b
-one_of_command charter history day caller c Unavailable b after later x y = tt
-one_of_command charter history day caller c (Done m) (Done n) after later x y = ap Done (x.1 ∙ sym y.1)
-one_of_command charter history day caller c (Done m) (Denied s row) after later x y = none≢some ((one_verdict charter history day caller c).same None (Some s) x.0 y.0)
-one_of_command charter history day caller c (Done m) Unavailable after later x y = tt
-one_of_command charter history day caller c (Done m) b after later x y = absurd y
-one_of_command charter history day caller c (Denied r row) (Done n) after later x y = none≢some ((one_verdict charter history day caller c).same None (Some r) y.0 x.0)
-one_of_command charter history day caller c (Denied r row) (Denied s other) after later x y =
-    denied r s row other ((one_verdict charter history day caller c).same (Some r) (Some s) x.0 y.0) x.1 y.1
-one_of_command charter history day caller c (Denied r row) Unavailable after later x y = tt
-one_of_command charter history day caller c (Denied r row) b after later x y = absurd y
-one_of_command charter history day caller c a b after later x y = absurd x
+one_of_command law charter history day caller c Unavailable b after later x y = tt
+one_of_command law charter history day caller c (Done m) (Done n) after later x y = ap Done (x.2 ∙ sym y.2)
+one_of_command law charter history day caller c (Done m) (Imported made present) after later x y =
+    absurd (true≢false (sym (counts_of_import history c later made present y.1) ∙ x.0))
+one_of_command law charter history day caller c (Done m) (Denied s row) after later x y = absurd ((law charter history day caller c).either after s row x.1 y.0)
+one_of_command law charter history day caller c (Done m) Unavailable after later x y = tt
+one_of_command law charter history day caller c (Done m) b after later x y = absurd y
+one_of_command law charter history day caller c (Imported made present) (Done n) after later x y =
+    absurd (true≢false (sym (counts_of_import history c after made present x.1) ∙ y.0))
+one_of_command law charter history day caller c (Imported made present) (Imported more others) after later x y =
+    one_count history c after later made present more others ((law charter history day caller c).left after later x.0 y.0) x.1 y.1
+one_of_command law charter history day caller c (Imported made present) (Denied s row) after later x y = absurd ((law charter history day caller c).either after s row x.0 y.0)
+one_of_command law charter history day caller c (Imported made present) Unavailable after later x y = tt
+one_of_command law charter history day caller c (Imported made present) b after later x y = absurd y
+one_of_command law charter history day caller c (Denied r row) (Done n) after later x y = absurd ((law charter history day caller c).either later r row y.1 x.0)
+one_of_command law charter history day caller c (Denied r row) (Imported made present) after later x y = absurd ((law charter history day caller c).either later r row y.0 x.0)
+one_of_command law charter history day caller c (Denied r row) (Denied s other) after later x y =
+    let same = (law charter history day caller c).denied r s row other x.0 y.0 in
+    denied r s row other same.0 same.1
+one_of_command law charter history day caller c (Denied r row) Unavailable after later x y = tt
+one_of_command law charter history day caller c (Denied r row) b after later x y = absurd y
+one_of_command law charter history day caller c a b after later x y = absurd x
 
 one_of_show : (history : History) (h : List ℕ) (day : ℕ) (caller : List ℕ) (n : ℕ) (a b : Reply)
     → AnswersShow history h day caller n a → AnswersShow history h day caller n b → SaySame a b
@@ -124,7 +117,7 @@ one_of_show history h day caller n (Shown u) Unavailable x y = tt
 one_of_show history h day caller n (Shown u) b x y = absurd y
 one_of_show history h day caller n (Denied r row) (Shown v) x y = none≢some ((one_show history h day caller n).same None (Some r) y.0 x.0)
 one_of_show history h day caller n (Denied r row) (Denied s other) x y =
-    denied r s row other ((one_show history h day caller n).same (Some r) (Some s) x.0 y.0) x.1 y.1
+    denied_whole r s row other ((one_show history h day caller n).same (Some r) (Some s) x.0 y.0) x.1 y.1
 one_of_show history h day caller n (Denied r row) Unavailable x y = tt
 one_of_show history h day caller n (Denied r row) b x y = absurd y
 one_of_show history h day caller n a b x y = absurd x
@@ -139,7 +132,7 @@ one_of_content history h day caller n (Content text) Unavailable x y = tt
 one_of_content history h day caller n (Content text) b x y = absurd y
 one_of_content history h day caller n (Denied r row) (Content text) x y = none≢some ((one_show history h day caller n).same None (Some r) y.1.0 x.0)
 one_of_content history h day caller n (Denied r row) (Denied s other) x y =
-    denied r s row other ((one_show history h day caller n).same (Some r) (Some s) x.0 y.0) x.1 y.1
+    denied_whole r s row other ((one_show history h day caller n).same (Some r) (Some s) x.0 y.0) x.1 y.1
 one_of_content history h day caller n (Denied r row) Unavailable x y = tt
 one_of_content history h day caller n (Denied r row) b x y = absurd y
 one_of_content history h day caller n a b x y = absurd x
@@ -154,39 +147,64 @@ one_of_list history h day caller (Listed us) Unavailable x y = tt
 one_of_list history h day caller (Listed us) b x y = absurd y
 one_of_list history h day caller (Denied r row) (Listed vs) x y = none≢some ((one_list history h day caller).same None (Some r) y.0 x.0)
 one_of_list history h day caller (Denied r row) (Denied s other) x y =
-    denied r s row other ((one_list history h day caller).same (Some r) (Some s) x.0 y.0) x.1 y.1
+    denied_whole r s row other ((one_list history h day caller).same (Some r) (Some s) x.0 y.0) x.1 y.1
 one_of_list history h day caller (Denied r row) Unavailable x y = tt
 one_of_list history h day caller (Denied r row) b x y = absurd y
 one_of_list history h day caller a b x y = absurd x
 
+one_of_what_if : OneHypotheticalOutcome → (charter : Charter) (history : History) (day : ℕ) (caller h : List ℕ) (changes : Vec Proposed) (routes : Vec Route) (a b : Reply)
+    → IsAnswerOn charter history day caller (QueryRequest (WhatIfQuery h changes routes)) a
+    → IsAnswerOn charter history day caller (QueryRequest (WhatIfQuery h changes routes)) b → SaySame a b
+one_of_what_if law charter history day caller h changes routes Unavailable b x y = tt
+one_of_what_if law charter history day caller h changes routes (Report states) (Report others) x y = tt
+one_of_what_if law charter history day caller h changes routes (Report states) (Denied s (Some place)) x y =
+    absurd ((law charter day caller h history changes.items).either x.0 s place x.1 y.1.0)
+one_of_what_if law charter history day caller h changes routes (Report states) (Denied s None) x y = absurd y.1.0
+one_of_what_if law charter history day caller h changes routes (Report states) Unavailable x y = tt
+one_of_what_if law charter history day caller h changes routes (Report states) b x y = absurd y.1.0
+one_of_what_if law charter history day caller h changes routes (Denied r (Some place)) (Report states) x y =
+    absurd ((law charter day caller h history changes.items).either y.0 r place y.1 x.1.0)
+one_of_what_if law charter history day caller h changes routes (Denied r (Some place)) (Denied s (Some other)) x y =
+    let same = (law charter day caller h history changes.items).denied r s place other x.1.0 y.1.0 in
+    denied r s (Some place) (Some other) same.0 (ap Some same.1)
+one_of_what_if law charter history day caller h changes routes (Denied r (Some place)) (Denied s None) x y = absurd y.1.0
+one_of_what_if law charter history day caller h changes routes (Denied r (Some place)) Unavailable x y = tt
+one_of_what_if law charter history day caller h changes routes (Denied r (Some place)) b x y = absurd y.1.0
+one_of_what_if law charter history day caller h changes routes (Denied r None) b x y = absurd x.1.0
+one_of_what_if law charter history day caller h changes routes a b x y = absurd x.1.0
+
 -- ---- the entries that decide a request
 
 abbrev AnswersOn : Charter → ℕ → List ℕ → Request → Reply → Option History → Type 0
-AnswersOn charter day caller request reply entries =
-    IfSome entries (λ some. (after : History) × AnswersRequest charter some day caller request reply after)
+AnswersOn charter day caller request reply entries = IfSome entries (λ some. IsAnswerOn charter some day caller request reply)
 
-one_on : (charter : Charter) (day : ℕ) (caller : List ℕ) (request : Request) (a b : Reply) (entries : Option History)
-    → ((history after later : History) → AnswersRequest charter history day caller request a after → AnswersRequest charter history day caller request b later → SaySame a b)
+-- on each history there is one reply
+abbrev OneOn : Charter → ℕ → List ℕ → Request → Reply → Reply → Type 0
+OneOn charter day caller request a b =
+    (history : History) → IsAnswerOn charter history day caller request a → IsAnswerOn charter history day caller request b → SaySame a b
+
+one_on : (charter : Charter) (day : ℕ) (caller : List ℕ) (request : Request) (a b : Reply) (entries : Option History) → OneOn charter day caller request a b
     → IsSome entries → AnswersOn charter day caller request a entries → AnswersOn charter day caller request b entries → SaySame a b
 one_on charter day caller request a b None one some x y = absurd (false≢true some)
-one_on charter day caller request a b (Some entries) one some x y = one entries x.0 y.0 x.1 y.1
+one_on charter day caller request a b (Some entries) one some x y = one entries x y
 
 -- the same, of two histories that agree on them
-agreed : (charter : Charter) (one other : History) (day : ℕ) (caller : List ℕ) (request : Request) (a b : Reply)
-    → ((history after later : History) → AnswersRequest charter history day caller request a after → AnswersRequest charter history day caller request b later → SaySame a b)
+agreed : (charter : Charter) (one other : History) (day : ℕ) (caller : List ℕ) (request : Request) (a b : Reply) → OneOn charter day caller request a b
     → IsSome (deciding_entries request one) → deciding_entries request one ≡ deciding_entries request other
     → AnswersOn charter day caller request a (deciding_entries request one) → AnswersOn charter day caller request b (deciding_entries request other) → SaySame a b
 agreed charter one other day caller request a b determined some same x y =
     one_on charter day caller request a b (deciding_entries request one) determined some x (subst (AnswersOn charter day caller request b) (sym same) y)
 
-pub one_reply : OneReply
-one_reply charter one other day caller (CommandRequest c) a b some same x y =
-    agreed charter one other day caller (CommandRequest c) a b (λ history after later p q. one_of_command charter history day caller c a b after later p q) some same x y
-one_reply charter one other day caller (QueryRequest (ShowQuery h n)) a b some same x y =
-    agreed charter one other day caller (QueryRequest (ShowQuery h n)) a b (λ history after later p q. one_of_show history h day caller n a b p.0 q.0) some same x y
-one_reply charter one other day caller (QueryRequest (ContentQuery h n)) a b some same x y =
-    agreed charter one other day caller (QueryRequest (ContentQuery h n)) a b (λ history after later p q. one_of_content history h day caller n a b p.0 q.0) some same x y
-one_reply charter one other day caller (QueryRequest (ListQuery h)) a b some same x y =
-    agreed charter one other day caller (QueryRequest (ListQuery h)) a b (λ history after later p q. one_of_list history h day caller a b p.0 q.0) some same x y
-one_reply charter one other day caller (QueryRequest PayloadsQuery) a b some same x y = absurd (false≢true some)
-one_reply charter one other day caller (QueryRequest (ValidityQuery routes)) a b some same x y = absurd (false≢true some)
+pub one_reply : OneOutcome → OneHypotheticalOutcome → OneReply
+one_reply law would charter one other day caller (CommandRequest c) a b some same x y =
+    agreed charter one other day caller (CommandRequest c) a b (λ history p q. one_of_command law charter history day caller c a b p.0 q.0 p.1 q.1) some same x y
+one_reply law would charter one other day caller (QueryRequest (ShowQuery h n)) a b some same x y =
+    agreed charter one other day caller (QueryRequest (ShowQuery h n)) a b (λ history p q. one_of_show history h day caller n a b p.1.0 q.1.0) some same x y
+one_reply law would charter one other day caller (QueryRequest (ContentQuery h n)) a b some same x y =
+    agreed charter one other day caller (QueryRequest (ContentQuery h n)) a b (λ history p q. one_of_content history h day caller n a b p.1.0 q.1.0) some same x y
+one_reply law would charter one other day caller (QueryRequest (ListQuery h)) a b some same x y =
+    agreed charter one other day caller (QueryRequest (ListQuery h)) a b (λ history p q. one_of_list history h day caller a b p.1.0 q.1.0) some same x y
+one_reply law would charter one other day caller (QueryRequest PayloadsQuery) a b some same x y = absurd (false≢true some)
+one_reply law would charter one other day caller (QueryRequest (ValidityQuery routes)) a b some same x y = absurd (false≢true some)
+one_reply law would charter one other day caller (QueryRequest (WhatIfQuery h changes routes)) a b some same x y =
+    agreed charter one other day caller (QueryRequest (WhatIfQuery h changes routes)) a b (λ history p q. one_of_what_if would charter history day caller h changes routes a b p q) some same x y

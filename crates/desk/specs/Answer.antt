@@ -1,9 +1,10 @@
 -- What the desk may reply to a request on a history, and the history that this leaves: a command is
 -- accepted exactly where its rules hold on the commands accepted before it, else it changes nothing
 -- and is answered with the first rule that fails; what is shown, exported and judged is what the
--- history defines. Where no memory is found, or the database does not answer, the reply is Unavailable
--- and nothing has changed.
-use Rattle.std.specs.Prelude.{◌≡◌, ℕ, Bool, true, false, List, [], ◌∷◌, Some, None, ◌↔◌, Contains}
+-- history defines, and what changes would do is what the history defines that they would leave.
+-- Where no memory is found, or the database does not answer, the reply is Unavailable and nothing
+-- has changed.
+use Rattle.std.specs.Prelude.{◌≡◌, ℕ, Bool, true, false, List, [], ◌∷◌, Some, None, ◌↔◌, Contains, map, IsSomeAnd}
 use Rattle.std.specs.String.{string_bytes}
 use Rattle.addr.specs.OriginValidation.{HasState}
 use Rattle.addr.specs.declared.route.Route.{Route}
@@ -11,16 +12,19 @@ use Rattle.addr.specs.declared.vrp.Vrp.{Vrp}
 use Rattle.payload.specs.Rising.{AreRising}
 use Rattle.payload.specs.ValidityState.{state_of}
 use Rattle.payload.specs.declared.validity.Validity.{Validity}
-use Rattle.policy.specs.Answer.{number_given, IsShown, IsListed}
+use Rattle.policy.specs.Answer.{number_given, AreCounts, IsDenied, IsShown, IsListed, Leaves}
 use Rattle.policy.specs.DailyVrps.{IsVrpOn}
 use Rattle.policy.specs.History.{History}
+use Rattle.policy.specs.HypotheticalHistory.{HypotheticalHistory, IsChangeDenied}
 use Rattle.policy.specs.Values.{HistoryFits}
-use Rattle.policy.specs.Verdict.{Verdict, ShowVerdict, ListVerdict, IsLegal}
+use Rattle.policy.specs.Verdict.{ShowVerdict, ListVerdict, IsLegal}
 use Rattle.policy.specs.declared.authorization.Auth.{Auth}
-use Rattle.policy.specs.declared.charter.Charter.{Charter}
+use Rattle.charters.specs.declared.charter.Charter.{Charter}
 use Rattle.policy.specs.declared.command.Command.{Command}
+use Rattle.policy.specs.declared.command.Command.TheVariants.{Import}
+use Rattle.policy.specs.declared.command.Proposed.{Proposed}
 use Rattle.policy.specs.declared.command.Query.{Query}
-use Rattle.policy.specs.declared.command.Query.TheVariants.{Show as ShowQuery, Content as ContentQuery, List as ListQuery, Payloads as PayloadsQuery, Validity as ValidityQuery}
+use Rattle.policy.specs.declared.command.Query.TheVariants.{Show as ShowQuery, Content as ContentQuery, List as ListQuery, Payloads as PayloadsQuery, Validity as ValidityQuery, WhatIf as WhatIfQuery}
 use Rattle.policy.specs.declared.rule.Refusal.{Refusal}
 use Rattle.policy.specs.declared.rule.Refusal.TheVariants.{Denied as Refused, Memory}
 use Rattle.desk.specs.ContentText.{IsContentText}
@@ -30,7 +34,7 @@ use Rattle.desk.specs.declared.handling.Desk.{Desk}
 use Rattle.desk.specs.declared.asked.Request.{Request}
 use Rattle.desk.specs.declared.asked.Request.TheVariants.{Command as CommandRequest, Query as QueryRequest}
 use Rattle.desk.specs.declared.reply.Reply.{Reply}
-use Rattle.desk.specs.declared.reply.Reply.TheVariants.{Done, Shown, Content, Listed, Payloads, Answers as Validities, Denied, Unavailable}
+use Rattle.desk.specs.declared.reply.Reply.TheVariants.{Done, Imported, Shown, Content, Listed, Payloads, Answers as Validities, Report, Denied, Unavailable}
 
 -- the VRPs of the day, rising
 abbrev pub AreVrpsOn : History → ℕ → List Vrp → Type 0
@@ -45,9 +49,14 @@ AreStatesOn history day (r ∷ routes) (s ∷ states) =
     HasState (IsVrpOn history day) r (state_of s) × AreStatesOn history day routes states
 
 -- the reply says that a command was accepted
-abbrev pub is_done : Reply → Bool
-is_done (Done number) = true
-is_done other = false
+abbrev pub is_accepted : Reply → Bool
+is_accepted (Done number) = true
+is_accepted (Imported made present) = true
+is_accepted other = false
+
+abbrev pub is_import : Command → Bool
+is_import (Import holder rows) = true
+is_import other = false
 
 -- the reply to a request that was not decided for
 abbrev pub refused_with : Refusal → Reply
@@ -57,11 +66,13 @@ refused_with Memory = Unavailable
 -- the reply to a command, and the history after it
 abbrev pub AnswersCommand : Charter → History → ℕ → List ℕ → Command → Reply → History → Type 0
 AnswersCommand charter before day caller command (Done number) after =
-    Verdict charter before day caller command None
+    (is_import command ≡ false)
+    × Leaves charter before day caller command after
     × (number ≡ number_given before command)
-    × (after ≡ record { day = day; caller = caller; command = command } ∷ before)
+AnswersCommand charter before day caller command (Imported made present) after =
+    Leaves charter before day caller command after × AreCounts before command after made present
 AnswersCommand charter before day caller command (Denied rule row) after =
-    Verdict charter before day caller command (Some rule) × (row ≡ None) × (after ≡ before)
+    IsDenied charter before day caller command rule row × (after ≡ before)
 AnswersCommand charter before day caller command Unavailable after = after ≡ before
 AnswersCommand charter before day caller command other after = ⊥
 
@@ -99,18 +110,41 @@ AnswersValidity history day routes (Validities states) = AreStatesOn history day
 AnswersValidity history day routes Unavailable = Unit {0}
 AnswersValidity history day routes other = ⊥
 
-abbrev pub AnswersQuery : History → ℕ → List ℕ → Query → Reply → Type 0
-AnswersQuery history day caller (ShowQuery h n) reply = AnswersShow history h day caller n reply
-AnswersQuery history day caller (ContentQuery h n) reply = AnswersContent history h day caller n reply
-AnswersQuery history day caller (ListQuery h) reply = AnswersList history h day caller reply
-AnswersQuery history day caller PayloadsQuery reply = AnswersPayloads history day reply
-AnswersQuery history day caller (ValidityQuery routes) reply = AnswersValidity history day routes.items reply
+-- the states of the routes as they are, and those after the changes
+abbrev pub states_now : List (Validity × Validity) → List Validity
+states_now states = map (λ both. both.0) states
+
+abbrev pub states_after : List (Validity × Validity) → List Validity
+states_after states = map (λ both. both.1) states
+
+-- The reply to what changes at a holder would do: of each route the state now, and that over the
+-- history that the changes would leave. Where one would be denied, its place, counted from 1, and
+-- the first rule that it fails.
+abbrev pub AnswersWhatIf :
+    Charter → History → ℕ → List ℕ → List ℕ → List Proposed → List Route → Reply → Type 0
+AnswersWhatIf charter history day caller holder changes routes (Report states) =
+    (after : History) × HypotheticalHistory charter day caller holder history changes after
+    × AreStatesOn history day routes (states_now states.items)
+    × AreStatesOn after day routes (states_after states.items)
+AnswersWhatIf charter history day caller holder changes routes (Denied rule row) =
+    IsSomeAnd row (λ place. IsChangeDenied charter day caller holder history changes rule place)
+AnswersWhatIf charter history day caller holder changes routes Unavailable = Unit {0}
+AnswersWhatIf charter history day caller holder changes routes other = ⊥
+
+abbrev pub AnswersQuery : Charter → History → ℕ → List ℕ → Query → Reply → Type 0
+AnswersQuery charter history day caller (ShowQuery h n) reply = AnswersShow history h day caller n reply
+AnswersQuery charter history day caller (ContentQuery h n) reply = AnswersContent history h day caller n reply
+AnswersQuery charter history day caller (ListQuery h) reply = AnswersList history h day caller reply
+AnswersQuery charter history day caller PayloadsQuery reply = AnswersPayloads history day reply
+AnswersQuery charter history day caller (ValidityQuery routes) reply = AnswersValidity history day routes.items reply
+AnswersQuery charter history day caller (WhatIfQuery h changes routes) reply =
+    AnswersWhatIf charter history day caller h changes.items routes.items reply
 
 abbrev pub AnswersRequest : Charter → History → ℕ → List ℕ → Request → Reply → History → Type 0
 AnswersRequest charter before day caller (CommandRequest command) reply after =
     AnswersCommand charter before day caller command reply after
 AnswersRequest charter before day caller (QueryRequest query) reply after =
-    AnswersQuery before day caller query reply × (after ≡ before)
+    AnswersQuery charter before day caller query reply × (after ≡ before)
 
 -- a request was answered: the tables hold the rows of the history that the answer leaves, which is legal
 -- and, where it was so before, of values of their types

@@ -5,10 +5,12 @@ use Rattle.std.specs.List.{list_any}
 use Rattle.std.specs.String.{string_bytes}
 use Rattle.isolation.specs.Isolation.{asks_of_all}
 use Rattle.policy.specs.declared.authorization.Auth.{Auth}
-use Rattle.policy.specs.declared.charter.Charter.{Charter}
+use Rattle.charters.specs.declared.charter.Charter.{Charter}
+use Rattle.policy.specs.declared.command.Query.TheVariants.{WhatIf}
 use Rattle.policy.specs.ExceptionsInForce.{brings_exceptions}
 use Rattle.policy.specs.History.{History}
 use Rattle.policy.specs.HolderEntries.{names, entries_naming, entries_for, holder_asked}
+use Rattle.policy.specs.HypotheticalHistory.{HypotheticalHistory}
 use Rattle.policy.specs.RowsOfAll.{AllRows}
 use Rattle.policy.specs.Verdict.{IsLegal}
 use Rattle.sqlite.specs.Store.{Ghosts}
@@ -20,7 +22,7 @@ use Rattle.desk.specs.declared.asked.Request.{Request}
 use Rattle.desk.specs.declared.asked.Request.TheVariants.{Command as CommandRequest, Query as QueryRequest}
 use Rattle.desk.specs.declared.handling.Desk.{Desk}
 use Rattle.desk.specs.declared.reply.Reply.{Reply}
-use Rattle.desk.specs.declared.reply.Reply.TheVariants.{Content, Listed, Unavailable}
+use Rattle.desk.specs.declared.reply.Reply.TheVariants.{Content, Listed, Report, Unavailable}
 
 -- the entries that decide the reply to a request: those that name one of its holders; none where the
 -- request asks about all holders
@@ -30,11 +32,18 @@ deciding_entries (CommandRequest command) history =
 deciding_entries (QueryRequest query) history =
     option_map (λ h. entries_naming h history) (holder_asked query)
 
+-- The reply answers the request on these entries. Of a report the entries say that its changes
+-- would be accepted, and nothing of its states, which are over the VRPs of all holders.
+abbrev pub IsAnswerOn : Charter → History → ℕ → List ℕ → Request → Reply → Type 0
+IsAnswerOn charter entries day caller (QueryRequest (WhatIf h changes routes)) (Report states) =
+    (after : History) × HypotheticalHistory charter day caller h entries changes.items after
+IsAnswerOn charter entries day caller request reply =
+    (after : History) × AnswersRequest charter entries day caller request reply after
+
 -- the reply answers the request on the entries that decide it alone
 abbrev pub IsAnswerByEntries : Charter → History → ℕ → List ℕ → Request → Reply → Type 0
 IsAnswerByEntries charter history day caller request reply =
-    IfSome (deciding_entries request history) (λ entries.
-    (after : History) × AnswersRequest charter entries day caller request reply after)
+    IfSome (deciding_entries request history) (λ entries. IsAnswerOn charter entries day caller request reply)
 
 -- what answers a request on a legal history does so by the entries that decide it
 abbrev pub AnswersByEntries : Type 0
@@ -45,10 +54,11 @@ AnswersByEntries =
     → IsAnswerByEntries charter history day caller request reply
 
 -- The replies say the same: of lists the items, of contents that they are texts of one authorization's. Of
--- Unavailable nothing is asked.
+-- Unavailable, and of two reports, nothing is asked.
 abbrev pub SaySame : Reply → Reply → Type 0
 SaySame Unavailable other = Unit {0}
 SaySame one Unavailable = Unit {0}
+SaySame (Report states) (Report others) = Unit {0}
 SaySame (Listed xs) (Listed ys) = xs.items ≡ ys.items
 SaySame (Content text) (Content other) =
     (x : Auth) × IsContentText x (string_bytes text) × IsContentText x (string_bytes other)

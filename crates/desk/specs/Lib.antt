@@ -1,5 +1,6 @@
 pub mod Answer
 pub mod Run
+pub mod AsDone
 pub mod HolderAnswers
 pub mod ContentText
 pub mod Desk

@@ -3,7 +3,7 @@ use Rattle.std.specs.Prelude.{◌≡◌, List, [], ◌∷◌}
 use Rattle.policy.specs.History.{History}
 use Rattle.policy.specs.Values.{HistoryFits}
 use Rattle.policy.specs.Verdict.{IsLegal}
-use Rattle.policy.specs.declared.charter.Charter.{Charter}
+use Rattle.charters.specs.declared.charter.Charter.{Charter}
 use Rattle.desk.specs.Answer.{AnswersRequest}
 use Rattle.sqlite.specs.Store.{Ghosts}
 use Rattle.desk.specs.Desk.{HoldsHistory}

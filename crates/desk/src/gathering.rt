@@ -65,3 +65,22 @@ pub(crate) fn judge<I: PayloadIndex>(
     }
     Ok(states)
 }
+
+/// The validation states of each route over the VRPs of one index and over those of another.
+pub(crate) fn compare<I: PayloadIndex>(
+    alloc: Global,
+    one: &I,
+    other: &I,
+    routes: &[Route],
+) -> Result<Vec<(Validity, Validity)>, AllocError>
+    ensures one { IfOk result (λ states. map (λ both. state_of both.0) states.items
+        ≡ map (λ r. validation_state (set.items (I.vrps one.now)) r) routes.now) }
+    ensures other { IfOk result (λ states. map (λ both. state_of both.1) states.items
+        ≡ map (λ r. validation_state (set.items (I.vrps other.now)) r) routes.now) }
+{
+    let mut states = Vec::with_capacity(alloc, routes.len())?;
+    for route in routes {
+        states.push((one.validity(route), other.validity(route)))?;
+    }
+    Ok(states)
+}

@@ -8,7 +8,7 @@ ghost use Rattle.sqlite.specs.Steps.{over_memory};
 ghost use Rattle.store.specs.StoreRows.{state_of, IfClean, IsRead, IsOpened};
 ghost use Rattle.database.specs.Databases.{IsDeskWhileOpen, IsNew, IsUnused, LeavesNew};
 ghost use Rattle.database.specs.Databases.{IsHonest, IsOfAnotherSchema};
-ghost use Rattle.desk.specs.Answer.{is_done, IsAnswered};
+ghost use Rattle.desk.specs.Answer.{is_accepted, IsAnswered};
 ghost use Rattle.desk.specs.Run.{AreAnswered};
 ghost use Rattle.desk.specs.HolderAnswers.{may_change, may_change_any, may_except, may_except_any};
 ghost use Rattle.desk.specs.HolderAnswers.{IsAnswerByEntries, KeepsOthers, RunsByEntries};
@@ -17,6 +17,7 @@ ghost use Rattle.desk.specs.steps.Reading.{OfHistories};
 
 mod commands;
 mod queries;
+mod what_if;
 
 use crate::{Asked, Reply, Request};
 use addr::{Day, Name};
@@ -76,7 +77,8 @@ impl<S: Alter + Drop> Desk<S> {
 }
 
 impl<S: Alter> Desk<S> {
-    /// Replies to a request of the caller on the day. Only a reply of `Done` changes anything.
+    /// Replies to a request of the caller on the day. Only a reply of `Done` or `Imported` changes
+    /// anything.
     pub fn handle(&mut self, day: Day, caller: &Name, request: &Request) -> Reply
         ensures answered { IsOnCleanDisk S.Store self.new
             → (history : History) → IsLegal (charter_of self.old) history
@@ -85,7 +87,7 @@ impl<S: Alter> Desk<S> {
             result self.new }
         ensures charter { charter_of self.new ≡ charter_of self.old }
         ensures clean { IsOnCleanDisk S.Store self.new → IsOnCleanDisk S.Store self.old }
-        ensures kept { is_done result ≡ false → KeepsRows S.Store self.old self.new }
+        ensures kept { is_accepted result ≡ false → KeepsRows S.Store self.old self.new }
         ensures isolated { IsOnCleanDisk S.Store self.new
             → (history : History) → IsLegal (charter_of self.old) history
             → HoldsHistory S.Store self.old history
@@ -124,6 +126,7 @@ impl<S: Alter> Desk<S> {
             self.old self.new }
     {
         crate::laws::answers_by_entries();
+        histories::laws::growth_is_legal();
         let mut replies = Vec::with_capacity(self.alloc, asked.len())?;
         for one in asked {
             let reply = self.handle(one.day, &one.caller, &one.request);

@@ -1,20 +1,37 @@
 //! Laws over the definitions alone: each function's contract states one, and its body does nothing else.
 
+ghost use Rattle.desk.specs.AsDone.{WhatIfAsDone};
 ghost use Rattle.desk.specs.HolderAnswers.{AnswersByEntries, OneReply};
 
-pub use isolation::laws::{again, parts};
+pub use isolation::laws::{again, import_again, parts};
 
 /// What answers a request on a legal history answers it on the entries that name its holders, but
 /// for a delegation, the VRPs of a day and the validity of routes, which ask about all holders.
+/// Changes of which it is asked what they would do are accepted or denied by those entries, and
+/// their states are over the VRPs of all holders.
 pub(crate) fn answers_by_entries()
     ensures { AnswersByEntries }
 {
     isolation::laws::commands_by_entries();
     isolation::laws::queries_by_entries();
+    isolation::laws::imports_by_entries();
+    isolation::laws::hypothetical_by_entries();
 }
 
 /// Two desks of one charter whose histories agree on the entries that decide a request give it the
-/// same reply, unless one of them is Unavailable.
+/// same reply, unless one of them is Unavailable; of reports the states may differ.
 pub fn one_reply()
     ensures { OneReply }
-{}
+{
+    histories::laws::one_outcome();
+    histories::laws::one_hypothetical_outcome();
+}
+
+/// Where it is told what changes at a holder would do, the same changes are accepted where they are
+/// asked for one after the other, by the caller on the day; and then the states of the routes are
+/// those that were told.
+pub fn what_if_as_done()
+    ensures { WhatIfAsDone }
+{
+    histories::laws::one_hypothetical_outcome();
+}

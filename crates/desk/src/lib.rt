@@ -4,6 +4,7 @@
 mod asked;
 mod content;
 mod exceptions;
+mod exchange;
 mod gathering;
 mod handling;
 pub mod laws;

@@ -1,6 +1,7 @@
 use addr::Vrp;
 use payload::Validity;
 use policy::{Auth, Refusal, Rule};
+use std::alloc::AllocError;
 use store::StoreFault;
 
 /// What the desk answers to a request.
@@ -8,15 +9,20 @@ use store::StoreFault;
 pub enum Reply {
     /// A command was accepted; with the number of the grant or authorization that it made.
     Done(Option<u32>),
+    /// An import was accepted; with how many authorizations it made, and how many rows were already
+    /// authorized.
+    Imported { made: u64, present: u64 },
     Shown(Auth),
-    /// The octets of an authorization's ROA content, in lower-case hex.
-    Content(String),
     /// By rising number.
     Listed(Vec<Auth>),
+    /// The octets of an authorization's ROA content, in lower-case hex.
+    Content(String),
     /// The VRPs of the day, rising.
     Payloads(Vec<Vrp>),
     /// In the order of the routes.
     Answers(Vec<Validity>),
+    /// Of each route, in their order: the state now, and after the changes.
+    Report(Vec<(Validity, Validity)>),
     /// The first rule that does not hold, and for a request of several rows the row, from 1.
     Denied(Rule, Option<u64>),
     /// No memory was found, or the database did not answer, and nothing has changed.
@@ -44,6 +50,17 @@ impl From<StoreFault> for Reply {
     ghost from_gives = { λ _ reply. reply ≡ Unavailable };
 
     fn from(_: StoreFault) -> Reply {
+        Reply::Unavailable
+    }
+}
+
+impl From<AllocError> for Reply {
+    ghost use Rattle.std.specs.Prelude.{◌≡◌};
+    ghost use Rattle.desk.specs.declared.reply.Reply.TheVariants.{Unavailable};
+
+    ghost from_gives = { λ _ reply. reply ≡ Unavailable };
+
+    fn from(_: AllocError) -> Reply {
         Reply::Unavailable
     }
 }

@@ -1,3 +1,5 @@
 pub mod SharedVrps
 pub mod Ended
 pub mod Ranges
+pub mod Growth
+pub mod OneOutcome

@@ -1,6 +1,6 @@
 -- The rows of a legal history whose values are those of their types are in their ranges.
 use Rattle.std.specs.Prelude.{ℕ, List}
-use Rattle.policy.specs.declared.charter.Charter.{Charter}
+use Rattle.charters.specs.declared.charter.Charter.{Charter}
 use Rattle.policy.specs.ExceptionsInForce.{exceptions_in_force}
 use Rattle.policy.specs.History.{History}
 use Rattle.policy.specs.Rows.{Rows, RowsOf}

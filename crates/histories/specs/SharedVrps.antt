@@ -2,9 +2,9 @@
 use Rattle.std.specs.Prelude.{◌≡◌, ℕ, Bool, true, false, not, List}
 use Rattle.std.specs.List.{list_any, list_all}
 use Rattle.policy.specs.declared.authorization.Auth.{Auth}
-use Rattle.policy.specs.declared.charter.Charter.{Charter}
+use Rattle.charters.specs.declared.charter.Charter.{Charter}
 use Rattle.policy.specs.History.{History, same_name}
-use Rattle.policy.specs.Repeats.{has_repeat}
+use Rattle.charters.specs.Repeats.{has_repeat}
 use Rattle.policy.specs.Terms.{share_vrp, AreActive}
 use Rattle.policy.specs.Verdict.{IsLegal}
 

@@ -1,6 +1,8 @@
 //! Each function's contract states a law, and its body does nothing.
 
 ghost use Rattle.histories.specs.Ended.{EndsJustOverlapping};
+ghost use Rattle.histories.specs.Growth.{GrowthFits, GrowthIsLegal, HypotheticalIsLegal};
+ghost use Rattle.histories.specs.OneOutcome.{OneHypotheticalOutcome, OneOutcome};
 ghost use Rattle.histories.specs.Ranges.{ExceptionsInForceFit, LegalRowsFit};
 ghost use Rattle.histories.specs.SharedVrps.{NoSharedVrp};
 
@@ -28,4 +30,35 @@ pub fn legal_rows_fit()
 /// file: at most 4096, each AS number below 2^32.
 pub fn exceptions_in_force_fit()
     ensures { ExceptionsInForceFit }
+{}
+
+/// Every accepted command leaves a legal history legal, an import with the entries that its rows
+/// make.
+#[tactic(auto, using(crate::proofs::Growth::growth_is_legal))]
+pub fn growth_is_legal()
+    ensures { GrowthIsLegal }
+{}
+
+/// The history that a command leaves has values of their types, where the command and the history
+/// before it have.
+#[tactic(auto, using(crate::proofs::Growth::growth_fits))]
+pub fn growth_fits()
+    ensures { GrowthFits }
+{}
+
+/// The history that changes would leave after a legal one is legal.
+#[tactic(auto, using(crate::proofs::Growth::hypothetical_is_legal))]
+pub fn hypothetical_is_legal()
+    ensures { HypotheticalIsLegal }
+{}
+
+/// A command leaves one history alone, or one rule alone denies it, of an import at one row, and
+/// never both.
+pub fn one_outcome()
+    ensures { OneOutcome }
+{}
+
+/// The same of changes of which it is asked what they would do.
+pub fn one_hypothetical_outcome()
+    ensures { OneHypotheticalOutcome }
 {}

@@ -1,36 +1,34 @@
 -- A command that is accepted again leaves the rows and the exceptions: only an amendment and a SLURM file
 -- are, since what another command gave, took or made the first time is still so.
-use Rattle.std.proofs.Common.{◌≡◌, ℕ, ◌+◌, Bool, true, false, not, ◌||◌, ◌&&◌, cond, eqb, List, [], ◌∷◌, ◌++◌, inl, inr, Option, Some, None, IsSomeAnd, refl, sym, ap, ◌∙◌, subst, arith, map, filter}
+use Rattle.std.proofs.Common.{◌≡◌, ℕ, Bool, true, false, not, ◌||◌, cond, eqb, List, [], ◌∷◌, ◌++◌, inl, inr, Option, Some, None, IsSomeAnd, refl, sym, ap, ◌∙◌, subst, arith, map, filter}
 use Rattle.std.specs.List.{list_any}
 use Rattle.std.proofs.lemmas.Option.{IfSome_then}
 use Rattle.std.proofs.lemmas.Bool.{cases_Bool, cond-true, cond-false, false≢true, or_parts}
-use Rattle.std.proofs.lemmas.Bool.Decides.{nat_tests}
-use Rattle.std.proofs.Math.Bool.{or-true}
-use Rattle.addr.specs.Address.{Address, has_address, prefix_eq}
-use Rattle.addr.specs.declared.asn.Asn.{Asn}
+use Rattle.addr.specs.Address.{Address, has_address}
 use Rattle.addr.specs.declared.prefix.Prefix.{Prefix}
 use Rattle.addr.proofs.AddressLemmas.{between_at, first-last}
-use Rattle.addr.proofs.Equality.{prefix_itself}
 use Rattle.addr.specs.Address.{last_of}
-use Rattle.slurm.specs.Exceptions.{Exceptions}
 use Rattle.policy.specs.declared.authorization.Auth.{Auth}
-use Rattle.policy.specs.declared.charter.Charter.{Charter}
+use Rattle.policy.specs.declared.authorization.AuthTerms.{AuthTerms}
+use Rattle.charters.specs.declared.charter.Charter.{Charter}
 use Rattle.policy.specs.declared.command.Command.{Command}
 use Rattle.policy.specs.declared.command.Command.TheVariants.{Register, Delegate, Transfer, Reclaim, Grant, Revoke, Create, Amend, Withdraw, Import, Slurm}
 use Rattle.policy.specs.declared.grant.Access.TheVariants.{Alter}
 use Rattle.policy.specs.declared.grant.Granted.{Granted}
-use Rattle.policy.specs.Answer.{holder_of}
+use Rattle.policy.specs.Answer.{holder_of, Leaves}
 use Rattle.policy.specs.ExceptionsInForce.{brings_exceptions, exceptions_after, exceptions_in_force}
 use Rattle.policy.specs.History.{Entry, History, same_name, is_registered}
 use Rattle.policy.specs.HolderEntries.{names}
 use Rattle.policy.specs.Permission.{is_permitted_terms}
-use Rattle.policy.specs.Resources.{resource_holder, is_held_by, HoldsPrefix}
-use Rattle.policy.specs.Terms.{gives_vrp, grant_terms, authorizations_made, authorization_terms, amended, HeldSinceMade, Keeps, OfActive}
+use Rattle.policy.specs.Resources.{resource_holder, is_held_by}
+use Rattle.policy.specs.Terms.{grant_terms, authorization_terms, amended, HeldSinceMade, Keeps}
 use Rattle.policy.specs.Verdict.{Verdict, HasAccessTo, IsLegal, numbered}
 use Rattle.policy.proofs.Names.{same_name-same, same_name-true, same_name-false}
-use Rattle.policy.proofs.Held.{not_yet_made}
-use Rattle.isolation.specs.RepeatedRequests.{is_grant, has_slurm_file, RepeatsLeaveRows}
+use Rattle.isolation.specs.RepeatedRequests.{is_grant, has_slurm_file, NoneNames, HaveSameRows, RepeatsLeaveRows}
 use Rattle.isolation.proofs.Agree.{Agree, AgreeIfNamed, agree-sym, agree-active, agree-rows}
+use Rattle.isolation.proofs.Grown.{exceptions_stay}
+use Rattle.isolation.proofs.Judged.{active_alike}
+use Rattle.isolation.proofs.Present.{created_has, not_made_again, imports_repeat}
 use Rattle.isolation.proofs.Parts.{since_left, agree-unnamed, agree-later}
 
 -- a prefix has an address
@@ -57,16 +55,6 @@ any_kept P test (x ∷ xs) (y ∷ ys) (inl k) none =
     let parts = or_parts (test x) (list_any test xs) none in
     ap (λ z. test z || list_any test ys) k.1 ∙ ap (λ b. b || list_any test ys) parts.0 ∙ any_kept P test xs ys k.2 parts.1
 any_kept P test (x ∷ xs) (y ∷ ys) (inr k) none = any_kept P test xs (y ∷ ys) k.1 (or_parts (test x) (list_any test xs) none).1
-
--- the last, kept, passes
-last_kept : (P : Auth → Type 0) (test : Auth → Bool) (xs ys : List Auth) (x : Auth) → Keeps P (xs ++ x ∷ []) ys → P x → test x ≡ true
-    → list_any test ys ≡ true
-last_kept P test [] [] x k is passes = absurd (k.0 is)
-last_kept P test [] (y ∷ ys) x (inl k) is passes = ap (λ b. b || list_any test ys) (ap test k.1 ∙ passes)
-last_kept P test [] (y ∷ ys) x (inr k) is passes = absurd k.1
-last_kept P test (z ∷ zs) [] x k is passes = last_kept P test zs [] x k.1 is passes
-last_kept P test (z ∷ zs) (y ∷ ys) x (inl k) is passes = ap (λ b. test y || b) (last_kept P test zs ys x k.2 is passes) ∙ or-true (test y)
-last_kept P test (z ∷ zs) (y ∷ ys) x (inr k) is passes = last_kept P test zs (y ∷ ys) x k.1 is passes
 
 none_numbered : (n : ℕ) (xs : List Auth) (P : Auth → Type 0) → list_any (λ x. eqb x.number n) xs ≡ false → IsSomeAnd (numbered n xs) P → ⊥
 none_numbered n [] P none some = some
@@ -124,26 +112,6 @@ amended_again history before then day by caller holder n max until same =
       since = since_left (entry day caller (Amend holder n max until)) history holder (λ a. refl) refl;
     }
 
--- the authorization that was made is active, so that the rule `same` denies it
-created_again : (history before : History) (then : ℕ) (by holder : List ℕ) (asn : Asn) (p : Prefix) (max from until : ℕ)
-    → HoldsPrefix before holder p → Agree history (entry then by (Create holder asn p max from until) ∷ before) holder
-    → OfActive history holder (λ active. list_any (λ y. gives_vrp y asn p max) active ≡ false) → ⊥
-created_again history before then by holder asn p max from until holds same new =
-    let made = entry then by (Create holder asn p max from until) ∷ before in
-    let x : Auth = record { number = authorizations_made before holder + 1; asn = asn; prefix = p; max = max; from = from; until = until } in
-    let since : HeldSinceMade made holder x = (
-      λ _. λ q is a has. holds a (subst (λ (r : Prefix). has_address r a ≡ true) is has),
-      not_yet_made before holder x (omega arith),
-    ) in
-    let test : Auth → Bool = λ y. gives_vrp y asn p max in
-    let same_asn : eqb asn.0 asn.0 ≡ true = grind (arith, nat_tests) in
-    let same_max : eqb max max ≡ true = grind (arith, nat_tests) in
-    let gives : test x ≡ true =
-    ap (λ b. b && (prefix_eq p p && eqb max max)) same_asn ∙ ap (λ b. b && eqb max max) (prefix_itself p) ∙ same_max in
-    let kept : Keeps (HeldSinceMade made holder) (authorization_terms before holder ++ x ∷ []) new.0 =
-    subst (λ (xs : List Auth). Keeps (HeldSinceMade made holder) xs new.0) (cond-true _ _ _ (same_name-same holder)) (agree-active same new.0 new.1) in
-    false≢true (sym new.2 ∙ last_kept (HeldSinceMade made holder) test (authorization_terms before holder) new.0 x kept since gives)
-
 -- the authorization that was withdrawn is not active
 withdrawn_again : (history before : History) (then day : ℕ) (by caller holder : List ℕ) (n : ℕ)
     → Agree history (entry then by (Withdraw holder n) ∷ before) holder → HasAccessTo history holder day caller Alter n → ⊥
@@ -172,7 +140,9 @@ agree-again charter history before then day by caller (Revoke holder n) first sa
     let test = list_any (λ (g : Granted). eqb g.number n) in
     absurd (false≢true (sym (any_filtered (λ g. eqb g.number n) (grant_terms before holder)) ∙ sym (ap test (same.grants ∙ cond-true _ _ _ (same_name-same holder))) ∙ accepted.1.0))
 agree-again charter history before then day by caller (Create holder asn p max from until) first same other accepted h =
-    absurd (created_again history before then by holder asn p max from until first.1.1.1.1.0 same accepted.1.1.1.1.1.0)
+    let t : AuthTerms = record { asn = asn; prefix = p; max = max; from = from; until = until } in
+    let has = (active_alike (agree-sym same) _).0 (created_has charter before then by holder t first) in
+    absurd (not_made_again charter history day caller holder t has accepted)
 agree-again charter history before then day by caller (Amend holder n max until) first same other accepted h =
     let e = entry day caller (Amend holder n max until) in
     elim (cases_Bool (names h e.command)) [
@@ -185,11 +155,6 @@ agree-again charter history before then day by caller (Withdraw holder n) first 
 agree-again charter history before then day by caller (Import holder rows) first same other accepted h = absurd accepted
 agree-again charter history before then day by caller (Slurm file) first same other accepted h =
     agree-unnamed charter (entry day caller (Slurm file)) history h accepted refl
-
--- a command that brings no file leaves the exceptions
-exceptions_stay : (c : Command) (exceptions : Exceptions) → brings_exceptions c ≡ false → exceptions_after c exceptions ≡ exceptions
-exceptions_stay (Slurm file) exceptions none = cc
-exceptions_stay _ exceptions none = refl
 
 exceptions_later : (later before : History) → has_slurm_file later ≡ false
     → exceptions_in_force (later ++ before) ≡ exceptions_in_force before
@@ -205,18 +170,33 @@ exceptions_again : (c : Command) (later before : History) (then : ℕ) (by : Lis
 exceptions_again (Slurm file) later before then by none = exceptions_later later (entry then by (Slurm file) ∷ before) (none refl)
 exceptions_again _ later before then by none = refl
 
-legal_before : (charter : Charter) (later before : History) → IsLegal charter (later ++ before) → IsLegal charter before
-legal_before charter [] before legal = legal
-legal_before charter (e ∷ later) before legal = legal_before charter later before legal.1
-
-pub repeats_leave_rows : RepeatsLeaveRows
-repeats_leave_rows charter before first later day caller legal other none accepted =
+-- of a command that makes an entry
+entries_again : (charter : Charter) (before : History) (first : Entry) (later : History) (day : ℕ) (caller : List ℕ)
+    → Verdict charter before first.day first.caller first.command None → IsLegal charter (later ++ first ∷ before)
+    → is_grant first.command ≡ false → NoneNames first.command later
+    → Verdict charter (later ++ first ∷ before) day caller first.command None
+    → HaveSameRows (later ++ first ∷ before) (entry day caller first.command ∷ later ++ first ∷ before)
+entries_again charter before first later day caller accepted_first legal other none accepted =
     let c = first.command in
     let history = later ++ first ∷ before in
     let same : AgreeIfNamed history (first ∷ before) (holder_of c) =
     IfSome_then (holder_of c) none.holder (λ h unnamed. agree-later charter h later (first ∷ before) legal unnamed) in
-    let again = agree-again charter history before first.day day first.caller caller c (legal_before charter later (first ∷ before) legal).0 same other accepted in
+    let again = agree-again charter history before first.day day first.caller caller c accepted_first same other accepted in
     record {
       holders = λ h rows. (agree-rows (agree-sym (again h)) rows, agree-rows (again h) rows);
       exceptions = exceptions_again c later before first.day first.caller none.file;
     }
+
+same_rows : (history : History) → HaveSameRows history history
+same_rows history = record { holders = λ h rows. (λ are. are, λ are. are); exceptions = refl }
+
+pub repeats_leave_rows : RepeatsLeaveRows
+repeats_leave_rows charter before then by (Import holder rows) left later day caller again leaves legal other none accepted =
+    let repeats = imports_repeat charter before then by holder rows.items left later leaves legal none.holder in
+    subst (HaveSameRows (later ++ left)) (sym (repeats.nothing day caller again accepted)) (same_rows (later ++ left))
+repeats_leave_rows charter before then by c left later day caller again leaves legal other none accepted =
+    let first = entry then by c in
+    let P : History → Type 0 = λ from. IsLegal charter (later ++ from) → Leaves charter (later ++ from) day caller c again → HaveSameRows (later ++ from) again in
+    let made : P (first ∷ before) = λ legal accepted.
+    subst (HaveSameRows (later ++ first ∷ before)) (sym accepted.1) (entries_again charter before first later day caller leaves.0 legal other none accepted.0) in
+    subst P (sym leaves.1) made legal accepted

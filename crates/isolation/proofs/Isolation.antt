@@ -10,18 +10,14 @@ use Rattle.policy.specs.History.{History}
 use Rattle.policy.specs.HolderEntries.{entries_for}
 use Rattle.policy.specs.Terms.{IsActive}
 use Rattle.policy.proofs.Held.{within}
-use Rattle.isolation.specs.Isolation.{CommandsByEntries, QueriesByEntries, RowsOfEntries, OthersKeepRows, IsVrpInForceByEntries, VrpsOfEntries}
+use Rattle.isolation.specs.Isolation.{CommandsByEntries, QueriesByEntries, RowsOfEntries, IsVrpInForceByEntries, VrpsOfEntries}
 use Rattle.isolation.proofs.Agree.{Agree, agree-sym, agree-rows}
-use Rattle.isolation.proofs.Parts.{agree-unnamed, agree-entries, agree-for}
+use Rattle.isolation.proofs.Parts.{agree-entries, agree-for}
 use Rattle.isolation.proofs.Judged.{judged_alike, seen_alike}
 
 pub rows_of_entries : RowsOfEntries
 rows_of_entries charter history h rows legal =
     let same = agree-entries charter history h legal in (agree-rows same rows, agree-rows (agree-sym same) rows)
-
-pub others_keep_rows : OthersKeepRows
-others_keep_rows charter e before h rows legal unnamed =
-    let same = agree-unnamed charter e before h legal.0 unnamed in (agree-rows (agree-sym same) rows, agree-rows same rows)
 
 active_on : {one other : History} {h : List ℕ} → Agree one other h → (x : Auth) → IsActive one h x → IsActive other h x
 active_on {one} {other} {h} same x active = (

@@ -2,7 +2,7 @@
 use Rattle.std.proofs.Common.{◌≡◌, ℕ, ◌+◌, ◌<◌, Bool, true, false, ◌||◌, eqb, List, length, ◌↔◌, inl, inr, Option, Some, None, refl, sym, ap, subst, filter, IsSomeAnd}
 use Rattle.std.specs.List.{list_any}
 use Rattle.policy.specs.declared.authorization.Auth.{Auth}
-use Rattle.policy.specs.declared.charter.Charter.{Charter}
+use Rattle.charters.specs.declared.charter.Charter.{Charter}
 use Rattle.policy.specs.declared.command.Command.{Command}
 use Rattle.policy.specs.declared.command.Command.TheVariants.{Register, Delegate, Transfer, Reclaim, Grant, Revoke, Create, Amend, Withdraw, Import, Slurm}
 use Rattle.policy.specs.declared.grant.Access.{Access}
@@ -10,7 +10,7 @@ use Rattle.policy.specs.declared.grant.Access.TheVariants.{Manage, Alter, Look}
 use Rattle.policy.specs.declared.grant.Granted.{Granted}
 use Rattle.policy.specs.declared.rule.Rule.{Rule}
 use Rattle.policy.specs.Answer.{holder_of, taker_of, number_given}
-use Rattle.policy.specs.Charter.{is_operator}
+use Rattle.charters.specs.Charter.{is_operator}
 use Rattle.policy.specs.History.{History, is_registered}
 use Rattle.policy.specs.Permission.{has_access, is_permitted, is_permitted_terms}
 use Rattle.policy.specs.Resources.{HoldsPrefix}
@@ -66,7 +66,7 @@ of_active same P Q facts = (
   λ of. (of.0, agree-active (agree-sym same) of.0 of.1, (facts of.0).1 of.2),
 )
 
-active_alike : {one other : History} {h : List ℕ} → Agree one other h → (P : List Auth → Type 0) → OfActive one h P ↔ OfActive other h P
+pub active_alike : {one other : History} {h : List ℕ} → Agree one other h → (P : List Auth → Type 0) → OfActive one h P ↔ OfActive other h P
 active_alike same P = of_active same P P (λ active. itself)
 
 access_alike : {one other : History} {h : List ℕ} → Agree one other h → (day : ℕ) (caller : List ℕ) (access : Access) (n : ℕ)

@@ -1,18 +1,23 @@
 -- What a holder has and what is answered at it comes from the entries that name it.
-use Rattle.std.specs.Prelude.{◌≡◌, ℕ, Bool, true, false, List, ◌∷◌, ◌↔◌, Option}
+use Rattle.std.specs.Prelude.{◌≡◌, ℕ, ◌+◌, Bool, true, false, List, ◌↔◌, Option, Result}
 use Rattle.addr.specs.declared.vrp.Vrp.{Vrp}
 use Rattle.policy.specs.declared.authorization.Auth.{Auth}
-use Rattle.policy.specs.declared.charter.Charter.{Charter}
+use Rattle.policy.specs.declared.authorization.AuthTerms.{AuthTerms}
+use Rattle.charters.specs.declared.charter.Charter.{Charter}
 use Rattle.policy.specs.declared.command.Command.{Command}
 use Rattle.policy.specs.declared.command.Command.TheVariants.{Delegate}
+use Rattle.policy.specs.declared.command.Proposed.{Proposed}
 use Rattle.policy.specs.declared.rule.Rule.{Rule}
-use Rattle.policy.specs.Answer.{number_given, IsShown, IsListed}
+use Rattle.policy.specs.Answer.{number_given, Leaves, IsShown, IsListed}
 use Rattle.policy.specs.DailyVrps.{IsAfterExceptions, IsVrpOn}
 use Rattle.policy.specs.ExceptionsInForce.{exceptions_in_force}
 use Rattle.policy.specs.HolderEntries.{names, entries_naming, entries_for}
-use Rattle.policy.specs.History.{Entry, History}
+use Rattle.policy.specs.GrowingHistory.{Grows, IsDeniedAt}
+use Rattle.policy.specs.History.{History, same_name}
+use Rattle.policy.specs.HypotheticalHistory.{HypotheticalHistory, JudgesChange}
+use Rattle.policy.specs.Import.{JudgesRow}
 use Rattle.policy.specs.Rows.{Rows, RowsIfAny}
-use Rattle.policy.specs.Terms.{IsVrpOf, IsInForce}
+use Rattle.policy.specs.Terms.{authorizations_made, IsVrpOf, IsInForce}
 use Rattle.policy.specs.Verdict.{Verdict, ShowVerdict, ListVerdict, IsLegal}
 
 -- the rows of a holder are those of the entries that name it
@@ -24,9 +29,25 @@ RowsOfEntries =
 -- an accepted command leaves the rows of a holder that it does not name
 abbrev pub OthersKeepRows : Type 0
 OthersKeepRows =
-    (charter : Charter) (e : Entry) (before : History) (h : List ℕ) (rows : Option Rows)
-    → IsLegal charter (e ∷ before) → names h e.command ≡ false
-    → RowsIfAny before h rows ↔ RowsIfAny (e ∷ before) h rows
+    (charter : Charter) (before : History) (day : ℕ) (caller : List ℕ) (command : Command)
+    (after : History) (h : List ℕ) (rows : Option Rows)
+    → IsLegal charter before → Leaves charter before day caller command after
+    → names h command ≡ false → RowsIfAny before h rows ↔ RowsIfAny after h rows
+
+-- the rows of every holder but this one are the same after both, and the exceptions in force
+pub record DifferAtMostAt (holder : List ℕ) (one other : History) : Type 0 where
+  pub others :
+      (h : List ℕ) (rows : Option Rows) → same_name holder h ≡ false
+      → RowsIfAny one h rows ↔ RowsIfAny other h rows
+  pub exceptions : exceptions_in_force one ≡ exceptions_in_force other
+
+-- changes at a holder would leave the rows of every other, and the exceptions
+abbrev pub HypotheticalKeepsOthers : Type 0
+HypotheticalKeepsOthers =
+    (charter : Charter) (day : ℕ) (caller holder : List ℕ) (before : History)
+    (changes : List Proposed) (after : History)
+    → IsLegal charter before → HypotheticalHistory charter day caller holder before changes after
+    → DifferAtMostAt holder before after
 
 -- an authorization of some holder that is in force on the day by the entries that name the holder has the
 -- VRP
@@ -72,3 +93,39 @@ abbrev pub QueriesByEntries : Type 0
 QueriesByEntries =
     (charter : Charter) (history : History) (h : List ℕ) (day : ℕ) (caller : List ℕ) → IsLegal charter history
     → AreSeenAlike history (entries_naming h history) h day caller
+
+-- On a history and on the entries of it that name a holder, parts that are judged at the holder come
+-- out alike: they leave a history and the entries of it that name the holder, and as many
+-- authorizations are made; or the same part is denied by the same rule.
+pub record GrowAlike {X : Type 0} (judges : History → X → Result (Option Command) Rule → Type 0)
+    (day : ℕ) (caller holder : List ℕ) (history : History) (parts : List X) : Type 0 where
+  pub grows :
+      (after : History) → Grows judges day caller history parts after
+      → Grows judges day caller (entries_naming holder history) parts (entries_naming holder after)
+  pub only :
+      (left : History) → Grows judges day caller (entries_naming holder history) parts left
+      → (after : History) × Grows judges day caller history parts after
+      × (left ≡ entries_naming holder after)
+  pub made :
+      (after : History) (n : ℕ) → Grows judges day caller history parts after
+      → (authorizations_made after holder ≡ authorizations_made history holder + n)
+      ↔ (authorizations_made (entries_naming holder after) holder
+      ≡ authorizations_made (entries_naming holder history) holder + n)
+  pub denied :
+      (rule : Rule) (place : ℕ)
+      → IsDeniedAt judges day caller history parts rule place
+      ↔ IsDeniedAt judges day caller (entries_naming holder history) parts rule place
+
+-- an import is judged by the entries that name its holder
+abbrev pub ImportsByEntries : Type 0
+ImportsByEntries =
+    (charter : Charter) (history : History) (day : ℕ) (caller holder : List ℕ)
+    (rows : List AuthTerms) → IsLegal charter history
+    → GrowAlike (JudgesRow charter day caller holder) day caller holder history rows
+
+-- and so are changes of which it is asked what they would do
+abbrev pub HypotheticalByEntries : Type 0
+HypotheticalByEntries =
+    (charter : Charter) (history : History) (day : ℕ) (caller holder : List ℕ)
+    (changes : List Proposed) → IsLegal charter history
+    → GrowAlike (JudgesChange charter day caller holder) day caller holder history changes

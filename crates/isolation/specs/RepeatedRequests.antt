@@ -1,17 +1,20 @@
 -- A command that is asked again. Where it is denied the history stays as it is, and the rows and the
 -- exceptions with it.
-use Rattle.std.specs.Prelude.{◌≡◌, ℕ, Bool, true, false, List, ◌∷◌, ◌++◌, Option, None, ◌↔◌}
+use Rattle.std.specs.Prelude.{◌≡◌, ℕ, Bool, true, false, List, ◌++◌, Option, ◌↔◌}
 use Rattle.std.specs.List.{list_any}
 use Rattle.std.specs.Option.{IfSome}
-use Rattle.policy.specs.declared.charter.Charter.{Charter}
+use Rattle.policy.specs.declared.authorization.AuthTerms.{AuthTerms}
+use Rattle.charters.specs.declared.charter.Charter.{Charter}
 use Rattle.policy.specs.declared.command.Command.{Command}
 use Rattle.policy.specs.declared.command.Command.TheVariants.{Grant}
-use Rattle.policy.specs.Answer.{holder_of, taker_of}
+use Rattle.policy.specs.declared.rule.Rule.{Rule}
+use Rattle.policy.specs.Answer.{holder_of, taker_of, Leaves}
 use Rattle.policy.specs.ExceptionsInForce.{brings_exceptions, exceptions_in_force}
-use Rattle.policy.specs.History.{Entry, History}
+use Rattle.policy.specs.History.{History}
 use Rattle.policy.specs.HolderEntries.{names}
+use Rattle.policy.specs.Import.{ImportGrows, IsImportDenied}
 use Rattle.policy.specs.Rows.{Rows, RowsIfAny}
-use Rattle.policy.specs.Verdict.{Verdict, IsLegal}
+use Rattle.policy.specs.Verdict.{IsLegal}
 
 -- each grant is another one
 abbrev pub is_grant : Command → Bool
@@ -42,8 +45,30 @@ pub record HaveSameRows (one other : History) : Type 0 where
 -- leaves the rows of every holder and the exceptions in force
 abbrev pub RepeatsLeaveRows : Type 0
 RepeatsLeaveRows =
-    (charter : Charter) (before : History) (first : Entry) (later : History) (day : ℕ) (caller : List ℕ)
-    → IsLegal charter (later ++ first ∷ before) → is_grant first.command ≡ false → NoneNames first.command later
-    → Verdict charter (later ++ first ∷ before) day caller first.command None
-    → HaveSameRows (later ++ first ∷ before)
-    (record { day = day; caller = caller; command = first.command } ∷ later ++ first ∷ before)
+    (charter : Charter) (before : History) (first_day : ℕ) (first_caller : List ℕ)
+    (command : Command) (left later : History) (day : ℕ) (caller : List ℕ) (again : History)
+    → Leaves charter before first_day first_caller command left → IsLegal charter (later ++ left)
+    → is_grant command ≡ false → NoneNames command later
+    → Leaves charter (later ++ left) day caller command again
+    → HaveSameRows (later ++ left) again
+
+-- an import of these rows makes nothing: asked by this caller on this day it is accepted, no row is
+-- denied, and it leaves the history as it is; and it does so where it is accepted of any caller on any
+-- day
+pub record MakesNothing (charter : Charter) (day : ℕ) (caller holder : List ℕ)
+    (rows : List AuthTerms) (history : History) : Type 0 where
+  pub accepted : ImportGrows charter day caller holder history rows history
+  pub denied :
+      (rule : Rule) (place : ℕ)
+      → IsImportDenied charter day caller holder history rows rule place → ⊥
+  pub nothing :
+      (other_day : ℕ) (other : List ℕ) (again : History)
+      → ImportGrows charter other_day other holder history rows again → again ≡ history
+
+-- after an import was accepted, and no later entry names its holder, the same import makes nothing
+abbrev pub ImportsRepeat : Type 0
+ImportsRepeat =
+    (charter : Charter) (before : History) (day : ℕ) (caller holder : List ℕ)
+    (rows : List AuthTerms) (left later : History)
+    → ImportGrows charter day caller holder before rows left → IsLegal charter (later ++ left)
+    → is_named holder later ≡ false → MakesNothing charter day caller holder rows (later ++ left)

@@ -2,12 +2,15 @@
 
 ghost use Rattle.isolation.specs.Isolation.{
   CommandsByEntries,
+  HypotheticalByEntries,
+  HypotheticalKeepsOthers,
+  ImportsByEntries,
   OthersKeepRows,
   QueriesByEntries,
   RowsOfEntries,
   VrpsOfEntries,
 };
-ghost use Rattle.isolation.specs.RepeatedRequests.{RepeatsLeaveRows};
+ghost use Rattle.isolation.specs.RepeatedRequests.{ImportsRepeat, RepeatsLeaveRows};
 
 /// After a legal history the rows of a holder are those of the entries that name it.
 #[tactic(auto, using(crate::proofs::Isolation::rows_of_entries))]
@@ -16,9 +19,14 @@ pub fn rows_of_entries()
 {}
 
 /// An accepted command leaves the rows of each holder that it does not name.
-#[tactic(auto, using(crate::proofs::Isolation::others_keep_rows))]
+#[tactic(auto, using(crate::proofs::Grown::others_keep_rows))]
 pub fn others_keep_rows()
     ensures { OthersKeepRows }
+{}
+
+/// Changes at a holder would leave the rows of every other, and the exceptions in force.
+pub fn hypothetical_keeps_others()
+    ensures { HypotheticalKeepsOthers }
 {}
 
 /// After a legal history the VRPs of a day are the same where the authorizations in force of each
@@ -40,9 +48,27 @@ pub fn queries_by_entries()
     ensures { QueriesByEntries }
 {}
 
-/// Where a legal history accepted a command other than a grant, and no later entry names one of its
-/// holders or, where it brought a SLURM file, brings another, the same command by any caller on any
-/// day, if it is accepted again, leaves the rows of every holder and the exceptions in force.
+/// After a legal history an import at a holder makes what it makes after the entries that name the
+/// holder alone, or the same row is denied by the same rule.
+pub fn imports_by_entries()
+    ensures { ImportsByEntries }
+{}
+
+/// The same of changes at a holder of which it is asked what they would do.
+pub fn hypothetical_by_entries()
+    ensures { HypotheticalByEntries }
+{}
+
+/// Where a command other than a grant was accepted, and no later entry of a legal history names one
+/// of its holders or, where it brought a SLURM file, brings another, the same command by any caller on
+/// any day, if it is accepted again, leaves the rows of every holder and the exceptions in force.
 pub fn again()
     ensures { RepeatsLeaveRows }
+{}
+
+/// Where an import was accepted and no later entry of a legal history names its holder, the same import
+/// by its caller on its day is accepted and makes nothing; and by any caller on any day, if it is
+/// accepted, it makes nothing.
+pub fn import_again()
+    ensures { ImportsRepeat }
 {}

@@ -66,6 +66,17 @@ fn authorization(number: u32) -> Result<Auth, Fail> {
     })
 }
 
+// So many authorizations of one prefix, each of an AS of its own, where four were made before.
+fn next_authorizations(alloc: Global, count: u32) -> Result<Vec<Auth>, Fail> {
+    let mut auths = Vec::new(alloc);
+    for number in 5..5u32.saturating_add(count) {
+        let mut auth = authorization(number)?;
+        auth.asn = Asn(number);
+        auths.push(auth)?;
+    }
+    Ok(auths)
+}
+
 fn grant() -> Result<Granted, Fail> {
     Ok(Granted {
         number: 1,
@@ -118,6 +129,20 @@ fn what_was_applied_is_loaded(rt: HostRuntime) -> Result<(), Fail> {
         return Err("no VRPs".into());
     };
     assert_eq!(rt; vrps.len(), 1);
+    Ok(())
+}
+
+#[test]
+fn imported_authorizations_are_loaded(rt: HostRuntime) -> Result<(), Fail> {
+    for (count, created) in [(0, 4), (1, 5), (3, 7)] {
+        let mut store = registered_holder(rt.alloc())?;
+        let auths = next_authorizations(rt.alloc(), count)?;
+        let made = auths.clone()?;
+        apply(&mut store, Edit::Import { auths, created })?;
+        let rows = view(rt.alloc(), &mut store)?.holder.ok_or("rows")?;
+        assert!(rt; rows.auths == made);
+        assert_eq!(rt; rows.created, created);
+    }
     Ok(())
 }
 

@@ -17,7 +17,7 @@ use Rattle.policy.specs.Answer.{holder_of}
 use Rattle.policy.specs.ExceptionsInForce.{exceptions_in_force}
 use Rattle.policy.specs.HolderEntries.{is_this}
 use Rattle.policy.specs.Rows.{Rows, RowsOf, RowsIfAny, edited, edited_if_any, changed, Carries}
-use Rattle.policy.proofs.Names.{same_name-true, held_by_same}
+use Rattle.policy.proofs.Names.{same_name-same, same_name-true, held_by_same}
 use Rattle.policy.proofs.Held.{active-kept}
 
 -- a command registers no holder but the one that it names, and changes no other's grants and terms
@@ -158,3 +158,9 @@ carries-exceptions before day caller file = record {
   holders = λ h rows are. left (record { day = day; caller = caller; command = Slurm file }) before h refl (λ a. refl) rows are;
   exceptions = refl;
 }
+
+-- the rows of the holder after the change
+pub carried : (before after : History) (h : List ℕ) (edit : Edit) (rows : Rows) → Carries (Holders (record { holder = h; edit = edit }) None) before after
+    → RowsIfAny before h (Some rows) → RowsIfAny after h (Some (edited edit rows))
+carried before after h edit rows carries are =
+    subst (λ (b : Bool). RowsIfAny after h (cond b (Some (edited edit rows)) (Some rows))) (same_name-same h) (carries.holders h (Some rows) are)

@@ -10,7 +10,7 @@ use Rattle.addr.specs.declared.span.Span.{Span}
 use Rattle.addr.specs.Spans.{spans_have, is_one_of, without_runs, AddsAddresses, TakesAddresses, AreApart}
 use Rattle.addr.proofs.RunLemmas.{runs_exchanged, none_back}
 use Rattle.policy.specs.declared.authorization.Auth.{Auth}
-use Rattle.policy.specs.declared.charter.Charter.{Charter}
+use Rattle.charters.specs.declared.charter.Charter.{Charter}
 use Rattle.policy.specs.declared.change.Change.TheVariants.{Holders}
 use Rattle.policy.specs.declared.change.Edit.{Edit}
 use Rattle.policy.specs.declared.change.Edit.TheVariants.{Register as RegisterEdit}

@@ -8,7 +8,8 @@ pub mod Unregistered
 pub mod CarrySpace
 pub mod CarryGrants
 pub mod CarryTerms
-pub mod PoolLemmas
 pub mod RowsLemmas
 pub mod AmendLemmas
-pub mod Repeats
+pub mod Growth
+pub mod Imports
+pub mod Suppositions

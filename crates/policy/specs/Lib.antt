@@ -1,8 +1,3 @@
-pub mod Repeats
-pub mod Pool
-pub mod CharterSets
-pub mod Charter
-pub mod CharterFault
 pub mod Rule
 pub mod History
 pub mod ExceptionsInForce

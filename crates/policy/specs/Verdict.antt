@@ -5,15 +5,15 @@ use Rattle.std.specs.List.{list_any}
 use Rattle.addr.specs.Address.{fits_max_length}
 use Rattle.policy.specs.declared.admission.TheConstants.{MOST_GRANTS, MOST_AUTHORIZATIONS, LAST_NUMBER}
 use Rattle.policy.specs.declared.authorization.Auth.{Auth}
-use Rattle.policy.specs.declared.charter.Charter.{Charter}
+use Rattle.charters.specs.declared.charter.Charter.{Charter}
 use Rattle.policy.specs.declared.command.Command.{Command}
 use Rattle.policy.specs.declared.command.Command.TheVariants.{Register, Delegate, Transfer, Reclaim, Grant, Revoke, Create, Amend, Withdraw, Import, Slurm}
 use Rattle.policy.specs.declared.grant.Access.{Access}
 use Rattle.policy.specs.declared.grant.Access.TheVariants.{Manage, Alter, Look}
 use Rattle.policy.specs.declared.rule.Rule.{Rule}
 use Rattle.policy.specs.declared.rule.Rule.TheVariants.{Operator, Steward, Grant as GrantRule, Holder, Fresh, Number, Scope, Dates, Length, Pool, Free, Distinct, Held, Same, Room}
-use Rattle.policy.specs.Charter.{is_operator, pool_of}
-use Rattle.policy.specs.Pool.{IsInPool}
+use Rattle.charters.specs.Charter.{is_operator, pool_of}
+use Rattle.charters.specs.Pool.{IsInPool}
 use Rattle.policy.specs.History.{History, same_name, is_registered}
 use Rattle.policy.specs.Resources.{HoldsPrefix, IsFree}
 use Rattle.policy.specs.Terms.{gives_vrp, share_vrp, grant_terms, grants_made, authorizations_made, OfActive}

@@ -1,3 +1,7 @@
 -- The steps of the code, which no public contract cites.
 pub mod Creation
 pub mod Exchange
+pub mod Part
+pub mod Withdrawal
+pub mod Import
+pub mod Supposition

@@ -1,16 +1,17 @@
 ghost use Rattle.std.specs.Prelude.{◌≡◌, ℕ, ◌<◌, ◌==◌, ◌&&◌, not, length, List, true, false, ◌↔◌, IsTrue, Some, ◌≤◌, option_copied, MatchResult};
 ghost use Rattle.std.specs.List.{list_any};
 ghost use Rattle.policy.specs.declared.admission.TheConstants.{MOST_GRANTS, MOST_AUTHORIZATIONS, LAST_NUMBER};
-ghost use Rattle.policy.specs.declared.charter.Charter.{Charter as CharterValue};
+ghost use Rattle.charters.specs.declared.charter.Charter.{Charter as CharterValue};
 ghost use Rattle.policy.specs.History.{History, is_registered};
 ghost use Rattle.policy.specs.Resources.{HoldsPrefix};
 ghost use Rattle.policy.specs.Terms.{grant_terms, authorizations_made, OfActive, gives_vrp, share_vrp};
+ghost use Rattle.policy.specs.Import.{has_terms, IsPresent};
 ghost use Rattle.policy.specs.Permission.{has_access};
 ghost use Rattle.policy.specs.Verdict.{IsLegal, is_steward, numbered, HasAccessTo};
 ghost use Rattle.policy.specs.Rows.{rows_of, rows_if_any, RowsOf, RowsIfAny, grants_if_any};
 
 use crate::grant::{has_access, is_permitted};
-use crate::{Access, Auth, Charter, Granted, HolderRows, Rule};
+use crate::{Access, Auth, AuthTerms, Charter, Granted, HolderRows, Rule};
 use addr::{Asn, Day, Name, Prefix};
 
 /// How many grants that are not revoked a holder may have.
@@ -162,6 +163,22 @@ pub(crate) fn is_new(rows: &HolderRows, asn: Asn, prefix: &Prefix, max: u8) -> b
         (λ active. list_any (λ y. gives_vrp y asn prefix.now max) active ≡ false)) }
 {
     !some_gives(&rows.auths, asn, prefix, max)
+}
+
+fn some_has_terms(auths: &[Auth], terms: &AuthTerms) -> bool
+    ensures { result ≡ list_any (has_terms terms.now) auths.now }
+{
+    auths.iter().any(|auth| auth.has_terms(terms))
+}
+
+/// Whether a row of an import is already authorized: the caller may alter authorizations of its
+/// prefix, and an active one has its terms.
+pub(crate) fn is_present(rows: &HolderRows, day: Day, caller: &Name, terms: &AuthTerms) -> bool
+    ensures { (history : History) (h : List ℕ) → RowsOf history h (rows_of rows.now)
+        → (IsTrue result ↔ IsPresent day caller.now h history terms.now) }
+{
+    is_permitted(&rows.grants, day, caller, Access::Alter, &terms.prefix)
+        && some_has_terms(&rows.auths, terms)
 }
 
 /// Whether another grant may be made: neither too many are unrevoked, nor were too many made.

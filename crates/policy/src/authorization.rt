@@ -1,4 +1,5 @@
 ghost use Rattle.std.specs.Prelude.{◌≡◌, ◌≤◌, ◌↔◌, ◌&&◌, true, IsTrue, IsSome, IfSome};
+ghost use Rattle.policy.specs.Import.{has_terms};
 ghost use Rattle.policy.specs.Terms.{terms_overlap, gives_vrp, share_vrp, IsVrpOf};
 ghost use Rattle.policy.specs.Verdict.{terms_fit_length};
 
@@ -67,6 +68,15 @@ impl Auth {
         ensures { result ≡ gives_vrp self.now asn prefix.now max }
     {
         self.asn.0 == asn.0 && self.prefix.is(prefix) && self.max == max
+    }
+
+    /// Whether the authorization has these terms, all five of them.
+    pub(crate) fn has_terms(&self, terms: &AuthTerms) -> bool
+        ensures { result ≡ has_terms terms.now self.now }
+    {
+        self.gives_vrp(terms.asn, &terms.prefix, terms.max)
+            && self.from.number() == terms.from.number()
+            && self.until.number() == terms.until.number()
     }
 
     /// Whether some AS, prefix and maxLength is given by the terms of both.

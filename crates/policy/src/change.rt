@@ -21,7 +21,10 @@ pub enum Edit {
     /// Puts an authorization and sets the counter of authorizations to its number.
     Create(Auth),
     /// Puts authorizations and sets the counter of authorizations.
-    Import { auths: Vec<Auth>, created: u32 },
+    Import {
+        auths: Vec<Auth>,
+        created: u32,
+    },
     /// Puts an authorization in the place of the one of its number.
     Amend(Auth),
     /// Takes away the authorization of this number.

@@ -77,15 +77,25 @@ pub enum Command {
 #[derive(Debug, Drop)]
 pub enum Query {
     /// The authorization of this number.
-    Show { holder: Name, number: u32 },
+    Show {
+        holder: Name,
+        number: u32,
+    },
     /// The ROA content of the authorization of this number.
-    Content { holder: Name, number: u32 },
+    Content {
+        holder: Name,
+        number: u32,
+    },
     /// The active authorizations that the caller may see.
-    List { holder: Name },
+    List {
+        holder: Name,
+    },
     /// The VRPs of the day.
     Payloads,
     /// The validation state of each route on the day's VRPs.
-    Validity { routes: Vec<Route> },
+    Validity {
+        routes: Vec<Route>,
+    },
     /// The validation state of each route on the day's VRPs as they are, and as they would be
     /// after the changes.
     WhatIf {

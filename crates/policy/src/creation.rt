@@ -1,17 +1,20 @@
-ghost use Rattle.std.specs.Prelude.{ℕ, List, Some, option_copied, MatchResult};
-ghost use Rattle.policy.specs.declared.charter.Charter.{Charter as CharterValue};
+ghost use Rattle.std.specs.Prelude.{◌≡◌, ℕ, List, Some, option_copied, MatchResult, IfOk, OnOk};
+ghost use Rattle.charters.specs.declared.charter.Charter.{Charter as CharterValue};
+ghost use Rattle.policy.specs.declared.change.Edit.{Edit};
 ghost use Rattle.policy.specs.History.{History};
 ghost use Rattle.policy.specs.Import.{creation};
-ghost use Rattle.policy.specs.Rows.{rows_if_any, RowsIfAny};
+ghost use Rattle.policy.specs.Rows.{rows_of, rows_if_any, RowsIfAny, edited};
 ghost use Rattle.policy.specs.Verdict.{IsLegal, Verdict};
 ghost use Rattle.policy.specs.steps.Creation.{IsCreated};
+ghost use Rattle.policy.specs.steps.Part.{Judged};
 
 use crate::admission::{
     are_dates, has_room_for_authorization, holds, is_new, require, rows_with_access,
 };
 use crate::grant::is_permitted;
-use crate::{Access, Auth, AuthTerms, HolderRows, Rule};
+use crate::{Access, Auth, AuthTerms, HolderRows, Refusal, Rule};
 use addr::{Day, Name};
+use std::alloc::AllocError;
 
 /// The authorization that a create of the terms makes, or the first rule of its line that does not
 /// hold.
@@ -39,4 +42,32 @@ pub(crate) fn new_auth(
     )?;
     require(has_room_for_authorization(rows), Rule::Room)?;
     Ok(terms.numbered(rows.created + 1))
+}
+
+fn put(rows: &mut HolderRows, auth: &Auth) -> Result<(), AllocError>
+    ensures { OnOk result (rows_of rows.new ≡ edited (Edit.Create auth.now) (rows_of rows.old)) }
+{
+    rows.auths.push(*auth)?;
+    rows.created = auth.number;
+    Ok(())
+}
+
+/// Puts the authorization that a create of the terms makes among the rows; where no rule denies it.
+pub(crate) fn create(
+    rows: &mut HolderRows,
+    day: Day,
+    caller: &Name,
+    terms: &AuthTerms,
+) -> Result<Auth, Refusal>
+    ensures rows { IfOk result
+        (λ x. rows_of rows.new ≡ edited (Edit.Create x) (rows_of rows.old)) }
+    ensures judged { (charter : CharterValue) (history : History) (h : List ℕ)
+        → IsLegal charter history → RowsIfAny history h (Some (rows_of rows.old))
+        → Judged (IsCreated charter history h day caller.now terms.now)
+        (λ rule. Verdict charter history day caller.now (creation h terms.now) (Some rule))
+        result }
+{
+    let auth = new_auth(Some(rows), day, caller, terms)?;
+    put(rows, &auth)?;
+    Ok(auth)
 }

@@ -9,6 +9,7 @@ ghost use Rattle.policy.specs.Rows.{rows_if_any, RowsIfAny};
 ghost use Rattle.policy.specs.steps.Exchange.{Exchanges};
 ghost use Rattle.policy.specs.Answer.{AnswersRows, JudgesRows, RowsOfNamed, IsAnswer, IsViewOf, is_transfer, takes_memory, holder_of, taker_of};
 
+mod import;
 mod terms;
 
 use crate::admission::{
@@ -16,11 +17,13 @@ use crate::admission::{
     require, rows_with_access, shares_with_other,
 };
 use crate::creation::new_auth;
+use crate::withdrawal::may_withdraw;
 use crate::{
-    Access, Auth, AuthTerms, Change, Charter, Command, Edit, HolderChange, HolderRows, Refusal, Rule,
-    View,
+    Access, Auth, AuthTerms, Change, Charter, Command, Edit, HolderChange, HolderRows, Refusal,
+    Rule, View,
 };
 use addr::{Day, Holdings, Name, Prefix};
+use import::decide_import;
 use slurm::Slurm;
 use std::alloc::{AllocError, Global};
 use terms::GrantTerms;
@@ -220,8 +223,7 @@ fn decide_withdraw(basis: Basis<'_>, holder: Holder<'_>, number: u32) -> Result<
         basis.entry.day basis.entry.caller.now
         (Command.Withdraw holder.entry.name.now number) result }
 {
-    let rows = rows_with_access(holder.rows, basis.day, basis.caller, Access::Alter)?;
-    auth_with_access(rows, basis.day, basis.caller, Access::Alter, number)?;
+    may_withdraw(holder.rows, basis.day, basis.caller, number)?;
     Ok(change_of(holder.name, Edit::Withdraw(number)))
 }
 
@@ -352,7 +354,10 @@ pub fn decide(
         Command::Withdraw { holder, number } => {
             Ok(decide_withdraw(basis, Holder { name: holder, rows }, *number)?)
         }
-        Command::Import { .. } => Err(Refusal::Memory),
+        Command::Import {
+            holder,
+            rows: listed,
+        } => decide_import(alloc, basis, Holder { name: holder, rows }, listed),
         Command::Slurm { file } => decide_slurm(basis, file),
     }
 }

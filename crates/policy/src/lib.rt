@@ -5,7 +5,6 @@
 mod admission;
 mod authorization;
 mod change;
-mod charter;
 mod command;
 mod creation;
 mod decision;
@@ -16,11 +15,12 @@ mod rows;
 mod rule;
 mod sight;
 mod values;
+mod withdrawal;
 
 pub use admission::LAST_NUMBER;
 pub use authorization::{Auth, AuthTerms};
 pub use change::{Change, Edit, HolderChange};
-pub use charter::{Charter, CharterFault};
+pub use charters::{Charter, CharterFault};
 pub use command::{Command, Proposed, Query};
 pub use decision::{decide, decide_two};
 pub use grant::{Access, Granted, Role, Scope};

@@ -1,11 +1,12 @@
 use crate::{Auth, Granted};
 use addr::Holdings;
+use std::alloc::AllocError;
 
 /// The rows of one registered resource holder.
 ///
 /// The type itself promises nothing of them beyond each row: they are those of a history only
 /// where whoever keeps them says so.
-#[derive(Clone, Drop)]
+#[derive(Drop)]
 pub struct HolderRows {
     /// The address space that the holder holds.
     pub holdings: Holdings,
@@ -17,6 +18,23 @@ pub struct HolderRows {
     pub granted: u32,
     /// How many authorizations were made at the holder.
     pub created: u32,
+}
+
+impl Clone for HolderRows {
+    ghost use Rattle.std.specs.Prelude.{◌≡◌};
+    ghost use Rattle.policy.specs.Rows.{rows_of};
+
+    ghost is_clone = { λ rows copy. rows_of copy ≡ rows_of rows };
+
+    fn clone(&self) -> Result<Self, AllocError> {
+        Ok(HolderRows {
+            holdings: self.holdings.clone()?,
+            grants: self.grants.clone()?,
+            auths: self.auths.clone()?,
+            granted: self.granted,
+            created: self.created,
+        })
+    }
 }
 
 /// What a command is judged on.

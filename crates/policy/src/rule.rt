@@ -1,7 +1,7 @@
 ghost use Rattle.std.specs.Prelude.{◌≡◌, None};
 ghost use Rattle.policy.specs.declared.rule.Refusal.TheVariants.{Denied, Memory};
 
-use std::alloc::AllocError;
+use std::alloc::{AllocError, AllocFailed};
 use std::fmt;
 
 /// The rules of admission. Each request has a line of them; the first that does not hold is told.
@@ -89,6 +89,20 @@ pub enum Refusal {
     Memory,
 }
 
+impl Refusal {
+    ghost use Rattle.policy.specs.steps.Part.{refusal_at};
+
+    /// The refusal of a request of several parts for the one in this place.
+    pub(crate) fn at(self, place: u64) -> Refusal
+        ensures { result ≡ refusal_at place self }
+    {
+        match self {
+            Refusal::Denied(rule, _) => Refusal::Denied(rule, Some(place)),
+            Refusal::Memory => Refusal::Memory,
+        }
+    }
+}
+
 impl From<Rule> for Refusal {
     ghost from_gives = { λ rule refusal. refusal ≡ Denied rule None };
 
@@ -101,6 +115,14 @@ impl From<AllocError> for Refusal {
     ghost from_gives = { λ _ refusal. refusal ≡ Memory };
 
     fn from(_: AllocError) -> Refusal {
+        Refusal::Memory
+    }
+}
+
+impl<T: Drop> From<AllocFailed<T>> for Refusal {
+    ghost from_gives = { λ _ refusal. refusal ≡ Memory };
+
+    fn from(_: AllocFailed<T>) -> Refusal {
         Refusal::Memory
     }
 }

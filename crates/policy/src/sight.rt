@@ -1,5 +1,5 @@
 ghost use Rattle.std.specs.Prelude.{◌≡◌, ℕ, List, Some, option_copied, MatchResult, IfOk, filter};
-ghost use Rattle.policy.specs.declared.charter.Charter.{Charter as CharterValue};
+ghost use Rattle.charters.specs.declared.charter.Charter.{Charter as CharterValue};
 ghost use Rattle.policy.specs.History.{History};
 ghost use Rattle.policy.specs.Permission.{is_permitted_terms};
 ghost use Rattle.policy.specs.Rows.{rows_if_any, RowsIfAny};

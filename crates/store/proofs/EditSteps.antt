@@ -30,7 +30,7 @@ use Rattle.policy.specs.Rows.{new_rows, edited, replaced_by}
 use Rattle.tables.specs.Tables.{holder, holding, granted, auth}
 use Rattle.tables.specs.Cells.{number_cell, family_number, address, role_number, scope_cells, auth_cells, holder_row, holding_row, granted_row, auth_row}
 use Rattle.tables.specs.TablesHold.{is_name_of, part_rows, holder_part, holding_part, granted_part, auth_part}
-use Rattle.store.specs.steps.RowEdits.{with_holdings, without_holdings, with_grant, with_auth, with_granted, with_created}
+use Rattle.store.specs.steps.RowEdits.{with_holdings, without_holdings, with_grant, with_auths, with_granted, with_created}
 use Rattle.database.specs.Statements.{IsReady, IsExecuted}
 use Rattle.store.specs.steps.Statements.{EditsHolder, Registers}
 use Rattle.tables.proofs.Addresses.{addresses_in_order}
@@ -207,9 +207,9 @@ module _ (h : List ℕ) (old new : State) where
   own_auth : (n : ℕ) (x : Auth) → is_of h n (auth_row h x) ≡ (x.number == n)
   own_auth n x = rw (name_of_itself h (Text h) refl) (number_of_number x.number n)
 
-  pub puts_auth : (x : Auth) → IsReady old → IsExecuted put_auth_text (auth_row h x) old new → EditsHolder h (with_auth x) old new
+  pub puts_auth : (x : Auth) → IsReady old → IsExecuted put_auth_text (auth_row h x) old new → EditsHolder h (with_auths (x ∷ [])) old new
   puts_auth x ready ran =
-      puts_edit 6 auth refl old new 0 auth_part.rows refl h (with_auth x) (auth_row h x) refl (λ r. appended (auth_row h) r.auths x) (in_auths h (λ r. r.auths ++ x ∷ []))
+      puts_edit 6 auth refl old new 0 auth_part.rows refl h (with_auths (x ∷ [])) (auth_row h x) refl (λ r. appended (auth_row h) r.auths x) (in_auths h (λ r. r.auths ++ x ∷ []))
       (puts_row 6 auth refl old new (auth_row h x) (put_terms 9) 10 (auth_row h x) put_auth_is refl (cast_auth h x) ready ran)
 
   pub takes_auth : (n : ℕ) → IsReady old → IsExecuted take_auth_text (Text h ∷ number_cell n ∷ []) old new → EditsHolder h (edited (Withdraw n)) old new

@@ -20,7 +20,7 @@ use Rattle.sqlite_schema.specs.declared.command.Command.TheVariants.{Select}
 use Rattle.sqlite_typed.proofs.TestLemmas.{last_term}
 use Rattle.addr.specs.declared.asn.Asn.{Asn}
 use Rattle.addr.specs.declared.vrp.Vrp.{Vrp}
-use Rattle.policy.specs.CharterSets.{CharterSets}
+use Rattle.charters.specs.CharterSets.{CharterSets}
 use Rattle.policy.specs.RowsOfAll.{AllRows}
 use Rattle.slurm.specs.Exceptions.{Exceptions}
 use Rattle.slurm.specs.declared.filter.Filter.{Filter}

@@ -14,7 +14,7 @@ use Rattle.sqlite_sql.specs.Query.{IsAnswer, key_cmp}
 use Rattle.sqlite_sql.specs.Program.{overlay}
 use Rattle.sqlite_schema.specs.declared.command.Command.{Command}
 use Rattle.sqlite_schema.specs.declared.command.Command.TheVariants.{Select}
-use Rattle.policy.specs.CharterSets.{CharterSets}
+use Rattle.charters.specs.CharterSets.{CharterSets}
 use Rattle.policy.specs.Rows.{Rows}
 use Rattle.policy.specs.RowsOfAll.{AllRows}
 use Rattle.tables.specs.Cells.{span_cells, grant_cells, auth_cells, holding_row, granted_row, auth_row}

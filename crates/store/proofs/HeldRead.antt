@@ -10,7 +10,7 @@ use Rattle.sqlite_rules.specs.Lists.{Has}
 use Rattle.sqlite_rules.proofs.ListLemmas.{all_has, all_from, contains_had}
 use Rattle.sqlite_rules.proofs.ProbeLemmas.{has_mapped}
 use Rattle.addr.specs.Name.{is_name}
-use Rattle.policy.specs.CharterSets.{CharterSets, IsCharter}
+use Rattle.charters.specs.CharterSets.{CharterSets, IsCharter}
 use Rattle.policy.specs.declared.command.Command.{Command}
 use Rattle.policy.specs.declared.command.Command.TheVariants.{Register}
 use Rattle.policy.specs.History.{History, registers, is_registered}

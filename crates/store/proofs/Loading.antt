@@ -17,7 +17,7 @@ use Rattle.addr.specs.Spans.{span_has, spans_have, AreMaximal}
 use Rattle.addr.specs.declared.span.Span.{Span}
 use Rattle.policy.specs.declared.authorization.Auth.{Auth}
 use Rattle.policy.specs.declared.grant.Granted.{Granted}
-use Rattle.policy.specs.CharterSets.{CharterSets}
+use Rattle.charters.specs.CharterSets.{CharterSets}
 use Rattle.policy.specs.declared.rows.HolderRows.{HolderRows}
 use Rattle.policy.specs.Rows.{Rows}
 use Rattle.tables.specs.Cells.{number_cell}

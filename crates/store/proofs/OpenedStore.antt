@@ -5,7 +5,7 @@ use Rattle.sqlite.specs.Held.{Held, state}
 use Rattle.sqlite.specs.State.{State, HasCleanDisk}
 use Rattle.sqlite.specs.Store.{Ghosts}
 use Rattle.sqlite_trees.specs.Tree.{Trees}
-use Rattle.policy.specs.CharterSets.{CharterSets, IsCharter}
+use Rattle.charters.specs.CharterSets.{CharterSets, IsCharter}
 use Rattle.policy.specs.RowsOfAll.{AllRows}
 use Rattle.tables.specs.TablesHold.{TablesHold}
 use Rattle.tables.proofs.RowsStay.{hold_still}

@@ -13,7 +13,7 @@ use Rattle.sqlite_trees.specs.Tree.{Trees}
 use Rattle.addr.specs.Spans.{span_eq}
 use Rattle.addr.specs.declared.span.Span.{Span}
 use Rattle.policy.specs.declared.authorization.Auth.{Auth}
-use Rattle.policy.specs.CharterSets.{CharterSets}
+use Rattle.charters.specs.CharterSets.{CharterSets}
 use Rattle.policy.specs.History.{same_name}
 use Rattle.policy.specs.declared.change.Edit.{Edit}
 use Rattle.policy.specs.declared.change.Edit.TheVariants.{Register, Hold, Grant, Revoke, Create, Import, Amend, Withdraw}
@@ -21,7 +21,7 @@ use Rattle.policy.specs.Rows.{Rows, new_rows, edited, edited_if_any}
 use Rattle.policy.specs.RowsOfAll.{AllRows}
 use Rattle.policy.proofs.Names.{same_name-true}
 use Rattle.tables.specs.TablesHold.{TablesHold}
-use Rattle.store.specs.steps.RowEdits.{with_holdings, without_holdings, without_auths, is_registration}
+use Rattle.store.specs.steps.RowEdits.{with_holdings, without_holdings, with_auths, without_auths, is_registration}
 use Rattle.database.specs.Statements.{state_in, IfDone, StaysInside, IsReady}
 use Rattle.store.specs.StoreRows.{RowChange}
 use Rattle.store.specs.steps.Statements.{at_holder, EditsRows, EditsHolder, TellsWhetherRegistered, Registers, MakesChange}
@@ -87,6 +87,12 @@ none_taken r = λ i. record r { holdings = all_kept r.holdings i }
 
 pub one_holding_less : (spans : List Span) (s : Span) (r : Rows) → without_holdings (s ∷ []) (without_holdings spans r) ≡ without_holdings (spans ++ s ∷ []) r
 one_holding_less spans s r = λ i. record r { holdings = filter_both span_eq spans (s ∷ []) r.holdings i }
+
+pub none_put : (r : Rows) → with_auths [] r ≡ r
+none_put r = λ i. record r { auths = append-nil r.auths i }
+
+pub one_more_auth : (xs : List Auth) (x : Auth) (r : Rows) → with_auths (x ∷ []) (with_auths xs r) ≡ with_auths (xs ++ x ∷ []) r
+one_more_auth xs x r = λ i. record r { auths = append_assoc r.auths xs (x ∷ []) i }
 
 pub no_auths : (r : Rows) → without_auths [] r ≡ r
 no_auths r = λ i. record r { auths = all_kept r.auths i }

@@ -5,8 +5,8 @@ use Rattle.sqlite.specs.Held.{Held, held_code, state}
 use Rattle.sqlite.specs.State.{State, HasCleanDisk}
 use Rattle.sqlite.specs.Store.{Ghosts}
 use Rattle.sqlite_trees.specs.Tree.{Trees}
-use Rattle.policy.specs.contracts.charter.Charter as charter
-use Rattle.policy.specs.CharterSets.{CharterSets, IsCharter}
+use Rattle.charters.specs.contracts.charter.Charter as charter
+use Rattle.charters.specs.CharterSets.{CharterSets, IsCharter}
 use Rattle.policy.specs.RowsOfAll.{AllRows}
 use Rattle.policy.specs.Values.{ExceptionsFit}
 use Rattle.tables.specs.Tables.{desk_tables}

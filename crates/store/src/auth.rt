@@ -1,6 +1,7 @@
+ghost use Rattle.std.specs.Prelude.{[], ◌∷◌};
 ghost use Rattle.policy.specs.declared.change.Edit.TheVariants.{Withdraw, Amend};
 ghost use Rattle.policy.specs.Rows.{edited};
-ghost use Rattle.store.specs.steps.RowEdits.{with_auth, without_auths};
+ghost use Rattle.store.specs.steps.RowEdits.{with_auths, without_auths};
 ghost use Rattle.database.specs.Statements.{IsReady, WhenClean, StaysInside};
 ghost use Rattle.store.specs.steps.Statements.{IfEdited};
 
@@ -11,13 +12,9 @@ use sqlite::{Alter, Error, Transaction};
 use tables::{address_bytes, auth_values, number_values};
 
 /// Puts an authorization of the holder.
-pub(crate) fn put_auth<S: Alter>(
-    tx: &mut Transaction<'_, S>,
-    holder: &Name,
-    auth: &Auth,
-) -> Result<(), Error>
+fn put_auth<S: Alter>(tx: &mut Transaction<'_, S>, holder: &Name, auth: &Auth) -> Result<(), Error>
     requires { WhenClean S.Store IsReady tx.old }
-    ensures done { IfEdited S.Store result holder.now (with_auth auth.now) tx.old tx.new }
+    ensures done { IfEdited S.Store result holder.now (with_auths (auth.now ∷ [])) tx.old tx.new }
     ensures inside { StaysInside S.Store tx.old tx.new }
 {
     let first = address_bytes(auth.prefix.first);
@@ -26,6 +23,22 @@ pub(crate) fn put_auth<S: Alter>(
         "INSERT INTO auth (holder, number, asn, family, lo, len, max, opens, ends) VALUES (?1, ?2, ?3, ?4, ?5, ?6, ?7, ?8, ?9)",
         &auth_values(holder, auth, &first),
     )
+}
+
+/// Puts authorizations of the holder.
+pub(crate) fn put_auths<S: Alter>(
+    tx: &mut Transaction<'_, S>,
+    holder: &Name,
+    auths: &[Auth],
+) -> Result<(), Error>
+    requires { WhenClean S.Store IsReady tx.old }
+    ensures done { IfEdited S.Store result holder.now (with_auths auths.now) tx.old tx.new }
+    ensures inside { StaysInside S.Store tx.old tx.new }
+{
+    for auth in auths {
+        put_auth(tx, holder, auth)?;
+    }
+    Ok(())
 }
 
 /// Puts an authorization in the place of the one of its number, where there is one.

@@ -1,12 +1,12 @@
 ghost use Rattle.std.specs.Prelude.{◌≡◌, ◌≢◌, Err};
 ghost use Rattle.policy.specs.Rows.{edited, changed_by_one};
 ghost use Rattle.policy.specs.RowsOfAll.{changed_rows};
-ghost use Rattle.store.specs.steps.RowEdits.{held, is_registration};
+ghost use Rattle.store.specs.steps.RowEdits.{held, with_new_auths, is_registration};
 ghost use Rattle.database.specs.Statements.{IsReady, WhenClean, StaysInside, IfDone};
 ghost use Rattle.store.specs.steps.Statements.{IfEdited, MakesChange, each_holder};
 
 use crate::StoreFault;
-use crate::auth::{amend_auth, put_auth, take_auth, take_auths};
+use crate::auth::{amend_auth, put_auths, take_auth, take_auths};
 use crate::exceptions::replace_exceptions;
 use crate::granted::{put_grant, take_grant};
 use crate::holder::{is_registered, register, set_created, set_granted};
@@ -14,6 +14,7 @@ use crate::holding::{put_holdings, take_holdings};
 use addr::{Name, Span};
 use policy::{Auth, Change, Edit, Granted, HolderChange};
 use sqlite::{Alter, Error, Transaction};
+use std::slice;
 
 /// Puts a grant, and its number as the counter.
 fn grant<S: Alter>(tx: &mut Transaction<'_, S>, holder: &Name, grant: &Granted) -> Result<(), Error>
@@ -26,15 +27,20 @@ fn grant<S: Alter>(tx: &mut Transaction<'_, S>, holder: &Name, grant: &Granted) 
     set_granted(tx, holder, grant.number)
 }
 
-/// Puts an authorization, and its number as the counter.
-fn create<S: Alter>(tx: &mut Transaction<'_, S>, holder: &Name, auth: &Auth) -> Result<(), Error>
+/// Puts authorizations, and sets how many were made at the holder.
+fn create<S: Alter>(
+    tx: &mut Transaction<'_, S>,
+    holder: &Name,
+    auths: &[Auth],
+    created: u32,
+) -> Result<(), Error>
     requires { WhenClean S.Store IsReady tx.old }
     ensures done { IfEdited S.Store result holder.now
-        (edited (Edit.Create auth.now)) tx.old tx.new }
+        (with_new_auths auths.now created) tx.old tx.new }
     ensures inside { StaysInside S.Store tx.old tx.new }
 {
-    put_auth(tx, holder, auth)?;
-    set_created(tx, holder, auth.number)
+    put_auths(tx, holder, auths)?;
+    set_created(tx, holder, created)
 }
 
 /// Takes away some of the holder's runs, puts others, and takes away the authorizations of these
@@ -68,7 +74,7 @@ fn edit_rows<S: Alter>(
     ensures no_schema { result ≢ Err StoreFault.Schema }
 {
     match edit {
-        Edit::Register | Edit::Import { .. } => return Err(StoreFault::Database),
+        Edit::Register => return Err(StoreFault::Database),
         Edit::Hold {
             removed,
             added,
@@ -76,7 +82,8 @@ fn edit_rows<S: Alter>(
         } => hold(tx, holder, removed, added, ended)?,
         Edit::Grant(granted) => grant(tx, holder, granted)?,
         Edit::Revoke(number) => take_grant(tx, holder, *number)?,
-        Edit::Create(auth) => create(tx, holder, auth)?,
+        Edit::Create(auth) => create(tx, holder, slice::from_ref(auth), auth.number)?,
+        Edit::Import { auths, created } => create(tx, holder, auths, *created)?,
         Edit::Amend(auth) => amend_auth(tx, holder, auth)?,
         Edit::Withdraw(number) => take_auth(tx, holder, *number)?,
     }

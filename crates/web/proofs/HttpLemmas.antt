@@ -7,7 +7,7 @@ use Rattle.std.specs.declared.alloc.AllocError.{AllocError}
 use Rattle.sqlite.specs.Store.{Ghosts}
 use Rattle.policy.specs.History.{History}
 use Rattle.policy.specs.Verdict.{IsLegal}
-use Rattle.policy.specs.declared.charter.Charter.{Charter}
+use Rattle.charters.specs.declared.charter.Charter.{Charter}
 use Rattle.http_messages.specs.HeadEnd.{IsWholeHead}
 use Rattle.http_messages.specs.Input.{Gives}
 use Rattle.http_messages.specs.Requests.{AnswersHead, asked_by, Asked as Head}
@@ -22,7 +22,7 @@ use Rattle.desk.specs.declared.asked.Request.{Request}
 use Rattle.desk.specs.declared.asked.Request.TheVariants.{Command as CommandRequest, Query as QueryRequest}
 use Rattle.desk.specs.declared.handling.Desk.{Desk}
 use Rattle.desk.specs.declared.reply.Reply.{Reply}
-use Rattle.desk.specs.declared.reply.Reply.TheVariants.{Done, Shown, Content, Listed, Payloads, Answers, Denied, Unavailable}
+use Rattle.desk.specs.declared.reply.Reply.TheVariants.{Done, Imported, Denied, Unavailable}
 use Rattle.web.specs.HttpAnswers.{KeepsHistories, RepliesAt, RespondsTo}
 use Rattle.web.specs.HttpRequests.{asked, malformed, refused, SaysHead}
 use Rattle.web.specs.HttpResponses.{reply_response}
@@ -70,13 +70,10 @@ long-keeps : (charter : Charter) (before after : History) (day : ℕ) (caller : 
     → AnswersRequest charter before day caller request reply after → short_text reply ≡ None → after ≡ before
 long-keeps charter before after day caller (QueryRequest query) reply answers long = answers.1
 long-keeps charter before after day caller (CommandRequest command) (Done number) answers long = cc
-long-keeps charter before after day caller (CommandRequest command) (Shown x) answers long = absurd answers
-long-keeps charter before after day caller (CommandRequest command) (Content x) answers long = absurd answers
-long-keeps charter before after day caller (CommandRequest command) (Listed x) answers long = absurd answers
-long-keeps charter before after day caller (CommandRequest command) (Payloads x) answers long = absurd answers
-long-keeps charter before after day caller (CommandRequest command) (Answers x) answers long = absurd answers
+long-keeps charter before after day caller (CommandRequest command) (Imported made present) answers long = cc
 long-keeps charter before after day caller (CommandRequest command) (Denied rule row) answers long = cc
 long-keeps charter before after day caller (CommandRequest command) Unavailable answers long = answers
+long-keeps charter before after day caller (CommandRequest command) other answers long = absurd answers
 
 module _ {S : Type 0} (g : Ghosts S) where
   -- a request was asked of the desk

@@ -11,34 +11,23 @@ use Rattle.json_values.specs.Tree.{tree_of}
 use Rattle.desk.specs.declared.asked.Asked.{Asked}
 use Rattle.http_messages.specs.Requests.{Asked as Head}
 use Rattle.http_messages.specs.declared.action.Action.{Action}
-use Rattle.http_messages.specs.declared.action.Action.TheVariants.{Register, Delegate, Reclaim, Transfer, Grant, Revoke, List as ListAction, Create, Show, Amend, Withdraw, Content, Slurm, Payloads, Validity}
+use Rattle.http_messages.specs.declared.action.Action.TheVariants.{Slurm}
 use Rattle.web.specs.HttpFaults.{body_faults, body_tree, brings_file, caller_name, http_fault, http_faults, object_body_faults, path_faults, tree_faults}
 use Rattle.web.specs.HttpRequests.{http_heading, SaysAsked}
 use Rattle.web.specs.RequestFaults.{as_malformed, body_members, file_faults, malformed_number, member_faults, named_by, names_of}
 use Rattle.web.specs.declared.request.fault.Fault.{Fault}
-use Rattle.web.specs.declared.request.fault.Fault.TheVariants.{Json, Members, Holder, Caller, Prefix, Asn, Max, Day, Role, Number, File, Count, TooLong}
+use Rattle.web.specs.declared.request.fault.Fault.TheVariants.{Json, Members, Holder, Caller, Number}
 use Rattle.web.specs.steps.HttpReading.{asked_of, object_body, path_subject, request_of, tree_request}
 use Rattle.web.specs.steps.RequestReading.{AskedTerms, RequestTerms, asked_terms, file_of, slurm_request}
 use Rattle.web.proofs.RequestFaultLemmas.{ReadsUnlessFaulty, lowest-none, reads-both, reads-mapped, reads-ok_or, reads-says, reads-unless}
-use Rattle.web.proofs.RequestReadLemmas.{ReadsFile, SaysTerms, reads-request, terms-said}
+use Rattle.web.proofs.RequestReadLemmas.{ReadsFile, SaysTerms, reads-request, reads-rows, terms-said}
 use Rattle.web.proofs.SlurmReadLemmas.{reads-file_of}
 
 -- no fault is lower than this one
 lower-json : (fault : Fault) → lower malformed_number fault Json ≡ Json
 unfolding lower
 lower-json Json = refl
-lower-json Members = refl
-lower-json Holder = refl
-lower-json Caller = refl
-lower-json Prefix = refl
-lower-json Asn = refl
-lower-json Max = refl
-lower-json Day = refl
-lower-json Role = refl
-lower-json Number = refl
-lower-json (File fault) = refl
-lower-json Count = refl
-lower-json TooLong = refl
+lower-json fault = refl
 
 lowest-json : (faults : List Fault) → Some Json ≡ lowest malformed_number (faults ++ Json ∷ [])
 lowest-json [] = refl
@@ -48,20 +37,7 @@ lowest-json (fault ∷ faults) =
 -- only one action brings a file
 only-slurm : (action : Action) → brings_file action ≡ true → action ≡ Slurm
 only-slurm Slurm is = refl
-only-slurm Register is = cc
-only-slurm Delegate is = cc
-only-slurm Reclaim is = cc
-only-slurm Transfer is = cc
-only-slurm Grant is = cc
-only-slurm Revoke is = cc
-only-slurm ListAction is = cc
-only-slurm Create is = cc
-only-slurm Show is = cc
-only-slurm Amend is = cc
-only-slurm Withdraw is = cc
-only-slurm Content is = cc
-only-slurm Payloads is = cc
-only-slurm Validity is = cc
+only-slurm other is = cc
 
 reads-day : (day : ℕ) → ReadsUnlessFaulty (Ok day) [] (λ asked_day. asked_day ≡ day)
 reads-day day = record { told = record { is = refl }; value = refl }
@@ -90,7 +66,7 @@ module _ (head : Head) where
         (rw (← append_assoc in_path (member_faults (body_members head.action) d)
         (name_faults Members (names_of (body_members head.action)) d))
         (reads-unless (reads-request (http_heading head d) (path_subject head) (path_faults head)
-        (reads-ok_or _ Holder) (reads-ok_or _ Number) head.action d refl (no-file d))
+        (reads-ok_or _ Holder) (reads-ok_or _ Number) head.action d refl (no-file d) (λ _. reads-rows d))
         (told-only malformed_number Members (names_of (body_members head.action)) d)))
 
     reads-object : (body : Option (List ℕ))
@@ -98,7 +74,7 @@ module _ (head : Head) where
     reads-object None =
         reads-says (λ terms says. (null, refl, says))
         (reads-request (http_heading head null) (path_subject head) (path_faults head)
-        (reads-ok_or _ Holder) (reads-ok_or _ Number) head.action null refl (no-file null))
+        (reads-ok_or _ Holder) (reads-ok_or _ Number) head.action null refl (no-file null) (λ _. reads-rows null))
     reads-object (Some bytes) = reads-tree (tree_of bytes)
 
   -- a body that is a file

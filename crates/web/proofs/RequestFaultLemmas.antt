@@ -36,9 +36,8 @@ value-both : {A B : Type 0} (P : A → Type 0) (Q : B → Type 0)
     (a : Result A Fault) (b : Result B Fault) →
     IfOk a P → IfOk b Q → IfOk (both malformed_number a b) (λ p. P p.0 × Q p.1)
 value-both P Q (Ok a) (Ok b) one other = (one, other)
-value-both P Q (Ok a) (Err n) one other = tt
 value-both P Q (Err m) (Ok b) one other = tt
-value-both P Q (Err m) (Err n) one other = tt
+value-both P Q a b one other = tt
 
 pub reads-both : {A B : Type 0} {a : Result A Fault} {b : Result B Fault} {xs ys : List Fault}
     {P : A → Type 0} {Q : B → Type 0} →
@@ -75,9 +74,8 @@ reads-mapped f {r = r} {P = P} {Q = Q} step read = record {
 value-unless : {A B : Type 0} (P : A → Type 0) (a : Result A Fault) (b : Result B Fault) →
     IfOk a P → IfOk (unless malformed_number a b) P
 value-unless P (Ok a) (Ok b) value = value
-value-unless P (Ok a) (Err n) value = tt
 value-unless P (Err m) (Ok b) value = tt
-value-unless P (Err m) (Err n) value = tt
+value-unless P a b value = tt
 
 pub reads-unless : {A B : Type 0} {a : Result A Fault} {b : Result B Fault} {xs ys : List Fault}
     {P : A → Type 0} →

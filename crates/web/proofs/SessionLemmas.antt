@@ -4,7 +4,7 @@ use Rattle.sqlite.specs.Store.{Ghosts}
 use Rattle.policy.specs.History.{History}
 use Rattle.policy.specs.Values.{HistoryFits}
 use Rattle.policy.specs.Verdict.{IsLegal}
-use Rattle.policy.specs.declared.charter.Charter.{Charter}
+use Rattle.charters.specs.declared.charter.Charter.{Charter}
 use Rattle.desk.specs.Answer.{IsAnswered}
 use Rattle.desk.specs.Desk.{charter_of, HoldsHistory, IsOnCleanDisk, StandsFor}
 use Rattle.web.specs.ReplyText.{line_text}

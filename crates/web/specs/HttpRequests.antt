@@ -1,9 +1,10 @@
 -- Which request the bytes of an HTTP message are: a head as http_messages defines it, with the body that it tells.
-use Rattle.std.specs.Prelude.{◌≡◌, ◌<◌, ◌⊎◌, ℕ, List, [], ◌++◌, length, map, Option, Some, None, option_map, Result, Ok, Err}
+use Rattle.std.specs.Prelude.{◌≡◌, ◌<◌, ◌⊎◌, ℕ, List, [], ◌++◌, length, map, codes, Option, Some, None, option_map, Result, Ok, Err}
 use Rattle.addr.specs.Name.{name_in}
 use Rattle.httparse.specs.Grammar.{RequestHead}
 use Rattle.httparse.specs.Spans.{name_and_value}
 use Rattle.serde_json.specs.Data.{Data}
+use Rattle.serde_json.specs.Find.{get}
 use Rattle.http_messages.specs.HeadEnd.{IsWholeHead, LacksEnd}
 use Rattle.http_messages.specs.Requests.{Asked as Head, IsHeadOf, request_of}
 use Rattle.http_messages.specs.declared.head.TheConstants.{HEAD_LIMIT}
@@ -23,6 +24,7 @@ http_heading head tree = record {
   holder = name_in head.holder;
   number = path_number head.number;
   file = Some tree;
+  rows = get (codes "rows") tree;
 }
 
 -- head and body are this request on the day, and have no fault

@@ -11,7 +11,7 @@ use Rattle.http_messages.specs.declared.response.ContentType.TheVariants.{Csv, J
 use Rattle.http_messages.specs.declared.status.Status.{Status}
 use Rattle.http_messages.specs.declared.status.Status.TheVariants.{BadRequest, Done as DoneStatus, Forbidden, ServiceUnavailable}
 use Rattle.desk.specs.declared.reply.Reply.{Reply}
-use Rattle.desk.specs.declared.reply.Reply.TheVariants.{Done, Shown, Content, Listed, Payloads, Answers, Denied, Unavailable}
+use Rattle.desk.specs.declared.reply.Reply.TheVariants.{Done, Imported, Shown, Content, Listed, Payloads, Answers, Report, Denied, Unavailable}
 use Rattle.web.specs.ReplyText.{line_text, malformed_text}
 use Rattle.web.specs.declared.malformed.Malformed.{Malformed}
 
@@ -43,10 +43,12 @@ malformed_response fault = json_response BadRequest (malformed_text fault)
 -- a reply
 abbrev pub reply_response : Reply → List ℕ
 reply_response (Done number) = json_response DoneStatus (line_text (Done number))
+reply_response (Imported made present) = json_response DoneStatus (line_text (Imported made present))
 reply_response (Shown auth) = json_response DoneStatus (line_text (Shown auth))
 reply_response (Content text) = json_response DoneStatus (line_text (Content text))
 reply_response (Listed auths) = json_response DoneStatus (line_text (Listed auths))
 reply_response (Payloads vrps) = response_text DoneStatus Csv (csv_text vrps.items)
 reply_response (Answers states) = json_response DoneStatus (line_text (Answers states))
+reply_response (Report states) = json_response DoneStatus (line_text (Report states))
 reply_response (Denied rule row) = json_response Forbidden (line_text (Denied rule row))
 reply_response Unavailable = json_response ServiceUnavailable (line_text Unavailable)

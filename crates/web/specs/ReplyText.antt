@@ -13,7 +13,7 @@ use Rattle.policy.specs.declared.authorization.Auth.{Auth}
 use Rattle.policy.specs.declared.rule.Rule.{Rule}
 use Rattle.policy.specs.Rule.{rule_name}
 use Rattle.desk.specs.declared.reply.Reply.{Reply}
-use Rattle.desk.specs.declared.reply.Reply.TheVariants.{Done, Shown, Content, Listed, Payloads, Answers, Denied, Unavailable}
+use Rattle.desk.specs.declared.reply.Reply.TheVariants.{Done, Imported, Shown, Content, Listed, Payloads, Answers, Report, Denied, Unavailable}
 use Rattle.payload.specs.declared.validity.Validity.{Validity}
 use Rattle.payload.specs.ValidityState.{state_of}
 use Rattle.web.specs.declared.malformed.Malformed.{Malformed}
@@ -42,6 +42,10 @@ vrp_text vrp = codes "{" ++ terms_text vrp.asn vrp.prefix vrp.max ++ codes "}"
 abbrev pub quoted_state : Validity → List ℕ
 quoted_state validity = codes "\"" ++ state_text (state_of validity) ++ codes "\""
 
+-- the states of a route now, and after changes
+abbrev pub states_text : Validity × Validity → List ℕ
+states_text states = codes "[" ++ quoted_state states.0 ++ codes "," ++ quoted_state states.1 ++ codes "]"
+
 -- the texts with a comma between each two
 abbrev pub comma_joined : List (List ℕ) → List ℕ
 comma_joined texts = join_with_byte 44 texts
@@ -51,6 +55,10 @@ comma_joined texts = join_with_byte 44 texts
 abbrev pub done_text : Option ℕ → List ℕ
 done_text None = codes "{\"done\":null}\n"
 done_text (Some number) = codes "{\"done\":" ++ decimal number ++ codes "}\n"
+
+abbrev pub imported_text : ℕ → ℕ → List ℕ
+imported_text made present =
+    codes "{\"made\":" ++ decimal made ++ codes ",\"present\":" ++ decimal present ++ codes "}\n"
 
 abbrev pub denied_text : Rule → Option ℕ → List ℕ
 denied_text rule None = codes "{\"denied\":\"" ++ rule_name rule ++ codes "\"}\n"
@@ -70,24 +78,23 @@ list_text opening texts = opening ++ comma_joined texts ++ codes "]}\n"
 -- a reply
 abbrev pub line_text : Reply → List ℕ
 line_text (Done number) = done_text number
+line_text (Imported made present) = imported_text made present
 line_text (Shown auth) = codes "{\"shown\":" ++ auth_text auth ++ codes "}\n"
 line_text (Content text) = content_text (string_bytes text)
 line_text (Listed auths) = list_text (codes "{\"listed\":[") (map auth_text auths.items)
 line_text (Payloads vrps) = list_text (codes "{\"payloads\":[") (map vrp_text vrps.items)
 line_text (Answers states) = list_text (codes "{\"answers\":[") (map quoted_state states.items)
+line_text (Report states) = list_text (codes "{\"report\":[") (map states_text states.items)
 line_text (Denied rule row) = denied_text rule row
 line_text Unavailable = unavailable_text
 
 -- the replies whose texts have a fixed bound
 abbrev pub short_text : Reply → Option (List ℕ)
 short_text (Done number) = Some (line_text (Done number))
-short_text (Shown auth) = None
-short_text (Content text) = None
-short_text (Listed auths) = None
-short_text (Payloads vrps) = None
-short_text (Answers states) = None
+short_text (Imported made present) = Some (line_text (Imported made present))
 short_text (Denied rule row) = Some (line_text (Denied rule row))
 short_text Unavailable = Some (line_text Unavailable)
+short_text other = None
 
 -- ---- malformed requests
 

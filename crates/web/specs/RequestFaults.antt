@@ -16,10 +16,10 @@ use Rattle.web.specs.RequestValues.{as_origin, as_max, as_number, as_role, as_sc
 use Rattle.web.specs.declared.lines.TheConstants.{LINE_LENGTH_LIMIT}
 use Rattle.web.specs.declared.malformed.Malformed.{Malformed}
 use Rattle.http_messages.specs.declared.action.Action.{Action}
-use Rattle.http_messages.specs.declared.action.Action.TheVariants.{Register, Delegate, Transfer, Reclaim, Grant, Revoke, Create, Amend, Withdraw, Slurm, Show, Content, List as ListAction, Payloads, Validity}
+use Rattle.http_messages.specs.declared.action.Action.TheVariants.{Register, Delegate, Transfer, Reclaim, Grant, Revoke, Create, Amend, Withdraw, Slurm, Show, Content, List as ListAction, Import, WhatIf, Payloads, Validity}
 use Rattle.web.specs.declared.request.fault.Fault.{Fault}
 use Rattle.web.specs.declared.request.fault.Fault.TheVariants.{Json, Members, Holder, Caller, Prefix, Asn, Max, Day, Role as RoleFault, Number, File, Count, TooLong}
-use Rattle.web.specs.declared.request.routes.TheConstants.{MOST_ROUTES}
+use Rattle.web.specs.declared.request.lists.TheConstants.{MOST_ITEMS, MOST_CHANGES}
 
 -- where several faults apply, the one of the lowest number is told
 abbrev pub malformed_number : Fault → ℕ
@@ -111,23 +111,17 @@ object_faults members d =
     member_faults members d
     ++ name_faults Members (names_of members) d
 
-abbrev pub is_count : ℕ → ℕ → Bool
-is_count most n = nat_le 1 n && nat_le n most
+abbrev pub is_count : ℕ → ℕ → ℕ → Bool
+is_count least most n = nat_le least n && nat_le n most
 
--- of what is to be an array of such objects, of which there are one to `most`
-abbrev pub list_faults : List (List ℕ × Kind) → ℕ → Option Items → List Fault
-list_faults members most None = Members ∷ []
-list_faults members most (Some items) =
-    flat_map (object_faults members) (list_of items)
-    ++ fault_unless (is_count most (length (list_of items))) Count
+-- of what is to be an array of `least` to `most` items, each of which may have faults of its own
+abbrev pub list_faults : (Data → List Fault) → ℕ → ℕ → Option Items → List Fault
+list_faults item_faults least most None = Members ∷ []
+list_faults item_faults least most (Some items) =
+    flat_map item_faults (list_of items)
+    ++ fault_unless (is_count least most (length (list_of items))) Count
 
-abbrev pub route_members : List (List ℕ × Kind)
-route_members = (codes "prefix", prefix) ∷ (codes "origin", origin) ∷ []
-
-abbrev pub routes : Kind
-routes d value = list_faults route_members MOST_ROUTES (as_array value)
-
--- ---- requests
+-- ---- what is asked
 
 -- what a member `do` says
 abbrev pub action_of : List ℕ → Option Action
@@ -147,10 +141,47 @@ action_of text =
     else (if bytes_eq text (codes "list") then Some ListAction
     else (if bytes_eq text (codes "payloads") then Some Payloads
     else (if bytes_eq text (codes "validity") then Some Validity
-    else None))))))))))))))
+    else (if bytes_eq text (codes "import") then Some Import
+    else (if bytes_eq text (codes "whatif") then Some WhatIf
+    else None))))))))))))))))
 
 abbrev pub action_in : Data → Option Action
 action_in d = option_and_then action_of (option_and_then as_str (get (codes "do") d))
+
+-- ---- rows, changes and routes
+
+-- what an authorization is to say
+abbrev pub terms_members : List (List ℕ × Kind)
+terms_members =
+    (codes "asn", asn) ∷ (codes "prefix", prefix) ∷ (codes "max", max_length) ∷ (codes "from", day)
+    ∷ (codes "until", day) ∷ []
+
+abbrev pub rows : Kind
+rows d value = list_faults (object_faults terms_members) 1 MOST_ITEMS (as_array value)
+
+abbrev pub creation_members : List (List ℕ × Kind)
+creation_members = (codes "do", any_value) ∷ terms_members
+
+abbrev pub withdrawal_members : List (List ℕ × Kind)
+withdrawal_members = (codes "do", any_value) ∷ (codes "number", number) ∷ []
+
+-- of a change by what it does, if it is known
+abbrev pub change_faults : Option Action → Data → List Fault
+change_faults (Some Create) d = object_faults creation_members d
+change_faults (Some Withdraw) d = object_faults withdrawal_members d
+change_faults other d = Members ∷ []
+
+abbrev pub changes : Kind
+changes d value =
+    list_faults (λ change. change_faults (action_in change) change) 0 MOST_CHANGES (as_array value)
+
+abbrev pub route_members : List (List ℕ × Kind)
+route_members = (codes "prefix", prefix) ∷ (codes "origin", origin) ∷ []
+
+abbrev pub routes : Kind
+routes d value = list_faults (object_faults route_members) 1 MOST_ITEMS (as_array value)
+
+-- ---- requests
 
 -- what a request names, where it names something: a line by a member, an HTTP request in its path
 pub data Named : Type 0 where
@@ -158,43 +189,32 @@ pub data Named : Type 0 where
   NumberGiven : Named
 
 abbrev pub named_by : Action → List Named
-named_by Register = HolderName ∷ []
-named_by Delegate = HolderName ∷ []
 named_by Transfer = []
-named_by Reclaim = HolderName ∷ []
-named_by Grant = HolderName ∷ []
-named_by Revoke = HolderName ∷ NumberGiven ∷ []
-named_by Create = HolderName ∷ []
-named_by Amend = HolderName ∷ NumberGiven ∷ []
-named_by Withdraw = HolderName ∷ NumberGiven ∷ []
 named_by Slurm = []
-named_by Show = HolderName ∷ NumberGiven ∷ []
-named_by Content = HolderName ∷ NumberGiven ∷ []
-named_by ListAction = HolderName ∷ []
 named_by Payloads = []
 named_by Validity = []
+named_by Revoke = HolderName ∷ NumberGiven ∷ []
+named_by Amend = HolderName ∷ NumberGiven ∷ []
+named_by Withdraw = HolderName ∷ NumberGiven ∷ []
+named_by Show = HolderName ∷ NumberGiven ∷ []
+named_by Content = HolderName ∷ NumberGiven ∷ []
+named_by other = HolderName ∷ []
 
 -- and the members of what it says further, of which the body of an HTTP request is made
 abbrev pub body_members : Action → List (List ℕ × Kind)
-body_members Register = []
 body_members Delegate = (codes "prefix", prefix) ∷ []
 body_members Transfer =
     (codes "prefix", prefix) ∷ (codes "giver", holder_name) ∷ (codes "taker", holder_name) ∷ []
 body_members Reclaim = (codes "prefix", prefix) ∷ []
 body_members Grant =
     (codes "name", caller_name) ∷ (codes "role", role) ∷ (codes "scope", scope) ∷ (codes "until", day) ∷ []
-body_members Revoke = []
-body_members Create =
-    (codes "asn", asn) ∷ (codes "prefix", prefix) ∷ (codes "max", max_length) ∷ (codes "from", day)
-    ∷ (codes "until", day) ∷ []
+body_members Create = terms_members
 body_members Amend = (codes "max", max_length) ∷ (codes "until", day) ∷ []
-body_members Withdraw = []
+body_members Import = (codes "rows", rows) ∷ []
+body_members WhatIf = (codes "changes", changes) ∷ (codes "routes", routes) ∷ []
 body_members Slurm = (codes "file", file) ∷ []
-body_members Show = []
-body_members Content = []
-body_members ListAction = []
-body_members Payloads = []
 body_members Validity = (codes "routes", routes) ∷ []
+body_members other = []
 
 abbrev pub named_member : Named → List ℕ × Kind
 named_member HolderName = (codes "holder", holder_name)

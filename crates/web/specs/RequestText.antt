@@ -1,12 +1,15 @@
 -- Which request a line is: the values that its members read as.
-use Rattle.std.specs.Prelude.{◌≡◌, ℕ, List, [], codes, Option, Some, option_and_then}
+use Rattle.std.specs.Prelude.{◌≡◌, ◌⊎◌, ℕ, List, [], codes, Option, Some, option_and_then}
 use Rattle.std.specs.List.{AllZip}
 use Rattle.addr.specs.declared.prefix.Prefix.{Prefix}
 use Rattle.addr.specs.declared.route.Route.{Route}
+use Rattle.policy.specs.declared.authorization.AuthTerms.{AuthTerms}
 use Rattle.policy.specs.declared.command.Command.{Command}
-use Rattle.policy.specs.declared.command.Command.TheVariants.{Register, Delegate, Transfer, Reclaim, Grant, Revoke, Create, Amend, Withdraw, Slurm}
+use Rattle.policy.specs.declared.command.Command.TheVariants.{Register, Delegate, Transfer, Reclaim, Grant, Revoke, Create, Amend, Withdraw, Import, Slurm}
+use Rattle.policy.specs.declared.command.Proposed.{Proposed}
+use Rattle.policy.specs.declared.command.Proposed.TheVariants.{Create as CreateChange, Withdraw as WithdrawChange}
 use Rattle.policy.specs.declared.command.Query.{Query}
-use Rattle.policy.specs.declared.command.Query.TheVariants.{Show, Content, List as ListQuery, Payloads, Validity}
+use Rattle.policy.specs.declared.command.Query.TheVariants.{Show, Content, List as ListQuery, Payloads, Validity, WhatIf}
 use Rattle.serde_json.specs.Data.{Data, Items}
 use Rattle.serde_json.specs.Find.{get, as_array}
 use Rattle.json_values.specs.Tree.{tree_of, list_of}
@@ -18,7 +21,7 @@ use Rattle.web.specs.RequestFaults.{action_in, request_faults, role_at}
 use Rattle.json_values.specs.Values.{as_name, as_prefix, as_day, as_asn}
 use Rattle.web.specs.RequestValues.{as_origin, as_max, as_number, as_role, as_scope}
 use Rattle.http_messages.specs.declared.action.Action.{Action}
-use Rattle.http_messages.specs.declared.action.Action.TheVariants.{Register as AskRegister, Delegate as AskDelegate, Transfer as AskTransfer, Reclaim as AskReclaim, Grant as AskGrant, Revoke as AskRevoke, Create as AskCreate, Amend as AskAmend, Withdraw as AskWithdraw, Slurm as AskSlurm, Show as AskShow, Content as AskContent, List as AskList, Payloads as AskPayloads, Validity as AskValidity}
+use Rattle.http_messages.specs.declared.action.Action.TheVariants.{Register as AskRegister, Delegate as AskDelegate, Transfer as AskTransfer, Reclaim as AskReclaim, Grant as AskGrant, Revoke as AskRevoke, Create as AskCreate, Amend as AskAmend, Withdraw as AskWithdraw, Slurm as AskSlurm, Show as AskShow, Content as AskContent, List as AskList, Export as AskExport, Import as AskImport, WhatIf as AskWhatIf, Payloads as AskPayloads, Validity as AskValidity}
 
 -- the member of this name is there, and reads as this value
 abbrev pub HasMember : {A : Type 0} → (Data → Option A) → List ℕ → Data → A → Type 0
@@ -39,18 +42,34 @@ HasDay = HasMember as_day
 abbrev pub SaysRoute : Data → Route → Type 0
 SaysRoute d route = HasPrefix d route.prefix × HasMember as_origin (codes "origin") d route.origin
 
+-- what an authorization is to say
+abbrev pub HasTerms : Data → AuthTerms → Type 0
+HasTerms d terms =
+    HasMember as_asn (codes "asn") d terms.asn × HasPrefix d terms.prefix × HasMax d terms.max
+    × HasDay (codes "from") d terms.from × HasDay (codes "until") d terms.until
+
+abbrev pub SaysChange : Data → Proposed → Type 0
+SaysChange d (CreateChange terms) = (action_in d ≡ Some AskCreate) × HasTerms d terms
+SaysChange d (WithdrawChange number) =
+    (action_in d ≡ Some AskWithdraw) × HasMember as_number (codes "number") d number
+
+-- a member is an array, of which each item says one of these values
+abbrev pub HasItems : {A : Type 0} → (Data → A → Type 0) → Option Data → List A → Type 0
+HasItems Says member values = (items : Items)
+    × (option_and_then as_array member ≡ Some items)
+    × AllZip Says (list_of items) values
+
 abbrev pub HasRoutes : Data → List Route → Type 0
-HasRoutes d routes = (items : Items)
-    × (option_and_then as_array (get (codes "routes") d) ≡ Some items)
-    × AllZip SaysRoute (list_of items) routes
+HasRoutes d = HasItems SaysRoute (get (codes "routes") d)
 
 -- what a request says outside of the members that lines and bodies have in common: what it asks, the holder and
--- the number that it names, and the SLURM file that it brings
+-- the number that it names, and the SLURM file or the rows that it brings
 pub record Heading : Type 0 where
   pub action : Option Action
   pub holder : Option (List ℕ)
   pub number : Option ℕ
   pub file : Option Data
+  pub rows : Option Data
 
 abbrev pub Does : Action → Heading → Type 0
 Does action h = h.action ≡ Some action
@@ -78,22 +97,26 @@ SaysCommand h d (Revoke holder number) =
     Does AskRevoke h × NamesHolder h holder × NamesNumber h number
 SaysCommand h d (Create holder asn prefix max from until) =
     Does AskCreate h × NamesHolder h holder
-    × HasMember as_asn (codes "asn") d asn × HasPrefix d prefix × HasMax d max
-    × HasDay (codes "from") d from × HasDay (codes "until") d until
+    × HasTerms d (record { asn = asn; prefix = prefix; max = max; from = from; until = until })
 SaysCommand h d (Amend holder number max until) =
     Does AskAmend h × NamesHolder h holder × NamesNumber h number
     × HasMax d max × HasDay (codes "until") d until
 SaysCommand h d (Withdraw holder number) =
     Does AskWithdraw h × NamesHolder h holder × NamesNumber h number
+SaysCommand h d (Import holder rows) =
+    Does AskImport h × NamesHolder h holder × HasItems HasTerms h.rows rows.items
 SaysCommand h d (Slurm file) = Does AskSlurm h × SaysExceptions h.file file
 
 abbrev pub SaysQuery : Heading → Data → Query → Type 0
 SaysQuery h d (Show holder number) = Does AskShow h × NamesHolder h holder × NamesNumber h number
 SaysQuery h d (Content holder number) =
     Does AskContent h × NamesHolder h holder × NamesNumber h number
-SaysQuery h d (ListQuery holder) = Does AskList h × NamesHolder h holder
+SaysQuery h d (ListQuery holder) = (Does AskList h ⊎ Does AskExport h) × NamesHolder h holder
 SaysQuery h d Payloads = Does AskPayloads h
 SaysQuery h d (Validity routes) = Does AskValidity h × HasRoutes d routes.items
+SaysQuery h d (WhatIf holder changes routes) =
+    Does AskWhatIf h × NamesHolder h holder
+    × HasItems SaysChange (get (codes "changes") d) changes.items × HasRoutes d routes.items
 
 -- a heading and an object say this request
 abbrev pub SaysRequest : Heading → Data → Request → Type 0
@@ -107,6 +130,7 @@ line_heading d = record {
   holder = option_and_then as_name (get (codes "holder") d);
   number = option_and_then as_number (get (codes "number") d);
   file = get (codes "file") d;
+  rows = get (codes "rows") d;
 }
 
 -- the line is this request, and has no fault

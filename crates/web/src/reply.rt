@@ -1,7 +1,7 @@
 //! The texts of replies.
 ghost use Rattle.std.specs.Prelude.{◌≡◌, ◌++◌, true, codes, option_map, OnOk, OnErr};
 ghost use Rattle.streams.specs.Streams.{AppendsBeginning};
-ghost use Rattle.web.specs.ReplyText.{auth_text, content_text, denied_text, done_text, line_text, short_text, unavailable_text};
+ghost use Rattle.web.specs.ReplyText.{auth_text, content_text, denied_text, done_text, imported_text, line_text, short_text, unavailable_text};
 
 pub(crate) mod items;
 mod list;
@@ -23,11 +23,16 @@ pub fn write_reply<D: Drain>(reply: &Reply, drain: &mut D) -> Result<(), Failed>
 {
     match reply {
         Reply::Done(number) => write_all(drain, done_text(*number).as_str().as_bytes()),
+        Reply::Imported { made, present } => write_all(
+            drain,
+            imported_text(*made, *present).as_str().as_bytes(),
+        ),
         Reply::Shown(auth) => write_all(drain, shown_text(auth).as_str().as_bytes()),
         Reply::Content(text) => write_content(text.as_str(), drain),
         Reply::Listed(auths) => write_list(b"{\"listed\":[", auths.as_slice(), drain),
         Reply::Payloads(vrps) => write_list(b"{\"payloads\":[", vrps.as_slice(), drain),
         Reply::Answers(states) => write_list(b"{\"answers\":[", states.as_slice(), drain),
+        Reply::Report(states) => write_list(b"{\"report\":[", states.as_slice(), drain),
         Reply::Denied(rule, row) => write_all(drain, denied_text(*rule, *row).as_str().as_bytes()),
         Reply::Unavailable => write_all(drain, unavailable_text().as_str().as_bytes()),
     }
@@ -40,13 +45,10 @@ pub fn short_text(reply: &Reply) -> Option<ArrayString<128>>
 {
     match reply {
         Reply::Done(number) => Some(done_text(*number)),
+        Reply::Imported { made, present } => Some(imported_text(*made, *present)),
         Reply::Denied(rule, row) => Some(denied_text(*rule, *row)),
         Reply::Unavailable => Some(unavailable_text()),
-        Reply::Shown(_)
-        | Reply::Content(_)
-        | Reply::Listed(_)
-        | Reply::Payloads(_)
-        | Reply::Answers(_) => None,
+        _ => None,
     }
 }
 
@@ -62,6 +64,18 @@ pub(crate) fn done_text(number: Option<u32>) -> ArrayString<128>
             text.push_str("}\n");
         }
     }
+    text
+}
+
+pub(crate) fn imported_text(made: u64, present: u64) -> ArrayString<128>
+    ensures { result.bytes ≡ imported_text made present }
+{
+    let mut text = ArrayString::new();
+    text.push_str("{\"made\":");
+    text.push_str(digits(made).as_str());
+    text.push_str(",\"present\":");
+    text.push_str(digits(present).as_str());
+    text.push_str("}\n");
     text
 }
 

@@ -11,9 +11,9 @@ mod action;
 mod commands;
 mod exceptions;
 pub(crate) mod fault;
+mod lists;
 pub(crate) mod members;
 pub(crate) mod message;
-mod routes;
 
 use crate::lines::LINE_LENGTH_LIMIT;
 use crate::malformed::Malformed;
@@ -133,8 +133,10 @@ fn request_in(
         Action::Slurm => exceptions::slurm_in(alloc, value),
         Action::Show => Ok(commands::show_in(subject)),
         Action::Content => Ok(commands::content_in(subject)),
-        Action::List => Ok(commands::list_in(subject)),
+        Action::List | Action::Export => Ok(commands::list_in(subject)),
+        Action::Import => lists::import_in(alloc, subject, value),
+        Action::WhatIf => lists::what_if_in(alloc, subject, value),
         Action::Payloads => Ok(Ok(Request::Query(Query::Payloads))),
-        Action::Validity => routes::validity_in(alloc, value),
+        Action::Validity => lists::validity_in(alloc, value),
     }
 }

@@ -4,7 +4,7 @@ use Rattle.std.specs.List.{AllByRecursion}
 use Rattle.sqlite.specs.State.{State}
 use Rattle.sqlite_schema.specs.declared.schema.Schema.{Schema}
 use Rattle.sqlite_value.specs.Order.{Row}
-use Rattle.policy.specs.CharterSets.{CharterSets}
+use Rattle.charters.specs.CharterSets.{CharterSets}
 use Rattle.policy.specs.RowsOfAll.{blank_rows}
 use Rattle.tables.specs.Tables.{desk_tables, desk_indexes, desk_schema, unindexed_schema, SameRows}
 use Rattle.tables.specs.steps.Edits.{Edits}

@@ -1,10 +1,11 @@
-ghost use Rattle.std.specs.Prelude.{◌≡◌, false, option_copied, IfOk, IfErr, MatchResult};
+ghost use Rattle.std.specs.Prelude.{◌≡◌, true, false, option_copied, IfOk, IfErr, MatchResult};
 ghost use Rattle.policy.specs.Answer.{IsAccepted, IsViewOf, RowsOfNamed, TellsTaken};
 ghost use Rattle.policy.specs.Rows.{rows_if_any, RowsIfAny};
 ghost use Rattle.store.specs.StoreRows.{IsRead};
-ghost use Rattle.desk.specs.Answer.{is_done, AnswersCommand, IsAnswered};
+ghost use Rattle.desk.specs.Answer.{is_accepted, AnswersCommand, IsAnswered};
 ghost use Rattle.desk.specs.Desk.{charter_of, IsOnCleanDisk, KeepsRows};
 ghost use Rattle.desk.specs.HolderAnswers.{may_change, may_except, KeepsOthers};
+ghost use Rattle.desk.specs.steps.Accepting.{AnswersAccepted};
 ghost use Rattle.desk.specs.steps.Reading.{OfHistories};
 
 use super::Desk;
@@ -13,6 +14,23 @@ use addr::{Day, Name};
 use policy::{Change, Command, HolderRows, View};
 use sqlite::Alter;
 use store::StoreFault;
+
+/// The reply to a command that is accepted with this change.
+fn accepted(command: &Command, change: &Change) -> Reply
+    ensures answers { AnswersAccepted command.now change.now result }
+    ensures accepted { is_accepted result ≡ true }
+{
+    match command {
+        Command::Import { rows, .. } => {
+            let made = change.imported();
+            Reply::Imported {
+                made: made as u64,
+                present: rows.len().saturating_sub(made) as u64,
+            }
+        }
+        _ => Reply::Done(change.number()),
+    }
+}
 
 impl<S: Alter> Desk<S> {
     /// Judges the command, and makes its change where it is accepted. The commit comes last, so
@@ -23,19 +41,21 @@ impl<S: Alter> Desk<S> {
             (Request.Command command.now) result self.new) }
         ensures charter { charter_of self.new ≡ charter_of self.old }
         ensures clean { IsOnCleanDisk S.Store self.new → IsOnCleanDisk S.Store self.old }
-        ensures kept { is_done result ≡ false → KeepsRows S.Store self.old self.new }
+        ensures kept { is_accepted result ≡ false → KeepsRows S.Store self.old self.new }
         ensures others { OfHistories S.Store self.old self.new (λ _.
             KeepsOthers S.Store (may_change (Request.Command command.now))
             (may_except (Request.Command command.now)) self.old self.new) }
     {
         policy::laws::entry_fits(day, caller, command);
+        histories::laws::growth_is_legal();
+        histories::laws::growth_fits();
         let change = match self.decide(day, caller, command) {
             Ok(change) => change,
             Err(refused) => return refused,
         };
-        let number = change.number();
+        let reply = accepted(command, &change);
         match self.store.apply(&change) {
-            Ok(()) => Reply::Done(number),
+            Ok(()) => reply,
             Err(_) => Reply::Unavailable,
         }
     }
@@ -47,7 +67,7 @@ impl<S: Alter> Desk<S> {
             (IsAccepted (charter_of self.old) history day caller.now command.now)
             (λ reply. AnswersCommand (charter_of self.old) history day caller.now command.now
             reply history)) }
-        ensures never_done { IfErr result (λ reply. is_done reply ≡ false) }
+        ensures never_done { IfErr result (λ reply. is_accepted reply ≡ false) }
     {
         if let Command::Transfer { giver, taker, .. } = command {
             let (giver, taker) = self.load_two(giver, taker)?;

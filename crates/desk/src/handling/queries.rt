@@ -3,17 +3,20 @@ ghost use Rattle.addr.specs.declared.vrp.Vrp.{Vrp};
 ghost use Rattle.payload.specs.VrpSet as set;
 ghost use Rattle.policy.specs.DailyVrps.{IsVrpOn};
 ghost use Rattle.store.specs.StoreRows.{IsRead};
-ghost use Rattle.desk.specs.Answer.{is_done, AnswersQuery, AnswersShow, AnswersContent, AnswersList, AnswersPayloads, AnswersValidity};
+ghost use Rattle.desk.specs.Answer.{is_accepted, AnswersQuery, AnswersShow, AnswersContent, AnswersList, AnswersPayloads, AnswersValidity};
+ghost use Rattle.desk.specs.Desk.{charter_of};
 ghost use Rattle.desk.specs.steps.Reading.{OfHistories};
+ghost use Rattle.desk.specs.steps.Supposing.{AreInForceOn};
 
 use super::Desk;
 use crate::Reply;
 use crate::content::content_text;
-use crate::exceptions::except;
+use crate::exceptions::excepted;
 use crate::gathering::{gather, judge};
-use addr::{Day, Name, Route};
+use addr::{Day, Name, Route, Vrp};
 use payload::Trie;
 use policy::{Query, Refusal};
+use slurm::Slurm;
 use sqlite::Alter;
 use store::StoreFault;
 
@@ -22,8 +25,8 @@ impl<S: Alter> Desk<S> {
     pub(super) fn answer(&mut self, day: Day, caller: &Name, query: &Query) -> Reply
         ensures read { IsRead S.Store self.old.store self.new.store }
         ensures answered { OfHistories S.Store self.old self.new (λ history.
-            AnswersQuery history day caller.now query.now result) }
-        ensures never_done { is_done result ≡ false }
+            AnswersQuery (charter_of self.old) history day caller.now query.now result) }
+        ensures never_done { is_accepted result ≡ false }
     {
         match query {
             Query::Show { holder, number } => self.show(holder, day, caller, *number),
@@ -31,6 +34,11 @@ impl<S: Alter> Desk<S> {
             Query::List { holder } => self.list(holder, day, caller),
             Query::Payloads => self.payloads(day),
             Query::Validity { routes } => self.validity(day, routes),
+            Query::WhatIf {
+                holder,
+                changes,
+                routes,
+            } => self.what_if(holder, day, caller, changes, routes),
         }
     }
 
@@ -38,7 +46,7 @@ impl<S: Alter> Desk<S> {
         ensures read { IsRead S.Store self.old.store self.new.store }
         ensures answered { OfHistories S.Store self.old self.new (λ history.
             AnswersShow history holder.now day caller.now number result) }
-        ensures never_done { is_done result ≡ false }
+        ensures never_done { is_accepted result ≡ false }
     {
         let Ok(rows) = self.load(holder) else {
             return Reply::Unavailable;
@@ -53,7 +61,7 @@ impl<S: Alter> Desk<S> {
         ensures read { IsRead S.Store self.old.store self.new.store }
         ensures answered { OfHistories S.Store self.old self.new (λ history.
             AnswersContent history holder.now day caller.now number result) }
-        ensures never_done { is_done result ≡ false }
+        ensures never_done { is_accepted result ≡ false }
     {
         let auth = match self.show(holder, day, caller, number) {
             Reply::Shown(auth) => auth,
@@ -70,7 +78,7 @@ impl<S: Alter> Desk<S> {
         ensures read { IsRead S.Store self.old.store self.new.store }
         ensures answered { OfHistories S.Store self.old self.new (λ history.
             AnswersList history holder.now day caller.now result) }
-        ensures never_done { is_done result ≡ false }
+        ensures never_done { is_accepted result ≡ false }
     {
         let Ok(rows) = self.load(holder) else {
             return Reply::Unavailable;
@@ -85,7 +93,7 @@ impl<S: Alter> Desk<S> {
         ensures read { IsRead S.Store self.old.store self.new.store }
         ensures answered { OfHistories S.Store self.old self.new (λ history.
             AnswersPayloads history day result) }
-        ensures never_done { is_done result ≡ false }
+        ensures never_done { is_accepted result ≡ false }
     {
         let Ok(index) = self.index_on(day) else {
             return Reply::Unavailable;
@@ -100,7 +108,7 @@ impl<S: Alter> Desk<S> {
         ensures read { IsRead S.Store self.old.store self.new.store }
         ensures answered { OfHistories S.Store self.old self.new (λ history.
             AnswersValidity history day routes.now result) }
-        ensures never_done { is_done result ≡ false }
+        ensures never_done { is_accepted result ≡ false }
     {
         let Ok(index) = self.index_on(day) else {
             return Reply::Unavailable;
@@ -117,9 +125,19 @@ impl<S: Alter> Desk<S> {
         ensures given { IfOk result (λ index. OfHistories S.Store self.old self.new (λ history.
             (v : Vrp) → Contains (set.items index) v ↔ IsVrpOn history day v)) }
     {
-        let mut vrps = self.store.all_auths_on(self.alloc, day)?;
+        let (vrps, files) = self.in_force_on(day)?;
+        Ok(excepted(self.alloc, &files, vrps)?)
+    }
+
+    /// The VRPs that the authorizations of all holders give on the day, and the SLURM files in
+    /// force.
+    pub(super) fn in_force_on(&mut self, day: Day) -> Result<(Vec<Vrp>, Vec<Slurm>), StoreFault>
+        ensures read { IsRead S.Store self.old.store self.new.store }
+        ensures given { IfOk result (λ found. OfHistories S.Store self.old self.new (λ history.
+            AreInForceOn history day found.0.items found.1.items)) }
+    {
+        let vrps = self.store.all_auths_on(self.alloc, day)?;
         let files = self.store.slurm_files(self.alloc)?;
-        except(self.alloc, &files, &mut vrps)?;
-        Ok(Trie::of(self.alloc, &vrps)?)
+        Ok((vrps, files))
     }
 }

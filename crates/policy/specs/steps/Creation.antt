@@ -4,7 +4,7 @@ use Rattle.policy.specs.declared.authorization.Auth.{Auth}
 use Rattle.policy.specs.declared.authorization.AuthTerms.{AuthTerms}
 use Rattle.policy.specs.declared.change.Change.TheVariants.{Holders}
 use Rattle.policy.specs.declared.change.Edit.TheVariants.{Create as CreateEdit}
-use Rattle.policy.specs.declared.charter.Charter.{Charter}
+use Rattle.charters.specs.declared.charter.Charter.{Charter}
 use Rattle.policy.specs.History.{History}
 use Rattle.policy.specs.Import.{creation}
 use Rattle.policy.specs.Rows.{Carries}

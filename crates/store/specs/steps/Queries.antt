@@ -16,7 +16,7 @@ use Rattle.sqlite_sql.specs.declared.ops.BinaryOp.TheVariants.{Compare}
 use Rattle.sqlite_sql.specs.Ops.{binary, is_true}
 use Rattle.addr.specs.Spans.{span_meets}
 use Rattle.addr.specs.declared.prefix.Prefix.{Prefix}
-use Rattle.policy.specs.CharterSets.{CharterSets}
+use Rattle.charters.specs.CharterSets.{CharterSets}
 use Rattle.policy.specs.declared.authorization.Auth.{Auth}
 use Rattle.policy.specs.Rows.{Rows}
 use Rattle.policy.specs.RowsOfAll.{AllRows}

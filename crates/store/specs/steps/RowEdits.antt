@@ -18,8 +18,8 @@ without_holdings spans r = record r { holdings = without_runs spans r.holdings }
 abbrev pub with_grant : Granted → Rows → Rows
 with_grant g r = record r { grants = r.grants ++ g ∷ [] }
 
-abbrev pub with_auth : Auth → Rows → Rows
-with_auth x r = record r { auths = r.auths ++ x ∷ [] }
+abbrev pub with_auths : List Auth → Rows → Rows
+with_auths xs r = record r { auths = r.auths ++ xs }
 
 abbrev pub without_auths : List ℕ → Rows → Rows
 without_auths ns r = record r { auths = filter (λ x. not (list_any (λ n. x.number == n) ns)) r.auths }
@@ -30,6 +30,10 @@ with_granted n r = record r { granted = n }
 
 abbrev pub with_created : ℕ → Rows → Rows
 with_created n r = record r { created = n }
+
+-- these authorizations are made, and then so many were
+abbrev pub with_new_auths : List Auth → ℕ → Rows → Rows
+with_new_auths xs created r = with_created created (with_auths xs r)
 
 -- some runs are held no longer, others are held, and these authorizations end
 abbrev pub held : List Span → List Span → List ℕ → Rows → Rows

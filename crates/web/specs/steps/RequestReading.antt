@@ -6,8 +6,13 @@ use Rattle.std.specs.Option.{ok_or}
 use Rattle.std.specs.Result.{result_map_both}
 use Rattle.addr.specs.declared.prefix.Prefix.{Prefix}
 use Rattle.addr.specs.declared.route.Route.{Route}
-use Rattle.policy.specs.declared.command.Command.TheVariants.{Register, Delegate, Transfer, Reclaim, Grant, Revoke, Create, Amend, Withdraw, Slurm}
-use Rattle.policy.specs.declared.command.Query.TheVariants.{Show, Content, List as ListQuery, Payloads, Validity}
+use Rattle.policy.specs.declared.authorization.AuthTerms.{AuthTerms}
+use Rattle.policy.specs.declared.command.Command.TheVariants.{Register, Delegate, Transfer, Reclaim, Grant, Revoke, Create, Amend, Withdraw, Import, Slurm}
+use Rattle.policy.specs.declared.command.Proposed.{Proposed}
+use Rattle.policy.specs.declared.grant.Role.{Role as RoleGiven}
+use Rattle.policy.specs.declared.grant.Scope.{Scope}
+use Rattle.policy.specs.declared.command.Proposed.TheVariants.{Create as CreateChange, Withdraw as WithdrawChange}
+use Rattle.policy.specs.declared.command.Query.TheVariants.{Show, Content, List as ListQuery, Payloads, Validity, WhatIf}
 use Rattle.serde_json.specs.Data.{Data, Items}
 use Rattle.serde_json.specs.Find.{get, as_array}
 use Rattle.json_values.specs.Parts.{both, mapped, unless, each}
@@ -18,34 +23,34 @@ use Rattle.slurm.specs.steps.SlurmFile.{slurm_in}
 use Rattle.desk.specs.declared.asked.Asked.{Asked}
 use Rattle.desk.specs.declared.asked.Request.{Request}
 use Rattle.desk.specs.declared.asked.Request.TheVariants.{Command as CommandRequest, Query as QueryRequest}
-use Rattle.web.specs.RequestFaults.{malformed_number, role_at, route_members, names_of, is_count, action_in, members_of}
+use Rattle.web.specs.RequestFaults.{malformed_number, role_at, terms_members, creation_members, withdrawal_members, route_members, names_of, is_count, action_in, members_of}
 use Rattle.json_values.specs.Values.{as_name, as_prefix, as_day, as_asn}
 use Rattle.web.specs.RequestValues.{as_origin, as_max, as_number, as_role, as_scope}
 use Rattle.web.specs.declared.lines.TheConstants.{LINE_LENGTH_LIMIT}
 use Rattle.http_messages.specs.declared.action.Action.{Action}
-use Rattle.http_messages.specs.declared.action.Action.TheVariants.{Register as AskRegister, Delegate as AskDelegate, Transfer as AskTransfer, Reclaim as AskReclaim, Grant as AskGrant, Revoke as AskRevoke, Create as AskCreate, Amend as AskAmend, Withdraw as AskWithdraw, Slurm as AskSlurm, Show as AskShow, Content as AskContent, List as AskList, Payloads as AskPayloads, Validity as AskValidity}
-use Rattle.web.specs.declared.request.routes.TheConstants.{MOST_ROUTES}
+use Rattle.http_messages.specs.declared.action.Action.TheVariants.{Register as AskRegister, Delegate as AskDelegate, Transfer as AskTransfer, Reclaim as AskReclaim, Grant as AskGrant, Revoke as AskRevoke, Create as AskCreate, Amend as AskAmend, Withdraw as AskWithdraw, Slurm as AskSlurm, Show as AskShow, Content as AskContent, List as AskList, Export as AskExport, Import as AskImport, WhatIf as AskWhatIf, Payloads as AskPayloads, Validity as AskValidity}
+use Rattle.web.specs.declared.request.lists.TheConstants.{MOST_ITEMS, MOST_CHANGES}
 use Rattle.web.specs.declared.request.fault.Fault.{Fault}
 use Rattle.web.specs.declared.request.commands.Subject.{Subject}
 use Rattle.web.specs.declared.request.fault.Fault.TheVariants.{Json, Members, Holder, Caller, Prefix as PrefixFault, Asn, Max, Day, Role, Number, File, Count, TooLong}
 
--- ---- what is asked, with its routes as a list
+-- ---- what is asked, with its rows, changes and routes as lists
 
 pub data RequestTerms : Type 0 where
   request : Request → RequestTerms
+  import : List ℕ → List AuthTerms → RequestTerms
   validity : List Route → RequestTerms
+  what_if : List ℕ → List Proposed → List Route → RequestTerms
 
 -- the day, the caller and the request
 abbrev pub AskedTerms : Type 0
 AskedTerms = ℕ × (List ℕ × RequestTerms)
 
 abbrev pub request_terms : Request → RequestTerms
-request_terms (CommandRequest c) = request (CommandRequest c)
-request_terms (QueryRequest (Show holder n)) = request (QueryRequest (Show holder n))
-request_terms (QueryRequest (Content holder n)) = request (QueryRequest (Content holder n))
-request_terms (QueryRequest (ListQuery holder)) = request (QueryRequest (ListQuery holder))
-request_terms (QueryRequest Payloads) = request (QueryRequest Payloads)
+request_terms (CommandRequest (Import holder rows)) = import holder rows.items
 request_terms (QueryRequest (Validity routes)) = validity routes.items
+request_terms (QueryRequest (WhatIf holder changes routes)) = what_if holder changes.items routes.items
+request_terms other = request other
 
 abbrev pub asked_terms : Asked → AskedTerms
 asked_terms asked = (asked.day, (asked.caller, request_terms asked.request))
@@ -87,23 +92,57 @@ file_of (Some d) = as_file d
 abbrev pub file_in : Data → Result Exceptions Fault
 file_in d = required Members as_file (get (codes "file") d)
 
+-- ---- rows, changes and routes
+
+abbrev pub terms_in : Data → Result AuthTerms Fault
+terms_in d =
+    mapped (λ p. record { asn = p.0; prefix = p.1.0; max = p.1.1.0; from = p.1.1.1.0; until = p.1.1.1.1 })
+    (both malformed_number (member_in as_asn Asn (codes "asn") d)
+    (both malformed_number (prefix_in d)
+    (both malformed_number (max_in d)
+    (both malformed_number (day_in (codes "from") d) (day_in (codes "until") d)))))
+
+abbrev pub row_in : Data → Result AuthTerms Fault
+row_in d = unless malformed_number (terms_in d) (only Members (names_of terms_members) d)
+
+-- by what it does, if that is known
+abbrev pub change_by : Option Action → Data → Result Proposed Fault
+change_by (Some AskCreate) d =
+    mapped CreateChange (unless malformed_number (terms_in d) (only Members (names_of creation_members) d))
+change_by (Some AskWithdraw) d =
+    mapped WithdrawChange (unless malformed_number (number_in d) (only Members (names_of withdrawal_members) d))
+change_by other d = Err Members
+
+abbrev pub change_in : Data → Result Proposed Fault
+change_in d = change_by (action_in d) d
+
 abbrev pub route_in : Data → Result Route Fault
 route_in d =
     unless malformed_number (mapped (λ p. record { prefix = p.0; origin = p.1 })
     (both malformed_number (prefix_in d) (member_in as_origin Asn (codes "origin") d)))
     (only Members (names_of route_members) d)
 
-abbrev pub count_of : ℕ → Result (Unit {0}) Fault
-count_of n = if is_count MOST_ROUTES n then Ok tt else Err Count
+abbrev pub count_of : ℕ → ℕ → ℕ → Result (Unit {0}) Fault
+count_of least most n = if is_count least most n then Ok tt else Err Count
 
-abbrev pub routes_of : Option Items → Result (List Route) Fault
-routes_of None = Err Members
-routes_of (Some items) =
-    unless malformed_number (each malformed_number route_in (list_of items))
-    (count_of (length (list_of items)))
+abbrev pub items_of : {A : Type 0} → (Data → Result A Fault) → ℕ → ℕ → Option Items → Result (List A) Fault
+items_of reading least most None = Err Members
+items_of reading least most (Some items) =
+    unless malformed_number (each malformed_number reading (list_of items))
+    (count_of least most (length (list_of items)))
+
+-- what the items of a member are read as
+abbrev pub items_in : {A : Type 0} → (Data → Result A Fault) → ℕ → ℕ → List ℕ → Data → Result (List A) Fault
+items_in reading least most name d = items_of reading least most (option_and_then as_array (get name d))
+
+abbrev pub rows_in : Data → Result (List AuthTerms) Fault
+rows_in = items_in row_in 1 MOST_ITEMS (codes "rows")
+
+abbrev pub changes_in : Data → Result (List Proposed) Fault
+changes_in = items_in change_in 0 MOST_CHANGES (codes "changes")
 
 abbrev pub routes_in : Data → Result (List Route) Fault
-routes_in d = routes_of (option_and_then as_array (get (codes "routes") d))
+routes_in = items_in route_in 1 MOST_ITEMS (codes "routes")
 
 -- ---- requests
 
@@ -115,6 +154,14 @@ holder_and_prefix subject d = both malformed_number subject.holder (prefix_in d)
 
 abbrev pub holder_and_number : Subject → Result (List ℕ × ℕ) Fault
 holder_and_number subject = both malformed_number subject.holder subject.number
+
+-- what a grant gives, and to whom
+abbrev pub access_in : Data → Result (List ℕ × (RoleGiven × (Scope × ℕ))) Fault
+access_in d =
+    both malformed_number (caller_in (codes "name") d)
+    (both malformed_number (member_in as_role Role (codes "role") d)
+    (both malformed_number (member_in (as_scope (role_at d)) Role (codes "scope") d)
+    (day_in (codes "until") d)))
 
 abbrev pub request_in : Action → Subject → Data → Result RequestTerms Fault
 request_in AskRegister subject d =
@@ -129,21 +176,13 @@ request_in AskReclaim subject d =
     mapped (λ p. request (CommandRequest (Reclaim p.0 p.1))) (holder_and_prefix subject d)
 request_in AskGrant subject d =
     mapped (λ p. request (CommandRequest (Grant p.0 p.1.0 p.1.1.0 p.1.1.1.0 p.1.1.1.1)))
-    (both malformed_number subject.holder
-    (both malformed_number (caller_in (codes "name") d)
-    (both malformed_number (member_in as_role Role (codes "role") d)
-    (both malformed_number (member_in (as_scope (role_at d)) Role (codes "scope") d)
-    (day_in (codes "until") d)))))
+    (both malformed_number subject.holder (access_in d))
 request_in AskRevoke subject d =
     mapped (λ p. request (CommandRequest (Revoke p.0 p.1))) (holder_and_number subject)
 request_in AskCreate subject d =
     mapped (λ p. request
-    (CommandRequest (Create p.0 p.1.0 p.1.1.0 p.1.1.1.0 p.1.1.1.1.0 p.1.1.1.1.1)))
-    (both malformed_number subject.holder
-    (both malformed_number (member_in as_asn Asn (codes "asn") d)
-    (both malformed_number (prefix_in d)
-    (both malformed_number (max_in d)
-    (both malformed_number (day_in (codes "from") d) (day_in (codes "until") d))))))
+    (CommandRequest (Create p.0 p.1.asn p.1.prefix p.1.max p.1.from p.1.until)))
+    (both malformed_number subject.holder (terms_in d))
 request_in AskAmend subject d =
     mapped (λ p. request (CommandRequest (Amend p.0.0 p.0.1 p.1.0 p.1.1)))
     (both malformed_number (holder_and_number subject)
@@ -157,6 +196,13 @@ request_in AskContent subject d =
     mapped (λ p. request (QueryRequest (Content p.0 p.1))) (holder_and_number subject)
 request_in AskList subject d =
     mapped (λ p. request (QueryRequest (ListQuery p))) subject.holder
+request_in AskExport subject d =
+    mapped (λ p. request (QueryRequest (ListQuery p))) subject.holder
+request_in AskImport subject d =
+    mapped (λ p. import p.0 p.1) (both malformed_number subject.holder (rows_in d))
+request_in AskWhatIf subject d =
+    mapped (λ p. what_if p.0 p.1.0 p.1.1)
+    (both malformed_number subject.holder (both malformed_number (changes_in d) (routes_in d)))
 request_in AskPayloads subject d = Ok (request (QueryRequest Payloads))
 request_in AskValidity subject d = mapped validity (routes_in d)
 

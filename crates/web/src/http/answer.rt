@@ -6,7 +6,7 @@ ghost use Rattle.web.specs.steps.HttpAnswering.{IsReplyResponse, IsResponse, sho
 
 use super::body::{csv_body, json_body};
 use crate::malformed::Malformed;
-use crate::reply::{denied_text, done_text, unavailable_text};
+use crate::reply::{denied_text, done_text, imported_text, unavailable_text};
 use desk::Reply;
 use http_messages::{ContentType, Refusal, Status, fault_text, write_response};
 use std::alloc::{AllocError, Global};
@@ -71,6 +71,11 @@ fn write_reply_response<D: Drain>(alloc: Global, drain: &mut D, reply: &Reply) -
 {
     match reply {
         Reply::Done(number) => write_json(drain, Status::Done, done_text(*number).as_str()),
+        Reply::Imported { made, present } => write_json(
+            drain,
+            Status::Done,
+            imported_text(*made, *present).as_str(),
+        ),
         Reply::Denied(rule, row) => write_json(
             drain,
             Status::Forbidden,
@@ -82,11 +87,11 @@ fn write_reply_response<D: Drain>(alloc: Global, drain: &mut D, reply: &Reply) -
             ContentType::Csv,
             csv_body(alloc, vrps.as_slice()),
         ),
-        Reply::Shown(_) | Reply::Content(_) | Reply::Listed(_) | Reply::Answers(_) => write_shown(
-            drain,
-            ContentType::Json,
-            json_body(alloc, reply),
-        ),
+        Reply::Shown(_)
+        | Reply::Content(_)
+        | Reply::Listed(_)
+        | Reply::Answers(_)
+        | Reply::Report(_) => write_shown(drain, ContentType::Json, json_body(alloc, reply)),
     }
 }
 

@@ -2,7 +2,7 @@
 ghost use Rattle.std.specs.Prelude.{◌≡◌, ℕ, List};
 ghost use Rattle.addr.specs.Day.{day_text};
 ghost use Rattle.addr.specs.PrefixText.{spelling};
-ghost use Rattle.web.specs.ReplyText.{auth_text, quoted_state, terms_text, vrp_text};
+ghost use Rattle.web.specs.ReplyText.{auth_text, quoted_state, states_text, terms_text, vrp_text};
 
 use addr::{Asn, Day, Prefix, Vrp, digits};
 use arrayvec::ArrayString;
@@ -51,12 +51,34 @@ impl ItemText for Validity {
 
     fn item_text(&self) -> ArrayString<255> {
         let mut text = ArrayString::new();
-        text.push_str(match self {
-            Validity::Valid => "\"Valid\"",
-            Validity::Invalid => "\"Invalid\"",
-            Validity::NotFound => "\"NotFound\"",
-        });
+        text.push_str(state_text(self));
         text
+    }
+}
+
+/// Of a route: its state now, and after changes.
+impl ItemText for (Validity, Validity) {
+    ghost text = { states_text };
+
+    fn item_text(&self) -> ArrayString<255> {
+        let (now, after) = self;
+        let mut text = ArrayString::new();
+        text.push_str("[");
+        text.push_str(state_text(now));
+        text.push_str(",");
+        text.push_str(state_text(after));
+        text.push_str("]");
+        text
+    }
+}
+
+fn state_text(validity: &Validity) -> &'static str
+    ensures { result.now ≡ quoted_state validity.now }
+{
+    match validity {
+        Validity::Valid => "\"Valid\"",
+        Validity::Invalid => "\"Invalid\"",
+        Validity::NotFound => "\"NotFound\"",
     }
 }
 

@@ -21,38 +21,25 @@ pub(crate) fn action_in(value: &Value) -> Option<Action>
 fn action_of(text: &str) -> Option<Action>
     ensures { result ≡ action_of text.now }
 {
-    if text == "register" {
-        Some(Action::Register)
-    } else if text == "delegate" {
-        Some(Action::Delegate)
-    } else if text == "transfer" {
-        Some(Action::Transfer)
-    } else if text == "reclaim" {
-        Some(Action::Reclaim)
-    } else if text == "grant" {
-        Some(Action::Grant)
-    } else if text == "revoke" {
-        Some(Action::Revoke)
-    } else if text == "create" {
-        Some(Action::Create)
-    } else if text == "amend" {
-        Some(Action::Amend)
-    } else if text == "withdraw" {
-        Some(Action::Withdraw)
-    } else if text == "slurm" {
-        Some(Action::Slurm)
-    } else if text == "show" {
-        Some(Action::Show)
-    } else if text == "content" {
-        Some(Action::Content)
-    } else if text == "list" {
-        Some(Action::List)
-    } else if text == "payloads" {
-        Some(Action::Payloads)
-    } else if text == "validity" {
-        Some(Action::Validity)
-    } else {
-        None
+    match text {
+        "register" => Some(Action::Register),
+        "delegate" => Some(Action::Delegate),
+        "transfer" => Some(Action::Transfer),
+        "reclaim" => Some(Action::Reclaim),
+        "grant" => Some(Action::Grant),
+        "revoke" => Some(Action::Revoke),
+        "create" => Some(Action::Create),
+        "amend" => Some(Action::Amend),
+        "withdraw" => Some(Action::Withdraw),
+        "slurm" => Some(Action::Slurm),
+        "show" => Some(Action::Show),
+        "content" => Some(Action::Content),
+        "list" => Some(Action::List),
+        "payloads" => Some(Action::Payloads),
+        "validity" => Some(Action::Validity),
+        "import" => Some(Action::Import),
+        "whatif" => Some(Action::WhatIf),
+        _ => None,
     }
 }
 
@@ -71,12 +58,12 @@ pub(crate) fn only_body_members_of(action: Action, value: &Value) -> Result<(), 
 }
 
 /// The members of the request's line: those of every line, what the request names, and those that
-/// a body has too.
+/// a body has too. An export is no line, and names what a list names.
 fn line_members(action: Action) -> &'static [&'static str]
     ensures { map (λ name. name.now) result.now ≡ names_of (members_of action) }
 {
     match action {
-        Action::Register | Action::List => &["day", "caller", "do", "holder"],
+        Action::Register | Action::List | Action::Export => &["day", "caller", "do", "holder"],
         Action::Delegate | Action::Reclaim => &["day", "caller", "do", "holder", "prefix"],
         Action::Transfer => &["day", "caller", "do", "prefix", "giver", "taker"],
         Action::Grant => &[
@@ -89,6 +76,8 @@ fn line_members(action: Action) -> &'static [&'static str]
             "day", "caller", "do", "holder", "asn", "prefix", "max", "from", "until",
         ],
         Action::Amend => &["day", "caller", "do", "holder", "number", "max", "until"],
+        Action::Import => &["day", "caller", "do", "holder", "rows"],
+        Action::WhatIf => &["day", "caller", "do", "holder", "changes", "routes"],
         Action::Slurm => &["day", "caller", "do", "file"],
         Action::Payloads => &["day", "caller", "do"],
         Action::Validity => &["day", "caller", "do", "routes"],
@@ -107,11 +96,6 @@ fn members_before_body(action: Action) -> usize
     match action {
         Action::Transfer | Action::Slurm | Action::Payloads | Action::Validity => 3,
         Action::Revoke | Action::Amend | Action::Withdraw | Action::Show | Action::Content => 5,
-        Action::Register
-        | Action::Delegate
-        | Action::Reclaim
-        | Action::Grant
-        | Action::Create
-        | Action::List => 4,
+        _ => 4,
     }
 }

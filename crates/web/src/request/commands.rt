@@ -3,15 +3,17 @@ ghost use Rattle.std.specs.Prelude.{◌≡◌};
 ghost use Rattle.serde_json.specs.Data.{null};
 ghost use Rattle.serde_json.specs.View.{view};
 ghost use Rattle.json_values.specs.Parts.{mapped};
-ghost use Rattle.web.specs.steps.RequestReading.{holder_and_number, holder_and_prefix, request_in, request_terms};
+ghost use Rattle.web.specs.steps.RequestReading.{access_in, holder_and_number, holder_and_prefix, request_in, request_terms};
 
 use super::fault::Fault;
-use super::members::{asn_in, caller_in, day_in, holder_in, max_in, prefix_in, role_in, scope_in};
-use addr::{Name, Prefix};
+use super::members::{
+    caller_in, day_in, holder_in, max_in, prefix_in, role_in, scope_in, terms_in,
+};
+use addr::{Day, Name, Prefix};
 use desk::Request;
 use http_messages::Action;
 use json_values::both;
-use policy::{Command, Query};
+use policy::{Command, Query, Role, Scope};
 use serde_json::Value;
 
 /// The holder and the number that a request names. Where it names none, the fault counts for nothing.
@@ -67,15 +69,20 @@ pub(crate) fn reclaim_in(subject: Subject, value: &Value) -> Result<Request, Fau
     Ok(Request::Command(Command::Reclaim { holder, prefix }))
 }
 
-pub(crate) fn grant_in(subject: Subject, value: &Value) -> Result<Request, Fault>
-    ensures { mapped request_terms result ≡ request_in Action.Grant subject (view value.now) }
+fn access_in(value: &Value) -> Result<(Name, (Role, (Scope, Day))), Fault>
+    ensures { result ≡ access_in (view value.now) }
 {
     let access = both(
         role_in(value),
         both(scope_in(value), day_in(value, "until")),
     );
-    let members = both(subject.holder, both(caller_in(value, "name"), access));
-    let (holder, (name, (role, (scope, until)))) = members?;
+    both(caller_in(value, "name"), access)
+}
+
+pub(crate) fn grant_in(subject: Subject, value: &Value) -> Result<Request, Fault>
+    ensures { mapped request_terms result ≡ request_in Action.Grant subject (view value.now) }
+{
+    let (holder, (name, (role, (scope, until)))) = both(subject.holder, access_in(value))?;
     Ok(Request::Command(Command::Grant {
         holder,
         name,
@@ -95,20 +102,14 @@ pub(crate) fn revoke_in(subject: Subject) -> Result<Request, Fault>
 pub(crate) fn create_in(subject: Subject, value: &Value) -> Result<Request, Fault>
     ensures { mapped request_terms result ≡ request_in Action.Create subject (view value.now) }
 {
-    let days = both(day_in(value, "from"), day_in(value, "until"));
-    let terms = both(
-        asn_in(value),
-        both(prefix_in(value), both(max_in(value), days)),
-    );
-    let members = both(subject.holder, terms);
-    let (holder, (asn, (prefix, (max, (from, until))))) = members?;
+    let (holder, terms) = both(subject.holder, terms_in(value))?;
     Ok(Request::Command(Command::Create {
         holder,
-        asn,
-        prefix,
-        max,
-        from,
-        until,
+        asn: terms.asn,
+        prefix: terms.prefix,
+        max: terms.max,
+        from: terms.from,
+        until: terms.until,
     }))
 }
 

@@ -4,12 +4,12 @@ ghost use Rattle.serde_json.specs.View.{view};
 ghost use Rattle.json_values.specs.Values.{as_asn};
 ghost use Rattle.web.specs.RequestFaults.{role_at};
 ghost use Rattle.web.specs.RequestValues.{any_scope, as_max, as_number, as_origin, as_role, as_scope, fitting_scope, role_of};
-ghost use Rattle.web.specs.steps.RequestReading.{caller_in, day_in, holder_in, max_in, member_in, number_in, prefix_in};
+ghost use Rattle.web.specs.steps.RequestReading.{caller_in, day_in, holder_in, max_in, member_in, number_in, prefix_in, terms_in};
 
 use super::fault::Fault;
 use addr::{Asn, Day, Name, Origin, Prefix};
-use json_values::{as_asn, as_day, as_name, as_number_in, as_prefix, member};
-use policy::{LAST_NUMBER, Role, Scope};
+use json_values::{as_asn, as_day, as_name, as_number_in, as_prefix, both, member};
+use policy::{AuthTerms, LAST_NUMBER, Role, Scope};
 use serde_json::Value;
 
 /// The greatest `max` that a line may have: whether the prefix takes it is no question of the line.
@@ -41,14 +41,11 @@ fn as_number(value: &Value) -> Option<u32>
 fn role_of(text: &str) -> Option<Role>
     ensures { result ≡ role_of text.now }
 {
-    if text == "manager" {
-        Some(Role::Manager)
-    } else if text == "clerk" {
-        Some(Role::Clerk)
-    } else if text == "auditor" {
-        Some(Role::Auditor)
-    } else {
-        None
+    match text {
+        "manager" => Some(Role::Manager),
+        "clerk" => Some(Role::Clerk),
+        "auditor" => Some(Role::Auditor),
+        _ => None,
     }
 }
 
@@ -143,6 +140,25 @@ pub(crate) fn role_in(value: &Value) -> Result<Role, Fault>
     ensures { result ≡ member_in as_role Fault.Role (codes "role") (view value.now) }
 {
     as_role(member(value, "role")?).ok_or(Fault::Role)
+}
+
+/// What an authorization is to say.
+pub(crate) fn terms_in(value: &Value) -> Result<AuthTerms, Fault>
+    ensures { result ≡ terms_in (view value.now) }
+{
+    let days = both(day_in(value, "from"), day_in(value, "until"));
+    let terms = both(
+        asn_in(value),
+        both(prefix_in(value), both(max_in(value), days)),
+    );
+    let (asn, (prefix, (max, (from, until)))) = terms?;
+    Ok(AuthTerms {
+        asn,
+        prefix,
+        max,
+        from,
+        until,
+    })
 }
 
 /// A scope that the role beside it may have.

@@ -1,4 +1,4 @@
-use Rattle.std.proofs.Common.{refl}
+use Rattle.std.proofs.Common.{refl, sym}
 use Rattle.std.proofs.lemmas.Result.{err_from_is_err_and}
 use Rattle.policy.proofs.decision.decide.Goals as goal
 
@@ -18,3 +18,8 @@ pub returns-in_ok-decide_amend-in-Amend-clause-answer : goal.returns-in_ok-decid
 returns-in_ok-decide_amend-in-Amend-clause-answer c = λ history legal view.
     let accepted = c.in_ok-decide_amend-in-Amend.ensures history legal (rw c.as_ref-rows.ensures.value (rw c.in-Amend.is at view.rows)) in
     rw c.in-Amend.is accepted
+
+pub returns-in-Import-clause-answer : goal.returns-in-Import-clause-answer
+returns-in-Import-clause-answer c = λ history legal view.
+    let answer = c.decide_import.ensures history c.in-Import.listed (sym c.deref.ensures.value) legal (rw c.as_ref-rows.ensures.value (rw c.in-Import.is at view.rows)) in
+    rw c.in-Import.is answer

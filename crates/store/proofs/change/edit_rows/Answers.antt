@@ -10,7 +10,10 @@ pub returns-in_ok-take_grant-in-Revoke-clause-done : goal.returns-in_ok-take_gra
 returns-in_ok-take_grant-in-Revoke-clause-done g c clean = rw c.in-Revoke.is (c.in_ok-take_grant-in-Revoke.ensures.done clean)
 
 pub returns-in_ok-create-in-Create-clause-done : goal.returns-in_ok-create-in-Create-clause-done
-returns-in_ok-create-in-Create-clause-done g c clean = rw c.in-Create.is (c.in_ok-create-in-Create.ensures.done clean)
+returns-in_ok-create-in-Create-clause-done g c clean = rw c.in-Create.is (rw c.from_ref.ensures.value at (c.in_ok-create-in-Create.ensures.done clean))
+
+pub returns-in_ok-create-in-Import-clause-done : goal.returns-in_ok-create-in-Import-clause-done
+returns-in_ok-create-in-Import-clause-done g c clean = rw c.in-Import.is (rw c.deref-in-Import.ensures.value at (c.in_ok-create-in-Import.ensures.done clean))
 
 pub returns-in_ok-amend_auth-in-Amend-clause-done : goal.returns-in_ok-amend_auth-in-Amend-clause-done
 returns-in_ok-amend_auth-in-Amend-clause-done g c clean = rw c.in-Amend.is (c.in_ok-amend_auth-in-Amend.ensures.done clean)

@@ -3,7 +3,7 @@ use Rattle.desk.specs.Desk.{charter_of}
 use Rattle.desk.specs.HolderAnswers.{may_change, may_except}
 use Rattle.desk.specs.declared.asked.Request.TheVariants.{Command as CommandRequest}
 use Rattle.desk.specs.declared.reply.Reply.TheVariants.{Unavailable}
-use Rattle.desk.proofs.DeskLemmas.{still_held, not_done, done_answered, all_kept, changed_kept}
+use Rattle.desk.proofs.DeskLemmas.{still_held, not_done, accepted_answered, all_kept, changed_kept}
 use Rattle.desk.proofs.handling.Desk.carry_out.Goals as goal
 
 pub returns-in-Err-clause-answered : goal.returns-in-Err-clause-answered
@@ -15,9 +15,10 @@ pub returns-in-Ok-apply-clause-answered : goal.returns-in-Ok-apply-clause-answer
 returns-in-Ok-apply-clause-answered g c clean history legal held =
     let mid = c.decide.new.self in
     let before = c.in-Ok-apply.ensures.clean clean in
-    done_answered g.S.Store (charter_of c.args.self.now) history c.args.day c.args.caller.now c.args.command.now c.in-Ok.change c.number-number.result mid (record mid { store = c.apply.new.self })
+    accepted_answered g.S.Store c.growth_is_legal.ensures c.growth_fits.ensures (charter_of c.args.self.now) history c.args.day c.args.caller.now c.args.command.now c.in-Ok.change c.accepted-reply.result
+    mid (record mid { store = c.apply.new.self })
     c.entry_fits.ensures legal (still_held g.S.Store c.args.self.now mid history c.in-Ok.ensures.read.rows before held)
-    (c.in-Ok.ensures.answer before history legal held) c.number-number.ensures (c.in-Ok-apply.ensures.ok clean)
+    (c.in-Ok.ensures.answer before history legal held) c.accepted-reply.ensures.answers (c.in-Ok-apply.ensures.ok clean)
 
 pub returns-clause-kept : goal.returns-clause-kept
 returns-clause-kept g c not_done clean rows holds =
@@ -38,7 +39,7 @@ returns-in-Ok-apply-clause-others g c clean history legal held =
     let mid = c.decide.new.self in
     let before = c.in-Ok-apply.ensures.clean clean in
     changed_kept g.S.Store c.args.command.now c.in-Ok.change c.args.self.now mid (record mid { store = c.apply.new.self })
-    (c.in-Ok.ensures.answer before history legal held).4 c.in-Ok.ensures.read.rows before (c.in-Ok-apply.ensures.ok clean)
+    (c.in-Ok.ensures.answer before history legal held).of_command c.in-Ok.ensures.read.rows before (c.in-Ok-apply.ensures.ok clean)
 
 pub returns-clause-others : goal.returns-clause-others
 returns-clause-others g c clean history legal held =

@@ -1,24 +1,8 @@
-use Rattle.desk.specs.Desk.{charter_of}
-use Rattle.desk.proofs.DeskLemmas.{read_then}
-use Rattle.desk.proofs.ExportLemmas.{items_on}
+use Rattle.payload.specs.VrpSet as set
+use Rattle.desk.proofs.ExportLemmas.{exported}
 use Rattle.desk.proofs.handling.Desk.index_on.Goals as goal
 
-pub returns-in_err-files-clause-read : goal.returns-in_err-files-clause-read
-returns-in_err-files-clause-read g c = read_then g.S.Store c.args.self.now.store c.all_auths_on.new.self c.slurm_files.new.self c.all_auths_on.ensures.read c.slurm_files.ensures.read
-
-pub returns-in_err-except-clause-read : goal.returns-in_err-except-clause-read
-returns-in_err-except-clause-read g c = read_then g.S.Store c.args.self.now.store c.all_auths_on.new.self c.slurm_files.new.self c.all_auths_on.ensures.read c.slurm_files.ensures.read
-
-pub returns-in_err-of-clause-read : goal.returns-in_err-of-clause-read
-returns-in_err-of-clause-read g c = read_then g.S.Store c.args.self.now.store c.all_auths_on.new.self c.slurm_files.new.self c.all_auths_on.ensures.read c.slurm_files.ensures.read
-
-pub returns-clause-read : goal.returns-clause-read
-returns-clause-read g c = read_then g.S.Store c.args.self.now.store c.all_auths_on.new.self c.slurm_files.new.self c.all_auths_on.ensures.read c.slurm_files.ensures.read
-
 pub returns-clause-given : goal.returns-clause-given
-returns-clause-given g c clean history legal held v =
-    let rows = held.0 in
-    let before = c.slurm_files.ensures.read.clean clean in
-    let files = c.in_ok-files.ensures.found clean rows (c.all_auths_on.ensures.read.rows before rows held.2) in
-    rw (c.in_ok-of.ensures, c.deref-2.ensures.value) (items_on (charter_of c.args.self.now) rows history legal held.1 c.args.day c.in_ok-vrps.vrps.items c.except.new.vrps.items
-    (c.in_ok-vrps.ensures.found before rows held.2) (c.in_ok-except.ensures rows.exceptions (rw c.deref.ensures.value files)) v)
+returns-clause-given g c clean history legal held =
+    exported history c.args.day c.in_ok-vrps.vrps.items (set.items c.in_ok-excepted.field-0) c.in_ok-vrps.files.items (c.in_ok-vrps.ensures.given clean history legal held)
+    (λ exceptions loaded. c.in_ok-excepted.ensures exceptions (rw c.deref.ensures.value loaded))

@@ -41,7 +41,7 @@ loop-one-preserved g c =
 pub returns-clause-isolated : goal.returns-clause-isolated
 returns-clause-isolated g c clean history legal held =
     let is = rw (take_all c.loop-one.one-index c.args.asked.now (omega (arith, c.loop-one-test.false))) at (c.loop-one.invariant.answered clean history legal held) in
-    runs_by_entries c.answers_by_entries.ensures (charter_of c.args.self.now) history c.args.asked.now c.loop-one.replies.items is.after legal is.runs
+    runs_by_entries c.growth_is_legal.ensures c.answers_by_entries.ensures (charter_of c.args.self.now) history c.args.asked.now c.loop-one.replies.items is.after legal is.runs
 
 pub returns-clause-others : goal.returns-clause-others
 returns-clause-others g c clean history legal held =

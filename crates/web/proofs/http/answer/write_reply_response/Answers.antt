@@ -3,7 +3,7 @@ use Rattle.std.specs.Global.{Vec}
 use Rattle.std.specs.Prelude.{IfOk}
 use Rattle.std.specs.declared.alloc.AllocError.{AllocError}
 use Rattle.desk.specs.declared.reply.Reply.{Reply}
-use Rattle.desk.specs.declared.reply.Reply.TheVariants.{Shown, Content, Listed, Payloads, Answers}
+use Rattle.desk.specs.declared.reply.Reply.TheVariants.{Shown, Content, Listed, Payloads, Answers, Report}
 use Rattle.http_messages.specs.declared.status.Status.TheVariants.{Done as DoneStatus}
 use Rattle.web.specs.ReplyText.{line_text, short_text}
 use Rattle.streams.specs.Streams.{AppendsBeginning}
@@ -25,6 +25,12 @@ returns-in-Done-clause-err g c =
     text-err c.write_json.result (IsReplyResponse c.args.reply.now)
     (AppendsBeginning (g.D.Drain.written c.args.drain.now) (g.D.Drain.written c.write_json.new.drain))
     _ (rw c.in-Done.is (inl (rw (c.as_str.ensures.value, c.done_text.ensures) refl))) c.write_json.ensures.err
+
+pub returns-in-Imported-clause-err : goal.returns-in-Imported-clause-err
+returns-in-Imported-clause-err g c =
+    text-err c.write_json-in-Imported.result (IsReplyResponse c.args.reply.now)
+    (AppendsBeginning (g.D.Drain.written c.args.drain.now) (g.D.Drain.written c.write_json-in-Imported.new.drain))
+    _ (rw c.in-Imported.is (inl (rw (c.as_str-in-Imported.ensures.value, c.imported_text.ensures) refl))) c.write_json-in-Imported.ensures.err
 
 pub returns-in-Denied-clause-err : goal.returns-in-Denied-clause-err
 returns-in-Denied-clause-err g c =
@@ -65,7 +71,10 @@ returns-in-Shown-clause-ok g c =
         | inl (x, is) ↦ shows-json c.args.reply.now (Content x) c.json_body.result is c.json_body.ensures refl refl
         | inr last ↦ elim last [
           | inl (x, is) ↦ shows-json c.args.reply.now (Listed x) c.json_body.result is c.json_body.ensures refl refl
-          | inr (x, is) ↦ shows-json c.args.reply.now (Answers x) c.json_body.result is c.json_body.ensures refl refl
+          | inr final ↦ elim final [
+            | inl (x, is) ↦ shows-json c.args.reply.now (Answers x) c.json_body.result is c.json_body.ensures refl refl
+            | inr (x, is) ↦ shows-json c.args.reply.now (Report x) c.json_body.result is c.json_body.ensures refl refl
+          ]
         ]
       ]
     ]) c.write_shown-in-Shown.ensures.ok
@@ -81,7 +90,10 @@ returns-in-Shown-clause-err g c =
         | inl (x, is) ↦ shows-json c.args.reply.now (Content x) c.json_body.result is c.json_body.ensures refl refl
         | inr last ↦ elim last [
           | inl (x, is) ↦ shows-json c.args.reply.now (Listed x) c.json_body.result is c.json_body.ensures refl refl
-          | inr (x, is) ↦ shows-json c.args.reply.now (Answers x) c.json_body.result is c.json_body.ensures refl refl
+          | inr final ↦ elim final [
+            | inl (x, is) ↦ shows-json c.args.reply.now (Answers x) c.json_body.result is c.json_body.ensures refl refl
+            | inr (x, is) ↦ shows-json c.args.reply.now (Report x) c.json_body.result is c.json_body.ensures refl refl
+          ]
         ]
       ]
     ]) c.write_shown-in-Shown.ensures.err

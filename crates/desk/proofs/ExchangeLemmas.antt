@@ -1,0 +1,254 @@
+-- The VRPs that changes at a holder would exchange.
+use Rattle.std.proofs.Common.{◌≡◌, ℕ, ◌≤◌, Bool, true, false, not, ◌↔◌, inl, inr, List, [], ◌∷◌, ◌++◌, Option, Some, None, Err, IfSome, refl, sym, ap, ◌∙◌, subst, length, Contains, filter, arith}
+use Rattle.std.specs.Prelude.{IsSome}
+use Rattle.std.specs.List.{list_all, list_any}
+use Rattle.std.specs.Option.{option_to_list}
+use Rattle.std.proofs.lemmas.Bool.{and_from, and_parts, cases_Bool, eqb-true, false≢true, le-leb, not-true, true≢false}
+use Rattle.std.proofs.lemmas.List.Elements.{Contains-append_left, Contains-append_right, Contains-append_cases}
+use Rattle.addr.proofs.Equality.{equal_prefix}
+use Rattle.addr.specs.Order.{same_vrp}
+use Rattle.addr.specs.declared.route.Route.{Route}
+use Rattle.addr.specs.declared.vrp.Vrp.{Vrp}
+use Rattle.histories.specs.Growth.{HypotheticalIsLegal}
+use Rattle.histories.specs.SharedVrps.{share_none, NoSharedVrp}
+use Rattle.isolation.specs.Isolation.{DifferAtMostAt, HypotheticalKeepsOthers}
+use Rattle.payload.proofs.Sets.{contains-items}
+use Rattle.payload.specs.VrpSet as set
+use Rattle.policy.proofs.Names.{same_name-true}
+use Rattle.policy.proofs.Unregistered.{has_nothing}
+use Rattle.policy.specs.Answer.{IsSupposed}
+use Rattle.policy.specs.DailyVrps.{IsVrpInForce}
+use Rattle.policy.specs.History.{History, same_name}
+use Rattle.policy.specs.HypotheticalHistory.{HypotheticalHistory}
+use Rattle.policy.specs.Rows.{Rows, RowsOf, RowsIfAny}
+use Rattle.policy.specs.RowsOfAll.{AllRows, HasRows}
+use Rattle.policy.specs.Terms.{authorization_terms, share_vrp, AreActive, HeldSinceMade, IsActive, IsVrpOf, Keeps}
+use Rattle.policy.specs.Verdict.{terms_fit_length, IsLegal}
+use Rattle.policy.specs.declared.authorization.Auth.{Auth}
+use Rattle.charters.specs.declared.charter.Charter.{Charter}
+use Rattle.policy.specs.declared.command.Proposed.{Proposed}
+use Rattle.policy.specs.declared.rule.Refusal.{Refusal}
+use Rattle.policy.specs.declared.rule.Refusal.TheVariants.{Denied, Memory}
+use Rattle.slurm.specs.Exceptions.{Exceptions}
+use Rattle.store.specs.Loads.{AreFilesOf}
+use Rattle.desk.specs.Answer.{refused_with, AnswersWhatIf}
+use Rattle.desk.specs.steps.Supposing.{auths_if_any, AreInForceOn, AreVrpsOf, Exchanges, GivesOn, IsExchanged, WouldExchange}
+use Rattle.desk.proofs.DailyLemmas.{any_among, at_head, head_or_tail, kept_is, kept_was, none_in_nil}
+use Rattle.desk.proofs.ExceptionLemmas.{kept_or_more}
+use Rattle.desk.proofs.ExportLemmas.{is_among, items_such}
+
+-- ---- the VRP of an authorization
+
+-- its AS, prefix and maxLength are those of the terms
+vrp_parts : (x : Auth) (v : Vrp) → IsVrpOf x v → (x.asn.0 ≡ v.asn.0) × (x.prefix ≡ v.prefix) × (x.max ≡ v.max)
+vrp_parts x v is =
+    let both = and_parts _ _ is in
+    let rest = and_parts _ _ both.1 in
+    (eqb-true x.asn.0 v.asn.0 both.0, equal_prefix x.prefix v.prefix rest.0, eqb-true x.max v.max rest.1)
+
+one_vrp : (x : Auth) (v w : Vrp) → IsVrpOf x v → IsVrpOf x w → v ≡ w
+one_vrp x v w is also =
+    let one = vrp_parts x v is in
+    let other = vrp_parts x w also in
+    same_vrp v w (sym one.1 ∙ other.1) (sym one.2 ∙ other.2) (ap (λ n. record { 0 = n }) (sym one.0 ∙ other.0))
+
+-- terms that have a VRP fit it
+vrp_fits : (x : Auth) (v : Vrp) → IsVrpOf x v → terms_fit_length x x.max ≡ true
+vrp_fits x v is =
+    let parts = vrp_parts x v is in
+    rw (parts.1, parts.2) (and_from _ _ (le-leb _ _ v.at_least_length) (le-leb _ _ v.at_most_width))
+
+-- two authorizations that have one VRP share it
+shared_vrp : (x y : Auth) (v : Vrp) → IsVrpOf x v → IsVrpOf y v → share_vrp x y ≡ true
+shared_vrp x y v is also = let parts = vrp_parts y v also in rw (parts.0, parts.1, parts.2) is
+
+-- what is found of an authorization in force is its VRP
+pub gives_open : (x : Auth) (day : ℕ) (found : Option Vrp) → (x.from ≤ day) × (day ≤ x.until)
+    → (IsSome found ↔ (terms_fit_length x x.max ≡ true)) → IfSome found (IsVrpOf x) → (v : Vrp) → (found ≡ Some v) ↔ GivesOn x day v
+gives_open x day None days some value v = (λ is. absurd cc, λ gives. absurd (false≢true (some.1 (vrp_fits x v gives.2))))
+gives_open x day (Some w) days some value v =
+    (λ is. let same : w ≡ v = cc in (days.0, days.1, subst (IsVrpOf x) same value), λ gives. ap Some (one_vrp x w v value gives.2))
+
+-- ---- the VRPs of authorizations
+
+-- those of one authorization more are added
+added : (auths : List Auth) (day : ℕ) (vrps : List Vrp) (x : Auth) (found : Option Vrp) → AreVrpsOf auths day vrps
+    → ((v : Vrp) → (found ≡ Some v) ↔ GivesOn x day v) → AreVrpsOf (auths ++ x ∷ []) day (vrps ++ option_to_list found)
+added auths day vrps x found are gives v = (
+  λ there. elim (Contains-append_cases vrps (option_to_list found) v there) [
+    | inl given ↦ let giving = (are v).0 given in (giving.0, Contains-append_left auths (x ∷ []) giving.0 giving.1, giving.2)
+    | inr new ↦ (x, Contains-append_right auths (x ∷ []) x (at_head x []), (gives v).0 (only found new))
+  ],
+  λ giving. elim (Contains-append_cases auths (x ∷ []) giving.0 giving.1) [
+    | inl given ↦ Contains-append_left vrps (option_to_list found) v ((are v).1 (giving.0, given, giving.2))
+    | inr new ↦
+        elim (head_or_tail x [] giving.0 new) [
+          | inl same ↦ Contains-append_right vrps (option_to_list found) v (it found ((gives v).1 (subst (λ (y : Auth). GivesOn y day v) (sym same) giving.2)))
+          | inr later ↦ absurd (none_in_nil giving.0 later)
+        ]
+  ],
+)
+  where
+    only : (some : Option Vrp) → Contains (option_to_list some) v → some ≡ Some v
+    only None there = absurd (none_in_nil v there)
+    only (Some w) there = elim (head_or_tail w [] v there) [ inl same ↦ ap Some same | inr later ↦ absurd (none_in_nil v later) ]
+
+    it : (some : Option Vrp) → some ≡ Some v → Contains (option_to_list some) v
+    it some is = subst (λ (o : Option Vrp). Contains (option_to_list o) v) (sym is) (at_head v [])
+
+pub more_given : (auths all : List Auth) (day : ℕ) (vrps now : List Vrp) (x : Auth) (found : Option Vrp) → all ≡ auths ++ x ∷ [] → now ≡ vrps ++ option_to_list found
+    → AreVrpsOf auths day vrps → ((v : Vrp) → (found ≡ Some v) ↔ GivesOn x day v) → AreVrpsOf all day now
+more_given auths all day vrps now x found grown pushed are gives = rw (grown, pushed) (added auths day vrps x found are gives)
+
+-- ---- the exchange of VRPs
+
+-- a VRP is not in the set
+not_in : (s : set.VrpSet) (v : Vrp) → (not (set.contains s v) ≡ true) ↔ (¬ Contains (set.items s) v)
+not_in s v =
+    let among = is_among (set.items s) v in (
+      λ is there. true≢false (sym (contains-items s v ∙ among.0 there) ∙ not-true _ is),
+      λ none. elim (cases_Bool (set.contains s v)) [
+        | inl t ↦ absurd (none (among.1 (sym (contains-items s v) ∙ t)))
+        | inr f ↦ ap not f
+      ],
+    )
+
+exchanged : (removed : set.VrpSet) (added vrps : List Vrp) (v : Vrp)
+    → Contains (filter (λ w. not (set.contains removed w)) vrps ++ added) v ↔ IsExchanged (set.items removed) added (Contains vrps v) v
+exchanged removed added vrps v =
+    let is = kept_or_more (λ w. not (set.contains removed w)) vrps added v in (
+      λ there. elim (is.0 there) [ inl given ↦ inl (given.0, (not_in removed v).0 given.1) | inr new ↦ inr new ],
+      λ given. elim given [ inl kept ↦ is.1 (inl (kept.0, (not_in removed v).1 kept.1)) | inr new ↦ is.1 (inr new) ],
+    )
+
+exchanged_alike : {P Q : Type 0} (removed added : List Vrp) (v : Vrp) → (P → Q) → IsExchanged removed added P v → IsExchanged removed added Q v
+exchanged_alike removed added v to (inl given) = inl (to given.0, given.1)
+exchanged_alike removed added v to (inr new) = inr new
+
+-- after the exchange the VRPs are those in force after the other history
+pub in_force_after : (before after : History) (day : ℕ) (removed : set.VrpSet) (added vrps later : List Vrp) (files : List Exceptions)
+    → AreInForceOn before day vrps files → later ≡ filter (λ v. not (set.contains removed v)) vrps ++ added
+    → Exchanges before after day (set.items removed) added → AreInForceOn after day later files
+in_force_after before after day removed added vrps later files are made exchanges = record {
+  given = λ v.
+      let here = exchanged removed added vrps v in
+      let is = exchanges.vrps v in
+      rw made (
+        (λ there. is.1 (exchanged_alike (set.items removed) added v (are.given v).0 (here.0 there))),
+        (λ given. here.1 (exchanged_alike (set.items removed) added v (are.given v).1 (is.0 given))),
+      );
+  loaded = subst (λ (exceptions : Exceptions). AreFilesOf exceptions files) (sym exchanges.exceptions) are.loaded;
+}
+
+-- ---- the exchange that changes would make
+
+-- a change that would be denied is told
+pub supposed_refused : (charter : Charter) (history : History) (holder : List ℕ) (day : ℕ) (caller : List ℕ) (changes : List Proposed) (refusal : Refusal)
+    → IsSupposed charter history holder day caller changes (Err refusal) → (routes : List Route)
+    → AnswersWhatIf charter history day caller holder changes routes (refused_with refusal)
+supposed_refused charter history holder day caller changes (Denied rule row) supposed routes = supposed
+supposed_refused charter history holder day caller changes Memory supposed routes = tt
+
+-- no change exchanges nothing
+pub exchanges_nothing : (charter : Charter) (history : History) (day : ℕ) (caller holder : List ℕ) (changes : List Proposed) (removed : set.VrpSet) (added : List Vrp)
+    → length changes ≡ 0 → removed ≡ set.empty → added ≡ [] → WouldExchange charter history day caller holder changes (set.items removed) added
+exchanges_nothing charter history day caller holder (change ∷ changes) removed added none is also = absurd (omega (arith, none))
+exchanges_nothing charter history day caller holder [] removed added none is also =
+    let in_none = items_such (λ (v : Vrp). Contains [] v) [] [] removed is refl (λ v. ((λ there. there), (λ there. there))) in (
+      history,
+      refl,
+      record {
+        vrps = λ v. (
+          λ given. inl (given, λ there. none_in_nil v ((in_none v).0 there)),
+          λ given. elim given [ inl kept ↦ kept.0 | inr new ↦ absurd (none_in_nil v (subst (λ (vs : List Vrp). Contains vs v) also new)) ],
+        );
+        exceptions = refl;
+      },
+    )
+
+-- the authorizations of rows are the active ones
+active_rows : (charter : Charter) (history : History) (h : List ℕ) (rows : Option Rows) → IsLegal charter history → RowsIfAny history h rows → AreActive history h (auths_if_any rows)
+active_rows charter history h None legal none =
+    subst (λ (terms : List Auth). Keeps (HeldSinceMade history h) terms []) (sym (has_nothing charter history h legal none).terms) tt
+active_rows charter history h (Some rows) legal of = of.1.auths
+
+is_active : (history : History) (h : List ℕ) (auths : List Auth) → AreActive history h auths → (x : Auth) → Contains auths x → IsActive history h x
+is_active history h auths are x there = kept_was (HeldSinceMade history h) (authorization_terms history h) auths x are there
+
+has_active : (history : History) (h : List ℕ) (auths : List Auth) → AreActive history h auths → (x : Auth) → IsActive history h x → Contains auths x
+has_active history h auths are x active = kept_is (HeldSinceMade history h) (authorization_terms history h) auths x are active.0 active.1
+
+all_among : {X : Type 0} (p : X → Bool) (xs : List X) (x : X) → list_all p xs ≡ true → Contains xs x → p x ≡ true
+all_among p [] x all there = absurd (none_in_nil x there)
+all_among p (y ∷ ys) x all there =
+    let parts = and_parts (p y) (list_all p ys) all in
+    elim (head_or_tail y ys x there) [
+      | inl same ↦ ap p (sym same) ∙ parts.0
+      | inr later ↦ all_among p ys x parts.1 later
+    ]
+
+-- lists that share no VRP give none twice
+given_once : (xs ys : List Auth) → share_none xs ys ≡ true → (v : Vrp) (x y : Auth) → Contains xs x → Contains ys y → IsVrpOf x v → IsVrpOf y v → ⊥
+given_once xs ys none v x y in_xs in_ys is also =
+    let here = all_among (λ z. not (list_any (λ w. share_vrp z w) ys)) xs x none in_xs in
+    true≢false (sym (any_among (λ w. share_vrp x w) ys y in_ys (shared_vrp x y v is also)) ∙ not-true _ here)
+
+module _ (shared : NoSharedVrp) (charter : Charter) (before after : History) (holder : List ℕ) (day : ℕ) (all : AllRows)
+    (legal : IsLegal charter before) (legal_after : IsLegal charter after) (has : HasRows all before) (differ : DifferAtMostAt holder before after)
+    (mine later : List Auth) (are_mine : AreActive before holder mine) (are_later : AreActive after holder later)
+    (removed added : List Vrp) (are_removed : AreVrpsOf mine day removed) (are_added : AreVrpsOf later day added) where
+  -- the active authorizations of another holder, before and after
+  others : (h : List ℕ) → same_name holder h ≡ false → (auths : List Auth) × AreActive before h auths × AreActive after h auths
+  others h other =
+      let rows = all.of_holder h in
+      let is = has.holders h in
+      (auths_if_any rows, active_rows charter before h rows legal is, active_rows charter after h rows legal_after ((differ.others h rows other).0 is))
+
+  goes : (v : Vrp) → IsVrpInForce after day v → IsExchanged removed added (IsVrpInForce before day v) v
+  goes v is =
+      elim (cases_Bool (same_name holder is.0)) [
+        | inl own ↦
+            let active = subst (λ (h : List ℕ). IsActive after h is.1) (sym (same_name-true holder is.0 own)) is.2.0 in
+            inr ((are_added v).1 (is.1, has_active after holder later are_later is.1 active, (is.2.1, is.2.2, is.3)))
+        | inr other ↦
+            let auths = others is.0 other in
+            let there = has_active after is.0 auths.0 auths.2 is.1 is.2.0 in
+            let none = (shared charter before legal).1 holder is.0 mine auths.0 other are_mine auths.1 in
+            inl (
+              (is.0, is.1, (is_active before is.0 auths.0 auths.1 is.1 there, is.2.1, is.2.2), is.3),
+              λ taken. let from = (are_removed v).0 taken in given_once mine auths.0 none v from.0 is.1 from.1 there from.2.2 is.3,
+            )
+      ]
+
+  comes : (v : Vrp) → IsExchanged removed added (IsVrpInForce before day v) v → IsVrpInForce after day v
+  comes v (inl kept) =
+      let is = kept.0 in
+      elim (cases_Bool (same_name holder is.0)) [
+        | inl own ↦
+            let active = subst (λ (h : List ℕ). IsActive before h is.1) (sym (same_name-true holder is.0 own)) is.2.0 in
+            absurd (kept.1 ((are_removed v).1 (is.1, has_active before holder mine are_mine is.1 active, (is.2.1, is.2.2, is.3))))
+        | inr other ↦
+            let auths = others is.0 other in
+            let there = has_active before is.0 auths.0 auths.1 is.1 is.2.0 in
+            (is.0, is.1, (is_active after is.0 auths.0 auths.2 is.1 there, is.2.1, is.2.2), is.3)
+      ]
+  comes v (inr new) =
+      let from = (are_added v).0 new in
+      (holder, from.0, (is_active after holder later are_later from.0 from.1, from.2.0, from.2.1), from.2.2)
+
+  exchanges : Exchanges before after day removed added
+  exchanges = record { vrps = λ v. (goes v, comes v); exceptions = sym differ.exceptions }
+
+-- the changes exchange what the holder's authorizations give for what those give that they would leave
+pub would_exchange : NoSharedVrp → HypotheticalIsLegal → HypotheticalKeepsOthers → (charter : Charter) (history after : History) (day : ℕ) (caller holder : List ℕ) (changes : List Proposed)
+    (all : AllRows) → IsLegal charter history → HasRows all history → (rows : Option Rows) (later : Rows) → RowsIfAny history holder rows
+    → HypotheticalHistory charter day caller holder history changes after → RowsOf after holder later
+    → (removed added : List Vrp) → AreVrpsOf (auths_if_any rows) day removed → AreVrpsOf later.auths day added
+    → WouldExchange charter history day caller holder changes removed added
+would_exchange shared legally others_keep charter history after day caller holder changes all legal has rows later of would of_later removed added are_removed are_added = (
+  after,
+  would,
+  exchanges shared charter history after holder day all legal (legally charter day caller holder history changes after legal would) has
+      (others_keep charter day caller holder history changes after legal would)
+      (auths_if_any rows) later.auths (active_rows charter history holder rows legal of) of_later.auths removed added are_removed are_added,
+)

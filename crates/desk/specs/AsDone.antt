@@ -1,0 +1,45 @@
+-- What it is told that changes would do is what they do.
+use Rattle.std.specs.Prelude.{◌≡◌, ℕ, true, List, map}
+use Rattle.std.specs.Global.{Vec}
+use Rattle.std.specs.List.{list_all}
+use Rattle.addr.specs.declared.route.Route.{Route}
+use Rattle.payload.specs.declared.validity.Validity.{Validity}
+use Rattle.policy.specs.History.{History}
+use Rattle.policy.specs.HypotheticalHistory.{proposed_command}
+use Rattle.charters.specs.declared.charter.Charter.{Charter}
+use Rattle.policy.specs.declared.command.Proposed.{Proposed}
+use Rattle.desk.specs.Answer.{is_accepted, states_after, AnswersWhatIf, AreStatesOn}
+use Rattle.desk.specs.Run.{Runs}
+use Rattle.desk.specs.declared.asked.Asked.{Asked}
+use Rattle.desk.specs.declared.asked.Request.TheVariants.{Command as CommandRequest}
+use Rattle.desk.specs.declared.reply.Reply.{Reply}
+use Rattle.desk.specs.declared.reply.Reply.TheVariants.{Report}
+
+-- the requests for the changes at a holder, by one caller on one day
+abbrev pub requests_for : ℕ → List ℕ → List ℕ → List Proposed → List Asked
+requests_for day caller holder changes =
+    map (λ change. record {
+      day = day;
+      caller = caller;
+      request = CommandRequest (proposed_command holder change);
+    }) changes
+
+-- the changes are asked for one after the other, each is accepted, and they leave this history
+abbrev pub AreDone :
+    Charter → History → ℕ → List ℕ → List ℕ → List Proposed → List Reply → History → Type 0
+AreDone charter before day caller holder changes replies after =
+    (list_all is_accepted replies ≡ true)
+    × Runs charter before (requests_for day caller holder changes) replies after
+
+-- Where it is told what changes would do, there are replies by which they are done; and whatever
+-- the replies are, the states that were told second are then those over the VRPs of the day.
+abbrev pub WhatIfAsDone : Type 0
+WhatIfAsDone =
+    (charter : Charter) (history : History) (day : ℕ) (caller holder : List ℕ)
+    (changes : List Proposed) (routes : List Route) (states : Vec (Validity × Validity))
+    → AnswersWhatIf charter history day caller holder changes routes (Report states)
+    → ((replies : List Reply) × (after : History)
+    × AreDone charter history day caller holder changes replies after)
+    × ((replies : List Reply) (after : History)
+    → AreDone charter history day caller holder changes replies after
+    → AreStatesOn after day routes (states_after states.items))

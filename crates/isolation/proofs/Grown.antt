@@ -1,0 +1,86 @@
+-- What accepted commands and the parts of requests leave of the holders that they do not name.
+use Rattle.std.proofs.Common.{◌≡◌, ℕ, false, ◌||◌, List, ◌∷◌, Option, Some, Ok, ◌↔◌, refl, sym, ap, ◌∙◌, subst}
+use Rattle.std.proofs.lemmas.Bool.{or_parts}
+use Rattle.slurm.specs.Exceptions.{Exceptions}
+use Rattle.charters.specs.declared.charter.Charter.{Charter}
+use Rattle.policy.specs.declared.command.Command.{Command}
+use Rattle.policy.specs.declared.command.Command.TheVariants.{Import, Slurm}
+use Rattle.policy.specs.Answer.{taker_of}
+use Rattle.policy.specs.ExceptionsInForce.{brings_exceptions, exceptions_after, exceptions_in_force}
+use Rattle.policy.specs.GrowingHistory.{Grows}
+use Rattle.policy.specs.History.{Entry, History, same_name}
+use Rattle.policy.specs.HolderEntries.{is_this, names}
+use Rattle.policy.specs.HypotheticalHistory.{JudgesChange}
+use Rattle.policy.specs.Import.{JudgesRow}
+use Rattle.policy.specs.Rows.{Rows, RowsIfAny}
+use Rattle.policy.specs.Verdict.{IsLegal}
+use Rattle.histories.proofs.Growth.{Judging, IsMadeAt, MakeAt, All-every, grown-keeps, rows-make, changes-make}
+use Rattle.isolation.specs.Isolation.{OthersKeepRows, HypotheticalKeepsOthers}
+use Rattle.isolation.proofs.Agree.{Agree, agree-same, agree-sym, agree-trans, agree-rows}
+use Rattle.isolation.proofs.Parts.{agree-unnamed}
+
+-- a command that brings no file leaves the exceptions
+pub exceptions_stay : (c : Command) (exceptions : Exceptions) → brings_exceptions c ≡ false → exceptions_after c exceptions ≡ exceptions
+exceptions_stay (Slurm file) exceptions none = cc
+exceptions_stay _ exceptions none = refl
+
+-- what parts make names their holder alone
+pub names_made : {charter : Charter} {holder : List ℕ} {before : History} {day : ℕ} {caller : List ℕ} {c : Command}
+    → IsMadeAt charter holder before day caller c → (h : List ℕ) → names h c ≡ same_name holder h || same_name holder h
+names_made {holder = holder} {c = c} made h =
+    ap (λ o. is_this h o || is_this h (taker_of c)) made.named ∙ ap (λ o. same_name holder h || is_this h o) made.taker
+
+-- a legal history that agrees with one before it on a holder
+record Left (charter : Charter) (h : List ℕ) (before after : History) : Type 0 where
+  legal : IsLegal charter after
+  agree : Agree after before h
+
+grown-left : {X : Type 0} (charter : Charter) (holder : List ℕ) (day : ℕ) (caller : List ℕ) (judges : Judging X) → MakeAt charter holder day caller judges
+    → (h : List ℕ) → same_name holder h ≡ false → (before : History) (xs : List X) (after : History) → IsLegal charter before
+    → Grows judges day caller before xs after → Left charter h before after
+grown-left {X} charter holder day caller judges make h other before xs after legal grows =
+    grown-keeps judges day caller (λ x. Unit {0}) (Left charter h before) step before xs after (All-every (λ (x : X). Unit {0}) (λ x. tt) xs)
+    (record { legal = legal; agree = agree-same before h }) grows
+  where
+    step : (history : History) (x : X) (c : Command) → Unit {0} → judges history x (Ok (Some c)) → Left charter h before history
+        → Left charter h before (record { day = day; caller = caller; command = c } ∷ history)
+    step history x c some is left =
+        let e : Entry = record { day = day; caller = caller; command = c } in
+        let made = make history x c is in
+        let unnamed : names h c ≡ false = names_made made h ∙ ap (λ b. b || b) other in
+        record {
+          legal = (made.accepted, left.legal);
+          agree = agree-trans (agree-unnamed charter e history h made.accepted unnamed) left.agree;
+        }
+
+-- parts bring no file
+grown-exceptions : {X : Type 0} (charter : Charter) (holder : List ℕ) (day : ℕ) (caller : List ℕ) (judges : Judging X) → MakeAt charter holder day caller judges
+    → (before : History) (xs : List X) (after : History) → Grows judges day caller before xs after → exceptions_in_force before ≡ exceptions_in_force after
+grown-exceptions {X} charter holder day caller judges make before xs after grows =
+    let P : History → Type 0 = λ history. exceptions_in_force before ≡ exceptions_in_force history in
+    grown-keeps judges day caller (λ x. Unit {0}) P
+    (λ history x c some is same. same ∙ sym (exceptions_stay c (exceptions_in_force history) (make history x c is).file))
+    before xs after (All-every (λ (x : X). Unit {0}) (λ x. tt) xs) refl grows
+
+rows_left : {one other : History} {h : List ℕ} → Agree other one h → (rows : Option Rows) → RowsIfAny one h rows ↔ RowsIfAny other h rows
+rows_left same rows = (agree-rows (agree-sym same) rows, agree-rows same rows)
+
+pub others_keep_rows : OthersKeepRows
+others_keep_rows charter before day caller (Import holder rows) after h held legal leaves unnamed =
+    let other = (or_parts (same_name holder h) (same_name holder h) unnamed).0 in
+    let left = grown-left charter holder day caller (JudgesRow charter day caller holder) (rows-make charter day caller holder)
+    h other before rows.items after legal leaves in
+    rows_left left.agree held
+others_keep_rows charter before day caller c after h held legal leaves unnamed =
+    let e : Entry = record { day = day; caller = caller; command = c } in
+    subst (λ (later : History). RowsIfAny before h held ↔ RowsIfAny later h held) (sym leaves.1)
+    (rows_left (agree-unnamed charter e before h leaves.0 unnamed) held)
+
+pub hypothetical_keeps_others : HypotheticalKeepsOthers
+hypothetical_keeps_others charter day caller holder before changes after legal would =
+    let judges = JudgesChange charter day caller holder in
+    let make = changes-make charter day caller holder in
+    record {
+      others = λ h rows other. rows_left (grown-left charter holder day caller judges make h other before changes after legal would).agree rows;
+      exceptions = grown-exceptions charter holder day caller judges make before changes after would;
+    }

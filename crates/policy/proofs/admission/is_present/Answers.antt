@@ -1,0 +1,21 @@
+use Rattle.std.proofs.Common.{◌≡◌, true, sym, ◌∙◌, ap}
+use Rattle.std.specs.List.{list_any}
+use Rattle.policy.specs.declared.grant.Access.TheVariants.{Alter}
+use Rattle.policy.specs.Import.{has_terms}
+use Rattle.policy.specs.Permission.{is_permitted}
+use Rattle.policy.specs.Rows.{rows_of}
+use Rattle.policy.proofs.RowsLemmas.{active-to, active-from}
+use Rattle.policy.proofs.admission.is_present.Goals as goal
+
+pub returns-then-is_permitted : goal.returns-then-is_permitted
+returns-then-is_permitted c history h are =
+    let a = c.args in
+    let test = list_any (has_terms a.terms.now) in
+    let permitted = ap (λ gs. is_permitted gs a.day a.caller.now Alter a.terms.now.prefix) (c.deref.ensures.value ∙ are.grants) in
+    let same = c.some_has_terms.ensures ∙ ap test c.deref-then-is_permitted.ensures.value in (
+      λ is. (
+        sym (c.is_permitted.ensures ∙ permitted) ∙ c.if-is_permitted.true,
+        active-to history h (rows_of a.rows.now) (λ active. test active ≡ true) are (sym same ∙ is),
+      ),
+      λ present. same ∙ active-from history h (rows_of a.rows.now) (λ active. test active ≡ true) are present.1,
+    )

@@ -1,0 +1,36 @@
+use Rattle.std.proofs.Common.{◌+◌, Some, refl, sym, ap, subst, arith}
+use Rattle.std.proofs.lemmas.List.{take_all}
+use Rattle.policy.specs.Rows.{Rows, rows_of, RowsIfAny}
+use Rattle.policy.proofs.Imports.{so_far-start, so_far-more, so_far-denied}
+use Rattle.policy.proofs.decision.import.import_rows.Goals as goal
+
+pub loop-terms-init : goal.loop-terms-init
+loop-terms-init c = (
+  refl,
+  λ charter history h legal are. so_far-start charter history h c.args.day c.args.caller.now c.new-auths.result (rows_of c.in_ok-rows.rows) c.new-auths.ensures.items legal are,
+)
+
+pub returns-in-Err : goal.returns-in-Err
+returns-in-Err c charter history h legal are =
+    let a = c.args in
+    let start = subst (λ (r : Rows). RowsIfAny history h (Some r)) (sym c.in_ok-rows.ensures.cases) are in
+    let so_far = c.loop-terms.invariant.1 charter history h legal start in
+    let denied = c.in-Err.ensures charter so_far.edit.after h so_far.legal so_far.rows_are in
+    rw c.at.ensures (so_far-denied charter history h a.day a.caller.now a.listed.now c.loop-terms.terms-index c.terms-item.result c.loop-terms.auths (rows_of c.loop-terms.rows)
+    so_far (omega arith) c.terms-item.is c.loop-terms.place c.loop-terms.invariant.0 c.in-Err.refusal denied)
+
+pub loop-terms-preserved : goal.loop-terms-preserved
+loop-terms-preserved c = (
+  ap (λ n. n + 1) c.loop-terms.invariant.0,
+  λ charter history h legal start.
+      let so_far = c.loop-terms.invariant.1 charter history h legal start in
+      let done = c.in_default.ensures charter so_far.edit.after h so_far.legal so_far.rows_are in
+      so_far-more charter history h c.args.day c.args.caller.now c.args.listed.now c.loop-terms.terms-index c.terms-item.result
+      c.loop-terms.auths c.import_row-done.new.auths (rows_of c.loop-terms.rows) (rows_of c.import_row-done.new.rows) so_far (omega arith) c.terms-item.is done,
+)
+
+pub returns : goal.returns
+returns c charter history h legal are =
+    let start = subst (λ (r : Rows). RowsIfAny history h (Some r)) (sym c.in_ok-rows.ensures.cases) are in
+    let so_far = rw (take_all c.loop-terms.terms-index c.args.listed.now (omega arith)) at c.loop-terms.invariant.1 charter history h legal start in
+    so_far.edit

@@ -1,0 +1,112 @@
+// Imports: each row is judged on the rows that those before it left.
+ghost use Rattle.std.specs.Prelude.{◌≡◌, ℕ, List, Some, Err, option_copied};
+ghost use Rattle.std.specs.Global.{Vec};
+ghost use Rattle.policy.specs.declared.authorization.AuthTerms.{AuthTerms as AuthTermsValue};
+ghost use Rattle.charters.specs.declared.charter.Charter.{Charter as CharterValue};
+ghost use Rattle.policy.specs.declared.command.Command.{Command};
+ghost use Rattle.policy.specs.History.{History};
+ghost use Rattle.policy.specs.Import.{JudgesRow};
+ghost use Rattle.policy.specs.Verdict.{IsLegal};
+ghost use Rattle.policy.specs.Rows.{rows_of, rows_if_any, RowsIfAny};
+ghost use Rattle.policy.specs.Answer.{IsAnswer};
+ghost use Rattle.policy.specs.steps.Import.{AnswersImport, IsRowDone};
+ghost use Rattle.policy.specs.steps.Part.{Judged};
+
+use super::{Basis, Holder, change_of};
+use crate::admission::is_present;
+use crate::creation::create;
+use crate::{Auth, AuthTerms, Change, Edit, HolderRows, Refusal, Rule};
+use addr::{Day, Name};
+use std::alloc::Global;
+
+/// Puts the authorization that a row makes among the rows of the holder, and among those made. A
+/// row that is already authorized makes none.
+fn import_row(
+    rows: &mut HolderRows,
+    auths: &mut Vec<Auth>,
+    day: Day,
+    caller: &Name,
+    terms: &AuthTerms,
+) -> Result<(), Refusal>
+    ensures { (charter : CharterValue) (history : History) (h : List ℕ) → IsLegal charter history
+        → RowsIfAny history h (Some (rows_of rows.old))
+        → Judged
+        (λ _. IsRowDone charter history h day caller.now terms.now auths.old auths.new
+        (rows_of rows.old) (rows_of rows.new))
+        (λ rule. JudgesRow charter day caller.now h history terms.now (Err rule)) result }
+{
+    if is_present(rows, day, caller, terms) {
+        return Ok(());
+    }
+    let auth = create(rows, day, caller, terms)?;
+    auths.push(auth)?;
+    Ok(())
+}
+
+/// The edit of all rows, on those of a registered holder.
+fn import_rows(
+    alloc: Global,
+    before: &HolderRows,
+    day: Day,
+    caller: &Name,
+    listed: &[AuthTerms],
+) -> Result<Edit, Refusal>
+    ensures { (charter : CharterValue) (history : History) (h : List ℕ) → IsLegal charter history
+        → RowsIfAny history h (Some (rows_of before.now))
+        → AnswersImport charter history h day caller.now listed.now result }
+{
+    let mut rows = before.clone()?;
+    let mut auths = Vec::new(alloc);
+    let mut place = 0;
+    for terms in listed {
+        place += 1;
+        let done = import_row(&mut rows, &mut auths, day, caller, terms);
+        if let Err(refusal) = done {
+            return Err(refusal.at(place));
+        }
+    }
+    Ok(Edit::Import {
+        auths,
+        created: rows.created,
+    })
+}
+
+/// The edit of all rows. A holder that is not registered has no grants, so the first row is denied
+/// for it.
+fn import_edit(
+    alloc: Global,
+    rows: Option<&HolderRows>,
+    day: Day,
+    caller: &Name,
+    listed: &[AuthTerms],
+) -> Result<Edit, Refusal>
+    ensures { (charter : CharterValue) (history : History) (h : List ℕ) → IsLegal charter history
+        → RowsIfAny history h (rows_if_any (option_copied rows.entry))
+        → AnswersImport charter history h day caller.now listed.now result }
+{
+    match rows {
+        Some(before) => import_rows(alloc, before, day, caller, listed),
+        None if listed.is_empty() => Ok(Edit::Import {
+            auths: Vec::new(alloc),
+            created: 0,
+        }),
+        None => Err(Refusal::Denied(Rule::Grant, Some(1))),
+    }
+}
+
+/// All rows or none.
+pub(super) fn decide_import(
+    alloc: Global,
+    basis: Basis<'_>,
+    holder: Holder<'_>,
+    listed: &[AuthTerms],
+) -> Result<Change, Refusal>
+    ensures { (history : History) (rows : Vec AuthTermsValue) → rows.items ≡ listed.now
+        → IsLegal basis.entry.charter.now history
+        → RowsIfAny history holder.entry.name.now (rows_if_any (option_copied holder.entry.rows))
+        → IsAnswer basis.entry.charter.now history basis.entry.day basis.entry.caller.now
+        (Command.Import holder.entry.name.now rows) result }
+{
+    let edit = import_edit(alloc, holder.rows, basis.day, basis.caller, listed)?;
+    Ok(change_of(holder.name, edit))
+}
