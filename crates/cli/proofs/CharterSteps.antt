@@ -28,8 +28,10 @@ use Rattle.addr.proofs.OrderLemmas.{derived_prefix_cmp, derived_prefix_order}
 use Rattle.addr.specs.Order.{family_cmp, prefix_cmp}
 use Rattle.charters.specs.Repeats.{has_repeat}
 use Rattle.cli.specs.CharterFile.{charter_fault, charter_row, fault_of_pair, first_charter_fault, kind_and_value_fault, kind_of, operators_in, pool_in, pool_kind, is_noted, same_row, value_of, HoldsRows}
-use Rattle.cli.specs.CsvRecords.{Fields}
-use Rattle.cli.specs.CsvRows.{at_row, fields_eq, prefix_text, two_of, IsTold}
+use Rattle.csv_records.specs.Fields.{Fields}
+use Rattle.cli.specs.CsvRows.{at_row, IsTold}
+use Rattle.csv_records.specs.Fields.{fields_eq, two_of}
+use Rattle.csv_records.specs.Lines.{prefix_text}
 use Rattle.cli.specs.declared.charter_file.CharterRow.{CharterRow}
 use Rattle.cli.specs.declared.charter_file.CharterRow.TheVariants.{Operator, Pool}
 use Rattle.cli.specs.declared.charter_file.CharterRows.{CharterRows}

@@ -1,8 +1,9 @@
 -- Two files with no fault.
 use Rattle.std.proofs.Common.{◌≡◌, ℕ, List, None, refl}
 use Rattle.cli.specs.Check.{check_fault}
-use Rattle.cli.specs.CsvRecords.{csv_records}
-use Rattle.cli.specs.CsvRows.{file_fault, payload_fault, payload_header, route_fault, route_header}
+use Rattle.csv_records.specs.CsvRecords.{csv_records}
+use Rattle.cli.specs.CsvRows.{file_fault, payload_fault, route_fault, route_header}
+use Rattle.csv_records.specs.Lines.{payload_header}
 
 pub faultless-check : (payloads routes : List ℕ)
     → file_fault payload_header payload_fault (csv_records payloads) ≡ None

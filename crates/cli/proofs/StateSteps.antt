@@ -6,8 +6,9 @@ use Rattle.addr.specs.declared.route.Route.{Route}
 use Rattle.payload.specs.VrpSet as set
 use Rattle.addr.specs.OriginValidation.{state_text}
 use Rattle.cli.specs.Check.{state_line, states_text}
-use Rattle.cli.specs.CsvRecords.{Fields}
-use Rattle.cli.specs.CsvRows.{first_fault, origin_text, prefix_text, route_fault, route_row}
+use Rattle.csv_records.specs.Fields.{Fields}
+use Rattle.cli.specs.CsvRows.{first_fault, origin_text, route_fault, route_row}
+use Rattle.csv_records.specs.Lines.{prefix_text}
 
 pub rows_more : (all left rest : List Fields) (row : Fields) (routes : List Route) (r : Route)
     → all ≡ map route_row routes ++ left → left ≡ row ∷ rest → row ≡ route_row r

@@ -15,8 +15,10 @@ use Rattle.charters.specs.Repeats.{has_repeat}
 use Rattle.charters.specs.Charter.{operators_of, pool_of}
 use Rattle.charters.specs.CharterSets.{AreInNumber}
 use Rattle.charters.specs.declared.charter.Charter.{Charter}
-use Rattle.cli.specs.CsvRecords.{Fields, csv_records}
-use Rattle.cli.specs.CsvRows.{at_row, fields_eq, header_fault, or_else, prefix_fault, prefix_text, two_of, unless}
+use Rattle.csv_records.specs.CsvRecords.{csv_records}
+use Rattle.csv_records.specs.Fields.{Fields, fields_eq, two_of}
+use Rattle.csv_records.specs.Lines.{prefix_text}
+use Rattle.cli.specs.CsvRows.{at_row, header_fault, or_else, prefix_fault, unless}
 use Rattle.cli.specs.ProgramFaults.{fault_of_file}
 use Rattle.cli.specs.declared.charter_file.CharterRow.{CharterRow}
 use Rattle.cli.specs.declared.charter_file.CharterRow.TheVariants.{Operator, Pool}

@@ -11,8 +11,9 @@ use Rattle.cli.specs.ProgramFaults.{fault_of_file}
 use Rattle.cli.specs.declared.fault.InputFile.TheVariants.{Payloads, Routes}
 use Rattle.cli.specs.declared.fault.ProgramFault.{ProgramFault}
 use Rattle.cli.specs.declared.fault.ProgramFault.TheVariants as fault
-use Rattle.cli.specs.CsvRecords.{csv_records}
-use Rattle.cli.specs.CsvRows.{file_fault, or_else, origin_text, payload_fault, payload_header, payload_row, prefix_text, route_fault, route_header, route_row}
+use Rattle.csv_records.specs.CsvRecords.{csv_records}
+use Rattle.cli.specs.CsvRows.{file_fault, or_else, origin_text, payload_fault, route_fault, route_header, route_row}
+use Rattle.csv_records.specs.Lines.{payload_header, payload_row, prefix_text}
 
 -- `prefix,origin,state` and a line feed
 abbrev pub state_line : set.VrpSet → Route → List ℕ

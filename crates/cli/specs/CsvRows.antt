@@ -1,47 +1,20 @@
 -- The rows of CSV files: what they say, and their faults. A file is its header and its rows; of its
 -- faults the first row's counts, and of a row's the leftmost.
-use Rattle.std.specs.Prelude.{ℕ, ◌+◌, ◌≡◌, Bool, true, false, ◌&&◌, if◌then◌else◌, nat_le, List, [], ◌∷◌, drop, map, Option, Some, None, codes, decimal}
-use Rattle.std.specs.Borrow.{Bor}
+use Rattle.std.specs.Prelude.{ℕ, ◌+◌, ◌≡◌, ◌&&◌, if◌then◌else◌, nat_le, List, [], ◌∷◌, drop, Option, Some, None, codes}
 use Rattle.std.specs.Option.{option_and_then, option_map}
 use Rattle.std.specs.Str.{bytes_eq}
 use Rattle.addr.specs.Digits.{asn_in, asn_text, number_in}
 use Rattle.addr.specs.Family.{width}
-use Rattle.addr.specs.PrefixText.{loose, prefix_text_fault, spelling}
-use Rattle.addr.specs.declared.prefix.Prefix.{Prefix}
+use Rattle.addr.specs.PrefixText.{loose, prefix_text_fault}
 use Rattle.addr.specs.declared.route.Origin.{Origin}
 use Rattle.addr.specs.declared.route.Origin.TheVariants.{As, None as NoOrigin}
 use Rattle.addr.specs.declared.route.Route.{Route}
-use Rattle.addr.specs.declared.vrp.Vrp.{Vrp}
-use Rattle.cli.specs.CsvRecords.{Fields}
+use Rattle.csv_records.specs.Fields.{Fields, fields_eq, three_of, two_of}
+use Rattle.csv_records.specs.Lines.{prefix_text}
 use Rattle.cli.specs.declared.fault.FileFault.{FileFault}
 use Rattle.cli.specs.declared.fault.FileFault.TheVariants as file
 use Rattle.cli.specs.declared.fault.RowFault.{RowFault}
 use Rattle.cli.specs.declared.fault.RowFault.TheVariants as row
-
--- ---- fields
-
-abbrev pub two_of : Fields → Option (List ℕ × List ℕ)
-two_of [] = None
-two_of (a ∷ []) = None
-two_of (a ∷ b ∷ []) = Some (a, b)
-two_of (a ∷ b ∷ c ∷ rest) = None
-
-abbrev pub three_of : Fields → Option (List ℕ × (List ℕ × List ℕ))
-three_of [] = None
-three_of (a ∷ []) = None
-three_of (a ∷ b ∷ []) = None
-three_of (a ∷ b ∷ c ∷ []) = Some (a, (b, c))
-three_of (a ∷ b ∷ c ∷ d ∷ rest) = None
-
-abbrev pub fields_eq : Fields → Fields → Bool
-fields_eq [] [] = true
-fields_eq [] (b ∷ rest) = false
-fields_eq (a ∷ rest) [] = false
-fields_eq (a ∷ one) (b ∷ two) = bytes_eq a b && fields_eq one two
-
--- the bytes of some texts
-abbrev pub texts_of : List (Bor (List ℕ)) → Fields
-texts_of texts = map (λ text. text.now) texts
 
 -- ---- faults of a file
 
@@ -75,15 +48,6 @@ IsTold file.Header first = first ≡ Some file.Header
 IsTold (file.Row k fault) first = first ≡ Some (file.Row k fault)
 
 -- ---- payload rows: AS, prefix and maxLength
-
-abbrev pub prefix_text : Prefix → List ℕ
-prefix_text p = spelling p.family p.first p.length
-
-abbrev pub payload_header : Fields
-payload_header = codes "asn" ∷ codes "prefix" ∷ codes "maxlength" ∷ []
-
-abbrev pub payload_row : Vrp → Fields
-payload_row v = asn_text v.asn.0 ∷ prefix_text v.prefix ∷ decimal v.max ∷ []
 
 abbrev pub unless : {T : Type 0} → Option T → RowFault → Option RowFault
 unless (Some good) fault = None

@@ -1,5 +1,4 @@
 pub mod Check
-pub mod CsvRecords
 pub mod CsvRows
 pub mod ProgramFaults
 pub mod Words

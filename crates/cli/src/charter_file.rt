@@ -2,15 +2,16 @@
 ghost use Rattle.std.specs.Prelude.{◌≡◌, ◌+◌, ◌++◌, ◌∷◌, ◌||◌, not, [], List, None, Some, map, length, IfOk, IfErr, OnOk, MatchResult};
 ghost use Rattle.csv.specs.Records.{fields_of};
 ghost use Rattle.cli.specs.CharterFile.{charter_fault, charter_file_fault, charter_row, first_charter_fault, kind_and_value_fault, kind_of, operators_in, pool_in, is_noted, same_row, value_of, HoldsRows, IsCharterFile, IsCharterOf, RefusesCharter};
-ghost use Rattle.cli.specs.CsvRecords.{csv_records, records_left, IsReading};
+ghost use Rattle.csv_records.specs.CsvRecords.{csv_records, records_left, IsReading};
 ghost use Rattle.cli.specs.CsvRows.{at_row, IsTold};
 ghost use Rattle.cli.specs.declared.charter_file.CharterRow as read;
 ghost use Rattle.cli.specs.declared.fault.FileFault.TheVariants as file;
 
 use crate::fault::{FileFault, InputFile, ProgramFault, RowFault};
-use crate::files::{CsvRecords, two_fields};
+use crate::files::after_header;
 use addr::{Name, Prefix};
 use csv::ByteRecord;
+use csv_records::{CsvRecords, two_fields};
 use policy::{Charter, CharterFault};
 use std::alloc::{AllocError, Global};
 use std::collections::BTreeSet;
@@ -55,7 +56,7 @@ fn read_charter(alloc: Global, text: &[u8]) -> Result<CharterRows, FileFault>
     ensures faultless { IfOk result (λ kept. charter_file_fault (csv_records text.now) ≡ None) }
     ensures err { IfErr result (λ fault. IsTold fault (charter_file_fault (csv_records text.now))) }
 {
-    let mut records = CsvRecords::after_header(alloc, text, &["kind", "value"])?;
+    let mut records = after_header(alloc, text, &["kind", "value"])?;
     read_rows(alloc, &mut records)
 }
 

@@ -4,11 +4,12 @@ ghost use Rattle.addr.specs.OriginValidation.{state_text};
 ghost use Rattle.addr.specs.declared.route.Route as announced;
 ghost use Rattle.payload.specs.ValidityState.{state_of};
 ghost use Rattle.cli.specs.Check.{states_text, check_fault, JudgesFiles, EndsCheck};
-ghost use Rattle.cli.specs.CsvRecords.{csv_records, records_left, IsReading};
+ghost use Rattle.csv_records.specs.CsvRecords.{csv_records, records_left, IsReading};
 ghost use Rattle.cli.specs.CsvRows.{file_fault, first_fault, route_fault, route_header, route_row, IsTold};
 
 use crate::fault::{FileFault, InputFile, ProgramFault};
-use crate::files::{CsvRecords, RouteRow, read_payloads, read_route};
+use crate::files::{RouteRow, after_header, read_payloads, read_route};
+use csv_records::CsvRecords;
 use payload::{ListIndex, PayloadIndex, Validity};
 use std::alloc::{AllocError, Global};
 use web::{Drain, write_all};
@@ -53,7 +54,7 @@ fn lines_of(alloc: Global, index: &ListIndex, text: &[u8]) -> Result<Vec<u8>, Fi
     ensures err { IfErr result (λ fault.
         IsTold fault (file_fault route_header route_fault (csv_records text.now))) }
 {
-    let mut records = CsvRecords::after_header(alloc, text, &["prefix", "origin"])?;
+    let mut records = after_header(alloc, text, &["prefix", "origin"])?;
     lines_of_rows(alloc, index, &mut records)
 }
 

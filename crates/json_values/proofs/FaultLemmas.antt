@@ -69,7 +69,7 @@ pub told-optional : {A F : Type 0} (number : F → ℕ) (reading : Data → Resu
 told-optional number reading faults None h = record { is = refl }
 told-optional number reading faults (Some d) h = told-mapped Some (h d)
 
-pub told-each : {A F : Type 0} (number : F → ℕ) (reading : Data → Result A F) (faults : Data → List F) (ds : List Data) → ((d : Data) → Told number (reading d) (faults d)) → Told number (each number reading ds) (flat_map faults ds)
+pub told-each : {A D F : Type 0} (number : F → ℕ) (reading : D → Result A F) (faults : D → List F) (ds : List D) → ((d : D) → Told number (reading d) (faults d)) → Told number (each number reading ds) (flat_map faults ds)
 told-each number reading faults [] h = record { is = refl }
 told-each number reading faults (d ∷ ds) h = told-mapped (λ p. p.0 ∷ p.1) (told-both (h d) (told-each number reading faults ds h))
 

@@ -1,3 +1,4 @@
 pub mod PartsLemmas
 pub mod TreeLemmas
 pub mod FaultLemmas
+pub mod ReadingLemmas

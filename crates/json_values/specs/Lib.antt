@@ -2,3 +2,4 @@ pub mod Parts
 pub mod Tree
 pub mod Values
 pub mod Faults
+pub mod Gathering

@@ -1,7 +1,7 @@
 ghost use Rattle.std.specs.Prelude.{◌≡◌, ℕ};
 ghost use Rattle.json_values.specs.Parts.{lower};
 
-/// What may be wrong with a JSON text.
+/// What may be wrong with a text.
 pub trait Fault: Copy {
     ghost number: { Self → ℕ };
 
@@ -11,7 +11,7 @@ pub trait Fault: Copy {
     fn number(self) -> u8
         ensures { result ≡ number self };
 
-    /// Of what is no object or array, and where a member is missing or unknown.
+    /// Of JSON that is no object or array, and where a member is missing or unknown.
     fn members() -> Self
         ensures { result ≡ members };
 }

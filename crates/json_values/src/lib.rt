@@ -10,7 +10,7 @@ mod text;
 mod values;
 
 pub use fault::Fault;
-pub use lists::each;
+pub use lists::{Gathered, each};
 pub use members::{FromJson, member, only, optional, required};
 pub use pairs::{both, unless};
 pub use text::tree_of;

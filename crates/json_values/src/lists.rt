@@ -1,23 +1,34 @@
-ghost use Rattle.std.specs.Prelude.{◌≡◌, map, IfOk, OnOk};
+ghost use Rattle.std.specs.Prelude.{◌≡◌, map, [], Ok, IfOk, OnOk};
 ghost use Rattle.serde_json.specs.View.{view};
-ghost use Rattle.json_values.specs.Parts.{each, gathered, mapped, with_last};
+ghost use Rattle.json_values.specs.Gathering.{so_far};
+ghost use Rattle.json_values.specs.Parts.{each, mapped, with_last};
 
 use crate::fault::lower;
 use crate::{Fault, FromJson};
 use serde_json::Value;
 use std::alloc::{AllocError, Global};
 
-/// All values that were read, or the lowest fault of any.
+/// What was read of some items so far: all of their values, or the lowest fault of any.
 #[derive(Drop)]
-struct Gathered<T, F> {
+pub struct Gathered<T, F> {
     values: Vec<T>,
     fault: Option<F>,
 }
 
 impl<T: Drop, F: Fault> Gathered<T, F> {
-    fn add(&mut self, value: Result<T, F>) -> Result<(), AllocError>
-        ensures { OnOk result (gathered self.new.fault self.new.values.items
-            ≡ with_last F.number (gathered self.old.fault self.old.values.items) value) }
+    pub fn new(alloc: Global) -> Gathered<T, F>
+        ensures { so_far result ≡ Ok [] }
+    {
+        Gathered {
+            values: Vec::new(alloc),
+            fault: None,
+        }
+    }
+
+    /// Takes what was read of the next item.
+    pub fn add(&mut self, value: Result<T, F>) -> Result<(), AllocError>
+        ensures { OnOk result
+            (so_far self.new ≡ with_last F.number (so_far self.old) value) }
     {
         match (value, self.fault) {
             (Ok(value), None) => self.values.push(value)?,
@@ -28,8 +39,8 @@ impl<T: Drop, F: Fault> Gathered<T, F> {
         Ok(())
     }
 
-    fn finish(self) -> Result<Vec<T>, F>
-        ensures { mapped (λ v. v.items) result ≡ gathered self.fault self.values.items }
+    pub fn finish(self) -> Result<Vec<T>, F>
+        ensures { mapped (λ v. v.items) result ≡ so_far self }
     {
         match self.fault {
             None => Ok(self.values),
@@ -46,10 +57,7 @@ pub fn each<T: FromJson<F>, F: Fault>(
     ensures { IfOk result (λ read. mapped (λ v. v.items) read
         ≡ each F.number T.reading (map view values.now)) }
 {
-    let mut gathered = Gathered {
-        values: Vec::new(alloc),
-        fault: None,
-    };
+    let mut gathered = Gathered::new(alloc);
     for value in values {
         gathered.add(T::from_json(value))?;
     }

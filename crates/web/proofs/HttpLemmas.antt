@@ -1,20 +1,22 @@
 -- The answers to HTTP requests and the responses that tell them.
 use Rattle.std.proofs.Common.{◌≡◌, ℕ, List, ◌++◌, Option, Some, None, Result, Ok, Err, refl, ap, ◌∙◌, append_assoc, inl, inr}
 use Rattle.std.specs.Global.{Vec}
-use Rattle.std.specs.Prelude.{IfOk, IfSome}
+use Rattle.std.proofs.lemmas.Option.{same_Some}
+use Rattle.std.specs.Prelude.{IfSome}
 use Rattle.std.specs.Result.{OnErr, OnOk}
-use Rattle.std.specs.declared.alloc.AllocError.{AllocError}
 use Rattle.sqlite.specs.Store.{Ghosts}
+use Rattle.addr.specs.declared.vrp.Vrp.{Vrp}
+use Rattle.policy.specs.declared.authorization.Auth.{Auth}
 use Rattle.policy.specs.History.{History}
 use Rattle.policy.specs.Verdict.{IsLegal}
 use Rattle.charters.specs.declared.charter.Charter.{Charter}
 use Rattle.http_messages.specs.HeadEnd.{IsWholeHead}
 use Rattle.http_messages.specs.Input.{Gives}
 use Rattle.http_messages.specs.Requests.{AnswersHead, asked_by, Asked as Head}
-use Rattle.http_messages.specs.ResponseText.{response_text}
 use Rattle.http_messages.specs.declared.request.Request.{Request as HeadRequest}
 use Rattle.http_messages.specs.declared.response.ContentType.{ContentType}
-use Rattle.http_messages.specs.declared.status.Status.TheVariants.{Done as DoneStatus}
+use Rattle.http_messages.specs.declared.response.ContentType.TheVariants.{Csv}
+use Rattle.http_messages.specs.declared.status.Status.TheVariants.{Done as DoneStatus, Forbidden, ServiceUnavailable}
 use Rattle.desk.specs.Answer.{AnswersRequest, IsAnswered}
 use Rattle.desk.specs.Desk.{charter_of, HoldsHistory, IsOnCleanDisk}
 use Rattle.desk.specs.declared.asked.Asked.{Asked}
@@ -22,14 +24,14 @@ use Rattle.desk.specs.declared.asked.Request.{Request}
 use Rattle.desk.specs.declared.asked.Request.TheVariants.{Command as CommandRequest, Query as QueryRequest}
 use Rattle.desk.specs.declared.handling.Desk.{Desk}
 use Rattle.desk.specs.declared.reply.Reply.{Reply}
-use Rattle.desk.specs.declared.reply.Reply.TheVariants.{Done, Imported, Denied, Unavailable}
+use Rattle.desk.specs.declared.reply.Reply.TheVariants.{Done, Imported, Listed, Payloads, Denied, Unavailable}
 use Rattle.web.specs.HttpAnswers.{KeepsHistories, RepliesAt, RespondsTo}
 use Rattle.web.specs.HttpRequests.{asked, malformed, refused, SaysHead}
-use Rattle.web.specs.HttpResponses.{reply_response}
-use Rattle.web.specs.ReplyText.{short_text}
-use Rattle.web.specs.steps.HttpAnswering.{AnswersWith, IsReplyResponse, IsResponse, shown_response}
+use Rattle.web.specs.HttpResponses.{json_response, reply_body, reply_response, reply_status}
+use Rattle.web.specs.ReplyText.{line_text, short_text}
+use Rattle.web.specs.steps.HttpAnswering.{AnswersWith, IsResponse}
 use Rattle.web.specs.declared.http.answer.HttpAnswer.{HttpAnswer}
-use Rattle.web.specs.declared.http.answer.HttpAnswer.TheVariants.{Malformed, Refused, Replied}
+use Rattle.web.specs.declared.http.answer.HttpAnswer.TheVariants.{Malformed, NotRead, Refused, Replied}
 
 -- a text of which this holds, where a call ended well or ill
 pub text-ok : {T E : Type 0} (r : Result T E) (P Q : List ℕ → Type 0) (text : List ℕ)
@@ -42,12 +44,27 @@ pub text-err : {T E : Type 0} (r : Result T E) (P Q : List ℕ → Type 0) (text
 text-err (Ok x) P Q text holds written = tt
 text-err (Err e) P Q text holds written = (text, holds, written)
 
--- a reply that shows something, with its body where memory was found for it
-pub shown-is : (content_type : ContentType) (text : List ℕ) (body : Result (Vec ℕ) AllocError) (reply : Reply)
-    → IfOk body (λ collected. collected.items ≡ text) → response_text DoneStatus content_type text ≡ reply_response reply
-    → short_text reply ≡ None → IsReplyResponse reply (shown_response content_type body)
-shown-is content_type text (Ok body) reply is whole long = inl (ap (response_text DoneStatus content_type) is ∙ whole)
-shown-is content_type text (Err error) reply is whole long = inr (long, refl)
+-- a reply's text, where it has a bound: the body of its response
+pub short-response : (form : ContentType) (reply : Reply) (text : List ℕ) → Some text ≡ short_text reply
+    → json_response (reply_status reply) text ≡ reply_response form reply
+short-response form (Done number) text is = ap (json_response DoneStatus) (same_Some text _ is)
+short-response form (Imported made present) text is = ap (json_response DoneStatus) (same_Some text _ is)
+short-response form (Denied rule row) text is = ap (json_response Forbidden) (same_Some text _ is)
+short-response form Unavailable text is = ap (json_response ServiceUnavailable) (same_Some text _ is)
+short-response form other text is = cc
+
+-- one that shows something has this status
+pub long-status : (reply : Reply) → short_text reply ≡ None → reply_status reply ≡ DoneStatus
+long-status (Denied rule row) long = cc
+long-status Unavailable long = cc
+long-status other long = refl
+
+-- what CSV has no rows for
+pub csv-other : (reply : Reply) → ((auths : Vec Auth) → reply ≡ Listed auths → ⊥) → ((vrps : Vec Vrp) → reply ≡ Payloads vrps → ⊥)
+    → line_text reply ≡ reply_body Csv reply
+csv-other (Listed auths) no_list no_payloads = absurd (no_list auths refl)
+csv-other (Payloads vrps) no_list no_payloads = absurd (no_payloads vrps refl)
+csv-other other no_list no_payloads = refl
 
 -- ---- bytes
 
@@ -99,14 +116,11 @@ module _ {S : Type 0} (g : Ghosts S) where
       → AnswersWith g old day bytes answer new → IsResponse answer text → RespondsTo g old day bytes text new
   responds old new day bytes text (Refused refusal) (reads, same) is = inl (refused refusal, reads, (is, same))
   responds old new day bytes text (Malformed fault) (reads, same) is = inl (malformed fault, reads, (is, same))
-  responds old new day bytes text (Replied reply) (inl (request, reads, replies)) (inl is) =
-      inl (asked request, reads, (reply, is, replies))
-  responds old new day bytes text (Replied reply) (inl (request, reads, replies)) (inr (long, is)) =
+  responds old new day bytes text (Replied form reply) (request, reads, replies) (inl is) =
+      inl (asked form request, reads, (reply, is, replies))
+  responds old new day bytes text (Replied form reply) (request, reads, replies) (inr (long, is)) =
       inr (inr (reads.0, reads.1, reads.2), is, shown_keeps old new request reply replies long)
-  responds old new day bytes text (Replied reply) (inr (within, unavailable, same)) (inl is) =
-      inr (within, rw unavailable at is, rw same (same_keeps old))
-  responds old new day bytes text (Replied reply) (inr (within, unavailable, same)) (inr (long, is)) =
-      inr (within, is, rw same (same_keeps old))
+  responds old new day bytes text NotRead (within, same) is = inr (within, is, rw same (same_keeps old))
 
   -- the head, and then the rest of the message
   pub next-answered : (old new : Desk S) (day : ℕ) (r : Option HttpAnswer) (said : Head) (head before between after : List ℕ)

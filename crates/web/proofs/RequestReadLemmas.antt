@@ -3,7 +3,7 @@ use Rattle.std.proofs.Common.{◌≡◌, ℕ, Bool, true, false, if◌then◌els
 use Rattle.std.specs.List.{AllZip, flat_map}
 use Rattle.policy.specs.declared.command.Command.TheVariants.{Import}
 use Rattle.policy.specs.declared.command.Proposed.TheVariants.{Create as CreateChange, Withdraw as WithdrawChange}
-use Rattle.policy.specs.declared.command.Query.TheVariants.{Validity, WhatIf}
+use Rattle.policy.specs.declared.command.Query.TheVariants.{Validity}
 use Rattle.serde_json.specs.Data.{Data, Items}
 use Rattle.serde_json.specs.Find.{get, as_array, as_str}
 use Rattle.slurm.specs.SlurmEntries.{SaysExceptions}
@@ -15,7 +15,7 @@ use Rattle.desk.specs.declared.asked.Asked.{Asked}
 use Rattle.desk.specs.declared.asked.Request.{Request}
 use Rattle.desk.specs.declared.asked.Request.TheVariants.{Command as CommandRequest, Query as QueryRequest}
 use Rattle.web.specs.RequestFaults.{as_malformed, malformed_number, role_at, terms_members, creation_members, withdrawal_members, route_members, names_of, is_count, object_faults, list_faults, change_faults, rows, changes, routes, file, action_in, action_of, body_members, member_faults, named_by, named_member, Named, HolderName, NumberGiven, Kind, any_value, members_of, action_faults, tree_faults, request_faults, request_fault}
-use Rattle.web.specs.RequestText.{HasName, HasDay, HasTerms, SaysChange, SaysRoute, HasItems, HasRoutes, Heading, Does, NamesHolder, NamesNumber, SaysRequest, line_heading, ReadsLine}
+use Rattle.web.specs.RequestText.{HasName, HasDay, HasTerms, SaysChange, SaysRoute, HasItems, HasRoutes, Heading, Does, NamesHolder, NamesNumber, SaysRequest, line_heading, ReadsLine, SaysRows}
 use Rattle.json_values.specs.Values.{as_name, as_prefix, as_day, as_asn}
 use Rattle.web.specs.RequestValues.{as_origin, as_max, as_number, as_role, as_scope}
 use Rattle.web.specs.declared.lines.TheConstants.{LINE_LENGTH_LIMIT}
@@ -26,7 +26,8 @@ use Rattle.web.specs.declared.request.fault.Fault.{Fault}
 use Rattle.web.specs.declared.request.commands.Subject.{Subject}
 use Rattle.web.specs.declared.request.fault.Fault.TheVariants.{Members, Holder, Caller, Prefix as PrefixFault, Asn, Max, Day, Role, Number, Count, TooLong}
 use Rattle.web.specs.steps.RequestReading.{RequestTerms, request, import, validity, what_if, AskedTerms, request_terms, asked_terms, terms_in, row_in, change_by, change_in, route_in, items_of, rows_in, changes_in, routes_in, file_in, request_in, line_subject, asked_as, asked_by, asked_from, asked_in}
-use Rattle.web.proofs.RequestFaultLemmas.{ReadsUnlessFaulty, reads-both, reads-mapped, reads-unless, reads-last, reads-says, ReadsMember, reads-member, reads-each, lowest-none}
+use Rattle.json_values.proofs.ReadingLemmas.{reads-both, reads-mapped, reads-unless, reads-last, reads-says, reads-each, lowest-none}
+use Rattle.web.proofs.RequestFaultLemmas.{ReadsUnlessFaulty, ReadsMember, reads-member}
 use Rattle.web.proofs.SlurmReadLemmas.{reads-file}
 
 -- ---- members
@@ -118,7 +119,7 @@ reads-routes d = reads-list route_in (object_faults route_members) SaysRoute 1 M
 
 abbrev pub SaysTerms : Heading → Data → RequestTerms → Type 0
 SaysTerms h d (request r) = SaysRequest h d r
-SaysTerms h d (import holder listed) = Does AskImport h × NamesHolder h holder × HasItems HasTerms h.rows listed
+SaysTerms h d (import holder listed) = Does AskImport h × NamesHolder h holder × SaysRows h.rows listed
 SaysTerms h d (validity listed) = Does AskValidity h × HasRoutes d listed
 SaysTerms h d (what_if holder supposed listed) =
     Does AskWhatIf h × NamesHolder h holder × HasItems SaysChange (get (codes "changes") d) supposed × HasRoutes d listed
@@ -147,7 +148,7 @@ module _ (h : Heading) (subject : Subject) (named : Named → List Fault)
   -- and so the rows
   abbrev pub ReadsRows : Data → Type 0
   ReadsRows d = Does AskImport h
-      → ReadsUnlessFaulty (rows_in d) (required_faults Members (rows d) (get (codes "rows") d)) (HasItems HasTerms h.rows)
+      → ReadsUnlessFaulty (rows_in d) (required_faults Members (rows d) (get (codes "rows") d)) (SaysRows h.rows)
 
   pub reads-request : (action : Action) (d : Data) → Does action h → ReadsFile d → ReadsRows d →
       ReadsUnlessFaulty (request_in action subject d) (said_faults named action d) (SaysTerms h d)
@@ -256,7 +257,7 @@ line-read line asked read =
       day = says.2;
       caller = says.3;
       request = terms-said (line_heading says.0) says.0 asked.request says.4;
-      faultless = lowest-none (request_faults line) (sym fault);
+      faultless = lowest-none malformed_number (request_faults line) (sym fault);
     }
 
 -- what is told of a line is its lowest fault

@@ -1,6 +1,6 @@
 -- What is read of a SLURM file in a request: the exceptions that it says are those that one reading
 -- of its tree gives, and its fault is that reading's.
-use Rattle.std.proofs.Common.{◌≡◌, ℕ, List, [], ◌∷◌, Option, Some, None, Result, Ok, Err, refl, sym, ap, ◌∙◌, subst, map, codes}
+use Rattle.std.proofs.Common.{◌≡◌, List, [], ◌∷◌, Option, Some, None, Result, Ok, Err, refl, sym, ap, ◌∙◌, subst, map, codes}
 use Rattle.std.proofs.lemmas.Option.{none-some, same_Some}
 use Rattle.std.specs.List.{AllZip}
 use Rattle.std.specs.Option.{option_to_list}
@@ -12,7 +12,7 @@ use Rattle.addr.specs.PrefixText.{Spells}
 use Rattle.addr.specs.declared.asn.Asn.{Asn}
 use Rattle.addr.specs.declared.prefix.Prefix.{Prefix}
 use Rattle.addr.specs.declared.vrp.Vrp.{Vrp}
-use Rattle.serde_json.specs.Data.{Data, number, string, unsigned}
+use Rattle.serde_json.specs.Data.{Data}
 use Rattle.serde_json.specs.Find.{get}
 use Rattle.slurm.proofs.SlurmEntryLemmas.{answer-said}
 use Rattle.slurm.proofs.SlurmFaultLemmas.{slurm_fault-told}
@@ -26,7 +26,6 @@ use Rattle.slurm.specs.steps.SlurmFile.{slurm_in}
 use Rattle.json_values.specs.Faults.{lowest, required_faults}
 use Rattle.json_values.specs.Tree.{required}
 use Rattle.web.specs.RequestFaults.{file, file_faults, malformed_number}
-use Rattle.web.specs.declared.request.fault.Fault.{Fault}
 use Rattle.web.specs.declared.request.fault.Fault.TheVariants.{File, Members}
 use Rattle.web.specs.steps.RequestReading.{as_file, file_in, file_of}
 use Rattle.web.proofs.RequestFaultLemmas.{ReadsUnlessFaulty}

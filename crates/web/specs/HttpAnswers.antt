@@ -6,9 +6,8 @@ use Rattle.desk.specs.Desk.{charter_of}
 use Rattle.desk.specs.declared.asked.Asked.{Asked}
 use Rattle.desk.specs.declared.handling.Desk.{Desk}
 use Rattle.desk.specs.declared.reply.Reply.{Reply}
-use Rattle.desk.specs.declared.reply.Reply.TheVariants.{Unavailable}
 use Rattle.web.specs.HttpRequests.{asked, HttpRequest, IsWithinMessage, malformed, ReadsHttp, refused}
-use Rattle.web.specs.HttpResponses.{malformed_response, refusal_response, reply_response}
+use Rattle.web.specs.HttpResponses.{malformed_response, refusal_response, reply_response, unavailable_response}
 use Rattle.web.specs.ScriptAnswer.{OnHistories}
 
 -- the reply to a request, on each history that the desk stands for
@@ -20,16 +19,16 @@ RepliesAt g old request reply new = OnHistories g old new (λ before after.
 abbrev pub KeepsHistories : {S : Type 0} → Ghosts S → Desk S → Desk S → Type 0
 KeepsHistories g old new = OnHistories g old new (λ before after. after ≡ before)
 
--- the response to what the bytes ask for; what is refused or malformed is not asked of the desk
+-- the response to what the bytes ask for, a list in the form in which it is asked for; what is refused or malformed is not asked of the desk
 abbrev pub AnswersHttp : {S : Type 0} → Ghosts S → Desk S → HttpRequest → List ℕ → Desk S → Type 0
 AnswersHttp g old (refused refusal) text new = (text ≡ refusal_response refusal) × (new ≡ old)
 AnswersHttp g old (malformed fault) text new = (text ≡ malformed_response fault) × (new ≡ old)
-AnswersHttp g old (asked request) text new =
-    (reply : Reply) × (text ≡ reply_response reply) × RepliesAt g old request reply new
+AnswersHttp g old (asked form request) text new =
+    (reply : Reply) × (text ≡ reply_response form reply) × RepliesAt g old request reply new
 
 -- The response of a desk to the bytes that were read, on a day. Where no memory was found to read the request or to
 -- write what it shows, the response says so and nothing has changed.
 abbrev pub RespondsTo : {S : Type 0} → Ghosts S → Desk S → ℕ → List ℕ → List ℕ → Desk S → Type 0
 RespondsTo g old day bytes text new =
     ((request : HttpRequest) × ReadsHttp day bytes request × AnswersHttp g old request text new)
-    ⊎ (IsWithinMessage bytes × (text ≡ reply_response Unavailable) × KeepsHistories g old new)
+    ⊎ (IsWithinMessage bytes × (text ≡ unavailable_response) × KeepsHistories g old new)

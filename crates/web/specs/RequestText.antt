@@ -14,6 +14,7 @@ use Rattle.serde_json.specs.Data.{Data, Items}
 use Rattle.serde_json.specs.Find.{get, as_array}
 use Rattle.json_values.specs.Tree.{tree_of, list_of}
 use Rattle.slurm.specs.SlurmEntries.{SaysExceptions}
+use Rattle.csv_records.specs.Imports.{IsImport}
 use Rattle.desk.specs.declared.asked.Asked.{Asked}
 use Rattle.desk.specs.declared.asked.Request.{Request}
 use Rattle.desk.specs.declared.asked.Request.TheVariants.{Command as CommandRequest, Query as QueryRequest}
@@ -62,6 +63,15 @@ HasItems Says member values = (items : Items)
 abbrev pub HasRoutes : Data → List Route → Type 0
 HasRoutes d = HasItems SaysRoute (get (codes "routes") d)
 
+-- the rows of an import: a member of JSON, or a CSV text
+pub data RowsBrought : Type 0 where
+  in_member : Option Data → RowsBrought
+  in_text : List ℕ → RowsBrought
+
+abbrev pub SaysRows : RowsBrought → List AuthTerms → Type 0
+SaysRows (in_member member) rows = HasItems HasTerms member rows
+SaysRows (in_text text) rows = IsImport text rows
+
 -- what a request says outside of the members that lines and bodies have in common: what it asks, the holder and
 -- the number that it names, and the SLURM file or the rows that it brings
 pub record Heading : Type 0 where
@@ -69,7 +79,7 @@ pub record Heading : Type 0 where
   pub holder : Option (List ℕ)
   pub number : Option ℕ
   pub file : Option Data
-  pub rows : Option Data
+  pub rows : RowsBrought
 
 abbrev pub Does : Action → Heading → Type 0
 Does action h = h.action ≡ Some action
@@ -104,7 +114,7 @@ SaysCommand h d (Amend holder number max until) =
 SaysCommand h d (Withdraw holder number) =
     Does AskWithdraw h × NamesHolder h holder × NamesNumber h number
 SaysCommand h d (Import holder rows) =
-    Does AskImport h × NamesHolder h holder × HasItems HasTerms h.rows rows.items
+    Does AskImport h × NamesHolder h holder × SaysRows h.rows rows.items
 SaysCommand h d (Slurm file) = Does AskSlurm h × SaysExceptions h.file file
 
 abbrev pub SaysQuery : Heading → Data → Query → Type 0
@@ -130,7 +140,7 @@ line_heading d = record {
   holder = option_and_then as_name (get (codes "holder") d);
   number = option_and_then as_number (get (codes "number") d);
   file = get (codes "file") d;
-  rows = get (codes "rows") d;
+  rows = in_member (get (codes "rows") d);
 }
 
 -- the line is this request, and has no fault

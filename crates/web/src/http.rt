@@ -7,6 +7,7 @@ ghost use Rattle.http_messages.specs.Input.{Gives, IsOver};
 ghost use Rattle.http_messages.specs.Requests.{asked_by};
 ghost use Rattle.web.specs.HttpAnswers.{RespondsTo};
 ghost use Rattle.web.specs.HttpRequests.{IsCutShort, IsMessage, SaysHead};
+ghost use Rattle.web.specs.HttpResponses.{list_form};
 ghost use Rattle.web.specs.ScriptAnswer.{IsLaterDesk};
 ghost use Rattle.web.specs.steps.HttpAnswering.{AnswersWith};
 
@@ -17,9 +18,10 @@ use crate::request::LineFault;
 use crate::request::message::read_http_request;
 use addr::Day;
 use answer::HttpAnswer;
-use desk::{Desk, Reply};
+use desk::Desk;
 use http_messages::{
-    BodyFault, HeadFault, Refusal, Request, RequestFault, read_body, read_head, read_request,
+    Action, BodyFault, ContentType, HeadFault, Refusal, Request, RequestFault, read_body,
+    read_head, read_request,
 };
 use sqlite::Alter;
 use std::alloc::Global;
@@ -110,7 +112,7 @@ fn answer_next<S: Source, A: Alter>(
     match read_request(alloc, head.as_slice()) {
         Ok(request) => answer_request(alloc, source, desk, day, &request),
         Err(RequestFault::Refused(refusal)) => Some(HttpAnswer::Refused(refusal)),
-        Err(RequestFault::Memory) => Some(HttpAnswer::Replied(Reply::Unavailable)),
+        Err(RequestFault::Memory) => Some(HttpAnswer::NotRead),
     }
 }
 
@@ -139,7 +141,7 @@ fn answer_request<S: Source, A: Alter>(
     match read_body(alloc, source, size) {
         Ok(body) => Some(answer_to(alloc, desk, day, request, Some(body.as_slice()))),
         Err(BodyFault::CutShort) => None,
-        Err(BodyFault::Memory) => Some(HttpAnswer::Replied(Reply::Unavailable)),
+        Err(BodyFault::Memory) => Some(HttpAnswer::NotRead),
     }
 }
 
@@ -157,8 +159,20 @@ fn answer_to<A: Alter>(
     ensures later { IsLaterDesk A.Store desk.old desk.new }
 {
     match read_http_request(alloc, day, request, body) {
-        Ok(asked) => HttpAnswer::Replied(desk.handle(asked.day, &asked.caller, &asked.request)),
+        Ok(asked) => HttpAnswer::Replied(
+            list_form(request.action),
+            desk.handle(asked.day, &asked.caller, &asked.request),
+        ),
         Err(LineFault::Malformed(malformed)) => HttpAnswer::Malformed(malformed),
-        Err(LineFault::Memory) => HttpAnswer::Replied(Reply::Unavailable),
+        Err(LineFault::Memory) => HttpAnswer::NotRead,
+    }
+}
+
+fn list_form(action: Action) -> ContentType
+    ensures { result ≡ list_form action }
+{
+    match action {
+        Action::Export => ContentType::Csv,
+        _ => ContentType::Json,
     }
 }

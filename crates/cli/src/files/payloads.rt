@@ -3,14 +3,15 @@ ghost use Rattle.std.specs.Prelude.{◌≡◌, [], ◌∷◌, None, Some, map, d
 ghost use Rattle.csv.specs.Records.{fields_of};
 ghost use Rattle.addr.specs.Address.{FitsMaxLength};
 ghost use Rattle.addr.specs.Family.{width};
-ghost use Rattle.cli.specs.CsvRecords.{csv_records, records_left, IsReading};
-ghost use Rattle.cli.specs.CsvRows.{file_fault, first_fault, number_between, payload_fault, payload_header, payload_row, payload_texts_fault, IsTold};
+ghost use Rattle.csv_records.specs.CsvRecords.{csv_records, records_left, IsReading};
+ghost use Rattle.cli.specs.CsvRows.{file_fault, first_fault, number_between, payload_fault, payload_texts_fault, IsTold};
+ghost use Rattle.csv_records.specs.Lines.{payload_header, payload_row};
 
-use super::CsvRecords;
-use super::fields::three_fields;
+use super::after_header;
 use crate::fault::{FileFault, RowFault};
 use addr::{Asn, Prefix, Vrp, number_from_text};
 use csv::ByteRecord;
+use csv_records::{CsvRecords, three_fields};
 use std::alloc::Global;
 
 // The VRPs of the rows.
@@ -22,7 +23,7 @@ pub(crate) fn read_payloads(alloc: Global, text: &[u8]) -> Result<Vec<Vrp>, File
     ensures err { IfErr result (λ fault.
         IsTold fault (file_fault payload_header payload_fault (csv_records text.now))) }
 {
-    let mut records = CsvRecords::after_header(alloc, text, &["asn", "prefix", "maxlength"])?;
+    let mut records = after_header(alloc, text, &["asn", "prefix", "maxlength"])?;
     read_rows(alloc, &mut records)
 }
 

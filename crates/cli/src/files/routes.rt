@@ -1,13 +1,14 @@
 // Route files: announced routes.
 ghost use Rattle.std.specs.Prelude.{◌≡◌, None, Some, MatchOption, MatchResult};
 ghost use Rattle.csv.specs.Records.{fields_of};
-ghost use Rattle.cli.specs.CsvRows.{origin_fault, origin_text, prefix_text, route_fault, route_row, route_texts_fault};
+ghost use Rattle.cli.specs.CsvRows.{origin_fault, origin_text, route_fault, route_row, route_texts_fault};
+ghost use Rattle.csv_records.specs.Lines.{prefix_text};
 ghost use Rattle.cli.specs.declared.fault.RowFault.TheVariants as row_fault;
 
-use super::fields::two_fields;
 use crate::fault::RowFault;
 use addr::{Asn, Origin, Prefix, Route};
 use csv::ByteRecord;
+use csv_records::two_fields;
 
 // A route, and the row's texts of its prefix and its origin.
 #[derive(Clone, Copy)]

@@ -1,22 +1,25 @@
 // What an HTTP request is answered with, and the response that tells it.
 ghost use Rattle.std.specs.Prelude.{◌≡◌, ◌++◌, ℕ, List, true, OnOk, OnErr};
 ghost use Rattle.streams.specs.Streams.{AppendsBeginning};
-ghost use Rattle.web.specs.HttpResponses.{json_response, refusal_response, reply_response};
-ghost use Rattle.web.specs.steps.HttpAnswering.{IsReplyResponse, IsResponse, shown_response};
+ghost use Rattle.web.specs.HttpResponses.{json_response, refusal_response, reply_status, reply_type, unavailable_response};
+ghost use Rattle.web.specs.steps.HttpAnswering.{IsReplyResponse, IsResponse};
 
-use super::body::{csv_body, json_body};
+use super::body::reply_body;
 use crate::malformed::Malformed;
-use crate::reply::{denied_text, done_text, imported_text, unavailable_text};
+use crate::reply::{short_text, unavailable_text};
 use desk::Reply;
 use http_messages::{ContentType, Refusal, Status, fault_text, write_response};
-use std::alloc::{AllocError, Global};
+use std::alloc::Global;
 use streams::{Drain, Failed};
 
 #[derive(Debug, Drop)]
 pub(crate) enum HttpAnswer {
     Refused(Refusal),
     Malformed(Malformed),
-    Replied(Reply),
+    /// A reply, and the form in which its list is asked for.
+    Replied(ContentType, Reply),
+    /// No memory was found to read the request.
+    NotRead,
 }
 
 impl HttpAnswer {
@@ -36,7 +39,8 @@ impl HttpAnswer {
                 Status::BadRequest,
                 malformed.text().as_str(),
             ),
-            HttpAnswer::Replied(reply) => write_reply_response(alloc, drain, reply),
+            HttpAnswer::Replied(form, reply) => write_reply_response(alloc, drain, *form, reply),
+            HttpAnswer::NotRead => write_unavailable(drain),
         }
     }
 }
@@ -62,44 +66,53 @@ fn write_refusal<D: Drain>(drain: &mut D, refusal: Refusal) -> Result<(), Failed
     write_json(drain, status, fault_text(status).as_str())
 }
 
-fn write_reply_response<D: Drain>(alloc: Global, drain: &mut D, reply: &Reply) -> Result<(), Failed>
-    ensures ok { OnOk result ((text : List ℕ) × IsReplyResponse reply.now text
+fn write_reply_response<D: Drain>(
+    alloc: Global,
+    drain: &mut D,
+    form: ContentType,
+    reply: &Reply,
+) -> Result<(), Failed>
+    ensures ok { OnOk result ((text : List ℕ) × IsReplyResponse form reply.now text
         × (D.written drain.new ≡ D.written drain.old ++ text)) }
-    ensures err { OnErr result ((text : List ℕ) × IsReplyResponse reply.now text
+    ensures err { OnErr result ((text : List ℕ) × IsReplyResponse form reply.now text
         × AppendsBeginning (D.written drain.old) (D.written drain.new) text) }
     ensures failed { OnErr result (D.has_failed drain.new ≡ true) }
 {
+    if let Some(text) = short_text(reply) {
+        return write_json(drain, reply_status(reply), text.as_str());
+    }
+    let content_type = reply_type(form, reply);
+    match reply_body(alloc, content_type, reply) {
+        Ok(body) => write_response(drain, Status::Done, content_type, body.as_slice()),
+        Err(_) => write_unavailable(drain),
+    }
+}
+
+fn reply_status(reply: &Reply) -> Status
+    ensures { result ≡ reply_status reply.now }
+{
     match reply {
-        Reply::Done(number) => write_json(drain, Status::Done, done_text(*number).as_str()),
-        Reply::Imported { made, present } => write_json(
-            drain,
-            Status::Done,
-            imported_text(*made, *present).as_str(),
-        ),
-        Reply::Denied(rule, row) => write_json(
-            drain,
-            Status::Forbidden,
-            denied_text(*rule, *row).as_str(),
-        ),
-        Reply::Unavailable => write_unavailable(drain),
-        Reply::Payloads(vrps) => write_shown(
-            drain,
-            ContentType::Csv,
-            csv_body(alloc, vrps.as_slice()),
-        ),
-        Reply::Shown(_)
-        | Reply::Content(_)
-        | Reply::Listed(_)
-        | Reply::Answers(_)
-        | Reply::Report(_) => write_shown(drain, ContentType::Json, json_body(alloc, reply)),
+        Reply::Denied(..) => Status::Forbidden,
+        Reply::Unavailable => Status::ServiceUnavailable,
+        _ => Status::Done,
+    }
+}
+
+fn reply_type(form: ContentType, reply: &Reply) -> ContentType
+    ensures { result ≡ reply_type form reply.now }
+{
+    match reply {
+        Reply::Listed(_) => form,
+        Reply::Payloads(_) => ContentType::Csv,
+        _ => ContentType::Json,
     }
 }
 
 fn write_unavailable<D: Drain>(drain: &mut D) -> Result<(), Failed>
     ensures ok { OnOk result
-        (D.written drain.new ≡ D.written drain.old ++ reply_response Reply.Unavailable) }
+        (D.written drain.new ≡ D.written drain.old ++ unavailable_response) }
     ensures err { OnErr result (AppendsBeginning (D.written drain.old) (D.written drain.new)
-        (reply_response Reply.Unavailable)) }
+        unavailable_response) }
     ensures failed { OnErr result (D.has_failed drain.new ≡ true) }
 {
     write_json(
@@ -107,22 +120,4 @@ fn write_unavailable<D: Drain>(drain: &mut D) -> Result<(), Failed>
         Status::ServiceUnavailable,
         unavailable_text().as_str(),
     )
-}
-
-// Writes what a reply shows, if memory was found for it.
-fn write_shown<D: Drain>(
-    drain: &mut D,
-    content_type: ContentType,
-    body: Result<Vec<u8>, AllocError>,
-) -> Result<(), Failed>
-    ensures ok { OnOk result
-        (D.written drain.new ≡ D.written drain.old ++ shown_response content_type body) }
-    ensures err { OnErr result (AppendsBeginning (D.written drain.old) (D.written drain.new)
-        (shown_response content_type body)) }
-    ensures failed { OnErr result (D.has_failed drain.new ≡ true) }
-{
-    match body {
-        Ok(body) => write_response(drain, Status::Done, content_type, body.as_slice()),
-        Err(_) => write_unavailable(drain),
-    }
 }

@@ -1,13 +1,12 @@
 // The bodies of responses, collected before a response is written, since its head tells their length.
 ghost use Rattle.std.specs.Prelude.{◌≡◌, ◌++◌, IfOk, OnOk};
-ghost use Rattle.web.specs.HttpResponses.{csv_row, csv_text};
+ghost use Rattle.web.specs.HttpResponses.{reply_body};
 ghost use Rattle.web.specs.ReplyText.{line_text};
 
-use crate::reply::items::prefix_text;
 use crate::reply::write_reply;
-use addr::{Vrp, digits};
-use arrayvec::ArrayString;
+use csv_records::{list_lines, payload_lines};
 use desk::Reply;
+use http_messages::ContentType;
 use std::alloc::{AllocError, Global};
 use streams::{Drain, Failed};
 
@@ -35,8 +34,31 @@ impl Drain for Body {
     }
 }
 
-/// The text of a reply as a line has it.
-pub(crate) fn json_body(alloc: Global, reply: &Reply) -> Result<Vec<u8>, AllocError>
+pub(super) fn reply_body(
+    alloc: Global,
+    content_type: ContentType,
+    reply: &Reply,
+) -> Result<Vec<u8>, AllocError>
+    ensures { IfOk result (λ body. body.items ≡ reply_body content_type reply.now) }
+{
+    match content_type {
+        ContentType::Csv => csv_body(alloc, reply),
+        ContentType::Json => json_body(alloc, reply),
+    }
+}
+
+fn csv_body(alloc: Global, reply: &Reply) -> Result<Vec<u8>, AllocError>
+    ensures { IfOk result (λ body. body.items ≡ reply_body ContentType.Csv reply.now) }
+{
+    match reply {
+        Reply::Listed(auths) => list_lines(alloc, auths.as_slice()),
+        Reply::Payloads(vrps) => payload_lines(alloc, vrps.as_slice()),
+        _ => json_body(alloc, reply),
+    }
+}
+
+// The text of a reply as a line has it.
+fn json_body(alloc: Global, reply: &Reply) -> Result<Vec<u8>, AllocError>
     ensures { IfOk result (λ body. body.items ≡ line_text reply.now) }
 {
     let mut body = Body {
@@ -47,30 +69,4 @@ pub(crate) fn json_body(alloc: Global, reply: &Reply) -> Result<Vec<u8>, AllocEr
         Ok(()) => Ok(body.bytes),
         Err(Failed) => Err(AllocError),
     }
-}
-
-/// VRPs as CSV.
-pub(crate) fn csv_body(alloc: Global, vrps: &[Vrp]) -> Result<Vec<u8>, AllocError>
-    ensures { IfOk result (λ body. body.items ≡ csv_text vrps.now) }
-{
-    let mut body = Vec::new(alloc);
-    body.extend_from_slice(b"asn,prefix,maxlength\n")?;
-    for vrp in vrps {
-        body.extend_from_slice(csv_row(vrp).as_str().as_bytes())?;
-    }
-    Ok(body)
-}
-
-fn csv_row(vrp: &Vrp) -> ArrayString<120>
-    ensures { result.bytes ≡ csv_row vrp.now }
-{
-    let mut text = ArrayString::new();
-    text.push_str("AS");
-    text.push_str(digits(u64::from(vrp.asn.0)).as_str());
-    text.push_str(",");
-    text.push_str(prefix_text(&vrp.prefix).as_str());
-    text.push_str(",");
-    text.push_str(digits(u64::from(vrp.max)).as_str());
-    text.push_str("\n");
-    text
 }

@@ -1,8 +1,10 @@
 // What may be wrong with a request.
 ghost use Rattle.std.specs.Prelude.{◌≡◌};
+ghost use Rattle.web.specs.HttpFaults.{fault_of_import};
 ghost use Rattle.web.specs.RequestFaults.{as_malformed, malformed_number, slurm_number};
 
 use crate::malformed::Malformed;
+use csv_records::ImportFault;
 use slurm::SlurmFault;
 
 /// Of several faults the one with the lowest number is told.
@@ -51,6 +53,19 @@ impl Fault {
             Fault::File(_) => 11,
             Fault::Count => 12,
             Fault::TooLong => 13,
+        }
+    }
+
+    pub(crate) fn of_import(fault: ImportFault) -> Fault
+        ensures { result ≡ fault_of_import fault }
+    {
+        match fault {
+            ImportFault::Form => Fault::Members,
+            ImportFault::Prefix => Fault::Prefix,
+            ImportFault::Asn => Fault::Asn,
+            ImportFault::Max => Fault::Max,
+            ImportFault::Day => Fault::Day,
+            ImportFault::Count => Fault::Count,
         }
     }
 

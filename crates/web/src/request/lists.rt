@@ -36,7 +36,7 @@ pub(crate) fn import_in(
     Ok(asked_import(both(subject.holder, rows)))
 }
 
-fn asked_import(parts: Result<(Name, Vec<AuthTerms>), Fault>) -> Result<Request, Fault>
+pub(crate) fn asked_import(parts: Result<(Name, Vec<AuthTerms>), Fault>) -> Result<Request, Fault>
     ensures { result ≡ mapped (λ p. Request.Command (Command.Import p.0 p.1)) parts }
 {
     let (holder, rows) = parts?;

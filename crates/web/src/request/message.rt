@@ -4,22 +4,24 @@ ghost use Rattle.std.specs.Option.{option_copied};
 ghost use Rattle.serde_json.specs.View.{view};
 ghost use Rattle.json_values.specs.Parts.{mapped};
 ghost use Rattle.http_messages.specs.Requests.{asked_by};
-ghost use Rattle.web.specs.HttpFaults.{body_tree, brings_file, http_fault, path_number};
+ghost use Rattle.web.specs.HttpFaults.{body_bytes, http_fault, json_tree, path_number};
 ghost use Rattle.web.specs.HttpRequests.{SaysAsked};
-ghost use Rattle.web.specs.steps.HttpReading.{asked_of, caller_of, object_body, object_request, path_subject, request_of};
+ghost use Rattle.web.specs.steps.HttpReading.{asked_of, caller_of, import_body, import_rows, object_body, object_request, path_subject, request_of};
 ghost use Rattle.web.specs.steps.RequestReading.{asked_terms, file_of, request_terms, slurm_request};
 
 use super::action::only_body_members_of;
 use super::commands::Subject;
 use super::exceptions::slurm_of;
 use super::fault::Fault;
+use super::lists::asked_import;
 use super::{LineFault, asked_with, request_in};
 use crate::malformed::Malformed;
 use addr::{Day, Name, number_from_text};
+use csv_records::read_import;
 use desk::{Asked, Request};
 use http_messages::{Action, Request as Head};
 use json_values::{both, tree_of, unless};
-use policy::LAST_NUMBER;
+use policy::{AuthTerms, LAST_NUMBER};
 use serde_json::Value;
 use slurm::SlurmFault;
 use std::alloc::{AllocError, Global};
@@ -74,23 +76,17 @@ fn request_of(
     ensures { IfOk result (λ request. mapped request_terms request
         ≡ request_of (asked_by head.now) (option_copied body.entry)) }
 {
-    if brings_file(head.action) {
-        file_body(alloc, body)
-    } else {
-        object_body(alloc, head, body)
+    let subject = path_subject(head);
+    match head.action {
+        Action::Slurm => file_body(alloc, body),
+        Action::Import => import_body(alloc, subject, body),
+        action => object_body(alloc, action, subject, body),
     }
-}
-
-/// Whether a SLURM file is the whole of the body.
-fn brings_file(action: Action) -> bool
-    ensures { result ≡ brings_file action }
-{
-    matches!(action, Action::Slurm)
 }
 
 fn file_body(alloc: Global, body: Option<&[u8]>) -> Result<Result<Request, Fault>, AllocError>
     ensures { IfOk result (λ request. mapped request_terms request
-        ≡ slurm_request (file_of (body_tree (option_copied body.entry)))) }
+        ≡ slurm_request (file_of (json_tree (option_copied body.entry)))) }
 {
     let Some(bytes) = body else {
         return slurm_of(alloc, &Value::Null);
@@ -101,20 +97,50 @@ fn file_body(alloc: Global, body: Option<&[u8]>) -> Result<Result<Request, Fault
     }
 }
 
-fn object_body(
+fn import_body(
     alloc: Global,
-    head: &Head<'_>,
+    subject: Subject,
     body: Option<&[u8]>,
 ) -> Result<Result<Request, Fault>, AllocError>
     ensures { IfOk result (λ request. mapped request_terms request
-        ≡ object_body (asked_by head.now) (option_copied body.entry)) }
+        ≡ import_body subject (option_copied body.entry)) }
 {
-    let subject = path_subject(head);
+    let rows = import_rows(alloc, body_bytes(body))?;
+    Ok(asked_import(both(subject.holder, rows)))
+}
+
+fn body_bytes(body: Option<&[u8]>) -> &[u8]
+    ensures { result.now ≡ body_bytes (option_copied body.entry) }
+{
+    match body {
+        Some(bytes) => bytes,
+        None => &[],
+    }
+}
+
+fn import_rows(alloc: Global, text: &[u8]) -> Result<Result<Vec<AuthTerms>, Fault>, AllocError>
+    ensures { IfOk result (λ rows. mapped (λ v. v.items) rows ≡ import_rows text.now) }
+{
+    match read_import(alloc, text)? {
+        Ok(rows) => Ok(Ok(rows)),
+        Err(fault) => Ok(Err(Fault::of_import(fault))),
+    }
+}
+
+fn object_body(
+    alloc: Global,
+    action: Action,
+    subject: Subject,
+    body: Option<&[u8]>,
+) -> Result<Result<Request, Fault>, AllocError>
+    ensures { IfOk result (λ request. mapped request_terms request
+        ≡ object_body action subject (option_copied body.entry)) }
+{
     let Some(bytes) = body else {
-        return request_in(alloc, head.action, subject, &Value::Null);
+        return request_in(alloc, action, subject, &Value::Null);
     };
     match tree_of(alloc, bytes)? {
-        Some(value) => object_request(alloc, head.action, subject, &value),
+        Some(value) => object_request(alloc, action, subject, &value),
         None => Ok(Err(Fault::Json)),
     }
 }

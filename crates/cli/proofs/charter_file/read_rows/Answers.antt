@@ -1,6 +1,6 @@
 use Rattle.std.proofs.Common.{◌++◌, ◌∷◌, [], ◌∙◌}
 use Rattle.std.proofs.lemmas.Result.{err_from_is_err_and}
-use Rattle.cli.specs.CsvRecords.{current, records_left}
+use Rattle.csv_records.specs.CsvRecords.{current, records_left}
 use Rattle.cli.proofs.CharterSteps.{rows_more, first_more, told-first}
 use Rattle.cli.proofs.charter_file.read_rows.Goals as goal
 

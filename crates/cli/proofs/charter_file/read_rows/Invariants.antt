@@ -1,6 +1,6 @@
 use Rattle.std.proofs.Common.{◌≡◌, ◌++◌, List, [], map, length}
 use Rattle.cli.specs.CharterFile.{charter_row, first_charter_fault, HoldsRows}
-use Rattle.cli.specs.CsvRecords.{records_left, IsReading}
+use Rattle.csv_records.specs.CsvRecords.{records_left, IsReading}
 use Rattle.cli.specs.declared.charter_file.CharterRow.{CharterRow}
 use Rattle.cli.proofs.charter_file.read_rows.Given as goal
 

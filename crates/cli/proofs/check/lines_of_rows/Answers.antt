@@ -1,7 +1,7 @@
 use Rattle.std.proofs.Common.{◌++◌, ◌∷◌, [], ◌∙◌, arith}
 use Rattle.payload.specs.ValidityState.{state_of}
 use Rattle.addr.specs.OriginValidation.{state_text}
-use Rattle.cli.specs.CsvRecords.{current, records_left}
+use Rattle.csv_records.specs.CsvRecords.{current, records_left}
 use Rattle.cli.proofs.StateSteps.{rows_more, line_more, longer, first_more}
 use Rattle.cli.proofs.check.lines_of_rows.Goals as goal
 

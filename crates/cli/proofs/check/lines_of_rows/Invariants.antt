@@ -1,7 +1,7 @@
 use Rattle.std.proofs.Common.{◌≡◌, ◌+◌, ◌≤◌, ◌++◌, List, map, length}
 use Rattle.addr.specs.declared.route.Route.{Route}
 use Rattle.cli.specs.Check.{states_text}
-use Rattle.cli.specs.CsvRecords.{records_left, IsReading}
+use Rattle.csv_records.specs.CsvRecords.{records_left, IsReading}
 use Rattle.cli.specs.CsvRows.{first_fault, route_fault, route_row}
 use Rattle.cli.proofs.check.lines_of_rows.Given as goal
 

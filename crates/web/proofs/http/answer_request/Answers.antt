@@ -1,4 +1,4 @@
-use Rattle.std.proofs.Common.{◌++◌, [], Err, sym, ap, ◌∙◌, refl, inl, inr}
+use Rattle.std.proofs.Common.{◌++◌, [], Err, sym, ap, ◌∙◌, refl, inl}
 use Rattle.std.proofs.lemmas.List.{append-nil}
 use Rattle.web.proofs.http.answer_request.Goals as goal
 
@@ -14,5 +14,5 @@ pub returns-in-Err-Memory-clause-some : goal.returns-in-Err-Memory-clause-some
 returns-in-Err-Memory-clause-some g c = (
   [],
   c.in-Err-Memory.ensures.memory (ap Err c.in-Err-Memory.field-0-is) ∙ sym (append-nil (g.S.Source.handed_out c.args.source.now)),
-  λ head whole says. inr (inl (rw (append-nil head) whole), refl, refl),
+  λ head whole says. (inl (rw (append-nil head) whole), refl),
 )

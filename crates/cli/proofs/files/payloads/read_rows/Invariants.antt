@@ -1,6 +1,7 @@
 use Rattle.std.proofs.Common.{◌≡◌, ◌+◌, ◌++◌, map, length}
-use Rattle.cli.specs.CsvRecords.{records_left, IsReading}
-use Rattle.cli.specs.CsvRows.{first_fault, payload_fault, payload_row}
+use Rattle.csv_records.specs.CsvRecords.{records_left, IsReading}
+use Rattle.cli.specs.CsvRows.{first_fault, payload_fault}
+use Rattle.csv_records.specs.Lines.{payload_row}
 use Rattle.cli.proofs.files.payloads.read_rows.Given as goal
 
 abbrev pub invariant-loop-vrps : goal.invariant-loop-vrps

@@ -1,0 +1,155 @@
+-- What the code reads of an import: the rows that the text says, and its lowest fault.
+use Rattle.std.proofs.Common.{◌≡◌, ℕ, suc, inl, inr, List, [], ◌∷◌, ◌++◌, length, Bool, true, false, if◌then◌else◌, Option, Some, None, is_some, Result, Ok, Err, refl, sym, ap, ◌∙◌}
+use Rattle.std.proofs.lemmas.Bool.{cases_Bool}
+use Rattle.std.specs.Global.{Vec}
+use Rattle.std.specs.List.{AllZip, flat_map}
+use Rattle.std.specs.Prelude.{IfOk}
+use Rattle.std.specs.Result.{result_err}
+use Rattle.addr.specs.Day.{day_in}
+use Rattle.addr.specs.PrefixText.{spelled_prefix}
+use Rattle.addr.specs.declared.asn.Asn.{Asn as AsnNumber}
+use Rattle.addr.specs.declared.prefix.Prefix.{Prefix as PrefixValue}
+use Rattle.policy.specs.declared.authorization.AuthTerms.{AuthTerms}
+use Rattle.json_values.proofs.FaultLemmas.{lowest-append, told-if}
+use Rattle.json_values.proofs.ReadingLemmas.{Reads, reads-both, reads-each, reads-mapped, reads-ok_or}
+use Rattle.json_values.specs.Faults.{fault_unless, lower_of, lowest}
+use Rattle.json_values.specs.Parts.{and_then, each, lower, mapped}
+use Rattle.csv_records.specs.CsvRecords.{csv_records}
+use Rattle.csv_records.specs.Fields.{Fields, field_in, fields_eq, rows_after}
+use Rattle.csv_records.specs.Imports.{import_fault, import_fault_number, import_faults, import_header, is_row_count, IsImport, max_in, named_asn, row_faults, SaysRow}
+use Rattle.csv_records.specs.declared.imports.ImportFault.{ImportFault}
+use Rattle.csv_records.specs.declared.imports.ImportFault.TheVariants.{Form, Prefix, Asn, Max, Day, Count}
+use Rattle.csv_records.specs.steps.Importing.{counted, import_in, row_in, row_of, rows_in, terms_of}
+use Rattle.csv_records.proofs.FieldLemmas.{same_fields}
+
+-- ---- rows
+
+pub row_in-five : (xs : Fields) → length xs ≡ 5
+    → row_in xs ≡ row_of (named_asn (field_in 0 xs)) (spelled_prefix (field_in 1 xs)) (max_in (field_in 2 xs))
+    (day_in (field_in 3 xs)) (day_in (field_in 4 xs))
+row_in-five (a ∷ b ∷ c ∷ d ∷ e ∷ []) five = refl
+row_in-five other five = cc
+
+module _ (asn : Option AsnNumber) (prefix : Option PrefixValue) (max from until : Option ℕ) where
+  -- of a row with these fields
+  abbrev of_fields : List ImportFault
+  of_fields =
+      fault_unless (is_some asn) Asn ++ fault_unless (is_some prefix) Prefix ++ fault_unless (is_some max) Max
+      ++ fault_unless (is_some from) Day ++ fault_unless (is_some until) Day
+
+  reads-of : Reads import_fault_number (row_of asn prefix max from until) of_fields
+      (λ t. (asn ≡ Some t.asn) × (prefix ≡ Some t.prefix) × (max ≡ Some t.max) × (from ≡ Some t.from) × (until ≡ Some t.until))
+  reads-of =
+      reads-mapped terms_of (λ p says. (says.0.0.0.0, says.0.0.0.1, says.0.0.1, says.0.1, says.1))
+      (reads-both
+      (reads-both
+      (reads-both
+      (reads-both (reads-ok_or asn Asn) (reads-ok_or prefix Prefix))
+      (reads-ok_or max Max)) (reads-ok_or from Day)) (reads-ok_or until Day))
+
+reads-row : (fields : Fields) → Reads import_fault_number (row_in fields) (row_faults fields) (SaysRow fields)
+reads-row (a ∷ b ∷ c ∷ d ∷ e ∷ []) = reads-of (named_asn a) (spelled_prefix b) (max_in c) (day_in d) (day_in e)
+reads-row other = record { told = record { is = refl }; value = tt }
+
+reads-rows : (rows : List Fields)
+    → Reads import_fault_number (each import_fault_number row_in rows) (flat_map row_faults rows) (AllZip SaysRow rows)
+reads-rows rows = reads-each row_in row_faults SaysRow rows reads-row
+
+-- ---- the count of rows
+
+-- no fault is higher than this one
+lower-count : (fault : ImportFault) → lower import_fault_number fault Count ≡ fault
+unfolding lower
+lower-count Form = refl
+lower-count Prefix = refl
+lower-count Asn = refl
+lower-count Max = refl
+lower-count Day = refl
+lower-count Count = refl
+
+zip-length : (rows : List Fields) (terms : List AuthTerms) → AllZip SaysRow rows terms → length rows ≡ length terms
+zip-length [] [] zip = refl
+zip-length [] (t ∷ terms) zip = absurd zip
+zip-length (row ∷ rows) [] zip = absurd zip
+zip-length (row ∷ rows) (t ∷ terms) zip = ap suc (zip-length rows terms zip.1)
+
+err-counted : (rows : List Fields) (faults : List ImportFault) (r : Result (List AuthTerms) ImportFault)
+    → result_err r ≡ lowest import_fault_number faults → IfOk r (AllZip SaysRow rows)
+    → result_err (and_then counted r)
+    ≡ lowest import_fault_number (faults ++ fault_unless (is_row_count (length rows)) Count)
+err-counted rows faults (Ok terms) told zip =
+    rw (lowest-append import_fault_number faults (fault_unless (is_row_count (length rows)) Count), ← told, zip-length rows terms zip)
+    (told-if import_fault_number (is_row_count (length terms)) terms Count).is
+err-counted rows faults (Err fault) told zip =
+    rw (lowest-append import_fault_number faults (fault_unless (is_row_count (length rows)) Count), ← told)
+    (first (is_row_count (length rows)))
+  where
+    first : (b : Bool) → Some fault ≡ lower_of import_fault_number (Some fault) (lowest import_fault_number (fault_unless b Count))
+    first true = refl
+    first false = ap Some (sym (lower-count fault))
+
+says-counted : (rows : List Fields) (r : Result (List AuthTerms) ImportFault) → IfOk r (AllZip SaysRow rows)
+    → IfOk (and_then counted r) (AllZip SaysRow rows)
+says-counted rows (Ok terms) zip = by_count (is_row_count (length terms)) (counted terms) refl
+  where
+    by_count : (b : Bool) (r : Result (List AuthTerms) ImportFault) → (if b then Ok terms else Err Count) ≡ r → IfOk r (AllZip SaysRow rows)
+    by_count true r is = rw (← is) zip
+    by_count false r is = rw (← is) tt
+says-counted rows (Err fault) zip = tt
+
+-- ---- texts
+
+-- no fault is lower than this one
+lower-form : (fault : ImportFault) → lower import_fault_number Form fault ≡ Form
+unfolding lower
+lower-form Form = refl
+lower-form Prefix = refl
+lower-form Asn = refl
+lower-form Max = refl
+lower-form Day = refl
+lower-form Count = refl
+
+form-first : (found : Option ImportFault) → Some Form ≡ lower_of import_fault_number (Some Form) found
+form-first None = refl
+form-first (Some fault) = ap Some (sym (lower-form fault))
+
+err-rows : (records : List Fields) → result_err (rows_in (rows_after import_header records)) ≡ lowest import_fault_number (import_faults records)
+err-rows [] = refl
+err-rows (first ∷ rows) = elim (cases_Bool (fields_eq first import_header)) [
+  | inl same ↦ rw same (err-counted rows (flat_map row_faults rows) (each import_fault_number row_in rows)
+      (reads-rows rows).told.is (reads-rows rows).value)
+  | inr other ↦ rw other (form-first (lowest import_fault_number
+      (flat_map row_faults rows ++ fault_unless (is_row_count (length rows)) Count)))
+]
+
+says-rows : (records : List Fields) → IfOk (rows_in (rows_after import_header records))
+    (λ terms. (rows : List Fields) × (records ≡ import_header ∷ rows) × AllZip SaysRow rows terms)
+says-rows [] = tt
+says-rows (first ∷ rows) = elim (cases_Bool (fields_eq first import_header)) [
+  | inl same ↦ rw same (said (and_then counted (each import_fault_number row_in rows)) (same_fields first import_header same)
+      (says-counted rows (each import_fault_number row_in rows) (reads-rows rows).value))
+  | inr other ↦ rw other tt
+]
+  where
+    said : (r : Result (List AuthTerms) ImportFault) → first ≡ import_header → IfOk r (AllZip SaysRow rows)
+        → IfOk r (λ terms. (others : List Fields) × (first ∷ rows ≡ import_header ∷ others) × AllZip SaysRow others terms)
+    said (Ok terms) is zip = (rows, ap (λ (f : Fields). f ∷ rows) is, zip)
+    said (Err fault) is zip = tt
+
+-- its fault
+pub import_in-told : (text : List ℕ) → result_err (import_in text) ≡ import_fault text
+import_in-told text = err-rows (csv_records text)
+
+pub import-told : (text : List ℕ) (read : Result (Vec AuthTerms) ImportFault) → mapped (λ v. v.items) read ≡ import_in text
+    → result_err read ≡ import_fault text
+import-told text (Ok rows) is = ap result_err is ∙ import_in-told text
+import-told text (Err fault) is = ap result_err is ∙ import_in-told text
+
+-- its rows
+pub import_in-said : (text : List ℕ) → IfOk (import_in text) (IsImport text)
+import_in-said text = says-rows (csv_records text)
+
+pub import-said : (text : List ℕ) (read : Result (Vec AuthTerms) ImportFault) → mapped (λ v. v.items) read ≡ import_in text
+    → IfOk read (λ rows. IsImport text rows.items)
+import-said text (Ok rows) is = rw (← is) at (import_in-said text)
+import-said text (Err fault) is = tt

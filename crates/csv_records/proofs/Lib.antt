@@ -1,0 +1,4 @@
+pub mod FieldLemmas
+pub mod ImportLemmas
+pub mod RecordSteps
+pub mod RecordsLeft

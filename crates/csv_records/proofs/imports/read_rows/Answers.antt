@@ -1,0 +1,21 @@
+use Rattle.std.proofs.Common.{◌++◌, ◌∷◌, [], ◌∙◌, ap, sym, append_assoc}
+use Rattle.json_values.proofs.PartsLemmas.{each-append}
+use Rattle.csv_records.specs.CsvRecords.{current, records_left}
+use Rattle.csv_records.specs.Imports.{import_fault_number}
+use Rattle.csv_records.specs.steps.Importing.{row_in}
+use Rattle.csv_records.proofs.imports.read_rows.Goals as goal
+
+pub loop-gathered-preserved : goal.loop-gathered-preserved
+loop-gathered-preserved c =
+    let found = rw c.if-branch.true at c.in_ok-advance.ensures.found in
+    let done = c.loop-gathered.invariant.done in
+    let row = current c.advance.new.self in record {
+      reading = c.in_ok-advance.ensures.reading c.if-branch.true;
+      done = done ++ row ∷ [];
+      left =
+          c.loop-gathered.invariant.left ∙ ap (λ rest. done ++ rest) found
+          ∙ sym (append_assoc done (row ∷ []) (records_left c.advance.new.self));
+      read =
+          rw (c.in_ok-add.ensures, c.loop-gathered.invariant.read, c.read_row.ensures, c.row.ensures)
+          (sym (each-append import_fault_number row_in done row));
+    }

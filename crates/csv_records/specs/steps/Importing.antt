@@ -1,0 +1,43 @@
+-- A step of the code, not a definition: how it reads an import, from all of its fields at once, so that it finds the
+-- lowest fault.
+use Rattle.std.specs.Prelude.{ℕ, List, [], ◌∷◌, length, Option, Some, None, Result, Ok, Err, if◌then◌else◌}
+use Rattle.std.specs.Option.{ok_or}
+use Rattle.addr.specs.Day.{day_in}
+use Rattle.addr.specs.PrefixText.{spelled_prefix}
+use Rattle.addr.specs.declared.asn.Asn.{Asn}
+use Rattle.addr.specs.declared.prefix.Prefix.{Prefix}
+use Rattle.policy.specs.declared.authorization.AuthTerms.{AuthTerms}
+use Rattle.json_values.specs.Parts.{and_then, both, each, mapped}
+use Rattle.csv_records.specs.CsvRecords.{csv_records}
+use Rattle.csv_records.specs.Fields.{Fields, rows_after}
+use Rattle.csv_records.specs.Imports.{import_fault_number, import_header, is_row_count, max_in, named_asn}
+use Rattle.csv_records.specs.declared.imports.ImportFault.{ImportFault}
+use Rattle.csv_records.specs.declared.imports.ImportFault.TheVariants.{Form, Prefix as PrefixFault, Asn as AsnFault, Max, Day, Count}
+
+abbrev pub terms_of : (((Asn × Prefix) × ℕ) × ℕ) × ℕ → AuthTerms
+terms_of p = record { asn = p.0.0.0.0; prefix = p.0.0.0.1; max = p.0.0.1; from = p.0.1; until = p.1 }
+
+abbrev pub row_of : Option Asn → Option Prefix → Option ℕ → Option ℕ → Option ℕ → Result AuthTerms ImportFault
+row_of asn prefix max from until =
+    mapped terms_of
+    (both import_fault_number
+    (both import_fault_number
+    (both import_fault_number
+    (both import_fault_number (ok_or asn AsnFault) (ok_or prefix PrefixFault))
+    (ok_or max Max)) (ok_or from Day)) (ok_or until Day))
+
+abbrev pub row_in : Fields → Result AuthTerms ImportFault
+row_in (asn ∷ prefix ∷ max ∷ from ∷ until ∷ []) =
+    row_of (named_asn asn) (spelled_prefix prefix) (max_in max) (day_in from) (day_in until)
+row_in _ = Err Form
+
+abbrev pub counted : List AuthTerms → Result (List AuthTerms) ImportFault
+counted rows = if is_row_count (length rows) then Ok rows else Err Count
+
+abbrev pub rows_in : Option (List Fields) → Result (List AuthTerms) ImportFault
+rows_in None = Err Form
+rows_in (Some rows) = and_then counted (each import_fault_number row_in rows)
+
+-- the rows of a text, or its lowest fault
+abbrev pub import_in : List ℕ → Result (List AuthTerms) ImportFault
+import_in text = rows_in (rows_after import_header (csv_records text))

@@ -1,0 +1,12 @@
+//! CSV texts (RFC 4180): their records, the rows of imports, and the rows that the desk tells.
+#![tactic(auto)]
+
+mod fields;
+mod imports;
+mod lines;
+mod records;
+
+pub use fields::{three_fields, two_fields};
+pub use imports::{ImportFault, read_import};
+pub use lines::{list_lines, payload_lines};
+pub use records::CsvRecords;
