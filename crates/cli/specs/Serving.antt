@@ -1,11 +1,11 @@
--- What `roadesk serve` does on its connections, and what it tells of one that failed.
+-- What `roadesk serve` does on its connections, and the line that it prints for one that failed.
 use Rattle.std.specs.Prelude.{◌≡◌, ◌⊎◌, ℕ, zero, suc, List, [], ◌∷◌, ◌++◌, codes, decimal}
 use Rattle.sqlite.specs.Store.{Ghosts}
 use Rattle.desk.specs.declared.handling.Desk.{Desk}
 use Rattle.web.specs.HttpAnswers.{RespondsTo}
 
 -- A connection on a day: the desk responded to the bytes that came, whether the response went out whole or
--- not, or no whole request came and nothing was asked of it.
+-- not, or it is as it was.
 abbrev pub Serves : {S : Type 0} → Ghosts S → ℕ → Desk S → Desk S → Type 0
 Serves g day old new = ((bytes text : List ℕ) × RespondsTo g old day bytes text new) ⊎ (new ≡ old)
 

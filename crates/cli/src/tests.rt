@@ -2,6 +2,7 @@ use super::run_task;
 use crate::clients::{CHARTER, SETUP, request, serve};
 use crate::desk_file::{close_desk, open_desk};
 use crate::fault::ProgramFault;
+use crate::help::help_text;
 use crate::words::Task;
 use addr::Day;
 use sqlite_std_file::Unknown;
@@ -40,6 +41,23 @@ fn serve_once(
             day,
         },
     )
+}
+
+const USAGES: [&str; 5] = [
+    "roadesk script --charter FILE",
+    "roadesk init --db FILE --charter FILE",
+    "roadesk serve --db FILE --listen ADDR --count N --day D",
+    "roadesk check PAYLOADS ROUTES",
+    "roadesk help",
+];
+
+#[test]
+fn help_names_the_five_tasks(rt: HostRuntime) -> Result<(), Fail> {
+    let text = help_text(rt.alloc())?;
+    for usage in USAGES {
+        assert!(rt; text.as_str().contains(usage));
+    }
+    Ok(())
 }
 
 #[test]

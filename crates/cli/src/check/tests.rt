@@ -54,11 +54,11 @@ fn assert_refuses<R: Abort + AllocGlobal>(rt: &R, payloads: &[u8], routes: &[u8]
     assert_eq!(rt; ended.written.len(), 0);
 }
 
-// Out of order, and the first row again.
+// Out of order, and the second row again.
 const VRPS: &str = "asn,prefix,maxlength\n\
     AS64497,198.51.100.0/24,24\n\
     AS64496,198.51.100.0/22,24\n\
-    AS64497,198.51.100.0/24,24\n";
+    AS64496,198.51.100.0/22,24\n";
 
 #[test]
 fn check_as_zero_never_matches(rt: HostRuntime) {
