@@ -1,5 +1,5 @@
--- A request on a history has one outcome: it leaves one history, or it is denied by one rule at one
--- place.
+-- A request on a history has at most one outcome: one history that it leaves, or one rule at one place
+-- that denies it.
 use Rattle.std.specs.Prelude.{◌≡◌, ℕ, List}
 use Rattle.charters.specs.declared.charter.Charter.{Charter}
 use Rattle.policy.specs.declared.command.Command.{Command}

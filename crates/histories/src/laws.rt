@@ -52,13 +52,13 @@ pub fn hypothetical_is_legal()
     ensures { HypotheticalIsLegal }
 {}
 
-/// A command leaves one history alone, or one rule alone denies it, of an import at one row, and
-/// never both.
+/// A command has at most one outcome: one history that it leaves, or one rule that denies it, of an
+/// import at one row.
 pub fn one_outcome()
     ensures { OneOutcome }
 {}
 
-/// The same of changes of which it is asked what they would do.
+/// The same of hypothetical changes.
 pub fn one_hypothetical_outcome()
     ensures { OneHypotheticalOutcome }
 {}
