@@ -98,7 +98,7 @@ impl From<AllocError> for FileFault {
 pub enum ProgramFault {
     /// The words after the program's name are those of no task.
     Words,
-    /// They are those of a task but for a day that is none.
+    /// They are those of a task, except that the day is not one.
     Day,
     /// A file was not read.
     File,
@@ -118,9 +118,9 @@ pub enum ProgramFault {
         row: u64,
         fault: RowFault,
     },
-    /// The charter has not 1 to 16 operators and 1 to 64 prefixes.
+    /// The charter does not have 1 to 16 operators and 1 to 64 prefixes.
     CharterCount,
-    /// The database is none of a desk.
+    /// The database is not a desk's.
     Schema,
     /// There is a database, or another file with content, where one was to be made.
     Exists,

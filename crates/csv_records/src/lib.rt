@@ -1,4 +1,4 @@
-//! CSV texts (RFC 4180): their records, the rows of imports, and the rows that the desk tells.
+//! CSV texts (RFC 4180): their records, the rows of imports, and the rows that the desk exports.
 #![tactic(auto)]
 
 mod fields;

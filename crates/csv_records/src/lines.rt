@@ -1,4 +1,4 @@
-//! The rows that the desk tells as CSV: a header and a line for each.
+//! The rows that the desk exports as CSV: a header and a line for each.
 ghost use Rattle.std.specs.Prelude.{◌≡◌, ◌++◌, IfOk};
 ghost use Rattle.std.specs.List.{flat_map};
 ghost use Rattle.addr.specs.Day.{day_text};

@@ -50,7 +50,7 @@ fn compare(schema: &Schema, desk: &Schema) -> Result<(), StoreFault>
     Ok(())
 }
 
-/// Tells of a schema that has the tables of a desk whether it has nothing else.
+/// Checks that a schema has the tables of a desk, and returns whether it has nothing beside them.
 fn judge_schema(alloc: Global, schema: &Schema) -> Result<bool, StoreFault>
     ensures tables { OnOk result (schema.now.tables ≡ desk_tables) }
     ensures unindexed { IfOk result
@@ -62,8 +62,8 @@ fn judge_schema(alloc: Global, schema: &Schema) -> Result<bool, StoreFault>
     Ok(same_schema(schema, desk.schema()))
 }
 
-/// Tells of a database that has the tables of a desk whether it has nothing else, so that the index
-/// of a holder's runs may be added. A connection in a transaction is refused, and a limit of its
+/// Checks that a database has the tables of a desk, and returns whether it has nothing beside them,
+/// so that the index of a holder's runs may be added. A connection in a transaction is refused, and a limit of its
 /// steps is lifted.
 fn judge<S: Alter>(conn: &mut Connection<S>, alloc: Global) -> Result<bool, StoreFault>
     ensures same { conn.new ≡ record conn.old { step_limit = conn.new.step_limit } }
@@ -105,7 +105,9 @@ fn add_missing_index<S: Alter>(
     Ok(())
 }
 
-/// Reads a desk, whose charter it answers.
+/// Reads every row of a desk and returns its charter. The index of a holder's runs is added where
+/// the database has nothing but the tables. A connection in a transaction is refused, and a limit
+/// of its steps is lifted.
 pub fn open_desk<S: Alter>(conn: &mut Connection<S>, alloc: Global) -> Result<Charter, StoreFault>
     ensures idle { OnOk result (conn.new.in_transaction ≡ false) }
     ensures unlimited { OnOk result (conn.new.step_limit ≡ None) }

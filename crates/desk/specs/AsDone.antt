@@ -1,4 +1,4 @@
--- What it is told that changes would do is what they do.
+-- A report says what validity answers once the changes are made.
 use Rattle.std.specs.Prelude.{◌≡◌, ℕ, true, List, map}
 use Rattle.std.specs.Global.{Vec}
 use Rattle.std.specs.List.{list_all}

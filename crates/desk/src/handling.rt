@@ -145,7 +145,7 @@ impl<S: Alter> Desk<S> {
         self.store.load_holder(self.alloc, holder)
     }
 
-    /// Hands the connection back.
+    /// Returns the connection.
     pub fn close(self) -> Connection<S>
         ensures same { result ≡ self.store.connection }
         ensures idle { result.in_transaction ≡ false }

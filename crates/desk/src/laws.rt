@@ -1,14 +1,15 @@
-//! Laws over the definitions alone: each function's contract states one, and its body does nothing else.
+//! Laws over the definitions alone: each function's contract states one, and its body does nothing
+//! else.
 
 ghost use Rattle.desk.specs.AsDone.{WhatIfAsDone};
 ghost use Rattle.desk.specs.HolderAnswers.{AnswersByEntries, OneReply};
 
 pub use isolation::laws::{again, import_again, parts};
 
-/// What answers a request on a legal history answers it on the entries that name its holders, but
-/// for a delegation, the VRPs of a day and the validity of routes, which ask about all holders.
-/// Changes of which it is asked what they would do are accepted or denied by those entries, and
-/// their states are over the VRPs of all holders.
+/// What answers a request on a legal history answers it on the entries that name its holders,
+/// except for a delegation, the VRPs of a day and the validity of routes, which ask about all
+/// holders. Hypothetical changes are accepted or denied by those entries, and their states are over
+/// the VRPs of all holders.
 pub(crate) fn answers_by_entries()
     ensures { AnswersByEntries }
 {
@@ -27,9 +28,9 @@ pub fn one_reply()
     histories::laws::one_hypothetical_outcome();
 }
 
-/// Where it is told what changes at a holder would do, the same changes are accepted where they are
-/// asked for one after the other, by the caller on the day; and then the states of the routes are
-/// those that were told.
+/// If a report was given for changes at a holder, then the same changes are accepted where the
+/// caller requests them one after the other on the day; and validity then answers the second states
+/// of the report.
 pub fn what_if_as_done()
     ensures { WhatIfAsDone }
 {

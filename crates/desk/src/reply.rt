@@ -23,7 +23,8 @@ pub enum Reply {
     Answers(Vec<Validity>),
     /// Of each route, in their order: the state now, and after the changes.
     Report(Vec<(Validity, Validity)>),
-    /// The first rule that does not hold, and for a request of several rows the row, from 1.
+    /// The first rule that does not hold; for an import also its row, for a what-if request its
+    /// change, counted from 1.
     Denied(Rule, Option<u64>),
     /// No memory was found, or the database did not answer, and nothing has changed.
     Unavailable,

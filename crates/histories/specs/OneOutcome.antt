@@ -25,7 +25,7 @@ OneOutcome =
     → HasOneOutcome (Leaves charter history day caller command)
     (IsDenied charter history day caller command)
 
--- the same of changes of which it is asked what they would do
+-- the same of hypothetical changes
 abbrev pub OneHypotheticalOutcome : Type 0
 OneHypotheticalOutcome =
     (charter : Charter) (day : ℕ) (caller holder : List ℕ) (history : History)

@@ -1,5 +1,6 @@
-//! Messages of HTTP/1.1 (RFC 9112): the head and the body of a request as a stream gives them, what a request asks for, and
-//! the text of a response. Nothing here knows the desk: the names in a path stay bytes.
+//! Messages of HTTP/1.1 (RFC 9112): the head and the body of a request as a stream gives them, what
+//! a request asks for, and the text of a response. Nothing here depends on the crate `desk`; the
+//! names in a path stay bytes.
 #![tactic(auto)]
 
 mod action;

@@ -4,7 +4,7 @@ use crate::path::Path;
 /// The protocol's faults of a request.
 #[derive(Clone, Copy, Debug, PartialEq, Eq)]
 pub enum Refusal {
-    /// No head, or a `Content-Length` that is none.
+    /// The head does not parse, or its `Content-Length` is not a number.
     BadRequest,
     /// The path has no route.
     NotFound,

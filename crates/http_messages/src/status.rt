@@ -12,7 +12,7 @@ pub enum Status {
     BadRequest,
     Forbidden,
     NotFound,
-    /// The methods of this path are told.
+    /// The response lists this path's methods.
     MethodNotAllowed(Path),
     LengthRequired,
     ContentTooLarge,
@@ -54,7 +54,7 @@ impl Status {
 }
 
 impl Refusal {
-    /// The status that tells it.
+    /// Its status.
     pub fn status(self) -> Status
         ensures { result ≡ refused_status self }
     {

@@ -123,7 +123,7 @@ ImportsByEntries =
     (rows : List AuthTerms) → IsLegal charter history
     → GrowAlike (JudgesRow charter day caller holder) day caller holder history rows
 
--- and so are changes of which it is asked what they would do
+-- and so are hypothetical changes
 abbrev pub HypotheticalByEntries : Type 0
 HypotheticalByEntries =
     (charter : Charter) (history : History) (day : ℕ) (caller holder : List ℕ)

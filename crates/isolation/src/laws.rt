@@ -54,7 +54,7 @@ pub fn imports_by_entries()
     ensures { ImportsByEntries }
 {}
 
-/// The same of changes at a holder of which it is asked what they would do.
+/// The same of hypothetical changes at a holder.
 pub fn hypothetical_by_entries()
     ensures { HypotheticalByEntries }
 {}

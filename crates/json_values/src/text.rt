@@ -5,8 +5,8 @@ ghost use Rattle.json_values.specs.Tree.{tree_of};
 use serde_json::{Category, Value};
 use std::alloc::{AllocError, Global};
 
-/// The value of a JSON text, and none of other bytes: so also where arrays and objects nest deeper
-/// than 127. The error is want of memory.
+/// The value of a JSON text. `None` for any other bytes, and for a text whose arrays and objects
+/// nest deeper than 127. An error means that an allocation failed.
 pub fn tree_of(alloc: Global, bytes: &[u8]) -> Result<Option<Value>, AllocError>
     ensures { IfOk result (λ value. option_map view value ≡ tree_of bytes.now) }
 {

@@ -127,7 +127,7 @@ pub(crate) fn auth_with_access<'a>(
     }
 }
 
-/// Whether the first day does not lie after the last, nor today.
+/// Whether neither the first day nor the day of the request is after the last day.
 pub(crate) fn are_dates(today: Day, from: Day, until: Day) -> bool
     ensures { IsTrue result ↔ ((from ≤ until) × (today ≤ until)) }
 {

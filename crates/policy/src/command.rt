@@ -105,7 +105,7 @@ pub enum Query {
     },
 }
 
-/// A change of a holder's authorizations of which it is asked what it would do.
+/// A hypothetical change of a holder's authorizations, as a what-if request names it.
 #[derive(Clone, Copy, Debug)]
 pub enum Proposed {
     /// Authorizes what the terms say.

@@ -34,9 +34,10 @@ pub enum Rule {
     Distinct,
     /// The holder holds every address of the prefix.
     Held,
-    /// No other active authorization gives the same AS, prefix and maxLength.
+    /// No other active authorization of the holder has the same AS, prefix and maxLength.
     Same,
-    /// Neither too many stand at the holder, nor were too many ever made.
+    /// The holder has fewer than 1000 active authorizations, or fewer than 64 unrevoked grants, and
+    /// fewer than 999,999 of them were ever made.
     Room,
 }
 
@@ -85,7 +86,7 @@ impl fmt::Display for Rule {
 pub enum Refusal {
     /// The first rule that does not hold, and for a request of several rows the row, from 1.
     Denied(Rule, Option<u64>),
-    /// A growth of memory was refused.
+    /// An allocation failed.
     Memory,
 }
 

@@ -12,8 +12,8 @@ use crate::{Access, Auth, Granted, HolderRows, Refusal, Rule};
 use addr::{Day, Name};
 use std::alloc::{AllocError, Global};
 
-/// The authorization of the number, where the caller may see it on the day. Of one that the caller
-/// may not see the same is said as of one that does not exist. It takes no memory.
+/// The authorization of the number, where the caller may see it on the day. A hidden authorization
+/// and a missing one get the same reply. It takes no memory.
 pub fn see<'a>(
     rows: Option<&'a HolderRows>,
     day: Day,

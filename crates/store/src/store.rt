@@ -214,7 +214,7 @@ impl<S: Alter> Store<S> {
         commit_change(&mut self.conn, change)
     }
 
-    /// Hands the connection back.
+    /// Returns the connection.
     pub fn close(self) -> Connection<S>
         ensures same { result ≡ self.connection }
         ensures idle { result.in_transaction ≡ false }

@@ -33,7 +33,7 @@ use std::alloc::{AllocError, Global};
 #[derive(Clone, Copy, Debug, PartialEq, Eq)]
 pub enum LineFault {
     Malformed(Malformed),
-    /// A growth of memory was refused. Nothing is said of the bytes.
+    /// An allocation failed; the bytes were not judged.
     Memory,
 }
 
