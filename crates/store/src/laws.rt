@@ -1,4 +1,5 @@
-//! Laws over the definitions alone: each function's contract states one, and its body does nothing.
+//! Laws over the definitions alone: each function's contract states one, and its body at most calls
+//! laws of `histories`.
 
 ghost use Rattle.store.specs.Laws.{AuthsOfHistoriesGive, ExceptionsOfHistoriesFit, HistoriesRead};
 ghost use Rattle.store.specs.Laws.{LoadsRowsOfHistories, MemoryIsHonest, RowsOfHistoriesFit};
@@ -11,24 +12,24 @@ pub fn rows_of_a_history()
     ensures { LoadsRowsOfHistories }
 {}
 
-/// Where the tables hold the rows of a legal history whose values are those of their types, no load
-/// of a holder answers `Schema`.
+/// The rows of a legal history whose values are those of their types are in their ranges, so that
+/// by clause `schema` no load of a holder answers `Schema`.
 pub fn rows_of_a_history_fit()
     ensures { RowsOfHistoriesFit }
 {
     histories::laws::legal_rows_fit();
 }
 
-/// Where the tables hold the rows of a history whose values are those of their types, no load of the
-/// SLURM files answers `Schema`.
+/// The exceptions of a history whose values are those of their types are in their ranges, so that
+/// by clause `schema` no load of the SLURM files answers `Schema`.
 pub fn exceptions_of_a_history_fit()
     ensures { ExceptionsOfHistoriesFit }
 {
     histories::laws::exceptions_in_force_fit();
 }
 
-/// Where the tables hold the rows of a legal history whose values are those of their types, no load
-/// of the VRPs of a day answers `Schema`.
+/// Each authorization in force of a legal history whose values are those of their types gives a
+/// VRP, so that by clause `schema` no load of the VRPs of a day answers `Schema`.
 pub fn auths_of_a_history_give()
     ensures { AuthsOfHistoriesGive }
 {
