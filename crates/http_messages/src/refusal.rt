@@ -4,7 +4,8 @@ use crate::path::Path;
 /// The protocol's faults of a request.
 #[derive(Clone, Copy, Debug, PartialEq, Eq)]
 pub enum Refusal {
-    /// The head does not parse, or its `Content-Length` is not a number.
+    /// The head does not parse, or its `Content-Length` is repeated, is not a number, or is not zero
+    /// where no body is taken.
     BadRequest,
     /// The path has no route.
     NotFound,
