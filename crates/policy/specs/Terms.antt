@@ -1,6 +1,5 @@
 -- The grants and the authorizations of a holder. Each are numbered 1, 2, .. in the order in which
--- they were made, no number twice. What is said of an authorization's prefix goes through the first
--- definitions here, and nothing else looks into its terms.
+-- they were made, no number twice.
 use Rattle.std.specs.Prelude.{◌≡◌, ℕ, ◌+◌, ◌≤◌, Bool, true, not, ◌&&◌, ◌==◌, List, [], ◌∷◌, ◌++◌, map, filter, if◌then◌else◌, ◌⊎◌, Contains}
 use Rattle.addr.specs.Address.{overlaps, prefix_eq}
 use Rattle.addr.specs.declared.asn.Asn.{Asn}

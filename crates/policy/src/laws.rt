@@ -1,4 +1,5 @@
-//! Laws of the definitions: each function's contract states one, and its body does nothing else.
+//! Laws of the definitions. `entry_fits` is about its arguments: it reads them all, for the proofs
+//! alone.
 
 ghost use Rattle.policy.specs.Unregistered.{UnregisteredHaveNothing};
 ghost use Rattle.policy.specs.Values.{EntryFits};
