@@ -12,8 +12,8 @@ use Rattle.sqlite.specs.Held.{Held}
 use Rattle.sqlite.specs.Start.{FindsIn}
 use Rattle.sqlite.specs.State.{HasCleanDisk}
 use Rattle.charters.specs.CharterSets.{IsCharter}
-use Rattle.policy.specs.History.{History}
-use Rattle.policy.specs.Verdict.{IsLegal}
+use Rattle.registry.specs.History.{History}
+use Rattle.registry.specs.Verdict.{IsLegal}
 use Rattle.charters.specs.declared.charter.Charter.{Charter}
 use Rattle.tables.specs.TablesHold.{TablesHold}
 use Rattle.database.specs.Databases.{IsDeskWhileOpen}

@@ -7,8 +7,8 @@ use Rattle.sqlite_wal.specs.Files.{outcomes}
 use Rattle.sqlite_trees.specs.Tree.{Trees}
 use Rattle.sqlite.specs.Closing.{HoldsAlone}
 use Rattle.sqlite.specs.Files.{HoldsDatabase, image_of}
-use Rattle.policy.specs.History.{History}
-use Rattle.policy.specs.RowsOfAll.{AllRows, HasRows}
+use Rattle.registry.specs.History.{History}
+use Rattle.registry.specs.RowsOfAll.{AllRows, HasRows}
 use Rattle.charters.specs.declared.charter.Charter.{Charter}
 use Rattle.tables.specs.TablesHold.{TablesHold}
 use Rattle.cli.specs.declared.fault.ProgramFault.{ProgramFault}

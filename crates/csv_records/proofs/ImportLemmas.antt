@@ -9,7 +9,7 @@ use Rattle.addr.specs.Day.{day_in}
 use Rattle.addr.specs.PrefixText.{spelled_prefix}
 use Rattle.addr.specs.declared.asn.Asn.{Asn as AsnNumber}
 use Rattle.addr.specs.declared.prefix.Prefix.{Prefix as PrefixValue}
-use Rattle.policy.specs.declared.authorization.AuthTerms.{AuthTerms}
+use Rattle.registry.specs.declared.authorization.AuthTerms.{AuthTerms}
 use Rattle.json_values.proofs.FaultLemmas.{lowest-append, told-if}
 use Rattle.json_values.proofs.ReadingLemmas.{Reads, reads-both, reads-each, reads-mapped, reads-ok_or}
 use Rattle.json_values.specs.Faults.{fault_unless, lower_of, lowest}

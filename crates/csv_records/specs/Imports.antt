@@ -5,7 +5,7 @@ use Rattle.addr.specs.Day.{day_in}
 use Rattle.addr.specs.Digits.{asn_in, number_in}
 use Rattle.addr.specs.PrefixText.{spelled_prefix}
 use Rattle.addr.specs.declared.asn.Asn.{Asn}
-use Rattle.policy.specs.declared.authorization.AuthTerms.{AuthTerms}
+use Rattle.registry.specs.declared.authorization.AuthTerms.{AuthTerms}
 use Rattle.json_values.specs.Faults.{fault_unless, lowest}
 use Rattle.csv_records.specs.CsvRecords.{csv_records}
 use Rattle.csv_records.specs.Fields.{Fields, fields_eq}

@@ -8,7 +8,7 @@ use Rattle.addr.specs.PrefixText.{spelling}
 use Rattle.addr.specs.declared.asn.Asn.{Asn}
 use Rattle.addr.specs.declared.prefix.Prefix.{Prefix}
 use Rattle.addr.specs.declared.vrp.Vrp.{Vrp}
-use Rattle.policy.specs.declared.authorization.Auth.{Auth}
+use Rattle.registry.specs.declared.authorization.Auth.{Auth}
 use Rattle.csv_records.specs.Fields.{Fields}
 use Rattle.csv_records.specs.Imports.{import_header}
 

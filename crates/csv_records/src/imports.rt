@@ -13,7 +13,7 @@ use crate::fields::field;
 use addr::{Asn, Day, Prefix, number_from_text};
 use csv::ByteRecord;
 use json_values::{Gathered, both};
-use policy::AuthTerms;
+use registry::AuthTerms;
 use std::alloc::{AllocError, Global};
 
 /// How many rows an import may have.

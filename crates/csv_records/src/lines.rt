@@ -6,7 +6,7 @@ ghost use Rattle.csv_records.specs.Lines.{csv_line, csv_text, fields_text, list_
 
 use addr::{Asn, Day, Prefix, Vrp, digits};
 use arrayvec::ArrayString;
-use policy::Auth;
+use registry::Auth;
 use std::alloc::{AllocError, Global};
 
 trait CsvRow {

@@ -9,7 +9,7 @@ use Rattle.sqlite_value.specs.Order.{Row}
 use Rattle.sqlite_sql.specs.Term.{lit}
 use Rattle.addr.specs.declared.prefix.Prefix.{Prefix}
 use Rattle.charters.specs.CharterSets.{CharterSets}
-use Rattle.policy.specs.RowsOfAll.{blank_rows}
+use Rattle.registry.specs.RowsOfAll.{blank_rows}
 use Rattle.database.specs.Databases.{IsNew}
 use Rattle.tables.specs.Tables.{meta, operator, pool, desk_tables, contents, is_table, IsTree, AreTrees}
 use Rattle.tables.specs.Cells.{schema_row, operator_row, prefix_cells}

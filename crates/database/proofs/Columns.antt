@@ -3,9 +3,9 @@ use Rattle.std.proofs.Common.{◌≡◌, ℕ, suc, List, [], ◌∷◌, map, dro
 use Rattle.sqlite_value.specs.Order.{Row, column}
 use Rattle.sqlite_trees.proofs.ListLemmas.{map-map}
 use Rattle.sqlite_sql.specs.Term.{Term, col, eval, eval_all}
-use Rattle.policy.specs.declared.grant.Granted.{Granted}
-use Rattle.policy.specs.declared.grant.Scope.{Scope}
-use Rattle.policy.specs.declared.grant.Scope.TheVariants.{All, Only}
+use Rattle.registry.specs.declared.grant.Granted.{Granted}
+use Rattle.registry.specs.declared.grant.Scope.{Scope}
+use Rattle.registry.specs.declared.grant.Scope.TheVariants.{All, Only}
 use Rattle.slurm.specs.declared.filter.Filter.TheVariants.{Under, By, Both}
 use Rattle.tables.specs.declared.exception.Exception.{Exception}
 use Rattle.tables.specs.declared.exception.Exception.TheVariants.{Filter as FilterOf, Assertion}

@@ -13,7 +13,7 @@ use Rattle.sqlite_schema.specs.declared.command.Command.TheVariants.{CreateTable
 use Rattle.sqlite_schema.specs.declared.schema.Schema.{Schema}
 use Rattle.sqlite_schema.specs.declared.schema.Table.{Table}
 use Rattle.tables.specs.Tables.{holding, holding_of, desk_tables, unindexed_schema, contents}
-use Rattle.policy.specs.ExceptionsInForce.{no_exceptions}
+use Rattle.registry.specs.ExceptionsInForce.{no_exceptions}
 use Rattle.tables.specs.TablesHold.{Part, HoldsPart, ArePlaced, HoldsExceptions}
 use Rattle.database.specs.steps.Making.{so_far, IsMadeTo, IsUnindexed, MakesIndex}
 use Rattle.database.specs.Statements.{IsExecuted}

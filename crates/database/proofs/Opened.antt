@@ -21,9 +21,9 @@ use Rattle.sqlite_rules.proofs.ProbeLemmas.{mapped_has}
 use Rattle.sqlite_catalog.specs.Listing.{IsSound}
 use Rattle.addr.specs.declared.span.Span.{Span}
 use Rattle.charters.specs.CharterSets.{CharterSets}
-use Rattle.policy.specs.declared.authorization.Auth.{Auth}
-use Rattle.policy.specs.declared.grant.Granted.{Granted}
-use Rattle.policy.specs.Values.{AuthFits, GrantFits, ExceptionsFit}
+use Rattle.registry.specs.declared.authorization.Auth.{Auth}
+use Rattle.registry.specs.declared.grant.Granted.{Granted}
+use Rattle.registry.specs.Values.{AuthFits, GrantFits, ExceptionsFit}
 use Rattle.slurm.specs.Exceptions.{Exceptions}
 use Rattle.tables.specs.declared.exception.ExceptionRow.{ExceptionRow}
 use Rattle.tables.specs.Cells.{number_cell, kind_number, exception_row, span_cells, grant_cells, auth_cells, holder_row, holding_row, granted_row, auth_row}

@@ -10,7 +10,7 @@ use Rattle.sqlite_trees.proofs.ListLemmas.{all_weaker, all_both, all-filter, all
 use Rattle.sqlite_rules.proofs.ListLemmas.{all_from, has_filtered}
 use Rattle.addr.specs.declared.vrp.Vrp.{Vrp}
 use Rattle.slurm.specs.declared.filter.Filter.{Filter}
-use Rattle.policy.specs.Values.{FilterFits, VrpFits, ExceptionsFit}
+use Rattle.registry.specs.Values.{FilterFits, VrpFits, ExceptionsFit}
 use Rattle.slurm.specs.Exceptions.{Exceptions}
 use Rattle.slurm.specs.declared.exceptions.TheConstants.{MOST_ENTRIES}
 use Rattle.tables.specs.declared.exception.Exception.{Exception}

@@ -7,9 +7,9 @@ use Rattle.sqlite_trees.proofs.ListLemmas.{all_weaker, IsPermutation-same}
 use Rattle.sqlite_rules.specs.Lists.{Has}
 use Rattle.sqlite_rules.proofs.ListLemmas.{all_has, has_filtered, has_kept}
 use Rattle.addr.specs.declared.span.Span.{Span}
-use Rattle.policy.specs.declared.authorization.Auth.{Auth}
-use Rattle.policy.specs.declared.grant.Granted.{Granted}
-use Rattle.policy.specs.Rows.{Rows}
+use Rattle.registry.specs.declared.authorization.Auth.{Auth}
+use Rattle.registry.specs.declared.grant.Granted.{Granted}
+use Rattle.registry.specs.Rows.{Rows}
 use Rattle.tables.specs.Cells.{holder_row, holding_row, granted_row, auth_row}
 use Rattle.tables.specs.TablesHold.{Part, HoldsPart, part_rows, is_text, holder_part, holding_part, granted_part, auth_part}
 use Rattle.tables.proofs.PartLemmas.{names, name_of-true, name_of_itself}

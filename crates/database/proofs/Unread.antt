@@ -20,7 +20,7 @@ use Rattle.addr.specs.Name.{is_name}
 use Rattle.addr.specs.declared.prefix.Prefix.{Prefix}
 use Rattle.charters.specs.CharterSets.{AreInNumber, CharterSets}
 use Rattle.charters.specs.Repeats.{has_repeat}
-use Rattle.policy.specs.Values.{IsCount, AuthFits, GrantFits}
+use Rattle.registry.specs.Values.{IsCount, AuthFits, GrantFits}
 use Rattle.charters.proofs.Repeats.{has_repeat-moved, prefix_eq-flips}
 use Rattle.tables.specs.declared.rows.Registered.{Registered}
 use Rattle.tables.specs.Cells.{schema_row, operator_row, prefix_cells, span_cells, grant_cells, auth_cells, holder_row, holding_row, granted_row, auth_row, exception_row}

@@ -6,7 +6,7 @@ use Rattle.sqlite.specs.State.{State, HasCleanDisk}
 use Rattle.sqlite.specs.Store.{Ghosts}
 use Rattle.sqlite_trees.specs.Tree.{Trees}
 use Rattle.charters.specs.CharterSets.{CharterSets}
-use Rattle.policy.specs.RowsOfAll.{blank_rows}
+use Rattle.registry.specs.RowsOfAll.{blank_rows}
 use Rattle.tables.specs.Tables.{blank_schema, desk_schema, desk_tables, SameRows}
 use Rattle.tables.specs.Schemas.{has_names}
 use Rattle.tables.specs.TablesHold.{TablesHold}

@@ -9,8 +9,8 @@ use Rattle.addr.specs.Name.{is_name}
 use Rattle.addr.specs.declared.prefix.Prefix.{Prefix}
 use Rattle.charters.specs.CharterSets.{AreInNumber, CharterSets}
 use Rattle.charters.specs.Repeats.{has_repeat}
-use Rattle.policy.specs.RowsOfAll.{AllRows}
-use Rattle.policy.specs.Values.{IsCount, AuthFits, GrantFits, ExceptionsFit}
+use Rattle.registry.specs.RowsOfAll.{AllRows}
+use Rattle.registry.specs.Values.{IsCount, AuthFits, GrantFits, ExceptionsFit}
 use Rattle.slurm.specs.declared.exceptions.TheConstants.{MOST_ENTRIES}
 use Rattle.tables.specs.Cells.{schema_row, operator_row, prefix_cells, holder_row, holding_row, granted_row, auth_row, exception_row}
 use Rattle.tables.specs.Decode.{ExceptionRowFits, exception_columns}

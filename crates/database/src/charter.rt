@@ -6,7 +6,7 @@ ghost use Rattle.database.specs.steps.Making.{IsMadeTo, PutsRows, HasCharter};
 
 use crate::statement::run;
 use addr::{Name, Prefix};
-use policy::Charter;
+use registry::Charter;
 use sqlite::{Alter, Error, Transaction};
 use tables::{address_bytes, name_values, prefix_values};
 

@@ -2,7 +2,7 @@
 ghost use Rattle.std.specs.Prelude.{◌≡◌, ◌≢◌, ◌↔◌, false, None, Err, OnOk, OnErr, IsTrue};
 ghost use Rattle.sqlite.specs.Held.{state};
 ghost use Rattle.sqlite.specs.State.{HasCleanDisk};
-ghost use Rattle.policy.specs.RowsOfAll.{blank_rows};
+ghost use Rattle.registry.specs.RowsOfAll.{blank_rows};
 ghost use Rattle.database.specs.Databases.{IsUnused, IsNew, LeavesOldOrNew};
 ghost use Rattle.tables.specs.Tables.{blank_schema};
 ghost use Rattle.tables.specs.TablesHold.{TablesHold};
@@ -14,7 +14,7 @@ use crate::StoreFault;
 use crate::charter::put_charter;
 use crate::index::make_index;
 use crate::statement::run;
-use policy::Charter;
+use registry::Charter;
 use sqlite::{Alter, Connection, Error, Transaction};
 use sqlite_schema::schema::Schema;
 

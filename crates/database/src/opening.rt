@@ -14,7 +14,7 @@ use crate::StoreFault;
 use crate::index::add_index;
 use crate::making::make_all_tables;
 use crate::reading::read_tables;
-use policy::Charter;
+use registry::Charter;
 use sqlite::{Alter, Connection, Error, MemStore};
 use sqlite_schema::schema::Schema;
 use std::alloc::Global;

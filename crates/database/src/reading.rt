@@ -23,7 +23,7 @@ use crate::query::ask;
 use crate::rise::rise;
 use crate::values::read_all;
 use addr::{Name, Prefix, Span};
-use policy::{Auth, Charter, Granted};
+use registry::{Auth, Charter, Granted};
 use slurm::MOST_ENTRIES;
 use sqlite::{Alter, Connection, Row};
 use std::alloc::Global;

@@ -2,14 +2,14 @@
 use Rattle.std.proofs.Common.{◌≡◌, ℕ, true, false, List, [], ◌∷◌, Some, None, refl, sym, ◌∙◌, subst}
 use Rattle.std.specs.List.{list_all}
 use Rattle.std.proofs.lemmas.Bool.{and_parts, false≢true, true≢false}
-use Rattle.policy.specs.Answer.{number_given}
-use Rattle.policy.specs.History.{History}
-use Rattle.policy.specs.HypotheticalHistory.{proposed_command, HypotheticalHistory}
-use Rattle.policy.specs.Verdict.{Verdict}
+use Rattle.registry.specs.Answer.{number_given}
+use Rattle.registry.specs.History.{History}
+use Rattle.registry.specs.HypotheticalHistory.{proposed_command, HypotheticalHistory}
+use Rattle.registry.specs.Verdict.{Verdict}
 use Rattle.charters.specs.declared.charter.Charter.{Charter}
-use Rattle.policy.specs.declared.command.Command.{Command}
-use Rattle.policy.specs.declared.command.Proposed.{Proposed}
-use Rattle.policy.specs.declared.command.Proposed.TheVariants.{Create as ProposedCreate, Withdraw as ProposedWithdraw}
+use Rattle.registry.specs.declared.command.Command.{Command}
+use Rattle.registry.specs.declared.command.Proposed.{Proposed}
+use Rattle.registry.specs.declared.command.Proposed.TheVariants.{Create as ProposedCreate, Withdraw as ProposedWithdraw}
 use Rattle.histories.specs.OneOutcome.{OneHypotheticalOutcome}
 use Rattle.desk.specs.Answer.{is_accepted, is_import, states_after, AnswersCommand, AreStatesOn}
 use Rattle.desk.specs.AsDone.{requests_for, AreDone, WhatIfAsDone}

@@ -8,8 +8,8 @@ use Rattle.std.proofs.lemmas.List.Elements.{All-nil, All-cons, All-head}
 use Rattle.std.proofs.lemmas.List.Sorted.{All-permutation, length_permutation}
 use Rattle.std.proofs.lemmas.List.Sums.{count_by-le-length}
 use Rattle.addr.specs.declared.asn.Asn.{Asn}
-use Rattle.policy.specs.Verdict.{terms_fit_length}
-use Rattle.policy.specs.declared.authorization.Auth.{Auth}
+use Rattle.registry.specs.Verdict.{terms_fit_length}
+use Rattle.registry.specs.declared.authorization.Auth.{Auth}
 use Rattle.roa.specs.RoaContent.{RouteOriginAttestation, IsContent, IsLowestFault, entry_eq, is_in_range}
 use Rattle.roa.specs.declared.content.ContentFault.{ContentFault}
 use Rattle.roa.specs.declared.content.ContentFault.TheVariants.{Empty, TooMany, MaxLength, Repeated}

@@ -3,15 +3,15 @@ use Rattle.std.proofs.Common.{◌≡◌, ℕ, zero, suc, ◌<◌, Bool, true, �
 use Rattle.std.specs.List.{list_any}
 use Rattle.std.proofs.lemmas.List.Folds.{Any-from_list_any, list_any-from_Any}
 use Rattle.addr.specs.declared.vrp.Vrp.{Vrp}
-use Rattle.policy.specs.DailyVrps.{IsVrpInForce}
-use Rattle.policy.specs.History.{History}
-use Rattle.policy.specs.Rows.{Rows}
-use Rattle.policy.specs.Terms.{HeldSinceMade, authorization_terms, Keeps}
-use Rattle.policy.specs.Verdict.{IsLegal}
-use Rattle.policy.specs.declared.authorization.Auth.{Auth}
+use Rattle.registry.specs.DailyVrps.{IsVrpInForce}
+use Rattle.registry.specs.History.{History}
+use Rattle.registry.specs.Rows.{Rows}
+use Rattle.registry.specs.Terms.{HeldSinceMade, authorization_terms, Keeps}
+use Rattle.registry.specs.Verdict.{IsLegal}
+use Rattle.registry.specs.declared.authorization.Auth.{Auth}
 use Rattle.charters.specs.declared.charter.Charter.{Charter}
-use Rattle.policy.proofs.Unregistered.{has_nothing}
-use Rattle.policy.specs.RowsOfAll.{AllRows, HasRows, IsGivenOn}
+use Rattle.registry.proofs.Unregistered.{has_nothing}
+use Rattle.registry.specs.RowsOfAll.{AllRows, HasRows, IsGivenOn}
 use Rattle.desk.proofs.DeskLemmas.{rows_present, rows_absent}
 
 pub at_head : {X : Type 0} (x : X) (xs : List X) → Contains (x ∷ xs) x

@@ -4,16 +4,16 @@ use Rattle.std.specs.Global.{Vec}
 use Rattle.std.proofs.lemmas.Bool.{false≢true, true≢false}
 use Rattle.addr.specs.Address.{Address}
 use Rattle.addr.specs.declared.prefix.Prefix.{Prefix}
-use Rattle.policy.specs.History.{History, is_registered}
-use Rattle.policy.specs.Resources.{resource_holder, is_held_by, IsFree}
-use Rattle.policy.specs.Rows.{Rows, RowsOf, RowsIfAny, changed_exceptions}
-use Rattle.policy.specs.Answer.{IsAccepted, IsAnswer, IsListRefusal, IsOfCommand, imported, number_made}
-use Rattle.policy.specs.declared.rule.Refusal.{Refusal}
-use Rattle.policy.specs.declared.rule.Refusal.TheVariants.{Denied, Memory}
-use Rattle.policy.specs.declared.change.Change.{Change}
+use Rattle.registry.specs.History.{History, is_registered}
+use Rattle.registry.specs.Resources.{resource_holder, is_held_by, IsFree}
+use Rattle.registry.specs.Rows.{Rows, RowsOf, RowsIfAny, changed_exceptions}
+use Rattle.registry.specs.Answer.{IsAccepted, IsAnswer, IsListRefusal, IsOfCommand, imported, number_made}
+use Rattle.registry.specs.declared.rule.Refusal.{Refusal}
+use Rattle.registry.specs.declared.rule.Refusal.TheVariants.{Denied, Memory}
+use Rattle.registry.specs.declared.change.Change.{Change}
 use Rattle.histories.specs.Growth.{GrowthFits, GrowthIsLegal}
 use Rattle.desk.specs.Answer.{is_import, refused_with, AnswersCommand, AnswersList, IsAnswered}
-use Rattle.desk.specs.declared.asked.Request.TheVariants.{Command as CommandRequest}
+use Rattle.registry.specs.declared.asked.Request.TheVariants.{Command as CommandRequest}
 use Rattle.desk.specs.declared.reply.Reply.{Reply}
 use Rattle.desk.specs.declared.reply.Reply.TheVariants.{Done, Imported}
 use Rattle.desk.specs.declared.handling.Desk.{Desk}
@@ -24,15 +24,15 @@ use Rattle.desk.specs.steps.Reading.{OfHistories}
 use Rattle.sqlite.specs.Store.{Ghosts}
 use Rattle.store.specs.StoreRows.{StoreView, IsRead, IfClean, HoldsAfter}
 use Rattle.store.specs.Loads.{OfHeldRows}
-use Rattle.policy.specs.declared.authorization.AuthTerms.{AuthTerms}
-use Rattle.policy.specs.declared.command.Command.{Command}
-use Rattle.policy.specs.declared.command.Command.TheVariants.{Import}
-use Rattle.policy.specs.Values.{EntryFits}
-use Rattle.policy.specs.Verdict.{IsLegal}
+use Rattle.registry.specs.declared.authorization.AuthTerms.{AuthTerms}
+use Rattle.registry.specs.declared.command.Command.{Command}
+use Rattle.registry.specs.declared.command.Command.TheVariants.{Import}
+use Rattle.registry.specs.Values.{EntryFits}
+use Rattle.registry.specs.Verdict.{IsLegal}
 use Rattle.charters.specs.declared.charter.Charter.{Charter}
-use Rattle.policy.proofs.Names.{held_by_itself}
-use Rattle.policy.proofs.Unregistered.{has_nothing}
-use Rattle.policy.specs.RowsOfAll.{AllRows, changed_rows, IsTaken, HasRows}
+use Rattle.registry.proofs.Names.{held_by_itself}
+use Rattle.registry.proofs.Unregistered.{has_nothing}
+use Rattle.registry.specs.RowsOfAll.{AllRows, changed_rows, IsTaken, HasRows}
 use Rattle.desk.proofs.HolderLemmas.{others_left, exceptions_left}
 
 -- the rows of a registered holder

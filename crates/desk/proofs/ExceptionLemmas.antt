@@ -9,7 +9,7 @@ use Rattle.addr.specs.declared.vrp.Vrp.{Vrp}
 use Rattle.slurm.proofs.FilterLemmas.{some_filter}
 use Rattle.slurm.specs.Exceptions.{Exceptions}
 use Rattle.slurm.specs.Filter.{FilterMatches, filter_matches}
-use Rattle.policy.specs.DailyVrps.{IsAfterExceptions}
+use Rattle.registry.specs.DailyVrps.{IsAfterExceptions}
 use Rattle.store.specs.Loads.{AreFilesOf}
 use Rattle.desk.proofs.DailyLemmas.{at_head, in_tail, head_or_tail, none_in_nil}
 

@@ -14,21 +14,21 @@ use Rattle.histories.specs.SharedVrps.{share_none, NoSharedVrp}
 use Rattle.isolation.specs.Isolation.{DifferAtMostAt, HypotheticalKeepsOthers}
 use Rattle.payload.proofs.Sets.{contains-items}
 use Rattle.payload.specs.VrpSet as set
-use Rattle.policy.proofs.Names.{same_name-true}
-use Rattle.policy.proofs.Unregistered.{has_nothing}
-use Rattle.policy.specs.Answer.{IsSupposed}
-use Rattle.policy.specs.DailyVrps.{IsVrpInForce}
-use Rattle.policy.specs.History.{History, same_name}
-use Rattle.policy.specs.HypotheticalHistory.{HypotheticalHistory}
-use Rattle.policy.specs.Rows.{Rows, RowsOf, RowsIfAny}
-use Rattle.policy.specs.RowsOfAll.{AllRows, HasRows}
-use Rattle.policy.specs.Terms.{authorization_terms, share_vrp, AreActive, HeldSinceMade, IsActive, IsVrpOf, Keeps}
-use Rattle.policy.specs.Verdict.{terms_fit_length, IsLegal}
-use Rattle.policy.specs.declared.authorization.Auth.{Auth}
+use Rattle.registry.proofs.Names.{same_name-true}
+use Rattle.registry.proofs.Unregistered.{has_nothing}
+use Rattle.registry.specs.Answer.{IsSupposed}
+use Rattle.registry.specs.DailyVrps.{IsVrpInForce}
+use Rattle.registry.specs.History.{History, same_name}
+use Rattle.registry.specs.HypotheticalHistory.{HypotheticalHistory}
+use Rattle.registry.specs.Rows.{Rows, RowsOf, RowsIfAny}
+use Rattle.registry.specs.RowsOfAll.{AllRows, HasRows}
+use Rattle.registry.specs.Terms.{authorization_terms, share_vrp, AreActive, HeldSinceMade, IsActive, IsVrpOf, Keeps}
+use Rattle.registry.specs.Verdict.{terms_fit_length, IsLegal}
+use Rattle.registry.specs.declared.authorization.Auth.{Auth}
 use Rattle.charters.specs.declared.charter.Charter.{Charter}
-use Rattle.policy.specs.declared.command.Proposed.{Proposed}
-use Rattle.policy.specs.declared.rule.Refusal.{Refusal}
-use Rattle.policy.specs.declared.rule.Refusal.TheVariants.{Denied, Memory}
+use Rattle.registry.specs.declared.command.Proposed.{Proposed}
+use Rattle.registry.specs.declared.rule.Refusal.{Refusal}
+use Rattle.registry.specs.declared.rule.Refusal.TheVariants.{Denied, Memory}
 use Rattle.slurm.specs.Exceptions.{Exceptions}
 use Rattle.store.specs.Loads.{AreFilesOf}
 use Rattle.desk.specs.Answer.{refused_with, AnswersWhatIf}

@@ -12,16 +12,16 @@ use Rattle.payload.specs.ValidityState.{state_of}
 use Rattle.payload.specs.VrpSet as set
 use Rattle.payload.specs.declared.validity.Validity.{Validity}
 use Rattle.payload.proofs.Sets.{is_vrp, same_vrp-equal, contains-items, contains-from_list}
-use Rattle.policy.specs.DailyVrps.{IsAfterExceptions, IsVrpOn}
-use Rattle.policy.specs.ExceptionsInForce.{exceptions_in_force}
-use Rattle.policy.specs.History.{History}
+use Rattle.registry.specs.DailyVrps.{IsAfterExceptions, IsVrpOn}
+use Rattle.registry.specs.ExceptionsInForce.{exceptions_in_force}
+use Rattle.registry.specs.History.{History}
 use Rattle.slurm.specs.Exceptions.{Exceptions}
 use Rattle.store.specs.Loads.{AreFilesOf}
 use Rattle.desk.specs.Answer.{AreStatesOn}
 use Rattle.desk.specs.steps.Supposing.{AreInForceOn}
-use Rattle.policy.specs.Verdict.{IsLegal}
+use Rattle.registry.specs.Verdict.{IsLegal}
 use Rattle.charters.specs.declared.charter.Charter.{Charter}
-use Rattle.policy.specs.RowsOfAll.{AllRows, HasRows, IsGivenOn}
+use Rattle.registry.specs.RowsOfAll.{AllRows, HasRows, IsGivenOn}
 use Rattle.desk.proofs.DailyLemmas.{given_on, any_among, among_any}
 use Rattle.desk.proofs.ExceptionLemmas.{after_alike}
 

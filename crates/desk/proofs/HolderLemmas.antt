@@ -5,32 +5,32 @@ use Rattle.std.proofs.lemmas.Bool.{cases_Bool, cond-false, or_parts, true≢fals
 use Rattle.histories.specs.Growth.{GrowthIsLegal}
 use Rattle.isolation.specs.Isolation.{asks_of_all, AreJudgedAlike, AreSeenAlike, GrowAlike, CommandsByEntries, HypotheticalByEntries, ImportsByEntries, QueriesByEntries}
 use Rattle.addr.specs.declared.route.Route.{Route}
-use Rattle.policy.specs.declared.authorization.AuthTerms.{AuthTerms}
-use Rattle.policy.specs.declared.change.Change.{Change}
-use Rattle.policy.specs.declared.change.Change.TheVariants.{Holders, Exceptions as Replace}
-use Rattle.policy.specs.declared.change.HolderChange.{HolderChange}
+use Rattle.registry.specs.declared.authorization.AuthTerms.{AuthTerms}
+use Rattle.registry.specs.declared.change.Change.{Change}
+use Rattle.registry.specs.declared.change.Change.TheVariants.{Holders, Exceptions as Replace}
+use Rattle.registry.specs.declared.change.HolderChange.{HolderChange}
 use Rattle.charters.specs.declared.charter.Charter.{Charter}
-use Rattle.policy.specs.declared.command.Command.{Command}
-use Rattle.policy.specs.declared.command.Command.TheVariants.{Import}
-use Rattle.policy.specs.declared.command.Proposed.{Proposed}
-use Rattle.policy.specs.declared.command.Query.{Query}
-use Rattle.policy.specs.declared.command.Query.TheVariants.{Show as ShowQuery, Content as ContentQuery, List as ListQuery, Payloads as PayloadsQuery, Validity as ValidityQuery, WhatIf as WhatIfQuery}
-use Rattle.policy.specs.declared.rule.Rule.{Rule}
-use Rattle.policy.specs.Answer.{holder_of, taker_of, AreCounts, IsDenied, IsOfCommand, Leaves}
-use Rattle.policy.specs.ExceptionsInForce.{brings_exceptions}
-use Rattle.policy.specs.History.{History}
-use Rattle.policy.specs.HypotheticalHistory.{JudgesChange}
-use Rattle.policy.specs.Import.{JudgesRow}
-use Rattle.policy.specs.HolderEntries.{is_this, names, entries_naming, entries_for}
-use Rattle.policy.specs.Rows.{Rows, changed, changed_by_one, changed_by_second, changed_exceptions}
-use Rattle.policy.specs.Verdict.{Verdict, IsLegal}
+use Rattle.registry.specs.declared.command.Command.{Command}
+use Rattle.registry.specs.declared.command.Command.TheVariants.{Import}
+use Rattle.registry.specs.declared.command.Proposed.{Proposed}
+use Rattle.registry.specs.declared.command.Query.{Query}
+use Rattle.registry.specs.declared.command.Query.TheVariants.{Show as ShowQuery, Content as ContentQuery, List as ListQuery, Payloads as PayloadsQuery, Validity as ValidityQuery, WhatIf as WhatIfQuery}
+use Rattle.registry.specs.declared.rule.Rule.{Rule}
+use Rattle.registry.specs.Answer.{holder_of, taker_of, AreCounts, IsDenied, IsOfCommand, Leaves}
+use Rattle.registry.specs.ExceptionsInForce.{brings_exceptions}
+use Rattle.registry.specs.History.{History}
+use Rattle.registry.specs.HypotheticalHistory.{JudgesChange}
+use Rattle.registry.specs.Import.{JudgesRow}
+use Rattle.registry.specs.HolderEntries.{is_this, names, entries_naming, entries_for}
+use Rattle.registry.specs.Rows.{Rows, changed, changed_by_one, changed_by_second, changed_exceptions}
+use Rattle.registry.specs.Verdict.{Verdict, IsLegal}
 use Rattle.slurm.specs.Exceptions.{Exceptions}
 use Rattle.desk.specs.Answer.{is_import, AnswersCommand, AnswersShow, AnswersContent, AnswersList, AnswersQuery, AnswersRequest}
 use Rattle.desk.specs.HolderAnswers.{IsAnswerOn, IsAnswerByEntries, AnswersByEntries, RunsByEntries}
 use Rattle.desk.specs.Run.{Runs}
-use Rattle.desk.specs.declared.asked.Asked.{Asked}
-use Rattle.desk.specs.declared.asked.Request.{Request}
-use Rattle.desk.specs.declared.asked.Request.TheVariants.{Command as CommandRequest, Query as QueryRequest}
+use Rattle.registry.specs.declared.asked.Asked.{Asked}
+use Rattle.registry.specs.declared.asked.Request.{Request}
+use Rattle.registry.specs.declared.asked.Request.TheVariants.{Command as CommandRequest, Query as QueryRequest}
 use Rattle.desk.specs.declared.reply.Reply.{Reply}
 use Rattle.desk.specs.declared.reply.Reply.TheVariants.{Done, Imported, Shown, Content, Listed, Report, Denied, Unavailable}
 

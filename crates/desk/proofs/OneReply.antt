@@ -5,26 +5,26 @@ use Rattle.std.specs.Global.{Vec}
 use Rattle.std.specs.String.{string_bytes}
 use Rattle.std.proofs.lemmas.Bool.{false≢true, true≢false}
 use Rattle.addr.specs.declared.route.Route.{Route}
-use Rattle.policy.specs.declared.authorization.Auth.{Auth}
+use Rattle.registry.specs.declared.authorization.Auth.{Auth}
 use Rattle.charters.specs.declared.charter.Charter.{Charter}
-use Rattle.policy.specs.declared.command.Command.{Command}
-use Rattle.policy.specs.declared.command.Command.TheVariants.{Import}
-use Rattle.policy.specs.declared.command.Proposed.{Proposed}
-use Rattle.policy.specs.declared.command.Query.TheVariants.{Show as ShowQuery, Content as ContentQuery, List as ListQuery, Payloads as PayloadsQuery, Validity as ValidityQuery, WhatIf as WhatIfQuery}
-use Rattle.policy.specs.declared.grant.Access.TheVariants.{Look}
-use Rattle.policy.specs.declared.rule.Rule.{Rule}
-use Rattle.policy.specs.Answer.{AreCounts, IsShown}
-use Rattle.policy.specs.History.{History}
-use Rattle.policy.specs.Permission.{is_permitted_terms}
-use Rattle.policy.specs.Terms.{grant_terms, Keeps, AreActive, HeldSinceMade, authorizations_made, authorization_terms}
-use Rattle.policy.specs.Verdict.{numbered, ShowVerdict, ListVerdict}
+use Rattle.registry.specs.declared.command.Command.{Command}
+use Rattle.registry.specs.declared.command.Command.TheVariants.{Import}
+use Rattle.registry.specs.declared.command.Proposed.{Proposed}
+use Rattle.registry.specs.declared.command.Query.TheVariants.{Show as ShowQuery, Content as ContentQuery, List as ListQuery, Payloads as PayloadsQuery, Validity as ValidityQuery, WhatIf as WhatIfQuery}
+use Rattle.registry.specs.declared.grant.Access.TheVariants.{Look}
+use Rattle.registry.specs.declared.rule.Rule.{Rule}
+use Rattle.registry.specs.Answer.{AreCounts, IsShown}
+use Rattle.registry.specs.History.{History}
+use Rattle.registry.specs.Permission.{is_permitted_terms}
+use Rattle.registry.specs.Terms.{grant_terms, Keeps, AreActive, HeldSinceMade, authorizations_made, authorization_terms}
+use Rattle.registry.specs.Verdict.{numbered, ShowVerdict, ListVerdict}
 use Rattle.histories.specs.OneOutcome.{OneHypotheticalOutcome, OneOutcome}
 use Rattle.histories.proofs.OneOutcome.{One, asked, accepted}
 use Rattle.desk.specs.Answer.{AnswersCommand, AnswersShow, AnswersContent, AnswersList}
 use Rattle.desk.specs.ContentText.{IsContentText}
 use Rattle.desk.specs.HolderAnswers.{deciding_entries, IsAnswerOn, SaySame, OneReply}
-use Rattle.desk.specs.declared.asked.Request.{Request}
-use Rattle.desk.specs.declared.asked.Request.TheVariants.{Command as CommandRequest, Query as QueryRequest}
+use Rattle.registry.specs.declared.asked.Request.{Request}
+use Rattle.registry.specs.declared.asked.Request.TheVariants.{Command as CommandRequest, Query as QueryRequest}
 use Rattle.desk.specs.declared.reply.Reply.{Reply}
 use Rattle.desk.specs.declared.reply.Reply.TheVariants.{Done, Imported, Shown, Content, Listed, Report, Denied, Unavailable}
 use Rattle.desk.proofs.HolderLemmas.{counts_of_import}

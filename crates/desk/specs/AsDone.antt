@@ -4,14 +4,14 @@ use Rattle.std.specs.Global.{Vec}
 use Rattle.std.specs.List.{list_all}
 use Rattle.addr.specs.declared.route.Route.{Route}
 use Rattle.payload.specs.declared.validity.Validity.{Validity}
-use Rattle.policy.specs.History.{History}
-use Rattle.policy.specs.HypotheticalHistory.{proposed_command}
+use Rattle.registry.specs.History.{History}
+use Rattle.registry.specs.HypotheticalHistory.{proposed_command}
 use Rattle.charters.specs.declared.charter.Charter.{Charter}
-use Rattle.policy.specs.declared.command.Proposed.{Proposed}
+use Rattle.registry.specs.declared.command.Proposed.{Proposed}
 use Rattle.desk.specs.Answer.{is_accepted, states_after, AnswersWhatIf, AreStatesOn}
 use Rattle.desk.specs.Run.{Runs}
-use Rattle.desk.specs.declared.asked.Asked.{Asked}
-use Rattle.desk.specs.declared.asked.Request.TheVariants.{Command as CommandRequest}
+use Rattle.registry.specs.declared.asked.Asked.{Asked}
+use Rattle.registry.specs.declared.asked.Request.TheVariants.{Command as CommandRequest}
 use Rattle.desk.specs.declared.reply.Reply.{Reply}
 use Rattle.desk.specs.declared.reply.Reply.TheVariants.{Report}
 

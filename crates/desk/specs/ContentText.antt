@@ -1,7 +1,7 @@
 -- The ROA content of an authorization, as a text.
 use Rattle.std.specs.Prelude.{◌≡◌, ℕ, List, [], ◌∷◌}
 use Rattle.hex.specs.Hex.{encode_lower}
-use Rattle.policy.specs.declared.authorization.Auth.{Auth}
+use Rattle.registry.specs.declared.authorization.Auth.{Auth}
 use Rattle.roa.specs.RoaContent.{RouteOriginAttestation, Encodes}
 
 -- the AS number of the terms, and their prefix with its maxLength as the one entry

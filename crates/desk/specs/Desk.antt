@@ -4,9 +4,9 @@ use Rattle.std.specs.Prelude.{◌≡◌}
 use Rattle.sqlite.specs.State.{State, HasCleanDisk}
 use Rattle.sqlite.specs.Store.{Ghosts}
 use Rattle.charters.specs.CharterSets.{IsCharter}
-use Rattle.policy.specs.History.{History}
-use Rattle.policy.specs.RowsOfAll.{AllRows, HasRows}
-use Rattle.policy.specs.Verdict.{IsLegal}
+use Rattle.registry.specs.History.{History}
+use Rattle.registry.specs.RowsOfAll.{AllRows, HasRows}
+use Rattle.registry.specs.Verdict.{IsLegal}
 use Rattle.charters.specs.declared.charter.Charter.{Charter}
 use Rattle.tables.specs.TablesHold.{TablesHold}
 use Rattle.store.specs.StoreRows.{state_of, Holds}

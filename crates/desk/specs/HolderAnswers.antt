@@ -4,22 +4,22 @@ use Rattle.std.specs.Prelude.{◌≡◌, ℕ, Bool, false, List, [], ◌∷◌, 
 use Rattle.std.specs.List.{list_any}
 use Rattle.std.specs.String.{string_bytes}
 use Rattle.isolation.specs.Isolation.{asks_of_all}
-use Rattle.policy.specs.declared.authorization.Auth.{Auth}
+use Rattle.registry.specs.declared.authorization.Auth.{Auth}
 use Rattle.charters.specs.declared.charter.Charter.{Charter}
-use Rattle.policy.specs.declared.command.Query.TheVariants.{WhatIf}
-use Rattle.policy.specs.ExceptionsInForce.{brings_exceptions}
-use Rattle.policy.specs.History.{History}
-use Rattle.policy.specs.HolderEntries.{names, entries_naming, entries_for, holder_asked}
-use Rattle.policy.specs.HypotheticalHistory.{HypotheticalHistory}
-use Rattle.policy.specs.RowsOfAll.{AllRows}
-use Rattle.policy.specs.Verdict.{IsLegal}
+use Rattle.registry.specs.declared.command.Query.TheVariants.{WhatIf}
+use Rattle.registry.specs.ExceptionsInForce.{brings_exceptions}
+use Rattle.registry.specs.History.{History}
+use Rattle.registry.specs.HolderEntries.{names, entries_naming, entries_for, holder_asked}
+use Rattle.registry.specs.HypotheticalHistory.{HypotheticalHistory}
+use Rattle.registry.specs.RowsOfAll.{AllRows}
+use Rattle.registry.specs.Verdict.{IsLegal}
 use Rattle.sqlite.specs.Store.{Ghosts}
 use Rattle.store.specs.StoreRows.{Holds}
 use Rattle.desk.specs.Answer.{AnswersRequest}
 use Rattle.desk.specs.ContentText.{IsContentText}
-use Rattle.desk.specs.declared.asked.Asked.{Asked}
-use Rattle.desk.specs.declared.asked.Request.{Request}
-use Rattle.desk.specs.declared.asked.Request.TheVariants.{Command as CommandRequest, Query as QueryRequest}
+use Rattle.registry.specs.declared.asked.Asked.{Asked}
+use Rattle.registry.specs.declared.asked.Request.{Request}
+use Rattle.registry.specs.declared.asked.Request.TheVariants.{Command as CommandRequest, Query as QueryRequest}
 use Rattle.desk.specs.declared.handling.Desk.{Desk}
 use Rattle.desk.specs.declared.reply.Reply.{Reply}
 use Rattle.desk.specs.declared.reply.Reply.TheVariants.{Content, Listed, Report, Unavailable}

@@ -1,14 +1,14 @@
 -- Requests that are asked one after the other.
 use Rattle.std.specs.Prelude.{◌≡◌, List, [], ◌∷◌}
-use Rattle.policy.specs.History.{History}
-use Rattle.policy.specs.Values.{HistoryFits}
-use Rattle.policy.specs.Verdict.{IsLegal}
+use Rattle.registry.specs.History.{History}
+use Rattle.registry.specs.Values.{HistoryFits}
+use Rattle.registry.specs.Verdict.{IsLegal}
 use Rattle.charters.specs.declared.charter.Charter.{Charter}
 use Rattle.desk.specs.Answer.{AnswersRequest}
 use Rattle.sqlite.specs.Store.{Ghosts}
 use Rattle.desk.specs.Desk.{HoldsHistory}
 use Rattle.desk.specs.declared.handling.Desk.{Desk}
-use Rattle.desk.specs.declared.asked.Asked.{Asked}
+use Rattle.registry.specs.declared.asked.Asked.{Asked}
 use Rattle.desk.specs.declared.reply.Reply.{Reply}
 
 -- one reply to each request, which is asked on the history that the one before it left; a reply of

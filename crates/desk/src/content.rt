@@ -1,9 +1,9 @@
 ghost use Rattle.std.specs.Prelude.{◌≡◌, ◌↔◌, true, IsSome, IfSome, IfOk};
 ghost use Rattle.std.specs.String.{string_bytes};
-ghost use Rattle.policy.specs.Verdict.{terms_fit_length};
+ghost use Rattle.registry.specs.Verdict.{terms_fit_length};
 ghost use Rattle.desk.specs.ContentText.{content_of, IsContentText};
 
-use policy::Auth;
+use registry::Auth;
 use roa::{Content, Entry, encode};
 use std::alloc::{AllocError, Global};
 

@@ -2,7 +2,7 @@
 ghost use Rattle.std.specs.Prelude.{◌↔◌, Contains, IfOk, OnOk};
 ghost use Rattle.addr.specs.declared.vrp.Vrp.{Vrp};
 ghost use Rattle.payload.specs.VrpSet as set;
-ghost use Rattle.policy.specs.DailyVrps.{IsAfterExceptions};
+ghost use Rattle.registry.specs.DailyVrps.{IsAfterExceptions};
 ghost use Rattle.slurm.specs.Exceptions.{Exceptions};
 ghost use Rattle.store.specs.Loads.{AreFilesOf};
 

@@ -2,12 +2,12 @@
 ghost use Rattle.std.specs.Prelude.{◌≡◌, ◌↔◌, ◌++◌, Some, [], IfOk, filter, not, option_copied};
 ghost use Rattle.addr.specs.declared.vrp.Vrp.{Vrp};
 ghost use Rattle.payload.specs.VrpSet as set;
-ghost use Rattle.policy.specs.Rows.{rows_if_any};
+ghost use Rattle.registry.specs.Rows.{rows_if_any};
 ghost use Rattle.desk.specs.steps.Supposing.{auths_if_any, AreVrpsOf, GivesOn};
 
 use addr::{Day, Vrp};
 use payload::{PayloadIndex, Trie};
-use policy::{Auth, HolderRows};
+use registry::{Auth, HolderRows};
 use std::alloc::{AllocError, Global};
 
 /// Some VRPs that are taken out of all, and some that are put in their place.

@@ -1,7 +1,7 @@
 ghost use Rattle.std.specs.Prelude.{◌≡◌, ◌≢◌, false, None, [], Err, IfOk, OnOk, OnErr};
-ghost use Rattle.policy.specs.History.{History};
-ghost use Rattle.policy.specs.Rows.{rows_if_any, RowsIfAny};
-ghost use Rattle.policy.specs.Verdict.{IsLegal};
+ghost use Rattle.registry.specs.History.{History};
+ghost use Rattle.registry.specs.Rows.{rows_if_any, RowsIfAny};
+ghost use Rattle.registry.specs.Verdict.{IsLegal};
 ghost use Rattle.sqlite.specs.Held.{state};
 ghost use Rattle.sqlite.specs.State.{HasCleanDisk};
 ghost use Rattle.sqlite.specs.Steps.{over_memory};
@@ -21,7 +21,7 @@ mod what_if;
 
 use crate::{Asked, Reply, Request};
 use addr::{Day, Name};
-use policy::{Charter, HolderRows};
+use registry::{Charter, HolderRows};
 use sqlite::{Alter, Connection, MemStore};
 use std::alloc::{AllocError, Global};
 use store::{Store, StoreFault};

@@ -1,7 +1,6 @@
 //! The desk: what is asked of it, and what it replies.
 #![tactic(auto)]
 
-mod asked;
 mod content;
 mod exceptions;
 mod exchange;
@@ -10,6 +9,6 @@ mod handling;
 pub mod laws;
 mod reply;
 
-pub use asked::{Asked, Request};
 pub use handling::Desk;
+pub use registry::{Asked, Request};
 pub use reply::Reply;

@@ -1,6 +1,6 @@
 use addr::Vrp;
 use payload::Validity;
-use policy::{Auth, Refusal, Rule};
+use registry::{Auth, Refusal, Rule};
 use std::alloc::AllocError;
 use store::StoreFault;
 

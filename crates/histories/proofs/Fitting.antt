@@ -7,21 +7,21 @@ use Rattle.std.proofs.lemmas.List.Elements.{All-nil, All-cons, All-head, All-tai
 use Rattle.addr.specs.Address.{FitsMaxLength, fits_max_length}
 use Rattle.addr.specs.Day.{IsDay}
 use Rattle.addr.specs.declared.prefix.Prefix.{Prefix}
-use Rattle.policy.specs.declared.admission.TheConstants.{LAST_NUMBER}
-use Rattle.policy.specs.declared.authorization.Auth.{Auth}
+use Rattle.registry.specs.declared.limits.TheConstants.{LAST_NUMBER}
+use Rattle.registry.specs.declared.authorization.Auth.{Auth}
 use Rattle.charters.specs.declared.charter.Charter.{Charter}
-use Rattle.policy.specs.declared.command.Command.{Command}
-use Rattle.policy.specs.declared.command.Command.TheVariants.{Register, Delegate, Transfer, Reclaim, Grant, Revoke, Create, Amend, Withdraw, Import, Slurm}
-use Rattle.policy.specs.declared.grant.Granted.{Granted}
+use Rattle.registry.specs.declared.command.Command.{Command}
+use Rattle.registry.specs.declared.command.Command.TheVariants.{Register, Delegate, Transfer, Reclaim, Grant, Revoke, Create, Amend, Withdraw, Import, Slurm}
+use Rattle.registry.specs.declared.grant.Granted.{Granted}
 use Rattle.slurm.specs.Exceptions.{Exceptions}
-use Rattle.policy.specs.ExceptionsInForce.{exceptions_after, exceptions_in_force}
-use Rattle.policy.specs.History.{Entry, History, same_name}
-use Rattle.policy.specs.Terms.{granted_after, grants_after, grants_made, grant_terms, created_after, terms_after, authorizations_made, authorization_terms, amended, HeldSinceMade}
-use Rattle.policy.specs.Values.{CommandFits, ExceptionsFit, FilterFits, HistoryFits, AuthFits, GrantFits, VrpFits}
-use Rattle.policy.specs.Verdict.{Verdict, IsLegal, numbered, terms_fit_length, OfNumber}
-use Rattle.policy.proofs.Names.{same_name-true}
-use Rattle.policy.proofs.Kept.{Keeps-all}
-use Rattle.policy.proofs.Held.{authorization_terms-numbered, since_same, amended-number, amended-prefix}
+use Rattle.registry.specs.ExceptionsInForce.{exceptions_after, exceptions_in_force}
+use Rattle.registry.specs.History.{Entry, History, same_name}
+use Rattle.registry.specs.Terms.{granted_after, grants_after, grants_made, grant_terms, created_after, terms_after, authorizations_made, authorization_terms, amended, HeldSinceMade}
+use Rattle.registry.specs.Values.{CommandFits, ExceptionsFit, FilterFits, HistoryFits, AuthFits, GrantFits, VrpFits}
+use Rattle.registry.specs.Verdict.{Verdict, IsLegal, numbered, terms_fit_length, OfNumber}
+use Rattle.registry.proofs.Names.{same_name-true}
+use Rattle.registry.proofs.Kept.{Keeps-all}
+use Rattle.registry.proofs.Held.{authorization_terms-numbered, since_same, amended-number, amended-prefix}
 use Rattle.histories.specs.Ranges.{ExceptionsInForceFit, LegalRowsFit}
 use Rattle.histories.proofs.SharedVrps.{Each, found_one, amended-other, amended-it}
 

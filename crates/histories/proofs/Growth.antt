@@ -3,19 +3,19 @@ use Rattle.std.proofs.Common.{◌≡◌, ℕ, false, List, [], ◌∷◌, Option
 use Rattle.std.specs.List.{All}
 use Rattle.std.proofs.lemmas.List.Elements.{All-nil, All-cons, All-head, All-tail}
 use Rattle.charters.specs.declared.charter.Charter.{Charter}
-use Rattle.policy.specs.declared.command.Command.{Command}
-use Rattle.policy.specs.declared.command.Command.TheVariants.{Import}
-use Rattle.policy.specs.declared.command.Proposed.{Proposed}
-use Rattle.policy.specs.declared.command.Proposed.TheVariants.{Create as ProposedCreate, Withdraw as ProposedWithdraw}
-use Rattle.policy.specs.declared.rule.Rule.{Rule}
-use Rattle.policy.specs.Answer.{holder_of, taker_of}
-use Rattle.policy.specs.ExceptionsInForce.{brings_exceptions}
-use Rattle.policy.specs.GrowingHistory.{Grows, grown_by}
-use Rattle.policy.specs.History.{History}
-use Rattle.policy.specs.HypotheticalHistory.{JudgesChange, proposed_command}
-use Rattle.policy.specs.Import.{JudgesRow, creation}
-use Rattle.policy.specs.Values.{TermsFit, CommandFits, HistoryFits}
-use Rattle.policy.specs.Verdict.{Verdict, IsLegal}
+use Rattle.registry.specs.declared.command.Command.{Command}
+use Rattle.registry.specs.declared.command.Command.TheVariants.{Import}
+use Rattle.registry.specs.declared.command.Proposed.{Proposed}
+use Rattle.registry.specs.declared.command.Proposed.TheVariants.{Create as ProposedCreate, Withdraw as ProposedWithdraw}
+use Rattle.registry.specs.declared.rule.Rule.{Rule}
+use Rattle.registry.specs.Answer.{holder_of, taker_of}
+use Rattle.registry.specs.ExceptionsInForce.{brings_exceptions}
+use Rattle.registry.specs.GrowingHistory.{Grows, grown_by}
+use Rattle.registry.specs.History.{History}
+use Rattle.registry.specs.HypotheticalHistory.{JudgesChange, proposed_command}
+use Rattle.registry.specs.Import.{JudgesRow, creation}
+use Rattle.registry.specs.Values.{TermsFit, CommandFits, HistoryFits}
+use Rattle.registry.specs.Verdict.{Verdict, IsLegal}
 use Rattle.histories.specs.Growth.{GrowthIsLegal, GrowthFits, HypotheticalIsLegal}
 
 -- how the parts of a request are judged

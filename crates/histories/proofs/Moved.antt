@@ -5,18 +5,18 @@ use Rattle.std.specs.List.{Contains}
 use Rattle.std.proofs.lemmas.Bool.{cases_Bool, cond-true, cond-false, false≢true}
 use Rattle.addr.specs.Address.{Address, has_address}
 use Rattle.addr.specs.declared.prefix.Prefix.{Prefix}
-use Rattle.policy.specs.declared.authorization.Auth.{Auth}
+use Rattle.registry.specs.declared.authorization.Auth.{Auth}
 use Rattle.charters.specs.declared.charter.Charter.{Charter}
-use Rattle.policy.specs.declared.command.Command.{Command}
-use Rattle.policy.specs.declared.command.Command.TheVariants.{Register, Delegate, Transfer, Reclaim, Grant, Revoke, Create, Amend, Withdraw, Import, Slurm}
+use Rattle.registry.specs.declared.command.Command.{Command}
+use Rattle.registry.specs.declared.command.Command.TheVariants.{Register, Delegate, Transfer, Reclaim, Grant, Revoke, Create, Amend, Withdraw, Import, Slurm}
 use Rattle.histories.specs.Ended.{TakesFrom, EndsJustOverlapping}
-use Rattle.policy.specs.History.{Entry, History, same_name}
-use Rattle.policy.specs.Resources.{resource_holder, is_held_by, HoldsPrefix}
-use Rattle.policy.specs.Terms.{authorizations_made, authorization_terms}
-use Rattle.policy.specs.Verdict.{Verdict}
-use Rattle.policy.proofs.Names.{same_name-same, same_name-true, same_name-false, held_by_itself}
-use Rattle.policy.proofs.Held.{LosesNothing, since_more, within}
-use Rattle.policy.proofs.Ended.{LosesPrefix, since_ended}
+use Rattle.registry.specs.History.{Entry, History, same_name}
+use Rattle.registry.specs.Resources.{resource_holder, is_held_by, HoldsPrefix}
+use Rattle.registry.specs.Terms.{authorizations_made, authorization_terms}
+use Rattle.registry.specs.Verdict.{Verdict}
+use Rattle.registry.proofs.Names.{same_name-same, same_name-true, same_name-false, held_by_itself}
+use Rattle.registry.proofs.Held.{LosesNothing, since_more, within}
+use Rattle.registry.proofs.Ended.{LosesPrefix, since_ended}
 
 -- a command that leaves the terms of every holder, and what it changes of who holds what
 record Takes (e : Entry) (before : History) (former : List ℕ) (p : Prefix) : Type 0 where

@@ -1,17 +1,17 @@
 -- A command is judged in one way alone, and so is each part of a request of several.
 use Rattle.std.proofs.Common.{◌≡◌, ℕ, ◌+◌, List, [], ◌∷◌, Option, Some, None, IsSomeAnd, Result, Ok, Err, inl, inr, refl, sym, ap, ◌∙◌, subst}
 use Rattle.std.proofs.lemmas.Option.{same_Some, none-some}
-use Rattle.policy.specs.declared.authorization.AuthTerms.{AuthTerms}
+use Rattle.registry.specs.declared.authorization.AuthTerms.{AuthTerms}
 use Rattle.charters.specs.declared.charter.Charter.{Charter}
-use Rattle.policy.specs.declared.command.Command.{Command}
-use Rattle.policy.specs.declared.command.Command.TheVariants.{Register, Delegate, Transfer, Reclaim, Grant, Revoke, Create, Amend, Withdraw, Import, Slurm}
-use Rattle.policy.specs.declared.command.Proposed.{Proposed}
-use Rattle.policy.specs.declared.rule.Rule.{Rule}
-use Rattle.policy.specs.GrowingHistory.{Grows, IsDeniedAt, grown_by}
-use Rattle.policy.specs.History.{History}
-use Rattle.policy.specs.HypotheticalHistory.{JudgesChange, proposed_command}
-use Rattle.policy.specs.Import.{JudgesRow, creation}
-use Rattle.policy.specs.Verdict.{ask, accept, Verdict}
+use Rattle.registry.specs.declared.command.Command.{Command}
+use Rattle.registry.specs.declared.command.Command.TheVariants.{Register, Delegate, Transfer, Reclaim, Grant, Revoke, Create, Amend, Withdraw, Import, Slurm}
+use Rattle.registry.specs.declared.command.Proposed.{Proposed}
+use Rattle.registry.specs.declared.rule.Rule.{Rule}
+use Rattle.registry.specs.GrowingHistory.{Grows, IsDeniedAt, grown_by}
+use Rattle.registry.specs.History.{History}
+use Rattle.registry.specs.HypotheticalHistory.{JudgesChange, proposed_command}
+use Rattle.registry.specs.Import.{JudgesRow, creation}
+use Rattle.registry.specs.Verdict.{ask, accept, Verdict}
 use Rattle.histories.specs.OneOutcome.{HasOneOutcome, OneOutcome, OneHypotheticalOutcome}
 use Rattle.histories.proofs.Growth.{Judging}
 

@@ -10,20 +10,20 @@ use Rattle.addr.specs.declared.family.Family.{Family}
 use Rattle.addr.specs.declared.family.Family.TheVariants.{V4, V6}
 use Rattle.addr.specs.declared.prefix.Prefix.{Prefix}
 use Rattle.addr.proofs.AddressLemmas.{overlaps_some, first-last}
-use Rattle.policy.specs.declared.authorization.Auth.{Auth}
+use Rattle.registry.specs.declared.authorization.Auth.{Auth}
 use Rattle.charters.specs.declared.charter.Charter.{Charter}
-use Rattle.policy.specs.declared.command.Command.{Command}
-use Rattle.policy.specs.declared.command.Command.TheVariants.{Register, Delegate, Transfer, Reclaim, Grant, Revoke, Create, Amend, Withdraw, Import, Slurm}
-use Rattle.policy.specs.History.{Entry, History, same_name}
+use Rattle.registry.specs.declared.command.Command.{Command}
+use Rattle.registry.specs.declared.command.Command.TheVariants.{Register, Delegate, Transfer, Reclaim, Grant, Revoke, Create, Amend, Withdraw, Import, Slurm}
+use Rattle.registry.specs.History.{Entry, History, same_name}
 use Rattle.charters.specs.Repeats.{has_repeat}
-use Rattle.policy.specs.Terms.{gives_vrp, share_vrp, authorizations_made, authorization_terms, amended, HeldSinceMade, HoldsTerms, Keeps, AreActive}
-use Rattle.policy.specs.Verdict.{Verdict, IsLegal, numbered}
+use Rattle.registry.specs.Terms.{gives_vrp, share_vrp, authorizations_made, authorization_terms, amended, HeldSinceMade, HoldsTerms, Keeps, AreActive}
+use Rattle.registry.specs.Verdict.{Verdict, IsLegal, numbered}
 use Rattle.histories.specs.SharedVrps.{share_none, NoSharedVrp}
-use Rattle.policy.proofs.Names.{same_name-same, same_name-true}
-use Rattle.policy.proofs.Numbers.{Numbered, Numbered-high, later}
-use Rattle.policy.proofs.Held.{authorization_terms-numbered, held_now, since_same, amended-number, amended-prefix}
+use Rattle.registry.proofs.Names.{same_name-same, same_name-true}
+use Rattle.registry.proofs.Numbers.{Numbered, Numbered-high, later}
+use Rattle.registry.proofs.Held.{authorization_terms-numbered, held_now, since_same, amended-number, amended-prefix}
 use Rattle.charters.proofs.Repeats.{eqb-flips, prefix_eq-flips}
-use Rattle.policy.proofs.AmendLemmas.{new_terms, shares_with_other}
+use Rattle.registry.proofs.Amended.{new_terms, shares_with_other}
 
 abbrev pub Each : (Auth → Type 0) → List Auth → Type 0
 Each P [] = Unit {0}

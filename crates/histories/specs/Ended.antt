@@ -1,13 +1,13 @@
 -- Which authorizations a transfer or a reclaim ends.
 use Rattle.std.specs.Prelude.{◌≡◌, ℕ, false, List, ◌∷◌, ◌↔◌}
 use Rattle.addr.specs.declared.prefix.Prefix.{Prefix}
-use Rattle.policy.specs.declared.authorization.Auth.{Auth}
+use Rattle.registry.specs.declared.authorization.Auth.{Auth}
 use Rattle.charters.specs.declared.charter.Charter.{Charter}
-use Rattle.policy.specs.declared.command.Command.{Command}
-use Rattle.policy.specs.declared.command.Command.TheVariants.{Transfer, Reclaim}
-use Rattle.policy.specs.History.{Entry, History}
-use Rattle.policy.specs.Terms.{terms_overlap, IsActive}
-use Rattle.policy.specs.Verdict.{IsLegal}
+use Rattle.registry.specs.declared.command.Command.{Command}
+use Rattle.registry.specs.declared.command.Command.TheVariants.{Transfer, Reclaim}
+use Rattle.registry.specs.History.{Entry, History}
+use Rattle.registry.specs.Terms.{terms_overlap, IsActive}
+use Rattle.registry.specs.Verdict.{IsLegal}
 
 -- a transfer or a reclaim, which takes the prefix from the holder
 abbrev pub TakesFrom : Command → List ℕ → Prefix → Type 0

@@ -3,13 +3,13 @@
 -- are.
 use Rattle.std.specs.Prelude.{ℕ, List}
 use Rattle.charters.specs.declared.charter.Charter.{Charter}
-use Rattle.policy.specs.declared.command.Command.{Command}
-use Rattle.policy.specs.declared.command.Proposed.{Proposed}
-use Rattle.policy.specs.Answer.{Leaves}
-use Rattle.policy.specs.History.{History}
-use Rattle.policy.specs.HypotheticalHistory.{HypotheticalHistory}
-use Rattle.policy.specs.Values.{EntryFits, HistoryFits}
-use Rattle.policy.specs.Verdict.{IsLegal}
+use Rattle.registry.specs.declared.command.Command.{Command}
+use Rattle.registry.specs.declared.command.Proposed.{Proposed}
+use Rattle.registry.specs.Answer.{Leaves}
+use Rattle.registry.specs.History.{History}
+use Rattle.registry.specs.HypotheticalHistory.{HypotheticalHistory}
+use Rattle.registry.specs.Values.{EntryFits, HistoryFits}
+use Rattle.registry.specs.Verdict.{IsLegal}
 
 abbrev pub GrowthIsLegal : Type 0
 GrowthIsLegal =

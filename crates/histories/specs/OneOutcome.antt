@@ -2,12 +2,12 @@
 -- that denies it.
 use Rattle.std.specs.Prelude.{◌≡◌, ℕ, List}
 use Rattle.charters.specs.declared.charter.Charter.{Charter}
-use Rattle.policy.specs.declared.command.Command.{Command}
-use Rattle.policy.specs.declared.command.Proposed.{Proposed}
-use Rattle.policy.specs.declared.rule.Rule.{Rule}
-use Rattle.policy.specs.Answer.{Leaves, IsDenied}
-use Rattle.policy.specs.History.{History}
-use Rattle.policy.specs.HypotheticalHistory.{HypotheticalHistory, IsChangeDenied}
+use Rattle.registry.specs.declared.command.Command.{Command}
+use Rattle.registry.specs.declared.command.Proposed.{Proposed}
+use Rattle.registry.specs.declared.rule.Rule.{Rule}
+use Rattle.registry.specs.Answer.{Leaves, IsDenied}
+use Rattle.registry.specs.History.{History}
+use Rattle.registry.specs.HypotheticalHistory.{HypotheticalHistory, IsChangeDenied}
 
 -- there is one history at most, or one rule and place, and not both
 pub record HasOneOutcome {Place : Type 0} (leaves : History → Type 0)

@@ -1,11 +1,11 @@
 -- The rows of a legal history whose values are those of their types are in their ranges.
 use Rattle.std.specs.Prelude.{ℕ, List}
 use Rattle.charters.specs.declared.charter.Charter.{Charter}
-use Rattle.policy.specs.ExceptionsInForce.{exceptions_in_force}
-use Rattle.policy.specs.History.{History}
-use Rattle.policy.specs.Rows.{Rows, RowsOf}
-use Rattle.policy.specs.Values.{ExceptionsFit, HistoryFits, RowsFit}
-use Rattle.policy.specs.Verdict.{IsLegal}
+use Rattle.registry.specs.ExceptionsInForce.{exceptions_in_force}
+use Rattle.registry.specs.History.{History}
+use Rattle.registry.specs.Rows.{Rows, RowsOf}
+use Rattle.registry.specs.Values.{ExceptionsFit, HistoryFits, RowsFit}
+use Rattle.registry.specs.Verdict.{IsLegal}
 
 -- those of each holder: create and amend ask it of the maxLength, and no number is given after the last
 -- one

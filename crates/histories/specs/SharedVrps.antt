@@ -1,12 +1,12 @@
 -- No AS, prefix and maxLength is given by two active authorizations, of whatever holders.
 use Rattle.std.specs.Prelude.{◌≡◌, ℕ, Bool, true, false, not, List}
 use Rattle.std.specs.List.{list_any, list_all}
-use Rattle.policy.specs.declared.authorization.Auth.{Auth}
+use Rattle.registry.specs.declared.authorization.Auth.{Auth}
 use Rattle.charters.specs.declared.charter.Charter.{Charter}
-use Rattle.policy.specs.History.{History, same_name}
+use Rattle.registry.specs.History.{History, same_name}
 use Rattle.charters.specs.Repeats.{has_repeat}
-use Rattle.policy.specs.Terms.{share_vrp, AreActive}
-use Rattle.policy.specs.Verdict.{IsLegal}
+use Rattle.registry.specs.Terms.{share_vrp, AreActive}
+use Rattle.registry.specs.Verdict.{IsLegal}
 
 -- nothing of the one list shares a VRP with anything of the other
 abbrev pub share_none : List Auth → List Auth → Bool

@@ -1,4 +1,4 @@
-//! What holds of every legal history, over the definitions of `policy` alone.
+//! What holds of every legal history, over the definitions of `registry` alone.
 #![tactic(auto)]
 
 pub mod laws;

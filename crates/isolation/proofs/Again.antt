@@ -8,22 +8,22 @@ use Rattle.addr.specs.Address.{Address, has_address}
 use Rattle.addr.specs.declared.prefix.Prefix.{Prefix}
 use Rattle.addr.proofs.AddressLemmas.{between_at, first-last}
 use Rattle.addr.specs.Address.{last_of}
-use Rattle.policy.specs.declared.authorization.Auth.{Auth}
-use Rattle.policy.specs.declared.authorization.AuthTerms.{AuthTerms}
+use Rattle.registry.specs.declared.authorization.Auth.{Auth}
+use Rattle.registry.specs.declared.authorization.AuthTerms.{AuthTerms}
 use Rattle.charters.specs.declared.charter.Charter.{Charter}
-use Rattle.policy.specs.declared.command.Command.{Command}
-use Rattle.policy.specs.declared.command.Command.TheVariants.{Register, Delegate, Transfer, Reclaim, Grant, Revoke, Create, Amend, Withdraw, Import, Slurm}
-use Rattle.policy.specs.declared.grant.Access.TheVariants.{Alter}
-use Rattle.policy.specs.declared.grant.Granted.{Granted}
-use Rattle.policy.specs.Answer.{holder_of, Leaves}
-use Rattle.policy.specs.ExceptionsInForce.{brings_exceptions, exceptions_after, exceptions_in_force}
-use Rattle.policy.specs.History.{Entry, History, same_name, is_registered}
-use Rattle.policy.specs.HolderEntries.{names}
-use Rattle.policy.specs.Permission.{is_permitted_terms}
-use Rattle.policy.specs.Resources.{resource_holder, is_held_by}
-use Rattle.policy.specs.Terms.{grant_terms, authorization_terms, amended, HeldSinceMade, Keeps}
-use Rattle.policy.specs.Verdict.{Verdict, HasAccessTo, IsLegal, numbered}
-use Rattle.policy.proofs.Names.{same_name-same, same_name-true, same_name-false}
+use Rattle.registry.specs.declared.command.Command.{Command}
+use Rattle.registry.specs.declared.command.Command.TheVariants.{Register, Delegate, Transfer, Reclaim, Grant, Revoke, Create, Amend, Withdraw, Import, Slurm}
+use Rattle.registry.specs.declared.grant.Access.TheVariants.{Alter}
+use Rattle.registry.specs.declared.grant.Granted.{Granted}
+use Rattle.registry.specs.Answer.{holder_of, Leaves}
+use Rattle.registry.specs.ExceptionsInForce.{brings_exceptions, exceptions_after, exceptions_in_force}
+use Rattle.registry.specs.History.{Entry, History, same_name, is_registered}
+use Rattle.registry.specs.HolderEntries.{names}
+use Rattle.registry.specs.Permission.{is_permitted_terms}
+use Rattle.registry.specs.Resources.{resource_holder, is_held_by}
+use Rattle.registry.specs.Terms.{grant_terms, authorization_terms, amended, HeldSinceMade, Keeps}
+use Rattle.registry.specs.Verdict.{Verdict, HasAccessTo, IsLegal, numbered}
+use Rattle.registry.proofs.Names.{same_name-same, same_name-true, same_name-false}
 use Rattle.isolation.specs.RepeatedRequests.{is_grant, has_slurm_file, NoneNames, HaveSameRows, RepeatsLeaveRows}
 use Rattle.isolation.proofs.Agree.{Agree, AgreeIfNamed, agree-sym, agree-active, agree-rows}
 use Rattle.isolation.proofs.Grown.{exceptions_stay}

@@ -4,16 +4,16 @@ use Rattle.std.specs.Option.{IfSome}
 use Rattle.std.proofs.lemmas.Option.{IfSome_then}
 use Rattle.addr.specs.Address.{Address, has_address}
 use Rattle.addr.specs.declared.prefix.Prefix.{Prefix}
-use Rattle.policy.specs.declared.authorization.Auth.{Auth}
-use Rattle.policy.specs.declared.command.Command.{Command}
-use Rattle.policy.specs.declared.command.Command.TheVariants.{Register, Delegate, Transfer, Reclaim, Grant, Revoke, Create, Amend, Withdraw, Import, Slurm}
-use Rattle.policy.specs.History.{Entry, History, registers, is_registered}
-use Rattle.policy.specs.Resources.{holder_after, resource_holder, is_held_by, HoldsPrefix}
-use Rattle.policy.specs.Terms.{granted_after, grants_after, grants_made, grant_terms, created_after, terms_after, authorizations_made, authorization_terms, HeldSinceMade, Keeps, AreActive}
-use Rattle.policy.specs.Rows.{Rows, RowsIfAny}
-use Rattle.policy.proofs.Names.{held_by_same}
-use Rattle.policy.proofs.Kept.{Keeps-same}
-use Rattle.policy.proofs.Held.{authorization_terms-numbered}
+use Rattle.registry.specs.declared.authorization.Auth.{Auth}
+use Rattle.registry.specs.declared.command.Command.{Command}
+use Rattle.registry.specs.declared.command.Command.TheVariants.{Register, Delegate, Transfer, Reclaim, Grant, Revoke, Create, Amend, Withdraw, Import, Slurm}
+use Rattle.registry.specs.History.{Entry, History, registers, is_registered}
+use Rattle.registry.specs.Resources.{holder_after, resource_holder, is_held_by, HoldsPrefix}
+use Rattle.registry.specs.Terms.{granted_after, grants_after, grants_made, grant_terms, created_after, terms_after, authorizations_made, authorization_terms, HeldSinceMade, Keeps, AreActive}
+use Rattle.registry.specs.Rows.{Rows, RowsIfAny}
+use Rattle.registry.proofs.Names.{held_by_same}
+use Rattle.registry.proofs.Kept.{Keeps-same}
+use Rattle.registry.proofs.Held.{authorization_terms-numbered}
 
 -- numbers are from 1, so nothing is asked of a number 0
 pub record Agree (one other : History) (h : List ℕ) : Type 0 where

@@ -3,17 +3,17 @@ use Rattle.std.proofs.Common.{◌≡◌, ℕ, false, ◌||◌, List, ◌∷◌, 
 use Rattle.std.proofs.lemmas.Bool.{or_parts}
 use Rattle.slurm.specs.Exceptions.{Exceptions}
 use Rattle.charters.specs.declared.charter.Charter.{Charter}
-use Rattle.policy.specs.declared.command.Command.{Command}
-use Rattle.policy.specs.declared.command.Command.TheVariants.{Import, Slurm}
-use Rattle.policy.specs.Answer.{taker_of}
-use Rattle.policy.specs.ExceptionsInForce.{brings_exceptions, exceptions_after, exceptions_in_force}
-use Rattle.policy.specs.GrowingHistory.{Grows}
-use Rattle.policy.specs.History.{Entry, History, same_name}
-use Rattle.policy.specs.HolderEntries.{is_this, names}
-use Rattle.policy.specs.HypotheticalHistory.{JudgesChange}
-use Rattle.policy.specs.Import.{JudgesRow}
-use Rattle.policy.specs.Rows.{Rows, RowsIfAny}
-use Rattle.policy.specs.Verdict.{IsLegal}
+use Rattle.registry.specs.declared.command.Command.{Command}
+use Rattle.registry.specs.declared.command.Command.TheVariants.{Import, Slurm}
+use Rattle.registry.specs.Answer.{taker_of}
+use Rattle.registry.specs.ExceptionsInForce.{brings_exceptions, exceptions_after, exceptions_in_force}
+use Rattle.registry.specs.GrowingHistory.{Grows}
+use Rattle.registry.specs.History.{Entry, History, same_name}
+use Rattle.registry.specs.HolderEntries.{is_this, names}
+use Rattle.registry.specs.HypotheticalHistory.{JudgesChange}
+use Rattle.registry.specs.Import.{JudgesRow}
+use Rattle.registry.specs.Rows.{Rows, RowsIfAny}
+use Rattle.registry.specs.Verdict.{IsLegal}
 use Rattle.histories.proofs.Growth.{Judging, IsMadeAt, MakeAt, All-every, grown-keeps, rows-make, changes-make}
 use Rattle.isolation.specs.Isolation.{OthersKeepRows, HypotheticalKeepsOthers}
 use Rattle.isolation.proofs.Agree.{Agree, agree-same, agree-sym, agree-trans, agree-rows}

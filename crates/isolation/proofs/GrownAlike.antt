@@ -1,21 +1,21 @@
 -- Parts that are judged at a holder come out alike where histories agree on what it has.
 use Rattle.std.proofs.Common.{◌≡◌, ℕ, ◌+◌, ◌||◌, List, [], ◌∷◌, Option, Some, None, Result, Ok, Err, inl, inr, refl, sym, ap, ◌∙◌, subst}
 use Rattle.std.proofs.lemmas.Bool.{cond-true}
-use Rattle.policy.specs.declared.authorization.AuthTerms.{AuthTerms}
+use Rattle.registry.specs.declared.authorization.AuthTerms.{AuthTerms}
 use Rattle.charters.specs.declared.charter.Charter.{Charter}
-use Rattle.policy.specs.declared.command.Command.{Command}
-use Rattle.policy.specs.declared.command.Proposed.{Proposed}
-use Rattle.policy.specs.declared.command.Proposed.TheVariants.{Create as ProposedCreate, Withdraw as ProposedWithdraw}
-use Rattle.policy.specs.declared.grant.Access.TheVariants.{Alter}
-use Rattle.policy.specs.declared.rule.Rule.{Rule}
-use Rattle.policy.specs.GrowingHistory.{Grows, IsDeniedAt, grown_by}
-use Rattle.policy.specs.History.{Entry, History}
-use Rattle.policy.specs.HolderEntries.{entries_naming}
-use Rattle.policy.specs.HypotheticalHistory.{JudgesChange, proposed_command}
-use Rattle.policy.specs.Import.{IsPresent, JudgesRow, creation}
-use Rattle.policy.specs.Permission.{is_permitted}
-use Rattle.policy.specs.Verdict.{Verdict, IsLegal}
-use Rattle.policy.proofs.Names.{same_name-same}
+use Rattle.registry.specs.declared.command.Command.{Command}
+use Rattle.registry.specs.declared.command.Proposed.{Proposed}
+use Rattle.registry.specs.declared.command.Proposed.TheVariants.{Create as ProposedCreate, Withdraw as ProposedWithdraw}
+use Rattle.registry.specs.declared.grant.Access.TheVariants.{Alter}
+use Rattle.registry.specs.declared.rule.Rule.{Rule}
+use Rattle.registry.specs.GrowingHistory.{Grows, IsDeniedAt, grown_by}
+use Rattle.registry.specs.History.{Entry, History}
+use Rattle.registry.specs.HolderEntries.{entries_naming}
+use Rattle.registry.specs.HypotheticalHistory.{JudgesChange, proposed_command}
+use Rattle.registry.specs.Import.{IsPresent, JudgesRow, creation}
+use Rattle.registry.specs.Permission.{is_permitted}
+use Rattle.registry.specs.Verdict.{Verdict, IsLegal}
+use Rattle.registry.proofs.Names.{same_name-same}
 use Rattle.histories.proofs.Growth.{Judging, MakeAt, grown-legal, rows-make, changes-make}
 use Rattle.isolation.specs.Isolation.{AreJudgedAlike, GrowAlike, ImportsByEntries, HypotheticalByEntries}
 use Rattle.isolation.proofs.Agree.{Agree, agree-sym, agree-after}

@@ -3,13 +3,13 @@ use Rattle.std.proofs.Common.{ℕ, List, inl, inr, subst}
 use Rattle.std.specs.List.{Contains}
 use Rattle.addr.specs.declared.vrp.Vrp.{Vrp}
 use Rattle.slurm.specs.Exceptions.{Exceptions}
-use Rattle.policy.specs.declared.authorization.Auth.{Auth}
-use Rattle.policy.specs.DailyVrps.{IsVrpInForce, IsAfterExceptions}
-use Rattle.policy.specs.ExceptionsInForce.{exceptions_in_force}
-use Rattle.policy.specs.History.{History}
-use Rattle.policy.specs.HolderEntries.{entries_for}
-use Rattle.policy.specs.Terms.{IsActive}
-use Rattle.policy.proofs.Held.{within}
+use Rattle.registry.specs.declared.authorization.Auth.{Auth}
+use Rattle.registry.specs.DailyVrps.{IsVrpInForce, IsAfterExceptions}
+use Rattle.registry.specs.ExceptionsInForce.{exceptions_in_force}
+use Rattle.registry.specs.History.{History}
+use Rattle.registry.specs.HolderEntries.{entries_for}
+use Rattle.registry.specs.Terms.{IsActive}
+use Rattle.registry.proofs.Held.{within}
 use Rattle.isolation.specs.Isolation.{CommandsByEntries, QueriesByEntries, RowsOfEntries, IsVrpInForceByEntries, VrpsOfEntries}
 use Rattle.isolation.proofs.Agree.{Agree, agree-sym, agree-rows}
 use Rattle.isolation.proofs.Parts.{agree-entries, agree-for}

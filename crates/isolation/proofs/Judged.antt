@@ -1,21 +1,21 @@
 -- Where histories agree on what the holders of a request have, it is judged and answered the same.
 use Rattle.std.proofs.Common.{◌≡◌, ℕ, ◌+◌, ◌<◌, Bool, true, false, ◌||◌, eqb, List, length, ◌↔◌, inl, inr, Option, Some, None, refl, sym, ap, subst, filter, IsSomeAnd}
 use Rattle.std.specs.List.{list_any}
-use Rattle.policy.specs.declared.authorization.Auth.{Auth}
+use Rattle.registry.specs.declared.authorization.Auth.{Auth}
 use Rattle.charters.specs.declared.charter.Charter.{Charter}
-use Rattle.policy.specs.declared.command.Command.{Command}
-use Rattle.policy.specs.declared.command.Command.TheVariants.{Register, Delegate, Transfer, Reclaim, Grant, Revoke, Create, Amend, Withdraw, Import, Slurm}
-use Rattle.policy.specs.declared.grant.Access.{Access}
-use Rattle.policy.specs.declared.grant.Access.TheVariants.{Manage, Alter, Look}
-use Rattle.policy.specs.declared.grant.Granted.{Granted}
-use Rattle.policy.specs.declared.rule.Rule.{Rule}
-use Rattle.policy.specs.Answer.{holder_of, taker_of, number_given}
+use Rattle.registry.specs.declared.command.Command.{Command}
+use Rattle.registry.specs.declared.command.Command.TheVariants.{Register, Delegate, Transfer, Reclaim, Grant, Revoke, Create, Amend, Withdraw, Import, Slurm}
+use Rattle.registry.specs.declared.grant.Access.{Access}
+use Rattle.registry.specs.declared.grant.Access.TheVariants.{Manage, Alter, Look}
+use Rattle.registry.specs.declared.grant.Granted.{Granted}
+use Rattle.registry.specs.declared.rule.Rule.{Rule}
+use Rattle.registry.specs.Answer.{holder_of, taker_of, number_given}
 use Rattle.charters.specs.Charter.{is_operator}
-use Rattle.policy.specs.History.{History, is_registered}
-use Rattle.policy.specs.Permission.{has_access, is_permitted, is_permitted_terms}
-use Rattle.policy.specs.Resources.{HoldsPrefix}
-use Rattle.policy.specs.Terms.{grant_terms, OfActive}
-use Rattle.policy.specs.Verdict.{ask, accept, numbered, HasAccessTo, Verdict, ShowVerdict, ListVerdict}
+use Rattle.registry.specs.History.{History, is_registered}
+use Rattle.registry.specs.Permission.{has_access, is_permitted, is_permitted_terms}
+use Rattle.registry.specs.Resources.{HoldsPrefix}
+use Rattle.registry.specs.Terms.{grant_terms, OfActive}
+use Rattle.registry.specs.Verdict.{ask, accept, numbered, HasAccessTo, Verdict, ShowVerdict, ListVerdict}
 use Rattle.addr.specs.declared.prefix.Prefix.{Prefix}
 use Rattle.isolation.specs.Isolation.{asks_of_all, AreJudgedAlike, AreSeenAlike}
 use Rattle.isolation.proofs.Agree.{Agree, AgreeIfNamed, agree-sym, agree-sym-named, agree-holds, agree-active}

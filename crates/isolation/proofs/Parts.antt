@@ -4,19 +4,19 @@ use Rattle.std.proofs.lemmas.Bool.{cases_Bool, cond-true, cond-false, false≢tr
 use Rattle.std.proofs.Math.Bool.{or-true}
 use Rattle.addr.specs.Address.{Address, has_address}
 use Rattle.addr.specs.declared.prefix.Prefix.{Prefix}
-use Rattle.policy.specs.declared.authorization.Auth.{Auth}
+use Rattle.registry.specs.declared.authorization.Auth.{Auth}
 use Rattle.charters.specs.declared.charter.Charter.{Charter}
-use Rattle.policy.specs.declared.command.Command.{Command}
-use Rattle.policy.specs.declared.command.Command.TheVariants.{Register, Delegate, Transfer, Reclaim, Grant, Revoke, Create, Amend, Withdraw, Import, Slurm}
-use Rattle.policy.specs.Answer.{holder_of, taker_of}
-use Rattle.policy.specs.History.{Entry, History, is_registered}
-use Rattle.policy.specs.HolderEntries.{is_this, names, entries_naming, entries_naming_either, entries_for}
-use Rattle.policy.specs.Resources.{resource_holder, is_held_by}
-use Rattle.policy.specs.Terms.{authorizations_made, authorization_terms, grants_made, grant_terms, HeldSinceMade}
-use Rattle.policy.specs.Verdict.{Verdict, IsLegal}
-use Rattle.policy.proofs.Names.{held_by_same}
-use Rattle.policy.proofs.Held.{held_now}
-use Rattle.policy.proofs.Carry.{stays, LeavesHeld}
+use Rattle.registry.specs.declared.command.Command.{Command}
+use Rattle.registry.specs.declared.command.Command.TheVariants.{Register, Delegate, Transfer, Reclaim, Grant, Revoke, Create, Amend, Withdraw, Import, Slurm}
+use Rattle.registry.specs.Answer.{holder_of, taker_of}
+use Rattle.registry.specs.History.{Entry, History, is_registered}
+use Rattle.registry.specs.HolderEntries.{is_this, names, entries_naming, entries_naming_either, entries_for}
+use Rattle.registry.specs.Resources.{resource_holder, is_held_by}
+use Rattle.registry.specs.Terms.{authorizations_made, authorization_terms, grants_made, grant_terms, HeldSinceMade}
+use Rattle.registry.specs.Verdict.{Verdict, IsLegal}
+use Rattle.registry.proofs.Names.{held_by_same}
+use Rattle.registry.proofs.Held.{held_now}
+use Rattle.registry.proofs.Carry.{stays, LeavesHeld}
 use Rattle.isolation.specs.RepeatedRequests.{is_named}
 use Rattle.isolation.proofs.Agree.{Agree, AgreeIfNamed, agree-same, agree-trans, agree-after}
 

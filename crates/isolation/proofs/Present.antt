@@ -9,19 +9,19 @@ use Rattle.std.proofs.Math.Bool.{or-true}
 use Rattle.addr.specs.Address.{has_address}
 use Rattle.addr.specs.declared.prefix.Prefix.{Prefix}
 use Rattle.addr.proofs.Equality.{prefix_itself}
-use Rattle.policy.specs.declared.authorization.Auth.{Auth}
-use Rattle.policy.specs.declared.authorization.AuthTerms.{AuthTerms}
+use Rattle.registry.specs.declared.authorization.Auth.{Auth}
+use Rattle.registry.specs.declared.authorization.AuthTerms.{AuthTerms}
 use Rattle.charters.specs.declared.charter.Charter.{Charter}
-use Rattle.policy.specs.declared.command.Command.{Command}
-use Rattle.policy.specs.GrowingHistory.{grown_by}
-use Rattle.policy.specs.History.{Entry, History}
-use Rattle.policy.specs.Import.{IsPresent, JudgesRow, ImportGrows, creation, has_terms}
-use Rattle.policy.specs.Resources.{HoldsPrefix}
-use Rattle.policy.specs.Terms.{gives_vrp, authorizations_made, authorization_terms, HeldSinceMade, Keeps, AreActive, OfActive}
-use Rattle.policy.specs.Verdict.{Verdict}
-use Rattle.policy.proofs.Names.{same_name-same}
-use Rattle.policy.proofs.Held.{active-kept, not_yet_made}
-use Rattle.policy.proofs.Kept.{Keeps-append, Keeps-unique}
+use Rattle.registry.specs.declared.command.Command.{Command}
+use Rattle.registry.specs.GrowingHistory.{grown_by}
+use Rattle.registry.specs.History.{Entry, History}
+use Rattle.registry.specs.Import.{IsPresent, JudgesRow, ImportGrows, creation, has_terms}
+use Rattle.registry.specs.Resources.{HoldsPrefix}
+use Rattle.registry.specs.Terms.{gives_vrp, authorizations_made, authorization_terms, HeldSinceMade, Keeps, AreActive, OfActive}
+use Rattle.registry.specs.Verdict.{Verdict}
+use Rattle.registry.proofs.Names.{same_name-same}
+use Rattle.registry.proofs.Held.{active-kept, not_yet_made}
+use Rattle.registry.proofs.Kept.{Keeps-append, Keeps-unique}
 use Rattle.histories.proofs.Growth.{All-every, EntriesKeep, grown-keeps}
 use Rattle.histories.proofs.OneOutcome.{import_once, growth_or_denial}
 use Rattle.isolation.specs.RepeatedRequests.{ImportsRepeat}

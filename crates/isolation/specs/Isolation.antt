@@ -1,24 +1,24 @@
 -- What a holder has and what is answered at it comes from the entries that name it.
 use Rattle.std.specs.Prelude.{◌≡◌, ℕ, ◌+◌, Bool, true, false, List, ◌↔◌, Option, Result}
 use Rattle.addr.specs.declared.vrp.Vrp.{Vrp}
-use Rattle.policy.specs.declared.authorization.Auth.{Auth}
-use Rattle.policy.specs.declared.authorization.AuthTerms.{AuthTerms}
+use Rattle.registry.specs.declared.authorization.Auth.{Auth}
+use Rattle.registry.specs.declared.authorization.AuthTerms.{AuthTerms}
 use Rattle.charters.specs.declared.charter.Charter.{Charter}
-use Rattle.policy.specs.declared.command.Command.{Command}
-use Rattle.policy.specs.declared.command.Command.TheVariants.{Delegate}
-use Rattle.policy.specs.declared.command.Proposed.{Proposed}
-use Rattle.policy.specs.declared.rule.Rule.{Rule}
-use Rattle.policy.specs.Answer.{number_given, Leaves, IsShown, IsListed}
-use Rattle.policy.specs.DailyVrps.{IsAfterExceptions, IsVrpOn}
-use Rattle.policy.specs.ExceptionsInForce.{exceptions_in_force}
-use Rattle.policy.specs.HolderEntries.{names, entries_naming, entries_for}
-use Rattle.policy.specs.GrowingHistory.{Grows, IsDeniedAt}
-use Rattle.policy.specs.History.{History, same_name}
-use Rattle.policy.specs.HypotheticalHistory.{HypotheticalHistory, JudgesChange}
-use Rattle.policy.specs.Import.{JudgesRow}
-use Rattle.policy.specs.Rows.{Rows, RowsIfAny}
-use Rattle.policy.specs.Terms.{authorizations_made, IsVrpOf, IsInForce}
-use Rattle.policy.specs.Verdict.{Verdict, ShowVerdict, ListVerdict, IsLegal}
+use Rattle.registry.specs.declared.command.Command.{Command}
+use Rattle.registry.specs.declared.command.Command.TheVariants.{Delegate}
+use Rattle.registry.specs.declared.command.Proposed.{Proposed}
+use Rattle.registry.specs.declared.rule.Rule.{Rule}
+use Rattle.registry.specs.Answer.{number_given, Leaves, IsShown, IsListed}
+use Rattle.registry.specs.DailyVrps.{IsAfterExceptions, IsVrpOn}
+use Rattle.registry.specs.ExceptionsInForce.{exceptions_in_force}
+use Rattle.registry.specs.HolderEntries.{names, entries_naming, entries_for}
+use Rattle.registry.specs.GrowingHistory.{Grows, IsDeniedAt}
+use Rattle.registry.specs.History.{History, same_name}
+use Rattle.registry.specs.HypotheticalHistory.{HypotheticalHistory, JudgesChange}
+use Rattle.registry.specs.Import.{JudgesRow}
+use Rattle.registry.specs.Rows.{Rows, RowsIfAny}
+use Rattle.registry.specs.Terms.{authorizations_made, IsVrpOf, IsInForce}
+use Rattle.registry.specs.Verdict.{Verdict, ShowVerdict, ListVerdict, IsLegal}
 
 -- the rows of a holder are those of the entries that name it
 abbrev pub RowsOfEntries : Type 0

@@ -3,18 +3,18 @@
 use Rattle.std.specs.Prelude.{◌≡◌, ℕ, Bool, true, false, List, ◌++◌, Option, ◌↔◌}
 use Rattle.std.specs.List.{list_any}
 use Rattle.std.specs.Option.{IfSome}
-use Rattle.policy.specs.declared.authorization.AuthTerms.{AuthTerms}
+use Rattle.registry.specs.declared.authorization.AuthTerms.{AuthTerms}
 use Rattle.charters.specs.declared.charter.Charter.{Charter}
-use Rattle.policy.specs.declared.command.Command.{Command}
-use Rattle.policy.specs.declared.command.Command.TheVariants.{Grant}
-use Rattle.policy.specs.declared.rule.Rule.{Rule}
-use Rattle.policy.specs.Answer.{holder_of, taker_of, Leaves}
-use Rattle.policy.specs.ExceptionsInForce.{brings_exceptions, exceptions_in_force}
-use Rattle.policy.specs.History.{History}
-use Rattle.policy.specs.HolderEntries.{names}
-use Rattle.policy.specs.Import.{ImportGrows, IsImportDenied}
-use Rattle.policy.specs.Rows.{Rows, RowsIfAny}
-use Rattle.policy.specs.Verdict.{IsLegal}
+use Rattle.registry.specs.declared.command.Command.{Command}
+use Rattle.registry.specs.declared.command.Command.TheVariants.{Grant}
+use Rattle.registry.specs.declared.rule.Rule.{Rule}
+use Rattle.registry.specs.Answer.{holder_of, taker_of, Leaves}
+use Rattle.registry.specs.ExceptionsInForce.{brings_exceptions, exceptions_in_force}
+use Rattle.registry.specs.History.{History}
+use Rattle.registry.specs.HolderEntries.{names}
+use Rattle.registry.specs.Import.{ImportGrows, IsImportDenied}
+use Rattle.registry.specs.Rows.{Rows, RowsIfAny}
+use Rattle.registry.specs.Verdict.{IsLegal}
 
 -- each grant is another one
 abbrev pub is_grant : Command → Bool

@@ -1,4 +1,4 @@
-//! What competing holders may rely on where they share a desk, over the definitions of `policy`
+//! What competing holders may rely on where they share a desk, over the definitions of `registry`
 //! alone.
 #![tactic(auto)]
 

@@ -1,19 +1,13 @@
 -- The rule that amended terms share no AS, prefix and maxLength with another active authorization.
-use Rattle.std.proofs.Common.{◌≡◌, ℕ, Bool, false, not, ◌&&◌, eqb, List, Option, Some, sym, subst, IsSomeAnd}
-use Rattle.std.specs.List.{list_any}
-use Rattle.policy.specs.declared.authorization.Auth.{Auth}
-use Rattle.policy.specs.History.{History}
-use Rattle.policy.specs.Terms.{share_vrp, OfActive}
-use Rattle.policy.specs.Verdict.{numbered}
-use Rattle.policy.specs.Rows.{Rows, RowsOf}
+use Rattle.std.proofs.Common.{◌≡◌, ℕ, false, List, Option, Some, sym, subst, IsSomeAnd}
+use Rattle.registry.specs.declared.authorization.Auth.{Auth}
+use Rattle.registry.specs.History.{History}
+use Rattle.registry.specs.Terms.{OfActive}
+use Rattle.registry.specs.Verdict.{numbered}
+use Rattle.registry.specs.Rows.{Rows, RowsOf}
+use Rattle.registry.proofs.Amended.{shares_with_other, new_terms}
 use Rattle.policy.proofs.CarryTerms.{found_number}
 use Rattle.policy.proofs.RowsLemmas.{active-from}
-
-abbrev pub shares_with_other : ℕ → Auth → List Auth → Bool
-shares_with_other n z active = list_any (λ y. not (eqb y.number n) && share_vrp z y) active
-
-abbrev pub new_terms : Auth → ℕ → ℕ → Auth
-new_terms x max until = record x { max = max; until = until }
 
 abbrev pub SharesWithNoOther : History → List ℕ → ℕ → ℕ → ℕ → Type 0
 SharesWithNoOther history h n max until =

@@ -1,17 +1,17 @@
 -- The changes of a grant and a revocation carry every holder's rows.
 use Rattle.std.proofs.Common.{◌≡◌, ℕ, ◌+◌, true, not, eqb, List, [], ◌∷◌, ◌++◌, None, refl, sym, ap, ◌∙◌, filter}
 use Rattle.std.proofs.lemmas.Bool.{cond-true}
-use Rattle.policy.specs.declared.grant.Granted.{Granted}
-use Rattle.policy.specs.declared.grant.Role.{Role}
-use Rattle.policy.specs.declared.grant.Scope.{Scope}
-use Rattle.policy.specs.declared.change.Change.TheVariants.{Holders}
-use Rattle.policy.specs.declared.change.Edit.TheVariants.{Grant as GrantEdit, Revoke as RevokeEdit}
-use Rattle.policy.specs.declared.command.Command.TheVariants.{Grant, Revoke}
-use Rattle.policy.specs.History.{Entry, History, is_registered}
-use Rattle.policy.specs.Terms.{grant_terms, grants_made}
-use Rattle.policy.specs.Rows.{Carries}
-use Rattle.policy.proofs.Names.{same_name-same}
-use Rattle.policy.proofs.Carry.{active-left, carries-edit}
+use Rattle.registry.specs.declared.grant.Granted.{Granted}
+use Rattle.registry.specs.declared.grant.Role.{Role}
+use Rattle.registry.specs.declared.grant.Scope.{Scope}
+use Rattle.registry.specs.declared.change.Change.TheVariants.{Holders}
+use Rattle.registry.specs.declared.change.Edit.TheVariants.{Grant as GrantEdit, Revoke as RevokeEdit}
+use Rattle.registry.specs.declared.command.Command.TheVariants.{Grant, Revoke}
+use Rattle.registry.specs.History.{Entry, History, is_registered}
+use Rattle.registry.specs.Terms.{grant_terms, grants_made}
+use Rattle.registry.specs.Rows.{Carries}
+use Rattle.registry.proofs.Names.{same_name-same}
+use Rattle.registry.proofs.Carry.{active-left, carries-edit}
 
 pub carries-grant : (before : History) (day : ℕ) (caller holder name : List ℕ) (role : Role) (scope : Scope) (until : ℕ) (g : Granted)
     → is_registered before holder ≡ true

@@ -9,25 +9,25 @@ use Rattle.addr.specs.declared.prefix.Prefix.{Prefix}
 use Rattle.addr.specs.declared.span.Span.{Span}
 use Rattle.addr.specs.Spans.{spans_have, is_one_of, without_runs, AddsAddresses, TakesAddresses, AreApart}
 use Rattle.addr.proofs.RunLemmas.{runs_exchanged, none_back}
-use Rattle.policy.specs.declared.authorization.Auth.{Auth}
+use Rattle.registry.specs.declared.authorization.Auth.{Auth}
 use Rattle.charters.specs.declared.charter.Charter.{Charter}
-use Rattle.policy.specs.declared.change.Change.TheVariants.{Holders}
-use Rattle.policy.specs.declared.change.Edit.{Edit}
-use Rattle.policy.specs.declared.change.Edit.TheVariants.{Register as RegisterEdit}
-use Rattle.policy.specs.declared.command.Command.TheVariants.{Register, Delegate, Transfer, Reclaim}
-use Rattle.policy.specs.Answer.{PutsNoneBack}
-use Rattle.policy.specs.History.{Entry, History, same_name, is_registered}
-use Rattle.policy.specs.Resources.{resource_holder, is_held_by, HoldsPrefix, IsFree}
-use Rattle.policy.specs.Terms.{terms_overlap, grant_terms, grants_made, authorizations_made, authorization_terms, HeldSinceMade, Keeps, AreActive}
-use Rattle.policy.specs.Verdict.{IsLegal}
-use Rattle.policy.specs.Rows.{Rows, RowsOf, RowsIfAny, edited, edited_if_any, Carries}
+use Rattle.registry.specs.declared.change.Change.TheVariants.{Holders}
+use Rattle.registry.specs.declared.change.Edit.{Edit}
+use Rattle.registry.specs.declared.change.Edit.TheVariants.{Register as RegisterEdit}
+use Rattle.registry.specs.declared.command.Command.TheVariants.{Register, Delegate, Transfer, Reclaim}
+use Rattle.registry.specs.Answer.{PutsNoneBack}
+use Rattle.registry.specs.History.{Entry, History, same_name, is_registered}
+use Rattle.registry.specs.Resources.{resource_holder, is_held_by, HoldsPrefix, IsFree}
+use Rattle.registry.specs.Terms.{terms_overlap, grant_terms, grants_made, authorizations_made, authorization_terms, HeldSinceMade, Keeps, AreActive}
+use Rattle.registry.specs.Verdict.{IsLegal}
+use Rattle.registry.specs.Rows.{Rows, RowsOf, RowsIfAny, edited, edited_if_any, Carries}
 use Rattle.policy.specs.steps.Exchange.{Exchanges}
-use Rattle.policy.proofs.Names.{same_name-same, held_by_itself}
-use Rattle.policy.proofs.Kept.{Keeps-unique}
-use Rattle.policy.proofs.Held.{active-kept, active-numbered, LosesNothing}
-use Rattle.policy.proofs.Ended.{LosesPrefix, active-ended, numbers_where, among, filter-numbers}
-use Rattle.policy.proofs.Carry.{carries-one, carries-edit, carries-two}
-use Rattle.policy.proofs.Unregistered.{has_nothing}
+use Rattle.registry.proofs.Names.{same_name-same, held_by_itself}
+use Rattle.registry.proofs.Kept.{Keeps-unique}
+use Rattle.registry.proofs.Held.{active-kept, active-numbered, LosesNothing}
+use Rattle.registry.proofs.Ended.{LosesPrefix, active-ended, numbers_where, among, filter-numbers}
+use Rattle.registry.proofs.Carry.{carries-one, carries-edit, carries-two}
+use Rattle.registry.proofs.Unregistered.{has_nothing}
 
 -- a registration: a holder that was not registered has nothing yet
 pub carries-register : (charter : Charter) (before : History) (day : ℕ) (caller holder : List ℕ) → IsLegal charter before

@@ -6,20 +6,20 @@ use Rattle.std.proofs.lemmas.Bool.Decides.{nat_tests}
 use Rattle.addr.specs.Address.{has_address}
 use Rattle.addr.specs.declared.asn.Asn.{Asn}
 use Rattle.addr.specs.declared.prefix.Prefix.{Prefix}
-use Rattle.policy.specs.declared.authorization.Auth.{Auth}
-use Rattle.policy.specs.declared.change.Change.TheVariants.{Holders}
-use Rattle.policy.specs.declared.change.Edit.TheVariants.{Create as CreateEdit, Amend as AmendEdit, Withdraw as WithdrawEdit}
-use Rattle.policy.specs.declared.command.Command.TheVariants.{Create, Amend, Withdraw}
-use Rattle.policy.specs.History.{Entry, History, is_registered}
-use Rattle.policy.specs.Resources.{HoldsPrefix}
-use Rattle.policy.specs.Terms.{authorizations_made, authorization_terms, amended, HeldSinceMade, Keeps}
-use Rattle.policy.specs.Verdict.{numbered}
-use Rattle.policy.specs.Rows.{Rows, RowsOf, replaced_by, Carries}
-use Rattle.policy.proofs.Names.{same_name-same}
-use Rattle.policy.proofs.Numbers.{Numbered}
-use Rattle.policy.proofs.Kept.{Keeps-unique, Keeps-append, Keeps-filtered, Keeps-map}
-use Rattle.policy.proofs.Held.{active-kept, active-numbered, not_yet_made, since_same, amended-number, amended-prefix}
-use Rattle.policy.proofs.Carry.{carries-edit}
+use Rattle.registry.specs.declared.authorization.Auth.{Auth}
+use Rattle.registry.specs.declared.change.Change.TheVariants.{Holders}
+use Rattle.registry.specs.declared.change.Edit.TheVariants.{Create as CreateEdit, Amend as AmendEdit, Withdraw as WithdrawEdit}
+use Rattle.registry.specs.declared.command.Command.TheVariants.{Create, Amend, Withdraw}
+use Rattle.registry.specs.History.{Entry, History, is_registered}
+use Rattle.registry.specs.Resources.{HoldsPrefix}
+use Rattle.registry.specs.Terms.{authorizations_made, authorization_terms, amended, HeldSinceMade, Keeps}
+use Rattle.registry.specs.Verdict.{numbered}
+use Rattle.registry.specs.Rows.{Rows, RowsOf, replaced_by, Carries}
+use Rattle.registry.proofs.Names.{same_name-same}
+use Rattle.registry.proofs.Numbers.{Numbered}
+use Rattle.registry.proofs.Kept.{Keeps-unique, Keeps-append, Keeps-filtered, Keeps-map}
+use Rattle.registry.proofs.Held.{active-kept, active-numbered, not_yet_made, since_same, amended-number, amended-prefix}
+use Rattle.registry.proofs.Carry.{carries-edit}
 
 pub carries-create : (before : History) (day : ℕ) (caller holder : List ℕ) (asn : Asn) (p : Prefix) (max from until : ℕ) (x : Auth)
     → is_registered before holder ≡ true → HoldsPrefix before holder p

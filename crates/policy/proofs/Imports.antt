@@ -3,29 +3,29 @@ use Rattle.std.proofs.Common.{◌≡◌, ℕ, ◌+◌, ◌<◌, Bool, true, fals
 use Rattle.std.specs.Global.{Vec}
 use Rattle.std.proofs.lemmas.List.{length-take-le}
 use Rattle.std.proofs.lemmas.Bool.{cases_Bool, false≢true, cond-true}
-use Rattle.policy.specs.declared.authorization.Auth.{Auth}
-use Rattle.policy.specs.declared.authorization.AuthTerms.{AuthTerms}
-use Rattle.policy.specs.declared.change.Change.TheVariants.{Holders}
-use Rattle.policy.specs.declared.change.Edit.TheVariants.{Create as CreateEdit, Import as ImportEdit}
+use Rattle.registry.specs.declared.authorization.Auth.{Auth}
+use Rattle.registry.specs.declared.authorization.AuthTerms.{AuthTerms}
+use Rattle.registry.specs.declared.change.Change.TheVariants.{Holders}
+use Rattle.registry.specs.declared.change.Edit.TheVariants.{Create as CreateEdit, Import as ImportEdit}
 use Rattle.charters.specs.declared.charter.Charter.{Charter}
-use Rattle.policy.specs.declared.grant.Access.TheVariants.{Alter}
-use Rattle.policy.specs.declared.rule.Refusal.{Refusal}
-use Rattle.policy.specs.declared.rule.Refusal.TheVariants.{Denied, Memory}
-use Rattle.policy.specs.declared.rule.Rule.TheVariants.{Grant as GrantRule}
-use Rattle.policy.specs.declared.command.Command.TheVariants.{Import}
-use Rattle.policy.specs.Answer.{IsAnswer}
-use Rattle.policy.specs.History.{Entry, History, same_name, is_registered}
-use Rattle.policy.specs.Import.{creation, JudgesRow, IsImportDenied}
-use Rattle.policy.specs.Permission.{has_access, is_permitted}
-use Rattle.policy.specs.Rows.{Rows, RowsIfAny, edited, edited_if_any, changed, Carries}
-use Rattle.policy.specs.Terms.{grant_terms, authorizations_made}
-use Rattle.policy.specs.Verdict.{IsLegal}
+use Rattle.registry.specs.declared.grant.Access.TheVariants.{Alter}
+use Rattle.registry.specs.declared.rule.Refusal.{Refusal}
+use Rattle.registry.specs.declared.rule.Refusal.TheVariants.{Denied, Memory}
+use Rattle.registry.specs.declared.rule.Rule.TheVariants.{Grant as GrantRule}
+use Rattle.registry.specs.declared.command.Command.TheVariants.{Import}
+use Rattle.registry.specs.Answer.{IsAnswer}
+use Rattle.registry.specs.History.{Entry, History, same_name, is_registered}
+use Rattle.registry.specs.Import.{creation, JudgesRow, IsImportDenied}
+use Rattle.registry.specs.Permission.{has_access, is_permitted}
+use Rattle.registry.specs.Rows.{Rows, RowsIfAny, edited, edited_if_any, changed, Carries}
+use Rattle.registry.specs.Terms.{grant_terms, authorizations_made}
+use Rattle.registry.specs.Verdict.{IsLegal}
 use Rattle.policy.specs.steps.Import.{IsImport, AnswersImport, FindsRow, MakesRow, IsRowDone}
 use Rattle.policy.specs.steps.Part.{IsRefusedBy, refusal_at}
-use Rattle.policy.proofs.Carry.{carried}
+use Rattle.registry.proofs.Carry.{carried}
 use Rattle.policy.proofs.Growth.{Grows-more, Grows-denied}
-use Rattle.policy.proofs.Names.{same_name-same, same_name-true}
-use Rattle.policy.proofs.Unregistered.{has_nothing}
+use Rattle.registry.proofs.Names.{same_name-same, same_name-true}
+use Rattle.registry.proofs.Unregistered.{has_nothing}
 
 -- an edit that puts nothing and leaves the counter as it was
 adds_nothing : (made : Vec Auth) (created : ℕ) (rows : Rows) → made.items ≡ [] → rows.created ≡ created → rows ≡ edited (ImportEdit made created) rows

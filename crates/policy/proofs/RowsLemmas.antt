@@ -3,15 +3,15 @@ use Rattle.std.proofs.Common.{◌≡◌, ℕ, Bool, true, false, List, Option, S
 use Rattle.std.specs.List.{list_any}
 use Rattle.std.proofs.lemmas.Bool.{false≢true}
 use Rattle.charters.specs.declared.charter.Charter.{Charter}
-use Rattle.policy.specs.declared.rows.HolderRows.{HolderRows}
-use Rattle.policy.specs.History.{History, is_registered}
-use Rattle.policy.specs.Rows.{Rows, RowsOf, RowsIfAny, rows_if_any, grants_if_any}
-use Rattle.policy.specs.declared.authorization.Auth.{Auth}
-use Rattle.policy.specs.declared.grant.Granted.{Granted}
-use Rattle.policy.specs.Terms.{grant_terms, authorization_terms, HeldSinceMade, OfActive}
-use Rattle.policy.specs.Verdict.{IsLegal, numbered, OfNumber}
-use Rattle.policy.proofs.Kept.{Keeps-unique}
-use Rattle.policy.proofs.Unregistered.{has_nothing}
+use Rattle.registry.specs.declared.rows.HolderRows.{HolderRows}
+use Rattle.registry.specs.History.{History, is_registered}
+use Rattle.registry.specs.Rows.{Rows, RowsOf, RowsIfAny, rows_if_any, grants_if_any}
+use Rattle.registry.specs.declared.authorization.Auth.{Auth}
+use Rattle.registry.specs.declared.grant.Granted.{Granted}
+use Rattle.registry.specs.Terms.{grant_terms, authorization_terms, HeldSinceMade, OfActive}
+use Rattle.registry.specs.Verdict.{IsLegal, numbered, OfNumber}
+use Rattle.registry.proofs.Kept.{Keeps-unique}
+use Rattle.registry.proofs.Unregistered.{has_nothing}
 
 pub unregistered : (history : History) (h : List ℕ) (rows : Option (Bor HolderRows)) → is_some rows ≡ false
     → RowsIfAny history h (rows_if_any (option_copied rows)) → is_registered history h ≡ false

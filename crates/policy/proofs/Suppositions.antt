@@ -2,23 +2,23 @@
 use Rattle.std.proofs.Common.{◌≡◌, ℕ, ◌+◌, ◌<◌, false, List, [], ◌∷◌, length, take, get_or, inl, Some, Err, refl, sym, ap, ◌∙◌, subst, arith}
 use Rattle.std.proofs.lemmas.Bool.{false≢true}
 use Rattle.charters.specs.declared.charter.Charter.{Charter}
-use Rattle.policy.specs.declared.command.Proposed.{Proposed}
-use Rattle.policy.specs.declared.command.Proposed.TheVariants.{Create, Withdraw}
-use Rattle.policy.specs.declared.grant.Access.TheVariants.{Alter}
-use Rattle.policy.specs.declared.rule.Refusal.{Refusal}
-use Rattle.policy.specs.declared.rule.Refusal.TheVariants.{Denied, Memory}
-use Rattle.policy.specs.declared.rule.Rule.TheVariants.{Grant as GrantRule}
-use Rattle.policy.specs.History.{Entry, History, is_registered}
-use Rattle.policy.specs.HypotheticalHistory.{proposed_command, JudgesChange, HypotheticalHistory, IsChangeDenied}
-use Rattle.policy.specs.Permission.{has_access}
-use Rattle.policy.specs.Rows.{Rows, RowsIfAny}
-use Rattle.policy.specs.Terms.{grant_terms}
-use Rattle.policy.specs.Verdict.{IsLegal, Verdict}
-use Rattle.policy.specs.Answer.{IsSupposed}
+use Rattle.registry.specs.declared.command.Proposed.{Proposed}
+use Rattle.registry.specs.declared.command.Proposed.TheVariants.{Create, Withdraw}
+use Rattle.registry.specs.declared.grant.Access.TheVariants.{Alter}
+use Rattle.registry.specs.declared.rule.Refusal.{Refusal}
+use Rattle.registry.specs.declared.rule.Refusal.TheVariants.{Denied, Memory}
+use Rattle.registry.specs.declared.rule.Rule.TheVariants.{Grant as GrantRule}
+use Rattle.registry.specs.History.{Entry, History, is_registered}
+use Rattle.registry.specs.HypotheticalHistory.{proposed_command, JudgesChange, HypotheticalHistory, IsChangeDenied}
+use Rattle.registry.specs.Permission.{has_access}
+use Rattle.registry.specs.Rows.{Rows, RowsIfAny}
+use Rattle.registry.specs.Terms.{grant_terms}
+use Rattle.registry.specs.Verdict.{IsLegal, Verdict}
+use Rattle.registry.specs.Answer.{IsSupposed}
 use Rattle.policy.specs.steps.Part.{IsRefusedBy, refusal_at}
 use Rattle.policy.specs.steps.Supposition.{IsSupposedOne}
 use Rattle.policy.proofs.Growth.{Grows-more, Grows-denied}
-use Rattle.policy.proofs.Unregistered.{has_nothing}
+use Rattle.registry.proofs.Unregistered.{has_nothing}
 
 -- the changes up to a place are done on the rows
 pub record SoFar (charter : Charter) (history : History) (h : List ℕ) (day : ℕ) (caller : List ℕ) (changes : List Proposed) (rows : Rows) : Type 0 where

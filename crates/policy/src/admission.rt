@@ -1,27 +1,18 @@
 ghost use Rattle.std.specs.Prelude.{◌≡◌, ℕ, ◌<◌, ◌==◌, ◌&&◌, not, length, List, true, false, ◌↔◌, IsTrue, Some, ◌≤◌, option_copied, MatchResult};
 ghost use Rattle.std.specs.List.{list_any};
-ghost use Rattle.policy.specs.declared.admission.TheConstants.{MOST_GRANTS, MOST_AUTHORIZATIONS, LAST_NUMBER};
+ghost use Rattle.registry.specs.declared.limits.TheConstants.{MOST_GRANTS, MOST_AUTHORIZATIONS, LAST_NUMBER};
 ghost use Rattle.charters.specs.declared.charter.Charter.{Charter as CharterValue};
-ghost use Rattle.policy.specs.History.{History, is_registered};
-ghost use Rattle.policy.specs.Resources.{HoldsPrefix};
-ghost use Rattle.policy.specs.Terms.{grant_terms, authorizations_made, OfActive, gives_vrp, share_vrp};
-ghost use Rattle.policy.specs.Import.{has_terms, IsPresent};
-ghost use Rattle.policy.specs.Permission.{has_access};
-ghost use Rattle.policy.specs.Verdict.{IsLegal, is_steward, numbered, HasAccessTo};
-ghost use Rattle.policy.specs.Rows.{rows_of, rows_if_any, RowsOf, RowsIfAny, grants_if_any};
+ghost use Rattle.registry.specs.History.{History, is_registered};
+ghost use Rattle.registry.specs.Resources.{HoldsPrefix};
+ghost use Rattle.registry.specs.Terms.{grant_terms, authorizations_made, OfActive, gives_vrp, share_vrp};
+ghost use Rattle.registry.specs.Import.{has_terms, IsPresent};
+ghost use Rattle.registry.specs.Permission.{has_access};
+ghost use Rattle.registry.specs.Verdict.{IsLegal, is_steward, numbered, HasAccessTo};
+ghost use Rattle.registry.specs.Rows.{rows_of, rows_if_any, RowsOf, RowsIfAny, grants_if_any};
 
-use crate::grant::{has_access, is_permitted};
-use crate::{Access, Auth, AuthTerms, Charter, Granted, HolderRows, Rule};
+use crate::{Access, Auth, AuthTerms, Charter, Granted, HolderRows, LAST_NUMBER, Rule};
 use addr::{Asn, Day, Name, Prefix};
-
-/// How many grants that are not revoked a holder may have.
-pub(crate) const MOST_GRANTS: usize = 64;
-
-/// How many active authorizations a holder may have.
-pub(crate) const MOST_AUTHORIZATIONS: usize = 1000;
-
-/// The last number that a grant or an authorization of a holder gets.
-pub const LAST_NUMBER: u32 = 999_999;
+use registry::{MOST_AUTHORIZATIONS, MOST_GRANTS, has_access, is_permitted};
 
 /// The rule where it does not hold.
 pub(crate) fn require(holds: bool, rule: Rule) -> Result<(), Rule>

@@ -1,19 +1,19 @@
 ghost use Rattle.std.specs.Prelude.{◌≡◌, ℕ, List, Some, option_copied, MatchResult, IfOk, OnOk};
 ghost use Rattle.charters.specs.declared.charter.Charter.{Charter as CharterValue};
-ghost use Rattle.policy.specs.declared.change.Edit.{Edit};
-ghost use Rattle.policy.specs.History.{History};
-ghost use Rattle.policy.specs.Import.{creation};
-ghost use Rattle.policy.specs.Rows.{rows_of, rows_if_any, RowsIfAny, edited};
-ghost use Rattle.policy.specs.Verdict.{IsLegal, Verdict};
+ghost use Rattle.registry.specs.declared.change.Edit.{Edit};
+ghost use Rattle.registry.specs.History.{History};
+ghost use Rattle.registry.specs.Import.{creation};
+ghost use Rattle.registry.specs.Rows.{rows_of, rows_if_any, RowsIfAny, edited};
+ghost use Rattle.registry.specs.Verdict.{IsLegal, Verdict};
 ghost use Rattle.policy.specs.steps.Creation.{IsCreated};
 ghost use Rattle.policy.specs.steps.Part.{Judged};
 
 use crate::admission::{
     are_dates, has_room_for_authorization, holds, is_new, require, rows_with_access,
 };
-use crate::grant::is_permitted;
 use crate::{Access, Auth, AuthTerms, HolderRows, Refusal, Rule};
 use addr::{Day, Name};
+use registry::is_permitted;
 use std::alloc::AllocError;
 
 /// The authorization that a create of the terms makes, or the first rule of its line that does not

@@ -1,13 +1,13 @@
 ghost use Rattle.std.specs.Prelude.{◌≡◌, ℕ, true, false, None, Err, IsTrue, option_copied, MatchBool, IfOk, map, filter};
 ghost use Rattle.addr.specs.Address.{has_address};
 ghost use Rattle.addr.specs.Spans.{AddsAddresses, TakesAddresses};
-ghost use Rattle.policy.specs.History.{History};
-ghost use Rattle.policy.specs.Resources.{IsFree};
-ghost use Rattle.policy.specs.Terms.{terms_overlap};
-ghost use Rattle.policy.specs.Verdict.{IsLegal};
-ghost use Rattle.policy.specs.Rows.{rows_if_any, RowsIfAny};
+ghost use Rattle.registry.specs.History.{History};
+ghost use Rattle.registry.specs.Resources.{IsFree};
+ghost use Rattle.registry.specs.Terms.{terms_overlap};
+ghost use Rattle.registry.specs.Verdict.{IsLegal};
+ghost use Rattle.registry.specs.Rows.{rows_if_any, RowsIfAny};
 ghost use Rattle.policy.specs.steps.Exchange.{Exchanges};
-ghost use Rattle.policy.specs.Answer.{AnswersRows, JudgesRows, RowsOfNamed, IsAnswer, IsViewOf, is_transfer, takes_memory, holder_of, taker_of};
+ghost use Rattle.registry.specs.Answer.{AnswersRows, JudgesRows, RowsOfNamed, IsAnswer, IsViewOf, is_transfer, takes_memory, holder_of, taker_of};
 
 mod import;
 mod terms;

@@ -1,14 +1,15 @@
 ghost use Rattle.std.specs.Prelude.{◌<◌, ℕ, List, length, Some};
 ghost use Rattle.charters.specs.declared.charter.Charter.{Charter as CharterValue};
-ghost use Rattle.policy.specs.History.{History};
-ghost use Rattle.policy.specs.Rows.{rows_of, rows_if_any, RowsIfAny};
-ghost use Rattle.policy.specs.Verdict.{IsLegal, Verdict};
-ghost use Rattle.policy.specs.HypotheticalHistory.{proposed_command};
-ghost use Rattle.policy.specs.Answer.{IsSupposed};
+ghost use Rattle.registry.specs.History.{History};
+ghost use Rattle.registry.specs.Rows.{rows_of, rows_if_any, RowsIfAny};
+ghost use Rattle.registry.specs.Verdict.{IsLegal, Verdict};
+ghost use Rattle.registry.specs.HypotheticalHistory.{proposed_command};
+ghost use Rattle.registry.specs.Answer.{IsSupposed};
 ghost use Rattle.policy.specs.steps.Part.{Judged};
 ghost use Rattle.policy.specs.steps.Supposition.{IsSupposedOne};
 
 use crate::creation::create;
+use crate::part::refusal_at;
 use crate::withdrawal::withdraw;
 use crate::{Charter, HolderRows, Proposed, Refusal, Rule, View};
 use addr::{Day, Name};
@@ -62,7 +63,7 @@ pub fn suppose(
         place += 1;
         let done = suppose_one(&mut rows, day, caller, change);
         if let Err(refusal) = done {
-            return Err(refusal.at(place));
+            return Err(refusal_at(refusal, place));
         }
     }
     Ok(rows)

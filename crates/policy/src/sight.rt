@@ -1,15 +1,15 @@
 ghost use Rattle.std.specs.Prelude.{◌≡◌, ℕ, List, Some, option_copied, MatchResult, IfOk, filter};
 ghost use Rattle.charters.specs.declared.charter.Charter.{Charter as CharterValue};
-ghost use Rattle.policy.specs.History.{History};
-ghost use Rattle.policy.specs.Permission.{is_permitted_terms};
-ghost use Rattle.policy.specs.Rows.{rows_if_any, RowsIfAny};
-ghost use Rattle.policy.specs.Verdict.{IsLegal, ShowVerdict};
-ghost use Rattle.policy.specs.Answer.{IsShown, IsListed, IsListRefusal};
+ghost use Rattle.registry.specs.History.{History};
+ghost use Rattle.registry.specs.Permission.{is_permitted_terms};
+ghost use Rattle.registry.specs.Rows.{rows_if_any, RowsIfAny};
+ghost use Rattle.registry.specs.Verdict.{IsLegal, ShowVerdict};
+ghost use Rattle.registry.specs.Answer.{IsShown, IsListed, IsListRefusal};
 
 use crate::admission::{auth_with_access, rows_with_access};
-use crate::grant::is_permitted;
 use crate::{Access, Auth, Granted, HolderRows, Refusal, Rule};
 use addr::{Day, Name};
+use registry::is_permitted;
 use std::alloc::{AllocError, Global};
 
 /// The authorization of the number, where the caller may see it on the day. A hidden authorization

@@ -1,10 +1,10 @@
 ghost use Rattle.std.specs.Prelude.{◌≡◌, ℕ, List, Some, option_copied, MatchResult, IfOk};
-ghost use Rattle.policy.specs.declared.change.Edit.{Edit};
+ghost use Rattle.registry.specs.declared.change.Edit.{Edit};
 ghost use Rattle.charters.specs.declared.charter.Charter.{Charter as CharterValue};
-ghost use Rattle.policy.specs.declared.command.Command.{Command};
-ghost use Rattle.policy.specs.History.{History};
-ghost use Rattle.policy.specs.Rows.{rows_of, rows_if_any, RowsIfAny, edited};
-ghost use Rattle.policy.specs.Verdict.{IsLegal, Verdict};
+ghost use Rattle.registry.specs.declared.command.Command.{Command};
+ghost use Rattle.registry.specs.History.{History};
+ghost use Rattle.registry.specs.Rows.{rows_of, rows_if_any, RowsIfAny, edited};
+ghost use Rattle.registry.specs.Verdict.{IsLegal, Verdict};
 ghost use Rattle.policy.specs.steps.Withdrawal.{IsWithdrawn};
 
 use crate::admission::{auth_with_access, rows_with_access};

@@ -21,12 +21,12 @@ use Rattle.addr.specs.declared.family.Family.{Family}
 use Rattle.addr.specs.declared.family.Family.TheVariants.{V4, V6}
 use Rattle.addr.specs.declared.span.Span.{Span}
 use Rattle.addr.proofs.AddressLemmas.{below_widest}
-use Rattle.policy.specs.declared.authorization.Auth.{Auth}
-use Rattle.policy.specs.declared.change.Edit.TheVariants.{Revoke, Amend, Withdraw}
-use Rattle.policy.specs.declared.grant.Granted.{Granted}
-use Rattle.policy.specs.declared.grant.Scope.{Scope}
-use Rattle.policy.specs.declared.grant.Scope.TheVariants.{All, Only}
-use Rattle.policy.specs.Rows.{new_rows, edited, replaced_by}
+use Rattle.registry.specs.declared.authorization.Auth.{Auth}
+use Rattle.registry.specs.declared.change.Edit.TheVariants.{Revoke, Amend, Withdraw}
+use Rattle.registry.specs.declared.grant.Granted.{Granted}
+use Rattle.registry.specs.declared.grant.Scope.{Scope}
+use Rattle.registry.specs.declared.grant.Scope.TheVariants.{All, Only}
+use Rattle.registry.specs.Rows.{new_rows, edited, replaced_by}
 use Rattle.tables.specs.Tables.{holder, holding, granted, auth}
 use Rattle.tables.specs.Cells.{number_cell, family_number, address, role_number, scope_cells, auth_cells, holder_row, holding_row, granted_row, auth_row}
 use Rattle.tables.specs.TablesHold.{is_name_of, part_rows, holder_part, holding_part, granted_part, auth_part}

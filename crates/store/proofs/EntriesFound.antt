@@ -21,7 +21,7 @@ use Rattle.sqlite_typed.proofs.TestLemmas.{last_term}
 use Rattle.addr.specs.declared.asn.Asn.{Asn}
 use Rattle.addr.specs.declared.vrp.Vrp.{Vrp}
 use Rattle.charters.specs.CharterSets.{CharterSets}
-use Rattle.policy.specs.RowsOfAll.{AllRows}
+use Rattle.registry.specs.RowsOfAll.{AllRows}
 use Rattle.slurm.specs.Exceptions.{Exceptions}
 use Rattle.slurm.specs.declared.filter.Filter.{Filter}
 use Rattle.slurm.specs.declared.filter.Filter.TheVariants.{Under, By, Both}

@@ -9,8 +9,8 @@ use Rattle.sqlite_value.specs.declared.value.Value.TheVariants.{Null}
 use Rattle.sqlite_value.specs.Order.{Row}
 use Rattle.sqlite_trees.specs.Tree.{IsAscending}
 use Rattle.sqlite_trees.proofs.ListLemmas.{map-map}
-use Rattle.policy.specs.declared.change.Change.TheVariants.{Exceptions as Replace}
-use Rattle.policy.specs.RowsOfAll.{changed_rows}
+use Rattle.registry.specs.declared.change.Change.TheVariants.{Exceptions as Replace}
+use Rattle.registry.specs.RowsOfAll.{changed_rows}
 use Rattle.slurm.specs.Exceptions.{Exceptions}
 use Rattle.slurm.specs.declared.exceptions.TheConstants.{MOST_ENTRIES}
 use Rattle.slurm.specs.declared.filter.Filter.TheVariants.{Under, By, Both}

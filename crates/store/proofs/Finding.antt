@@ -15,8 +15,8 @@ use Rattle.sqlite_sql.specs.Program.{overlay}
 use Rattle.sqlite_schema.specs.declared.command.Command.{Command}
 use Rattle.sqlite_schema.specs.declared.command.Command.TheVariants.{Select}
 use Rattle.charters.specs.CharterSets.{CharterSets}
-use Rattle.policy.specs.Rows.{Rows}
-use Rattle.policy.specs.RowsOfAll.{AllRows}
+use Rattle.registry.specs.Rows.{Rows}
+use Rattle.registry.specs.RowsOfAll.{AllRows}
 use Rattle.tables.specs.Cells.{span_cells, grant_cells, auth_cells, holding_row, granted_row, auth_row}
 use Rattle.tables.specs.Tables.{contents, columns, desk_tables, OverDesk}
 use Rattle.tables.specs.TablesHold.{Part, TablesHold, items_if_any, HoldsPart, part_rows, holder_part, holding_part, granted_part, auth_part}

@@ -9,14 +9,14 @@ use Rattle.addr.specs.Order.{same_vrp}
 use Rattle.addr.specs.declared.asn.Asn.{Asn}
 use Rattle.addr.specs.declared.prefix.Prefix.{Prefix}
 use Rattle.addr.specs.declared.vrp.Vrp.{Vrp}
-use Rattle.policy.specs.declared.authorization.Auth.{Auth}
-use Rattle.policy.specs.Terms.{IsVrpOf}
-use Rattle.policy.specs.Values.{AuthFits, VrpFits}
+use Rattle.registry.specs.declared.authorization.Auth.{Auth}
+use Rattle.registry.specs.Terms.{IsVrpOf}
+use Rattle.registry.specs.Values.{AuthFits, VrpFits}
 use Rattle.tables.specs.Cells.{vrp_cells}
 use Rattle.addr.proofs.Equality.{equal_prefix, prefix_itself}
 use Rattle.addr.proofs.SpanLemmas.{met_iff}
 use Rattle.store.specs.steps.Queries.{payload_cells, IsPayloadOn, MeetsSome}
-use Rattle.policy.specs.RowsOfAll.{AllRows, IsGivenOn, IsTaken}
+use Rattle.registry.specs.RowsOfAll.{AllRows, IsGivenOn, IsTaken}
 use Rattle.store.specs.Loads.{AllGiveOn}
 use Rattle.tables.proofs.CellsOnce.{one_prefix}
 

@@ -11,14 +11,14 @@ use Rattle.sqlite_rules.proofs.ListLemmas.{all_has, all_from, contains_had}
 use Rattle.sqlite_rules.proofs.ProbeLemmas.{has_mapped}
 use Rattle.addr.specs.Name.{is_name}
 use Rattle.charters.specs.CharterSets.{CharterSets, IsCharter}
-use Rattle.policy.specs.declared.command.Command.{Command}
-use Rattle.policy.specs.declared.command.Command.TheVariants.{Register}
-use Rattle.policy.specs.History.{History, registers, is_registered}
-use Rattle.policy.specs.Rows.{Rows, RowsIfAny}
-use Rattle.policy.specs.Values.{RowsFit, AuthFits, GrantFits, CommandFits, HistoryFits, ExceptionsFit, FilterFits, VrpFits}
+use Rattle.registry.specs.declared.command.Command.{Command}
+use Rattle.registry.specs.declared.command.Command.TheVariants.{Register}
+use Rattle.registry.specs.History.{History, registers, is_registered}
+use Rattle.registry.specs.Rows.{Rows, RowsIfAny}
+use Rattle.registry.specs.Values.{RowsFit, AuthFits, GrantFits, CommandFits, HistoryFits, ExceptionsFit, FilterFits, VrpFits}
 use Rattle.histories.specs.Ranges.{LegalRowsFit, ExceptionsInForceFit}
-use Rattle.policy.specs.RowsOfAll.{AllRows}
-use Rattle.policy.proofs.Names.{same_name-true}
+use Rattle.registry.specs.RowsOfAll.{AllRows}
+use Rattle.registry.proofs.Names.{same_name-true}
 use Rattle.tables.specs.Cells.{schema_row, holder_row, holding_row, granted_row, auth_row, exception_row}
 use Rattle.tables.specs.Tables.{meta, holder, contents}
 use Rattle.tables.specs.TablesHold.{Part, TablesHold, HoldsPart, holder_part, holding_part, granted_part, auth_part, ArePlaced, HoldsExceptions}

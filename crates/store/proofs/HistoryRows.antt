@@ -8,14 +8,14 @@ use Rattle.sqlite_trees.specs.Tree.{IsAscending}
 use Rattle.sqlite_trees.proofs.ListLemmas.{ascending_weaker}
 use Rattle.sqlite_keyed.proofs.SortLemmas.{sorted_unique}
 use Rattle.addr.proofs.RunLemmas.{maximal_apart}
-use Rattle.policy.specs.declared.authorization.Auth.{Auth}
-use Rattle.policy.specs.declared.command.Command.{Command}
-use Rattle.policy.specs.declared.command.Command.TheVariants.{Register, Delegate, Transfer, Reclaim, Grant, Revoke, Create, Amend, Withdraw, Import, Slurm}
-use Rattle.policy.specs.declared.grant.Granted.{Granted}
-use Rattle.policy.specs.History.{History, same_name}
-use Rattle.policy.specs.Terms.{granted_after, grants_made, grants_after, grant_terms, authorizations_made, AreActive}
-use Rattle.policy.proofs.Numbers.{Numbered}
-use Rattle.policy.proofs.Held.{active-numbered}
+use Rattle.registry.specs.declared.authorization.Auth.{Auth}
+use Rattle.registry.specs.declared.command.Command.{Command}
+use Rattle.registry.specs.declared.command.Command.TheVariants.{Register, Delegate, Transfer, Reclaim, Grant, Revoke, Create, Amend, Withdraw, Import, Slurm}
+use Rattle.registry.specs.declared.grant.Granted.{Granted}
+use Rattle.registry.specs.History.{History, same_name}
+use Rattle.registry.specs.Terms.{granted_after, grants_made, grants_after, grant_terms, authorizations_made, AreActive}
+use Rattle.registry.proofs.Numbers.{Numbered}
+use Rattle.registry.proofs.Held.{active-numbered}
 use Rattle.store.specs.Laws.{LoadsRowsOfHistories}
 use Rattle.store.specs.Loads.{AreInOrder}
 

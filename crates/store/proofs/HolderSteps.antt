@@ -9,8 +9,8 @@ use Rattle.sqlite_value.specs.Order.{Row}
 use Rattle.sqlite_trees.proofs.ListLemmas.{filter-map}
 use Rattle.sqlite_sql.specs.Term.{col}
 use Rattle.charters.specs.CharterSets.{CharterSets}
-use Rattle.policy.specs.Rows.{Rows}
-use Rattle.policy.specs.RowsOfAll.{AllRows}
+use Rattle.registry.specs.Rows.{Rows}
+use Rattle.registry.specs.RowsOfAll.{AllRows}
 use Rattle.tables.specs.Tables.{desk_tables}
 use Rattle.tables.specs.TablesHold.{part_rows, holder_part, TablesHold}
 use Rattle.database.specs.Statements.{IsReady}

@@ -13,8 +13,8 @@ use Rattle.sqlite_sql.specs.Term.{eval_all}
 use Rattle.sqlite_rules.proofs.ListLemmas.{has_filtered, has_kept, has_contained, contains_had}
 use Rattle.sqlite_rules.proofs.ProbeLemmas.{mapped_has, has_mapped}
 use Rattle.sqlite_typed.proofs.TestLemmas.{at_ints, then_term, last_term}
-use Rattle.policy.specs.declared.authorization.Auth.{Auth}
-use Rattle.policy.specs.RowsOfAll.{AllRows}
+use Rattle.registry.specs.declared.authorization.Auth.{Auth}
+use Rattle.registry.specs.RowsOfAll.{AllRows}
 use Rattle.tables.specs.Cells.{number_cell, auth_row}
 use Rattle.tables.specs.Tables.{desk_tables, contents, columns}
 use Rattle.tables.specs.TablesHold.{HoldsPart, auth_part}

@@ -15,17 +15,17 @@ use Rattle.sqlite_value.proofs.OrderLemmas.{value_cmp-Int}
 use Rattle.addr.specs.Address.{Address}
 use Rattle.addr.specs.Spans.{span_has, spans_have, AreMaximal}
 use Rattle.addr.specs.declared.span.Span.{Span}
-use Rattle.policy.specs.declared.authorization.Auth.{Auth}
-use Rattle.policy.specs.declared.grant.Granted.{Granted}
+use Rattle.registry.specs.declared.authorization.Auth.{Auth}
+use Rattle.registry.specs.declared.grant.Granted.{Granted}
 use Rattle.charters.specs.CharterSets.{CharterSets}
-use Rattle.policy.specs.declared.rows.HolderRows.{HolderRows}
-use Rattle.policy.specs.Rows.{Rows}
+use Rattle.registry.specs.declared.rows.HolderRows.{HolderRows}
+use Rattle.registry.specs.Rows.{Rows}
 use Rattle.tables.specs.Cells.{number_cell}
 use Rattle.tables.specs.TablesHold.{items_if_any, TablesHold}
 use Rattle.store.specs.steps.Queries.{by_column, WasRead}
 use Rattle.tables.specs.declared.rows.Counters.{Counters}
-use Rattle.policy.specs.Values.{IsCount, GrantFits, AuthFits, FitIfAny}
-use Rattle.policy.specs.RowsOfAll.{AllRows}
+use Rattle.registry.specs.Values.{IsCount, GrantFits, AuthFits, FitIfAny}
+use Rattle.registry.specs.RowsOfAll.{AllRows}
 use Rattle.store.specs.Loads.{AreInOrder, HaveSame, AreLoaded}
 use Rattle.tables.proofs.CellsOnce.{counters_of_rows}
 use Rattle.database.proofs.StatementLemmas.{taken_more}

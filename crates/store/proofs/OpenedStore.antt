@@ -6,7 +6,7 @@ use Rattle.sqlite.specs.State.{State, HasCleanDisk}
 use Rattle.sqlite.specs.Store.{Ghosts}
 use Rattle.sqlite_trees.specs.Tree.{Trees}
 use Rattle.charters.specs.CharterSets.{CharterSets, IsCharter}
-use Rattle.policy.specs.RowsOfAll.{AllRows}
+use Rattle.registry.specs.RowsOfAll.{AllRows}
 use Rattle.tables.specs.TablesHold.{TablesHold}
 use Rattle.tables.proofs.RowsStay.{hold_still}
 use Rattle.store.specs.StoreRows.{IsOpened}

@@ -21,7 +21,7 @@ use Rattle.addr.specs.declared.family.Family.TheVariants.{V4, V6}
 use Rattle.addr.specs.declared.prefix.Prefix.{Prefix}
 use Rattle.addr.specs.declared.span.Span.{Span}
 use Rattle.addr.proofs.AddressLemmas.{below_widest, first_below}
-use Rattle.policy.specs.RowsOfAll.{AllRows}
+use Rattle.registry.specs.RowsOfAll.{AllRows}
 use Rattle.tables.specs.Tables.{desk_tables, contents}
 use Rattle.tables.specs.Cells.{number_cell, family_number, address, holding_row}
 use Rattle.tables.specs.TablesHold.{HoldsPart, holding_part}

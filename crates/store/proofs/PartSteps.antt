@@ -8,7 +8,7 @@ use Rattle.sqlite_sql.specs.Term.{Term, eval_all}
 use Rattle.sqlite_schema.specs.declared.command.Command.TheVariants.{Update, Delete}
 use Rattle.sqlite_schema.specs.declared.schema.Table.{Table}
 use Rattle.sqlite_rules.specs.Cast.{cast_all}
-use Rattle.policy.specs.Rows.{Rows}
+use Rattle.registry.specs.Rows.{Rows}
 use Rattle.tables.specs.Tables.{as_strict, desk_tables, is_table}
 use Rattle.tables.specs.TablesHold.{Part}
 use Rattle.database.specs.steps.Making.{PutsRows}

@@ -12,14 +12,14 @@ use Rattle.sqlite.specs.Store.{Ghosts}
 use Rattle.sqlite_trees.specs.Tree.{Trees}
 use Rattle.addr.specs.Spans.{span_eq}
 use Rattle.addr.specs.declared.span.Span.{Span}
-use Rattle.policy.specs.declared.authorization.Auth.{Auth}
+use Rattle.registry.specs.declared.authorization.Auth.{Auth}
 use Rattle.charters.specs.CharterSets.{CharterSets}
-use Rattle.policy.specs.History.{same_name}
-use Rattle.policy.specs.declared.change.Edit.{Edit}
-use Rattle.policy.specs.declared.change.Edit.TheVariants.{Register, Hold, Grant, Revoke, Create, Import, Amend, Withdraw}
-use Rattle.policy.specs.Rows.{Rows, new_rows, edited, edited_if_any}
-use Rattle.policy.specs.RowsOfAll.{AllRows}
-use Rattle.policy.proofs.Names.{same_name-true}
+use Rattle.registry.specs.History.{same_name}
+use Rattle.registry.specs.declared.change.Edit.{Edit}
+use Rattle.registry.specs.declared.change.Edit.TheVariants.{Register, Hold, Grant, Revoke, Create, Import, Amend, Withdraw}
+use Rattle.registry.specs.Rows.{Rows, new_rows, edited, edited_if_any}
+use Rattle.registry.specs.RowsOfAll.{AllRows}
+use Rattle.registry.proofs.Names.{same_name-true}
 use Rattle.tables.specs.TablesHold.{TablesHold}
 use Rattle.store.specs.steps.RowEdits.{with_holdings, without_holdings, with_auths, without_auths, is_registration}
 use Rattle.database.specs.Statements.{state_in, IfDone, StaysInside, IsReady}

@@ -13,11 +13,11 @@ use Rattle.sqlite_sql.specs.declared.ops.BinaryOp.TheVariants.{Compare}
 use Rattle.sqlite_typed.proofs.TestLemmas.{last_term}
 use Rattle.sqlite_sql.specs.Ops.{binary, is_true, from_truth}
 use Rattle.addr.specs.declared.span.Span.{Span}
-use Rattle.policy.specs.declared.authorization.Auth.{Auth}
-use Rattle.policy.specs.declared.grant.Granted.{Granted}
+use Rattle.registry.specs.declared.authorization.Auth.{Auth}
+use Rattle.registry.specs.declared.grant.Granted.{Granted}
 use Rattle.charters.specs.CharterSets.{CharterSets}
-use Rattle.policy.specs.Rows.{Rows}
-use Rattle.policy.specs.RowsOfAll.{AllRows}
+use Rattle.registry.specs.Rows.{Rows}
+use Rattle.registry.specs.RowsOfAll.{AllRows}
 use Rattle.tables.specs.Tables.{contents, is_table}
 use Rattle.tables.specs.Cells.{schema_row, operator_row, prefix_cells}
 use Rattle.tables.specs.steps.Edits.{Edits}

@@ -8,7 +8,7 @@ use Rattle.sqlite.proofs.StateLemmas.{survives_then}
 use Rattle.sqlite.specs.Store.{Ghosts}
 use Rattle.sqlite_trees.specs.Tree.{Trees}
 use Rattle.charters.specs.CharterSets.{CharterSets}
-use Rattle.policy.specs.RowsOfAll.{AllRows, blank_rows}
+use Rattle.registry.specs.RowsOfAll.{AllRows, blank_rows}
 use Rattle.database.specs.Queries.{IsAsBefore}
 use Rattle.store.specs.steps.Queries.{IsOfAll}
 use Rattle.store.specs.StoreRows.{RowChange, StoreView, Holds, IsRead, MayLeave, LeavesOnly}

@@ -7,12 +7,12 @@ use Rattle.charters.specs.CharterSets.{IsCharter}
 use Rattle.sqlite.specs.Effect.{Database}
 use Rattle.sqlite.specs.Steps.{over_memory}
 use Rattle.charters.specs.declared.charter.Charter.{Charter}
-use Rattle.policy.specs.declared.rows.HolderRows.{HolderRows}
-use Rattle.policy.specs.History.{History}
-use Rattle.policy.specs.Rows.{Rows, rows_if_any, RowsIfAny}
-use Rattle.policy.specs.RowsOfAll.{AllRows, HasRows}
-use Rattle.policy.specs.Values.{HistoryFits, FitIfAny, ExceptionsFit}
-use Rattle.policy.specs.Verdict.{IsLegal}
+use Rattle.registry.specs.declared.rows.HolderRows.{HolderRows}
+use Rattle.registry.specs.History.{History}
+use Rattle.registry.specs.Rows.{Rows, rows_if_any, RowsIfAny}
+use Rattle.registry.specs.RowsOfAll.{AllRows, HasRows}
+use Rattle.registry.specs.Values.{HistoryFits, FitIfAny, ExceptionsFit}
+use Rattle.registry.specs.Verdict.{IsLegal}
 use Rattle.tables.specs.TablesHold.{TablesHold}
 use Rattle.tables.specs.Tables.{desk_tables}
 use Rattle.database.specs.Databases.{IsHonest, IsOfAnotherSchema}

@@ -6,14 +6,14 @@ use Rattle.addr.specs.Address.{Address}
 use Rattle.addr.specs.Spans.{spans_have, AreMaximal}
 use Rattle.addr.specs.declared.span.Span.{Span}
 use Rattle.addr.specs.declared.vrp.Vrp.{Vrp}
-use Rattle.policy.specs.declared.authorization.Auth.{Auth}
-use Rattle.policy.specs.declared.grant.Granted.{Granted}
-use Rattle.policy.specs.declared.rows.HolderRows.{HolderRows}
-use Rattle.policy.specs.ExceptionsInForce.{no_exceptions}
-use Rattle.policy.specs.Rows.{Rows}
-use Rattle.policy.specs.RowsOfAll.{AllRows}
-use Rattle.policy.specs.Terms.{IsVrpOf}
-use Rattle.policy.specs.Values.{VrpFits}
+use Rattle.registry.specs.declared.authorization.Auth.{Auth}
+use Rattle.registry.specs.declared.grant.Granted.{Granted}
+use Rattle.registry.specs.declared.rows.HolderRows.{HolderRows}
+use Rattle.registry.specs.ExceptionsInForce.{no_exceptions}
+use Rattle.registry.specs.Rows.{Rows}
+use Rattle.registry.specs.RowsOfAll.{AllRows}
+use Rattle.registry.specs.Terms.{IsVrpOf}
+use Rattle.registry.specs.Values.{VrpFits}
 use Rattle.slurm.specs.Exceptions.{Exceptions}
 use Rattle.store.specs.StoreRows.{StoreView, Holds}
 

@@ -7,8 +7,8 @@ use Rattle.sqlite.specs.Store.{Ghosts}
 use Rattle.sqlite_trees.specs.Tree.{Trees}
 use Rattle.charters.specs.contracts.charter.Charter as charter
 use Rattle.charters.specs.CharterSets.{CharterSets, IsCharter}
-use Rattle.policy.specs.RowsOfAll.{AllRows}
-use Rattle.policy.specs.Values.{ExceptionsFit}
+use Rattle.registry.specs.RowsOfAll.{AllRows}
+use Rattle.registry.specs.Values.{ExceptionsFit}
 use Rattle.tables.specs.Tables.{desk_tables}
 use Rattle.tables.specs.TablesHold.{TablesHold}
 

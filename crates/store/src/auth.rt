@@ -1,13 +1,13 @@
 ghost use Rattle.std.specs.Prelude.{[], ◌∷◌};
-ghost use Rattle.policy.specs.declared.change.Edit.TheVariants.{Withdraw, Amend};
-ghost use Rattle.policy.specs.Rows.{edited};
+ghost use Rattle.registry.specs.declared.change.Edit.TheVariants.{Withdraw, Amend};
+ghost use Rattle.registry.specs.Rows.{edited};
 ghost use Rattle.store.specs.steps.RowEdits.{with_auths, without_auths};
 ghost use Rattle.database.specs.Statements.{IsReady, WhenClean, StaysInside};
 ghost use Rattle.store.specs.steps.Statements.{IfEdited};
 
 use addr::Name;
 use database::run;
-use policy::Auth;
+use registry::Auth;
 use sqlite::{Alter, Error, Transaction};
 use tables::{address_bytes, auth_values, number_values};
 

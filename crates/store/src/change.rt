@@ -1,6 +1,6 @@
 ghost use Rattle.std.specs.Prelude.{◌≡◌, ◌≢◌, Err};
-ghost use Rattle.policy.specs.Rows.{edited, changed_by_one};
-ghost use Rattle.policy.specs.RowsOfAll.{changed_rows};
+ghost use Rattle.registry.specs.Rows.{edited, changed_by_one};
+ghost use Rattle.registry.specs.RowsOfAll.{changed_rows};
 ghost use Rattle.store.specs.steps.RowEdits.{held, with_new_auths, is_registration};
 ghost use Rattle.database.specs.Statements.{IsReady, WhenClean, StaysInside, IfDone};
 ghost use Rattle.store.specs.steps.Statements.{IfEdited, MakesChange, each_holder};
@@ -12,7 +12,7 @@ use crate::granted::{put_grant, take_grant};
 use crate::holder::{is_registered, register, set_created, set_granted};
 use crate::holding::{put_holdings, take_holdings};
 use addr::{Name, Span};
-use policy::{Auth, Change, Edit, Granted, HolderChange};
+use registry::{Auth, Change, Edit, Granted, HolderChange};
 use sqlite::{Alter, Error, Transaction};
 use std::slice;
 

@@ -1,8 +1,8 @@
 //! The exceptions of the SLURM file in force: its prefix filters and its prefix assertions.
 ghost use Rattle.std.specs.Prelude.{◌≡◌, ◌+◌, ◌≤◌, List, [], ◌∷◌, map, length, All, Err, IfOk};
 ghost use Rattle.sqlite.specs.Held.{state};
-ghost use Rattle.policy.specs.RowsOfAll.{changed_rows};
-ghost use Rattle.policy.specs.Values.{ExceptionsFit};
+ghost use Rattle.registry.specs.RowsOfAll.{changed_rows};
+ghost use Rattle.registry.specs.Values.{ExceptionsFit};
 ghost use Rattle.slurm.specs.Exceptions.{Exceptions};
 ghost use Rattle.slurm.specs.declared.exceptions.TheConstants.{MOST_ENTRIES};
 ghost use Rattle.tables.specs.Cells.{exception_row};
@@ -18,7 +18,7 @@ ghost use Rattle.store.specs.steps.Statements.{MakesChange, TakesRows, entry_row
 use crate::StoreFault;
 use addr::Vrp;
 use database::{ask, read_all, run};
-use policy::Change;
+use registry::Change;
 use slurm::{Filter, Slurm};
 use sqlite::{Alter, Connection, Error, Transaction};
 use std::alloc::Global;

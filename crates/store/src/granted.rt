@@ -1,12 +1,12 @@
-ghost use Rattle.policy.specs.declared.change.Edit.TheVariants.{Revoke};
-ghost use Rattle.policy.specs.Rows.{edited};
+ghost use Rattle.registry.specs.declared.change.Edit.TheVariants.{Revoke};
+ghost use Rattle.registry.specs.Rows.{edited};
 ghost use Rattle.store.specs.steps.RowEdits.{with_grant};
 ghost use Rattle.database.specs.Statements.{IsReady, WhenClean, StaysInside};
 ghost use Rattle.store.specs.steps.Statements.{IfEdited};
 
 use addr::Name;
 use database::run;
-use policy::Granted;
+use registry::Granted;
 use sqlite::{Alter, Error, Transaction};
 use tables::{address_bytes, granted_values, number_values, scope_first};
 

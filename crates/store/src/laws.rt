@@ -6,7 +6,7 @@ ghost use Rattle.store.specs.Laws.{LoadsRowsOfHistories, MemoryIsHonest, RowsOfH
 ghost use Rattle.store.specs.Laws.{TablesThatReadAreOurs};
 
 /// Where the tables hold the rows of a history, what is loaded of a holder are its rows after that
-/// history, as `policy` asks for them.
+/// history, as `registry` defines them.
 #[tactic(auto, using(crate::proofs::HistoryRows::loads_rows))]
 pub fn rows_of_a_history()
     ensures { LoadsRowsOfHistories }

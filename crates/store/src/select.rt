@@ -3,12 +3,12 @@ ghost use Rattle.std.specs.Prelude.{List, [], ◌∷◌};
 ghost use Rattle.std.specs.declared.cmp.Ordering.{Ordering};
 ghost use Rattle.std.specs.declared.cmp.Ordering.TheVariants.{Equal};
 ghost use Rattle.std.specs.Ordering.{then_cmp};
-ghost use Rattle.policy.specs.Rows.{Rows};
+ghost use Rattle.registry.specs.Rows.{Rows};
 ghost use Rattle.sqlite_value.specs.Order.{Row as Cells};
 ghost use Rattle.store.specs.steps.Queries.{Selects, by_column};
 
 use addr::Span;
-use policy::{Auth, Granted};
+use registry::{Auth, Granted};
 use tables::{Counters, FromRow};
 
 /// A value of a holder, which a row of one table shows.

@@ -1,7 +1,7 @@
 ghost use Rattle.std.specs.Prelude.{◌≡◌, ◌≢◌, ◌↔◌, false, None, Err, OnOk, OnErr, IfOk, IsTrue};
 ghost use Rattle.sqlite.specs.Held.{state};
 ghost use Rattle.sqlite.specs.State.{HasCleanDisk};
-ghost use Rattle.policy.specs.RowsOfAll.{blank_rows, changed_rows};
+ghost use Rattle.registry.specs.RowsOfAll.{blank_rows, changed_rows};
 ghost use Rattle.store.specs.StoreRows.{IsOpened};
 ghost use Rattle.database.specs.Databases.{HasDeskTables, IsUnused, IsNew, LeavesNew};
 ghost use Rattle.database.specs.Databases.{IsHonest, IsOfAnotherSchema};
@@ -15,7 +15,7 @@ use crate::exceptions::load_files;
 use crate::load::{load_rows, load_vrps};
 use addr::{Day, Name, Prefix, Vrp};
 use database::{make_desk, open_desk};
-use policy::{Change, Charter, HolderRows};
+use registry::{Change, Charter, HolderRows};
 use slurm::Slurm;
 use sqlite::{Alter, Connection, MemStore};
 use std::alloc::Global;
@@ -113,8 +113,8 @@ impl<S: Alter + Drop> Store<S> {
 impl<S: Alter> Store<S> {
     ghost use Rattle.std.specs.Prelude.{Option, Contains};
     ghost use Rattle.addr.specs.declared.vrp.Vrp.{Vrp};
-    ghost use Rattle.policy.specs.RowsOfAll.{IsTaken, IsGivenOn};
-    ghost use Rattle.policy.specs.Values.{FitIfAny, ExceptionsFit};
+    ghost use Rattle.registry.specs.RowsOfAll.{IsTaken, IsGivenOn};
+    ghost use Rattle.registry.specs.Values.{FitIfAny, ExceptionsFit};
     ghost use Rattle.store.specs.Loads.{OfHeldRows, AreLoaded, AllGiveOn, AreFilesOf};
     ghost use Rattle.store.specs.StoreRows.{state_of, Holds, IsRead};
     ghost use Rattle.database.specs.Databases.{IsDeskWhileOpen};

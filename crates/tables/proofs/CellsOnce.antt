@@ -11,13 +11,13 @@ use Rattle.addr.specs.declared.family.Family.TheVariants.{V4, V6}
 use Rattle.addr.specs.declared.prefix.Prefix.{Prefix}
 use Rattle.addr.specs.declared.span.Span.{Span}
 use Rattle.addr.proofs.AddressLemmas.{below_widest, first_below}
-use Rattle.policy.specs.declared.authorization.Auth.{Auth}
-use Rattle.policy.specs.declared.grant.Granted.{Granted}
-use Rattle.policy.specs.declared.grant.Role.{Role}
-use Rattle.policy.specs.declared.grant.Role.TheVariants.{Manager, Clerk, Auditor}
-use Rattle.policy.specs.declared.grant.Scope.{Scope}
-use Rattle.policy.specs.declared.grant.Scope.TheVariants.{All, Only}
-use Rattle.policy.specs.Rows.{Rows}
+use Rattle.registry.specs.declared.authorization.Auth.{Auth}
+use Rattle.registry.specs.declared.grant.Granted.{Granted}
+use Rattle.registry.specs.declared.grant.Role.{Role}
+use Rattle.registry.specs.declared.grant.Role.TheVariants.{Manager, Clerk, Auditor}
+use Rattle.registry.specs.declared.grant.Scope.{Scope}
+use Rattle.registry.specs.declared.grant.Scope.TheVariants.{All, Only}
+use Rattle.registry.specs.Rows.{Rows}
 use Rattle.tables.specs.declared.rows.Counters.{Counters}
 use Rattle.tables.specs.Cells.{number_cell, family_number, role_number, address, prefix_cells, scope_cells, span_cells, counter_cells, grant_cells, auth_cells}
 use Rattle.tables.proofs.AddressBytes.{address_once}

@@ -10,9 +10,9 @@ use Rattle.sqlite_value.specs.Order.{Row, column}
 use Rattle.sqlite_value.proofs.OrderLemmas.{value_cmp-apart, value_cmp-Text}
 use Rattle.sqlite_trees.proofs.ListLemmas.{IsPermutation-filter, all-permutation, all-filter, filter-map}
 use Rattle.std.proofs.lemmas.Map.Text.{is_eq-slice_cmp}
-use Rattle.policy.specs.History.{same_name}
-use Rattle.policy.specs.Rows.{Rows}
-use Rattle.policy.proofs.Names.{same_name-same, same_name-true}
+use Rattle.registry.specs.History.{same_name}
+use Rattle.registry.specs.Rows.{Rows}
+use Rattle.registry.proofs.Names.{same_name-same, same_name-true}
 use Rattle.tables.specs.TablesHold.{Part, part_rows, is_name_of, is_text, HoldsPart}
 use Rattle.tables.proofs.TreeRows.{filter_twice}
 use Rattle.tables.proofs.Updating.{changed_if}

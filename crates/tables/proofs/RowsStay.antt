@@ -3,7 +3,7 @@ use Rattle.std.proofs.Common.{◌≡◌, ℕ, List, [], ◌∷◌, map, true, Is
 use Rattle.sqlite_value.specs.Order.{Row}
 use Rattle.sqlite_trees.specs.Tree.{Trees}
 use Rattle.charters.specs.CharterSets.{CharterSets}
-use Rattle.policy.specs.RowsOfAll.{AllRows}
+use Rattle.registry.specs.RowsOfAll.{AllRows}
 use Rattle.tables.specs.Cells.{schema_row, operator_row, prefix_cells}
 use Rattle.tables.specs.Tables.{contents, is_table, IsTree, SameRows}
 use Rattle.tables.specs.TablesHold.{holder_part, holding_part, granted_part, auth_part, HoldsPart, HoldsExceptions, TablesHold}

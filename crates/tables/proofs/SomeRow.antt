@@ -6,7 +6,7 @@ use Rattle.sqlite_value.specs.declared.value.Value.TheVariants.{Null, Int, Real,
 use Rattle.sqlite_value.specs.Order.{Row, column}
 use Rattle.sqlite_rules.specs.Lists.{Has}
 use Rattle.sqlite_rules.proofs.ListLemmas.{all_has, has_filtered, has_kept, has_contained, contains_had}
-use Rattle.policy.specs.Rows.{Rows}
+use Rattle.registry.specs.Rows.{Rows}
 use Rattle.tables.specs.TablesHold.{Part, HoldsPart, part_rows, is_text}
 use Rattle.tables.proofs.PartLemmas.{names, name_of_itself}
 

@@ -9,12 +9,12 @@ use Rattle.addr.specs.declared.family.Family.TheVariants.{V4, V6}
 use Rattle.addr.specs.declared.prefix.Prefix.{Prefix}
 use Rattle.addr.specs.declared.span.Span.{Span}
 use Rattle.addr.specs.declared.vrp.Vrp.{Vrp}
-use Rattle.policy.specs.declared.authorization.Auth.{Auth}
-use Rattle.policy.specs.declared.grant.Granted.{Granted}
-use Rattle.policy.specs.declared.grant.Role.{Role}
-use Rattle.policy.specs.declared.grant.Role.TheVariants.{Manager, Clerk, Auditor}
-use Rattle.policy.specs.declared.grant.Scope.{Scope}
-use Rattle.policy.specs.declared.grant.Scope.TheVariants.{All, Only}
+use Rattle.registry.specs.declared.authorization.Auth.{Auth}
+use Rattle.registry.specs.declared.grant.Granted.{Granted}
+use Rattle.registry.specs.declared.grant.Role.{Role}
+use Rattle.registry.specs.declared.grant.Role.TheVariants.{Manager, Clerk, Auditor}
+use Rattle.registry.specs.declared.grant.Scope.{Scope}
+use Rattle.registry.specs.declared.grant.Scope.TheVariants.{All, Only}
 use Rattle.slurm.specs.declared.filter.Filter.{Filter}
 use Rattle.slurm.specs.declared.filter.Filter.TheVariants.{Under, By, Both}
 use Rattle.tables.specs.declared.exception.Exception.{Exception}

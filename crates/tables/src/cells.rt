@@ -6,7 +6,7 @@ ghost use Rattle.sqlite_value.specs.declared.value.Value.TheVariants.{Text};
 ghost use Rattle.tables.specs.Cells.{address, number_cell, family_number, role_number, prefix_cells, scope_first, scope_cells, holding_row, granted_row, auth_row};
 
 use addr::{Family, Name, Prefix, Span};
-use policy::{Auth, Granted, Role, Scope};
+use registry::{Auth, Granted, Role, Scope};
 use sqlite::types::{ToSql, ValueRef};
 
 /// The bytes of an address, the greatest first.

@@ -4,7 +4,7 @@ ghost use Rattle.std.specs.Bool.{OnTrue, OnFalse};
 ghost use Rattle.addr.specs.Address.{FitsMaxLength};
 ghost use Rattle.addr.specs.Day.{IsDay};
 ghost use Rattle.addr.specs.Name.{is_name};
-ghost use Rattle.policy.specs.Values.{IsU8, IsU32, IsCount, IsNumber, VrpFits};
+ghost use Rattle.registry.specs.Values.{IsU8, IsU32, IsCount, IsNumber, VrpFits};
 ghost use Rattle.sqlite_value.specs.declared.value.Value.TheVariants.{Text, Blob};
 ghost use Rattle.sqlite_value.specs.Order.{column};
 ghost use Rattle.sqlite_value.specs.Value.{owned};
@@ -12,7 +12,7 @@ ghost use Rattle.tables.specs.Cells.{address, number_cell, family_number, role_n
 ghost use Rattle.tables.specs.Decode.{Decodes, first_columns};
 
 use addr::{Asn, Day, Family, Name, Prefix, Span, Vrp};
-use policy::{LAST_NUMBER, Role, Scope};
+use registry::{LAST_NUMBER, Role, Scope};
 use sqlite::Row;
 use sqlite::types::ValueRef;
 

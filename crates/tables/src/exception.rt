@@ -1,7 +1,7 @@
 //! The rows of the table `slurm`: the exceptions of the SLURM file in force.
 ghost use Rattle.std.specs.Prelude.{◌≡◌, ◌↔◌, [], ◌∷◌, codes, IsTrue};
 ghost use Rattle.sqlite.specs.Values.{bound};
-ghost use Rattle.policy.specs.Values.{FilterFits};
+ghost use Rattle.registry.specs.Values.{FilterFits};
 ghost use Rattle.sqlite_value.specs.declared.value.Value.TheVariants.{Text};
 ghost use Rattle.sqlite_value.specs.Value.{owned};
 ghost use Rattle.tables.specs.Cells.{address, number_cell, kind_number, filter_first, filter_cells, assertion_cells, exception_first, exception_cells, exception_row};

@@ -2,7 +2,7 @@
 //! is one of another schema.
 ghost use Rattle.std.specs.Prelude.{◌≡◌, ◌≤◌, ◌↔◌, ℕ, [], ◌∷◌, map, length, ⊤, IsTrue, vec_capacity};
 ghost use Rattle.addr.specs.Name.{is_name};
-ghost use Rattle.policy.specs.Values.{IsCount, AuthFits, GrantFits, VrpFits};
+ghost use Rattle.registry.specs.Values.{IsCount, AuthFits, GrantFits, VrpFits};
 ghost use Rattle.sqlite_value.specs.declared.value.Value.TheVariants.{Text};
 ghost use Rattle.sqlite_value.specs.Order.{Row as Cells};
 ghost use Rattle.tables.specs.Cells.{schema_row, prefix_cells, span_cells, counter_cells, grant_cells, auth_cells, vrp_cells, holder_row};
@@ -13,7 +13,7 @@ use crate::decode::{
     scope_in, span_in, vrp_in,
 };
 use addr::{Name, Prefix, Span, Vrp};
-use policy::{Auth, Granted};
+use registry::{Auth, Granted};
 use sqlite::Row;
 use sqlite::types::ValueRef;
 

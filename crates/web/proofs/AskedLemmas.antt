@@ -2,13 +2,13 @@
 use Rattle.std.proofs.Common.{◌≡◌, ℕ, List, Result, Ok, Err, refl}
 use Rattle.std.specs.Global.{Vec}
 use Rattle.addr.specs.declared.route.Route.{Route}
-use Rattle.policy.specs.declared.authorization.AuthTerms.{AuthTerms}
-use Rattle.policy.specs.declared.command.Command.TheVariants.{Import}
-use Rattle.policy.specs.declared.command.Proposed.{Proposed}
-use Rattle.policy.specs.declared.command.Query.TheVariants.{WhatIf}
-use Rattle.desk.specs.declared.asked.Asked.{Asked}
-use Rattle.desk.specs.declared.asked.Request.{Request}
-use Rattle.desk.specs.declared.asked.Request.TheVariants.{Command as CommandRequest, Query as QueryRequest}
+use Rattle.registry.specs.declared.authorization.AuthTerms.{AuthTerms}
+use Rattle.registry.specs.declared.command.Command.TheVariants.{Import}
+use Rattle.registry.specs.declared.command.Proposed.{Proposed}
+use Rattle.registry.specs.declared.command.Query.TheVariants.{WhatIf}
+use Rattle.registry.specs.declared.asked.Asked.{Asked}
+use Rattle.registry.specs.declared.asked.Request.{Request}
+use Rattle.registry.specs.declared.asked.Request.TheVariants.{Command as CommandRequest, Query as QueryRequest}
 use Rattle.json_values.specs.Parts.{both, mapped}
 use Rattle.web.specs.RequestFaults.{malformed_number}
 use Rattle.web.specs.declared.request.fault.Fault.{Fault}

@@ -6,9 +6,9 @@ use Rattle.std.specs.Prelude.{IfSome}
 use Rattle.std.specs.Result.{OnErr, OnOk}
 use Rattle.sqlite.specs.Store.{Ghosts}
 use Rattle.addr.specs.declared.vrp.Vrp.{Vrp}
-use Rattle.policy.specs.declared.authorization.Auth.{Auth}
-use Rattle.policy.specs.History.{History}
-use Rattle.policy.specs.Verdict.{IsLegal}
+use Rattle.registry.specs.declared.authorization.Auth.{Auth}
+use Rattle.registry.specs.History.{History}
+use Rattle.registry.specs.Verdict.{IsLegal}
 use Rattle.charters.specs.declared.charter.Charter.{Charter}
 use Rattle.http_messages.specs.HeadEnd.{IsWholeHead}
 use Rattle.http_messages.specs.Input.{Gives}
@@ -19,9 +19,9 @@ use Rattle.http_messages.specs.declared.response.ContentType.TheVariants.{Csv}
 use Rattle.http_messages.specs.declared.status.Status.TheVariants.{Done as DoneStatus, Forbidden, ServiceUnavailable}
 use Rattle.desk.specs.Answer.{AnswersRequest, IsAnswered}
 use Rattle.desk.specs.Desk.{charter_of, HoldsHistory, IsOnCleanDisk}
-use Rattle.desk.specs.declared.asked.Asked.{Asked}
-use Rattle.desk.specs.declared.asked.Request.{Request}
-use Rattle.desk.specs.declared.asked.Request.TheVariants.{Command as CommandRequest, Query as QueryRequest}
+use Rattle.registry.specs.declared.asked.Asked.{Asked}
+use Rattle.registry.specs.declared.asked.Request.{Request}
+use Rattle.registry.specs.declared.asked.Request.TheVariants.{Command as CommandRequest, Query as QueryRequest}
 use Rattle.desk.specs.declared.handling.Desk.{Desk}
 use Rattle.desk.specs.declared.reply.Reply.{Reply}
 use Rattle.desk.specs.declared.reply.Reply.TheVariants.{Done, Imported, Listed, Payloads, Denied, Unavailable}

@@ -7,7 +7,7 @@ use Rattle.std.specs.Prelude.{IfOk}
 use Rattle.std.specs.Result.{result_err, result_map_both}
 use Rattle.addr.specs.Name.{name_in}
 use Rattle.serde_json.specs.Data.{Data, null}
-use Rattle.policy.specs.declared.authorization.AuthTerms.{AuthTerms}
+use Rattle.registry.specs.declared.authorization.AuthTerms.{AuthTerms}
 use Rattle.json_values.proofs.FaultLemmas.{told-only}
 use Rattle.json_values.specs.Faults.{fault_unless, lower_of, lowest, name_faults}
 use Rattle.json_values.specs.Parts.{lower, mapped}
@@ -16,7 +16,7 @@ use Rattle.csv_records.proofs.ImportLemmas.{import_in-said, import_in-told}
 use Rattle.csv_records.specs.Imports.{import_fault, IsImport}
 use Rattle.csv_records.specs.declared.imports.ImportFault.{ImportFault}
 use Rattle.csv_records.specs.steps.Importing.{import_in}
-use Rattle.desk.specs.declared.asked.Asked.{Asked}
+use Rattle.registry.specs.declared.asked.Asked.{Asked}
 use Rattle.http_messages.specs.Requests.{Asked as Head}
 use Rattle.http_messages.specs.declared.action.Action.{Action}
 use Rattle.http_messages.specs.declared.action.Action.TheVariants.{Import, Slurm}

@@ -1,9 +1,9 @@
 -- What the code reads of a line is the request that the line is, and its fault the lowest.
 use Rattle.std.proofs.Common.{◌≡◌, ℕ, Bool, true, false, if◌then◌else◌, nat_lt, List, [], ◌∷◌, ◌++◌, map, length, codes, Option, Some, None, option_and_then, Result, Ok, Err, refl, sym, ap, ◌∙◌, append_assoc, inl, inr}
 use Rattle.std.specs.List.{AllZip, flat_map}
-use Rattle.policy.specs.declared.command.Command.TheVariants.{Import}
-use Rattle.policy.specs.declared.command.Proposed.TheVariants.{Create as CreateChange, Withdraw as WithdrawChange}
-use Rattle.policy.specs.declared.command.Query.TheVariants.{Validity}
+use Rattle.registry.specs.declared.command.Command.TheVariants.{Import}
+use Rattle.registry.specs.declared.command.Proposed.TheVariants.{Create as CreateChange, Withdraw as WithdrawChange}
+use Rattle.registry.specs.declared.command.Query.TheVariants.{Validity}
 use Rattle.serde_json.specs.Data.{Data, Items}
 use Rattle.serde_json.specs.Find.{get, as_array, as_str}
 use Rattle.slurm.specs.SlurmEntries.{SaysExceptions}
@@ -11,9 +11,9 @@ use Rattle.json_values.proofs.FaultLemmas.{told-if, told-only}
 use Rattle.json_values.specs.Faults.{required_faults}
 use Rattle.json_values.specs.Parts.{both, mapped}
 use Rattle.json_values.specs.Tree.{tree_of, list_of}
-use Rattle.desk.specs.declared.asked.Asked.{Asked}
-use Rattle.desk.specs.declared.asked.Request.{Request}
-use Rattle.desk.specs.declared.asked.Request.TheVariants.{Command as CommandRequest, Query as QueryRequest}
+use Rattle.registry.specs.declared.asked.Asked.{Asked}
+use Rattle.registry.specs.declared.asked.Request.{Request}
+use Rattle.registry.specs.declared.asked.Request.TheVariants.{Command as CommandRequest, Query as QueryRequest}
 use Rattle.web.specs.RequestFaults.{as_malformed, malformed_number, role_at, terms_members, creation_members, withdrawal_members, route_members, names_of, is_count, object_faults, list_faults, change_faults, rows, changes, routes, file, action_in, action_of, body_members, member_faults, named_by, named_member, Named, HolderName, NumberGiven, Kind, any_value, members_of, action_faults, tree_faults, request_faults, request_fault}
 use Rattle.web.specs.RequestText.{HasName, HasDay, HasTerms, SaysChange, SaysRoute, HasItems, HasRoutes, Heading, Does, NamesHolder, NamesNumber, SaysRequest, line_heading, ReadsLine, SaysRows}
 use Rattle.json_values.specs.Values.{as_name, as_prefix, as_day, as_asn}

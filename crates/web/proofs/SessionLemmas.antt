@@ -1,9 +1,9 @@
 -- A script over a desk is a script over the histories that the desk stands for.
 use Rattle.std.proofs.Common.{◌≡◌, ◌∙◌, ℕ, List, Option, Some, Result, Ok, Err, OnOk, refl, subst, inl, inr}
 use Rattle.sqlite.specs.Store.{Ghosts}
-use Rattle.policy.specs.History.{History}
-use Rattle.policy.specs.Values.{HistoryFits}
-use Rattle.policy.specs.Verdict.{IsLegal}
+use Rattle.registry.specs.History.{History}
+use Rattle.registry.specs.Values.{HistoryFits}
+use Rattle.registry.specs.Verdict.{IsLegal}
 use Rattle.charters.specs.declared.charter.Charter.{Charter}
 use Rattle.desk.specs.Answer.{IsAnswered}
 use Rattle.desk.specs.Desk.{charter_of, HoldsHistory, IsOnCleanDisk, StandsFor}
@@ -11,7 +11,7 @@ use Rattle.web.specs.ReplyText.{line_text}
 use Rattle.web.specs.RequestText.{ReadsLine}
 use Rattle.web.specs.Script.{AnswersEach, BreaksOff}
 use Rattle.web.specs.ScriptAnswer.{AnswersLine, AnswersLineAt, AnswersLines, BreaksOffLines, IsLaterDesk}
-use Rattle.desk.specs.declared.asked.Asked.{Asked}
+use Rattle.registry.specs.declared.asked.Asked.{Asked}
 use Rattle.desk.specs.declared.handling.Desk.{Desk}
 use Rattle.desk.specs.declared.reply.Reply.{Reply}
 use Rattle.web.specs.declared.script.ScriptFault.{ScriptFault}

@@ -3,7 +3,7 @@ use Rattle.std.specs.Prelude.{◌≡◌, ◌⊎◌, ℕ, List}
 use Rattle.sqlite.specs.Store.{Ghosts}
 use Rattle.desk.specs.Answer.{AnswersRequest}
 use Rattle.desk.specs.Desk.{charter_of}
-use Rattle.desk.specs.declared.asked.Asked.{Asked}
+use Rattle.registry.specs.declared.asked.Asked.{Asked}
 use Rattle.desk.specs.declared.handling.Desk.{Desk}
 use Rattle.desk.specs.declared.reply.Reply.{Reply}
 use Rattle.web.specs.HttpRequests.{asked, HttpRequest, IsWithinMessage, malformed, ReadsHttp, refused}

@@ -5,7 +5,7 @@ use Rattle.std.specs.List.{flat_map}
 use Rattle.std.specs.Option.{option_to_list}
 use Rattle.addr.specs.Digits.{number_in as number_text}
 use Rattle.addr.specs.Name.{name_in}
-use Rattle.policy.specs.declared.admission.TheConstants.{LAST_NUMBER}
+use Rattle.registry.specs.declared.limits.TheConstants.{LAST_NUMBER}
 use Rattle.serde_json.specs.Data.{Data, null}
 use Rattle.json_values.specs.Faults.{fault_unless}
 use Rattle.json_values.specs.Tree.{tree_of}

@@ -12,7 +12,7 @@ use Rattle.http_messages.specs.declared.head.TheConstants.{HEAD_LIMIT}
 use Rattle.http_messages.specs.declared.refusal.Refusal.{Refusal}
 use Rattle.http_messages.specs.declared.refusal.Refusal.TheVariants.{BadRequest}
 use Rattle.http_messages.specs.declared.response.ContentType.{ContentType}
-use Rattle.desk.specs.declared.asked.Asked.{Asked}
+use Rattle.registry.specs.declared.asked.Asked.{Asked}
 use Rattle.web.specs.HttpFaults.{body_bytes, caller_name, http_fault, http_faults, json_tree, path_number}
 use Rattle.web.specs.HttpResponses.{list_form}
 use Rattle.web.specs.RequestText.{Heading, in_text, SaysRequest}

@@ -3,21 +3,21 @@ use Rattle.std.specs.Prelude.{◌≡◌, ◌⊎◌, ℕ, List, [], codes, Option
 use Rattle.std.specs.List.{AllZip}
 use Rattle.addr.specs.declared.prefix.Prefix.{Prefix}
 use Rattle.addr.specs.declared.route.Route.{Route}
-use Rattle.policy.specs.declared.authorization.AuthTerms.{AuthTerms}
-use Rattle.policy.specs.declared.command.Command.{Command}
-use Rattle.policy.specs.declared.command.Command.TheVariants.{Register, Delegate, Transfer, Reclaim, Grant, Revoke, Create, Amend, Withdraw, Import, Slurm}
-use Rattle.policy.specs.declared.command.Proposed.{Proposed}
-use Rattle.policy.specs.declared.command.Proposed.TheVariants.{Create as CreateChange, Withdraw as WithdrawChange}
-use Rattle.policy.specs.declared.command.Query.{Query}
-use Rattle.policy.specs.declared.command.Query.TheVariants.{Show, Content, List as ListQuery, Payloads, Validity, WhatIf}
+use Rattle.registry.specs.declared.authorization.AuthTerms.{AuthTerms}
+use Rattle.registry.specs.declared.command.Command.{Command}
+use Rattle.registry.specs.declared.command.Command.TheVariants.{Register, Delegate, Transfer, Reclaim, Grant, Revoke, Create, Amend, Withdraw, Import, Slurm}
+use Rattle.registry.specs.declared.command.Proposed.{Proposed}
+use Rattle.registry.specs.declared.command.Proposed.TheVariants.{Create as CreateChange, Withdraw as WithdrawChange}
+use Rattle.registry.specs.declared.command.Query.{Query}
+use Rattle.registry.specs.declared.command.Query.TheVariants.{Show, Content, List as ListQuery, Payloads, Validity, WhatIf}
 use Rattle.serde_json.specs.Data.{Data, Items}
 use Rattle.serde_json.specs.Find.{get, as_array}
 use Rattle.json_values.specs.Tree.{tree_of, list_of}
 use Rattle.slurm.specs.SlurmEntries.{SaysExceptions}
 use Rattle.csv_records.specs.Imports.{IsImport}
-use Rattle.desk.specs.declared.asked.Asked.{Asked}
-use Rattle.desk.specs.declared.asked.Request.{Request}
-use Rattle.desk.specs.declared.asked.Request.TheVariants.{Command as CommandRequest, Query as QueryRequest}
+use Rattle.registry.specs.declared.asked.Asked.{Asked}
+use Rattle.registry.specs.declared.asked.Request.{Request}
+use Rattle.registry.specs.declared.asked.Request.TheVariants.{Command as CommandRequest, Query as QueryRequest}
 use Rattle.web.specs.RequestFaults.{action_in, request_faults, role_at}
 use Rattle.json_values.specs.Values.{as_name, as_prefix, as_day, as_asn}
 use Rattle.web.specs.RequestValues.{as_origin, as_max, as_number, as_role, as_scope}

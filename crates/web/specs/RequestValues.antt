@@ -4,14 +4,14 @@ use Rattle.std.specs.Str.{bytes_eq}
 use Rattle.addr.specs.PrefixText.{spelled_prefix}
 use Rattle.addr.specs.declared.route.Origin.{Origin}
 use Rattle.addr.specs.declared.route.Origin.TheVariants.{As, None as NoOrigin}
-use Rattle.policy.specs.declared.grant.Role.{Role}
-use Rattle.policy.specs.declared.grant.Role.TheVariants.{Manager, Clerk, Auditor}
-use Rattle.policy.specs.declared.grant.Scope.{Scope}
-use Rattle.policy.specs.declared.grant.Scope.TheVariants.{All, Only}
+use Rattle.registry.specs.declared.grant.Role.{Role}
+use Rattle.registry.specs.declared.grant.Role.TheVariants.{Manager, Clerk, Auditor}
+use Rattle.registry.specs.declared.grant.Scope.{Scope}
+use Rattle.registry.specs.declared.grant.Scope.TheVariants.{All, Only}
 use Rattle.serde_json.specs.Data.{Data, null, boolean, number, string, array, object}
 use Rattle.serde_json.specs.Find.{as_str}
 use Rattle.json_values.specs.Values.{as_asn, as_number_in}
-use Rattle.policy.specs.declared.admission.TheConstants.{LAST_NUMBER}
+use Rattle.registry.specs.declared.limits.TheConstants.{LAST_NUMBER}
 use Rattle.web.specs.declared.request.members.TheConstants.{GREATEST_MAX}
 
 -- null, or an AS number

@@ -3,8 +3,8 @@
 -- has the text of Unavailable and stands in no history.
 use Rattle.std.specs.Prelude.{◌≡◌, ℕ, List, Option, Some, None, ◌⊎◌}
 use Rattle.sqlite.specs.Store.{Ghosts}
-use Rattle.policy.specs.History.{History}
-use Rattle.policy.specs.Values.{HistoryFits}
+use Rattle.registry.specs.History.{History}
+use Rattle.registry.specs.Values.{HistoryFits}
 use Rattle.charters.specs.declared.charter.Charter.{Charter}
 use Rattle.desk.specs.Answer.{AnswersRequest}
 use Rattle.desk.specs.Desk.{charter_of, IsOnCleanDisk, StandsFor}
@@ -12,7 +12,7 @@ use Rattle.web.specs.ReplyText.{line_text, malformed_text, unavailable_text}
 use Rattle.web.specs.RequestFaults.{as_malformed, request_fault}
 use Rattle.web.specs.RequestText.{ReadsLine}
 use Rattle.web.specs.Script.{AnswersEach, BreaksOff}
-use Rattle.desk.specs.declared.asked.Asked.{Asked}
+use Rattle.registry.specs.declared.asked.Asked.{Asked}
 use Rattle.desk.specs.declared.handling.Desk.{Desk}
 use Rattle.desk.specs.declared.reply.Reply.{Reply}
 use Rattle.web.specs.declared.malformed.Malformed.{Malformed}

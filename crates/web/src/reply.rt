@@ -11,7 +11,7 @@ use arrayvec::ArrayString;
 use desk::Reply;
 use items::ItemText;
 use list::write_list;
-use policy::{Auth, Rule};
+use registry::{Auth, Rule};
 use streams::{Drain, Failed, write_all};
 
 /// Writes the reply's text, with its line feed.

@@ -25,7 +25,7 @@ use fault::Fault;
 use http_messages::Action;
 use json_values::{both, tree_of, unless};
 use members::{caller_in, day_in, holder_in, number_in};
-use policy::Query;
+use registry::Query;
 use serde_json::Value;
 use std::alloc::{AllocError, Global};
 

@@ -6,7 +6,7 @@ use Rattle.addr.specs.Day.{day_in}
 use Rattle.addr.specs.PrefixText.{spelled_prefix}
 use Rattle.addr.specs.declared.asn.Asn.{Asn}
 use Rattle.addr.specs.declared.prefix.Prefix.{Prefix}
-use Rattle.policy.specs.declared.authorization.AuthTerms.{AuthTerms}
+use Rattle.registry.specs.declared.authorization.AuthTerms.{AuthTerms}
 use Rattle.json_values.specs.Parts.{and_then, both, each, mapped}
 use Rattle.csv_records.specs.CsvRecords.{csv_records}
 use Rattle.csv_records.specs.Fields.{Fields, rows_after}

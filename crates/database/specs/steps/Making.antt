@@ -5,7 +5,7 @@ use Rattle.sqlite.specs.State.{State}
 use Rattle.sqlite_schema.specs.declared.schema.Schema.{Schema}
 use Rattle.sqlite_value.specs.Order.{Row}
 use Rattle.charters.specs.CharterSets.{CharterSets}
-use Rattle.policy.specs.RowsOfAll.{blank_rows}
+use Rattle.registry.specs.RowsOfAll.{blank_rows}
 use Rattle.tables.specs.Tables.{desk_tables, desk_indexes, desk_schema, unindexed_schema, SameRows}
 use Rattle.tables.specs.steps.Edits.{Edits}
 use Rattle.tables.specs.TablesHold.{TablesHold}

@@ -1,10 +1,10 @@
 -- What is replied to an accepted command, before its change is made.
 use Rattle.std.specs.Prelude.{ℕ, List}
-use Rattle.policy.specs.Answer.{IsAccepted}
-use Rattle.policy.specs.History.{History}
-use Rattle.policy.specs.declared.change.Change.{Change}
+use Rattle.registry.specs.Answer.{IsAccepted}
+use Rattle.registry.specs.History.{History}
+use Rattle.registry.specs.declared.change.Change.{Change}
 use Rattle.charters.specs.declared.charter.Charter.{Charter}
-use Rattle.policy.specs.declared.command.Command.{Command}
+use Rattle.registry.specs.declared.command.Command.{Command}
 use Rattle.desk.specs.Answer.{AnswersCommand}
 use Rattle.desk.specs.declared.reply.Reply.{Reply}
 

@@ -1,7 +1,7 @@
 -- Steps of reading: what is found holds of the histories whose rows the tables held.
 use Rattle.sqlite.specs.Store.{Ghosts}
-use Rattle.policy.specs.History.{History}
-use Rattle.policy.specs.Verdict.{IsLegal}
+use Rattle.registry.specs.History.{History}
+use Rattle.registry.specs.Verdict.{IsLegal}
 use Rattle.desk.specs.Desk.{charter_of, HoldsHistory, IsOnCleanDisk}
 use Rattle.desk.specs.declared.handling.Desk.{Desk}
 

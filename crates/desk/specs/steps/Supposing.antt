@@ -2,15 +2,15 @@
 use Rattle.std.specs.Prelude.{◌≡◌, ℕ, ◌≤◌, List, [], Option, Some, None, ◌↔◌, ◌⊎◌, Contains}
 use Rattle.addr.specs.declared.vrp.Vrp.{Vrp}
 use Rattle.slurm.specs.Exceptions.{Exceptions}
-use Rattle.policy.specs.DailyVrps.{IsVrpInForce}
-use Rattle.policy.specs.ExceptionsInForce.{exceptions_in_force}
-use Rattle.policy.specs.History.{History}
-use Rattle.policy.specs.HypotheticalHistory.{HypotheticalHistory}
-use Rattle.policy.specs.Rows.{Rows}
-use Rattle.policy.specs.Terms.{IsVrpOf}
-use Rattle.policy.specs.declared.authorization.Auth.{Auth}
+use Rattle.registry.specs.DailyVrps.{IsVrpInForce}
+use Rattle.registry.specs.ExceptionsInForce.{exceptions_in_force}
+use Rattle.registry.specs.History.{History}
+use Rattle.registry.specs.HypotheticalHistory.{HypotheticalHistory}
+use Rattle.registry.specs.Rows.{Rows}
+use Rattle.registry.specs.Terms.{IsVrpOf}
+use Rattle.registry.specs.declared.authorization.Auth.{Auth}
 use Rattle.charters.specs.declared.charter.Charter.{Charter}
-use Rattle.policy.specs.declared.command.Proposed.{Proposed}
+use Rattle.registry.specs.declared.command.Proposed.{Proposed}
 use Rattle.store.specs.Loads.{AreFilesOf}
 
 -- the authorizations of rows; none where there are no rows

@@ -1,6 +1,6 @@
 ghost use Rattle.std.specs.Prelude.{◌≡◌, true, false, option_copied, IfOk, IfErr, MatchResult};
-ghost use Rattle.policy.specs.Answer.{IsAccepted, IsViewOf, RowsOfNamed, TellsTaken};
-ghost use Rattle.policy.specs.Rows.{rows_if_any, RowsIfAny};
+ghost use Rattle.registry.specs.Answer.{IsAccepted, IsViewOf, RowsOfNamed, TellsTaken};
+ghost use Rattle.registry.specs.Rows.{rows_if_any, RowsIfAny};
 ghost use Rattle.store.specs.StoreRows.{IsRead};
 ghost use Rattle.desk.specs.Answer.{is_accepted, AnswersCommand, IsAnswered};
 ghost use Rattle.desk.specs.Desk.{charter_of, IsOnCleanDisk, KeepsRows};
@@ -11,7 +11,7 @@ ghost use Rattle.desk.specs.steps.Reading.{OfHistories};
 use super::Desk;
 use crate::{Reply, Request};
 use addr::{Day, Name};
-use policy::{Change, Command, HolderRows, View};
+use registry::{Change, Command, HolderRows, View};
 use sqlite::Alter;
 use store::StoreFault;
 
@@ -46,7 +46,7 @@ impl<S: Alter> Desk<S> {
             KeepsOthers S.Store (may_change (Request.Command command.now))
             (may_except (Request.Command command.now)) self.old self.new) }
     {
-        policy::laws::entry_fits(day, caller, command);
+        registry::laws::entry_fits(day, caller, command);
         histories::laws::growth_is_legal();
         histories::laws::growth_fits();
         let change = match self.decide(day, caller, command) {

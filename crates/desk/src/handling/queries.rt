@@ -1,7 +1,7 @@
 ghost use Rattle.std.specs.Prelude.{◌≡◌, ◌↔◌, Contains, false, IfOk};
 ghost use Rattle.addr.specs.declared.vrp.Vrp.{Vrp};
 ghost use Rattle.payload.specs.VrpSet as set;
-ghost use Rattle.policy.specs.DailyVrps.{IsVrpOn};
+ghost use Rattle.registry.specs.DailyVrps.{IsVrpOn};
 ghost use Rattle.store.specs.StoreRows.{IsRead};
 ghost use Rattle.desk.specs.Answer.{is_accepted, AnswersQuery, AnswersShow, AnswersContent, AnswersList, AnswersPayloads, AnswersValidity};
 ghost use Rattle.desk.specs.Desk.{charter_of};
@@ -15,7 +15,7 @@ use crate::exceptions::excepted;
 use crate::gathering::{gather, judge};
 use addr::{Day, Name, Route, Vrp};
 use payload::Trie;
-use policy::{Query, Refusal};
+use registry::{Query, Refusal};
 use slurm::Slurm;
 use sqlite::Alter;
 use store::StoreFault;

@@ -1,7 +1,7 @@
 ghost use Rattle.std.specs.Prelude.{◌≡◌, false, IfErr, IfOk, List, MatchResult};
 ghost use Rattle.addr.specs.declared.route.Route.{Route};
 ghost use Rattle.payload.specs.VrpSet as set;
-ghost use Rattle.policy.specs.History.{History};
+ghost use Rattle.registry.specs.History.{History};
 ghost use Rattle.store.specs.StoreRows.{IsRead};
 ghost use Rattle.desk.specs.Answer.{is_accepted, states_now, states_after, AnswersWhatIf, AreStatesOn};
 ghost use Rattle.desk.specs.Desk.{charter_of};
@@ -15,7 +15,7 @@ use crate::exchange::Exchange;
 use crate::gathering::compare;
 use addr::{Day, Name, Route};
 use payload::Validity;
-use policy::{Proposed, View};
+use registry::{Proposed, View};
 use sqlite::Alter;
 use store::StoreFault;
 

@@ -1,15 +1,15 @@
 -- What an authorization is that a create of these terms makes.
 use Rattle.std.specs.Prelude.{◌≡◌, ℕ, ◌+◌, List, ◌∷◌, None}
-use Rattle.policy.specs.declared.authorization.Auth.{Auth}
-use Rattle.policy.specs.declared.authorization.AuthTerms.{AuthTerms}
-use Rattle.policy.specs.declared.change.Change.TheVariants.{Holders}
-use Rattle.policy.specs.declared.change.Edit.TheVariants.{Create as CreateEdit}
+use Rattle.registry.specs.declared.authorization.Auth.{Auth}
+use Rattle.registry.specs.declared.authorization.AuthTerms.{AuthTerms}
+use Rattle.registry.specs.declared.change.Change.TheVariants.{Holders}
+use Rattle.registry.specs.declared.change.Edit.TheVariants.{Create as CreateEdit}
 use Rattle.charters.specs.declared.charter.Charter.{Charter}
-use Rattle.policy.specs.History.{History}
-use Rattle.policy.specs.Import.{creation}
-use Rattle.policy.specs.Rows.{Carries}
-use Rattle.policy.specs.Terms.{authorizations_made}
-use Rattle.policy.specs.Verdict.{Verdict}
+use Rattle.registry.specs.History.{History}
+use Rattle.registry.specs.Import.{creation}
+use Rattle.registry.specs.Rows.{Carries}
+use Rattle.registry.specs.Terms.{authorizations_made}
+use Rattle.registry.specs.Verdict.{Verdict}
 
 -- all rules of the create hold, the authorization has the next number, and with it come the rows of the history
 -- with the create

@@ -3,8 +3,8 @@ use Rattle.std.specs.Prelude.{◌≡◌, ℕ, List}
 use Rattle.std.specs.Global.{Vec}
 use Rattle.addr.specs.Spans.{without_runs, AreMaximal}
 use Rattle.addr.specs.declared.span.Span.{Span}
-use Rattle.policy.specs.declared.change.Edit.{Edit}
-use Rattle.policy.specs.declared.change.Edit.TheVariants.{Hold}
+use Rattle.registry.specs.declared.change.Edit.{Edit}
+use Rattle.registry.specs.declared.change.Edit.TheVariants.{Hold}
 
 -- the edit takes away the maximal runs that are none of those after it, puts those that were none before,
 -- and ends these authorizations

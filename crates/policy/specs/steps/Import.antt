@@ -1,19 +1,19 @@
 -- What the rows of an import make, and the edit of all of them.
 use Rattle.std.specs.Prelude.{◌≡◌, ℕ, ◌+◌, List, [], ◌∷◌, ◌++◌, length, None, ◌⊎◌, Result, Ok, Err, IsSomeAnd}
 use Rattle.std.specs.Global.{Vec}
-use Rattle.policy.specs.declared.authorization.Auth.{Auth}
-use Rattle.policy.specs.declared.authorization.AuthTerms.{AuthTerms}
-use Rattle.policy.specs.declared.change.Change.TheVariants.{Holders}
-use Rattle.policy.specs.declared.change.Edit.{Edit}
-use Rattle.policy.specs.declared.change.Edit.TheVariants.{Create as CreateEdit}
+use Rattle.registry.specs.declared.authorization.Auth.{Auth}
+use Rattle.registry.specs.declared.authorization.AuthTerms.{AuthTerms}
+use Rattle.registry.specs.declared.change.Change.TheVariants.{Holders}
+use Rattle.registry.specs.declared.change.Edit.{Edit}
+use Rattle.registry.specs.declared.change.Edit.TheVariants.{Create as CreateEdit}
 use Rattle.charters.specs.declared.charter.Charter.{Charter}
-use Rattle.policy.specs.declared.rule.Refusal.{Refusal}
-use Rattle.policy.specs.declared.rule.Refusal.TheVariants.{Denied, Memory}
-use Rattle.policy.specs.Answer.{edit_imported, PutsNoneBack}
-use Rattle.policy.specs.History.{History}
-use Rattle.policy.specs.Import.{IsPresent, ImportGrows, IsImportDenied}
-use Rattle.policy.specs.Rows.{Rows, edited, Carries}
-use Rattle.policy.specs.Terms.{authorizations_made}
+use Rattle.registry.specs.declared.rule.Refusal.{Refusal}
+use Rattle.registry.specs.declared.rule.Refusal.TheVariants.{Denied, Memory}
+use Rattle.registry.specs.Answer.{edit_imported, PutsNoneBack}
+use Rattle.registry.specs.History.{History}
+use Rattle.registry.specs.Import.{IsPresent, ImportGrows, IsImportDenied}
+use Rattle.registry.specs.Rows.{Rows, edited, Carries}
+use Rattle.registry.specs.Terms.{authorizations_made}
 use Rattle.policy.specs.steps.Creation.{IsCreated}
 
 -- a row is already authorized and nothing changes

@@ -1,8 +1,8 @@
 -- A part of a request of several parts, judged by itself.
 use Rattle.std.specs.Prelude.{ℕ, Some, Result, Ok, Err}
-use Rattle.policy.specs.declared.rule.Refusal.{Refusal}
-use Rattle.policy.specs.declared.rule.Refusal.TheVariants.{Denied, Memory}
-use Rattle.policy.specs.declared.rule.Rule.{Rule}
+use Rattle.registry.specs.declared.rule.Refusal.{Refusal}
+use Rattle.registry.specs.declared.rule.Refusal.TheVariants.{Denied, Memory}
+use Rattle.registry.specs.declared.rule.Rule.{Rule}
 
 -- of the rule that denies the part this fact holds; where memory was refused, nothing is said
 abbrev pub IsRefusedBy : (Rule → Type 0) → Refusal → Type 0

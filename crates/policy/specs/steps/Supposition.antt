@@ -1,11 +1,11 @@
 -- What one supposed change does.
 use Rattle.std.specs.Prelude.{ℕ, List, ◌∷◌, Some, None}
 use Rattle.charters.specs.declared.charter.Charter.{Charter}
-use Rattle.policy.specs.declared.command.Proposed.{Proposed}
-use Rattle.policy.specs.History.{History}
-use Rattle.policy.specs.HypotheticalHistory.{proposed_command}
-use Rattle.policy.specs.Rows.{Rows, RowsIfAny}
-use Rattle.policy.specs.Verdict.{Verdict}
+use Rattle.registry.specs.declared.command.Proposed.{Proposed}
+use Rattle.registry.specs.History.{History}
+use Rattle.registry.specs.HypotheticalHistory.{proposed_command}
+use Rattle.registry.specs.Rows.{Rows, RowsIfAny}
+use Rattle.registry.specs.Verdict.{Verdict}
 
 -- no rule denies it, and the rows are those of the history with it
 pub record IsSupposedOne (charter : Charter) (history : History) (holder : List ℕ) (day : ℕ)

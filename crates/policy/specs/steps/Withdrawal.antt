@@ -1,12 +1,12 @@
 -- What it is that an authorization is withdrawn.
 use Rattle.std.specs.Prelude.{ℕ, List, ◌∷◌, None}
-use Rattle.policy.specs.declared.change.Change.TheVariants.{Holders}
-use Rattle.policy.specs.declared.change.Edit.TheVariants.{Withdraw as WithdrawEdit}
+use Rattle.registry.specs.declared.change.Change.TheVariants.{Holders}
+use Rattle.registry.specs.declared.change.Edit.TheVariants.{Withdraw as WithdrawEdit}
 use Rattle.charters.specs.declared.charter.Charter.{Charter}
-use Rattle.policy.specs.declared.command.Command.TheVariants.{Withdraw}
-use Rattle.policy.specs.History.{History}
-use Rattle.policy.specs.Rows.{Carries}
-use Rattle.policy.specs.Verdict.{Verdict}
+use Rattle.registry.specs.declared.command.Command.TheVariants.{Withdraw}
+use Rattle.registry.specs.History.{History}
+use Rattle.registry.specs.Rows.{Carries}
+use Rattle.registry.specs.Verdict.{Verdict}
 
 -- all rules of the withdrawal hold, and with the authorization gone the rows are those of the history with the
 -- withdrawal

@@ -1,20 +1,21 @@
 // Imports: each row is judged on the rows that those before it left.
 ghost use Rattle.std.specs.Prelude.{◌≡◌, ℕ, List, Some, Err, option_copied};
 ghost use Rattle.std.specs.Global.{Vec};
-ghost use Rattle.policy.specs.declared.authorization.AuthTerms.{AuthTerms as AuthTermsValue};
+ghost use Rattle.registry.specs.declared.authorization.AuthTerms.{AuthTerms as AuthTermsValue};
 ghost use Rattle.charters.specs.declared.charter.Charter.{Charter as CharterValue};
-ghost use Rattle.policy.specs.declared.command.Command.{Command};
-ghost use Rattle.policy.specs.History.{History};
-ghost use Rattle.policy.specs.Import.{JudgesRow};
-ghost use Rattle.policy.specs.Verdict.{IsLegal};
-ghost use Rattle.policy.specs.Rows.{rows_of, rows_if_any, RowsIfAny};
-ghost use Rattle.policy.specs.Answer.{IsAnswer};
+ghost use Rattle.registry.specs.declared.command.Command.{Command};
+ghost use Rattle.registry.specs.History.{History};
+ghost use Rattle.registry.specs.Import.{JudgesRow};
+ghost use Rattle.registry.specs.Verdict.{IsLegal};
+ghost use Rattle.registry.specs.Rows.{rows_of, rows_if_any, RowsIfAny};
+ghost use Rattle.registry.specs.Answer.{IsAnswer};
 ghost use Rattle.policy.specs.steps.Import.{AnswersImport, IsRowDone};
 ghost use Rattle.policy.specs.steps.Part.{Judged};
 
 use super::{Basis, Holder, change_of};
 use crate::admission::is_present;
 use crate::creation::create;
+use crate::part::refusal_at;
 use crate::{Auth, AuthTerms, Change, Edit, HolderRows, Refusal, Rule};
 use addr::{Day, Name};
 use std::alloc::Global;
@@ -62,7 +63,7 @@ fn import_rows(
         place += 1;
         let done = import_row(&mut rows, &mut auths, day, caller, terms);
         if let Err(refusal) = done {
-            return Err(refusal.at(place));
+            return Err(refusal_at(refusal, place));
         }
     }
     Ok(Edit::Import {

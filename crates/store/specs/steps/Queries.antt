@@ -17,9 +17,9 @@ use Rattle.sqlite_sql.specs.Ops.{binary, is_true}
 use Rattle.addr.specs.Spans.{span_meets}
 use Rattle.addr.specs.declared.prefix.Prefix.{Prefix}
 use Rattle.charters.specs.CharterSets.{CharterSets}
-use Rattle.policy.specs.declared.authorization.Auth.{Auth}
-use Rattle.policy.specs.Rows.{Rows}
-use Rattle.policy.specs.RowsOfAll.{AllRows}
+use Rattle.registry.specs.declared.authorization.Auth.{Auth}
+use Rattle.registry.specs.Rows.{Rows}
+use Rattle.registry.specs.RowsOfAll.{AllRows}
 use Rattle.slurm.specs.Exceptions.{Exceptions}
 use Rattle.tables.specs.Cells.{number_cell, prefix_cells}
 use Rattle.tables.specs.Decode.{first_columns}

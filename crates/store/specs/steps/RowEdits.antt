@@ -3,11 +3,11 @@ use Rattle.std.specs.Prelude.{ℕ, Bool, true, false, ◌==◌, not, List, [], �
 use Rattle.std.specs.List.{list_any}
 use Rattle.addr.specs.Spans.{without_runs}
 use Rattle.addr.specs.declared.span.Span.{Span}
-use Rattle.policy.specs.declared.authorization.Auth.{Auth}
-use Rattle.policy.specs.declared.grant.Granted.{Granted}
-use Rattle.policy.specs.declared.change.Edit.{Edit}
-use Rattle.policy.specs.declared.change.Edit.TheVariants.{Register}
-use Rattle.policy.specs.Rows.{Rows}
+use Rattle.registry.specs.declared.authorization.Auth.{Auth}
+use Rattle.registry.specs.declared.grant.Granted.{Granted}
+use Rattle.registry.specs.declared.change.Edit.{Edit}
+use Rattle.registry.specs.declared.change.Edit.TheVariants.{Register}
+use Rattle.registry.specs.Rows.{Rows}
 
 abbrev pub with_holdings : List Span → Rows → Rows
 with_holdings spans r = record r { holdings = r.holdings ++ spans }

@@ -7,9 +7,9 @@ use Rattle.sqlite.specs.Store.{Ghosts}
 use Rattle.sqlite_trees.specs.Tree.{Trees}
 use Rattle.sqlite_value.specs.Order.{Row}
 use Rattle.charters.specs.CharterSets.{CharterSets}
-use Rattle.policy.specs.History.{same_name}
-use Rattle.policy.specs.Rows.{Rows, new_rows}
-use Rattle.policy.specs.RowsOfAll.{AllRows}
+use Rattle.registry.specs.History.{same_name}
+use Rattle.registry.specs.Rows.{Rows, new_rows}
+use Rattle.registry.specs.RowsOfAll.{AllRows}
 use Rattle.store.specs.StoreRows.{RowChange}
 use Rattle.tables.specs.Cells.{exception_row}
 use Rattle.tables.specs.Tables.{desk_tables, IsTree}

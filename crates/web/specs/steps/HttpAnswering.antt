@@ -2,7 +2,7 @@
 use Rattle.std.specs.Prelude.{◌≡◌, ◌⊎◌, ℕ, List, None}
 use Rattle.sqlite.specs.Store.{Ghosts}
 use Rattle.http_messages.specs.declared.response.ContentType.{ContentType}
-use Rattle.desk.specs.declared.asked.Asked.{Asked}
+use Rattle.registry.specs.declared.asked.Asked.{Asked}
 use Rattle.desk.specs.declared.handling.Desk.{Desk}
 use Rattle.desk.specs.declared.reply.Reply.{Reply}
 use Rattle.web.specs.HttpAnswers.{RepliesAt}

@@ -6,7 +6,7 @@ use Rattle.addr.specs.Name.{name_in}
 use Rattle.serde_json.specs.Data.{Data, null}
 use Rattle.json_values.specs.Parts.{both, mapped, unless}
 use Rattle.json_values.specs.Tree.{only, tree_of}
-use Rattle.policy.specs.declared.authorization.AuthTerms.{AuthTerms}
+use Rattle.registry.specs.declared.authorization.AuthTerms.{AuthTerms}
 use Rattle.csv_records.specs.steps.Importing.{import_in}
 use Rattle.http_messages.specs.Requests.{Asked as Head}
 use Rattle.http_messages.specs.declared.action.Action.{Action}

@@ -7,7 +7,7 @@ ghost use Rattle.web.specs.ReplyText.{auth_text, quoted_state, states_text, term
 use addr::{Asn, Day, Prefix, Vrp, digits};
 use arrayvec::ArrayString;
 use payload::Validity;
-use policy::Auth;
+use registry::Auth;
 
 pub(super) trait ItemText {
     ghost text: { Self → List ℕ };

@@ -13,7 +13,7 @@ use addr::{Day, Name, Prefix};
 use desk::Request;
 use http_messages::Action;
 use json_values::both;
-use policy::{Command, Query, Role, Scope};
+use registry::{Command, Query, Role, Scope};
 use serde_json::Value;
 
 /// The holder and the number that a request names. Where it names none, the fault counts for nothing.

@@ -6,7 +6,7 @@ ghost use Rattle.web.specs.steps.RequestReading.{as_file, file_in, request_terms
 
 use super::fault::Fault;
 use desk::Request;
-use policy::Command;
+use registry::Command;
 use serde_json::Value;
 use slurm::{Slurm, SlurmFault};
 use std::alloc::{AllocError, Global};

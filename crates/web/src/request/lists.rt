@@ -12,7 +12,7 @@ use addr::{Name, Origin, Prefix, Route};
 use desk::Request;
 use http_messages::Action;
 use json_values::{FromJson, both, each, only, unless};
-use policy::{AuthTerms, Command, Proposed, Query};
+use registry::{AuthTerms, Command, Proposed, Query};
 use serde_json::Value;
 use std::alloc::{AllocError, Global};
 

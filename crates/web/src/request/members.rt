@@ -9,7 +9,7 @@ ghost use Rattle.web.specs.steps.RequestReading.{caller_in, day_in, holder_in, m
 use super::fault::Fault;
 use addr::{Asn, Day, Name, Origin, Prefix};
 use json_values::{as_asn, as_day, as_name, as_number_in, as_prefix, both, member};
-use policy::{AuthTerms, LAST_NUMBER, Role, Scope};
+use registry::{AuthTerms, LAST_NUMBER, Role, Scope};
 use serde_json::Value;
 
 /// The greatest `max` that a line may have: whether the prefix takes it is no question of the line.

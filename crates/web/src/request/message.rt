@@ -21,7 +21,7 @@ use csv_records::read_import;
 use desk::{Asked, Request};
 use http_messages::{Action, Request as Head};
 use json_values::{both, tree_of, unless};
-use policy::{AuthTerms, LAST_NUMBER};
+use registry::{AuthTerms, LAST_NUMBER};
 use serde_json::Value;
 use slurm::SlurmFault;
 use std::alloc::{AllocError, Global};

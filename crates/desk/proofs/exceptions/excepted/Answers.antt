@@ -1,7 +1,7 @@
 use Rattle.std.specs.Prelude.{Contains}
 use Rattle.std.proofs.lemmas.Result.{IfOk-weaker}
 use Rattle.addr.specs.declared.vrp.Vrp.{Vrp}
-use Rattle.policy.specs.DailyVrps.{IsAfterExceptions}
+use Rattle.registry.specs.DailyVrps.{IsAfterExceptions}
 use Rattle.desk.proofs.ExportLemmas.{items_such}
 use Rattle.desk.proofs.exceptions.excepted.Goals as goal
 

@@ -1,9 +1,9 @@
 use Rattle.std.proofs.Common.{◌≡◌, true, refl, sym, ◌∙◌, ap}
 use Rattle.std.proofs.lemmas.Bool.{false≢true}
-use Rattle.policy.specs.Permission.{is_permitted_terms}
-use Rattle.policy.specs.Rows.{rows_of}
-use Rattle.policy.specs.Terms.{grant_terms}
-use Rattle.policy.specs.Verdict.{numbered}
+use Rattle.registry.specs.Permission.{is_permitted_terms}
+use Rattle.registry.specs.Rows.{rows_of}
+use Rattle.registry.specs.Terms.{grant_terms}
+use Rattle.registry.specs.Verdict.{numbered}
 use Rattle.policy.proofs.RowsLemmas.{number-from, number-none}
 use Rattle.policy.proofs.admission.auth_with_access.Goals as goal
 

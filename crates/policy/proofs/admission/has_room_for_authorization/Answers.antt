@@ -1,7 +1,7 @@
 use Rattle.std.proofs.Common.{◌<◌, ◌≤◌, length, arith}
 use Rattle.std.proofs.lemmas.Bool.Decides.{nat_tests}
-use Rattle.policy.specs.declared.admission.TheConstants.{MOST_AUTHORIZATIONS}
-use Rattle.policy.specs.Rows.{rows_of}
+use Rattle.registry.specs.declared.limits.TheConstants.{MOST_AUTHORIZATIONS}
+use Rattle.registry.specs.Rows.{rows_of}
 use Rattle.policy.proofs.RowsLemmas.{active-from}
 use Rattle.policy.proofs.admission.has_room_for_authorization.Goals as goal
 

@@ -1,8 +1,8 @@
 use Rattle.std.proofs.Common.{◌≡◌, false, not, sym, ◌∙◌, ap}
 use Rattle.std.proofs.lemmas.Bool.{not-true}
 use Rattle.std.specs.List.{list_any}
-use Rattle.policy.specs.Rows.{rows_of}
-use Rattle.policy.specs.Terms.{gives_vrp}
+use Rattle.registry.specs.Rows.{rows_of}
+use Rattle.registry.specs.Terms.{gives_vrp}
 use Rattle.policy.proofs.RowsLemmas.{active-to, active-from}
 use Rattle.policy.proofs.admission.is_new.Goals as goal
 

@@ -1,9 +1,9 @@
 use Rattle.std.proofs.Common.{◌≡◌, true, sym, ◌∙◌, ap}
 use Rattle.std.specs.List.{list_any}
-use Rattle.policy.specs.declared.grant.Access.TheVariants.{Alter}
-use Rattle.policy.specs.Import.{has_terms}
-use Rattle.policy.specs.Permission.{is_permitted}
-use Rattle.policy.specs.Rows.{rows_of}
+use Rattle.registry.specs.declared.grant.Access.TheVariants.{Alter}
+use Rattle.registry.specs.Import.{has_terms}
+use Rattle.registry.specs.Permission.{is_permitted}
+use Rattle.registry.specs.Rows.{rows_of}
 use Rattle.policy.proofs.RowsLemmas.{active-to, active-from}
 use Rattle.policy.proofs.admission.is_present.Goals as goal
 

@@ -1,7 +1,7 @@
 use Rattle.std.proofs.Common.{◌||◌, sym, ◌∙◌, ap}
-use Rattle.policy.specs.declared.grant.Access.TheVariants.{Manage}
-use Rattle.policy.specs.Terms.{grant_terms}
-use Rattle.policy.specs.Permission.{has_access}
+use Rattle.registry.specs.declared.grant.Access.TheVariants.{Manage}
+use Rattle.registry.specs.Terms.{grant_terms}
+use Rattle.registry.specs.Permission.{has_access}
 use Rattle.policy.proofs.RowsLemmas.{grants-are}
 use Rattle.policy.proofs.admission.is_steward.Goals as goal
 

@@ -1,5 +1,5 @@
 use Rattle.std.proofs.Common.{refl, sym, ◌∙◌, ap}
-use Rattle.policy.specs.Permission.{has_access}
+use Rattle.registry.specs.Permission.{has_access}
 use Rattle.policy.proofs.RowsLemmas.{grants-are}
 use Rattle.policy.proofs.admission.rows_with_access.Goals as goal
 

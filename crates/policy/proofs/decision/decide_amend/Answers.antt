@@ -1,12 +1,13 @@
 use Rattle.std.proofs.Common.{◌≡◌, ◌≤◌, true, not, refl, sym, ◌∙◌, ap, inl, inr, subst}
 use Rattle.std.proofs.lemmas.Bool.{false≢true, not-true}
 use Rattle.std.proofs.lemmas.Result.{err_from_is_err_and}
-use Rattle.policy.specs.declared.command.Command.TheVariants.{Amend}
-use Rattle.policy.specs.Answer.{IsAccepted}
-use Rattle.policy.specs.Rows.{rows_of}
-use Rattle.policy.specs.Verdict.{terms_fit_length, OfNumber}
+use Rattle.registry.specs.declared.command.Command.TheVariants.{Amend}
+use Rattle.registry.specs.Answer.{IsAccepted}
+use Rattle.registry.specs.Rows.{rows_of}
+use Rattle.registry.specs.Verdict.{terms_fit_length, OfNumber}
 use Rattle.policy.proofs.RowsLemmas.{number-to, number-from}
-use Rattle.policy.proofs.AmendLemmas.{shares_with_other, new_terms, SharesWithNoOther, only-to, only-from}
+use Rattle.registry.proofs.Amended.{shares_with_other, new_terms}
+use Rattle.policy.proofs.AmendLemmas.{SharesWithNoOther, only-to, only-from}
 use Rattle.policy.proofs.CarryTerms.{carries-amend}
 use Rattle.policy.proofs.decision.decide_amend.Goals as goal
 

@@ -1,6 +1,6 @@
 use Rattle.std.proofs.Common.{sym, ap, Some, subst, refl}
-use Rattle.policy.specs.declared.command.Command.TheVariants.{Create}
-use Rattle.policy.specs.Answer.{IsAccepted}
+use Rattle.registry.specs.declared.command.Command.TheVariants.{Create}
+use Rattle.registry.specs.Answer.{IsAccepted}
 use Rattle.policy.proofs.decision.decide_create.Goals as goal
 
 pub returns : goal.returns

@@ -1,10 +1,10 @@
 use Rattle.std.proofs.Common.{sym, ◌∙◌, ap, subst, refl}
 use Rattle.std.proofs.lemmas.Bool.{not-true}
 use Rattle.std.proofs.lemmas.Bool.Decides.{when_false}
-use Rattle.policy.specs.declared.command.Command.TheVariants.{Delegate}
-use Rattle.policy.specs.Answer.{edit_number, IsAccepted}
-use Rattle.policy.specs.Resources.{IsFree}
-use Rattle.policy.specs.Rows.{rows_of}
+use Rattle.registry.specs.declared.command.Command.TheVariants.{Delegate}
+use Rattle.registry.specs.Answer.{edit_number, IsAccepted}
+use Rattle.registry.specs.Resources.{IsFree}
+use Rattle.registry.specs.Rows.{rows_of}
 use Rattle.policy.proofs.CarrySpace.{sparing, carries-delegate}
 use Rattle.policy.proofs.decision.decide_delegate.Goals as goal
 

@@ -1,10 +1,10 @@
 use Rattle.std.proofs.Common.{ℕ, ◌<◌, ◌≤◌, sym, ◌∙◌, ap, subst, length, Some, arith, ◌+◌, refl}
 use Rattle.std.proofs.lemmas.Bool.Decides.{nat_tests}
-use Rattle.policy.specs.declared.admission.TheConstants.{MOST_GRANTS, LAST_NUMBER}
-use Rattle.policy.specs.declared.command.Command.TheVariants.{Grant}
-use Rattle.policy.specs.declared.grant.Granted.{Granted}
-use Rattle.policy.specs.Answer.{IsAccepted}
-use Rattle.policy.specs.Terms.{grant_terms, grants_made}
+use Rattle.registry.specs.declared.limits.TheConstants.{MOST_GRANTS, LAST_NUMBER}
+use Rattle.registry.specs.declared.command.Command.TheVariants.{Grant}
+use Rattle.registry.specs.declared.grant.Granted.{Granted}
+use Rattle.registry.specs.Answer.{IsAccepted}
+use Rattle.registry.specs.Terms.{grant_terms, grants_made}
 use Rattle.policy.proofs.CarryGrants.{carries-grant}
 use Rattle.policy.proofs.decision.decide_grant.Goals as goal
 

@@ -1,9 +1,9 @@
 use Rattle.std.proofs.Common.{sym, ◌∙◌, ap, subst, refl}
-use Rattle.policy.specs.declared.command.Command.TheVariants.{Reclaim}
-use Rattle.policy.specs.Answer.{edit_number, IsAccepted}
-use Rattle.policy.specs.Rows.{rows_of}
-use Rattle.policy.specs.Terms.{terms_overlap}
-use Rattle.policy.proofs.Ended.{numbers_where}
+use Rattle.registry.specs.declared.command.Command.TheVariants.{Reclaim}
+use Rattle.registry.specs.Answer.{edit_number, IsAccepted}
+use Rattle.registry.specs.Rows.{rows_of}
+use Rattle.registry.specs.Terms.{terms_overlap}
+use Rattle.registry.proofs.Ended.{numbers_where}
 use Rattle.policy.proofs.CarrySpace.{sparing, carries-reclaim}
 use Rattle.policy.proofs.decision.decide_reclaim.Goals as goal
 

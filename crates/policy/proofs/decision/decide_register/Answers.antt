@@ -1,6 +1,6 @@
 use Rattle.std.proofs.Common.{sym, ◌∙◌, ap, not, refl, subst}
-use Rattle.policy.specs.declared.command.Command.TheVariants.{Register}
-use Rattle.policy.specs.Answer.{IsAccepted}
+use Rattle.registry.specs.declared.command.Command.TheVariants.{Register}
+use Rattle.registry.specs.Answer.{IsAccepted}
 use Rattle.policy.proofs.RowsLemmas.{unregistered}
 use Rattle.policy.proofs.CarrySpace.{carries-register}
 use Rattle.policy.proofs.decision.decide_register.Goals as goal

@@ -1,8 +1,8 @@
 use Rattle.std.proofs.Common.{sym, ◌∙◌, eqb, inl, inr, refl, subst}
 use Rattle.std.proofs.lemmas.Bool.{false≢true}
 use Rattle.std.proofs.lemmas.Result.{err_from_is_err_and}
-use Rattle.policy.specs.declared.command.Command.TheVariants.{Revoke}
-use Rattle.policy.specs.Answer.{IsAccepted}
+use Rattle.registry.specs.declared.command.Command.TheVariants.{Revoke}
+use Rattle.registry.specs.Answer.{IsAccepted}
 use Rattle.policy.proofs.RowsLemmas.{registered-by_grant}
 use Rattle.policy.proofs.CarryGrants.{carries-revoke}
 use Rattle.policy.proofs.decision.decide_revoke.Goals as goal

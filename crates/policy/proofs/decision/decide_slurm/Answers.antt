@@ -1,9 +1,9 @@
 use Rattle.std.proofs.Common.{refl, sym, ◌∙◌, subst}
 use Rattle.slurm.specs.Exceptions.{Exceptions}
-use Rattle.policy.specs.declared.change.Change.TheVariants.{Exceptions as Replace}
-use Rattle.policy.specs.declared.command.Command.TheVariants.{Slurm}
-use Rattle.policy.specs.Answer.{IsAccepted}
-use Rattle.policy.proofs.Carry.{carries-exceptions}
+use Rattle.registry.specs.declared.change.Change.TheVariants.{Exceptions as Replace}
+use Rattle.registry.specs.declared.command.Command.TheVariants.{Slurm}
+use Rattle.registry.specs.Answer.{IsAccepted}
+use Rattle.registry.proofs.Carry.{carries-exceptions}
 use Rattle.policy.proofs.decision.decide_slurm.Goals as goal
 
 pub returns : goal.returns

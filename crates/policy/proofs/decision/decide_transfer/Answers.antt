@@ -1,12 +1,12 @@
 use Rattle.std.proofs.Common.{sym, ◌∙◌, ap, refl}
 use Rattle.std.proofs.lemmas.Bool.{not-true}
-use Rattle.policy.specs.declared.command.Command.TheVariants.{Transfer}
-use Rattle.policy.specs.Answer.{edit_number}
-use Rattle.policy.specs.History.{Entry, same_name}
-use Rattle.policy.specs.Rows.{rows_of}
-use Rattle.policy.specs.Terms.{terms_overlap}
-use Rattle.policy.proofs.Names.{same_name-false}
-use Rattle.policy.proofs.Ended.{numbers_where}
+use Rattle.registry.specs.declared.command.Command.TheVariants.{Transfer}
+use Rattle.registry.specs.Answer.{edit_number}
+use Rattle.registry.specs.History.{Entry, same_name}
+use Rattle.registry.specs.Rows.{rows_of}
+use Rattle.registry.specs.Terms.{terms_overlap}
+use Rattle.registry.proofs.Names.{same_name-false}
+use Rattle.registry.proofs.Ended.{numbers_where}
 use Rattle.policy.proofs.CarrySpace.{sparing, carries-transfer}
 use Rattle.policy.proofs.decision.decide_transfer.Goals as goal
 

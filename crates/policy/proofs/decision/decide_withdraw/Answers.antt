@@ -1,6 +1,6 @@
 use Rattle.std.proofs.Common.{refl, sym, subst}
-use Rattle.policy.specs.declared.command.Command.TheVariants.{Withdraw}
-use Rattle.policy.specs.Answer.{IsAccepted}
+use Rattle.registry.specs.declared.command.Command.TheVariants.{Withdraw}
+use Rattle.registry.specs.Answer.{IsAccepted}
 use Rattle.policy.proofs.decision.decide_withdraw.Goals as goal
 
 pub returns : goal.returns

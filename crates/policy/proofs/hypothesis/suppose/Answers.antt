@@ -1,6 +1,6 @@
 use Rattle.std.proofs.Common.{◌+◌, Some, refl, sym, ap, subst, arith}
 use Rattle.std.proofs.lemmas.List.{take_all}
-use Rattle.policy.specs.Rows.{Rows, rows_of, RowsIfAny}
+use Rattle.registry.specs.Rows.{Rows, rows_of, RowsIfAny}
 use Rattle.policy.proofs.Suppositions.{so_far-more, so_far-denied, denied-unregistered}
 use Rattle.policy.proofs.hypothesis.suppose.Goals as goal
 

@@ -1,8 +1,8 @@
 use Rattle.std.proofs.Common.{◌≡◌, ℕ, List, Some, take}
 use Rattle.charters.specs.declared.charter.Charter.{Charter}
-use Rattle.policy.specs.History.{History}
-use Rattle.policy.specs.Rows.{rows_of, RowsIfAny}
-use Rattle.policy.specs.Verdict.{IsLegal}
+use Rattle.registry.specs.History.{History}
+use Rattle.registry.specs.Rows.{rows_of, RowsIfAny}
+use Rattle.registry.specs.Verdict.{IsLegal}
 use Rattle.policy.proofs.Suppositions.{SoFar}
 use Rattle.policy.proofs.hypothesis.suppose.Given as goal
 

@@ -1,6 +1,6 @@
-use Rattle.policy.specs.declared.change.Edit.TheVariants.{Create as CreateEdit, Withdraw as WithdrawEdit}
-use Rattle.policy.specs.Rows.{rows_of}
-use Rattle.policy.proofs.Carry.{carried}
+use Rattle.registry.specs.declared.change.Edit.TheVariants.{Create as CreateEdit, Withdraw as WithdrawEdit}
+use Rattle.registry.specs.Rows.{rows_of}
+use Rattle.registry.proofs.Carry.{carried}
 use Rattle.policy.proofs.hypothesis.suppose_one.Goals as goal
 
 pub returns-in_ok-create-in-Create : goal.returns-in_ok-create-in-Create

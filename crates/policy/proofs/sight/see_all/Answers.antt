@@ -1,8 +1,8 @@
 use Rattle.std.proofs.Common.{◌≡◌, ◌∙◌, ap, filter}
-use Rattle.policy.specs.declared.grant.Access.TheVariants.{Look}
-use Rattle.policy.specs.Permission.{is_permitted_terms}
-use Rattle.policy.specs.Rows.{rows_of}
-use Rattle.policy.specs.Terms.{grant_terms}
+use Rattle.registry.specs.declared.grant.Access.TheVariants.{Look}
+use Rattle.registry.specs.Permission.{is_permitted_terms}
+use Rattle.registry.specs.Rows.{rows_of}
+use Rattle.registry.specs.Terms.{grant_terms}
 use Rattle.policy.proofs.RowsLemmas.{active-to}
 use Rattle.policy.proofs.sight.see_all.Goals as goal
 

@@ -1,7 +1,7 @@
 use Rattle.std.proofs.Common.{List, ap, rules}
 use Rattle.std.proofs.lemmas.Fn.{filter_same}
-use Rattle.policy.specs.declared.authorization.Auth.{Auth}
-use Rattle.policy.specs.Rows.{Rows, rows_of}
+use Rattle.registry.specs.declared.authorization.Auth.{Auth}
+use Rattle.registry.specs.Rows.{Rows, rows_of}
 use Rattle.policy.proofs.withdrawal.take_away.Goals as goal
 
 pub returns : goal.returns

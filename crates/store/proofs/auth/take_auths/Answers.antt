@@ -1,7 +1,7 @@
 use Rattle.std.proofs.Common.{arith, ap, sym, ◌∙◌, [], take, get_or, ◌+◌}
 use Rattle.std.proofs.lemmas.List.{take_more}
-use Rattle.policy.specs.declared.change.Edit.TheVariants.{Withdraw}
-use Rattle.policy.specs.Rows.{edited}
+use Rattle.registry.specs.declared.change.Edit.TheVariants.{Withdraw}
+use Rattle.registry.specs.Rows.{edited}
 use Rattle.store.specs.steps.RowEdits.{without_auths}
 use Rattle.database.specs.Statements.{state_in}
 use Rattle.store.proofs.RowSteps.{one_auth_less, no_auths, done_none, done_then}

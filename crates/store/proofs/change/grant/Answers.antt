@@ -1,6 +1,6 @@
 use Rattle.std.proofs.Common.{refl}
-use Rattle.policy.specs.declared.change.Edit.TheVariants.{Grant}
-use Rattle.policy.specs.Rows.{edited}
+use Rattle.registry.specs.declared.change.Edit.TheVariants.{Grant}
+use Rattle.registry.specs.Rows.{edited}
 use Rattle.store.specs.steps.RowEdits.{with_grant, with_granted}
 use Rattle.store.proofs.RowSteps.{done_after}
 use Rattle.database.proofs.StatementLemmas.{stays_then}

@@ -1,5 +1,5 @@
 use Rattle.std.proofs.Common.{arith, refl}
-use Rattle.policy.specs.Rows.{Rows}
+use Rattle.registry.specs.Rows.{Rows}
 use Rattle.store.specs.steps.RowEdits.{with_holdings, without_holdings, without_auths, held}
 use Rattle.store.proofs.RowSteps.{done_then, done_after}
 use Rattle.database.proofs.StatementLemmas.{stays_then}

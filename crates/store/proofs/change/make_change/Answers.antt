@@ -1,9 +1,9 @@
 use Rattle.std.proofs.Common.{arith, sym, subst, Option}
-use Rattle.policy.specs.declared.change.Change.{Change}
-use Rattle.policy.specs.declared.change.Change.TheVariants.{Holders}
-use Rattle.policy.specs.declared.change.HolderChange.{HolderChange}
-use Rattle.policy.specs.Rows.{changed_by_one}
-use Rattle.policy.specs.RowsOfAll.{changed_rows}
+use Rattle.registry.specs.declared.change.Change.{Change}
+use Rattle.registry.specs.declared.change.Change.TheVariants.{Holders}
+use Rattle.registry.specs.declared.change.HolderChange.{HolderChange}
+use Rattle.registry.specs.Rows.{changed_by_one}
+use Rattle.registry.specs.RowsOfAll.{changed_rows}
 use Rattle.database.specs.Statements.{state_in}
 use Rattle.store.specs.steps.Statements.{each_holder, MakesChange}
 use Rattle.store.proofs.RowSteps.{turned_then}

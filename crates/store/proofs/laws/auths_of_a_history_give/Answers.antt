@@ -1,7 +1,7 @@
 use Rattle.std.proofs.Common.{subst}
 use Rattle.std.proofs.lemmas.List.Elements.{All-contains}
-use Rattle.policy.specs.Rows.{RowsIfAny}
-use Rattle.policy.specs.Values.{AuthFits}
+use Rattle.registry.specs.Rows.{RowsIfAny}
+use Rattle.registry.specs.Values.{AuthFits}
 use Rattle.store.proofs.Giving.{gives_one}
 use Rattle.store.proofs.laws.auths_of_a_history_give.Goals as goal
 

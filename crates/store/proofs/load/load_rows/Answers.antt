@@ -3,7 +3,7 @@ use Rattle.std.specs.Prelude.{⊤}
 use Rattle.sqlite.specs.Held.{state}
 use Rattle.sqlite.specs.State.{HasCleanDisk}
 use Rattle.tables.specs.Cells.{grant_cells, auth_cells}
-use Rattle.policy.specs.Values.{GrantFits, AuthFits}
+use Rattle.registry.specs.Values.{GrantFits, AuthFits}
 use Rattle.tables.specs.TablesHold.{items_if_any}
 use Rattle.tables.proofs.CellsOnce.{counters_of_rows}
 use Rattle.store.proofs.Loading.{AreCounters, CountersFit, counters_fit, all_spans_fit, grants_fit, auths_fit, first_counters, by_number, same_addresses, held_before, never_fit, none_loaded, all_loaded}

@@ -1,7 +1,7 @@
 use Rattle.std.proofs.Common.{◌≡◌, rules, arith, subst}
 use Rattle.sqlite.specs.Held.{state}
 use Rattle.sqlite.specs.State.{HasCleanDisk, Survives}
-use Rattle.policy.specs.RowsOfAll.{changed_rows}
+use Rattle.registry.specs.RowsOfAll.{changed_rows}
 use Rattle.store.specs.StoreRows.{RowChange}
 use Rattle.store.specs.steps.Statements.{MayCommit, CommitsChange}
 use Rattle.store.proofs.StoreLemmas.{commit_ok, commit_crash}

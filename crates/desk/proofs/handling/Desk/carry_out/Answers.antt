@@ -1,7 +1,7 @@
 use Rattle.std.proofs.Common.{refl}
 use Rattle.desk.specs.Desk.{charter_of}
 use Rattle.desk.specs.HolderAnswers.{may_change, may_except}
-use Rattle.desk.specs.declared.asked.Request.TheVariants.{Command as CommandRequest}
+use Rattle.registry.specs.declared.asked.Request.TheVariants.{Command as CommandRequest}
 use Rattle.desk.specs.declared.reply.Reply.TheVariants.{Unavailable}
 use Rattle.desk.proofs.DeskLemmas.{still_held, not_done, accepted_answered, all_kept, changed_kept}
 use Rattle.desk.proofs.handling.Desk.carry_out.Goals as goal

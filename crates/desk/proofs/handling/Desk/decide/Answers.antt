@@ -1,6 +1,6 @@
 use Rattle.std.proofs.Common.{◌≡◌, ◌∙◌, Err, subst}
 use Rattle.std.proofs.lemmas.Result.{err_from_is_err_and}
-use Rattle.policy.specs.Answer.{IsAnswer}
+use Rattle.registry.specs.Answer.{IsAnswer}
 use Rattle.charters.specs.declared.charter.Charter.{Charter}
 use Rattle.desk.specs.Desk.{charter_of}
 use Rattle.desk.proofs.DeskLemmas.{refused_answers}

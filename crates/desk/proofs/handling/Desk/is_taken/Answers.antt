@@ -1,6 +1,6 @@
 use Rattle.std.proofs.Common.{◌↔◌, Bool, IsTrue}
-use Rattle.policy.specs.Answer.{TellsTaken}
-use Rattle.policy.specs.RowsOfAll.{AllRows, IsTaken}
+use Rattle.registry.specs.Answer.{TellsTaken}
+use Rattle.registry.specs.RowsOfAll.{AllRows, IsTaken}
 use Rattle.desk.specs.Desk.{charter_of}
 use Rattle.desk.proofs.DeskLemmas.{of_held, tells_taken}
 use Rattle.desk.proofs.handling.Desk.is_taken.Goals as goal

@@ -1,7 +1,7 @@
 use Rattle.std.proofs.Common.{Option}
-use Rattle.policy.specs.declared.rows.HolderRows.{HolderRows}
-use Rattle.policy.specs.Rows.{rows_if_any, RowsIfAny}
-use Rattle.policy.specs.RowsOfAll.{AllRows}
+use Rattle.registry.specs.declared.rows.HolderRows.{HolderRows}
+use Rattle.registry.specs.Rows.{rows_if_any, RowsIfAny}
+use Rattle.registry.specs.RowsOfAll.{AllRows}
 use Rattle.store.specs.Loads.{AreLoaded}
 use Rattle.desk.proofs.DeskLemmas.{of_held}
 use Rattle.desk.proofs.handling.Desk.load_two.Goals as goal

@@ -1,7 +1,7 @@
 use Rattle.std.proofs.Common.{◌≡◌, ◌≤◌, take, length}
 use Rattle.std.specs.Prelude.{vec_len, vec_capacity}
-use Rattle.policy.specs.History.{History}
-use Rattle.policy.specs.Verdict.{IsLegal}
+use Rattle.registry.specs.History.{History}
+use Rattle.registry.specs.Verdict.{IsLegal}
 use Rattle.desk.specs.Desk.{charter_of, HoldsHistory, IsOnCleanDisk}
 use Rattle.desk.specs.HolderAnswers.{may_change_any, may_except_any, KeepsOthers}
 use Rattle.desk.specs.Run.{AreAnswered}

@@ -2,8 +2,8 @@ use Rattle.std.proofs.Common.{◌≡◌, Err, sym, ◌∙◌, subst}
 use Rattle.std.proofs.lemmas.Bool.{eqb-true}
 use Rattle.std.proofs.lemmas.Result.{err_from_is_err_and}
 use Rattle.payload.specs.VrpSet as set
-use Rattle.policy.specs.Answer.{IsSupposed}
-use Rattle.policy.specs.Rows.{rows_if_any, rows_of}
+use Rattle.registry.specs.Answer.{IsSupposed}
+use Rattle.registry.specs.Rows.{rows_if_any, rows_of}
 use Rattle.charters.specs.declared.charter.Charter.{Charter}
 use Rattle.desk.specs.Desk.{charter_of}
 use Rattle.desk.proofs.ExchangeLemmas.{exchanges_nothing, supposed_refused, would_exchange}

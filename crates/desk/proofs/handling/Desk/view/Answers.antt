@@ -1,4 +1,4 @@
-use Rattle.policy.specs.Answer.{TellsTaken}
+use Rattle.registry.specs.Answer.{TellsTaken}
 use Rattle.desk.proofs.DeskLemmas.{read_then, found_later}
 use Rattle.desk.proofs.handling.Desk.view.Goals as goal
 

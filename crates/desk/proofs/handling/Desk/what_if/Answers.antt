@@ -1,5 +1,5 @@
 use Rattle.payload.specs.VrpSet as set
-use Rattle.policy.specs.History.{History}
+use Rattle.registry.specs.History.{History}
 use Rattle.desk.specs.Answer.{states_now, states_after, AreStatesOn}
 use Rattle.desk.specs.steps.Supposing.{Exchanges}
 use Rattle.desk.proofs.DeskLemmas.{found_later, read_then}

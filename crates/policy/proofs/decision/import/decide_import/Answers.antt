@@ -1,9 +1,9 @@
 use Rattle.std.proofs.Common.{List, refl, sym, subst}
 use Rattle.std.proofs.lemmas.Result.{err_from_is_err_and}
-use Rattle.policy.specs.declared.authorization.AuthTerms.{AuthTerms}
-use Rattle.policy.specs.declared.command.Command.TheVariants.{Import}
-use Rattle.policy.specs.Answer.{IsAccepted}
-use Rattle.policy.specs.Import.{ImportGrows}
+use Rattle.registry.specs.declared.authorization.AuthTerms.{AuthTerms}
+use Rattle.registry.specs.declared.command.Command.TheVariants.{Import}
+use Rattle.registry.specs.Answer.{IsAccepted}
+use Rattle.registry.specs.Import.{ImportGrows}
 use Rattle.policy.proofs.Imports.{answers-denied}
 use Rattle.policy.proofs.decision.import.decide_import.Goals as goal
 

@@ -1,6 +1,6 @@
 use Rattle.std.proofs.Common.{◌+◌, Some, refl, sym, ap, subst, arith}
 use Rattle.std.proofs.lemmas.List.{take_all}
-use Rattle.policy.specs.Rows.{Rows, rows_of, RowsIfAny}
+use Rattle.registry.specs.Rows.{Rows, rows_of, RowsIfAny}
 use Rattle.policy.proofs.Imports.{so_far-start, so_far-more, so_far-denied}
 use Rattle.policy.proofs.decision.import.import_rows.Goals as goal
 

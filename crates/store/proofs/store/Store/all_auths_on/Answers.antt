@@ -2,7 +2,7 @@ use Rattle.std.proofs.Common.{◌≡◌, ◌↔◌, Contains, IfOk, arith, subst
 use Rattle.sqlite.specs.Held.{state}
 use Rattle.sqlite.specs.State.{HasCleanDisk}
 use Rattle.addr.specs.declared.vrp.Vrp.{Vrp}
-use Rattle.policy.specs.RowsOfAll.{IsGivenOn, AllRows}
+use Rattle.registry.specs.RowsOfAll.{IsGivenOn, AllRows}
 use Rattle.store.specs.Loads.{AllGiveOn}
 use Rattle.store.specs.StoreRows.{Holds}
 use Rattle.store.proofs.StoreLemmas.{over, of_store}

@@ -1,7 +1,7 @@
 use Rattle.std.proofs.Common.{◌≡◌, arith, subst, OnOk}
 use Rattle.sqlite.specs.Held.{state}
 use Rattle.sqlite.specs.State.{HasCleanDisk}
-use Rattle.policy.specs.RowsOfAll.{AllRows, changed_rows}
+use Rattle.registry.specs.RowsOfAll.{AllRows, changed_rows}
 use Rattle.store.specs.StoreRows.{RowChange, Holds, MayLeave, LeavesOnly}
 use Rattle.store.proofs.StoreLemmas.{over, holds_ok, may_leave, leaves_only}
 use Rattle.store.proofs.store.Store.apply.Goals as goal

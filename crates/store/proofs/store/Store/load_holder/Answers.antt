@@ -1,8 +1,8 @@
 use Rattle.std.proofs.Common.{◌≡◌, arith, subst}
 use Rattle.sqlite.specs.Held.{state}
 use Rattle.sqlite.specs.State.{HasCleanDisk}
-use Rattle.policy.specs.Values.{FitIfAny}
-use Rattle.policy.specs.RowsOfAll.{AllRows}
+use Rattle.registry.specs.Values.{FitIfAny}
+use Rattle.registry.specs.RowsOfAll.{AllRows}
 use Rattle.store.specs.StoreRows.{Holds}
 use Rattle.store.proofs.StoreLemmas.{over}
 use Rattle.store.proofs.store.Store.load_holder.Goals as goal

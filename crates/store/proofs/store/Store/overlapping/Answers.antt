@@ -1,7 +1,7 @@
 use Rattle.std.proofs.Common.{◌≡◌, ◌↔◌, IsTrue, arith, subst}
 use Rattle.sqlite.specs.Held.{state}
 use Rattle.sqlite.specs.State.{HasCleanDisk}
-use Rattle.policy.specs.RowsOfAll.{IsTaken, AllRows}
+use Rattle.registry.specs.RowsOfAll.{IsTaken, AllRows}
 use Rattle.store.specs.StoreRows.{Holds}
 use Rattle.store.proofs.Giving.{taken_iff}
 use Rattle.store.proofs.StoreLemmas.{over}

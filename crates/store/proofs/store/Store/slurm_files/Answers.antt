@@ -1,7 +1,7 @@
 use Rattle.std.proofs.Common.{◌≡◌, IfOk, arith, subst}
 use Rattle.sqlite.specs.Held.{state}
 use Rattle.sqlite.specs.State.{HasCleanDisk}
-use Rattle.policy.specs.RowsOfAll.{AllRows}
+use Rattle.registry.specs.RowsOfAll.{AllRows}
 use Rattle.store.specs.Loads.{AreFilesOf}
 use Rattle.store.specs.StoreRows.{Holds}
 use Rattle.store.proofs.StoreLemmas.{over, of_store}

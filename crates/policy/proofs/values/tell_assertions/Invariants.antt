@@ -1,6 +1,0 @@
-use Rattle.std.proofs.Common.{All, take}
-use Rattle.policy.specs.Values.{VrpFits}
-use Rattle.policy.proofs.values.tell_assertions.Given as goal
-
-abbrev pub invariant-loop-assertion : goal.invariant-loop-assertion
-invariant-loop-assertion l = All VrpFits (take l.assertion-index l.assertions)

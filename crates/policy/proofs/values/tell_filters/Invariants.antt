@@ -1,6 +1,0 @@
-use Rattle.std.proofs.Common.{All, take}
-use Rattle.policy.specs.Values.{FilterFits}
-use Rattle.policy.proofs.values.tell_filters.Given as goal
-
-abbrev pub invariant-loop-filter : goal.invariant-loop-filter
-invariant-loop-filter l = All FilterFits (take l.filter-index l.filters)

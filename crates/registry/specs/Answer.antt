@@ -1,0 +1,204 @@
+-- What the rules answer, for the rows of a history.
+use Rattle.std.specs.Prelude.{◌≡◌, ℕ, ◌+◌, Bool, true, false, List, ◌∷◌, Option, Some, None, Result, Ok, Err, not, MatchBool, MatchResult, IfSome, IsSomeAnd, length, filter}
+use Rattle.std.specs.List.{list_all}
+use Rattle.addr.specs.Spans.{is_one_of}
+use Rattle.registry.specs.declared.authorization.Auth.{Auth}
+use Rattle.charters.specs.declared.charter.Charter.{Charter}
+use Rattle.registry.specs.declared.command.Command.{Command}
+use Rattle.registry.specs.declared.command.Command.TheVariants.{Register, Delegate, Transfer, Reclaim, Grant, Revoke, Create, Amend, Withdraw, Import, Slurm}
+use Rattle.registry.specs.declared.change.Change.{Change}
+use Rattle.registry.specs.declared.change.Change.TheVariants.{Holders, Exceptions}
+use Rattle.registry.specs.declared.change.Edit.{Edit}
+use Rattle.registry.specs.declared.change.Edit.TheVariants.{Hold, Grant as GrantEdit, Create as CreateEdit, Import as ImportEdit}
+use Rattle.registry.specs.declared.grant.Access.TheVariants.{Look}
+use Rattle.registry.specs.declared.command.Proposed.{Proposed}
+use Rattle.registry.specs.declared.rows.HolderRows.{HolderRows}
+use Rattle.registry.specs.declared.rows.View.{View}
+use Rattle.registry.specs.declared.rule.Refusal.{Refusal}
+use Rattle.registry.specs.declared.rule.Rule.{Rule}
+use Rattle.registry.specs.declared.rule.Refusal.TheVariants.{Denied, Memory}
+use Rattle.registry.specs.History.{History}
+use Rattle.registry.specs.HypotheticalHistory.{HypotheticalHistory, IsChangeDenied}
+use Rattle.registry.specs.Import.{ImportGrows, IsImportDenied}
+use Rattle.registry.specs.Resources.{IsFree}
+use Rattle.registry.specs.Terms.{grant_terms, grants_made, authorizations_made, OfActive}
+use Rattle.registry.specs.Permission.{is_permitted_terms}
+use Rattle.registry.specs.Verdict.{Verdict, ShowVerdict, ListVerdict, IsLegal, numbered}
+use Rattle.registry.specs.Rows.{Rows, rows_of, rows_if_any, RowsOf, RowsIfAny, Carries}
+
+abbrev pub is_transfer : Command → Bool
+is_transfer (Transfer p giver taker) = true
+is_transfer _ = false
+
+-- the holder that the command names; of a transfer the giver, and of a SLURM file none
+abbrev pub holder_of : Command → Option (List ℕ)
+holder_of (Register holder) = Some holder
+holder_of (Delegate holder p) = Some holder
+holder_of (Transfer p giver taker) = Some giver
+holder_of (Reclaim holder p) = Some holder
+holder_of (Grant holder name role scope until) = Some holder
+holder_of (Revoke holder n) = Some holder
+holder_of (Create holder asn p max from until) = Some holder
+holder_of (Amend holder n max until) = Some holder
+holder_of (Withdraw holder n) = Some holder
+holder_of (Import holder rows) = Some holder
+holder_of (Slurm file) = None
+
+-- the taker of a transfer; of another command its holder
+abbrev pub taker_of : Command → Option (List ℕ)
+taker_of (Transfer p giver taker) = Some taker
+taker_of command = holder_of command
+
+-- the number that the new grant or authorization gets; other commands answer none
+abbrev pub number_given : History → Command → Option ℕ
+number_given history (Grant holder name role scope until) = Some (grants_made history holder + 1)
+number_given history (Create holder asn p max from until) = Some (authorizations_made history holder + 1)
+number_given history _ = None
+
+-- the number of the grant or authorization that an edit makes
+abbrev pub edit_number : Edit → Option ℕ
+edit_number (GrantEdit g) = Some g.number
+edit_number (CreateEdit x) = Some x.number
+edit_number _ = None
+
+-- the same of a change
+abbrev pub number_made : Change → Option ℕ
+number_made (Holders first second) = edit_number first.edit
+number_made (Exceptions file) = None
+
+-- how many authorizations an import's edit makes
+abbrev pub edit_imported : Edit → ℕ
+edit_imported (ImportEdit auths created) = length auths.items
+edit_imported _ = 0
+
+-- the same of a change
+abbrev pub imported : Change → ℕ
+imported (Holders first second) = edit_imported first.edit
+imported (Exceptions file) = 0
+
+-- no run of addresses that an edit puts is one that it takes away
+abbrev pub PutsNoneBack : Edit → Type 0
+PutsNoneBack (Hold removed added ended) = list_all (λ s. not (is_one_of removed.items s)) added.items ≡ true
+PutsNoneBack _ = Unit {0}
+
+-- no edit of a change does
+abbrev pub IsSparing : Change → Type 0
+IsSparing (Holders first second) = PutsNoneBack first.edit × IfSome second (λ c. PutsNoneBack c.edit)
+IsSparing (Exceptions file) = Unit {0}
+
+-- whether some address of a delegation's prefix has a resource holder is told rightly; of any other
+-- command it is not asked
+abbrev pub TellsTaken : History → Command → Bool → Type 0
+TellsTaken history (Delegate holder p) taken = MatchBool taken (IsFree history p → ⊥) (IsFree history p)
+TellsTaken history _ taken = Unit {0}
+
+-- the rows are those of the holder, where one is named
+abbrev pub RowsOfNamed : History → Option (List ℕ) → Option Rows → Type 0
+RowsOfNamed history holder rows = IfSome holder (λ h. RowsIfAny history h rows)
+
+-- what a command is judged on is that of the history
+pub record IsViewOf (history : History) (command : Command) (view : View) : Type 0 where
+  pub rows : RowsOfNamed history (holder_of command) (rows_if_any view.holder)
+  pub taken : TellsTaken history command view.taken
+
+-- a change is of holders that the command names, or puts the SLURM file that it brings
+abbrev pub IsOfCommand : Command → Change → Type 0
+IsOfCommand command (Holders first second) =
+    (holder_of command ≡ Some first.holder) × IfSome second (λ c. taker_of command ≡ Some c.holder)
+IsOfCommand command (Exceptions file) = command ≡ Slurm file
+
+-- the history that an accepted command leaves: with its own entry, and after an import with those that the
+-- rows make
+abbrev pub Leaves : Charter → History → ℕ → List ℕ → Command → History → Type 0
+Leaves charter before day caller (Import holder rows) after =
+    ImportGrows charter day caller holder before rows.items after
+Leaves charter before day caller command after =
+    Verdict charter before day caller command None
+    × (after ≡ record { day = day; caller = caller; command = command } ∷ before)
+
+-- the rule that denies a command, and of an import the row, counted from 1
+abbrev pub IsDenied : Charter → History → ℕ → List ℕ → Command → Rule → Option ℕ → Type 0
+IsDenied charter history day caller (Import holder rows) rule row =
+    IsSomeAnd row (λ place. IsImportDenied charter day caller holder history rows.items rule place)
+IsDenied charter history day caller command rule row =
+    Verdict charter history day caller command (Some rule) × (row ≡ None)
+
+-- how many authorizations the rows of an import made, and how many of the rows were already authorized
+abbrev pub AreCounts : History → Command → History → ℕ → ℕ → Type 0
+AreCounts before (Import holder rows) after made present =
+    (authorizations_made after holder ≡ authorizations_made before holder + made)
+    × (made + present ≡ length rows.items)
+AreCounts before _ after made present = ⊥
+
+-- a change has the number that the command is given; that of an import as many authorizations as it makes
+abbrev pub IsNumbered : History → Command → History → Change → Type 0
+IsNumbered before (Import holder rows) after change =
+    (present : ℕ) × AreCounts before (Import holder rows) after (imported change) present
+IsNumbered before command after change = number_made change ≡ number_given before command
+
+-- Accepted: the change carries all rows to the history that the command leaves. It is numbered, puts no run of
+-- addresses back, and is of what the command names.
+pub record IsAccepted (charter : Charter) (history : History) (day : ℕ) (caller : List ℕ)
+    (command : Command) (change : Change) : Type 0 where
+  pub after : History
+  pub leaves : Leaves charter history day caller command after
+  pub carries : Carries change history after
+  pub numbered : IsNumbered history command after change
+  pub sparing : IsSparing change
+  pub of_command : IsOfCommand command change
+
+-- denied exactly by the rules; else accepted
+abbrev pub IsAnswer : Charter → History → ℕ → List ℕ → Command → Result Change Refusal → Type 0
+IsAnswer charter history day caller command (Err (Denied rule row)) =
+    IsDenied charter history day caller command rule row
+IsAnswer charter history day caller command (Err Memory) = Unit {0}
+IsAnswer charter history day caller command (Ok change) = IsAccepted charter history day caller command change
+
+-- the supposed rows are those of the history that the changes would leave, or the first change that would be
+-- denied is told
+abbrev pub IsSupposed :
+    Charter → History → List ℕ → ℕ → List ℕ → List Proposed → Result HolderRows Refusal → Type 0
+IsSupposed charter history holder day caller changes (Err (Denied rule row)) =
+    IsSomeAnd row (λ place. IsChangeDenied charter day caller holder history changes rule place)
+IsSupposed charter history holder day caller changes (Err Memory) = Unit {0}
+IsSupposed charter history holder day caller changes (Ok rows) =
+    (after : History) × HypotheticalHistory charter day caller holder history changes after
+    × RowsOf after holder (rows_of rows)
+
+-- the command moves addresses, has rows or brings a SLURM file; no other takes memory to decide
+abbrev pub takes_memory : Command → Bool
+takes_memory (Delegate holder p) = true
+takes_memory (Transfer p giver taker) = true
+takes_memory (Reclaim holder p) = true
+takes_memory (Import holder rows) = true
+takes_memory (Slurm file) = true
+takes_memory _ = false
+
+-- what is shown is the active authorization of that number
+abbrev pub IsShown : History → List ℕ → ℕ → List ℕ → ℕ → Auth → Type 0
+IsShown history h day caller n x =
+    ShowVerdict history h day caller n None × OfActive history h (λ active. numbered n active ≡ Some x)
+
+-- what is listed are the active authorizations that the caller may see, by rising number
+abbrev pub IsListed : History → List ℕ → ℕ → List ℕ → List Auth → Type 0
+IsListed history h day caller listed =
+    ListVerdict history h day caller None
+    × OfActive history h (λ active. listed ≡ filter (λ x. is_permitted_terms (grant_terms history h) day caller Look x) active)
+
+-- a list is denied exactly by the verdict
+abbrev pub IsListRefusal : History → List ℕ → ℕ → List ℕ → Refusal → Type 0
+IsListRefusal history h day caller (Denied rule row) = ListVerdict history h day caller (Some rule) × (row ≡ None)
+IsListRefusal history h day caller Memory = Unit {0}
+
+-- what is answered is that of every legal history with these rows of the holder
+abbrev pub AnswersRows : Charter → Option Rows → ℕ → List ℕ → Command → Result Change Refusal → Type 0
+AnswersRows charter rows day caller command result =
+    (history : History) → IsLegal charter history → RowsOfNamed history (holder_of command) rows
+    → IsAnswer charter history day caller command result
+
+-- the same of what takes no memory
+abbrev pub JudgesRows : Charter → Option Rows → ℕ → List ℕ → Command → Result Change Rule → Type 0
+JudgesRows charter rows day caller command result =
+    (history : History) → IsLegal charter history → RowsOfNamed history (holder_of command) rows
+    → MatchResult result (IsAccepted charter history day caller command)
+    (λ rule. Verdict charter history day caller command (Some rule))

@@ -1,0 +1,17 @@
+pub mod Rule
+pub mod History
+pub mod ExceptionsInForce
+pub mod Resources
+pub mod Terms
+pub mod Permission
+pub mod Verdict
+pub mod GrowingHistory
+pub mod Import
+pub mod HypotheticalHistory
+pub mod Rows
+pub mod RowsOfAll
+pub mod Values
+pub mod Answer
+pub mod DailyVrps
+pub mod Unregistered
+pub mod HolderEntries

@@ -1,0 +1,132 @@
+-- The rules of each command in their order, and the verdict: the first rule that does not hold, or
+-- none where all hold.
+use Rattle.std.specs.Prelude.{◌≡◌, ℕ, ◌<◌, ◌≤◌, Bool, true, false, not, ◌&&◌, ◌||◌, ◌==◌, List, [], ◌∷◌, length, Option, Some, None, find, IsSomeAnd, ◌⊎◌}
+use Rattle.std.specs.List.{list_any}
+use Rattle.addr.specs.Address.{fits_max_length}
+use Rattle.registry.specs.declared.limits.TheConstants.{MOST_GRANTS, MOST_AUTHORIZATIONS, LAST_NUMBER}
+use Rattle.registry.specs.declared.authorization.Auth.{Auth}
+use Rattle.charters.specs.declared.charter.Charter.{Charter}
+use Rattle.registry.specs.declared.command.Command.{Command}
+use Rattle.registry.specs.declared.command.Command.TheVariants.{Register, Delegate, Transfer, Reclaim, Grant, Revoke, Create, Amend, Withdraw, Import, Slurm}
+use Rattle.registry.specs.declared.grant.Access.{Access}
+use Rattle.registry.specs.declared.grant.Access.TheVariants.{Manage, Alter, Look}
+use Rattle.registry.specs.declared.rule.Rule.{Rule}
+use Rattle.registry.specs.declared.rule.Rule.TheVariants.{Operator, Steward, Grant as GrantRule, Holder, Fresh, Number, Scope, Dates, Length, Pool, Free, Distinct, Held, Same, Room}
+use Rattle.charters.specs.Charter.{is_operator, pool_of}
+use Rattle.charters.specs.Pool.{IsInPool}
+use Rattle.registry.specs.History.{History, same_name, is_registered}
+use Rattle.registry.specs.Resources.{HoldsPrefix, IsFree}
+use Rattle.registry.specs.Terms.{gives_vrp, share_vrp, grant_terms, grants_made, authorizations_made, OfActive}
+use Rattle.registry.specs.Permission.{has_access, is_permitted, is_permitted_terms}
+
+-- asks a rule and then the others: all hold where this one does and the others do; and the first that
+-- does not hold is this one where it does not, else the first of the others
+abbrev pub ask : Rule → Type 0 → (Option Rule → Type 0) → Option Rule → Type 0
+ask rule P rest None = P × rest None
+ask rule P rest (Some first) = ((P → ⊥) × (first ≡ rule)) ⊎ (P × rest (Some first))
+
+-- no rule is left to ask
+abbrev pub accept : Option Rule → Type 0
+accept None = Unit {0}
+accept (Some first) = ⊥
+
+-- the maxLength is one for all prefixes of the terms
+abbrev pub terms_fit_length : Auth → ℕ → Bool
+terms_fit_length x max = fits_max_length x.prefix max
+
+-- an operator, or a manager at the holder
+abbrev pub is_steward : Charter → History → ℕ → List ℕ → List ℕ → Bool
+is_steward charter history day caller holder =
+    is_operator charter caller || has_access (grant_terms history holder) day caller Manage
+
+-- the authorization of this number in a list
+abbrev pub numbered : ℕ → List Auth → Option Auth
+numbered n auths = find (λ x. x.number == n) auths
+
+-- the holder has an active authorization of this number, and of it the fact holds
+abbrev pub OfNumber : History → List ℕ → ℕ → (Auth → Type 0) → Type 0
+OfNumber history holder n P = OfActive history holder (λ active. IsSomeAnd (numbered n active) P)
+
+-- of an active authorization of this number the caller has the access to each prefix of the terms
+abbrev pub HasAccessTo : History → List ℕ → ℕ → List ℕ → Access → ℕ → Type 0
+HasAccessTo history holder day caller access n =
+    OfNumber history holder n (λ x. is_permitted_terms (grant_terms history holder) day caller access x ≡ true)
+
+abbrev pub Verdict : Charter → History → ℕ → List ℕ → Command → Option Rule → Type 0
+Verdict charter history day caller (Register holder) =
+    ask Operator (is_operator charter caller ≡ true) (
+    ask Fresh (is_registered history holder ≡ false)
+    accept)
+Verdict charter history day caller (Delegate holder p) =
+    ask Operator (is_operator charter caller ≡ true) (
+    ask Holder (is_registered history holder ≡ true) (
+    ask Pool (IsInPool (pool_of charter) p) (
+    ask Free (IsFree history p)
+    accept)))
+Verdict charter history day caller (Transfer p giver taker) =
+    ask Operator (is_operator charter caller ≡ true) (
+    ask Holder ((is_registered history giver ≡ true) × (is_registered history taker ≡ true)) (
+    ask Distinct (same_name giver taker ≡ false) (
+    ask Held (HoldsPrefix history giver p)
+    accept)))
+Verdict charter history day caller (Reclaim holder p) =
+    ask Operator (is_operator charter caller ≡ true) (
+    ask Holder (is_registered history holder ≡ true) (
+    ask Held (HoldsPrefix history holder p)
+    accept))
+Verdict charter history day caller (Grant holder name role scope until) =
+    ask Steward (is_steward charter history day caller holder ≡ true) (
+    ask Holder (is_registered history holder ≡ true) (
+    ask Dates (day ≤ until) (
+    ask Room ((length (grant_terms history holder) < MOST_GRANTS)
+    × (grants_made history holder < LAST_NUMBER))
+    accept)))
+Verdict charter history day caller (Revoke holder n) =
+    ask Steward (is_steward charter history day caller holder ≡ true) (
+    ask Number (list_any (λ g. g.number == n) (grant_terms history holder) ≡ true)
+    accept)
+Verdict charter history day caller (Create holder asn p max from until) =
+    ask GrantRule (has_access (grant_terms history holder) day caller Alter ≡ true) (
+    ask Scope (is_permitted (grant_terms history holder) day caller Alter p ≡ true) (
+    ask Dates ((from ≤ until) × (day ≤ until)) (
+    ask Length (fits_max_length p max ≡ true) (
+    ask Held (HoldsPrefix history holder p) (
+    ask Same (OfActive history holder (λ active. list_any (λ y. gives_vrp y asn p max) active ≡ false)) (
+    ask Room (OfActive history holder (λ active. length active < MOST_AUTHORIZATIONS)
+    × (authorizations_made history holder < LAST_NUMBER))
+    accept))))))
+Verdict charter history day caller (Amend holder n max until) =
+    ask GrantRule (has_access (grant_terms history holder) day caller Alter ≡ true) (
+    ask Number (HasAccessTo history holder day caller Alter n) (
+    ask Dates (OfNumber history holder n (λ x. (x.from ≤ until) × (day ≤ until))) (
+    ask Length (OfNumber history holder n (λ x. terms_fit_length x max ≡ true)) (
+    ask Same (OfActive history holder (λ active. IsSomeAnd (numbered n active) (λ x.
+    list_any (λ y. not (y.number == n) && share_vrp (record x { max = max; until = until }) y) active ≡ false)))
+    accept))))
+Verdict charter history day caller (Withdraw holder n) =
+    ask GrantRule (has_access (grant_terms history holder) day caller Alter ≡ true) (
+    ask Number (HasAccessTo history holder day caller Alter n)
+    accept)
+-- each row of an import is judged as a create, so an import is no entry of a history
+Verdict charter history day caller (Import holder rows) = λ first. ⊥
+Verdict charter history day caller (Slurm file) =
+    ask Operator (is_operator charter caller ≡ true)
+    accept
+
+-- the verdict of showing the authorization of a number
+abbrev pub ShowVerdict : History → List ℕ → ℕ → List ℕ → ℕ → Option Rule → Type 0
+ShowVerdict history holder day caller n =
+    ask GrantRule (has_access (grant_terms history holder) day caller Look ≡ true) (
+    ask Number (HasAccessTo history holder day caller Look n)
+    accept)
+
+-- the verdict of listing authorizations
+abbrev pub ListVerdict : History → List ℕ → ℕ → List ℕ → Option Rule → Type 0
+ListVerdict history holder day caller =
+    ask GrantRule (has_access (grant_terms history holder) day caller Look ≡ true)
+    accept
+
+-- each command of the history was accepted on those before it
+abbrev pub IsLegal : Charter → History → Type 0
+IsLegal charter [] = Unit {0}
+IsLegal charter (e ∷ before) = Verdict charter before e.day e.caller e.command None × IsLegal charter before

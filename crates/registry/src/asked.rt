@@ -1,0 +1,18 @@
+use crate::{Command, Query};
+use addr::{Day, Name};
+
+/// What a caller asks of the desk.
+#[derive(Debug, Drop)]
+pub enum Request {
+    Command(Command),
+    Query(Query),
+}
+
+/// A request with the day on which it is judged and its caller, as an authenticating front named
+/// it.
+#[derive(Debug, Drop)]
+pub struct Asked {
+    pub day: Day,
+    pub caller: Name,
+    pub request: Request,
+}

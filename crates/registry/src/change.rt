@@ -1,0 +1,106 @@
+use crate::{Auth, Granted};
+use addr::{Name, Span};
+use slurm::Slurm;
+
+/// What an accepted command does to the rows of one resource holder.
+#[derive(Drop)]
+pub enum Edit {
+    /// Puts the holder's row. It has no other rows, and both counters are 0.
+    Register,
+    /// Takes away these runs of addresses, puts those that stand in their place, and takes away
+    /// the authorizations of these numbers. A run that stays is in neither list.
+    Hold {
+        removed: Vec<Span>,
+        added: Vec<Span>,
+        ended: Vec<u32>,
+    },
+    /// Puts a grant and sets the counter of grants to its number.
+    Grant(Granted),
+    /// Takes away the grant of this number.
+    Revoke(u32),
+    /// Puts an authorization and sets the counter of authorizations to its number.
+    Create(Auth),
+    /// Puts authorizations and sets the counter of authorizations.
+    Import {
+        auths: Vec<Auth>,
+        created: u32,
+    },
+    /// Puts an authorization in the place of the one of its number.
+    Amend(Auth),
+    /// Takes away the authorization of this number.
+    Withdraw(u32),
+}
+
+/// An edit of the rows of one resource holder.
+#[derive(Drop)]
+pub struct HolderChange {
+    pub holder: Name,
+    pub edit: Edit,
+}
+
+/// What an accepted command does to the rows.
+#[derive(Drop)]
+pub enum Change {
+    /// Edits those of one holder, for a transfer of two.
+    Holders {
+        first: HolderChange,
+        second: Option<HolderChange>,
+    },
+    /// Puts these exceptions in the place of all that there were.
+    Exceptions(Slurm),
+}
+
+impl Edit {
+    ghost use Rattle.std.specs.Prelude.{◌≡◌};
+    ghost use Rattle.registry.specs.Answer.{edit_imported, edit_number};
+
+    /// The number of the grant or authorization that the edit makes; other edits make none.
+    fn number(&self) -> Option<u32>
+        ensures { result ≡ edit_number self.now }
+    {
+        match self {
+            Edit::Grant(grant) => Some(grant.number),
+            Edit::Create(auth) => Some(auth.number),
+            Edit::Register
+            | Edit::Hold { .. }
+            | Edit::Revoke(_)
+            | Edit::Import { .. }
+            | Edit::Amend(_)
+            | Edit::Withdraw(_) => None,
+        }
+    }
+
+    fn imported(&self) -> usize
+        ensures { result ≡ edit_imported self.now }
+    {
+        match self {
+            Edit::Import { auths, .. } => auths.len(),
+            _ => 0,
+        }
+    }
+}
+
+impl Change {
+    ghost use Rattle.std.specs.Prelude.{◌≡◌};
+    ghost use Rattle.registry.specs.Answer.{imported, number_made};
+
+    /// The number of the grant or authorization that the change makes; other changes make none.
+    pub fn number(&self) -> Option<u32>
+        ensures { result ≡ number_made self.now }
+    {
+        match self {
+            Change::Holders { first, .. } => first.edit.number(),
+            Change::Exceptions(_) => None,
+        }
+    }
+
+    /// How many authorizations the change of an import makes; of another change 0.
+    pub fn imported(&self) -> usize
+        ensures { result ≡ imported self.now }
+    {
+        match self {
+            Change::Holders { first, .. } => first.edit.imported(),
+            Change::Exceptions(_) => 0,
+        }
+    }
+}

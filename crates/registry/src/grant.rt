@@ -1,0 +1,101 @@
+ghost use Rattle.std.specs.Prelude.{◌≡◌};
+ghost use Rattle.registry.specs.Permission.{allowed_roles, scope_has, is_current, gives_access, has_access, is_permitted};
+
+use addr::{Day, Name, Prefix};
+
+/// What a caller may do at a resource holder.
+#[derive(Clone, Copy, Debug, PartialEq, Eq)]
+pub enum Role {
+    Manager,
+    Clerk,
+    Auditor,
+}
+
+/// The prefixes that a grant speaks of: all, or one prefix and the prefixes within it.
+#[derive(Clone, Copy, Debug, PartialEq, Eq)]
+pub enum Scope {
+    All,
+    Only(Prefix),
+}
+
+/// A grant that was made at a resource holder and not revoked.
+#[derive(Clone, Copy, Debug, PartialEq, Eq)]
+pub struct Granted {
+    /// Counts the holder's grants from 1, in the order in which they were made.
+    pub number: u32,
+    pub caller: Name,
+    pub role: Role,
+    pub scope: Scope,
+    /// The last day on which the grant is current.
+    pub until: Day,
+}
+
+/// What a grant is asked for.
+#[derive(Clone, Copy, Debug, PartialEq, Eq)]
+pub enum Access {
+    /// To make and revoke grants.
+    Manage,
+    /// To create, amend and withdraw authorizations.
+    Alter,
+    /// To see authorizations.
+    Look,
+}
+
+impl Access {
+    fn is_given_by(self, role: Role) -> bool
+        ensures { result ≡ allowed_roles self role }
+    {
+        match (self, role) {
+            (Access::Manage, Role::Manager) => true,
+            (Access::Manage, Role::Clerk | Role::Auditor) => false,
+            (Access::Alter, Role::Manager | Role::Clerk) => true,
+            (Access::Alter, Role::Auditor) => false,
+            (Access::Look, _) => true,
+        }
+    }
+}
+
+impl Scope {
+    fn has(&self, prefix: &Prefix) -> bool
+        ensures { result ≡ scope_has self.now prefix.now }
+    {
+        match self {
+            Scope::All => true,
+            Scope::Only(scope) => scope.contains(prefix),
+        }
+    }
+}
+
+impl Granted {
+    fn is_current(&self, day: Day) -> bool
+        ensures { result ≡ is_current day self.now }
+    {
+        day.number() <= self.until.number()
+    }
+
+    fn gives(&self, day: Day, caller: &Name, access: Access) -> bool
+        ensures { result ≡ gives_access day caller.now access self.now }
+    {
+        self.caller == *caller && self.is_current(day) && access.is_given_by(self.role)
+    }
+}
+
+/// Whether some grant gives the caller the access on the day, whatever its scope.
+pub fn has_access(grants: &[Granted], day: Day, caller: &Name, access: Access) -> bool
+    ensures { result ≡ has_access grants.now day caller.now access }
+{
+    grants.iter().any(|grant| grant.gives(day, caller, access))
+}
+
+/// Whether some one grant gives the caller the access on the day and has the prefix in its scope.
+pub fn is_permitted(
+    grants: &[Granted],
+    day: Day,
+    caller: &Name,
+    access: Access,
+    prefix: &Prefix,
+) -> bool
+    ensures { result ≡ is_permitted grants.now day caller.now access prefix.now }
+{
+    grants.iter().any(|grant| grant.gives(day, caller, access) && grant.scope.has(prefix))
+}

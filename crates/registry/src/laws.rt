@@ -1,0 +1,24 @@
+//! Laws of the definitions. `entry_fits` is about its arguments: it reads them all, for the proofs
+//! alone.
+
+ghost use Rattle.registry.specs.Unregistered.{UnregisteredHaveNothing};
+ghost use Rattle.registry.specs.Values.{EntryFits};
+
+use crate::Command;
+use crate::values::{tell_command, tell_day, tell_name};
+use addr::{Day, Name};
+
+/// A holder that is not registered in a legal history has no address, no grant and no
+/// authorization, and none was ever made at it.
+pub fn unregistered_have_nothing()
+    ensures { UnregisteredHaveNothing }
+{}
+
+/// The values of an entry that a call can make are those of their types.
+pub fn entry_fits(day: Day, caller: &Name, command: &Command)
+    ensures { EntryFits (record { day = day; caller = caller.now; command = command.now }) }
+{
+    tell_day(day);
+    tell_name(caller);
+    tell_command(command);
+}

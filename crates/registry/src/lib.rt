@@ -1,0 +1,24 @@
+//! What a registry's commands mean: holders and their rows, grants, authorizations, commands and
+//! the rules that each has to meet. The crate `policy` decides by them.
+#![tactic(auto)]
+
+mod asked;
+mod authorization;
+mod change;
+mod command;
+mod grant;
+pub mod laws;
+mod limits;
+mod rows;
+mod rule;
+mod values;
+
+pub use asked::{Asked, Request};
+pub use authorization::{Auth, AuthTerms};
+pub use change::{Change, Edit, HolderChange};
+pub use charters::{Charter, CharterFault};
+pub use command::{Command, Proposed, Query};
+pub use grant::{Access, Granted, Role, Scope, has_access, is_permitted};
+pub use limits::{LAST_NUMBER, MOST_AUTHORIZATIONS, MOST_GRANTS};
+pub use rows::{HolderRows, View};
+pub use rule::{Refusal, Rule};
