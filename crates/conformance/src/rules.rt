@@ -3,7 +3,7 @@ use crate::scripts::{ALPHA, Dialogue, example_charter, example_desk};
 use addr::{Asn, Day, Holdings, Name, Prefix};
 use desk::{Reply, Request};
 use policy::{
-    AuthTerms, Change, Command, Edit, Granted, HolderRows, Proposed, Refusal, Role, Rule, Scope,
+    AuthTerms, Change, Command, Edit, Granted, HolderRows, ImportRow, Proposed, Refusal, Role, Rule, Scope,
     View, decide, suppose,
 };
 use std::alloc::Global;
@@ -66,14 +66,18 @@ fn view_after(alloc: Global, created: u32) -> Result<View, Fail> {
     })
 }
 
-fn terms(asn: u32) -> Result<AuthTerms, Fail> {
-    Ok(AuthTerms {
+fn row(asn: u32) -> Result<ImportRow, Fail> {
+    Ok(ImportRow {
         asn: Asn(asn),
         prefix: Prefix::read(b"192.0.2.0/24")?,
         max: 24,
         from: first_of_march()?,
         until: first_of_march()?,
     })
+}
+
+fn terms(asn: u32) -> Result<AuthTerms, Fail> {
+    Ok(row(asn)?.terms())
 }
 
 // The rule and the row that are told of a denial.
@@ -88,7 +92,7 @@ fn denial<T: Drop>(judged: Result<T, Refusal>) -> Option<(Rule, Option<u64>)> {
 fn import_after(
     alloc: Global,
     created: u32,
-    rows: &[AuthTerms],
+    rows: &[ImportRow],
 ) -> Result<Result<Change, Refusal>, Fail> {
     let command = Command::Import {
         holder: name("alpha")?,
@@ -103,7 +107,7 @@ fn import_after(
 #[test]
 fn number_999999_is_the_last(rt: HostRuntime) -> Result<(), Fail> {
     let alloc = rt.alloc();
-    let rows = [terms(1)?, terms(2)?];
+    let rows = [row(1)?, row(2)?];
     let second = import_after(alloc, 999_998, &rows)?;
     assert_eq!(rt; denial(second), Some((Rule::Room, Some(2))));
     let first = import_after(alloc, 999_999, &rows)?;

@@ -9,7 +9,7 @@ use Rattle.addr.specs.Day.{day_in}
 use Rattle.addr.specs.PrefixText.{spelled_prefix}
 use Rattle.addr.specs.declared.asn.Asn.{Asn as AsnNumber}
 use Rattle.addr.specs.declared.prefix.Prefix.{Prefix as PrefixValue}
-use Rattle.registry.specs.declared.authorization.AuthTerms.{AuthTerms}
+use Rattle.registry.specs.declared.authorization.ImportRow.{ImportRow}
 use Rattle.json_values.proofs.FaultLemmas.{lowest-append, told-if}
 use Rattle.json_values.proofs.ReadingLemmas.{Reads, reads-both, reads-each, reads-mapped, reads-ok_or}
 use Rattle.json_values.specs.Faults.{fault_unless, lower_of, lowest}
@@ -67,13 +67,13 @@ lower-count Max = refl
 lower-count Day = refl
 lower-count Count = refl
 
-zip-length : (rows : List Fields) (terms : List AuthTerms) → AllZip SaysRow rows terms → length rows ≡ length terms
+zip-length : (rows : List Fields) (terms : List ImportRow) → AllZip SaysRow rows terms → length rows ≡ length terms
 zip-length [] [] zip = refl
 zip-length [] (t ∷ terms) zip = absurd zip
 zip-length (row ∷ rows) [] zip = absurd zip
 zip-length (row ∷ rows) (t ∷ terms) zip = ap suc (zip-length rows terms zip.1)
 
-err-counted : (rows : List Fields) (faults : List ImportFault) (r : Result (List AuthTerms) ImportFault)
+err-counted : (rows : List Fields) (faults : List ImportFault) (r : Result (List ImportRow) ImportFault)
     → result_err r ≡ lowest import_fault_number faults → IfOk r (AllZip SaysRow rows)
     → result_err (and_then counted r)
     ≡ lowest import_fault_number (faults ++ fault_unless (is_row_count (length rows)) Count)
@@ -88,11 +88,11 @@ err-counted rows faults (Err fault) told zip =
     first true = refl
     first false = ap Some (sym (lower-count fault))
 
-says-counted : (rows : List Fields) (r : Result (List AuthTerms) ImportFault) → IfOk r (AllZip SaysRow rows)
+says-counted : (rows : List Fields) (r : Result (List ImportRow) ImportFault) → IfOk r (AllZip SaysRow rows)
     → IfOk (and_then counted r) (AllZip SaysRow rows)
 says-counted rows (Ok terms) zip = by_count (is_row_count (length terms)) (counted terms) refl
   where
-    by_count : (b : Bool) (r : Result (List AuthTerms) ImportFault) → (if b then Ok terms else Err Count) ≡ r → IfOk r (AllZip SaysRow rows)
+    by_count : (b : Bool) (r : Result (List ImportRow) ImportFault) → (if b then Ok terms else Err Count) ≡ r → IfOk r (AllZip SaysRow rows)
     by_count true r is = rw (← is) zip
     by_count false r is = rw (← is) tt
 says-counted rows (Err fault) zip = tt
@@ -131,7 +131,7 @@ says-rows (first ∷ rows) = elim (cases_Bool (fields_eq first import_header)) [
   | inr other ↦ rw other tt
 ]
   where
-    said : (r : Result (List AuthTerms) ImportFault) → first ≡ import_header → IfOk r (AllZip SaysRow rows)
+    said : (r : Result (List ImportRow) ImportFault) → first ≡ import_header → IfOk r (AllZip SaysRow rows)
         → IfOk r (λ terms. (others : List Fields) × (first ∷ rows ≡ import_header ∷ others) × AllZip SaysRow others terms)
     said (Ok terms) is zip = (rows, ap (λ (f : Fields). f ∷ rows) is, zip)
     said (Err fault) is zip = tt
@@ -140,7 +140,7 @@ says-rows (first ∷ rows) = elim (cases_Bool (fields_eq first import_header)) [
 pub import_in-told : (text : List ℕ) → result_err (import_in text) ≡ import_fault text
 import_in-told text = err-rows (csv_records text)
 
-pub import-told : (text : List ℕ) (read : Result (Vec AuthTerms) ImportFault) → mapped (λ v. v.items) read ≡ import_in text
+pub import-told : (text : List ℕ) (read : Result (Vec ImportRow) ImportFault) → mapped (λ v. v.items) read ≡ import_in text
     → result_err read ≡ import_fault text
 import-told text (Ok rows) is = ap result_err is ∙ import_in-told text
 import-told text (Err fault) is = ap result_err is ∙ import_in-told text
@@ -149,7 +149,7 @@ import-told text (Err fault) is = ap result_err is ∙ import_in-told text
 pub import_in-said : (text : List ℕ) → IfOk (import_in text) (IsImport text)
 import_in-said text = says-rows (csv_records text)
 
-pub import-said : (text : List ℕ) (read : Result (Vec AuthTerms) ImportFault) → mapped (λ v. v.items) read ≡ import_in text
+pub import-said : (text : List ℕ) (read : Result (Vec ImportRow) ImportFault) → mapped (λ v. v.items) read ≡ import_in text
     → IfOk read (λ rows. IsImport text rows.items)
 import-said text (Ok rows) is = rw (← is) at (import_in-said text)
 import-said text (Err fault) is = tt

@@ -5,7 +5,7 @@ use Rattle.addr.specs.Day.{day_in}
 use Rattle.addr.specs.Digits.{asn_in, number_in}
 use Rattle.addr.specs.PrefixText.{spelled_prefix}
 use Rattle.addr.specs.declared.asn.Asn.{Asn}
-use Rattle.registry.specs.declared.authorization.AuthTerms.{AuthTerms}
+use Rattle.registry.specs.declared.authorization.ImportRow.{ImportRow}
 use Rattle.json_values.specs.Faults.{fault_unless, lowest}
 use Rattle.csv_records.specs.CsvRecords.{csv_records}
 use Rattle.csv_records.specs.Fields.{Fields, fields_eq}
@@ -29,14 +29,14 @@ max_in text = option_and_then (λ n. if nat_le n 255 then Some n else None) (num
 -- ---- rows
 
 -- a row says these terms, field by field
-abbrev pub SaysRow : Fields → AuthTerms → Type 0
+abbrev pub SaysRow : Fields → ImportRow → Type 0
 SaysRow (asn ∷ prefix ∷ max ∷ from ∷ until ∷ []) t =
     (named_asn asn ≡ Some t.asn) × (spelled_prefix prefix ≡ Some t.prefix) × (max_in max ≡ Some t.max)
     × (day_in from ≡ Some t.from) × (day_in until ≡ Some t.until)
 SaysRow _ t = ⊥
 
 -- the text is the header and a row for each of these terms
-abbrev pub IsImport : List ℕ → List AuthTerms → Type 0
+abbrev pub IsImport : List ℕ → List ImportRow → Type 0
 IsImport text terms =
     (rows : List Fields) × (csv_records text ≡ import_header ∷ rows) × AllZip SaysRow rows terms
 

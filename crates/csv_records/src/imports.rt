@@ -13,7 +13,7 @@ use crate::fields::field;
 use addr::{Asn, Day, Prefix, number_from_text};
 use csv::ByteRecord;
 use json_values::{Gathered, both};
-use registry::AuthTerms;
+use registry::ImportRow;
 use std::alloc::{AllocError, Global};
 
 /// How many rows an import may have.
@@ -69,7 +69,7 @@ impl json_values::Fault for ImportFault {
 pub fn read_import(
     alloc: Global,
     text: &[u8],
-) -> Result<Result<Vec<AuthTerms>, ImportFault>, AllocError>
+) -> Result<Result<Vec<ImportRow>, ImportFault>, AllocError>
     ensures rows { IfOk result (λ read. IfOk read (λ rows. IsImport text.now rows.items)) }
     ensures fault { IfOk result (λ read. result_err read ≡ import_fault text.now) }
     ensures read { IfOk result (λ read. mapped (λ v. v.items) read ≡ import_in text.now) }
@@ -78,7 +78,7 @@ pub fn read_import(
     Ok(read)
 }
 
-fn import_in(alloc: Global, text: &[u8]) -> Result<Result<Vec<AuthTerms>, ImportFault>, AllocError>
+fn import_in(alloc: Global, text: &[u8]) -> Result<Result<Vec<ImportRow>, ImportFault>, AllocError>
     ensures { IfOk result (λ read. mapped (λ v. v.items) read ≡ import_in text.now) }
 {
     let header = &["asn", "prefix", "maxlength", "from", "until"];
@@ -92,7 +92,7 @@ fn import_in(alloc: Global, text: &[u8]) -> Result<Result<Vec<AuthTerms>, Import
 fn read_rows(
     alloc: Global,
     records: &mut CsvRecords<'_>,
-) -> Result<Result<Vec<AuthTerms>, ImportFault>, AllocError>
+) -> Result<Result<Vec<ImportRow>, ImportFault>, AllocError>
     requires { IsReading records.old }
     ensures { IfOk result (λ read. mapped (λ v. v.items) read
         ≡ each import_fault_number row_in (records_left records.old)) }
@@ -104,7 +104,7 @@ fn read_rows(
     Ok(gathered.finish())
 }
 
-fn counted(rows: Result<Vec<AuthTerms>, ImportFault>) -> Result<Vec<AuthTerms>, ImportFault>
+fn counted(rows: Result<Vec<ImportRow>, ImportFault>) -> Result<Vec<ImportRow>, ImportFault>
     ensures { mapped (λ v. v.items) result ≡ and_then counted (mapped (λ v. v.items) rows) }
 {
     let rows = rows?;
@@ -115,7 +115,7 @@ fn counted(rows: Result<Vec<AuthTerms>, ImportFault>) -> Result<Vec<AuthTerms>, 
     }
 }
 
-fn read_row(row: &ByteRecord) -> Result<AuthTerms, ImportFault>
+fn read_row(row: &ByteRecord) -> Result<ImportRow, ImportFault>
     ensures { result ≡ row_in (fields_of row.now) }
 {
     if row.len() != 5 {
@@ -136,7 +136,7 @@ fn row_of(
     max: Option<u8>,
     from: Option<Day>,
     until: Option<Day>,
-) -> Result<AuthTerms, ImportFault>
+) -> Result<ImportRow, ImportFault>
     ensures { result ≡ row_of asn prefix max from until }
 {
     let vrp = both(
@@ -152,11 +152,11 @@ fn row_of(
 
 fn terms_of(
     parts: Result<((((Asn, Prefix), u8), Day), Day), ImportFault>,
-) -> Result<AuthTerms, ImportFault>
+) -> Result<ImportRow, ImportFault>
     ensures { result ≡ mapped terms_of parts }
 {
     let ((((asn, prefix), max), from), until) = parts?;
-    Ok(AuthTerms {
+    Ok(ImportRow {
         asn,
         prefix,
         max,

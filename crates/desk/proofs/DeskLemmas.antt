@@ -24,7 +24,7 @@ use Rattle.desk.specs.steps.Reading.{OfHistories}
 use Rattle.sqlite.specs.Store.{Ghosts}
 use Rattle.store.specs.StoreRows.{StoreView, IsRead, IfClean, HoldsAfter}
 use Rattle.store.specs.Loads.{OfHeldRows}
-use Rattle.registry.specs.declared.authorization.AuthTerms.{AuthTerms}
+use Rattle.registry.specs.declared.authorization.ImportRow.{ImportRow}
 use Rattle.registry.specs.declared.command.Command.{Command}
 use Rattle.registry.specs.declared.command.Command.TheVariants.{Import}
 use Rattle.registry.specs.Values.{EntryFits}
@@ -152,7 +152,7 @@ list_refused history h day caller Memory refused = tt
 -- ---- acceptances
 
 -- a command that is no import, however it is told
-not_import : (command : Command) → ((h : List ℕ) (rows : Vec AuthTerms) → command ≡ Import h rows → ⊥) → is_import command ≡ false
+not_import : (command : Command) → ((h : List ℕ) (rows : Vec ImportRow) → command ≡ Import h rows → ⊥) → is_import command ≡ false
 not_import (Import h rows) other = absurd (other h rows refl)
 not_import command other = refl
 
@@ -161,12 +161,12 @@ plain_accepted (Import h rows) change plain charter history day caller accepted 
 plain_accepted command change plain charter history day caller accepted = (plain, accepted.leaves, accepted.numbered)
 
 -- an accepted command other than an import has its number
-pub done_accepted : (command : Command) (change : Change) → ((h : List ℕ) (rows : Vec AuthTerms) → command ≡ Import h rows → ⊥)
+pub done_accepted : (command : Command) (change : Change) → ((h : List ℕ) (rows : Vec ImportRow) → command ≡ Import h rows → ⊥)
     → AnswersAccepted command change (Done (number_made change))
 done_accepted command change other = plain_accepted command change (not_import command other)
 
 -- and an import its counts
-pub imported_accepted : (holder : List ℕ) (rows : Vec AuthTerms) (change : Change) (count : ℕ) → count ≡ length rows.items
+pub imported_accepted : (holder : List ℕ) (rows : Vec ImportRow) (change : Change) (count : ℕ) → count ≡ length rows.items
     → AnswersAccepted (Import holder rows) change (Imported (imported change) (count - imported change))
 imported_accepted holder rows change count long charter history day caller accepted =
     let counts = accepted.numbered.1 in

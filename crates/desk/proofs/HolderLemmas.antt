@@ -5,7 +5,7 @@ use Rattle.std.proofs.lemmas.Bool.{cases_Bool, cond-false, or_parts, true≢fals
 use Rattle.histories.specs.Growth.{GrowthIsLegal}
 use Rattle.isolation.specs.Isolation.{asks_of_all, AreJudgedAlike, AreSeenAlike, GrowAlike, CommandsByEntries, HypotheticalByEntries, ImportsByEntries, QueriesByEntries}
 use Rattle.addr.specs.declared.route.Route.{Route}
-use Rattle.registry.specs.declared.authorization.AuthTerms.{AuthTerms}
+use Rattle.registry.specs.declared.authorization.ImportRow.{ImportRow}
 use Rattle.registry.specs.declared.change.Change.{Change}
 use Rattle.registry.specs.declared.change.Change.TheVariants.{Holders, Exceptions as Replace}
 use Rattle.registry.specs.declared.change.HolderChange.{HolderChange}
@@ -77,7 +77,7 @@ command_alike charter one other day caller command Unavailable after plain alike
 command_alike charter one other day caller command reply after plain alike answers = absurd answers
 
 -- and so is an import that comes out alike
-import_alike : (charter : Charter) (history : History) (day : ℕ) (caller holder : List ℕ) (rows : Vec AuthTerms) (reply : Reply) (after : History)
+import_alike : (charter : Charter) (history : History) (day : ℕ) (caller holder : List ℕ) (rows : Vec ImportRow) (reply : Reply) (after : History)
     → GrowAlike (JudgesRow charter day caller holder) day caller holder history rows.items → AnswersCommand charter history day caller (Import holder rows) reply after
     → (later : History) × AnswersCommand charter (entries_naming holder history) day caller (Import holder rows) reply later
 import_alike charter history day caller holder rows (Imported made present) after alike answers =

@@ -51,7 +51,7 @@ grants_after-fit charter before day caller (Grant holder name role scope until) 
 grants_after-fit charter before day caller (Revoke holder n) h accepted values fit =
     elim (same_name holder h) as (λ b. GrantsFit (grants_made before h) (cond b (filter (λ g. not (eqb g.number n)) (grant_terms before h)) (grant_terms before h)))
     [ true ↦ record { made = fit.made; terms = All-filter (λ g. not (eqb g.number n)) GrantFits (grant_terms before h) fit.terms } | false ↦ fit ]
-grants_after-fit charter before day caller (Create holder asn p max from until) h accepted values fit = fit
+grants_after-fit charter before day caller (Create holder terms) h accepted values fit = fit
 grants_after-fit charter before day caller (Amend holder n max until) h accepted values fit = fit
 grants_after-fit charter before day caller (Withdraw holder n) h accepted values fit = fit
 grants_after-fit charter before day caller (Import holder rows) h accepted values fit = absurd accepted
@@ -127,12 +127,12 @@ auths_after-fit charter before day caller (Transfer p giver taker) h accepted va
 auths_after-fit charter before day caller (Reclaim holder p) h accepted values fit = fit
 auths_after-fit charter before day caller (Grant holder name role scope until) h accepted values fit = fit
 auths_after-fit charter before day caller (Revoke holder n) h accepted values fit = fit
-auths_after-fit charter before day caller (Create holder asn p max from until) h accepted values fit =
-    let e : Entry = record { day = day; caller = caller; command = Create holder asn p max from until } in
+auths_after-fit charter before day caller (Create holder terms) h accepted values fit =
+    let e : Entry = record { day = day; caller = caller; command = Create holder terms } in
     let F = FitsWhereHeld (e ∷ before) h in
     let auths = authorization_terms before h in
     let made = authorizations_made before h in
-    let x : Auth = record { number = made + 1; asn = asn; prefix = p; max = max; from = from; until = until } in
+    let x = numbered_terms terms (made + 1) in
     elim (cases_Bool (same_name holder h)) [
       | inl t ↦
           let room : made < LAST_NUMBER =
@@ -140,7 +140,7 @@ auths_after-fit charter before day caller (Create holder asn p max from until) h
           let fits : AuthFits x = record {
             number = (omega arith, omega (arith, room));
             asn = values.1;
-            max = in_range p max accepted.1.1.1.0;
+            max = in_range terms.prefix terms.max accepted.1.1.1.0;
             from = values.3;
             until = values.4;
           } in
@@ -196,7 +196,7 @@ exceptions_after-fit (Transfer p giver taker) before values fit = fit
 exceptions_after-fit (Reclaim holder p) before values fit = fit
 exceptions_after-fit (Grant holder name role scope until) before values fit = fit
 exceptions_after-fit (Revoke holder n) before values fit = fit
-exceptions_after-fit (Create holder asn p max from until) before values fit = fit
+exceptions_after-fit (Create holder terms) before values fit = fit
 exceptions_after-fit (Amend holder n max until) before values fit = fit
 exceptions_after-fit (Withdraw holder n) before values fit = fit
 exceptions_after-fit (Import holder rows) before values fit = fit

@@ -14,7 +14,7 @@ use Rattle.registry.specs.GrowingHistory.{Grows, grown_by}
 use Rattle.registry.specs.History.{History}
 use Rattle.registry.specs.HypotheticalHistory.{JudgesChange, proposed_command}
 use Rattle.registry.specs.Import.{JudgesRow, creation}
-use Rattle.registry.specs.Values.{TermsFit, CommandFits, HistoryFits}
+use Rattle.registry.specs.Values.{RowOfImportFits, CommandFits, HistoryFits}
 use Rattle.registry.specs.Verdict.{Verdict, IsLegal}
 use Rattle.histories.specs.Growth.{GrowthIsLegal, GrowthFits, HypotheticalIsLegal}
 
@@ -104,10 +104,10 @@ hypothetical_is_legal charter day caller holder before changes after legal would
 
 pub growth_fits : GrowthFits
 growth_fits charter before day caller (Import holder rows) after entry fits leaves =
-    grown-keeps (JudgesRow charter day caller holder) day caller TermsFit HistoryFits step before rows.items after entry.command.1 fits leaves
+    grown-keeps (JudgesRow charter day caller holder) day caller RowOfImportFits HistoryFits step before rows.items after entry.command.1 fits leaves
   where
-    step : EntriesKeep (JudgesRow charter day caller holder) day caller TermsFit HistoryFits
+    step : EntriesKeep (JudgesRow charter day caller holder) day caller RowOfImportFits HistoryFits
     step history t command terms is kept =
-        let values : CommandFits (creation holder t) = (entry.command.0, terms.0, terms.1, terms.2, terms.3) in
+        let values : CommandFits (creation holder t) = (entry.command.0, terms) in
         (record { day = entry.day; caller = entry.caller; command = subst CommandFits (sym is.1) values }, kept)
 growth_fits charter before day caller command after entry fits leaves = subst HistoryFits (sym leaves.1) (entry, fits)

@@ -69,7 +69,7 @@ taken charter before day caller (Reclaim holder q) former p accepted takes =
     }
 taken charter before day caller (Grant holder name role scope until) former p accepted takes = absurd takes
 taken charter before day caller (Revoke holder n) former p accepted takes = absurd takes
-taken charter before day caller (Create holder asn q max from until) former p accepted takes = absurd takes
+taken charter before day caller (Create holder terms) former p accepted takes = absurd takes
 taken charter before day caller (Amend holder n max until) former p accepted takes = absurd takes
 taken charter before day caller (Withdraw holder n) former p accepted takes = absurd takes
 taken charter before day caller (Import holder rows) former p accepted takes = absurd accepted

@@ -1,7 +1,7 @@
 -- A command is judged in one way alone, and so is each part of a request of several.
 use Rattle.std.proofs.Common.{◌≡◌, ℕ, ◌+◌, List, [], ◌∷◌, Option, Some, None, IsSomeAnd, Result, Ok, Err, inl, inr, refl, sym, ap, ◌∙◌, subst}
 use Rattle.std.proofs.lemmas.Option.{same_Some, none-some}
-use Rattle.registry.specs.declared.authorization.AuthTerms.{AuthTerms}
+use Rattle.registry.specs.declared.authorization.ImportRow.{ImportRow}
 use Rattle.charters.specs.declared.charter.Charter.{Charter}
 use Rattle.registry.specs.declared.command.Command.{Command}
 use Rattle.registry.specs.declared.command.Command.TheVariants.{Register, Delegate, Transfer, Reclaim, Grant, Revoke, Create, Amend, Withdraw, Import, Slurm}
@@ -48,7 +48,7 @@ one_verdict charter history day caller (Transfer p giver taker) = asked (asked (
 one_verdict charter history day caller (Reclaim holder p) = asked (asked (asked accepted))
 one_verdict charter history day caller (Grant holder name role scope until) = asked (asked (asked (asked accepted)))
 one_verdict charter history day caller (Revoke holder n) = asked (asked accepted)
-one_verdict charter history day caller (Create holder asn p max from until) = asked (asked (asked (asked (asked (asked (asked accepted))))))
+one_verdict charter history day caller (Create holder terms) = asked (asked (asked (asked (asked (asked (asked accepted))))))
 one_verdict charter history day caller (Amend holder n max until) = asked (asked (asked (asked (asked accepted))))
 one_verdict charter history day caller (Withdraw holder n) = asked (asked accepted)
 one_verdict charter history day caller (Import holder rows) = record { same = λ a b x y. absurd x }
@@ -110,11 +110,11 @@ one_denial {X} {judges} once day caller before (x ∷ xs) r s m n (inr one) (inr
 pub import_once : (charter : Charter) (day : ℕ) (caller holder : List ℕ) → JudgesOnce (JudgesRow charter day caller holder)
 import_once charter day caller holder = record { same = both }
   where
-    one : (history : History) (t : AuthTerms) (rule : Rule) → Verdict charter history day caller (creation holder t) None
+    one : (history : History) (t : ImportRow) (rule : Rule) → Verdict charter history day caller (creation holder t) None
         → Verdict charter history day caller (creation holder t) (Some rule) → ⊥
     one history t rule = not_denied (one_verdict charter history day caller (creation holder t))
 
-    both : (history : History) (t : AuthTerms) (a b : Result (Option Command) Rule) → JudgesRow charter day caller holder history t a
+    both : (history : History) (t : ImportRow) (a b : Result (Option Command) Rule) → JudgesRow charter day caller holder history t a
         → JudgesRow charter day caller holder history t b → a ≡ b
     both history t (Ok None) (Ok None) x y = refl
     both history t (Ok None) (Ok (Some d)) x y = absurd (y.0 x)

@@ -294,18 +294,18 @@ apart-after charter before day caller (Withdraw holder n) h accepted pairs =
     let same = PairsApart-weaker (HeldSinceMade before h) (HeldSinceMade (e ∷ before) h) (authorization_terms before h) (λ x since. since.1) pairs in
     elim (same_name holder h) as (λ b. PairsApart (HeldSinceMade (e ∷ before) h) (cond b (filter keep (authorization_terms before h)) (authorization_terms before h)))
     [ true ↦ PairsApart-filter (HeldSinceMade (e ∷ before) h) keep (authorization_terms before h) same | false ↦ same ]
-apart-after charter before day caller (Create holder asn p max from until) h accepted pairs =
-    let e : Entry = record { day = day; caller = caller; command = Create holder asn p max from until } in
-    let x : Auth = record { number = authorizations_made before h + 1; asn = asn; prefix = p; max = max; from = from; until = until } in
+apart-after charter before day caller (Create holder terms) h accepted pairs =
+    let e : Entry = record { day = day; caller = caller; command = Create holder terms } in
+    let x = numbered_terms terms (authorizations_made before h + 1) in
     let old = PairsApart-weaker (HeldSinceMade before h) (HeldSinceMade (e ∷ before) h) (authorization_terms before h) (λ y since. since.1) pairs in
     let G : Bool → Type 0 = λ b. PairsApart (HeldSinceMade (e ∷ before) h) (cond b (authorization_terms before h ++ x ∷ []) (authorization_terms before h)) in
     elim (cases_Bool (same_name holder h)) [
       | inl t ↦
           let of = accepted.1.1.1.1.1.0 in
-          let at_holder = each_of_kept (HeldSinceMade before holder) (λ y. gives_vrp y asn p max) (authorization_terms before holder) of.0 of.1 of.2 in
-          let Q : List ℕ → Type 0 = λ g. Each (λ y. HeldSinceMade before g y → gives_vrp y asn p max ≡ false) (authorization_terms before g) in
+          let at_holder = each_of_kept (HeldSinceMade before holder) (λ y. gives_vrp y terms.asn terms.prefix terms.max) (authorization_terms before holder) of.0 of.1 of.2 in
+          let Q : List ℕ → Type 0 = λ g. Each (λ y. HeldSinceMade before g y → gives_vrp y terms.asn terms.prefix terms.max ≡ false) (authorization_terms before g) in
           let none = subst Q (same_name-true holder h t) at_holder in
-          let later_on = Each-weaker (HeldSinceMade before h) (HeldSinceMade (e ∷ before) h) (λ y. gives_vrp y asn p max) (authorization_terms before h) (λ y since. since.1) none in
+          let later_on = Each-weaker (HeldSinceMade before h) (HeldSinceMade (e ∷ before) h) (λ y. gives_vrp y terms.asn terms.prefix terms.max) (authorization_terms before h) (λ y since. since.1) none in
           subst G (sym t) (PairsApart-append (HeldSinceMade (e ∷ before) h) (authorization_terms before h) x later_on old)
       | inr f ↦ subst G (sym f) old
     ]

@@ -9,7 +9,6 @@ use Rattle.addr.specs.declared.prefix.Prefix.{Prefix}
 use Rattle.addr.proofs.AddressLemmas.{between_at, first-last}
 use Rattle.addr.specs.Address.{last_of}
 use Rattle.registry.specs.declared.authorization.Auth.{Auth}
-use Rattle.registry.specs.declared.authorization.AuthTerms.{AuthTerms}
 use Rattle.charters.specs.declared.charter.Charter.{Charter}
 use Rattle.registry.specs.declared.command.Command.{Command}
 use Rattle.registry.specs.declared.command.Command.TheVariants.{Register, Delegate, Transfer, Reclaim, Grant, Revoke, Create, Amend, Withdraw, Import, Slurm}
@@ -139,8 +138,7 @@ agree-again charter history before then day by caller (Grant holder name role sc
 agree-again charter history before then day by caller (Revoke holder n) first same other accepted h =
     let test = list_any (λ (g : Granted). eqb g.number n) in
     absurd (false≢true (sym (any_filtered (λ g. eqb g.number n) (grant_terms before holder)) ∙ sym (ap test (same.grants ∙ cond-true _ _ _ (same_name-same holder))) ∙ accepted.1.0))
-agree-again charter history before then day by caller (Create holder asn p max from until) first same other accepted h =
-    let t : AuthTerms = record { asn = asn; prefix = p; max = max; from = from; until = until } in
+agree-again charter history before then day by caller (Create holder t) first same other accepted h =
     let has = (active_alike (agree-sym same) _).0 (created_has charter before then by holder t first) in
     absurd (not_made_again charter history day caller holder t has accepted)
 agree-again charter history before then day by caller (Amend holder n max until) first same other accepted h =

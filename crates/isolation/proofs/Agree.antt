@@ -101,7 +101,7 @@ held_after (Reclaim holder q) h a o p same =
     elim (has_address q a) as (λ b. is_held_by h (cond b None o) ≡ is_held_by h (cond b None p)) [ true ↦ refl | false ↦ same ]
 held_after (Grant holder name role scope until) h a o p same = same
 held_after (Revoke holder n) h a o p same = same
-held_after (Create holder asn q max from until) h a o p same = same
+held_after (Create holder terms) h a o p same = same
 held_after (Amend holder n max until) h a o p same = same
 held_after (Withdraw holder n) h a o p same = same
 held_after (Import holder rows) h a o p same = same

@@ -1,7 +1,7 @@
 -- Parts that are judged at a holder come out alike where histories agree on what it has.
 use Rattle.std.proofs.Common.{◌≡◌, ℕ, ◌+◌, ◌||◌, List, [], ◌∷◌, Option, Some, None, Result, Ok, Err, inl, inr, refl, sym, ap, ◌∙◌, subst}
 use Rattle.std.proofs.lemmas.Bool.{cond-true}
-use Rattle.registry.specs.declared.authorization.AuthTerms.{AuthTerms}
+use Rattle.registry.specs.declared.authorization.ImportRow.{ImportRow}
 use Rattle.charters.specs.declared.charter.Charter.{Charter}
 use Rattle.registry.specs.declared.command.Command.{Command}
 use Rattle.registry.specs.declared.command.Proposed.{Proposed}
@@ -103,7 +103,7 @@ grow_alike {judges = judges} {charter = charter} {holder = holder} {day = day} {
       denied = λ rule place. (denied-alike at history entries xs rule place same, denied-alike at entries history xs rule place (agree-sym same));
     }
 
-pub present_alike : {one other : History} {holder : List ℕ} (day : ℕ) (caller : List ℕ) (t : AuthTerms)
+pub present_alike : {one other : History} {holder : List ℕ} (day : ℕ) (caller : List ℕ) (t : ImportRow)
     → Agree one other holder → IsPresent day caller holder one t → IsPresent day caller holder other t
 present_alike day caller t same present =
     (ap (λ grants. is_permitted grants day caller Alter t.prefix) (sym same.grants) ∙ present.0, (active_alike same _).0 present.1)
@@ -129,7 +129,7 @@ changes_alike : (charter : Charter) (day : ℕ) (caller holder : List ℕ) → A
 changes_alike charter day caller holder one other change outcome same is = by_outcome outcome is
   where
     alike : (p : Proposed) → AreJudgedAlike charter one other day caller (proposed_command holder p)
-    alike (ProposedCreate t) = judged_alike charter one other day caller (creation holder t) same same refl
+    alike (ProposedCreate t) = judged_alike charter one other day caller (proposed_command holder (ProposedCreate t)) same same refl
     alike (ProposedWithdraw n) = judged_alike charter one other day caller (proposed_command holder (ProposedWithdraw n)) same same refl
 
     by_outcome : (o : Result (Option Command) Rule) → JudgesChange charter day caller holder one change o → JudgesChange charter day caller holder other change o

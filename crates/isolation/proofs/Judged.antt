@@ -94,12 +94,12 @@ judged charter one other day caller (Grant holder name role scope until) same ta
 judged charter one other day caller (Revoke holder n) same taker own =
     asked (of_grants same (λ grants. is_operator charter caller || has_access grants day caller Manage)) (
     asked (of_grants same (list_any (λ g. eqb g.number n))) accepted)
-judged charter one other day caller (Create holder asn p max from until) same taker own =
+judged charter one other day caller (Create holder terms) same taker own =
     asked (of_grants same (λ grants. has_access grants day caller Alter)) (
-    asked (of_grants same (λ grants. is_permitted grants day caller Alter p)) (
+    asked (of_grants same (λ grants. is_permitted grants day caller Alter terms.prefix)) (
     asked itself (
     asked itself (
-    asked (of_holds same p) (
+    asked (of_holds same terms.prefix) (
     asked (active_alike same _) (
     asked (both (active_alike same _) (fewer same.created))
     accepted))))))
@@ -123,7 +123,7 @@ number_alike one other (Transfer p giver taker) same = refl
 number_alike one other (Reclaim holder p) same = refl
 number_alike one other (Grant holder name role scope until) same = ap (λ made. Some (made + 1)) same.granted
 number_alike one other (Revoke holder n) same = refl
-number_alike one other (Create holder asn p max from until) same = ap (λ made. Some (made + 1)) same.created
+number_alike one other (Create holder terms) same = ap (λ made. Some (made + 1)) same.created
 number_alike one other (Amend holder n max until) same = refl
 number_alike one other (Withdraw holder n) same = refl
 number_alike one other (Import holder rows) same = refl

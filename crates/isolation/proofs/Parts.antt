@@ -43,7 +43,7 @@ leaves_held charter before day caller (Reclaim holder p) h accepted other other_
     moved h p None (resource_holder before a) a refl (λ has. ap (is_held_by h) (accepted.1.1.0 a has) ∙ other)
 leaves_held charter before day caller (Grant holder name role scope until) h accepted other other_taker a = refl
 leaves_held charter before day caller (Revoke holder n) h accepted other other_taker a = refl
-leaves_held charter before day caller (Create holder asn p max from until) h accepted other other_taker a = refl
+leaves_held charter before day caller (Create holder terms) h accepted other other_taker a = refl
 leaves_held charter before day caller (Amend holder n max until) h accepted other other_taker a = refl
 leaves_held charter before day caller (Withdraw holder n) h accepted other other_taker a = refl
 leaves_held charter before day caller (Import holder rows) h accepted other other_taker a = absurd accepted
@@ -134,7 +134,7 @@ agree-for charter history (Transfer p giver taker) legal = agree-either charter 
 agree-for charter history (Reclaim holder p) legal = twice (agree-entries charter history holder legal)
 agree-for charter history (Grant holder name role scope until) legal = twice (agree-entries charter history holder legal)
 agree-for charter history (Revoke holder n) legal = twice (agree-entries charter history holder legal)
-agree-for charter history (Create holder asn p max from until) legal = twice (agree-entries charter history holder legal)
+agree-for charter history (Create holder terms) legal = twice (agree-entries charter history holder legal)
 agree-for charter history (Amend holder n max until) legal = twice (agree-entries charter history holder legal)
 agree-for charter history (Withdraw holder n) legal = twice (agree-entries charter history holder legal)
 agree-for charter history (Import holder rows) legal = twice (agree-entries charter history holder legal)

@@ -11,13 +11,15 @@ use Rattle.addr.specs.declared.prefix.Prefix.{Prefix}
 use Rattle.addr.proofs.Equality.{prefix_itself}
 use Rattle.registry.specs.declared.authorization.Auth.{Auth}
 use Rattle.registry.specs.declared.authorization.AuthTerms.{AuthTerms}
+use Rattle.registry.specs.declared.authorization.ImportRow.{ImportRow}
 use Rattle.charters.specs.declared.charter.Charter.{Charter}
 use Rattle.registry.specs.declared.command.Command.{Command}
+use Rattle.registry.specs.declared.command.Command.TheVariants.{Create}
 use Rattle.registry.specs.GrowingHistory.{grown_by}
 use Rattle.registry.specs.History.{Entry, History}
-use Rattle.registry.specs.Import.{IsPresent, JudgesRow, ImportGrows, creation, has_terms}
+use Rattle.registry.specs.Import.{IsPresent, JudgesRow, ImportGrows, has_terms}
 use Rattle.registry.specs.Resources.{HoldsPrefix}
-use Rattle.registry.specs.Terms.{gives_vrp, authorizations_made, authorization_terms, HeldSinceMade, Keeps, AreActive, OfActive}
+use Rattle.registry.specs.Terms.{numbered_terms, row_terms, gives_vrp, authorizations_made, authorization_terms, HeldSinceMade, Keeps, AreActive, OfActive}
 use Rattle.registry.specs.Verdict.{Verdict}
 use Rattle.registry.proofs.Names.{same_name-same}
 use Rattle.registry.proofs.Held.{active-kept, not_yet_made}
@@ -33,12 +35,8 @@ use Rattle.isolation.proofs.GrownAlike.{present_alike}
 abbrev pub HasTerms : History → List ℕ → AuthTerms → Type 0
 HasTerms history holder t = OfActive history holder (λ active. list_any (has_terms t) active ≡ true)
 
--- the authorization that a create of the terms makes
-abbrev made_of : ℕ → AuthTerms → Auth
-made_of made t = record { number = made + 1; asn = t.asn; prefix = t.prefix; max = t.max; from = t.from; until = t.until }
-
-has_its_terms : (made : ℕ) (t : AuthTerms) → has_terms t (made_of made t) ≡ true
-has_its_terms made t =
+has_its_terms : (n : ℕ) (t : AuthTerms) → has_terms t (numbered_terms t n) ≡ true
+has_its_terms n t =
     let asn : eqb t.asn.0 t.asn.0 ≡ true = grind (arith, nat_tests) in
     let max : eqb t.max t.max ≡ true = grind (arith, nat_tests) in
     let from : eqb t.from t.from ≡ true = grind (arith, nat_tests) in
@@ -60,11 +58,11 @@ any_gives t (x ∷ xs) any = elim (cases_Bool (has_terms t x)) [
 -- the active authorizations with the new one
 active-created : (history : History) (day : ℕ) (caller holder : List ℕ) (t : AuthTerms) → HoldsPrefix history holder t.prefix
     → (active : List Auth) → AreActive history holder active
-    → AreActive (record { day = day; caller = caller; command = creation holder t } ∷ history) holder
-    (active ++ made_of (authorizations_made history holder) t ∷ [])
+    → AreActive (record { day = day; caller = caller; command = Create holder t } ∷ history) holder
+    (active ++ numbered_terms t (authorizations_made history holder + 1) ∷ [])
 active-created history day caller holder t holds active are =
-    let e : Entry = record { day = day; caller = caller; command = creation holder t } in
-    let x = made_of (authorizations_made history holder) t in
+    let e : Entry = record { day = day; caller = caller; command = Create holder t } in
+    let x = numbered_terms t (authorizations_made history holder + 1) in
     let since : HeldSinceMade (e ∷ history) holder x = (
       λ _. λ p is a has. holds a (subst (λ (q : Prefix). has_address q a ≡ true) is has),
       not_yet_made history holder x (omega arith),
@@ -75,24 +73,24 @@ active-created history day caller holder t holds active are =
 
 -- an accepted create makes one with its terms
 pub created_has : (charter : Charter) (history : History) (day : ℕ) (caller holder : List ℕ) (t : AuthTerms)
-    → Verdict charter history day caller (creation holder t) None
-    → HasTerms (record { day = day; caller = caller; command = creation holder t } ∷ history) holder t
+    → Verdict charter history day caller (Create holder t) None
+    → HasTerms (record { day = day; caller = caller; command = Create holder t } ∷ history) holder t
 created_has charter history day caller holder t accepted =
     let new = accepted.1.1.1.1.1.0 in
-    let x = made_of (authorizations_made history holder) t in (
+    let x = numbered_terms t (authorizations_made history holder + 1) in (
       new.0 ++ x ∷ [],
       active-created history day caller holder t accepted.1.1.1.1.0 new.0 new.1,
       list_any-append (has_terms t) new.0 (x ∷ [])
-          ∙ ap (λ b. list_any (has_terms t) new.0 || (b || list_any (has_terms t) [])) (has_its_terms (authorizations_made history holder) t)
+          ∙ ap (λ b. list_any (has_terms t) new.0 || (b || list_any (has_terms t) [])) (has_its_terms (authorizations_made history holder + 1) t)
           ∙ or-true (list_any (has_terms t) new.0),
     )
 
 -- and keeps the terms that one had
 create_keeps : (charter : Charter) (history : History) (day : ℕ) (caller holder : List ℕ) (t u : AuthTerms)
-    → Verdict charter history day caller (creation holder u) None → HasTerms history holder t
-    → HasTerms (record { day = day; caller = caller; command = creation holder u } ∷ history) holder t
+    → Verdict charter history day caller (Create holder u) None → HasTerms history holder t
+    → HasTerms (record { day = day; caller = caller; command = Create holder u } ∷ history) holder t
 create_keeps charter history day caller holder t u accepted has =
-    let x = made_of (authorizations_made history holder) u in (
+    let x = numbered_terms u (authorizations_made history holder + 1) in (
       has.0 ++ x ∷ [],
       active-created history day caller holder u accepted.1.1.1.1.0 has.0 has.1,
       list_any-append (has_terms t) has.0 (x ∷ []) ∙ ap (λ b. b || list_any (has_terms t) (x ∷ [])) has.2,
@@ -100,7 +98,7 @@ create_keeps charter history day caller holder t u accepted has =
 
 -- terms that one has are not made again, by rule `same`
 pub not_made_again : (charter : Charter) (history : History) (day : ℕ) (caller holder : List ℕ) (t : AuthTerms)
-    → HasTerms history holder t → Verdict charter history day caller (creation holder t) None → ⊥
+    → HasTerms history holder t → Verdict charter history day caller (Create holder t) None → ⊥
 not_made_again charter history day caller holder t has accepted =
     let new = accepted.1.1.1.1.1.0 in
     let one = Keeps-unique (HeldSinceMade history holder) (authorization_terms history holder) has.0 new.0 has.1 new.1 in
@@ -108,23 +106,23 @@ not_made_again charter history day caller holder t has accepted =
     false≢true (sym new.2 ∙ ap test (sym one) ∙ any_gives t has.0 has.2)
 
 -- a row of an import is present once it was judged
-row_present : (charter : Charter) (day : ℕ) (caller holder : List ℕ) (history : History) (t : AuthTerms) (made : Option Command)
+row_present : (charter : Charter) (day : ℕ) (caller holder : List ℕ) (history : History) (t : ImportRow) (made : Option Command)
     → JudgesRow charter day caller holder history t (Ok made) → IsPresent day caller holder (grown_by day caller made history) t
 row_present charter day caller holder history t None is = is
 row_present charter day caller holder history t (Some c) is =
     let accepted = subst (λ (d : Command). Verdict charter history day caller d None) is.1 is.2 in
     subst (λ (d : Command). IsPresent day caller holder (record { day = day; caller = caller; command = d } ∷ history) t) (sym is.1)
-    (accepted.1.0, created_has charter history day caller holder t accepted)
+    (accepted.1.0, created_has charter history day caller holder (row_terms t) accepted)
 
 -- and stays so
-rows_keep : (charter : Charter) (day : ℕ) (caller holder : List ℕ) (t : AuthTerms)
+rows_keep : (charter : Charter) (day : ℕ) (caller holder : List ℕ) (t : ImportRow)
     → EntriesKeep (JudgesRow charter day caller holder) day caller (λ u. Unit {0}) (λ history. IsPresent day caller holder history t)
 rows_keep charter day caller holder t history u c some is present =
     let accepted = subst (λ (d : Command). Verdict charter history day caller d None) is.1 is.2 in
     subst (λ (d : Command). IsPresent day caller holder (record { day = day; caller = caller; command = d } ∷ history) t) (sym is.1)
-    (present.0, create_keeps charter history day caller holder t u accepted present.1)
+    (present.0, create_keeps charter history day caller holder (row_terms t) (row_terms u) accepted present.1)
 
-all_present : (charter : Charter) (day : ℕ) (caller holder : List ℕ) (before : History) (rows : List AuthTerms) (left : History)
+all_present : (charter : Charter) (day : ℕ) (caller holder : List ℕ) (before : History) (rows : List ImportRow) (left : History)
     → ImportGrows charter day caller holder before rows left → All (IsPresent day caller holder left) rows
 all_present charter day caller holder before [] left grows = All-nil (IsPresent day caller holder left)
 all_present charter day caller holder before (t ∷ rows) left grows =
@@ -132,11 +130,11 @@ all_present charter day caller holder before (t ∷ rows) left grows =
     let present = row_present charter day caller holder before t grows.0 grows.1 in
     All-cons (IsPresent day caller holder left) t rows
     (grown-keeps (JudgesRow charter day caller holder) day caller (λ u. Unit {0}) (λ history. IsPresent day caller holder history t)
-    (rows_keep charter day caller holder t) next rows left (All-every (λ (u : AuthTerms). Unit {0}) (λ u. tt) rows) present grows.2)
+    (rows_keep charter day caller holder t) next rows left (All-every (λ (u : ImportRow). Unit {0}) (λ u. tt) rows) present grows.2)
     (all_present charter day caller holder next rows left grows.2)
 
 -- rows that are all present make nothing
-present_grows : (charter : Charter) (day : ℕ) (caller holder : List ℕ) (history : History) (rows : List AuthTerms)
+present_grows : (charter : Charter) (day : ℕ) (caller holder : List ℕ) (history : History) (rows : List ImportRow)
     → All (IsPresent day caller holder history) rows → ImportGrows charter day caller holder history rows history
 present_grows charter day caller holder history [] all = refl
 present_grows charter day caller holder history (t ∷ rows) all = (
@@ -145,19 +143,23 @@ present_grows charter day caller holder history (t ∷ rows) all = (
   present_grows charter day caller holder history rows (All-tail (IsPresent day caller holder history) t rows all),
 )
 
+-- an active authorization has the terms of the row
+abbrev HasRow : History → List ℕ → ImportRow → Type 0
+HasRow history holder row = HasTerms history holder (row_terms row)
+
 -- nor does a row whose terms one has, where it is not denied
-had_makes_none : (charter : Charter) (day : ℕ) (caller holder : List ℕ) (history : History) (t : AuthTerms) (made : Option Command)
-    → HasTerms history holder t → JudgesRow charter day caller holder history t (Ok made) → grown_by day caller made history ≡ history
+had_makes_none : (charter : Charter) (day : ℕ) (caller holder : List ℕ) (history : History) (t : ImportRow) (made : Option Command)
+    → HasTerms history holder (row_terms t) → JudgesRow charter day caller holder history t (Ok made) → grown_by day caller made history ≡ history
 had_makes_none charter day caller holder history t None has is = refl
 had_makes_none charter day caller holder history t (Some c) has is =
-    absurd (not_made_again charter history day caller holder t has (subst (λ (d : Command). Verdict charter history day caller d None) is.1 is.2))
+    absurd (not_made_again charter history day caller holder (row_terms t) has (subst (λ (d : Command). Verdict charter history day caller d None) is.1 is.2))
 
-had_grows : (charter : Charter) (day : ℕ) (caller holder : List ℕ) (history : History) (rows : List AuthTerms) (again : History)
-    → All (HasTerms history holder) rows → ImportGrows charter day caller holder history rows again → again ≡ history
+had_grows : (charter : Charter) (day : ℕ) (caller holder : List ℕ) (history : History) (rows : List ImportRow) (again : History)
+    → All (HasRow history holder) rows → ImportGrows charter day caller holder history rows again → again ≡ history
 had_grows charter day caller holder history [] again all grows = grows
 had_grows charter day caller holder history (t ∷ rows) again all grows =
-    let same = had_makes_none charter day caller holder history t grows.0 (All-head (HasTerms history holder) t rows all) grows.1 in
-    had_grows charter day caller holder history rows again (All-tail (HasTerms history holder) t rows all)
+    let same = had_makes_none charter day caller holder history t grows.0 (All-head (HasRow history holder) t rows all) grows.1 in
+    had_grows charter day caller holder history rows again (All-tail (HasRow history holder) t rows all)
     (subst (λ (next : History). ImportGrows charter day caller holder next rows again) same grows.2)
 
 pub imports_repeat : ImportsRepeat
@@ -167,8 +169,8 @@ imports_repeat charter before day caller holder rows left later grows legal unna
     let present : All (IsPresent day caller holder history) rows =
     All-weaker (IsPresent day caller holder left) (IsPresent day caller holder history) (λ t is. present_alike day caller t same is) rows
     (all_present charter day caller holder before rows left grows) in
-    let had : All (HasTerms history holder) rows =
-    All-weaker (IsPresent day caller holder history) (HasTerms history holder) (λ t is. is.1) rows present in
+    let had : All (HasRow history holder) rows =
+    All-weaker (IsPresent day caller holder history) (HasRow history holder) (λ t is. is.1) rows present in
     let accepted = present_grows charter day caller holder history rows present in
     record {
       accepted = accepted;

@@ -2,7 +2,7 @@
 use Rattle.std.specs.Prelude.{◌≡◌, ℕ, ◌+◌, Bool, true, false, List, ◌↔◌, Option, Result}
 use Rattle.addr.specs.declared.vrp.Vrp.{Vrp}
 use Rattle.registry.specs.declared.authorization.Auth.{Auth}
-use Rattle.registry.specs.declared.authorization.AuthTerms.{AuthTerms}
+use Rattle.registry.specs.declared.authorization.ImportRow.{ImportRow}
 use Rattle.charters.specs.declared.charter.Charter.{Charter}
 use Rattle.registry.specs.declared.command.Command.{Command}
 use Rattle.registry.specs.declared.command.Command.TheVariants.{Delegate}
@@ -120,7 +120,7 @@ pub record GrowAlike {X : Type 0} (judges : History → X → Result (Option Com
 abbrev pub ImportsByEntries : Type 0
 ImportsByEntries =
     (charter : Charter) (history : History) (day : ℕ) (caller holder : List ℕ)
-    (rows : List AuthTerms) → IsLegal charter history
+    (rows : List ImportRow) → IsLegal charter history
     → GrowAlike (JudgesRow charter day caller holder) day caller holder history rows
 
 -- and so are hypothetical changes

@@ -3,7 +3,7 @@
 use Rattle.std.specs.Prelude.{◌≡◌, ℕ, Bool, true, false, List, ◌++◌, Option, ◌↔◌}
 use Rattle.std.specs.List.{list_any}
 use Rattle.std.specs.Option.{IfSome}
-use Rattle.registry.specs.declared.authorization.AuthTerms.{AuthTerms}
+use Rattle.registry.specs.declared.authorization.ImportRow.{ImportRow}
 use Rattle.charters.specs.declared.charter.Charter.{Charter}
 use Rattle.registry.specs.declared.command.Command.{Command}
 use Rattle.registry.specs.declared.command.Command.TheVariants.{Grant}
@@ -56,7 +56,7 @@ RepeatsLeaveRows =
 -- denied, and it leaves the history as it is; and it does so where it is accepted of any caller on any
 -- day
 pub record MakesNothing (charter : Charter) (day : ℕ) (caller holder : List ℕ)
-    (rows : List AuthTerms) (history : History) : Type 0 where
+    (rows : List ImportRow) (history : History) : Type 0 where
   pub accepted : ImportGrows charter day caller holder history rows history
   pub denied :
       (rule : Rule) (place : ℕ)
@@ -69,6 +69,6 @@ pub record MakesNothing (charter : Charter) (day : ℕ) (caller holder : List �
 abbrev pub ImportsRepeat : Type 0
 ImportsRepeat =
     (charter : Charter) (before : History) (day : ℕ) (caller holder : List ℕ)
-    (rows : List AuthTerms) (left later : History)
+    (rows : List ImportRow) (left later : History)
     → ImportGrows charter day caller holder before rows left → IsLegal charter (later ++ left)
     → is_named holder later ≡ false → MakesNothing charter day caller holder rows (later ++ left)

@@ -7,12 +7,13 @@ use Rattle.addr.specs.Address.{has_address}
 use Rattle.addr.specs.declared.asn.Asn.{Asn}
 use Rattle.addr.specs.declared.prefix.Prefix.{Prefix}
 use Rattle.registry.specs.declared.authorization.Auth.{Auth}
+use Rattle.registry.specs.declared.authorization.AuthTerms.{AuthTerms}
 use Rattle.registry.specs.declared.change.Change.TheVariants.{Holders}
 use Rattle.registry.specs.declared.change.Edit.TheVariants.{Create as CreateEdit, Amend as AmendEdit, Withdraw as WithdrawEdit}
 use Rattle.registry.specs.declared.command.Command.TheVariants.{Create, Amend, Withdraw}
 use Rattle.registry.specs.History.{Entry, History, is_registered}
 use Rattle.registry.specs.Resources.{HoldsPrefix}
-use Rattle.registry.specs.Terms.{authorizations_made, authorization_terms, amended, HeldSinceMade, Keeps}
+use Rattle.registry.specs.Terms.{numbered_terms, authorizations_made, authorization_terms, amended, HeldSinceMade, Keeps}
 use Rattle.registry.specs.Verdict.{numbered}
 use Rattle.registry.specs.Rows.{Rows, RowsOf, replaced_by, Carries}
 use Rattle.registry.proofs.Names.{same_name-same}
@@ -21,13 +22,13 @@ use Rattle.registry.proofs.Kept.{Keeps-unique, Keeps-append, Keeps-filtered, Kee
 use Rattle.registry.proofs.Held.{active-kept, active-numbered, not_yet_made, since_same, amended-number, amended-prefix}
 use Rattle.registry.proofs.Carry.{carries-edit}
 
-pub carries-create : (before : History) (day : ℕ) (caller holder : List ℕ) (asn : Asn) (p : Prefix) (max from until : ℕ) (x : Auth)
-    → is_registered before holder ≡ true → HoldsPrefix before holder p
-    → x ≡ record { number = authorizations_made before holder + 1; asn = asn; prefix = p; max = max; from = from; until = until }
+pub carries-create : (before : History) (day : ℕ) (caller holder : List ℕ) (t : AuthTerms) (x : Auth)
+    → is_registered before holder ≡ true → HoldsPrefix before holder t.prefix
+    → x ≡ numbered_terms t (authorizations_made before holder + 1)
     → Carries (Holders (record { holder = holder; edit = CreateEdit x }) None) before
-    (record { day = day; caller = caller; command = Create holder asn p max from until } ∷ before)
-carries-create before day caller holder asn p max from until x registered holds is =
-    let e : Entry = record { day = day; caller = caller; command = Create holder asn p max from until } in
+    (record { day = day; caller = caller; command = Create holder t } ∷ before)
+carries-create before day caller holder t x registered holds is =
+    let e : Entry = record { day = day; caller = caller; command = Create holder t } in
     let number : x.number ≡ authorizations_made before holder + 1 = ap (λ y. y.number) is in
     let since : HeldSinceMade (e ∷ before) holder x = (
       λ made. λ q same a has. holds a (subst (λ (r : Prefix). has_address r a ≡ true) (same ∙ ap (λ y. y.prefix) is) has),

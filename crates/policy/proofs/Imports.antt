@@ -4,7 +4,7 @@ use Rattle.std.specs.Global.{Vec}
 use Rattle.std.proofs.lemmas.List.{length-take-le}
 use Rattle.std.proofs.lemmas.Bool.{cases_Bool, false≢true, cond-true}
 use Rattle.registry.specs.declared.authorization.Auth.{Auth}
-use Rattle.registry.specs.declared.authorization.AuthTerms.{AuthTerms}
+use Rattle.registry.specs.declared.authorization.ImportRow.{ImportRow}
 use Rattle.registry.specs.declared.change.Change.TheVariants.{Holders}
 use Rattle.registry.specs.declared.change.Edit.TheVariants.{Create as CreateEdit, Import as ImportEdit}
 use Rattle.charters.specs.declared.charter.Charter.{Charter}
@@ -83,7 +83,7 @@ carries-more before mid after h made more created x is first second = record {
         [ true ↦ edit-more made more created x rows is | false ↦ refl ]
 
 -- the rows up to a place are judged: the edit is that of them, and the rows of the holder have grown with it
-pub record SoFar (charter : Charter) (history : History) (h : List ℕ) (day : ℕ) (caller : List ℕ) (rows : List AuthTerms)
+pub record SoFar (charter : Charter) (history : History) (h : List ℕ) (day : ℕ) (caller : List ℕ) (rows : List ImportRow)
     (made : Vec Auth) (grown : Rows) : Type 0 where
   pub edit : IsImport charter history h day caller rows (ImportEdit made grown.created)
   pub legal : IsLegal charter edit.after
@@ -106,7 +106,7 @@ so_far-start charter history h day caller made start none legal are =
       rows_are = are;
     }
 
-finds : (charter : Charter) (history : History) (h : List ℕ) (day : ℕ) (caller : List ℕ) (rows : List AuthTerms) (i : ℕ) (t : AuthTerms)
+finds : (charter : Charter) (history : History) (h : List ℕ) (day : ℕ) (caller : List ℕ) (rows : List ImportRow) (i : ℕ) (t : ImportRow)
     (made more : Vec Auth) (before after : Rows) (so_far : SoFar charter history h day caller (take i rows) made before)
     → i < length rows → t ≡ get_or rows i t
     → FindsRow charter so_far.edit.after h day caller t made more before after → SoFar charter history h day caller (take (i + 1) rows) more after
@@ -128,7 +128,7 @@ finds charter history h day caller rows i t made more before after so_far within
     subst (λ (m : Vec Auth). SoFar charter history h day caller (take (i + 1) rows) m after) (sym found.made_none)
     (subst (λ (r : Rows). SoFar charter history h day caller (take (i + 1) rows) made r) (sym found.stays) same)
 
-makes : (charter : Charter) (history : History) (h : List ℕ) (day : ℕ) (caller : List ℕ) (rows : List AuthTerms) (i : ℕ) (t : AuthTerms)
+makes : (charter : Charter) (history : History) (h : List ℕ) (day : ℕ) (caller : List ℕ) (rows : List ImportRow) (i : ℕ) (t : ImportRow)
     (made more : Vec Auth) (before after : Rows) (so_far : SoFar charter history h day caller (take i rows) made before)
     → i < length rows → t ≡ get_or rows i t
     → MakesRow charter so_far.edit.after h day caller t made more before after → SoFar charter history h day caller (take (i + 1) rows) more after
@@ -154,7 +154,7 @@ makes charter history h day caller rows i t made more before after so_far within
     subst (λ (r : Rows). SoFar charter history h day caller (take (i + 1) rows) more r) (sym row.put) same
 
 -- one row more
-pub so_far-more : (charter : Charter) (history : History) (h : List ℕ) (day : ℕ) (caller : List ℕ) (rows : List AuthTerms) (i : ℕ) (t : AuthTerms)
+pub so_far-more : (charter : Charter) (history : History) (h : List ℕ) (day : ℕ) (caller : List ℕ) (rows : List ImportRow) (i : ℕ) (t : ImportRow)
     (made more : Vec Auth) (before after : Rows) (so_far : SoFar charter history h day caller (take i rows) made before)
     → i < length rows → t ≡ get_or rows i t
     → IsRowDone charter so_far.edit.after h day caller t made more before after → SoFar charter history h day caller (take (i + 1) rows) more after
@@ -164,7 +164,7 @@ so_far-more charter history h day caller rows i t made more before after so_far 
     makes charter history h day caller rows i t made more before after so_far within here row
 
 -- a row is denied, or memory was refused
-pub so_far-denied : (charter : Charter) (history : History) (h : List ℕ) (day : ℕ) (caller : List ℕ) (rows : List AuthTerms) (i : ℕ) (t : AuthTerms)
+pub so_far-denied : (charter : Charter) (history : History) (h : List ℕ) (day : ℕ) (caller : List ℕ) (rows : List ImportRow) (i : ℕ) (t : ImportRow)
     (made : Vec Auth) (before : Rows) (so_far : SoFar charter history h day caller (take i rows) made before)
     → i < length rows → t ≡ get_or rows i t → (place : ℕ) → place ≡ i
     → (refusal : Refusal)
@@ -176,7 +176,7 @@ so_far-denied charter history h day caller rows i t made before so_far within he
 so_far-denied charter history h day caller rows i t made before so_far within here place same Memory denied = tt
 
 -- without a registered holder there are no grants, and the first row is denied
-pub denied-unregistered : (charter : Charter) (history : History) (h : List ℕ) (day : ℕ) (caller : List ℕ) (rows : List AuthTerms)
+pub denied-unregistered : (charter : Charter) (history : History) (h : List ℕ) (day : ℕ) (caller : List ℕ) (rows : List ImportRow)
     → 0 < length rows → IsLegal charter history → is_registered history h ≡ false → IsImportDenied charter day caller h history rows GrantRule 1
 denied-unregistered charter history h day caller [] some legal missing = absurd (omega arith)
 denied-unregistered charter history h day caller (t ∷ rest) some legal missing =
@@ -186,7 +186,7 @@ denied-unregistered charter history h day caller (t ∷ rest) some legal missing
     inl ((λ present. false≢true (sym not_permitted ∙ present.0), inl (λ has. false≢true (sym no_access ∙ has), refl)), refl)
 
 -- and an import without rows makes nothing
-pub import-none : (charter : Charter) (history : History) (h : List ℕ) (day : ℕ) (caller : List ℕ) (rows : List AuthTerms) (made : Vec Auth) (created : ℕ) → length rows ≡ 0
+pub import-none : (charter : Charter) (history : History) (h : List ℕ) (day : ℕ) (caller : List ℕ) (rows : List ImportRow) (made : Vec Auth) (created : ℕ) → length rows ≡ 0
     → made.items ≡ [] → is_registered history h ≡ false → IsImport charter history h day caller rows (ImportEdit made created)
 import-none charter history h day caller (t ∷ rest) made created empty none missing = absurd (omega arith)
 import-none charter history h day caller [] made created empty none missing =
@@ -201,7 +201,7 @@ import-none charter history h day caller [] made created empty none missing =
     }
 
 -- the answer to the command is that to its rows
-pub answers-denied : (charter : Charter) (history : History) (h : List ℕ) (day : ℕ) (caller : List ℕ) (rows : Vec AuthTerms) (listed : List AuthTerms) (refusal : Refusal)
+pub answers-denied : (charter : Charter) (history : History) (h : List ℕ) (day : ℕ) (caller : List ℕ) (rows : Vec ImportRow) (listed : List ImportRow) (refusal : Refusal)
     → rows.items ≡ listed → AnswersImport charter history h day caller listed (Err refusal) → IsAnswer charter history day caller (Import h rows) (Err refusal)
 answers-denied charter history h day caller rows listed (Denied rule place) same denied =
     subst (λ xs. IsSomeAnd place (λ n. IsImportDenied charter day caller h history xs rule n)) (sym same) denied

@@ -10,7 +10,7 @@ ghost use Rattle.registry.specs.Permission.{has_access};
 ghost use Rattle.registry.specs.Verdict.{IsLegal, is_steward, numbered, HasAccessTo};
 ghost use Rattle.registry.specs.Rows.{rows_of, rows_if_any, RowsOf, RowsIfAny, grants_if_any};
 
-use crate::{Access, Auth, AuthTerms, Charter, Granted, HolderRows, LAST_NUMBER, Rule};
+use crate::{Access, Auth, AuthTerms, Charter, Granted, HolderRows, ImportRow, LAST_NUMBER, Rule};
 use addr::{Asn, Day, Name, Prefix};
 use registry::{MOST_AUTHORIZATIONS, MOST_GRANTS, has_access, is_permitted};
 
@@ -164,12 +164,12 @@ fn some_has_terms(auths: &[Auth], terms: &AuthTerms) -> bool
 
 /// Whether a row of an import is already authorized: the caller may alter authorizations of its
 /// prefix, and an active one has its terms.
-pub(crate) fn is_present(rows: &HolderRows, day: Day, caller: &Name, terms: &AuthTerms) -> bool
+pub(crate) fn is_present(rows: &HolderRows, day: Day, caller: &Name, row: &ImportRow) -> bool
     ensures { (history : History) (h : List ℕ) → RowsOf history h (rows_of rows.now)
-        → (IsTrue result ↔ IsPresent day caller.now h history terms.now) }
+        → (IsTrue result ↔ IsPresent day caller.now h history row.now) }
 {
-    is_permitted(&rows.grants, day, caller, Access::Alter, &terms.prefix)
-        && some_has_terms(&rows.auths, terms)
+    is_permitted(&rows.grants, day, caller, Access::Alter, &row.prefix)
+        && some_has_terms(&rows.auths, &row.terms())
 }
 
 /// Whether another grant may be made: neither too many are unrevoked, nor were too many made.

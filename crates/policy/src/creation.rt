@@ -2,7 +2,7 @@ ghost use Rattle.std.specs.Prelude.{◌≡◌, ℕ, List, Some, option_copied, M
 ghost use Rattle.charters.specs.declared.charter.Charter.{Charter as CharterValue};
 ghost use Rattle.registry.specs.declared.change.Edit.{Edit};
 ghost use Rattle.registry.specs.History.{History};
-ghost use Rattle.registry.specs.Import.{creation};
+ghost use Rattle.registry.specs.declared.command.Command.{Command};
 ghost use Rattle.registry.specs.Rows.{rows_of, rows_if_any, RowsIfAny, edited};
 ghost use Rattle.registry.specs.Verdict.{IsLegal, Verdict};
 ghost use Rattle.policy.specs.steps.Creation.{IsCreated};
@@ -28,7 +28,7 @@ pub(crate) fn new_auth(
         → RowsIfAny history h (rows_if_any (option_copied rows.entry))
         → MatchResult result
         (IsCreated charter history h day caller.now terms.now)
-        (λ rule. Verdict charter history day caller.now (creation h terms.now) (Some rule)) }
+        (λ rule. Verdict charter history day caller.now (Command.Create h terms.now) (Some rule)) }
 {
     let rows = rows_with_access(rows, day, caller, Access::Alter)?;
     let permitted = is_permitted(&rows.grants, day, caller, Access::Alter, &terms.prefix);
@@ -64,7 +64,7 @@ pub(crate) fn create(
     ensures judged { (charter : CharterValue) (history : History) (h : List ℕ)
         → IsLegal charter history → RowsIfAny history h (Some (rows_of rows.old))
         → Judged (IsCreated charter history h day caller.now terms.now)
-        (λ rule. Verdict charter history day caller.now (creation h terms.now) (Some rule))
+        (λ rule. Verdict charter history day caller.now (Command.Create h terms.now) (Some rule))
         result }
 {
     let auth = new_auth(Some(rows), day, caller, terms)?;

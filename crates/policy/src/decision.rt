@@ -187,8 +187,7 @@ fn decide_revoke(basis: Basis<'_>, holder: Holder<'_>, number: u32) -> Result<Ch
 fn decide_create(basis: Basis<'_>, holder: Holder<'_>, terms: &AuthTerms) -> Result<Change, Rule>
     ensures { JudgesRows basis.entry.charter.now (rows_if_any (option_copied holder.entry.rows))
         basis.entry.day basis.entry.caller.now
-        (Command.Create holder.entry.name.now terms.now.asn terms.now.prefix terms.now.max
-        terms.now.from terms.now.until) result }
+        (Command.Create holder.entry.name.now terms.now) result }
 {
     let auth = new_auth(holder.rows, basis.day, basis.caller, terms)?;
     Ok(change_of(holder.name, Edit::Create(auth)))
@@ -328,22 +327,8 @@ pub fn decide(
         Command::Revoke { holder, number } => {
             Ok(decide_revoke(basis, Holder { name: holder, rows }, *number)?)
         }
-        Command::Create {
-            holder,
-            asn,
-            prefix,
-            max,
-            from,
-            until,
-        } => {
-            let terms = AuthTerms {
-                asn: *asn,
-                prefix: *prefix,
-                max: *max,
-                from: *from,
-                until: *until,
-            };
-            Ok(decide_create(basis, Holder { name: holder, rows }, &terms)?)
+        Command::Create { holder, terms } => {
+            Ok(decide_create(basis, Holder { name: holder, rows }, terms)?)
         }
         Command::Amend {
             holder,

@@ -15,6 +15,6 @@ pub use hypothesis::suppose;
 pub use registry::laws;
 pub use registry::{
     Access, Auth, AuthTerms, Change, Charter, CharterFault, Command, Edit, Granted, HolderChange,
-    HolderRows, LAST_NUMBER, Proposed, Query, Refusal, Role, Rule, Scope, View,
+    HolderRows, ImportRow, LAST_NUMBER, Proposed, Query, Refusal, Role, Rule, Scope, View,
 };
 pub use sight::{see, see_all};

@@ -8,7 +8,7 @@ use Rattle.registry.specs.declared.command.Command.{Command}
 use Rattle.registry.specs.declared.command.Command.TheVariants.{Register, Delegate, Transfer, Reclaim, Grant, Revoke, Create, Amend, Withdraw, Import, Slurm}
 use Rattle.registry.specs.History.{Entry, History, same_name}
 use Rattle.registry.specs.Resources.{resource_holder}
-use Rattle.registry.specs.Terms.{HoldsTerms, created_after, terms_after, authorizations_made, authorization_terms, amended, HeldSinceMade, Keeps, AreActive}
+use Rattle.registry.specs.Terms.{numbered_terms, HoldsTerms, created_after, terms_after, authorizations_made, authorization_terms, amended, HeldSinceMade, Keeps, AreActive}
 use Rattle.registry.proofs.Numbers.{Numbered, Numbered-high, Numbered-append, Numbered-filter, Numbered-map}
 use Rattle.registry.proofs.Kept.{Keeps-numbered, Keeps-same}
 
@@ -20,7 +20,7 @@ created_after-more (Transfer p giver taker) h made = omega arith
 created_after-more (Reclaim holder p) h made = omega arith
 created_after-more (Grant holder name role scope until) h made = omega arith
 created_after-more (Revoke holder n) h made = omega arith
-created_after-more (Create holder asn p max from until) h made =
+created_after-more (Create holder terms) h made =
     elim (same_name holder h) as (λ b. made ≤ cond b (made + 1) made) [ true ↦ omega arith | false ↦ omega arith ]
 created_after-more (Amend holder n max until) h made = omega arith
 created_after-more (Withdraw holder n) h made = omega arith
@@ -43,8 +43,8 @@ terms_after-numbered (Transfer p giver taker) h made xs n = n
 terms_after-numbered (Reclaim holder p) h made xs n = n
 terms_after-numbered (Grant holder name role scope until) h made xs n = n
 terms_after-numbered (Revoke holder m) h made xs n = n
-terms_after-numbered (Create holder asn p max from until) h made xs n =
-    let x : Auth = record { number = made + 1; asn = asn; prefix = p; max = max; from = from; until = until } in
+terms_after-numbered (Create holder terms) h made xs n =
+    let x = numbered_terms terms (made + 1) in
     elim (same_name holder h) as (λ b. Numbered 0 (cond b (xs ++ x ∷ []) xs) (cond b (made + 1) made))
     [ true ↦ Numbered-append 0 xs made x (omega arith) n | false ↦ n ]
 terms_after-numbered (Amend holder m max until) h made xs n =

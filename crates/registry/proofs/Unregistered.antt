@@ -75,7 +75,7 @@ nothing_after charter before day caller (Grant holder name role scope until) h a
 nothing_after charter before day caller (Revoke holder n) h accepted unregistered none =
     let test = list_any (λ (g : Granted). eqb g.number n) in
     nothing_stays _ before h (differ_by (λ g. test (grant_terms before g)) holder h accepted.1.0 (ap test none.grants)) none.holders none
-nothing_after charter before day caller (Create holder asn p max from until) h accepted unregistered none =
+nothing_after charter before day caller (Create holder terms) h accepted unregistered none =
     nothing_stays _ before h (without_access before day caller holder h accepted.0 none) none.holders none
 nothing_after charter before day caller (Amend holder n max until) h accepted unregistered none =
     nothing_stays _ before h (without_access before day caller holder h accepted.0 none) none.holders none

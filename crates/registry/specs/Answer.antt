@@ -38,7 +38,7 @@ holder_of (Transfer p giver taker) = Some giver
 holder_of (Reclaim holder p) = Some holder
 holder_of (Grant holder name role scope until) = Some holder
 holder_of (Revoke holder n) = Some holder
-holder_of (Create holder asn p max from until) = Some holder
+holder_of (Create holder terms) = Some holder
 holder_of (Amend holder n max until) = Some holder
 holder_of (Withdraw holder n) = Some holder
 holder_of (Import holder rows) = Some holder
@@ -52,7 +52,7 @@ taker_of command = holder_of command
 -- the number that the new grant or authorization gets; other commands answer none
 abbrev pub number_given : History → Command → Option ℕ
 number_given history (Grant holder name role scope until) = Some (grants_made history holder + 1)
-number_given history (Create holder asn p max from until) = Some (authorizations_made history holder + 1)
+number_given history (Create holder terms) = Some (authorizations_made history holder + 1)
 number_given history _ = None
 
 -- the number of the grant or authorization that an edit makes

@@ -3,18 +3,17 @@
 use Rattle.std.specs.Prelude.{◌≡◌, ℕ, List, Option, Some, None, Result, Ok, Err}
 use Rattle.charters.specs.declared.charter.Charter.{Charter}
 use Rattle.registry.specs.declared.command.Command.{Command}
-use Rattle.registry.specs.declared.command.Command.TheVariants.{Withdraw}
+use Rattle.registry.specs.declared.command.Command.TheVariants.{Create, Withdraw}
 use Rattle.registry.specs.declared.command.Proposed.{Proposed}
 use Rattle.registry.specs.declared.command.Proposed.TheVariants.{Create as ProposedCreate, Withdraw as ProposedWithdraw}
 use Rattle.registry.specs.declared.rule.Rule.{Rule}
 use Rattle.registry.specs.GrowingHistory.{Grows, IsDeniedAt}
 use Rattle.registry.specs.History.{History}
-use Rattle.registry.specs.Import.{creation}
 use Rattle.registry.specs.Verdict.{Verdict}
 
 -- the command that makes a change at a holder
 abbrev pub proposed_command : List ℕ → Proposed → Command
-proposed_command holder (ProposedCreate t) = creation holder t
+proposed_command holder (ProposedCreate terms) = Create holder terms
 proposed_command holder (ProposedWithdraw n) = Withdraw holder n
 
 abbrev pub JudgesChange :

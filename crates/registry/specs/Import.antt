@@ -4,6 +4,7 @@ use Rattle.std.specs.Prelude.{◌≡◌, ℕ, Bool, true, ◌&&◌, ◌==◌, Li
 use Rattle.std.specs.List.{list_any}
 use Rattle.registry.specs.declared.authorization.Auth.{Auth}
 use Rattle.registry.specs.declared.authorization.AuthTerms.{AuthTerms}
+use Rattle.registry.specs.declared.authorization.ImportRow.{ImportRow}
 use Rattle.charters.specs.declared.charter.Charter.{Charter}
 use Rattle.registry.specs.declared.command.Command.{Command}
 use Rattle.registry.specs.declared.command.Command.TheVariants.{Create}
@@ -12,12 +13,12 @@ use Rattle.registry.specs.declared.rule.Rule.{Rule}
 use Rattle.registry.specs.GrowingHistory.{Grows, IsDeniedAt}
 use Rattle.registry.specs.History.{History}
 use Rattle.registry.specs.Permission.{is_permitted}
-use Rattle.registry.specs.Terms.{gives_vrp, grant_terms, OfActive}
+use Rattle.registry.specs.Terms.{gives_vrp, grant_terms, row_terms, OfActive}
 use Rattle.registry.specs.Verdict.{Verdict}
 
--- the create of these terms at a holder
-abbrev pub creation : List ℕ → AuthTerms → Command
-creation holder t = Create holder t.asn t.prefix t.max t.from t.until
+-- the create of a row at a holder
+abbrev pub creation : List ℕ → ImportRow → Command
+creation holder row = Create holder (row_terms row)
 
 -- the authorization has these terms, all five of them
 abbrev pub has_terms : AuthTerms → Auth → Bool
@@ -25,27 +26,27 @@ has_terms t x = gives_vrp x t.asn t.prefix t.max && ((x.from == t.from) && (x.un
 
 -- Already authorized: rule `scope` holds, and with it `grant`; and an active authorization has the terms. Its
 -- days are not asked, nor is any other rule.
-abbrev pub IsPresent : ℕ → List ℕ → List ℕ → History → AuthTerms → Type 0
-IsPresent day caller holder history t =
-    (is_permitted (grant_terms history holder) day caller Alter t.prefix ≡ true)
-    × OfActive history holder (λ active. list_any (has_terms t) active ≡ true)
+abbrev pub IsPresent : ℕ → List ℕ → List ℕ → History → ImportRow → Type 0
+IsPresent day caller holder history row =
+    (is_permitted (grant_terms history holder) day caller Alter row.prefix ≡ true)
+    × OfActive history holder (λ active. list_any (has_terms (row_terms row)) active ≡ true)
 
 -- a row that is not already authorized is judged as the create of it
 abbrev pub JudgesRow :
-    Charter → ℕ → List ℕ → List ℕ → History → AuthTerms → Result (Option Command) Rule → Type 0
-JudgesRow charter day caller holder history t (Ok None) = IsPresent day caller holder history t
-JudgesRow charter day caller holder history t (Ok (Some command)) =
-    ¬ IsPresent day caller holder history t × (command ≡ creation holder t)
+    Charter → ℕ → List ℕ → List ℕ → History → ImportRow → Result (Option Command) Rule → Type 0
+JudgesRow charter day caller holder history row (Ok None) = IsPresent day caller holder history row
+JudgesRow charter day caller holder history row (Ok (Some command)) =
+    ¬ IsPresent day caller holder history row × (command ≡ creation holder row)
     × Verdict charter history day caller command None
-JudgesRow charter day caller holder history t (Err rule) =
-    ¬ IsPresent day caller holder history t
-    × Verdict charter history day caller (creation holder t) (Some rule)
+JudgesRow charter day caller holder history row (Err rule) =
+    ¬ IsPresent day caller holder history row
+    × Verdict charter history day caller (creation holder row) (Some rule)
 
 -- the rows of an import at a holder grow a history into this one
-abbrev pub ImportGrows : Charter → ℕ → List ℕ → List ℕ → History → List AuthTerms → History → Type 0
+abbrev pub ImportGrows : Charter → ℕ → List ℕ → List ℕ → History → List ImportRow → History → Type 0
 ImportGrows charter day caller holder = Grows (JudgesRow charter day caller holder) day caller
 
 -- an import is denied for the row in this place, counted from 1
 abbrev pub IsImportDenied :
-    Charter → ℕ → List ℕ → List ℕ → History → List AuthTerms → Rule → ℕ → Type 0
+    Charter → ℕ → List ℕ → List ℕ → History → List ImportRow → Rule → ℕ → Type 0
 IsImportDenied charter day caller holder = IsDeniedAt (JudgesRow charter day caller holder) day caller

@@ -8,6 +8,8 @@ use Rattle.addr.specs.declared.vrp.Vrp.{Vrp}
 use Rattle.registry.specs.declared.command.Command.{Command}
 use Rattle.registry.specs.declared.command.Command.TheVariants.{Grant, Revoke, Create, Amend, Withdraw}
 use Rattle.registry.specs.declared.authorization.Auth.{Auth}
+use Rattle.registry.specs.declared.authorization.AuthTerms.{AuthTerms}
+use Rattle.registry.specs.declared.authorization.ImportRow.{ImportRow}
 use Rattle.registry.specs.declared.grant.Granted.{Granted}
 use Rattle.registry.specs.History.{History, same_name}
 use Rattle.registry.specs.Resources.{HoldsPrefix}
@@ -47,7 +49,7 @@ grants_made (e ∷ before) h = granted_after e.command h (grants_made before h)
 
 -- how many authorizations were made at the holder
 abbrev pub created_after : Command → List ℕ → ℕ → ℕ
-created_after (Create holder asn p max from until) h made = if same_name holder h then made + 1 else made
+created_after (Create holder terms) h made = if same_name holder h then made + 1 else made
 created_after _ h made = made
 
 abbrev pub authorizations_made : History → List ℕ → ℕ
@@ -73,11 +75,19 @@ grant_terms (e ∷ before) h = grants_after e.command h (grants_made before h) (
 abbrev pub amended : ℕ → ℕ → ℕ → Auth → Auth
 amended n max until x = if x.number == n then record x { max = max; until = until } else x
 
+-- the terms of a row of an import
+abbrev pub row_terms : ImportRow → AuthTerms
+row_terms r = record { asn = r.asn; prefix = r.prefix; max = r.max; from = r.from; until = r.until }
+
+-- the authorization of these terms and of this number
+abbrev pub numbered_terms : AuthTerms → ℕ → Auth
+numbered_terms t n = record { number = n; asn = t.asn; prefix = t.prefix; max = t.max; from = t.from; until = t.until }
+
 -- the authorizations after a command, from those before it and how many were made by then
 abbrev pub terms_after : Command → List ℕ → ℕ → List Auth → List Auth
-terms_after (Create holder asn p max from until) h made auths =
+terms_after (Create holder terms) h made auths =
     if same_name holder h
-    then auths ++ record { number = made + 1; asn = asn; prefix = p; max = max; from = from; until = until } ∷ []
+    then auths ++ numbered_terms terms (made + 1) ∷ []
     else auths
 terms_after (Amend holder n max until) h made auths =
     if same_name holder h then map (amended n max until) auths else auths

@@ -13,10 +13,12 @@ use Rattle.slurm.specs.declared.filter.Filter.TheVariants.{Under, By, Both}
 use Rattle.registry.specs.declared.limits.TheConstants.{LAST_NUMBER}
 use Rattle.registry.specs.declared.authorization.Auth.{Auth}
 use Rattle.registry.specs.declared.authorization.AuthTerms.{AuthTerms}
+use Rattle.registry.specs.declared.authorization.ImportRow.{ImportRow}
 use Rattle.registry.specs.declared.command.Command.{Command}
 use Rattle.registry.specs.declared.command.Command.TheVariants.{Register, Delegate, Transfer, Reclaim, Grant, Revoke, Create, Amend, Withdraw, Import, Slurm}
 use Rattle.registry.specs.declared.grant.Granted.{Granted}
 use Rattle.registry.specs.History.{Entry, History}
+use Rattle.registry.specs.Terms.{row_terms}
 use Rattle.registry.specs.Rows.{Rows}
 
 abbrev pub IsU8 : ℕ → Type 0
@@ -49,9 +51,12 @@ pub record ExceptionsFit (exceptions : Exceptions) : Type 0 where
   pub filters : All FilterFits exceptions.filters
   pub assertions : All VrpFits exceptions.assertions
 
--- the terms of a row of an import, as they are asked for
+-- the terms of an authorization, as they are asked for
 abbrev pub TermsFit : AuthTerms → Type 0
 TermsFit t = IsU32 t.asn.0 × IsU8 t.max × IsDay t.from × IsDay t.until
+
+abbrev pub RowOfImportFits : ImportRow → Type 0
+RowOfImportFits r = TermsFit (row_terms r)
 
 -- the values of a command are those of their types; prefixes are so anyhow
 abbrev pub CommandFits : Command → Type 0
@@ -61,11 +66,10 @@ CommandFits (Transfer p giver taker) = IsTrue (is_name giver) × IsTrue (is_name
 CommandFits (Reclaim holder p) = IsTrue (is_name holder)
 CommandFits (Grant holder name role scope until) = IsTrue (is_name holder) × IsTrue (is_name name) × IsDay until
 CommandFits (Revoke holder n) = IsTrue (is_name holder) × IsU32 n
-CommandFits (Create holder asn p max from until) =
-    IsTrue (is_name holder) × IsU32 asn.0 × IsU8 max × IsDay from × IsDay until
+CommandFits (Create holder terms) = IsTrue (is_name holder) × TermsFit terms
 CommandFits (Amend holder n max until) = IsTrue (is_name holder) × IsU32 n × IsU8 max × IsDay until
 CommandFits (Withdraw holder n) = IsTrue (is_name holder) × IsU32 n
-CommandFits (Import holder rows) = IsTrue (is_name holder) × All TermsFit rows.items
+CommandFits (Import holder rows) = IsTrue (is_name holder) × All RowOfImportFits rows.items
 CommandFits (Slurm file) = ExceptionsFit file
 
 pub record EntryFits (e : Entry) : Type 0 where

@@ -85,13 +85,14 @@ Verdict charter history day caller (Revoke holder n) =
     ask Steward (is_steward charter history day caller holder ≡ true) (
     ask Number (list_any (λ g. g.number == n) (grant_terms history holder) ≡ true)
     accept)
-Verdict charter history day caller (Create holder asn p max from until) =
+Verdict charter history day caller (Create holder terms) =
     ask GrantRule (has_access (grant_terms history holder) day caller Alter ≡ true) (
-    ask Scope (is_permitted (grant_terms history holder) day caller Alter p ≡ true) (
-    ask Dates ((from ≤ until) × (day ≤ until)) (
-    ask Length (fits_max_length p max ≡ true) (
-    ask Held (HoldsPrefix history holder p) (
-    ask Same (OfActive history holder (λ active. list_any (λ y. gives_vrp y asn p max) active ≡ false)) (
+    ask Scope (is_permitted (grant_terms history holder) day caller Alter terms.prefix ≡ true) (
+    ask Dates ((terms.from ≤ terms.until) × (day ≤ terms.until)) (
+    ask Length (fits_max_length terms.prefix terms.max ≡ true) (
+    ask Held (HoldsPrefix history holder terms.prefix) (
+    ask Same (OfActive history holder (λ active.
+    list_any (λ y. gives_vrp y terms.asn terms.prefix terms.max) active ≡ false)) (
     ask Room (OfActive history holder (λ active. length active < MOST_AUTHORIZATIONS)
     × (authorizations_made history holder < LAST_NUMBER))
     accept))))))

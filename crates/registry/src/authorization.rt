@@ -1,6 +1,6 @@
 ghost use Rattle.std.specs.Prelude.{◌≡◌, ◌≤◌, ◌↔◌, ◌&&◌, true, IsTrue, IsSome, IfSome};
 ghost use Rattle.registry.specs.Import.{has_terms};
-ghost use Rattle.registry.specs.Terms.{terms_overlap, gives_vrp, share_vrp, IsVrpOf};
+ghost use Rattle.registry.specs.Terms.{numbered_terms, row_terms, terms_overlap, gives_vrp, share_vrp, IsVrpOf};
 ghost use Rattle.registry.specs.Verdict.{terms_fit_length};
 
 use addr::{Asn, Day, Prefix, Vrp};
@@ -33,16 +33,38 @@ pub struct AuthTerms {
     pub until: Day,
 }
 
+/// A row of an import, which authorizes an AS for one prefix.
+#[derive(Clone, Copy, Debug, PartialEq, Eq)]
+pub struct ImportRow {
+    pub asn: Asn,
+    pub prefix: Prefix,
+    /// The maxLength as it is asked for; the rule `length` judges it.
+    pub max: u8,
+    /// The first day in force.
+    pub from: Day,
+    /// The last day in force.
+    pub until: Day,
+}
+
+impl ImportRow {
+    /// The terms of the authorization that the row makes.
+    pub fn terms(&self) -> AuthTerms
+        ensures { result ≡ row_terms self.now }
+    {
+        AuthTerms {
+            asn: self.asn,
+            prefix: self.prefix,
+            max: self.max,
+            from: self.from,
+            until: self.until,
+        }
+    }
+}
+
 impl AuthTerms {
+    /// The authorization of these terms and of this number.
     pub fn numbered(&self, number: u32) -> Auth
-        ensures { result ≡ record {
-          number = number;
-          asn = self.now.asn;
-          prefix = self.now.prefix;
-          max = self.now.max;
-          from = self.now.from;
-          until = self.now.until;
-        } }
+        ensures { result ≡ numbered_terms self.now number }
     {
         Auth {
             number,

@@ -1,7 +1,7 @@
 ghost use Rattle.std.specs.Prelude.{◌≡◌};
 
-use crate::{AuthTerms, Role, Scope};
-use addr::{Asn, Day, Name, Prefix, Route};
+use crate::{AuthTerms, ImportRow, Role, Scope};
+use addr::{Day, Name, Prefix, Route};
 use slurm::Slurm;
 
 /// A request that enters the history where it is accepted.
@@ -40,14 +40,10 @@ pub enum Command {
         holder: Name,
         number: u32,
     },
-    /// Authorizes an AS to originate routes of the prefix.
+    /// Authorizes what the terms say.
     Create {
         holder: Name,
-        asn: Asn,
-        prefix: Prefix,
-        max: u8,
-        from: Day,
-        until: Day,
+        terms: AuthTerms,
     },
     /// Sets the maxLength and the last day of the authorization of this number.
     Amend {
@@ -65,7 +61,7 @@ pub enum Command {
     /// nothing.
     Import {
         holder: Name,
-        rows: Vec<AuthTerms>,
+        rows: Vec<ImportRow>,
     },
     /// Puts the exceptions of a SLURM file in the place of those of the last one.
     Slurm {

@@ -14,7 +14,7 @@ mod rule;
 mod values;
 
 pub use asked::{Asked, Request};
-pub use authorization::{Auth, AuthTerms};
+pub use authorization::{Auth, AuthTerms, ImportRow};
 pub use change::{Change, Edit, HolderChange};
 pub use charters::{Charter, CharterFault};
 pub use command::{Command, Proposed, Query};

@@ -3,9 +3,9 @@
 ghost use Rattle.std.specs.Prelude.{All, IsTrue};
 ghost use Rattle.addr.specs.Day.{IsDay};
 ghost use Rattle.addr.specs.Name.{is_name};
-ghost use Rattle.registry.specs.Values.{IsU8, IsU32, CommandFits, ExceptionsFit, FilterFits, TermsFit, VrpFits};
+ghost use Rattle.registry.specs.Values.{IsU8, IsU32, CommandFits, ExceptionsFit, FilterFits, RowOfImportFits, TermsFit, VrpFits};
 
-use crate::{AuthTerms, Command};
+use crate::{AuthTerms, Command, ImportRow};
 use addr::{Day, Name, Vrp};
 use slurm::{Filter, Slurm};
 
@@ -34,19 +34,9 @@ pub(crate) fn tell_command(command: &Command)
             tell_name(holder);
             tell_number(*number);
         }
-        Command::Create {
-            holder,
-            asn,
-            max,
-            from,
-            until,
-            ..
-        } => {
+        Command::Create { holder, terms } => {
             tell_name(holder);
-            tell_number(asn.0);
-            tell_max_length(*max);
-            tell_day(*from);
-            tell_day(*until);
+            tell_terms(terms);
         }
         Command::Amend {
             holder,
@@ -87,12 +77,18 @@ fn tell_max_length(max: u8)
     ensures { IsU8 max }
 {}
 
-fn tell_rows(rows: &[AuthTerms])
-    ensures { All TermsFit rows.now }
+fn tell_rows(rows: &[ImportRow])
+    ensures { All RowOfImportFits rows.now }
 {
     for row in rows {
-        tell_terms(row);
+        tell_row(row);
     }
+}
+
+fn tell_row(row: &ImportRow)
+    ensures { RowOfImportFits row.now }
+{
+    tell_terms(&row.terms());
 }
 
 fn tell_terms(terms: &AuthTerms)

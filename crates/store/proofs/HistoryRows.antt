@@ -76,7 +76,7 @@ grants_after-rise (Grant holder name role scope until) h made grants n =
 grants_after-rise (Revoke holder m) h made grants n =
     elim (same_name holder h) as (λ b. GrantsRise 0 (cond b (filter (λ g. not (g.number == m)) grants) grants) made)
     [ true ↦ rise-filter (λ (x : Granted). x.number) (λ g. not (g.number == m)) 0 grants made n | false ↦ n ]
-grants_after-rise (Create holder asn p max from until) h made grants n = n
+grants_after-rise (Create holder terms) h made grants n = n
 grants_after-rise (Amend holder m max until) h made grants n = n
 grants_after-rise (Withdraw holder m) h made grants n = n
 grants_after-rise (Import holder rows) h made grants n = n

@@ -105,7 +105,7 @@ SaysCommand h d (Grant holder name role scope until) =
     × HasMember (as_scope (role_at d)) (codes "scope") d scope × HasDay (codes "until") d until
 SaysCommand h d (Revoke holder number) =
     Does AskRevoke h × NamesHolder h holder × NamesNumber h number
-SaysCommand h d (Create holder asn prefix max from until) =
+SaysCommand h d (Create holder terms) =
     Does AskCreate h × NamesHolder h holder
     × HasTerms d (record { asn = asn; prefix = prefix; max = max; from = from; until = until })
 SaysCommand h d (Amend holder number max until) =

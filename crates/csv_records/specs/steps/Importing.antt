@@ -6,7 +6,7 @@ use Rattle.addr.specs.Day.{day_in}
 use Rattle.addr.specs.PrefixText.{spelled_prefix}
 use Rattle.addr.specs.declared.asn.Asn.{Asn}
 use Rattle.addr.specs.declared.prefix.Prefix.{Prefix}
-use Rattle.registry.specs.declared.authorization.AuthTerms.{AuthTerms}
+use Rattle.registry.specs.declared.authorization.ImportRow.{ImportRow}
 use Rattle.json_values.specs.Parts.{and_then, both, each, mapped}
 use Rattle.csv_records.specs.CsvRecords.{csv_records}
 use Rattle.csv_records.specs.Fields.{Fields, rows_after}
@@ -14,10 +14,10 @@ use Rattle.csv_records.specs.Imports.{import_fault_number, import_header, is_row
 use Rattle.csv_records.specs.declared.imports.ImportFault.{ImportFault}
 use Rattle.csv_records.specs.declared.imports.ImportFault.TheVariants.{Form, Prefix as PrefixFault, Asn as AsnFault, Max, Day, Count}
 
-abbrev pub terms_of : (((Asn × Prefix) × ℕ) × ℕ) × ℕ → AuthTerms
+abbrev pub terms_of : (((Asn × Prefix) × ℕ) × ℕ) × ℕ → ImportRow
 terms_of p = record { asn = p.0.0.0.0; prefix = p.0.0.0.1; max = p.0.0.1; from = p.0.1; until = p.1 }
 
-abbrev pub row_of : Option Asn → Option Prefix → Option ℕ → Option ℕ → Option ℕ → Result AuthTerms ImportFault
+abbrev pub row_of : Option Asn → Option Prefix → Option ℕ → Option ℕ → Option ℕ → Result ImportRow ImportFault
 row_of asn prefix max from until =
     mapped terms_of
     (both import_fault_number
@@ -26,18 +26,18 @@ row_of asn prefix max from until =
     (both import_fault_number (ok_or asn AsnFault) (ok_or prefix PrefixFault))
     (ok_or max Max)) (ok_or from Day)) (ok_or until Day))
 
-abbrev pub row_in : Fields → Result AuthTerms ImportFault
+abbrev pub row_in : Fields → Result ImportRow ImportFault
 row_in (asn ∷ prefix ∷ max ∷ from ∷ until ∷ []) =
     row_of (named_asn asn) (spelled_prefix prefix) (max_in max) (day_in from) (day_in until)
 row_in _ = Err Form
 
-abbrev pub counted : List AuthTerms → Result (List AuthTerms) ImportFault
+abbrev pub counted : List ImportRow → Result (List ImportRow) ImportFault
 counted rows = if is_row_count (length rows) then Ok rows else Err Count
 
-abbrev pub rows_in : Option (List Fields) → Result (List AuthTerms) ImportFault
+abbrev pub rows_in : Option (List Fields) → Result (List ImportRow) ImportFault
 rows_in None = Err Form
 rows_in (Some rows) = and_then counted (each import_fault_number row_in rows)
 
 -- the rows of a text, or its lowest fault
-abbrev pub import_in : List ℕ → Result (List AuthTerms) ImportFault
+abbrev pub import_in : List ℕ → Result (List ImportRow) ImportFault
 import_in text = rows_in (rows_after import_header (csv_records text))

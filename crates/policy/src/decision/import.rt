@@ -1,7 +1,7 @@
 // Imports: each row is judged on the rows that those before it left.
 ghost use Rattle.std.specs.Prelude.{◌≡◌, ℕ, List, Some, Err, option_copied};
 ghost use Rattle.std.specs.Global.{Vec};
-ghost use Rattle.registry.specs.declared.authorization.AuthTerms.{AuthTerms as AuthTermsValue};
+ghost use Rattle.registry.specs.declared.authorization.ImportRow.{ImportRow as ImportRowValue};
 ghost use Rattle.charters.specs.declared.charter.Charter.{Charter as CharterValue};
 ghost use Rattle.registry.specs.declared.command.Command.{Command};
 ghost use Rattle.registry.specs.History.{History};
@@ -16,7 +16,7 @@ use super::{Basis, Holder, change_of};
 use crate::admission::is_present;
 use crate::creation::create;
 use crate::part::refusal_at;
-use crate::{Auth, AuthTerms, Change, Edit, HolderRows, Refusal, Rule};
+use crate::{Auth, Change, Edit, HolderRows, ImportRow, Refusal, Rule};
 use addr::{Day, Name};
 use std::alloc::Global;
 
@@ -27,19 +27,19 @@ fn import_row(
     auths: &mut Vec<Auth>,
     day: Day,
     caller: &Name,
-    terms: &AuthTerms,
+    row: &ImportRow,
 ) -> Result<(), Refusal>
     ensures { (charter : CharterValue) (history : History) (h : List ℕ) → IsLegal charter history
         → RowsIfAny history h (Some (rows_of rows.old))
         → Judged
-        (λ _. IsRowDone charter history h day caller.now terms.now auths.old auths.new
+        (λ _. IsRowDone charter history h day caller.now row.now auths.old auths.new
         (rows_of rows.old) (rows_of rows.new))
-        (λ rule. JudgesRow charter day caller.now h history terms.now (Err rule)) result }
+        (λ rule. JudgesRow charter day caller.now h history row.now (Err rule)) result }
 {
-    if is_present(rows, day, caller, terms) {
+    if is_present(rows, day, caller, row) {
         return Ok(());
     }
-    let auth = create(rows, day, caller, terms)?;
+    let auth = create(rows, day, caller, &row.terms())?;
     auths.push(auth)?;
     Ok(())
 }
@@ -50,7 +50,7 @@ fn import_rows(
     before: &HolderRows,
     day: Day,
     caller: &Name,
-    listed: &[AuthTerms],
+    listed: &[ImportRow],
 ) -> Result<Edit, Refusal>
     ensures { (charter : CharterValue) (history : History) (h : List ℕ) → IsLegal charter history
         → RowsIfAny history h (Some (rows_of before.now))
@@ -59,9 +59,9 @@ fn import_rows(
     let mut rows = before.clone()?;
     let mut auths = Vec::new(alloc);
     let mut place = 0;
-    for terms in listed {
+    for row in listed {
         place += 1;
-        let done = import_row(&mut rows, &mut auths, day, caller, terms);
+        let done = import_row(&mut rows, &mut auths, day, caller, row);
         if let Err(refusal) = done {
             return Err(refusal_at(refusal, place));
         }
@@ -79,7 +79,7 @@ fn import_edit(
     rows: Option<&HolderRows>,
     day: Day,
     caller: &Name,
-    listed: &[AuthTerms],
+    listed: &[ImportRow],
 ) -> Result<Edit, Refusal>
     ensures { (charter : CharterValue) (history : History) (h : List ℕ) → IsLegal charter history
         → RowsIfAny history h (rows_if_any (option_copied rows.entry))
@@ -100,9 +100,9 @@ pub(super) fn decide_import(
     alloc: Global,
     basis: Basis<'_>,
     holder: Holder<'_>,
-    listed: &[AuthTerms],
+    listed: &[ImportRow],
 ) -> Result<Change, Refusal>
-    ensures { (history : History) (rows : Vec AuthTermsValue) → rows.items ≡ listed.now
+    ensures { (history : History) (rows : Vec ImportRowValue) → rows.items ≡ listed.now
         → IsLegal basis.entry.charter.now history
         → RowsIfAny history holder.entry.name.now (rows_if_any (option_copied holder.entry.rows))
         → IsAnswer basis.entry.charter.now history basis.entry.day basis.entry.caller.now

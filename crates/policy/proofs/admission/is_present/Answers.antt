@@ -4,14 +4,15 @@ use Rattle.registry.specs.declared.grant.Access.TheVariants.{Alter}
 use Rattle.registry.specs.Import.{has_terms}
 use Rattle.registry.specs.Permission.{is_permitted}
 use Rattle.registry.specs.Rows.{rows_of}
+use Rattle.registry.specs.Terms.{row_terms}
 use Rattle.policy.proofs.RowsLemmas.{active-to, active-from}
 use Rattle.policy.proofs.admission.is_present.Goals as goal
 
 pub returns-then-is_permitted : goal.returns-then-is_permitted
 returns-then-is_permitted c history h are =
     let a = c.args in
-    let test = list_any (has_terms a.terms.now) in
-    let permitted = ap (λ gs. is_permitted gs a.day a.caller.now Alter a.terms.now.prefix) (c.deref.ensures.value ∙ are.grants) in
+    let test = list_any (has_terms (row_terms a.row.now)) in
+    let permitted = ap (λ gs. is_permitted gs a.day a.caller.now Alter a.row.now.prefix) (c.deref.ensures.value ∙ are.grants) in
     let same = c.some_has_terms.ensures ∙ ap test c.deref-then-is_permitted.ensures.value in (
       λ is. (
         sym (c.is_permitted.ensures ∙ permitted) ∙ c.if-is_permitted.true,

@@ -1,7 +1,7 @@
 use Rattle.std.proofs.Common.{ℕ, ◌+◌, sym, ◌∙◌, ap}
-use Rattle.registry.specs.declared.authorization.Auth.{Auth}
 use Rattle.registry.specs.declared.grant.Access.TheVariants.{Alter}
 use Rattle.registry.specs.Permission.{is_permitted}
+use Rattle.registry.specs.Terms.{numbered_terms}
 use Rattle.policy.proofs.CarryTerms.{carries-create}
 use Rattle.policy.proofs.creation.new_auth.Goals as goal
 
@@ -17,10 +17,10 @@ returns c charter history h legal are =
     let held = (c.holds.ensures history h had.2).0 c.in_ok-require-4.ensures in
     let same = (c.is_new.ensures history h had.2).0 c.in_ok-require-5.ensures in
     let room = (c.has_room_for_authorization.ensures.room history h had.2).0 c.in_ok-require-6.ensures in
-    let new = λ (k : ℕ). let x : Auth = record { number = k + 1; asn = t.asn; prefix = t.prefix; max = t.max; from = t.from; until = t.until } in x in
+    let new = λ (k : ℕ). numbered_terms t (k + 1) in
     let made = c.numbered.ensures ∙ ap new had.2.created in
     record {
       verdict = (had.0, (scope, (dates, (length, (held, (same, (room, tt)))))));
       number = ap (λ x. x.number) made;
-      carries = carries-create history a.day a.caller.now h t.asn t.prefix t.max t.from t.until _ had.1 held made;
+      carries = carries-create history a.day a.caller.now h t _ had.1 held made;
     }

@@ -9,7 +9,7 @@ returns c history legal are =
     let h = a.holder.name.now in
     let t = a.terms.now in
     let made = c.in_ok-auth.ensures a.basis.charter.now history h legal are in
-    subst (IsAccepted a.basis.charter.now history a.basis.day a.basis.caller.now (Create h t.asn t.prefix t.max t.from t.until)) (sym c.change_of.ensures) (record {
+    subst (IsAccepted a.basis.charter.now history a.basis.day a.basis.caller.now (Create h t)) (sym c.change_of.ensures) (record {
       after = _;
       leaves = (made.verdict, refl);
       numbered = ap Some made.number;

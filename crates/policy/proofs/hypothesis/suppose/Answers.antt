@@ -16,7 +16,7 @@ returns-in-Err c history h legal are =
     let start = subst (λ (r : Rows). RowsIfAny history h (Some r)) (sym c.in_ok-rows.ensures.cases) had in
     let so_far = c.loop-change.invariant.1 a.charter.now history h legal start in
     let denied = c.in-Err.ensures a.charter.now so_far.after h so_far.legal so_far.rows_are in
-    rw c.at.ensures (so_far-denied a.charter.now history h a.day a.caller.now a.changes.now c.loop-change.change-index c.change-item.result (rows_of c.loop-change.rows)
+    rw c.refusal_at.ensures (so_far-denied a.charter.now history h a.day a.caller.now a.changes.now c.loop-change.change-index c.change-item.result (rows_of c.loop-change.rows)
     so_far (omega arith) c.change-item.is c.loop-change.place c.loop-change.invariant.0 c.in-Err.refusal denied)
 
 pub loop-change-init : goal.loop-change-init

@@ -1,6 +1,6 @@
 use Rattle.std.proofs.Common.{List, refl, sym, subst}
 use Rattle.std.proofs.lemmas.Result.{err_from_is_err_and}
-use Rattle.registry.specs.declared.authorization.AuthTerms.{AuthTerms}
+use Rattle.registry.specs.declared.authorization.ImportRow.{ImportRow}
 use Rattle.registry.specs.declared.command.Command.TheVariants.{Import}
 use Rattle.registry.specs.Answer.{IsAccepted}
 use Rattle.registry.specs.Import.{ImportGrows}
@@ -21,7 +21,7 @@ returns c history rows listed legal are =
     let done = c.in_ok-edit.ensures b.charter.now history h legal are in
     subst (IsAccepted b.charter.now history b.day b.caller.now (Import h rows)) (sym c.change_of.ensures) (record {
       after = done.after;
-      leaves = subst (λ (xs : List AuthTerms). ImportGrows b.charter.now b.day b.caller.now h history xs done.after) (sym listed) done.grows;
+      leaves = subst (λ (xs : List ImportRow). ImportGrows b.charter.now b.day b.caller.now h history xs done.after) (sym listed) done.grows;
       carries = done.carries;
       numbered = (done.present, (done.made, rw listed done.rest));
       sparing = (done.sparing, tt);

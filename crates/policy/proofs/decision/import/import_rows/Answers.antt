@@ -4,8 +4,8 @@ use Rattle.registry.specs.Rows.{Rows, rows_of, RowsIfAny}
 use Rattle.policy.proofs.Imports.{so_far-start, so_far-more, so_far-denied}
 use Rattle.policy.proofs.decision.import.import_rows.Goals as goal
 
-pub loop-terms-init : goal.loop-terms-init
-loop-terms-init c = (
+pub loop-row-init : goal.loop-row-init
+loop-row-init c = (
   refl,
   λ charter history h legal are. so_far-start charter history h c.args.day c.args.caller.now c.new-auths.result (rows_of c.in_ok-rows.rows) c.new-auths.ensures.items legal are,
 )
@@ -14,23 +14,23 @@ pub returns-in-Err : goal.returns-in-Err
 returns-in-Err c charter history h legal are =
     let a = c.args in
     let start = subst (λ (r : Rows). RowsIfAny history h (Some r)) (sym c.in_ok-rows.ensures.cases) are in
-    let so_far = c.loop-terms.invariant.1 charter history h legal start in
+    let so_far = c.loop-row.invariant.1 charter history h legal start in
     let denied = c.in-Err.ensures charter so_far.edit.after h so_far.legal so_far.rows_are in
-    rw c.at.ensures (so_far-denied charter history h a.day a.caller.now a.listed.now c.loop-terms.terms-index c.terms-item.result c.loop-terms.auths (rows_of c.loop-terms.rows)
-    so_far (omega arith) c.terms-item.is c.loop-terms.place c.loop-terms.invariant.0 c.in-Err.refusal denied)
+    rw c.refusal_at.ensures (so_far-denied charter history h a.day a.caller.now a.listed.now c.loop-row.row-index c.row-item.result c.loop-row.auths (rows_of c.loop-row.rows)
+    so_far (omega arith) c.row-item.is c.loop-row.place c.loop-row.invariant.0 c.in-Err.refusal denied)
 
-pub loop-terms-preserved : goal.loop-terms-preserved
-loop-terms-preserved c = (
-  ap (λ n. n + 1) c.loop-terms.invariant.0,
+pub loop-row-preserved : goal.loop-row-preserved
+loop-row-preserved c = (
+  ap (λ n. n + 1) c.loop-row.invariant.0,
   λ charter history h legal start.
-      let so_far = c.loop-terms.invariant.1 charter history h legal start in
+      let so_far = c.loop-row.invariant.1 charter history h legal start in
       let done = c.in_default.ensures charter so_far.edit.after h so_far.legal so_far.rows_are in
-      so_far-more charter history h c.args.day c.args.caller.now c.args.listed.now c.loop-terms.terms-index c.terms-item.result
-      c.loop-terms.auths c.import_row-done.new.auths (rows_of c.loop-terms.rows) (rows_of c.import_row-done.new.rows) so_far (omega arith) c.terms-item.is done,
+      so_far-more charter history h c.args.day c.args.caller.now c.args.listed.now c.loop-row.row-index c.row-item.result
+      c.loop-row.auths c.import_row-done.new.auths (rows_of c.loop-row.rows) (rows_of c.import_row-done.new.rows) so_far (omega arith) c.row-item.is done,
 )
 
 pub returns : goal.returns
 returns c charter history h legal are =
     let start = subst (λ (r : Rows). RowsIfAny history h (Some r)) (sym c.in_ok-rows.ensures.cases) are in
-    let so_far = rw (take_all c.loop-terms.terms-index c.args.listed.now (omega arith)) at c.loop-terms.invariant.1 charter history h legal start in
+    let so_far = rw (take_all c.loop-row.row-index c.args.listed.now (omega arith)) at c.loop-row.invariant.1 charter history h legal start in
     so_far.edit

@@ -6,8 +6,8 @@ use Rattle.registry.specs.Verdict.{IsLegal}
 use Rattle.policy.proofs.Imports.{SoFar}
 use Rattle.policy.proofs.decision.import.import_rows.Given as goal
 
-abbrev pub invariant-loop-terms : goal.invariant-loop-terms
-invariant-loop-terms l =
-    (l.place ≡ l.terms-index)
+abbrev pub invariant-loop-row : goal.invariant-loop-row
+invariant-loop-row l =
+    (l.place ≡ l.row-index)
     × ((charter : Charter) (history : History) (h : List ℕ) → IsLegal charter history → RowsIfAny history h (Some (rows_of l.initial.rows))
-    → SoFar charter history h l.day l.caller (take l.terms-index l.listed) l.auths (rows_of l.rows))
+    → SoFar charter history h l.day l.caller (take l.row-index l.listed) l.auths (rows_of l.rows))
