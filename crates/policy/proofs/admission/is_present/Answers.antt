@@ -13,7 +13,7 @@ returns-then-is_permitted c history h are =
     let a = c.args in
     let test = list_any (has_terms (row_terms a.row.now)) in
     let permitted = ap (λ gs. is_permitted gs a.day a.caller.now Alter a.row.now.prefix) (c.deref.ensures.value ∙ are.grants) in
-    let same = c.some_has_terms.ensures ∙ ap test c.deref-then-is_permitted.ensures.value in (
+    let same = c.some_has_terms.ensures ∙ ap (λ t. list_any (has_terms t) c.deref-then-is_permitted.result.now) c.terms.ensures ∙ ap test c.deref-then-is_permitted.ensures.value in (
       λ is. (
         sym (c.is_permitted.ensures ∙ permitted) ∙ c.if-is_permitted.true,
         active-to history h (rows_of a.rows.now) (λ active. test active ≡ true) are (sym same ∙ is),
