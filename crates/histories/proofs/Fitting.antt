@@ -16,7 +16,7 @@ use Rattle.registry.specs.declared.grant.Granted.{Granted}
 use Rattle.slurm.specs.Exceptions.{Exceptions}
 use Rattle.registry.specs.ExceptionsInForce.{exceptions_after, exceptions_in_force}
 use Rattle.registry.specs.History.{Entry, History, same_name}
-use Rattle.registry.specs.Terms.{granted_after, grants_after, grants_made, grant_terms, created_after, terms_after, authorizations_made, authorization_terms, amended, HeldSinceMade}
+use Rattle.registry.specs.Terms.{numbered_terms, granted_after, grants_after, grants_made, grant_terms, created_after, terms_after, authorizations_made, authorization_terms, amended, HeldSinceMade}
 use Rattle.registry.specs.Values.{CommandFits, ExceptionsFit, FilterFits, HistoryFits, AuthFits, GrantFits, VrpFits}
 use Rattle.registry.specs.Verdict.{Verdict, IsLegal, numbered, terms_fit_length, OfNumber}
 use Rattle.registry.proofs.Names.{same_name-true}
@@ -139,10 +139,10 @@ auths_after-fit charter before day caller (Create holder terms) h accepted value
           subst (λ (k : List ℕ). authorizations_made before k < LAST_NUMBER) (same_name-true holder h t) accepted.1.1.1.1.1.1.0.1 in
           let fits : AuthFits x = record {
             number = (omega arith, omega (arith, room));
-            asn = values.1;
+            asn = values.1.0;
             max = in_range terms.prefix terms.max accepted.1.1.1.0;
-            from = values.3;
-            until = values.4;
+            from = values.1.2;
+            until = values.1.3;
           } in
           rw t (record { made = omega (arith, room); terms = All-push F auths x fit.terms (λ _. fits) })
       | inr f ↦ rw f fit

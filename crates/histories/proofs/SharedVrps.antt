@@ -16,7 +16,7 @@ use Rattle.registry.specs.declared.command.Command.{Command}
 use Rattle.registry.specs.declared.command.Command.TheVariants.{Register, Delegate, Transfer, Reclaim, Grant, Revoke, Create, Amend, Withdraw, Import, Slurm}
 use Rattle.registry.specs.History.{Entry, History, same_name}
 use Rattle.charters.specs.Repeats.{has_repeat}
-use Rattle.registry.specs.Terms.{gives_vrp, share_vrp, authorizations_made, authorization_terms, amended, HeldSinceMade, HoldsTerms, Keeps, AreActive}
+use Rattle.registry.specs.Terms.{numbered_terms, gives_vrp, share_vrp, authorizations_made, authorization_terms, amended, HeldSinceMade, HoldsTerms, Keeps, AreActive}
 use Rattle.registry.specs.Verdict.{Verdict, IsLegal, numbered}
 use Rattle.histories.specs.SharedVrps.{share_none, NoSharedVrp}
 use Rattle.registry.proofs.Names.{same_name-same, same_name-true}
