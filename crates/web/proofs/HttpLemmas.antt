@@ -26,7 +26,7 @@ use Rattle.desk.specs.declared.handling.Desk.{Desk}
 use Rattle.desk.specs.declared.reply.Reply.{Reply}
 use Rattle.desk.specs.declared.reply.Reply.TheVariants.{Done, Imported, Listed, Payloads, Denied, Unavailable}
 use Rattle.web.specs.HttpAnswers.{KeepsHistories, RepliesAt, RespondsTo}
-use Rattle.web.specs.HttpRequests.{asked, malformed, refused, SaysHead}
+use Rattle.requests.specs.HttpRequests.{asked, malformed, refused, SaysHead}
 use Rattle.web.specs.HttpResponses.{json_response, reply_body, reply_response, reply_status}
 use Rattle.web.specs.ReplyText.{line_text, short_text}
 use Rattle.web.specs.steps.HttpAnswering.{AnswersWith, IsResponse}

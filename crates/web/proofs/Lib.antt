@@ -1,11 +1,6 @@
 pub mod HttpLemmas
-pub mod HttpReadLemmas
 pub mod LineSplits
 pub mod ReplyLemmas
 pub mod ScriptAlong
 pub mod ScriptLemmas
-pub mod RequestFaultLemmas
-pub mod RequestReadLemmas
 pub mod SessionLemmas
-pub mod SlurmReadLemmas
-pub mod AskedLemmas

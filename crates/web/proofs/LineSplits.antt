@@ -7,7 +7,7 @@ use Rattle.std.proofs.lemmas.List.Splits.{slice_split_at, slice_split_none}
 use Rattle.std.specs.List.{All, onto_first}
 use Rattle.memchr.specs.Find.{Nowhere, NoneBefore, Passes, is_byte}
 use Rattle.web.specs.ScriptLines.{all_but_last, last_of, pieces, whole_lines, script_lines, unless_empty, within_limit}
-use Rattle.web.specs.declared.lines.TheConstants.{LINE_LENGTH_LIMIT}
+use Rattle.requests.specs.declared.request.TheConstants.{LINE_LENGTH_LIMIT}
 use Rattle.web.specs.steps.LineSplitting.{behind, completed_lines, unfinished_line}
 
 -- ---- the first line feed

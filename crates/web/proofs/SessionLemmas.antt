@@ -8,7 +8,7 @@ use Rattle.charters.specs.declared.charter.Charter.{Charter}
 use Rattle.desk.specs.Answer.{IsAnswered}
 use Rattle.desk.specs.Desk.{charter_of, HoldsHistory, IsOnCleanDisk, StandsFor}
 use Rattle.web.specs.ReplyText.{line_text}
-use Rattle.web.specs.RequestText.{ReadsLine}
+use Rattle.requests.specs.RequestText.{ReadsLine}
 use Rattle.web.specs.Script.{AnswersEach, BreaksOff}
 use Rattle.web.specs.ScriptAnswer.{AnswersLine, AnswersLineAt, AnswersLines, BreaksOffLines, IsLaterDesk}
 use Rattle.registry.specs.declared.asked.Asked.{Asked}

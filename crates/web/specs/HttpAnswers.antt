@@ -6,7 +6,7 @@ use Rattle.desk.specs.Desk.{charter_of}
 use Rattle.registry.specs.declared.asked.Asked.{Asked}
 use Rattle.desk.specs.declared.handling.Desk.{Desk}
 use Rattle.desk.specs.declared.reply.Reply.{Reply}
-use Rattle.web.specs.HttpRequests.{asked, HttpRequest, IsWithinMessage, malformed, ReadsHttp, refused}
+use Rattle.requests.specs.HttpRequests.{asked, HttpRequest, IsWithinMessage, malformed, ReadsHttp, refused}
 use Rattle.web.specs.HttpResponses.{malformed_response, refusal_response, reply_response, unavailable_response}
 use Rattle.web.specs.ScriptAnswer.{OnHistories}
 

@@ -2,8 +2,6 @@
 -- and exports are told as CSV, everything else in JSON.
 use Rattle.std.specs.Prelude.{ℕ, List}
 use Rattle.http_messages.specs.ResponseText.{fault_text, refused_status, response_text}
-use Rattle.http_messages.specs.declared.action.Action.{Action}
-use Rattle.http_messages.specs.declared.action.Action.TheVariants.{Export}
 use Rattle.http_messages.specs.declared.refusal.Refusal.{Refusal}
 use Rattle.http_messages.specs.declared.response.ContentType.{ContentType}
 use Rattle.http_messages.specs.declared.response.ContentType.TheVariants.{Csv, Json}
@@ -12,8 +10,9 @@ use Rattle.http_messages.specs.declared.status.Status.TheVariants.{BadRequest, D
 use Rattle.csv_records.specs.Lines.{csv_text, list_header, list_row, payload_header, payload_row}
 use Rattle.desk.specs.declared.reply.Reply.{Reply}
 use Rattle.desk.specs.declared.reply.Reply.TheVariants.{Listed, Payloads, Denied, Unavailable}
-use Rattle.web.specs.ReplyText.{line_text, malformed_text, unavailable_text}
-use Rattle.web.specs.declared.malformed.Malformed.{Malformed}
+use Rattle.requests.specs.MalformedText.{malformed_text}
+use Rattle.web.specs.ReplyText.{line_text, unavailable_text}
+use Rattle.requests.specs.declared.malformed.Malformed.{Malformed}
 
 abbrev pub json_response : Status → List ℕ → List ℕ
 json_response status body = response_text status Json body
@@ -25,11 +24,6 @@ refusal_response refusal = json_response (refused_status refusal) (fault_text (r
 -- a request with a fault
 abbrev pub malformed_response : Malformed → List ℕ
 malformed_response fault = json_response BadRequest (malformed_text fault)
-
--- the form in which an action asks for a list
-abbrev pub list_form : Action → ContentType
-list_form Export = Csv
-list_form _ = Json
 
 abbrev pub reply_status : Reply → Status
 reply_status (Denied rule row) = Forbidden

@@ -1,14 +1,9 @@
 pub mod HttpAnswers
-pub mod HttpFaults
-pub mod HttpRequests
 pub mod HttpResponses
 pub mod ReplyText
 pub mod Script
 pub mod ScriptFault
 pub mod ScriptLines
-pub mod RequestFaults
-pub mod RequestText
-pub mod RequestValues
 pub mod ScriptAnswer
 pub mod steps
 pub mod WebFault

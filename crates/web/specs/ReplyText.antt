@@ -16,7 +16,6 @@ use Rattle.desk.specs.declared.reply.Reply.{Reply}
 use Rattle.desk.specs.declared.reply.Reply.TheVariants.{Done, Imported, Shown, Content, Listed, Payloads, Answers, Report, Denied, Unavailable}
 use Rattle.payload.specs.declared.validity.Validity.{Validity}
 use Rattle.payload.specs.ValidityState.{state_of}
-use Rattle.web.specs.declared.malformed.Malformed.{Malformed}
 
 -- ---- parts
 
@@ -95,14 +94,3 @@ short_text (Imported made present) = Some (line_text (Imported made present))
 short_text (Denied rule row) = Some (line_text (Denied rule row))
 short_text Unavailable = Some (line_text Unavailable)
 short_text other = None
-
--- ---- malformed requests
-
-abbrev pub malformed_parts : ℕ → Option ℕ → List ℕ
-malformed_parts number None = codes "{\"malformed\":" ++ decimal number ++ codes "}\n"
-malformed_parts number (Some slurm) =
-    codes "{\"malformed\":" ++ decimal number ++ codes ",\"slurm\":" ++ decimal slurm ++ codes "}\n"
-
--- the answer to a malformed request
-abbrev pub malformed_text : Malformed → List ℕ
-malformed_text malformed = malformed_parts malformed.number malformed.slurm

@@ -8,21 +8,17 @@ use Rattle.registry.specs.Values.{HistoryFits}
 use Rattle.charters.specs.declared.charter.Charter.{Charter}
 use Rattle.desk.specs.Answer.{AnswersRequest}
 use Rattle.desk.specs.Desk.{charter_of, IsOnCleanDisk, StandsFor}
-use Rattle.web.specs.ReplyText.{line_text, malformed_text, unavailable_text}
-use Rattle.web.specs.RequestFaults.{as_malformed, request_fault}
-use Rattle.web.specs.RequestText.{ReadsLine}
+use Rattle.requests.specs.MalformedText.{malformed_text}
+use Rattle.web.specs.ReplyText.{line_text, unavailable_text}
+use Rattle.requests.specs.RequestFaults.{request_fault, too_long}
+use Rattle.requests.specs.RequestText.{ReadsLine}
 use Rattle.web.specs.Script.{AnswersEach, BreaksOff}
 use Rattle.registry.specs.declared.asked.Asked.{Asked}
 use Rattle.desk.specs.declared.handling.Desk.{Desk}
 use Rattle.desk.specs.declared.reply.Reply.{Reply}
-use Rattle.web.specs.declared.malformed.Malformed.{Malformed}
-use Rattle.web.specs.declared.request.fault.Fault.TheVariants.{TooLong}
+use Rattle.requests.specs.declared.malformed.Malformed.{Malformed}
 use Rattle.web.specs.declared.session.LineAnswer.{LineAnswer}
 use Rattle.web.specs.declared.session.LineAnswer.TheVariants.{Refused, Replied}
-
--- the fault of a line that is over the limit
-abbrev pub too_long : Malformed
-too_long = as_malformed TooLong
 
 -- the line is no request, and the text says why
 abbrev pub IsRefused : List ℕ → List ℕ → Type 0

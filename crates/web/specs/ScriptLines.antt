@@ -1,7 +1,7 @@
 -- The lines of a script.
 use Rattle.std.specs.Prelude.{ℕ, Bool, true, false, List, [], ◌∷◌, ◌++◌, Option, Some, None, ◌==◌, nat_le, if◌then◌else◌, length}
 use Rattle.std.specs.List.{slice_split}
-use Rattle.web.specs.declared.lines.TheConstants.{LINE_LENGTH_LIMIT}
+use Rattle.requests.specs.declared.request.TheConstants.{LINE_LENGTH_LIMIT}
 
 -- what stands before, between and after the line feeds of a text
 abbrev pub pieces : List ℕ → List (List ℕ)

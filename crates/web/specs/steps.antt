@@ -1,6 +1,4 @@
 -- Steps of the code, which no public contract cites.
 pub mod HttpAnswering
-pub mod HttpReading
 pub mod LineSplitting
 pub mod ReplyItems
-pub mod RequestReading

@@ -5,17 +5,14 @@ ghost use Rattle.streams.specs.Streams.{AppendsBeginning};
 ghost use Rattle.http_messages.specs.HeadEnd.{IsWholeHead};
 ghost use Rattle.http_messages.specs.Input.{Gives, IsOver};
 ghost use Rattle.http_messages.specs.Requests.{asked_by};
+ghost use Rattle.requests.specs.HttpRequests.{IsCutShort, IsMessage, SaysHead, list_form};
 ghost use Rattle.web.specs.HttpAnswers.{RespondsTo};
-ghost use Rattle.web.specs.HttpRequests.{IsCutShort, IsMessage, SaysHead};
-ghost use Rattle.web.specs.HttpResponses.{list_form};
 ghost use Rattle.web.specs.ScriptAnswer.{IsLaterDesk};
 ghost use Rattle.web.specs.steps.HttpAnswering.{AnswersWith};
 
 mod answer;
 mod body;
 
-use crate::request::LineFault;
-use crate::request::message::read_http_request;
 use addr::Day;
 use answer::HttpAnswer;
 use desk::Desk;
@@ -23,6 +20,7 @@ use http_messages::{
     Action, BodyFault, ContentType, HeadFault, Refusal, Request, RequestFault, read_body,
     read_head, read_request,
 };
+use requests::{LineFault, read_http_request};
 use sqlite::Alter;
 use std::alloc::Global;
 use streams::{Drain, Source};

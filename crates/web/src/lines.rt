@@ -2,14 +2,12 @@
 ghost use Rattle.std.specs.Prelude.{◌≡◌, ◌≤◌, ◌↔◌, ℕ, List, [], ◌∷◌, ◌++◌, ◌<◌, length, Option, Some, None, IfOk, IfNone, IfSome, IsTrue, if◌then◌else◌, vec_len, vec_capacity};
 ghost use Rattle.std.specs.Option.{option_copied};
 ghost use Rattle.web.specs.ScriptLines.{pieces, within_limit};
-ghost use Rattle.web.specs.declared.lines.TheConstants.{LINE_LENGTH_LIMIT};
+ghost use Rattle.requests.specs.declared.request.TheConstants.{LINE_LENGTH_LIMIT};
 
 use memchr::memchr;
+use requests::LINE_LENGTH_LIMIT;
 use std::alloc::{AllocError, Global};
 use std::marker::Model;
-
-/// The longest line that is judged, in bytes without its line feed: 1 MiB.
-pub(crate) const LINE_LENGTH_LIMIT: usize = 1_048_576;
 
 /// The bytes of one line. Of a line that is too long nothing but that is known. The room for a line
 /// is taken once, when it is made.

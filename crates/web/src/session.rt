@@ -6,12 +6,10 @@ ghost use Rattle.web.specs.ScriptAnswer.{AnswersLineAt, AnswersLines, BreaksOffL
 ghost use Rattle.web.specs.ScriptLines.{lines_read, script_lines, whole_lines};
 ghost use Rattle.streams.specs.Streams.{AppendsBeginning};
 
-use crate::malformed::Malformed;
 use crate::reply::write_reply;
-use crate::request::fault::Fault;
-use crate::request::{LineFault, read_line_request};
 use crate::script::{AnswerLines, ScriptFault, run_lines};
 use desk::{Desk, Reply};
+use requests::{LineFault, Malformed, read_line_request};
 use sqlite::Alter;
 use std::alloc::Global;
 use streams::{Drain, Failed, Source, write_all};
@@ -47,7 +45,7 @@ fn answer_to<A: Alter>(alloc: Global, desk: &mut Desk<A>, line: Option<&[u8]>) -
         (answer_text result) desk.new }
 {
     let Some(line) = line else {
-        return LineAnswer::Refused(Fault::TooLong.malformed());
+        return LineAnswer::Refused(Malformed::too_long());
     };
     match read_line_request(alloc, line) {
         Ok(asked) => LineAnswer::Replied(desk.handle(asked.day, &asked.caller, &asked.request)),

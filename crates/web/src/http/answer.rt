@@ -5,10 +5,10 @@ ghost use Rattle.web.specs.HttpResponses.{json_response, refusal_response, reply
 ghost use Rattle.web.specs.steps.HttpAnswering.{IsReplyResponse, IsResponse};
 
 use super::body::reply_body;
-use crate::malformed::Malformed;
 use crate::reply::{short_text, unavailable_text};
 use desk::Reply;
 use http_messages::{ContentType, Refusal, Status, fault_text, write_response};
+use requests::Malformed;
 use std::alloc::Global;
 use streams::{Drain, Failed};
 

@@ -1,6 +1,6 @@
 use Rattle.std.proofs.Common.{◌++◌, Ok, refl, inr}
 use Rattle.http_messages.specs.Requests.{asked_by}
-use Rattle.web.specs.HttpRequests.{SaysHead}
+use Rattle.requests.specs.HttpRequests.{SaysHead}
 use Rattle.web.proofs.HttpLemmas.{gives-more, head-said, next-answered}
 use Rattle.web.proofs.http.answer_next.Goals as goal
 

@@ -1,0 +1,50 @@
+-- What is asked is read of its parts.
+use Rattle.std.proofs.Common.{◌≡◌, ℕ, List, Result, Ok, Err, refl}
+use Rattle.std.specs.Global.{Vec}
+use Rattle.addr.specs.declared.route.Route.{Route}
+use Rattle.registry.specs.declared.authorization.ImportRow.{ImportRow}
+use Rattle.registry.specs.declared.command.Command.TheVariants.{Import}
+use Rattle.registry.specs.declared.command.Proposed.{Proposed}
+use Rattle.registry.specs.declared.command.Query.TheVariants.{WhatIf}
+use Rattle.registry.specs.declared.asked.Asked.{Asked}
+use Rattle.registry.specs.declared.asked.Request.{Request}
+use Rattle.registry.specs.declared.asked.Request.TheVariants.{Command as CommandRequest, Query as QueryRequest}
+use Rattle.json_values.specs.Parts.{both, mapped}
+use Rattle.requests.specs.RequestFaults.{malformed_number}
+use Rattle.requests.specs.declared.request.fault.Fault.{Fault}
+use Rattle.requests.specs.steps.RequestReading.{asked_terms, import, request_terms, what_if}
+
+-- the parts as they are asked
+abbrev asked_of : ℕ × (List ℕ × Request) → Asked
+asked_of p = record { day = p.0; caller = p.1.0; request = p.1.1 }
+
+pub asked_terms-parts : (day : Result ℕ Fault) (caller : Result (List ℕ) Fault)
+    (request : Result Request Fault) →
+    mapped asked_terms (mapped asked_of
+    (both malformed_number day (both malformed_number caller request)))
+    ≡ both malformed_number day (both malformed_number caller (mapped request_terms request))
+asked_terms-parts (Ok day) (Ok caller) (Ok request) = refl
+asked_terms-parts (Ok day) (Err n) (Ok request) = refl
+asked_terms-parts (Err m) (Ok caller) (Ok request) = refl
+asked_terms-parts (Err m) (Err n) (Ok request) = refl
+asked_terms-parts day caller request = refl
+
+pub import-parts : (holder : Result (List ℕ) Fault) (rows : Result (Vec ImportRow) Fault) →
+    mapped request_terms (mapped (λ p. CommandRequest (Import p.0 p.1)) (both malformed_number holder rows))
+    ≡ mapped (λ p. import p.0 p.1) (both malformed_number holder (mapped (λ v. v.items) rows))
+import-parts (Ok holder) (Ok rows) = refl
+import-parts (Err m) (Ok rows) = refl
+import-parts holder rows = refl
+
+pub what_if-parts : (holder : Result (List ℕ) Fault) (changes : Result (Vec Proposed) Fault)
+    (routes : Result (Vec Route) Fault) →
+    mapped request_terms (mapped (λ p. QueryRequest (WhatIf p.0 p.1.0 p.1.1))
+    (both malformed_number holder (both malformed_number changes routes)))
+    ≡ mapped (λ p. what_if p.0 p.1.0 p.1.1)
+    (both malformed_number holder
+    (both malformed_number (mapped (λ v. v.items) changes) (mapped (λ v. v.items) routes)))
+what_if-parts (Ok holder) (Ok changes) (Ok routes) = refl
+what_if-parts (Ok holder) (Err n) (Ok routes) = refl
+what_if-parts (Err m) (Ok changes) (Ok routes) = refl
+what_if-parts (Err m) (Err n) (Ok routes) = refl
+what_if-parts holder changes routes = refl

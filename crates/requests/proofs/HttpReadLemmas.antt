@@ -1,0 +1,158 @@
+-- What the code reads of an HTTP message is the request that the message is, and its fault the lowest.
+use Rattle.std.proofs.Common.{◌≡◌, ℕ, List, [], ◌∷◌, ◌++◌, map, Option, Some, None, is_some, Result, Ok, Err, refl, sym, ap, ◌∙◌, append_assoc}
+use Rattle.std.proofs.lemmas.Option.{same_Some}
+use Rattle.std.specs.List.{flat_map}
+use Rattle.std.specs.Option.{option_to_list}
+use Rattle.std.specs.Prelude.{IfOk}
+use Rattle.std.specs.Result.{result_err, result_map_both}
+use Rattle.addr.specs.Name.{name_in}
+use Rattle.serde_json.specs.Data.{Data, null}
+use Rattle.registry.specs.declared.authorization.ImportRow.{ImportRow}
+use Rattle.json_values.proofs.FaultLemmas.{told-only}
+use Rattle.json_values.specs.Faults.{fault_unless, lower_of, lowest, name_faults}
+use Rattle.json_values.specs.Parts.{lower, mapped}
+use Rattle.json_values.specs.Tree.{tree_of}
+use Rattle.csv_records.proofs.ImportLemmas.{import_in-said, import_in-told}
+use Rattle.csv_records.specs.Imports.{import_fault, IsImport}
+use Rattle.csv_records.specs.declared.imports.ImportFault.{ImportFault}
+use Rattle.csv_records.specs.steps.Importing.{import_in}
+use Rattle.registry.specs.declared.asked.Asked.{Asked}
+use Rattle.http_messages.specs.Requests.{Asked as Head}
+use Rattle.http_messages.specs.declared.action.Action.{Action}
+use Rattle.http_messages.specs.declared.action.Action.TheVariants.{Import, Slurm}
+use Rattle.requests.specs.HttpFaults.{body_bytes, body_faults, caller_name, fault_of_import, http_fault, http_faults, import_faults, json_tree, object_body_faults, path_faults, tree_faults}
+use Rattle.requests.specs.HttpRequests.{body_tree, http_heading, SaysAsked}
+use Rattle.requests.specs.RequestFaults.{as_malformed, body_members, file_faults, malformed_number, member_faults, named_by, names_of}
+use Rattle.requests.specs.declared.request.commands.Subject.{Subject}
+use Rattle.requests.specs.declared.request.fault.Fault.{Fault}
+use Rattle.requests.specs.declared.request.fault.Fault.TheVariants.{Json, Members, Holder, Caller, Number}
+use Rattle.requests.specs.steps.HttpReading.{asked_of, import_body, import_rows, object_body, path_subject, request_by, tree_request}
+use Rattle.requests.specs.steps.RequestReading.{AskedTerms, RequestTerms, asked_terms, file_of, import, request_in, slurm_request}
+use Rattle.json_values.proofs.ReadingLemmas.{lowest-none, reads-both, reads-last, reads-mapped, reads-ok_or, reads-says, reads-unless}
+use Rattle.requests.proofs.RequestFaultLemmas.{ReadsUnlessFaulty}
+use Rattle.requests.proofs.RequestReadLemmas.{SaysTerms, reads-request, terms-said}
+use Rattle.requests.proofs.SlurmReadLemmas.{reads-file_of}
+
+-- no fault is lower than this one
+lower-json : (fault : Fault) → lower malformed_number fault Json ≡ Json
+unfolding lower
+lower-json Json = refl
+lower-json fault = refl
+
+lowest-json : (faults : List Fault) → Some Json ≡ lowest malformed_number (faults ++ Json ∷ [])
+lowest-json [] = refl
+lowest-json (fault ∷ faults) =
+    ap Some (sym (lower-json fault)) ∙ ap (lower_of malformed_number (Some fault)) (lowest-json faults)
+
+reads-day : (day : ℕ) → ReadsUnlessFaulty (Ok day) [] (λ asked_day. asked_day ≡ day)
+reads-day day = record { told = record { is = refl }; value = refl }
+
+-- the rows of an import
+reads-text : (text : List ℕ) → ReadsUnlessFaulty (import_rows text) (import_faults text) (IsImport text)
+reads-text text =
+    record {
+      told = record { is = told (import_in text) (import_fault text) (import_in-told text) };
+      value = said (import_in text) (import_in-said text);
+    }
+  where
+    told : (read : Result (List ImportRow) ImportFault) (found : Option ImportFault) → result_err read ≡ found
+        → result_err (result_map_both (λ rows. rows) fault_of_import read)
+        ≡ lowest malformed_number (map fault_of_import (option_to_list found))
+    told (Ok rows) found is = rw (← is) refl
+    told (Err fault) found is = rw (← is) refl
+
+    said : (read : Result (List ImportRow) ImportFault) → IfOk read (IsImport text)
+        → IfOk (result_map_both (λ rows. rows) fault_of_import read) (IsImport text)
+    said (Ok rows) is = is
+    said (Err fault) is = is
+
+-- but for files and imports a body is to be an object
+pub request_by-other : (action : Action) (subject : Subject) (body : Option (List ℕ))
+    → (action ≡ Slurm → ⊥) → (action ≡ Import → ⊥) → object_body action subject body ≡ request_by action subject body
+request_by-other Slurm subject body no_file no_rows = absurd (no_file refl)
+request_by-other Import subject body no_file no_rows = absurd (no_rows refl)
+request_by-other other subject body no_file no_rows = refl
+
+module _ (head : Head) (body : Option (List ℕ)) where
+  -- the request that the body's value says
+  abbrev SaysTree : Option Data → RequestTerms → Type 0
+  SaysTree found terms = (d : Data) × (found ≡ Some d) × SaysTerms (http_heading head body d) d terms
+
+  -- a body that is to be an object, of a request that brings neither a file nor rows
+  module _ (action : Action) (does : head.action ≡ action)
+      (no_file : action ≡ Slurm → ⊥) (no_rows : action ≡ Import → ⊥) where
+    abbrev in_path : List Fault
+    in_path = flat_map (path_faults head) (named_by action)
+
+    reads-members : (d : Data) → ReadsUnlessFaulty (request_in action (path_subject head) d)
+        (in_path ++ member_faults (body_members action) d) (SaysTerms (http_heading head body d) d)
+    reads-members d =
+        reads-request (http_heading head body d) (path_subject head) (path_faults head)
+        (reads-ok_or _ Holder) (reads-ok_or _ Number) action d (ap Some does)
+        (λ file. absurd (no_file (sym does ∙ same_Some head.action Slurm file)))
+        (λ rows. absurd (no_rows (sym does ∙ same_Some head.action Import rows)))
+
+    reads-tree : (found : Option Data)
+        → ReadsUnlessFaulty (tree_request action (path_subject head) found) (in_path ++ tree_faults action found) (SaysTree found)
+    reads-tree None = record { told = record { is = lowest-json in_path }; value = tt }
+    reads-tree (Some d) =
+        reads-says (λ terms says. (d, refl, says))
+        (rw (← append_assoc in_path (member_faults (body_members action) d) (name_faults Members (names_of (body_members action)) d))
+        (reads-unless (reads-members d) (told-only malformed_number Members (names_of (body_members action)) d)))
+
+    reads-object : (bytes : Option (List ℕ))
+        → ReadsUnlessFaulty (object_body action (path_subject head) bytes) (in_path ++ object_body_faults action bytes)
+        (SaysTree (json_tree bytes))
+    reads-object None = reads-says (λ terms says. (null, refl, says)) (reads-members null)
+    reads-object (Some bytes) = reads-tree (tree_of bytes)
+
+  -- a body that is a file
+  reads-slurm : head.action ≡ Slurm → (found : Option Data)
+      → ReadsUnlessFaulty (slurm_request (file_of found)) (file_faults found) (SaysTree found)
+  reads-slurm does None = record { told = record { is = refl }; value = tt }
+  reads-slurm does (Some d) = reads-mapped _ (λ p says. (d, refl, (ap Some does, says))) (reads-file_of (Some d))
+
+  -- a body that is an import
+  reads-import : head.action ≡ Import → ReadsUnlessFaulty (import_body (path_subject head) body)
+      (flat_map (path_faults head) (named_by Import) ++ import_faults (body_bytes body)) (SaysTree (Some null))
+  reads-import does =
+      reads-mapped (λ p. import p.0 p.1) (λ p says. (null, refl, (ap Some does, says.0, says.1)))
+      (reads-both (reads-last (reads-ok_or (name_in head.holder) Holder)) (reads-text (body_bytes body)))
+
+  reads-body : (action : Action) → head.action ≡ action
+      → ReadsUnlessFaulty (request_by action (path_subject head) body)
+      (flat_map (path_faults head) (named_by action) ++ body_faults action body) (SaysTree (body_tree action body))
+  reads-body Slurm does = reads-slurm does (json_tree body)
+  reads-body Import does = reads-import does
+  reads-body other does = reads-object other does (λ e. cc) (λ e. cc) body
+
+  -- what is asked on the day, but for the faults
+  abbrev AsksTerms : ℕ → AskedTerms → Type 0
+  AsksTerms day asked =
+      (asked.0 ≡ day) × (caller_name head ≡ Some asked.1.0) × SaysTree (body_tree head.action body) asked.1.1
+
+  reads-http : (day : ℕ) → ReadsUnlessFaulty (asked_of day head body) (http_faults head body) (AsksTerms day)
+  reads-http day =
+      rw (append_assoc (fault_unless (is_some (caller_name head)) Caller) (flat_map (path_faults head) (named_by head.action)) (body_faults head.action body))
+      (reads-says (λ asked says. (says.0, says.1.0, says.1.1))
+      (reads-both (reads-day day) (reads-both (reads-ok_or (caller_name head) Caller) (reads-body head.action refl))))
+
+  -- what was read of a message is what the message says
+  pub http-read : (day : ℕ) (asked : Asked) → mapped asked_terms (Ok asked) ≡ asked_of day head body → SaysAsked day head body asked
+  http-read day asked read =
+      let reads = reads-http day in
+      let says = rw (← read) at reads.value in
+      let fault = rw (← read) at reads.told.is in record {
+        tree = says.2.0;
+        is_tree = says.2.1;
+        on_day = says.0;
+        caller = says.1;
+        request = terms-said (http_heading head body says.2.0) says.2.0 asked.request says.2.2;
+        faultless = lowest-none malformed_number (http_faults head body) (sym fault);
+      }
+
+  -- what is told of a message is its lowest fault
+  pub http-refused : (day : ℕ) (fault : Fault) → mapped asked_terms (Err fault) ≡ asked_of day head body
+      → http_fault head body ≡ Some (as_malformed fault)
+  http-refused day fault read =
+      let told = rw (← read) at (reads-http day).told.is in rw (← told) refl

@@ -1,0 +1,279 @@
+-- What the code reads of a line is the request that the line is, and its fault the lowest.
+use Rattle.std.proofs.Common.{◌≡◌, ℕ, Bool, true, false, if◌then◌else◌, nat_lt, List, [], ◌∷◌, ◌++◌, map, length, codes, Option, Some, None, option_and_then, Result, Ok, Err, refl, sym, ap, ◌∙◌, append_assoc, inl, inr}
+use Rattle.std.specs.List.{AllZip, flat_map}
+use Rattle.addr.specs.declared.asn.Asn.{Asn as AsnValue}
+use Rattle.addr.specs.declared.prefix.Prefix.{Prefix as PrefixValue}
+use Rattle.registry.specs.declared.command.Command.TheVariants.{Import}
+use Rattle.registry.specs.declared.command.Proposed.TheVariants.{Create as CreateChange, Withdraw as WithdrawChange}
+use Rattle.registry.specs.declared.command.Query.TheVariants.{Validity}
+use Rattle.serde_json.specs.Data.{Data, Items}
+use Rattle.serde_json.specs.Find.{get, as_array, as_str}
+use Rattle.slurm.specs.SlurmEntries.{SaysExceptions}
+use Rattle.json_values.proofs.FaultLemmas.{told-if, told-only}
+use Rattle.json_values.specs.Faults.{required_faults}
+use Rattle.json_values.specs.Parts.{both, mapped}
+use Rattle.json_values.specs.Tree.{tree_of, list_of}
+use Rattle.registry.specs.declared.asked.Asked.{Asked}
+use Rattle.registry.specs.declared.asked.Request.{Request}
+use Rattle.registry.specs.declared.asked.Request.TheVariants.{Command as CommandRequest, Query as QueryRequest}
+use Rattle.requests.specs.RequestFaults.{as_malformed, malformed_number, role_at, terms_members, creation_members, withdrawal_members, route_members, names_of, is_count, object_faults, list_faults, change_faults, rows, changes, routes, file, action_in, action_of, body_members, member_faults, named_by, named_member, Named, HolderName, NumberGiven, Kind, any_value, members_of, action_faults, tree_faults, request_faults, request_fault}
+use Rattle.requests.specs.RequestText.{HasName, HasDay, HasMax, HasMember, HasPrefix, HasRow, HasTerms, SaysChange, SaysRoute, HasItems, HasRoutes, Heading, Does, NamesHolder, NamesNumber, SaysRequest, line_heading, ReadsLine, SaysRows}
+use Rattle.json_values.specs.Values.{as_name, as_prefix, as_day, as_asn}
+use Rattle.requests.specs.RequestValues.{as_origin, as_max, as_number, as_role, as_scope}
+use Rattle.requests.specs.declared.request.TheConstants.{LINE_LENGTH_LIMIT}
+use Rattle.http_messages.specs.declared.action.Action.{Action}
+use Rattle.http_messages.specs.declared.action.Action.TheVariants.{Register as AskRegister, Delegate as AskDelegate, Transfer as AskTransfer, Reclaim as AskReclaim, Grant as AskGrant, Revoke as AskRevoke, Create as AskCreate, Amend as AskAmend, Withdraw as AskWithdraw, Slurm as AskSlurm, Show as AskShow, Content as AskContent, List as AskList, Export as AskExport, Import as AskImport, WhatIf as AskWhatIf, Payloads as AskPayloads, Validity as AskValidity}
+use Rattle.requests.specs.declared.request.lists.TheConstants.{MOST_ITEMS, MOST_CHANGES}
+use Rattle.requests.specs.declared.request.fault.Fault.{Fault}
+use Rattle.requests.specs.declared.request.commands.Subject.{Subject}
+use Rattle.requests.specs.declared.request.fault.Fault.TheVariants.{Members, Holder, Caller, Prefix as PrefixFault, Asn, Max, Day, Role, Number, Count, TooLong}
+use Rattle.requests.specs.steps.RequestReading.{RequestTerms, request, import, validity, what_if, AskedTerms, request_terms, asked_terms, one_prefix_in, terms_in, row_in, change_by, change_in, route_in, items_of, rows_in, changes_in, routes_in, file_in, request_in, line_subject, asked_as, asked_by, asked_from, asked_in}
+use Rattle.json_values.proofs.ReadingLemmas.{reads-both, reads-mapped, reads-unless, reads-last, reads-says, reads-each, lowest-none}
+use Rattle.requests.proofs.RequestFaultLemmas.{ReadsUnlessFaulty, ReadsMember, reads-member}
+use Rattle.requests.proofs.SlurmReadLemmas.{reads-file}
+
+-- ---- members
+
+holder : (d : Data) → ReadsMember as_name Holder (codes "holder") d
+holder = reads-member as_name Holder (codes "holder")
+
+prefix : (d : Data) → ReadsMember as_prefix PrefixFault (codes "prefix") d
+prefix = reads-member as_prefix PrefixFault (codes "prefix")
+
+max_length : (d : Data) → ReadsMember as_max Max (codes "max") d
+max_length = reads-member as_max Max (codes "max")
+
+number : (d : Data) → ReadsMember as_number Number (codes "number") d
+number = reads-member as_number Number (codes "number")
+
+until : (d : Data) → ReadsMember as_day Day (codes "until") d
+until = reads-member as_day Day (codes "until")
+
+-- what is known to be done is said by a member
+do-faultless : (d : Data) (action : Action) (member : Option Data) →
+    option_and_then action_of (option_and_then as_str member) ≡ Some action →
+    required_faults Members (any_value d) member ≡ []
+do-faultless d action None does = cc
+do-faultless d action (Some value) does = refl
+
+-- ---- rows, changes and routes
+
+-- the members of an authorization of one prefix
+abbrev SaysOnePrefix : Data → AsnValue × PrefixValue × ℕ × ℕ × ℕ → Type 0
+SaysOnePrefix d p =
+    HasMember as_asn (codes "asn") d p.0 × HasPrefix d p.1.0 × HasMax d p.1.1.0
+    × HasDay (codes "from") d p.1.1.1.0 × HasDay (codes "until") d p.1.1.1.1
+
+reads-one-prefix : (d : Data) → ReadsUnlessFaulty (one_prefix_in d) (member_faults terms_members d) (SaysOnePrefix d)
+reads-one-prefix d =
+    reads-both (reads-member as_asn Asn (codes "asn") d) (reads-both (prefix d) (reads-both (max_length d)
+    (reads-both (reads-member as_day Day (codes "from") d) (reads-last (until d)))))
+
+reads-terms : (d : Data) → ReadsUnlessFaulty (terms_in d) (member_faults terms_members d) (HasTerms d)
+reads-terms d = reads-mapped _ (λ p says. says) (reads-one-prefix d)
+
+reads-row : (d : Data) → ReadsUnlessFaulty (row_in d) (object_faults terms_members d) (HasRow d)
+reads-row d =
+    reads-unless (reads-mapped _ (λ p says. says) (reads-one-prefix d)) (told-only malformed_number Members (names_of terms_members) d)
+
+reads-change : (action : Option Action) (d : Data) → action_in d ≡ action →
+    ReadsUnlessFaulty (change_by action d) (change_faults action d) (SaysChange d)
+reads-change (Some AskCreate) d does =
+    rw (do-faultless d AskCreate (get (codes "do") d) does)
+    (reads-mapped CreateChange (λ terms says. (does, says))
+    (reads-unless (reads-terms d) (told-only malformed_number Members (names_of creation_members) d)))
+reads-change (Some AskWithdraw) d does =
+    rw (do-faultless d AskWithdraw (get (codes "do") d) does)
+    (reads-mapped WithdrawChange (λ n says. (does, says))
+    (reads-unless (reads-last (number d)) (told-only malformed_number Members (names_of withdrawal_members) d)))
+reads-change other d does = record { told = record { is = refl }; value = tt }
+
+reads-route : (d : Data) → ReadsUnlessFaulty (route_in d) (object_faults route_members d) (SaysRoute d)
+reads-route d =
+    reads-unless
+    (reads-mapped (λ p. record { prefix = p.0; origin = p.1 }) (λ p read. (read.0, read.1))
+    (reads-both (prefix d) (reads-last (reads-member as_origin Asn (codes "origin") d))))
+    (told-only malformed_number Members (names_of route_members) d)
+
+module _ {A : Type 0} (reading : Data → Result A Fault) (faults : Data → List Fault) (Says : Data → A → Type 0)
+    (least most : ℕ) (reads : (d : Data) → ReadsUnlessFaulty (reading d) (faults d) (Says d)) where
+  reads-items : (found : Option Items) →
+      ReadsUnlessFaulty (items_of reading least most found) (list_faults faults least most found)
+      (λ values. (items : Items) × (found ≡ Some items) × AllZip Says (list_of items) values)
+  reads-items None = record { told = record { is = refl }; value = tt }
+  reads-items (Some items) =
+      reads-unless (reads-says (λ values each. (items, refl, each)) (reads-each reading faults Says (list_of items) reads))
+      (told-if malformed_number (is_count least most (length (list_of items))) tt Count)
+
+  -- the items of a member
+  reads-list : (member : Option Data) → ReadsUnlessFaulty (items_of reading least most (option_and_then as_array member))
+      (required_faults Members (λ value. list_faults faults least most (as_array value)) member) (HasItems Says member)
+  reads-list None = record { told = record { is = refl }; value = tt }
+  reads-list (Some value) = reads-items (as_array value)
+
+pub reads-rows : (d : Data) → ReadsUnlessFaulty (rows_in d) (required_faults Members (rows d) (get (codes "rows") d))
+    (HasItems HasRow (get (codes "rows") d))
+reads-rows d = reads-list row_in (object_faults terms_members) HasRow 1 MOST_ITEMS reads-row (get (codes "rows") d)
+
+reads-changes : (d : Data) →
+    ReadsUnlessFaulty (changes_in d) (required_faults Members (changes d) (get (codes "changes") d))
+    (HasItems SaysChange (get (codes "changes") d))
+reads-changes d =
+    reads-list change_in (λ change. change_faults (action_in change) change) SaysChange 0 MOST_CHANGES
+    (λ change. reads-change (action_in change) change refl) (get (codes "changes") d)
+
+reads-routes : (d : Data) →
+    ReadsUnlessFaulty (routes_in d) (required_faults Members (routes d) (get (codes "routes") d)) (HasRoutes d)
+reads-routes d = reads-list route_in (object_faults route_members) SaysRoute 1 MOST_ITEMS reads-route (get (codes "routes") d)
+
+-- ---- requests
+
+abbrev pub SaysTerms : Heading → Data → RequestTerms → Type 0
+SaysTerms h d (request r) = SaysRequest h d r
+SaysTerms h d (import holder listed) = Does AskImport h × NamesHolder h holder × SaysRows h.rows listed
+SaysTerms h d (validity listed) = Does AskValidity h × HasRoutes d listed
+SaysTerms h d (what_if holder supposed listed) =
+    Does AskWhatIf h × NamesHolder h holder × HasItems SaysChange (get (codes "changes") d) supposed × HasRoutes d listed
+
+pub terms-said : (h : Heading) (d : Data) (r : Request) → SaysTerms h d (request_terms r) → SaysRequest h d r
+terms-said h d (CommandRequest (Import holder listed)) says = says
+terms-said h d (QueryRequest (Validity listed)) says = says
+terms-said h d other says = says
+
+-- of each of what a request names, and of its further members
+abbrev pub said_faults : (Named → List Fault) → Action → Data → List Fault
+said_faults named action d = flat_map named (named_by action) ++ member_faults (body_members action) d
+
+module _ (h : Heading) (subject : Subject) (named : Named → List Fault)
+    (holder : ReadsUnlessFaulty subject.holder (named HolderName) (NamesHolder h))
+    (number : ReadsUnlessFaulty subject.number (named NumberGiven) (NamesNumber h)) where
+  holder_and_number : ReadsUnlessFaulty (both malformed_number subject.holder subject.number)
+      (flat_map named (HolderName ∷ NumberGiven ∷ [])) (λ p. NamesHolder h p.0 × NamesNumber h p.1)
+  holder_and_number = reads-both holder (reads-last number)
+
+  -- the file of a member is the one that the heading has, where a file is brought at all
+  abbrev pub ReadsFile : Data → Type 0
+  ReadsFile d = Does AskSlurm h
+      → ReadsUnlessFaulty (file_in d) (required_faults Members (file d) (get (codes "file") d)) (SaysExceptions h.file)
+
+  -- and so the rows
+  abbrev pub ReadsRows : Data → Type 0
+  ReadsRows d = Does AskImport h
+      → ReadsUnlessFaulty (rows_in d) (required_faults Members (rows d) (get (codes "rows") d)) (SaysRows h.rows)
+
+  pub reads-request : (action : Action) (d : Data) → Does action h → ReadsFile d → ReadsRows d →
+      ReadsUnlessFaulty (request_in action subject d) (said_faults named action d) (SaysTerms h d)
+  reads-request AskRegister d does file_brought rows_brought = reads-mapped _ (λ p says. (does, says)) (reads-last (reads-last holder))
+  reads-request AskDelegate d does file_brought rows_brought =
+      reads-mapped _ (λ p says. (does, says.0, says.1))
+      (reads-both (reads-last holder) (reads-last (prefix d)))
+  reads-request AskTransfer d does file_brought rows_brought =
+      reads-mapped _ (λ p says. (does, says.0, says.1.0, says.1.1))
+      (reads-both (prefix d) (reads-both (reads-member as_name Holder (codes "giver") d)
+      (reads-last (reads-member as_name Holder (codes "taker") d))))
+  reads-request AskReclaim d does file_brought rows_brought =
+      reads-mapped _ (λ p says. (does, says.0, says.1))
+      (reads-both (reads-last holder) (reads-last (prefix d)))
+  reads-request AskGrant d does file_brought rows_brought =
+      reads-mapped _ (λ p says. (does, says.0, says.1.0, says.1.1.0, says.1.1.1.0, says.1.1.1.1))
+      (reads-both (reads-last holder) (reads-both (reads-member as_name Caller (codes "name") d)
+      (reads-both (reads-member as_role Role (codes "role") d)
+      (reads-both (reads-member (as_scope (role_at d)) Role (codes "scope") d) (reads-last (until d))))))
+  reads-request AskRevoke d does file_brought rows_brought =
+      reads-mapped _ (λ p says. (does, says.0, says.1)) (reads-last holder_and_number)
+  reads-request AskCreate d does file_brought rows_brought =
+      reads-mapped _ (λ p says. (does, says.0, says.1)) (reads-both (reads-last holder) (reads-terms d))
+  reads-request AskAmend d does file_brought rows_brought =
+      reads-mapped _ (λ p says. (does, says.0.0, says.0.1, says.1.0, says.1.1))
+      (reads-both holder_and_number (reads-both (max_length d) (reads-last (until d))))
+  reads-request AskWithdraw d does file_brought rows_brought =
+      reads-mapped _ (λ p says. (does, says.0, says.1)) (reads-last holder_and_number)
+  reads-request AskSlurm d does file_brought rows_brought = reads-mapped _ (λ p says. (does, says)) (reads-last (file_brought does))
+  reads-request AskShow d does file_brought rows_brought =
+      reads-mapped _ (λ p says. (does, says.0, says.1)) (reads-last holder_and_number)
+  reads-request AskContent d does file_brought rows_brought =
+      reads-mapped _ (λ p says. (does, says.0, says.1)) (reads-last holder_and_number)
+  reads-request AskList d does file_brought rows_brought =
+      reads-mapped _ (λ p says. (inl does, says)) (reads-last (reads-last holder))
+  reads-request AskExport d does file_brought rows_brought =
+      reads-mapped _ (λ p says. (inr does, says)) (reads-last (reads-last holder))
+  reads-request AskImport d does file_brought rows_brought =
+      reads-mapped _ (λ p says. (does, says.0, says.1)) (reads-both (reads-last holder) (reads-last (rows_brought does)))
+  reads-request AskWhatIf d does file_brought rows_brought =
+      reads-mapped _ (λ p says. (does, says.0, says.1.0, says.1.1))
+      (reads-both (reads-last holder) (reads-both (reads-changes d) (reads-last (reads-routes d))))
+  reads-request AskPayloads d does file_brought rows_brought = record { told = record { is = refl }; value = does }
+  reads-request AskValidity d does file_brought rows_brought =
+      reads-mapped validity (λ p says. (does, says))
+      (reads-last (reads-routes d))
+
+-- ---- lines
+
+-- what is asked, but for the faults
+abbrev AsksTerms : Option Data → AskedTerms → Type 0
+AsksTerms found asked = (d : Data) × (found ≡ Some d) × HasDay (codes "day") d asked.0
+    × HasName (codes "caller") d asked.1.0 × SaysTerms (line_heading d) d asked.1.1
+
+-- of a member that names something
+abbrev named_faults : Data → Named → List Fault
+named_faults d named = required_faults Members ((named_member named).1 d) (get (named_member named).0 d)
+
+-- the members that name something come first
+members-split : (d : Data) (named : List Named) (rest : List (List ℕ × Kind)) →
+    member_faults (map named_member named ++ rest) d ≡ flat_map (named_faults d) named ++ member_faults rest d
+members-split d [] rest = refl
+members-split d (n ∷ named) rest =
+    ap (λ u. named_faults d n ++ u) (members-split d named rest)
+    ∙ sym (append_assoc (named_faults d n) (flat_map (named_faults d) named) (member_faults rest d))
+
+reads-asked : (action : Action) (d : Data) → Does action (line_heading d) →
+    ReadsUnlessFaulty (asked_as action d) (action_faults (Some action) d) (AsksTerms (Some d))
+reads-asked action d does =
+    rw (do-faultless d action (get (codes "do") d) does, members-split d (named_by action) (body_members action))
+    (reads-unless (reads-says (λ p says. (d, refl, says.0, says.1.0, says.1.1))
+    (reads-both (reads-member as_day Day (codes "day") d)
+    (reads-both (reads-member as_name Caller (codes "caller") d)
+    (reads-request (line_heading d) (line_subject d) (named_faults d) (holder d) (number d) action d does (λ _. reads-file d) (λ _. reads-rows d)))))
+    (told-only malformed_number Members (names_of (members_of action)) d))
+
+reads-by : (action : Option Action) (d : Data) → action_in d ≡ action →
+    ReadsUnlessFaulty (asked_by action d) (action_faults action d) (AsksTerms (Some d))
+reads-by None d does = record { told = record { is = refl }; value = tt }
+reads-by (Some action) d does = reads-asked action d does
+
+reads-tree : (found : Option Data) → ReadsUnlessFaulty (asked_from found) (tree_faults found) (AsksTerms found)
+reads-tree None = record { told = record { is = refl }; value = tt }
+reads-tree (Some d) = reads-by (action_in d) d refl
+
+reads-line : (line : List ℕ) →
+    ReadsUnlessFaulty (asked_in line) (request_faults line) (AsksTerms (tree_of line))
+reads-line line = by_length (nat_lt LINE_LENGTH_LIMIT (length line))
+  where
+    by_length : (is_long : Bool) →
+        ReadsUnlessFaulty (if is_long then Err TooLong else asked_from (tree_of line))
+        (if is_long then TooLong ∷ [] else tree_faults (tree_of line))
+        (AsksTerms (tree_of line))
+    by_length true = record { told = record { is = refl }; value = tt }
+    by_length false = reads-tree (tree_of line)
+
+-- what was read of a line is what the line says
+pub line-read : (line : List ℕ) (asked : Asked) →
+    mapped asked_terms (Ok asked) ≡ asked_in line → ReadsLine line asked
+line-read line asked read =
+    let reads = reads-line line in
+    let says = rw (← read) at reads.value in
+    let fault = rw (← read) at reads.told.is in record {
+      tree = says.0;
+      is_json = says.1;
+      day = says.2;
+      caller = says.3;
+      request = terms-said (line_heading says.0) says.0 asked.request says.4;
+      faultless = lowest-none malformed_number (request_faults line) (sym fault);
+    }
+
+-- what is told of a line is its lowest fault
+pub line-refused : (line : List ℕ) (fault : Fault) →
+    mapped asked_terms (Err fault) ≡ asked_in line →
+    request_fault line ≡ Some (as_malformed fault)
+line-refused line fault read =
+    let told = rw (← read) at (reads-line line).told.is in rw (← told) refl

@@ -1,0 +1,22 @@
+use Rattle.std.proofs.Common.{refl}
+use Rattle.json_values.proofs.PartsLemmas.{mapped-unless}
+use Rattle.requests.specs.RequestFaults.{malformed_number}
+use Rattle.requests.specs.steps.RequestReading.{asked_terms}
+use Rattle.requests.proofs.AskedLemmas.{asked_terms-parts}
+use Rattle.requests.proofs.request.asked_as.Goals as goal
+
+pub returns : goal.returns
+returns c =
+    rw (
+      c.unless.ensures,
+      mapped-unless malformed_number asked_terms c.asked_with-asked.result c.only_members_of.result,
+      c.asked_with-asked.ensures,
+      c.both-2.ensures,
+      c.both.ensures,
+      asked_terms-parts c.day_in.result c.caller_in.result c.in_ok-request.request,
+      c.in_ok-request.ensures,
+      c.line_subject.ensures,
+      c.day_in.ensures,
+      c.caller_in.ensures,
+      c.only_members_of.ensures,
+    ) refl

@@ -1,0 +1,13 @@
+use Rattle.std.proofs.Common.{refl}
+use Rattle.requests.proofs.AskedLemmas.{import-parts}
+use Rattle.requests.proofs.request.message.import_body.Goals as goal
+
+pub returns : goal.returns
+returns c =
+    rw (
+      c.asked_import.ensures,
+      c.both.ensures,
+      import-parts c.args.subject.holder c.in_ok-rows.rows,
+      c.in_ok-rows.ensures,
+      c.body_bytes.ensures,
+    ) refl

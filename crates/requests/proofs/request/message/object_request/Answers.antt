@@ -1,0 +1,14 @@
+use Rattle.std.proofs.Common.{refl}
+use Rattle.json_values.proofs.PartsLemmas.{mapped-unless}
+use Rattle.requests.specs.RequestFaults.{malformed_number}
+use Rattle.requests.specs.steps.RequestReading.{request_terms}
+use Rattle.requests.proofs.request.message.object_request.Goals as goal
+
+pub returns : goal.returns
+returns c =
+    rw (
+      c.unless.ensures,
+      mapped-unless malformed_number request_terms c.in_ok-request.request c.only_body_members_of.result,
+      c.in_ok-request.ensures,
+      c.only_body_members_of.ensures,
+    ) refl

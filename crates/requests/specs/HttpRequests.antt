@@ -1,0 +1,103 @@
+-- Which request the bytes of an HTTP message are: a head as http_messages defines it, with the body that it tells.
+use Rattle.std.specs.Prelude.{◌≡◌, ◌<◌, ◌⊎◌, ℕ, List, [], ◌++◌, length, map, Option, Some, option_map, Result, Ok, Err}
+use Rattle.addr.specs.Name.{name_in}
+use Rattle.httparse.specs.Grammar.{RequestHead}
+use Rattle.httparse.specs.Spans.{name_and_value}
+use Rattle.serde_json.specs.Data.{Data, null}
+use Rattle.http_messages.specs.HeadEnd.{IsWholeHead, LacksEnd}
+use Rattle.http_messages.specs.Requests.{Asked as Head, IsHeadOf, request_of}
+use Rattle.http_messages.specs.declared.action.Action.{Action}
+use Rattle.http_messages.specs.declared.action.Action.TheVariants.{Export, Import}
+use Rattle.http_messages.specs.declared.head.TheConstants.{HEAD_LIMIT}
+use Rattle.http_messages.specs.declared.refusal.Refusal.{Refusal}
+use Rattle.http_messages.specs.declared.refusal.Refusal.TheVariants.{BadRequest}
+use Rattle.http_messages.specs.declared.response.ContentType.{ContentType}
+use Rattle.http_messages.specs.declared.response.ContentType.TheVariants.{Csv, Json}
+use Rattle.registry.specs.declared.asked.Asked.{Asked}
+use Rattle.requests.specs.HttpFaults.{body_bytes, caller_name, http_fault, http_faults, json_tree, path_number}
+use Rattle.requests.specs.RequestText.{Heading, in_text, SaysRequest}
+use Rattle.requests.specs.declared.malformed.Malformed.{Malformed}
+
+-- ---- the request of a head and a body
+
+-- the form in which an action asks for a list
+abbrev pub list_form : Action → ContentType
+list_form Export = Csv
+list_form _ = Json
+
+-- the JSON value of a body, null where there is none or it is CSV
+abbrev pub body_tree : Action → Option (List ℕ) → Option Data
+body_tree Import body = Some null
+body_tree action body = json_tree body
+
+-- the action is that of path and method, the path names holder and number, a SLURM file is the body's value, and the
+-- rows of an import are the body's
+abbrev pub http_heading : Head → Option (List ℕ) → Data → Heading
+http_heading head body tree = record {
+  action = Some head.action;
+  holder = name_in head.holder;
+  number = path_number head.number;
+  file = Some tree;
+  rows = in_text (body_bytes body);
+}
+
+-- head and body are this request on the day, and have no fault
+pub record SaysAsked (day : ℕ) (head : Head) (body : Option (List ℕ)) (asked : Asked) : Type 0 where
+  pub tree : Data
+  pub is_tree : body_tree head.action body ≡ Some tree
+  pub on_day : asked.day ≡ day
+  pub caller : caller_name head ≡ Some asked.caller
+  pub request : SaysRequest (http_heading head body tree) tree asked.request
+  pub faultless : http_faults head body ≡ []
+
+-- ---- messages
+
+-- what the bytes of a head ask for, or why they are refused
+abbrev pub SaysHead : List ℕ → Result Head Refusal → Type 0
+SaysHead bytes said =
+    ((head : RequestHead) × IsHeadOf bytes head
+    × (request_of head.method head.target (map name_and_value head.fields) ≡ said))
+    ⊎ (((head : RequestHead) → ¬ (IsHeadOf bytes head)) × (said ≡ Err BadRequest))
+
+-- the bytes are a whole head and the whole body of which it tells the length, and nothing after them
+pub record IsMessage (bytes : List ℕ) (said : Head) (body : Option (List ℕ)) : Type 0 where
+  pub head : List ℕ
+  pub is_whole : IsWholeHead head
+  pub says : SaysHead head (Ok said)
+  pub size : option_map length body ≡ said.body_length
+  pub all : bytes ≡ head ++ body_bytes body
+
+-- as many bytes as a head may have, and not its end
+abbrev pub IsEndless : List ℕ → Type 0
+IsEndless bytes = (length bytes ≡ HEAD_LIMIT) × LacksEnd bytes
+
+-- the stream broke off within the head, or within the body that it tells
+abbrev pub IsCutShort : List ℕ → Type 0
+IsCutShort bytes =
+    ((length bytes < HEAD_LIMIT) × LacksEnd bytes)
+    ⊎ ((head rest : List ℕ) × (said : Head) × (size : ℕ)
+    × (bytes ≡ head ++ rest) × IsWholeHead head × SaysHead head (Ok said)
+    × (said.body_length ≡ Some size) × (length rest < size))
+
+-- the bytes end with a head, or with the body that it tells
+abbrev pub IsWithinMessage : List ℕ → Type 0
+IsWithinMessage bytes =
+    IsWholeHead bytes ⊎ ((said : Head) × (body : Option (List ℕ)) × IsMessage bytes said body)
+
+-- ---- what the bytes ask for
+
+-- a refusal by the protocol, a malformed request, or a request and the form in which it asks for a list
+pub data HttpRequest : Type 0 where
+  refused : Refusal → HttpRequest
+  malformed : Malformed → HttpRequest
+  asked : ContentType → Asked → HttpRequest
+
+-- these are all the bytes that are read for it; a refused request has its body unread
+abbrev pub ReadsHttp : ℕ → List ℕ → HttpRequest → Type 0
+ReadsHttp day bytes (refused refusal) =
+    (IsEndless bytes × (refusal ≡ BadRequest)) ⊎ (IsWholeHead bytes × SaysHead bytes (Err refusal))
+ReadsHttp day bytes (malformed fault) =
+    (said : Head) × (body : Option (List ℕ)) × IsMessage bytes said body × (http_fault said body ≡ Some fault)
+ReadsHttp day bytes (asked form request) =
+    (said : Head) × (body : Option (List ℕ)) × IsMessage bytes said body × SaysAsked day said body request
+    × (form ≡ list_form said.action)

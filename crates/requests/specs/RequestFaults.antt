@@ -1,0 +1,252 @@
+-- Every fault of a line as a request, wherever it stands in the line: the lowest of all is told.
+-- A line is judged by the tree that the JSON reader gives: of a repeated member it has the last value.
+use Rattle.std.specs.Prelude.{ℕ, nat_le, nat_lt, ◌&&◌, Bool, List, [], ◌∷◌, ◌++◌, map, length, codes, if◌then◌else◌, Option, Some, None, option_map, option_and_then}
+use Rattle.std.specs.List.{flat_map}
+use Rattle.std.specs.Option.{option_to_list}
+use Rattle.std.specs.Str.{bytes_eq}
+use Rattle.registry.specs.declared.grant.Role.{Role}
+use Rattle.serde_json.specs.Data.{Data, Items}
+use Rattle.serde_json.specs.Find.{get, as_array, as_str}
+use Rattle.json_values.specs.Faults.{fault_unless, lowest, name_faults, reading_faults, required_faults}
+use Rattle.json_values.specs.Tree.{tree_of, list_of}
+use Rattle.json_values.specs.Values.{as_name, as_prefix, as_day, as_asn}
+use Rattle.slurm.specs.Fault.{slurm_fault_number}
+use Rattle.slurm.specs.SlurmFaults.{slurm_fault}
+use Rattle.requests.specs.RequestValues.{as_origin, as_max, as_number, as_role, as_scope}
+use Rattle.requests.specs.declared.request.TheConstants.{LINE_LENGTH_LIMIT}
+use Rattle.requests.specs.declared.malformed.Malformed.{Malformed}
+use Rattle.http_messages.specs.declared.action.Action.{Action}
+use Rattle.http_messages.specs.declared.action.Action.TheVariants.{Register, Delegate, Transfer, Reclaim, Grant, Revoke, Create, Amend, Withdraw, Slurm, Show, Content, List as ListAction, Import, WhatIf, Payloads, Validity}
+use Rattle.requests.specs.declared.request.fault.Fault.{Fault}
+use Rattle.requests.specs.declared.request.fault.Fault.TheVariants.{Json, Members, Holder, Caller, Prefix, Asn, Max, Day, Role as RoleFault, Number, File, Count, TooLong}
+use Rattle.requests.specs.declared.request.lists.TheConstants.{MOST_ITEMS, MOST_CHANGES}
+
+-- where several faults apply, the one of the lowest number is told
+abbrev pub malformed_number : Fault → ℕ
+malformed_number Json = 1
+malformed_number Members = 2
+malformed_number Holder = 3
+malformed_number Caller = 4
+malformed_number Prefix = 5
+malformed_number Asn = 6
+malformed_number Max = 7
+malformed_number Day = 8
+malformed_number RoleFault = 9
+malformed_number Number = 10
+malformed_number (File fault) = 11
+malformed_number Count = 12
+malformed_number TooLong = 13
+
+-- of a SLURM file that is refused, the number of its own fault
+abbrev pub slurm_number : Fault → Option ℕ
+slurm_number (File fault) = Some (slurm_fault_number fault)
+slurm_number _ = None
+
+abbrev pub as_malformed : Fault → Malformed
+as_malformed fault = record { number = malformed_number fault; slurm = slurm_number fault }
+
+-- ---- kinds of members
+
+-- the faults of a value that is to be of a kind, by the object that it stands in
+abbrev pub Kind : Type 0
+Kind = Data → Data → List Fault
+
+abbrev pub holder_name : Kind
+holder_name d = reading_faults as_name Holder
+
+abbrev pub caller_name : Kind
+caller_name d = reading_faults as_name Caller
+
+abbrev pub prefix : Kind
+prefix d = reading_faults as_prefix Prefix
+
+abbrev pub asn : Kind
+asn d = reading_faults as_asn Asn
+
+abbrev pub origin : Kind
+origin d = reading_faults as_origin Asn
+
+abbrev pub max_length : Kind
+max_length d = reading_faults as_max Max
+
+abbrev pub day : Kind
+day d = reading_faults as_day Day
+
+abbrev pub role : Kind
+role d = reading_faults as_role RoleFault
+
+-- the role that an object names
+abbrev pub role_at : Data → Option Role
+role_at d = option_and_then as_role (get (codes "role") d)
+
+abbrev pub scope : Kind
+scope d = reading_faults (as_scope (role_at d)) RoleFault
+
+abbrev pub number : Kind
+number d = reading_faults as_number Number
+
+-- of what is to be a SLURM file, or is no JSON; of its own faults the lowest is told
+abbrev pub file_faults : Option Data → List Fault
+file_faults found = map File (option_to_list (slurm_fault found))
+
+abbrev pub file : Kind
+file d value = file_faults (Some value)
+
+-- `do` is judged before its request is
+abbrev pub any_value : Kind
+any_value d value = []
+
+-- ---- objects and lists of objects
+
+abbrev pub names_of : List (List ℕ × Kind) → List (List ℕ)
+names_of members = map (λ m. m.0) members
+
+-- of each of these members, which have to be there
+abbrev pub member_faults : List (List ℕ × Kind) → Data → List Fault
+member_faults members d = flat_map (λ m. required_faults Members (m.1 d) (get m.0 d)) members
+
+-- of what is to be an object with each of these members and with no other
+abbrev pub object_faults : List (List ℕ × Kind) → Data → List Fault
+object_faults members d =
+    member_faults members d
+    ++ name_faults Members (names_of members) d
+
+abbrev pub is_count : ℕ → ℕ → ℕ → Bool
+is_count least most n = nat_le least n && nat_le n most
+
+-- of what is to be an array of `least` to `most` items, each of which may have faults of its own
+abbrev pub list_faults : (Data → List Fault) → ℕ → ℕ → Option Items → List Fault
+list_faults item_faults least most None = Members ∷ []
+list_faults item_faults least most (Some items) =
+    flat_map item_faults (list_of items)
+    ++ fault_unless (is_count least most (length (list_of items))) Count
+
+-- ---- what is asked
+
+-- what a member `do` says
+abbrev pub action_of : List ℕ → Option Action
+action_of text =
+    if bytes_eq text (codes "register") then Some Register
+    else (if bytes_eq text (codes "delegate") then Some Delegate
+    else (if bytes_eq text (codes "transfer") then Some Transfer
+    else (if bytes_eq text (codes "reclaim") then Some Reclaim
+    else (if bytes_eq text (codes "grant") then Some Grant
+    else (if bytes_eq text (codes "revoke") then Some Revoke
+    else (if bytes_eq text (codes "create") then Some Create
+    else (if bytes_eq text (codes "amend") then Some Amend
+    else (if bytes_eq text (codes "withdraw") then Some Withdraw
+    else (if bytes_eq text (codes "slurm") then Some Slurm
+    else (if bytes_eq text (codes "show") then Some Show
+    else (if bytes_eq text (codes "content") then Some Content
+    else (if bytes_eq text (codes "list") then Some ListAction
+    else (if bytes_eq text (codes "payloads") then Some Payloads
+    else (if bytes_eq text (codes "validity") then Some Validity
+    else (if bytes_eq text (codes "import") then Some Import
+    else (if bytes_eq text (codes "whatif") then Some WhatIf
+    else None))))))))))))))))
+
+abbrev pub action_in : Data → Option Action
+action_in d = option_and_then action_of (option_and_then as_str (get (codes "do") d))
+
+-- ---- rows, changes and routes
+
+-- what an authorization is to say
+abbrev pub terms_members : List (List ℕ × Kind)
+terms_members =
+    (codes "asn", asn) ∷ (codes "prefix", prefix) ∷ (codes "max", max_length) ∷ (codes "from", day)
+    ∷ (codes "until", day) ∷ []
+
+abbrev pub rows : Kind
+rows d value = list_faults (object_faults terms_members) 1 MOST_ITEMS (as_array value)
+
+abbrev pub creation_members : List (List ℕ × Kind)
+creation_members = (codes "do", any_value) ∷ terms_members
+
+abbrev pub withdrawal_members : List (List ℕ × Kind)
+withdrawal_members = (codes "do", any_value) ∷ (codes "number", number) ∷ []
+
+-- of a change by what it does, if it is known
+abbrev pub change_faults : Option Action → Data → List Fault
+change_faults (Some Create) d = object_faults creation_members d
+change_faults (Some Withdraw) d = object_faults withdrawal_members d
+change_faults other d = Members ∷ []
+
+abbrev pub changes : Kind
+changes d value =
+    list_faults (λ change. change_faults (action_in change) change) 0 MOST_CHANGES (as_array value)
+
+abbrev pub route_members : List (List ℕ × Kind)
+route_members = (codes "prefix", prefix) ∷ (codes "origin", origin) ∷ []
+
+abbrev pub routes : Kind
+routes d value = list_faults (object_faults route_members) 1 MOST_ITEMS (as_array value)
+
+-- ---- requests
+
+-- what a request names, where it names something: a line by a member, an HTTP request in its path
+pub data Named : Type 0 where
+  HolderName : Named
+  NumberGiven : Named
+
+abbrev pub named_by : Action → List Named
+named_by Transfer = []
+named_by Slurm = []
+named_by Payloads = []
+named_by Validity = []
+named_by Revoke = HolderName ∷ NumberGiven ∷ []
+named_by Amend = HolderName ∷ NumberGiven ∷ []
+named_by Withdraw = HolderName ∷ NumberGiven ∷ []
+named_by Show = HolderName ∷ NumberGiven ∷ []
+named_by Content = HolderName ∷ NumberGiven ∷ []
+named_by other = HolderName ∷ []
+
+-- and the members of what it says further, of which the body of an HTTP request is made
+abbrev pub body_members : Action → List (List ℕ × Kind)
+body_members Delegate = (codes "prefix", prefix) ∷ []
+body_members Transfer =
+    (codes "prefix", prefix) ∷ (codes "giver", holder_name) ∷ (codes "taker", holder_name) ∷ []
+body_members Reclaim = (codes "prefix", prefix) ∷ []
+body_members Grant =
+    (codes "name", caller_name) ∷ (codes "role", role) ∷ (codes "scope", scope) ∷ (codes "until", day) ∷ []
+body_members Create = terms_members
+body_members Amend = (codes "max", max_length) ∷ (codes "until", day) ∷ []
+body_members Import = (codes "rows", rows) ∷ []
+body_members WhatIf = (codes "changes", changes) ∷ (codes "routes", routes) ∷ []
+body_members Slurm = (codes "file", file) ∷ []
+body_members Validity = (codes "routes", routes) ∷ []
+body_members other = []
+
+abbrev pub named_member : Named → List ℕ × Kind
+named_member HolderName = (codes "holder", holder_name)
+named_member NumberGiven = (codes "number", number)
+
+-- the members of a line
+abbrev pub members_of : Action → List (List ℕ × Kind)
+members_of action =
+    (codes "day", day) ∷ (codes "caller", caller_name) ∷ (codes "do", any_value)
+    ∷ map named_member (named_by action) ++ body_members action
+
+abbrev pub action_faults : Option Action → Data → List Fault
+action_faults None d = Members ∷ []
+action_faults (Some action) d = object_faults (members_of action) d
+
+abbrev pub tree_faults : Option Data → List Fault
+tree_faults None = Json ∷ []
+tree_faults (Some d) = action_faults (action_in d) d
+
+-- the faults of a line; one that is too long has that fault alone
+abbrev pub request_faults : List ℕ → List Fault
+request_faults line =
+    if nat_lt LINE_LENGTH_LIMIT (length line) then TooLong ∷ [] else tree_faults (tree_of line)
+
+-- the answer to a line that is over the limit
+abbrev pub too_long : Malformed
+too_long = as_malformed TooLong
+
+-- what is reported of these faults
+abbrev pub malformed_of : List Fault → Option Malformed
+malformed_of faults = option_map as_malformed (lowest malformed_number faults)
+
+-- why a line is no request
+abbrev pub request_fault : List ℕ → Option Malformed
+request_fault line = malformed_of (request_faults line)

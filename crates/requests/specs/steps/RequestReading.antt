@@ -1,0 +1,243 @@
+-- A step of the code, not a definition: how it reads a request, from all of its parts at once, so
+-- that it finds the lowest fault. Which faults a line has stands in `RequestFaults`, what it asks in
+-- `RequestText`.
+use Rattle.std.specs.Prelude.{ℕ, nat_lt, List, length, codes, if◌then◌else◌, Option, Some, None, option_and_then, Result, Ok, Err}
+use Rattle.std.specs.Option.{ok_or}
+use Rattle.std.specs.Result.{result_map_both}
+use Rattle.addr.specs.declared.asn.Asn.{Asn as AsnValue}
+use Rattle.addr.specs.declared.prefix.Prefix.{Prefix}
+use Rattle.addr.specs.declared.route.Route.{Route}
+use Rattle.registry.specs.declared.authorization.AuthTerms.{AuthTerms}
+use Rattle.registry.specs.declared.authorization.ImportRow.{ImportRow}
+use Rattle.registry.specs.declared.command.Command.TheVariants.{Register, Delegate, Transfer, Reclaim, Grant, Revoke, Create, Amend, Withdraw, Import, Slurm}
+use Rattle.registry.specs.declared.command.Proposed.{Proposed}
+use Rattle.registry.specs.declared.grant.Role.{Role as RoleGiven}
+use Rattle.registry.specs.declared.grant.Scope.{Scope}
+use Rattle.registry.specs.declared.command.Proposed.TheVariants.{Create as CreateChange, Withdraw as WithdrawChange}
+use Rattle.registry.specs.declared.command.Query.TheVariants.{Show, Content, List as ListQuery, Payloads, Validity, WhatIf}
+use Rattle.serde_json.specs.Data.{Data, Items}
+use Rattle.serde_json.specs.Find.{get, as_array}
+use Rattle.json_values.specs.Parts.{both, mapped, unless, each}
+use Rattle.json_values.specs.Tree.{tree_of, required, only, list_of}
+use Rattle.slurm.specs.Exceptions.{Exceptions}
+use Rattle.slurm.specs.declared.fault.SlurmFault.TheVariants.{NotJson}
+use Rattle.slurm.specs.steps.SlurmFile.{slurm_in}
+use Rattle.registry.specs.declared.asked.Asked.{Asked}
+use Rattle.registry.specs.declared.asked.Request.{Request}
+use Rattle.registry.specs.declared.asked.Request.TheVariants.{Command as CommandRequest, Query as QueryRequest}
+use Rattle.requests.specs.RequestFaults.{malformed_number, role_at, terms_members, creation_members, withdrawal_members, route_members, names_of, is_count, action_in, members_of}
+use Rattle.json_values.specs.Values.{as_name, as_prefix, as_day, as_asn}
+use Rattle.requests.specs.RequestValues.{as_origin, as_max, as_number, as_role, as_scope}
+use Rattle.requests.specs.declared.request.TheConstants.{LINE_LENGTH_LIMIT}
+use Rattle.http_messages.specs.declared.action.Action.{Action}
+use Rattle.http_messages.specs.declared.action.Action.TheVariants.{Register as AskRegister, Delegate as AskDelegate, Transfer as AskTransfer, Reclaim as AskReclaim, Grant as AskGrant, Revoke as AskRevoke, Create as AskCreate, Amend as AskAmend, Withdraw as AskWithdraw, Slurm as AskSlurm, Show as AskShow, Content as AskContent, List as AskList, Export as AskExport, Import as AskImport, WhatIf as AskWhatIf, Payloads as AskPayloads, Validity as AskValidity}
+use Rattle.requests.specs.declared.request.lists.TheConstants.{MOST_ITEMS, MOST_CHANGES}
+use Rattle.requests.specs.declared.request.fault.Fault.{Fault}
+use Rattle.requests.specs.declared.request.commands.Subject.{Subject}
+use Rattle.requests.specs.declared.request.fault.Fault.TheVariants.{Json, Members, Holder, Caller, Prefix as PrefixFault, Asn, Max, Day, Role, Number, File, Count, TooLong}
+
+-- ---- what is asked, with its rows, changes and routes as lists
+
+pub data RequestTerms : Type 0 where
+  request : Request → RequestTerms
+  import : List ℕ → List ImportRow → RequestTerms
+  validity : List Route → RequestTerms
+  what_if : List ℕ → List Proposed → List Route → RequestTerms
+
+-- the day, the caller and the request
+abbrev pub AskedTerms : Type 0
+AskedTerms = ℕ × (List ℕ × RequestTerms)
+
+abbrev pub request_terms : Request → RequestTerms
+request_terms (CommandRequest (Import holder rows)) = import holder rows.items
+request_terms (QueryRequest (Validity routes)) = validity routes.items
+request_terms (QueryRequest (WhatIf holder changes routes)) = what_if holder changes.items routes.items
+request_terms other = request other
+
+abbrev pub asked_terms : Asked → AskedTerms
+asked_terms asked = (asked.day, (asked.caller, request_terms asked.request))
+
+-- ---- members
+
+-- the member of this name, which has to be there: the value that is read of it, or its fault
+abbrev pub member_in : {A : Type 0} → (Data → Option A) → Fault → List ℕ → Data → Result A Fault
+member_in reading fault name d =
+    required Members (λ found. ok_or (reading found) fault) (get name d)
+
+abbrev pub holder_in : List ℕ → Data → Result (List ℕ) Fault
+holder_in = member_in as_name Holder
+
+abbrev pub caller_in : List ℕ → Data → Result (List ℕ) Fault
+caller_in = member_in as_name Caller
+
+abbrev pub prefix_in : Data → Result Prefix Fault
+prefix_in = member_in as_prefix PrefixFault (codes "prefix")
+
+abbrev pub max_in : Data → Result ℕ Fault
+max_in = member_in as_max Max (codes "max")
+
+abbrev pub number_in : Data → Result ℕ Fault
+number_in = member_in as_number Number (codes "number")
+
+abbrev pub day_in : List ℕ → Data → Result ℕ Fault
+day_in = member_in as_day Day
+
+-- a SLURM file, its fault as one of the request
+abbrev pub as_file : Data → Result Exceptions Fault
+as_file d = result_map_both (λ file. file) File (slurm_in d)
+
+-- where no JSON was found, there is no file
+abbrev pub file_of : Option Data → Result Exceptions Fault
+file_of None = Err (File NotJson)
+file_of (Some d) = as_file d
+
+abbrev pub file_in : Data → Result Exceptions Fault
+file_in d = required Members as_file (get (codes "file") d)
+
+-- ---- rows, changes and routes
+
+-- the members of an authorization of one prefix
+abbrev pub one_prefix_in : Data → Result (AsnValue × Prefix × ℕ × ℕ × ℕ) Fault
+one_prefix_in d =
+    both malformed_number (member_in as_asn Asn (codes "asn") d)
+    (both malformed_number (prefix_in d)
+    (both malformed_number (max_in d)
+    (both malformed_number (day_in (codes "from") d) (day_in (codes "until") d))))
+
+abbrev pub terms_in : Data → Result AuthTerms Fault
+terms_in d =
+    mapped (λ p. record { asn = p.0; prefix = p.1.0; max = p.1.1.0; from = p.1.1.1.0; until = p.1.1.1.1 })
+    (one_prefix_in d)
+
+abbrev pub row_members_in : Data → Result ImportRow Fault
+row_members_in d =
+    mapped (λ p. record { asn = p.0; prefix = p.1.0; max = p.1.1.0; from = p.1.1.1.0; until = p.1.1.1.1 })
+    (one_prefix_in d)
+
+abbrev pub row_in : Data → Result ImportRow Fault
+row_in d = unless malformed_number (row_members_in d) (only Members (names_of terms_members) d)
+
+-- by what it does, if that is known
+abbrev pub change_by : Option Action → Data → Result Proposed Fault
+change_by (Some AskCreate) d =
+    mapped CreateChange (unless malformed_number (terms_in d) (only Members (names_of creation_members) d))
+change_by (Some AskWithdraw) d =
+    mapped WithdrawChange (unless malformed_number (number_in d) (only Members (names_of withdrawal_members) d))
+change_by other d = Err Members
+
+abbrev pub change_in : Data → Result Proposed Fault
+change_in d = change_by (action_in d) d
+
+abbrev pub route_in : Data → Result Route Fault
+route_in d =
+    unless malformed_number (mapped (λ p. record { prefix = p.0; origin = p.1 })
+    (both malformed_number (prefix_in d) (member_in as_origin Asn (codes "origin") d)))
+    (only Members (names_of route_members) d)
+
+abbrev pub count_of : ℕ → ℕ → ℕ → Result (Unit {0}) Fault
+count_of least most n = if is_count least most n then Ok tt else Err Count
+
+abbrev pub items_of : {A : Type 0} → (Data → Result A Fault) → ℕ → ℕ → Option Items → Result (List A) Fault
+items_of reading least most None = Err Members
+items_of reading least most (Some items) =
+    unless malformed_number (each malformed_number reading (list_of items))
+    (count_of least most (length (list_of items)))
+
+-- what the items of a member are read as
+abbrev pub items_in : {A : Type 0} → (Data → Result A Fault) → ℕ → ℕ → List ℕ → Data → Result (List A) Fault
+items_in reading least most name d = items_of reading least most (option_and_then as_array (get name d))
+
+abbrev pub rows_in : Data → Result (List ImportRow) Fault
+rows_in = items_in row_in 1 MOST_ITEMS (codes "rows")
+
+abbrev pub changes_in : Data → Result (List Proposed) Fault
+changes_in = items_in change_in 0 MOST_CHANGES (codes "changes")
+
+abbrev pub routes_in : Data → Result (List Route) Fault
+routes_in = items_in route_in 1 MOST_ITEMS (codes "routes")
+
+-- ---- requests
+
+abbrev pub slurm_request : Result Exceptions Fault → Result RequestTerms Fault
+slurm_request file = mapped (λ f. request (CommandRequest (Slurm f))) file
+
+abbrev pub holder_and_prefix : Subject → Data → Result (List ℕ × Prefix) Fault
+holder_and_prefix subject d = both malformed_number subject.holder (prefix_in d)
+
+abbrev pub holder_and_number : Subject → Result (List ℕ × ℕ) Fault
+holder_and_number subject = both malformed_number subject.holder subject.number
+
+-- what a grant gives, and to whom
+abbrev pub access_in : Data → Result (List ℕ × (RoleGiven × (Scope × ℕ))) Fault
+access_in d =
+    both malformed_number (caller_in (codes "name") d)
+    (both malformed_number (member_in as_role Role (codes "role") d)
+    (both malformed_number (member_in (as_scope (role_at d)) Role (codes "scope") d)
+    (day_in (codes "until") d)))
+
+abbrev pub request_in : Action → Subject → Data → Result RequestTerms Fault
+request_in AskRegister subject d =
+    mapped (λ p. request (CommandRequest (Register p))) subject.holder
+request_in AskDelegate subject d =
+    mapped (λ p. request (CommandRequest (Delegate p.0 p.1))) (holder_and_prefix subject d)
+request_in AskTransfer subject d =
+    mapped (λ p. request (CommandRequest (Transfer p.0 p.1.0 p.1.1)))
+    (both malformed_number (prefix_in d)
+    (both malformed_number (holder_in (codes "giver") d) (holder_in (codes "taker") d)))
+request_in AskReclaim subject d =
+    mapped (λ p. request (CommandRequest (Reclaim p.0 p.1))) (holder_and_prefix subject d)
+request_in AskGrant subject d =
+    mapped (λ p. request (CommandRequest (Grant p.0 p.1.0 p.1.1.0 p.1.1.1.0 p.1.1.1.1)))
+    (both malformed_number subject.holder (access_in d))
+request_in AskRevoke subject d =
+    mapped (λ p. request (CommandRequest (Revoke p.0 p.1))) (holder_and_number subject)
+request_in AskCreate subject d =
+    mapped (λ p. request (CommandRequest (Create p.0 p.1))) (both malformed_number subject.holder (terms_in d))
+request_in AskAmend subject d =
+    mapped (λ p. request (CommandRequest (Amend p.0.0 p.0.1 p.1.0 p.1.1)))
+    (both malformed_number (holder_and_number subject)
+    (both malformed_number (max_in d) (day_in (codes "until") d)))
+request_in AskWithdraw subject d =
+    mapped (λ p. request (CommandRequest (Withdraw p.0 p.1))) (holder_and_number subject)
+request_in AskSlurm subject d = slurm_request (file_in d)
+request_in AskShow subject d =
+    mapped (λ p. request (QueryRequest (Show p.0 p.1))) (holder_and_number subject)
+request_in AskContent subject d =
+    mapped (λ p. request (QueryRequest (Content p.0 p.1))) (holder_and_number subject)
+request_in AskList subject d =
+    mapped (λ p. request (QueryRequest (ListQuery p))) subject.holder
+request_in AskExport subject d =
+    mapped (λ p. request (QueryRequest (ListQuery p))) subject.holder
+request_in AskImport subject d =
+    mapped (λ p. import p.0 p.1) (both malformed_number subject.holder (rows_in d))
+request_in AskWhatIf subject d =
+    mapped (λ p. what_if p.0 p.1.0 p.1.1)
+    (both malformed_number subject.holder (both malformed_number (changes_in d) (routes_in d)))
+request_in AskPayloads subject d = Ok (request (QueryRequest Payloads))
+request_in AskValidity subject d = mapped validity (routes_in d)
+
+-- ---- lines
+
+-- a line has members for its holder and its number
+abbrev pub line_subject : Data → Subject
+line_subject d = record { holder = holder_in (codes "holder") d; number = number_in d }
+
+abbrev pub asked_as : Action → Data → Result AskedTerms Fault
+asked_as action d =
+    unless malformed_number
+    (both malformed_number (day_in (codes "day") d)
+    (both malformed_number (caller_in (codes "caller") d) (request_in action (line_subject d) d)))
+    (only Members (names_of (members_of action)) d)
+
+abbrev pub asked_by : Option Action → Data → Result AskedTerms Fault
+asked_by None d = Err Members
+asked_by (Some action) d = asked_as action d
+
+abbrev pub asked_from : Option Data → Result AskedTerms Fault
+asked_from None = Err Json
+asked_from (Some d) = asked_by (action_in d) d
+
+-- the request that a line is, or its lowest fault; the length is tested first
+abbrev pub asked_in : List ℕ → Result AskedTerms Fault
+asked_in line =
+    if nat_lt LINE_LENGTH_LIMIT (length line) then Err TooLong else asked_from (tree_of line)

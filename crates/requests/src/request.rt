@@ -1,0 +1,143 @@
+//! Reading requests: here from JSON lines.
+ghost use Rattle.std.specs.Prelude.{◌≡◌, Some, Err, IfOk};
+ghost use Rattle.serde_json.specs.View.{view};
+ghost use Rattle.json_values.specs.Parts.{mapped};
+ghost use Rattle.json_values.specs.Tree.{tree_of};
+ghost use Rattle.requests.specs.RequestFaults.{action_in, request_fault};
+ghost use Rattle.requests.specs.RequestText.{ReadsLine};
+ghost use Rattle.requests.specs.steps.RequestReading.{asked_as, asked_by, asked_in, asked_terms, line_subject, request_in, request_terms};
+
+mod action;
+mod commands;
+mod exceptions;
+pub(crate) mod fault;
+mod lists;
+pub(crate) mod members;
+pub(crate) mod message;
+
+use crate::malformed::Malformed;
+use action::{action_in, only_members_of};
+use addr::{Day, Name};
+use commands::Subject;
+use fault::Fault;
+use http_messages::Action;
+use json_values::{both, tree_of, unless};
+use members::{caller_in, day_in, holder_in, number_in};
+use registry::{Asked, Query, Request};
+use serde_json::Value;
+use std::alloc::{AllocError, Global};
+
+/// The longest line that is judged, in bytes without its line feed: 1 MiB.
+pub const LINE_LENGTH_LIMIT: usize = 1_048_576;
+
+/// Why bytes are no request.
+#[derive(Clone, Copy, Debug, PartialEq, Eq)]
+pub enum LineFault {
+    Malformed(Malformed),
+    /// An allocation failed; the bytes were not judged.
+    Memory,
+}
+
+/// Reads the request that a line is, or tells its lowest fault. A JSON number is taken where it is
+/// written in plain digits; of a repeated member the last value counts.
+pub fn read_line_request(alloc: Global, line: &[u8]) -> Result<Asked, LineFault>
+    ensures ok { IfOk result (ReadsLine line.now) }
+    ensures malformed { (m : Malformed) → result ≡ Err (LineFault.Malformed m)
+        → request_fault line.now ≡ Some m }
+{
+    match asked_in(alloc, line) {
+        Ok(Ok(asked)) => Ok(asked),
+        Ok(Err(fault)) => Err(LineFault::Malformed(fault.malformed())),
+        Err(_) => Err(LineFault::Memory),
+    }
+}
+
+// In what follows an outer error is want of memory.
+
+fn asked_in(alloc: Global, line: &[u8]) -> Result<Result<Asked, Fault>, AllocError>
+    ensures { IfOk result (λ asked. mapped asked_terms asked ≡ asked_in line.now) }
+{
+    if line.len() > LINE_LENGTH_LIMIT {
+        return Ok(Err(Fault::TooLong));
+    }
+    match tree_of(alloc, line)? {
+        Some(value) => asked_by(alloc, &value),
+        None => Ok(Err(Fault::Json)),
+    }
+}
+
+fn asked_by(alloc: Global, value: &Value) -> Result<Result<Asked, Fault>, AllocError>
+    ensures { IfOk result (λ asked. mapped asked_terms asked
+        ≡ asked_by (action_in (view value.now)) (view value.now)) }
+{
+    match action_in(value) {
+        Some(action) => asked_as(alloc, action, value),
+        None => Ok(Err(Fault::Members)),
+    }
+}
+
+fn asked_as(
+    alloc: Global,
+    action: Action,
+    value: &Value,
+) -> Result<Result<Asked, Fault>, AllocError>
+    ensures { IfOk result (λ asked. mapped asked_terms asked ≡ asked_as action (view value.now)) }
+{
+    let request = request_in(alloc, action, line_subject(value), value)?;
+    let asked = asked_with(both(
+        day_in(value, "day"),
+        both(caller_in(value, "caller"), request),
+    ));
+    Ok(unless(asked, only_members_of(action, value)))
+}
+
+fn asked_with(parts: Result<(Day, (Name, Request)), Fault>) -> Result<Asked, Fault>
+    ensures { result ≡ mapped (λ p. record { day = p.0; caller = p.1.0; request = p.1.1 }) parts }
+{
+    let (day, (caller, request)) = parts?;
+    Ok(Asked {
+        day,
+        caller,
+        request,
+    })
+}
+
+fn line_subject(value: &Value) -> Subject
+    ensures { result ≡ line_subject (view value.now) }
+{
+    Subject {
+        holder: holder_in(value, "holder"),
+        number: number_in(value),
+    }
+}
+
+// The request that is asked of the subject with these further members.
+fn request_in(
+    alloc: Global,
+    action: Action,
+    subject: Subject,
+    value: &Value,
+) -> Result<Result<Request, Fault>, AllocError>
+    ensures { IfOk result (λ request. mapped request_terms request
+        ≡ request_in action subject (view value.now)) }
+{
+    match action {
+        Action::Register => Ok(commands::register_in(subject)),
+        Action::Delegate => Ok(commands::delegate_in(subject, value)),
+        Action::Transfer => Ok(commands::transfer_in(value)),
+        Action::Reclaim => Ok(commands::reclaim_in(subject, value)),
+        Action::Grant => Ok(commands::grant_in(subject, value)),
+        Action::Revoke => Ok(commands::revoke_in(subject)),
+        Action::Create => Ok(commands::create_in(subject, value)),
+        Action::Amend => Ok(commands::amend_in(subject, value)),
+        Action::Withdraw => Ok(commands::withdraw_in(subject)),
+        Action::Slurm => exceptions::slurm_in(alloc, value),
+        Action::Show => Ok(commands::show_in(subject)),
+        Action::Content => Ok(commands::content_in(subject)),
+        Action::List | Action::Export => Ok(commands::list_in(subject)),
+        Action::Import => lists::import_in(alloc, subject, value),
+        Action::WhatIf => lists::what_if_in(alloc, subject, value),
+        Action::Payloads => Ok(Ok(Request::Query(Query::Payloads))),
+        Action::Validity => lists::validity_in(alloc, value),
+    }
+}

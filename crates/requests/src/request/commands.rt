@@ -1,0 +1,147 @@
+// One reader for each request, of what it names and of its further members: null where it has none.
+ghost use Rattle.std.specs.Prelude.{◌≡◌};
+ghost use Rattle.serde_json.specs.Data.{null};
+ghost use Rattle.serde_json.specs.View.{view};
+ghost use Rattle.json_values.specs.Parts.{mapped};
+ghost use Rattle.requests.specs.steps.RequestReading.{access_in, holder_and_number, holder_and_prefix, request_in, request_terms};
+
+use super::fault::Fault;
+use super::members::{
+    caller_in, day_in, holder_in, max_in, prefix_in, role_in, scope_in, terms_in,
+};
+use addr::{Day, Name, Prefix};
+use http_messages::Action;
+use json_values::both;
+use registry::{Command, Query, Request, Role, Scope};
+use serde_json::Value;
+
+/// The holder and the number that a request names. Where it names none, the fault counts for nothing.
+#[derive(Clone, Copy, Debug)]
+pub(crate) struct Subject {
+    pub(crate) holder: Result<Name, Fault>,
+    pub(crate) number: Result<u32, Fault>,
+}
+
+fn holder_and_prefix(subject: Subject, value: &Value) -> Result<(Name, Prefix), Fault>
+    ensures { result ≡ holder_and_prefix subject (view value.now) }
+{
+    both(subject.holder, prefix_in(value))
+}
+
+fn holder_and_number(subject: Subject) -> Result<(Name, u32), Fault>
+    ensures { result ≡ holder_and_number subject }
+{
+    both(subject.holder, subject.number)
+}
+
+pub(crate) fn register_in(subject: Subject) -> Result<Request, Fault>
+    ensures { mapped request_terms result ≡ request_in Action.Register subject null }
+{
+    let holder = subject.holder?;
+    Ok(Request::Command(Command::Register { holder }))
+}
+
+pub(crate) fn delegate_in(subject: Subject, value: &Value) -> Result<Request, Fault>
+    ensures { mapped request_terms result ≡ request_in Action.Delegate subject (view value.now) }
+{
+    let (holder, prefix) = holder_and_prefix(subject, value)?;
+    Ok(Request::Command(Command::Delegate { holder, prefix }))
+}
+
+pub(crate) fn transfer_in(value: &Value) -> Result<Request, Fault>
+    ensures { (subject : Subject) → mapped request_terms result
+        ≡ request_in Action.Transfer subject (view value.now) }
+{
+    let holders = both(holder_in(value, "giver"), holder_in(value, "taker"));
+    let (prefix, (giver, taker)) = both(prefix_in(value), holders)?;
+    Ok(Request::Command(Command::Transfer {
+        prefix,
+        giver,
+        taker,
+    }))
+}
+
+pub(crate) fn reclaim_in(subject: Subject, value: &Value) -> Result<Request, Fault>
+    ensures { mapped request_terms result ≡ request_in Action.Reclaim subject (view value.now) }
+{
+    let (holder, prefix) = holder_and_prefix(subject, value)?;
+    Ok(Request::Command(Command::Reclaim { holder, prefix }))
+}
+
+fn access_in(value: &Value) -> Result<(Name, (Role, (Scope, Day))), Fault>
+    ensures { result ≡ access_in (view value.now) }
+{
+    let access = both(
+        role_in(value),
+        both(scope_in(value), day_in(value, "until")),
+    );
+    both(caller_in(value, "name"), access)
+}
+
+pub(crate) fn grant_in(subject: Subject, value: &Value) -> Result<Request, Fault>
+    ensures { mapped request_terms result ≡ request_in Action.Grant subject (view value.now) }
+{
+    let (holder, (name, (role, (scope, until)))) = both(subject.holder, access_in(value))?;
+    Ok(Request::Command(Command::Grant {
+        holder,
+        name,
+        role,
+        scope,
+        until,
+    }))
+}
+
+pub(crate) fn revoke_in(subject: Subject) -> Result<Request, Fault>
+    ensures { mapped request_terms result ≡ request_in Action.Revoke subject null }
+{
+    let (holder, number) = holder_and_number(subject)?;
+    Ok(Request::Command(Command::Revoke { holder, number }))
+}
+
+pub(crate) fn create_in(subject: Subject, value: &Value) -> Result<Request, Fault>
+    ensures { mapped request_terms result ≡ request_in Action.Create subject (view value.now) }
+{
+    let (holder, terms) = both(subject.holder, terms_in(value))?;
+    Ok(Request::Command(Command::Create { holder, terms }))
+}
+
+pub(crate) fn amend_in(subject: Subject, value: &Value) -> Result<Request, Fault>
+    ensures { mapped request_terms result ≡ request_in Action.Amend subject (view value.now) }
+{
+    let terms = both(max_in(value), day_in(value, "until"));
+    let ((holder, number), (max, until)) = both(holder_and_number(subject), terms)?;
+    Ok(Request::Command(Command::Amend {
+        holder,
+        number,
+        max,
+        until,
+    }))
+}
+
+pub(crate) fn withdraw_in(subject: Subject) -> Result<Request, Fault>
+    ensures { mapped request_terms result ≡ request_in Action.Withdraw subject null }
+{
+    let (holder, number) = holder_and_number(subject)?;
+    Ok(Request::Command(Command::Withdraw { holder, number }))
+}
+
+pub(crate) fn show_in(subject: Subject) -> Result<Request, Fault>
+    ensures { mapped request_terms result ≡ request_in Action.Show subject null }
+{
+    let (holder, number) = holder_and_number(subject)?;
+    Ok(Request::Query(Query::Show { holder, number }))
+}
+
+pub(crate) fn content_in(subject: Subject) -> Result<Request, Fault>
+    ensures { mapped request_terms result ≡ request_in Action.Content subject null }
+{
+    let (holder, number) = holder_and_number(subject)?;
+    Ok(Request::Query(Query::Content { holder, number }))
+}
+
+pub(crate) fn list_in(subject: Subject) -> Result<Request, Fault>
+    ensures { mapped request_terms result ≡ request_in Action.List subject null }
+{
+    let holder = subject.holder?;
+    Ok(Request::Query(Query::List { holder }))
+}

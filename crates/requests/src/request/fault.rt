@@ -1,0 +1,105 @@
+// What may be wrong with a request.
+ghost use Rattle.std.specs.Prelude.{◌≡◌};
+ghost use Rattle.requests.specs.HttpFaults.{fault_of_import};
+ghost use Rattle.requests.specs.RequestFaults.{as_malformed, malformed_number, slurm_number};
+
+use crate::malformed::Malformed;
+use csv_records::ImportFault;
+use slurm::SlurmFault;
+
+/// Of several faults the one with the lowest number is told.
+#[derive(Clone, Copy, Debug, PartialEq, Eq)]
+pub(crate) enum Fault {
+    /// The text is not JSON, or nests deeper than 127.
+    Json,
+    /// Not an object, `do` is unknown, a member is missing or unknown, or a list is none.
+    Members,
+    /// `holder`, `giver` or `taker`.
+    Holder,
+    /// `caller` or `name`.
+    Caller,
+    Prefix,
+    /// An AS number or an origin.
+    Asn,
+    /// `max` is no whole number from 0 to 255.
+    Max,
+    Day,
+    /// `role` or `scope`, or a manager with another scope than all.
+    Role,
+    /// `number` is not 1 to 999999.
+    Number,
+    /// The SLURM file, with its own fault.
+    File(SlurmFault),
+    /// A list has no items, or too many.
+    Count,
+    TooLong,
+}
+
+impl Fault {
+    pub(crate) fn number(self) -> u8
+        ensures { result ≡ malformed_number self }
+    {
+        match self {
+            Fault::Json => 1,
+            Fault::Members => 2,
+            Fault::Holder => 3,
+            Fault::Caller => 4,
+            Fault::Prefix => 5,
+            Fault::Asn => 6,
+            Fault::Max => 7,
+            Fault::Day => 8,
+            Fault::Role => 9,
+            Fault::Number => 10,
+            Fault::File(_) => 11,
+            Fault::Count => 12,
+            Fault::TooLong => 13,
+        }
+    }
+
+    pub(crate) fn of_import(fault: ImportFault) -> Fault
+        ensures { result ≡ fault_of_import fault }
+    {
+        match fault {
+            ImportFault::Form => Fault::Members,
+            ImportFault::Prefix => Fault::Prefix,
+            ImportFault::Asn => Fault::Asn,
+            ImportFault::Max => Fault::Max,
+            ImportFault::Day => Fault::Day,
+            ImportFault::Count => Fault::Count,
+        }
+    }
+
+    fn slurm_number(self) -> Option<u8>
+        ensures { result ≡ slurm_number self }
+    {
+        match self {
+            Fault::File(fault) => Some(fault.number()),
+            _ => None,
+        }
+    }
+
+    pub(crate) fn malformed(self) -> Malformed
+        ensures { result ≡ as_malformed self }
+    {
+        Malformed {
+            number: self.number(),
+            slurm: self.slurm_number(),
+        }
+    }
+}
+
+impl json_values::Fault for Fault {
+    ghost use Rattle.requests.specs.declared.request.fault.Fault.TheVariants.{Members};
+
+    ghost number = { malformed_number };
+
+    ghost members = { Members };
+
+    fn number(self) -> u8 {
+        Fault::number(self)
+    }
+
+    fn members() -> Fault {
+        Fault::Members
+    }
+}

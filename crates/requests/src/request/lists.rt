@@ -1,0 +1,179 @@
+// Lists of rows, of changes and of routes. An outer error is want of memory.
+ghost use Rattle.std.specs.Prelude.{◌≡◌, Some, IfOk};
+ghost use Rattle.serde_json.specs.View.{view};
+ghost use Rattle.json_values.specs.Parts.{mapped};
+ghost use Rattle.requests.specs.steps.RequestReading.{change_by, change_in, count_of, items_in, request_in, request_terms, route_in, routes_in, row_in, validity};
+
+use super::action::action_in;
+use super::commands::Subject;
+use super::fault::Fault;
+use super::members::{number_in, origin_in, prefix_in, row_members_in, terms_in};
+use addr::{Name, Origin, Prefix, Route};
+use http_messages::Action;
+use json_values::{FromJson, both, each, only, unless};
+use registry::{Command, ImportRow, Proposed, Query, Request};
+use serde_json::Value;
+use std::alloc::{AllocError, Global};
+
+/// How many rows or routes a request may have.
+const MOST_ITEMS: usize = 10_000;
+
+/// How many changes a request may suppose.
+const MOST_CHANGES: usize = 1_000;
+
+// ---- requests
+
+pub(crate) fn import_in(
+    alloc: Global,
+    subject: Subject,
+    value: &Value,
+) -> Result<Result<Request, Fault>, AllocError>
+    ensures { IfOk result (λ request. mapped request_terms request
+        ≡ request_in Action.Import subject (view value.now)) }
+{
+    let rows = items_in(alloc, value, "rows", 1, MOST_ITEMS)?;
+    Ok(asked_import(both(subject.holder, rows)))
+}
+
+pub(crate) fn asked_import(parts: Result<(Name, Vec<ImportRow>), Fault>) -> Result<Request, Fault>
+    ensures { result ≡ mapped (λ p. Request.Command (Command.Import p.0 p.1)) parts }
+{
+    let (holder, rows) = parts?;
+    Ok(Request::Command(Command::Import { holder, rows }))
+}
+
+pub(crate) fn validity_in(
+    alloc: Global,
+    value: &Value,
+) -> Result<Result<Request, Fault>, AllocError>
+    ensures { IfOk result (λ request. mapped request_terms request
+        ≡ mapped validity (routes_in (view value.now))) }
+{
+    let routes = items_in(alloc, value, "routes", 1, MOST_ITEMS)?;
+    Ok(asked_validity(routes))
+}
+
+fn asked_validity(routes: Result<Vec<Route>, Fault>) -> Result<Request, Fault>
+    ensures { result ≡ mapped (λ r. Request.Query (Query.Validity r)) routes }
+{
+    let routes = routes?;
+    Ok(Request::Query(Query::Validity { routes }))
+}
+
+pub(crate) fn what_if_in(
+    alloc: Global,
+    subject: Subject,
+    value: &Value,
+) -> Result<Result<Request, Fault>, AllocError>
+    ensures { IfOk result (λ request. mapped request_terms request
+        ≡ request_in Action.WhatIf subject (view value.now)) }
+{
+    let changes = items_in(alloc, value, "changes", 0, MOST_CHANGES)?;
+    let routes = items_in(alloc, value, "routes", 1, MOST_ITEMS)?;
+    Ok(asked_what_if(both(subject.holder, both(changes, routes))))
+}
+
+fn asked_what_if(
+    parts: Result<(Name, (Vec<Proposed>, Vec<Route>)), Fault>,
+) -> Result<Request, Fault>
+    ensures { result ≡ mapped (λ p. Request.Query (Query.WhatIf p.0 p.1.0 p.1.1)) parts }
+{
+    let (holder, (changes, routes)) = parts?;
+    Ok(Request::Query(Query::WhatIf {
+        holder,
+        changes,
+        routes,
+    }))
+}
+
+// ---- lists
+
+/// What the items of the member of that name are read as, of which there may be `least` to `most`.
+fn items_in<T: FromJson<Fault>>(
+    alloc: Global,
+    value: &Value,
+    name: &str,
+    least: usize,
+    most: usize,
+) -> Result<Result<Vec<T>, Fault>, AllocError>
+    ensures { IfOk result (λ items. mapped (λ v. v.items) items
+        ≡ items_in T.reading least most name.now (view value.now)) }
+{
+    let Some(member) = value.get(name) else {
+        return Ok(Err(Fault::Members));
+    };
+    let Some(values) = member.as_array() else {
+        return Ok(Err(Fault::Members));
+    };
+    let items = each(alloc, values.as_slice())?;
+    Ok(unless(items, count_of(least, most, values.len())))
+}
+
+fn count_of(least: usize, most: usize, count: usize) -> Result<(), Fault>
+    ensures { result ≡ count_of least most count }
+{
+    if least <= count && count <= most {
+        Ok(())
+    } else {
+        Err(Fault::Count)
+    }
+}
+
+// ---- items
+
+/// A row of an import.
+impl FromJson<Fault> for ImportRow {
+    ghost reading = { row_in };
+
+    fn from_json(value: &Value) -> Result<ImportRow, Fault> {
+        unless(
+            row_members_in(value),
+            only(value, &["asn", "prefix", "max", "from", "until"]),
+        )
+    }
+}
+
+impl FromJson<Fault> for Proposed {
+    ghost reading = { change_in };
+
+    fn from_json(value: &Value) -> Result<Proposed, Fault> {
+        match action_in(value) {
+            Some(Action::Create) => creation_in(value),
+            Some(Action::Withdraw) => withdrawal_in(value),
+            _ => Err(Fault::Members),
+        }
+    }
+}
+
+fn creation_in(value: &Value) -> Result<Proposed, Fault>
+    ensures { result ≡ change_by (Some Action.Create) (view value.now) }
+{
+    let terms = unless(
+        terms_in(value),
+        only(value, &["do", "asn", "prefix", "max", "from", "until"]),
+    )?;
+    Ok(Proposed::Create(terms))
+}
+
+fn withdrawal_in(value: &Value) -> Result<Proposed, Fault>
+    ensures { result ≡ change_by (Some Action.Withdraw) (view value.now) }
+{
+    let number = unless(number_in(value), only(value, &["do", "number"]))?;
+    Ok(Proposed::Withdraw(number))
+}
+
+impl FromJson<Fault> for Route {
+    ghost reading = { route_in };
+
+    fn from_json(value: &Value) -> Result<Route, Fault> {
+        let members = both(prefix_in(value), origin_in(value));
+        unless(route_of(members), only(value, &["prefix", "origin"]))
+    }
+}
+
+fn route_of(members: Result<(Prefix, Origin), Fault>) -> Result<Route, Fault>
+    ensures { result ≡ mapped (λ p. record { prefix = p.0; origin = p.1 }) members }
+{
+    let (prefix, origin) = members?;
+    Ok(Route { prefix, origin })
+}

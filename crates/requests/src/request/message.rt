@@ -1,0 +1,176 @@
+//! Reading requests from HTTP messages.
+ghost use Rattle.std.specs.Prelude.{◌≡◌, ◌&&◌, Some, Err, IfOk};
+ghost use Rattle.std.specs.Option.{option_copied};
+ghost use Rattle.serde_json.specs.View.{view};
+ghost use Rattle.json_values.specs.Parts.{mapped};
+ghost use Rattle.http_messages.specs.Requests.{asked_by};
+ghost use Rattle.requests.specs.HttpFaults.{body_bytes, http_fault, json_tree, path_number};
+ghost use Rattle.requests.specs.HttpRequests.{SaysAsked};
+ghost use Rattle.requests.specs.steps.HttpReading.{asked_of, caller_of, import_body, import_rows, object_body, object_request, path_subject, request_of};
+ghost use Rattle.requests.specs.steps.RequestReading.{asked_terms, file_of, request_terms, slurm_request};
+
+use super::action::only_body_members_of;
+use super::commands::Subject;
+use super::exceptions::slurm_of;
+use super::fault::Fault;
+use super::lists::asked_import;
+use super::{LineFault, asked_with, request_in};
+use crate::malformed::Malformed;
+use addr::{Day, Name, number_from_text};
+use csv_records::read_import;
+use http_messages::{Action, Request as Head};
+use json_values::{both, tree_of, unless};
+use registry::{Asked, ImportRow, LAST_NUMBER, Request};
+use serde_json::Value;
+use slurm::SlurmFault;
+use std::alloc::{AllocError, Global};
+
+/// Reads the request that a head and its body are, or tells its lowest fault.
+pub fn read_http_request(
+    alloc: Global,
+    day: Day,
+    head: &Head<'_>,
+    body: Option<&[u8]>,
+) -> Result<Asked, LineFault>
+    ensures ok { IfOk result (SaysAsked day (asked_by head.now) (option_copied body.entry)) }
+    ensures malformed { (m : Malformed) → result ≡ Err (LineFault.Malformed m)
+        → http_fault (asked_by head.now) (option_copied body.entry) ≡ Some m }
+{
+    match asked_of(alloc, day, head, body) {
+        Ok(Ok(asked)) => Ok(asked),
+        Ok(Err(fault)) => Err(LineFault::Malformed(fault.malformed())),
+        Err(_) => Err(LineFault::Memory),
+    }
+}
+
+// In what follows an outer error is want of memory.
+
+fn asked_of(
+    alloc: Global,
+    day: Day,
+    head: &Head<'_>,
+    body: Option<&[u8]>,
+) -> Result<Result<Asked, Fault>, AllocError>
+    ensures { IfOk result (λ asked. mapped asked_terms asked
+        ≡ asked_of day (asked_by head.now) (option_copied body.entry)) }
+{
+    let request = request_of(alloc, head, body)?;
+    Ok(asked_with(both(Ok(day), both(caller_of(head), request))))
+}
+
+fn caller_of(head: &Head<'_>) -> Result<Name, Fault>
+    ensures { result ≡ caller_of (asked_by head.now) }
+{
+    match head.caller {
+        Some(caller) => Name::read(caller).ok_or(Fault::Caller),
+        None => Err(Fault::Caller),
+    }
+}
+
+fn request_of(
+    alloc: Global,
+    head: &Head<'_>,
+    body: Option<&[u8]>,
+) -> Result<Result<Request, Fault>, AllocError>
+    ensures { IfOk result (λ request. mapped request_terms request
+        ≡ request_of (asked_by head.now) (option_copied body.entry)) }
+{
+    let subject = path_subject(head);
+    match head.action {
+        Action::Slurm => file_body(alloc, body),
+        Action::Import => import_body(alloc, subject, body),
+        action => object_body(alloc, action, subject, body),
+    }
+}
+
+fn file_body(alloc: Global, body: Option<&[u8]>) -> Result<Result<Request, Fault>, AllocError>
+    ensures { IfOk result (λ request. mapped request_terms request
+        ≡ slurm_request (file_of (json_tree (option_copied body.entry)))) }
+{
+    let Some(bytes) = body else {
+        return slurm_of(alloc, &Value::Null);
+    };
+    match tree_of(alloc, bytes)? {
+        Some(value) => slurm_of(alloc, &value),
+        None => Ok(Err(Fault::File(SlurmFault::NotJson))),
+    }
+}
+
+fn import_body(
+    alloc: Global,
+    subject: Subject,
+    body: Option<&[u8]>,
+) -> Result<Result<Request, Fault>, AllocError>
+    ensures { IfOk result (λ request. mapped request_terms request
+        ≡ import_body subject (option_copied body.entry)) }
+{
+    let rows = import_rows(alloc, body_bytes(body))?;
+    Ok(asked_import(both(subject.holder, rows)))
+}
+
+fn body_bytes(body: Option<&[u8]>) -> &[u8]
+    ensures { result.now ≡ body_bytes (option_copied body.entry) }
+{
+    match body {
+        Some(bytes) => bytes,
+        None => &[],
+    }
+}
+
+fn import_rows(alloc: Global, text: &[u8]) -> Result<Result<Vec<ImportRow>, Fault>, AllocError>
+    ensures { IfOk result (λ rows. mapped (λ v. v.items) rows ≡ import_rows text.now) }
+{
+    match read_import(alloc, text)? {
+        Ok(rows) => Ok(Ok(rows)),
+        Err(fault) => Ok(Err(Fault::of_import(fault))),
+    }
+}
+
+fn object_body(
+    alloc: Global,
+    action: Action,
+    subject: Subject,
+    body: Option<&[u8]>,
+) -> Result<Result<Request, Fault>, AllocError>
+    ensures { IfOk result (λ request. mapped request_terms request
+        ≡ object_body action subject (option_copied body.entry)) }
+{
+    let Some(bytes) = body else {
+        return request_in(alloc, action, subject, &Value::Null);
+    };
+    match tree_of(alloc, bytes)? {
+        Some(value) => object_request(alloc, action, subject, &value),
+        None => Ok(Err(Fault::Json)),
+    }
+}
+
+fn path_subject(head: &Head<'_>) -> Subject
+    ensures { result ≡ path_subject (asked_by head.now) }
+{
+    Subject {
+        holder: Name::read(head.holder).ok_or(Fault::Holder),
+        number: path_number(head.number).ok_or(Fault::Number),
+    }
+}
+
+fn path_number(text: &[u8]) -> Option<u32>
+    ensures { result ≡ path_number text.now }
+{
+    match number_from_text(text) {
+        Some(number) if 1 <= number && number <= u64::from(LAST_NUMBER) => Some(number as u32),
+        _ => None,
+    }
+}
+
+fn object_request(
+    alloc: Global,
+    action: Action,
+    subject: Subject,
+    value: &Value,
+) -> Result<Result<Request, Fault>, AllocError>
+    ensures { IfOk result (λ request. mapped request_terms request
+        ≡ object_request action subject (view value.now)) }
+{
+    let request = request_in(alloc, action, subject, value)?;
+    Ok(unless(request, only_body_members_of(action, value)))
+}
