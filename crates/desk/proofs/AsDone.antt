@@ -4,7 +4,7 @@ use Rattle.std.specs.List.{list_all}
 use Rattle.std.proofs.lemmas.Bool.{and_parts, false≢true, true≢false}
 use Rattle.registry.specs.Answer.{number_given}
 use Rattle.registry.specs.History.{History}
-use Rattle.registry.specs.HypotheticalHistory.{proposed_command, HypotheticalHistory}
+use Rattle.registry.specs.HypotheticalHistory.{hypothetical_command, HypotheticalHistory}
 use Rattle.registry.specs.Verdict.{Verdict}
 use Rattle.charters.specs.declared.charter.Charter.{Charter}
 use Rattle.registry.specs.declared.command.Command.{Command}
@@ -18,7 +18,7 @@ use Rattle.desk.specs.declared.reply.Reply.{Reply}
 use Rattle.desk.specs.declared.reply.Reply.TheVariants.{Done, Imported}
 use Rattle.desk.proofs.HolderLemmas.{left_by_entry, leaves_entry, counts_of_import}
 
-proposed_plain : (holder : List ℕ) (change : Proposed) → is_import (proposed_command holder change) ≡ false
+proposed_plain : (holder : List ℕ) (change : Proposed) → is_import (hypothetical_command holder change) ≡ false
 proposed_plain holder (ProposedCreate t) = refl
 proposed_plain holder (ProposedWithdraw n) = refl
 
@@ -28,12 +28,12 @@ with_entry day caller command before = record { day = day; caller = caller; comm
 
 -- an accepted reply to a change leaves its entry
 entry_left : (charter : Charter) (before : History) (day : ℕ) (caller holder : List ℕ) (change : Proposed) (reply : Reply) (after : History) → is_accepted reply ≡ true
-    → AnswersCommand charter before day caller (proposed_command holder change) reply after
-    → Verdict charter before day caller (proposed_command holder change) None × (after ≡ with_entry day caller (proposed_command holder change) before)
+    → AnswersCommand charter before day caller (hypothetical_command holder change) reply after
+    → Verdict charter before day caller (hypothetical_command holder change) None × (after ≡ with_entry day caller (hypothetical_command holder change) before)
 entry_left charter before day caller holder change (Done number) after accepted answers =
-    left_by_entry charter before day caller (proposed_command holder change) after (proposed_plain holder change) answers.1
+    left_by_entry charter before day caller (hypothetical_command holder change) after (proposed_plain holder change) answers.1
 entry_left charter before day caller holder change (Imported made present) after accepted answers =
-    absurd (true≢false (sym (counts_of_import before (proposed_command holder change) after made present answers.1) ∙ proposed_plain holder change))
+    absurd (true≢false (sym (counts_of_import before (hypothetical_command holder change) after made present answers.1) ∙ proposed_plain holder change))
 entry_left charter before day caller holder change reply after accepted answers = absurd (false≢true accepted)
 
 module _ (charter : Charter) (day : ℕ) (caller holder : List ℕ) where
@@ -43,7 +43,7 @@ module _ (charter : Charter) (day : ℕ) (caller holder : List ℕ) where
   doing before [] after would = ([], (refl, would))
   doing before (change ∷ changes) after (None, judged, would) = absurd judged
   doing before (change ∷ changes) after (Some command, judged, would) =
-      let proposed = proposed_command holder change in
+      let proposed = hypothetical_command holder change in
       let next = with_entry day caller proposed before in
       let more = doing next changes after (subst (λ (c : Command). HypotheticalHistory charter day caller holder (with_entry day caller c before) changes after) judged.0 would) in
       let verdict = subst (λ (c : Command). Verdict charter before day caller c None) judged.0 judged.1 in
@@ -59,7 +59,7 @@ module _ (charter : Charter) (day : ℕ) (caller holder : List ℕ) where
   done before [] (reply ∷ replies) after accepted runs = absurd runs
   done before (change ∷ changes) [] after accepted runs = absurd runs
   done before (change ∷ changes) (reply ∷ replies) after accepted runs =
-      let proposed = proposed_command holder change in
+      let proposed = hypothetical_command holder change in
       let both = and_parts (is_accepted reply) (list_all is_accepted replies) accepted in
       let left = entry_left charter before day caller holder change reply runs.0 both.0 runs.1 in
       let more = done runs.0 changes replies after both.1 runs.2 in

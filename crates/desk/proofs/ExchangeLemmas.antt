@@ -16,7 +16,7 @@ use Rattle.payload.proofs.Sets.{contains-items}
 use Rattle.payload.specs.VrpSet as set
 use Rattle.registry.proofs.Names.{same_name-true}
 use Rattle.registry.proofs.Unregistered.{has_nothing}
-use Rattle.registry.specs.Answer.{IsSupposed}
+use Rattle.registry.specs.Answer.{IsHypotheticalAnswer}
 use Rattle.registry.specs.DailyVrps.{IsVrpInForce}
 use Rattle.registry.specs.History.{History, same_name}
 use Rattle.registry.specs.HypotheticalHistory.{HypotheticalHistory}
@@ -144,7 +144,7 @@ in_force_after before after day removed added vrps later files are made exchange
 
 -- a change that would be denied is told
 pub supposed_refused : (charter : Charter) (history : History) (holder : List ℕ) (day : ℕ) (caller : List ℕ) (changes : List Proposed) (refusal : Refusal)
-    → IsSupposed charter history holder day caller changes (Err refusal) → (routes : List Route)
+    → IsHypotheticalAnswer charter history holder day caller changes (Err refusal) → (routes : List Route)
     → AnswersWhatIf charter history day caller holder changes routes (refused_with refusal)
 supposed_refused charter history holder day caller changes (Denied rule row) supposed routes = supposed
 supposed_refused charter history holder day caller changes Memory supposed routes = tt

@@ -3,7 +3,7 @@ use Rattle.std.proofs.Common.{◌≡◌, ℕ, Bool, true, false, ◌↔◌, cond
 use Rattle.std.specs.Global.{Vec}
 use Rattle.std.proofs.lemmas.Bool.{cases_Bool, cond-false, or_parts, true≢false}
 use Rattle.histories.specs.Growth.{GrowthIsLegal}
-use Rattle.isolation.specs.Isolation.{asks_of_all, AreJudgedAlike, AreSeenAlike, GrowAlike, CommandsByEntries, HypotheticalByEntries, ImportsByEntries, QueriesByEntries}
+use Rattle.isolation.specs.Isolation.{concerns_all_holders, AreJudgedAlike, AreSeenAlike, GrowAlike, CommandsByEntries, HypotheticalByEntries, ImportsByEntries, QueriesByEntries}
 use Rattle.addr.specs.declared.route.Route.{Route}
 use Rattle.registry.specs.declared.authorization.ImportRow.{ImportRow}
 use Rattle.registry.specs.declared.change.Change.{Change}
@@ -21,7 +21,7 @@ use Rattle.registry.specs.ExceptionsInForce.{brings_exceptions}
 use Rattle.registry.specs.History.{History}
 use Rattle.registry.specs.HypotheticalHistory.{JudgesChange}
 use Rattle.registry.specs.Import.{JudgesRow}
-use Rattle.registry.specs.HolderEntries.{is_this, names, entries_naming, entries_for}
+use Rattle.registry.specs.HolderEntries.{is_this, names_holder, entries_naming, entries_for}
 use Rattle.registry.specs.Rows.{Rows, changed, changed_by_one, changed_by_second, changed_exceptions}
 use Rattle.registry.specs.Verdict.{Verdict, IsLegal}
 use Rattle.slurm.specs.Exceptions.{Exceptions}
@@ -90,7 +90,7 @@ import_alike charter history day caller holder rows (Done number) after alike an
 import_alike charter history day caller holder rows reply after alike answers = absurd answers
 
 either_alike : CommandsByEntries → ImportsByEntries → (charter : Charter) (history : History) (day : ℕ) (caller : List ℕ) (command : Command) (reply : Reply) (after : History)
-    → IsLegal charter history → asks_of_all command ≡ false → AnswersCommand charter history day caller command reply after
+    → IsLegal charter history → concerns_all_holders command ≡ false → AnswersCommand charter history day caller command reply after
     → (later : History) × AnswersCommand charter (entries_for command history) day caller command reply later
 either_alike commands imports charter history day caller (Import h rows) reply after legal own answers =
     import_alike charter history day caller h rows reply after (imports charter history day caller h rows.items legal) answers
@@ -103,7 +103,7 @@ command_by_entries : CommandsByEntries → ImportsByEntries → (charter : Chart
 command_by_entries commands imports charter history day caller command reply after legal answers =
     let entries = entries_for command history in
     let By : Bool → Type 0 = λ all. IfSome (cond all None (Some entries)) (λ some. (later : History) × AnswersCommand charter some day caller command reply later) in
-    elim (cases_Bool (asks_of_all command)) [
+    elim (cases_Bool (concerns_all_holders command)) [
       | inl t ↦ subst By (sym t) tt
       | inr f ↦ subst By (sym f) (either_alike commands imports charter history day caller command reply after legal f answers)
     ]
@@ -189,7 +189,7 @@ left_by_second None named h rows of other = refl
 left_by_second (Some c) named h rows of other = left_by_one c named h rows of other
 
 -- a change of what the command names leaves the rows of any other holder
-pub others_left : (command : Command) (change : Change) (h : List ℕ) (rows : Option Rows) → IsOfCommand command change → names h command ≡ false
+pub others_left : (command : Command) (change : Change) (h : List ℕ) (rows : Option Rows) → IsOfCommand command change → names_holder h command ≡ false
     → changed change h rows ≡ rows
 others_left command (Holders first second) h rows of unnamed =
     let others = or_parts (is_this h (holder_of command)) (is_this h (taker_of command)) unnamed in

@@ -17,7 +17,7 @@ use Rattle.registry.specs.Answer.{AreCounts, IsShown}
 use Rattle.registry.specs.History.{History}
 use Rattle.registry.specs.Permission.{is_permitted_terms}
 use Rattle.registry.specs.Terms.{grant_terms, Keeps, AreActive, HeldSinceMade, authorizations_made, authorization_terms}
-use Rattle.registry.specs.Verdict.{numbered, ShowVerdict, ListVerdict}
+use Rattle.registry.specs.Verdict.{auth_of_number, ShowVerdict, ListVerdict}
 use Rattle.histories.specs.OneOutcome.{OneHypotheticalOutcome, OneOutcome}
 use Rattle.histories.proofs.OneOutcome.{One, asked, accepted}
 use Rattle.desk.specs.Answer.{AnswersCommand, AnswersShow, AnswersContent, AnswersList}
@@ -68,7 +68,7 @@ one_active history h xs ys a b = one_kept (HeldSinceMade history h) (authorizati
 
 one_shown : (history : History) (h : List ℕ) (day : ℕ) (caller : List ℕ) (n : ℕ) (x y : Auth) → IsShown history h day caller n x → IsShown history h day caller n y → x ≡ y
 one_shown history h day caller n x y a b =
-    let found : Some x ≡ Some y = sym a.1.2 ∙ ap (numbered n) (one_active history h a.1.0 b.1.0 a.1.1 b.1.1) ∙ b.1.2 in
+    let found : Some x ≡ Some y = sym a.1.2 ∙ ap (auth_of_number n) (one_active history h a.1.0 b.1.0 a.1.1 b.1.1) ∙ b.1.2 in
     cc
 
 -- ---- replies

@@ -5,7 +5,7 @@ use Rattle.std.specs.List.{list_all}
 use Rattle.addr.specs.declared.route.Route.{Route}
 use Rattle.payload.specs.declared.validity.Validity.{Validity}
 use Rattle.registry.specs.History.{History}
-use Rattle.registry.specs.HypotheticalHistory.{proposed_command}
+use Rattle.registry.specs.HypotheticalHistory.{hypothetical_command}
 use Rattle.charters.specs.declared.charter.Charter.{Charter}
 use Rattle.registry.specs.declared.command.Proposed.{Proposed}
 use Rattle.desk.specs.Answer.{is_accepted, states_after, AnswersWhatIf, AreStatesOn}
@@ -21,7 +21,7 @@ requests_for day caller holder changes =
     map (λ change. record {
       day = day;
       caller = caller;
-      request = CommandRequest (proposed_command holder change);
+      request = CommandRequest (hypothetical_command holder change);
     }) changes
 
 -- the changes are asked for one after the other, each is accepted, and they leave this history

@@ -3,13 +3,13 @@
 use Rattle.std.specs.Prelude.{◌≡◌, ℕ, Bool, false, List, [], ◌∷◌, Option, Some, None, IsSome, IfSome, option_map, if◌then◌else◌}
 use Rattle.std.specs.List.{list_any}
 use Rattle.std.specs.String.{string_bytes}
-use Rattle.isolation.specs.Isolation.{asks_of_all}
+use Rattle.isolation.specs.Isolation.{concerns_all_holders}
 use Rattle.registry.specs.declared.authorization.Auth.{Auth}
 use Rattle.charters.specs.declared.charter.Charter.{Charter}
 use Rattle.registry.specs.declared.command.Query.TheVariants.{WhatIf}
 use Rattle.registry.specs.ExceptionsInForce.{brings_exceptions}
 use Rattle.registry.specs.History.{History}
-use Rattle.registry.specs.HolderEntries.{names, entries_naming, entries_for, holder_asked}
+use Rattle.registry.specs.HolderEntries.{names_holder, entries_naming, entries_for, holder_asked}
 use Rattle.registry.specs.HypotheticalHistory.{HypotheticalHistory}
 use Rattle.registry.specs.RowsOfAll.{AllRows}
 use Rattle.registry.specs.Verdict.{IsLegal}
@@ -28,7 +28,7 @@ use Rattle.desk.specs.declared.reply.Reply.TheVariants.{Content, Listed, Report,
 -- request asks about all holders
 abbrev pub deciding_entries : Request → History → Option History
 deciding_entries (CommandRequest command) history =
-    if asks_of_all command then None else Some (entries_for command history)
+    if concerns_all_holders command then None else Some (entries_for command history)
 deciding_entries (QueryRequest query) history =
     option_map (λ h. entries_naming h history) (holder_asked query)
 
@@ -86,7 +86,7 @@ RunsByEntries charter before (asked ∷ more) (reply ∷ replies) =
 
 -- a command may change the rows of the holders that it names, and no other request changes rows
 abbrev pub may_change : Request → List ℕ → Bool
-may_change (CommandRequest command) h = names h command
+may_change (CommandRequest command) h = names_holder h command
 may_change (QueryRequest query) h = false
 
 -- a SLURM file may change the exceptions, and no other request does

@@ -11,14 +11,14 @@ use Rattle.registry.specs.declared.limits.TheConstants.{LAST_NUMBER}
 use Rattle.registry.specs.declared.authorization.Auth.{Auth}
 use Rattle.charters.specs.declared.charter.Charter.{Charter}
 use Rattle.registry.specs.declared.command.Command.{Command}
-use Rattle.registry.specs.declared.command.Command.TheVariants.{Register, Delegate, Transfer, Reclaim, Grant, Revoke, Create, Amend, Withdraw, Import, Slurm}
+use Rattle.registry.specs.declared.command.Command.TheVariants.{Grant, Revoke, Create, Amend, Withdraw, Import, Slurm}
 use Rattle.registry.specs.declared.grant.Granted.{Granted}
 use Rattle.slurm.specs.Exceptions.{Exceptions}
 use Rattle.registry.specs.ExceptionsInForce.{exceptions_after, exceptions_in_force}
 use Rattle.registry.specs.History.{Entry, History, same_name}
 use Rattle.registry.specs.Terms.{numbered_terms, granted_after, grants_after, grants_made, grant_terms, created_after, terms_after, authorizations_made, authorization_terms, amended, HeldSinceMade}
 use Rattle.registry.specs.Values.{CommandFits, ExceptionsFit, FilterFits, HistoryFits, AuthFits, GrantFits, VrpFits}
-use Rattle.registry.specs.Verdict.{Verdict, IsLegal, numbered, terms_fit_length, OfNumber}
+use Rattle.registry.specs.Verdict.{Verdict, IsLegal, auth_of_number, terms_fit_length, OfNumber}
 use Rattle.registry.proofs.Names.{same_name-true}
 use Rattle.registry.proofs.Kept.{Keeps-all}
 use Rattle.registry.proofs.Held.{authorization_terms-numbered, since_same, amended-number, amended-prefix}
@@ -33,10 +33,6 @@ record GrantsFit (granted : ℕ) (grants : List Granted) : Type 0 where
 grants_after-fit : (charter : Charter) (before : History) (day : ℕ) (caller : List ℕ) (c : Command) (h : List ℕ)
     → Verdict charter before day caller c None → CommandFits c → GrantsFit (grants_made before h) (grant_terms before h)
     → GrantsFit (granted_after c h (grants_made before h)) (grants_after c h (grants_made before h) (grant_terms before h))
-grants_after-fit charter before day caller (Register holder) h accepted values fit = fit
-grants_after-fit charter before day caller (Delegate holder p) h accepted values fit = fit
-grants_after-fit charter before day caller (Transfer p giver taker) h accepted values fit = fit
-grants_after-fit charter before day caller (Reclaim holder p) h accepted values fit = fit
 grants_after-fit charter before day caller (Grant holder name role scope until) h accepted values fit =
     let grants = grant_terms before h in
     let made = grants_made before h in
@@ -51,11 +47,8 @@ grants_after-fit charter before day caller (Grant holder name role scope until) 
 grants_after-fit charter before day caller (Revoke holder n) h accepted values fit =
     elim (same_name holder h) as (λ b. GrantsFit (grants_made before h) (cond b (filter (λ g. not (eqb g.number n)) (grant_terms before h)) (grant_terms before h)))
     [ true ↦ record { made = fit.made; terms = All-filter (λ g. not (eqb g.number n)) GrantFits (grant_terms before h) fit.terms } | false ↦ fit ]
-grants_after-fit charter before day caller (Create holder terms) h accepted values fit = fit
-grants_after-fit charter before day caller (Amend holder n max until) h accepted values fit = fit
-grants_after-fit charter before day caller (Withdraw holder n) h accepted values fit = fit
 grants_after-fit charter before day caller (Import holder rows) h accepted values fit = absurd accepted
-grants_after-fit charter before day caller (Slurm file) h accepted values fit = fit
+grants_after-fit charter before day caller _ h accepted values fit = fit
 
 grants_fit : (charter : Charter) (history : History) (h : List ℕ) → IsLegal charter history → HistoryFits history
     → GrantsFit (grants_made history h) (grant_terms history h)
@@ -84,9 +77,9 @@ record Found (before : History) (h : List ℕ) (n max : ℕ) : Type 0 where
   only : Each (λ x. HeldSinceMade before h x → eqb x.number n ≡ true → x ≡ one) (authorization_terms before h)
 
 found : (before : History) (h : List ℕ) (n max : ℕ) → OfNumber before h n (λ x. terms_fit_length x max ≡ true) → Found before h n max
-found before h n max of = by_case (numbered n of.0) refl of.2
+found before h n max of = by_case (auth_of_number n of.0) refl of.2
   where
-    by_case : (o : Option Auth) → numbered n of.0 ≡ o → IsSomeAnd o (λ x. terms_fit_length x max ≡ true) → Found before h n max
+    by_case : (o : Option Auth) → auth_of_number n of.0 ≡ o → IsSomeAnd o (λ x. terms_fit_length x max ≡ true) → Found before h n max
     by_case None is none = absurd none
     by_case (Some z) is fits = record {
       one = z;
@@ -121,12 +114,6 @@ auths_after-fit : (charter : Charter) (before : History) (day : ℕ) (caller : L
     → AuthsFit (record { day = day; caller = caller; command = c } ∷ before) h (authorizations_made before h) (authorization_terms before h)
     → AuthsFit (record { day = day; caller = caller; command = c } ∷ before) h
     (created_after c h (authorizations_made before h)) (terms_after c h (authorizations_made before h) (authorization_terms before h))
-auths_after-fit charter before day caller (Register holder) h accepted values fit = fit
-auths_after-fit charter before day caller (Delegate holder p) h accepted values fit = fit
-auths_after-fit charter before day caller (Transfer p giver taker) h accepted values fit = fit
-auths_after-fit charter before day caller (Reclaim holder p) h accepted values fit = fit
-auths_after-fit charter before day caller (Grant holder name role scope until) h accepted values fit = fit
-auths_after-fit charter before day caller (Revoke holder n) h accepted values fit = fit
 auths_after-fit charter before day caller (Create holder terms) h accepted values fit =
     let e : Entry = record { day = day; caller = caller; command = Create holder terms } in
     let F = FitsWhereHeld (e ∷ before) h in
@@ -165,7 +152,7 @@ auths_after-fit charter before day caller (Withdraw holder n) h accepted values 
     elim (same_name holder h) as (λ b. AuthsFit (e ∷ before) h (authorizations_made before h) (cond b (filter keep auths) auths))
     [ true ↦ record { made = fit.made; terms = All-filter keep F auths fit.terms } | false ↦ fit ]
 auths_after-fit charter before day caller (Import holder rows) h accepted values fit = absurd accepted
-auths_after-fit charter before day caller (Slurm file) h accepted values fit = fit
+auths_after-fit charter before day caller _ h accepted values fit = fit
 
 auths_fit : (charter : Charter) (history : History) (h : List ℕ) → IsLegal charter history → HistoryFits history
     → AuthsFit history h (authorizations_made history h) (authorization_terms history h)
@@ -190,16 +177,7 @@ legal_rows_fit charter history h rows legal fits of =
 
 exceptions_after-fit : (c : Command) (before : Exceptions) → CommandFits c → ExceptionsFit before → ExceptionsFit (exceptions_after c before)
 exceptions_after-fit (Slurm file) before values fit = values
-exceptions_after-fit (Register holder) before values fit = fit
-exceptions_after-fit (Delegate holder p) before values fit = fit
-exceptions_after-fit (Transfer p giver taker) before values fit = fit
-exceptions_after-fit (Reclaim holder p) before values fit = fit
-exceptions_after-fit (Grant holder name role scope until) before values fit = fit
-exceptions_after-fit (Revoke holder n) before values fit = fit
-exceptions_after-fit (Create holder terms) before values fit = fit
-exceptions_after-fit (Amend holder n max until) before values fit = fit
-exceptions_after-fit (Withdraw holder n) before values fit = fit
-exceptions_after-fit (Import holder rows) before values fit = fit
+exceptions_after-fit _ before values fit = fit
 
 pub exceptions_in_force_fit : ExceptionsInForceFit
 exceptions_in_force_fit [] fits = record { number = omega arith; filters = All-nil FilterFits; assertions = All-nil VrpFits }

@@ -12,9 +12,9 @@ use Rattle.registry.specs.Answer.{holder_of, taker_of}
 use Rattle.registry.specs.ExceptionsInForce.{brings_exceptions}
 use Rattle.registry.specs.GrowingHistory.{Grows, grown_by}
 use Rattle.registry.specs.History.{History}
-use Rattle.registry.specs.HypotheticalHistory.{JudgesChange, proposed_command}
-use Rattle.registry.specs.Import.{JudgesRow, creation}
-use Rattle.registry.specs.Values.{RowOfImportFits, CommandFits, HistoryFits}
+use Rattle.registry.specs.HypotheticalHistory.{JudgesChange, hypothetical_command}
+use Rattle.registry.specs.Import.{JudgesRow, row_command}
+use Rattle.registry.specs.Values.{ImportRowFits, CommandFits, HistoryFits}
 use Rattle.registry.specs.Verdict.{Verdict, IsLegal}
 use Rattle.histories.specs.Growth.{GrowthIsLegal, GrowthFits, HypotheticalIsLegal}
 
@@ -75,15 +75,15 @@ changes-make charter day caller holder before change command is =
       file = subst (λ (c : Command). brings_exceptions c ≡ false) same (file change);
     }
   where
-    named : (p : Proposed) → holder_of (proposed_command holder p) ≡ Some holder
+    named : (p : Proposed) → holder_of (hypothetical_command holder p) ≡ Some holder
     named (ProposedCreate t) = refl
     named (ProposedWithdraw n) = refl
 
-    taker : (p : Proposed) → taker_of (proposed_command holder p) ≡ Some holder
+    taker : (p : Proposed) → taker_of (hypothetical_command holder p) ≡ Some holder
     taker (ProposedCreate t) = refl
     taker (ProposedWithdraw n) = refl
 
-    file : (p : Proposed) → brings_exceptions (proposed_command holder p) ≡ false
+    file : (p : Proposed) → brings_exceptions (hypothetical_command holder p) ≡ false
     file (ProposedCreate t) = refl
     file (ProposedWithdraw n) = refl
 
@@ -104,10 +104,10 @@ hypothetical_is_legal charter day caller holder before changes after legal would
 
 pub growth_fits : GrowthFits
 growth_fits charter before day caller (Import holder rows) after entry fits leaves =
-    grown-keeps (JudgesRow charter day caller holder) day caller RowOfImportFits HistoryFits step before rows.items after entry.command.1 fits leaves
+    grown-keeps (JudgesRow charter day caller holder) day caller ImportRowFits HistoryFits step before rows.items after entry.command.1 fits leaves
   where
-    step : EntriesKeep (JudgesRow charter day caller holder) day caller RowOfImportFits HistoryFits
+    step : EntriesKeep (JudgesRow charter day caller holder) day caller ImportRowFits HistoryFits
     step history t command terms is kept =
-        let values : CommandFits (creation holder t) = (entry.command.0, terms) in
+        let values : CommandFits (row_command holder t) = (entry.command.0, terms) in
         (record { day = entry.day; caller = entry.caller; command = subst CommandFits (sym is.1) values }, kept)
 growth_fits charter before day caller command after entry fits leaves = subst HistoryFits (sym leaves.1) (entry, fits)

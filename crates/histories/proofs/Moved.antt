@@ -8,7 +8,7 @@ use Rattle.addr.specs.declared.prefix.Prefix.{Prefix}
 use Rattle.registry.specs.declared.authorization.Auth.{Auth}
 use Rattle.charters.specs.declared.charter.Charter.{Charter}
 use Rattle.registry.specs.declared.command.Command.{Command}
-use Rattle.registry.specs.declared.command.Command.TheVariants.{Register, Delegate, Transfer, Reclaim, Grant, Revoke, Create, Amend, Withdraw, Import, Slurm}
+use Rattle.registry.specs.declared.command.Command.TheVariants.{Transfer, Reclaim}
 use Rattle.histories.specs.Ended.{TakesFrom, EndsJustOverlapping}
 use Rattle.registry.specs.History.{Entry, History, same_name}
 use Rattle.registry.specs.Resources.{resource_holder, is_held_by, HoldsPrefix}
@@ -42,8 +42,6 @@ kept_by before former h to p a holds other is =
 
 taken : (charter : Charter) (before : History) (day : ℕ) (caller : List ℕ) (c : Command) (former : List ℕ) (p : Prefix)
     → Verdict charter before day caller c None → TakesFrom c former p → Takes (record { day = day; caller = caller; command = c }) before former p
-taken charter before day caller (Register holder) former p accepted takes = absurd takes
-taken charter before day caller (Delegate holder q) former p accepted takes = absurd takes
 taken charter before day caller (Transfer q giver taker) former p accepted takes =
     let other : same_name taker former ≡ false = subst (λ (g : List ℕ). same_name taker g ≡ false) (sym takes.0) (same_name-false giver taker accepted.1.1.0) in
     let holds : HoldsPrefix before former q = subst (λ (g : List ℕ). HoldsPrefix before g q) (sym takes.0) accepted.1.1.1.0 in
@@ -67,13 +65,7 @@ taken charter before day caller (Reclaim holder q) former p accepted takes =
       };
       others = λ h differ a is. kept_by before former h None q a holds differ is;
     }
-taken charter before day caller (Grant holder name role scope until) former p accepted takes = absurd takes
-taken charter before day caller (Revoke holder n) former p accepted takes = absurd takes
-taken charter before day caller (Create holder terms) former p accepted takes = absurd takes
-taken charter before day caller (Amend holder n max until) former p accepted takes = absurd takes
-taken charter before day caller (Withdraw holder n) former p accepted takes = absurd takes
-taken charter before day caller (Import holder rows) former p accepted takes = absurd accepted
-taken charter before day caller (Slurm file) former p accepted takes = absurd takes
+taken charter before day caller _ former p accepted takes = absurd takes
 
 pub ends_just_overlapping : EndsJustOverlapping
 ends_just_overlapping charter e before former p legal takes h x =

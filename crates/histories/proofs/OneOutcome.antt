@@ -9,8 +9,8 @@ use Rattle.registry.specs.declared.command.Proposed.{Proposed}
 use Rattle.registry.specs.declared.rule.Rule.{Rule}
 use Rattle.registry.specs.GrowingHistory.{Grows, IsDeniedAt, grown_by}
 use Rattle.registry.specs.History.{History}
-use Rattle.registry.specs.HypotheticalHistory.{JudgesChange, proposed_command}
-use Rattle.registry.specs.Import.{JudgesRow, creation}
+use Rattle.registry.specs.HypotheticalHistory.{JudgesChange, hypothetical_command}
+use Rattle.registry.specs.Import.{JudgesRow, row_command}
 use Rattle.registry.specs.Verdict.{ask, accept, Verdict}
 use Rattle.histories.specs.OneOutcome.{HasOneOutcome, OneOutcome, OneHypotheticalOutcome}
 use Rattle.histories.proofs.Growth.{Judging}
@@ -110,9 +110,9 @@ one_denial {X} {judges} once day caller before (x ∷ xs) r s m n (inr one) (inr
 pub import_once : (charter : Charter) (day : ℕ) (caller holder : List ℕ) → JudgesOnce (JudgesRow charter day caller holder)
 import_once charter day caller holder = record { same = both }
   where
-    one : (history : History) (t : ImportRow) (rule : Rule) → Verdict charter history day caller (creation holder t) None
-        → Verdict charter history day caller (creation holder t) (Some rule) → ⊥
-    one history t rule = not_denied (one_verdict charter history day caller (creation holder t))
+    one : (history : History) (t : ImportRow) (rule : Rule) → Verdict charter history day caller (row_command holder t) None
+        → Verdict charter history day caller (row_command holder t) (Some rule) → ⊥
+    one history t rule = not_denied (one_verdict charter history day caller (row_command holder t))
 
     both : (history : History) (t : ImportRow) (a b : Result (Option Command) Rule) → JudgesRow charter day caller holder history t a
         → JudgesRow charter day caller holder history t b → a ≡ b
@@ -127,14 +127,14 @@ import_once charter day caller holder = record { same = both }
     both history t (Err r) (Ok (Some d)) x y =
         absurd (one history t r (subst (λ (c : Command). Verdict charter history day caller c None) y.1 y.2) x.1)
     both history t (Err r) (Err s) x y =
-        ap Err (same_Some r s ((one_verdict charter history day caller (creation holder t)).same (Some r) (Some s) x.1 y.1))
+        ap Err (same_Some r s ((one_verdict charter history day caller (row_command holder t)).same (Some r) (Some s) x.1 y.1))
 
 pub changes_once : (charter : Charter) (day : ℕ) (caller holder : List ℕ) → JudgesOnce (JudgesChange charter day caller holder)
 changes_once charter day caller holder = record { same = both }
   where
-    one : (history : History) (change : Proposed) (rule : Rule) → Verdict charter history day caller (proposed_command holder change) None
-        → Verdict charter history day caller (proposed_command holder change) (Some rule) → ⊥
-    one history change rule = not_denied (one_verdict charter history day caller (proposed_command holder change))
+    one : (history : History) (change : Proposed) (rule : Rule) → Verdict charter history day caller (hypothetical_command holder change) None
+        → Verdict charter history day caller (hypothetical_command holder change) (Some rule) → ⊥
+    one history change rule = not_denied (one_verdict charter history day caller (hypothetical_command holder change))
 
     both : (history : History) (change : Proposed) (a b : Result (Option Command) Rule) → JudgesChange charter day caller holder history change a
         → JudgesChange charter day caller holder history change b → a ≡ b
@@ -146,7 +146,7 @@ changes_once charter day caller holder = record { same = both }
     both history change (Err r) (Ok (Some d)) x y =
         absurd (one history change r (subst (λ (c : Command). Verdict charter history day caller c None) y.0 y.1) x)
     both history change (Err r) (Err s) x y =
-        ap Err (same_Some r s ((one_verdict charter history day caller (proposed_command holder change)).same (Some r) (Some s) x y))
+        ap Err (same_Some r s ((one_verdict charter history day caller (hypothetical_command holder change)).same (Some r) (Some s) x y))
 
 one_of_parts : {X : Type 0} {judges : Judging X} → JudgesOnce judges → (day : ℕ) (caller : List ℕ) (history : History) (xs : List X)
     → HasOneOutcome (Grows judges day caller history xs) (IsDeniedAt judges day caller history xs)
@@ -160,7 +160,7 @@ pub one_hypothetical_outcome : OneHypotheticalOutcome
 one_hypothetical_outcome charter day caller holder history changes =
     one_of_parts (changes_once charter day caller holder) day caller history changes
 
--- where the row of a denial is told
+-- where a denial has a row
 one_row : {denied : Rule → ℕ → Type 0} → ((r s : Rule) (m n : ℕ) → denied r m → denied s n → (r ≡ s) × (m ≡ n))
     → (r s : Rule) (m n : Option ℕ) → IsSomeAnd m (denied r) → IsSomeAnd n (denied s) → (r ≡ s) × (m ≡ n)
 one_row one r s None n first second = absurd first

@@ -13,11 +13,11 @@ use Rattle.addr.proofs.AddressLemmas.{overlaps_some, first-last}
 use Rattle.registry.specs.declared.authorization.Auth.{Auth}
 use Rattle.charters.specs.declared.charter.Charter.{Charter}
 use Rattle.registry.specs.declared.command.Command.{Command}
-use Rattle.registry.specs.declared.command.Command.TheVariants.{Register, Delegate, Transfer, Reclaim, Grant, Revoke, Create, Amend, Withdraw, Import, Slurm}
+use Rattle.registry.specs.declared.command.Command.TheVariants.{Create, Amend, Withdraw, Import}
 use Rattle.registry.specs.History.{Entry, History, same_name}
 use Rattle.charters.specs.Repeats.{has_repeat}
 use Rattle.registry.specs.Terms.{numbered_terms, gives_vrp, share_vrp, authorizations_made, authorization_terms, amended, HeldSinceMade, HoldsTerms, Keeps, AreActive}
-use Rattle.registry.specs.Verdict.{Verdict, IsLegal, numbered}
+use Rattle.registry.specs.Verdict.{Verdict, IsLegal, auth_of_number}
 use Rattle.histories.specs.SharedVrps.{share_none, NoSharedVrp}
 use Rattle.registry.proofs.Names.{same_name-same, same_name-true}
 use Rattle.registry.proofs.Numbers.{Numbered, Numbered-high, later}
@@ -171,7 +171,7 @@ amended-other n max until x differ = cond-false _ _ _ differ
 pub amended-it : (n max until : ℕ) (x z : Auth) → eqb x.number n ≡ true → x ≡ z → amended n max until x ≡ new_terms z max until
 amended-it n max until x z same is = cond-true _ _ _ same ∙ ap (λ a. new_terms a max until) is
 
--- what a list of rising numbers tells of one that is amended: it is the one found, and shares none of the new terms with another
+-- what follows from a list of rising numbers for one that is amended: it is the one found, and shares none of the new terms with another
 record Amends (P : Auth → Type 0) (n max until : ℕ) (z x : Auth) : Type 0 where
   pub found : P x → eqb x.number n ≡ true → x ≡ z
   pub apart : P x → eqb x.number n ≡ false → share_vrp (new_terms z max until) x ≡ false
@@ -184,7 +184,7 @@ numbered_later n low (x ∷ xs) high P z below numbers =
     (λ p same. absurd (false≢true (sym differ ∙ same)), numbered_later n x.number xs high P z (omega arith) numbers.1)
 
 -- of those that have the fact, the one of the number is the one found
-pub found_one : (P : Auth → Type 0) (n low : ℕ) (xs ys : List Auth) (high : ℕ) (z : Auth) → Numbered low xs high → Keeps P xs ys → numbered n ys ≡ Some z
+pub found_one : (P : Auth → Type 0) (n low : ℕ) (xs ys : List Auth) (high : ℕ) (z : Auth) → Numbered low xs high → Keeps P xs ys → auth_of_number n ys ≡ Some z
     → Each (λ x. P x → eqb x.number n ≡ true → x ≡ z) xs
 found_one P n low [] ys high z numbers k found = tt
 found_one P n low (x ∷ xs) [] high z numbers k found =
@@ -253,11 +253,11 @@ PairsApart-amended P Q n max until z low (x ∷ xs) high to numbers amends pairs
 
 -- the one that an accepted amend finds
 amended_found : (before : History) (h : List ℕ) (n max until : ℕ) (active : List Auth) → AreActive before h active
-    → IsSomeAnd (numbered n active) (λ z. shares_with_other n (new_terms z max until) active ≡ false)
+    → IsSomeAnd (auth_of_number n active) (λ z. shares_with_other n (new_terms z max until) active ≡ false)
     → (z : Auth) × Each (Amends (HeldSinceMade before h) n max until z) (authorization_terms before h)
-amended_found before h n max until active are found = by_case (numbered n active) refl found
+amended_found before h n max until active are found = by_case (auth_of_number n active) refl found
   where
-    by_case : (o : Option Auth) → numbered n active ≡ o
+    by_case : (o : Option Auth) → auth_of_number n active ≡ o
         → IsSomeAnd o (λ z. shares_with_other n (new_terms z max until) active ≡ false)
         → (z : Auth) × Each (Amends (HeldSinceMade before h) n max until z) (authorization_terms before h)
     by_case None is none = absurd none
@@ -273,21 +273,7 @@ apart-after : (charter : Charter) (before : History) (day : ℕ) (caller : List 
     → PairsApart (HeldSinceMade before h) (authorization_terms before h)
     → PairsApart (HeldSinceMade (record { day = day; caller = caller; command = c } ∷ before) h)
     (authorization_terms (record { day = day; caller = caller; command = c } ∷ before) h)
-apart-after charter before day caller (Register holder) h accepted pairs =
-    PairsApart-weaker _ _ (authorization_terms before h) (λ x since. since.1) pairs
-apart-after charter before day caller (Delegate holder p) h accepted pairs =
-    PairsApart-weaker _ _ (authorization_terms before h) (λ x since. since.1) pairs
-apart-after charter before day caller (Transfer p giver taker) h accepted pairs =
-    PairsApart-weaker _ _ (authorization_terms before h) (λ x since. since.1) pairs
-apart-after charter before day caller (Reclaim holder p) h accepted pairs =
-    PairsApart-weaker _ _ (authorization_terms before h) (λ x since. since.1) pairs
-apart-after charter before day caller (Grant holder name role scope until) h accepted pairs =
-    PairsApart-weaker _ _ (authorization_terms before h) (λ x since. since.1) pairs
-apart-after charter before day caller (Revoke holder n) h accepted pairs =
-    PairsApart-weaker _ _ (authorization_terms before h) (λ x since. since.1) pairs
 apart-after charter before day caller (Import holder rows) h accepted pairs = absurd accepted
-apart-after charter before day caller (Slurm file) h accepted pairs =
-    PairsApart-weaker _ _ (authorization_terms before h) (λ x since. since.1) pairs
 apart-after charter before day caller (Withdraw holder n) h accepted pairs =
     let e : Entry = record { day = day; caller = caller; command = Withdraw holder n } in
     let keep = λ (x : Auth). not (eqb x.number n) in
@@ -325,6 +311,8 @@ apart-after charter before day caller (Amend holder n max until) h accepted pair
           back (authorization_terms-numbered before h) here.1 pairs)
       | inr f ↦ subst G (sym f) old
     ]
+apart-after charter before day caller _ h accepted pairs =
+    PairsApart-weaker _ _ (authorization_terms before h) (λ x since. since.1) pairs
 
 pub pairs-apart : (charter : Charter) (history : History) (h : List ℕ) → IsLegal charter history → PairsApart (HeldSinceMade history h) (authorization_terms history h)
 pairs-apart charter [] h legal = tt

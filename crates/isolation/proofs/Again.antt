@@ -17,11 +17,11 @@ use Rattle.registry.specs.declared.grant.Granted.{Granted}
 use Rattle.registry.specs.Answer.{holder_of, Leaves}
 use Rattle.registry.specs.ExceptionsInForce.{brings_exceptions, exceptions_after, exceptions_in_force}
 use Rattle.registry.specs.History.{Entry, History, same_name, is_registered}
-use Rattle.registry.specs.HolderEntries.{names}
+use Rattle.registry.specs.HolderEntries.{names_holder}
 use Rattle.registry.specs.Permission.{is_permitted_terms}
 use Rattle.registry.specs.Resources.{resource_holder, is_held_by}
 use Rattle.registry.specs.Terms.{grant_terms, authorization_terms, amended, HeldSinceMade, Keeps}
-use Rattle.registry.specs.Verdict.{Verdict, HasAccessTo, IsLegal, numbered}
+use Rattle.registry.specs.Verdict.{Verdict, HasAccessTo, IsLegal, auth_of_number}
 use Rattle.registry.proofs.Names.{same_name-same, same_name-true, same_name-false}
 use Rattle.isolation.specs.RepeatedRequests.{is_grant, has_slurm_file, NoneNames, HaveSameRows, RepeatsLeaveRows}
 use Rattle.isolation.proofs.Agree.{Agree, AgreeIfNamed, agree-sym, agree-active, agree-rows}
@@ -55,18 +55,18 @@ any_kept P test (x ∷ xs) (y ∷ ys) (inl k) none =
     ap (λ z. test z || list_any test ys) k.1 ∙ ap (λ b. b || list_any test ys) parts.0 ∙ any_kept P test xs ys k.2 parts.1
 any_kept P test (x ∷ xs) (y ∷ ys) (inr k) none = any_kept P test xs (y ∷ ys) k.1 (or_parts (test x) (list_any test xs) none).1
 
-none_numbered : (n : ℕ) (xs : List Auth) (P : Auth → Type 0) → list_any (λ x. eqb x.number n) xs ≡ false → IsSomeAnd (numbered n xs) P → ⊥
+none_numbered : (n : ℕ) (xs : List Auth) (P : Auth → Type 0) → list_any (λ x. eqb x.number n) xs ≡ false → IsSomeAnd (auth_of_number n xs) P → ⊥
 none_numbered n [] P none some = some
 none_numbered n (x ∷ xs) P none some =
     let parts = or_parts (eqb x.number n) (list_any (λ y. eqb y.number n) xs) none in
     none_numbered n xs P parts.1 (subst (λ (o : Option Auth). IsSomeAnd o P) (cond-false _ _ _ parts.0) some)
 
--- an address of the prefix that is held again, or by nobody, as the rule asks, while the first time left it to another
-still_held : (history other : History) (h : List ℕ) (p : Prefix) (to : Option (List ℕ)) (asked : Option (List ℕ)) → Agree history other h
+-- an address of the prefix that is held again, or by nobody, as the rule requires, while the first time left it to another
+still_held : (history other : History) (h : List ℕ) (p : Prefix) (to : Option (List ℕ)) (required : Option (List ℕ)) → Agree history other h
     → ((a : Address) → has_address p a ≡ true → resource_holder other a ≡ to)
-    → ((a : Address) → has_address p a ≡ true → resource_holder history a ≡ asked)
-    → is_held_by h asked ≡ is_held_by h to
-still_held history other h p to asked same left rule =
+    → ((a : Address) → has_address p a ≡ true → resource_holder history a ≡ required)
+    → is_held_by h required ≡ is_held_by h to
+still_held history other h p to required same left rule =
     let a = first_address p in
     ap (is_held_by h) (sym (rule a.0 a.1)) ∙ same.holders a.0 ∙ ap (is_held_by h) (left a.0 a.1)
 
@@ -143,7 +143,7 @@ agree-again charter history before then day by caller (Create holder t) first sa
     absurd (not_made_again charter history day caller holder t has accepted)
 agree-again charter history before then day by caller (Amend holder n max until) first same other accepted h =
     let e = entry day caller (Amend holder n max until) in
-    elim (cases_Bool (names h e.command)) [
+    elim (cases_Bool (names_holder h e.command)) [
       | inl t ↦ subst (λ (g : List ℕ). Agree (e ∷ history) history g) (same_name-true holder h (or_itself (same_name holder h) t))
           (amended_again history before then day by caller holder n max until same)
       | inr f ↦ agree-unnamed charter e history h accepted f

@@ -6,7 +6,7 @@ use Rattle.addr.specs.Address.{Address, has_address}
 use Rattle.addr.specs.declared.prefix.Prefix.{Prefix}
 use Rattle.registry.specs.declared.authorization.Auth.{Auth}
 use Rattle.registry.specs.declared.command.Command.{Command}
-use Rattle.registry.specs.declared.command.Command.TheVariants.{Register, Delegate, Transfer, Reclaim, Grant, Revoke, Create, Amend, Withdraw, Import, Slurm}
+use Rattle.registry.specs.declared.command.Command.TheVariants.{Delegate, Transfer, Reclaim}
 use Rattle.registry.specs.History.{Entry, History, registers, is_registered}
 use Rattle.registry.specs.Resources.{holder_after, resource_holder, is_held_by, HoldsPrefix}
 use Rattle.registry.specs.Terms.{granted_after, grants_after, grants_made, grant_terms, created_after, terms_after, authorizations_made, authorization_terms, HeldSinceMade, Keeps, AreActive}
@@ -15,7 +15,7 @@ use Rattle.registry.proofs.Names.{held_by_same}
 use Rattle.registry.proofs.Kept.{Keeps-same}
 use Rattle.registry.proofs.Held.{authorization_terms-numbered}
 
--- numbers are from 1, so nothing is asked of a number 0
+-- numbers are from 1, so the last fact leaves out the number 0
 pub record Agree (one other : History) (h : List ℕ) : Type 0 where
   pub registered : is_registered one h ≡ is_registered other h
   pub holders : (a : Address) → is_held_by h (resource_holder one a) ≡ is_held_by h (resource_holder other a)
@@ -92,20 +92,13 @@ agree-rows same (Some rows) had = (
 -- who holds an address after a command, as far as the holder goes
 held_after : (c : Command) (h : List ℕ) (a : Address) (o p : Option (List ℕ)) → is_held_by h o ≡ is_held_by h p
     → is_held_by h (holder_after c a o) ≡ is_held_by h (holder_after c a p)
-held_after (Register holder) h a o p same = same
 held_after (Delegate holder q) h a o p same =
     elim (has_address q a) as (λ b. is_held_by h (cond b (Some holder) o) ≡ is_held_by h (cond b (Some holder) p)) [ true ↦ refl | false ↦ same ]
 held_after (Transfer q giver taker) h a o p same =
     elim (has_address q a) as (λ b. is_held_by h (cond b (Some taker) o) ≡ is_held_by h (cond b (Some taker) p)) [ true ↦ refl | false ↦ same ]
 held_after (Reclaim holder q) h a o p same =
     elim (has_address q a) as (λ b. is_held_by h (cond b None o) ≡ is_held_by h (cond b None p)) [ true ↦ refl | false ↦ same ]
-held_after (Grant holder name role scope until) h a o p same = same
-held_after (Revoke holder n) h a o p same = same
-held_after (Create holder terms) h a o p same = same
-held_after (Amend holder n max until) h a o p same = same
-held_after (Withdraw holder n) h a o p same = same
-held_after (Import holder rows) h a o p same = same
-held_after (Slurm file) h a o p same = same
+held_after _ h a o p same = same
 
 -- an authorization held since its making on the one, where what is held and made after the entry is the same
 since_after : (e : Entry) (one other : History) (h : List ℕ) (x : Auth)

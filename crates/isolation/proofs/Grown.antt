@@ -9,7 +9,7 @@ use Rattle.registry.specs.Answer.{taker_of}
 use Rattle.registry.specs.ExceptionsInForce.{brings_exceptions, exceptions_after, exceptions_in_force}
 use Rattle.registry.specs.GrowingHistory.{Grows}
 use Rattle.registry.specs.History.{Entry, History, same_name}
-use Rattle.registry.specs.HolderEntries.{is_this, names}
+use Rattle.registry.specs.HolderEntries.{is_this, names_holder}
 use Rattle.registry.specs.HypotheticalHistory.{JudgesChange}
 use Rattle.registry.specs.Import.{JudgesRow}
 use Rattle.registry.specs.Rows.{Rows, RowsIfAny}
@@ -26,7 +26,7 @@ exceptions_stay _ exceptions none = refl
 
 -- what parts make names their holder alone
 pub names_made : {charter : Charter} {holder : List ℕ} {before : History} {day : ℕ} {caller : List ℕ} {c : Command}
-    → IsMadeAt charter holder before day caller c → (h : List ℕ) → names h c ≡ same_name holder h || same_name holder h
+    → IsMadeAt charter holder before day caller c → (h : List ℕ) → names_holder h c ≡ same_name holder h || same_name holder h
 names_made {holder = holder} {c = c} made h =
     ap (λ o. is_this h o || is_this h (taker_of c)) made.named ∙ ap (λ o. same_name holder h || is_this h o) made.taker
 
@@ -47,7 +47,7 @@ grown-left {X} charter holder day caller judges make h other before xs after leg
     step history x c some is left =
         let e : Entry = record { day = day; caller = caller; command = c } in
         let made = make history x c is in
-        let unnamed : names h c ≡ false = names_made made h ∙ ap (λ b. b || b) other in
+        let unnamed : names_holder h c ≡ false = names_made made h ∙ ap (λ b. b || b) other in
         record {
           legal = (made.accepted, left.legal);
           agree = agree-trans (agree-unnamed charter e history h made.accepted unnamed) left.agree;

@@ -11,8 +11,8 @@ use Rattle.registry.specs.declared.rule.Rule.{Rule}
 use Rattle.registry.specs.GrowingHistory.{Grows, IsDeniedAt, grown_by}
 use Rattle.registry.specs.History.{Entry, History}
 use Rattle.registry.specs.HolderEntries.{entries_naming}
-use Rattle.registry.specs.HypotheticalHistory.{JudgesChange, proposed_command}
-use Rattle.registry.specs.Import.{IsPresent, JudgesRow, creation}
+use Rattle.registry.specs.HypotheticalHistory.{JudgesChange, hypothetical_command}
+use Rattle.registry.specs.Import.{IsPresent, JudgesRow, row_command}
 use Rattle.registry.specs.Permission.{is_permitted}
 use Rattle.registry.specs.Verdict.{Verdict, IsLegal}
 use Rattle.registry.proofs.Names.{same_name-same}
@@ -111,8 +111,8 @@ present_alike day caller t same present =
 rows_alike : (charter : Charter) (day : ℕ) (caller holder : List ℕ) → AreAlike (JudgesRow charter day caller holder) holder
 rows_alike charter day caller holder one other t outcome same is = by_outcome outcome is
   where
-    alike : AreJudgedAlike charter one other day caller (creation holder t)
-    alike = judged_alike charter one other day caller (creation holder t) same same refl
+    alike : AreJudgedAlike charter one other day caller (row_command holder t)
+    alike = judged_alike charter one other day caller (row_command holder t) same same refl
 
     by_outcome : (o : Result (Option Command) Rule) → JudgesRow charter day caller holder one t o → JudgesRow charter day caller holder other t o
     by_outcome (Ok None) judged = present_alike day caller t same judged
@@ -128,9 +128,9 @@ rows_alike charter day caller holder one other t outcome same is = by_outcome ou
 changes_alike : (charter : Charter) (day : ℕ) (caller holder : List ℕ) → AreAlike (JudgesChange charter day caller holder) holder
 changes_alike charter day caller holder one other change outcome same is = by_outcome outcome is
   where
-    alike : (p : Proposed) → AreJudgedAlike charter one other day caller (proposed_command holder p)
-    alike (ProposedCreate t) = judged_alike charter one other day caller (proposed_command holder (ProposedCreate t)) same same refl
-    alike (ProposedWithdraw n) = judged_alike charter one other day caller (proposed_command holder (ProposedWithdraw n)) same same refl
+    alike : (p : Proposed) → AreJudgedAlike charter one other day caller (hypothetical_command holder p)
+    alike (ProposedCreate t) = judged_alike charter one other day caller (hypothetical_command holder (ProposedCreate t)) same same refl
+    alike (ProposedWithdraw n) = judged_alike charter one other day caller (hypothetical_command holder (ProposedWithdraw n)) same same refl
 
     by_outcome : (o : Result (Option Command) Rule) → JudgesChange charter day caller holder one change o → JudgesChange charter day caller holder other change o
     by_outcome (Ok None) judged = judged

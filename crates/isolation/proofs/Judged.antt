@@ -15,9 +15,9 @@ use Rattle.registry.specs.History.{History, is_registered}
 use Rattle.registry.specs.Permission.{has_access, is_permitted, is_permitted_terms}
 use Rattle.registry.specs.Resources.{HoldsPrefix}
 use Rattle.registry.specs.Terms.{grant_terms, OfActive}
-use Rattle.registry.specs.Verdict.{ask, accept, numbered, HasAccessTo, Verdict, ShowVerdict, ListVerdict}
+use Rattle.registry.specs.Verdict.{ask, accept, auth_of_number, HasAccessTo, Verdict, ShowVerdict, ListVerdict}
 use Rattle.addr.specs.declared.prefix.Prefix.{Prefix}
-use Rattle.isolation.specs.Isolation.{asks_of_all, AreJudgedAlike, AreSeenAlike}
+use Rattle.isolation.specs.Isolation.{concerns_all_holders, AreJudgedAlike, AreSeenAlike}
 use Rattle.isolation.proofs.Agree.{Agree, AgreeIfNamed, agree-sym, agree-sym-named, agree-holds, agree-active}
 
 -- equal values have equal facts
@@ -72,11 +72,11 @@ active_alike same P = of_active same P P (λ active. itself)
 access_alike : {one other : History} {h : List ℕ} → Agree one other h → (day : ℕ) (caller : List ℕ) (access : Access) (n : ℕ)
     → HasAccessTo one h day caller access n ↔ HasAccessTo other h day caller access n
 access_alike {one} {other} {h} same day caller access n =
-    let Has : List Granted → List Auth → Type 0 = λ grants active. IsSomeAnd (numbered n active) (λ x. is_permitted_terms grants day caller access x ≡ true) in
+    let Has : List Granted → List Auth → Type 0 = λ grants active. IsSomeAnd (auth_of_number n active) (λ x. is_permitted_terms grants day caller access x ≡ true) in
     of_active same (Has (grant_terms one h)) (Has (grant_terms other h)) (λ active. by_value (λ grants. Has grants active) same.grants)
 
 judged : (charter : Charter) (one other : History) (day : ℕ) (caller : List ℕ) (c : Command)
-    → AgreeIfNamed one other (holder_of c) → AgreeIfNamed one other (taker_of c) → asks_of_all c ≡ false
+    → AgreeIfNamed one other (holder_of c) → AgreeIfNamed one other (taker_of c) → concerns_all_holders c ≡ false
     → Leads (Verdict charter one day caller c) (Verdict charter other day caller c)
 judged charter one other day caller (Register holder) same taker own =
     asked itself (asked (by_value (λ b. b ≡ false) same.registered) accepted)
@@ -117,20 +117,12 @@ judged charter one other day caller (Import holder rows) same taker own = record
 judged charter one other day caller (Slurm file) same taker own = asked itself accepted
 
 number_alike : (one other : History) (c : Command) → AgreeIfNamed one other (holder_of c) → number_given one c ≡ number_given other c
-number_alike one other (Register holder) same = refl
-number_alike one other (Delegate holder p) same = refl
-number_alike one other (Transfer p giver taker) same = refl
-number_alike one other (Reclaim holder p) same = refl
 number_alike one other (Grant holder name role scope until) same = ap (λ made. Some (made + 1)) same.granted
-number_alike one other (Revoke holder n) same = refl
 number_alike one other (Create holder terms) same = ap (λ made. Some (made + 1)) same.created
-number_alike one other (Amend holder n max until) same = refl
-number_alike one other (Withdraw holder n) same = refl
-number_alike one other (Import holder rows) same = refl
-number_alike one other (Slurm file) same = refl
+number_alike one other _ same = refl
 
 pub judged_alike : (charter : Charter) (one other : History) (day : ℕ) (caller : List ℕ) (c : Command)
-    → AgreeIfNamed one other (holder_of c) → AgreeIfNamed one other (taker_of c) → asks_of_all c ≡ false
+    → AgreeIfNamed one other (holder_of c) → AgreeIfNamed one other (taker_of c) → concerns_all_holders c ≡ false
     → AreJudgedAlike charter one other day caller c
 judged_alike charter one other day caller c same taker own = record {
   verdict = λ rule. (
@@ -161,7 +153,7 @@ seen_alike {one} {other} {h} same day caller =
     let Listed : List Auth → List Granted → List Auth → Type 0 = λ xs grants active. xs ≡ filter (λ x. is_permitted_terms grants day caller Look x) active in
     record {
       show = show_alike same day caller;
-      shown = λ n x. both (show_alike same day caller n None) (active_alike same (λ active. numbered n active ≡ Some x));
+      shown = λ n x. both (show_alike same day caller n None) (active_alike same (λ active. auth_of_number n active ≡ Some x));
       list = list_alike same day caller;
       listed = λ xs. both (list_alike same day caller None)
           (of_active same (Listed xs (grant_terms one h)) (Listed xs (grant_terms other h)) (λ active. by_value (λ grants. Listed xs grants active) same.grants));

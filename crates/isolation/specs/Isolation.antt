@@ -11,7 +11,7 @@ use Rattle.registry.specs.declared.rule.Rule.{Rule}
 use Rattle.registry.specs.Answer.{number_given, Leaves, IsShown, IsListed}
 use Rattle.registry.specs.DailyVrps.{IsAfterExceptions, IsVrpOn}
 use Rattle.registry.specs.ExceptionsInForce.{exceptions_in_force}
-use Rattle.registry.specs.HolderEntries.{names, entries_naming, entries_for}
+use Rattle.registry.specs.HolderEntries.{names_holder, entries_naming, entries_for}
 use Rattle.registry.specs.GrowingHistory.{Grows, IsDeniedAt}
 use Rattle.registry.specs.History.{History, same_name}
 use Rattle.registry.specs.HypotheticalHistory.{HypotheticalHistory, JudgesChange}
@@ -32,9 +32,9 @@ OthersKeepRows =
     (charter : Charter) (before : History) (day : ℕ) (caller : List ℕ) (command : Command)
     (after : History) (h : List ℕ) (rows : Option Rows)
     → IsLegal charter before → Leaves charter before day caller command after
-    → names h command ≡ false → RowsIfAny before h rows ↔ RowsIfAny after h rows
+    → names_holder h command ≡ false → RowsIfAny before h rows ↔ RowsIfAny after h rows
 
--- the rows of every holder but this one are the same after both, and the exceptions in force
+-- the rows of every holder except this one are the same after both, and the exceptions in force
 pub record DifferAtMostAt (holder : List ℕ) (one other : History) : Type 0 where
   pub others :
       (h : List ℕ) (rows : Option Rows) → same_name holder h ≡ false
@@ -63,22 +63,22 @@ VrpsOfEntries =
     → IsVrpOn history day v
     ↔ IsAfterExceptions (exceptions_in_force history) (IsVrpInForceByEntries history day v) v
 
--- a delegation asks of all holders whether one holds an address of the prefix
-abbrev pub asks_of_all : Command → Bool
-asks_of_all (Delegate holder p) = true
-asks_of_all _ = false
+-- a delegation concerns all holders, since none may hold an address of its prefix
+abbrev pub concerns_all_holders : Command → Bool
+concerns_all_holders (Delegate holder p) = true
+concerns_all_holders _ = false
 
 -- a command gets the same verdicts, and the same number for what it makes
 pub record AreJudgedAlike (charter : Charter) (one other : History) (day : ℕ) (caller : List ℕ) (command : Command) : Type 0 where
   pub verdict : (rule : Option Rule) → Verdict charter one day caller command rule ↔ Verdict charter other day caller command rule
   pub number : number_given one command ≡ number_given other command
 
--- but for a delegation, a command is judged by the entries that name one of its holders; a SLURM file,
+-- except for a delegation, a command is judged by the entries that name one of its holders; a SLURM file,
 -- which names none, by no entry
 abbrev pub CommandsByEntries : Type 0
 CommandsByEntries =
     (charter : Charter) (history : History) (day : ℕ) (caller : List ℕ) (command : Command)
-    → IsLegal charter history → asks_of_all command ≡ false
+    → IsLegal charter history → concerns_all_holders command ≡ false
     → AreJudgedAlike charter history (entries_for command history) day caller command
 
 -- what is shown and listed to the caller is the same, and what is denied

@@ -1,4 +1,4 @@
--- A command that is asked again. Where it is denied the history stays as it is, and the rows and the
+-- A command that is sent again. Where it is denied the history stays as it is, and the rows and the
 -- exceptions with it.
 use Rattle.std.specs.Prelude.{◌≡◌, ℕ, Bool, true, false, List, ◌++◌, Option, ◌↔◌}
 use Rattle.std.specs.List.{list_any}
@@ -11,7 +11,7 @@ use Rattle.registry.specs.declared.rule.Rule.{Rule}
 use Rattle.registry.specs.Answer.{holder_of, taker_of, Leaves}
 use Rattle.registry.specs.ExceptionsInForce.{brings_exceptions, exceptions_in_force}
 use Rattle.registry.specs.History.{History}
-use Rattle.registry.specs.HolderEntries.{names}
+use Rattle.registry.specs.HolderEntries.{names_holder}
 use Rattle.registry.specs.Import.{ImportGrows, IsImportDenied}
 use Rattle.registry.specs.Rows.{Rows, RowsIfAny}
 use Rattle.registry.specs.Verdict.{IsLegal}
@@ -23,7 +23,7 @@ is_grant _ = false
 
 -- some entry names the holder
 abbrev pub is_named : List ℕ → History → Bool
-is_named h entries = list_any (λ e. names h e.command) entries
+is_named h entries = list_any (λ e. names_holder h e.command) entries
 
 -- some entry brings a SLURM file
 abbrev pub has_slurm_file : History → Bool
@@ -52,7 +52,7 @@ RepeatsLeaveRows =
     → Leaves charter (later ++ left) day caller command again
     → HaveSameRows (later ++ left) again
 
--- an import of these rows makes nothing: asked by this caller on this day it is accepted, no row is
+-- an import of these rows makes nothing: sent by this caller on this day it is accepted, no row is
 -- denied, and it leaves the history as it is; and it does so where it is accepted of any caller on any
 -- day
 pub record MakesNothing (charter : Charter) (day : ℕ) (caller holder : List ℕ)

@@ -35,7 +35,7 @@ pub fn parts()
     ensures { VrpsOfEntries }
 {}
 
-/// After a legal history a command at a holder, but for a delegation, is accepted or denied, and its
+/// After a legal history a command at a holder, except a delegation, is accepted or denied, and its
 /// grant or authorization numbered, as after the entries that name the holder alone; a transfer as
 /// after those that name giver or taker, and a SLURM file as after no entry.
 pub fn commands_by_entries()

@@ -14,7 +14,7 @@ use Rattle.registry.specs.declared.command.Command.TheVariants.{Create, Amend, W
 use Rattle.registry.specs.History.{Entry, History, is_registered}
 use Rattle.registry.specs.Resources.{HoldsPrefix}
 use Rattle.registry.specs.Terms.{numbered_terms, authorizations_made, authorization_terms, amended, HeldSinceMade, Keeps}
-use Rattle.registry.specs.Verdict.{numbered}
+use Rattle.registry.specs.Verdict.{auth_of_number}
 use Rattle.registry.specs.Rows.{Rows, RowsOf, replaced_by, Carries}
 use Rattle.registry.proofs.Names.{same_name-same}
 use Rattle.registry.proofs.Numbers.{Numbered}
@@ -72,7 +72,7 @@ carries-withdraw before day caller holder n registered =
     (λ h other a. refl)
 
 -- what is found has the number
-pub found_number : (n : ℕ) (xs : List Auth) (x : Auth) → numbered n xs ≡ Some x → x.number ≡ n
+pub found_number : (n : ℕ) (xs : List Auth) (x : Auth) → auth_of_number n xs ≡ Some x → x.number ≡ n
 found_number n [] x found = absurd (none-some _ found)
 found_number n (z ∷ zs) x found =
     elim (cases_Bool (eqb z.number n)) [
@@ -97,7 +97,7 @@ untouched low n (x ∷ xs) high max until y numbers below is =
     ap (λ z. z ∷ map (replaced_by y) xs) one ∙ ap (λ zs. amended n max until x ∷ zs) rest
 
 -- the amended one put in the place of the one of its number
-pub replaced-amended : (low n : ℕ) (xs : List Auth) (high : ℕ) (max until : ℕ) (x y : Auth) → Numbered low xs high → numbered n xs ≡ Some x
+pub replaced-amended : (low n : ℕ) (xs : List Auth) (high : ℕ) (max until : ℕ) (x y : Auth) → Numbered low xs high → auth_of_number n xs ≡ Some x
     → y ≡ record x { max = max; until = until } → map (replaced_by y) xs ≡ map (amended n max until) xs
 replaced-amended low n [] high max until x y numbers found is = refl
 replaced-amended low n (z ∷ zs) high max until x y numbers found is =
@@ -113,7 +113,7 @@ replaced-amended low n (z ∷ zs) high max until x y numbers found is =
           let rest = untouched z.number n zs high max until y numbers.1 (omega arith) number_y in
           ap (λ a. a ∷ map (replaced_by y) zs) one ∙ ap (λ cs. amended n max until z ∷ cs) rest
       | inr f ↦
-          let later : numbered n zs ≡ Some x = sym (cond-false _ _ _ f) ∙ found in
+          let later : auth_of_number n zs ≡ Some x = sym (cond-false _ _ _ f) ∙ found in
           let rest = replaced-amended z.number n zs high max until x y numbers.1 later is in
           let number_y : y.number ≡ n = ap (λ a. a.number) is ∙ found_number n zs x later in
           let differ : eqb z.number y.number ≡ false = ap (λ k. eqb z.number k) number_y ∙ f in
@@ -123,7 +123,7 @@ replaced-amended low n (z ∷ zs) high max until x y numbers found is =
     ]
 
 pub carries-amend : (before : History) (day : ℕ) (caller holder : List ℕ) (n max until : ℕ) (v : Rows) (x y : Auth)
-    → is_registered before holder ≡ true → RowsOf before holder v → numbered n v.auths ≡ Some x → y ≡ record x { max = max; until = until }
+    → is_registered before holder ≡ true → RowsOf before holder v → auth_of_number n v.auths ≡ Some x → y ≡ record x { max = max; until = until }
     → Carries (Holders (record { holder = holder; edit = AmendEdit y }) None) before
     (record { day = day; caller = caller; command = Amend holder n max until } ∷ before)
 carries-amend before day caller holder n max until v x y registered had_v found is =
@@ -138,7 +138,7 @@ carries-amend before day caller holder n max until v x y registered had_v found 
     let same_auths : v.auths ≡ rows.auths = Keeps-unique (HeldSinceMade before holder) (authorization_terms before holder) v.auths rows.auths had_v.auths had.auths in
     let mapped : map (replaced_by y) rows.auths ≡ map f rows.auths =
     replaced-amended 0 n rows.auths (authorizations_made before holder) max until x y (active-numbered before holder rows.auths had.auths)
-    (ap (numbered n) (sym same_auths) ∙ found) is in
+    (ap (auth_of_number n) (sym same_auths) ∙ found) is in
     record {
       apart = had.apart;
       holdings = had.holdings;

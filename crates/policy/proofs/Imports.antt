@@ -15,7 +15,7 @@ use Rattle.registry.specs.declared.rule.Rule.TheVariants.{Grant as GrantRule}
 use Rattle.registry.specs.declared.command.Command.TheVariants.{Import}
 use Rattle.registry.specs.Answer.{IsAnswer}
 use Rattle.registry.specs.History.{Entry, History, same_name, is_registered}
-use Rattle.registry.specs.Import.{creation, JudgesRow, IsImportDenied}
+use Rattle.registry.specs.Import.{row_command, JudgesRow, IsImportDenied}
 use Rattle.registry.specs.Permission.{has_access, is_permitted}
 use Rattle.registry.specs.Rows.{Rows, RowsIfAny, edited, edited_if_any, changed, Carries}
 use Rattle.registry.specs.Terms.{grant_terms, authorizations_made}
@@ -135,13 +135,13 @@ makes : (charter : Charter) (history : History) (h : List ℕ) (day : ℕ) (call
 makes charter history h day caller rows i t made more before after so_far within here row =
     let edit = so_far.edit in
     let x = row.auth in
-    let e : Entry = record { day = day; caller = caller; command = creation h t } in
+    let e : Entry = record { day = day; caller = caller; command = row_command h t } in
     let one_more : length more.items ≡ length made.items + 1 = ap length row.made_one ∙ length-append made.items (x ∷ []) in
     let counted : authorizations_made (e ∷ edit.after) h ≡ authorizations_made edit.after h + 1 = cond-true _ _ _ (same_name-same h) in
     let same : SoFar charter history h day caller (take (i + 1) rows) more (edited (CreateEdit x) before) = record {
       edit = record {
         after = e ∷ edit.after;
-        grows = Grows-more (JudgesRow charter day caller h) day caller history rows i t edit.after (Some (creation h t)) within here edit.grows (row.absent, refl, row.created.verdict);
+        grows = Grows-more (JudgesRow charter day caller h) day caller history rows i t edit.after (Some (row_command h t)) within here edit.grows (row.absent, refl, row.created.verdict);
         carries = carries-more history edit.after (e ∷ edit.after) h made more before.created x row.made_one edit.carries row.created.carries;
         made = omega (arith, edit.made, one_more, counted);
         present = edit.present;

@@ -5,4 +5,4 @@ pub mod RowsLemmas
 pub mod AmendLemmas
 pub mod Growth
 pub mod Imports
-pub mod Suppositions
+pub mod Hypothetical

@@ -1,4 +1,4 @@
--- What the rows that are handed in say of the holder.
+-- What the given rows say of the holder.
 use Rattle.std.proofs.Common.{◌≡◌, ℕ, Bool, true, false, List, Option, Some, None, sym, ap, ◌∙◌, subst, Bor, option_copied, is_some, IsSomeAnd}
 use Rattle.std.specs.List.{list_any}
 use Rattle.std.proofs.lemmas.Bool.{false≢true}
@@ -9,7 +9,7 @@ use Rattle.registry.specs.Rows.{Rows, RowsOf, RowsIfAny, rows_if_any, grants_if_
 use Rattle.registry.specs.declared.authorization.Auth.{Auth}
 use Rattle.registry.specs.declared.grant.Granted.{Granted}
 use Rattle.registry.specs.Terms.{grant_terms, authorization_terms, HeldSinceMade, OfActive}
-use Rattle.registry.specs.Verdict.{IsLegal, numbered, OfNumber}
+use Rattle.registry.specs.Verdict.{IsLegal, auth_of_number, OfNumber}
 use Rattle.registry.proofs.Kept.{Keeps-unique}
 use Rattle.registry.proofs.Unregistered.{has_nothing}
 
@@ -33,19 +33,19 @@ active-from history h rows P are of =
     subst P (Keeps-unique (HeldSinceMade history h) (authorization_terms history h) of.0 rows.auths of.1 are.auths) of.2
 
 pub number-to : (history : History) (h : List ℕ) (rows : Rows) (n : ℕ) (x : Auth) (P : Auth → Type 0) → RowsOf history h rows
-    → numbered n rows.auths ≡ Some x → P x → OfNumber history h n P
+    → auth_of_number n rows.auths ≡ Some x → P x → OfNumber history h n P
 number-to history h rows n x P are found holds =
     (rows.auths, are.auths, subst (λ (o : Option Auth). IsSomeAnd o P) (sym found) holds)
 
 pub number-from : (history : History) (h : List ℕ) (rows : Rows) (n : ℕ) (x : Auth) (P : Auth → Type 0) → RowsOf history h rows
-    → numbered n rows.auths ≡ Some x → OfNumber history h n P → P x
+    → auth_of_number n rows.auths ≡ Some x → OfNumber history h n P → P x
 number-from history h rows n x P are found of =
-    subst (λ (o : Option Auth). IsSomeAnd o P) found (active-from history h rows (λ active. IsSomeAnd (numbered n active) P) are of)
+    subst (λ (o : Option Auth). IsSomeAnd o P) found (active-from history h rows (λ active. IsSomeAnd (auth_of_number n active) P) are of)
 
 pub number-none : (history : History) (h : List ℕ) (rows : Rows) (n : ℕ) (P : Auth → Type 0) → RowsOf history h rows
-    → numbered n rows.auths ≡ None → OfNumber history h n P → ⊥
+    → auth_of_number n rows.auths ≡ None → OfNumber history h n P → ⊥
 number-none history h rows n P are missing of =
-    subst (λ (o : Option Auth). IsSomeAnd o P) missing (active-from history h rows (λ active. IsSomeAnd (numbered n active) P) are of)
+    subst (λ (o : Option Auth). IsSomeAnd o P) missing (active-from history h rows (λ active. IsSomeAnd (auth_of_number n active) P) are of)
 
 -- a holder with a grant is registered
 pub registered-by_grant : (charter : Charter) (history : History) (h : List ℕ) (rows : Option (Bor HolderRows)) (test : Granted → Bool)

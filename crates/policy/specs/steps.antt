@@ -4,4 +4,4 @@ pub mod Exchange
 pub mod Part
 pub mod Withdrawal
 pub mod Import
-pub mod Supposition
+pub mod HypotheticalChange

@@ -1,3 +1,5 @@
+//! Parts of rules, each a test of the rows.
+
 ghost use Rattle.std.specs.Prelude.{◌≡◌, ℕ, ◌<◌, ◌==◌, ◌&&◌, not, length, List, true, false, ◌↔◌, IsTrue, Some, ◌≤◌, option_copied, MatchResult};
 ghost use Rattle.std.specs.List.{list_any};
 ghost use Rattle.registry.specs.declared.limits.TheConstants.{MOST_GRANTS, MOST_AUTHORIZATIONS, LAST_NUMBER};
@@ -7,7 +9,8 @@ ghost use Rattle.registry.specs.Resources.{HoldsPrefix};
 ghost use Rattle.registry.specs.Terms.{grant_terms, authorizations_made, OfActive, gives_vrp, share_vrp};
 ghost use Rattle.registry.specs.Import.{has_terms, IsPresent};
 ghost use Rattle.registry.specs.Permission.{has_access};
-ghost use Rattle.registry.specs.Verdict.{IsLegal, is_steward, numbered, HasAccessTo};
+ghost use Rattle.registry.specs.Answer.{OfRows};
+ghost use Rattle.registry.specs.Verdict.{is_steward, auth_of_number, HasAccessTo};
 ghost use Rattle.registry.specs.Rows.{rows_of, rows_if_any, RowsOf, RowsIfAny, grants_if_any};
 
 use crate::{Access, Auth, AuthTerms, Charter, Granted, HolderRows, ImportRow, LAST_NUMBER, Rule};
@@ -48,9 +51,8 @@ pub(crate) fn is_steward(
     day: Day,
     caller: &Name,
 ) -> bool
-    ensures { (history : History) (h : List ℕ) → IsLegal charter.now history
-        → RowsIfAny history h (rows_if_any (option_copied rows.entry))
-        → result ≡ is_steward charter.now history day caller.now h }
+    ensures { OfRows charter.now (rows_if_any (option_copied rows.entry))
+        (λ history h. result ≡ is_steward charter.now history day caller.now h) }
 {
     charter.is_operator(caller) || has_access(grants_of(rows), day, caller, Access::Manage)
 }
@@ -62,13 +64,12 @@ pub(crate) fn rows_with_access<'a>(
     caller: &Name,
     access: Access,
 ) -> Result<&'a HolderRows, Rule>
-    ensures { (charter : CharterValue) (history : History) (h : List ℕ) → IsLegal charter history
-        → RowsIfAny history h (rows_if_any (option_copied rows.entry))
-        → MatchResult result
+    ensures { (charter : CharterValue) → OfRows charter (rows_if_any (option_copied rows.entry))
+        (λ history h. MatchResult result
         (λ r. (has_access (grant_terms history h) day caller.now access ≡ true)
         × (is_registered history h ≡ true) × RowsOf history h (rows_of r.now))
         (λ rule. (has_access (grant_terms history h) day caller.now access ≡ false)
-        × (rule ≡ Rule.Grant)) }
+        × (rule ≡ Rule.Grant))) }
 {
     if has_access(grants_of(rows), day, caller, access) {
         rows.ok_or(Rule::Grant)
@@ -85,8 +86,8 @@ pub(crate) fn holds(rows: &HolderRows, prefix: &Prefix) -> bool
     rows.holdings.holds(prefix)
 }
 
-fn numbered(auths: &[Auth], number: u32) -> Option<&Auth>
-    ensures { option_copied result ≡ numbered number auths.now }
+fn auth_of_number(auths: &[Auth], number: u32) -> Option<&Auth>
+    ensures { option_copied result ≡ auth_of_number number auths.now }
 {
     auths.iter().find(|auth| auth.number == number)
 }
@@ -101,12 +102,12 @@ pub(crate) fn auth_with_access<'a>(
 ) -> Result<&'a Auth, Rule>
     ensures { (history : History) (h : List ℕ) → RowsOf history h (rows_of rows.now)
         → MatchResult result
-        (λ x. (numbered number rows.now.auths.items ≡ Some x.now)
+        (λ x. (auth_of_number number rows.now.auths.items ≡ Some x.now)
         × HasAccessTo history h day caller.now access number)
         (λ rule. (HasAccessTo history h day caller.now access number → ⊥)
         × (rule ≡ Rule.Number)) }
 {
-    match numbered(&rows.auths, number) {
+    match auth_of_number(&rows.auths, number) {
         Some(auth) => {
             if is_permitted(&rows.grants, day, caller, access, &auth.prefix) {
                 Ok(auth)
@@ -127,9 +128,8 @@ pub(crate) fn are_dates(today: Day, from: Day, until: Day) -> bool
 
 /// Whether some grant of the rows has the number.
 pub(crate) fn has_grant(rows: Option<&HolderRows>, number: u32) -> bool
-    ensures { (charter : CharterValue) (history : History) (h : List ℕ) → IsLegal charter history
-        → RowsIfAny history h (rows_if_any (option_copied rows.entry))
-        → result ≡ list_any (λ g. g.number == number) (grant_terms history h) }
+    ensures { (charter : CharterValue) → OfRows charter (rows_if_any (option_copied rows.entry))
+        (λ history h. result ≡ list_any (λ g. g.number == number) (grant_terms history h)) }
 {
     is_among(grants_of(rows), number)
 }

@@ -1,10 +1,12 @@
-ghost use Rattle.std.specs.Prelude.{◌≡◌, ℕ, List, Some, option_copied, MatchResult, IfOk, OnOk};
+//! Creating an authorization.
+
+ghost use Rattle.std.specs.Prelude.{◌≡◌, Some, option_copied, MatchResult, IfOk, OnOk};
 ghost use Rattle.charters.specs.declared.charter.Charter.{Charter as CharterValue};
 ghost use Rattle.registry.specs.declared.change.Edit.{Edit};
-ghost use Rattle.registry.specs.History.{History};
 ghost use Rattle.registry.specs.declared.command.Command.{Command};
-ghost use Rattle.registry.specs.Rows.{rows_of, rows_if_any, RowsIfAny, edited};
-ghost use Rattle.registry.specs.Verdict.{IsLegal, Verdict};
+ghost use Rattle.registry.specs.Rows.{rows_of, rows_if_any, edited};
+ghost use Rattle.registry.specs.Answer.{OfRows};
+ghost use Rattle.registry.specs.Verdict.{Verdict};
 ghost use Rattle.policy.specs.steps.Creation.{IsCreated};
 ghost use Rattle.policy.specs.steps.Part.{Judged};
 
@@ -24,11 +26,10 @@ pub(crate) fn new_auth(
     caller: &Name,
     terms: &AuthTerms,
 ) -> Result<Auth, Rule>
-    ensures { (charter : CharterValue) (history : History) (h : List ℕ) → IsLegal charter history
-        → RowsIfAny history h (rows_if_any (option_copied rows.entry))
-        → MatchResult result
+    ensures { (charter : CharterValue) → OfRows charter (rows_if_any (option_copied rows.entry))
+        (λ history h. MatchResult result
         (IsCreated charter history h day caller.now terms.now)
-        (λ rule. Verdict charter history day caller.now (Command.Create h terms.now) (Some rule)) }
+        (λ rule. Verdict charter history day caller.now (Command.Create h terms.now) (Some rule))) }
 {
     let rows = rows_with_access(rows, day, caller, Access::Alter)?;
     let permitted = is_permitted(&rows.grants, day, caller, Access::Alter, &terms.prefix);
@@ -61,11 +62,10 @@ pub(crate) fn create(
 ) -> Result<Auth, Refusal>
     ensures rows { IfOk result
         (λ x. rows_of rows.new ≡ edited (Edit.Create x) (rows_of rows.old)) }
-    ensures judged { (charter : CharterValue) (history : History) (h : List ℕ)
-        → IsLegal charter history → RowsIfAny history h (Some (rows_of rows.old))
-        → Judged (IsCreated charter history h day caller.now terms.now)
+    ensures judged { (charter : CharterValue) → OfRows charter (Some (rows_of rows.old))
+        (λ history h. Judged (IsCreated charter history h day caller.now terms.now)
         (λ rule. Verdict charter history day caller.now (Command.Create h terms.now) (Some rule))
-        result }
+        result) }
 {
     let auth = new_auth(Some(rows), day, caller, terms)?;
     put(rows, &auth)?;

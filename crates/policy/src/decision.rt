@@ -1,3 +1,5 @@
+//! Deciding commands.
+
 ghost use Rattle.std.specs.Prelude.{◌≡◌, ℕ, true, false, None, Err, IsTrue, option_copied, MatchBool, IfOk, map, filter};
 ghost use Rattle.addr.specs.Address.{has_address};
 ghost use Rattle.addr.specs.Spans.{AddsAddresses, TakesAddresses};
@@ -28,7 +30,7 @@ use slurm::Slurm;
 use std::alloc::{AllocError, Global};
 use terms::GrantTerms;
 
-/// What every command is judged by, beside what it asks for and the rows.
+/// What every command is judged by, besides its own members and the rows.
 #[derive(Clone, Copy)]
 struct Basis<'a> {
     charter: &'a Charter,
@@ -75,7 +77,7 @@ fn without_prefix(holdings: &Holdings, prefix: &Prefix) -> Result<Holdings, Allo
 }
 
 /// The edit from one holder's runs to others, which ends the authorizations of these numbers.
-fn hold(before: &Holdings, after: &Holdings, ended: Vec<u32>) -> Result<Edit, AllocError>
+fn exchange(before: &Holdings, after: &Holdings, ended: Vec<u32>) -> Result<Edit, AllocError>
     ensures { IfOk result (Exchanges before.now after.now ended) }
 {
     Ok(Edit::Hold {
@@ -129,7 +131,7 @@ fn decide_delegate(
     require(basis.charter.has_in_pool(prefix), Rule::Pool)?;
     require(!taken, Rule::Free)?;
     let more = with_prefix(&rows.holdings, prefix)?;
-    let edit = hold(&rows.holdings, &more, Vec::new(alloc))?;
+    let edit = exchange(&rows.holdings, &more, Vec::new(alloc))?;
     Ok(change_of(holder.name, edit))
 }
 
@@ -148,7 +150,7 @@ fn decide_reclaim(
     require(holds(rows, prefix), Rule::Held)?;
     let less = without_prefix(&rows.holdings, prefix)?;
     let ended = numbers_overlapping(alloc, &rows.auths, prefix)?;
-    let edit = hold(&rows.holdings, &less, ended)?;
+    let edit = exchange(&rows.holdings, &less, ended)?;
     Ok(change_of(holder.name, edit))
 }
 
@@ -248,8 +250,8 @@ fn decide_transfer(
     let less = without_prefix(&giving.holdings, prefix)?;
     let more = with_prefix(&taking.holdings, prefix)?;
     let ended = numbers_overlapping(alloc, &giving.auths, prefix)?;
-    let from_giver = hold(&giving.holdings, &less, ended)?;
-    let to_taker = hold(&taking.holdings, &more, Vec::new(alloc))?;
+    let from_giver = exchange(&giving.holdings, &less, ended)?;
+    let to_taker = exchange(&taking.holdings, &more, Vec::new(alloc))?;
     Ok(Change::Holders {
         first: HolderChange {
             holder: *giver.name,
@@ -275,7 +277,7 @@ fn decide_slurm(basis: Basis<'_>, file: &Slurm) -> Result<Change, Refusal>
 /// What a command of the caller on the day does, or the first rule of its line that does not hold.
 ///
 /// Of a history whose rows the view has it gives that history's answer; of other rows it gives
-/// some answer. Memory is wanted only to delegate, to reclaim, to import and to take a SLURM file.
+/// some answer. It allocates only to delegate, to reclaim, to import and to take a SLURM file.
 pub fn decide(
     alloc: Global,
     charter: &Charter,
@@ -347,8 +349,8 @@ pub fn decide(
     }
 }
 
-/// What a transfer does, or the first rule of its line that does not hold: the rows of the giver
-/// and of the taker are those handed in, of equal names the same rows twice.
+/// What a transfer does, or the first rule of its line that does not hold, on the rows of the giver
+/// and of the taker; for equal names the same rows twice.
 pub fn decide_two(
     alloc: Global,
     charter: &Charter,

@@ -5,16 +5,15 @@
 mod admission;
 mod creation;
 mod decision;
-mod hypothesis;
 mod part;
 mod sight;
+mod what_if;
 mod withdrawal;
 
 pub use decision::{decide, decide_two};
-pub use hypothesis::suppose;
-pub use registry::laws;
 pub use registry::{
     Access, Auth, AuthTerms, Change, Charter, CharterFault, Command, Edit, Granted, HolderChange,
-    HolderRows, ImportRow, LAST_NUMBER, Proposed, Query, Refusal, Role, Rule, Scope, View,
+    HolderRows, ImportRow, LAST_NUMBER, Proposed, Query, Refusal, Role, Rule, Scope, View, laws,
 };
 pub use sight::{see, see_all};
+pub use what_if::suppose;

@@ -1,3 +1,5 @@
+//! Refusals of requests of several parts.
+
 ghost use Rattle.std.specs.Prelude.{◌≡◌};
 ghost use Rattle.policy.specs.steps.Part.{refusal_at};
 

@@ -1,10 +1,11 @@
-ghost use Rattle.std.specs.Prelude.{◌≡◌, ℕ, List, Some, option_copied, MatchResult, IfOk, filter};
+//! Showing and listing authorizations.
+
+ghost use Rattle.std.specs.Prelude.{◌≡◌, Some, option_copied, MatchResult, IfOk, filter};
 ghost use Rattle.charters.specs.declared.charter.Charter.{Charter as CharterValue};
-ghost use Rattle.registry.specs.History.{History};
 ghost use Rattle.registry.specs.Permission.{is_permitted_terms};
-ghost use Rattle.registry.specs.Rows.{rows_if_any, RowsIfAny};
-ghost use Rattle.registry.specs.Verdict.{IsLegal, ShowVerdict};
-ghost use Rattle.registry.specs.Answer.{IsShown, IsListed, IsListRefusal};
+ghost use Rattle.registry.specs.Rows.{rows_if_any};
+ghost use Rattle.registry.specs.Verdict.{ShowVerdict};
+ghost use Rattle.registry.specs.Answer.{OfRows, IsShown, IsListed, IsListRefusal};
 
 use crate::admission::{auth_with_access, rows_with_access};
 use crate::{Access, Auth, Granted, HolderRows, Refusal, Rule};
@@ -20,10 +21,10 @@ pub fn see<'a>(
     caller: &Name,
     number: u32,
 ) -> Result<&'a Auth, Rule>
-    ensures { (charter : CharterValue) (history : History) (h : List ℕ) → IsLegal charter history
-        → RowsIfAny history h (rows_if_any (option_copied rows.entry))
-        → MatchResult result (λ x. IsShown history h day caller.now number x.now)
-        (λ rule. ShowVerdict history h day caller.now number (Some rule)) }
+    ensures { (charter : CharterValue) → OfRows charter (rows_if_any (option_copied rows.entry))
+        (λ history h. MatchResult result
+        (λ x. IsShown history h day caller.now number x.now)
+        (λ rule. ShowVerdict history h day caller.now number (Some rule))) }
 {
     let rows = rows_with_access(rows, day, caller, Access::Look)?;
     auth_with_access(rows, day, caller, Access::Look, number)
@@ -53,10 +54,10 @@ pub fn see_all(
     day: Day,
     caller: &Name,
 ) -> Result<Vec<Auth>, Refusal>
-    ensures { (charter : CharterValue) (history : History) (h : List ℕ) → IsLegal charter history
-        → RowsIfAny history h (rows_if_any (option_copied rows.entry))
-        → MatchResult result (λ seen. IsListed history h day caller.now seen.items)
-        (λ refusal. IsListRefusal history h day caller.now refusal) }
+    ensures { (charter : CharterValue) → OfRows charter (rows_if_any (option_copied rows.entry))
+        (λ history h. MatchResult result
+        (λ seen. IsListed history h day caller.now seen.items)
+        (λ refusal. IsListRefusal history h day caller.now refusal)) }
 {
     let rows = rows_with_access(rows, day, caller, Access::Look)?;
     Ok(permitted_auths(alloc, &rows.auths, &rows.grants, day, caller)?)

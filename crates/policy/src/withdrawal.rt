@@ -1,10 +1,12 @@
-ghost use Rattle.std.specs.Prelude.{◌≡◌, ℕ, List, Some, option_copied, MatchResult, IfOk};
+//! Withdrawing an authorization.
+
+ghost use Rattle.std.specs.Prelude.{◌≡◌, Some, option_copied, MatchResult, IfOk};
 ghost use Rattle.registry.specs.declared.change.Edit.{Edit};
 ghost use Rattle.charters.specs.declared.charter.Charter.{Charter as CharterValue};
 ghost use Rattle.registry.specs.declared.command.Command.{Command};
-ghost use Rattle.registry.specs.History.{History};
-ghost use Rattle.registry.specs.Rows.{rows_of, rows_if_any, RowsIfAny, edited};
-ghost use Rattle.registry.specs.Verdict.{IsLegal, Verdict};
+ghost use Rattle.registry.specs.Rows.{rows_of, rows_if_any, edited};
+ghost use Rattle.registry.specs.Answer.{OfRows};
+ghost use Rattle.registry.specs.Verdict.{Verdict};
 ghost use Rattle.policy.specs.steps.Withdrawal.{IsWithdrawn};
 
 use crate::admission::{auth_with_access, rows_with_access};
@@ -18,11 +20,10 @@ pub(crate) fn may_withdraw(
     caller: &Name,
     number: u32,
 ) -> Result<(), Rule>
-    ensures { (charter : CharterValue) (history : History) (h : List ℕ) → IsLegal charter history
-        → RowsIfAny history h (rows_if_any (option_copied rows.entry))
-        → MatchResult result
+    ensures { (charter : CharterValue) → OfRows charter (rows_if_any (option_copied rows.entry))
+        (λ history h. MatchResult result
         (λ _. IsWithdrawn charter history h day caller.now number)
-        (λ rule. Verdict charter history day caller.now (Command.Withdraw h number) (Some rule)) }
+        (λ rule. Verdict charter history day caller.now (Command.Withdraw h number) (Some rule))) }
 {
     let rows = rows_with_access(rows, day, caller, Access::Alter)?;
     auth_with_access(rows, day, caller, Access::Alter, number)?;
@@ -44,11 +45,10 @@ pub(crate) fn withdraw(
 ) -> Result<(), Rule>
     ensures rows { IfOk result
         (λ _. rows_of rows.new ≡ edited (Edit.Withdraw number) (rows_of rows.old)) }
-    ensures judged { (charter : CharterValue) (history : History) (h : List ℕ)
-        → IsLegal charter history → RowsIfAny history h (Some (rows_of rows.old))
-        → MatchResult result
+    ensures judged { (charter : CharterValue) → OfRows charter (Some (rows_of rows.old))
+        (λ history h. MatchResult result
         (λ _. IsWithdrawn charter history h day caller.now number)
-        (λ rule. Verdict charter history day caller.now (Command.Withdraw h number) (Some rule)) }
+        (λ rule. Verdict charter history day caller.now (Command.Withdraw h number) (Some rule))) }
 {
     may_withdraw(Some(rows), day, caller, number)?;
     take_away(rows, number);

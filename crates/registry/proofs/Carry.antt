@@ -8,7 +8,7 @@ use Rattle.registry.specs.declared.authorization.Auth.{Auth}
 use Rattle.registry.specs.declared.change.Change.TheVariants.{Holders, Exceptions as Replace}
 use Rattle.registry.specs.declared.change.Edit.{Edit}
 use Rattle.registry.specs.declared.command.Command.{Command}
-use Rattle.registry.specs.declared.command.Command.TheVariants.{Register, Delegate, Transfer, Reclaim, Grant, Revoke, Create, Amend, Withdraw, Import, Slurm}
+use Rattle.registry.specs.declared.command.Command.TheVariants.{Register, Grant, Revoke, Create, Amend, Withdraw, Slurm}
 use Rattle.registry.specs.declared.grant.Granted.{Granted}
 use Rattle.registry.specs.History.{Entry, History, same_name, registers, is_registered}
 use Rattle.registry.specs.Resources.{resource_holder, is_held_by}
@@ -21,20 +21,16 @@ use Rattle.registry.proofs.Names.{same_name-same, same_name-true, held_by_same}
 use Rattle.registry.proofs.Held.{active-kept}
 
 -- a command registers no holder but the one that it names, and changes no other's grants and terms
-pub stays : (c : Command) (h : List ℕ) (made count : ℕ) (grants : List Granted) (terms : List Auth) → is_this h (holder_of c) ≡ false
+pub keeps_unnamed : (c : Command) (h : List ℕ) (made count : ℕ) (grants : List Granted) (terms : List Auth) → is_this h (holder_of c) ≡ false
     → (registers c h ≡ false) × (grants_after c h made grants ≡ grants) × (granted_after c h made ≡ made)
     × (terms_after c h count terms ≡ terms) × (created_after c h count ≡ count)
-stays (Register holder) h made count grants terms other = (other, refl, refl, refl, refl)
-stays (Delegate holder p) h made count grants terms other = (refl, refl, refl, refl, refl)
-stays (Transfer p giver taker) h made count grants terms other = (refl, refl, refl, refl, refl)
-stays (Reclaim holder p) h made count grants terms other = (refl, refl, refl, refl, refl)
-stays (Grant holder name role scope until) h made count grants terms other = (refl, cond-false _ _ _ other, cond-false _ _ _ other, refl, refl)
-stays (Revoke holder n) h made count grants terms other = (refl, cond-false _ _ _ other, refl, refl, refl)
-stays (Create holder t) h made count grants terms other = (refl, refl, refl, cond-false _ _ _ other, cond-false _ _ _ other)
-stays (Amend holder n max until) h made count grants terms other = (refl, refl, refl, cond-false _ _ _ other, refl)
-stays (Withdraw holder n) h made count grants terms other = (refl, refl, refl, cond-false _ _ _ other, refl)
-stays (Import holder rows) h made count grants terms other = (refl, refl, refl, refl, refl)
-stays (Slurm file) h made count grants terms other = (refl, refl, refl, refl, refl)
+keeps_unnamed (Register holder) h made count grants terms other = (other, refl, refl, refl, refl)
+keeps_unnamed (Grant holder name role scope until) h made count grants terms other = (refl, cond-false _ _ _ other, cond-false _ _ _ other, refl, refl)
+keeps_unnamed (Revoke holder n) h made count grants terms other = (refl, cond-false _ _ _ other, refl, refl, refl)
+keeps_unnamed (Create holder t) h made count grants terms other = (refl, refl, refl, cond-false _ _ _ other, cond-false _ _ _ other)
+keeps_unnamed (Amend holder n max until) h made count grants terms other = (refl, refl, refl, cond-false _ _ _ other, refl)
+keeps_unnamed (Withdraw holder n) h made count grants terms other = (refl, refl, refl, cond-false _ _ _ other, refl)
+keeps_unnamed _ h made count grants terms other = (refl, refl, refl, refl, refl)
 
 -- the command leaves who holds what, as far as this holder goes
 abbrev pub LeavesHeld : Entry → History → List ℕ → Type 0
@@ -50,10 +46,10 @@ active-left e before h active holders terms are =
     subst P (sym terms) kept
 
 -- the rows of a holder that the command does not name
-left : (e : Entry) (before : History) (h : List ℕ) → is_this h (holder_of e.command) ≡ false → LeavesHeld e before h
+rows-unnamed : (e : Entry) (before : History) (h : List ℕ) → is_this h (holder_of e.command) ≡ false → LeavesHeld e before h
     → (rows : Option Rows) → RowsIfAny before h rows → RowsIfAny (e ∷ before) h rows
-left e before h other holders rows are =
-    let same = stays e.command h (grants_made before h) (authorizations_made before h) (grant_terms before h) (authorization_terms before h) other in
+rows-unnamed e before h other holders rows are =
+    let same = keeps_unnamed e.command h (grants_made before h) (authorizations_made before h) (grant_terms before h) (authorization_terms before h) other in
     let registered : is_registered (e ∷ before) h ≡ is_registered before h = ap (λ b. b || is_registered before h) same.0 in
     elim rows as (λ r. RowsIfAny before h r → RowsIfAny (e ∷ before) h r) [
       | None ↦ λ missing. registered ∙ missing
@@ -94,7 +90,7 @@ carries-one e before holder edit at step others = record { holders = carried; ex
               let same = same_name-true holder h t in
               let Q : List ℕ → Type 0 = λ g. RowsIfAny before g rows → RowsIfAny (e ∷ before) g (edited_if_any edit rows) in
               subst P (sym t) (subst Q same (step rows) are)
-          | inr f ↦ subst P (sym f) (left e before h (not_named holder h e before at f) (others h f) rows are)
+          | inr f ↦ subst P (sym f) (rows-unnamed e before h (not_named holder h e before at f) (others h f) rows are)
         ]
 
 -- an edit of a registered holder's rows
@@ -145,7 +141,7 @@ carries-two e before one other edit_one edit_other at one_registered other_regis
                     let with_first : P (same_name one h) true = subst (λ (b : Bool). P b true) (sym f) at_other in
                     subst (λ (c : Bool). P (same_name one h) c) (sym u) with_first
                 | inr g ↦
-                    let at_neither : P false false = left e before h (not_named one h e before at f) (others h f g) rows are in
+                    let at_neither : P false false = rows-unnamed e before h (not_named one h e before at f) (others h f g) rows are in
                     let with_first : P (same_name one h) false = subst (λ (b : Bool). P b false) (sym f) at_neither in
                     subst (λ (c : Bool). P (same_name one h) c) (sym g) with_first
               ]
@@ -155,7 +151,7 @@ carries-two e before one other edit_one edit_other at one_registered other_regis
 pub carries-exceptions : (before : History) (day : ℕ) (caller : List ℕ) (file : Exceptions)
     → Carries (Replace file) before (record { day = day; caller = caller; command = Slurm file } ∷ before)
 carries-exceptions before day caller file = record {
-  holders = λ h rows are. left (record { day = day; caller = caller; command = Slurm file }) before h refl (λ a. refl) rows are;
+  holders = λ h rows are. rows-unnamed (record { day = day; caller = caller; command = Slurm file }) before h refl (λ a. refl) rows are;
   exceptions = refl;
 }
 

@@ -5,7 +5,7 @@ use Rattle.std.proofs.lemmas.List.Elements.{All-nil, All-cons, All-contains}
 use Rattle.addr.specs.Address.{Address}
 use Rattle.registry.specs.declared.authorization.Auth.{Auth}
 use Rattle.registry.specs.declared.command.Command.{Command}
-use Rattle.registry.specs.declared.command.Command.TheVariants.{Register, Delegate, Transfer, Reclaim, Grant, Revoke, Create, Amend, Withdraw, Import, Slurm}
+use Rattle.registry.specs.declared.command.Command.TheVariants.{Create, Amend, Withdraw}
 use Rattle.registry.specs.History.{Entry, History, same_name}
 use Rattle.registry.specs.Resources.{resource_holder}
 use Rattle.registry.specs.Terms.{numbered_terms, HoldsTerms, created_after, terms_after, authorizations_made, authorization_terms, amended, HeldSinceMade, Keeps, AreActive}
@@ -14,18 +14,9 @@ use Rattle.registry.proofs.Kept.{Keeps-numbered, Keeps-same}
 
 -- a command takes nothing back
 pub created_after-more : (c : Command) (h : List ℕ) (made : ℕ) → made ≤ created_after c h made
-created_after-more (Register holder) h made = omega arith
-created_after-more (Delegate holder p) h made = omega arith
-created_after-more (Transfer p giver taker) h made = omega arith
-created_after-more (Reclaim holder p) h made = omega arith
-created_after-more (Grant holder name role scope until) h made = omega arith
-created_after-more (Revoke holder n) h made = omega arith
 created_after-more (Create holder terms) h made =
     elim (same_name holder h) as (λ b. made ≤ cond b (made + 1) made) [ true ↦ omega arith | false ↦ omega arith ]
-created_after-more (Amend holder n max until) h made = omega arith
-created_after-more (Withdraw holder n) h made = omega arith
-created_after-more (Import holder rows) h made = omega arith
-created_after-more (Slurm file) h made = omega arith
+created_after-more _ h made = omega arith
 
 pub amended-number : (n max until : ℕ) (x : Auth) → (amended n max until x).number ≡ x.number
 amended-number n max until x =
@@ -37,12 +28,6 @@ amended-prefix n max until x =
 
 -- the numbers rise from 1, up to how many were made
 pub terms_after-numbered : (c : Command) (h : List ℕ) (made : ℕ) (xs : List Auth) → Numbered 0 xs made → Numbered 0 (terms_after c h made xs) (created_after c h made)
-terms_after-numbered (Register holder) h made xs n = n
-terms_after-numbered (Delegate holder p) h made xs n = n
-terms_after-numbered (Transfer p giver taker) h made xs n = n
-terms_after-numbered (Reclaim holder p) h made xs n = n
-terms_after-numbered (Grant holder name role scope until) h made xs n = n
-terms_after-numbered (Revoke holder m) h made xs n = n
 terms_after-numbered (Create holder terms) h made xs n =
     let x = numbered_terms terms (made + 1) in
     elim (same_name holder h) as (λ b. Numbered 0 (cond b (xs ++ x ∷ []) xs) (cond b (made + 1) made))
@@ -53,8 +38,7 @@ terms_after-numbered (Amend holder m max until) h made xs n =
 terms_after-numbered (Withdraw holder m) h made xs n =
     elim (same_name holder h) as (λ b. Numbered 0 (cond b (filter (λ x. not (eqb x.number m)) xs) xs) made)
     [ true ↦ Numbered-filter (λ x. not (eqb x.number m)) 0 xs made n | false ↦ n ]
-terms_after-numbered (Import holder rows) h made xs n = n
-terms_after-numbered (Slurm file) h made xs n = n
+terms_after-numbered _ h made xs n = n
 
 pub authorization_terms-numbered : (history : History) (h : List ℕ) → Numbered 0 (authorization_terms history h) (authorizations_made history h)
 authorization_terms-numbered [] h = omega arith
@@ -89,7 +73,7 @@ pub held_now : (history : History) (h : List ℕ) (x : Auth) → 0 < x.number �
 held_now [] h x positive made since = absurd (omega arith)
 held_now (e ∷ before) h x positive made since = since.0 made
 
--- nothing is asked of what was not made yet
+-- what was not made yet is so without a condition
 pub not_yet_made : (history : History) (h : List ℕ) (x : Auth) → authorizations_made history h < x.number → HeldSinceMade history h x
 not_yet_made [] h x above = tt
 not_yet_made (e ∷ before) h x above =

@@ -17,7 +17,7 @@ use Rattle.registry.specs.HolderEntries.{is_this}
 use Rattle.registry.specs.Verdict.{Verdict}
 use Rattle.registry.specs.Unregistered.{HasNothing, UnregisteredHaveNothing}
 use Rattle.registry.proofs.Names.{same_name-true}
-use Rattle.registry.proofs.Carry.{stays}
+use Rattle.registry.proofs.Carry.{keeps_unnamed}
 
 -- two names of which a test answers differently are two
 pub differ_by : (f : List ℕ → Bool) (g h : List ℕ) → f g ≡ true → f h ≡ false → same_name g h ≡ false
@@ -37,7 +37,7 @@ without_access before day caller holder h has none =
 nothing_stays : (e : Entry) (before : History) (h : List ℕ) → is_this h (holder_of e.command) ≡ false
     → ((a : Address) → is_held_by h (resource_holder (e ∷ before) a) ≡ false) → HasNothing before h → HasNothing (e ∷ before) h
 nothing_stays e before h other holders none =
-    let same = stays e.command h (grants_made before h) (authorizations_made before h) (grant_terms before h) (authorization_terms before h) other in
+    let same = keeps_unnamed e.command h (grants_made before h) (authorizations_made before h) (grant_terms before h) (authorization_terms before h) other in
     record {
       holders = holders;
       grants = same.1 ∙ none.grants;

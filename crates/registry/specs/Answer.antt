@@ -23,7 +23,7 @@ use Rattle.registry.specs.Import.{ImportGrows, IsImportDenied}
 use Rattle.registry.specs.Resources.{IsFree}
 use Rattle.registry.specs.Terms.{grant_terms, grants_made, authorizations_made, OfActive}
 use Rattle.registry.specs.Permission.{is_permitted_terms}
-use Rattle.registry.specs.Verdict.{Verdict, ShowVerdict, ListVerdict, IsLegal, numbered}
+use Rattle.registry.specs.Verdict.{Verdict, ShowVerdict, ListVerdict, IsLegal, auth_of_number}
 use Rattle.registry.specs.Rows.{Rows, rows_of, rows_if_any, RowsOf, RowsIfAny, Carries}
 
 abbrev pub is_transfer : Command → Bool
@@ -86,11 +86,11 @@ abbrev pub IsSparing : Change → Type 0
 IsSparing (Holders first second) = PutsNoneBack first.edit × IfSome second (λ c. PutsNoneBack c.edit)
 IsSparing (Exceptions file) = Unit {0}
 
--- whether some address of a delegation's prefix has a resource holder is told rightly; of any other
--- command it is not asked
-abbrev pub TellsTaken : History → Command → Bool → Type 0
-TellsTaken history (Delegate holder p) taken = MatchBool taken (IsFree history p → ⊥) (IsFree history p)
-TellsTaken history _ taken = Unit {0}
+-- `taken` is true exactly where some address of a delegation's prefix has a resource holder; for any
+-- other command it may be either
+abbrev pub ReportsTaken : History → Command → Bool → Type 0
+ReportsTaken history (Delegate holder p) taken = MatchBool taken (IsFree history p → ⊥) (IsFree history p)
+ReportsTaken history _ taken = Unit {0}
 
 -- the rows are those of the holder, where one is named
 abbrev pub RowsOfNamed : History → Option (List ℕ) → Option Rows → Type 0
@@ -99,7 +99,7 @@ RowsOfNamed history holder rows = IfSome holder (λ h. RowsIfAny history h rows)
 -- what a command is judged on is that of the history
 pub record IsViewOf (history : History) (command : Command) (view : View) : Type 0 where
   pub rows : RowsOfNamed history (holder_of command) (rows_if_any view.holder)
-  pub taken : TellsTaken history command view.taken
+  pub taken : ReportsTaken history command view.taken
 
 -- a change is of holders that the command names, or puts the SLURM file that it brings
 abbrev pub IsOfCommand : Command → Change → Type 0
@@ -154,14 +154,14 @@ IsAnswer charter history day caller command (Err (Denied rule row)) =
 IsAnswer charter history day caller command (Err Memory) = Unit {0}
 IsAnswer charter history day caller command (Ok change) = IsAccepted charter history day caller command change
 
--- the supposed rows are those of the history that the changes would leave, or the first change that would be
--- denied is told
-abbrev pub IsSupposed :
+-- the hypothetical rows are those of the history that the changes would leave; or the rule denies the first
+-- change that would be denied, and the row is its place
+abbrev pub IsHypotheticalAnswer :
     Charter → History → List ℕ → ℕ → List ℕ → List Proposed → Result HolderRows Refusal → Type 0
-IsSupposed charter history holder day caller changes (Err (Denied rule row)) =
+IsHypotheticalAnswer charter history holder day caller changes (Err (Denied rule row)) =
     IsSomeAnd row (λ place. IsChangeDenied charter day caller holder history changes rule place)
-IsSupposed charter history holder day caller changes (Err Memory) = Unit {0}
-IsSupposed charter history holder day caller changes (Ok rows) =
+IsHypotheticalAnswer charter history holder day caller changes (Err Memory) = Unit {0}
+IsHypotheticalAnswer charter history holder day caller changes (Ok rows) =
     (after : History) × HypotheticalHistory charter day caller holder history changes after
     × RowsOf after holder (rows_of rows)
 
@@ -177,7 +177,7 @@ takes_memory _ = false
 -- what is shown is the active authorization of that number
 abbrev pub IsShown : History → List ℕ → ℕ → List ℕ → ℕ → Auth → Type 0
 IsShown history h day caller n x =
-    ShowVerdict history h day caller n None × OfActive history h (λ active. numbered n active ≡ Some x)
+    ShowVerdict history h day caller n None × OfActive history h (λ active. auth_of_number n active ≡ Some x)
 
 -- what is listed are the active authorizations that the caller may see, by rising number
 abbrev pub IsListed : History → List ℕ → ℕ → List ℕ → List Auth → Type 0
@@ -189,6 +189,11 @@ IsListed history h day caller listed =
 abbrev pub IsListRefusal : History → List ℕ → ℕ → List ℕ → Refusal → Type 0
 IsListRefusal history h day caller (Denied rule row) = ListVerdict history h day caller (Some rule) × (row ≡ None)
 IsListRefusal history h day caller Memory = Unit {0}
+
+-- a fact about every legal history, at each holder that has these rows in it
+abbrev pub OfRows : Charter → Option Rows → (History → List ℕ → Type 0) → Type 0
+OfRows charter rows fact =
+    (history : History) (h : List ℕ) → IsLegal charter history → RowsIfAny history h rows → fact history h
 
 -- what is answered is that of every legal history with these rows of the holder
 abbrev pub AnswersRows : Charter → Option Rows → ℕ → List ℕ → Command → Result Change Refusal → Type 0

@@ -1,4 +1,4 @@
--- The VRPs of a day: those of all authorizations in force on it, but for those that some prefix filter
+-- The VRPs of a day: those of all authorizations in force on it, except those that some prefix filter
 -- matches, and all assertions, which no filter removes (RFC 8416 section 4).
 use Rattle.std.specs.Prelude.{ℕ, List, ◌⊎◌, Any, Contains}
 use Rattle.addr.specs.declared.vrp.Vrp.{Vrp}

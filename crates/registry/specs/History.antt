@@ -1,5 +1,5 @@
 -- The history of a desk: its accepted commands, the newest first. A beginning of a history is a tail
--- of the list. Nothing here asks that the commands could have been accepted.
+-- of the list. Nothing here requires that the commands could have been accepted.
 use Rattle.std.specs.Prelude.{ℕ, Bool, false, ◌||◌, List, [], ◌∷◌, nat_eq}
 use Rattle.std.specs.Cmp.Lexicographic.{pointwise}
 use Rattle.registry.specs.declared.command.Command.{Command}

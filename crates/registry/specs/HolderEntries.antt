@@ -14,16 +14,16 @@ is_this h None = false
 is_this h (Some named) = same_name named h
 
 -- the command names the holder, a transfer as giver or taker
-abbrev pub names : List ℕ → Command → Bool
-names h command = is_this h (holder_of command) || is_this h (taker_of command)
+abbrev pub names_holder : List ℕ → Command → Bool
+names_holder h command = is_this h (holder_of command) || is_this h (taker_of command)
 
 -- the entries that name the holder, in their order
 abbrev pub entries_naming : List ℕ → History → History
-entries_naming h history = filter (λ e. names h e.command) history
+entries_naming h history = filter (λ e. names_holder h e.command) history
 
 -- the entries that name one of two holders, in their order
 abbrev pub entries_naming_either : List ℕ → List ℕ → History → History
-entries_naming_either g h history = filter (λ e. names g e.command || names h e.command) history
+entries_naming_either g h history = filter (λ e. names_holder g e.command || names_holder h e.command) history
 
 -- the entries that name the holder; none where no holder is named
 abbrev pub entries_of : Option (List ℕ) → History → History
@@ -35,7 +35,7 @@ abbrev pub entries_for : Command → History → History
 entries_for (Transfer p giver taker) history = entries_naming_either giver taker history
 entries_for command history = entries_of (holder_of command) history
 
--- the holder that a query names; none where it asks about all holders
+-- the holder that a query names; none where it is about all holders
 abbrev pub holder_asked : Query → Option (List ℕ)
 holder_asked (Show h n) = Some h
 holder_asked (Content h n) = Some h

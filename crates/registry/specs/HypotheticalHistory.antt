@@ -12,17 +12,17 @@ use Rattle.registry.specs.History.{History}
 use Rattle.registry.specs.Verdict.{Verdict}
 
 -- the command that makes a change at a holder
-abbrev pub proposed_command : List ℕ → Proposed → Command
-proposed_command holder (ProposedCreate terms) = Create holder terms
-proposed_command holder (ProposedWithdraw n) = Withdraw holder n
+abbrev pub hypothetical_command : List ℕ → Proposed → Command
+hypothetical_command holder (ProposedCreate terms) = Create holder terms
+hypothetical_command holder (ProposedWithdraw n) = Withdraw holder n
 
 abbrev pub JudgesChange :
     Charter → ℕ → List ℕ → List ℕ → History → Proposed → Result (Option Command) Rule → Type 0
 JudgesChange charter day caller holder history change (Ok None) = ⊥
 JudgesChange charter day caller holder history change (Ok (Some command)) =
-    (command ≡ proposed_command holder change) × Verdict charter history day caller command None
+    (command ≡ hypothetical_command holder change) × Verdict charter history day caller command None
 JudgesChange charter day caller holder history change (Err rule) =
-    Verdict charter history day caller (proposed_command holder change) (Some rule)
+    Verdict charter history day caller (hypothetical_command holder change) (Some rule)
 
 -- the changes at a holder would leave this history
 abbrev pub HypotheticalHistory :

@@ -16,16 +16,16 @@ use Rattle.registry.specs.Permission.{is_permitted}
 use Rattle.registry.specs.Terms.{gives_vrp, grant_terms, row_terms, OfActive}
 use Rattle.registry.specs.Verdict.{Verdict}
 
--- the create of a row at a holder
-abbrev pub creation : List ℕ → ImportRow → Command
-creation holder row = Create holder (row_terms row)
+-- the command that makes the authorization of a row at a holder
+abbrev pub row_command : List ℕ → ImportRow → Command
+row_command holder row = Create holder (row_terms row)
 
 -- the authorization has these terms, all five of them
 abbrev pub has_terms : AuthTerms → Auth → Bool
 has_terms t x = gives_vrp x t.asn t.prefix t.max && ((x.from == t.from) && (x.until == t.until))
 
 -- Already authorized: rule `scope` holds, and with it `grant`; and an active authorization has the terms. Its
--- days are not asked, nor is any other rule.
+-- days do not matter, nor does any other rule.
 abbrev pub IsPresent : ℕ → List ℕ → List ℕ → History → ImportRow → Type 0
 IsPresent day caller holder history row =
     (is_permitted (grant_terms history holder) day caller Alter row.prefix ≡ true)
@@ -36,11 +36,11 @@ abbrev pub JudgesRow :
     Charter → ℕ → List ℕ → List ℕ → History → ImportRow → Result (Option Command) Rule → Type 0
 JudgesRow charter day caller holder history row (Ok None) = IsPresent day caller holder history row
 JudgesRow charter day caller holder history row (Ok (Some command)) =
-    ¬ IsPresent day caller holder history row × (command ≡ creation holder row)
+    ¬ IsPresent day caller holder history row × (command ≡ row_command holder row)
     × Verdict charter history day caller command None
 JudgesRow charter day caller holder history row (Err rule) =
     ¬ IsPresent day caller holder history row
-    × Verdict charter history day caller (creation holder row) (Some rule)
+    × Verdict charter history day caller (row_command holder row) (Some rule)
 
 -- the rows of an import at a holder grow a history into this one
 abbrev pub ImportGrows : Charter → ℕ → List ℕ → List ℕ → History → List ImportRow → History → Type 0

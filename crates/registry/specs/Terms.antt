@@ -109,7 +109,7 @@ HeldSinceMade (e ∷ before) h x =
     (x.number ≤ authorizations_made (e ∷ before) h → HoldsTerms (e ∷ before) h x) × HeldSinceMade before h x
 
 -- active: made, not withdrawn since, and held by its holder in every beginning that has its making
--- (RFC 9582 section 5 asks that a ROA's prefixes lie within the resources of its holder)
+-- (RFC 9582 section 5: a ROA's prefixes lie within the resources of its holder)
 abbrev pub IsActive : History → List ℕ → Auth → Type 0
 IsActive history h x = Contains (authorization_terms history h) x × HeldSinceMade history h x
 

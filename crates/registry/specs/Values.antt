@@ -51,12 +51,13 @@ pub record ExceptionsFit (exceptions : Exceptions) : Type 0 where
   pub filters : All FilterFits exceptions.filters
   pub assertions : All VrpFits exceptions.assertions
 
--- the terms of an authorization, as they are asked for
+-- the terms of an authorization, as they are requested
 abbrev pub TermsFit : AuthTerms → Type 0
 TermsFit t = IsU32 t.asn.0 × IsU8 t.max × IsDay t.from × IsDay t.until
 
-abbrev pub RowOfImportFits : ImportRow → Type 0
-RowOfImportFits r = TermsFit (row_terms r)
+-- a row of an import
+abbrev pub ImportRowFits : ImportRow → Type 0
+ImportRowFits r = TermsFit (row_terms r)
 
 -- the values of a command are those of their types; prefixes are so anyhow
 abbrev pub CommandFits : Command → Type 0
@@ -69,7 +70,7 @@ CommandFits (Revoke holder n) = IsTrue (is_name holder) × IsU32 n
 CommandFits (Create holder terms) = IsTrue (is_name holder) × TermsFit terms
 CommandFits (Amend holder n max until) = IsTrue (is_name holder) × IsU32 n × IsU8 max × IsDay until
 CommandFits (Withdraw holder n) = IsTrue (is_name holder) × IsU32 n
-CommandFits (Import holder rows) = IsTrue (is_name holder) × All RowOfImportFits rows.items
+CommandFits (Import holder rows) = IsTrue (is_name holder) × All ImportRowFits rows.items
 CommandFits (Slurm file) = ExceptionsFit file
 
 pub record EntryFits (e : Entry) : Type 0 where

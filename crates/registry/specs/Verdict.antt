@@ -19,13 +19,13 @@ use Rattle.registry.specs.Resources.{HoldsPrefix, IsFree}
 use Rattle.registry.specs.Terms.{gives_vrp, share_vrp, grant_terms, grants_made, authorizations_made, OfActive}
 use Rattle.registry.specs.Permission.{has_access, is_permitted, is_permitted_terms}
 
--- asks a rule and then the others: all hold where this one does and the others do; and the first that
--- does not hold is this one where it does not, else the first of the others
+-- a rule before others: all hold where this one does and the others do; and the first that does not
+-- hold is this one where it does not, else the first of the others
 abbrev pub ask : Rule → Type 0 → (Option Rule → Type 0) → Option Rule → Type 0
 ask rule P rest None = P × rest None
 ask rule P rest (Some first) = ((P → ⊥) × (first ≡ rule)) ⊎ (P × rest (Some first))
 
--- no rule is left to ask
+-- no rule is left
 abbrev pub accept : Option Rule → Type 0
 accept None = Unit {0}
 accept (Some first) = ⊥
@@ -40,12 +40,12 @@ is_steward charter history day caller holder =
     is_operator charter caller || has_access (grant_terms history holder) day caller Manage
 
 -- the authorization of this number in a list
-abbrev pub numbered : ℕ → List Auth → Option Auth
-numbered n auths = find (λ x. x.number == n) auths
+abbrev pub auth_of_number : ℕ → List Auth → Option Auth
+auth_of_number n auths = find (λ x. x.number == n) auths
 
 -- the holder has an active authorization of this number, and of it the fact holds
 abbrev pub OfNumber : History → List ℕ → ℕ → (Auth → Type 0) → Type 0
-OfNumber history holder n P = OfActive history holder (λ active. IsSomeAnd (numbered n active) P)
+OfNumber history holder n P = OfActive history holder (λ active. IsSomeAnd (auth_of_number n active) P)
 
 -- of an active authorization of this number the caller has the access to each prefix of the terms
 abbrev pub HasAccessTo : History → List ℕ → ℕ → List ℕ → Access → ℕ → Type 0
@@ -101,7 +101,7 @@ Verdict charter history day caller (Amend holder n max until) =
     ask Number (HasAccessTo history holder day caller Alter n) (
     ask Dates (OfNumber history holder n (λ x. (x.from ≤ until) × (day ≤ until))) (
     ask Length (OfNumber history holder n (λ x. terms_fit_length x max ≡ true)) (
-    ask Same (OfActive history holder (λ active. IsSomeAnd (numbered n active) (λ x.
+    ask Same (OfActive history holder (λ active. IsSomeAnd (auth_of_number n active) (λ x.
     list_any (λ y. not (y.number == n) && share_vrp (record x { max = max; until = until }) y) active ≡ false)))
     accept))))
 Verdict charter history day caller (Withdraw holder n) =

@@ -1,7 +1,9 @@
+//! Requests, each with its day and its caller.
+
 use crate::{Command, Query};
 use addr::{Day, Name};
 
-/// What a caller asks of the desk.
+/// What a caller requests.
 #[derive(Debug, Drop)]
 pub enum Request {
     Command(Command),

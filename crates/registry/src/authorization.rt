@@ -1,3 +1,5 @@
+//! Authorizations and their terms.
+
 ghost use Rattle.std.specs.Prelude.{◌≡◌, ◌≤◌, ◌↔◌, ◌&&◌, true, IsTrue, IsSome, IfSome};
 ghost use Rattle.registry.specs.Import.{has_terms};
 ghost use Rattle.registry.specs.Terms.{numbered_terms, row_terms, terms_overlap, gives_vrp, share_vrp, IsVrpOf};
@@ -12,7 +14,7 @@ pub struct Auth {
     pub number: u32,
     pub asn: Asn,
     pub prefix: Prefix,
-    /// The maxLength as it was asked for; the rule `length` judges it.
+    /// The maxLength as it was requested; the rule `length` judges it.
     pub max: u8,
     /// The first day in force.
     pub from: Day,
@@ -25,7 +27,7 @@ pub struct Auth {
 pub struct AuthTerms {
     pub asn: Asn,
     pub prefix: Prefix,
-    /// The maxLength as it is asked for; the rule `length` judges it.
+    /// The maxLength as it is requested; the rule `length` judges it.
     pub max: u8,
     /// The first day in force.
     pub from: Day,
@@ -38,7 +40,7 @@ pub struct AuthTerms {
 pub struct ImportRow {
     pub asn: Asn,
     pub prefix: Prefix,
-    /// The maxLength as it is asked for; the rule `length` judges it.
+    /// The maxLength as it is requested; the rule `length` judges it.
     pub max: u8,
     /// The first day in force.
     pub from: Day,

@@ -1,3 +1,5 @@
+//! What accepted commands do to rows.
+
 use crate::{Auth, Granted};
 use addr::{Name, Span};
 use slurm::Slurm;
@@ -7,8 +9,8 @@ use slurm::Slurm;
 pub enum Edit {
     /// Puts the holder's row. It has no other rows, and both counters are 0.
     Register,
-    /// Takes away these runs of addresses, puts those that stand in their place, and takes away
-    /// the authorizations of these numbers. A run that stays is in neither list.
+    /// Takes away these runs of addresses, puts others in their place, and takes away the
+    /// authorizations of these numbers. A run that stays is in neither list.
     Hold {
         removed: Vec<Span>,
         added: Vec<Span>,

@@ -1,3 +1,5 @@
+//! Commands and queries.
+
 ghost use Rattle.std.specs.Prelude.{◌≡◌};
 
 use crate::{AuthTerms, ImportRow, Role, Scope};
@@ -114,7 +116,7 @@ impl Command {
     ghost use Rattle.std.specs.Prelude.{option_copied};
     ghost use Rattle.registry.specs.Answer.{is_transfer, holder_of};
 
-    /// Whether `decide_two` is asked, with the rows of two holders, and not `decide`.
+    /// Whether `decide_two` decides the command, on the rows of two holders, and not `decide`.
     pub fn is_transfer(&self) -> bool
         ensures { result ≡ is_transfer self.now }
     {

@@ -1,3 +1,5 @@
+//! Grants, and the access that they give.
+
 ghost use Rattle.std.specs.Prelude.{◌≡◌};
 ghost use Rattle.registry.specs.Permission.{allowed_roles, scope_has, is_current, gives_access, has_access, is_permitted};
 
@@ -30,7 +32,7 @@ pub struct Granted {
     pub until: Day,
 }
 
-/// What a grant is asked for.
+/// What a request needs a grant for.
 #[derive(Clone, Copy, Debug, PartialEq, Eq)]
 pub enum Access {
     /// To make and revoke grants.

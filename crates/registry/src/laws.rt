@@ -5,7 +5,7 @@ ghost use Rattle.registry.specs.Unregistered.{UnregisteredHaveNothing};
 ghost use Rattle.registry.specs.Values.{EntryFits};
 
 use crate::Command;
-use crate::values::{tell_command, tell_day, tell_name};
+use crate::values::{command_fits, day_fits, name_fits};
 use addr::{Day, Name};
 
 /// A holder that is not registered in a legal history has no address, no grant and no
@@ -18,7 +18,7 @@ pub fn unregistered_have_nothing()
 pub fn entry_fits(day: Day, caller: &Name, command: &Command)
     ensures { EntryFits (record { day = day; caller = caller.now; command = command.now }) }
 {
-    tell_day(day);
-    tell_name(caller);
-    tell_command(command);
+    day_fits(day);
+    name_fits(caller);
+    command_fits(command);
 }

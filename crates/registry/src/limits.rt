@@ -1,3 +1,5 @@
+//! The limits of the rule `room`.
+
 /// How many grants that are not revoked a holder may have.
 pub const MOST_GRANTS: usize = 64;
 

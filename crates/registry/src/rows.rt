@@ -1,3 +1,5 @@
+//! The rows of a holder.
+
 use crate::{Auth, Granted};
 use addr::Holdings;
 use std::alloc::AllocError;

@@ -1,17 +1,19 @@
+//! The rules, and why a request is refused.
+
 ghost use Rattle.std.specs.Prelude.{◌≡◌, None};
 ghost use Rattle.registry.specs.declared.rule.Refusal.TheVariants.{Denied, Memory};
 
 use std::alloc::{AllocError, AllocFailed};
 use std::fmt;
 
-/// The rules of admission. Each request has a line of them; the first that does not hold is told.
+/// The rules of admission. Each request has a line of them; the first that does not hold denies it.
 #[derive(Clone, Copy, Debug, PartialEq, Eq)]
 pub enum Rule {
     /// The caller is an operator of the desk.
     Operator,
     /// The caller is an operator, or a manager at the holder.
     Steward,
-    /// Some grant gives the caller the access that is wanted, whatever its scope.
+    /// Some grant gives the caller the access that the request needs, whatever its scope.
     Grant,
     /// Each holder that is named is registered.
     Holder,
@@ -81,7 +83,7 @@ impl fmt::Display for Rule {
     }
 }
 
-/// Why a request was not decided for.
+/// Why a request was refused.
 #[derive(Clone, Copy, Debug, PartialEq, Eq)]
 pub enum Refusal {
     /// The first rule that does not hold, and for a request of several rows the row, from 1.

@@ -1,24 +1,25 @@
-// A contract sees a day, a name and a number of a type as any number and any text, so a proof that
-// rests on what their types promise is told of it here.
+//! The ranges that the types of values promise. Elsewhere a contract sees a day, a name and a number
+//! of a type as any number and any text.
+
 ghost use Rattle.std.specs.Prelude.{All, IsTrue};
 ghost use Rattle.addr.specs.Day.{IsDay};
 ghost use Rattle.addr.specs.Name.{is_name};
-ghost use Rattle.registry.specs.Values.{IsU8, IsU32, CommandFits, ExceptionsFit, FilterFits, RowOfImportFits, TermsFit, VrpFits};
+ghost use Rattle.registry.specs.Values.{IsU8, IsU32, CommandFits, ExceptionsFit, FilterFits, ImportRowFits, TermsFit, VrpFits};
 
 use crate::{AuthTerms, Command, ImportRow};
 use addr::{Day, Name, Vrp};
 use slurm::{Filter, Slurm};
 
-pub(crate) fn tell_command(command: &Command)
+pub(crate) fn command_fits(command: &Command)
     ensures { CommandFits command.now }
 {
     match command {
         Command::Register { holder }
         | Command::Delegate { holder, .. }
-        | Command::Reclaim { holder, .. } => tell_name(holder),
+        | Command::Reclaim { holder, .. } => name_fits(holder),
         Command::Transfer { giver, taker, .. } => {
-            tell_name(giver);
-            tell_name(taker);
+            name_fits(giver);
+            name_fits(taker);
         }
         Command::Grant {
             holder,
@@ -26,17 +27,17 @@ pub(crate) fn tell_command(command: &Command)
             until,
             ..
         } => {
-            tell_name(holder);
-            tell_name(name);
-            tell_day(*until);
+            name_fits(holder);
+            name_fits(name);
+            day_fits(*until);
         }
         Command::Revoke { holder, number } | Command::Withdraw { holder, number } => {
-            tell_name(holder);
-            tell_number(*number);
+            name_fits(holder);
+            number_fits(*number);
         }
         Command::Create { holder, terms } => {
-            tell_name(holder);
-            tell_terms(terms);
+            name_fits(holder);
+            terms_fit(terms);
         }
         Command::Amend {
             holder,
@@ -44,90 +45,90 @@ pub(crate) fn tell_command(command: &Command)
             max,
             until,
         } => {
-            tell_name(holder);
-            tell_number(*number);
-            tell_max_length(*max);
-            tell_day(*until);
+            name_fits(holder);
+            number_fits(*number);
+            max_length_fits(*max);
+            day_fits(*until);
         }
         Command::Import { holder, rows } => {
-            tell_name(holder);
-            tell_rows(rows);
+            name_fits(holder);
+            rows_fit(rows);
         }
-        Command::Slurm { file } => tell_exceptions(file),
+        Command::Slurm { file } => exceptions_fit(file),
     }
 }
 
-pub(crate) fn tell_name(name: &Name)
+pub(crate) fn name_fits(name: &Name)
     ensures { IsTrue (is_name name.now) }
 {
     let _ = name.as_bytes();
 }
 
-pub(crate) fn tell_day(day: Day)
+pub(crate) fn day_fits(day: Day)
     ensures { IsDay day }
 {
     let _ = day.number();
 }
 
-fn tell_number(number: u32)
+fn number_fits(number: u32)
     ensures { IsU32 number }
 {}
 
-fn tell_max_length(max: u8)
+fn max_length_fits(max: u8)
     ensures { IsU8 max }
 {}
 
-fn tell_rows(rows: &[ImportRow])
-    ensures { All RowOfImportFits rows.now }
+fn rows_fit(rows: &[ImportRow])
+    ensures { All ImportRowFits rows.now }
 {
     for row in rows {
-        tell_row(row);
+        row_fits(row);
     }
 }
 
-fn tell_row(row: &ImportRow)
-    ensures { RowOfImportFits row.now }
+fn row_fits(row: &ImportRow)
+    ensures { ImportRowFits row.now }
 {
-    tell_terms(&row.terms());
+    terms_fit(&row.terms());
 }
 
-fn tell_terms(terms: &AuthTerms)
+fn terms_fit(terms: &AuthTerms)
     ensures { TermsFit terms.now }
 {
-    tell_number(terms.asn.0);
-    tell_max_length(terms.max);
-    tell_day(terms.from);
-    tell_day(terms.until);
+    number_fits(terms.asn.0);
+    max_length_fits(terms.max);
+    day_fits(terms.from);
+    day_fits(terms.until);
 }
 
-fn tell_exceptions(file: &Slurm)
+fn exceptions_fit(file: &Slurm)
     ensures { ExceptionsFit file.now }
 {
-    tell_filters(file.filters());
-    tell_assertions(file.assertions());
+    filters_fit(file.filters());
+    assertions_fit(file.assertions());
 }
 
-fn tell_filters(filters: &[Filter])
+fn filters_fit(filters: &[Filter])
     ensures { All FilterFits filters.now }
 {
     for filter in filters {
-        tell_filter(filter);
+        filter_fits(filter);
     }
 }
 
-fn tell_filter(filter: &Filter)
+fn filter_fits(filter: &Filter)
     ensures { FilterFits filter.now }
 {
     match filter {
         Filter::Under(_) => {}
-        Filter::By(asn) | Filter::Both(_, asn) => tell_number(asn.0),
+        Filter::By(asn) | Filter::Both(_, asn) => number_fits(asn.0),
     }
 }
 
-fn tell_assertions(assertions: &[Vrp])
+fn assertions_fit(assertions: &[Vrp])
     ensures { All VrpFits assertions.now }
 {
     for assertion in assertions {
-        tell_number(assertion.asn.0);
+        number_fits(assertion.asn.0);
     }
 }

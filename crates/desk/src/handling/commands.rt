@@ -1,5 +1,5 @@
 ghost use Rattle.std.specs.Prelude.{◌≡◌, true, false, option_copied, IfOk, IfErr, MatchResult};
-ghost use Rattle.registry.specs.Answer.{IsAccepted, IsViewOf, RowsOfNamed, TellsTaken};
+ghost use Rattle.registry.specs.Answer.{IsAccepted, IsViewOf, RowsOfNamed, ReportsTaken};
 ghost use Rattle.registry.specs.Rows.{rows_if_any, RowsIfAny};
 ghost use Rattle.store.specs.StoreRows.{IsRead};
 ghost use Rattle.desk.specs.Answer.{is_accepted, AnswersCommand, IsAnswered};
@@ -129,7 +129,7 @@ impl<S: Alter> Desk<S> {
     fn is_taken(&mut self, command: &Command) -> Result<bool, StoreFault>
         ensures read { IsRead S.Store self.old.store self.new.store }
         ensures taken { IfOk result (λ taken. OfHistories S.Store self.old self.new (λ history.
-            TellsTaken history command.now taken)) }
+            ReportsTaken history command.now taken)) }
     {
         match command {
             Command::Delegate { prefix, .. } => self.store.overlapping(prefix),

@@ -1,5 +1,6 @@
-// Imports: each row is judged on the rows that those before it left.
-ghost use Rattle.std.specs.Prelude.{◌≡◌, ℕ, List, Some, Err, option_copied};
+//! Imports: each row is judged on the rows that those before it left.
+
+ghost use Rattle.std.specs.Prelude.{◌≡◌, Some, Err, option_copied};
 ghost use Rattle.std.specs.Global.{Vec};
 ghost use Rattle.registry.specs.declared.authorization.ImportRow.{ImportRow as ImportRowValue};
 ghost use Rattle.charters.specs.declared.charter.Charter.{Charter as CharterValue};
@@ -8,7 +9,7 @@ ghost use Rattle.registry.specs.History.{History};
 ghost use Rattle.registry.specs.Import.{JudgesRow};
 ghost use Rattle.registry.specs.Verdict.{IsLegal};
 ghost use Rattle.registry.specs.Rows.{rows_of, rows_if_any, RowsIfAny};
-ghost use Rattle.registry.specs.Answer.{IsAnswer};
+ghost use Rattle.registry.specs.Answer.{OfRows, IsAnswer};
 ghost use Rattle.policy.specs.steps.Import.{AnswersImport, IsRowDone};
 ghost use Rattle.policy.specs.steps.Part.{Judged};
 
@@ -29,12 +30,11 @@ fn import_row(
     caller: &Name,
     row: &ImportRow,
 ) -> Result<(), Refusal>
-    ensures { (charter : CharterValue) (history : History) (h : List ℕ) → IsLegal charter history
-        → RowsIfAny history h (Some (rows_of rows.old))
-        → Judged
+    ensures { (charter : CharterValue) → OfRows charter (Some (rows_of rows.old)) (λ history h.
+        Judged
         (λ _. IsRowDone charter history h day caller.now row.now auths.old auths.new
         (rows_of rows.old) (rows_of rows.new))
-        (λ rule. JudgesRow charter day caller.now h history row.now (Err rule)) result }
+        (λ rule. JudgesRow charter day caller.now h history row.now (Err rule)) result) }
 {
     if is_present(rows, day, caller, row) {
         return Ok(());
@@ -52,9 +52,8 @@ fn import_rows(
     caller: &Name,
     listed: &[ImportRow],
 ) -> Result<Edit, Refusal>
-    ensures { (charter : CharterValue) (history : History) (h : List ℕ) → IsLegal charter history
-        → RowsIfAny history h (Some (rows_of before.now))
-        → AnswersImport charter history h day caller.now listed.now result }
+    ensures { (charter : CharterValue) → OfRows charter (Some (rows_of before.now))
+        (λ history h. AnswersImport charter history h day caller.now listed.now result) }
 {
     let mut rows = before.clone()?;
     let mut auths = Vec::new(alloc);
@@ -81,9 +80,8 @@ fn import_edit(
     caller: &Name,
     listed: &[ImportRow],
 ) -> Result<Edit, Refusal>
-    ensures { (charter : CharterValue) (history : History) (h : List ℕ) → IsLegal charter history
-        → RowsIfAny history h (rows_if_any (option_copied rows.entry))
-        → AnswersImport charter history h day caller.now listed.now result }
+    ensures { (charter : CharterValue) → OfRows charter (rows_if_any (option_copied rows.entry))
+        (λ history h. AnswersImport charter history h day caller.now listed.now result) }
 {
     match rows {
         Some(before) => import_rows(alloc, before, day, caller, listed),

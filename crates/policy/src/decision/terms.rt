@@ -1,4 +1,5 @@
-// What a grant is to say, before it has a number.
+//! What a grant is to say, before it has a number.
+
 ghost use Rattle.std.specs.Prelude.{◌≡◌};
 
 use crate::{Granted, Role, Scope};

@@ -3,7 +3,7 @@ use Rattle.std.proofs.lemmas.Bool.{false≢true}
 use Rattle.registry.specs.Permission.{is_permitted_terms}
 use Rattle.registry.specs.Rows.{rows_of}
 use Rattle.registry.specs.Terms.{grant_terms}
-use Rattle.registry.specs.Verdict.{numbered}
+use Rattle.registry.specs.Verdict.{auth_of_number}
 use Rattle.policy.proofs.RowsLemmas.{number-from, number-none}
 use Rattle.policy.proofs.admission.auth_with_access.Goals as goal
 
@@ -11,7 +11,7 @@ pub returns-else-is_permitted : goal.returns-else-is_permitted
 returns-else-is_permitted c history h are =
     let a = c.args in
     let x = c.in-Some.auth.now in
-    let found = ap (numbered a.number) (sym c.deref.ensures.value) ∙ sym c.in-Some.ensures in (
+    let found = ap (auth_of_number a.number) (sym c.deref.ensures.value) ∙ sym c.in-Some.ensures in (
       λ of.
           let reached = number-from history h (rows_of a.rows.now) a.number x
           (λ y. is_permitted_terms (grant_terms history h) a.day a.caller.now a.access y ≡ true) are found of in
@@ -23,7 +23,7 @@ returns-else-is_permitted c history h are =
 pub returns-in-None : goal.returns-in-None
 returns-in-None c history h are =
     let a = c.args in
-    let missing = ap (numbered a.number) (sym c.deref.ensures.value) ∙ sym c.in-None.ensures in (
+    let missing = ap (auth_of_number a.number) (sym c.deref.ensures.value) ∙ sym c.in-None.ensures in (
       λ of. number-none history h (rows_of a.rows.now) a.number
           (λ y. is_permitted_terms (grant_terms history h) a.day a.caller.now a.access y ≡ true) are missing of,
       refl,

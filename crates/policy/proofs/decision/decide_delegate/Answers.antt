@@ -9,13 +9,13 @@ use Rattle.policy.proofs.CarrySpace.{sparing, carries-delegate}
 use Rattle.policy.proofs.decision.decide_delegate.Goals as goal
 
 pub returns : goal.returns
-returns c history legal are told =
+returns c history legal are taken =
     let a = c.args in
     let h = a.holder.name.now in
     let p = a.prefix.now in
     let had = c.in_ok-rows.ensures history h are in
     let pool = c.has_in_pool.ensures.0 c.in_ok-require-2.ensures in
-    let free = when_false (IsFree history p → ⊥) (IsFree history p) (not-true a.taken c.in_ok-require-3.ensures) told in
+    let free = when_false (IsFree history p → ⊥) (IsFree history p) (not-true a.taken c.in_ok-require-3.ensures) taken in
     subst (IsAccepted a.basis.charter.now history a.basis.day a.basis.caller.now (Delegate h p)) (sym c.change_of.ensures) (record {
       after = _;
       leaves = ((sym c.is_operator.ensures ∙ c.in_ok-require.ensures, (had.0, (pool, (free, tt)))), refl);

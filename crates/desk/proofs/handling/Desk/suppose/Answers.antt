@@ -2,7 +2,7 @@ use Rattle.std.proofs.Common.{◌≡◌, Err, sym, ◌∙◌, subst}
 use Rattle.std.proofs.lemmas.Bool.{eqb-true}
 use Rattle.std.proofs.lemmas.Result.{err_from_is_err_and}
 use Rattle.payload.specs.VrpSet as set
-use Rattle.registry.specs.Answer.{IsSupposed}
+use Rattle.registry.specs.Answer.{IsHypotheticalAnswer}
 use Rattle.registry.specs.Rows.{rows_if_any, rows_of}
 use Rattle.charters.specs.declared.charter.Charter.{Charter}
 use Rattle.desk.specs.Desk.{charter_of}
@@ -22,7 +22,7 @@ returns-in_err-rows-clause-found g c clean history legal held =
     let refused = err_from_is_err_and c.from_residual-in_err-rows.result c.from_residual-in_err-rows.ensures.1 in
     let supposed = c.in_err-rows.ensures history c.args.holder.now (rw same legal) rows in
     rw (refused.1, refused.2) (supposed_refused charter history c.args.holder.now c.args.day c.args.caller.now c.args.changes.now c.in_err-rows.field-0.0
-    (subst (λ (k : Charter). IsSupposed k history c.args.holder.now c.args.day c.args.caller.now c.args.changes.now (Err c.in_err-rows.field-0.0)) same supposed))
+    (subst (λ (k : Charter). IsHypotheticalAnswer k history c.args.holder.now c.args.day c.args.caller.now c.args.changes.now (Err c.in_err-rows.field-0.0)) same supposed))
 
 pub returns-clause-found : goal.returns-clause-found
 returns-clause-found g c clean history legal held =

@@ -1,4 +1,4 @@
-use Rattle.registry.specs.Answer.{TellsTaken}
+use Rattle.registry.specs.Answer.{ReportsTaken}
 use Rattle.desk.proofs.DeskLemmas.{read_then, found_later}
 use Rattle.desk.proofs.handling.Desk.view.Goals as goal
 
@@ -11,6 +11,6 @@ returns-clause-read g c = read_then g.S.Store c.args.self.now.store c.load_named
 pub returns-clause-view : goal.returns-clause-view
 returns-clause-view g c clean history legal held = record {
   rows = rw c.holder.ensures at (c.in_ok-holder.ensures.rows (c.is_taken.ensures.read.clean clean) history legal held);
-  taken = found_later g.S.Store (λ (history : _). TellsTaken history c.args.command.now c.in_ok-taken.taken) c.args.self.now c.load_named.new.self c.is_taken.new.self
+  taken = found_later g.S.Store (λ (history : _). ReportsTaken history c.args.command.now c.in_ok-taken.taken) c.args.self.now c.load_named.new.self c.is_taken.new.self
       c.load_named.ensures.read c.is_taken.ensures.read c.in_ok-taken.ensures.taken clean history legal held;
 }

@@ -1,8 +1,8 @@
 use Rattle.std.proofs.Common.{◌+◌, Some, refl, sym, ap, subst, arith}
 use Rattle.std.proofs.lemmas.List.{take_all}
 use Rattle.registry.specs.Rows.{Rows, rows_of, RowsIfAny}
-use Rattle.policy.proofs.Suppositions.{so_far-more, so_far-denied, denied-unregistered}
-use Rattle.policy.proofs.hypothesis.suppose.Goals as goal
+use Rattle.policy.proofs.Hypothetical.{so_far-more, so_far-denied, denied-unregistered}
+use Rattle.policy.proofs.what_if.suppose.Goals as goal
 
 pub returns-in_default : goal.returns-in_default
 returns-in_default c history h legal are =
@@ -29,7 +29,7 @@ loop-change-preserved c = (
       let so_far = c.loop-change.invariant.1 charter history h legal start in
       let done = c.in_default-done.ensures charter so_far.after h so_far.legal so_far.rows_are in
       so_far-more charter history h c.args.day c.args.caller.now c.args.changes.now c.loop-change.change-index c.change-item.result
-      (rows_of c.loop-change.rows) (rows_of c.suppose_one-done.new.rows) so_far (omega arith) c.change-item.is done,
+      (rows_of c.loop-change.rows) (rows_of c.apply_change-done.new.rows) so_far (omega arith) c.change-item.is done,
 )
 
 pub returns : goal.returns

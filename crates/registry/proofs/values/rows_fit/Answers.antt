@@ -1,13 +1,13 @@
 use Rattle.std.proofs.Common.{arith, subst}
 use Rattle.std.proofs.lemmas.List.{take_all}
 use Rattle.std.proofs.lemmas.List.Elements.{All-more}
-use Rattle.registry.specs.Values.{RowOfImportFits}
-use Rattle.registry.proofs.values.tell_rows.Goals as goal
+use Rattle.registry.specs.Values.{ImportRowFits}
+use Rattle.registry.proofs.values.rows_fit.Goals as goal
 
 pub loop-row-preserved : goal.loop-row-preserved
 loop-row-preserved c =
     let xs = c.args.rows.now in
-    All-more RowOfImportFits xs c.loop-row.row-index c.row-item.result (omega arith) c.loop-row.invariant (subst RowOfImportFits c.row-item.is c.tell_row.ensures)
+    All-more ImportRowFits xs c.loop-row.row-index c.row-item.result (omega arith) c.loop-row.invariant (subst ImportRowFits c.row-item.is c.row_fits.ensures)
 
 pub returns : goal.returns
 returns c = rw (take_all c.loop-row.row-index c.args.rows.now (omega arith)) at c.loop-row.invariant

@@ -9,14 +9,14 @@ use Rattle.registry.specs.declared.rule.Refusal.{Refusal}
 use Rattle.registry.specs.declared.rule.Refusal.TheVariants.{Denied, Memory}
 use Rattle.registry.specs.declared.rule.Rule.TheVariants.{Grant as GrantRule}
 use Rattle.registry.specs.History.{Entry, History, is_registered}
-use Rattle.registry.specs.HypotheticalHistory.{proposed_command, JudgesChange, HypotheticalHistory, IsChangeDenied}
+use Rattle.registry.specs.HypotheticalHistory.{hypothetical_command, JudgesChange, HypotheticalHistory, IsChangeDenied}
 use Rattle.registry.specs.Permission.{has_access}
 use Rattle.registry.specs.Rows.{Rows, RowsIfAny}
 use Rattle.registry.specs.Terms.{grant_terms}
 use Rattle.registry.specs.Verdict.{IsLegal, Verdict}
-use Rattle.registry.specs.Answer.{IsSupposed}
+use Rattle.registry.specs.Answer.{IsHypotheticalAnswer}
 use Rattle.policy.specs.steps.Part.{IsRefusedBy, refusal_at}
-use Rattle.policy.specs.steps.Supposition.{IsSupposedOne}
+use Rattle.policy.specs.steps.HypotheticalChange.{IsHypotheticalChange}
 use Rattle.policy.proofs.Growth.{Grows-more, Grows-denied}
 use Rattle.registry.proofs.Unregistered.{has_nothing}
 
@@ -30,11 +30,11 @@ pub record SoFar (charter : Charter) (history : History) (h : List ℕ) (day : �
 pub so_far-more : (charter : Charter) (history : History) (h : List ℕ) (day : ℕ) (caller : List ℕ) (changes : List Proposed) (i : ℕ) (change : Proposed)
     (before after : Rows) (so_far : SoFar charter history h day caller (take i changes) before)
     → i < length changes → change ≡ get_or changes i change
-    → IsSupposedOne charter so_far.after h day caller change after → SoFar charter history h day caller (take (i + 1) changes) after
+    → IsHypotheticalChange charter so_far.after h day caller change after → SoFar charter history h day caller (take (i + 1) changes) after
 so_far-more charter history h day caller changes i change before after so_far within here one =
-    let e : Entry = record { day = day; caller = caller; command = proposed_command h change } in record {
+    let e : Entry = record { day = day; caller = caller; command = hypothetical_command h change } in record {
       after = e ∷ so_far.after;
-      grows = Grows-more (JudgesChange charter day caller h) day caller history changes i change so_far.after (Some (proposed_command h change)) within here so_far.grows (refl, one.verdict);
+      grows = Grows-more (JudgesChange charter day caller h) day caller history changes i change so_far.after (Some (hypothetical_command h change)) within here so_far.grows (refl, one.verdict);
       legal = (one.verdict, so_far.legal);
       rows_are = one.rows_after;
     }
@@ -44,8 +44,8 @@ pub so_far-denied : (charter : Charter) (history : History) (h : List ℕ) (day 
     (before : Rows) (so_far : SoFar charter history h day caller (take i changes) before)
     → i < length changes → change ≡ get_or changes i change → (place : ℕ) → place ≡ i
     → (refusal : Refusal)
-    → IsRefusedBy (λ rule. Verdict charter so_far.after day caller (proposed_command h change) (Some rule)) refusal
-    → IsSupposed charter history h day caller changes (Err (refusal_at (place + 1) refusal))
+    → IsRefusedBy (λ rule. Verdict charter so_far.after day caller (hypothetical_command h change) (Some rule)) refusal
+    → IsHypotheticalAnswer charter history h day caller changes (Err (refusal_at (place + 1) refusal))
 so_far-denied charter history h day caller changes i change before so_far within here place same (Denied rule _) denied =
     subst (λ (k : ℕ). IsChangeDenied charter day caller h history changes rule (k + 1)) (sym same)
     (Grows-denied (JudgesChange charter day caller h) day caller history changes i change so_far.after rule within here so_far.grows denied)
@@ -53,7 +53,7 @@ so_far-denied charter history h day caller changes i change before so_far within
 
 -- without the access no change is done
 denied-without_access : (charter : Charter) (history : History) (h : List ℕ) (day : ℕ) (caller : List ℕ) (change : Proposed)
-    → has_access (grant_terms history h) day caller Alter ≡ false → Verdict charter history day caller (proposed_command h change) (Some GrantRule)
+    → has_access (grant_terms history h) day caller Alter ≡ false → Verdict charter history day caller (hypothetical_command h change) (Some GrantRule)
 denied-without_access charter history h day caller (Create t) none = inl (λ has. false≢true (sym none ∙ has), refl)
 denied-without_access charter history h day caller (Withdraw n) none = inl (λ has. false≢true (sym none ∙ has), refl)
 

@@ -1,6 +1,6 @@
 use Rattle.std.proofs.Common.{All, take}
 use Rattle.registry.specs.Values.{FilterFits}
-use Rattle.registry.proofs.values.tell_filters.Given as goal
+use Rattle.registry.proofs.values.filters_fit.Given as goal
 
 abbrev pub invariant-loop-filter : goal.invariant-loop-filter
 invariant-loop-filter l = All FilterFits (take l.filter-index l.filters)

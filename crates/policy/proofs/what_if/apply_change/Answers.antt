@@ -1,7 +1,7 @@
 use Rattle.registry.specs.declared.change.Edit.TheVariants.{Create as CreateEdit, Withdraw as WithdrawEdit}
 use Rattle.registry.specs.Rows.{rows_of}
 use Rattle.registry.proofs.Carry.{carried}
-use Rattle.policy.proofs.hypothesis.suppose_one.Goals as goal
+use Rattle.policy.proofs.what_if.apply_change.Goals as goal
 
 pub returns-in_ok-create-in-Create : goal.returns-in_ok-create-in-Create
 returns-in_ok-create-in-Create c charter history h legal are =
