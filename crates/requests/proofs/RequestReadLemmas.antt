@@ -59,10 +59,10 @@ do-faultless d action (Some value) does = refl
 -- ---- rows, changes and routes
 
 -- the members of an authorization of one prefix
-abbrev SaysOnePrefix : Data → AsnValue × PrefixValue × ℕ × ℕ × ℕ → Type 0
+abbrev SaysOnePrefix : Data → AsnValue × (PrefixValue × (ℕ × (ℕ × ℕ))) → Type 0
 SaysOnePrefix d p =
-    HasMember as_asn (codes "asn") d p.0 × HasPrefix d p.1.0 × HasMax d p.1.1.0
-    × HasDay (codes "from") d p.1.1.1.0 × HasDay (codes "until") d p.1.1.1.1
+    HasMember as_asn (codes "asn") d p.0 × (HasPrefix d p.1.0 × (HasMax d p.1.1.0
+    × (HasDay (codes "from") d p.1.1.1.0 × HasDay (codes "until") d p.1.1.1.1)))
 
 reads-one-prefix : (d : Data) → ReadsUnlessFaulty (one_prefix_in d) (member_faults terms_members d) (SaysOnePrefix d)
 reads-one-prefix d =
@@ -70,11 +70,14 @@ reads-one-prefix d =
     (reads-both (reads-member as_day Day (codes "from") d) (reads-last (until d)))))
 
 reads-terms : (d : Data) → ReadsUnlessFaulty (terms_in d) (member_faults terms_members d) (HasTerms d)
-reads-terms d = reads-mapped _ (λ p says. says) (reads-one-prefix d)
+reads-terms d =
+    reads-mapped _ (λ p says. (says.0, says.1.0, says.1.1.0, says.1.1.1.0, says.1.1.1.1)) (reads-one-prefix d)
 
 reads-row : (d : Data) → ReadsUnlessFaulty (row_in d) (object_faults terms_members d) (HasRow d)
 reads-row d =
-    reads-unless (reads-mapped _ (λ p says. says) (reads-one-prefix d)) (told-only malformed_number Members (names_of terms_members) d)
+    reads-unless
+    (reads-mapped _ (λ p says. (says.0, says.1.0, says.1.1.0, says.1.1.1.0, says.1.1.1.1)) (reads-one-prefix d))
+    (told-only malformed_number Members (names_of terms_members) d)
 
 reads-change : (action : Option Action) (d : Data) → action_in d ≡ action →
     ReadsUnlessFaulty (change_by action d) (change_faults action d) (SaysChange d)

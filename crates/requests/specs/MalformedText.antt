@@ -1,6 +1,5 @@
 -- The text of the answer to a malformed request.
-use Rattle.std.specs.Prelude.{ℕ, List, ◌++◌, codes, Option, Some, None}
-use Rattle.addr.specs.Digits.{decimal}
+use Rattle.std.specs.Prelude.{ℕ, List, ◌++◌, codes, decimal, Option, Some, None}
 use Rattle.requests.specs.declared.malformed.Malformed.{Malformed}
 
 abbrev pub malformed_parts : ℕ → Option ℕ → List ℕ

@@ -97,7 +97,7 @@ file_in d = required Members as_file (get (codes "file") d)
 -- ---- rows, changes and routes
 
 -- the members of an authorization of one prefix
-abbrev pub one_prefix_in : Data → Result (AsnValue × Prefix × ℕ × ℕ × ℕ) Fault
+abbrev pub one_prefix_in : Data → Result (AsnValue × (Prefix × (ℕ × (ℕ × ℕ)))) Fault
 one_prefix_in d =
     both malformed_number (member_in as_asn Asn (codes "asn") d)
     (both malformed_number (prefix_in d)
