@@ -11,7 +11,7 @@ use Rattle.registry.specs.GrowingHistory.{Grows, IsDeniedAt, grown_by}
 use Rattle.registry.specs.History.{History}
 use Rattle.registry.specs.HypotheticalHistory.{JudgesChange, hypothetical_command}
 use Rattle.registry.specs.Import.{JudgesRow, row_command}
-use Rattle.registry.specs.Verdict.{ask, accept, Verdict}
+use Rattle.registry.specs.Verdict.{check, accept, Verdict}
 use Rattle.histories.specs.OneOutcome.{HasOneOutcome, OneOutcome, OneHypotheticalOutcome}
 use Rattle.histories.proofs.Growth.{Judging}
 
@@ -19,10 +19,10 @@ use Rattle.histories.proofs.Growth.{Judging}
 pub record One (verdict : Option Rule → Type 0) : Type 0 where
   pub same : (a b : Option Rule) → verdict a → verdict b → a ≡ b
 
-pub asked : {rule : Rule} {P : Type 0} {rest : Option Rule → Type 0} → One rest → One (ask rule P rest)
-asked {rule} {P} {rest} one = record { same = both }
+pub checked : {rule : Rule} {P : Type 0} {rest : Option Rule → Type 0} → One rest → One (check rule P rest)
+checked {rule} {P} {rest} one = record { same = both }
   where
-    both : (a b : Option Rule) → ask rule P rest a → ask rule P rest b → a ≡ b
+    both : (a b : Option Rule) → check rule P rest a → check rule P rest b → a ≡ b
     both None None x y = refl
     both None (Some s) x (inl fails) = absurd (fails.0 x.0)
     both None (Some s) x (inr holds) = one.same None (Some s) x.1 holds.1
@@ -42,17 +42,17 @@ accepted = record { same = both }
     both (Some r) b x y = absurd x
 
 pub one_verdict : (charter : Charter) (history : History) (day : ℕ) (caller : List ℕ) (c : Command) → One (Verdict charter history day caller c)
-one_verdict charter history day caller (Register holder) = asked (asked accepted)
-one_verdict charter history day caller (Delegate holder p) = asked (asked (asked (asked accepted)))
-one_verdict charter history day caller (Transfer p giver taker) = asked (asked (asked (asked accepted)))
-one_verdict charter history day caller (Reclaim holder p) = asked (asked (asked accepted))
-one_verdict charter history day caller (Grant holder name role scope until) = asked (asked (asked (asked accepted)))
-one_verdict charter history day caller (Revoke holder n) = asked (asked accepted)
-one_verdict charter history day caller (Create holder terms) = asked (asked (asked (asked (asked (asked (asked accepted))))))
-one_verdict charter history day caller (Amend holder n max until) = asked (asked (asked (asked (asked accepted))))
-one_verdict charter history day caller (Withdraw holder n) = asked (asked accepted)
+one_verdict charter history day caller (Register holder) = checked (checked accepted)
+one_verdict charter history day caller (Delegate holder p) = checked (checked (checked (checked accepted)))
+one_verdict charter history day caller (Transfer p giver taker) = checked (checked (checked (checked accepted)))
+one_verdict charter history day caller (Reclaim holder p) = checked (checked (checked accepted))
+one_verdict charter history day caller (Grant holder name role scope until) = checked (checked (checked (checked accepted)))
+one_verdict charter history day caller (Revoke holder n) = checked (checked accepted)
+one_verdict charter history day caller (Create holder terms) = checked (checked (checked (checked (checked (checked (checked accepted))))))
+one_verdict charter history day caller (Amend holder n max until) = checked (checked (checked (checked (checked accepted))))
+one_verdict charter history day caller (Withdraw holder n) = checked (checked accepted)
 one_verdict charter history day caller (Import holder rows) = record { same = λ a b x y. absurd x }
-one_verdict charter history day caller (Slurm file) = asked accepted
+one_verdict charter history day caller (Slurm file) = checked accepted
 
 -- what is accepted is denied by no rule
 not_denied : {verdict : Option Rule → Type 0} {rule : Rule} → One verdict → verdict None → verdict (Some rule) → ⊥

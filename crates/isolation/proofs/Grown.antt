@@ -31,19 +31,19 @@ names_made {holder = holder} {c = c} made h =
     ap (λ o. is_this h o || is_this h (taker_of c)) made.named ∙ ap (λ o. same_name holder h || is_this h o) made.taker
 
 -- a legal history that agrees with one before it on a holder
-record Left (charter : Charter) (h : List ℕ) (before after : History) : Type 0 where
+record StillAgrees (charter : Charter) (h : List ℕ) (before after : History) : Type 0 where
   legal : IsLegal charter after
   agree : Agree after before h
 
 grown-left : {X : Type 0} (charter : Charter) (holder : List ℕ) (day : ℕ) (caller : List ℕ) (judges : Judging X) → MakeAt charter holder day caller judges
     → (h : List ℕ) → same_name holder h ≡ false → (before : History) (xs : List X) (after : History) → IsLegal charter before
-    → Grows judges day caller before xs after → Left charter h before after
+    → Grows judges day caller before xs after → StillAgrees charter h before after
 grown-left {X} charter holder day caller judges make h other before xs after legal grows =
-    grown-keeps judges day caller (λ x. Unit {0}) (Left charter h before) step before xs after (All-every (λ (x : X). Unit {0}) (λ x. tt) xs)
+    grown-keeps judges day caller (λ x. Unit {0}) (StillAgrees charter h before) step before xs after (All-every (λ (x : X). Unit {0}) (λ x. tt) xs)
     (record { legal = legal; agree = agree-same before h }) grows
   where
-    step : (history : History) (x : X) (c : Command) → Unit {0} → judges history x (Ok (Some c)) → Left charter h before history
-        → Left charter h before (record { day = day; caller = caller; command = c } ∷ history)
+    step : (history : History) (x : X) (c : Command) → Unit {0} → judges history x (Ok (Some c)) → StillAgrees charter h before history
+        → StillAgrees charter h before (record { day = day; caller = caller; command = c } ∷ history)
     step history x c some is left =
         let e : Entry = record { day = day; caller = caller; command = c } in
         let made = make history x c is in

@@ -15,7 +15,7 @@ use Rattle.registry.specs.History.{History, is_registered}
 use Rattle.registry.specs.Permission.{has_access, is_permitted, is_permitted_terms}
 use Rattle.registry.specs.Resources.{HoldsPrefix}
 use Rattle.registry.specs.Terms.{grant_terms, OfActive}
-use Rattle.registry.specs.Verdict.{ask, accept, auth_of_number, HasAccessTo, Verdict, ShowVerdict, ListVerdict}
+use Rattle.registry.specs.Verdict.{check, accept, auth_of_number, HasAccessTo, Verdict, ShowVerdict, ListVerdict}
 use Rattle.addr.specs.declared.prefix.Prefix.{Prefix}
 use Rattle.isolation.specs.Isolation.{concerns_all_holders, AreJudgedAlike, AreSeenAlike}
 use Rattle.isolation.proofs.Agree.{Agree, AgreeIfNamed, agree-sym, agree-sym-named, agree-holds, agree-active}
@@ -34,10 +34,10 @@ both one two = (λ has. (one.0 has.0, two.0 has.1), λ has. (one.1 has.0, two.1 
 record Leads (one other : Option Rule → Type 0) : Type 0 where
   to : (verdict : Option Rule) → one verdict → other verdict
 
-asked : {rule : Rule} {P Q : Type 0} {rest other : Option Rule → Type 0} → P ↔ Q → Leads rest other → Leads (ask rule P rest) (ask rule Q other)
-asked {rule} {P} {Q} {rest} {other} same next = record { to = step }
+checked : {rule : Rule} {P Q : Type 0} {rest other : Option Rule → Type 0} → P ↔ Q → Leads rest other → Leads (check rule P rest) (check rule Q other)
+checked {rule} {P} {Q} {rest} {other} same next = record { to = step }
   where
-    step : (verdict : Option Rule) → ask rule P rest verdict → ask rule Q other verdict
+    step : (verdict : Option Rule) → check rule P rest verdict → check rule Q other verdict
     step None holds = (same.0 holds.0, next.to None holds.1)
     step (Some first) (inl fails) = inl (λ holds. fails.0 (same.1 holds), fails.1)
     step (Some first) (inr holds) = inr (same.0 holds.0, next.to (Some first) holds.1)
@@ -79,42 +79,42 @@ judged : (charter : Charter) (one other : History) (day : ℕ) (caller : List �
     → AgreeIfNamed one other (holder_of c) → AgreeIfNamed one other (taker_of c) → concerns_all_holders c ≡ false
     → Leads (Verdict charter one day caller c) (Verdict charter other day caller c)
 judged charter one other day caller (Register holder) same taker own =
-    asked itself (asked (by_value (λ b. b ≡ false) same.registered) accepted)
+    checked itself (checked (by_value (λ b. b ≡ false) same.registered) accepted)
 judged charter one other day caller (Delegate holder p) same taker own = cc
 judged charter one other day caller (Transfer p giver taken) same taker own =
-    asked itself (asked (both (of_registered same) (of_registered taker)) (asked itself (asked (of_holds same p) accepted)))
+    checked itself (checked (both (of_registered same) (of_registered taker)) (checked itself (checked (of_holds same p) accepted)))
 judged charter one other day caller (Reclaim holder p) same taker own =
-    asked itself (asked (of_registered same) (asked (of_holds same p) accepted))
+    checked itself (checked (of_registered same) (checked (of_holds same p) accepted))
 judged charter one other day caller (Grant holder name role scope until) same taker own =
-    asked (of_grants same (λ grants. is_operator charter caller || has_access grants day caller Manage)) (
-    asked (of_registered same) (
-    asked itself (
-    asked (both (fewer (ap length same.grants)) (fewer same.granted))
+    checked (of_grants same (λ grants. is_operator charter caller || has_access grants day caller Manage)) (
+    checked (of_registered same) (
+    checked itself (
+    checked (both (fewer (ap length same.grants)) (fewer same.granted))
     accepted)))
 judged charter one other day caller (Revoke holder n) same taker own =
-    asked (of_grants same (λ grants. is_operator charter caller || has_access grants day caller Manage)) (
-    asked (of_grants same (list_any (λ g. eqb g.number n))) accepted)
+    checked (of_grants same (λ grants. is_operator charter caller || has_access grants day caller Manage)) (
+    checked (of_grants same (list_any (λ g. eqb g.number n))) accepted)
 judged charter one other day caller (Create holder terms) same taker own =
-    asked (of_grants same (λ grants. has_access grants day caller Alter)) (
-    asked (of_grants same (λ grants. is_permitted grants day caller Alter terms.prefix)) (
-    asked itself (
-    asked itself (
-    asked (of_holds same terms.prefix) (
-    asked (active_alike same _) (
-    asked (both (active_alike same _) (fewer same.created))
+    checked (of_grants same (λ grants. has_access grants day caller Alter)) (
+    checked (of_grants same (λ grants. is_permitted grants day caller Alter terms.prefix)) (
+    checked itself (
+    checked itself (
+    checked (of_holds same terms.prefix) (
+    checked (active_alike same _) (
+    checked (both (active_alike same _) (fewer same.created))
     accepted))))))
 judged charter one other day caller (Amend holder n max until) same taker own =
-    asked (of_grants same (λ grants. has_access grants day caller Alter)) (
-    asked (access_alike same day caller Alter n) (
-    asked (active_alike same _) (
-    asked (active_alike same _) (
-    asked (active_alike same _)
+    checked (of_grants same (λ grants. has_access grants day caller Alter)) (
+    checked (access_alike same day caller Alter n) (
+    checked (active_alike same _) (
+    checked (active_alike same _) (
+    checked (active_alike same _)
     accepted))))
 judged charter one other day caller (Withdraw holder n) same taker own =
-    asked (of_grants same (λ grants. has_access grants day caller Alter)) (
-    asked (access_alike same day caller Alter n) accepted)
+    checked (of_grants same (λ grants. has_access grants day caller Alter)) (
+    checked (access_alike same day caller Alter n) accepted)
 judged charter one other day caller (Import holder rows) same taker own = record { to = λ verdict is. is }
-judged charter one other day caller (Slurm file) same taker own = asked itself accepted
+judged charter one other day caller (Slurm file) same taker own = checked itself accepted
 
 number_alike : (one other : History) (c : Command) → AgreeIfNamed one other (holder_of c) → number_given one c ≡ number_given other c
 number_alike one other (Grant holder name role scope until) same = ap (λ made. Some (made + 1)) same.granted
@@ -134,15 +134,15 @@ judged_alike charter one other day caller c same taker own = record {
 
 seen : {one other : History} {h : List ℕ} → Agree one other h → (day : ℕ) (caller : List ℕ) (n : ℕ) → Leads (ShowVerdict one h day caller n) (ShowVerdict other h day caller n)
 seen same day caller n =
-    asked (of_grants same (λ grants. has_access grants day caller Look)) (
-    asked (access_alike same day caller Look n) accepted)
+    checked (of_grants same (λ grants. has_access grants day caller Look)) (
+    checked (access_alike same day caller Look n) accepted)
 
 show_alike : {one other : History} {h : List ℕ} → Agree one other h → (day : ℕ) (caller : List ℕ) (n : ℕ) (rule : Option Rule)
     → ShowVerdict one h day caller n rule ↔ ShowVerdict other h day caller n rule
 show_alike same day caller n rule = ((seen same day caller n).to rule, (seen (agree-sym same) day caller n).to rule)
 
 seen_all : {one other : History} {h : List ℕ} → Agree one other h → (day : ℕ) (caller : List ℕ) → Leads (ListVerdict one h day caller) (ListVerdict other h day caller)
-seen_all same day caller = asked (of_grants same (λ grants. has_access grants day caller Look)) accepted
+seen_all same day caller = checked (of_grants same (λ grants. has_access grants day caller Look)) accepted
 
 list_alike : {one other : History} {h : List ℕ} → Agree one other h → (day : ℕ) (caller : List ℕ) (rule : Option Rule)
     → ListVerdict one h day caller rule ↔ ListVerdict other h day caller rule

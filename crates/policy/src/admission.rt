@@ -14,7 +14,7 @@ ghost use Rattle.registry.specs.Verdict.{is_steward, auth_of_number, HasAccessTo
 ghost use Rattle.registry.specs.Rows.{rows_of, rows_if_any, RowsOf, RowsIfAny, grants_if_any};
 
 use crate::{Access, Auth, AuthTerms, Charter, Granted, HolderRows, ImportRow, LAST_NUMBER, Rule};
-use addr::{Asn, Day, Name, Prefix};
+use addr::{Day, Name, Prefix};
 use registry::{MOST_AUTHORIZATIONS, MOST_GRANTS, has_access, is_permitted};
 
 /// The rule where it does not hold.
@@ -35,6 +35,7 @@ pub(crate) fn registered(rows: Option<&HolderRows>) -> Result<&HolderRows, Rule>
     rows.ok_or(Rule::Holder)
 }
 
+/// The grants of the rows; none where there are no rows.
 fn grants_of(rows: Option<&HolderRows>) -> &[Granted]
     ensures { result.now ≡ grants_if_any (option_copied rows.entry) }
 {
@@ -86,6 +87,7 @@ pub(crate) fn holds(rows: &HolderRows, prefix: &Prefix) -> bool
     rows.holdings.holds(prefix)
 }
 
+/// The authorization of the number.
 fn auth_of_number(auths: &[Auth], number: u32) -> Option<&Auth>
     ensures { option_copied result ≡ auth_of_number number auths.now }
 {
@@ -134,28 +136,35 @@ pub(crate) fn has_grant(rows: Option<&HolderRows>, number: u32) -> bool
     is_among(grants_of(rows), number)
 }
 
+/// Whether some grant has the number.
 fn is_among(grants: &[Granted], number: u32) -> bool
     ensures { result ≡ list_any (λ g. g.number == number) grants.now }
 {
     grants.iter().any(|grant| grant.number == number)
 }
 
-fn some_gives(auths: &[Auth], asn: Asn, prefix: &Prefix, max: u8) -> bool
-    ensures { result ≡ list_any (λ y. gives_vrp y asn prefix.now max) auths.now }
+/// Whether some authorization gives the AS, prefix and maxLength of the terms.
+fn some_gives(auths: &[Auth], terms: &AuthTerms) -> bool
+    ensures { result
+        ≡ list_any (λ y. gives_vrp y terms.now.asn terms.now.prefix terms.now.max) auths.now }
 {
-    auths.iter().any(|auth| auth.gives_vrp(asn, prefix, max))
+    auths
+        .iter()
+        .any(|auth| auth.gives_vrp(terms.asn, &terms.prefix, terms.max))
 }
 
-/// Whether no active authorization gives this AS, prefix and maxLength.
-pub(crate) fn is_new(rows: &HolderRows, asn: Asn, prefix: &Prefix, max: u8) -> bool
+/// Whether no active authorization gives the AS, prefix and maxLength of the terms.
+pub(crate) fn is_new(rows: &HolderRows, terms: &AuthTerms) -> bool
     ensures { (history : History) (h : List ℕ) → RowsOf history h (rows_of rows.now)
         → (IsTrue result
         ↔ OfActive history h
-        (λ active. list_any (λ y. gives_vrp y asn prefix.now max) active ≡ false)) }
+        (λ active.
+        list_any (λ y. gives_vrp y terms.now.asn terms.now.prefix terms.now.max) active ≡ false)) }
 {
-    !some_gives(&rows.auths, asn, prefix, max)
+    !some_gives(&rows.auths, terms)
 }
 
+/// Whether some authorization has the terms.
 fn some_has_terms(auths: &[Auth], terms: &AuthTerms) -> bool
     ensures { result ≡ list_any (has_terms terms.now) auths.now }
 {
@@ -191,6 +200,7 @@ pub(crate) fn has_room_for_authorization(rows: &HolderRows) -> bool
     rows.auths.len() < MOST_AUTHORIZATIONS && rows.created < LAST_NUMBER
 }
 
+/// Whether the other has another number and shares an AS, prefix and maxLength.
 fn is_other_sharing(auth: &Auth, other: &Auth) -> bool
     ensures { result ≡ (not (other.now.number == auth.now.number) && share_vrp auth.now other.now) }
 {

@@ -37,14 +37,12 @@ pub(crate) fn new_auth(
     require(are_dates(day, terms.from, terms.until), Rule::Dates)?;
     require(terms.prefix.fits_max_length(terms.max), Rule::Length)?;
     require(holds(rows, &terms.prefix), Rule::Held)?;
-    require(
-        is_new(rows, terms.asn, &terms.prefix, terms.max),
-        Rule::Same,
-    )?;
+    require(is_new(rows, terms), Rule::Same)?;
     require(has_room_for_authorization(rows), Rule::Room)?;
     Ok(terms.numbered(rows.created + 1))
 }
 
+/// Puts the authorization among the rows, and sets the counter to its number.
 fn put(rows: &mut HolderRows, auth: &Auth) -> Result<(), AllocError>
     ensures { OnOk result (rows_of rows.new ≡ edited (Edit.Create auth.now) (rows_of rows.old)) }
 {

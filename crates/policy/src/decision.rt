@@ -45,6 +45,7 @@ struct Holder<'a> {
     rows: Option<&'a HolderRows>,
 }
 
+/// The change of one holder.
 fn change_of(holder: &Name, edit: Edit) -> Change
     ensures { result
         ≡ Change.Holders (record { holder = holder.now; edit = edit }) None }
@@ -103,6 +104,7 @@ fn numbers_overlapping(
         .collect(alloc)
 }
 
+/// Decides a registration.
 fn decide_register(basis: Basis<'_>, holder: Holder<'_>) -> Result<Change, Rule>
     ensures { JudgesRows basis.entry.charter.now (rows_if_any (option_copied holder.entry.rows))
         basis.entry.day basis.entry.caller.now
@@ -113,6 +115,7 @@ fn decide_register(basis: Basis<'_>, holder: Holder<'_>) -> Result<Change, Rule>
     Ok(change_of(holder.name, Edit::Register))
 }
 
+/// Decides a delegation.
 fn decide_delegate(
     alloc: Global,
     basis: Basis<'_>,
@@ -135,6 +138,7 @@ fn decide_delegate(
     Ok(change_of(holder.name, edit))
 }
 
+/// Decides a reclaim.
 fn decide_reclaim(
     alloc: Global,
     basis: Basis<'_>,
@@ -154,6 +158,7 @@ fn decide_reclaim(
     Ok(change_of(holder.name, edit))
 }
 
+/// Decides a grant.
 fn decide_grant(basis: Basis<'_>, holder: Holder<'_>, terms: &GrantTerms) -> Result<Change, Rule>
     ensures { JudgesRows basis.entry.charter.now (rows_if_any (option_copied holder.entry.rows))
         basis.entry.day basis.entry.caller.now
@@ -173,6 +178,7 @@ fn decide_grant(basis: Basis<'_>, holder: Holder<'_>, terms: &GrantTerms) -> Res
     Ok(change_of(holder.name, Edit::Grant(grant)))
 }
 
+/// Decides a revocation.
 fn decide_revoke(basis: Basis<'_>, holder: Holder<'_>, number: u32) -> Result<Change, Rule>
     ensures { JudgesRows basis.entry.charter.now (rows_if_any (option_copied holder.entry.rows))
         basis.entry.day basis.entry.caller.now
@@ -186,6 +192,7 @@ fn decide_revoke(basis: Basis<'_>, holder: Holder<'_>, number: u32) -> Result<Ch
     Ok(change_of(holder.name, Edit::Revoke(number)))
 }
 
+/// Decides a create.
 fn decide_create(basis: Basis<'_>, holder: Holder<'_>, terms: &AuthTerms) -> Result<Change, Rule>
     ensures { JudgesRows basis.entry.charter.now (rows_if_any (option_copied holder.entry.rows))
         basis.entry.day basis.entry.caller.now
@@ -195,6 +202,7 @@ fn decide_create(basis: Basis<'_>, holder: Holder<'_>, terms: &AuthTerms) -> Res
     Ok(change_of(holder.name, Edit::Create(auth)))
 }
 
+/// Decides an amendment.
 fn decide_amend(
     basis: Basis<'_>,
     holder: Holder<'_>,
@@ -219,6 +227,7 @@ fn decide_amend(
     Ok(change_of(holder.name, Edit::Amend(amended)))
 }
 
+/// Decides a withdrawal.
 fn decide_withdraw(basis: Basis<'_>, holder: Holder<'_>, number: u32) -> Result<Change, Rule>
     ensures { JudgesRows basis.entry.charter.now (rows_if_any (option_copied holder.entry.rows))
         basis.entry.day basis.entry.caller.now
@@ -228,6 +237,7 @@ fn decide_withdraw(basis: Basis<'_>, holder: Holder<'_>, number: u32) -> Result<
     Ok(change_of(holder.name, Edit::Withdraw(number)))
 }
 
+/// Decides a transfer.
 fn decide_transfer(
     alloc: Global,
     charter: &Charter,
@@ -264,7 +274,7 @@ fn decide_transfer(
     })
 }
 
-/// Every file is taken whole, whatever the last one was.
+/// Decides a SLURM file. It is taken whole, whatever the last one was.
 fn decide_slurm(basis: Basis<'_>, file: &Slurm) -> Result<Change, Refusal>
     ensures { (history : History) → IsLegal basis.entry.charter.now history
         → IsAnswer basis.entry.charter.now history basis.entry.day basis.entry.caller.now

@@ -30,6 +30,7 @@ pub fn see<'a>(
     auth_with_access(rows, day, caller, Access::Look, number)
 }
 
+/// The authorizations that the caller may see on the day.
 fn permitted_auths(
     alloc: Global,
     auths: &[Auth],

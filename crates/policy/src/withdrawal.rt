@@ -30,6 +30,7 @@ pub(crate) fn may_withdraw(
     Ok(())
 }
 
+/// Takes the authorization of the number from among the rows.
 fn take_away(rows: &mut HolderRows, number: u32)
     ensures { rows_of rows.new ≡ edited (Edit.Withdraw number) (rows_of rows.old) }
 {

@@ -20,7 +20,7 @@ use Rattle.registry.specs.Rows.{Rows, RowsOf, RowsIfAny, edited, edited_if_any, 
 use Rattle.registry.proofs.Names.{same_name-same, same_name-true, held_by_same}
 use Rattle.registry.proofs.Held.{active-kept}
 
--- a command registers no holder but the one that it names, and changes no other's grants and terms
+-- a command registers no holder except the one that it names, and changes no other's grants and terms
 pub keeps_unnamed : (c : Command) (h : List ℕ) (made count : ℕ) (grants : List Granted) (terms : List Auth) → is_this h (holder_of c) ≡ false
     → (registers c h ≡ false) × (grants_after c h made grants ≡ grants) × (granted_after c h made ≡ made)
     × (terms_after c h count terms ≡ terms) × (created_after c h count ≡ count)

@@ -21,9 +21,9 @@ use Rattle.registry.specs.Permission.{has_access, is_permitted, is_permitted_ter
 
 -- a rule before others: all hold where this one does and the others do; and the first that does not
 -- hold is this one where it does not, else the first of the others
-abbrev pub ask : Rule → Type 0 → (Option Rule → Type 0) → Option Rule → Type 0
-ask rule P rest None = P × rest None
-ask rule P rest (Some first) = ((P → ⊥) × (first ≡ rule)) ⊎ (P × rest (Some first))
+abbrev pub check : Rule → Type 0 → (Option Rule → Type 0) → Option Rule → Type 0
+check rule P rest None = P × rest None
+check rule P rest (Some first) = ((P → ⊥) × (first ≡ rule)) ⊎ (P × rest (Some first))
 
 -- no rule is left
 abbrev pub accept : Option Rule → Type 0
@@ -54,77 +54,77 @@ HasAccessTo history holder day caller access n =
 
 abbrev pub Verdict : Charter → History → ℕ → List ℕ → Command → Option Rule → Type 0
 Verdict charter history day caller (Register holder) =
-    ask Operator (is_operator charter caller ≡ true) (
-    ask Fresh (is_registered history holder ≡ false)
+    check Operator (is_operator charter caller ≡ true) (
+    check Fresh (is_registered history holder ≡ false)
     accept)
 Verdict charter history day caller (Delegate holder p) =
-    ask Operator (is_operator charter caller ≡ true) (
-    ask Holder (is_registered history holder ≡ true) (
-    ask Pool (IsInPool (pool_of charter) p) (
-    ask Free (IsFree history p)
+    check Operator (is_operator charter caller ≡ true) (
+    check Holder (is_registered history holder ≡ true) (
+    check Pool (IsInPool (pool_of charter) p) (
+    check Free (IsFree history p)
     accept)))
 Verdict charter history day caller (Transfer p giver taker) =
-    ask Operator (is_operator charter caller ≡ true) (
-    ask Holder ((is_registered history giver ≡ true) × (is_registered history taker ≡ true)) (
-    ask Distinct (same_name giver taker ≡ false) (
-    ask Held (HoldsPrefix history giver p)
+    check Operator (is_operator charter caller ≡ true) (
+    check Holder ((is_registered history giver ≡ true) × (is_registered history taker ≡ true)) (
+    check Distinct (same_name giver taker ≡ false) (
+    check Held (HoldsPrefix history giver p)
     accept)))
 Verdict charter history day caller (Reclaim holder p) =
-    ask Operator (is_operator charter caller ≡ true) (
-    ask Holder (is_registered history holder ≡ true) (
-    ask Held (HoldsPrefix history holder p)
+    check Operator (is_operator charter caller ≡ true) (
+    check Holder (is_registered history holder ≡ true) (
+    check Held (HoldsPrefix history holder p)
     accept))
 Verdict charter history day caller (Grant holder name role scope until) =
-    ask Steward (is_steward charter history day caller holder ≡ true) (
-    ask Holder (is_registered history holder ≡ true) (
-    ask Dates (day ≤ until) (
-    ask Room ((length (grant_terms history holder) < MOST_GRANTS)
+    check Steward (is_steward charter history day caller holder ≡ true) (
+    check Holder (is_registered history holder ≡ true) (
+    check Dates (day ≤ until) (
+    check Room ((length (grant_terms history holder) < MOST_GRANTS)
     × (grants_made history holder < LAST_NUMBER))
     accept)))
 Verdict charter history day caller (Revoke holder n) =
-    ask Steward (is_steward charter history day caller holder ≡ true) (
-    ask Number (list_any (λ g. g.number == n) (grant_terms history holder) ≡ true)
+    check Steward (is_steward charter history day caller holder ≡ true) (
+    check Number (list_any (λ g. g.number == n) (grant_terms history holder) ≡ true)
     accept)
 Verdict charter history day caller (Create holder terms) =
-    ask GrantRule (has_access (grant_terms history holder) day caller Alter ≡ true) (
-    ask Scope (is_permitted (grant_terms history holder) day caller Alter terms.prefix ≡ true) (
-    ask Dates ((terms.from ≤ terms.until) × (day ≤ terms.until)) (
-    ask Length (fits_max_length terms.prefix terms.max ≡ true) (
-    ask Held (HoldsPrefix history holder terms.prefix) (
-    ask Same (OfActive history holder (λ active.
+    check GrantRule (has_access (grant_terms history holder) day caller Alter ≡ true) (
+    check Scope (is_permitted (grant_terms history holder) day caller Alter terms.prefix ≡ true) (
+    check Dates ((terms.from ≤ terms.until) × (day ≤ terms.until)) (
+    check Length (fits_max_length terms.prefix terms.max ≡ true) (
+    check Held (HoldsPrefix history holder terms.prefix) (
+    check Same (OfActive history holder (λ active.
     list_any (λ y. gives_vrp y terms.asn terms.prefix terms.max) active ≡ false)) (
-    ask Room (OfActive history holder (λ active. length active < MOST_AUTHORIZATIONS)
+    check Room (OfActive history holder (λ active. length active < MOST_AUTHORIZATIONS)
     × (authorizations_made history holder < LAST_NUMBER))
     accept))))))
 Verdict charter history day caller (Amend holder n max until) =
-    ask GrantRule (has_access (grant_terms history holder) day caller Alter ≡ true) (
-    ask Number (HasAccessTo history holder day caller Alter n) (
-    ask Dates (OfNumber history holder n (λ x. (x.from ≤ until) × (day ≤ until))) (
-    ask Length (OfNumber history holder n (λ x. terms_fit_length x max ≡ true)) (
-    ask Same (OfActive history holder (λ active. IsSomeAnd (auth_of_number n active) (λ x.
+    check GrantRule (has_access (grant_terms history holder) day caller Alter ≡ true) (
+    check Number (HasAccessTo history holder day caller Alter n) (
+    check Dates (OfNumber history holder n (λ x. (x.from ≤ until) × (day ≤ until))) (
+    check Length (OfNumber history holder n (λ x. terms_fit_length x max ≡ true)) (
+    check Same (OfActive history holder (λ active. IsSomeAnd (auth_of_number n active) (λ x.
     list_any (λ y. not (y.number == n) && share_vrp (record x { max = max; until = until }) y) active ≡ false)))
     accept))))
 Verdict charter history day caller (Withdraw holder n) =
-    ask GrantRule (has_access (grant_terms history holder) day caller Alter ≡ true) (
-    ask Number (HasAccessTo history holder day caller Alter n)
+    check GrantRule (has_access (grant_terms history holder) day caller Alter ≡ true) (
+    check Number (HasAccessTo history holder day caller Alter n)
     accept)
 -- each row of an import is judged as a create, so an import is no entry of a history
 Verdict charter history day caller (Import holder rows) = λ first. ⊥
 Verdict charter history day caller (Slurm file) =
-    ask Operator (is_operator charter caller ≡ true)
+    check Operator (is_operator charter caller ≡ true)
     accept
 
 -- the verdict of showing the authorization of a number
 abbrev pub ShowVerdict : History → List ℕ → ℕ → List ℕ → ℕ → Option Rule → Type 0
 ShowVerdict history holder day caller n =
-    ask GrantRule (has_access (grant_terms history holder) day caller Look ≡ true) (
-    ask Number (HasAccessTo history holder day caller Look n)
+    check GrantRule (has_access (grant_terms history holder) day caller Look ≡ true) (
+    check Number (HasAccessTo history holder day caller Look n)
     accept)
 
 -- the verdict of listing authorizations
 abbrev pub ListVerdict : History → List ℕ → ℕ → List ℕ → Option Rule → Type 0
 ListVerdict history holder day caller =
-    ask GrantRule (has_access (grant_terms history holder) day caller Look ≡ true)
+    check GrantRule (has_access (grant_terms history holder) day caller Look ≡ true)
     accept
 
 -- each command of the history was accepted on those before it

@@ -72,6 +72,7 @@ impl Edit {
         }
     }
 
+    /// How many authorizations the edit of an import makes; of another edit 0.
     fn imported(&self) -> usize
         ensures { result ≡ edit_imported self.now }
     {

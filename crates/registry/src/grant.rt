@@ -44,6 +44,7 @@ pub enum Access {
 }
 
 impl Access {
+    /// Whether the role gives the access.
     fn is_given_by(self, role: Role) -> bool
         ensures { result ≡ allowed_roles self role }
     {
@@ -58,6 +59,7 @@ impl Access {
 }
 
 impl Scope {
+    /// Whether the scope has the prefix.
     fn has(&self, prefix: &Prefix) -> bool
         ensures { result ≡ scope_has self.now prefix.now }
     {
@@ -69,12 +71,14 @@ impl Scope {
 }
 
 impl Granted {
+    /// Whether the grant is current on the day.
     fn is_current(&self, day: Day) -> bool
         ensures { result ≡ is_current day self.now }
     {
         day.number() <= self.until.number()
     }
 
+    /// Whether the grant gives the caller the access on the day, whatever its scope.
     fn gives(&self, day: Day, caller: &Name, access: Access) -> bool
         ensures { result ≡ gives_access day caller.now access self.now }
     {

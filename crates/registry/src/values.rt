@@ -10,6 +10,7 @@ use crate::{AuthTerms, Command, ImportRow};
 use addr::{Day, Name, Vrp};
 use slurm::{Filter, Slurm};
 
+/// The values of the command are those of their types.
 pub(crate) fn command_fits(command: &Command)
     ensures { CommandFits command.now }
 {
@@ -58,26 +59,31 @@ pub(crate) fn command_fits(command: &Command)
     }
 }
 
+/// The text of a name is a name's.
 pub(crate) fn name_fits(name: &Name)
     ensures { IsTrue (is_name name.now) }
 {
     let _ = name.as_bytes();
 }
 
+/// The number of a day is a day's.
 pub(crate) fn day_fits(day: Day)
     ensures { IsDay day }
 {
     let _ = day.number();
 }
 
+/// A `u32` is below 2^32.
 fn number_fits(number: u32)
     ensures { IsU32 number }
 {}
 
+/// A `u8` is below 2^8.
 fn max_length_fits(max: u8)
     ensures { IsU8 max }
 {}
 
+/// The values of each row are those of their types.
 fn rows_fit(rows: &[ImportRow])
     ensures { All ImportRowFits rows.now }
 {
@@ -86,12 +92,14 @@ fn rows_fit(rows: &[ImportRow])
     }
 }
 
+/// The values of the row are those of their types.
 fn row_fits(row: &ImportRow)
     ensures { ImportRowFits row.now }
 {
     terms_fit(&row.terms());
 }
 
+/// The values of the terms are those of their types.
 fn terms_fit(terms: &AuthTerms)
     ensures { TermsFit terms.now }
 {
@@ -101,6 +109,7 @@ fn terms_fit(terms: &AuthTerms)
     day_fits(terms.until);
 }
 
+/// The exceptions are those of one SLURM file.
 fn exceptions_fit(file: &Slurm)
     ensures { ExceptionsFit file.now }
 {
@@ -108,6 +117,7 @@ fn exceptions_fit(file: &Slurm)
     assertions_fit(file.assertions());
 }
 
+/// Each AS number of the filters is below 2^32.
 fn filters_fit(filters: &[Filter])
     ensures { All FilterFits filters.now }
 {
@@ -116,6 +126,7 @@ fn filters_fit(filters: &[Filter])
     }
 }
 
+/// The AS number of the filter, if any, is below 2^32.
 fn filter_fits(filter: &Filter)
     ensures { FilterFits filter.now }
 {
@@ -125,6 +136,7 @@ fn filter_fits(filter: &Filter)
     }
 }
 
+/// Each AS number of the assertions is below 2^32.
 fn assertions_fit(assertions: &[Vrp])
     ensures { All VrpFits assertions.now }
 {

@@ -93,7 +93,7 @@ fn import_edit(
     }
 }
 
-/// All rows or none.
+/// Decides an import: all rows or none.
 pub(super) fn decide_import(
     alloc: Global,
     basis: Basis<'_>,

@@ -1,10 +1,11 @@
-//! What a grant is to say, before it has a number.
+//! The terms of a grant.
 
 ghost use Rattle.std.specs.Prelude.{◌≡◌};
 
 use crate::{Granted, Role, Scope};
 use addr::{Day, Name};
 
+/// What a grant is to say, before it has a number.
 #[derive(Clone, Copy)]
 pub(super) struct GrantTerms {
     pub(super) caller: Name,
@@ -14,6 +15,7 @@ pub(super) struct GrantTerms {
 }
 
 impl GrantTerms {
+    /// The grant of these terms and of this number.
     pub(super) fn numbered(&self, number: u32) -> Granted
         ensures { result ≡ record {
           number = number;

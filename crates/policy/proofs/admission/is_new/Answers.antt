@@ -9,7 +9,7 @@ use Rattle.policy.proofs.admission.is_new.Goals as goal
 pub returns : goal.returns
 returns c history h are =
     let a = c.args in
-    let test = list_any (λ y. gives_vrp y a.asn a.prefix.now a.max) in
+    let test = list_any (λ y. gives_vrp y a.terms.now.asn a.terms.now.prefix a.terms.now.max) in
     let same = c.some_gives.ensures ∙ ap test c.deref.ensures.value in (
       λ is. active-to history h (rows_of a.rows.now) (λ active. test active ≡ false) are (sym same ∙ not-true c.some_gives.result is),
       λ of. ap not (same ∙ active-from history h (rows_of a.rows.now) (λ active. test active ≡ false) are of),

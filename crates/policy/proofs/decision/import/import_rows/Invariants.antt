@@ -1,4 +1,4 @@
-use Rattle.std.proofs.Common.{◌≡◌, ℕ, List, Some, take}
+use Rattle.std.proofs.Common.{◌≡◌, Some, take}
 use Rattle.charters.specs.declared.charter.Charter.{Charter}
 use Rattle.registry.specs.Answer.{OfRows}
 use Rattle.registry.specs.Rows.{rows_of}
