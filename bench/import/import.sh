@@ -9,27 +9,27 @@
 # the programs are proved. The runs are in turn, and the least time counts. Ends with 1 where the
 # authorizations differ, with 2 where something could not be run.
 set -u
-. "$(dirname "${BASH_SOURCE[0]}")/work.sh"
+. "$(dirname "${BASH_SOURCE[0]}")/../common/work.sh"
 runs=${1:-5}
 
-rustc --edition 2021 -O -o "$work/plain" "$bench/import_plain.rs" || fail "import_plain.rs was not built"
-rules=$("$bench/build.sh" import_rules "$work") || fail "import_rules.rs was not built"
+rustc --edition 2021 -O -o "$work/plain" "$here/import_plain.rs" || fail "import_plain.rs was not built"
+rules=$("$common/build.sh" "$here/import_rules.rattle" "$work") || fail "import_rules was not built"
 rm -f "$work"/built.db*
-file=$("$bench/build.sh" import_file "$work" "$work/built.db" import) || fail "import_file.rs was not built"
+file=$("$common/build.sh" "$here/import_file.rattle" "$work" "$work/built.db" import) || fail "import_file was not built"
 
 # measure NAME PROGRAM WORD...: a line with the name, the nanoseconds and the sum; files are made anew.
 measure() {
-    local told
+    local measured
     rm -f "$work"/measured.db*
-    told=$("${@:2}") || return 1
-    echo "$1 $told"
+    measured=$("${@:2}") || return 1
+    echo "$1 $measured"
 }
 
 for _ in $(seq "$runs"); do
-    measure 'rules roadesk' "$rules" || fail "import_rules.rs failed"
+    measure 'rules roadesk' "$rules" || fail "import_rules failed"
     measure 'rules plain' "$work/plain" || fail "import_plain.rs failed"
     for how in creates import; do
-        measure "file $how" "$file" "$work/measured.db" "$how" || fail "import_file.rs failed"
+        measure "file $how" "$file" "$work/measured.db" "$how" || fail "import_file failed"
     done
 done >"$work/import.lines"
 

@@ -3,7 +3,7 @@
  *     plain PLACE HOLDERS AUTHORIZATIONS TABLES     (PLACE is `memory` or the path of a new file)
  *
  * TABLES is the file of the statements that make the tables. The rows, the operations, their numbers
- * and the lines that are printed are those of store.rs.
+ * and the lines that are printed are those of store.rattle.
  */
 #include <stdint.h>
 #include <stdio.h>

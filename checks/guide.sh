@@ -1,17 +1,18 @@
 #!/usr/bin/env bash
 # Runs the commands of GUIDE.md and compares what they print with what it says.
 #
-#     check-guide.sh [GUIDE]
+#     guide.sh [GUIDE]
 #
 # The blocks marked sh run in one shell, in their order, in a temporary folder that has what the top of the
 # repository has, so that the files they make do not stay. What a block prints, on standard error too, has to be
 # the block after a line that ends with `prints` or `print`. Where there is none, it has to end with status 0.
 # A block marked `sh needs COMMAND..` is skipped where one of these commands is missing.
-# PROGRAM names the program to run as ./roadesk, else it is the one at the top. Ends with 1 where a block does otherwise.
+# PROGRAM names the program to run as ./roadesk, else it is that of the repository; skipped where it is not built.
+# Ends with 1 where a block does otherwise, with 2 where something could not be run.
 set -u
-docs=$(cd "$(dirname "${BASH_SOURCE[0]}")" && pwd)
-guide=${1:-$docs/GUIDE.md}
-program=$(realpath "${PROGRAM:-$docs/../roadesk}") || exit 2
+. "$(dirname "${BASH_SOURCE[0]}")/common.sh"
+find_program
+guide=${1:-$top/docs/GUIDE.md}
 work=$(mktemp -d) || exit 2
 # The workers of an nginx that root starts are another user.
 chmod 711 "$work"
@@ -38,8 +39,9 @@ awk -v work="$work" '
 blocks=$(find "$work" -name '*.sh' | wc -l)
 
 mkdir "$work/top"
-ln -s "$(realpath "$docs/..")"/* "$work/top" && rm "$work/top/roadesk" || exit 2
-printf '#!/bin/sh\nexec "%s" "$@"\n' "$program" >"$work/top/roadesk"
+ln -s "$top"/* "$work/top" && rm "$work/top/roadesk" || exit 2
+# The program is built.
+printf '#!/bin/sh\n[ "$*" = build ] || exec "%s" "$@"\n' "$program" >"$work/top/roadesk"
 chmod +x "$work/top/roadesk"
 # As on a terminal, curl does not show how far it is.
 printf 'silent\nshow-error\n' >"$work/.curlrc"
@@ -68,7 +70,7 @@ run_blocks() {
 judge() {
     local at=$work/$1
     if [ -s "$at.missing" ]; then
-        echo "skipped: missing" $(cat "$at.missing")
+        echo "skipped: missing $(xargs <"$at.missing")"
     elif [ ! -e "$at.status" ]; then
         echo "did not end"
         return 1

@@ -6,15 +6,17 @@
 #
 # The time of one answer is that of a script which asks 101 times less that of one which asks once, by 100, each the
 # least of the runs. Ends with 1 where a filter changed what is answered, with 2 where something could
-# not be run. The program has to be built first, by ./roadesk at the top.
+# not be run. The program has to be built first, by ./roadesk build at the top; PROGRAM may name another.
 set -u
-. "$(dirname "${BASH_SOURCE[0]}")/work.sh"
+. "$(dirname "${BASH_SOURCE[0]}")/../common/work.sh"
 runs=${1:-5}
-program=$(realpath "$bench/../crates/cli/out/cli") || fail "the program is not built"
+program=${PROGRAM:-$top/crates/cli/out/cli}
+
+[ -x "$program" ] || fail "the program is not built: run ./roadesk build first"
 
 for filters in 0 4096; do
     for queries in 1 101; do
-        python3 "$bench/filters.py" "$filters" "$queries" "$work/charter.csv" >"$work/$filters-$queries.jsonl" ||
+        python3 "$here/filters.py" "$filters" "$queries" "$work/charter.csv" >"$work/$filters-$queries.jsonl" ||
             fail "no script"
     done
 done

@@ -8,14 +8,14 @@
 # and judging the least count, and of the memory the greatest peak, which has the VRPs and the routes in it.
 # Ends with 1 where the two answer otherwise than each other, with 2 where something could not be run.
 set -u
-. "$(dirname "${BASH_SOURCE[0]}")/work.sh"
+. "$(dirname "${BASH_SOURCE[0]}")/../common/work.sh"
 routes=${1:-1000000}
 sizes=("${@:2}")
 [ "${#sizes[@]}" -gt 0 ] || sizes=(10000 500000)
 
 echo 'asn,prefix,maxlength' >"$work/payloads.csv"
 echo 'prefix,origin' >"$work/routes.csv"
-program=$("$bench/build.sh" trie "$work" list "$work/payloads.csv" "$work/routes.csv") || fail "trie.rs was not built"
+program=$("$common/build.sh" "$here/trie.rattle" "$work" list "$work/payloads.csv" "$work/routes.csv") || fail "trie.rattle was not built"
 
 # A line a run: VRPs, order, kind, phase, nanoseconds, sum, kilobytes.
 measure() {
@@ -28,7 +28,7 @@ for vrps in "${sizes[@]}"; do
     for order in rising shuffled; do
         option=()
         [ "$order" = rising ] || option=(--shuffled)
-        python3 "$bench/generate.py" ${option[@]+"${option[@]}"} "$vrps" "$routes" "$work/payloads.csv" "$work/routes.csv" ||
+        python3 "$common/generate.py" ${option[@]+"${option[@]}"} "$vrps" "$routes" "$work/payloads.csv" "$work/routes.csv" ||
             fail "no files were generated"
         for _ in 1 2 3; do
             for kind in list trie; do

@@ -3,13 +3,13 @@
 #
 #     check.sh [VRPS [ROUTES [shuffled]]]      (500000 and 1000000 where left out)
 #
-# Needs rustc, python3 and GNU time at /usr/bin/time. The program has to be built first, by running
-# ./roadesk at the top; PROGRAM may name another. Files go to a temporary folder, or stay in BENCH_WORK.
+# Needs rustc, python3 and GNU time at /usr/bin/time. The program has to be built first, by
+# ./roadesk build at the top; PROGRAM may name another. Files go to a temporary folder, or stay in BENCH_WORK.
 # Each runs three times: cpu is the least user and system seconds, memory the greatest peak.
 # Ends with 1 where the two outputs differ, with 2 where something could not be run.
 set -u
-. "$(dirname "${BASH_SOURCE[0]}")/work.sh"
-program=${PROGRAM:-$bench/../crates/cli/out/cli}
+. "$(dirname "${BASH_SOURCE[0]}")/../common/work.sh"
+program=${PROGRAM:-$top/crates/cli/out/cli}
 vrps=${1:-500000}
 routes=${2:-1000000}
 
@@ -19,10 +19,10 @@ case ${3:-} in
     shuffled) order=(--shuffled) ;;
     *) fail "the third word can only be: shuffled" ;;
 esac
-[ -x "$program" ] || fail "the program is not built: run ./roadesk first"
+[ -x "$program" ] || fail "the program is not built: run ./roadesk build first"
 
-rustc --edition 2021 -O -o "$work/plain" "$bench/plain.rs" || fail "plain.rs was not built"
-python3 "$bench/generate.py" ${order[@]+"${order[@]}"} "$vrps" "$routes" "$work/payloads.csv" "$work/routes.csv" ||
+rustc --edition 2021 -O -o "$work/plain" "$here/plain.rs" || fail "plain.rs was not built"
+python3 "$common/generate.py" ${order[@]+"${order[@]}"} "$vrps" "$routes" "$work/payloads.csv" "$work/routes.csv" ||
     fail "no files were generated"
 
 # measure NAME COMMAND...: leaves the output in NAME.out, prints the cpu seconds and the peak in MB.

@@ -2,11 +2,12 @@
 # Sends the lines and the messages of FORMATS.md to the program, and compares its replies with those that it says.
 #
 # The block marked jsonl has a line and its reply in turn; the blocks marked http a request and its response in turn.
-# PROGRAM names the program, else it is ./roadesk at the top. Ends with 1 where a reply differs.
+# PROGRAM names the program, else it is that of the repository; skipped where it is not built. Ends with 1 where a reply
+# differs, with 2 where something could not be run.
 set -u
-docs=$(cd "$(dirname "${BASH_SOURCE[0]}")" && pwd)
-program=$(realpath "${PROGRAM:-$docs/../roadesk}") || exit 2
-charter=$(realpath "$docs/../examples/charter.csv") || exit 2
+. "$(dirname "${BASH_SOURCE[0]}")/common.sh"
+find_program
+charter=$top/examples/charter.csv
 work=$(mktemp -d) || exit 2
 trap 'kill $(jobs -p) 2>/dev/null; rm -rf "$work"' EXIT
 
@@ -15,7 +16,7 @@ blocks() {
     awk -v work="$work" -v language="$1" '
         /^```/ && file { close(file); file = ""; next }
         file { print >file }
-        $0 == "```" language { file = work "/" ++n "." language; printf "" >file }' "$docs/FORMATS.md"
+        $0 == "```" language { file = work "/" ++n "." language; printf "" >file }' "$top/docs/FORMATS.md"
 }
 
 # A request as it is sent: the lines of its head end with CR LF, its body without the block's last line feed.

@@ -4,13 +4,13 @@
 #     serve.sh [--only-c] [RUNS]      (5 where left out; --only-c runs the C server alone)
 #
 # Needs gcc, libsqlite3 with its header, sqlite3, awk and shuf; with strace the calls that sync are counted too.
-# The program has to be built first, by running ./roadesk at the top; PROGRAM may name another. Files go to a
+# The program has to be built first, by ./roadesk build at the top; PROGRAM may name another. Files go to a
 # temporary folder, or stay in BENCH_WORK. The two servers run in turn, each first in every other run, and of the
 # medians of an operation the least counts. Ends with 1 where they answer otherwise than each other or leave
 # other rows, with 2 where something could not be run.
 set -u
-. "$(dirname "${BASH_SOURCE[0]}")/work.sh"
-program=${PROGRAM:-$bench/../crates/cli/out/cli}
+. "$(dirname "${BASH_SOURCE[0]}")/../common/work.sh"
+program=${PROGRAM:-$top/crates/cli/out/cli}
 servers='roadesk C'
 if [ "${1:-}" = --only-c ]; then
     servers=C
@@ -18,9 +18,9 @@ if [ "${1:-}" = --only-c ]; then
 fi
 runs=${1:-5}
 
-[ "$servers" = C ] || [ -x "$program" ] || fail "the program is not built: run ./roadesk first"
-gcc -O2 -Wall -o "$work/serve" "$bench"/{serve,texts,tables}.c -lsqlite3 || fail "serve.c was not built"
-gcc -O2 -Wall -o "$work/client" "$bench/client.c" || fail "client.c was not built"
+[ "$servers" = C ] || [ -x "$program" ] || fail "the program is not built: run ./roadesk build first"
+gcc -O2 -Wall -I "$common" -o "$work/serve" "$here"/{serve,texts}.c "$common/tables.c" -lsqlite3 || fail "serve.c was not built"
+gcc -O2 -Wall -I "$common" -o "$work/client" "$here/client.c" || fail "client.c was not built"
 
 # A port of 127.0.0.1 where nothing listens.
 free_port() {
@@ -34,8 +34,8 @@ free_port() {
 # make_desk HOLDERS AUTHORIZATIONS: the database file desk.db, written by sqlite3.
 make_desk() {
     rm -f "$work"/desk.db*
-    awk -v holders="$1" -v auths="$2" -f "$bench/desk.awk" >"$work/desk.sql" || fail "desk.awk failed"
-    { echo 'PRAGMA journal_mode = WAL;' && cat "$bench/tables.sql" "$work/desk.sql"; } |
+    awk -v holders="$1" -v auths="$2" -f "$here/desk.awk" >"$work/desk.sql" || fail "desk.awk failed"
+    { echo 'PRAGMA journal_mode = WAL;' && cat "$common/tables.sql" "$work/desk.sql"; } |
         sqlite3 "$work/desk.db" >/dev/null || fail "sqlite3 failed"
 }
 

@@ -8,11 +8,11 @@
 # medians of an operation's times the least counts. Ends with 1 where they answer otherwise than each other, with 2
 # where something could not be run.
 set -u
-. "$(dirname "${BASH_SOURCE[0]}")/work.sh"
+. "$(dirname "${BASH_SOURCE[0]}")/../common/work.sh"
 runs=${1:-5}
 
-gcc -O2 -Wall -o "$work/plain" "$bench/store.c" "$bench/tables.c" -lsqlite3 || fail "store.c was not built"
-program=$("$bench/build.sh" store "$work" memory 2 2) || fail "store.rs was not built"
+gcc -O2 -Wall -I "$common" -o "$work/plain" "$here/store.c" "$common/tables.c" -lsqlite3 || fail "store.c was not built"
+program=$("$common/build.sh" "$here/store.rattle" "$work" memory 2 2) || fail "store.rattle was not built"
 
 # A line an operation: the place, the numbers of holders and authorizations, the operation,
 # nanoseconds, and the sum of what was answered.
@@ -29,8 +29,8 @@ measure() {
 for _ in $(seq "$runs"); do
     for place in memory file; do
         for size in '1000 10' '100 100'; do
-            measure "$place" $size "$program" >>"$work/roadesk.lines" || fail "store.rs failed"
-            measure "$place" $size "$work/plain" "$bench/tables.sql" >>"$work/plain.lines" || fail "store.c failed"
+            measure "$place" $size "$program" >>"$work/roadesk.lines" || fail "store.rattle failed"
+            measure "$place" $size "$work/plain" "$common/tables.sql" >>"$work/plain.lines" || fail "store.c failed"
         done
     done
 done

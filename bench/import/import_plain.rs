@@ -1,5 +1,5 @@
 //! The rules of an import in plain Rust, to measure against: the rows, the runs and what is printed are those of
-//! import_rules.rs.
+//! import_rules.rattle.
 
 // Families, roles and scopes that the rules ask for and no row here has.
 #![allow(dead_code)]

@@ -1,13 +1,15 @@
 #!/usr/bin/env bash
-# Whether the command sqlite3 reads a database that a store made, and a store one that sqlite3 wrote.
+# Whether the command sqlite3 reads a database that a store made, and a store reads one that sqlite3 wrote.
 #
 #     sqlite3.sh
 #
-# Needs rt and sqlite3. Files go to a temporary folder, or stay in BENCH_WORK; the next run there is
-# quicker, since the programs are proved. Ends with 1 where something else is found, with 2 where
-# something could not be run.
+# Needs rt and sqlite3, and is skipped without them. Files go to a temporary folder, or stay in BENCH_WORK; the next
+# run there is quicker, since the programs are proved. Ends with 1 where something else is found, with 2 where something
+# could not be run.
 set -u
-. "$(dirname "${BASH_SOURCE[0]}")/work.sh"
+. "$(dirname "${BASH_SOURCE[0]}")/common.sh"
+. "$top/bench/common/work.sh"
+need rt sqlite3
 failed=0
 rm -f "$work"/*.db*
 
@@ -22,10 +24,11 @@ expect() {
 }
 
 # What a store made, read by sqlite3.
-store=$("$bench/build.sh" store "$work" memory 2 2) || fail "store.rs was not built"
+store=$("$common/build.sh" "$top/bench/store/store.rattle" "$work" memory 2 2) ||
+    fail "store.rattle was not built"
 made=$work/made.db
-"$store" "$made" 10 10 >"$work/made.lines" || fail "store.rs failed"
-expect 'the schema of a new store' "$(sqlite3 "$made" .schema | sort)" "$(sort "$bench/tables.sql")"
+"$store" "$made" 10 10 >"$work/made.lines" || fail "store.rattle failed"
+expect 'the schema of a new store' "$(sqlite3 "$made" .schema | sort)" "$(sort "$common/tables.sql")"
 expect 'its integrity' "$(sqlite3 "$made" 'PRAGMA integrity_check')" ok
 expect 'its foreign keys' "$(sqlite3 "$made" 'PRAGMA foreign_key_check')" ''
 expect 'its number' "$(sqlite3 "$made" 'SELECT name, value FROM meta')" 'schema|1'
@@ -34,7 +37,7 @@ expect 'its holders' "$(sqlite3 "$made" 'SELECT count(*), sum(grants) FROM holde
 expect 'its authorizations' "$(sqlite3 "$made" 'SELECT count(*), sum(asn) FROM auth')" '300|62650'
 
 # What sqlite3 wrote, opened as a store.
-open=$("$bench/build.sh" open "$work" "$work/first.db") || fail "open.rs was not built"
+open=$("$common/build.sh" "$here/open.rattle" "$work" "$work/first.db") || fail "open.rattle was not built"
 rows="
 INSERT INTO meta VALUES ('schema', 1);
 INSERT INTO operator VALUES ('reg');
@@ -53,14 +56,14 @@ expect_opened() {
     expect "$1" "$("$open" "$work/written.db")" "$2"
 }
 
-tables=$(cat "$bench/tables.sql")
+tables=$(cat "$common/tables.sql")
 expect_opened 'tables of sqlite3' "$whole" "$tables"
 expect 'its integrity afterwards' "$(sqlite3 "$work/written.db" 'PRAGMA integrity_check')" ok
-expect_opened 'without the index' "$whole" "$(grep -v INDEX "$bench/tables.sql")"
-expect 'the schema afterwards' "$(sqlite3 "$work/written.db" .schema | sort)" "$(sort "$bench/tables.sql")"
+expect_opened 'without the index' "$whole" "$(grep -v INDEX "$common/tables.sql")"
+expect 'the schema afterwards' "$(sqlite3 "$work/written.db" .schema | sort)" "$(sort "$common/tables.sql")"
 expect_opened 'with a write-ahead log' "$whole" "PRAGMA journal_mode = WAL; $tables"
 expect_opened 'after a vacuum' "$whole" "CREATE TABLE notes (text); $tables" 'DROP TABLE notes; VACUUM;'
-expect_opened 'tables in another order' database "$(tac "$bench/tables.sql" | grep -v INDEX)"
+expect_opened 'tables in another order' database "$(tac "$common/tables.sql" | grep -v INDEX)"
 expect_opened 'another number' schema "$tables" 'UPDATE meta SET value = 2;'
 expect_opened 'a run of nobody' refused "$tables" 'DELETE FROM holder;'
 : >"$work/empty.db"
