@@ -1,7 +1,2 @@
-pub mod StateSteps
-pub mod CheckLemmas
-pub mod RowLemmas
-pub mod CharterSteps
-pub mod WordsSteps
 pub mod DeskFileLemmas
 pub mod ServingLemmas

@@ -11,8 +11,8 @@ use Rattle.registry.specs.History.{History}
 use Rattle.registry.specs.RowsOfAll.{AllRows, HasRows}
 use Rattle.charters.specs.declared.charter.Charter.{Charter}
 use Rattle.tables.specs.TablesHold.{TablesHold}
-use Rattle.cli.specs.declared.fault.ProgramFault.{ProgramFault}
-use Rattle.cli.specs.declared.fault.ProgramFault.TheVariants.{Database, Memory}
+use Rattle.command_line.specs.declared.fault.ProgramFault.{ProgramFault}
+use Rattle.command_line.specs.declared.fault.ProgramFault.TheVariants.{Database, Memory}
 
 -- the tables hold the charter and the rows of the history
 abbrev pub HoldDesk : Charter → History → Trees → Type 0

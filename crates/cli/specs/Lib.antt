@@ -1,8 +1,3 @@
-pub mod Check
-pub mod CsvRows
-pub mod ProgramFaults
-pub mod Words
-pub mod WordsFault
-pub mod CharterFile
 pub mod DeskFiles
 pub mod Serving
+pub mod TaskFaults

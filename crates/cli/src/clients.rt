@@ -33,7 +33,7 @@ pub(crate) const SETUP: [(&str, &str, &str, &str); 4] = [
 pub(crate) const CREATE: &str = "{\"asn\":64496,\"prefix\":\"192.0.2.0/24\",\"max\":24,\
     \"from\":\"2026-01-01\",\"until\":\"2026-12-31\"}";
 
-// What the clients were answered, and what the desk told of their connections.
+// What the clients were answered, and the lines on their connections.
 #[derive(Drop)]
 pub(crate) struct Served {
     pub(crate) answers: Vec<String>,

@@ -13,7 +13,8 @@ ghost use Rattle.database.specs.Databases.{IsUnused};
 ghost use Rattle.desk.specs.Desk.{charter_of, HoldsHistory, IsOnCleanDisk, StandsFor};
 ghost use Rattle.cli.specs.DeskFiles.{AreDeskFiles, IsOfDatabase, KeepDesk};
 
-use crate::fault::ProgramFault;
+use crate::fault::fault_of_store;
+use command_line::ProgramFault;
 use desk::Desk;
 use policy::Charter;
 use sqlite::{Connection, Error, ErrorCode};
@@ -53,7 +54,7 @@ pub fn make_desk<D: Disk + Drop>(
     ensures unused { OnOk result (IsUnused (file_state conn)) }
     ensures err { result ≢ Err ProgramFault.Schema }
 {
-    let desk = Desk::create_on(alloc, conn, charter)?;
+    let desk = Desk::create_on(alloc, conn, charter).map_err(fault_of_store)?;
     let files = close_desk(desk)?;
     Ok(files)
 }
@@ -70,7 +71,7 @@ pub fn open_desk<S: Start>(
         → StandsFor over_files charter desk history) }
 {
     let conn = connect(rt, path, start)?;
-    let desk = Desk::open_from(rt.alloc(), conn)?;
+    let desk = Desk::open_from(rt.alloc(), conn).map_err(fault_of_store)?;
     Ok(desk)
 }
 

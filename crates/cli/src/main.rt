@@ -1,25 +1,18 @@
 //! The program `roadesk`, a hosted route origin authorization desk.
 #![tactic(auto)]
 
-pub mod charter_file;
-pub mod check;
 #[cfg(test)]
 mod clients;
 pub mod desk_file;
-#[cfg(test)]
-mod fakes;
 pub mod fault;
-mod files;
 pub mod help;
 pub mod serve;
-pub mod words;
 
 use addr::Day;
-use charter_file::charter_from;
-use check::check_on;
+pub use command_line::{ProgramFault, Task, WordsFault, charter_from, check_on, read_words};
 use desk::Desk;
 use desk_file::{close_desk, connect, make_desk, open_desk};
-use fault::ProgramFault;
+use fault::fault_of_script;
 use help::help_text;
 use serve::serve_on;
 use sqlite::Alter;
@@ -30,7 +23,6 @@ use std::process::ExitCode;
 use std::rt::HostRuntime;
 use std::{env, fs};
 use web::{Device, Failed, run_script, write_all};
-use words::{Task, read_words};
 
 fn main(rt: HostRuntime) -> ExitCode {
     match run(&rt) {
@@ -46,7 +38,7 @@ fn main(rt: HostRuntime) -> ExitCode {
 fn run(rt: &HostRuntime) -> Result<(), ProgramFault> {
     let args = match env::args(rt) {
         Ok(args) => args,
-        Err(error) => return Err(told(&error, ProgramFault::Words)),
+        Err(error) => return Err(fault_of_error(&error, ProgramFault::Words)),
     };
     let args = args.skip(1).collect::<Vec<_>>(rt.alloc())?;
     let mut words = Vec::with_capacity(rt.alloc(), args.len())?;
@@ -82,7 +74,7 @@ fn run_script_task(rt: &HostRuntime, charter: &str) -> Result<(), ProgramFault> 
     };
     let mut source = Device::new(rt.reader());
     let mut drain = Device::new(io::writer(rt));
-    run_script(rt.alloc(), &mut source, &mut drain, &mut desk).map_err(ProgramFault::from)
+    run_script(rt.alloc(), &mut source, &mut drain, &mut desk).map_err(fault_of_script)
 }
 
 fn run_init_task(rt: &HostRuntime, database: &str, charter: &str) -> Result<(), ProgramFault> {
@@ -128,7 +120,7 @@ fn serve_at<S: Alter>(
 ) -> Result<(), ProgramFault> {
     let listener = match TcpListener::bind(rt, address) {
         Ok(listener) => listener,
-        Err(error) => return Err(told(&error, ProgramFault::Socket)),
+        Err(error) => return Err(fault_of_error(&error, ProgramFault::Socket)),
     };
     let mut errors = rt.stderr();
     match serve_on(rt.alloc(), rt, &listener, count, desk, day, &mut errors) {
@@ -157,7 +149,7 @@ fn run_check_task(rt: &HostRuntime, payloads: &str, routes: &str) -> Result<(), 
 fn read_file(rt: &HostRuntime, path: &str) -> Result<Vec<u8>, ProgramFault> {
     match fs::read(rt, path) {
         Ok(bytes) => Ok(bytes),
-        Err(error) => Err(told(&error, ProgramFault::File)),
+        Err(error) => Err(fault_of_error(&error, ProgramFault::File)),
     }
 }
 
@@ -166,12 +158,12 @@ fn size_of(rt: &HostRuntime, path: &str) -> Result<Option<u64>, ProgramFault> {
     match fs::metadata(rt, path) {
         Ok(metadata) => Ok(Some(metadata.len())),
         Err(error) if error.kind() == ErrorKind::NotFound => Ok(None),
-        Err(error) => Err(told(&error, ProgramFault::Database)),
+        Err(error) => Err(fault_of_error(&error, ProgramFault::Database)),
     }
 }
 
-// Want of memory, or this fault.
-fn told(error: &io::Error, fault: ProgramFault) -> ProgramFault {
+// The fault of an allocation that failed, or else this fault.
+fn fault_of_error(error: &io::Error, fault: ProgramFault) -> ProgramFault {
     match error.kind() {
         ErrorKind::OutOfMemory => ProgramFault::Memory,
         _ => fault,

@@ -1,10 +1,9 @@
 use super::run_task;
 use crate::clients::{CHARTER, SETUP, request, serve};
 use crate::desk_file::{close_desk, open_desk};
-use crate::fault::ProgramFault;
 use crate::help::help_text;
-use crate::words::Task;
 use addr::Day;
+use command_line::{ProgramFault, Task};
 use sqlite_std_file::Unknown;
 use std::fs;
 use std::rt::HostRuntime;
@@ -63,6 +62,7 @@ fn help_names_the_five_tasks(rt: HostRuntime) -> Result<(), Fail> {
 #[test]
 fn a_desk_in_a_file_is_served_again(rt: HostRuntime) -> Result<(), Fail> {
     let day = Day::read(b"2026-03-01").expect(&rt, "a day");
+    // Only a run that was cut off has left the folder.
     let _ = fs::remove_dir_all(&rt, FOLDER);
     fs::create_dir(&rt, FOLDER)?;
     fs::write(&rt, CHARTER_FILE, CHARTER.as_bytes())?;

@@ -1,7 +1,8 @@
 //! How a script is read and its replies are written: pieces, ends, failures and the limit of a line.
-use crate::fakes::{Peer, Sheet, Tape};
+use crate::fakes::{Peer, Tape};
 use crate::scripts::example_desk;
 use desk::Desk;
+use library_conformance::sheet::Sheet;
 use sqlite::MemStore;
 use std::alloc::Global;
 use std::cell::Cell;

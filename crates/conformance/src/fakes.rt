@@ -28,34 +28,6 @@ impl Read for Tape<'_> {
     }
 }
 
-/// Takes `room` bytes, at most three a write, and then fails. Every second call is interrupted.
-#[derive(Drop)]
-pub(crate) struct Sheet {
-    pub(crate) bytes: Vec<u8>,
-    pub(crate) room: usize,
-    pub(crate) is_interrupted: bool,
-}
-
-impl Write for Sheet {
-    fn write(&mut self, bytes: &[u8]) -> Result<usize> {
-        self.is_interrupted = !self.is_interrupted;
-        if self.is_interrupted {
-            return Err(Error::new(ErrorKind::Interrupted, "interrupted"));
-        }
-        if self.room == 0 {
-            return Err(Error::new(ErrorKind::BrokenPipe, "full"));
-        }
-        let count = bytes.len().min(self.room).min(3);
-        self.bytes.extend_from_slice(&bytes[..count])?;
-        self.room -= count;
-        Ok(count)
-    }
-
-    fn flush(&mut self) -> Result<()> {
-        Ok(())
-    }
-}
-
 /// A peer that sends its next line, which is empty, only when it has the reply to the one before.
 #[derive(Drop)]
 pub(crate) struct Peer {

@@ -1,12 +1,13 @@
 //! The desk over HTTP: connections with their responses, whole, in pieces and cut short.
 //!
 //! A row is `METHOD TARGET CALLER BODY => STATUS BODY`, the body of a request left out where it has
-//! none. The rows of a table are asked of one desk, one after the other, on the first of March.
-use crate::fakes::{Sheet, Tape};
+//! none. The rows of a table are sent to one desk, one after the other, on the first of March.
+use crate::fakes::Tape;
 use crate::scripts::example_desk;
 use addr::Day;
 use desk::Desk;
 use library_conformance::rows::rows_of;
+use library_conformance::sheet::Sheet;
 use sqlite::MemStore;
 use std::alloc::Global;
 use std::process::Abort;

@@ -2,11 +2,11 @@
 use crate::scripts::exceptions::FILTER_AND_ASSERTION;
 use crate::scripts::{ALPHA, AUTHORIZATION, Dialogue, example_desk};
 use desk::Desk;
-use library_conformance::example_database::{TABLES, made};
 use sqlite::{Connection, MemStore};
 use std::alloc::Global;
 use std::process::Abort;
 use std::test::Fail;
+use store_conformance::example_database::{TABLES, made};
 
 /// What comes after the opening, over the rows above.
 const AFTERWARDS: &str = r#"

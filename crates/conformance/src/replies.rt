@@ -1,7 +1,7 @@
 //! The texts of replies, and writes that fail.
-use crate::fakes::Sheet;
 use addr::{Asn, Day, Prefix, Vrp};
 use desk::Reply;
+use library_conformance::sheet::Sheet;
 use payload::Validity;
 use policy::{Auth, Rule};
 use std::alloc::Global;

@@ -224,8 +224,8 @@ fn tells_what_a_line_is_refused_for(rt: HostRuntime) -> Result<(), Fail> {
     Ok(())
 }
 
-/// What stands before the items of a list, what stands in an item before its prefix and after it,
-/// what stands after the list, and how many items it may have.
+/// The text before the items of a list, the text of an item before its prefix and after it, the text
+/// after the list, and how many items it may have.
 const LIMITED: [(&str, &str, &str, &str, u32); 4] = [
     (
         r#"reg {"do":"validity","routes":["#,

@@ -80,7 +80,7 @@ fn terms(asn: u32) -> Result<AuthTerms, Fail> {
     Ok(row(asn)?.terms())
 }
 
-// The rule and the row that are told of a denial.
+// The rule and the row that a denial names.
 fn denial<T: Drop>(judged: Result<T, Refusal>) -> Option<(Rule, Option<u64>)> {
     match judged {
         Err(Refusal::Denied(rule, row)) => Some((rule, row)),
@@ -88,7 +88,7 @@ fn denial<T: Drop>(judged: Result<T, Refusal>) -> Option<(Rule, Option<u64>)> {
     }
 }
 
-// What is decided of an import by `ann` where so many authorizations were made.
+// The decision on an import by `ann` where so many authorizations were made.
 fn import_after(
     alloc: Global,
     created: u32,

@@ -2,12 +2,13 @@
 //! from the rules and formats of the desk.
 //!
 //! Each script begins with a line `# NAME`, or `# NAME after SETUP, SETUP, ..` where other lines
-//! stand before its own. A line is `CALLER {"do":..} => REPLY`, asked on the first of March, or
+//! come before its own. A line is `CALLER {"do":..} => REPLY`, sent on the first of March, or
 //! `day DAY`, the day of the lines that follow it.
-use crate::fakes::{Sheet, Tape};
+use crate::fakes::Tape;
 use addr::{Name, Prefix};
 use desk::Desk;
 use library_conformance::rows::parts_of;
+use library_conformance::sheet::Sheet;
 use policy::Charter;
 use sqlite::MemStore;
 use std::alloc::Global;
@@ -171,7 +172,7 @@ impl Dialogue {
         Ok(sheet.bytes)
     }
 
-    /// The lines, asked of the desk one by one, have their replies.
+    /// The lines, sent to the desk one by one, have their replies.
     pub(crate) fn assert_replies_of_lines(
         &self,
         rt: &impl Abort,
@@ -183,7 +184,7 @@ impl Dialogue {
         Ok(())
     }
 
-    // The lines that are requests, asked as one list, have the same replies.
+    // The lines that are requests, sent as one list, have the same replies.
     fn assert_replies_of_run(
         &self,
         rt: &impl Abort,
@@ -280,7 +281,8 @@ fn one_of_pair(alloc: Global, pair: &str, own: &str, other: &str) -> Result<Stri
     Ok(script)
 }
 
-// A script that asks its first line twice, and all after the second reply after each of the two.
+// A script that sends its first line twice, and all lines that follow the second reply after each
+// of the two.
 fn asked_twice(alloc: Global, script: &str) -> Result<String, Fail> {
     let (heading, lines) = script.split_once('\n').ok_or("no lines")?;
     let (first, after_first) = lines.split_once('\n').ok_or("no second reply")?;

@@ -1,25 +1,30 @@
-//! What the libraries below the desk do from outside: vectors of other programs and of the standards,
-//! and databases that were made by SQL. Each table has named rows, and one small function goes
-//! over it.
+//! What the libraries that need no database do from outside: vectors of other programs and of the
+//! standards, the program's words and its files. Each table has named rows, and one small function
+//! goes over it.
 #![tactic(auto)]
 
 #[cfg(test)]
-mod contents;
+mod charter_files;
 #[cfg(test)]
-mod databases;
-pub mod example_database;
+mod checks;
+#[cfg(test)]
+mod contents;
 #[cfg(test)]
 mod memory;
 #[cfg(test)]
 mod prefixes;
+#[cfg(test)]
+mod program_faults;
 pub mod rows;
+pub mod sheet;
 #[cfg(test)]
 mod slurm_files;
-#[cfg(test)]
-mod stores;
+pub mod slurm_sample;
 #[cfg(test)]
 mod tries;
 #[cfg(test)]
 mod values;
 #[cfg(test)]
 mod vrps;
+#[cfg(test)]
+mod words;

@@ -1,6 +1,6 @@
 //! That calls which allocate succeed where there is memory, which no contract says.
 use crate::contents::host_prefixes;
-use crate::slurm_files::SAMPLE;
+use crate::slurm_sample::SAMPLE;
 use crate::vrps::{NESTED, WIDE, fill, vrp_of, vrps_of};
 use addr::{Asn, Holdings, Prefix};
 use payload::{ListIndex, PayloadIndex};

@@ -1,34 +1,12 @@
 //! SLURM files: the lowest fault of each text, and what a file filters and asserts.
 use crate::rows::{nested, rows_of};
+use crate::slurm_sample::SAMPLE;
 use crate::vrps::vrp_of;
 use addr::{Asn, Prefix};
 use serde_json::Value;
 use slurm::{Filter, Slurm, SlurmFault};
 use std::alloc::{AllocError, Global};
 use std::test::Fail;
-
-/// The example of RFC 8416 section 3.5 without its BGPsec entries, and with its IPv6 prefix in the
-/// spelling of RFC 5952.
-pub(crate) const SAMPLE: &str = r#"{
-    "slurmVersion": 1,
-    "validationOutputFilters": {
-        "prefixFilters": [
-            {"prefix": "192.0.2.0/24", "comment": "All VRPs encompassed by prefix"},
-            {"asn": 64496, "comment": "All VRPs matching ASN"},
-            {"prefix": "198.51.100.0/24", "asn": 64497,
-             "comment": "All VRPs encompassed by prefix, matching ASN"}
-        ],
-        "bgpsecFilters": []
-    },
-    "locallyAddedAssertions": {
-        "prefixAssertions": [
-            {"asn": 64496, "prefix": "198.51.100.0/24", "comment": "My other important route"},
-            {"asn": 64496, "prefix": "2001:db8::/32", "maxPrefixLength": 48,
-             "comment": "My other important de-aggregated routes"}
-        ],
-        "bgpsecAssertions": []
-    }
-}"#;
 
 /// The parts of a file, of which the last ones may be missing, and the number of its fault, 0 where
 /// there is none: `slurmVersion`, the prefix filters, the prefix assertions, and what follows in the

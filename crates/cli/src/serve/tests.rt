@@ -1,6 +1,6 @@
-use crate::charter_file::charter_from;
 use crate::clients::{CHARTER, CREATE, SETUP, request, serve};
 use addr::Day;
+use command_line::charter_from;
 use desk::Desk;
 use sqlite::MemStore;
 use std::cell::Cell;

@@ -13,8 +13,8 @@ const IMPORT_HEADER: &[u8] = b"asn,prefix,maxlength,from,until\n";
 
 const EXPORT_HEADER: &str = "number,asn,prefix,maxlength,from,until\n";
 
-/// What stands after the header of an import by `ann` at `alpha`, a semicolon for each line feed,
-/// and the last line of the response. They are asked one after the other.
+/// The text after the header of an import by `ann` at `alpha`, a semicolon for each line feed, and
+/// the last line of the response. They are sent one after the other.
 const ROWS: &str = r#"
 # row_is_made
 AS64496,192.0.2.0/24,24,2026-01-01,2026-12-31; => 200 {"made":1,"present":0}
@@ -305,7 +305,7 @@ fn assert_csv(
     assert_response(rt, alloc, desk, request.as_bytes(), &response, row)
 }
 
-// A body in which a semicolon stands for each line feed.
+// The bytes of a text, a line feed for each semicolon.
 fn body_of(alloc: Global, text: &str) -> Result<Vec<u8>, Fail> {
     let mut body = Vec::new(alloc);
     for byte in text.bytes() {

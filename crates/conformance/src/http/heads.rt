@@ -3,8 +3,8 @@ use super::{assert_response, json_response, response_of};
 use crate::scripts::example_desk;
 use std::test::Fail;
 
-/// The fields of a head, and the last line of the response to a request for VRPs with them; `CSV`
-/// stands for VRPs.
+/// The fields of a head, and the last line of the response to a request for VRPs with them, which is
+/// `CSV` where VRPs are answered.
 const FIELDS: [(&str, &str, &str); 19] = [
     ("one_caller", "Desk-Caller: bob\r\n", "CSV"),
     ("field_names_in_any_case", "dESK-cALLER: bob\r\n", "CSV"),
@@ -83,7 +83,7 @@ const FIELDS: [(&str, &str, &str); 19] = [
     ("no_colon", "Desk-Caller\r\n", "400 {\"error\":400}"),
 ];
 
-/// Lengths that are told of a body, and the last line of the response.
+/// Fields for the length of a body, and the last line of the response.
 const LENGTHS: [(&str, &str, &str); 10] = [
     ("no_length", "", "411 {\"error\":411}"),
     (

@@ -93,7 +93,7 @@ fn body_limit(rt: HostRuntime) -> Result<(), Fail> {
     assert_response(&rt, alloc, &mut desk, longer.as_bytes(), &refused, "longer")
 }
 
-/// How deep the list in a body nests, and what is told of the body.
+/// How deep the list in a body nests, and the last line of the response.
 const DEPTHS: [(u32, &str); 2] = [
     (126, "400 {\"malformed\":2}"),
     (127, "400 {\"malformed\":1}"),

@@ -1,4 +1,4 @@
-//! Pairs of scripts that differ in what is asked at `beta` and `gamma`, and ask the same at `alpha`.
+//! Pairs of scripts whose requests at `beta` and `gamma` differ, and those at `alpha` are the same.
 //! A line that begins with `first: ` or `second: ` is in that script alone, any other in both: so
 //! the replies at `alpha` are the same line by line.
 

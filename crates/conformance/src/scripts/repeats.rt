@@ -1,5 +1,5 @@
-//! Requests that are asked twice. A script has the request with its first reply, the reply to it
-//! when it is asked again, and then what is looked at after each of the two, with the same replies.
+//! Requests that are sent twice. A script has the request with its first reply, the reply to it when
+//! it is sent again, and then what is looked at after each of the two, with the same replies.
 
 pub(crate) const TWICE: &str = r#"
 # register_twice after holder, authorization

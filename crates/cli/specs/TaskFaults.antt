@@ -1,0 +1,17 @@
+-- How the faults of a script and of the store become the program's.
+use Rattle.command_line.specs.declared.fault.ProgramFault.{ProgramFault}
+use Rattle.command_line.specs.declared.fault.ProgramFault.TheVariants.{Database, Memory, Schema, Stream}
+use Rattle.database.specs.declared.fault.StoreFault.{StoreFault}
+use Rattle.database.specs.declared.fault.StoreFault.TheVariants as store
+use Rattle.web.specs.declared.script.ScriptFault.{ScriptFault}
+use Rattle.web.specs.declared.script.ScriptFault.TheVariants as script
+
+-- a stream failed, or an allocation
+abbrev pub fault_of_script : ScriptFault → ProgramFault
+fault_of_script script.Read = Stream
+fault_of_script script.Write = Stream
+fault_of_script script.Memory = Memory
+
+abbrev pub fault_of_store : StoreFault → ProgramFault
+fault_of_store store.Database = Database
+fault_of_store store.Schema = Schema

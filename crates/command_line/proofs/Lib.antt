@@ -1,0 +1,5 @@
+pub mod StateSteps
+pub mod CheckLemmas
+pub mod RowLemmas
+pub mod CharterSteps
+pub mod WordsSteps

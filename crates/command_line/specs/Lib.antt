@@ -1,0 +1,6 @@
+pub mod Check
+pub mod CsvRows
+pub mod ProgramFaults
+pub mod Words
+pub mod WordsFault
+pub mod CharterFile

@@ -1,0 +1,71 @@
+-- The statuses and lines of the program's faults, and how the faults of files and words become the
+-- program's.
+use Rattle.std.specs.Prelude.{ℕ, List, ◌++◌, codes, decimal}
+use Rattle.addr.specs.PrefixText.{prefix_fault_number}
+use Rattle.command_line.specs.declared.fault.FileFault.{FileFault}
+use Rattle.command_line.specs.declared.fault.FileFault.TheVariants as file
+use Rattle.command_line.specs.declared.fault.InputFile.{InputFile}
+use Rattle.command_line.specs.declared.fault.InputFile.TheVariants as input
+use Rattle.command_line.specs.declared.fault.ProgramFault.{ProgramFault}
+use Rattle.command_line.specs.declared.fault.RowFault.{RowFault}
+use Rattle.command_line.specs.declared.fault.RowFault.TheVariants as row
+use Rattle.command_line.specs.declared.fault.ProgramFault.TheVariants.{Words, Day, File, Database, Socket, Stream, Memory, Header, Row, CharterCount, Schema, Exists}
+use Rattle.command_line.specs.declared.words.WordsFault.{WordsFault}
+use Rattle.command_line.specs.declared.words.WordsFault.TheVariants as words
+
+-- 2 other words or no day, 3 a file, the database, a socket or a stream failed, 4 an allocation failed, 5 what a
+-- file holds is refused
+abbrev pub status_of : ProgramFault → ℕ
+status_of Words = 2
+status_of Day = 2
+status_of File = 3
+status_of Database = 3
+status_of Socket = 3
+status_of Stream = 3
+status_of Memory = 4
+status_of (Header file) = 5
+status_of (Row file row fault) = 5
+status_of CharterCount = 5
+status_of Schema = 5
+status_of Exists = 5
+
+abbrev pub file_name : InputFile → List ℕ
+file_name input.Charter = codes "charter"
+file_name input.Payloads = codes "payloads"
+file_name input.Routes = codes "routes"
+
+abbrev pub row_fault_text : RowFault → List ℕ
+row_fault_text row.Fields = codes "fields"
+row_fault_text row.Kind = codes "kind"
+row_fault_text row.Name = codes "name"
+row_fault_text row.Asn = codes "asn"
+row_fault_text (row.Prefix fault) = codes "prefix " ++ decimal (prefix_fault_number fault)
+row_fault_text row.Length = codes "length"
+row_fault_text row.Origin = codes "origin"
+row_fault_text row.Repeated = codes "repeated"
+
+-- the line on standard error, without its line feed
+abbrev pub line_text : ProgramFault → List ℕ
+line_text Words = codes "roadesk: words"
+line_text Day = codes "roadesk: day"
+line_text File = codes "roadesk: file"
+line_text Database = codes "roadesk: database"
+line_text Socket = codes "roadesk: socket"
+line_text Stream = codes "roadesk: stream"
+line_text Memory = codes "roadesk: memory"
+line_text (Header file) = codes "roadesk: " ++ file_name file ++ codes " header"
+line_text (Row file number fault) =
+    codes "roadesk: " ++ file_name file ++ codes " row " ++ decimal number
+    ++ codes ": " ++ row_fault_text fault
+line_text CharterCount = codes "roadesk: charter count"
+line_text Schema = codes "roadesk: schema"
+line_text Exists = codes "roadesk: exists"
+
+abbrev pub fault_of_words : WordsFault → ProgramFault
+fault_of_words words.Words = Words
+fault_of_words words.Day = Day
+
+abbrev pub fault_of_file : InputFile → FileFault → ProgramFault
+fault_of_file which file.Memory = Memory
+fault_of_file which file.Header = Header which
+fault_of_file which (file.Row row fault) = Row which row fault

@@ -1,0 +1,258 @@
+//! Databases that were made by SQL, and what opening them as a store answers: `ok`, or the fault.
+//! The statements and the answers follow from the formats of the tables.
+use crate::example_database::{TABLES, made};
+use library_conformance::rows::rows_of;
+use sqlite::{Alter, Connection};
+use sqlite_disk::{Disk, Files, Memory};
+use sqlite_pager::Options;
+use std::alloc::Global;
+use std::process::Abort;
+use std::test::Fail;
+use store::{Store, StoreFault};
+
+/// Statements over the rows of the example, and what the opening answers then.
+const CHANGED_ROWS: &str = r#"
+# number_of_the_schema
+UPDATE meta SET value = 1 => ok
+UPDATE meta SET value = 2 => schema
+UPDATE meta SET value = 0 => schema
+UPDATE meta SET name = 'version' => schema
+DELETE FROM meta => schema
+INSERT INTO meta VALUES ('notes', 1) => database
+# charter
+INSERT INTO operator VALUES ('-reg') => schema
+INSERT INTO operator VALUES ('Reg') => schema
+INSERT INTO operator VALUES ('') => schema
+DELETE FROM operator => schema
+INSERT INTO operator WITH RECURSIVE n (i) AS (SELECT 1 UNION ALL SELECT i + 1 FROM n WHERE i < 15) SELECT 'reg' || i FROM n => ok
+INSERT INTO operator WITH RECURSIVE n (i) AS (SELECT 1 UNION ALL SELECT i + 1 FROM n WHERE i < 16) SELECT 'reg' || i FROM n => schema
+UPDATE pool SET family = 5 => schema
+UPDATE pool SET len = 33 => schema
+UPDATE pool SET lo = x'000000000000000000000000c0000201' WHERE lo = x'000000000000000000000000c0000200' => schema
+DELETE FROM pool => schema
+INSERT INTO pool WITH RECURSIVE n (i) AS (SELECT 1 UNION ALL SELECT i + 1 FROM n WHERE i < 62) SELECT 6, x'00000000000000000000000000000000', i FROM n => ok
+INSERT INTO pool WITH RECURSIVE n (i) AS (SELECT 1 UNION ALL SELECT i + 1 FROM n WHERE i < 63) SELECT 6, x'00000000000000000000000000000000', i FROM n => schema
+# holders
+INSERT INTO holder VALUES ('a2345678901234567890123456789012', 0, 0) => ok
+INSERT INTO holder VALUES ('a23456789012345678901234567890123', 0, 0) => schema
+INSERT INTO holder VALUES ('', 0, 0) => schema
+INSERT INTO holder VALUES ('Alpha', 0, 0) => schema
+INSERT INTO holder VALUES ('-alpha', 0, 0) => schema
+INSERT INTO holder VALUES ('ålpha', 0, 0) => schema
+UPDATE holder SET grants = 999999, auths = 999999 => ok
+UPDATE holder SET grants = 1000000 => schema
+UPDATE holder SET auths = 1000000 => schema
+UPDATE holder SET grants = -1 => schema
+UPDATE holder SET auths = 4294967296 => schema
+# runs_of_addresses
+UPDATE holding SET hi = x'000000000000000000000000c0000200' => ok
+UPDATE holding SET hi = x'000000000000000000000000c00001ff' => schema
+UPDATE holding SET lo = x'000000000000000000000000c00003' => schema
+UPDATE holding SET hi = x'00000000000000000000000000c00002ff' => schema
+UPDATE holding SET lo = x'' => schema
+UPDATE holding SET hi = x'000000000000000000000000ffffffff' => ok
+UPDATE holding SET hi = x'00000000000000000000000100000000' => schema
+UPDATE holding SET family = 6, hi = x'ffffffffffffffffffffffffffffffff' => ok
+UPDATE holding SET family = 5 => schema
+UPDATE holding SET family = 0 => schema
+# grants
+UPDATE granted SET number = 999999 => ok
+UPDATE granted SET number = 0 => schema
+UPDATE granted SET number = 1000000 => schema
+UPDATE granted SET number = -1 => schema
+UPDATE granted SET caller = 'a23456789012345678901234567890123' => schema
+UPDATE granted SET role = 3 => ok
+UPDATE granted SET role = 4 => schema
+UPDATE granted SET role = 0 => schema
+UPDATE granted SET role = 2, family = 4, lo = x'000000000000000000000000c0000200', len = 25 => ok
+UPDATE granted SET role = 2, lo = x'000000000000000000000000c0000200', len = 25 => schema
+UPDATE granted SET role = 2, family = 4, len = 25 => schema
+UPDATE granted SET role = 2, family = 4, lo = x'000000000000000000000000c0000200' => schema
+UPDATE granted SET role = 2, len = 25 => schema
+UPDATE granted SET role = 2, family = 4, lo = x'000000000000000000000000c0000201', len = 25 => schema
+UPDATE granted SET until = 2932896 => ok
+UPDATE granted SET until = 2932897 => schema
+UPDATE granted SET until = -1 => schema
+# authorizations
+UPDATE auth SET number = 999999 => ok
+UPDATE auth SET number = 0 => schema
+UPDATE auth SET number = 1000000 => schema
+UPDATE auth SET asn = 4294967295 => ok
+UPDATE auth SET asn = 4294967296 => schema
+UPDATE auth SET asn = -1 => schema
+UPDATE auth SET family = 6, len = 120, max = 128 => ok
+UPDATE auth SET family = 6 => schema
+UPDATE auth SET family = 5 => schema
+UPDATE auth SET lo = x'0000000000000000000000c0000200' => schema
+UPDATE auth SET lo = x'0000000000000000000000000000c0000200' => schema
+UPDATE auth SET lo = x'000000000000000000000000c0000280' => schema
+UPDATE auth SET lo = x'000000000000000000000001c0000200' => schema
+UPDATE auth SET len = 33, max = 33 => schema
+UPDATE auth SET len = 22 => schema
+UPDATE auth SET len = -1 => schema
+UPDATE auth SET max = 32 => ok
+UPDATE auth SET max = 33 => schema
+UPDATE auth SET max = 23 => schema
+UPDATE auth SET family = 6, len = 120, max = 129 => schema
+UPDATE auth SET max = 280 => schema
+UPDATE auth SET opens = 0, ends = 2932896 => ok
+UPDATE auth SET ends = 2932897 => schema
+UPDATE auth SET opens = 2932897 => schema
+UPDATE auth SET opens = -1 => schema
+# rows_are_asked_one_by_one
+UPDATE holder SET grants = 0, auths = 0 => ok
+UPDATE auth SET opens = 20818, ends = 20454 => ok
+UPDATE granted SET family = 4, lo = x'000000000000000000000000c0000200', len = 25 => ok
+DELETE FROM holding => ok
+INSERT INTO holding VALUES (4, x'000000000000000000000000c0000300', x'000000000000000000000000c00003ff', 'alpha') => ok
+INSERT INTO holder VALUES ('beta', 0, 0); INSERT INTO holding VALUES (4, x'000000000000000000000000c0000280', x'000000000000000000000000c00002ff', 'beta') => ok
+# indexes_and_views_beside_the_tables
+DROP INDEX holding_of => ok
+CREATE INDEX auth_by_as ON auth (asn, family) => ok
+CREATE UNIQUE INDEX one_caller ON granted (caller) => ok
+CREATE VIEW in_force AS SELECT holder, number FROM auth WHERE opens <= 20513 AND ends >= 20513 => ok
+# tables_made_again
+CREATE TABLE notes (text TEXT) STRICT => database
+DROP TABLE slurm => schema
+DROP TABLE slurm; CREATE TABLE exceptions (file TEXT) STRICT => schema
+DROP TABLE meta; CREATE TABLE meta (name TEXT NOT NULL, value INTEGER NOT NULL, PRIMARY KEY (name)) STRICT; INSERT INTO meta VALUES ('schema', 1) => database
+"#;
+
+/// Rows of exceptions, and what the opening answers then.
+const EXCEPTIONS: &str = r#"
+# exceptions_that_read
+INSERT INTO slurm VALUES ('main', 1, 1, NULL, NULL, NULL, NULL, 64496) => ok
+INSERT INTO slurm VALUES ('main', 1, 1, 4, x'000000000000000000000000c0000200', 24, NULL, NULL) => ok
+INSERT INTO slurm VALUES ('main', 1, 7, 4, x'000000000000000000000000c0000200', 24, NULL, 0) => ok
+INSERT INTO slurm VALUES ('main', 2, 1, 4, x'000000000000000000000000c6336400', 24, 24, 64496) => ok
+INSERT INTO slurm VALUES ('main', 2, 1, 6, x'20010db8000000000000000000000000', 32, 128, 4294967295) => ok
+# exceptions_that_do_not_read
+INSERT INTO slurm VALUES ('other', 1, 1, NULL, NULL, NULL, NULL, 64496) => schema
+INSERT INTO slurm VALUES ('main', 0, 1, NULL, NULL, NULL, NULL, 64496) => schema
+INSERT INTO slurm VALUES ('main', 3, 1, NULL, NULL, NULL, NULL, 64496) => schema
+INSERT INTO slurm VALUES ('main', 1, 0, NULL, NULL, NULL, NULL, 64496) => schema
+INSERT INTO slurm VALUES ('main', 1, 1, NULL, NULL, NULL, NULL, NULL) => schema
+INSERT INTO slurm VALUES ('main', 1, 1, NULL, NULL, NULL, NULL, 4294967296) => schema
+INSERT INTO slurm VALUES ('main', 1, 1, 4, NULL, 24, NULL, NULL) => schema
+INSERT INTO slurm VALUES ('main', 1, 1, NULL, x'000000000000000000000000c0000200', 24, NULL, 64496) => schema
+INSERT INTO slurm VALUES ('main', 1, 1, 4, x'000000000000000000000000c0000200', NULL, NULL, NULL) => schema
+INSERT INTO slurm VALUES ('main', 1, 1, 4, x'000000000000000000000000c0000201', 24, NULL, NULL) => schema
+INSERT INTO slurm VALUES ('main', 1, 1, 4, x'000000000000000000000000c0000200', 24, 24, NULL) => schema
+INSERT INTO slurm VALUES ('main', 2, 1, 4, x'000000000000000000000000c0000200', 24, 24, NULL) => schema
+INSERT INTO slurm VALUES ('main', 2, 1, 4, x'000000000000000000000000c0000200', 24, NULL, 64496) => schema
+INSERT INTO slurm VALUES ('main', 2, 1, NULL, NULL, NULL, NULL, 64496) => schema
+INSERT INTO slurm VALUES ('main', 2, 1, 4, x'000000000000000000000000c0000200', 24, 23, 64496) => schema
+INSERT INTO slurm VALUES ('main', 2, 1, 4, x'000000000000000000000000c0000200', 24, 33, 64496) => schema
+"#;
+
+/// A part of the statements that make the tables, what replaces it, and what the opening answers
+/// then.
+const OTHER_TABLES: &str = r#"
+# spelling_of_the_statements
+CREATE TABLE meta (name TEXT NOT NULL | create table "meta" ( name text not null => ok
+# table_of_another_name
+CREATE TABLE slurm | CREATE TABLE exceptions => schema
+# column_is_missing
+, asn INTEGER, PRIMARY KEY (file | , PRIMARY KEY (file => schema
+max INTEGER, asn INTEGER | greatest INTEGER, asn INTEGER => schema
+# column_too_many
+, asn INTEGER, PRIMARY KEY (file | , asn INTEGER, comment TEXT, PRIMARY KEY (file => database
+# columns_in_another_order
+max INTEGER, asn INTEGER | asn INTEGER, max INTEGER => database
+# name_in_other_letters
+CREATE TABLE slurm | CREATE TABLE Slurm => database
+max INTEGER, asn INTEGER | max INTEGER, ASN INTEGER => database
+# column_of_another_kind
+max INTEGER, asn INTEGER | max INTEGER, asn TEXT => database
+max INTEGER, asn INTEGER | max INTEGER, asn ANY => database
+max INTEGER, asn INTEGER | max INTEGER, asn INTEGER NOT NULL => database
+max INTEGER, asn INTEGER | max INTEGER, asn INTEGER DEFAULT 0 => database
+max INTEGER, asn INTEGER | max INTEGER, asn INTEGER CHECK (asn > 0) => database
+# key_is_missing
+, PRIMARY KEY (file, kind, position)) STRICT | ) STRICT => database
+, UNIQUE (asn, family, lo, len, max)) STRICT | ) STRICT => database
+PRIMARY KEY (file, kind, position)) STRICT | PRIMARY KEY (file, position, kind)) STRICT => database
+PRIMARY KEY (file, kind, position)) STRICT | PRIMARY KEY (file, kind, position)) => database
+# holder_of_a_run_is_not_tested
+holder TEXT NOT NULL REFERENCES holder (name), PRIMARY KEY (family, lo) | holder TEXT NOT NULL, PRIMARY KEY (family, lo) => database
+# table_before_the_others
+CREATE TABLE meta | CREATE TABLE notes (text TEXT) STRICT; CREATE TABLE meta => database
+# index_of_another_name
+CREATE INDEX holding_of | CREATE INDEX run_of => ok
+"#;
+
+fn answer_of<S: Alter + Drop>(alloc: Global, conn: Connection<S>) -> &'static str {
+    match Store::open_from(alloc, conn) {
+        Ok(_store) => "ok",
+        Err(StoreFault::Database) => "database",
+        Err(StoreFault::Schema) => "schema",
+    }
+}
+
+fn assert_answers(rt: &impl Abort, alloc: Global, rows: &str) -> Result<(), Fail> {
+    for row in rows_of(alloc, rows)? {
+        let mut conn = made(alloc, TABLES)?;
+        conn.execute_batch(row.input)?;
+        let answer = answer_of(alloc, conn);
+        assert_eq!(rt; answer, row.output, "{}: {}", row.name, row.input);
+    }
+    Ok(())
+}
+
+#[test]
+fn opening_asks_each_row(rt: HostRuntime) -> Result<(), Fail> {
+    assert_answers(&rt, rt.alloc(), CHANGED_ROWS)
+}
+
+#[test]
+fn opening_asks_each_exception(rt: HostRuntime) -> Result<(), Fail> {
+    assert_answers(&rt, rt.alloc(), EXCEPTIONS)
+}
+
+#[test]
+fn opening_asks_the_tables(rt: HostRuntime) -> Result<(), Fail> {
+    for row in rows_of(rt.alloc(), OTHER_TABLES)? {
+        let (old, new) = row.input.split_once(" | ").ok_or("two parts")?;
+        let (before, after) = TABLES.split_once(old).ok_or("a part of the statements")?;
+        let tables = format!(in rt.alloc(); "{before}{new}{after}")?;
+        let answer = answer_of(rt.alloc(), made(rt.alloc(), &tables)?);
+        assert_eq!(rt; answer, row.output, "{}: {}", row.name, row.input);
+    }
+    Ok(())
+}
+
+#[test]
+fn connection_in_a_transaction_is_refused(rt: HostRuntime) -> Result<(), Fail> {
+    let mut conn = made(rt.alloc(), TABLES)?;
+    conn.execute_batch("BEGIN")?;
+    assert_eq!(rt; answer_of(rt.alloc(), conn), "database");
+    Ok(())
+}
+
+#[test]
+fn limit_of_steps_is_lifted(rt: HostRuntime) -> Result<(), Fail> {
+    let mut conn = made(rt.alloc(), TABLES)?;
+    conn.set_step_limit(Some(1));
+    assert_eq!(rt; answer_of(rt.alloc(), conn), "ok");
+    Ok(())
+}
+
+/// What opening a file of these bytes answers; `refused` where the database refuses it.
+fn answer_of_file(alloc: Global, bytes: &[u8]) -> Result<&'static str, Fail> {
+    let log = Memory::new(alloc);
+    let mut db = Memory::new(alloc);
+    db.write_at(0, bytes)?;
+    match Connection::open_files(alloc, Files { log, db }, Options::new(1)) {
+        Ok(conn) => Ok(answer_of(alloc, conn)),
+        Err(_) => Ok("refused"),
+    }
+}
+
+#[test]
+fn files_that_have_no_table(rt: HostRuntime) -> Result<(), Fail> {
+    for (bytes, expected) in [("", "schema"), ("register,alpha\n", "refused")] {
+        let answer = answer_of_file(rt.alloc(), bytes.as_bytes())?;
+        assert_eq!(rt; answer, expected, "{bytes:?}");
+    }
+    Ok(())
+}

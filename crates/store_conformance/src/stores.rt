@@ -1,0 +1,295 @@
+//! The store: what was applied is loaded, and what breaks a key is refused.
+use crate::example_database::{TABLES, made};
+use addr::{Asn, Day, Holdings, Name, Prefix};
+use library_conformance::slurm_sample::SAMPLE;
+use policy::{
+    Auth, Change, Charter, Command, Edit, Granted, HolderChange, Role, Scope, View, decide,
+};
+use slurm::{Filter, Slurm};
+use sqlite::{Connection, MemStore};
+use std::alloc::Global;
+use std::process::Abort;
+use std::test::Fail;
+use store::{Store, StoreFault};
+
+fn name(text: &str) -> Result<Name, Fail> {
+    Ok(Name::read(text.as_bytes()).ok_or("a name")?)
+}
+
+fn first_of_march() -> Result<Day, Fail> {
+    Ok(Day::read(b"2026-03-01").ok_or("a day")?)
+}
+
+/// A charter of one operator and one prefix in the pool.
+fn charter(alloc: Global) -> Result<Charter, Fail> {
+    let mut operators = Vec::new(alloc);
+    operators.push(name("reg")?)?;
+    let mut pool = Vec::new(alloc);
+    pool.push(Prefix::read(b"192.0.0.0/16")?)?;
+    Ok(Charter::make(operators, pool)?)
+}
+
+/// A store that has the holder `alpha`.
+fn registered_holder(alloc: Global) -> Result<Store<MemStore>, Fail> {
+    let Ok(mut store) = Store::open_memory(alloc, &charter(alloc)?) else {
+        return Err("no store".into());
+    };
+    apply(&mut store, Edit::Register)?;
+    Ok(store)
+}
+
+// Changes the rows of `alpha`.
+fn change(store: &mut Store<MemStore>, edit: Edit) -> Result<Result<(), StoreFault>, Fail> {
+    let holder = name("alpha")?;
+    let change = Change::Holders {
+        first: HolderChange { holder, edit },
+        second: None,
+    };
+    Ok(store.apply(&change))
+}
+
+fn apply(store: &mut Store<MemStore>, edit: Edit) -> Result<(), Fail> {
+    match change(store, edit)? {
+        Ok(()) => Ok(()),
+        Err(_) => Err("the change is refused".into()),
+    }
+}
+
+fn authorization(number: u32) -> Result<Auth, Fail> {
+    Ok(Auth {
+        number,
+        asn: Asn(64_496),
+        prefix: Prefix::read(b"192.0.2.0/24")?,
+        max: 24,
+        from: first_of_march()?,
+        until: first_of_march()?,
+    })
+}
+
+// So many authorizations of one prefix, each of an AS of its own, where four were made before.
+fn next_authorizations(alloc: Global, count: u32) -> Result<Vec<Auth>, Fail> {
+    let mut auths = Vec::new(alloc);
+    for number in 5..5u32.saturating_add(count) {
+        let mut auth = authorization(number)?;
+        auth.asn = Asn(number);
+        auths.push(auth)?;
+    }
+    Ok(auths)
+}
+
+fn grant() -> Result<Granted, Fail> {
+    Ok(Granted {
+        number: 1,
+        caller: name("ann")?,
+        role: Role::Manager,
+        scope: Scope::Only(Prefix::read(b"192.0.2.0/24")?),
+        until: first_of_march()?,
+    })
+}
+
+// The runs of 192.0.2.0/24 except this prefix, in place of all of it.
+fn hold(alloc: Global, without: Option<&Prefix>) -> Result<Edit, Fail> {
+    let mut holdings = Holdings::new(alloc);
+    let whole = Prefix::read(b"192.0.2.0/24")?;
+    holdings.add(&whole)?;
+    let mut removed = Vec::new(alloc);
+    if let Some(prefix) = without {
+        holdings.take(prefix)?;
+        removed.push(whole.span())?;
+    }
+    Ok(Edit::Hold {
+        removed,
+        added: Vec::from_slice(alloc, holdings.spans())?,
+        ended: Vec::new(alloc),
+    })
+}
+
+#[test]
+fn each_edit_runs_in_memory(rt: HostRuntime) -> Result<(), Fail> {
+    let mut store = registered_holder(rt.alloc())?;
+    apply(&mut store, Edit::Grant(grant()?))?;
+    apply(&mut store, hold(rt.alloc(), None)?)?;
+    apply(&mut store, Edit::Create(authorization(1)?))?;
+    apply(&mut store, Edit::Amend(authorization(1)?))?;
+    apply(&mut store, Edit::Withdraw(1))?;
+    apply(&mut store, Edit::Revoke(1))
+}
+
+#[test]
+fn what_was_applied_is_loaded(rt: HostRuntime) -> Result<(), Fail> {
+    let mut store = registered_holder(rt.alloc())?;
+    assert_eq!(rt; store.charter().operators().len(), 1);
+    apply(&mut store, hold(rt.alloc(), None)?)?;
+    apply(&mut store, Edit::Create(authorization(1)?))?;
+    let loaded = store.load_holder(rt.alloc(), &name("alpha")?);
+    assert!(rt; matches!(loaded, Ok(Some(_))));
+    let both = store.load_two(rt.alloc(), &name("alpha")?, &name("beta")?);
+    assert!(rt; matches!(both, Ok((Some(_), None))));
+    let Ok(vrps) = store.all_auths_on(rt.alloc(), first_of_march()?) else {
+        return Err("no VRPs".into());
+    };
+    assert_eq!(rt; vrps.len(), 1);
+    Ok(())
+}
+
+#[test]
+fn imported_authorizations_are_loaded(rt: HostRuntime) -> Result<(), Fail> {
+    for (count, created) in [(0, 4), (1, 5), (3, 7)] {
+        let mut store = registered_holder(rt.alloc())?;
+        let auths = next_authorizations(rt.alloc(), count)?;
+        let made = auths.clone()?;
+        apply(&mut store, Edit::Import { auths, created })?;
+        let rows = view(rt.alloc(), &mut store)?.holder.ok_or("rows")?;
+        assert!(rt; rows.auths == made);
+        assert_eq!(rt; rows.created, created);
+    }
+    Ok(())
+}
+
+#[test]
+fn overlapping_after_reclaim(rt: HostRuntime) -> Result<(), Fail> {
+    let mut store = registered_holder(rt.alloc())?;
+    apply(&mut store, hold(rt.alloc(), None)?)?;
+    let reclaimed = Prefix::read(b"192.0.2.0/26")?;
+    apply(&mut store, hold(rt.alloc(), Some(&reclaimed))?)?;
+    for (text, overlaps) in [
+        ("192.0.2.0/26", false),
+        ("192.0.2.0/25", true),
+        ("192.0.2.0/24", true),
+        ("::/0", false),
+    ] {
+        let found = store.overlapping(&Prefix::read(text.as_bytes())?);
+        assert!(rt; matches!(found, Ok(found) if found == overlaps), "{text}");
+    }
+    Ok(())
+}
+
+// The rows of `alpha`, of which no delegation's prefix is taken.
+fn view(alloc: Global, store: &mut Store<MemStore>) -> Result<View, Fail> {
+    match store.load_holder(alloc, &name("alpha")?) {
+        Ok(holder) => Ok(View {
+            holder,
+            taken: false,
+        }),
+        Err(_) => Err("no rows".into()),
+    }
+}
+
+// How many runs a delegation to `alpha` takes away, and how many it puts.
+fn runs_moved(alloc: Global, view: &View, prefix: &str) -> Result<(usize, usize), Fail> {
+    let command = Command::Delegate {
+        holder: name("alpha")?,
+        prefix: Prefix::read(prefix.as_bytes())?,
+    };
+    let (day, caller) = (first_of_march()?, name("reg")?);
+    let change = decide(alloc, &charter(alloc)?, view, day, &caller, &command)?;
+    let Change::Holders { first, .. } = &change else {
+        return Err("another change".into());
+    };
+    match &first.edit {
+        Edit::Hold { removed, added, .. } => Ok((removed.len(), added.len())),
+        _ => Err("another edit".into()),
+    }
+}
+
+#[test]
+fn delegation_takes_away_only_what_it_touches(rt: HostRuntime) -> Result<(), Fail> {
+    let mut store = registered_holder(rt.alloc())?;
+    apply(&mut store, hold(rt.alloc(), None)?)?;
+    let view = view(rt.alloc(), &mut store)?;
+    for (prefix, moved) in [("192.0.3.0/24", (1, 1)), ("192.0.4.0/24", (0, 1))] {
+        let found = runs_moved(rt.alloc(), &view, prefix)?;
+        assert_eq!(rt; found, moved, "{prefix}");
+    }
+    Ok(())
+}
+
+#[test]
+fn what_breaks_a_key_is_refused(rt: HostRuntime) -> Result<(), Fail> {
+    let mut store = registered_holder(rt.alloc())?;
+    let again = change(&mut store, Edit::Register)?;
+    assert!(rt; matches!(again, Err(StoreFault::Database)));
+    apply(&mut store, Edit::Create(authorization(1)?))?;
+    // The same AS, prefix and maxLength under another number.
+    let second = change(&mut store, Edit::Create(authorization(2)?))?;
+    assert!(rt; matches!(second, Err(StoreFault::Database)));
+    Ok(())
+}
+
+#[test]
+fn database_that_has_tables_is_refused(rt: HostRuntime) -> Result<(), Fail> {
+    let charter = charter(rt.alloc())?;
+    let conn = Connection::open_in_memory(rt.alloc()).expect(&rt, "a connection");
+    let Ok(store) = Store::create_on(conn, &charter) else {
+        return Err("no store".into());
+    };
+    let again = Store::create_on(store.close(), &charter);
+    assert!(rt; matches!(again, Err(StoreFault::Database)));
+    Ok(())
+}
+
+// A maxLength below the length of its prefix: the columns hold it, and no VRP has it.
+#[test]
+fn authorization_that_gives_no_vrp_is_another_schema(rt: HostRuntime) -> Result<(), Fail> {
+    let mut store = registered_holder(rt.alloc())?;
+    let mut auth = authorization(1)?;
+    auth.max = 23;
+    apply(&mut store, Edit::Create(auth))?;
+    let vrps = store.all_auths_on(rt.alloc(), first_of_march()?);
+    assert!(rt; matches!(vrps, Err(StoreFault::Schema)));
+    Ok(())
+}
+
+// The one file of the store.
+fn only_file(alloc: Global, store: &mut Store<MemStore>) -> Result<Slurm, Fail> {
+    let Ok(mut files) = store.slurm_files(alloc) else {
+        return Err("no files".into());
+    };
+    if files.len() > 1 {
+        return Err("more than one file".into());
+    }
+    Ok(files.pop().ok_or("a file")?)
+}
+
+#[test]
+fn slurm_file_is_loaded_as_it_was_applied(rt: HostRuntime) -> Result<(), Fail> {
+    let mut store = registered_holder(rt.alloc())?;
+    let file = Slurm::read(rt.alloc(), SAMPLE.as_bytes())?;
+    let copy = file.clone()?;
+    assert!(rt; store.apply(&Change::Exceptions(copy)).is_ok());
+    let loaded = only_file(rt.alloc(), &mut store)?;
+    assert!(rt; loaded.filters() == file.filters());
+    assert!(rt; loaded.assertions() == file.assertions());
+    let empty = Slurm::make(Vec::new(rt.alloc()), Vec::new(rt.alloc()))?;
+    assert!(rt; store.apply(&Change::Exceptions(empty)).is_ok());
+    let Ok(files) = store.slurm_files(rt.alloc()) else {
+        return Err("no files".into());
+    };
+    assert!(rt; files.is_empty());
+    Ok(())
+}
+
+/// Exceptions of another program, out of their order and with positions left out.
+const EXCEPTIONS: &str = "
+INSERT INTO slurm VALUES ('main', 1, 900, NULL, NULL, NULL, NULL, 64499), ('main', 2, 5, 4, x'000000000000000000000000c6336400', 24, 25, 64500);
+INSERT INTO slurm VALUES ('main', 1, 8, 4, x'000000000000000000000000c0000200', 24, NULL, NULL), ('main', 1, 70, 4, x'000000000000000000000000c0000200', 24, NULL, 64497);
+";
+
+#[test]
+fn exceptions_are_loaded_by_their_positions(rt: HostRuntime) -> Result<(), Fail> {
+    let mut conn = made(rt.alloc(), TABLES)?;
+    conn.execute_batch(EXCEPTIONS)?;
+    let Ok(mut store) = Store::open_from(rt.alloc(), conn) else {
+        return Err("not opened".into());
+    };
+    let file = only_file(rt.alloc(), &mut store)?;
+    let prefix = Prefix::read(b"192.0.2.0/24")?;
+    let filters = [
+        Filter::Under(prefix),
+        Filter::Both(prefix, Asn(64_497)),
+        Filter::By(Asn(64_499)),
+    ];
+    assert!(rt; file.filters() == filters.as_slice());
+    assert_eq!(rt; file.assertions().len(), 1);
+    Ok(())
+}
