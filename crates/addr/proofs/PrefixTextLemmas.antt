@@ -91,7 +91,7 @@ decimal_three n low high =
 
 -- ---- cutting at a byte
 
--- the byte stands nowhere in the text
+-- the byte is nowhere in the text
 abbrev pub Lacks : ℕ → List ℕ → Type 0
 Lacks byte text = list_any (λ b. b == byte) text ≡ false
 

@@ -76,7 +76,7 @@ unlike s t o is differs =
       | inr f ↦ f
     ]
 
--- what a search of the runs tells
+-- what a search of the runs finds
 pub search-tells : (runs : List Span) (s : Span) (r : Result ℕ ℕ) → AreMaximal runs → IsSearchInRange r (length runs) → IsBinarySearchResult (λ t. derived_span_cmp t s) runs r
     → is_ok r ≡ is_one_of runs s
 search-tells runs s r maximal range result = go r range (subst (λ (c : Span → Ordering). IsBinarySearchResult c runs r) (λ i t. derived t s i) result)

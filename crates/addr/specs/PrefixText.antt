@@ -118,7 +118,7 @@ whole_groups text = do
   groups ← colon_groups text
   if length groups == 8 then Some groups else None
 
--- fewer than eight groups, on both sides of a `::` that stands for the zero groups that are left out, at least one
+-- fewer than eight groups, on both sides of a `::` for the zero groups that are left out, at least one
 abbrev pub gapped_groups : List ℕ → List ℕ → Option (List ℕ)
 gapped_groups before after = do
   front ← colon_groups before
@@ -208,7 +208,7 @@ pub record IsZeroRun (groups : List ℕ) (start len : ℕ) : Type 0 where
   pub within : start + len ≤ length groups
   pub zeros : take len (drop start groups) ≡ replicate len 0
 
--- `::` stands in place of a run of zero groups that is longest, and of equally long ones the first (RFC 5952 section 4.2)
+-- `::` takes the place of a run of zero groups that is longest, and of equally long ones the first (RFC 5952 section 4.2)
 pub record IsFirstLongestRun (groups : List ℕ) (start len : ℕ) : Type 0 where
   pub run : IsZeroRun groups start len
   pub longest : (from count : ℕ) → IsZeroRun groups from count → count ≤ len

@@ -45,7 +45,7 @@ AreMaximal (s ∷ rest) = (list_all (λ t. is_apart_below s t) rest ≡ true) ×
 abbrev pub is_apart : Span → Span → Bool
 is_apart s t = is_apart_below s t || is_apart_below t s
 
--- any two of the runs are apart, in whatever order they stand
+-- any two of the runs are apart, in whatever order they are
 abbrev pub AreApart : List Span → Type 0
 AreApart [] = Unit {0}
 AreApart (s ∷ rest) = (list_all (is_apart s) rest ≡ true) × AreApart rest

@@ -1,4 +1,4 @@
--- A walk along a list that looks for a value that stands twice, and lists in another order.
+-- A walk along a list that looks for a value that occurs twice, and lists in another order.
 use Rattle.std.proofs.Common.{◌≡◌, ℕ, ◌-◌, ◌<◌, Bool, true, false, ◌||◌, eqb, List, [], ◌∷◌, length, take, drop, get_or, refl, sym, ap, ◌∙◌, arith}
 use Rattle.std.specs.List.{list_any, IsDistinct, AllByRecursion}
 use Rattle.std.specs.List.Sorted.{IsPermutation}
@@ -81,7 +81,7 @@ distinct_from same [] distinct = refl
 distinct_from same (x ∷ xs) distinct =
     ap (λ b. b || has_repeat same xs) (none_from (λ y. same x y) xs distinct.0) ∙ distinct_from same xs distinct.1
 
--- another order of values that stand once
+-- another order of values that occur once
 pub has_repeat-moved : {T : Type 0} (same : T → T → Bool) → ((x y : T) → same x y ≡ same y x) → (xs ys : List T) → IsPermutation xs ys
     → has_repeat same xs ≡ false → has_repeat same ys ≡ false
 has_repeat-moved same flips xs ys moved none =

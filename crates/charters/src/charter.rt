@@ -22,7 +22,7 @@ const MOST_POOL_PREFIXES: usize = 64;
 pub enum CharterFault {
     /// There are not 1 to 16 operators, or not 1 to 64 prefixes.
     Count,
-    /// An operator or a prefix stands twice.
+    /// An operator or a prefix occurs twice.
     Repeated,
 }
 
@@ -77,7 +77,7 @@ fn are_in_number(operators: &[Name], pool: &[Prefix]) -> bool
         && (1..=MOST_POOL_PREFIXES).contains(&pool.len())
 }
 
-/// Whether some item stands twice.
+/// Whether some item occurs twice.
 fn has_repeat<T: PartialEq>(items: &[T]) -> bool
     ensures { result ≡ has_repeat T.eq items.now }
 {

@@ -159,7 +159,7 @@ splits (x ∷ es) (n ∷ ns) six e all_four all_six =
     let t = take_four x es is.same in
     record { four_is = ap (λ (xs : List Entry). map numbers xs) t.0 ∙ rw (first, rest.four_is) refl; six_is = ap (λ (xs : List Entry). map numbers xs) t.1 ∙ rest.six_is; in_range = and_from (is_in_range x) (list_all is_in_range es) (range_is V4 x is) rest.in_range }
 
--- what the octets of a content say, but for the order of its entries
+-- what the octets of a content say, except the order of its entries
 pub record WasRead (content : RouteOriginAttestation) (octets : List ℕ) : Type 0 where
   pub octets_are : AreOctetsOf content octets
   pub in_range : list_all is_in_range content.entries ≡ true

@@ -11,7 +11,7 @@ use Rattle.roa.specs.steps.Reading.{Numbers, numbers, content_of, IsReadAs}
 use Rattle.roa.proofs.Contents.{content_made, WasRead, is_only, is_none}
 use Rattle.roa.proofs.Grammar.{encodes_is, encodes_from}
 
--- a fault is want of memory, where the octets are those of a content
+-- the fault is an allocation that failed, where the octets are those of a content
 pub is_memory : (fault : DecodeFault) (octets : List ℕ) → IsReadAs {X = ℕ × List Numbers} (λ x. x) (Err fault) (content_of octets) → (content : RouteOriginAttestation) → IsContent content → Encodes content octets → fault ≡ Memory
 is_memory Memory octets read content is encodes = refl
 is_memory NotContent octets read content is encodes = absurd (is_none content octets read is (encodes_is content octets is encodes))

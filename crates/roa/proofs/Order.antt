@@ -104,7 +104,7 @@ sorted_from_index (a ∷ b ∷ rest) h =
     subst (λ (j : ℕ). is_before (get_or (a ∷ b ∷ rest) j d) (get_or (b ∷ rest) k d) ≡ false) e at in
     (h 0 a (omega arith) (omega arith), sorted_from_index (b ∷ rest) tail)
 
--- some entry stands there twice
+-- some entry occurs twice
 abbrev HasTwice : List Entry → Type 0
 HasTwice es = (e : Entry) × (2 ≤ counted (entry_eq e) es)
 

@@ -74,7 +74,7 @@ impl Content {
     /// The most entries that a content has.
     pub const MAX_ENTRIES: usize = 64;
 
-    /// The content of the entries, which it puts in order. Of several faults it tells the lowest,
+    /// The content of the entries, which it puts in order. Of several faults it reports the lowest,
     /// over all entries.
     pub fn make(asn: Asn, mut entries: Vec<Entry>) -> Result<Content, ContentFault>
         ensures asn { IfOk result (λ content. content.asn ≡ asn) }

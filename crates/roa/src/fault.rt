@@ -10,8 +10,8 @@ pub enum DecodeFault {
     /// The octets are those of no content.
     #[error("not the content of a route origin authorization in DER")]
     NotContent,
-    /// There was no memory for the entries.
-    #[error("want of memory")]
+    /// An allocation failed.
+    #[error("out of memory")]
     Memory,
 }
 

@@ -76,7 +76,7 @@ encloses-between r s w h from to =
 
 -- ---- which encloses a wanted one
 
--- those up to the wanted one stand at the front
+-- those up to the wanted one are at the front
 pub widest-partitioned : (w : Reach) (reaches : List Reach) → AreWidest reaches → IsPartitionedBy (λ r. is_le (reach_cmp r w)) reaches
 widest-partitioned w reaches widest i j d le within last =
     elim (cases_lt i j) [

@@ -1,4 +1,4 @@
--- The faults of a SLURM file by number. Where several apply, the lowest is told.
+-- The faults of a SLURM file by number. Where several apply, the lowest is reported.
 use Rattle.std.specs.Prelude.{ℕ}
 use Rattle.slurm.specs.declared.fault.SlurmFault.{SlurmFault}
 use Rattle.slurm.specs.declared.fault.SlurmFault.TheVariants.{NotJson, NotObject, Members, Version, Bgpsec, Prefix, Asn, MaxPrefixLength, EmptyFilter, Comment, TooMany, Memory}

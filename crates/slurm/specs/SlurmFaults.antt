@@ -1,5 +1,5 @@
--- Every fault of a JSON tree as a SLURM file, wherever it stands in the tree. The lowest of all is
--- told.
+-- Every fault of a JSON tree as a SLURM file, wherever in the tree it is. The lowest of all is
+-- reported.
 use Rattle.std.specs.Prelude.{ℕ, ◌+◌, ◌||◌, ◌==◌, nat_le, Bool, true, false, List, [], ◌∷◌, ◌++◌, length, codes, Option, Some, None, is_some, option_and_then}
 use Rattle.std.specs.List.{flat_map}
 use Rattle.addr.specs.Address.{fits_max_length}

@@ -78,7 +78,7 @@ impl Slurm {
         }
     }
 
-    /// Reads a file that stands in a greater JSON text.
+    /// Reads a file that is part of a larger JSON text.
     pub fn of(alloc: Global, value: &Value) -> Result<Slurm, SlurmFault>
         ensures entries { IfOk result (SaysExceptions (Some (view value.now))) }
         ensures faultless { OnOk result (slurm_fault (Some (view value.now)) ≡ None) }

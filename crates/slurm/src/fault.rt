@@ -6,10 +6,10 @@ use std::alloc::AllocError;
 use thiserror::Error;
 
 /// Why something is no SLURM file. Where several faults apply, the one of the lowest number is
-/// told.
+/// reported.
 #[derive(Clone, Copy, Debug, PartialEq, Eq, Error)]
 pub enum SlurmFault {
-    /// The bytes are no JSON text: so also where arrays and objects nest deeper than 127.
+    /// The bytes are no JSON text, or arrays and objects nest deeper than 127.
     #[error("the text is not JSON")]
     NotJson = 1,
     #[error("the file is not an object")]

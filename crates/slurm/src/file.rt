@@ -36,7 +36,7 @@ pub(crate) fn read_file(alloc: Global, value: &Value) -> Result<Slurm, SlurmFaul
     Slurm::make(filters, assertions)
 }
 
-/// The two lists, or the lowest fault of them and of the object that they stand in.
+/// The two lists, or the lowest fault of them and of the object that they are in.
 fn whole(
     value: &Value,
     filters: Result<Vec<Filter>, SlurmFault>,

@@ -24,7 +24,7 @@ fn array_in<'a>(value: &'a Value, name: &str) -> Option<&'a Vec<Value>>
     }
 }
 
-/// The array of that name, each item read. The outer error is want of memory.
+/// The array of that name, each item read. The outer error is an allocation that failed.
 fn entries_in<T: FromJson<SlurmFault>>(
     alloc: Global,
     value: &Value,
@@ -69,7 +69,7 @@ fn part<T: FromJson<SlurmFault>>(
 }
 
 /// The part of that name: an object of the entries, and of the BGPsec entries, of which there must
-/// be none. The outer error is want of memory.
+/// be none. The outer error is an allocation that failed.
 pub(crate) fn required_part<T: FromJson<SlurmFault>>(
     alloc: Global,
     value: &Value,

@@ -71,7 +71,7 @@ prefix_of family (unused ∷ octets) =
     let bits : ℕ = 8 * length octets - unused in
     if first % 2 ^ (width family - bits) == 0 then Some (first, bits) else None)))
 
--- maxLength, by what stands after the BIT STRING: where nothing does, the prefix's length
+-- maxLength, by what follows the BIT STRING: where nothing does, the prefix's length
 unfoldable pub max_of : Family → ℕ → List ℕ → Option ℕ
 max_of family bits octets =
     if length octets == 0 then Some bits

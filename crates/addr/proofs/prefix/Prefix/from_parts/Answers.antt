@@ -4,7 +4,7 @@ use Rattle.std.proofs.lemmas.Nat.{pow_pos}
 use Rattle.addr.proofs.AddressLemmas.{multiple-fits}
 use Rattle.addr.proofs.prefix.Prefix.from_parts.Goals as goal
 
--- The tests that led here are those of the ghost fields, but for the room of a whole prefix.
+-- The tests that led here are those of the ghost fields, except the room of a whole prefix.
 pub invariant_of-result : goal.invariant_of-result
 invariant_of-result c =
     let fits : c.args.length ≤ width c.args.family = omega arith in
