@@ -1,4 +1,4 @@
--- Changes that are supposed, and the same changes done.
+-- Hypothetical changes, and the same changes done.
 use Rattle.std.proofs.Common.{◌≡◌, ℕ, true, false, List, [], ◌∷◌, Some, None, refl, sym, ◌∙◌, subst}
 use Rattle.std.specs.List.{list_all}
 use Rattle.std.proofs.lemmas.Bool.{and_parts, false≢true, true≢false}
@@ -18,9 +18,9 @@ use Rattle.desk.specs.declared.reply.Reply.{Reply}
 use Rattle.desk.specs.declared.reply.Reply.TheVariants.{Done, Imported}
 use Rattle.desk.proofs.HolderLemmas.{left_by_entry, leaves_entry, counts_of_import}
 
-proposed_plain : (holder : List ℕ) (change : Proposed) → is_import (hypothetical_command holder change) ≡ false
-proposed_plain holder (ProposedCreate t) = refl
-proposed_plain holder (ProposedWithdraw n) = refl
+hypothetical_plain : (holder : List ℕ) (change : Proposed) → is_import (hypothetical_command holder change) ≡ false
+hypothetical_plain holder (ProposedCreate t) = refl
+hypothetical_plain holder (ProposedWithdraw n) = refl
 
 -- the history with the entry of a command
 abbrev with_entry : ℕ → List ℕ → Command → History → History
@@ -31,9 +31,9 @@ entry_left : (charter : Charter) (before : History) (day : ℕ) (caller holder :
     → AnswersCommand charter before day caller (hypothetical_command holder change) reply after
     → Verdict charter before day caller (hypothetical_command holder change) None × (after ≡ with_entry day caller (hypothetical_command holder change) before)
 entry_left charter before day caller holder change (Done number) after accepted answers =
-    left_by_entry charter before day caller (hypothetical_command holder change) after (proposed_plain holder change) answers.1
+    left_by_entry charter before day caller (hypothetical_command holder change) after (hypothetical_plain holder change) answers.1
 entry_left charter before day caller holder change (Imported made present) after accepted answers =
-    absurd (true≢false (sym (counts_of_import before (hypothetical_command holder change) after made present answers.1) ∙ proposed_plain holder change))
+    absurd (true≢false (sym (counts_of_import before (hypothetical_command holder change) after made present answers.1) ∙ hypothetical_plain holder change))
 entry_left charter before day caller holder change reply after accepted answers = absurd (false≢true accepted)
 
 module _ (charter : Charter) (day : ℕ) (caller holder : List ℕ) where
@@ -43,14 +43,14 @@ module _ (charter : Charter) (day : ℕ) (caller holder : List ℕ) where
   doing before [] after would = ([], (refl, would))
   doing before (change ∷ changes) after (None, judged, would) = absurd judged
   doing before (change ∷ changes) after (Some command, judged, would) =
-      let proposed = hypothetical_command holder change in
-      let next = with_entry day caller proposed before in
+      let requested = hypothetical_command holder change in
+      let next = with_entry day caller requested before in
       let more = doing next changes after (subst (λ (c : Command). HypotheticalHistory charter day caller holder (with_entry day caller c before) changes after) judged.0 would) in
       let verdict = subst (λ (c : Command). Verdict charter before day caller c None) judged.0 judged.1 in
-      let plain = proposed_plain holder change in
-      let answers : AnswersCommand charter before day caller proposed (Done (number_given before proposed)) next =
-      (plain, leaves_entry charter before day caller proposed plain verdict, refl) in
-      (Done (number_given before proposed) ∷ more.0, (more.1.0, (next, answers, more.1.1)))
+      let plain = hypothetical_plain holder change in
+      let answers : AnswersCommand charter before day caller requested (Done (number_given before requested)) next =
+      (plain, leaves_entry charter before day caller requested plain verdict, refl) in
+      (Done (number_given before requested) ∷ more.0, (more.1.0, (next, answers, more.1.1)))
 
   -- and what is done would be
   done : (before : History) (changes : List Proposed) (replies : List Reply) (after : History) → list_all is_accepted replies ≡ true
@@ -59,11 +59,11 @@ module _ (charter : Charter) (day : ℕ) (caller holder : List ℕ) where
   done before [] (reply ∷ replies) after accepted runs = absurd runs
   done before (change ∷ changes) [] after accepted runs = absurd runs
   done before (change ∷ changes) (reply ∷ replies) after accepted runs =
-      let proposed = hypothetical_command holder change in
+      let requested = hypothetical_command holder change in
       let both = and_parts (is_accepted reply) (list_all is_accepted replies) accepted in
       let left = entry_left charter before day caller holder change reply runs.0 both.0 runs.1 in
       let more = done runs.0 changes replies after both.1 runs.2 in
-      (Some proposed, (refl, left.0), subst (λ (next : History). HypotheticalHistory charter day caller holder next changes after) left.1 more)
+      (Some requested, (refl, left.0), subst (λ (next : History). HypotheticalHistory charter day caller holder next changes after) left.1 more)
 
 pub what_if_as_done : OneHypotheticalOutcome → WhatIfAsDone
 what_if_as_done law charter history day caller holder changes routes states answers =

@@ -12,21 +12,22 @@ use Rattle.registry.specs.declared.rule.Refusal.{Refusal}
 use Rattle.registry.specs.declared.rule.Refusal.TheVariants.{Denied, Memory}
 use Rattle.registry.specs.declared.change.Change.{Change}
 use Rattle.histories.specs.Growth.{GrowthFits, GrowthIsLegal}
-use Rattle.desk.specs.Answer.{is_import, refused_with, AnswersCommand, AnswersList, IsAnswered}
+use Rattle.desk.specs.Answer.{is_import, refused_with, AnswersCommand, AnswersList, AnswersQuery, IsAnswered}
 use Rattle.registry.specs.declared.asked.Request.TheVariants.{Command as CommandRequest}
 use Rattle.desk.specs.declared.reply.Reply.{Reply}
-use Rattle.desk.specs.declared.reply.Reply.TheVariants.{Done, Imported}
+use Rattle.desk.specs.declared.reply.Reply.TheVariants.{Done, Imported, Unavailable}
 use Rattle.desk.specs.declared.handling.Desk.{Desk}
-use Rattle.desk.specs.Desk.{charter_of, HoldsHistory, IsOnCleanDisk, KeepsRows}
+use Rattle.desk.specs.Desk.{charter_of, HoldsHistory, IsOnCleanDisk, KeepsRows, OfHistories}
 use Rattle.desk.specs.HolderAnswers.{may_change, may_except, KeepsOthers}
 use Rattle.desk.specs.steps.Accepting.{AnswersAccepted}
-use Rattle.desk.specs.steps.Reading.{OfHistories}
 use Rattle.sqlite.specs.Store.{Ghosts}
 use Rattle.store.specs.StoreRows.{StoreView, IsRead, IfClean, HoldsAfter}
 use Rattle.store.specs.Loads.{OfHeldRows}
 use Rattle.registry.specs.declared.authorization.ImportRow.{ImportRow}
 use Rattle.registry.specs.declared.command.Command.{Command}
 use Rattle.registry.specs.declared.command.Command.TheVariants.{Import}
+use Rattle.registry.specs.declared.command.Query.{Query}
+use Rattle.registry.specs.declared.command.Query.TheVariants.{Show, Content, List as ListQuery, Payloads, Validity, WhatIf}
 use Rattle.registry.specs.Values.{EntryFits}
 use Rattle.registry.specs.Verdict.{IsLegal}
 use Rattle.charters.specs.declared.charter.Charter.{Charter}
@@ -149,9 +150,17 @@ pub list_refused : (history : History) (h : List ℕ) (day : ℕ) (caller : List
 list_refused history h day caller (Denied rule row) refused = refused
 list_refused history h day caller Memory refused = tt
 
+pub query_unavailable : (charter : Charter) (history : History) (day : ℕ) (caller : List ℕ) (query : Query) → AnswersQuery charter history day caller query Unavailable
+query_unavailable charter history day caller (Show h n) = tt
+query_unavailable charter history day caller (Content h n) = tt
+query_unavailable charter history day caller (ListQuery h) = tt
+query_unavailable charter history day caller Payloads = tt
+query_unavailable charter history day caller (Validity routes) = tt
+query_unavailable charter history day caller (WhatIf h changes routes) = tt
+
 -- ---- acceptances
 
--- a command that is no import, however it is told
+-- a command other than an import is none
 not_import : (command : Command) → ((h : List ℕ) (rows : Vec ImportRow) → command ≡ Import h rows → ⊥) → is_import command ≡ false
 not_import (Import h rows) other = absurd (other h rows refl)
 not_import command other = refl

@@ -32,7 +32,7 @@ use Rattle.registry.specs.declared.rule.Refusal.TheVariants.{Denied, Memory}
 use Rattle.slurm.specs.Exceptions.{Exceptions}
 use Rattle.store.specs.Loads.{AreFilesOf}
 use Rattle.desk.specs.Answer.{refused_with, AnswersWhatIf}
-use Rattle.desk.specs.steps.Supposing.{auths_if_any, AreInForceOn, AreVrpsOf, Exchanges, GivesOn, IsExchanged, WouldExchange}
+use Rattle.desk.specs.steps.WhatIf.{auths_if_any, AreInForceOn, AreVrpsOf, Exchanges, GivesOn, IsExchanged, WouldExchange}
 use Rattle.desk.proofs.DailyLemmas.{any_among, at_head, head_or_tail, kept_is, kept_was, none_in_nil}
 use Rattle.desk.proofs.ExceptionLemmas.{kept_or_more}
 use Rattle.desk.proofs.ExportLemmas.{is_among, items_such}
@@ -142,12 +142,12 @@ in_force_after before after day removed added vrps later files are made exchange
 
 -- ---- the exchange that changes would make
 
--- a change that would be denied is told
-pub supposed_refused : (charter : Charter) (history : History) (holder : List ℕ) (day : ℕ) (caller : List ℕ) (changes : List Proposed) (refusal : Refusal)
+-- changes of which one would be denied are answered with it
+pub hypothetical_refused : (charter : Charter) (history : History) (holder : List ℕ) (day : ℕ) (caller : List ℕ) (changes : List Proposed) (refusal : Refusal)
     → IsHypotheticalAnswer charter history holder day caller changes (Err refusal) → (routes : List Route)
     → AnswersWhatIf charter history day caller holder changes routes (refused_with refusal)
-supposed_refused charter history holder day caller changes (Denied rule row) supposed routes = supposed
-supposed_refused charter history holder day caller changes Memory supposed routes = tt
+hypothetical_refused charter history holder day caller changes (Denied rule row) answer routes = answer
+hypothetical_refused charter history holder day caller changes Memory answer routes = tt
 
 -- no change exchanges nothing
 pub exchanges_nothing : (charter : Charter) (history : History) (day : ℕ) (caller holder : List ℕ) (changes : List Proposed) (removed : set.VrpSet) (added : List Vrp)

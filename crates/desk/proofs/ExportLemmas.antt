@@ -18,7 +18,7 @@ use Rattle.registry.specs.History.{History}
 use Rattle.slurm.specs.Exceptions.{Exceptions}
 use Rattle.store.specs.Loads.{AreFilesOf}
 use Rattle.desk.specs.Answer.{AreStatesOn}
-use Rattle.desk.specs.steps.Supposing.{AreInForceOn}
+use Rattle.desk.specs.steps.WhatIf.{AreInForceOn}
 use Rattle.registry.specs.Verdict.{IsLegal}
 use Rattle.charters.specs.declared.charter.Charter.{Charter}
 use Rattle.registry.specs.RowsOfAll.{AllRows, HasRows, IsGivenOn}

@@ -43,7 +43,7 @@ none≢some same = absurd cc
 denied : (r s : Rule) (row other : Option ℕ) → r ≡ s → row ≡ other → Denied r row ≡ Denied s other
 denied r s row other rule place = cc
 
--- of a query no row is told
+-- the denial of a query names no row
 denied_whole : (r s : Rule) (row other : Option ℕ) → Some r ≡ Some s → row ≡ None → other ≡ None → Denied r row ≡ Denied s other
 denied_whole r s row other rule left right = cc
 

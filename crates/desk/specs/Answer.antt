@@ -2,7 +2,7 @@
 -- accepted exactly where its rules hold on the commands accepted before it, else it changes nothing
 -- and is answered with the first rule that fails; what is shown, exported and judged is what the
 -- history defines, and what changes would do is what the history defines that they would leave.
--- Where no memory is found, or the database does not answer, the reply is Unavailable and nothing
+-- Where an allocation fails, or the database does not answer, the reply is Unavailable and nothing
 -- has changed.
 use Rattle.std.specs.Prelude.{◌≡◌, ℕ, Bool, true, false, List, [], ◌∷◌, Some, None, ◌↔◌, Contains, map, IsSomeAnd}
 use Rattle.std.specs.String.{string_bytes}
@@ -58,7 +58,7 @@ abbrev pub is_import : Command → Bool
 is_import (Import holder rows) = true
 is_import other = false
 
--- the reply to a request that was not decided for
+-- the reply to a request that is refused
 abbrev pub refused_with : Refusal → Reply
 refused_with (Refused rule row) = Denied rule row
 refused_with Memory = Unavailable

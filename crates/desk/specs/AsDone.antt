@@ -1,4 +1,4 @@
--- A report says what validity answers once the changes are made.
+-- A what-if answers what validity answers once the changes are made.
 use Rattle.std.specs.Prelude.{◌≡◌, ℕ, true, List, map}
 use Rattle.std.specs.Global.{Vec}
 use Rattle.std.specs.List.{list_all}
@@ -24,15 +24,15 @@ requests_for day caller holder changes =
       request = CommandRequest (hypothetical_command holder change);
     }) changes
 
--- the changes are asked for one after the other, each is accepted, and they leave this history
+-- the changes are requested one after the other, each is accepted, and they leave this history
 abbrev pub AreDone :
     Charter → History → ℕ → List ℕ → List ℕ → List Proposed → List Reply → History → Type 0
 AreDone charter before day caller holder changes replies after =
     (list_all is_accepted replies ≡ true)
     × Runs charter before (requests_for day caller holder changes) replies after
 
--- Where it is told what changes would do, there are replies by which they are done; and whatever
--- the replies are, the states that were told second are then those over the VRPs of the day.
+-- Where a what-if is answered with states, there are replies by which its changes are done; and
+-- whatever the replies are, the second states are then those over the VRPs of the day.
 abbrev pub WhatIfAsDone : Type 0
 WhatIfAsDone =
     (charter : Charter) (history : History) (day : ℕ) (caller holder : List ℕ)

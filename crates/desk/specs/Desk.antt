@@ -24,6 +24,13 @@ IsOnCleanDisk g desk = HasCleanDisk (state_of g desk.store)
 abbrev pub HoldsHistory : {S : Type 0} → Ghosts S → Desk S → History → Type 0
 HoldsHistory g desk history = (rows : AllRows) × HasRows rows history × Holds g desk.store rows
 
+-- it is so of each legal history whose rows the tables held before, where the disk returned what was
+-- written
+abbrev pub OfHistories : {S : Type 0} → Ghosts S → Desk S → Desk S → (History → Type 0) → Type 0
+OfHistories g old new so =
+    IsOnCleanDisk g new → (history : History) → IsLegal (charter_of old) history
+    → HoldsHistory g old history → so history
+
 -- the tables hold the rows that they held
 abbrev pub KeepsRows : {S : Type 0} → Ghosts S → Desk S → Desk S → Type 0
 KeepsRows g old new =
@@ -35,8 +42,8 @@ pub record StandsFor {S : Type 0} (g : Ghosts S) (charter : Charter) (desk : Des
   pub legal : IsLegal charter history
   pub rows : HoldsHistory g desk history
 
--- Where the tables that were found held a charter and the rows of a legal history, the desk stands for
--- that history.
+-- Where the tables that were found held a charter and the rows of a legal history, the desk has that
+-- charter and that history.
 abbrev pub ContinuesHistories : {S : Type 0} → Ghosts S → State → Desk S → Type 0
 ContinuesHistories g found desk =
     (charter : Charter) (history : History) (rows : AllRows)

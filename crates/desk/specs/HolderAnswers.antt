@@ -25,14 +25,14 @@ use Rattle.desk.specs.declared.reply.Reply.{Reply}
 use Rattle.desk.specs.declared.reply.Reply.TheVariants.{Content, Listed, Report, Unavailable}
 
 -- the entries that decide the reply to a request: those that name one of its holders; none where the
--- request asks about all holders
+-- request concerns all holders
 abbrev pub deciding_entries : Request → History → Option History
 deciding_entries (CommandRequest command) history =
     if concerns_all_holders command then None else Some (entries_for command history)
 deciding_entries (QueryRequest query) history =
     option_map (λ h. entries_naming h history) (holder_asked query)
 
--- The reply answers the request on these entries. Of a report the entries say that its changes
+-- The reply answers the request on these entries. Of a what-if the entries say that its changes
 -- would be accepted, and nothing of its states, which are over the VRPs of all holders.
 abbrev pub IsAnswerOn : Charter → History → ℕ → List ℕ → Request → Reply → Type 0
 IsAnswerOn charter entries day caller (QueryRequest (WhatIf h changes routes)) (Report states) =
@@ -54,7 +54,7 @@ AnswersByEntries =
     → IsAnswerByEntries charter history day caller request reply
 
 -- The replies say the same: of lists the items, of contents that they are texts of one authorization's. Of
--- Unavailable, and of two reports, nothing is asked.
+-- Unavailable, and of the states of two what-ifs, nothing is required.
 abbrev pub SaySame : Reply → Reply → Type 0
 SaySame Unavailable other = Unit {0}
 SaySame one Unavailable = Unit {0}

@@ -1,4 +1,4 @@
 -- Steps of the code, which no public contract cites.
 pub mod Accepting
-pub mod Reading
-pub mod Supposing
+pub mod Gathering
+pub mod WhatIf

@@ -1,3 +1,4 @@
+//! The ROA content of an authorization (RFC 9582).
 ghost use Rattle.std.specs.Prelude.{◌≡◌, ◌↔◌, true, IsSome, IfSome, IfOk};
 ghost use Rattle.std.specs.String.{string_bytes};
 ghost use Rattle.registry.specs.Verdict.{terms_fit_length};

@@ -1,9 +1,8 @@
-//! The VRPs of a holder's authorizations, and their exchange for others.
 ghost use Rattle.std.specs.Prelude.{◌≡◌, ◌↔◌, ◌++◌, Some, [], IfOk, filter, not, option_copied};
 ghost use Rattle.addr.specs.declared.vrp.Vrp.{Vrp};
 ghost use Rattle.payload.specs.VrpSet as set;
 ghost use Rattle.registry.specs.Rows.{rows_if_any};
-ghost use Rattle.desk.specs.steps.Supposing.{auths_if_any, AreVrpsOf, GivesOn};
+ghost use Rattle.desk.specs.steps.WhatIf.{auths_if_any, AreVrpsOf, GivesOn};
 
 use addr::{Day, Vrp};
 use payload::{PayloadIndex, Trie};
@@ -41,6 +40,7 @@ fn vrps_on(alloc: Global, auths: &[Auth], day: Day) -> Result<Vec<Vrp>, AllocErr
     Ok(vrps)
 }
 
+/// The authorizations of the rows; none where there are no rows.
 fn auths_of(rows: Option<&HolderRows>) -> &[Auth]
     ensures { result.now ≡ auths_if_any (rows_if_any (option_copied rows.entry)) }
 {

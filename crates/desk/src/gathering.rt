@@ -1,9 +1,10 @@
-ghost use Rattle.std.specs.Prelude.{◌≡◌, map, IfOk, ◌++◌, is_some};
-ghost use Rattle.std.specs.Option.{option_to_list};
+//! What is read from an index: its VRPs, and the states of routes.
+ghost use Rattle.std.specs.Prelude.{◌≡◌, map, IfOk};
 ghost use Rattle.addr.specs.OriginValidation.{validation_state};
 ghost use Rattle.payload.specs.Rising.{AreRising};
 ghost use Rattle.payload.specs.ValidityState.{state_of};
 ghost use Rattle.payload.specs.VrpSet as set;
+ghost use Rattle.desk.specs.steps.Gathering.{gathered_none, gathered_then, HasGathered};
 
 use addr::{Route, Vrp};
 use payload::{PayloadIndex, Sink, Stop, Validity};
@@ -13,26 +14,27 @@ use std::alloc::{AllocError, Global};
 #[derive(Drop)]
 struct Gathering {
     vrps: Vec<Vrp>,
-    without_room: Option<Vrp>,
+    has_failed: bool,
 }
 
 impl Sink for Gathering {
-    ghost given = { λ g. g.vrps.items ++ option_to_list g.without_room };
+    ghost took = { λ a vrps b.
+        HasGathered a.has_failed b.has_failed a.vrps.items vrps b.vrps.items };
 
-    ghost has_stopped = { λ g. is_some g.without_room };
+    ghost has_stopped = { λ g. g.has_failed };
 
     fn take(&mut self, vrp: &Vrp) -> Result<(), Stop> {
-        match self.vrps.push(*vrp) {
-            Ok(()) => {
-                self.without_room = None;
-                Ok(())
-            }
-            Err(_) => {
-                self.without_room = Some(*vrp);
-                Err(Stop)
-            }
+        self.has_failed = self.vrps.push(*vrp).is_err();
+        if self.has_failed {
+            return Err(Stop);
         }
+        Ok(())
     }
+
+    ghost took_none = { λ g. gathered_none g.has_failed g.vrps.items };
+
+    ghost took_then = { λ a b c. gathered_then a.has_failed b.has_failed c.has_failed
+        a.vrps.items b.vrps.items c.vrps.items };
 }
 
 /// The VRPs of an index, rising, each once.
@@ -42,7 +44,7 @@ pub(crate) fn gather<I: PayloadIndex>(alloc: Global, index: &I) -> Result<Vec<Vr
 {
     let mut gathering = Gathering {
         vrps: Vec::new(alloc),
-        without_room: None,
+        has_failed: false,
     };
     match index.visit(&mut gathering) {
         Ok(()) => Ok(gathering.vrps),

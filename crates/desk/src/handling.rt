@@ -1,7 +1,6 @@
 ghost use Rattle.std.specs.Prelude.{◌≡◌, ◌≢◌, false, None, [], Err, IfOk, OnOk, OnErr};
 ghost use Rattle.registry.specs.History.{History};
 ghost use Rattle.registry.specs.Rows.{rows_if_any, RowsIfAny};
-ghost use Rattle.registry.specs.Verdict.{IsLegal};
 ghost use Rattle.sqlite.specs.Held.{state};
 ghost use Rattle.sqlite.specs.State.{HasCleanDisk};
 ghost use Rattle.sqlite.specs.Steps.{over_memory};
@@ -12,8 +11,7 @@ ghost use Rattle.desk.specs.Answer.{is_accepted, IsAnswered};
 ghost use Rattle.desk.specs.Run.{AreAnswered};
 ghost use Rattle.desk.specs.HolderAnswers.{may_change, may_change_any, may_except, may_except_any};
 ghost use Rattle.desk.specs.HolderAnswers.{IsAnswerByEntries, KeepsOthers, RunsByEntries};
-ghost use Rattle.desk.specs.Desk.{charter_of, ContinuesHistories, HoldsHistory, IsOnCleanDisk, KeepsRows};
-ghost use Rattle.desk.specs.steps.Reading.{OfHistories};
+ghost use Rattle.desk.specs.Desk.{charter_of, ContinuesHistories, HoldsHistory, IsOnCleanDisk, KeepsRows, OfHistories};
 
 mod commands;
 mod queries;
@@ -80,23 +78,17 @@ impl<S: Alter> Desk<S> {
     /// Replies to a request of the caller on the day. Only a reply of `Done` or `Imported` changes
     /// anything.
     pub fn handle(&mut self, day: Day, caller: &Name, request: &Request) -> Reply
-        ensures answered { IsOnCleanDisk S.Store self.new
-            → (history : History) → IsLegal (charter_of self.old) history
-            → HoldsHistory S.Store self.old history
-            → IsAnswered S.Store (charter_of self.old) history day caller.now request.now
-            result self.new }
+        ensures answered { OfHistories S.Store self.old self.new (λ history.
+            IsAnswered S.Store (charter_of self.old) history day caller.now request.now
+            result self.new) }
         ensures charter { charter_of self.new ≡ charter_of self.old }
         ensures clean { IsOnCleanDisk S.Store self.new → IsOnCleanDisk S.Store self.old }
         ensures kept { is_accepted result ≡ false → KeepsRows S.Store self.old self.new }
-        ensures isolated { IsOnCleanDisk S.Store self.new
-            → (history : History) → IsLegal (charter_of self.old) history
-            → HoldsHistory S.Store self.old history
-            → IsAnswerByEntries (charter_of self.old) history day caller.now request.now result }
-        ensures others { IsOnCleanDisk S.Store self.new
-            → (history : History) → IsLegal (charter_of self.old) history
-            → HoldsHistory S.Store self.old history
-            → KeepsOthers S.Store (may_change request.now) (may_except request.now)
-            self.old self.new }
+        ensures isolated { OfHistories S.Store self.old self.new (λ history.
+            IsAnswerByEntries (charter_of self.old) history day caller.now request.now result) }
+        ensures others { OfHistories S.Store self.old self.new (λ _.
+            KeepsOthers S.Store (may_change request.now) (may_except request.now)
+            self.old self.new) }
     {
         crate::laws::answers_by_entries();
         match request {
@@ -108,22 +100,16 @@ impl<S: Alter> Desk<S> {
     /// Replies to each of the requests, in their order. Room is made for all replies first; where
     /// there is none, nothing is acted on.
     pub fn run(&mut self, asked: &[Asked]) -> Result<Vec<Reply>, AllocError>
-        ensures answered { IsOnCleanDisk S.Store self.new → IfOk result (λ replies.
-            (history : History) → IsLegal (charter_of self.old) history
-            → HoldsHistory S.Store self.old history
-            → AreAnswered S.Store (charter_of self.old) history asked.now replies.items self.new) }
+        ensures answered { IfOk result (λ replies. OfHistories S.Store self.old self.new (λ history.
+            AreAnswered S.Store (charter_of self.old) history asked.now replies.items self.new)) }
         ensures charter { charter_of self.new ≡ charter_of self.old }
         ensures clean { IsOnCleanDisk S.Store self.new → IsOnCleanDisk S.Store self.old }
         ensures err { OnErr result (self.new ≡ self.old) }
-        ensures isolated { IsOnCleanDisk S.Store self.new → IfOk result (λ replies.
-            (history : History) → IsLegal (charter_of self.old) history
-            → HoldsHistory S.Store self.old history
-            → RunsByEntries (charter_of self.old) history asked.now replies.items) }
-        ensures others { IsOnCleanDisk S.Store self.new
-            → (history : History) → IsLegal (charter_of self.old) history
-            → HoldsHistory S.Store self.old history
-            → KeepsOthers S.Store (may_change_any asked.now) (may_except_any asked.now)
-            self.old self.new }
+        ensures isolated { IfOk result (λ replies. OfHistories S.Store self.old self.new (λ history.
+            RunsByEntries (charter_of self.old) history asked.now replies.items)) }
+        ensures others { OfHistories S.Store self.old self.new (λ _.
+            KeepsOthers S.Store (may_change_any asked.now) (may_except_any asked.now)
+            self.old self.new) }
     {
         crate::laws::answers_by_entries();
         histories::laws::growth_is_legal();

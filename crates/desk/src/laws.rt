@@ -7,7 +7,7 @@ ghost use Rattle.desk.specs.HolderAnswers.{AnswersByEntries, OneReply};
 pub use isolation::laws::{again, import_again, parts};
 
 /// What answers a request on a legal history answers it on the entries that name its holders,
-/// except for a delegation, the VRPs of a day and the validity of routes, which ask about all
+/// except for a delegation, the VRPs of a day and the validity of routes, which concern all
 /// holders. Hypothetical changes are accepted or denied by those entries, and their states are over
 /// the VRPs of all holders.
 pub(crate) fn answers_by_entries()
@@ -20,7 +20,7 @@ pub(crate) fn answers_by_entries()
 }
 
 /// Two desks of one charter whose histories agree on the entries that decide a request give it the
-/// same reply, unless one of them is Unavailable; of reports the states may differ.
+/// same reply, unless one of them is Unavailable; the states that two what-ifs report may differ.
 pub fn one_reply()
     ensures { OneReply }
 {
@@ -28,9 +28,9 @@ pub fn one_reply()
     histories::laws::one_hypothetical_outcome();
 }
 
-/// If a report was given for changes at a holder, then the same changes are accepted where the
+/// If a what-if reports states for changes at a holder, then the same changes are accepted where the
 /// caller requests them one after the other on the day; and validity then answers the second states
-/// of the report.
+/// that it reported.
 pub fn what_if_as_done()
     ensures { WhatIfAsDone }
 {

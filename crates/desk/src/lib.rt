@@ -1,4 +1,4 @@
-//! The desk: what is asked of it, and what it replies.
+//! The desk: its requests, and its replies to them.
 #![tactic(auto)]
 
 mod content;

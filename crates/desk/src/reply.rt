@@ -26,7 +26,7 @@ pub enum Reply {
     /// The first rule that does not hold; for an import also its row, for a what-if request its
     /// change, counted from 1.
     Denied(Rule, Option<u64>),
-    /// No memory was found, or the database did not answer, and nothing has changed.
+    /// An allocation failed, or the database did not answer; nothing has changed.
     Unavailable,
 }
 

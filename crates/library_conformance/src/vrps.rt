@@ -1,5 +1,7 @@
 //! Sets of VRPs, and the validation states of routes on them.
-ghost use Rattle.std.specs.Prelude.{◌++◌, is_some, option_to_list};
+ghost use Rattle.std.specs.Prelude.{◌≡◌, ◌++◌, is_some, option_to_list};
+ghost use Rattle.std.proofs.Common.{ap, append_assoc, sym, ◌∙◌};
+ghost use Rattle.std.proofs.lemmas.List.{append-nil};
 
 use crate::rows::rows_of;
 use addr::{Asn, Origin, Prefix, Route, Vrp};
@@ -98,7 +100,8 @@ pub(crate) struct FirstVrps {
 }
 
 impl Sink for FirstVrps {
-    ghost given = { λ s. s.vrps.items ++ option_to_list s.refused };
+    ghost took = { λ a vrps b. b.vrps.items ++ option_to_list b.refused
+        ≡ (a.vrps.items ++ option_to_list a.refused) ++ vrps };
 
     ghost has_stopped = { λ s. is_some s.refused };
 
@@ -109,6 +112,11 @@ impl Sink for FirstVrps {
         self.refused = Some(*vrp);
         Err(Stop)
     }
+
+    ghost took_none = { λ a. sym (append-nil (a.vrps.items ++ option_to_list a.refused)) };
+
+    ghost took_then = { λ a _ _ vs ws first later. later ∙ ap (λ l. l ++ ws) first
+        ∙ append_assoc (a.vrps.items ++ option_to_list a.refused) vs ws };
 }
 
 // A route by its prefix and origin.

@@ -70,8 +70,8 @@ not-agrees-short v q k short = false_from_ne_true (agrees k v q) (λ is. absurd 
 -- ---- one length
 
 -- some VRP of the list agrees with the route on the first k bits, and none of fewer bits matches it
-abbrev pub stands : Route → List Vrp → ℕ → Bool
-stands route vrps k = list_any (λ v. agrees k v.prefix route.prefix) vrps && not (is_matched_before vrps route k)
+abbrev pub is_searched : Route → List Vrp → ℕ → Bool
+is_searched route vrps k = list_any (λ v. agrees k v.prefix route.prefix) vrps && not (is_matched_before vrps route k)
 
 abbrev matches_before : Route → ℕ → Vrp → Bool
 matches_before route k v = matches v route && nat_lt v.prefix.length k
@@ -98,9 +98,9 @@ unless : (a b c : Bool) → (a && not (b || c)) ≡ (if b then false else a && n
 unless a true c = and-false a
 unless a false c = refl
 
--- past a node, a length stands where no VRP of the node matches and it stands in the half to which the bits go
-stands-zero : (route : Route) (p : Prefix) (os : List Originator) (low high : Tree) (k : ℕ) → IsPruned (width p.family) p.length (Fork os low high) → contains p route.prefix ≡ true → p.length < k → bit_of route.prefix p.length ≡ 0 → stands route (vrps_at p (Fork os low high)) k ≡ (if list_any (authorizes route) os then false else stands route (lower_vrps p low) k)
-stands-zero route p os low high k pruned inside longer bit =
+-- past a node, a length is searched where no VRP of the node matches and it is searched in the half to which the bits go
+is_searched-zero : (route : Route) (p : Prefix) (os : List Originator) (low high : Tree) (k : ℕ) → IsPruned (width p.family) p.length (Fork os low high) → contains p route.prefix ≡ true → p.length < k → bit_of route.prefix p.length ≡ 0 → is_searched route (vrps_at p (Fork os low high)) k ≡ (if list_any (authorizes route) os then false else is_searched route (lower_vrps p low) k)
+is_searched-zero route p os low high k pruned inside longer bit =
     ap (λ b. b && not (is_matched_before (vrps_at p (Fork os low high)) route k)) agreeing
     ∙ ap (λ b. list_any test (lower_vrps p low) && not b) matching
     ∙ unless _ (list_any (authorizes route) os) _
@@ -120,8 +120,8 @@ stands-zero route p os low high k pruned inside longer bit =
         any-zero (matches_before route k) p route.prefix os low high (around-match route k) pruned bit
         ∙ ap (λ b. b || list_any (matches_before route k) (lower_vrps p low)) (node-matches route p os k pruned.0.lengths inside longer)
 
-stands-one : (route : Route) (p : Prefix) (os : List Originator) (low high : Tree) (k : ℕ) → IsPruned (width p.family) p.length (Fork os low high) → contains p route.prefix ≡ true → p.length < k → bit_of route.prefix p.length ≡ 1 → stands route (vrps_at p (Fork os low high)) k ≡ (if list_any (authorizes route) os then false else stands route (upper_vrps p high) k)
-stands-one route p os low high k pruned inside longer bit =
+is_searched-one : (route : Route) (p : Prefix) (os : List Originator) (low high : Tree) (k : ℕ) → IsPruned (width p.family) p.length (Fork os low high) → contains p route.prefix ≡ true → p.length < k → bit_of route.prefix p.length ≡ 1 → is_searched route (vrps_at p (Fork os low high)) k ≡ (if list_any (authorizes route) os then false else is_searched route (upper_vrps p high) k)
+is_searched-one route p os low high k pruned inside longer bit =
     ap (λ b. b && not (is_matched_before (vrps_at p (Fork os low high)) route k)) agreeing
     ∙ ap (λ b. list_any test (upper_vrps p high) && not b) matching
     ∙ unless _ (list_any (authorizes route) os) _
@@ -158,9 +158,9 @@ some-vrp test p (Fork [] Leaf (Fork os low high)) pruned node full each =
     some-vrp test (upper p room) (Fork os low high) pruned.2.1 (λ e. cc) pruned.2.0 (λ v inside. each v (contains-trans p (upper p room) v.prefix (contains-upper p room) inside))
 some-vrp test p (Fork [] Leaf Leaf) pruned node full each = cc
 
--- the length at which a node stands
-stands-here : (route : Route) (p : Prefix) (os : List Originator) (low high : Tree) → IsPruned (width p.family) p.length (Fork os low high) → is_bare (Fork os low high) ≡ false → contains p route.prefix ≡ true → stands route (vrps_at p (Fork os low high)) p.length ≡ true
-stands-here route p os low high pruned full inside =
+-- the length of a node's prefix
+is_searched-here : (route : Route) (p : Prefix) (os : List Originator) (low high : Tree) → IsPruned (width p.family) p.length (Fork os low high) → is_bare (Fork os low high) ≡ false → contains p route.prefix ≡ true → is_searched route (vrps_at p (Fork os low high)) p.length ≡ true
+is_searched-here route p os low high pruned full inside =
     and_from _ _ (some-vrp (λ v. agrees p.length v.prefix route.prefix) p (Fork os low high) pruned (λ e. cc) full (λ v inside'. agrees-within p v.prefix route.prefix inside' inside))
     (ap not (list_any_none (matches_before route p.length) _ (All-weaker _ (λ v. matches_before route p.length v ≡ false) (λ (v : Vrp) (inside' : contains p v.prefix ≡ true).
     ap (λ b. matches v route && b) (lt-leb (suc v.prefix.length) p.length (omega (arith, contains-longer p v.prefix inside'))) ∙ and-false _) _ (All-within p (Fork os low high) pruned))))
@@ -190,7 +190,7 @@ passing-first f a m is = rw is
 
 -- ---- the nodes on the route's path
 
--- how many nodes stand on the path below the first one, up to the first that passes
+-- how many nodes are on the path below the first one, up to the first that passes
 abbrev pub nodes_below : (Originator → Bool) → List Bool → Tree → ℕ
 nodes_below test path Leaf = 0
 nodes_below test [] (Fork os low high) = 0
@@ -201,25 +201,25 @@ pub nodes-parts : (test : Originator → Bool) (path : List Bool) (os : List Ori
 nodes-parts test [] os low high = refl
 nodes-parts test (bit ∷ path) os low high = refl
 
--- from the length at which a node below the root stands
-with-node : (route : Route) (p : Prefix) (t : Tree) (m : ℕ) → is_bare t ≡ false → IsPruned (width p.family) p.length t → contains p route.prefix ≡ true → passing (stands route (vrps_at p t)) (p.length + 1) m ≡ nodes_below (authorizes route) (bits_from route.prefix p.length) t → passing (stands route (vrps_at p t)) p.length (suc m) ≡ nodes_on_path (authorizes route) (bits_from route.prefix p.length) t
-with-node route p Leaf m full pruned inside rest = passing-none (stands route []) p.length (suc m) (λ k later. refl)
+-- from the length of a node below the root
+with-node : (route : Route) (p : Prefix) (t : Tree) (m : ℕ) → is_bare t ≡ false → IsPruned (width p.family) p.length t → contains p route.prefix ≡ true → passing (is_searched route (vrps_at p t)) (p.length + 1) m ≡ nodes_below (authorizes route) (bits_from route.prefix p.length) t → passing (is_searched route (vrps_at p t)) p.length (suc m) ≡ nodes_on_path (authorizes route) (bits_from route.prefix p.length) t
+with-node route p Leaf m full pruned inside rest = passing-none (is_searched route []) p.length (suc m) (λ k later. refl)
 with-node route p (Fork os low high) m full pruned inside rest =
-    let here = passing-first (stands route (vrps_at p (Fork os low high))) p.length m (stands-here route p os low high pruned full inside) in
+    let here = passing-first (is_searched route (vrps_at p (Fork os low high))) p.length m (is_searched-here route p os low high pruned full inside) in
     omega (arith, here, rest, nodes-parts (authorizes route) (bits_from route.prefix p.length) os low high)
 
 passing-unless : (b : Bool) (f : ℕ → Bool) (a m n : ℕ) → passing f a m ≡ n → passing (λ k. if b then false else f k) a m ≡ (if b then 0 else n)
 passing-unless true f a m n same = passing-none (λ k. false) a m (λ k later. refl)
 passing-unless false f a m n same = same
 
--- where there is no node no length stands
-without-node : (route : Route) (family : Family) (first len : ℕ) (t : Tree) (a m : ℕ) (path : List Bool) → t ≡ Leaf → passing (stands route (vrps_below family first len t)) a m ≡ nodes_on_path (authorizes route) path t
-without-node route family first len Leaf a m path leaf = passing-none (stands route []) a m (λ k later. refl)
+-- where there is no node no length is searched
+without-node : (route : Route) (family : Family) (first len : ℕ) (t : Tree) (a m : ℕ) (path : List Bool) → t ≡ Leaf → passing (is_searched route (vrps_below family first len t)) a m ≡ nodes_on_path (authorizes route) path t
+without-node route family first len Leaf a m path leaf = passing-none (is_searched route []) a m (λ k later. refl)
 without-node route family first len (Fork os low high) a m path leaf = cc
 
--- past the length at which a node stands, as many lengths stand as there are nodes on the path below it
-pub passing-below : (route : Route) (p : Prefix) (t : Tree) (m : ℕ) → IsPruned (width p.family) p.length t → contains p route.prefix ≡ true → route.prefix.length ≡ p.length + m → passing (stands route (vrps_at p t)) (p.length + 1) m ≡ nodes_below (authorizes route) (bits_from route.prefix p.length) t
-passing-below route p Leaf m pruned inside long = passing-none (stands route []) (p.length + 1) m (λ k later. refl)
+-- past the length of a node, as many lengths are searched as there are nodes on the path below it
+pub passing-below : (route : Route) (p : Prefix) (t : Tree) (m : ℕ) → IsPruned (width p.family) p.length t → contains p route.prefix ≡ true → route.prefix.length ≡ p.length + m → passing (is_searched route (vrps_at p t)) (p.length + 1) m ≡ nodes_below (authorizes route) (bits_from route.prefix p.length) t
+passing-below route p Leaf m pruned inside long = passing-none (is_searched route []) (p.length + 1) m (λ k later. refl)
 passing-below route p (Fork os low high) zero pruned inside long = rw (bits_from-end route.prefix p.length (omega arith))
 passing-below route p (Fork os low high) (suc m) pruned inside long =
     let q = route.prefix in
@@ -227,8 +227,8 @@ passing-below route p (Fork os low high) (suc m) pruned inside long =
     elim (bit-of-cases q p.length) [
       | inl bit ↦
           rw (next-zero q p.length longer bit)
-          (passing-same _ _ (p.length + 1) (suc m) (λ k later. stands-zero route p os low high k pruned inside (omega arith) bit)
-          ∙ passing-unless (list_any (authorizes route) os) (stands route (lower_vrps p low)) (p.length + 1) (suc m) (nodes_on_path (authorizes route) (bits_from q (p.length + 1)) low) (elim (leaf-or-room p low pruned.1.1) [
+          (passing-same _ _ (p.length + 1) (suc m) (λ k later. is_searched-zero route p os low high k pruned inside (omega arith) bit)
+          ∙ passing-unless (list_any (authorizes route) os) (is_searched route (lower_vrps p low)) (p.length + 1) (suc m) (nodes_on_path (authorizes route) (bits_from q (p.length + 1)) low) (elim (leaf-or-room p low pruned.1.1) [
             | inl leaf ↦ without-node route p.family p.first (p.length + 1) low (p.length + 1) (suc m) (bits_from q (p.length + 1)) leaf
             | inr room ↦
                 let inside' = lower-contains p q room inside longer bit in
@@ -236,8 +236,8 @@ passing-below route p (Fork os low high) (suc m) pruned inside long =
           ]))
       | inr bit ↦
           rw (next-one q p.length longer bit)
-          (passing-same _ _ (p.length + 1) (suc m) (λ k later. stands-one route p os low high k pruned inside (omega arith) bit)
-          ∙ passing-unless (list_any (authorizes route) os) (stands route (upper_vrps p high)) (p.length + 1) (suc m) (nodes_on_path (authorizes route) (bits_from q (p.length + 1)) high) (elim (leaf-or-room p high pruned.2.1) [
+          (passing-same _ _ (p.length + 1) (suc m) (λ k later. is_searched-one route p os low high k pruned inside (omega arith) bit)
+          ∙ passing-unless (list_any (authorizes route) os) (is_searched route (upper_vrps p high)) (p.length + 1) (suc m) (nodes_on_path (authorizes route) (bits_from q (p.length + 1)) high) (elim (leaf-or-room p high pruned.2.1) [
             | inl leaf ↦ without-node route p.family (p.first + half_size p) (p.length + 1) high (p.length + 1) (suc m) (bits_from q (p.length + 1)) leaf
             | inr room ↦
                 let inside' = upper-contains p q room inside longer bit in

@@ -35,7 +35,7 @@ first-less Greater r h = cc
 pub less-at_most : (v w : Vrp) → vrp_cmp v w ≡ Less → is_at_most v.prefix w.prefix ≡ true
 less-at_most v w h = first-less _ _ h
 
--- where VRPs rise, those up to a prefix stand at the front
+-- where VRPs rise, those up to a prefix are at the front
 pub rising-partitioned : (p : Prefix) (vrps : List Vrp) → AreRising vrps → IsPartitionedBy (λ v. is_at_most v.prefix p) vrps
 rising-partitioned p vrps rising i j d le within last =
     elim (cases_lt i j) [

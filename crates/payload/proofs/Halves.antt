@@ -44,7 +44,7 @@ upper p room = record {
   in_family = omega (arith, doubled (width p.family) p.length room, p.in_family);
 }
 
--- ---- the bit tells the halves apart
+-- ---- which half a bit leads to
 
 -- x = a * (m + m) begins a block of two halves, and y lies in the lower or in the upper one
 bit-low : (a m y : ℕ) → a * (m + m) ≤ y → y < a * (m + m) + m → y / m % 2 ≡ 0

@@ -44,7 +44,7 @@ left-start vrps rest route rising is =
       covered = any-enclosing_covers route vrps rest enclosing ∙ sym (or-false _);
     }
 
--- the last VRP does not cover the route, and all that may cover it stand in a front of the others
+-- the last VRP does not cover the route, and all that may cover it are in a front of the others
 pub left-skip : (vrps rest before front : List Vrp) (v : Vrp) (route : Route) (is_covered : Bool) → IsLeft vrps rest route is_covered → rest ≡ before ++ v ∷ [] → covers v route ≡ false → HasAllEnclosing route.prefix before front → IsLeft vrps front route is_covered
 left-skip vrps rest before front v route is_covered left split apart is =
     let rising = rising-front before (v ∷ []) (subst AreRising split left.rising) in

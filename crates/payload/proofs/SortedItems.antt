@@ -1,4 +1,4 @@
--- Where an item stands among items that rise by a total order, or would.
+-- The place of an item among items that rise by a total order, whether it is there or not.
 use Rattle.std.proofs.Common.{◌≡◌, ℕ, ◌+◌, ◌-◌, ◌≤◌, ◌<◌, Bool, true, false, not, ◌&&◌, ◌||◌, List, [], ◌∷◌, length, get_or, refl, sym, ap, ◌∙◌, subst, arith, inl, inr, Ordering, Result, Ok, Err, is_ok}
 use Rattle.std.specs.Cmp.{IsTotalOrder}
 use Rattle.std.specs.List.{All, insert, remove, list_any}

@@ -22,7 +22,7 @@ use Rattle.payload.specs.VrpSet as set
 use Rattle.payload.specs.declared.originator.Originator.{Originator}
 use Rattle.payload.specs.steps.Tree.{Tree, Fork, IsPruned, has_on_path, nodes_on_path}
 use Rattle.payload.specs.steps.Trie.{authorizes, bits_from, originator_of, state_below, trie_vrps, vrps_below, walked_state, whole}
-use Rattle.payload.proofs.Depths.{nodes-parts, nodes_below, passing, passing-below, passing-first, passing-same, stands}
+use Rattle.payload.proofs.Depths.{nodes-parts, nodes_below, passing, passing-below, passing-first, passing-same, is_searched}
 use Rattle.payload.proofs.Sets.{items-from_list}
 use Rattle.payload.proofs.TrieOrder.{pairs-append, vrps-rise}
 use Rattle.payload.proofs.TrieVrps.{All-within}
@@ -90,13 +90,13 @@ state-six route four six prune4 prune6 is = walked route (trie_vrps four six) (b
 
 -- ---- the lengths
 
--- the nodes on the route's path, the root among them, are as many as the lengths that stand
-depths : (route : Route) (all vrps : List Vrp) (os : List Originator) (low high : Tree) → ((k : ℕ) → list_any (λ v. agrees k v.prefix route.prefix) all ≡ list_any (λ v. agrees k v.prefix route.prefix) vrps) → ((k : ℕ) → is_matched_before all route k ≡ is_matched_before vrps route k) → passing (stands route vrps) 1 route.prefix.length ≡ nodes_below (authorizes route) (bits_from route.prefix 0) (Fork os low high) → nodes_on_path (authorizes route) (bits_from route.prefix 0) (Fork os low high) ≡ length (search_depths all route)
+-- the nodes on the route's path, the root among them, are as many as the lengths that are searched
+depths : (route : Route) (all vrps : List Vrp) (os : List Originator) (low high : Tree) → ((k : ℕ) → list_any (λ v. agrees k v.prefix route.prefix) all ≡ list_any (λ v. agrees k v.prefix route.prefix) vrps) → ((k : ℕ) → is_matched_before all route k ≡ is_matched_before vrps route k) → passing (is_searched route vrps) 1 route.prefix.length ≡ nodes_below (authorizes route) (bits_from route.prefix 0) (Fork os low high) → nodes_on_path (authorizes route) (bits_from route.prefix 0) (Fork os low high) ≡ length (search_depths all route)
 depths route all vrps os low high agree match below =
     let long : route.prefix.length + 1 ≡ suc route.prefix.length = omega arith in
     let first = passing-first offers 0 route.prefix.length (ap not (list_any_none (λ v. matches v route && nat_lt v.prefix.length 0) all (λ k d within.
     ap (λ b. matches (get_or all k d) route && b) (lt-leb (suc (get_or all k d).prefix.length) 0 (omega arith)) ∙ and-false _))) in
-    let later = passing-same offers (stands route vrps) 1 route.prefix.length (λ k positive.
+    let later = passing-same offers (is_searched route vrps) 1 route.prefix.length (λ k positive.
     ap (λ b. (b || list_any (λ v. agrees k v.prefix route.prefix) all) && not (is_matched_before all route k)) (ne_eqb k 0 (λ zero. absurd (omega arith)))
     ∙ ap (λ b. b && not (is_matched_before all route k)) (agree k)
     ∙ ap (λ b. list_any (λ v. agrees k v.prefix route.prefix) vrps && not b) (match k)) in

@@ -1,16 +1,16 @@
--- What a sink was given of the VRPs of a tree.
-use Rattle.std.proofs.Common.{◌≡◌, ℕ, ◌+◌, ◌≤◌, ◌<◌, List, [], ◌∷◌, ◌++◌, length, take, drop, get_or, sym, ap, ◌∙◌, append_assoc, arith}
+-- What a sink took of the VRPs of a tree.
+use Rattle.std.proofs.Common.{◌≡◌, ℕ, ◌+◌, ◌≤◌, ◌<◌, List, [], ◌∷◌, ◌++◌, length, take, drop, get_or, sym, ap, ◌∙◌, subst, append_assoc, arith}
 use Rattle.std.specs.List.{All}
 use Rattle.std.proofs.lemmas.List.{length-append, take_all, take_more, take-append-drop}
 use Rattle.std.proofs.lemmas.List.Elements.{filter_map-append}
 use Rattle.addr.specs.Order.{same_vrp}
 use Rattle.addr.specs.declared.prefix.Prefix.{Prefix}
 use Rattle.addr.specs.declared.vrp.Vrp.{Vrp}
-use Rattle.payload.specs.Visit.{WasGivenBeginning}
+use Rattle.payload.specs.Visit.{TookBeginning}
 use Rattle.payload.specs.declared.originator.Originator.{Originator}
 use Rattle.payload.specs.steps.Trie.{node_vrps, originator_of, vrp_at}
 use Rattle.payload.proofs.TrieVrps.{HasLengths, node_vrps-cons, vrp_of}
-use Rattle.payload.proofs.Visits.{beginning-part}
+use Rattle.payload.proofs.Visits.{beginning-part, TookThen}
 
 node_vrps-append : (p : Prefix) (xs ys : List Originator) → node_vrps p (xs ++ ys) ≡ node_vrps p xs ++ node_vrps p ys
 node_vrps-append p xs ys = filter_map-append (vrp_at p.family p.first p.length) xs ys
@@ -25,21 +25,22 @@ node_vrps-more p os i d v lengths within at is =
     ∙ node_vrps-append p (take i os) (o ∷ [])
     ∙ ap (λ vs. node_vrps p (take i os) ++ vs) (node_vrps-cons p o [] fits ∙ ap (λ w. w ∷ []) same)
 
-pub node-given : (p : Prefix) (os : List Originator) (i : ℕ) (d : Originator) (v : Vrp) (before given after : List Vrp) → All (HasLengths p) os → i < length os → v.prefix ≡ p → originator_of v ≡ get_or os i d → given ≡ before ++ node_vrps p (take i os) → after ≡ given ++ v ∷ [] → after ≡ before ++ node_vrps p (take (i + 1) os)
-node-given p os i d v before given after lengths within at is so_far one =
-    one ∙ ap (λ l. l ++ v ∷ []) so_far ∙ append_assoc before (node_vrps p (take i os)) (v ∷ [])
-    ∙ ap (λ l. before ++ l) (sym (node_vrps-more p os i d v lengths within at is))
+module _ {S : Type 0} (took : S → List Vrp → S → Type 0) where
+  pub node-took_all : (p : Prefix) (os : List Originator) (i : ℕ) (a b : S) → took a (node_vrps p (take i os)) b → length os ≤ i → took a (node_vrps p os) b
+  node-took_all p os i a b so_far past = subst (λ vs. took a vs b) (ap (node_vrps p) (take_all i os past)) so_far
 
--- a visit that is stopped at a VRP of a node
-pub node-beginning : (p : Prefix) (os : List Originator) (i : ℕ) (d : Originator) (v : Vrp) (rest before given after : List Vrp) → All (HasLengths p) os → i < length os → v.prefix ≡ p → originator_of v ≡ get_or os i d → given ≡ before ++ node_vrps p (take i os) → after ≡ given ++ v ∷ [] → WasGivenBeginning (node_vrps p os ++ rest) before after
-node-beginning p os i d v rest before given after lengths within at is so_far one =
-    let some = node_vrps p (take (i + 1) os) in
-    let later = node_vrps p (drop (i + 1) os) in
-    let whole : node_vrps p os ++ rest ≡ some ++ (later ++ rest) =
-    ap (λ vs. vs ++ rest) (ap (node_vrps p) (sym (take-append-drop (i + 1) os)) ∙ node_vrps-append p (take (i + 1) os) (drop (i + 1) os)) ∙ append_assoc some later rest in
-    let more = node_vrps-more p os i d v lengths within at is in
-    beginning-part some (later ++ rest) _ before after whole (omega (arith, ap length more, length-append (node_vrps p (take i os)) (v ∷ [])))
-    (node-given p os i d v before given after lengths within at is so_far one)
+  module _ (took_then : TookThen took) (p : Prefix) (os : List Originator) (i : ℕ) (d : Originator) (v : Vrp) where
+    pub node-took : (a b c : S) → All (HasLengths p) os → i < length os → v.prefix ≡ p → originator_of v ≡ get_or os i d → took a (node_vrps p (take i os)) b → took b (v ∷ []) c → took a (node_vrps p (take (i + 1) os)) c
+    node-took a b c lengths within at is so_far one =
+        subst (λ vs. took a vs c) (sym (node_vrps-more p os i d v lengths within at is)) (took_then a b c (node_vrps p (take i os)) (v ∷ []) so_far one)
 
-pub node-given_all : (p : Prefix) (os : List Originator) (i : ℕ) (before given : List Vrp) → given ≡ before ++ node_vrps p (take i os) → length os ≤ i → given ≡ before ++ node_vrps p os
-node-given_all p os i before given so_far past = so_far ∙ ap (λ l. before ++ node_vrps p l) (take_all i os past)
+    -- a visit that is stopped at a VRP of a node
+    pub node-beginning : (rest : List Vrp) (a b c : S) → All (HasLengths p) os → i < length os → v.prefix ≡ p → originator_of v ≡ get_or os i d → took a (node_vrps p (take i os)) b → took b (v ∷ []) c → TookBeginning took (node_vrps p os ++ rest) a c
+    node-beginning rest a b c lengths within at is so_far one =
+        let some = node_vrps p (take (i + 1) os) in
+        let later = node_vrps p (drop (i + 1) os) in
+        let whole : node_vrps p os ++ rest ≡ some ++ (later ++ rest) =
+        ap (λ vs. vs ++ rest) (ap (node_vrps p) (sym (take-append-drop (i + 1) os)) ∙ node_vrps-append p (take (i + 1) os) (drop (i + 1) os)) ∙ append_assoc some later rest in
+        let more = node_vrps-more p os i d v lengths within at is in
+        beginning-part took some (later ++ rest) _ a c whole (omega (arith, ap length more, length-append (node_vrps p (take i os)) (v ∷ [])))
+        (node-took a b c lengths within at is so_far one)

@@ -1,4 +1,4 @@
--- VRPs that stand between two of one prefix, and do not match a route.
+-- VRPs that are between two of one prefix, and do not match a route.
 use Rattle.std.proofs.Common.{◌≡◌, ℕ, ◌+◌, ◌≤◌, ◌<◌, Bool, true, false, ◌&&◌, nat_le, List, take, drop, length, get_or, refl, sym, ap, subst, arith, inl, inr, ◌⊎◌, Ordering}
 use Rattle.std.specs.List.{All}
 use Rattle.std.specs.List.Sorted.{IsPartitionPoint, IsPartitionedBy}
@@ -87,7 +87,7 @@ unlike-between v w route max asn top others less from =
           | inr tie ↦ elim onwards [ inl higher ↦ absurd (omega (arith, tie.0)) | inr later ↦ others v.asn later.1 tie.1 ]
         ]
 
--- where VRPs rise, those before one stand at the front
+-- where VRPs rise, those before one are at the front
 pub rising-below : (b : Vrp) (vrps : List Vrp) → AreRising vrps → IsPartitionedBy (λ v. is_below v b) vrps
 rising-below b vrps rising i j d le within last =
     elim (cases_lt i j) [

@@ -1,8 +1,8 @@
--- What a visit that a sink stopped has handed out.
-use Rattle.std.specs.Prelude.{◌≡◌, ℕ, ◌<◌, ◌≤◌, List, ◌++◌, length, take}
+-- What a sink took of a visit at which it stopped.
+use Rattle.std.specs.Prelude.{ℕ, ◌<◌, ◌≤◌, List, length, take}
 use Rattle.addr.specs.declared.vrp.Vrp.{Vrp}
 
--- a sink that was given `before` was then given a beginning of the items, at least the first
-abbrev pub WasGivenBeginning : List Vrp → List Vrp → List Vrp → Type 0
-WasGivenBeginning items before after =
-    (n : ℕ) × (0 < n) × (n ≤ length items) × (after ≡ before ++ take n items)
+-- from the one value to the other the sink took a beginning of the items, at least the first
+abbrev pub TookBeginning : {S : Type 0} → (S → List Vrp → S → Type 0) → List Vrp → S → S → Type 0
+TookBeginning took items before after =
+    (n : ℕ) × (0 < n) × (n ≤ length items) × took before (take n items) after

@@ -1,8 +1,8 @@
-ghost use Rattle.std.specs.Prelude.{◌≡◌, ◌++◌, true, false, not, IfOk, OnOk, OnErr};
+ghost use Rattle.std.specs.Prelude.{◌≡◌, true, false, not, IfOk, OnOk, OnErr};
 ghost use Rattle.addr.specs.OriginValidation.{validation_state};
 ghost use Rattle.payload.specs.Rising.{AreRising};
 ghost use Rattle.payload.specs.ValidityState.{state_of};
-ghost use Rattle.payload.specs.Visit.{WasGivenBeginning};
+ghost use Rattle.payload.specs.Visit.{TookBeginning};
 ghost use Rattle.payload.specs.VrpSet as set;
 
 use crate::{Sink, Stop, Validity};
@@ -33,16 +33,16 @@ pub trait PayloadIndex {
     fn validity(&self, route: &Route) -> Validity
         ensures { state_of result ≡ validation_state (set.items (vrps self.now)) route.now };
 
-    /// Hands the VRPs to the sink, rising, each once, until it stops.
+    /// Lets the sink take the VRPs, rising, each once, until it stops.
     fn visit<S: Sink>(&self, sink: &mut S) -> Result<(), Stop>
         ensures rising { AreRising (set.items (vrps self.now)) }
         ensures all { OnOk result (S.has_stopped sink.old ≡ false
-            → S.given sink.new ≡ S.given sink.old ++ set.items (vrps self.now)) }
+            → S.took sink.old (set.items (vrps self.now)) sink.new) }
         ensures goes_on { OnOk result (S.has_stopped sink.old ≡ false
             → S.has_stopped sink.new ≡ false) }
 
         // The sink's last `take` answered the `Stop`.
         ensures beginning { OnErr result (S.has_stopped sink.old ≡ false
-            → WasGivenBeginning (set.items (vrps self.now)) (S.given sink.old) (S.given sink.new)) }
+            → TookBeginning S.took (set.items (vrps self.now)) sink.old sink.new) }
         ensures stopped { OnErr result (S.has_stopped sink.new ≡ true) };
 }

@@ -46,7 +46,7 @@ impl ListIndex {
 impl From<Vec<Vrp>> for ListIndex {
     ghost from_gives = { λ vrps index. index ≡ set.from_list vrps.items };
 
-    /// The VRPs may stand in any order and repeat. Takes no memory beyond the vector.
+    /// The VRPs may be in any order and repeat. Allocates nothing.
     fn from(mut vrps: Vec<Vrp>) -> ListIndex {
         sort_and_dedup(&mut vrps);
         let shortest = Shortest::of(&vrps);

@@ -1,3 +1,4 @@
+//! Route origin validation on VRPs that rise.
 ghost use Rattle.std.specs.Prelude.{◌≡◌, ◌-◌, ◌%◌, ◌^◌, ◌<◌, ◌≤◌, true, false};
 ghost use Rattle.std.specs.List.{All};
 ghost use Rattle.addr.specs.Address.{contains};
@@ -48,7 +49,7 @@ pub(crate) fn validity(vrps: &[Vrp], shortest: Shortest, route: &Route) -> Valid
     }
 }
 
-/// The VRPs before one that covers the route and does not match it, but for those just before it that
+/// The VRPs before one that covers the route and does not match it, except those just before it that
 /// do not match either.
 fn past_unlike<'a>(before: &'a [Vrp], vrp: &Vrp, route: &Route) -> &'a [Vrp]
     requires rising { AreRising before.now }

@@ -47,6 +47,7 @@ impl Shortest {
         }
     }
 
+    /// Of this family.
     pub(crate) fn in_family(self, family: Family) -> u8
         ensures { result ≡ shortest_in self family }
     {

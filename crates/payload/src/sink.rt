@@ -9,15 +9,20 @@ pub struct Stop;
 
 /// Takes VRPs, one after another.
 pub trait Sink {
-    /// The VRPs that it was given, in order, the one at which it stopped among them.
-    ghost given: { Self → List Vrp };
+    /// What a sink may be once it took these VRPs, in order, the one at which it stopped among
+    /// them. A sink that holds a `&mut` says here that its `ghost_name` stays.
+    ghost took: { Self → List Vrp → Self → Type 0 };
 
     /// Whether it stopped at the last one.
     ghost has_stopped: { Self → Bool };
 
-    /// Nothing is said of a sink that is given more once it has stopped.
+    /// Of a sink that takes more once it has stopped, nothing is known.
     fn take(&mut self, vrp: &Vrp) -> Result<(), Stop>
-        ensures given { has_stopped self.old ≡ false
-            → given self.new ≡ given self.old ++ vrp.now ∷ [] }
+        ensures took { has_stopped self.old ≡ false → took self.old (vrp.now ∷ []) self.new }
         ensures stopped { is_err result ≡ has_stopped self.new };
+
+    ghost took_none: { (a : Self) → took a [] a };
+
+    ghost took_then: { (a b c : Self) (vs ws : List Vrp) → took a vs b → took b ws c
+        → took a (vs ++ ws) c };
 }

@@ -53,7 +53,7 @@ impl Trie {
         }
     }
 
-    /// The set of these VRPs, which may stand in any order and repeat.
+    /// The set of these VRPs, which may be in any order and repeat.
     pub fn of(alloc: Global, vrps: &[Vrp]) -> Result<Trie, AllocError>
         ensures { IfOk result (λ trie. trie ≡ set.from_list vrps.now) }
     {

@@ -3,10 +3,9 @@ ghost use Rattle.registry.specs.Answer.{IsAccepted, IsViewOf, RowsOfNamed, Repor
 ghost use Rattle.registry.specs.Rows.{rows_if_any, RowsIfAny};
 ghost use Rattle.store.specs.StoreRows.{IsRead};
 ghost use Rattle.desk.specs.Answer.{is_accepted, AnswersCommand, IsAnswered};
-ghost use Rattle.desk.specs.Desk.{charter_of, IsOnCleanDisk, KeepsRows};
+ghost use Rattle.desk.specs.Desk.{charter_of, IsOnCleanDisk, KeepsRows, OfHistories};
 ghost use Rattle.desk.specs.HolderAnswers.{may_change, may_except, KeepsOthers};
 ghost use Rattle.desk.specs.steps.Accepting.{AnswersAccepted};
-ghost use Rattle.desk.specs.steps.Reading.{OfHistories};
 
 use super::Desk;
 use crate::{Reply, Request};
@@ -125,7 +124,7 @@ impl<S: Alter> Desk<S> {
         }
     }
 
-    /// Whether some address of a delegation's prefix is held. Not asked of any other command.
+    /// Whether some address of a delegation's prefix is held; not looked up for another command.
     fn is_taken(&mut self, command: &Command) -> Result<bool, StoreFault>
         ensures read { IsRead S.Store self.old.store self.new.store }
         ensures taken { IfOk result (λ taken. OfHistories S.Store self.old self.new (λ history.

@@ -4,9 +4,8 @@ ghost use Rattle.payload.specs.VrpSet as set;
 ghost use Rattle.registry.specs.DailyVrps.{IsVrpOn};
 ghost use Rattle.store.specs.StoreRows.{IsRead};
 ghost use Rattle.desk.specs.Answer.{is_accepted, AnswersQuery, AnswersShow, AnswersContent, AnswersList, AnswersPayloads, AnswersValidity};
-ghost use Rattle.desk.specs.Desk.{charter_of};
-ghost use Rattle.desk.specs.steps.Reading.{OfHistories};
-ghost use Rattle.desk.specs.steps.Supposing.{AreInForceOn};
+ghost use Rattle.desk.specs.Desk.{charter_of, OfHistories};
+ghost use Rattle.desk.specs.steps.WhatIf.{AreInForceOn};
 
 use super::Desk;
 use crate::Reply;
@@ -15,7 +14,7 @@ use crate::exceptions::excepted;
 use crate::gathering::{gather, judge};
 use addr::{Day, Name, Route, Vrp};
 use payload::Trie;
-use registry::{Query, Refusal};
+use registry::Query;
 use slurm::Slurm;
 use sqlite::Alter;
 use store::StoreFault;
@@ -27,6 +26,19 @@ impl<S: Alter> Desk<S> {
         ensures answered { OfHistories S.Store self.old self.new (λ history.
             AnswersQuery (charter_of self.old) history day caller.now query.now result) }
         ensures never_done { is_accepted result ≡ false }
+    {
+        match self.look_up(day, caller, query) {
+            Ok(reply) => reply,
+            Err(_) => Reply::Unavailable,
+        }
+    }
+
+    /// As `answer`, except where an allocation fails or the database does not answer.
+    fn look_up(&mut self, day: Day, caller: &Name, query: &Query) -> Result<Reply, StoreFault>
+        ensures read { IsRead S.Store self.old.store self.new.store }
+        ensures answered { IfOk result (λ reply. OfHistories S.Store self.old self.new (λ history.
+            AnswersQuery (charter_of self.old) history day caller.now query.now reply)) }
+        ensures never_done { IfOk result (λ reply. is_accepted reply ≡ false) }
     {
         match query {
             Query::Show { holder, number } => self.show(holder, day, caller, *number),
@@ -42,81 +54,84 @@ impl<S: Alter> Desk<S> {
         }
     }
 
-    fn show(&mut self, holder: &Name, day: Day, caller: &Name, number: u32) -> Reply
+    /// The authorization of the number, or why the caller may not see it.
+    fn show(
+        &mut self,
+        holder: &Name,
+        day: Day,
+        caller: &Name,
+        number: u32,
+    ) -> Result<Reply, StoreFault>
         ensures read { IsRead S.Store self.old.store self.new.store }
-        ensures answered { OfHistories S.Store self.old self.new (λ history.
-            AnswersShow history holder.now day caller.now number result) }
-        ensures never_done { is_accepted result ≡ false }
+        ensures answered { IfOk result (λ reply. OfHistories S.Store self.old self.new (λ history.
+            AnswersShow history holder.now day caller.now number reply)) }
+        ensures never_done { IfOk result (λ reply. is_accepted reply ≡ false) }
     {
-        let Ok(rows) = self.load(holder) else {
-            return Reply::Unavailable;
-        };
+        let rows = self.load(holder)?;
         match policy::see(rows.as_ref(), day, caller, number) {
-            Ok(auth) => Reply::Shown(*auth),
-            Err(rule) => Reply::Denied(rule, None),
+            Ok(auth) => Ok(Reply::Shown(*auth)),
+            Err(rule) => Ok(Reply::Denied(rule, None)),
         }
     }
 
-    fn content(&mut self, holder: &Name, day: Day, caller: &Name, number: u32) -> Reply
+    /// The ROA content of the authorization that `show` shows.
+    fn content(
+        &mut self,
+        holder: &Name,
+        day: Day,
+        caller: &Name,
+        number: u32,
+    ) -> Result<Reply, StoreFault>
         ensures read { IsRead S.Store self.old.store self.new.store }
-        ensures answered { OfHistories S.Store self.old self.new (λ history.
-            AnswersContent history holder.now day caller.now number result) }
-        ensures never_done { is_accepted result ≡ false }
+        ensures answered { IfOk result (λ reply. OfHistories S.Store self.old self.new (λ history.
+            AnswersContent history holder.now day caller.now number reply)) }
+        ensures never_done { IfOk result (λ reply. is_accepted reply ≡ false) }
     {
-        let auth = match self.show(holder, day, caller, number) {
+        let auth = match self.show(holder, day, caller, number)? {
             Reply::Shown(auth) => auth,
-            refused => return refused,
+            refused => return Ok(refused),
         };
-        // No history has terms without a content.
-        let Ok(Some(text)) = content_text(self.alloc, &auth) else {
-            return Reply::Unavailable;
-        };
-        Reply::Content(text)
-    }
-
-    fn list(&mut self, holder: &Name, day: Day, caller: &Name) -> Reply
-        ensures read { IsRead S.Store self.old.store self.new.store }
-        ensures answered { OfHistories S.Store self.old self.new (λ history.
-            AnswersList history holder.now day caller.now result) }
-        ensures never_done { is_accepted result ≡ false }
-    {
-        let Ok(rows) = self.load(holder) else {
-            return Reply::Unavailable;
-        };
-        match policy::see_all(self.alloc, rows.as_ref(), day, caller) {
-            Ok(auths) => Reply::Listed(auths),
-            Err(refusal) => Reply::from(refusal),
+        match content_text(self.alloc, &auth)? {
+            Some(text) => Ok(Reply::Content(text)),
+            // No history has terms without a content.
+            None => Ok(Reply::Unavailable),
         }
     }
 
-    fn payloads(&mut self, day: Day) -> Reply
+    /// The authorizations of the holder, or why the caller may not see them.
+    fn list(&mut self, holder: &Name, day: Day, caller: &Name) -> Result<Reply, StoreFault>
         ensures read { IsRead S.Store self.old.store self.new.store }
-        ensures answered { OfHistories S.Store self.old self.new (λ history.
-            AnswersPayloads history day result) }
-        ensures never_done { is_accepted result ≡ false }
+        ensures answered { IfOk result (λ reply. OfHistories S.Store self.old self.new (λ history.
+            AnswersList history holder.now day caller.now reply)) }
+        ensures never_done { IfOk result (λ reply. is_accepted reply ≡ false) }
     {
-        let Ok(index) = self.index_on(day) else {
-            return Reply::Unavailable;
-        };
-        let Ok(vrps) = gather(self.alloc, &index) else {
-            return Reply::Unavailable;
-        };
-        Reply::Payloads(vrps)
+        let rows = self.load(holder)?;
+        match policy::see_all(self.alloc, rows.as_ref(), day, caller) {
+            Ok(auths) => Ok(Reply::Listed(auths)),
+            Err(refusal) => Ok(Reply::from(refusal)),
+        }
     }
 
-    fn validity(&mut self, day: Day, routes: &[Route]) -> Reply
+    /// The VRPs of the day, rising.
+    fn payloads(&mut self, day: Day) -> Result<Reply, StoreFault>
         ensures read { IsRead S.Store self.old.store self.new.store }
-        ensures answered { OfHistories S.Store self.old self.new (λ history.
-            AnswersValidity history day routes.now result) }
-        ensures never_done { is_accepted result ≡ false }
+        ensures answered { IfOk result (λ reply. OfHistories S.Store self.old self.new (λ history.
+            AnswersPayloads history day reply)) }
+        ensures never_done { IfOk result (λ reply. is_accepted reply ≡ false) }
     {
-        let Ok(index) = self.index_on(day) else {
-            return Reply::Unavailable;
-        };
-        let Ok(states) = judge(self.alloc, &index, routes) else {
-            return Reply::Unavailable;
-        };
-        Reply::Answers(states)
+        let index = self.index_on(day)?;
+        Ok(Reply::Payloads(gather(self.alloc, &index)?))
+    }
+
+    /// The state of each route on the day.
+    fn validity(&mut self, day: Day, routes: &[Route]) -> Result<Reply, StoreFault>
+        ensures read { IsRead S.Store self.old.store self.new.store }
+        ensures answered { IfOk result (λ reply. OfHistories S.Store self.old self.new (λ history.
+            AnswersValidity history day routes.now reply)) }
+        ensures never_done { IfOk result (λ reply. is_accepted reply ≡ false) }
+    {
+        let index = self.index_on(day)?;
+        Ok(Reply::Answers(judge(self.alloc, &index, routes)?))
     }
 
     /// The VRPs of the day, with the exceptions in force.

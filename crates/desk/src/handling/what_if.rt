@@ -4,9 +4,8 @@ ghost use Rattle.payload.specs.VrpSet as set;
 ghost use Rattle.registry.specs.History.{History};
 ghost use Rattle.store.specs.StoreRows.{IsRead};
 ghost use Rattle.desk.specs.Answer.{is_accepted, states_now, states_after, AnswersWhatIf, AreStatesOn};
-ghost use Rattle.desk.specs.Desk.{charter_of};
-ghost use Rattle.desk.specs.steps.Reading.{OfHistories};
-ghost use Rattle.desk.specs.steps.Supposing.{Exchanges, WouldExchange};
+ghost use Rattle.desk.specs.Desk.{charter_of, OfHistories};
+ghost use Rattle.desk.specs.steps.WhatIf.{Exchanges, WouldExchange};
 
 use super::Desk;
 use crate::Reply;
@@ -29,28 +28,26 @@ impl<S: Alter> Desk<S> {
         caller: &Name,
         changes: &[Proposed],
         routes: &[Route],
-    ) -> Reply
+    ) -> Result<Reply, StoreFault>
         ensures read { IsRead S.Store self.old.store self.new.store }
-        ensures answered { OfHistories S.Store self.old self.new (λ history.
+        ensures answered { IfOk result (λ reply. OfHistories S.Store self.old self.new (λ history.
             AnswersWhatIf (charter_of self.old) history day caller.now holder.now changes.now
-            routes.now result) }
-        ensures never_done { is_accepted result ≡ false }
+            routes.now reply)) }
+        ensures never_done { IfOk result (λ reply. is_accepted reply ≡ false) }
     {
-        let exchange = match self.suppose(holder, day, caller, changes) {
+        let exchange = match self.hypothetical_exchange(holder, day, caller, changes) {
             Ok(exchange) => exchange,
-            Err(refused) => return refused,
+            Err(refused) => return Ok(refused),
         };
-        match self.report(day, &exchange, routes) {
-            Ok(states) => Reply::Report(states),
-            Err(_) => Reply::Unavailable,
-        }
+        let states = self.states_now_and_after(day, &exchange, routes)?;
+        Ok(Reply::Report(states))
     }
 
     /// Which VRPs of the day the changes would exchange, or the reply that refuses them.
     ///
     /// The rest stays as it is: other holders keep their rows, and none of them gives a VRP that
     /// the holder gives, so to take the holder's out takes nothing of theirs.
-    fn suppose(
+    fn hypothetical_exchange(
         &mut self,
         holder: &Name,
         day: Day,
@@ -81,7 +78,7 @@ impl<S: Alter> Desk<S> {
     }
 
     /// The states of the routes now, and with the VRPs exchanged.
-    fn report(
+    fn states_now_and_after(
         &mut self,
         day: Day,
         exchange: &Exchange,

@@ -48,7 +48,7 @@ here (Fork originators zero one) = originators
 abbrev pub originator_cmp : Originator → Originator → Ordering
 originator_cmp o q = ordering_then (nat_cmp o.max q.max) (nat_cmp o.asn.0 q.asn.0)
 
--- the originator stands at the end of this path of bits
+-- the originator is at the end of this path of bits
 abbrev pub has : List Bool → Originator → Tree → Bool
 has [] o tree = list_any (eq_by_cmp originator_cmp o) (here tree)
 has (bit ∷ path) o tree = has path o (below bit tree)
@@ -64,7 +64,7 @@ abbrev pub has_on_path : (Originator → Bool) → List Bool → Tree → Bool
 has_on_path test [] tree = list_any test (here tree)
 has_on_path test (bit ∷ path) tree = list_any test (here tree) || has_on_path test path (below bit tree)
 
--- how many nodes stand on the path, up to the first with an originator that passes the test
+-- how many nodes are on the path, up to the first with an originator that passes the test
 abbrev pub nodes_on_path : (Originator → Bool) → List Bool → Tree → ℕ
 nodes_on_path test path Leaf = 0
 nodes_on_path test [] (Fork originators zero one) = 1
@@ -85,7 +85,7 @@ pub record AreOriginators (width len : ℕ) (originators : List Originator) : Ty
   pub rise : AllPairs (λ o q. originator_cmp o q ≡ Less) originators
   pub lengths : All (λ o. (len ≤ o.max) × (o.max ≤ width)) originators
 
--- the tree stands at `len` bits, and no node below its root is bare
+-- the root is at `len` bits, and no node below its root is bare
 abbrev pub IsPruned : ℕ → ℕ → Tree → Type 0
 IsPruned width len Leaf = Unit {0}
 IsPruned width len (Fork originators zero one) =

@@ -59,7 +59,7 @@ abbrev pub vrp_at : Family → ℕ → ℕ → Originator → Option Vrp
 vrp_at family first len o =
     option_and_then (vrp_with o) (prefix_with (record { family = family; address = first; length = len }))
 
--- the VRPs of a tree whose root stands at the prefix of this first address and length: those of its node, those of the
+-- the VRPs of a tree whose root is at the prefix of this first address and length: those of its node, those of the
 -- prefix's lower half and those of its upper half
 abbrev pub vrps_below : Family → ℕ → ℕ → Tree → List Vrp
 vrps_below family first len Leaf = []
@@ -68,7 +68,7 @@ vrps_below family first len (Fork originators low high) =
     ++ (vrps_below family first (len + 1) low
     ++ vrps_below family (first + 2 ^ (width family - (len + 1))) (len + 1) high)
 
--- the VRPs of a tree whose root stands at the prefix
+-- the VRPs of a tree whose root is at the prefix
 abbrev pub vrps_at : Prefix → Tree → List Vrp
 vrps_at p t = vrps_below p.family p.first p.length t
 
@@ -81,7 +81,7 @@ abbrev pub half_first : Bool → Prefix → ℕ
 half_first false p = p.first
 half_first true p = p.first + 2 ^ (width p.family - (p.length + 1))
 
--- the VRPs of a tree whose root stands at that half
+-- the VRPs of a tree whose root is at that half
 abbrev pub half_vrps : Bool → Prefix → Tree → List Vrp
 half_vrps bit p t = vrps_below p.family (half_first bit p) (p.length + 1) t
 

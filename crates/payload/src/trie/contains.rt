@@ -27,6 +27,7 @@ impl Node {
     }
 }
 
+/// As `Node::contains`.
 #[cycle(contains)]
 fn contains_below(child: &Option<Box<Node>>, vrp: &Vrp, at: u8) -> bool
     requires within { at ≤ vrp.now.prefix.length }

@@ -1,6 +1,6 @@
-ghost use Rattle.std.specs.Prelude.{◌≡◌, ◌+◌, ◌<◌, ◌++◌, true, false, OnOk, OnErr};
+ghost use Rattle.std.specs.Prelude.{◌≡◌, ◌+◌, ◌<◌, true, false, OnOk, OnErr};
 ghost use Rattle.addr.specs.Family.{width};
-ghost use Rattle.payload.specs.Visit.{WasGivenBeginning};
+ghost use Rattle.payload.specs.Visit.{TookBeginning};
 ghost use Rattle.payload.specs.steps.Tree.{IsPruned, subtree, tree};
 ghost use Rattle.payload.specs.steps.Trie.{half_first, half_vrps, vrps_at};
 
@@ -9,17 +9,16 @@ use crate::{Sink, Stop};
 use addr::{Prefix, Vrp};
 
 impl Node {
-    /// Hands out the VRPs at the node of this prefix and below it, rising, each once.
+    /// Lets the sink take the VRPs at the node of this prefix and below it, rising, each once.
     #[cycle(visit)]
     pub(crate) fn visit<S: Sink>(&self, prefix: &Prefix, sink: &mut S) -> Result<(), Stop>
         requires { IsPruned (width prefix.now.family) prefix.now.length (tree self.now) }
         ensures all { OnOk result (S.has_stopped sink.old ≡ false
-            → S.given sink.new ≡ S.given sink.old ++ vrps_at prefix.now (tree self.now)) }
+            → S.took sink.old (vrps_at prefix.now (tree self.now)) sink.new) }
         ensures goes_on { OnOk result (S.has_stopped sink.old ≡ false
             → S.has_stopped sink.new ≡ false) }
         ensures beginning { OnErr result (S.has_stopped sink.old ≡ false
-            → WasGivenBeginning (vrps_at prefix.now (tree self.now))
-            (S.given sink.old) (S.given sink.new)) }
+            → TookBeginning S.took (vrps_at prefix.now (tree self.now)) sink.old sink.new) }
         ensures stopped { OnErr result (S.has_stopped sink.new ≡ true) }
     {
         for originator in &self.originators {
@@ -44,12 +43,11 @@ fn visit_below<S: Sink>(
 ) -> Result<(), Stop>
     requires { IsPruned (width prefix.now.family) (prefix.now.length + 1) (subtree child.now) }
     ensures all { OnOk result (S.has_stopped sink.old ≡ false
-        → S.given sink.new ≡ S.given sink.old ++ half_vrps bit prefix.now (subtree child.now)) }
+        → S.took sink.old (half_vrps bit prefix.now (subtree child.now)) sink.new) }
     ensures goes_on { OnOk result (S.has_stopped sink.old ≡ false
         → S.has_stopped sink.new ≡ false) }
     ensures beginning { OnErr result (S.has_stopped sink.old ≡ false
-        → WasGivenBeginning (half_vrps bit prefix.now (subtree child.now))
-        (S.given sink.old) (S.given sink.new)) }
+        → TookBeginning S.took (half_vrps bit prefix.now (subtree child.now)) sink.old sink.new) }
     ensures stopped { OnErr result (S.has_stopped sink.new ≡ true) }
 {
     match child {

@@ -1,5 +1,5 @@
 use Rattle.std.proofs.Common.{take}
-use Rattle.desk.specs.steps.Supposing.{AreVrpsOf}
+use Rattle.desk.specs.steps.WhatIf.{AreVrpsOf}
 use Rattle.desk.proofs.exchange.vrps_on.Given as goal
 
 -- the VRPs so far are those of the authorizations so far

@@ -1,7 +1,7 @@
 use Rattle.std.proofs.Common.{refl, sym}
 use Rattle.std.specs.List.{All}
 use Rattle.std.proofs.lemmas.Result.{on_err_weaker}
-use Rattle.payload.proofs.TrieVisits.{node-beginning, node-given, node-given_all}
+use Rattle.payload.proofs.TrieVisits.{node-beginning, node-took, node-took_all}
 use Rattle.payload.proofs.TrieVrps.{HasLengths}
 use Rattle.payload.proofs.Visits.{beginning-later, beginning-longer, on-err}
 use Rattle.payload.proofs.trie.+visit.Goals as goal
@@ -10,7 +10,7 @@ pub node::Node::visit-loop-originator-preserved : goal.node::Node::visit-loop-or
 node::Node::visit-loop-originator-preserved g t c =
     let lengths : All (HasLengths c.args.prefix.now) c.deref-originator-items.result.now = rw c.deref-originator-items.ensures.value (rw (← c.self.view_is) at c.requires).0.lengths in
     record {
-      taken = λ fresh. node-given c.args.prefix.now _ _ _ _ _ _ _ lengths c.loop-originator-test.true refl refl (c.loop-originator.invariant.taken fresh) (c.take.ensures.given (c.loop-originator.invariant.goes_on fresh));
+      taken = λ fresh. node-took g.S.Sink.took g.met.S.Sink.took_then c.args.prefix.now _ _ _ _ _ _ _ lengths c.loop-originator-test.true refl refl (c.loop-originator.invariant.taken fresh) (c.take.ensures.took (c.loop-originator.invariant.goes_on fresh));
       goes_on = λ fresh. sym c.in_ok-take.ensures.stopped;
     }
 
@@ -19,20 +19,20 @@ node::Node::visit-returns-in_err-take-clause-beginning g t c =
     let lengths : All (HasLengths c.args.prefix.now) c.deref-originator-items.result.now = rw c.deref-originator-items.ensures.value (rw (← c.self.view_is) at c.requires).0.lengths in
     rw (← c.self.view_is, ← c.deref-originator-items.ensures.value)
     (on-err c.from_residual.result _ (λ fresh.
-    node-beginning c.args.prefix.now _ _ _ _ _ _ _ _ lengths c.loop-originator-test.true refl refl (c.loop-originator.invariant.taken fresh) (c.take.ensures.given (c.loop-originator.invariant.goes_on fresh))))
+    node-beginning g.S.Sink.took g.met.S.Sink.took_then c.args.prefix.now _ _ _ _ _ _ _ _ lengths c.loop-originator-test.true refl refl (c.loop-originator.invariant.taken fresh) (c.take.ensures.took (c.loop-originator.invariant.goes_on fresh))))
 
 pub node::Node::visit-returns-in_err-visit_below-clause-beginning : goal.node::Node::visit-returns-in_err-visit_below-clause-beginning
 node::Node::visit-returns-in_err-visit_below-clause-beginning g t c =
     rw (← c.self.view_is, ← c.deref-originator-items.ensures.value)
     (on-err c.from_residual-in_err-visit_below.result _ (λ fresh.
-    beginning-later _ _ _ _ _ (node-given_all c.args.prefix.now _ _ _ _ (c.loop-originator.invariant.taken fresh) c.loop-originator-test.false)
-    (beginning-longer _ _ _ _ (c.in_err-visit_below.ensures.beginning (c.loop-originator.invariant.goes_on fresh)))))
+    beginning-later g.S.Sink.took g.met.S.Sink.took_then _ _ _ _ _ (node-took_all g.S.Sink.took c.args.prefix.now _ _ _ _ (c.loop-originator.invariant.taken fresh) c.loop-originator-test.false)
+    (beginning-longer g.S.Sink.took _ _ _ _ (c.in_err-visit_below.ensures.beginning (c.loop-originator.invariant.goes_on fresh)))))
 
 pub node::Node::visit-returns-clause-beginning : goal.node::Node::visit-returns-clause-beginning
 node::Node::visit-returns-clause-beginning g t c =
     rw (← c.self.view_is, ← c.deref-originator-items.ensures.value)
     (on_err_weaker c.visit_below-2.result (λ is fresh.
     let going = c.loop-originator.invariant.goes_on fresh in
-    beginning-later _ _ _ _ _ (node-given_all c.args.prefix.now _ _ _ _ (c.loop-originator.invariant.taken fresh) c.loop-originator-test.false)
-    (beginning-later _ _ _ _ _ (c.in_ok-visit_below.ensures.all going) (is (c.in_ok-visit_below.ensures.goes_on going))))
+    beginning-later g.S.Sink.took g.met.S.Sink.took_then _ _ _ _ _ (node-took_all g.S.Sink.took c.args.prefix.now _ _ _ _ (c.loop-originator.invariant.taken fresh) c.loop-originator-test.false)
+    (beginning-later g.S.Sink.took g.met.S.Sink.took_then _ _ _ _ _ (c.in_ok-visit_below.ensures.all going) (is (c.in_ok-visit_below.ensures.goes_on going))))
     c.visit_below-2.ensures.beginning)

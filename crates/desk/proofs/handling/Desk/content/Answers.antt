@@ -1,5 +1,5 @@
 use Rattle.desk.proofs.handling.Desk.content.Goals as goal
 
-pub returns-clause-answered : goal.returns-clause-answered
-returns-clause-answered g c clean history legal held =
-    (c.in-Shown.auth, c.in-Shown.ensures.answered clean history legal held, rw c.in-Ok-Some.field-0-is at c.in-Ok-Some.ensures.text)
+pub returns-in-Shown-in-Some-clause-answered : goal.returns-in-Shown-in-Some-clause-answered
+returns-in-Shown-in-Some-clause-answered g c clean history legal held =
+    (c.in-Shown.auth, c.in-Shown.ensures.answered clean history legal held, rw c.in-Some.is at c.in-Some.ensures.text)

@@ -3,7 +3,6 @@ use Rattle.std.proofs.Math.Bool.{or_comm}
 use Rattle.std.specs.List.{list_any}
 use Rattle.std.proofs.lemmas.List.Folds.{list_any_more}
 use Rattle.payload.proofs.Sets.{is_vrp, members-insert}
-use Rattle.payload.specs.VrpSet as set
 use Rattle.payload.proofs.trie.Trie.of.Goals as goal
 
 pub loop-vrp-preserved : goal.loop-vrp-preserved

@@ -1,7 +1,7 @@
-use Rattle.std.proofs.Common.{◌≡◌, ◌++◌, ap, ◌∙◌, append_assoc, subst}
+use Rattle.std.proofs.Common.{subst}
 use Rattle.std.proofs.lemmas.Result.{on_err_weaker, on_ok_weaker}
 use Rattle.addr.specs.declared.family.Family.TheVariants.{V4, V6}
-use Rattle.payload.specs.Visit.{WasGivenBeginning}
+use Rattle.payload.specs.Visit.{TookBeginning}
 use Rattle.payload.specs.steps.Tree.{tree}
 use Rattle.payload.specs.steps.Trie.{vrps_at, whole}
 use Rattle.payload.proofs.TrieValidity.{trie-items}
@@ -12,23 +12,23 @@ pub returns-in_err-visit-clause-beginning : goal.returns-in_err-visit-clause-beg
 returns-in_err-visit-clause-beginning g c =
     rw (trie-items c.args.self.now (tree c.self.inside.four) (tree c.self.inside.six) c.self.view_is c.self.invariant.0 c.self.invariant.1)
     (on-err c.from_residual.result _ (λ fresh.
-    beginning-longer (vrps_at (whole V4) (tree c.self.inside.four)) (vrps_at (whole V6) (tree c.self.inside.six)) _ _
-    (subst (λ p. WasGivenBeginning (vrps_at p (tree c.self.inside.four)) (g.S.Sink.given c.args.sink.now) (g.S.Sink.given c.visit.new.sink)) c.whole.ensures (c.in_err-visit.ensures.beginning fresh))))
+    beginning-longer g.S.Sink.took (vrps_at (whole V4) (tree c.self.inside.four)) (vrps_at (whole V6) (tree c.self.inside.six)) _ _
+    (subst (λ p. TookBeginning g.S.Sink.took (vrps_at p (tree c.self.inside.four)) c.args.sink.now c.visit.new.sink) c.whole.ensures (c.in_err-visit.ensures.beginning fresh))))
 
 pub returns-clause-all : goal.returns-clause-all
 returns-clause-all g c =
     rw (trie-items c.args.self.now (tree c.self.inside.four) (tree c.self.inside.six) c.self.view_is c.self.invariant.0 c.self.invariant.1)
     (on_ok_weaker c.visit-2.result (λ all fresh.
-    subst (λ p. g.S.Sink.given c.visit-2.new.sink ≡ g.S.Sink.given c.visit.new.sink ++ vrps_at p (tree c.self.inside.six)) c.whole-2.ensures (all (c.in_ok-visit.ensures.goes_on fresh))
-    ∙ ap (λ l. l ++ vrps_at (whole V6) (tree c.self.inside.six)) (subst (λ p. g.S.Sink.given c.visit.new.sink ≡ g.S.Sink.given c.args.sink.now ++ vrps_at p (tree c.self.inside.four)) c.whole.ensures (c.in_ok-visit.ensures.all fresh))
-    ∙ append_assoc (g.S.Sink.given c.args.sink.now) (vrps_at (whole V4) (tree c.self.inside.four)) (vrps_at (whole V6) (tree c.self.inside.six)))
+    g.met.S.Sink.took_then _ _ _ (vrps_at (whole V4) (tree c.self.inside.four)) (vrps_at (whole V6) (tree c.self.inside.six))
+    (subst (λ p. g.S.Sink.took c.args.sink.now (vrps_at p (tree c.self.inside.four)) c.visit.new.sink) c.whole.ensures (c.in_ok-visit.ensures.all fresh))
+    (subst (λ p. g.S.Sink.took c.visit.new.sink (vrps_at p (tree c.self.inside.six)) c.visit-2.new.sink) c.whole-2.ensures (all (c.in_ok-visit.ensures.goes_on fresh))))
     c.visit-2.ensures.all)
 
 pub returns-clause-beginning : goal.returns-clause-beginning
 returns-clause-beginning g c =
     rw (trie-items c.args.self.now (tree c.self.inside.four) (tree c.self.inside.six) c.self.view_is c.self.invariant.0 c.self.invariant.1)
     (on_err_weaker c.visit-2.result (λ is fresh.
-    beginning-later (vrps_at (whole V4) (tree c.self.inside.four)) (vrps_at (whole V6) (tree c.self.inside.six)) _ _ _
-    (subst (λ p. g.S.Sink.given c.visit.new.sink ≡ g.S.Sink.given c.args.sink.now ++ vrps_at p (tree c.self.inside.four)) c.whole.ensures (c.in_ok-visit.ensures.all fresh))
-    (subst (λ p. WasGivenBeginning (vrps_at p (tree c.self.inside.six)) (g.S.Sink.given c.visit.new.sink) (g.S.Sink.given c.visit-2.new.sink)) c.whole-2.ensures (is (c.in_ok-visit.ensures.goes_on fresh))))
+    beginning-later g.S.Sink.took g.met.S.Sink.took_then (vrps_at (whole V4) (tree c.self.inside.four)) (vrps_at (whole V6) (tree c.self.inside.six)) _ _ _
+    (subst (λ p. g.S.Sink.took c.args.sink.now (vrps_at p (tree c.self.inside.four)) c.visit.new.sink) c.whole.ensures (c.in_ok-visit.ensures.all fresh))
+    (subst (λ p. TookBeginning g.S.Sink.took (vrps_at p (tree c.self.inside.six)) c.visit.new.sink c.visit-2.new.sink) c.whole-2.ensures (is (c.in_ok-visit.ensures.goes_on fresh))))
     c.visit-2.ensures.beginning)

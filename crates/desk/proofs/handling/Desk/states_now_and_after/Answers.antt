@@ -5,7 +5,7 @@ use Rattle.payload.specs.VrpSet as set
 use Rattle.desk.specs.Answer.{states_now, states_after}
 use Rattle.desk.proofs.ExchangeLemmas.{in_force_after}
 use Rattle.desk.proofs.ExportLemmas.{exported, states_on}
-use Rattle.desk.proofs.handling.Desk.report.Goals as goal
+use Rattle.desk.proofs.handling.Desk.states_now_and_after.Goals as goal
 
 pub returns-clause-now : goal.returns-clause-now
 returns-clause-now g c clean history legal held =

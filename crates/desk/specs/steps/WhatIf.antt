@@ -1,4 +1,4 @@
--- Steps of telling what changes would do: which VRPs they exchange.
+-- Steps of a what-if: which VRPs its changes would exchange.
 use Rattle.std.specs.Prelude.{◌≡◌, ℕ, ◌≤◌, List, [], Option, Some, None, ◌↔◌, ◌⊎◌, Contains}
 use Rattle.addr.specs.declared.vrp.Vrp.{Vrp}
 use Rattle.slurm.specs.Exceptions.{Exceptions}
@@ -48,7 +48,7 @@ pub record Exchanges (before after : History) (day : ℕ) (removed added : List 
       ↔ IsExchanged removed added (IsVrpInForce before day v) v
   pub exceptions : exceptions_in_force after ≡ exceptions_in_force before
 
--- and this is so of the history that the changes of the caller at the holder would leave
+-- and this holds for the history that the changes of the caller at the holder would leave
 abbrev pub WouldExchange :
     Charter → History → ℕ → List ℕ → List ℕ → List Proposed → List Vrp → List Vrp → Type 0
 WouldExchange charter before day caller holder changes removed added =

@@ -6,8 +6,8 @@ use Rattle.registry.specs.Answer.{IsHypotheticalAnswer}
 use Rattle.registry.specs.Rows.{rows_if_any, rows_of}
 use Rattle.charters.specs.declared.charter.Charter.{Charter}
 use Rattle.desk.specs.Desk.{charter_of}
-use Rattle.desk.proofs.ExchangeLemmas.{exchanges_nothing, supposed_refused, would_exchange}
-use Rattle.desk.proofs.handling.Desk.suppose.Goals as goal
+use Rattle.desk.proofs.ExchangeLemmas.{exchanges_nothing, hypothetical_refused, would_exchange}
+use Rattle.desk.proofs.handling.Desk.hypothetical_exchange.Goals as goal
 
 pub returns-then-is_empty-clause-found : goal.returns-then-is_empty-clause-found
 returns-then-is_empty-clause-found g c clean history legal held =
@@ -20,16 +20,16 @@ returns-in_err-rows-clause-found g c clean history legal held =
     let same : c.charter-charter.result.now ≡ charter = c.charter-charter.ensures ∙ c.load.ensures.read.charter in
     let rows = c.in_ok-load.ensures.rows clean history legal held in
     let refused = err_from_is_err_and c.from_residual-in_err-rows.result c.from_residual-in_err-rows.ensures.1 in
-    let supposed = c.in_err-rows.ensures history c.args.holder.now (rw same legal) rows in
-    rw (refused.1, refused.2) (supposed_refused charter history c.args.holder.now c.args.day c.args.caller.now c.args.changes.now c.in_err-rows.field-0.0
-    (subst (λ (k : Charter). IsHypotheticalAnswer k history c.args.holder.now c.args.day c.args.caller.now c.args.changes.now (Err c.in_err-rows.field-0.0)) same supposed))
+    let answer = c.in_err-rows.ensures history c.args.holder.now (rw same legal) rows in
+    rw (refused.1, refused.2) (hypothetical_refused charter history c.args.holder.now c.args.day c.args.caller.now c.args.changes.now c.in_err-rows.field-0.0
+    (subst (λ (k : Charter). IsHypotheticalAnswer k history c.args.holder.now c.args.day c.args.caller.now c.args.changes.now (Err c.in_err-rows.field-0.0)) same answer))
 
 pub returns-clause-found : goal.returns-clause-found
 returns-clause-found g c clean history legal held =
     let same : c.charter-charter.result.now ≡ charter_of c.args.self.now = c.charter-charter.ensures ∙ c.load.ensures.read.charter in
     let rows = c.in_ok-load.ensures.rows clean history legal held in
-    let supposed = rw same at (c.in_ok-rows.ensures history c.args.holder.now (rw same legal) rows) in
+    let answer = rw same at (c.in_ok-rows.ensures history c.args.holder.now (rw same legal) rows) in
     would_exchange c.no_shared_vrp.ensures c.hypothetical_is_legal.ensures c.hypothetical_keeps_others.ensures (charter_of c.args.self.now)
-    history supposed.0 c.args.day c.args.caller.now c.args.holder.now c.args.changes.now held.0 legal held.1 (rows_if_any c.in_ok-load.field-0) (rows_of c.in_ok-rows.rows)
-    rows supposed.1 supposed.2 (set.items c.in_ok-of.field-0.removed) c.in_ok-of.field-0.added.items
+    history answer.0 c.args.day c.args.caller.now c.args.holder.now c.args.changes.now held.0 legal held.1 (rows_if_any c.in_ok-load.field-0) (rows_of c.in_ok-rows.rows)
+    rows answer.1 answer.2 (set.items c.in_ok-of.field-0.removed) c.in_ok-of.field-0.added.items
     (rw c.as_ref.ensures.value at c.in_ok-of.ensures.removed) c.in_ok-of.ensures.added
