@@ -54,7 +54,10 @@ pub fn make_desk<D: Disk + Drop>(
     ensures unused { OnOk result (IsUnused (file_state conn)) }
     ensures err { result ≢ Err ProgramFault.Schema }
 {
-    let desk = Desk::create_on(alloc, conn, charter).map_err(fault_of_store)?;
+    let desk = match Desk::create_on(alloc, conn, charter) {
+        Ok(desk) => desk,
+        Err(fault) => return Err(fault_of_store(fault)),
+    };
     let files = close_desk(desk)?;
     Ok(files)
 }
@@ -71,8 +74,10 @@ pub fn open_desk<S: Start>(
         → StandsFor over_files charter desk history) }
 {
     let conn = connect(rt, path, start)?;
-    let desk = Desk::open_from(rt.alloc(), conn).map_err(fault_of_store)?;
-    Ok(desk)
+    match Desk::open_from(rt.alloc(), conn) {
+        Ok(desk) => Ok(desk),
+        Err(fault) => Err(fault_of_store(fault)),
+    }
 }
 
 /// Ends the desk, so that its one file holds everything.

@@ -4,6 +4,6 @@ use Rattle.cli.proofs.desk_file.make_desk.Goals as goal
 
 pub returns-clause-made : goal.returns-clause-made
 returns-clause-made g c clean =
-    let made = c.in_ok-desk.ensures in
+    let made = c.in-Ok.ensures in
     subst (λ charter. KeepDesk g.D.Disk charter [] c.in_ok-files.files) made.charter
     (c.in_ok-files.ensures.kept clean [] made.empty)
