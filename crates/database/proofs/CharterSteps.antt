@@ -15,22 +15,25 @@ use Rattle.tables.specs.Tables.{meta, operator, pool, desk_tables, contents, is_
 use Rattle.tables.specs.Cells.{schema_row, operator_row, prefix_cells}
 use Rattle.tables.specs.steps.Edits.{Edits}
 use Rattle.tables.specs.TablesHold.{holder_part, holding_part, granted_part, auth_part, TablesHold}
+use Rattle.tables.specs.declared.meta.TheConstants.{INSERT_SCHEMA}
+use Rattle.tables.specs.declared.operator.TheConstants.{INSERT_OPERATOR}
+use Rattle.tables.specs.declared.pool.TheConstants.{INSERT_PREFIX}
 use Rattle.database.specs.Statements.{IsReady, IsExecuted}
 use Rattle.database.specs.steps.Making.{IsMadeTo, PutsRows, HasCharter}
 use Rattle.tables.proofs.CellLemmas.{cast_schema, cast_prefix}
 use Rattle.database.proofs.StatementLemmas.{sound_still, puts_row, taken_more}
 use Rattle.tables.proofs.Inserting.{each_table}
 use Rattle.database.proofs.MakingSteps.{none_held, no_exceptions_held}
-use Rattle.tables.proofs.Texts.{put_terms, put_schema_text, put_schema_is, put_operator_text, put_operator_is, put_prefix_text, put_prefix_is}
+use Rattle.tables.proofs.Texts.{put_terms, put_schema_is, put_operator_is, put_prefix_is}
 
 module _ (old new : State) where
-  pub puts_schema : IsReady old → IsExecuted put_schema_text [] old new → PutsRows meta.tree (schema_row ∷ []) old new
+  pub puts_schema : IsReady old → IsExecuted INSERT_SCHEMA.now [] old new → PutsRows meta.tree (schema_row ∷ []) old new
   puts_schema = puts_row 0 meta refl old new [] (lit Null ∷ lit (Text (codes "schema")) ∷ lit (Int (pos 1)) ∷ []) 3 schema_row put_schema_is refl cast_schema
 
-  pub puts_operator : (name : List ℕ) → IsReady old → IsExecuted put_operator_text (operator_row name) old new → PutsRows operator.tree (operator_row name ∷ []) old new
+  pub puts_operator : (name : List ℕ) → IsReady old → IsExecuted INSERT_OPERATOR.now (operator_row name) old new → PutsRows operator.tree (operator_row name ∷ []) old new
   puts_operator name = puts_row 1 operator refl old new (operator_row name) (put_terms 1) 2 (operator_row name) put_operator_is refl refl
 
-  pub puts_prefix : (p : Prefix) → IsReady old → IsExecuted put_prefix_text (prefix_cells p) old new → PutsRows pool.tree (prefix_cells p ∷ []) old new
+  pub puts_prefix : (p : Prefix) → IsReady old → IsExecuted INSERT_PREFIX.now (prefix_cells p) old new → PutsRows pool.tree (prefix_cells p ∷ []) old new
   puts_prefix p = puts_row 2 pool refl old new (prefix_cells p) (put_terms 3) 4 (prefix_cells p) put_prefix_is refl (cast_prefix p)
 
 module _ (tree : ℕ) where

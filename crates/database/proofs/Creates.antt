@@ -11,7 +11,15 @@ use Rattle.sqlite_schema.specs.declared.schema.Table.{Table}
 use Rattle.sqlite_tied.specs.Compute.{everything}
 use Rattle.std.specs.Fmt.{digits}
 use Rattle.tables.specs.Tables.{meta, operator, pool, holder, holding, granted, auth, slurm, holding_of, desk_schema, unindexed_schema}
-use Rattle.database.specs.steps.Making.{so_far}
+use Rattle.tables.specs.declared.auth.TheConstants.{CREATE_AUTH}
+use Rattle.tables.specs.declared.exception.TheConstants.{CREATE_SLURM}
+use Rattle.tables.specs.declared.granted.TheConstants.{CREATE_GRANTED}
+use Rattle.tables.specs.declared.holder.TheConstants.{CREATE_HOLDER}
+use Rattle.tables.specs.declared.holding.TheConstants.{CREATE_HOLDING, CREATE_HOLDING_INDEX}
+use Rattle.tables.specs.declared.meta.TheConstants.{CREATE_META}
+use Rattle.tables.specs.declared.operator.TheConstants.{CREATE_OPERATOR}
+use Rattle.tables.specs.declared.pool.TheConstants.{CREATE_POOL}
+use Rattle.database.specs.steps.Making.{schema_so_far}
 
 -- over the first tables, the text defines this table, and makes the next schema
 pub record Defines (sql : List ℕ) (table : Table) (before after : Schema) : Type 0 where
@@ -31,65 +39,38 @@ pub record DefinesIndex (sql : List ℕ) : Type 0 where
   pub defined : index_defined_by holding sql ≡ Ok (record holding_of { tree = 0 })
   pub made : indexed unindexed_schema holding (record holding_of { tree = 0 }) ≡ desk_schema
 
-abbrev pub meta_text : List ℕ
-meta_text = codes "CREATE TABLE meta (name TEXT NOT NULL, value INTEGER NOT NULL, PRIMARY KEY (name)) STRICT"
-
-pub meta_defined : Defines meta_text meta (so_far 0) (so_far 1)
+pub meta_defined : Defines CREATE_META.now meta (schema_so_far 0) (schema_so_far 1)
 unfolding understood everything digits
 meta_defined = record { is = refl; text = refl; plain = (refl, refl); defined = refl; made = refl; place = refl; uncounted = refl }
 
-abbrev pub operator_text : List ℕ
-operator_text = codes "CREATE TABLE operator (name TEXT NOT NULL, PRIMARY KEY (name)) STRICT"
-
-pub operator_defined : Defines operator_text operator (so_far 1) (so_far 2)
+pub operator_defined : Defines CREATE_OPERATOR.now operator (schema_so_far 1) (schema_so_far 2)
 unfolding understood everything digits
 operator_defined = record { is = refl; text = refl; plain = (refl, refl); defined = refl; made = refl; place = refl; uncounted = refl }
 
-abbrev pub pool_text : List ℕ
-pool_text = codes "CREATE TABLE pool (family INTEGER NOT NULL, lo BLOB NOT NULL, len INTEGER NOT NULL, PRIMARY KEY (family, lo, len)) STRICT"
-
-pub pool_defined : Defines pool_text pool (so_far 2) (so_far 3)
+pub pool_defined : Defines CREATE_POOL.now pool (schema_so_far 2) (schema_so_far 3)
 unfolding understood everything digits
 pool_defined = record { is = refl; text = refl; plain = (refl, refl); defined = refl; made = refl; place = refl; uncounted = refl }
 
-abbrev pub holder_text : List ℕ
-holder_text = codes "CREATE TABLE holder (name TEXT NOT NULL, grants INTEGER NOT NULL, auths INTEGER NOT NULL, PRIMARY KEY (name)) STRICT"
-
-pub holder_defined : Defines holder_text holder (so_far 3) (so_far 4)
+pub holder_defined : Defines CREATE_HOLDER.now holder (schema_so_far 3) (schema_so_far 4)
 unfolding understood everything digits
 holder_defined = record { is = refl; text = refl; plain = (refl, refl); defined = refl; made = refl; place = refl; uncounted = refl }
 
-abbrev pub holding_text : List ℕ
-holding_text = codes "CREATE TABLE holding (family INTEGER NOT NULL, lo BLOB NOT NULL, hi BLOB NOT NULL, holder TEXT NOT NULL REFERENCES holder (name), PRIMARY KEY (family, lo)) STRICT"
-
-pub holding_defined : Defines holding_text holding (so_far 4) (so_far 5)
+pub holding_defined : Defines CREATE_HOLDING.now holding (schema_so_far 4) (schema_so_far 5)
 unfolding understood everything digits
 holding_defined = record { is = refl; text = refl; plain = (refl, refl); defined = refl; made = refl; place = refl; uncounted = refl }
 
-abbrev pub granted_text : List ℕ
-granted_text = codes "CREATE TABLE granted (holder TEXT NOT NULL REFERENCES holder (name), number INTEGER NOT NULL, caller TEXT NOT NULL, role INTEGER NOT NULL, family INTEGER, lo BLOB, len INTEGER, until INTEGER NOT NULL, PRIMARY KEY (holder, number)) STRICT"
-
-pub granted_defined : Defines granted_text granted (so_far 5) (so_far 6)
+pub granted_defined : Defines CREATE_GRANTED.now granted (schema_so_far 5) (schema_so_far 6)
 unfolding understood everything digits
 granted_defined = record { is = refl; text = refl; plain = (refl, refl); defined = refl; made = refl; place = refl; uncounted = refl }
 
-abbrev pub auth_text : List ℕ
-auth_text = codes "CREATE TABLE auth (holder TEXT NOT NULL REFERENCES holder (name), number INTEGER NOT NULL, asn INTEGER NOT NULL, family INTEGER NOT NULL, lo BLOB NOT NULL, len INTEGER NOT NULL, max INTEGER NOT NULL, opens INTEGER NOT NULL, ends INTEGER NOT NULL, PRIMARY KEY (holder, number), UNIQUE (asn, family, lo, len, max)) STRICT"
-
-pub auth_defined : Defines auth_text auth (so_far 6) (so_far 7)
+pub auth_defined : Defines CREATE_AUTH.now auth (schema_so_far 6) (schema_so_far 7)
 unfolding understood everything digits
 auth_defined = record { is = refl; text = refl; plain = (refl, refl); defined = refl; made = refl; place = refl; uncounted = refl }
 
-abbrev pub slurm_text : List ℕ
-slurm_text = codes "CREATE TABLE slurm (file TEXT NOT NULL, kind INTEGER NOT NULL, position INTEGER NOT NULL, family INTEGER, lo BLOB, len INTEGER, max INTEGER, asn INTEGER, PRIMARY KEY (file, kind, position)) STRICT"
-
-pub slurm_defined : Defines slurm_text slurm (so_far 7) (so_far 8)
+pub slurm_defined : Defines CREATE_SLURM.now slurm (schema_so_far 7) (schema_so_far 8)
 unfolding understood everything digits
 slurm_defined = record { is = refl; text = refl; plain = (refl, refl); defined = refl; made = refl; place = refl; uncounted = refl }
 
-abbrev pub index_text : List ℕ
-index_text = codes "CREATE INDEX holding_of ON holding (holder)"
-
-pub index_defined : DefinesIndex index_text
+pub index_defined : DefinesIndex CREATE_HOLDING_INDEX.now
 unfolding understood everything digits
 index_defined = record { is = refl; text = refl; plain = (refl, refl); defined = refl; made = refl }

@@ -15,13 +15,14 @@ use Rattle.sqlite_schema.specs.declared.schema.Table.{Table}
 use Rattle.tables.specs.Tables.{holding, holding_of, desk_tables, unindexed_schema, contents}
 use Rattle.registry.specs.ExceptionsInForce.{no_exceptions}
 use Rattle.tables.specs.TablesHold.{Part, HoldsPart, ArePlaced, HoldsExceptions}
-use Rattle.database.specs.steps.Making.{so_far, IsMadeTo, IsUnindexed, MakesIndex}
+use Rattle.tables.specs.declared.holding.TheConstants.{CREATE_HOLDING_INDEX}
+use Rattle.database.specs.steps.Making.{schema_so_far, IsMadeTo, IsUnindexed, MakesIndex}
 use Rattle.database.specs.Statements.{IsExecuted}
 use Rattle.tables.proofs.Inserting.{went, same_value, each_table}
-use Rattle.database.proofs.Creates.{Defines, index_text, index_defined}
+use Rattle.database.proofs.Creates.{Defines, index_defined}
 
 -- one table more
-grown : (n : ℕ) (table : Table) (old new : State) → IsMadeTo n old → take (suc n) desk_tables ≡ take n desk_tables ++ table ∷ [] → new.in_transaction ≡ true → new.now.schema ≡ so_far (suc n)
+grown : (n : ℕ) (table : Table) (old new : State) → IsMadeTo n old → take (suc n) desk_tables ≡ take n desk_tables ++ table ∷ [] → new.in_transaction ≡ true → new.now.schema ≡ schema_so_far (suc n)
     → KeepsRows (take n desk_tables) old.now.trees new.now.trees → new.now.trees table.tree ≡ [] → IsMadeTo (suc n) new
 grown n table old new before next inside schema kept empty = record {
   inside = inside;
@@ -32,16 +33,16 @@ grown n table old new before next inside schema kept empty = record {
       (empty, tt));
 }
 
-pub makes : (n : ℕ) (sql : List ℕ) (table : Table) → Defines sql table (so_far n) (so_far (suc n)) → take (suc n) desk_tables ≡ take n desk_tables ++ table ∷ []
+pub makes : (n : ℕ) (sql : List ℕ) (table : Table) → Defines sql table (schema_so_far n) (schema_so_far (suc n)) → take (suc n) desk_tables ≡ take n desk_tables ++ table ∷ []
     → (old new : State) → IsMadeTo n old → IsExecuted sql [] old new → IsMadeTo (suc n) new
 makes n sql table d next old new before ran =
-    let runs = runs_as sql [] old new (so_far n) before.schema CreateTable d.is d.plain ran.0 ran.1.0 in
+    let runs = runs_as sql [] old new (schema_so_far n) before.schema CreateTable d.is d.plain ran.0 ran.1.0 in
     let w = subst (λ t. Writes old new None CreateTable t [] ran.0) d.text runs in
     let all = went w.changed in
     let first = went all.1 in
     let made = first.1 in
     let same : made.table ≡ record table { tree = 0 } = same_value (sym made.defined ∙ d.defined) in
-    let schema : first.0.schema ≡ so_far (suc n) = made.is ∙ ap (λ s. created s made.table) before.schema ∙ ap (created (so_far n)) same ∙ d.made in
+    let schema : first.0.schema ≡ schema_so_far (suc n) = made.is ∙ ap (λ s. created s made.table) before.schema ∙ ap (created (schema_so_far n)) same ∙ d.made in
     let plain : lacks_sequence first.0.schema ≡ false = ap lacks_sequence schema ∙ d.uncounted in
     let now : new.now ≡ first.0 = ap (λ (p : Tally × Database). p.1) (same_value all.2) ∙ same_value (rw plain at first.2) in
     let kept : KeepsRows (take n desk_tables) old.now.trees first.0.trees = subst (λ (s : Schema). KeepsRows s.tables old.now.trees first.0.trees) before.schema made.others in
@@ -60,13 +61,13 @@ no_exceptions_held table none =
     rw none (record { filters = []; assertions = []; filters_placed = placed; assertions_placed = placed; rows = IsPermutation-refl [] })
 
 -- the index changes no row
-pub adds : (old new : State) → IsUnindexed old → IsExecuted index_text [] old new → MakesIndex old new
+pub adds : (old new : State) → IsUnindexed old → IsExecuted CREATE_HOLDING_INDEX.now [] old new → MakesIndex old new
 adds old new before ran =
     let has = before.schema ran.1.1.was_open in
     let d = index_defined in
-    let runs = runs_as index_text [] old new unindexed_schema has (CreateIndex 4) d.is d.plain ran.0 ran.1.0 in
+    let runs = runs_as CREATE_HOLDING_INDEX.now [] old new unindexed_schema has (CreateIndex 4) d.is d.plain ran.0 ran.1.0 in
     let w = subst (λ t. Writes old new None (CreateIndex 4) t [] ran.0) d.text runs in
-    let found = subst (λ s. Does old.step_limit (mode_of old) [] (record old.now { schema = s }) index_text None (CreateIndex 4) (Ok (w.tally, new.now))) has w.changed in
+    let found = subst (λ s. Does old.step_limit (mode_of old) [] (record old.now { schema = s }) CREATE_HOLDING_INDEX.now None (CreateIndex 4) (Ok (w.tally, new.now))) has w.changed in
     let all = went found in
     let made = all.1 in
     let same : made.index ≡ record holding_of { tree = 0 } = same_value (sym made.defined ∙ d.defined) in

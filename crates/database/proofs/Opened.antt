@@ -28,14 +28,14 @@ use Rattle.slurm.specs.Exceptions.{Exceptions}
 use Rattle.tables.specs.declared.exception.ExceptionRow.{ExceptionRow}
 use Rattle.tables.specs.Cells.{number_cell, kind_number, exception_row, span_cells, grant_cells, auth_cells, holder_row, holding_row, granted_row, auth_row}
 use Rattle.tables.specs.Decode.{first_columns, exception_columns}
-use Rattle.tables.specs.Tables.{desk_tables, names_holder, required, meta, operator, pool, holder, holding, granted, auth, slurm, contents, columns, IsTree, AreTrees}
+use Rattle.tables.specs.Tables.{desk_tables, names_holder, required_column, meta, operator, pool, holder, holding, granted, auth, slurm, contents, columns, IsTree, AreTrees}
 use Rattle.tables.specs.TablesHold.{HoldsExceptions}
 use Rattle.tables.proofs.Inserting.{each_table}
 use Rattle.tables.proofs.PartLemmas.{names, name_of-true, name_of_itself}
 use Rattle.tables.proofs.ReadLemmas.{all_columns, first_of_all}
-use Rattle.database.specs.TablesRead.{ShowsSome, ShowsHolder, HoldSome}
+use Rattle.database.specs.TablesRead.{ShowsSome, ShowsHolder, HoldSomeRows}
 use Rattle.database.specs.steps.Numbered.{shown_in}
-use Rattle.database.specs.steps.Opened.{TellsSchema, ShowsCharter, ShowExceptions, ShowHolders}
+use Rattle.database.specs.steps.Opened.{ShowsSchema, ShowsCharter, ShowExceptions, ShowHolders}
 use Rattle.database.proofs.Obeyed.{slurm_key, agree_in_key, all_whole, all_referred, once_by_key, once, equal_texts}
 use Rattle.database.proofs.SomeRows.{IsPartRow, rows_in, holds_parts}
 use Rattle.database.proofs.SomeExceptions.{AreElsewhere, ascending_where, some_exceptions}
@@ -101,7 +101,7 @@ module _ (db : Database) (tables : db.schema.tables ≡ desk_tables) (sound : Is
     made : AllByRecursion Makes holders
     made =
         all_weaker ShowsHolder Makes (λ c it. (it.0, (it.1, it.2), it.6)) holders
-        (subst (AllByRecursion ShowsHolder) (all_shown holder 2 (required (codes "auths") Integer) at_holder refl refl refl refl) shown.holders.each)
+        (subst (AllByRecursion ShowsHolder) (all_shown holder 2 (required_column (codes "auths") Integer) at_holder refl refl refl refl) shown.holders.each)
 
     -- ---- nobody is registered twice
 
@@ -164,31 +164,31 @@ module _ (db : Database) (tables : db.schema.tables ≡ desk_tables) (sound : Is
 
     held : AllByRecursion (IsPartRow Span 3 holding_row holders) (contents (db.trees holding.tree))
     held =
-        part_rows_of holding (inr (inr (inr (inr (inl refl))))) refl 3 (required (codes "holder") OfText) refl refl refl 3 (required (codes "holder") OfText) refl refl refl
+        part_rows_of holding (inr (inr (inr (inr (inl refl))))) refl 3 (required_column (codes "holder") OfText) refl refl refl 3 (required_column (codes "holder") OfText) refl refl refl
         (0 ∷ 1 ∷ 2 ∷ []) span_cells (λ _. ⊤) holding_row
         (λ c h s whole name shows. all_columns 4 c whole ∙ (λ i. shows i ++ name i ∷ [])) shown.holdings.each
 
     given : AllByRecursion (IsPartRow Granted 0 granted_row holders) (contents (db.trees granted.tree))
     given =
-        part_rows_of granted (inr (inr (inr (inr (inr (inl refl)))))) refl 7 (required (codes "until") Integer) refl refl refl 0 (required (codes "holder") OfText) refl refl refl
+        part_rows_of granted (inr (inr (inr (inr (inr (inl refl)))))) refl 7 (required_column (codes "until") Integer) refl refl refl 0 (required_column (codes "holder") OfText) refl refl refl
         (1 ∷ 2 ∷ 3 ∷ 4 ∷ 5 ∷ 6 ∷ 7 ∷ []) grant_cells GrantFits granted_row
         (λ c h g whole name shows. all_columns 8 c whole ∙ (λ i. name i ∷ shows i)) shown.grants.each
 
     active : AllByRecursion (IsPartRow Auth 0 auth_row holders) (contents (db.trees auth.tree))
     active =
-        part_rows_of auth (inr (inr (inr (inr (inr (inr (inl refl))))))) refl 8 (required (codes "ends") Integer) refl refl refl 0 (required (codes "holder") OfText) refl refl refl
+        part_rows_of auth (inr (inr (inr (inr (inr (inr (inl refl))))))) refl 8 (required_column (codes "ends") Integer) refl refl refl 0 (required_column (codes "holder") OfText) refl refl refl
         (1 ∷ 2 ∷ 3 ∷ 4 ∷ 5 ∷ 6 ∷ 7 ∷ 8 ∷ []) auth_cells AuthFits auth_row
         (λ c h x whole name shows. all_columns 9 c whole ∙ (λ i. name i ∷ shows i)) shown.auths.each
 
     -- ---- all of them
 
-    module _ (charter : CharterSets) (schema : TellsSchema db) (chartered : ShowsCharter charter db) (excepted : ShowExceptions db) where
+    module _ (charter : CharterSets) (schema : ShowsSchema db) (chartered : ShowsCharter charter db) (excepted : ShowExceptions db) where
       trees_whole : AreTrees db.trees
       trees_whole =
           each_table (λ t. IsTree (db.trees t)) desk_tables
           (schema.whole, (chartered.operators.whole, (chartered.pool.whole, (shown.holders.whole, (shown.holdings.whole, (shown.grants.whole, (shown.auths.whole, (excepted.rows.whole, tt))))))))
 
-      pub some_rows : HoldSome charter db.trees
+      pub some_rows : HoldSomeRows charter db.trees
       some_rows =
           let parts = holds_parts holders made one_counter (contents (db.trees holding.tree)) (contents (db.trees granted.tree)) (contents (db.trees auth.tree)) held given active in
           let exceptions = exceptions_held excepted in (
@@ -198,9 +198,9 @@ module _ (db : Database) (tables : db.schema.tables ≡ desk_tables) (sound : Is
             },
             record {
               charter_kept = record {
-                schema = subst (IsPermutation _) (all_shown meta 1 (required (codes "value") Integer) (inl refl) refl refl refl refl) schema.shown;
-                operators = subst (IsPermutation _) (all_shown operator 0 (required (codes "name") OfText) (inr (inl refl)) refl refl refl refl) chartered.operators.shown;
-                pool = subst (IsPermutation _) (all_shown pool 2 (required (codes "len") Integer) (inr (inr (inl refl))) refl refl refl refl) chartered.pool.shown;
+                schema = subst (IsPermutation _) (all_shown meta 1 (required_column (codes "value") Integer) (inl refl) refl refl refl refl) schema.shown;
+                operators = subst (IsPermutation _) (all_shown operator 0 (required_column (codes "name") OfText) (inr (inl refl)) refl refl refl refl) chartered.operators.shown;
+                pool = subst (IsPermutation _) (all_shown pool 2 (required_column (codes "len") Integer) (inr (inr (inl refl))) refl refl refl refl) chartered.pool.shown;
               };
               holders = parts.holders_held;
               holdings = parts.holdings_held;

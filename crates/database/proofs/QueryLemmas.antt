@@ -152,11 +152,11 @@ pub no_answer : {Y F : Type 0} (P : Type 0) (s : Result Y F) → IsErr s → OnO
 no_answer P (Ok y) none = absurd cc
 no_answer P (Err f) none = tt
 
--- a fault that is handed on
+-- a fault that is passed on
 pub refused_by : {A B : Type 0} (r : Result A StoreFault) (s : Result B StoreFault) (e : StoreFault) → r ≡ Err e → IsErrAnd s (λ y. y ≡ e) → s ≡ Err Schema → r ≡ Err Schema
-refused_by r s e was handed is =
-    let p = err_from_is_err_and s handed in
+refused_by r s e was passed is =
+    let p = err_from_is_err_and s passed in
     of_fault p.0 p.1 p.2
   where
     of_fault : (y : StoreFault) → s ≡ Err y → y ≡ e → r ≡ Err Schema
-    of_fault y told same = cc
+    of_fault y said same = cc

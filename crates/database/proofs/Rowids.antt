@@ -22,11 +22,11 @@ use Rattle.tables.specs.Tables.{columns, contents, IsTree}
 use Rattle.database.specs.declared.fault.StoreFault.{StoreFault}
 use Rattle.database.specs.TablesRead.{ShowsSome}
 use Rattle.tables.proofs.TreeRows.{alike_flip}
-use Rattle.database.specs.steps.Numbered.{last_value, is_below, Rise, numbered, AreRead}
+use Rattle.database.specs.steps.Numbered.{last_value, is_integer_below, Rise, columns_and_rowid, AreRead}
 
 -- ---- from each row and the next to all rows
 
-below_apart : (a b : Value) → is_below a b ≡ true → is_eq (value_cmp a b) ≡ false
+below_apart : (a b : Value) → is_integer_below a b ≡ true → is_eq (value_cmp a b) ≡ false
 below_apart (Int m) (Int n) is = ap is_eq (value_cmp-Int m n) ∙ go (int_cmp m n) is
   where
     go : (o : Ordering) → is_lt o ≡ true → is_eq o ≡ false
@@ -35,12 +35,12 @@ below_apart (Int m) (Int n) is = ap is_eq (value_cmp-Int m n) ∙ go (int_cmp m 
     go Greater is = absurd cc
 below_apart _ _ is = absurd cc
 
-below_then : (a b c : Value) → is_below a b ≡ true → is_below b c ≡ true → is_below a c ≡ true
+below_then : (a b c : Value) → is_integer_below a b ≡ true → is_integer_below b c ≡ true → is_integer_below a c ≡ true
 below_then (Int m) (Int n) (Int k) first second = grind (arith, ints)
 below_then _ _ _ first second = absurd cc
 
 abbrev AreBelow : Row → Row → Type 0
-AreBelow a b = is_below (last_value a) (last_value b) ≡ true
+AreBelow a b = is_integer_below (last_value a) (last_value b) ≡ true
 
 all_below : (rows : List Row) → AllAdjacentBelow AreBelow rows (length rows) → IsAscending AreBelow rows
 all_below [] next = tt
@@ -71,19 +71,19 @@ stay_apart = along_permutation StayApart (λ xs. (IsPermutation-refl xs, λ up. 
 
 -- ---- the tree that they are of
 
-last_of_numbered : (places : List ℕ) (r : Row) → last_value (numbered places r) ≡ rowid r
+last_of_numbered : (places : List ℕ) (r : Row) → last_value (columns_and_rowid places r) ≡ rowid r
 last_of_numbered places r =
     let shown = columns places (drop 1 r) in
     let at : length (shown ++ rowid r ∷ []) - 1 ≡ length shown = omega (arith, length-append shown (rowid r ∷ [])) in
     ap (column (shown ++ rowid r ∷ [])) at ∙ get_or-append_seam shown (rowid r) [] Null
 
-pub tree_of : (places : List ℕ) (tree rows : List Row) → IsPermutation (map (numbered places) tree) rows → Rise rows → IsTree tree
+pub tree_of : (places : List ℕ) (tree rows : List Row) → IsPermutation (map (columns_and_rowid places) tree) rows → Rise rows → IsTree tree
 tree_of places tree rows same up =
     let back = IsPermutation-sym _ _ same in
-    let apart = (stay_apart rows (map (numbered places) tree) back).1 up.0 in
+    let apart = (stay_apart rows (map (columns_and_rowid places) tree) back).1 up.0 in
     let is = last_of_numbered places in (
-      ascending_weaker _ _ (λ a b h. (λ i. is_eq (value_cmp (sym (is a) i) (sym (is b) i))) ∙ h) tree (ascending_from_map AreApart (numbered places) tree apart),
-      all_weaker _ _ (λ a h. ap is_int (sym (is a)) ∙ h) tree (all_from_map (λ c. is_int (last_value c) ≡ true) (numbered places) tree (all-permutation _ rows _ back up.1)),
+      ascending_weaker _ _ (λ a b h. (λ i. is_eq (value_cmp (sym (is a) i) (sym (is b) i))) ∙ h) tree (ascending_from_map AreApart (columns_and_rowid places) tree apart),
+      all_weaker _ _ (λ a h. ap is_int (sym (is a)) ∙ h) tree (all_from_map (λ c. is_int (last_value c) ≡ true) (columns_and_rowid places) tree (all-permutation _ rows _ back up.1)),
     )
 
 -- ---- what is read of them
@@ -91,16 +91,16 @@ tree_of places tree rows same up =
 first_of_more : (c more : Row) → first_columns (length c) (c ++ more) ≡ c
 first_of_more c more = sym (fill_by_all (column (c ++ more)) c (length c) Null refl (λ k within. sym (get_or-append c more Null k within)))
 
-first_of_numbered : (width : ℕ) (places : List ℕ) (r : Row) → length places ≡ width → first_columns width (numbered places r) ≡ columns places (drop 1 r)
+first_of_numbered : (width : ℕ) (places : List ℕ) (r : Row) → length places ≡ width → first_columns width (columns_and_rowid places r) ≡ columns places (drop 1 r)
 first_of_numbered width places r counted =
     let shown = columns places (drop 1 r) in
     subst (λ n. first_columns n (shown ++ rowid r ∷ []) ≡ shown) (length-map places (column (drop 1 r)) ∙ counted) (first_of_more shown (rowid r ∷ []))
 
-pub shown_of : (width : ℕ) (places : List ℕ) (tree rows : List Row) → length places ≡ width → IsPermutation (map (numbered places) tree) rows
+pub shown_of : (width : ℕ) (places : List ℕ) (tree rows : List Row) → length places ≡ width → IsPermutation (map (columns_and_rowid places) tree) rows
     → IsPermutation (map (columns places) (contents tree)) (map (first_columns width) rows)
 shown_of width places tree rows counted same =
-    let firsts = map-map (first_columns width) (numbered places) tree ∙ (λ i. map (λ r. first_of_numbered width places r counted i) tree) ∙ sym (map-map (columns places) (drop 1) tree) in
-    subst (λ l. IsPermutation l (map (first_columns width) rows)) firsts (IsPermutation-map (first_columns width) (map (numbered places) tree) rows same)
+    let firsts = map-map (first_columns width) (columns_and_rowid places) tree ∙ (λ i. map (λ r. first_of_numbered width places r counted i) tree) ∙ sym (map-map (columns places) (drop 1) tree) in
+    subst (λ l. IsPermutation l (map (first_columns width) rows)) firsts (IsPermutation-map (first_columns width) (map (columns_and_rowid places) tree) rows same)
 
 module _ {X : Type 0} (cells : X → Row) (fits : X → Type 0) (shown found : List Row) (same : IsPermutation shown found) where
   pub values_read : (r : Result (Vec X) StoreFault) → IfOk r (λ values. found ≡ map cells values.items) → IfOk r (λ values. All fits values.items) → IfOk r (λ values. AreRead cells fits shown values.items)

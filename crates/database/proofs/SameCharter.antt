@@ -21,7 +21,7 @@ use Rattle.tables.specs.Cells.{operator_row, prefix_cells}
 use Rattle.tables.specs.TablesHold.{HoldsCharter}
 use Rattle.tables.proofs.CellsOnce.{one_prefix, values_shown}
 
--- ---- a sorted list in which nothing stands twice has no other order that is sorted
+-- ---- a sorted list in which nothing is twice has no other order that is sorted
 
 neither : (a b : Bool) → (a || b) ≡ false → (a ≡ false) × (b ≡ false)
 neither false false none = (refl, refl)

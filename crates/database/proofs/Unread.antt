@@ -22,7 +22,7 @@ use Rattle.charters.specs.CharterSets.{AreInNumber, CharterSets}
 use Rattle.charters.specs.Repeats.{has_repeat}
 use Rattle.registry.specs.Values.{IsCount, AuthFits, GrantFits}
 use Rattle.charters.proofs.Repeats.{has_repeat-moved, prefix_eq-flips}
-use Rattle.tables.specs.declared.rows.Registered.{Registered}
+use Rattle.tables.specs.declared.holder.Registered.{Registered}
 use Rattle.tables.specs.Cells.{schema_row, operator_row, prefix_cells, span_cells, grant_cells, auth_cells, holder_row, holding_row, granted_row, auth_row, exception_row}
 use Rattle.tables.specs.Decode.{ExceptionRowFits}
 use Rattle.tables.specs.Tables.{meta, operator, pool, holder, holding, granted, auth, slurm, contents, columns}
@@ -42,7 +42,7 @@ each_read cells fits shown values read =
     all-permutation (ShowsSome cells fits) (map cells values) shown (IsPermutation-sym _ _ read.same)
     (all-map (ShowsSome cells fits) cells values (all_weaker fits _ (λ x fit. (x, fit, refl)) values (recursion_from_All fits values read.fit)))
 
--- a row that some row of the list is stands in it
+-- a row that some row of the list is, is in it
 pub has_some : {X Y : Type 0} (f : X → Y) (xs : List X) (y : Y) → Any (λ x. f x ≡ y) xs → Has (map f xs) y
 has_some f xs y some = let it = any_has (λ x. f x ≡ y) xs some in subst (Has (map f xs)) it.2 (mapped_has f xs it.0 it.1)
 

@@ -10,7 +10,7 @@ use Rattle.registry.specs.RowsOfAll.{blank_rows}
 use Rattle.tables.specs.Tables.{blank_schema, desk_schema, desk_tables, SameRows}
 use Rattle.tables.specs.Schemas.{has_names}
 use Rattle.tables.specs.TablesHold.{TablesHold}
-use Rattle.database.specs.TablesRead.{TablesRead, HoldSome}
+use Rattle.database.specs.TablesRead.{TablesRead, HoldSomeRows}
 
 -- the database has the tables of a desk, unless the disk returned what was not written, or the
 -- connection is shut
@@ -62,7 +62,7 @@ pub record OpensDesk (charter : CharterSets) (old new : State) : Type 0 where
   pub is_open : IsTrue new.is_open
   pub desk : IsDesk new
   pub rows : SameRows old.now.trees new.now.trees
-  pub some : HoldSome charter old.now.trees
+  pub some : HoldSomeRows charter old.now.trees
 
 -- what the commit of an added index may put on the disk: the same rows
 abbrev pub MayCommitIndex : State → Trees → Type 0

@@ -10,8 +10,8 @@ abbrev pub IsAsBefore : State → State → Type 0
 IsAsBefore old new = IsTrue old.is_open × (new.now ≡ old.now) × (new.committed ≡ old.committed)
 
 -- the disk of a connection returned what was written
-abbrev pub IsOnCleanDisk : {S : Type 0} → Ghosts S → Held S → Type 0
-IsOnCleanDisk g conn = HasCleanDisk (state g conn)
+abbrev pub IsClean : {S : Type 0} → Ghosts S → Held S → Type 0
+IsClean g conn = HasCleanDisk (state g conn)
 
 -- what a query needs: no transaction, and the tables of a desk
 pub record IsReadyToAsk {S : Type 0} (g : Ghosts S) (conn : Held S) : Type 0 where
@@ -23,7 +23,7 @@ pub record IsReadyToAsk {S : Type 0} (g : Ghosts S) (conn : Held S) : Type 0 whe
 pub record IsAsked {S X E : Type 0} (g : Ghosts S) (old new : Held S) (result : Result X E) : Type 0
   where
     pub idle : new.in_transaction ≡ false
-    pub same : IsOnCleanDisk g new → OnOk result (IsUnchanged (state g old) (state g new))
+    pub same : IsClean g new → OnOk result (IsUnchanged (state g old) (state g new))
     pub kept :
-        IsOnCleanDisk g new → IsTrue (state g new).is_open → IsAsBefore (state g old) (state g new)
+        IsClean g new → IsTrue (state g new).is_open → IsAsBefore (state g old) (state g new)
     pub survives : Survives (state g old) (state g new) (λ _. ⊥)

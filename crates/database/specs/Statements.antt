@@ -22,9 +22,9 @@ abbrev pub IfDone : {S X E : Type 0} (g : Ghosts S) → Result X E → (State �
     → Transaction S → Transaction S → Type 0
 IfDone g result so old new = HasCleanDisk (state_in g new) → OnOk result (so (state_in g old) (state_in g new))
 
-abbrev pub IfTold : {S X E : Type 0} (g : Ghosts S) → Result X E → (X → State → State → Type 0)
+abbrev pub IfAnswered : {S X E : Type 0} (g : Ghosts S) → Result X E → (X → State → State → Type 0)
     → Transaction S → Transaction S → Type 0
-IfTold g result so old new =
+IfAnswered g result so old new =
     HasCleanDisk (state_in g new) → IfOk result (λ x. so x (state_in g old) (state_in g new))
 
 -- What every statement leaves, whether it succeeds or not: its transaction has the same connection,

@@ -59,6 +59,6 @@ pub record TablesRead (trees : Trees) : Type 0 where
   pub exceptions_number : length (contents (trees slurm.tree)) ≤ MOST_ENTRIES
 
 -- the tables hold this charter and some rows, with the exceptions of one SLURM file
-abbrev pub HoldSome : CharterSets → Trees → Type 0
-HoldSome charter trees =
+abbrev pub HoldSomeRows : CharterSets → Trees → Type 0
+HoldSomeRows charter trees =
     (rows : AllRows) × TablesHold charter rows trees × ExceptionsFit rows.exceptions

@@ -1,3 +1,4 @@
+//! The first rows of a desk: the number of its schema, and its charter.
 ghost use Rattle.std.specs.Prelude.{[], ◌∷◌, map};
 ghost use Rattle.tables.specs.Cells.{schema_row, operator_row, prefix_cells};
 ghost use Rattle.tables.specs.Tables.{meta, operator, pool};
@@ -8,7 +9,9 @@ use crate::statement::run;
 use addr::{Name, Prefix};
 use registry::Charter;
 use sqlite::{Alter, Error, Transaction};
-use tables::{address_bytes, name_values, prefix_values};
+use tables::{
+    INSERT_OPERATOR, INSERT_PREFIX, INSERT_SCHEMA, address_bytes, name_values, prefix_values,
+};
 
 /// Puts the number of the schema.
 fn put_schema<S: Alter>(tx: &mut Transaction<'_, S>) -> Result<(), Error>
@@ -16,11 +19,7 @@ fn put_schema<S: Alter>(tx: &mut Transaction<'_, S>) -> Result<(), Error>
     ensures put { IfDone S.Store result (PutsRows meta.tree (schema_row ∷ [])) tx.old tx.new }
     ensures inside { StaysInside S.Store tx.old tx.new }
 {
-    run(
-        tx,
-        "INSERT INTO meta (name, value) VALUES ('schema', 1)",
-        &[],
-    )
+    run(tx, INSERT_SCHEMA, &[])
 }
 
 /// Puts an operator.
@@ -30,11 +29,7 @@ fn put_operator<S: Alter>(tx: &mut Transaction<'_, S>, name: &Name) -> Result<()
         (PutsRows operator.tree (operator_row name.now ∷ [])) tx.old tx.new }
     ensures inside { StaysInside S.Store tx.old tx.new }
 {
-    run(
-        tx,
-        "INSERT INTO operator (name) VALUES (?1)",
-        &name_values(name),
-    )
+    run(tx, INSERT_OPERATOR, &name_values(name))
 }
 
 /// Puts operators.
@@ -58,11 +53,7 @@ fn put_prefix<S: Alter>(tx: &mut Transaction<'_, S>, prefix: &Prefix) -> Result<
     ensures inside { StaysInside S.Store tx.old tx.new }
 {
     let first = address_bytes(prefix.first);
-    run(
-        tx,
-        "INSERT INTO pool (family, lo, len) VALUES (?1, ?2, ?3)",
-        &prefix_values(prefix, &first),
-    )
+    run(tx, INSERT_PREFIX, &prefix_values(prefix, &first))
 }
 
 /// Puts prefixes of the pool.

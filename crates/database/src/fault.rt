@@ -1,3 +1,4 @@
+//! Why a store did not do what it was to do.
 use sqlite::Error;
 use std::alloc::AllocError;
 
@@ -5,7 +6,7 @@ use std::alloc::AllocError;
 /// as before.
 #[derive(Clone, Copy, Debug, PartialEq, Eq)]
 pub enum StoreFault {
-    /// The database refused, or there was no memory.
+    /// The database refused, or an allocation failed.
     Database,
     /// A table or a row does not read as one of this schema.
     Schema,

@@ -11,6 +11,7 @@ ghost use Rattle.database.specs.Statements.{IfCommitted, IfRolledBack, CommitsAt
 use crate::StoreFault;
 use crate::statement::run;
 use sqlite::{Alter, Connection, Error, Transaction};
+use tables::CREATE_HOLDING_INDEX;
 
 /// Makes the index.
 pub(crate) fn make_index<S: Alter>(tx: &mut Transaction<'_, S>) -> Result<(), Error>
@@ -18,7 +19,7 @@ pub(crate) fn make_index<S: Alter>(tx: &mut Transaction<'_, S>) -> Result<(), Er
     ensures made { IfDone S.Store result MakesIndex tx.old tx.new }
     ensures inside { StaysInside S.Store tx.old tx.new }
 {
-    run(tx, "CREATE INDEX holding_of ON holding (holder)", &[])
+    run(tx, CREATE_HOLDING_INDEX, &[])
 }
 
 /// Adds the index to a desk that has none, in one transaction.
@@ -32,6 +33,7 @@ pub(crate) fn add_index<S: Alter>(conn: &mut Connection<S>) -> Result<(), StoreF
     ensures crash { CommitsAtMost S.Store MayCommitIndex conn.old conn.new }
     ensures no_schema { result ≢ Err StoreFault.Schema }
 {
+    // Its clause `settled` is for the proof: outside a transaction all that is shown is committed.
     let _idle = conn.is_autocommit();
     let mut tx = conn.transaction();
     make_index(&mut tx)?;

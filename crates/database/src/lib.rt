@@ -13,8 +13,8 @@ mod statement;
 mod values;
 
 pub use fault::StoreFault;
-pub use making::make_desk;
-pub use opening::open_desk;
+pub use making::make_tables;
+pub use opening::open_tables;
 pub use query::ask;
 pub use statement::run;
 pub use values::read_all;

@@ -17,6 +17,10 @@ use crate::statement::run;
 use registry::Charter;
 use sqlite::{Alter, Connection, Error, Transaction};
 use sqlite_schema::schema::Schema;
+use tables::{
+    CREATE_AUTH, CREATE_GRANTED, CREATE_HOLDER, CREATE_HOLDING, CREATE_META, CREATE_OPERATOR,
+    CREATE_POOL, CREATE_SLURM,
+};
 
 /// Makes the tables `meta`, `operator`, `pool` and `holder` in a database that has no table.
 fn make_first_tables<S: Alter>(tx: &mut Transaction<'_, S>) -> Result<(), Error>
@@ -24,26 +28,10 @@ fn make_first_tables<S: Alter>(tx: &mut Transaction<'_, S>) -> Result<(), Error>
     ensures made { IfDone S.Store result (λ _. IsMadeTo 4) tx.old tx.new }
     ensures inside { StaysInside S.Store tx.old tx.new }
 {
-    run(
-        tx,
-        "CREATE TABLE meta (name TEXT NOT NULL, value INTEGER NOT NULL, PRIMARY KEY (name)) STRICT",
-        &[],
-    )?;
-    run(
-        tx,
-        "CREATE TABLE operator (name TEXT NOT NULL, PRIMARY KEY (name)) STRICT",
-        &[],
-    )?;
-    run(
-        tx,
-        "CREATE TABLE pool (family INTEGER NOT NULL, lo BLOB NOT NULL, len INTEGER NOT NULL, PRIMARY KEY (family, lo, len)) STRICT",
-        &[],
-    )?;
-    run(
-        tx,
-        "CREATE TABLE holder (name TEXT NOT NULL, grants INTEGER NOT NULL, auths INTEGER NOT NULL, PRIMARY KEY (name)) STRICT",
-        &[],
-    )
+    run(tx, CREATE_META, &[])?;
+    run(tx, CREATE_OPERATOR, &[])?;
+    run(tx, CREATE_POOL, &[])?;
+    run(tx, CREATE_HOLDER, &[])
 }
 
 /// Makes the tables `holding`, `granted`, `auth` and `slurm` after those.
@@ -52,26 +40,10 @@ fn make_other_tables<S: Alter>(tx: &mut Transaction<'_, S>) -> Result<(), Error>
     ensures made { IfDone S.Store result (λ _. IsMadeTo 8) tx.old tx.new }
     ensures inside { StaysInside S.Store tx.old tx.new }
 {
-    run(
-        tx,
-        "CREATE TABLE holding (family INTEGER NOT NULL, lo BLOB NOT NULL, hi BLOB NOT NULL, holder TEXT NOT NULL REFERENCES holder (name), PRIMARY KEY (family, lo)) STRICT",
-        &[],
-    )?;
-    run(
-        tx,
-        "CREATE TABLE granted (holder TEXT NOT NULL REFERENCES holder (name), number INTEGER NOT NULL, caller TEXT NOT NULL, role INTEGER NOT NULL, family INTEGER, lo BLOB, len INTEGER, until INTEGER NOT NULL, PRIMARY KEY (holder, number)) STRICT",
-        &[],
-    )?;
-    run(
-        tx,
-        "CREATE TABLE auth (holder TEXT NOT NULL REFERENCES holder (name), number INTEGER NOT NULL, asn INTEGER NOT NULL, family INTEGER NOT NULL, lo BLOB NOT NULL, len INTEGER NOT NULL, max INTEGER NOT NULL, opens INTEGER NOT NULL, ends INTEGER NOT NULL, PRIMARY KEY (holder, number), UNIQUE (asn, family, lo, len, max)) STRICT",
-        &[],
-    )?;
-    run(
-        tx,
-        "CREATE TABLE slurm (file TEXT NOT NULL, kind INTEGER NOT NULL, position INTEGER NOT NULL, family INTEGER, lo BLOB, len INTEGER, max INTEGER, asn INTEGER, PRIMARY KEY (file, kind, position)) STRICT",
-        &[],
-    )
+    run(tx, CREATE_HOLDING, &[])?;
+    run(tx, CREATE_GRANTED, &[])?;
+    run(tx, CREATE_AUTH, &[])?;
+    run(tx, CREATE_SLURM, &[])
 }
 
 /// Makes the tables of a desk in a database that has no table.
@@ -103,7 +75,7 @@ fn is_blank(schema: &Schema) -> bool
 
 /// Makes the tables of a desk and the index in a database that has none, with its charter, in one
 /// transaction.
-fn make_tables<S: Alter>(conn: &mut Connection<S>, charter: &Charter) -> Result<(), StoreFault>
+fn commit_tables<S: Alter>(conn: &mut Connection<S>, charter: &Charter) -> Result<(), StoreFault>
     requires idle { conn.old.in_transaction ≡ false }
     requires blank { HasCleanDisk (state S.Store conn.old)
         → (state S.Store conn.old).now.schema ≡ blank_schema }
@@ -114,6 +86,7 @@ fn make_tables<S: Alter>(conn: &mut Connection<S>, charter: &Charter) -> Result<
         (λ _. TablesHold charter.now blank_rows) conn.old conn.new }
     ensures no_schema { result ≢ Err StoreFault.Schema }
 {
+    // Its clause `settled` is for the proof: outside a transaction all that is shown is committed.
     let _idle = conn.is_autocommit();
     let mut tx = conn.transaction();
     make_schema(&mut tx)?;
@@ -124,7 +97,7 @@ fn make_tables<S: Alter>(conn: &mut Connection<S>, charter: &Charter) -> Result<
 
 /// Makes a desk of a database that has no table yet, and lifts the limit of its steps. Every other
 /// database stays as it is, and one in a transaction too.
-pub fn make_desk<S: Alter>(conn: &mut Connection<S>, charter: &Charter) -> Result<(), StoreFault>
+pub fn make_tables<S: Alter>(conn: &mut Connection<S>, charter: &Charter) -> Result<(), StoreFault>
     ensures unused { OnOk result (IsUnused (state S.Store conn.old)) }
     ensures idle { OnOk result (conn.new.in_transaction ≡ false) }
     ensures unlimited { OnOk result (conn.new.step_limit ≡ None) }
@@ -140,5 +113,5 @@ pub fn make_desk<S: Alter>(conn: &mut Connection<S>, charter: &Charter) -> Resul
         return Err(StoreFault::Database);
     }
     conn.set_step_limit(None);
-    make_tables(conn, charter)
+    commit_tables(conn, charter)
 }

@@ -7,7 +7,7 @@ ghost use Rattle.database.specs.Databases.{IsOfAnotherSchema, MayCommitIndex};
 ghost use Rattle.database.specs.steps.Making.{StaysDesk};
 ghost use Rattle.database.specs.steps.OpenedDesk.{IsOpenDesk};
 ghost use Rattle.database.specs.Databases.{LeavesSameRows, OpensDesk};
-ghost use Rattle.database.specs.Queries.{IsOnCleanDisk};
+ghost use Rattle.database.specs.Queries.{IsClean};
 ghost use Rattle.database.specs.Statements.{IfCommitted, IfRolledBack, CommitsAtMost};
 
 use crate::StoreFault;
@@ -34,7 +34,7 @@ fn tables_in_memory(alloc: Global) -> Result<Connection<MemStore>, Error>
 
 /// Whether the schema has the tables of the other. One that lacks a name of theirs is another
 /// schema.
-fn compare(schema: &Schema, desk: &Schema) -> Result<(), StoreFault>
+fn compare_tables(schema: &Schema, desk: &Schema) -> Result<(), StoreFault>
     ensures tables { OnOk result (schema.now.tables ≡ desk.now.tables) }
     ensures names { result ≡ Err StoreFault.Schema
         ↔ (has_names schema.now desk.now.tables ≡ false) }
@@ -51,21 +51,21 @@ fn compare(schema: &Schema, desk: &Schema) -> Result<(), StoreFault>
 }
 
 /// Checks that a schema has the tables of a desk, and returns whether it has nothing beside them.
-fn judge_schema(alloc: Global, schema: &Schema) -> Result<bool, StoreFault>
+fn check_schema(alloc: Global, schema: &Schema) -> Result<bool, StoreFault>
     ensures tables { OnOk result (schema.now.tables ≡ desk_tables) }
     ensures unindexed { IfOk result
         (λ unindexed. IsTrue unindexed ↔ (schema.now ≡ unindexed_schema)) }
     ensures names { result ≡ Err StoreFault.Schema → has_names schema.now desk_tables ≡ false }
 {
     let desk = tables_in_memory(alloc)?;
-    compare(schema, desk.schema())?;
+    compare_tables(schema, desk.schema())?;
     Ok(same_schema(schema, desk.schema()))
 }
 
 /// Checks that a database has the tables of a desk, and returns whether it has nothing beside them,
-/// so that the index of a holder's runs may be added. A connection in a transaction is refused, and a limit of its
-/// steps is lifted.
-fn judge<S: Alter>(conn: &mut Connection<S>, alloc: Global) -> Result<bool, StoreFault>
+/// so that the index of a holder's runs may be added. A connection in a transaction is refused, and
+/// a limit of its steps is lifted.
+fn check_database<S: Alter>(conn: &mut Connection<S>, alloc: Global) -> Result<bool, StoreFault>
     ensures same { conn.new ≡ record conn.old { step_limit = conn.new.step_limit } }
     ensures idle { OnOk result (conn.new.in_transaction ≡ false) }
     ensures unlimited { OnOk result (conn.new.step_limit ≡ None) }
@@ -81,7 +81,7 @@ fn judge<S: Alter>(conn: &mut Connection<S>, alloc: Global) -> Result<bool, Stor
         return Err(StoreFault::Database);
     }
     conn.set_step_limit(None);
-    let is_unindexed = judge_schema(alloc, conn.schema())?;
+    let is_unindexed = check_schema(alloc, conn.schema())?;
     Ok(is_unindexed)
 }
 
@@ -91,7 +91,7 @@ fn add_missing_index<S: Alter>(
     is_unindexed: bool,
 ) -> Result<(), StoreFault>
     requires idle { conn.old.in_transaction ≡ false }
-    requires desk { IsOnCleanDisk S.Store conn.old
+    requires desk { IsClean S.Store conn.old
         → IsOpenDesk is_unindexed (state S.Store conn.old) }
     ensures idle { conn.new.in_transaction ≡ false }
     ensures kept { IfCommitted S.Store result StaysDesk conn.old conn.new }
@@ -108,19 +108,19 @@ fn add_missing_index<S: Alter>(
 /// Reads every row of a desk and returns its charter. The index of a holder's runs is added where
 /// the database has nothing but the tables. A connection in a transaction is refused, and a limit
 /// of its steps is lifted.
-pub fn open_desk<S: Alter>(conn: &mut Connection<S>, alloc: Global) -> Result<Charter, StoreFault>
+pub fn open_tables<S: Alter>(conn: &mut Connection<S>, alloc: Global) -> Result<Charter, StoreFault>
     ensures idle { OnOk result (conn.new.in_transaction ≡ false) }
     ensures unlimited { OnOk result (conn.new.step_limit ≡ None) }
-    ensures clean { IsOnCleanDisk S.Store conn.new → IsOnCleanDisk S.Store conn.old }
-    ensures opened { IsOnCleanDisk S.Store conn.new → IfOk result
+    ensures clean { IsClean S.Store conn.new → IsClean S.Store conn.old }
+    ensures opened { IsClean S.Store conn.new → IfOk result
         (λ charter. OpensDesk charter (state S.Store conn.old) (state S.Store conn.new)) }
     ensures err { IfRolledBack S.Store result conn.old conn.new }
-    ensures crash { IsOnCleanDisk S.Store conn.new
+    ensures crash { IsClean S.Store conn.new
         → LeavesSameRows (state S.Store conn.old) (state S.Store conn.new) }
-    ensures schema { IsOnCleanDisk S.Store conn.new → result ≡ Err StoreFault.Schema
+    ensures schema { IsClean S.Store conn.new → result ≡ Err StoreFault.Schema
         → IsOfAnotherSchema (state S.Store conn.old).now }
 {
-    let is_unindexed = judge(conn, alloc)?;
+    let is_unindexed = check_database(conn, alloc)?;
     let charter = read_tables(conn, alloc)?;
     add_missing_index(conn, is_unindexed)?;
     Ok(charter)

@@ -1,3 +1,4 @@
+//! A query of a database that has the tables of a desk.
 ghost use Rattle.std.specs.Prelude.{IfOk};
 ghost use Rattle.sqlite.specs.Given.{IsPlain};
 ghost use Rattle.sqlite.specs.Held.{state};
@@ -5,7 +6,7 @@ ghost use Rattle.sqlite.specs.Listing.{understood};
 ghost use Rattle.sqlite.specs.State.{Shown};
 ghost use Rattle.sqlite.specs.Values.{bound};
 ghost use Rattle.tables.specs.Tables.{OverDesk};
-ghost use Rattle.database.specs.Queries.{IsAsked, IsOnCleanDisk, IsReadyToAsk};
+ghost use Rattle.database.specs.Queries.{IsAsked, IsClean, IsReadyToAsk};
 
 use sqlite::types::ValueRef;
 use sqlite::{Alter, Connection, Error, Row};
@@ -22,10 +23,11 @@ pub fn ask<S: Alter>(
     requires ready { IsReadyToAsk S.Store conn.old }
     requires plain { OverDesk (λ s. IsPlain (understood s sql.now)) }
     ensures asked { IsAsked S.Store conn.old conn.new result }
-    ensures shown { IsOnCleanDisk S.Store conn.new → IfOk result (λ rows.
+    ensures shown { IsClean S.Store conn.new → IfOk result (λ rows.
         Shown sql.now (bound values.now) (state S.Store conn.old) (state S.Store conn.new)
         rows.items) }
 {
+    // Its clause `settled` is for the proof: outside a transaction all that is shown is committed.
     let _idle = conn.is_autocommit();
     let query = conn.prepare(sql)?;
     query.query_all(conn, values)

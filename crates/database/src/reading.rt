@@ -13,10 +13,10 @@ ghost use Rattle.slurm.specs.declared.exceptions.TheConstants.{MOST_ENTRIES};
 ghost use Rattle.tables.specs.Cells.{schema_row};
 ghost use Rattle.tables.specs.Decode.{first_columns};
 ghost use Rattle.tables.specs.Tables.{operator, pool, holder, holding, granted, auth, slurm, IsTree, OverDesk};
-ghost use Rattle.database.specs.TablesRead.{HoldSome, ShowsSome, TablesRead};
-ghost use Rattle.database.specs.steps.Numbered.{AreAnswered, AreRead, Rise, SelectsAll, shown_in};
-ghost use Rattle.database.specs.steps.Opened.{ShowExceptions, ShowHolders, ShowsCharter, TellsSchema};
-ghost use Rattle.database.specs.Queries.{IsAsked, IsOnCleanDisk, IsReadyToAsk};
+ghost use Rattle.database.specs.TablesRead.{HoldSomeRows, ShowsSome, TablesRead};
+ghost use Rattle.database.specs.steps.Numbered.{AnswersRows, AreRead, Rise, SelectsAll, shown_in};
+ghost use Rattle.database.specs.steps.Opened.{ShowExceptions, ShowHolders, ShowsCharter, ShowsSchema};
+ghost use Rattle.database.specs.Queries.{IsAsked, IsClean, IsReadyToAsk};
 
 use crate::StoreFault;
 use crate::query::ask;
@@ -27,7 +27,11 @@ use registry::{Auth, Charter, Granted};
 use slurm::MOST_ENTRIES;
 use sqlite::{Alter, Connection, Row};
 use std::alloc::Global;
-use tables::{ExceptionRow, FromRow, Registered, tells_schema};
+use tables::{
+    ExceptionRow, FromRow, Registered, SELECT_ALL_AUTHS, SELECT_ALL_EXCEPTIONS, SELECT_ALL_GRANTS,
+    SELECT_ALL_HOLDERS, SELECT_ALL_OPERATORS, SELECT_ALL_PREFIXES, SELECT_ALL_SPANS, SELECT_SCHEMA,
+    shows_schema,
+};
 
 /// A value that each row of one table shows.
 trait InTable: FromRow {
@@ -47,8 +51,8 @@ fn ask_all<S: Alter>(conn: &mut Connection<S>, sql: &str) -> Result<Vec<Row>, St
     requires plain { OverDesk (λ s. IsPlain (understood s sql.now)) }
     requires unlisted { OverDesk (λ s. reads_listing s sql.now ≡ false) }
     ensures asked { IsAsked S.Store conn.old conn.new result }
-    ensures answered { IsOnCleanDisk S.Store conn.new → IfOk result (λ rows.
-        AreAnswered sql.now (state S.Store conn.old).now rows.items) }
+    ensures answered { IsClean S.Store conn.new → IfOk result (λ rows.
+        AnswersRows sql.now (state S.Store conn.old).now rows.items) }
     ensures rise { IfOk result (λ rows. Rise rows.items) }
     ensures no_schema { result ≢ Err StoreFault.Schema }
 {
@@ -66,11 +70,12 @@ fn read_table<T: InTable, S: Alter>(
 ) -> Result<Vec<T>, StoreFault>
     requires { IsReadyToAsk S.Store conn.old }
     ensures asked { IsAsked S.Store conn.old conn.new result }
-    ensures tree { IsOnCleanDisk S.Store conn.new
+    ensures tree { IsClean S.Store conn.new
         → OnOk result (IsTree ((state S.Store conn.old).now.trees T.tree)) }
-    ensures read { IsOnCleanDisk S.Store conn.new → IfOk result (λ values.
-        AreRead T.cells T.fits (shown_in T.tree T.places (state S.Store conn.old).now) values.items) }
-    ensures schema { IsOnCleanDisk S.Store conn.new → result ≡ Err StoreFault.Schema
+    ensures read { IsClean S.Store conn.new → IfOk result (λ values.
+        AreRead T.cells T.fits (shown_in T.tree T.places (state S.Store conn.old).now)
+        values.items) }
+    ensures schema { IsClean S.Store conn.new → result ≡ Err StoreFault.Schema
         → ¬ AllByRecursion (ShowsSome T.cells T.fits)
         (shown_in T.tree T.places (state S.Store conn.old).now) }
 {
@@ -84,7 +89,7 @@ impl InTable for Name {
     ghost places = { 0 ∷ [] };
 
     fn select_all() -> &'static str {
-        "SELECT name, rowid FROM operator ORDER BY rowid"
+        SELECT_ALL_OPERATORS
     }
 }
 
@@ -94,7 +99,7 @@ impl InTable for Prefix {
     ghost places = { 0 ∷ 1 ∷ 2 ∷ [] };
 
     fn select_all() -> &'static str {
-        "SELECT family, lo, len, rowid FROM pool ORDER BY rowid"
+        SELECT_ALL_PREFIXES
     }
 }
 
@@ -104,7 +109,7 @@ impl InTable for Registered {
     ghost places = { 0 ∷ 1 ∷ 2 ∷ [] };
 
     fn select_all() -> &'static str {
-        "SELECT name, grants, auths, rowid FROM holder ORDER BY rowid"
+        SELECT_ALL_HOLDERS
     }
 }
 
@@ -114,7 +119,7 @@ impl InTable for Span {
     ghost places = { 0 ∷ 1 ∷ 2 ∷ [] };
 
     fn select_all() -> &'static str {
-        "SELECT family, lo, hi, rowid FROM holding ORDER BY rowid"
+        SELECT_ALL_SPANS
     }
 }
 
@@ -124,7 +129,7 @@ impl InTable for Granted {
     ghost places = { 1 ∷ 2 ∷ 3 ∷ 4 ∷ 5 ∷ 6 ∷ 7 ∷ [] };
 
     fn select_all() -> &'static str {
-        "SELECT number, caller, role, family, lo, len, until, rowid FROM granted ORDER BY rowid"
+        SELECT_ALL_GRANTS
     }
 }
 
@@ -134,7 +139,7 @@ impl InTable for Auth {
     ghost places = { 1 ∷ 2 ∷ 3 ∷ 4 ∷ 5 ∷ 6 ∷ 7 ∷ 8 ∷ [] };
 
     fn select_all() -> &'static str {
-        "SELECT number, asn, family, lo, len, max, opens, ends, rowid FROM auth ORDER BY rowid"
+        SELECT_ALL_AUTHS
     }
 }
 
@@ -144,27 +149,28 @@ impl InTable for ExceptionRow {
     ghost places = { 0 ∷ 1 ∷ 2 ∷ 3 ∷ 4 ∷ 5 ∷ 6 ∷ 7 ∷ [] };
 
     fn select_all() -> &'static str {
-        "SELECT file, kind, position, family, lo, len, max, asn, rowid FROM slurm ORDER BY rowid"
+        SELECT_ALL_EXCEPTIONS
     }
 }
 
-fn some_tells_schema(rows: &[Row]) -> bool
+/// Whether some row has the number of this schema.
+fn some_shows_schema(rows: &[Row]) -> bool
     ensures { IsTrue result ↔ Any (λ row. first_columns 2 row ≡ schema_row) rows.now }
 {
-    rows.iter().any(|row| tells_schema(row))
+    rows.iter().any(|row| shows_schema(row))
 }
 
-/// Whether the table `meta` tells this schema, and has no other row.
+/// Checks that the one row of the table `meta` has the number of this schema.
 fn read_schema<S: Alter>(conn: &mut Connection<S>) -> Result<(), StoreFault>
     requires { IsReadyToAsk S.Store conn.old }
     ensures asked { IsAsked S.Store conn.old conn.new result }
-    ensures found { IsOnCleanDisk S.Store conn.new
-        → OnOk result (TellsSchema (state S.Store conn.old).now) }
-    ensures schema { IsOnCleanDisk S.Store conn.new → result ≡ Err StoreFault.Schema
+    ensures found { IsClean S.Store conn.new
+        → OnOk result (ShowsSchema (state S.Store conn.old).now) }
+    ensures schema { IsClean S.Store conn.new → result ≡ Err StoreFault.Schema
         → ¬ TablesRead (state S.Store conn.old).now.trees }
 {
-    let rows = ask_all(conn, "SELECT name, value, rowid FROM meta ORDER BY rowid")?;
-    if !some_tells_schema(&rows) {
+    let rows = ask_all(conn, SELECT_SCHEMA)?;
+    if !some_shows_schema(&rows) {
         return Err(StoreFault::Schema);
     }
     if rows.len() != 1 {
@@ -189,9 +195,9 @@ fn make_charter(operators: Vec<Name>, pool: Vec<Prefix>) -> Result<Charter, Stor
 fn read_charter<S: Alter>(conn: &mut Connection<S>, alloc: Global) -> Result<Charter, StoreFault>
     requires { IsReadyToAsk S.Store conn.old }
     ensures asked { IsAsked S.Store conn.old conn.new result }
-    ensures found { IsOnCleanDisk S.Store conn.new → IfOk result (λ charter.
+    ensures found { IsClean S.Store conn.new → IfOk result (λ charter.
         ShowsCharter charter (state S.Store conn.old).now) }
-    ensures schema { IsOnCleanDisk S.Store conn.new → result ≡ Err StoreFault.Schema
+    ensures schema { IsClean S.Store conn.new → result ≡ Err StoreFault.Schema
         → ¬ TablesRead (state S.Store conn.old).now.trees }
 {
     let operators = read_table(conn, alloc)?;
@@ -199,13 +205,13 @@ fn read_charter<S: Alter>(conn: &mut Connection<S>, alloc: Global) -> Result<Cha
     make_charter(operators, pool)
 }
 
-/// Whether each row of a table of holders reads.
+/// Checks that each row of a table of holders reads.
 fn read_holders<S: Alter>(conn: &mut Connection<S>, alloc: Global) -> Result<(), StoreFault>
     requires { IsReadyToAsk S.Store conn.old }
     ensures asked { IsAsked S.Store conn.old conn.new result }
-    ensures found { IsOnCleanDisk S.Store conn.new
+    ensures found { IsClean S.Store conn.new
         → OnOk result (ShowHolders (state S.Store conn.old).now) }
-    ensures schema { IsOnCleanDisk S.Store conn.new → result ≡ Err StoreFault.Schema
+    ensures schema { IsClean S.Store conn.new → result ≡ Err StoreFault.Schema
         → ¬ TablesRead (state S.Store conn.old).now.trees }
 {
     let _holders: Vec<Registered> = read_table(conn, alloc)?;
@@ -222,14 +228,14 @@ fn are_few(exceptions: &[ExceptionRow]) -> bool
     exceptions.len() <= MOST_ENTRIES
 }
 
-/// Whether each row of the table `slurm` reads. More than a SLURM file may have are those of another
-/// schema.
+/// Checks that each row of the table `slurm` reads. More than a SLURM file may have are those of
+/// another schema.
 fn read_exceptions<S: Alter>(conn: &mut Connection<S>, alloc: Global) -> Result<(), StoreFault>
     requires { IsReadyToAsk S.Store conn.old }
     ensures asked { IsAsked S.Store conn.old conn.new result }
-    ensures found { IsOnCleanDisk S.Store conn.new
+    ensures found { IsClean S.Store conn.new
         → OnOk result (ShowExceptions (state S.Store conn.old).now) }
-    ensures schema { IsOnCleanDisk S.Store conn.new → result ≡ Err StoreFault.Schema
+    ensures schema { IsClean S.Store conn.new → result ≡ Err StoreFault.Schema
         → ¬ TablesRead (state S.Store conn.old).now.trees }
 {
     let exceptions: Vec<ExceptionRow> = read_table(conn, alloc)?;
@@ -239,7 +245,7 @@ fn read_exceptions<S: Alter>(conn: &mut Connection<S>, alloc: Global) -> Result<
     Ok(())
 }
 
-/// Reads all rows of a database that has the tables of a desk, and answers the charter that they
+/// Reads all rows of a database that has the tables of a desk, and returns the charter that they
 /// have.
 pub(crate) fn read_tables<S: Alter>(
     conn: &mut Connection<S>,
@@ -247,11 +253,12 @@ pub(crate) fn read_tables<S: Alter>(
 ) -> Result<Charter, StoreFault>
     requires { IsReadyToAsk S.Store conn.old }
     ensures asked { IsAsked S.Store conn.old conn.new result }
-    ensures held { IsOnCleanDisk S.Store conn.new → IfOk result (λ charter.
-        HoldSome charter (state S.Store conn.old).now.trees) }
-    ensures schema { IsOnCleanDisk S.Store conn.new → result ≡ Err StoreFault.Schema
+    ensures held { IsClean S.Store conn.new → IfOk result (λ charter.
+        HoldSomeRows charter (state S.Store conn.old).now.trees) }
+    ensures schema { IsClean S.Store conn.new → result ≡ Err StoreFault.Schema
         → ¬ TablesRead (state S.Store conn.old).now.trees }
 {
+    // Its clause `live` is for the proof: the rows obey the schema.
     let _schema = conn.schema();
     read_schema(conn)?;
     let charter = read_charter(conn, alloc)?;

@@ -3,7 +3,7 @@ ghost use Rattle.std.specs.Prelude.{◌≡◌, ◌↔◌, true, length, All, IsT
 ghost use Rattle.std.specs.List.{AllAdjacentBelow};
 ghost use Rattle.sqlite_value.specs.Value.{owned};
 ghost use Rattle.sqlite_trees.specs.View.{is_int};
-ghost use Rattle.database.specs.steps.Numbered.{last_value, is_below, Rise};
+ghost use Rattle.database.specs.steps.Numbered.{last_value, is_integer_below, Rise};
 
 use sqlite::Row;
 use sqlite::types::ValueRef;
@@ -16,14 +16,16 @@ fn last_value(row: &Row) -> ValueRef<'_>
     row.get_ref(last).unwrap_or(ValueRef::Null)
 }
 
+/// Whether the last value of the row is an integer.
 fn ends_in_integer(row: &Row) -> bool
     ensures { result ≡ is_int (last_value row.now) }
 {
     matches!(last_value(row), ValueRef::Int(_))
 }
 
-fn is_below(row: &Row, next: &Row) -> bool
-    ensures { result ≡ is_below (last_value row.now) (last_value next.now) }
+/// Whether the rows end in integers, of which the first is below the second.
+fn is_integer_below(row: &Row, next: &Row) -> bool
+    ensures { result ≡ is_integer_below (last_value row.now) (last_value next.now) }
 {
     match (last_value(row), last_value(next)) {
         (ValueRef::Int(one), ValueRef::Int(other)) => one < other,
@@ -31,18 +33,20 @@ fn is_below(row: &Row, next: &Row) -> bool
     }
 }
 
+/// Whether each row ends in an integer.
 fn end_in_integers(rows: &[Row]) -> bool
     ensures { IsTrue result ↔ All (λ c. is_int (last_value c) ≡ true) rows.now }
 {
     rows.iter().all(ends_in_integer)
 }
 
+/// Whether each row ends in an integer that is below that of the next.
 fn are_below_the_next(rows: &[Row]) -> bool
     ensures { IsTrue result
-        → AllAdjacentBelow (λ a b. is_below (last_value a) (last_value b) ≡ true)
+        → AllAdjacentBelow (λ a b. is_integer_below (last_value a) (last_value b) ≡ true)
         rows.now (length rows.now) }
 {
-    rows.is_sorted_by(|row, next| is_below(row, next))
+    rows.is_sorted_by(|row, next| is_integer_below(row, next))
 }
 
 /// Whether the rows end in integers that rise.

@@ -1,3 +1,4 @@
+//! A statement within a transaction.
 ghost use Rattle.std.specs.Prelude.{◌≡◌, true};
 ghost use Rattle.sqlite.specs.Values.{bound};
 ghost use Rattle.database.specs.Statements.{WhenClean, IfDone, StaysInside, IsExecuted};

@@ -30,7 +30,11 @@ use Rattle.registry.specs.Rows.{new_rows, edited, replaced_by}
 use Rattle.tables.specs.Tables.{holder, holding, granted, auth}
 use Rattle.tables.specs.Cells.{number_cell, family_number, address, role_number, scope_cells, auth_cells, holder_row, holding_row, granted_row, auth_row}
 use Rattle.tables.specs.TablesHold.{is_name_of, part_rows, holder_part, holding_part, granted_part, auth_part}
-use Rattle.store.specs.steps.RowEdits.{with_holdings, without_holdings, with_grant, with_auths, with_granted, with_created}
+use Rattle.tables.specs.declared.auth.TheConstants.{DELETE_AUTH, INSERT_AUTH, UPDATE_AUTH}
+use Rattle.tables.specs.declared.granted.TheConstants.{DELETE_GRANT, INSERT_GRANT}
+use Rattle.tables.specs.declared.holder.TheConstants.{INSERT_HOLDER, UPDATE_CREATED, UPDATE_GRANTED}
+use Rattle.tables.specs.declared.holding.TheConstants.{DELETE_HOLDING, INSERT_HOLDING}
+use Rattle.store.specs.steps.RowEdits.{with_holdings, without_holdings, with_grants, with_auths, with_granted, with_created}
 use Rattle.database.specs.Statements.{IsReady, IsExecuted}
 use Rattle.store.specs.steps.Statements.{EditsHolder, Registers}
 use Rattle.tables.proofs.Addresses.{addresses_in_order}
@@ -46,25 +50,15 @@ use Rattle.tables.proofs.Texts.{
   put_terms,
   equals,
   amend_sets,
-  put_holder_text,
   put_holder_is,
-  set_grants_text,
   set_grants_is,
-  set_auths_text,
   set_auths_is,
-  put_holding_text,
   put_holding_is,
-  take_holding_text,
   take_holding_is,
-  put_granted_text,
   put_granted_is,
-  take_granted_text,
   take_granted_is,
-  put_auth_text,
   put_auth_is,
-  take_auth_text,
   take_auth_is,
-  amend_text,
   amend_is,
 }
 
@@ -153,20 +147,20 @@ module _ (h : List ℕ) (n : ℕ) where
   created_set c = cast Words (column c 0) ∷ cast Integer (column c 1) ∷ number_cell n ∷ []
 
   module _ (old new : State) where
-    pub sets_granted : IsReady old → IsExecuted set_grants_text (Text h ∷ number_cell n ∷ []) old new → EditsHolder h (with_granted n) old new
+    pub sets_granted : IsReady old → IsExecuted UPDATE_GRANTED.now (Text h ∷ number_cell n ∷ []) old new → EditsHolder h (with_granted n) old new
     sets_granted =
         changes_edit 3 holder refl old new 0 holder_part.rows refl h (with_granted n) (equals 1 0 ∷ []) (names 0 h) (Text h ∷ number_cell n ∷ []) (holder_test 0 h (number_cell n ∷ [])) (λ c is. is)
         (col 1 1 ∷ col 0 1 ∷ col 1 3 ∷ []) granted_set set_grants_is (λ r. λ i. cast Words (column_after r 0 i) ∷ cast_number n i ∷ cast Integer (column_after r 2 i) ∷ []) name_kept
         (λ r. rw (name_of_itself h (Text h) refl, cast_number r.created) refl) (in_holder h (λ _. n) (λ r. r.created)) refl
 
-    pub sets_created : IsReady old → IsExecuted set_auths_text (Text h ∷ number_cell n ∷ []) old new → EditsHolder h (with_created n) old new
+    pub sets_created : IsReady old → IsExecuted UPDATE_CREATED.now (Text h ∷ number_cell n ∷ []) old new → EditsHolder h (with_created n) old new
     sets_created =
         changes_edit 3 holder refl old new 0 holder_part.rows refl h (with_created n) (equals 1 0 ∷ []) (names 0 h) (Text h ∷ number_cell n ∷ []) (holder_test 0 h (number_cell n ∷ [])) (λ c is. is)
         (col 1 1 ∷ col 1 2 ∷ col 0 1 ∷ []) created_set set_auths_is (λ r. λ i. cast Words (column_after r 0 i) ∷ cast Integer (column_after r 1 i) ∷ cast_number n i ∷ []) name_kept
         (λ r. rw (name_of_itself h (Text h) refl, cast_number r.granted) refl) (in_holder h (λ r. r.granted) (λ _. n)) refl
 
 module _ (h : List ℕ) (old new : State) where
-  pub registers : IsReady old → IsExecuted put_holder_text (Text h ∷ []) old new → Registers h old new
+  pub registers : IsReady old → IsExecuted INSERT_HOLDER.now (Text h ∷ []) old new → Registers h old new
   registers ready ran =
       let put = puts_row 3 holder refl old new (Text h ∷ []) (lit Null ∷ col 0 0 ∷ lit (Int (pos 0)) ∷ lit (Int (pos 0)) ∷ []) 4 (holder_row h 0 0) put_holder_is refl (cast_holder h 0 0) ready ran in
       record {
@@ -177,24 +171,24 @@ module _ (h : List ℕ) (old new : State) where
 
   -- ---- holdings
 
-  pub puts_holding : (s : Span) → IsReady old → IsExecuted put_holding_text (holding_row h s) old new → EditsHolder h (with_holdings (s ∷ [])) old new
+  pub puts_holding : (s : Span) → IsReady old → IsExecuted INSERT_HOLDING.now (holding_row h s) old new → EditsHolder h (with_holdings (s ∷ [])) old new
   puts_holding s ready ran =
       puts_edit 4 holding refl old new 3 holding_part.rows refl h (with_holdings (s ∷ [])) (holding_row h s) refl (λ r. appended (holding_row h) r.holdings s) (in_holdings h (λ r. r.holdings ++ s ∷ []))
       (puts_row 4 holding refl old new (holding_row h s) (put_terms 4) 5 (holding_row h s) put_holding_is refl (cast_holding h s) ready ran)
 
-  pub takes_holding : (s : Span) → IsReady old → IsExecuted take_holding_text (holding_row h s) old new → EditsHolder h (without_holdings (s ∷ [])) old new
+  pub takes_holding : (s : Span) → IsReady old → IsExecuted DELETE_HOLDING.now (holding_row h s) old new → EditsHolder h (without_holdings (s ∷ [])) old new
   takes_holding s =
       takes_edit 4 holding refl old new 3 holding_part.rows refl h (without_holdings (s ∷ [])) run_tests (is_run h s) (holding_row h s) (tests_run h s) (of_run h s)
       take_holding_is (λ r. taken (is_run h s) (is_one_of (s ∷ [])) (holding_row h) (own_run h s) r.holdings) (in_holdings h (λ r. without_runs (s ∷ []) r.holdings)) refl
 
   -- ---- grants
 
-  pub puts_grant : (g : Granted) → IsReady old → IsExecuted put_granted_text (granted_row h g) old new → EditsHolder h (with_grant g) old new
+  pub puts_grant : (g : Granted) → IsReady old → IsExecuted INSERT_GRANT.now (granted_row h g) old new → EditsHolder h (with_grants (g ∷ [])) old new
   puts_grant g ready ran =
-      puts_edit 5 granted refl old new 0 granted_part.rows refl h (with_grant g) (granted_row h g) refl (λ r. appended (granted_row h) r.grants g) (in_grants h (λ r. r.grants ++ g ∷ []))
+      puts_edit 5 granted refl old new 0 granted_part.rows refl h (with_grants (g ∷ [])) (granted_row h g) refl (λ r. appended (granted_row h) r.grants g) (in_grants h (λ r. r.grants ++ g ∷ []))
       (puts_row 5 granted refl old new (granted_row h g) (put_terms 8) 9 (granted_row h g) put_granted_is (eight h g) (cast_granted h g) ready ran)
 
-  pub takes_grant : (n : ℕ) → IsReady old → IsExecuted take_granted_text (Text h ∷ number_cell n ∷ []) old new → EditsHolder h (edited (Revoke n)) old new
+  pub takes_grant : (n : ℕ) → IsReady old → IsExecuted DELETE_GRANT.now (Text h ∷ number_cell n ∷ []) old new → EditsHolder h (edited (Revoke n)) old new
   takes_grant n =
       takes_edit 5 granted refl old new 0 granted_part.rows refl h (edited (Revoke n)) (equals 1 0 ∷ equals 2 1 ∷ []) (is_of h n) (Text h ∷ number_cell n ∷ []) (of_tests h n []) (of_holder h n)
       take_granted_is (λ r. taken (is_of h n) (λ (g : Granted). g.number == n) (granted_row h) own r.grants) (in_grants h (λ r. filter (λ g. not (g.number == n)) r.grants)) refl
@@ -207,12 +201,12 @@ module _ (h : List ℕ) (old new : State) where
   own_auth : (n : ℕ) (x : Auth) → is_of h n (auth_row h x) ≡ (x.number == n)
   own_auth n x = rw (name_of_itself h (Text h) refl) (number_of_number x.number n)
 
-  pub puts_auth : (x : Auth) → IsReady old → IsExecuted put_auth_text (auth_row h x) old new → EditsHolder h (with_auths (x ∷ [])) old new
+  pub puts_auth : (x : Auth) → IsReady old → IsExecuted INSERT_AUTH.now (auth_row h x) old new → EditsHolder h (with_auths (x ∷ [])) old new
   puts_auth x ready ran =
       puts_edit 6 auth refl old new 0 auth_part.rows refl h (with_auths (x ∷ [])) (auth_row h x) refl (λ r. appended (auth_row h) r.auths x) (in_auths h (λ r. r.auths ++ x ∷ []))
       (puts_row 6 auth refl old new (auth_row h x) (put_terms 9) 10 (auth_row h x) put_auth_is refl (cast_auth h x) ready ran)
 
-  pub takes_auth : (n : ℕ) → IsReady old → IsExecuted take_auth_text (Text h ∷ number_cell n ∷ []) old new → EditsHolder h (edited (Withdraw n)) old new
+  pub takes_auth : (n : ℕ) → IsReady old → IsExecuted DELETE_AUTH.now (Text h ∷ number_cell n ∷ []) old new → EditsHolder h (edited (Withdraw n)) old new
   takes_auth n =
       takes_edit 6 auth refl old new 0 auth_part.rows refl h (edited (Withdraw n)) (equals 1 0 ∷ equals 2 1 ∷ []) (is_of h n) (Text h ∷ number_cell n ∷ []) (of_tests h n []) (of_holder h n)
       take_auth_is (λ r. taken (is_of h n) (λ (x : Auth). x.number == n) (auth_row h) (own_auth n) r.auths) (in_auths h (λ r. filter (λ x. not (x.number == n)) r.auths)) refl
@@ -221,7 +215,7 @@ module _ (h : List ℕ) (old new : State) where
   abbrev amended_row : Auth → Row → Row
   amended_row x c = cast Words (column c 0) ∷ cast Integer (column c 1) ∷ drop 1 (auth_cells x)
 
-  pub amends_auth : (x : Auth) → IsReady old → IsExecuted amend_text (auth_row h x) old new → EditsHolder h (edited (Amend x)) old new
+  pub amends_auth : (x : Auth) → IsReady old → IsExecuted UPDATE_AUTH.now (auth_row h x) old new → EditsHolder h (edited (Amend x)) old new
   amends_auth x =
       changes_edit 6 auth refl old new 0 auth_part.rows refl h (edited (Amend x)) (equals 1 0 ∷ equals 2 1 ∷ []) (is_of h x.number) (auth_row h x) (of_tests h x.number (drop 1 (auth_cells x))) (of_holder h x.number)
       amend_sets (amended_row x) amend_is terms (λ c is. name_kept h x.number c (of_holder h x.number c is)) (λ r. changed r.auths) (in_auths h (λ r. map (replaced_by x) r.auths)) refl

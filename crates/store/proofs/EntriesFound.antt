@@ -32,12 +32,13 @@ use Rattle.tables.specs.Cells.{number_cell, kind_number, filter_cells, vrp_cells
 use Rattle.tables.specs.Decode.{exception_columns, first_columns}
 use Rattle.tables.specs.Tables.{slurm, contents, columns}
 use Rattle.tables.specs.TablesHold.{ArePlaced, HoldsExceptions, TablesHold}
-use Rattle.database.specs.steps.Numbered.{AreAnswered}
+use Rattle.tables.specs.declared.exception.TheConstants.{SELECT_ASSERTIONS, SELECT_FILTERS}
+use Rattle.database.specs.steps.Numbered.{AnswersRows}
 use Rattle.store.specs.steps.Queries.{by_column, SelectsEntries}
 use Rattle.tables.proofs.CellLemmas.{is_number, number_of_number}
 use Rattle.tables.proofs.CellsOnce.{one_prefix}
 use Rattle.tables.proofs.Selecting.{from_table, no_limit, picks, permuted, sorted}
-use Rattle.tables.proofs.Texts.{Means, upwards, kind_tests, filters_text, filters_is, assertions_text, assertions_is}
+use Rattle.tables.proofs.Texts.{Means, upwards, kind_tests, filters_is, assertions_is}
 use Rattle.database.proofs.Columns.{column_after, shown_at, shown_columns}
 use Rattle.store.proofs.Finding.{of_contents}
 use Rattle.store.proofs.Giving.{one_vrp}
@@ -117,7 +118,7 @@ module _ {X : Type 0} (cells : X → Row) (items : Exceptions → List X) (q : E
   of_test : (r : Row) → picks [] (kind_tests q.kind) r ≡ is_number q.kind (column (drop 1 r) 1)
   of_test r = last_term (equals_int (column r 2) (pos q.kind) ∙ ap (is_number q.kind) (column_after r 1))
 
-  module _ (db : Database) (rows : List Row) (answered : AreAnswered q.text db rows) where
+  module _ (db : Database) (rows : List Row) (answered : AnswersRows q.text db rows) where
     answers : IsAnswer (from_table slurm.tree (kind_tests q.kind) (shown_at q.places) (upwards 3 ∷ []) no_limit) (overlay db.trees []) [] rows
     answers = (subst (λ (k : Command). Reads k db [] rows) (q.means.is db.schema) answered).answer Null
 
@@ -190,7 +191,7 @@ filters_query = record {
   kind = 1;
   of_kind = FilterOf;
   places = 3 ∷ 4 ∷ 5 ∷ 6 ∷ 7 ∷ 2 ∷ [];
-  text = filters_text;
+  text = SELECT_FILTERS.now;
   titles = codes "family" ∷ codes "lo" ∷ codes "len" ∷ codes "max" ∷ codes "asn" ∷ codes "position" ∷ [];
   means = filters_is;
   rows = λ e table holds.
@@ -211,7 +212,7 @@ assertions_query = record {
   kind = 2;
   of_kind = Assertion;
   places = 7 ∷ 3 ∷ 4 ∷ 5 ∷ 6 ∷ 2 ∷ [];
-  text = assertions_text;
+  text = SELECT_ASSERTIONS.now;
   titles = codes "asn" ∷ codes "family" ∷ codes "lo" ∷ codes "len" ∷ codes "max" ∷ codes "position" ∷ [];
   means = assertions_is;
   rows = λ e table holds. (

@@ -22,12 +22,13 @@ use Rattle.tables.specs.Decode.{IsPosition, exception_columns}
 use Rattle.tables.specs.Tables.{slurm, contents, is_table}
 use Rattle.tables.specs.TablesHold.{holder_part, holding_part, granted_part, auth_part, HoldsPart, ArePlaced, HoldsExceptions}
 use Rattle.tables.specs.steps.Edits.{Edits}
+use Rattle.tables.specs.declared.exception.TheConstants.{DELETE_EXCEPTIONS, INSERT_EXCEPTION}
 use Rattle.database.specs.Statements.{IsReady, IsExecuted}
 use Rattle.database.specs.steps.Making.{PutsRows}
 use Rattle.store.specs.steps.Statements.{MakesChange, TakesRows, placed_after, entry_rows}
 use Rattle.tables.proofs.CellLemmas.{cast_exception}
 use Rattle.tables.proofs.Deleting as deleting
-use Rattle.tables.proofs.Texts.{put_terms, put_exception_text, put_exception_is, take_exceptions_text, take_exceptions_is}
+use Rattle.tables.proofs.Texts.{put_terms, put_exception_is, take_exceptions_is}
 use Rattle.database.proofs.CharterSteps.{puts_then}
 use Rattle.database.proofs.Columns.{exception_shown}
 use Rattle.database.proofs.StatementLemmas.{has_schema, wrote, ready_still, puts_row, sound_still, taken_more}
@@ -49,7 +50,7 @@ eight r = go r.exception
     go (Assertion v) = refl
 
 module _ (old new : State) where
-  pub takes_exceptions : IsReady old → IsExecuted take_exceptions_text [] old new → TakesRows slurm.tree old new
+  pub takes_exceptions : IsReady old → IsExecuted DELETE_EXCEPTIONS.now [] old new → TakesRows slurm.tree old new
   takes_exceptions ready ran =
       let has = has_schema [] take_exceptions_is ready ran in
       let w = wrote [] take_exceptions_is ready ran in
@@ -60,7 +61,7 @@ module _ (old new : State) where
             (deleting.takes 7 slurm refl old.now.schema [] (λ c. true) old new _ [] ran.0 has (λ r. refl) whole w);
       }
 
-  pub puts_exception : (r : ExceptionRow) → IsReady old → IsExecuted put_exception_text (exception_row r) old new → PutsRows slurm.tree (exception_row r ∷ []) old new
+  pub puts_exception : (r : ExceptionRow) → IsReady old → IsExecuted INSERT_EXCEPTION.now (exception_row r) old new → PutsRows slurm.tree (exception_row r ∷ []) old new
   puts_exception r = puts_row 7 slurm refl old new (exception_row r) (put_terms 8) 9 (exception_row r) put_exception_is (eight r) (cast_exception r)
 
 -- ---- entries of one kind, one after another

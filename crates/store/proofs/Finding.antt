@@ -21,6 +21,10 @@ use Rattle.tables.specs.Cells.{span_cells, grant_cells, auth_cells, holding_row,
 use Rattle.tables.specs.Tables.{contents, columns, desk_tables, OverDesk}
 use Rattle.tables.specs.TablesHold.{Part, TablesHold, items_if_any, HoldsPart, part_rows, holder_part, holding_part, granted_part, auth_part}
 use Rattle.tables.specs.Decode.{first_columns}
+use Rattle.tables.specs.declared.auth.TheConstants.{SELECT_HOLDER_AUTHS}
+use Rattle.tables.specs.declared.granted.TheConstants.{SELECT_HOLDER_GRANTS}
+use Rattle.tables.specs.declared.holder.TheConstants.{SELECT_COUNTERS}
+use Rattle.tables.specs.declared.holding.TheConstants.{SELECT_HOLDER_SPANS}
 use Rattle.tables.proofs.ReadLemmas.{are_whole}
 use Rattle.store.specs.steps.Queries.{by_column, AreSelected, Selects}
 use Rattle.tables.proofs.Selecting.{from_table, no_limit, picks, permuted, sorted}
@@ -28,7 +32,7 @@ use Rattle.database.proofs.Columns.{shown_at, shown_columns, grant_places, grant
 use Rattle.store.proofs.StepLemmas.{holder_test}
 use Rattle.tables.proofs.PartLemmas.{names}
 use Rattle.tables.proofs.CellsOnce.{cells_of_counters, counters_of_rows, one_counters, one_span, one_grant, one_auth}
-use Rattle.tables.proofs.Texts.{Means, equals, upwards, counters_text, counters_is, spans_text, spans_is, grants_text, grants_is, auths_text, auths_is}
+use Rattle.tables.proofs.Texts.{Means, equals, upwards, counters_is, spans_is, grants_is, auths_is}
 use Rattle.sqlite.specs.Listing.{understood, reads_listing}
 use Rattle.sqlite.specs.State.{State, Shown}
 use Rattle.sqlite.proofs.Callers.{IsPlain}
@@ -117,7 +121,7 @@ counters_query = record {
   part = holder_part;
   places = 1 ∷ 2 ∷ [];
   counted = refl;
-  text = counters_text;
+  text = SELECT_COUNTERS.now;
   order = [];
   titles = codes "grants" ∷ codes "auths" ∷ [];
   means = counters_is;
@@ -134,7 +138,7 @@ spans_query = record {
   part = holding_part;
   places = 0 ∷ 1 ∷ 2 ∷ [];
   counted = refl;
-  text = spans_text;
+  text = SELECT_HOLDER_SPANS.now;
   order = upwards 1 ∷ upwards 2 ∷ [];
   titles = codes "family" ∷ codes "lo" ∷ codes "hi" ∷ [];
   means = spans_is;
@@ -151,7 +155,7 @@ grants_query = record {
   part = granted_part;
   places = grant_places;
   counted = refl;
-  text = grants_text;
+  text = SELECT_HOLDER_GRANTS.now;
   order = upwards 2 ∷ [];
   titles = codes "number" ∷ codes "caller" ∷ codes "role" ∷ codes "family" ∷ codes "lo" ∷ codes "len" ∷ codes "until" ∷ [];
   means = grants_is;
@@ -171,7 +175,7 @@ auths_query = record {
   part = auth_part;
   places = auth_places;
   counted = refl;
-  text = auths_text;
+  text = SELECT_HOLDER_AUTHS.now;
   order = upwards 2 ∷ [];
   titles = codes "number" ∷ codes "asn" ∷ codes "family" ∷ codes "lo" ∷ codes "len" ∷ codes "max" ∷ codes "opens" ∷ codes "ends" ∷ [];
   means = auths_is;

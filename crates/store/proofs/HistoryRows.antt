@@ -10,7 +10,7 @@ use Rattle.sqlite_keyed.proofs.SortLemmas.{sorted_unique}
 use Rattle.addr.proofs.RunLemmas.{maximal_apart}
 use Rattle.registry.specs.declared.authorization.Auth.{Auth}
 use Rattle.registry.specs.declared.command.Command.{Command}
-use Rattle.registry.specs.declared.command.Command.TheVariants.{Register, Delegate, Transfer, Reclaim, Grant, Revoke, Create, Amend, Withdraw, Import, Slurm}
+use Rattle.registry.specs.declared.command.Command.TheVariants.{Grant, Revoke}
 use Rattle.registry.specs.declared.grant.Granted.{Granted}
 use Rattle.registry.specs.History.{History, same_name}
 use Rattle.registry.specs.Terms.{granted_after, grants_made, grants_after, grant_terms, authorizations_made, AreActive}
@@ -49,7 +49,7 @@ module _ {X : Type 0} (number : X → ℕ) where
   rise-ascending low [] high n = tt
   rise-ascending low (x ∷ xs) high n = (rise-above (number x) (number x) xs high (omega arith) n.1, rise-ascending (number x) xs high n.1)
 
-  -- items that rise stand in one order alone
+  -- items that rise have one order alone
   pub in_order_same : (xs ys : List X) → IsAscending (λ x y. number x < number y) xs → AreInOrder number xs ys → ys ≡ xs
   in_order_same xs ys ascending order =
       sorted_unique (on number nat_cmp) (on_total number nat_cmp_total) xs ys
@@ -65,10 +65,6 @@ GrantsRise = Rise (λ (g : Granted). g.number)
 
 -- the numbers of grants rise from 1, up to how many were made
 grants_after-rise : (c : Command) (h : List ℕ) (made : ℕ) (grants : List Granted) → GrantsRise 0 grants made → GrantsRise 0 (grants_after c h made grants) (granted_after c h made)
-grants_after-rise (Register holder) h made grants n = n
-grants_after-rise (Delegate holder p) h made grants n = n
-grants_after-rise (Transfer p giver taker) h made grants n = n
-grants_after-rise (Reclaim holder p) h made grants n = n
 grants_after-rise (Grant holder name role scope until) h made grants n =
     let g : Granted = record { number = made + 1; caller = name; role = role; scope = scope; until = until } in
     elim (same_name holder h) as (λ b. GrantsRise 0 (cond b (grants ++ g ∷ []) grants) (cond b (made + 1) made))
@@ -76,11 +72,7 @@ grants_after-rise (Grant holder name role scope until) h made grants n =
 grants_after-rise (Revoke holder m) h made grants n =
     elim (same_name holder h) as (λ b. GrantsRise 0 (cond b (filter (λ g. not (g.number == m)) grants) grants) made)
     [ true ↦ rise-filter (λ (x : Granted). x.number) (λ g. not (g.number == m)) 0 grants made n | false ↦ n ]
-grants_after-rise (Create holder terms) h made grants n = n
-grants_after-rise (Amend holder m max until) h made grants n = n
-grants_after-rise (Withdraw holder m) h made grants n = n
-grants_after-rise (Import holder rows) h made grants n = n
-grants_after-rise (Slurm file) h made grants n = n
+grants_after-rise _ h made grants n = n
 
 grant_terms-rise : (history : History) (h : List ℕ) → GrantsRise 0 (grant_terms history h) (grants_made history h)
 grant_terms-rise [] h = omega arith

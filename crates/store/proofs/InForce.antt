@@ -18,13 +18,14 @@ use Rattle.registry.specs.RowsOfAll.{AllRows}
 use Rattle.tables.specs.Cells.{number_cell, auth_row}
 use Rattle.tables.specs.Tables.{desk_tables, contents, columns}
 use Rattle.tables.specs.TablesHold.{HoldsPart, auth_part}
+use Rattle.tables.specs.declared.auth.TheConstants.{SELECT_IN_FORCE}
 use Rattle.store.specs.steps.Queries.{is_open_on, FindsInForce, IsPayloadOn}
 use Rattle.tables.proofs.SomeRow.{has_permuted, of_some, in_table}
 use Rattle.tables.proofs.Selecting.{picks, permuted}
 use Rattle.database.proofs.Columns.{shown_at, shown_columns}
 use Rattle.store.proofs.Finding.{of_contents}
 use Rattle.database.proofs.QueryLemmas.{reads_desk}
-use Rattle.tables.proofs.Texts.{in_force_tests, in_force_text, in_force_is}
+use Rattle.tables.proofs.Texts.{in_force_tests, in_force_is}
 
 abbrev payload_places : List ℕ
 payload_places = 2 ∷ 3 ∷ 4 ∷ 5 ∷ 6 ∷ []
@@ -34,15 +35,15 @@ columns_alone day [] = refl
 columns_alone day (v ∷ r) = refl
 
 module _ (day : ℕ) (old new : State) (has : IsTrue old.is_open → old.now.schema.tables ≡ desk_tables) where
-  finds_in_force : (rows : List Row) → Shown in_force_text (number_cell day ∷ []) old new rows → FindsInForce day old.now rows
+  finds_in_force : (rows : List Row) → Shown SELECT_IN_FORCE.now (number_cell day ∷ []) old new rows → FindsInForce day old.now rows
   finds_in_force rows shown =
       let params = number_cell day ∷ [] in
       let read = reads_desk in_force_is params old new rows has shown in
       let same = of_contents (λ r. eval_all (shown_at payload_places) (params ∷ r ∷ [])) (columns payload_places) (picks params in_force_tests) (is_open_on day) (shown_columns payload_places params) (columns_alone day) (old.now.trees 12) in
       subst (λ l. IsPermutation l rows) same (permuted 12 in_force_tests (shown_at payload_places) [] old.now.trees params rows (read.answer Null))
 
-  pub all_in_force : {X : Type 0} (items : X → List Row) (r : Result X Error) (params : Row) → params ≡ number_cell day ∷ [] → IfOk r (λ x. Shown in_force_text params old new (items x)) → IfOk r (λ x. FindsInForce day old.now (items x))
-  all_in_force items r params is shown = IfOk-weaker r _ _ (λ x h. finds_in_force (items x) (subst (λ p. Shown in_force_text p old new (items x)) is h)) shown
+  pub all_in_force : {X : Type 0} (items : X → List Row) (r : Result X Error) (params : Row) → params ≡ number_cell day ∷ [] → IfOk r (λ x. Shown SELECT_IN_FORCE.now params old new (items x)) → IfOk r (λ x. FindsInForce day old.now (items x))
+  all_in_force items r params is shown = IfOk-weaker r _ _ (λ x h. finds_in_force (items x) (subst (λ p. Shown SELECT_IN_FORCE.now p old new (items x)) is h)) shown
 
 -- ---- what they are of the typed rows
 

@@ -23,7 +23,7 @@ use Rattle.registry.specs.Rows.{Rows}
 use Rattle.tables.specs.Cells.{number_cell}
 use Rattle.tables.specs.TablesHold.{items_if_any, TablesHold}
 use Rattle.store.specs.steps.Queries.{by_column, WasRead}
-use Rattle.tables.specs.declared.rows.Counters.{Counters}
+use Rattle.tables.specs.declared.holder.Counters.{Counters}
 use Rattle.registry.specs.Values.{IsCount, GrantFits, AuthFits, FitIfAny}
 use Rattle.registry.specs.RowsOfAll.{AllRows}
 use Rattle.store.specs.Loads.{AreInOrder, HaveSame, AreLoaded}

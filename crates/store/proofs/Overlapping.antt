@@ -25,12 +25,13 @@ use Rattle.registry.specs.RowsOfAll.{AllRows}
 use Rattle.tables.specs.Tables.{desk_tables, contents}
 use Rattle.tables.specs.Cells.{number_cell, family_number, address, holding_row}
 use Rattle.tables.specs.TablesHold.{HoldsPart, holding_part}
+use Rattle.tables.specs.declared.holding.TheConstants.{SELECT_OVERLAP}
 use Rattle.store.specs.steps.Queries.{MeetsSome}
 use Rattle.tables.proofs.Addresses.{addresses_in_order}
 use Rattle.tables.proofs.SomeRow.{of_some, in_table}
 use Rattle.tables.proofs.Selecting.{picks, first_shown}
 use Rattle.database.proofs.QueryLemmas.{reads_desk}
-use Rattle.tables.proofs.Texts.{overlap_tests, overlap_text, overlap_is}
+use Rattle.tables.proofs.Texts.{overlap_tests, overlap_is}
 
 family_tested : (f g : Family) → int_eq (pos (family_number f)) (pos (family_number g)) ≡ family_eq f g
 family_tested V4 V4 = refl
@@ -98,10 +99,10 @@ module _ (p : Prefix) (all : AllRows) (table : List Row) (holds : HoldsPart hold
       let run = some_has (λ s. span_meets s p) it.1.holdings it.3 in
       some_from (overlaps p) table (holding_row it.0 run.0) (in_table holding_part all.of_holder table holds (holding_row it.0 run.0) it.0 it.1 it.2 (mapped_has (holding_row it.0) it.1.holdings run.0 run.1)) (overlaps_run p it.0 run.0 ∙ run.2)
 
-module _ (p : Prefix) (old new : State) (has : IsTrue old.is_open → old.now.schema.tables ≡ desk_tables) (params : Row) (is : params ≡ run_params p) (rows : List Row) (shown : Shown overlap_text params old new rows) where
+module _ (p : Prefix) (old new : State) (has : IsTrue old.is_open → old.now.schema.tables ≡ desk_tables) (params : Row) (is : params ≡ run_params p) (rows : List Row) (shown : Shown SELECT_OVERLAP.now params old new rows) where
   not_empty : not (length rows == 0) ≡ list_any (overlaps p) (contents (old.now.trees 8))
   not_empty =
-      let of_run = subst (λ v. Shown overlap_text v old new rows) is shown in
+      let of_run = subst (λ v. Shown SELECT_OVERLAP.now v old new rows) is shown in
       let read = reads_desk overlap_is (run_params p) old new rows has of_run in
       let first = first_shown 8 overlap_tests (lit (Int (pos 1)) ∷ []) old.now.trees (run_params p) rows (read.answer Null) in
       ap not (ap (λ l. length l == 0) first.2 ∙ one_or_none first.0 _ first.1) ∙ some_pass (picks (run_params p) overlap_tests) (overlaps p) (columns_alone p) (old.now.trees 8)

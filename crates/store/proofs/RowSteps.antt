@@ -1,5 +1,5 @@
 -- Steps of edits of a holder's rows, one after another.
-use Rattle.std.proofs.Common.{◌≡◌, ℕ, Bool, true, false, cond, not, ◌==◌, List, [], ◌∷◌, ◌++◌, filter, Option, Some, None, option_map, is_some, if◌then◌else◌, IsSome, Result, arith, refl, sym, ap, subst, ◌∙◌, append-nil, append_assoc}
+use Rattle.std.proofs.Common.{◌≡◌, ℕ, Bool, true, false, cond, not, ◌==◌, List, [], ◌∷◌, ◌++◌, filter, Option, Some, None, option_map, is_some, if◌then◌else◌, IsSome, Result, arith, refl, sym, ap, subst, ◌∙◌}
 use Rattle.std.proofs.Math.Bool.{or-false}
 use Rattle.std.proofs.lemmas.Bool.{cond-true, cond-false}
 use Rattle.std.proofs.lemmas.Result.{on_ok_weaker}
@@ -21,10 +21,10 @@ use Rattle.registry.specs.Rows.{Rows, new_rows, edited, edited_if_any}
 use Rattle.registry.specs.RowsOfAll.{AllRows}
 use Rattle.registry.proofs.Names.{same_name-true}
 use Rattle.tables.specs.TablesHold.{TablesHold}
-use Rattle.store.specs.steps.RowEdits.{with_holdings, without_holdings, with_auths, without_auths, is_registration}
+use Rattle.store.specs.steps.RowEdits.{without_holdings, without_auths, is_registration}
 use Rattle.database.specs.Statements.{state_in, IfDone, StaysInside, IsReady}
 use Rattle.store.specs.StoreRows.{RowChange}
-use Rattle.store.specs.steps.Statements.{at_holder, EditsRows, EditsHolder, TellsWhetherRegistered, Registers, MakesChange}
+use Rattle.store.specs.steps.Statements.{at_holder, EditsRows, EditsHolder, AnswersWhetherRegistered, Registers, MakesChange}
 use Rattle.tables.proofs.TreeRows.{filter_twice, all_kept, neither}
 
 -- equal rows of every holder
@@ -69,12 +69,6 @@ module _ (h : List ℕ) where
   pub done_then : (f g e : Rows → Rows) (a b c : State) → ((r : Rows) → g (f r) ≡ e r) → EditsHolder h f a b → EditsHolder h g b c → EditsHolder h e a c
   done_then f g e a b c same first second = record { ready = second.ready; rows = edits_as (λ r. g (f r)) e a.now c.now same (edits_then f g a.now b.now c.now first.rows second.rows) }
 
-pub no_holdings : (r : Rows) → with_holdings [] r ≡ r
-no_holdings r = λ i. record r { holdings = append-nil r.holdings i }
-
-pub one_more_holding : (spans : List Span) (s : Span) (r : Rows) → with_holdings (s ∷ []) (with_holdings spans r) ≡ with_holdings (spans ++ s ∷ []) r
-one_more_holding spans s r = λ i. record r { holdings = append_assoc r.holdings spans (s ∷ []) i }
-
 -- rows without some, and then without others
 filter_both : {X Y : Type 0} (test : X → Y → Bool) (ys zs : List Y) (xs : List X)
     → filter (λ x. not (list_any (test x) zs)) (filter (λ x. not (list_any (test x) ys)) xs) ≡ filter (λ x. not (list_any (test x) (ys ++ zs))) xs
@@ -87,12 +81,6 @@ none_taken r = λ i. record r { holdings = all_kept r.holdings i }
 
 pub one_holding_less : (spans : List Span) (s : Span) (r : Rows) → without_holdings (s ∷ []) (without_holdings spans r) ≡ without_holdings (spans ++ s ∷ []) r
 one_holding_less spans s r = λ i. record r { holdings = filter_both span_eq spans (s ∷ []) r.holdings i }
-
-pub none_put : (r : Rows) → with_auths [] r ≡ r
-none_put r = λ i. record r { auths = append-nil r.auths i }
-
-pub one_more_auth : (xs : List Auth) (x : Auth) (r : Rows) → with_auths (x ∷ []) (with_auths xs r) ≡ with_auths (xs ++ x ∷ []) r
-one_more_auth xs x r = λ i. record r { auths = append_assoc r.auths xs (x ∷ []) i }
 
 pub no_auths : (r : Rows) → without_auths [] r ≡ r
 no_auths r = λ i. record r { auths = all_kept r.auths i }
@@ -131,7 +119,7 @@ module _ (h : List ℕ) (edit : Edit) where
   some_edited None some = absurd cc
   some_edited (Some r) some = refl
 
-  pub turned_registered : (told : Bool) (a b c : State) → TellsWhetherRegistered h told a b → told ≡ true → EditsHolder h (edited edit) b c → MakesChange edited_at a c
+  pub turned_registered : (told : Bool) (a b c : State) → AnswersWhetherRegistered h told a b → told ≡ true → EditsHolder h (edited edit) b c → MakesChange edited_at a c
   turned_registered told a b c tells is done = record {
     was_open = tells.was_open;
     ready = done.ready;
@@ -156,7 +144,7 @@ module _ (h : List ℕ) (edit : Edit) where
   from_none (Amend x) = refl
   from_none (Withdraw n) = refl
 
-  pub turned_new : (told : Bool) (a b c : State) → TellsWhetherRegistered h told a b → told ≡ false → is_registration edit ≡ true → Registers h b c → MakesChange edited_at a c
+  pub turned_new : (told : Bool) (a b c : State) → AnswersWhetherRegistered h told a b → told ≡ false → is_registration edit ≡ true → Registers h b c → MakesChange edited_at a c
   turned_new told a b c tells is registers done = record {
     was_open = tells.was_open;
     ready = done.ready;
@@ -167,7 +155,7 @@ module _ (h : List ℕ) (edit : Edit) where
         (done.rows charter rows (subst (λ (d : Database). TablesHold charter rows d.trees) (sym tells.same) was) none);
   }
 
-  pub turned_none : (told : Bool) (a b : State) → TellsWhetherRegistered h told a b → told ≡ false → is_registration edit ≡ false → MakesChange edited_at a b
+  pub turned_none : (told : Bool) (a b : State) → AnswersWhetherRegistered h told a b → told ≡ false → is_registration edit ≡ false → MakesChange edited_at a b
   turned_none told a b tells is leaves = record {
     was_open = tells.was_open;
     ready = tells.ready;

@@ -1,18 +1,20 @@
+//! What is found among the rows of all holders.
 ghost use Rattle.std.specs.Prelude.{◌≡◌, ◌↔◌, [], ◌∷◌, Contains, IsTrue, IfOk};
 ghost use Rattle.sqlite.specs.Held.{state};
 ghost use Rattle.sqlite.specs.Values.{bound};
 ghost use Rattle.sqlite_value.specs.declared.value.Value.TheVariants.{Blob};
 ghost use Rattle.sqlite_value.specs.Order.{Row};
 ghost use Rattle.tables.specs.Cells.{family_number, number_cell};
-ghost use Rattle.database.specs.Queries.{IsAsked, IsOnCleanDisk, IsReadyToAsk};
+ghost use Rattle.database.specs.Queries.{IsAsked, IsClean, IsReadyToAsk};
 ghost use Rattle.store.specs.steps.Queries.{IsOfAll, MeetsSome, FindsInForce, IsPayloadOn};
 
 use addr::{Day, Family, Prefix};
 use database::ask;
 use sqlite::types::{ToSql, ValueRef};
 use sqlite::{Alter, Connection, Error, Row};
-use tables::{address_bytes, family_number};
+use tables::{SELECT_IN_FORCE, SELECT_OVERLAP, address_bytes, family_number};
 
+/// A family, and the bytes of a first and a last address.
 fn run_values<'a>(family: Family, first: &'a [u8], last: &'a [u8]) -> [ValueRef<'a>; 3]
     ensures { bound result
         ≡ number_cell (family_number family) ∷ Blob first.now ∷ Blob last.now ∷ [] }
@@ -24,6 +26,7 @@ fn run_values<'a>(family: Family, first: &'a [u8], last: &'a [u8]) -> [ValueRef<
     ]
 }
 
+/// A day, as its number.
 fn day_values<'a>(day: Day) -> [ValueRef<'a>; 1]
     ensures { bound result ≡ number_cell day ∷ [] }
 {
@@ -37,14 +40,14 @@ pub(crate) fn some_overlap<S: Alter>(
 ) -> Result<bool, Error>
     requires { IsReadyToAsk S.Store conn.old }
     ensures asked { IsAsked S.Store conn.old conn.new result }
-    ensures found { IsOnCleanDisk S.Store conn.new → IfOk result (λ some.
+    ensures found { IsClean S.Store conn.new → IfOk result (λ some.
         IsOfAll (λ rows. IsTrue some ↔ MeetsSome rows prefix.now) (state S.Store conn.old)) }
 {
     let first = address_bytes(prefix.first);
     let last = address_bytes(prefix.last());
     let found = ask(
         conn,
-        "SELECT 1 FROM holding WHERE family = ?1 AND lo <= ?3 AND hi >= ?2 LIMIT 1",
+        SELECT_OVERLAP,
         &run_values(prefix.family, &first, &last),
     )?;
     Ok(!found.is_empty())
@@ -54,15 +57,11 @@ pub(crate) fn some_overlap<S: Alter>(
 pub(crate) fn in_force_rows<S: Alter>(conn: &mut Connection<S>, day: Day) -> Result<Vec<Row>, Error>
     requires { IsReadyToAsk S.Store conn.old }
     ensures asked { IsAsked S.Store conn.old conn.new result }
-    ensures found { IsOnCleanDisk S.Store conn.new → IfOk result (λ rows.
+    ensures found { IsClean S.Store conn.new → IfOk result (λ rows.
         FindsInForce day (state S.Store conn.old).now rows.items) }
-    ensures each { IsOnCleanDisk S.Store conn.new → IfOk result (λ found.
+    ensures each { IsClean S.Store conn.new → IfOk result (λ found.
         IsOfAll (λ rows. (row : Row) → Contains found.items row ↔ IsPayloadOn rows day row)
         (state S.Store conn.old)) }
 {
-    ask(
-        conn,
-        "SELECT asn, family, lo, len, max FROM auth WHERE opens <= ?1 AND ends >= ?1",
-        &day_values(day),
-    )
+    ask(conn, SELECT_IN_FORCE, &day_values(day))
 }

@@ -1,3 +1,5 @@
+//! The authorizations of a holder, as rows of the table `auth`.
+ghost use Rattle.std.proofs.Common.{append-nil, append_assoc};
 ghost use Rattle.std.specs.Prelude.{[], ◌∷◌};
 ghost use Rattle.registry.specs.declared.change.Edit.TheVariants.{Withdraw, Amend};
 ghost use Rattle.registry.specs.Rows.{edited};
@@ -5,40 +7,25 @@ ghost use Rattle.store.specs.steps.RowEdits.{with_auths, without_auths};
 ghost use Rattle.database.specs.Statements.{IsReady, WhenClean, StaysInside};
 ghost use Rattle.store.specs.steps.Statements.{IfEdited};
 
+use crate::row::HolderRow;
 use addr::Name;
 use database::run;
 use registry::Auth;
 use sqlite::{Alter, Error, Transaction};
-use tables::{address_bytes, auth_values, number_values};
+use tables::{DELETE_AUTH, INSERT_AUTH, UPDATE_AUTH, address_bytes, auth_values, number_values};
 
-/// Puts an authorization of the holder.
-fn put_auth<S: Alter>(tx: &mut Transaction<'_, S>, holder: &Name, auth: &Auth) -> Result<(), Error>
-    requires { WhenClean S.Store IsReady tx.old }
-    ensures done { IfEdited S.Store result holder.now (with_auths (auth.now ∷ [])) tx.old tx.new }
-    ensures inside { StaysInside S.Store tx.old tx.new }
-{
-    let first = address_bytes(auth.prefix.first);
-    run(
-        tx,
-        "INSERT INTO auth (holder, number, asn, family, lo, len, max, opens, ends) VALUES (?1, ?2, ?3, ?4, ?5, ?6, ?7, ?8, ?9)",
-        &auth_values(holder, auth, &first),
-    )
-}
+impl HolderRow for Auth {
+    ghost added = { with_auths };
 
-/// Puts authorizations of the holder.
-pub(crate) fn put_auths<S: Alter>(
-    tx: &mut Transaction<'_, S>,
-    holder: &Name,
-    auths: &[Auth],
-) -> Result<(), Error>
-    requires { WhenClean S.Store IsReady tx.old }
-    ensures done { IfEdited S.Store result holder.now (with_auths auths.now) tx.old tx.new }
-    ensures inside { StaysInside S.Store tx.old tx.new }
-{
-    for auth in auths {
-        put_auth(tx, holder, auth)?;
+    ghost none_added = { λ r i. record r { auths = append-nil r.auths i } };
+
+    ghost one_more_added = { λ xs x r i.
+        record r { auths = append_assoc r.auths xs (x ∷ []) i } };
+
+    fn put<S: Alter>(&self, tx: &mut Transaction<'_, S>, holder: &Name) -> Result<(), Error> {
+        let first = address_bytes(self.prefix.first);
+        run(tx, INSERT_AUTH, &auth_values(holder, self, &first))
     }
-    Ok(())
 }
 
 /// Puts an authorization in the place of the one of its number, where there is one.
@@ -52,11 +39,7 @@ pub(crate) fn amend_auth<S: Alter>(
     ensures inside { StaysInside S.Store tx.old tx.new }
 {
     let first = address_bytes(auth.prefix.first);
-    run(
-        tx,
-        "UPDATE auth SET asn = ?3, family = ?4, lo = ?5, len = ?6, max = ?7, opens = ?8, ends = ?9 WHERE holder = ?1 AND number = ?2",
-        &auth_values(holder, auth, &first),
-    )
+    run(tx, UPDATE_AUTH, &auth_values(holder, auth, &first))
 }
 
 /// Takes away the authorization of this number, where there is one.
@@ -69,11 +52,7 @@ pub(crate) fn take_auth<S: Alter>(
     ensures done { IfEdited S.Store result holder.now (edited (Withdraw number)) tx.old tx.new }
     ensures inside { StaysInside S.Store tx.old tx.new }
 {
-    run(
-        tx,
-        "DELETE FROM auth WHERE holder = ?1 AND number = ?2",
-        &number_values(holder, number),
-    )
+    run(tx, DELETE_AUTH, &number_values(holder, number))
 }
 
 /// Takes away the authorizations of these numbers.

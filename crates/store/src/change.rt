@@ -1,3 +1,4 @@
+//! What a change does to the tables.
 ghost use Rattle.std.specs.Prelude.{◌≡◌, ◌≢◌, Err};
 ghost use Rattle.registry.specs.Rows.{edited, changed_by_one};
 ghost use Rattle.registry.specs.RowsOfAll.{changed_rows};
@@ -6,11 +7,12 @@ ghost use Rattle.database.specs.Statements.{IsReady, WhenClean, StaysInside, IfD
 ghost use Rattle.store.specs.steps.Statements.{IfEdited, MakesChange, each_holder};
 
 use crate::StoreFault;
-use crate::auth::{amend_auth, put_auths, take_auth, take_auths};
+use crate::auth::{amend_auth, take_auth, take_auths};
 use crate::exceptions::replace_exceptions;
-use crate::granted::{put_grant, take_grant};
+use crate::granted::take_grant;
 use crate::holder::{is_registered, register, set_created, set_granted};
-use crate::holding::{put_holdings, take_holdings};
+use crate::holding::take_holdings;
+use crate::row::{HolderRow, put_rows};
 use addr::{Name, Span};
 use registry::{Auth, Change, Edit, Granted, HolderChange};
 use sqlite::{Alter, Error, Transaction};
@@ -23,7 +25,7 @@ fn grant<S: Alter>(tx: &mut Transaction<'_, S>, holder: &Name, grant: &Granted) 
         (edited (Edit.Grant grant.now)) tx.old tx.new }
     ensures inside { StaysInside S.Store tx.old tx.new }
 {
-    put_grant(tx, holder, grant)?;
+    grant.put(tx, holder)?;
     set_granted(tx, holder, grant.number)
 }
 
@@ -39,7 +41,7 @@ fn create<S: Alter>(
         (with_new_auths auths.now created) tx.old tx.new }
     ensures inside { StaysInside S.Store tx.old tx.new }
 {
-    put_auths(tx, holder, auths)?;
+    put_rows(tx, holder, auths)?;
     set_created(tx, holder, created)
 }
 
@@ -58,7 +60,7 @@ fn hold<S: Alter>(
     ensures inside { StaysInside S.Store tx.old tx.new }
 {
     take_holdings(tx, holder, removed)?;
-    put_holdings(tx, holder, added)?;
+    put_rows(tx, holder, added)?;
     take_auths(tx, holder, ended)
 }
 
@@ -90,6 +92,7 @@ fn edit_rows<S: Alter>(
     Ok(())
 }
 
+/// Whether the edit is the registration of the holder.
 fn is_registration(edit: &Edit) -> bool
     ensures { result ≡ is_registration edit.now }
 {

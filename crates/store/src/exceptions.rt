@@ -8,7 +8,7 @@ ghost use Rattle.slurm.specs.declared.exceptions.TheConstants.{MOST_ENTRIES};
 ghost use Rattle.tables.specs.Cells.{exception_row};
 ghost use Rattle.tables.specs.Tables.{slurm};
 ghost use Rattle.tables.specs.declared.exception.Exception.{Exception as AnyException};
-ghost use Rattle.database.specs.Queries.{IsAsked, IsOnCleanDisk, IsReadyToAsk};
+ghost use Rattle.database.specs.Queries.{IsAsked, IsClean, IsReadyToAsk};
 ghost use Rattle.database.specs.Statements.{IsReady, WhenClean, IfDone, StaysInside};
 ghost use Rattle.database.specs.steps.Making.{PutsRows};
 ghost use Rattle.store.specs.Loads.{AreFilesOf};
@@ -22,7 +22,10 @@ use registry::Change;
 use slurm::{Filter, Slurm};
 use sqlite::{Alter, Connection, Error, Transaction};
 use std::alloc::Global;
-use tables::{Exception, ExceptionRow, FromRow, address_bytes, exception_first, exception_values};
+use tables::{
+    DELETE_EXCEPTIONS, Exception, ExceptionRow, FromRow, INSERT_EXCEPTION, SELECT_ASSERTIONS,
+    SELECT_FILTERS, address_bytes, exception_first, exception_values,
+};
 
 /// An entry of a SLURM file, which a row of the table of exceptions shows.
 pub(crate) trait Entry: FromRow {
@@ -51,7 +54,7 @@ impl Entry for Filter {
     }
 
     fn select() -> &'static str {
-        "SELECT family, lo, len, max, asn, position FROM slurm WHERE kind = 1 ORDER BY position"
+        SELECT_FILTERS
     }
 }
 
@@ -67,7 +70,7 @@ impl Entry for Vrp {
     }
 
     fn select() -> &'static str {
-        "SELECT asn, family, lo, len, max, position FROM slurm WHERE kind = 2 ORDER BY position"
+        SELECT_ASSERTIONS
     }
 }
 
@@ -77,7 +80,7 @@ fn take_exceptions<S: Alter>(tx: &mut Transaction<'_, S>) -> Result<(), Error>
     ensures done { IfDone S.Store result (TakesRows slurm.tree) tx.old tx.new }
     ensures inside { StaysInside S.Store tx.old tx.new }
 {
-    run(tx, "DELETE FROM slurm", &[])
+    run(tx, DELETE_EXCEPTIONS, &[])
 }
 
 /// Puts an exception.
@@ -88,11 +91,7 @@ fn put_exception<S: Alter>(tx: &mut Transaction<'_, S>, row: &ExceptionRow) -> R
     ensures inside { StaysInside S.Store tx.old tx.new }
 {
     let first = address_bytes(exception_first(&row.exception));
-    run(
-        tx,
-        "INSERT INTO slurm (file, kind, position, family, lo, len, max, asn) VALUES (?1, ?2, ?3, ?4, ?5, ?6, ?7, ?8)",
-        &exception_values(row, &first),
-    )
+    run(tx, INSERT_EXCEPTION, &exception_values(row, &first))
 }
 
 /// Puts the entries of one kind, at the positions from 1 up.
@@ -137,9 +136,9 @@ fn load_entries<T: Entry, S: Alter>(
 ) -> Result<Vec<T>, StoreFault>
     requires { IsReadyToAsk S.Store conn.old }
     ensures asked { IsAsked S.Store conn.old conn.new result }
-    ensures found { IsOnCleanDisk S.Store conn.new → IfOk result (λ entries.
+    ensures found { IsClean S.Store conn.new → IfOk result (λ entries.
         IsOfAll (λ rows. entries.items ≡ T.items rows.exceptions) (state S.Store conn.old)) }
-    ensures schema { IsOnCleanDisk S.Store conn.new → result ≡ Err StoreFault.Schema
+    ensures schema { IsClean S.Store conn.new → result ≡ Err StoreFault.Schema
         → WasRead (λ rows. ¬ All T.fits (T.items rows.exceptions)) (state S.Store conn.old) }
 {
     let rows = ask(conn, T::select(), &[])?;
@@ -173,9 +172,9 @@ pub(crate) fn load_files<S: Alter>(
 ) -> Result<Vec<Slurm>, StoreFault>
     requires { IsReadyToAsk S.Store conn.old }
     ensures asked { IsAsked S.Store conn.old conn.new result }
-    ensures found { IsOnCleanDisk S.Store conn.new → IfOk result (λ files.
+    ensures found { IsClean S.Store conn.new → IfOk result (λ files.
         IsOfAll (λ rows. AreFilesOf rows.exceptions files.items) (state S.Store conn.old)) }
-    ensures schema { IsOnCleanDisk S.Store conn.new → result ≡ Err StoreFault.Schema
+    ensures schema { IsClean S.Store conn.new → result ≡ Err StoreFault.Schema
         → WasRead (λ rows. ¬ ExceptionsFit rows.exceptions) (state S.Store conn.old) }
 {
     let filters: Vec<Filter> = load_entries(conn, alloc)?;

@@ -1,11 +1,14 @@
+//! The registered holders and their counters, as rows of the table `holder`.
 ghost use Rattle.store.specs.steps.RowEdits.{with_granted, with_created};
-ghost use Rattle.database.specs.Statements.{IsReady, WhenClean, StaysInside, IfDone, IfTold};
-ghost use Rattle.store.specs.steps.Statements.{IfEdited, TellsWhetherRegistered, Registers};
+ghost use Rattle.database.specs.Statements.{IsReady, WhenClean, StaysInside, IfDone, IfAnswered};
+ghost use Rattle.store.specs.steps.Statements.{IfEdited, AnswersWhetherRegistered, Registers};
 
 use addr::Name;
 use database::run;
 use sqlite::{Alter, Error, Transaction};
-use tables::{name_values, number_values};
+use tables::{
+    INSERT_HOLDER, SELECT_COUNTERS, UPDATE_CREATED, UPDATE_GRANTED, name_values, number_values,
+};
 
 /// Sets how many grants were made at the holder.
 pub(crate) fn set_granted<S: Alter>(
@@ -17,11 +20,7 @@ pub(crate) fn set_granted<S: Alter>(
     ensures done { IfEdited S.Store result holder.now (with_granted number) tx.old tx.new }
     ensures inside { StaysInside S.Store tx.old tx.new }
 {
-    run(
-        tx,
-        "UPDATE holder SET grants = ?2 WHERE name = ?1",
-        &number_values(holder, number),
-    )
+    run(tx, UPDATE_GRANTED, &number_values(holder, number))
 }
 
 /// Sets how many authorizations were made at the holder.
@@ -34,11 +33,7 @@ pub(crate) fn set_created<S: Alter>(
     ensures done { IfEdited S.Store result holder.now (with_created number) tx.old tx.new }
     ensures inside { StaysInside S.Store tx.old tx.new }
 {
-    run(
-        tx,
-        "UPDATE holder SET auths = ?2 WHERE name = ?1",
-        &number_values(holder, number),
-    )
+    run(tx, UPDATE_CREATED, &number_values(holder, number))
 }
 
 /// Whether the holder is registered.
@@ -47,13 +42,11 @@ pub(crate) fn is_registered<S: Alter>(
     holder: &Name,
 ) -> Result<bool, Error>
     requires { WhenClean S.Store IsReady tx.old }
-    ensures told { IfTold S.Store result (TellsWhetherRegistered holder.now) tx.old tx.new }
+    ensures answered { IfAnswered S.Store result
+        (AnswersWhetherRegistered holder.now) tx.old tx.new }
     ensures inside { StaysInside S.Store tx.old tx.new }
 {
-    let found = tx.query_all(
-        "SELECT grants, auths FROM holder WHERE name = ?1",
-        &name_values(holder),
-    )?;
+    let found = tx.query_all(SELECT_COUNTERS, &name_values(holder))?;
     Ok(!found.is_empty())
 }
 
@@ -63,9 +56,5 @@ pub(crate) fn register<S: Alter>(tx: &mut Transaction<'_, S>, holder: &Name) -> 
     ensures done { IfDone S.Store result (Registers holder.now) tx.old tx.new }
     ensures inside { StaysInside S.Store tx.old tx.new }
 {
-    run(
-        tx,
-        "INSERT INTO holder (name, grants, auths) VALUES (?1, 0, 0)",
-        &name_values(holder),
-    )
+    run(tx, INSERT_HOLDER, &name_values(holder))
 }

@@ -1,47 +1,33 @@
+//! The runs that a holder holds, as rows of the table `holding`.
+ghost use Rattle.std.proofs.Common.{append-nil, append_assoc};
 ghost use Rattle.std.specs.Prelude.{[], ◌∷◌};
 ghost use Rattle.store.specs.steps.RowEdits.{with_holdings, without_holdings};
 ghost use Rattle.database.specs.Statements.{IsReady, WhenClean, StaysInside};
 ghost use Rattle.store.specs.steps.Statements.{IfEdited};
 
+use crate::row::HolderRow;
 use addr::{Name, Span};
 use database::run;
 use sqlite::{Alter, Error, Transaction};
-use tables::{address_bytes, holding_values};
+use tables::{DELETE_HOLDING, INSERT_HOLDING, address_bytes, holding_values};
 
-/// Puts a run of addresses that the holder holds.
-fn put_holding<S: Alter>(
-    tx: &mut Transaction<'_, S>,
-    holder: &Name,
-    span: &Span,
-) -> Result<(), Error>
-    requires { WhenClean S.Store IsReady tx.old }
-    ensures done { IfEdited S.Store result holder.now
-        (with_holdings (span.now ∷ [])) tx.old tx.new }
-    ensures inside { StaysInside S.Store tx.old tx.new }
-{
-    let first = address_bytes(span.lo);
-    let last = address_bytes(span.hi);
-    run(
-        tx,
-        "INSERT INTO holding (family, lo, hi, holder) VALUES (?1, ?2, ?3, ?4)",
-        &holding_values(holder, span, &first, &last),
-    )
-}
+impl HolderRow for Span {
+    ghost added = { with_holdings };
 
-/// Puts runs of addresses that the holder holds.
-pub(crate) fn put_holdings<S: Alter>(
-    tx: &mut Transaction<'_, S>,
-    holder: &Name,
-    spans: &[Span],
-) -> Result<(), Error>
-    requires { WhenClean S.Store IsReady tx.old }
-    ensures done { IfEdited S.Store result holder.now (with_holdings spans.now) tx.old tx.new }
-    ensures inside { StaysInside S.Store tx.old tx.new }
-{
-    for span in spans {
-        put_holding(tx, holder, span)?;
+    ghost none_added = { λ r i. record r { holdings = append-nil r.holdings i } };
+
+    ghost one_more_added = { λ xs x r i.
+        record r { holdings = append_assoc r.holdings xs (x ∷ []) i } };
+
+    fn put<S: Alter>(&self, tx: &mut Transaction<'_, S>, holder: &Name) -> Result<(), Error> {
+        let first = address_bytes(self.lo);
+        let last = address_bytes(self.hi);
+        run(
+            tx,
+            INSERT_HOLDING,
+            &holding_values(holder, self, &first, &last),
+        )
     }
-    Ok(())
 }
 
 /// Takes away a run of addresses, where the holder holds it.
@@ -59,7 +45,7 @@ fn take_holding<S: Alter>(
     let last = address_bytes(span.hi);
     run(
         tx,
-        "DELETE FROM holding WHERE family = ?1 AND lo = ?2 AND hi = ?3 AND holder = ?4",
+        DELETE_HOLDING,
         &holding_values(holder, span, &first, &last),
     )
 }

@@ -1,6 +1,5 @@
 //! Laws over the definitions alone: each function's contract states one, and its body at most calls
 //! laws of `histories`.
-
 ghost use Rattle.store.specs.Laws.{AuthsOfHistoriesGive, ExceptionsOfHistoriesFit, HistoriesRead};
 ghost use Rattle.store.specs.Laws.{LoadsRowsOfHistories, MemoryIsHonest, RowsOfHistoriesFit};
 ghost use Rattle.store.specs.Laws.{TablesThatReadAreOurs};

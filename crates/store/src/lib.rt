@@ -10,6 +10,7 @@ mod holder;
 mod holding;
 pub mod laws;
 mod load;
+mod row;
 mod select;
 mod store;
 

@@ -1,3 +1,4 @@
+//! What is loaded from the tables.
 ghost use Rattle.std.specs.Prelude.{◌≡◌, ◌↔◌, map, All, Contains, Err, IfOk, IsPermutation, IsSorted};
 ghost use Rattle.sqlite.specs.Held.{state};
 ghost use Rattle.addr.specs.Spans.{AreMaximal};
@@ -6,7 +7,7 @@ ghost use Rattle.registry.specs.RowsOfAll.{IsGivenOn};
 ghost use Rattle.registry.specs.Values.{FitIfAny};
 ghost use Rattle.store.specs.Loads.{HaveSame, AreLoaded, AllGiveOn};
 ghost use Rattle.tables.specs.TablesHold.{items_if_any};
-ghost use Rattle.database.specs.Queries.{IsAsked, IsOnCleanDisk, IsReadyToAsk};
+ghost use Rattle.database.specs.Queries.{IsAsked, IsClean, IsReadyToAsk};
 ghost use Rattle.store.specs.steps.Queries.{IsOf, IsOfAll, WasRead};
 
 use crate::StoreFault;
@@ -28,7 +29,7 @@ fn joined(alloc: Global, spans: &[Span]) -> Result<Holdings, AllocError>
     for span in spans {
         holdings.add_span(span)?;
     }
-    // It tells the proof that the runs are maximal.
+    // Its clause is for the proof: the runs are maximal.
     let _ = holdings.spans();
     Ok(holdings)
 }
@@ -41,12 +42,12 @@ fn load_values<T: OfHolder, S: Alter>(
 ) -> Result<Vec<T>, StoreFault>
     requires { IsReadyToAsk S.Store conn.old }
     ensures asked { IsAsked S.Store conn.old conn.new result }
-    ensures found { IsOnCleanDisk S.Store conn.new → IfOk result (λ values.
+    ensures found { IsClean S.Store conn.new → IfOk result (λ values.
         IsOf (λ rows. IsPermutation (items_if_any T.items rows) values.items)
         holder.now (state S.Store conn.old)) }
-    ensures rising { IsOnCleanDisk S.Store conn.new → IfOk result (λ values.
+    ensures rising { IsClean S.Store conn.new → IfOk result (λ values.
         IsSorted T.order (map T.cells values.items)) }
-    ensures schema { IsOnCleanDisk S.Store conn.new → result ≡ Err StoreFault.Schema
+    ensures schema { IsClean S.Store conn.new → result ≡ Err StoreFault.Schema
         → WasRead (λ all. ¬ All T.fits (items_if_any T.items (all.of_holder holder.now)))
         (state S.Store conn.old) }
 {
@@ -62,9 +63,9 @@ pub(crate) fn load_rows<S: Alter>(
 ) -> Result<Option<HolderRows>, StoreFault>
     requires { IsReadyToAsk S.Store conn.old }
     ensures asked { IsAsked S.Store conn.old conn.new result }
-    ensures found { IsOnCleanDisk S.Store conn.new → IfOk result (λ loaded.
+    ensures found { IsClean S.Store conn.new → IfOk result (λ loaded.
         IsOf (λ rows. AreLoaded rows loaded) holder.now (state S.Store conn.old)) }
-    ensures schema { IsOnCleanDisk S.Store conn.new → result ≡ Err StoreFault.Schema
+    ensures schema { IsClean S.Store conn.new → result ≡ Err StoreFault.Schema
         → WasRead (λ all. ¬ FitIfAny (all.of_holder holder.now)) (state S.Store conn.old) }
 {
     let counters: Vec<Counters> = load_values(conn, alloc, holder)?;
@@ -91,10 +92,10 @@ pub(crate) fn load_vrps<S: Alter>(
 ) -> Result<Vec<Vrp>, StoreFault>
     requires { IsReadyToAsk S.Store conn.old }
     ensures asked { IsAsked S.Store conn.old conn.new result }
-    ensures found { IsOnCleanDisk S.Store conn.new → IfOk result (λ vrps.
+    ensures found { IsClean S.Store conn.new → IfOk result (λ vrps.
         IsOfAll (λ rows. (v : Vrp) → Contains vrps.items v ↔ IsGivenOn rows day v)
         (state S.Store conn.old)) }
-    ensures schema { IsOnCleanDisk S.Store conn.new → result ≡ Err StoreFault.Schema
+    ensures schema { IsClean S.Store conn.new → result ≡ Err StoreFault.Schema
         → WasRead (λ rows. ¬ AllGiveOn rows day) (state S.Store conn.old) }
 {
     let rows = in_force_rows(conn, day)?;

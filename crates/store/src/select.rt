@@ -1,4 +1,4 @@
-//! The values of a holder, and how they are asked for.
+//! The values of a holder, and the queries of them.
 ghost use Rattle.std.specs.Prelude.{List, [], ◌∷◌};
 ghost use Rattle.std.specs.declared.cmp.Ordering.{Ordering};
 ghost use Rattle.std.specs.declared.cmp.Ordering.TheVariants.{Equal};
@@ -9,7 +9,10 @@ ghost use Rattle.store.specs.steps.Queries.{Selects, by_column};
 
 use addr::Span;
 use registry::{Auth, Granted};
-use tables::{Counters, FromRow};
+use tables::{
+    Counters, FromRow, SELECT_COUNTERS, SELECT_HOLDER_AUTHS, SELECT_HOLDER_GRANTS,
+    SELECT_HOLDER_SPANS,
+};
 
 /// A value of a holder, which a row of one table shows.
 pub(crate) trait OfHolder: FromRow {
@@ -30,7 +33,7 @@ impl OfHolder for Span {
     ghost order = { then_cmp (by_column 0) (by_column 1) };
 
     fn select() -> &'static str {
-        "SELECT family, lo, hi FROM holding WHERE holder = ?1 ORDER BY family, lo"
+        SELECT_HOLDER_SPANS
     }
 }
 
@@ -40,7 +43,7 @@ impl OfHolder for Counters {
     ghost order = { λ _ _. Equal };
 
     fn select() -> &'static str {
-        "SELECT grants, auths FROM holder WHERE name = ?1"
+        SELECT_COUNTERS
     }
 }
 
@@ -50,7 +53,7 @@ impl OfHolder for Granted {
     ghost order = { by_column 0 };
 
     fn select() -> &'static str {
-        "SELECT number, caller, role, family, lo, len, until FROM granted WHERE holder = ?1 ORDER BY number"
+        SELECT_HOLDER_GRANTS
     }
 }
 
@@ -60,6 +63,6 @@ impl OfHolder for Auth {
     ghost order = { by_column 0 };
 
     fn select() -> &'static str {
-        "SELECT number, asn, family, lo, len, max, opens, ends FROM auth WHERE holder = ?1 ORDER BY number"
+        SELECT_HOLDER_AUTHS
     }
 }

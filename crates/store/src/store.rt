@@ -1,3 +1,4 @@
+//! The store: a connection to the tables of a desk, and its charter.
 ghost use Rattle.std.specs.Prelude.{◌≡◌, ◌≢◌, ◌↔◌, false, None, Err, OnOk, OnErr, IfOk, IsTrue};
 ghost use Rattle.sqlite.specs.Held.{state};
 ghost use Rattle.sqlite.specs.State.{HasCleanDisk};
@@ -14,7 +15,7 @@ use crate::change::make_change;
 use crate::exceptions::load_files;
 use crate::load::{load_rows, load_vrps};
 use addr::{Day, Name, Prefix, Vrp};
-use database::{make_desk, open_desk};
+use database::{make_tables, open_tables};
 use registry::{Change, Charter, HolderRows};
 use slurm::Slurm;
 use sqlite::{Alter, Connection, MemStore};
@@ -32,6 +33,7 @@ fn commit_change<S: Alter>(conn: &mut Connection<S>, change: &Change) -> Result<
     ensures crash { CommitsAtMost S.Store (MayCommit (changed_rows change.now)) conn.old conn.new }
     ensures no_schema { result ≢ Err StoreFault.Schema }
 {
+    // Its clause `settled` is for the proof: outside a transaction all that is shown is committed.
     let _idle = conn.is_autocommit();
     let mut tx = conn.transaction();
     make_change(&mut tx, change)?;
@@ -69,8 +71,8 @@ impl<S: Alter + Drop> Store<S> {
     ghost use Rattle.store.specs.StoreRows.{state_of, Holds, IfClean};
 
     /// A store over a connection to a database that has no table yet, with this charter, where no
-    /// holder is registered and no exception is in force. A connection in a transaction is refused, and a limit of its steps is
-    /// lifted.
+    /// holder is registered and no exception is in force. A connection in a transaction is refused,
+    /// and a limit of its steps is lifted.
     pub fn create_on(mut conn: Connection<S>, charter: &Charter) -> Result<Self, StoreFault>
         ensures charter { IfOk result (λ store. store.charter ≡ charter.now) }
         ensures rows { IfOk result (λ store. Holds S.Store store blank_rows) }
@@ -85,7 +87,7 @@ impl<S: Alter + Drop> Store<S> {
         ensures no_schema { result ≢ Err StoreFault.Schema }
     {
         let kept = charter.clone()?;
-        make_desk(&mut conn, charter)?;
+        make_tables(&mut conn, charter)?;
         Ok(Store {
             conn,
             charter: kept,
@@ -104,7 +106,8 @@ impl<S: Alter + Drop> Store<S> {
         ensures schema { IsHonest S.Store → result ≡ Err StoreFault.Schema
             → IsOfAnotherSchema (state S.Store conn).now }
     {
-        let charter = open_desk(&mut conn, alloc)?;
+        let charter = open_tables(&mut conn, alloc)?;
+        // Its clause `valid` is for the proof: the charter keeps its rules.
         let _rising = charter.operators();
         Ok(Store { conn, charter })
     }
@@ -152,10 +155,12 @@ impl<S: Alter> Store<S> {
         ensures read { IsRead S.Store self.old self.new }
         ensures found { IfClean S.Store self.new (IfOk result (λ both.
             OfHeldRows S.Store self.old (λ rows.
-            AreLoaded (rows.of_holder first.now) both.0 × AreLoaded (rows.of_holder second.now) both.1))) }
+            AreLoaded (rows.of_holder first.now) both.0
+            × AreLoaded (rows.of_holder second.now) both.1))) }
         ensures schema { IfClean S.Store self.new (result ≡ Err StoreFault.Schema
             → OfHeldRows S.Store self.old
-            (λ rows. ¬ (FitIfAny (rows.of_holder first.now) × FitIfAny (rows.of_holder second.now)))) }
+            (λ rows. ¬ (FitIfAny (rows.of_holder first.now)
+            × FitIfAny (rows.of_holder second.now)))) }
     {
         let one = self.load_holder(alloc, first)?;
         let other = self.load_holder(alloc, second)?;

@@ -18,7 +18,7 @@ use Rattle.registry.specs.declared.grant.Role.TheVariants.{Manager, Clerk, Audit
 use Rattle.registry.specs.declared.grant.Scope.{Scope}
 use Rattle.registry.specs.declared.grant.Scope.TheVariants.{All, Only}
 use Rattle.registry.specs.Rows.{Rows}
-use Rattle.tables.specs.declared.rows.Counters.{Counters}
+use Rattle.tables.specs.declared.holder.Counters.{Counters}
 use Rattle.tables.specs.Cells.{number_cell, family_number, role_number, address, prefix_cells, scope_cells, span_cells, counter_cells, grant_cells, auth_cells}
 use Rattle.tables.proofs.AddressBytes.{address_once}
 

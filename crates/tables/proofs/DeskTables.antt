@@ -35,7 +35,7 @@ desk_is_plain = All-from_recursion IsPlain desk_tables (
   ),
 )
 
--- the tables of a desk have their names, whatever stands beside them
+-- the tables of a desk have their names, whatever is beside them
 desk_names : (schema : Schema) → has_names (desk_beside schema) desk_tables ≡ true
 unfolding same_name
 desk_names schema = refl

@@ -1,4 +1,4 @@
--- What the statements of a desk mean over its tables, whatever indexes and views stand beside them. Each fact is
+-- What the statements of a desk mean over its tables, whatever indexes and views are beside them. Each fact is
 -- computed.
 use Rattle.std.proofs.Common.{◌≡◌, ℕ, zero, suc, pos, List, [], ◌∷◌, codes, false, refl, sym, ap, subst}
 use Rattle.sqlite_value.specs.declared.keys.Collation.TheVariants.{Binary}
@@ -15,6 +15,14 @@ use Rattle.sqlite.specs.Listing.{understood, reads_listing}
 use Rattle.sqlite.proofs.Callers.{IsPlain, command_of}
 use Rattle.sqlite_tied.specs.Compute.{everything}
 use Rattle.tables.specs.Tables.{desk_tables, desk_beside, OverDesk}
+use Rattle.tables.specs.declared.auth.TheConstants.{DELETE_AUTH, INSERT_AUTH, SELECT_HOLDER_AUTHS, SELECT_IN_FORCE, UPDATE_AUTH}
+use Rattle.tables.specs.declared.exception.TheConstants.{DELETE_EXCEPTIONS, INSERT_EXCEPTION, SELECT_ASSERTIONS, SELECT_FILTERS}
+use Rattle.tables.specs.declared.granted.TheConstants.{DELETE_GRANT, INSERT_GRANT, SELECT_HOLDER_GRANTS}
+use Rattle.tables.specs.declared.holder.TheConstants.{INSERT_HOLDER, SELECT_COUNTERS, UPDATE_CREATED, UPDATE_GRANTED}
+use Rattle.tables.specs.declared.holding.TheConstants.{DELETE_HOLDING, INSERT_HOLDING, SELECT_HOLDER_SPANS, SELECT_OVERLAP}
+use Rattle.tables.specs.declared.meta.TheConstants.{INSERT_SCHEMA}
+use Rattle.tables.specs.declared.operator.TheConstants.{INSERT_OPERATOR}
+use Rattle.tables.specs.declared.pool.TheConstants.{INSERT_PREFIX}
 use Rattle.tables.proofs.Selecting.{from_table, no_limit}
 
 -- a schema that has the tables of a desk
@@ -46,125 +54,74 @@ put_terms n = lit Null ∷ from n 0
     from zero at = []
     from (suc n) at = col 0 at ∷ from n (suc at)
 
-abbrev pub put_schema_text : List ℕ
-put_schema_text = codes "INSERT INTO meta (name, value) VALUES ('schema', 1)"
-
-pub put_schema_is : Means put_schema_text (Insert 0 (Values (lit Null ∷ lit (Text (codes "schema")) ∷ lit (Int (pos 1)) ∷ []) 3))
+pub put_schema_is : Means INSERT_SCHEMA.now (Insert 0 (Values (lit Null ∷ lit (Text (codes "schema")) ∷ lit (Int (pos 1)) ∷ []) 3))
 unfolding understood everything
 put_schema_is = record { is = λ s. refl; plain = λ s. (refl, refl); unlisted = λ s. refl }
 
-abbrev pub put_operator_text : List ℕ
-put_operator_text = codes "INSERT INTO operator (name) VALUES (?1)"
-
-pub put_operator_is : Means put_operator_text (Insert 1 (Values (put_terms 1) 2))
+pub put_operator_is : Means INSERT_OPERATOR.now (Insert 1 (Values (put_terms 1) 2))
 unfolding understood everything
 put_operator_is = record { is = λ s. refl; plain = λ s. (refl, refl); unlisted = λ s. refl }
 
-abbrev pub put_prefix_text : List ℕ
-put_prefix_text = codes "INSERT INTO pool (family, lo, len) VALUES (?1, ?2, ?3)"
-
-pub put_prefix_is : Means put_prefix_text (Insert 2 (Values (put_terms 3) 4))
+pub put_prefix_is : Means INSERT_PREFIX.now (Insert 2 (Values (put_terms 3) 4))
 unfolding understood everything
 put_prefix_is = record { is = λ s. refl; plain = λ s. (refl, refl); unlisted = λ s. refl }
 
-abbrev pub put_holder_text : List ℕ
-put_holder_text = codes "INSERT INTO holder (name, grants, auths) VALUES (?1, 0, 0)"
-
-pub put_holder_is : Means put_holder_text (Insert 3 (Values (lit Null ∷ col 0 0 ∷ lit (Int (pos 0)) ∷ lit (Int (pos 0)) ∷ []) 4))
+pub put_holder_is : Means INSERT_HOLDER.now (Insert 3 (Values (lit Null ∷ col 0 0 ∷ lit (Int (pos 0)) ∷ lit (Int (pos 0)) ∷ []) 4))
 unfolding understood everything
 put_holder_is = record { is = λ s. refl; plain = λ s. (refl, refl); unlisted = λ s. refl }
 
-abbrev pub put_holding_text : List ℕ
-put_holding_text = codes "INSERT INTO holding (family, lo, hi, holder) VALUES (?1, ?2, ?3, ?4)"
-
-pub put_holding_is : Means put_holding_text (Insert 4 (Values (put_terms 4) 5))
+pub put_holding_is : Means INSERT_HOLDING.now (Insert 4 (Values (put_terms 4) 5))
 unfolding understood everything
 put_holding_is = record { is = λ s. refl; plain = λ s. (refl, refl); unlisted = λ s. refl }
 
-abbrev pub put_granted_text : List ℕ
-put_granted_text = codes "INSERT INTO granted (holder, number, caller, role, family, lo, len, until) VALUES (?1, ?2, ?3, ?4, ?5, ?6, ?7, ?8)"
-
-pub put_granted_is : Means put_granted_text (Insert 5 (Values (put_terms 8) 9))
+pub put_granted_is : Means INSERT_GRANT.now (Insert 5 (Values (put_terms 8) 9))
 unfolding understood everything
 put_granted_is = record { is = λ s. refl; plain = λ s. (refl, refl); unlisted = λ s. refl }
 
-abbrev pub put_auth_text : List ℕ
-put_auth_text = codes "INSERT INTO auth (holder, number, asn, family, lo, len, max, opens, ends) VALUES (?1, ?2, ?3, ?4, ?5, ?6, ?7, ?8, ?9)"
-
-pub put_auth_is : Means put_auth_text (Insert 6 (Values (put_terms 9) 10))
+pub put_auth_is : Means INSERT_AUTH.now (Insert 6 (Values (put_terms 9) 10))
 unfolding understood everything
 put_auth_is = record { is = λ s. refl; plain = λ s. (refl, refl); unlisted = λ s. refl }
 
-abbrev pub take_holding_text : List ℕ
-take_holding_text = codes "DELETE FROM holding WHERE family = ?1 AND lo = ?2 AND hi = ?3 AND holder = ?4"
-
-pub take_holding_is : Means take_holding_text (Delete 4 (record { lets = []; body = from_table 8 (equals 1 0 ∷ equals 2 1 ∷ equals 3 2 ∷ equals 4 3 ∷ []) (col 1 0 ∷ []) [] no_limit }))
+pub take_holding_is : Means DELETE_HOLDING.now (Delete 4 (record { lets = []; body = from_table 8 (equals 1 0 ∷ equals 2 1 ∷ equals 3 2 ∷ equals 4 3 ∷ []) (col 1 0 ∷ []) [] no_limit }))
 unfolding understood everything
 take_holding_is = record { is = λ s. refl; plain = λ s. (refl, refl); unlisted = λ s. refl }
 
-abbrev pub take_granted_text : List ℕ
-take_granted_text = codes "DELETE FROM granted WHERE holder = ?1 AND number = ?2"
-
-pub take_granted_is : Means take_granted_text (Delete 5 (record { lets = []; body = from_table 10 (equals 1 0 ∷ equals 2 1 ∷ []) (col 1 0 ∷ []) [] no_limit }))
+pub take_granted_is : Means DELETE_GRANT.now (Delete 5 (record { lets = []; body = from_table 10 (equals 1 0 ∷ equals 2 1 ∷ []) (col 1 0 ∷ []) [] no_limit }))
 unfolding understood everything
 take_granted_is = record { is = λ s. refl; plain = λ s. (refl, refl); unlisted = λ s. refl }
 
-abbrev pub take_auth_text : List ℕ
-take_auth_text = codes "DELETE FROM auth WHERE holder = ?1 AND number = ?2"
-
-pub take_auth_is : Means take_auth_text (Delete 6 (record { lets = []; body = from_table 12 (equals 1 0 ∷ equals 2 1 ∷ []) (col 1 0 ∷ []) [] no_limit }))
+pub take_auth_is : Means DELETE_AUTH.now (Delete 6 (record { lets = []; body = from_table 12 (equals 1 0 ∷ equals 2 1 ∷ []) (col 1 0 ∷ []) [] no_limit }))
 unfolding understood everything
 take_auth_is = record { is = λ s. refl; plain = λ s. (refl, refl); unlisted = λ s. refl }
 
-abbrev pub set_grants_text : List ℕ
-set_grants_text = codes "UPDATE holder SET grants = ?2 WHERE name = ?1"
-
-pub set_grants_is : Means set_grants_text (Update 3 (record { lets = []; body = from_table 6 (equals 1 0 ∷ []) (col 1 0 ∷ col 1 0 ∷ col 1 1 ∷ col 0 1 ∷ col 1 3 ∷ []) [] no_limit }))
+pub set_grants_is : Means UPDATE_GRANTED.now (Update 3 (record { lets = []; body = from_table 6 (equals 1 0 ∷ []) (col 1 0 ∷ col 1 0 ∷ col 1 1 ∷ col 0 1 ∷ col 1 3 ∷ []) [] no_limit }))
 unfolding understood everything
 set_grants_is = record { is = λ s. refl; plain = λ s. (refl, refl); unlisted = λ s. refl }
 
-abbrev pub set_auths_text : List ℕ
-set_auths_text = codes "UPDATE holder SET auths = ?2 WHERE name = ?1"
-
-pub set_auths_is : Means set_auths_text (Update 3 (record { lets = []; body = from_table 6 (equals 1 0 ∷ []) (col 1 0 ∷ col 1 0 ∷ col 1 1 ∷ col 1 2 ∷ col 0 1 ∷ []) [] no_limit }))
+pub set_auths_is : Means UPDATE_CREATED.now (Update 3 (record { lets = []; body = from_table 6 (equals 1 0 ∷ []) (col 1 0 ∷ col 1 0 ∷ col 1 1 ∷ col 1 2 ∷ col 0 1 ∷ []) [] no_limit }))
 unfolding understood everything
 set_auths_is = record { is = λ s. refl; plain = λ s. (refl, refl); unlisted = λ s. refl }
-
-abbrev pub amend_text : List ℕ
-amend_text = codes "UPDATE auth SET asn = ?3, family = ?4, lo = ?5, len = ?6, max = ?7, opens = ?8, ends = ?9 WHERE holder = ?1 AND number = ?2"
 
 abbrev pub amend_sets : List Term
 amend_sets = col 1 1 ∷ col 1 2 ∷ col 0 2 ∷ col 0 3 ∷ col 0 4 ∷ col 0 5 ∷ col 0 6 ∷ col 0 7 ∷ col 0 8 ∷ []
 
-pub amend_is : Means amend_text (Update 6 (record { lets = []; body = from_table 12 (equals 1 0 ∷ equals 2 1 ∷ []) (col 1 0 ∷ col 1 0 ∷ amend_sets) [] no_limit }))
+pub amend_is : Means UPDATE_AUTH.now (Update 6 (record { lets = []; body = from_table 12 (equals 1 0 ∷ equals 2 1 ∷ []) (col 1 0 ∷ col 1 0 ∷ amend_sets) [] no_limit }))
 unfolding understood everything
 amend_is = record { is = λ s. refl; plain = λ s. (refl, refl); unlisted = λ s. refl }
 
-abbrev pub counters_text : List ℕ
-counters_text = codes "SELECT grants, auths FROM holder WHERE name = ?1"
-
-pub counters_is : Means counters_text (Select (record { lets = []; body = from_table 6 (equals 1 0 ∷ []) (col 1 2 ∷ col 1 3 ∷ []) [] no_limit }) (codes "grants" ∷ codes "auths" ∷ []))
+pub counters_is : Means SELECT_COUNTERS.now (Select (record { lets = []; body = from_table 6 (equals 1 0 ∷ []) (col 1 2 ∷ col 1 3 ∷ []) [] no_limit }) (codes "grants" ∷ codes "auths" ∷ []))
 unfolding understood everything
 counters_is = record { is = λ s. refl; plain = λ s. (refl, refl); unlisted = λ s. refl }
 
-abbrev pub spans_text : List ℕ
-spans_text = codes "SELECT family, lo, hi FROM holding WHERE holder = ?1 ORDER BY family, lo"
-
-pub spans_is : Means spans_text (Select (record { lets = []; body = from_table 8 (equals 4 0 ∷ []) (col 1 1 ∷ col 1 2 ∷ col 1 3 ∷ []) (upwards 1 ∷ upwards 2 ∷ []) no_limit }) (codes "family" ∷ codes "lo" ∷ codes "hi" ∷ []))
+pub spans_is : Means SELECT_HOLDER_SPANS.now (Select (record { lets = []; body = from_table 8 (equals 4 0 ∷ []) (col 1 1 ∷ col 1 2 ∷ col 1 3 ∷ []) (upwards 1 ∷ upwards 2 ∷ []) no_limit }) (codes "family" ∷ codes "lo" ∷ codes "hi" ∷ []))
 unfolding understood everything
 spans_is = record { is = λ s. refl; plain = λ s. (refl, refl); unlisted = λ s. refl }
 
-abbrev pub grants_text : List ℕ
-grants_text = codes "SELECT number, caller, role, family, lo, len, until FROM granted WHERE holder = ?1 ORDER BY number"
-
-pub grants_is : Means grants_text (Select (record { lets = []; body = from_table 10 (equals 1 0 ∷ []) (col 1 2 ∷ col 1 3 ∷ col 1 4 ∷ col 1 5 ∷ col 1 6 ∷ col 1 7 ∷ col 1 8 ∷ []) (upwards 2 ∷ []) no_limit }) (codes "number" ∷ codes "caller" ∷ codes "role" ∷ codes "family" ∷ codes "lo" ∷ codes "len" ∷ codes "until" ∷ []))
+pub grants_is : Means SELECT_HOLDER_GRANTS.now (Select (record { lets = []; body = from_table 10 (equals 1 0 ∷ []) (col 1 2 ∷ col 1 3 ∷ col 1 4 ∷ col 1 5 ∷ col 1 6 ∷ col 1 7 ∷ col 1 8 ∷ []) (upwards 2 ∷ []) no_limit }) (codes "number" ∷ codes "caller" ∷ codes "role" ∷ codes "family" ∷ codes "lo" ∷ codes "len" ∷ codes "until" ∷ []))
 unfolding understood everything
 grants_is = record { is = λ s. refl; plain = λ s. (refl, refl); unlisted = λ s. refl }
 
-abbrev pub auths_text : List ℕ
-auths_text = codes "SELECT number, asn, family, lo, len, max, opens, ends FROM auth WHERE holder = ?1 ORDER BY number"
-
-pub auths_is : Means auths_text (Select (record { lets = []; body = from_table 12 (equals 1 0 ∷ []) (col 1 2 ∷ col 1 3 ∷ col 1 4 ∷ col 1 5 ∷ col 1 6 ∷ col 1 7 ∷ col 1 8 ∷ col 1 9 ∷ []) (upwards 2 ∷ []) no_limit }) (codes "number" ∷ codes "asn" ∷ codes "family" ∷ codes "lo" ∷ codes "len" ∷ codes "max" ∷ codes "opens" ∷ codes "ends" ∷ []))
+pub auths_is : Means SELECT_HOLDER_AUTHS.now (Select (record { lets = []; body = from_table 12 (equals 1 0 ∷ []) (col 1 2 ∷ col 1 3 ∷ col 1 4 ∷ col 1 5 ∷ col 1 6 ∷ col 1 7 ∷ col 1 8 ∷ col 1 9 ∷ []) (upwards 2 ∷ []) no_limit }) (codes "number" ∷ codes "asn" ∷ codes "family" ∷ codes "lo" ∷ codes "len" ∷ codes "max" ∷ codes "opens" ∷ codes "ends" ∷ []))
 unfolding understood everything
 auths_is = record { is = λ s. refl; plain = λ s. (refl, refl); unlisted = λ s. refl }
 
@@ -172,10 +129,7 @@ auths_is = record { is = λ s. refl; plain = λ s. (refl, refl); unlisted = λ s
 abbrev pub overlap_tests : List Term
 overlap_tests = equals 1 0 ∷ op2 (Compare Le Binary) (col 1 2) (col 0 2) ∷ op2 (Compare Ge Binary) (col 1 3) (col 0 1) ∷ []
 
-abbrev pub overlap_text : List ℕ
-overlap_text = codes "SELECT 1 FROM holding WHERE family = ?1 AND lo <= ?3 AND hi >= ?2 LIMIT 1"
-
-pub overlap_is : Means overlap_text (Select (record { lets = []; body = from_table 8 overlap_tests (lit (Int (pos 1)) ∷ []) [] (lit (Int (pos 1))) }) (codes "1" ∷ []))
+pub overlap_is : Means SELECT_OVERLAP.now (Select (record { lets = []; body = from_table 8 overlap_tests (lit (Int (pos 1)) ∷ []) [] (lit (Int (pos 1))) }) (codes "1" ∷ []))
 unfolding understood everything
 overlap_is = record { is = λ s. refl; plain = λ s. (refl, refl); unlisted = λ s. refl }
 
@@ -183,24 +137,15 @@ overlap_is = record { is = λ s. refl; plain = λ s. (refl, refl); unlisted = λ
 abbrev pub in_force_tests : List Term
 in_force_tests = op2 (Compare Le Binary) (col 1 8) (col 0 0) ∷ op2 (Compare Ge Binary) (col 1 9) (col 0 0) ∷ []
 
-abbrev pub in_force_text : List ℕ
-in_force_text = codes "SELECT asn, family, lo, len, max FROM auth WHERE opens <= ?1 AND ends >= ?1"
-
-pub in_force_is : Means in_force_text (Select (record { lets = []; body = from_table 12 in_force_tests (col 1 3 ∷ col 1 4 ∷ col 1 5 ∷ col 1 6 ∷ col 1 7 ∷ []) [] no_limit }) (codes "asn" ∷ codes "family" ∷ codes "lo" ∷ codes "len" ∷ codes "max" ∷ []))
+pub in_force_is : Means SELECT_IN_FORCE.now (Select (record { lets = []; body = from_table 12 in_force_tests (col 1 3 ∷ col 1 4 ∷ col 1 5 ∷ col 1 6 ∷ col 1 7 ∷ []) [] no_limit }) (codes "asn" ∷ codes "family" ∷ codes "lo" ∷ codes "len" ∷ codes "max" ∷ []))
 unfolding understood everything
 in_force_is = record { is = λ s. refl; plain = λ s. (refl, refl); unlisted = λ s. refl }
 
-abbrev pub take_exceptions_text : List ℕ
-take_exceptions_text = codes "DELETE FROM slurm"
-
-pub take_exceptions_is : Means take_exceptions_text (Delete 7 (record { lets = []; body = from_table 15 [] (col 1 0 ∷ []) [] no_limit }))
+pub take_exceptions_is : Means DELETE_EXCEPTIONS.now (Delete 7 (record { lets = []; body = from_table 15 [] (col 1 0 ∷ []) [] no_limit }))
 unfolding understood everything
 take_exceptions_is = record { is = λ s. refl; plain = λ s. (refl, refl); unlisted = λ s. refl }
 
-abbrev pub put_exception_text : List ℕ
-put_exception_text = codes "INSERT INTO slurm (file, kind, position, family, lo, len, max, asn) VALUES (?1, ?2, ?3, ?4, ?5, ?6, ?7, ?8)"
-
-pub put_exception_is : Means put_exception_text (Insert 7 (Values (put_terms 8) 9))
+pub put_exception_is : Means INSERT_EXCEPTION.now (Insert 7 (Values (put_terms 8) 9))
 unfolding understood everything
 put_exception_is = record { is = λ s. refl; plain = λ s. (refl, refl); unlisted = λ s. refl }
 
@@ -208,16 +153,10 @@ put_exception_is = record { is = λ s. refl; plain = λ s. (refl, refl); unliste
 abbrev pub kind_tests : ℕ → List Term
 kind_tests kind = op2 (Compare Eq Binary) (col 1 2) (lit (Int (pos kind))) ∷ []
 
-abbrev pub filters_text : List ℕ
-filters_text = codes "SELECT family, lo, len, max, asn, position FROM slurm WHERE kind = 1 ORDER BY position"
-
-pub filters_is : Means filters_text (Select (record { lets = []; body = from_table 15 (kind_tests 1) (col 1 4 ∷ col 1 5 ∷ col 1 6 ∷ col 1 7 ∷ col 1 8 ∷ col 1 3 ∷ []) (upwards 3 ∷ []) no_limit }) (codes "family" ∷ codes "lo" ∷ codes "len" ∷ codes "max" ∷ codes "asn" ∷ codes "position" ∷ []))
+pub filters_is : Means SELECT_FILTERS.now (Select (record { lets = []; body = from_table 15 (kind_tests 1) (col 1 4 ∷ col 1 5 ∷ col 1 6 ∷ col 1 7 ∷ col 1 8 ∷ col 1 3 ∷ []) (upwards 3 ∷ []) no_limit }) (codes "family" ∷ codes "lo" ∷ codes "len" ∷ codes "max" ∷ codes "asn" ∷ codes "position" ∷ []))
 unfolding understood everything
 filters_is = record { is = λ s. refl; plain = λ s. (refl, refl); unlisted = λ s. refl }
 
-abbrev pub assertions_text : List ℕ
-assertions_text = codes "SELECT asn, family, lo, len, max, position FROM slurm WHERE kind = 2 ORDER BY position"
-
-pub assertions_is : Means assertions_text (Select (record { lets = []; body = from_table 15 (kind_tests 2) (col 1 8 ∷ col 1 4 ∷ col 1 5 ∷ col 1 6 ∷ col 1 7 ∷ col 1 3 ∷ []) (upwards 3 ∷ []) no_limit }) (codes "asn" ∷ codes "family" ∷ codes "lo" ∷ codes "len" ∷ codes "max" ∷ codes "position" ∷ []))
+pub assertions_is : Means SELECT_ASSERTIONS.now (Select (record { lets = []; body = from_table 15 (kind_tests 2) (col 1 8 ∷ col 1 4 ∷ col 1 5 ∷ col 1 6 ∷ col 1 7 ∷ col 1 3 ∷ []) (upwards 3 ∷ []) no_limit }) (codes "asn" ∷ codes "family" ∷ codes "lo" ∷ codes "len" ∷ codes "max" ∷ codes "position" ∷ []))
 unfolding understood everything
 assertions_is = record { is = λ s. refl; plain = λ s. (refl, refl); unlisted = λ s. refl }

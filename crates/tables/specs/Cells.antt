@@ -67,7 +67,7 @@ auth_cells x =
     number_cell x.number ∷ number_cell x.asn.0 ∷ prefix_cells x.prefix
     ++ number_cell x.max ∷ number_cell x.from ∷ number_cell x.until ∷ []
 
--- the one row of the table `meta`, which tells the schema, and a row of the table `operator`
+-- the one row of the table `meta`, which has the number of the schema, and a row of the table `operator`
 abbrev pub schema_row : Row
 schema_row = Text (codes "schema") ∷ number_cell 1 ∷ []
 

@@ -30,8 +30,8 @@ abbrev pub has_columns : Table → List Column → Bool
 has_columns table columns = list_all (λ c. is_some (column_named table c.name)) columns
 
 -- a table of this table's name, with its columns, is among these
-abbrev pub is_among : Table → List Table → Bool
-is_among table tables =
+abbrev pub is_table_among : Table → List Table → Bool
+is_table_among table tables =
     list_any (λ found. same_name found.name table.name && has_columns found table.columns) tables
 
 -- it belongs to a table of this name that SQL here does not reach
@@ -45,7 +45,7 @@ is_out_of_reach name views = list_any (is_of_table name) views
 -- The table is there, by its name and those of its columns. The columns of a table out of reach are
 -- not known.
 abbrev pub has_table : Schema → Table → Bool
-has_table schema table = is_among table schema.tables || is_out_of_reach table.name schema.views
+has_table schema table = is_table_among table schema.tables || is_out_of_reach table.name schema.views
 
 -- all of these tables are there
 abbrev pub has_names : Schema → List Table → Bool

@@ -19,11 +19,11 @@ use Rattle.sqlite_schema.specs.declared.schema.Schema.{Schema}
 use Rattle.sqlite_schema.specs.declared.schema.Table.{Table}
 
 -- a column that is NOT NULL, and one that may be NULL
-abbrev pub required : List ℕ → Kind → Column
-required name kind = record { name = name; kind = kind; is_strict = true; not_null = true; default = Null; collation = Binary }
+abbrev pub required_column : List ℕ → Kind → Column
+required_column name kind = record { name = name; kind = kind; is_strict = true; not_null = true; default = Null; collation = Binary }
 
-abbrev pub optional : List ℕ → Kind → Column
-optional name kind = record { name = name; kind = kind; is_strict = true; not_null = false; default = Null; collation = Binary }
+abbrev pub optional_column : List ℕ → Kind → Column
+optional_column name kind = record { name = name; kind = kind; is_strict = true; not_null = false; default = Null; collation = Binary }
 
 -- every column of a key is sorted upwards
 abbrev pub rising : Order
@@ -65,46 +65,46 @@ abbrev pub keyed : List ℕ → ℕ → List Column → List ℕ → List Refere
 keyed name tree columns primary references = strict name tree columns primary (primary ∷ []) (rising ∷ []) references
 
 abbrev pub meta : Table
-meta = keyed (codes "meta") 0 (required (codes "name") Text ∷ required (codes "value") Integer ∷ []) (1 ∷ []) []
+meta = keyed (codes "meta") 0 (required_column (codes "name") Text ∷ required_column (codes "value") Integer ∷ []) (1 ∷ []) []
 
 abbrev pub operator : Table
-operator = keyed (codes "operator") 2 (required (codes "name") Text ∷ []) (1 ∷ []) []
+operator = keyed (codes "operator") 2 (required_column (codes "name") Text ∷ []) (1 ∷ []) []
 
 abbrev pub pool : Table
 pool = keyed (codes "pool") 4
-    (required (codes "family") Integer ∷ required (codes "lo") Blob ∷ required (codes "len") Integer ∷ [])
+    (required_column (codes "family") Integer ∷ required_column (codes "lo") Blob ∷ required_column (codes "len") Integer ∷ [])
     (1 ∷ 2 ∷ 3 ∷ []) []
 
 abbrev pub holder : Table
 holder = keyed (codes "holder") 6
-    (required (codes "name") Text ∷ required (codes "grants") Integer ∷ required (codes "auths") Integer ∷ [])
+    (required_column (codes "name") Text ∷ required_column (codes "grants") Integer ∷ required_column (codes "auths") Integer ∷ [])
     (1 ∷ []) []
 
 abbrev pub holding : Table
 holding = keyed (codes "holding") 8
-    (required (codes "family") Integer ∷ required (codes "lo") Blob ∷ required (codes "hi") Blob
-    ∷ required (codes "holder") Text ∷ [])
+    (required_column (codes "family") Integer ∷ required_column (codes "lo") Blob ∷ required_column (codes "hi") Blob
+    ∷ required_column (codes "holder") Text ∷ [])
     (1 ∷ 2 ∷ []) (names_holder 4 ∷ [])
 
 abbrev pub granted : Table
 granted = keyed (codes "granted") 10
-    (required (codes "holder") Text ∷ required (codes "number") Integer ∷ required (codes "caller") Text
-    ∷ required (codes "role") Integer ∷ optional (codes "family") Integer ∷ optional (codes "lo") Blob
-    ∷ optional (codes "len") Integer ∷ required (codes "until") Integer ∷ [])
+    (required_column (codes "holder") Text ∷ required_column (codes "number") Integer ∷ required_column (codes "caller") Text
+    ∷ required_column (codes "role") Integer ∷ optional_column (codes "family") Integer ∷ optional_column (codes "lo") Blob
+    ∷ optional_column (codes "len") Integer ∷ required_column (codes "until") Integer ∷ [])
     (1 ∷ 2 ∷ []) (names_holder 1 ∷ [])
 
 abbrev pub auth : Table
 auth = strict (codes "auth") 12
-    (required (codes "holder") Text ∷ required (codes "number") Integer ∷ required (codes "asn") Integer
-    ∷ required (codes "family") Integer ∷ required (codes "lo") Blob ∷ required (codes "len") Integer
-    ∷ required (codes "max") Integer ∷ required (codes "opens") Integer ∷ required (codes "ends") Integer ∷ [])
+    (required_column (codes "holder") Text ∷ required_column (codes "number") Integer ∷ required_column (codes "asn") Integer
+    ∷ required_column (codes "family") Integer ∷ required_column (codes "lo") Blob ∷ required_column (codes "len") Integer
+    ∷ required_column (codes "max") Integer ∷ required_column (codes "opens") Integer ∷ required_column (codes "ends") Integer ∷ [])
     (1 ∷ 2 ∷ []) ((1 ∷ 2 ∷ []) ∷ (3 ∷ 4 ∷ 5 ∷ 6 ∷ 7 ∷ []) ∷ []) (rising ∷ rising ∷ []) (names_holder 1 ∷ [])
 
 abbrev pub slurm : Table
 slurm = keyed (codes "slurm") 15
-    (required (codes "file") Text ∷ required (codes "kind") Integer ∷ required (codes "position") Integer
-    ∷ optional (codes "family") Integer ∷ optional (codes "lo") Blob ∷ optional (codes "len") Integer
-    ∷ optional (codes "max") Integer ∷ optional (codes "asn") Integer ∷ [])
+    (required_column (codes "file") Text ∷ required_column (codes "kind") Integer ∷ required_column (codes "position") Integer
+    ∷ optional_column (codes "family") Integer ∷ optional_column (codes "lo") Blob ∷ optional_column (codes "len") Integer
+    ∷ optional_column (codes "max") Integer ∷ optional_column (codes "asn") Integer ∷ [])
     (1 ∷ 2 ∷ 3 ∷ []) []
 
 -- the index of a key, which SQLite makes
@@ -152,7 +152,7 @@ unindexed_schema = record { tables = desk_tables; indexes = key_indexes; views =
 abbrev pub desk_beside : Schema → Schema
 desk_beside s = record s { tables = desk_tables }
 
--- it is so of the tables of a desk, whatever indexes and views stand beside them
+-- it is so of the tables of a desk, whatever indexes and views are beside them
 abbrev pub OverDesk : (Schema → Type 0) → Type 0
 OverDesk so = (s : Schema) → so (desk_beside s)
 

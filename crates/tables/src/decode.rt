@@ -38,7 +38,8 @@ pub(crate) fn cell(row: &Row, at: usize) -> ValueRef<'_>
     row.get_ref(at).unwrap_or(ValueRef::Null)
 }
 
-pub(crate) fn number_in(value: ValueRef<'_>) -> Option<u32>
+/// A number below 2 ^ 32.
+pub(crate) fn u32_in(value: ValueRef<'_>) -> Option<u32>
     ensures { Decodes number_cell IsU32 (owned value.entry) result }
 {
     match value {
@@ -51,7 +52,7 @@ pub(crate) fn number_in(value: ValueRef<'_>) -> Option<u32>
 pub(crate) fn count_in(value: ValueRef<'_>) -> Option<u32>
     ensures { Decodes number_cell IsCount (owned value.entry) result }
 {
-    let count = number_in(value)?;
+    let count = u32_in(value)?;
     (count <= LAST_NUMBER).then_some(count)
 }
 
@@ -63,6 +64,7 @@ pub(crate) fn given_number_in(value: ValueRef<'_>) -> Option<u32>
     (number >= 1).then_some(number)
 }
 
+/// A number below 256.
 pub(crate) fn byte_in(value: ValueRef<'_>) -> Option<u8>
     ensures { Decodes number_cell IsU8 (owned value.entry) result }
 {
@@ -72,12 +74,14 @@ pub(crate) fn byte_in(value: ValueRef<'_>) -> Option<u8>
     }
 }
 
+/// A day, by its number.
 pub(crate) fn day_in(value: ValueRef<'_>) -> Option<Day>
     ensures { Decodes number_cell IsDay (owned value.entry) result }
 {
-    Day::from_number(number_in(value)?)
+    Day::from_number(u32_in(value)?)
 }
 
+/// A family, by its number.
 fn family_in(value: ValueRef<'_>) -> Option<Family>
     ensures { Decodes (λ family. number_cell (family_number family)) (λ _. ⊤)
         (owned value.entry) result }
@@ -89,6 +93,7 @@ fn family_in(value: ValueRef<'_>) -> Option<Family>
     }
 }
 
+/// A role, by its number.
 pub(crate) fn role_in(value: ValueRef<'_>) -> Option<Role>
     ensures { Decodes (λ role. number_cell (role_number role)) (λ _. ⊤) (owned value.entry) result }
 {
@@ -100,6 +105,7 @@ pub(crate) fn role_in(value: ValueRef<'_>) -> Option<Role>
     }
 }
 
+/// The name of a holder, a caller or an operator.
 pub(crate) fn name_in(value: ValueRef<'_>) -> Option<Name>
     ensures { Decodes Text (λ text. IsTrue (is_name text)) (owned value.entry) result }
 {
@@ -109,6 +115,7 @@ pub(crate) fn name_in(value: ValueRef<'_>) -> Option<Name>
     }
 }
 
+/// An address, as a number.
 fn number_of_address_in(value: ValueRef<'_>) -> Option<u128>
     ensures { Decodes (λ number. Blob (address number)) (λ _. ⊤) (owned value.entry) result }
 {
@@ -118,6 +125,7 @@ fn number_of_address_in(value: ValueRef<'_>) -> Option<u128>
     }
 }
 
+/// The prefix that three columns show.
 pub(crate) fn prefix_in(
     family: ValueRef<'_>,
     first: ValueRef<'_>,
@@ -140,6 +148,7 @@ pub(crate) fn max_length_in(prefix: &Prefix, value: ValueRef<'_>) -> Option<u8>
     prefix.fits_max_length(max).then_some(max)
 }
 
+/// The scope that three columns show, which are NULL where it is all prefixes.
 pub(crate) fn scope_in(
     family: ValueRef<'_>,
     first: ValueRef<'_>,
@@ -154,6 +163,7 @@ pub(crate) fn scope_in(
     }
 }
 
+/// The run of addresses that three columns show.
 pub(crate) fn span_in(family: ValueRef<'_>, lo: ValueRef<'_>, hi: ValueRef<'_>) -> Option<Span>
     ensures { Decodes span_cells (λ _. ⊤)
         (owned family.entry ∷ owned lo.entry ∷ owned hi.entry ∷ []) result }
@@ -164,12 +174,14 @@ pub(crate) fn span_in(family: ValueRef<'_>, lo: ValueRef<'_>, hi: ValueRef<'_>) 
     Span::from_parts(family, lo, hi)
 }
 
+/// An AS number.
 pub(crate) fn asn_in(value: ValueRef<'_>) -> Option<Asn>
     ensures { Decodes (λ asn. number_cell asn.0) (λ asn. IsU32 asn.0) (owned value.entry) result }
 {
-    Some(Asn(number_in(value)?))
+    Some(Asn(u32_in(value)?))
 }
 
+/// The VRP that five columns show.
 pub(crate) fn vrp_in(
     asn: ValueRef<'_>,
     family: ValueRef<'_>,

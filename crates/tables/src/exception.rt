@@ -1,4 +1,4 @@
-//! The rows of the table `slurm`: the exceptions of the SLURM file in force.
+//! The table `slurm`: the exceptions of the SLURM file in force.
 ghost use Rattle.std.specs.Prelude.{◌≡◌, ◌↔◌, [], ◌∷◌, codes, IsTrue};
 ghost use Rattle.sqlite.specs.Values.{bound};
 ghost use Rattle.registry.specs.Values.{FilterFits};
@@ -10,11 +10,37 @@ ghost use Rattle.tables.specs.Tables.{columns};
 
 use crate::FromRow;
 use crate::cells::prefix_values;
-use crate::decode::{asn_in, cell, number_in, prefix_in, vrp_in};
+use crate::decode::{asn_in, cell, prefix_in, u32_in, vrp_in};
 use addr::Vrp;
 use slurm::Filter;
 use sqlite::Row;
 use sqlite::types::{ToSql, ValueRef};
+
+/// Makes the table.
+pub const CREATE_SLURM: &str = "\
+    CREATE TABLE slurm (file TEXT NOT NULL, kind INTEGER NOT NULL, position INTEGER NOT NULL, \
+    family INTEGER, lo BLOB, len INTEGER, max INTEGER, asn INTEGER, \
+    PRIMARY KEY (file, kind, position)) STRICT";
+
+/// Puts an exception.
+pub const INSERT_EXCEPTION: &str = "\
+    INSERT INTO slurm (file, kind, position, family, lo, len, max, asn) \
+    VALUES (?1, ?2, ?3, ?4, ?5, ?6, ?7, ?8)";
+
+/// Takes all exceptions away.
+pub const DELETE_EXCEPTIONS: &str = "DELETE FROM slurm";
+
+/// The prefix filters, in the file's order.
+pub const SELECT_FILTERS: &str = "\
+    SELECT family, lo, len, max, asn, position FROM slurm WHERE kind = 1 ORDER BY position";
+
+/// The prefix assertions, in the file's order.
+pub const SELECT_ASSERTIONS: &str = "\
+    SELECT asn, family, lo, len, max, position FROM slurm WHERE kind = 2 ORDER BY position";
+
+/// All exceptions, and their rowids.
+pub const SELECT_ALL_EXCEPTIONS: &str = "\
+    SELECT file, kind, position, family, lo, len, max, asn, rowid FROM slurm ORDER BY rowid";
 
 /// A prefix filter or a prefix assertion.
 #[derive(Clone, Copy, Debug, PartialEq, Eq)]
@@ -77,10 +103,11 @@ fn is_main(file: ValueRef<'_>) -> bool
     }
 }
 
+/// The place of an exception among those of its kind.
 fn position_in(value: ValueRef<'_>) -> Option<u32>
     ensures { Decodes number_cell IsPosition (owned value.entry) result }
 {
-    match number_in(value)? {
+    match u32_in(value)? {
         0 => None,
         position => Some(position),
     }
@@ -100,6 +127,7 @@ fn exception_in(row: &Row) -> Option<Exception>
     }
 }
 
+/// The prefix filter that the columns show.
 fn filter_in(
     family: ValueRef<'_>,
     first: ValueRef<'_>,
@@ -136,6 +164,7 @@ pub fn exception_first(exception: &Exception) -> u128
     }
 }
 
+/// The columns of a prefix filter, with the bytes of the first address of its prefix.
 fn filter_values<'a>(filter: &Filter, first: &'a [u8]) -> [ValueRef<'a>; 5]
     requires { first.now ≡ address (filter_first filter.now) }
     ensures { bound result ≡ filter_cells filter.now }
@@ -159,6 +188,7 @@ fn filter_values<'a>(filter: &Filter, first: &'a [u8]) -> [ValueRef<'a>; 5]
     }
 }
 
+/// The columns of a prefix assertion, with the bytes of the first address of its prefix.
 fn assertion_values<'a>(vrp: &Vrp, first: &'a [u8]) -> [ValueRef<'a>; 5]
     requires { first.now ≡ address vrp.now.prefix.first }
     ensures { bound result ≡ assertion_cells vrp.now }
@@ -173,7 +203,7 @@ fn assertion_values<'a>(vrp: &Vrp, first: &'a [u8]) -> [ValueRef<'a>; 5]
     ]
 }
 
-/// A row of `slurm`, with the bytes of the first address of its prefix.
+/// A row of the table, with the bytes of the first address of its prefix.
 pub fn exception_values<'a>(row: &ExceptionRow, first: &'a [u8]) -> [ValueRef<'a>; 8]
     requires { first.now ≡ address (exception_first row.now.exception) }
     ensures { bound result ≡ exception_row row.now }

@@ -11,7 +11,7 @@ use sqlite_value::value::{Bytes, Value};
 
 /// A part of a schema.
 trait Same {
-    // What is compared. A part that is not plain is told to be another one, whatever it is.
+    // What is compared. A part that is not plain is never the same.
     ghost plain: { Self → Type 0 };
 
     fn is_same(&self, other: &Self) -> bool

@@ -14,13 +14,13 @@ use Rattle.database.specs.Statements.{IsReady}
 
 -- The schema that the first statements make: each of the eight first a table, of which `auth` has two keys and every
 -- other has one, and the ninth the index of a holder's runs.
-abbrev pub so_far : ℕ → Schema
-so_far n = record { tables = take n desk_tables; indexes = take (if nat_le n 6 then n else suc n) desk_indexes; views = [] }
+abbrev pub schema_so_far : ℕ → Schema
+schema_so_far n = record { tables = take n desk_tables; indexes = take (if nat_le n 6 then n else suc n) desk_indexes; views = [] }
 
 -- a transaction in which the first statements made tables, which have no row
 pub record IsMadeTo (n : ℕ) (s : State) : Type 0 where
   pub inside : s.in_transaction ≡ true
-  pub schema : s.now.schema ≡ so_far n
+  pub schema : s.now.schema ≡ schema_so_far n
   pub empty : AllByRecursion (λ t. s.now.trees t.tree ≡ []) (take n desk_tables)
 
 -- a transaction over a desk without the index of a holder's runs

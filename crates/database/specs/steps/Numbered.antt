@@ -18,9 +18,9 @@ abbrev pub last_value : Row → Value
 last_value c = column c (length c - 1)
 
 -- both are integers, and the first is below the second
-abbrev pub is_below : Value → Value → Bool
-is_below (Int m) (Int n) = is_lt (int_cmp m n)
-is_below _ _ = false
+abbrev pub is_integer_below : Value → Value → Bool
+is_integer_below (Int m) (Int n) = is_lt (int_cmp m n)
+is_integer_below _ _ = false
 
 -- the rows end in integers, of which no two are equal
 abbrev pub Rise : List Row → Type 0
@@ -29,12 +29,12 @@ Rise rows =
     × AllByRecursion (λ c. is_int (last_value c) ≡ true) rows
 
 -- these columns of a row of a tree, and its rowid
-abbrev pub numbered : List ℕ → Row → Row
-numbered places r = columns places (drop 1 r) ++ rowid r ∷ []
+abbrev pub columns_and_rowid : List ℕ → Row → Row
+columns_and_rowid places r = columns places (drop 1 r) ++ rowid r ∷ []
 
 -- over the tables of a desk the text, which has no parameter, answers these rows
-abbrev pub AreAnswered : List ℕ → Database → List Row → Type 0
-AreAnswered sql db rows = Reads (command_of (understood (desk_beside db.schema) sql)) db [] rows
+abbrev pub AnswersRows : List ℕ → Database → List Row → Type 0
+AnswersRows sql db rows = Reads (command_of (understood (desk_beside db.schema) sql)) db [] rows
 
 -- The text selects these columns of all rows of a table, which are so many, and the rowids after them. It reads the tables alone.
 pub record SelectsAll (width tree : ℕ) (places : List ℕ) (sql : List ℕ) : Type 0 where
@@ -42,8 +42,8 @@ pub record SelectsAll (width tree : ℕ) (places : List ℕ) (sql : List ℕ) : 
   pub plain : OverDesk (λ s. IsPlain (understood s sql))
   pub unlisted : OverDesk (λ s. reads_listing s sql ≡ false)
   pub found :
-      (db : Database) (rows : List Row) → AreAnswered sql db rows
-      → IsPermutation (map (numbered places) (db.trees tree)) rows
+      (db : Database) (rows : List Row) → AnswersRows sql db rows
+      → IsPermutation (map (columns_and_rowid places) (db.trees tree)) rows
 
 -- these columns of all rows of a table
 abbrev pub shown_in : ℕ → List ℕ → Database → List Row

@@ -21,9 +21,9 @@ pub record ShowsEach (tree : ℕ) (places : List ℕ) (So : Row → Type 0) (db 
   pub whole : IsTree (db.trees tree)
   pub each : AllByRecursion So (shown_in tree places db)
 
--- the row that tells this schema, and no other
-abbrev pub TellsSchema : Database → Type 0
-TellsSchema = ShowsRows meta.tree (0 ∷ 1 ∷ []) (schema_row ∷ [])
+-- the row that has the number of this schema, and no other
+abbrev pub ShowsSchema : Database → Type 0
+ShowsSchema = ShowsRows meta.tree (0 ∷ 1 ∷ []) (schema_row ∷ [])
 
 pub record ShowsCharter (charter : CharterSets) (db : Database) : Type 0 where
   pub operators : ShowsRows operator.tree (0 ∷ []) (map operator_row charter.operators) db

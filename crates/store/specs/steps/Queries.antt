@@ -25,7 +25,7 @@ use Rattle.tables.specs.Cells.{number_cell, prefix_cells}
 use Rattle.tables.specs.Decode.{first_columns}
 use Rattle.tables.specs.Tables.{desk_beside, OverDesk, contents, columns}
 use Rattle.tables.specs.TablesHold.{TablesHold, items_if_any, auth_part}
-use Rattle.database.specs.steps.Numbered.{AreAnswered}
+use Rattle.database.specs.steps.Numbered.{AnswersRows}
 
 -- it is so of all rows, and of those of one holder, whatever charter and rows the tables hold
 abbrev pub IsOfAll : (AllRows → Type 0) → State → Type 0
@@ -79,7 +79,7 @@ pub record SelectsEntries
   pub plain : OverDesk (λ s. IsPlain (understood s sql))
   pub unlisted : OverDesk (λ s. reads_listing s sql ≡ false)
   pub found :
-      (db : Database) (rows : List Row) → AreAnswered sql db rows
+      (db : Database) (rows : List Row) → AnswersRows sql db rows
       → (charter : CharterSets) (all : AllRows) → TablesHold charter all db.trees
       → map (first_columns width) rows ≡ map cells (items all.exceptions)
   pub once : (x y : X) → cells x ≡ cells y → x ≡ y

@@ -15,8 +15,8 @@ with_holdings spans r = record r { holdings = r.holdings ++ spans }
 abbrev pub without_holdings : List Span → Rows → Rows
 without_holdings spans r = record r { holdings = without_runs spans r.holdings }
 
-abbrev pub with_grant : Granted → Rows → Rows
-with_grant g r = record r { grants = r.grants ++ g ∷ [] }
+abbrev pub with_grants : List Granted → Rows → Rows
+with_grants gs r = record r { grants = r.grants ++ gs }
 
 abbrev pub with_auths : List Auth → Rows → Rows
 with_auths xs r = record r { auths = r.auths ++ xs }

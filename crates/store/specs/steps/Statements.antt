@@ -46,13 +46,13 @@ abbrev pub IfEdited : {S X E : Type 0} (g : Ghosts S) → Result X E → List �
 IfEdited g result h edit = IfDone g result (EditsHolder h edit)
 
 -- the answer is whether the holder is registered, and nothing changes
-pub record TellsWhetherRegistered (h : List ℕ) (told : Bool) (old new : State) : Type 0 where
+pub record AnswersWhetherRegistered (h : List ℕ) (is_there : Bool) (old new : State) : Type 0 where
   pub was_open : IsTrue old.is_open
   pub ready : IsReady new
   pub same : new.now ≡ old.now
   pub answer :
       (charter : CharterSets) (rows : AllRows) → TablesHold charter rows old.now.trees
-      → told ≡ is_some (rows.of_holder h)
+      → is_there ≡ is_some (rows.of_holder h)
 
 -- the transaction goes on, and the holder is registered, if it was not
 pub record Registers (h : List ℕ) (old new : State) : Type 0 where

@@ -1,8 +1,12 @@
 use Rattle.std.proofs.Common.{arith, refl}
 use Rattle.std.proofs.lemmas.Result.{on_ok_weaker}
 use Rattle.tables.specs.Tables.{meta, operator, pool, holder}
+use Rattle.tables.specs.declared.holder.TheConstants.{CREATE_HOLDER}
+use Rattle.tables.specs.declared.meta.TheConstants.{CREATE_META}
+use Rattle.tables.specs.declared.operator.TheConstants.{CREATE_OPERATOR}
+use Rattle.tables.specs.declared.pool.TheConstants.{CREATE_POOL}
 use Rattle.database.proofs.MakingSteps.{makes}
-use Rattle.database.proofs.Creates.{meta_text, meta_defined, operator_text, operator_defined, pool_text, pool_defined, holder_text, holder_defined}
+use Rattle.database.proofs.Creates.{meta_defined, operator_defined, pool_defined, holder_defined}
 use Rattle.database.proofs.StatementLemmas.{stays_then}
 use Rattle.database.proofs.making.make_first_tables.Goals as goal
 
@@ -18,10 +22,10 @@ returns-clause-made g c clean =
     let before_3 = c.run-3.ensures.inside.survives.clean in
     let before_2 = c.run-2.ensures.inside.survives.clean in
     let start = c.requires (omega (arith, c.run.ensures.inside.survives.clean, before_2, before_3, before_4)) in
-    let made_1 = makes 0 meta_text meta meta_defined refl _ _ start (c.in_ok-run.ensures.ran (omega (arith, before_2, before_3, before_4))) in
-    let made_2 = makes 1 operator_text operator operator_defined refl _ _ made_1 (c.in_ok-run-2.ensures.ran (omega (arith, before_3, before_4))) in
-    let made_3 = makes 2 pool_text pool pool_defined refl _ _ made_2 (c.in_ok-run-3.ensures.ran (omega (arith, before_4))) in
-    on_ok_weaker c.run-4.result (makes 3 holder_text holder holder_defined refl _ _ made_3) (c.run-4.ensures.ran clean)
+    let made_1 = makes 0 CREATE_META.now meta meta_defined refl _ _ start (c.in_ok-run.ensures.ran (omega (arith, before_2, before_3, before_4))) in
+    let made_2 = makes 1 CREATE_OPERATOR.now operator operator_defined refl _ _ made_1 (c.in_ok-run-2.ensures.ran (omega (arith, before_3, before_4))) in
+    let made_3 = makes 2 CREATE_POOL.now pool pool_defined refl _ _ made_2 (c.in_ok-run-3.ensures.ran (omega (arith, before_4))) in
+    on_ok_weaker c.run-4.result (makes 3 CREATE_HOLDER.now holder holder_defined refl _ _ made_3) (c.run-4.ensures.ran clean)
 
 pub returns-clause-inside : goal.returns-clause-inside
 returns-clause-inside g c =

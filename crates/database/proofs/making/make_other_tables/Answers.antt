@@ -1,8 +1,12 @@
 use Rattle.std.proofs.Common.{arith, refl}
 use Rattle.std.proofs.lemmas.Result.{on_ok_weaker}
 use Rattle.tables.specs.Tables.{holding, granted, auth, slurm}
+use Rattle.tables.specs.declared.auth.TheConstants.{CREATE_AUTH}
+use Rattle.tables.specs.declared.exception.TheConstants.{CREATE_SLURM}
+use Rattle.tables.specs.declared.granted.TheConstants.{CREATE_GRANTED}
+use Rattle.tables.specs.declared.holding.TheConstants.{CREATE_HOLDING}
 use Rattle.database.proofs.MakingSteps.{makes}
-use Rattle.database.proofs.Creates.{holding_text, holding_defined, granted_text, granted_defined, auth_text, auth_defined, slurm_text, slurm_defined}
+use Rattle.database.proofs.Creates.{holding_defined, granted_defined, auth_defined, slurm_defined}
 use Rattle.database.proofs.StatementLemmas.{stays_then}
 use Rattle.database.proofs.making.make_other_tables.Goals as goal
 
@@ -18,10 +22,10 @@ returns-clause-made g c clean =
     let before_3 = c.run-3.ensures.inside.survives.clean in
     let before_2 = c.run-2.ensures.inside.survives.clean in
     let start = c.requires (omega (arith, c.run.ensures.inside.survives.clean, before_2, before_3, before_4)) in
-    let made_1 = makes 4 holding_text holding holding_defined refl _ _ start (c.in_ok-run.ensures.ran (omega (arith, before_2, before_3, before_4))) in
-    let made_2 = makes 5 granted_text granted granted_defined refl _ _ made_1 (c.in_ok-run-2.ensures.ran (omega (arith, before_3, before_4))) in
-    let made_3 = makes 6 auth_text auth auth_defined refl _ _ made_2 (c.in_ok-run-3.ensures.ran (omega (arith, before_4))) in
-    on_ok_weaker c.run-4.result (makes 7 slurm_text slurm slurm_defined refl _ _ made_3) (c.run-4.ensures.ran clean)
+    let made_1 = makes 4 CREATE_HOLDING.now holding holding_defined refl _ _ start (c.in_ok-run.ensures.ran (omega (arith, before_2, before_3, before_4))) in
+    let made_2 = makes 5 CREATE_GRANTED.now granted granted_defined refl _ _ made_1 (c.in_ok-run-2.ensures.ran (omega (arith, before_3, before_4))) in
+    let made_3 = makes 6 CREATE_AUTH.now auth auth_defined refl _ _ made_2 (c.in_ok-run-3.ensures.ran (omega (arith, before_4))) in
+    on_ok_weaker c.run-4.result (makes 7 CREATE_SLURM.now slurm slurm_defined refl _ _ made_3) (c.run-4.ensures.ran clean)
 
 pub returns-clause-inside : goal.returns-clause-inside
 returns-clause-inside g c =

@@ -18,14 +18,14 @@ ask_all-requires-clause-plain g c = selects_meta.plain
 pub ask_all-requires-clause-unlisted : goal.ask_all-requires-clause-unlisted
 ask_all-requires-clause-unlisted g c = selects_meta.unlisted
 
-pub returns-then-not-some_tells_schema-clause-schema :
-    goal.returns-then-not-some_tells_schema-clause-schema
-returns-then-not-some_tells_schema-clause-schema g c clean is read =
+pub returns-then-not-some_shows_schema-clause-schema :
+    goal.returns-then-not-some_shows_schema-clause-schema
+returns-then-not-some_shows_schema-clause-schema g c clean is read =
     let db = (state g.S.Store c.args.conn.now).now in
     let rows = c.in_ok-rows.rows.items in
     let same = shown_of 2 (0 ∷ 1 ∷ []) (db.trees 0) rows refl (selects_meta.found db rows (c.in_ok-rows.ensures.answered clean)) in
     let some = some_from_has (first_columns 2) rows schema_row (has_permuted _ _ schema_row same (schema_in db read)) in
-    both_ways _ c.if-not-some_tells_schema.true (c.some_tells_schema.ensures.1 (rw c.deref.ensures.value some))
+    both_ways _ c.if-not-some_shows_schema.true (c.some_shows_schema.ensures.1 (rw c.deref.ensures.value some))
 
 pub returns-clause-found : goal.returns-clause-found
 returns-clause-found g c clean =
@@ -33,7 +33,7 @@ returns-clause-found g c clean =
     let rows = c.in_ok-rows.rows.items in
     let found = selects_meta.found db rows (c.in_ok-rows.ensures.answered clean) in
     let same = shown_of 2 (0 ∷ 1 ∷ []) (db.trees 0) rows refl found in
-    let some = has_some (first_columns 2) rows schema_row (rw c.deref.ensures.value at (c.some_tells_schema.ensures.0 c.if-not-some_tells_schema.false)) in
+    let some = has_some (first_columns 2) rows schema_row (rw c.deref.ensures.value at (c.some_shows_schema.ensures.0 c.if-not-some_shows_schema.false)) in
     let one : length (map (first_columns 2) rows) ≡ 1 = omega (arith, c.len.ensures, c.if-len-ne1.false, c.in_ok-rows.rows.ok.0, length-map rows (first_columns 2)) in
     record {
       whole = tree_of (0 ∷ 1 ∷ []) (db.trees 0) rows found c.in_ok-rows.ensures.rise;

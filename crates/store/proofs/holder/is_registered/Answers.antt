@@ -1,7 +1,7 @@
 use Rattle.std.proofs.Common.{arith, inl}
 use Rattle.sqlite.proofs.InsideLemmas.{unchanged_keeps}
 use Rattle.database.specs.Statements.{state_in}
-use Rattle.store.proofs.HolderSteps.{asked, told}
+use Rattle.store.proofs.HolderSteps.{asked, registered_if_found}
 use Rattle.database.proofs.QueryLemmas.{kept_inside}
 use Rattle.store.proofs.holder.is_registered.Goals as goal
 
@@ -12,10 +12,10 @@ returns-in_err-found-clause-inside g c = record {
   survives = c.query_all.ensures.survives;
 }
 
-pub returns-clause-told : goal.returns-clause-told
-returns-clause-told g c clean =
+pub returns-clause-answered : goal.returns-clause-answered
+returns-clause-answered g c clean =
     let ready = c.requires (omega (arith, c.query_all.ensures.survives.clean)) in
-    told c.args.holder.now (state_in g.S.Store c.args.tx.now) (state_in g.S.Store c.query_all.new.self) ready c.in_ok-found.found.items c.is_empty.result c.in_ok-found.found.len
+    registered_if_found c.args.holder.now (state_in g.S.Store c.args.tx.now) (state_in g.S.Store c.query_all.new.self) ready c.in_ok-found.found.items c.is_empty.result c.in_ok-found.found.len
     c.in_ok-found.found.ok.0 c.is_empty.ensures (rw c.name_values.ensures at (c.in_ok-found.ensures.ok clean))
 
 pub returns-clause-inside : goal.returns-clause-inside

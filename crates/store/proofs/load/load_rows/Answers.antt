@@ -13,8 +13,8 @@ use Rattle.store.proofs.load.load_rows.Goals as goal
 pub returns-in_err-counters-clause-schema : goal.returns-in_err-counters-clause-schema
 returns-in_err-counters-clause-schema g c clean is =
     let old = state g.S.Store c.args.conn.now in
-    let told = c.load_values.ensures.schema clean (refused_by c.load_values.result c.from_residual.result c.in_err-counters.field-0.0 c.in_err-counters.was c.from_residual.ensures.1 is) in
-    never_fit CountersFit counters_of_rows counters_fit c.args.holder.now old old told.0 refl told
+    let refused = c.load_values.ensures.schema clean (refused_by c.load_values.result c.from_residual.result c.in_err-counters.field-0.0 c.in_err-counters.was c.from_residual.ensures.1 is) in
+    never_fit CountersFit counters_of_rows counters_fit c.args.holder.now old old refused.0 refl refused
 
 pub returns-in_default-clause-found : goal.returns-in_default-clause-found
 returns-in_default-clause-found g c clean charter all holds =

@@ -1,6 +1,6 @@
 use Rattle.std.proofs.Common.{sym, ap, ◌∙◌, not}
 use Rattle.std.proofs.Math.Bool.{not-not}
-use Rattle.database.proofs.opening.judge.Goals as goal
+use Rattle.database.proofs.opening.check_database.Goals as goal
 
 pub returns-clause-idle : goal.returns-clause-idle
 returns-clause-idle g c =
