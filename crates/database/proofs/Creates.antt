@@ -1,5 +1,5 @@
 -- The statements that make the tables of a desk, one on the other. Each fact is computed.
-use Rattle.std.proofs.Common.{◌≡◌, ℕ, List, codes, false, Ok, refl}
+use Rattle.std.proofs.Common.{◌≡◌, ℕ, List, false, Ok, refl}
 use Rattle.sqlite.specs.Compile.{table_defined_by, index_defined_by}
 use Rattle.sqlite.specs.Change.{created, indexed, next_tree}
 use Rattle.sqlite.specs.Does.{lacks_sequence}
