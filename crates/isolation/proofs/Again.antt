@@ -28,7 +28,7 @@ use Rattle.isolation.proofs.Agree.{Agree, AgreeIfNamed, agree-sym, agree-active,
 use Rattle.isolation.proofs.Grown.{exceptions_stay}
 use Rattle.isolation.proofs.Judged.{active_alike}
 use Rattle.isolation.proofs.Present.{created_has, not_made_again, imports_repeat}
-use Rattle.isolation.proofs.Parts.{since_left, agree-unnamed, agree-later}
+use Rattle.isolation.proofs.Parts.{since_unchanged, agree-unnamed, agree-later}
 
 -- a prefix has an address
 first_address : (p : Prefix) → (a : Address) × (has_address p a ≡ true)
@@ -108,7 +108,7 @@ amended_again history before then day by caller holder n max until same =
       granted = refl;
       terms = cond-true _ _ _ itself ∙ ap (map f) made ∙ map_twice f (amended_twice n max until) (authorization_terms before holder) ∙ sym made;
       created = refl;
-      since = since_left (entry day caller (Amend holder n max until)) history holder (λ a. refl) refl;
+      since = since_unchanged (entry day caller (Amend holder n max until)) history holder (λ a. refl) refl;
     }
 
 -- the authorization that was withdrawn is not active

@@ -35,22 +35,22 @@ record StillAgrees (charter : Charter) (h : List ℕ) (before after : History) :
   legal : IsLegal charter after
   agree : Agree after before h
 
-grown-left : {X : Type 0} (charter : Charter) (holder : List ℕ) (day : ℕ) (caller : List ℕ) (judges : Judging X) → MakeAt charter holder day caller judges
+grown-agrees : {X : Type 0} (charter : Charter) (holder : List ℕ) (day : ℕ) (caller : List ℕ) (judges : Judging X) → MakeAt charter holder day caller judges
     → (h : List ℕ) → same_name holder h ≡ false → (before : History) (xs : List X) (after : History) → IsLegal charter before
     → Grows judges day caller before xs after → StillAgrees charter h before after
-grown-left {X} charter holder day caller judges make h other before xs after legal grows =
+grown-agrees {X} charter holder day caller judges make h other before xs after legal grows =
     grown-keeps judges day caller (λ x. Unit {0}) (StillAgrees charter h before) step before xs after (All-every (λ (x : X). Unit {0}) (λ x. tt) xs)
     (record { legal = legal; agree = agree-same before h }) grows
   where
     step : (history : History) (x : X) (c : Command) → Unit {0} → judges history x (Ok (Some c)) → StillAgrees charter h before history
         → StillAgrees charter h before (record { day = day; caller = caller; command = c } ∷ history)
-    step history x c some is left =
+    step history x c some is still =
         let e : Entry = record { day = day; caller = caller; command = c } in
         let made = make history x c is in
         let unnamed : names_holder h c ≡ false = names_made made h ∙ ap (λ b. b || b) other in
         record {
-          legal = (made.accepted, left.legal);
-          agree = agree-trans (agree-unnamed charter e history h made.accepted unnamed) left.agree;
+          legal = (made.accepted, still.legal);
+          agree = agree-trans (agree-unnamed charter e history h made.accepted unnamed) still.agree;
         }
 
 -- parts bring no file
@@ -62,25 +62,25 @@ grown-exceptions {X} charter holder day caller judges make before xs after grows
     (λ history x c some is same. same ∙ sym (exceptions_stay c (exceptions_in_force history) (make history x c is).file))
     before xs after (All-every (λ (x : X). Unit {0}) (λ x. tt) xs) refl grows
 
-rows_left : {one other : History} {h : List ℕ} → Agree other one h → (rows : Option Rows) → RowsIfAny one h rows ↔ RowsIfAny other h rows
-rows_left same rows = (agree-rows (agree-sym same) rows, agree-rows same rows)
+rows_alike : {one other : History} {h : List ℕ} → Agree other one h → (rows : Option Rows) → RowsIfAny one h rows ↔ RowsIfAny other h rows
+rows_alike same rows = (agree-rows (agree-sym same) rows, agree-rows same rows)
 
 pub others_keep_rows : OthersKeepRows
 others_keep_rows charter before day caller (Import holder rows) after h held legal leaves unnamed =
     let other = (or_parts (same_name holder h) (same_name holder h) unnamed).0 in
-    let left = grown-left charter holder day caller (JudgesRow charter day caller holder) (rows-make charter day caller holder)
+    let still = grown-agrees charter holder day caller (JudgesRow charter day caller holder) (rows-make charter day caller holder)
     h other before rows.items after legal leaves in
-    rows_left left.agree held
+    rows_alike still.agree held
 others_keep_rows charter before day caller c after h held legal leaves unnamed =
     let e : Entry = record { day = day; caller = caller; command = c } in
     subst (λ (later : History). RowsIfAny before h held ↔ RowsIfAny later h held) (sym leaves.1)
-    (rows_left (agree-unnamed charter e before h leaves.0 unnamed) held)
+    (rows_alike (agree-unnamed charter e before h leaves.0 unnamed) held)
 
 pub hypothetical_keeps_others : HypotheticalKeepsOthers
 hypothetical_keeps_others charter day caller holder before changes after legal would =
     let judges = JudgesChange charter day caller holder in
     let make = changes-make charter day caller holder in
     record {
-      others = λ h rows other. rows_left (grown-left charter holder day caller judges make h other before changes after legal would).agree rows;
+      others = λ h rows other. rows_alike (grown-agrees charter holder day caller judges make h other before changes after legal would).agree rows;
       exceptions = grown-exceptions charter holder day caller judges make before changes after would;
     }

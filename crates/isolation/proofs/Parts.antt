@@ -44,10 +44,10 @@ leaves_held charter before day caller (Import holder rows) h accepted other othe
 leaves_held charter before day caller _ h accepted other other_taker a = refl
 
 -- where a holder keeps what it holds and none is made, the same authorizations are held since their making
-pub since_left : (e : Entry) (before : History) (h : List ℕ) → LeavesHeld e before h
+pub since_unchanged : (e : Entry) (before : History) (h : List ℕ) → LeavesHeld e before h
     → authorizations_made (e ∷ before) h ≡ authorizations_made before h
     → (x : Auth) → 0 < x.number → HeldSinceMade (e ∷ before) h x ↔ HeldSinceMade before h x
-since_left e before h holders created x positive = (
+since_unchanged e before h holders created x positive = (
   λ since. since.1,
   λ since. (
     λ made. λ p is a has. held_by_same h (resource_holder before a) (resource_holder (e ∷ before) a) (holders a)
@@ -71,7 +71,7 @@ agree-unnamed charter e before h accepted unnamed =
       granted = same.2;
       terms = same.3;
       created = same.4;
-      since = since_left e before h holders same.4;
+      since = since_unchanged e before h holders same.4;
     }
 
 -- nor do more of them
