@@ -19,7 +19,7 @@ use Rattle.csv_records.specs.Fields.{Fields, field_in, fields_eq, rows_after}
 use Rattle.csv_records.specs.Imports.{import_fault, import_fault_number, import_faults, import_header, is_row_count, IsImport, max_in, named_asn, row_faults, SaysRow}
 use Rattle.csv_records.specs.declared.imports.ImportFault.{ImportFault}
 use Rattle.csv_records.specs.declared.imports.ImportFault.TheVariants.{Form, Prefix, Asn, Max, Day, Count}
-use Rattle.csv_records.specs.steps.Importing.{counted, import_in, row_in, row_of, rows_in, terms_of}
+use Rattle.csv_records.specs.steps.Importing.{counted, import_in, import_row, row_in, row_of, rows_in}
 use Rattle.csv_records.proofs.FieldLemmas.{same_fields}
 
 -- ---- rows
@@ -40,7 +40,7 @@ module _ (asn : Option AsnNumber) (prefix : Option PrefixValue) (max from until 
   reads-of : Reads import_fault_number (row_of asn prefix max from until) of_fields
       (λ t. (asn ≡ Some t.asn) × (prefix ≡ Some t.prefix) × (max ≡ Some t.max) × (from ≡ Some t.from) × (until ≡ Some t.until))
   reads-of =
-      reads-mapped terms_of (λ p says. (says.0.0.0.0, says.0.0.0.1, says.0.0.1, says.0.1, says.1))
+      reads-mapped import_row (λ p says. (says.0.0.0.0, says.0.0.0.1, says.0.0.1, says.0.1, says.1))
       (reads-both
       (reads-both
       (reads-both

@@ -30,7 +30,7 @@ records_left r = records_of_rest (reader_state r.reader) (unread r.reader)
 abbrev pub current : CsvRecords → Fields
 current r = fields_of r.row
 
--- each read takes a whole record, as it stands in the text
+-- each read takes a whole record, as it is in the text
 pub record IsReading (r : CsvRecords) : Type 0 where
   pub untrimmed : reader_trim r.reader ≡ trim.None
   pub ready : Ready r.reader

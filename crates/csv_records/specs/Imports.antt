@@ -1,4 +1,5 @@
--- Imports: which rows a text says, and its faults. Of all faults, wherever in the text they are, the lowest is told.
+-- Imports: which rows a text says, and its faults. Of all faults, wherever in the text they are, the lowest is
+-- reported.
 use Rattle.std.specs.Prelude.{◌≡◌, ℕ, nat_le, ◌&&◌, Bool, if◌then◌else◌, List, [], ◌∷◌, ◌++◌, length, codes, Option, Some, None, is_some, option_map, option_and_then}
 use Rattle.std.specs.List.{AllZip, flat_map}
 use Rattle.addr.specs.Day.{day_in}
@@ -28,17 +29,17 @@ max_in text = option_and_then (λ n. if nat_le n 255 then Some n else None) (num
 
 -- ---- rows
 
--- a row says these terms, field by field
+-- the fields of a record are those of this row
 abbrev pub SaysRow : Fields → ImportRow → Type 0
-SaysRow (asn ∷ prefix ∷ max ∷ from ∷ until ∷ []) t =
-    (named_asn asn ≡ Some t.asn) × (spelled_prefix prefix ≡ Some t.prefix) × (max_in max ≡ Some t.max)
-    × (day_in from ≡ Some t.from) × (day_in until ≡ Some t.until)
-SaysRow _ t = ⊥
+SaysRow (asn ∷ prefix ∷ max ∷ from ∷ until ∷ []) row =
+    (named_asn asn ≡ Some row.asn) × (spelled_prefix prefix ≡ Some row.prefix) × (max_in max ≡ Some row.max)
+    × (day_in from ≡ Some row.from) × (day_in until ≡ Some row.until)
+SaysRow _ row = ⊥
 
--- the text is the header and a row for each of these terms
+-- the text is the header and a record for each of these rows
 abbrev pub IsImport : List ℕ → List ImportRow → Type 0
-IsImport text terms =
-    (rows : List Fields) × (csv_records text ≡ import_header ∷ rows) × AllZip SaysRow rows terms
+IsImport text rows =
+    (records : List Fields) × (csv_records text ≡ import_header ∷ records) × AllZip SaysRow records rows
 
 -- ---- faults
 

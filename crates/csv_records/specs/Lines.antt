@@ -1,4 +1,4 @@
--- The rows that the desk tells as CSV (RFC 4180, each line ended by a line feed). No field has a comma, a quotation mark
+-- The rows that the desk shows as CSV (RFC 4180, each line ended by a line feed). No field has a comma, a quotation mark
 -- or a line feed in it, so that none is quoted.
 use Rattle.std.specs.Prelude.{ℕ, List, [], ◌∷◌, ◌++◌, codes, decimal}
 use Rattle.std.specs.List.{flat_map, join_with_byte}

@@ -41,7 +41,7 @@ pub fn three_fields(row: &ByteRecord) -> Option<(&[u8], &[u8], &[u8])>
     Some((first, second, third))
 }
 
-// The field in a place, counted from 0; where the record has none, no bytes.
+/// The field in a place, counted from 0; where the record has none, no bytes.
 pub(crate) fn field(row: &ByteRecord, place: usize) -> &[u8]
     ensures { result.now ≡ field_in place (fields_of row.now) }
 {
@@ -51,7 +51,7 @@ pub(crate) fn field(row: &ByteRecord, place: usize) -> &[u8]
     }
 }
 
-// Whether the fields of a record are these texts.
+/// Whether the fields of a record are these texts.
 pub(crate) fn are_fields(row: &ByteRecord, texts: &[&str]) -> bool
     ensures { result ≡ fields_eq (fields_of row.now) (texts_of texts.now) }
 {

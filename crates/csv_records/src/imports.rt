@@ -6,7 +6,7 @@ ghost use Rattle.csv.specs.Records.{fields_of};
 ghost use Rattle.json_values.specs.Parts.{and_then, each, mapped};
 ghost use Rattle.csv_records.specs.CsvRecords.{records_left, IsReading};
 ghost use Rattle.csv_records.specs.Imports.{import_fault, import_fault_number, max_in, named_asn, IsImport};
-ghost use Rattle.csv_records.specs.steps.Importing.{counted, import_in, row_in, row_of, terms_of};
+ghost use Rattle.csv_records.specs.steps.Importing.{counted, import_in, import_row, row_in, row_of};
 
 use crate::CsvRecords;
 use crate::fields::field;
@@ -19,7 +19,8 @@ use std::alloc::{AllocError, Global};
 /// How many rows an import may have.
 const MOST_ROWS: usize = 10_000;
 
-/// What may be wrong with an import. Of several faults the one with the lowest number is told.
+/// What may be wrong with an import. Of several faults the one with the lowest number is
+/// reported.
 #[derive(Clone, Copy, Debug, PartialEq, Eq)]
 pub enum ImportFault {
     /// The header is not there, or a row has another number of fields.
@@ -65,7 +66,8 @@ impl json_values::Fault for ImportFault {
     }
 }
 
-/// The rows of the import that a text is, or its lowest fault. The outer error is want of memory.
+/// The rows of the import that a text is, or its lowest fault. The outer error is an
+/// allocation that failed.
 pub fn read_import(
     alloc: Global,
     text: &[u8],
@@ -147,13 +149,13 @@ fn row_of(
         max.ok_or(ImportFault::Max),
     );
     let first_day = both(vrp, from.ok_or(ImportFault::Day));
-    terms_of(both(first_day, until.ok_or(ImportFault::Day)))
+    import_row(both(first_day, until.ok_or(ImportFault::Day)))
 }
 
-fn terms_of(
+fn import_row(
     parts: Result<((((Asn, Prefix), u8), Day), Day), ImportFault>,
 ) -> Result<ImportRow, ImportFault>
-    ensures { result ≡ mapped terms_of parts }
+    ensures { result ≡ mapped import_row parts }
 {
     let ((((asn, prefix), max), from), until) = parts?;
     Ok(ImportRow {

@@ -50,7 +50,8 @@ impl<'a> CsvRecords<'a> {
     }
 
     /// Whether there is a next record, which is then the one at hand. The bytes are in memory and
-    /// records may have any number of fields, so that an error of the crate `csv` is want of memory.
+    /// records may have any number of fields, so that an error of the crate `csv` is
+    /// an allocation that failed.
     pub fn advance(&mut self) -> Result<bool, AllocError>
         requires { IsReading self.old }
         ensures reading { IfOk result (λ found. found ≡ true → IsReading self.new) }

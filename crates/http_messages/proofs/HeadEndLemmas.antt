@@ -1,12 +1,12 @@
 -- Where a head can end.
-use Rattle.std.proofs.Common.{◌≡◌, ◌≢◌, ℕ, ◌+◌, ◌-◌, ◌<◌, ◌≤◌, Bool, true, false, true≢false, List, [], ◌∷◌, ◌++◌, length, take, drop, min, nat_eq, sym, refl, ◌∙◌, ap, arith, append_assoc, length-append, inl, inr}
+use Rattle.std.proofs.Common.{◌≡◌, ◌≢◌, ℕ, ◌+◌, ◌-◌, ◌<◌, ◌≤◌, true, false, true≢false, List, [], ◌∷◌, ◌++◌, length, take, min, nat_eq, sym, refl, ◌∙◌, ap, arith, append_assoc, length-append, inl, inr}
 use Rattle.std.proofs.Math.Seq.{take-append_seam, take-append-add}
 use Rattle.std.proofs.lemmas.List.{take-append-le, take_all, length-take, length-take-le}
 use Rattle.std.proofs.lemmas.Bool.{cases_lt, false_from_ne_true}
 use Rattle.std.proofs.lemmas.Slice.Eq.{ends_is}
 use Rattle.std.proofs.lemmas.Bool.Decides.{Decides-eqb}
 use Rattle.std.specs.List.{ends_with}
-use Rattle.http_messages.specs.HeadEnd.{has_end, head_end, IsWholeHead, LacksEnd}
+use Rattle.http_messages.specs.HeadEnd.{has_end, IsWholeHead, LacksEnd}
 use Rattle.http_messages.specs.declared.head.TheConstants.{HEAD_LIMIT}
 
 -- two lists that begin alike for as long

@@ -1,4 +1,3 @@
 pub mod HeadEndLemmas
 pub mod LengthLemmas
-pub mod PathLemmas
 pub mod ResponseLemmas

@@ -1,5 +1,6 @@
 -- The fields of a head: names, and values without the white space around them (RFC 9110 sections 5.1 and 5.5).
-use Rattle.std.specs.Prelude.{ℕ, List, [], ◌∷◌, if◌then◌else◌, Option, Some, None}
+use Rattle.std.specs.Prelude.{ℕ, List, [], ◌∷◌, if◌then◌else◌, Option, Some, None, option_map, Result, Ok, Err}
+use Rattle.std.specs.Borrow.{Bor}
 use Rattle.std.specs.Str.{str_eq_ignore_ascii_case}
 
 abbrev pub Fields : Type 0
@@ -16,3 +17,8 @@ abbrev pub only_value : List (List ℕ) → Option (Option (List ℕ))
 only_value [] = Some None
 only_value (value ∷ []) = Some (Some value)
 only_value (_ ∷ _ ∷ _) = None
+
+-- the same, of what a call answers with: an error where there are two
+abbrev pub seen_value : {E : Type 0} → Result (Option (Bor (List ℕ))) E → Option (Option (List ℕ))
+seen_value (Ok found) = Some (option_map (λ value. value.now) found)
+seen_value (Err _) = None

@@ -17,7 +17,7 @@ is_number text = not (length text == 0) && list_all is_ascii_digit text
 abbrev pub content_length : List ℕ → Option ℕ
 content_length text = if is_number text then Some (digits_value 10 text) else None
 
--- a length that is told, for a request with a body or without
+-- a length that a field gives, for a request with a body or without
 abbrev pub length_within : Bool → Option ℕ → Result (Option ℕ) Refusal
 length_within _ None = Err BadRequest
 length_within true (Some size) = if nat_le size BODY_LIMIT then Ok (Some size) else Err ContentTooLarge

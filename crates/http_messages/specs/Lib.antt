@@ -1,11 +1,7 @@
-pub mod Actions
 pub mod Fields
 pub mod HeadEnd
 pub mod Input
 pub mod Lengths
 pub mod Methods
-pub mod Paths
-pub mod Requests
 pub mod ResponseText
-pub mod Routes
 pub mod steps

@@ -1,9 +1,9 @@
 -- The text of a response (RFC 9112 sections 4 and 5): the status line, the fields, an empty line, and the body.
-use Rattle.std.specs.Prelude.{ℕ, Bool, true, false, List, [], ◌∷◌, ◌++◌, length, codes, decimal}
+use Rattle.std.specs.Prelude.{ℕ, ◌==◌, Bool, true, false, List, [], ◌++◌, length, codes, decimal, if◌then◌else◌}
 use Rattle.http_messages.specs.Methods.{method_name}
-use Rattle.http_messages.specs.Routes.{actions_of}
 use Rattle.http_messages.specs.declared.method.Method.{Method}
-use Rattle.http_messages.specs.declared.action.Action.{Action}
+use Rattle.http_messages.specs.declared.method.Method.TheVariants.{Get, Put, Post, Patch, Delete}
+use Rattle.http_messages.specs.declared.method.Methods.{Methods}
 use Rattle.http_messages.specs.declared.status.Status.{Status}
 use Rattle.http_messages.specs.declared.status.Status.TheVariants.{Done, BadRequest, Forbidden, NotFound, MethodNotAllowed, LengthRequired, ContentTooLarge, ServiceUnavailable}
 use Rattle.http_messages.specs.declared.refusal.Refusal.{Refusal}
@@ -39,11 +39,11 @@ status_line status = decimal (status_code status) ++ codes " " ++ status_reason 
 abbrev pub refused_status : Refusal → Status
 refused_status refusal.BadRequest = BadRequest
 refused_status refusal.NotFound = NotFound
-refused_status (refusal.MethodNotAllowed path) = MethodNotAllowed path
+refused_status (refusal.MethodNotAllowed methods) = MethodNotAllowed methods
 refused_status refusal.LengthRequired = LengthRequired
 refused_status refusal.ContentTooLarge = ContentTooLarge
 
--- the body that tells a fault of the protocol, with its line feed
+-- the body of a response to a fault of the protocol, with its line feed
 abbrev pub fault_text : Status → List ℕ
 fault_text status = codes "{\"error\":" ++ decimal (status_code status) ++ codes "}\n"
 
@@ -51,23 +51,24 @@ abbrev pub type_text : ContentType → List ℕ
 type_text Json = codes "application/json"
 type_text Csv = codes "text/csv"
 
--- a comma and a space, but before the first of a list
-abbrev pub separator_before : Bool → List ℕ
-separator_before true = []
-separator_before false = codes ", "
+-- a comma and a space after a name
+abbrev pub separator_after : List ℕ → List ℕ
+separator_after text = if length text == 0 then [] else codes ", "
 
--- the names of methods in their order
-abbrev pub methods_from : Bool → List (Method × Action) → List ℕ
-methods_from is_first [] = []
-methods_from is_first ((method, _) ∷ rest) =
-    separator_before is_first ++ method_name method ++ methods_from false rest
+-- names of methods with one more, if the method is there
+abbrev pub with_method : Bool → Method → List ℕ → List ℕ
+with_method false method text = text
+with_method true method text = text ++ separator_after text ++ method_name method
 
-abbrev pub methods_text : List (Method × Action) → List ℕ
-methods_text actions = methods_from true actions
+-- the names of methods, in this order
+abbrev pub methods_text : Methods → List ℕ
+methods_text methods =
+    with_method methods.delete Delete (with_method methods.patch Patch (with_method methods.post Post
+    (with_method methods.put Put (with_method methods.get Get []))))
 
 -- the field Allow (RFC 9110 section 10.2.1), which a response with status 405 alone has
 abbrev pub allow_line : Status → List ℕ
-allow_line (MethodNotAllowed path) = codes "Allow: " ++ methods_text (actions_of path) ++ codes "\r\n"
+allow_line (MethodNotAllowed methods) = codes "Allow: " ++ methods_text methods ++ codes "\r\n"
 allow_line _ = []
 
 -- up to the body, which has so many bytes

@@ -14,7 +14,7 @@ pub const BODY_LIMIT: usize = 1_048_576;
 pub enum BodyFault {
     /// The source ended or failed before the body's end.
     CutShort,
-    /// No memory was found for the body. Nothing was read.
+    /// An allocation failed for the body. Nothing was read.
     Memory,
 }
 

@@ -1,18 +1,17 @@
-// Fields of a head.
+//! Fields of a head.
 ghost use Rattle.std.specs.Prelude.{◌≡◌, map, length, All};
 ghost use Rattle.std.specs.Str.{str_eq_ignore_ascii_case};
 ghost use Rattle.httparse.specs.Spans.{IsHeaderWithin, header_bytes};
-ghost use Rattle.http_messages.specs.Fields.{only_value, values_of};
-ghost use Rattle.http_messages.specs.steps.Values.{seen_value};
+ghost use Rattle.http_messages.specs.Fields.{only_value, seen_value, values_of};
 
 use httparse::spans::HeaderSpan;
 
-/// A field stands more than once.
+/// A head has a field more than once.
 #[derive(Clone, Copy, Debug, PartialEq, Eq)]
-pub(crate) struct Repeated;
+pub struct Repeated;
 
-// The one value of the field of this name, if there is one.
-pub(crate) fn only_value<'a>(
+/// The one value of the field of this name, if there is one.
+pub fn only_value<'a>(
     head: &'a [u8],
     fields: &[HeaderSpan],
     name: &[u8],

@@ -49,8 +49,8 @@ pub fn read_head<S: Source>(source: &mut S) -> Result<ArrayVec<u8, HEAD_LIMIT>, 
     Err(HeadFault::TooLong)
 }
 
-// How many bytes have to come at least before the head ends, so that reading no more than these
-// never passes its end.
+/// How many bytes have to come at least before the head ends, so that reading no more than these
+/// never passes its end.
 fn missing_bytes(head: &[u8]) -> usize
     ensures some { 0 < result }
     ensures few { result ≤ 4 }

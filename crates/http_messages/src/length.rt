@@ -1,4 +1,4 @@
-// The lengths of bodies.
+//! The lengths of bodies.
 ghost use Rattle.std.specs.Prelude.{◌≡◌, ◌+◌, ◌<◌, true, map, min, length, option_map, All};
 ghost use Rattle.std.specs.Char.{digit_value, is_ascii_digit};
 ghost use Rattle.std.specs.List.{list_all};
@@ -11,8 +11,8 @@ use crate::field::only_value;
 use crate::refusal::Refusal;
 use httparse::spans::HeaderSpan;
 
-// The length of the body that follows a head, where the request has a body.
-pub(crate) fn body_length(
+/// The length of the body that follows a head, if the request has a body.
+pub fn body_length(
     head: &[u8],
     fields: &[HeaderSpan],
     has_body: bool,
@@ -51,7 +51,7 @@ fn length_within(text: &[u8], has_body: bool) -> Result<Option<usize>, Refusal>
     Ok(None)
 }
 
-// The number that decimal digits write, or one more than the limit where it is over that.
+/// The number that decimal digits write, or one more than the limit where it is over that.
 fn capped_length(text: &[u8]) -> Option<usize>
     ensures { result ≡ option_map (λ size. min size (BODY_LIMIT + 1)) (content_length text.now) }
 {

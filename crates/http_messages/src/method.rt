@@ -12,6 +12,16 @@ pub enum Method {
     Delete,
 }
 
+/// Which of the methods a path has.
+#[derive(Clone, Copy, Debug, PartialEq, Eq)]
+pub struct Methods {
+    pub get: bool,
+    pub put: bool,
+    pub post: bool,
+    pub patch: bool,
+    pub delete: bool,
+}
+
 impl Method {
     /// The method's name in a request and in `Allow`.
     pub fn name(self) -> &'static str

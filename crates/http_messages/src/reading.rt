@@ -1,4 +1,4 @@
-// Reading on from a source.
+//! Reading on from a source.
 ghost use Rattle.std.specs.Prelude.{◌≡◌, ◌++◌, ◌<◌, ◌≤◌, length, take, IfOk, OnOk, OnErr};
 ghost use Rattle.http_messages.specs.Input.{IsOver};
 
@@ -8,7 +8,7 @@ use streams::Source;
 #[derive(Clone, Copy, Debug, PartialEq, Eq)]
 pub(crate) struct CutShort;
 
-// Reads at least one byte into the buffer, which has room.
+/// Reads at least one byte into the buffer, which has room.
 pub(crate) fn read_some<S: Source>(source: &mut S, buffer: &mut [u8]) -> Result<usize, CutShort>
     requires { 0 < length buffer.old }
     ensures bound { IfOk result (λ n. n ≤ length buffer.new) }

@@ -1,5 +1,5 @@
 //! Why a head is refused.
-use crate::path::Path;
+use crate::method::Methods;
 
 /// The protocol's faults of a request.
 #[derive(Clone, Copy, Debug, PartialEq, Eq)]
@@ -9,8 +9,8 @@ pub enum Refusal {
     BadRequest,
     /// The path has no route.
     NotFound,
-    /// The path has other methods.
-    MethodNotAllowed(Path),
+    /// The path has only these methods.
+    MethodNotAllowed(Methods),
     /// A body without its `Content-Length`, or with `Transfer-Encoding`.
     LengthRequired,
     ContentTooLarge,

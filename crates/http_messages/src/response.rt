@@ -2,11 +2,9 @@
 ghost use Rattle.std.specs.Prelude.{◌≡◌, ◌++◌, ◌+◌, ◌≤◌, true, codes, decimal, length, OnOk, OnErr};
 ghost use Rattle.arrayvec.specs.ArrayString.{array_string_len};
 ghost use Rattle.streams.specs.Streams.{AppendsBeginning};
-ghost use Rattle.http_messages.specs.Methods.{method_name};
-ghost use Rattle.http_messages.specs.ResponseText.{allow_line, fault_text, methods_text, response_head, response_text, separator_before, status_line, type_text};
+ghost use Rattle.http_messages.specs.ResponseText.{allow_line, fault_text, methods_text, response_head, response_text, status_line, type_text, with_method};
 
-use crate::action::Action;
-use crate::method::Method;
+use crate::method::{Method, Methods};
 use crate::status::Status;
 use addr::digits;
 use arrayvec::ArrayString;
@@ -68,7 +66,7 @@ pub fn response_head(status: Status, content_type: ContentType, length: u64) -> 
     text
 }
 
-// A status code and its reason.
+/// A status code and its reason.
 fn status_line(status: Status) -> ArrayString<64>
     ensures text { result.bytes ≡ status_line status }
     ensures short { array_string_len result ≤ 40 }
@@ -80,7 +78,7 @@ fn status_line(status: Status) -> ArrayString<64>
     text
 }
 
-/// The body of a response that tells a fault of the protocol, with its line feed.
+/// The body of a response to a fault of the protocol, with its line feed.
 pub fn fault_text(status: Status) -> ArrayString<64>
     ensures { result.bytes ≡ fault_text status }
 {
@@ -91,42 +89,44 @@ pub fn fault_text(status: Status) -> ArrayString<64>
     text
 }
 
-// The field `Allow`, which a response has that tells a path's methods.
+/// The field `Allow`, which lists a path's methods.
 fn allow_line(status: Status) -> ArrayString<64>
     ensures text { result.bytes ≡ allow_line status }
-    ensures short { array_string_len result ≤ 35 }
+    ensures short { array_string_len result ≤ 49 }
 {
     let mut text = ArrayString::new();
-    if let Status::MethodNotAllowed(path) = status {
+    if let Status::MethodNotAllowed(methods) = status {
         text.push_str("Allow: ");
-        text.push_str(methods_text(path.actions()).as_str());
+        text.push_str(methods_text(methods).as_str());
         text.push_str("\r\n");
     }
     text
 }
 
-// The names of up to three methods.
-fn methods_text(actions: &[(Method, Action)]) -> ArrayString<26>
-    requires { length actions.now ≤ 3 }
-    ensures text { result.bytes ≡ methods_text actions.now }
-    ensures short { array_string_len result ≤ 26 }
+/// The names of these methods, with a comma and a space between two.
+fn methods_text(methods: Methods) -> ArrayString<40>
+    ensures text { result.bytes ≡ methods_text methods }
+    ensures short { array_string_len result ≤ 40 }
 {
     let mut text = ArrayString::new();
-    let mut is_first = true;
-    for (method, _) in actions {
-        push_method(&mut text, is_first, *method);
-        is_first = false;
-    }
+    push_method(&mut text, methods.get, Method::Get);
+    push_method(&mut text, methods.put, Method::Put);
+    push_method(&mut text, methods.post, Method::Post);
+    push_method(&mut text, methods.patch, Method::Patch);
+    push_method(&mut text, methods.delete, Method::Delete);
     text
 }
 
-// One name more.
-fn push_method(text: &mut ArrayString<26>, is_first: bool, method: Method)
-    requires { array_string_len text.old + 8 ≤ 26 }
-    ensures text { text.new.bytes ≡ text.old.bytes ++ separator_before is_first ++ method_name method }
+/// One name more, if the method is there.
+fn push_method(text: &mut ArrayString<40>, is_there: bool, method: Method)
+    requires { array_string_len text.old + 8 ≤ 40 }
+    ensures text { text.new.bytes ≡ with_method is_there method text.old.bytes }
     ensures short { array_string_len text.new ≤ array_string_len text.old + 8 }
 {
-    if !is_first {
+    if !is_there {
+        return;
+    }
+    if !text.is_empty() {
         text.push_str(", ");
     }
     text.push_str(method.name());

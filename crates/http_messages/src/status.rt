@@ -2,7 +2,7 @@
 ghost use Rattle.std.specs.Prelude.{◌≡◌, ◌≤◌, length};
 ghost use Rattle.http_messages.specs.ResponseText.{refused_status, status_code, status_reason};
 
-use crate::path::Path;
+use crate::method::Methods;
 use crate::refusal::Refusal;
 
 /// The statuses of the desk's responses.
@@ -12,8 +12,8 @@ pub enum Status {
     BadRequest,
     Forbidden,
     NotFound,
-    /// The response lists this path's methods.
-    MethodNotAllowed(Path),
+    /// The response lists the methods that the path has.
+    MethodNotAllowed(Methods),
     LengthRequired,
     ContentTooLarge,
     ServiceUnavailable,
@@ -35,7 +35,7 @@ impl Status {
         }
     }
 
-    /// The reason that stands after the code.
+    /// The reason, which follows the code.
     pub fn reason(self) -> &'static str
         ensures text { result.now ≡ status_reason self }
         ensures short { length result.now ≤ 19 }
@@ -61,7 +61,7 @@ impl Refusal {
         match self {
             Refusal::BadRequest => Status::BadRequest,
             Refusal::NotFound => Status::NotFound,
-            Refusal::MethodNotAllowed(path) => Status::MethodNotAllowed(path),
+            Refusal::MethodNotAllowed(methods) => Status::MethodNotAllowed(methods),
             Refusal::LengthRequired => Status::LengthRequired,
             Refusal::ContentTooLarge => Status::ContentTooLarge,
         }

@@ -17,10 +17,10 @@ use Rattle.csv_records.specs.Imports.{import_fault, IsImport}
 use Rattle.csv_records.specs.declared.imports.ImportFault.{ImportFault}
 use Rattle.csv_records.specs.steps.Importing.{import_in}
 use Rattle.registry.specs.declared.asked.Asked.{Asked}
-use Rattle.http_messages.specs.Requests.{Asked as Head}
-use Rattle.http_messages.specs.declared.action.Action.{Action}
-use Rattle.http_messages.specs.declared.action.Action.TheVariants.{Import, Slurm}
-use Rattle.requests.specs.HttpFaults.{body_bytes, body_faults, caller_name, fault_of_import, http_fault, http_faults, import_faults, json_tree, object_body_faults, path_faults, tree_faults}
+use Rattle.requests.specs.RequestHeads.{Head}
+use Rattle.requests.specs.declared.action.Action.{Action}
+use Rattle.requests.specs.declared.action.Action.TheVariants.{Import, Slurm}
+use Rattle.requests.specs.HttpFaults.{body_bytes, body_faults, head_caller, fault_of_import, http_fault, http_faults, import_faults, json_tree, object_body_faults, path_faults, parsed_body_faults}
 use Rattle.requests.specs.HttpRequests.{body_tree, http_heading, SaysAsked}
 use Rattle.requests.specs.RequestFaults.{as_malformed, body_members, file_faults, malformed_number, member_faults, named_by, names_of}
 use Rattle.requests.specs.declared.request.commands.Subject.{Subject}
@@ -66,7 +66,7 @@ reads-text text =
     said (Ok rows) is = is
     said (Err fault) is = is
 
--- but for files and imports a body is to be an object
+-- except for files and imports a body is to be an object
 pub request_by-other : (action : Action) (subject : Subject) (body : Option (List ℕ))
     → (action ≡ Slurm → ⊥) → (action ≡ Import → ⊥) → object_body action subject body ≡ request_by action subject body
 request_by-other Slurm subject body no_file no_rows = absurd (no_file refl)
@@ -93,7 +93,7 @@ module _ (head : Head) (body : Option (List ℕ)) where
         (λ rows. absurd (no_rows (sym does ∙ same_Some head.action Import rows)))
 
     reads-tree : (found : Option Data)
-        → ReadsUnlessFaulty (tree_request action (path_subject head) found) (in_path ++ tree_faults action found) (SaysTree found)
+        → ReadsUnlessFaulty (tree_request action (path_subject head) found) (in_path ++ parsed_body_faults action found) (SaysTree found)
     reads-tree None = record { told = record { is = lowest-json in_path }; value = tt }
     reads-tree (Some d) =
         reads-says (λ terms says. (d, refl, says))
@@ -126,16 +126,16 @@ module _ (head : Head) (body : Option (List ℕ)) where
   reads-body Import does = reads-import does
   reads-body other does = reads-object other does (λ e. cc) (λ e. cc) body
 
-  -- what is asked on the day, but for the faults
+  -- what is asked on the day, whatever the faults are
   abbrev AsksTerms : ℕ → AskedTerms → Type 0
   AsksTerms day asked =
-      (asked.0 ≡ day) × (caller_name head ≡ Some asked.1.0) × SaysTree (body_tree head.action body) asked.1.1
+      (asked.0 ≡ day) × (head_caller head ≡ Some asked.1.0) × SaysTree (body_tree head.action body) asked.1.1
 
   reads-http : (day : ℕ) → ReadsUnlessFaulty (asked_of day head body) (http_faults head body) (AsksTerms day)
   reads-http day =
-      rw (append_assoc (fault_unless (is_some (caller_name head)) Caller) (flat_map (path_faults head) (named_by head.action)) (body_faults head.action body))
+      rw (append_assoc (fault_unless (is_some (head_caller head)) Caller) (flat_map (path_faults head) (named_by head.action)) (body_faults head.action body))
       (reads-says (λ asked says. (says.0, says.1.0, says.1.1))
-      (reads-both (reads-day day) (reads-both (reads-ok_or (caller_name head) Caller) (reads-body head.action refl))))
+      (reads-both (reads-day day) (reads-both (reads-ok_or (head_caller head) Caller) (reads-body head.action refl))))
 
   -- what was read of a message is what the message says
   pub http-read : (day : ℕ) (asked : Asked) → mapped asked_terms (Ok asked) ≡ asked_of day head body → SaysAsked day head body asked
@@ -151,7 +151,7 @@ module _ (head : Head) (body : Option (List ℕ)) where
         faultless = lowest-none malformed_number (http_faults head body) (sym fault);
       }
 
-  -- what is told of a message is its lowest fault
+  -- what is reported of a message is its lowest fault
   pub http-refused : (day : ℕ) (fault : Fault) → mapped asked_terms (Err fault) ≡ asked_of day head body
       → http_fault head body ≡ Some (as_malformed fault)
   http-refused day fault read =

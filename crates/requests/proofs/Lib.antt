@@ -1,5 +1,6 @@
 pub mod AskedLemmas
 pub mod HttpReadLemmas
+pub mod PathLemmas
 pub mod RequestFaultLemmas
 pub mod RequestReadLemmas
 pub mod SlurmReadLemmas

@@ -21,8 +21,8 @@ use Rattle.requests.specs.RequestText.{HasName, HasDay, HasMax, HasMember, HasPr
 use Rattle.json_values.specs.Values.{as_name, as_prefix, as_day, as_asn}
 use Rattle.requests.specs.RequestValues.{as_origin, as_max, as_number, as_role, as_scope}
 use Rattle.requests.specs.declared.request.TheConstants.{LINE_LENGTH_LIMIT}
-use Rattle.http_messages.specs.declared.action.Action.{Action}
-use Rattle.http_messages.specs.declared.action.Action.TheVariants.{Register as AskRegister, Delegate as AskDelegate, Transfer as AskTransfer, Reclaim as AskReclaim, Grant as AskGrant, Revoke as AskRevoke, Create as AskCreate, Amend as AskAmend, Withdraw as AskWithdraw, Slurm as AskSlurm, Show as AskShow, Content as AskContent, List as AskList, Export as AskExport, Import as AskImport, WhatIf as AskWhatIf, Payloads as AskPayloads, Validity as AskValidity}
+use Rattle.requests.specs.declared.action.Action.{Action}
+use Rattle.requests.specs.declared.action.Action.TheVariants.{Register as AskRegister, Delegate as AskDelegate, Transfer as AskTransfer, Reclaim as AskReclaim, Grant as AskGrant, Revoke as AskRevoke, Create as AskCreate, Amend as AskAmend, Withdraw as AskWithdraw, Slurm as AskSlurm, Show as AskShow, Content as AskContent, List as AskList, Export as AskExport, Import as AskImport, WhatIf as AskWhatIf, Payloads as AskPayloads, Validity as AskValidity}
 use Rattle.requests.specs.declared.request.lists.TheConstants.{MOST_ITEMS, MOST_CHANGES}
 use Rattle.requests.specs.declared.request.fault.Fault.{Fault}
 use Rattle.requests.specs.declared.request.commands.Subject.{Subject}
@@ -212,7 +212,7 @@ module _ (h : Heading) (subject : Subject) (named : Named → List Fault)
 
 -- ---- lines
 
--- what is asked, but for the faults
+-- what is asked, whatever the faults are
 abbrev AsksTerms : Option Data → AskedTerms → Type 0
 AsksTerms found asked = (d : Data) × (found ≡ Some d) × HasDay (codes "day") d asked.0
     × HasName (codes "caller") d asked.1.0 × SaysTerms (line_heading d) d asked.1.1
@@ -274,7 +274,7 @@ line-read line asked read =
       faultless = lowest-none malformed_number (request_faults line) (sym fault);
     }
 
--- what is told of a line is its lowest fault
+-- what is reported of a line is its lowest fault
 pub line-refused : (line : List ℕ) (fault : Fault) →
     mapped asked_terms (Err fault) ≡ asked_in line →
     request_fault line ≡ Some (as_malformed fault)

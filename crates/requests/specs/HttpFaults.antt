@@ -1,5 +1,5 @@
--- Every fault of an HTTP request whose head is taken, wherever it stands: in the path, in the field of the caller or in
--- the body. The lowest of all is told, with the number that it has in a line.
+-- Every fault of an HTTP request whose head is taken: in the path, in the field of the caller or in the body. The lowest
+-- of all is reported, with the number that it has in a line.
 use Rattle.std.specs.Prelude.{ℕ, List, [], ◌∷◌, ◌++◌, map, Option, Some, None, is_some, option_and_then}
 use Rattle.std.specs.List.{flat_map}
 use Rattle.std.specs.Option.{option_to_list}
@@ -10,9 +10,9 @@ use Rattle.serde_json.specs.Data.{Data, null}
 use Rattle.json_values.specs.Faults.{fault_unless}
 use Rattle.json_values.specs.Tree.{tree_of}
 use Rattle.json_values.specs.Values.{number_in}
-use Rattle.http_messages.specs.Requests.{Asked as Head}
-use Rattle.http_messages.specs.declared.action.Action.{Action}
-use Rattle.http_messages.specs.declared.action.Action.TheVariants.{Import, Slurm}
+use Rattle.requests.specs.RequestHeads.{Head}
+use Rattle.requests.specs.declared.action.Action.{Action}
+use Rattle.requests.specs.declared.action.Action.TheVariants.{Import, Slurm}
 use Rattle.csv_records.specs.Imports.{import_fault}
 use Rattle.csv_records.specs.declared.imports.ImportFault.{ImportFault}
 use Rattle.csv_records.specs.declared.imports.ImportFault.TheVariants as import_fault
@@ -26,8 +26,8 @@ abbrev pub path_number : List ℕ → Option ℕ
 path_number text = option_and_then (number_in 1 LAST_NUMBER) (number_text text)
 
 -- the name in the one field of the caller
-abbrev pub caller_name : Head → Option (List ℕ)
-caller_name head = option_and_then name_in head.caller
+abbrev pub head_caller : Head → Option (List ℕ)
+head_caller head = option_and_then name_in head.caller
 
 -- of what the path names
 abbrev pub path_faults : Head → Named → List Fault
@@ -36,14 +36,14 @@ path_faults head NumberGiven = fault_unless (is_some (path_number head.number)) 
 
 -- ---- bodies
 
-abbrev pub tree_faults : Action → Option Data → List Fault
-tree_faults action None = Json ∷ []
-tree_faults action (Some d) = object_faults (body_members action) d
+abbrev pub parsed_body_faults : Action → Option Data → List Fault
+parsed_body_faults action None = Json ∷ []
+parsed_body_faults action (Some d) = object_faults (body_members action) d
 
 -- of a body that is to be an object; where there is none, every member that it ought to have is missing
 abbrev pub object_body_faults : Action → Option (List ℕ) → List Fault
 object_body_faults action None = member_faults (body_members action) null
-object_body_faults action (Some bytes) = tree_faults action (tree_of bytes)
+object_body_faults action (Some bytes) = parsed_body_faults action (tree_of bytes)
 
 -- the JSON value of a body, null where there is none
 abbrev pub json_tree : Option (List ℕ) → Option Data
@@ -64,7 +64,7 @@ fault_of_import import_fault.Max = Max
 fault_of_import import_fault.Day = Day
 fault_of_import import_fault.Count = Count
 
--- of a text that is to be an import; of its own faults the lowest is told
+-- of a text that is to be an import; of its own faults the lowest is reported
 abbrev pub import_faults : List ℕ → List Fault
 import_faults text = map fault_of_import (option_to_list (import_fault text))
 
@@ -76,7 +76,7 @@ body_faults action body = object_body_faults action body
 
 abbrev pub http_faults : Head → Option (List ℕ) → List Fault
 http_faults head body =
-    fault_unless (is_some (caller_name head)) Caller
+    fault_unless (is_some (head_caller head)) Caller
     ++ flat_map (path_faults head) (named_by head.action)
     ++ body_faults head.action body
 

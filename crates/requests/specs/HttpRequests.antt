@@ -1,29 +1,24 @@
--- Which request the bytes of an HTTP message are: a head as http_messages defines it, with the body that it tells.
+-- Which request the bytes of an HTTP message are: a head as http_messages defines it, with the body that it announces.
 use Rattle.std.specs.Prelude.{◌≡◌, ◌<◌, ◌⊎◌, ℕ, List, [], ◌++◌, length, map, Option, Some, option_map, Result, Ok, Err}
 use Rattle.addr.specs.Name.{name_in}
 use Rattle.httparse.specs.Grammar.{RequestHead}
 use Rattle.httparse.specs.Spans.{name_and_value}
 use Rattle.serde_json.specs.Data.{Data, null}
 use Rattle.http_messages.specs.HeadEnd.{IsWholeHead, LacksEnd}
-use Rattle.http_messages.specs.Requests.{Asked as Head, IsHeadOf, request_of}
-use Rattle.http_messages.specs.declared.action.Action.{Action}
-use Rattle.http_messages.specs.declared.action.Action.TheVariants.{Export, Import}
+use Rattle.requests.specs.RequestHeads.{Head, head_of, IsHeadOf}
+use Rattle.requests.specs.declared.action.Action.{Action}
+use Rattle.requests.specs.declared.action.Action.TheVariants.{Import}
 use Rattle.http_messages.specs.declared.head.TheConstants.{HEAD_LIMIT}
 use Rattle.http_messages.specs.declared.refusal.Refusal.{Refusal}
 use Rattle.http_messages.specs.declared.refusal.Refusal.TheVariants.{BadRequest}
 use Rattle.http_messages.specs.declared.response.ContentType.{ContentType}
-use Rattle.http_messages.specs.declared.response.ContentType.TheVariants.{Csv, Json}
 use Rattle.registry.specs.declared.asked.Asked.{Asked}
-use Rattle.requests.specs.HttpFaults.{body_bytes, caller_name, http_fault, http_faults, json_tree, path_number}
+use Rattle.requests.specs.Actions.{list_form}
+use Rattle.requests.specs.HttpFaults.{body_bytes, head_caller, http_fault, http_faults, json_tree, path_number}
 use Rattle.requests.specs.RequestText.{Heading, in_text, SaysRequest}
 use Rattle.requests.specs.declared.malformed.Malformed.{Malformed}
 
 -- ---- the request of a head and a body
-
--- the form in which an action asks for a list
-abbrev pub list_form : Action → ContentType
-list_form Export = Csv
-list_form _ = Json
 
 -- the JSON value of a body, null where there is none or it is CSV
 abbrev pub body_tree : Action → Option (List ℕ) → Option Data
@@ -46,7 +41,7 @@ pub record SaysAsked (day : ℕ) (head : Head) (body : Option (List ℕ)) (asked
   pub tree : Data
   pub is_tree : body_tree head.action body ≡ Some tree
   pub on_day : asked.day ≡ day
-  pub caller : caller_name head ≡ Some asked.caller
+  pub caller : head_caller head ≡ Some asked.caller
   pub request : SaysRequest (http_heading head body tree) tree asked.request
   pub faultless : http_faults head body ≡ []
 
@@ -56,10 +51,10 @@ pub record SaysAsked (day : ℕ) (head : Head) (body : Option (List ℕ)) (asked
 abbrev pub SaysHead : List ℕ → Result Head Refusal → Type 0
 SaysHead bytes said =
     ((head : RequestHead) × IsHeadOf bytes head
-    × (request_of head.method head.target (map name_and_value head.fields) ≡ said))
+    × (head_of head.method head.target (map name_and_value head.fields) ≡ said))
     ⊎ (((head : RequestHead) → ¬ (IsHeadOf bytes head)) × (said ≡ Err BadRequest))
 
--- the bytes are a whole head and the whole body of which it tells the length, and nothing after them
+-- the bytes are a whole head and the whole body of which it gives the length, and nothing after them
 pub record IsMessage (bytes : List ℕ) (said : Head) (body : Option (List ℕ)) : Type 0 where
   pub head : List ℕ
   pub is_whole : IsWholeHead head
@@ -71,7 +66,7 @@ pub record IsMessage (bytes : List ℕ) (said : Head) (body : Option (List ℕ))
 abbrev pub IsEndless : List ℕ → Type 0
 IsEndless bytes = (length bytes ≡ HEAD_LIMIT) × LacksEnd bytes
 
--- the stream broke off within the head, or within the body that it tells
+-- the stream broke off within the head, or within the body that it announces
 abbrev pub IsCutShort : List ℕ → Type 0
 IsCutShort bytes =
     ((length bytes < HEAD_LIMIT) × LacksEnd bytes)

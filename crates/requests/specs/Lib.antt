@@ -1,7 +1,11 @@
+pub mod Actions
 pub mod HttpFaults
 pub mod HttpRequests
 pub mod MalformedText
+pub mod Paths
 pub mod RequestFaults
+pub mod RequestHeads
 pub mod RequestText
 pub mod RequestValues
+pub mod Routes
 pub mod steps

@@ -1,4 +1,4 @@
--- Every fault of a line as a request, wherever it stands in the line: the lowest of all is told.
+-- Every fault of a line as a request, wherever it is in the line: the lowest of all is reported.
 -- A line is judged by the tree that the JSON reader gives: of a repeated member it has the last value.
 use Rattle.std.specs.Prelude.{ℕ, nat_le, nat_lt, ◌&&◌, Bool, List, [], ◌∷◌, ◌++◌, map, length, codes, if◌then◌else◌, Option, Some, None, option_map, option_and_then}
 use Rattle.std.specs.List.{flat_map}
@@ -15,13 +15,13 @@ use Rattle.slurm.specs.SlurmFaults.{slurm_fault}
 use Rattle.requests.specs.RequestValues.{as_origin, as_max, as_number, as_role, as_scope}
 use Rattle.requests.specs.declared.request.TheConstants.{LINE_LENGTH_LIMIT}
 use Rattle.requests.specs.declared.malformed.Malformed.{Malformed}
-use Rattle.http_messages.specs.declared.action.Action.{Action}
-use Rattle.http_messages.specs.declared.action.Action.TheVariants.{Register, Delegate, Transfer, Reclaim, Grant, Revoke, Create, Amend, Withdraw, Slurm, Show, Content, List as ListAction, Import, WhatIf, Payloads, Validity}
+use Rattle.requests.specs.declared.action.Action.{Action}
+use Rattle.requests.specs.declared.action.Action.TheVariants.{Register, Delegate, Transfer, Reclaim, Grant, Revoke, Create, Amend, Withdraw, Slurm, Show, Content, List as ListAction, Export, Import, WhatIf, Payloads, Validity}
 use Rattle.requests.specs.declared.request.fault.Fault.{Fault}
 use Rattle.requests.specs.declared.request.fault.Fault.TheVariants.{Json, Members, Holder, Caller, Prefix, Asn, Max, Day, Role as RoleFault, Number, File, Count, TooLong}
 use Rattle.requests.specs.declared.request.lists.TheConstants.{MOST_ITEMS, MOST_CHANGES}
 
--- where several faults apply, the one of the lowest number is told
+-- where several faults apply, the one of the lowest number is reported
 abbrev pub malformed_number : Fault → ℕ
 malformed_number Json = 1
 malformed_number Members = 2
@@ -47,7 +47,7 @@ as_malformed fault = record { number = malformed_number fault; slurm = slurm_num
 
 -- ---- kinds of members
 
--- the faults of a value that is to be of a kind, by the object that it stands in
+-- the faults of a value that is to be of a kind, by the object that it is in
 abbrev pub Kind : Type 0
 Kind = Data → Data → List Fault
 
@@ -85,7 +85,7 @@ scope d = reading_faults (as_scope (role_at d)) RoleFault
 abbrev pub number : Kind
 number d = reading_faults as_number Number
 
--- of what is to be a SLURM file, or is no JSON; of its own faults the lowest is told
+-- of what is to be a SLURM file, or is no JSON; of its own faults the lowest is reported
 abbrev pub file_faults : Option Data → List Fault
 file_faults found = map File (option_to_list (slurm_fault found))
 
@@ -183,38 +183,54 @@ routes d value = list_faults (object_faults route_members) 1 MOST_ITEMS (as_arra
 
 -- ---- requests
 
--- what a request names, where it names something: a line by a member, an HTTP request in its path
+-- what a request names: a line by a member, an HTTP request in its path
 pub data Named : Type 0 where
   HolderName : Named
   NumberGiven : Named
 
-abbrev pub named_by : Action → List Named
-named_by Transfer = []
-named_by Slurm = []
-named_by Payloads = []
-named_by Validity = []
-named_by Revoke = HolderName ∷ NumberGiven ∷ []
-named_by Amend = HolderName ∷ NumberGiven ∷ []
-named_by Withdraw = HolderName ∷ NumberGiven ∷ []
-named_by Show = HolderName ∷ NumberGiven ∷ []
-named_by Content = HolderName ∷ NumberGiven ∷ []
-named_by other = HolderName ∷ []
+-- what a request names, and the members of what it says further, of which the body of an HTTP request is made
+pub record Parts : Type 0 where
+  pub names : List Named
+  pub members : List (List ℕ × Kind)
 
--- and the members of what it says further, of which the body of an HTTP request is made
+abbrev names_nothing : List (List ℕ × Kind) → Parts
+names_nothing members = record { names = []; members = members }
+
+abbrev names_holder : List (List ℕ × Kind) → Parts
+names_holder members = record { names = HolderName ∷ []; members = members }
+
+abbrev names_number : List (List ℕ × Kind) → Parts
+names_number members = record { names = HolderName ∷ NumberGiven ∷ []; members = members }
+
+-- the table of requests
+abbrev pub parts_of : Action → Parts
+parts_of Register = names_holder []
+parts_of Delegate = names_holder ((codes "prefix", prefix) ∷ [])
+parts_of Transfer =
+    names_nothing ((codes "prefix", prefix) ∷ (codes "giver", holder_name) ∷ (codes "taker", holder_name) ∷ [])
+parts_of Reclaim = names_holder ((codes "prefix", prefix) ∷ [])
+parts_of Grant =
+    names_holder
+    ((codes "name", caller_name) ∷ (codes "role", role) ∷ (codes "scope", scope) ∷ (codes "until", day) ∷ [])
+parts_of Revoke = names_number []
+parts_of Create = names_holder terms_members
+parts_of Amend = names_number ((codes "max", max_length) ∷ (codes "until", day) ∷ [])
+parts_of Withdraw = names_number []
+parts_of Slurm = names_nothing ((codes "file", file) ∷ [])
+parts_of Show = names_number []
+parts_of Content = names_number []
+parts_of ListAction = names_holder []
+parts_of Export = names_holder []
+parts_of Import = names_holder ((codes "rows", rows) ∷ [])
+parts_of WhatIf = names_holder ((codes "changes", changes) ∷ (codes "routes", routes) ∷ [])
+parts_of Payloads = names_nothing []
+parts_of Validity = names_nothing ((codes "routes", routes) ∷ [])
+
+abbrev pub named_by : Action → List Named
+named_by action = (parts_of action).names
+
 abbrev pub body_members : Action → List (List ℕ × Kind)
-body_members Delegate = (codes "prefix", prefix) ∷ []
-body_members Transfer =
-    (codes "prefix", prefix) ∷ (codes "giver", holder_name) ∷ (codes "taker", holder_name) ∷ []
-body_members Reclaim = (codes "prefix", prefix) ∷ []
-body_members Grant =
-    (codes "name", caller_name) ∷ (codes "role", role) ∷ (codes "scope", scope) ∷ (codes "until", day) ∷ []
-body_members Create = terms_members
-body_members Amend = (codes "max", max_length) ∷ (codes "until", day) ∷ []
-body_members Import = (codes "rows", rows) ∷ []
-body_members WhatIf = (codes "changes", changes) ∷ (codes "routes", routes) ∷ []
-body_members Slurm = (codes "file", file) ∷ []
-body_members Validity = (codes "routes", routes) ∷ []
-body_members other = []
+body_members action = (parts_of action).members
 
 abbrev pub named_member : Named → List ℕ × Kind
 named_member HolderName = (codes "holder", holder_name)

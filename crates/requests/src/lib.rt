@@ -1,9 +1,16 @@
 //! Requests: which one a line is, or the head and body of an HTTP message, or why they are none.
 #![tactic(auto)]
 
+mod action;
+mod head;
 mod malformed;
+mod path;
+mod piece;
 mod request;
+mod router;
 
+pub use action::Action;
+pub use head::{FIELD_LIMIT, Head, RequestHeadFault, read_request_head};
 pub use malformed::Malformed;
 pub use registry::{Asked, Request};
 pub use request::message::read_http_request;

@@ -7,7 +7,7 @@ ghost use Rattle.requests.specs.RequestFaults.{action_in, request_fault};
 ghost use Rattle.requests.specs.RequestText.{ReadsLine};
 ghost use Rattle.requests.specs.steps.RequestReading.{asked_as, asked_by, asked_in, asked_terms, line_subject, request_in, request_terms};
 
-mod action;
+pub(crate) mod action;
 mod commands;
 mod exceptions;
 pub(crate) mod fault;
@@ -15,17 +15,17 @@ mod lists;
 pub(crate) mod members;
 pub(crate) mod message;
 
+use crate::action::Action;
 use crate::malformed::Malformed;
 use action::{action_in, only_members_of};
 use addr::{Day, Name};
 use commands::Subject;
-use fault::Fault;
-use http_messages::Action;
+use fault::{Fault, Read};
 use json_values::{both, tree_of, unless};
 use members::{caller_in, day_in, holder_in, number_in};
 use registry::{Asked, Query, Request};
 use serde_json::Value;
-use std::alloc::{AllocError, Global};
+use std::alloc::Global;
 
 /// The longest line that is judged, in bytes without its line feed: 1 MiB.
 pub const LINE_LENGTH_LIMIT: usize = 1_048_576;
@@ -38,8 +38,8 @@ pub enum LineFault {
     Memory,
 }
 
-/// Reads the request that a line is, or tells its lowest fault. A JSON number is taken where it is
-/// written in plain digits; of a repeated member the last value counts.
+/// The request that a line is, or its lowest fault. A JSON number is taken if it is written in plain
+/// digits; of a repeated member the last value counts.
 pub fn read_line_request(alloc: Global, line: &[u8]) -> Result<Asked, LineFault>
     ensures ok { IfOk result (ReadsLine line.now) }
     ensures malformed { (m : Malformed) → result ≡ Err (LineFault.Malformed m)
@@ -52,9 +52,7 @@ pub fn read_line_request(alloc: Global, line: &[u8]) -> Result<Asked, LineFault>
     }
 }
 
-// In what follows an outer error is want of memory.
-
-fn asked_in(alloc: Global, line: &[u8]) -> Result<Result<Asked, Fault>, AllocError>
+fn asked_in(alloc: Global, line: &[u8]) -> Read<Asked>
     ensures { IfOk result (λ asked. mapped asked_terms asked ≡ asked_in line.now) }
 {
     if line.len() > LINE_LENGTH_LIMIT {
@@ -66,7 +64,7 @@ fn asked_in(alloc: Global, line: &[u8]) -> Result<Result<Asked, Fault>, AllocErr
     }
 }
 
-fn asked_by(alloc: Global, value: &Value) -> Result<Result<Asked, Fault>, AllocError>
+fn asked_by(alloc: Global, value: &Value) -> Read<Asked>
     ensures { IfOk result (λ asked. mapped asked_terms asked
         ≡ asked_by (action_in (view value.now)) (view value.now)) }
 {
@@ -76,11 +74,7 @@ fn asked_by(alloc: Global, value: &Value) -> Result<Result<Asked, Fault>, AllocE
     }
 }
 
-fn asked_as(
-    alloc: Global,
-    action: Action,
-    value: &Value,
-) -> Result<Result<Asked, Fault>, AllocError>
+fn asked_as(alloc: Global, action: Action, value: &Value) -> Read<Asked>
     ensures { IfOk result (λ asked. mapped asked_terms asked ≡ asked_as action (view value.now)) }
 {
     let request = request_in(alloc, action, line_subject(value), value)?;
@@ -111,13 +105,8 @@ fn line_subject(value: &Value) -> Subject
     }
 }
 
-// The request that is asked of the subject with these further members.
-fn request_in(
-    alloc: Global,
-    action: Action,
-    subject: Subject,
-    value: &Value,
-) -> Result<Result<Request, Fault>, AllocError>
+/// The request with this subject and these further members.
+fn request_in(alloc: Global, action: Action, subject: Subject, value: &Value) -> Read<Request>
     ensures { IfOk result (λ request. mapped request_terms request
         ≡ request_in action subject (view value.now)) }
 {

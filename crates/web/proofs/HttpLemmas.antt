@@ -1,4 +1,4 @@
--- The answers to HTTP requests and the responses that tell them.
+-- The answers to HTTP requests and the responses that give them.
 use Rattle.std.proofs.Common.{◌≡◌, ℕ, List, ◌++◌, Option, Some, None, Result, Ok, Err, refl, ap, ◌∙◌, append_assoc, inl, inr}
 use Rattle.std.specs.Global.{Vec}
 use Rattle.std.proofs.lemmas.Option.{same_Some}
@@ -12,8 +12,8 @@ use Rattle.registry.specs.Verdict.{IsLegal}
 use Rattle.charters.specs.declared.charter.Charter.{Charter}
 use Rattle.http_messages.specs.HeadEnd.{IsWholeHead}
 use Rattle.http_messages.specs.Input.{Gives}
-use Rattle.http_messages.specs.Requests.{AnswersHead, asked_by, Asked as Head}
-use Rattle.http_messages.specs.declared.request.Request.{Request as HeadRequest}
+use Rattle.requests.specs.RequestHeads.{AnswersHead, Head, head_view}
+use Rattle.requests.specs.declared.head.Head.{Head as HeadRead}
 use Rattle.http_messages.specs.declared.response.ContentType.{ContentType}
 use Rattle.http_messages.specs.declared.response.ContentType.TheVariants.{Csv}
 use Rattle.http_messages.specs.declared.status.Status.TheVariants.{Done as DoneStatus, Forbidden, ServiceUnavailable}
@@ -76,7 +76,7 @@ gives-more before between after head rest given given_rest =
 -- ---- heads
 
 -- what was read of a head is what it says
-pub head-said : (bytes : List ℕ) (request : HeadRequest) → AnswersHead bytes (Ok request) → SaysHead bytes (Ok (asked_by request))
+pub head-said : (bytes : List ℕ) (request : HeadRead) → AnswersHead bytes (Ok request) → SaysHead bytes (Ok (head_view request))
 head-said bytes request (inl (head, is, says)) = inl (head, is, says)
 head-said bytes request (inr (none, refusal)) = cc
 
@@ -111,7 +111,7 @@ module _ {S : Type 0} (g : Ghosts S) where
       let (after, stands_after, values, answers) = replies clean before stands in
       (after, stands_after, values, long-keeps (charter_of old) before after request.day request.caller request.request reply answers long)
 
-  -- the response tells what the bytes were answered with
+  -- the response says what the bytes were answered with
   pub responds : (old new : Desk S) (day : ℕ) (bytes text : List ℕ) (answer : HttpAnswer)
       → AnswersWith g old day bytes answer new → IsResponse answer text → RespondsTo g old day bytes text new
   responds old new day bytes text (Refused refusal) (reads, same) is = inl (refused refusal, reads, (is, same))

@@ -1,4 +1,4 @@
--- A script over states is a script over what the states stand for, as histories: where each answer is
+-- A script over states is a script over what the states represent, as histories: where each answer is
 -- one there, so are the replies to all lines. Of an answer something is known only where the state after it
 -- is sound, and then the state before it was so too.
 use Rattle.std.proofs.Common.{ℕ, List, [], ◌∷◌, Option, refl}

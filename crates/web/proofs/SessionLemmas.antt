@@ -1,4 +1,4 @@
--- A script over a desk is a script over the histories that the desk stands for.
+-- A script over a desk is a script over the histories that the desk represents.
 use Rattle.std.proofs.Common.{◌≡◌, ◌∙◌, ℕ, List, Option, Some, Result, Ok, Err, OnOk, refl, subst, inl, inr}
 use Rattle.sqlite.specs.Store.{Ghosts}
 use Rattle.registry.specs.History.{History}
@@ -54,11 +54,11 @@ module _ {S : Type 0} (g : Ghosts S) where
   later_broken old new lines w w' broken =
       BreaksOff-sound (AnswersLineAt g) (λ state. IsLaterDesk g state new) (later_before new) old new lines w w' broken (same_desk new)
 
-  -- the desk stands for a history that goes on from a first one
+  -- the desk represents a history that goes on from a first one
   abbrev Stands : Charter → History → Desk S → History → Type 0
   Stands charter first desk history = StandsFor g charter desk history × (HistoryFits first → HistoryFits history)
 
-  -- a line answered by the desk is answered on each history that the desk stands for
+  -- a line answered by the desk is answered on each history that the desk represents
   line_along : (charter : Charter) (first : History) (state next : Desk S) (line : Option (List ℕ)) (reply : List ℕ) (history : History) → IsOnCleanDisk g next → Stands charter first state history → AnswersLineAt g state line reply next → (later : History) × Stands charter first next later × AnswersLine charter history line reply later
   line_along charter first state next line reply history clean (stands, values) at =
       let P : Charter → Type 0 = λ k. StandsFor g k state history → (later : History) × StandsFor g k next later × (HistoryFits history → HistoryFits later) × AnswersLine k history line reply later in

@@ -10,24 +10,25 @@ use Rattle.requests.specs.HttpRequests.{asked, HttpRequest, IsWithinMessage, mal
 use Rattle.web.specs.HttpResponses.{malformed_response, refusal_response, reply_response, unavailable_response}
 use Rattle.web.specs.ScriptAnswer.{OnHistories}
 
--- the reply to a request, on each history that the desk stands for
+-- the reply to a request, on each history that the desk represents
 abbrev pub RepliesAt : {S : Type 0} → Ghosts S → Desk S → Asked → Reply → Desk S → Type 0
 RepliesAt g old request reply new = OnHistories g old new (λ before after.
     AnswersRequest (charter_of old) before request.day request.caller request.request reply after)
 
--- each history that the desk stands for stays
+-- each history that the desk represents stays
 abbrev pub KeepsHistories : {S : Type 0} → Ghosts S → Desk S → Desk S → Type 0
 KeepsHistories g old new = OnHistories g old new (λ before after. after ≡ before)
 
--- the response to what the bytes ask for, a list in the form in which it is asked for; what is refused or malformed is not asked of the desk
+-- the response to what the bytes ask, a list in the form that the request wants; what is refused or malformed does not
+-- reach the desk
 abbrev pub AnswersHttp : {S : Type 0} → Ghosts S → Desk S → HttpRequest → List ℕ → Desk S → Type 0
 AnswersHttp g old (refused refusal) text new = (text ≡ refusal_response refusal) × (new ≡ old)
 AnswersHttp g old (malformed fault) text new = (text ≡ malformed_response fault) × (new ≡ old)
 AnswersHttp g old (asked form request) text new =
     (reply : Reply) × (text ≡ reply_response form reply) × RepliesAt g old request reply new
 
--- The response of a desk to the bytes that were read, on a day. Where no memory was found to read the request or to
--- write what it shows, the response says so and nothing has changed.
+-- The response of a desk to the bytes that were read, on a day. Where an allocation failed, for the request or for
+-- what it shows, the response says so and nothing has changed.
 abbrev pub RespondsTo : {S : Type 0} → Ghosts S → Desk S → ℕ → List ℕ → List ℕ → Desk S → Type 0
 RespondsTo g old day bytes text new =
     ((request : HttpRequest) × ReadsHttp day bytes request × AnswersHttp g old request text new)

@@ -1,5 +1,5 @@
 -- The texts of responses to HTTP requests: as http_messages defines them, with the text of a reply as their body. VRPs
--- and exports are told as CSV, everything else in JSON.
+-- and exports are sent as CSV, everything else in JSON.
 use Rattle.std.specs.Prelude.{ℕ, List}
 use Rattle.http_messages.specs.ResponseText.{fault_text, refused_status, response_text}
 use Rattle.http_messages.specs.declared.refusal.Refusal.{Refusal}
@@ -46,6 +46,6 @@ abbrev pub reply_response : ContentType → Reply → List ℕ
 reply_response form reply =
     response_text (reply_status reply) (reply_type form reply) (reply_body (reply_type form reply) reply)
 
--- where no memory was found
+-- where an allocation failed
 abbrev pub unavailable_response : List ℕ
 unavailable_response = json_response ServiceUnavailable unavailable_text

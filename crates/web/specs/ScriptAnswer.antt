@@ -1,6 +1,6 @@
 -- What a script's line is answered with, and the history that this leaves: a line that is no request
--- has its malformed text, another the text of the desk's reply; a line for which no memory was found
--- has the text of Unavailable and stands in no history.
+-- has its malformed text, another the text of the desk's reply; a line for which an allocation failed
+-- has the text of Unavailable and is in no history.
 use Rattle.std.specs.Prelude.{◌≡◌, ℕ, List, Option, Some, None, ◌⊎◌}
 use Rattle.sqlite.specs.Store.{Ghosts}
 use Rattle.registry.specs.History.{History}
@@ -40,7 +40,7 @@ AnswersLine charter before (Some line) text after =
     ⊎ (IsReplied charter before line text after
     ⊎ ((text ≡ unavailable_text) × (after ≡ before)))
 
--- Each history that the old desk stands for goes on to one that the new desk stands for, of values of their
+-- Each history that the old desk represents goes on to one that the new desk represents, of values of their
 -- types where the first was so. Nothing is said where the disk returned what was not written.
 abbrev pub OnHistories : {S : Type 0} → Ghosts S → Desk S → Desk S → (History → History → Type 0) → Type 0
 OnHistories g old new goes_on =
@@ -55,7 +55,7 @@ pub record IsLaterDesk {S : Type 0} (g : Ghosts S) (old new : Desk S) : Type 0 w
   pub charter : charter_of new ≡ charter_of old
   pub clean : IsOnCleanDisk g new → IsOnCleanDisk g old
 
--- the answer to a line by a desk: that of every history that it stands for
+-- the answer to a line by a desk: that of every history that it represents
 abbrev pub AnswersLineAt : {S : Type 0} → Ghosts S → Desk S → Option (List ℕ) → List ℕ → Desk S → Type 0
 AnswersLineAt g old line text new = IsLaterDesk g old new
     × OnHistories g old new (λ before after. AnswersLine (charter_of old) before line text after)

@@ -3,7 +3,7 @@ use Rattle.std.specs.Prelude.{ℕ, Bool, true, false, List, [], ◌∷◌, ◌++
 use Rattle.std.specs.List.{slice_split}
 use Rattle.requests.specs.declared.request.TheConstants.{LINE_LENGTH_LIMIT}
 
--- what stands before, between and after the line feeds of a text
+-- what is before, between and after the line feeds of a text
 abbrev pub pieces : List ℕ → List (List ℕ)
 pieces text = slice_split (λ byte. byte == 10) text
 

@@ -4,8 +4,8 @@ ghost use Rattle.std.specs.Option.{option_copied};
 ghost use Rattle.streams.specs.Streams.{AppendsBeginning};
 ghost use Rattle.http_messages.specs.HeadEnd.{IsWholeHead};
 ghost use Rattle.http_messages.specs.Input.{Gives, IsOver};
-ghost use Rattle.http_messages.specs.Requests.{asked_by};
-ghost use Rattle.requests.specs.HttpRequests.{IsCutShort, IsMessage, SaysHead, list_form};
+ghost use Rattle.requests.specs.RequestHeads.{head_view};
+ghost use Rattle.requests.specs.HttpRequests.{IsCutShort, IsMessage, SaysHead};
 ghost use Rattle.web.specs.HttpAnswers.{RespondsTo};
 ghost use Rattle.web.specs.ScriptAnswer.{IsLaterDesk};
 ghost use Rattle.web.specs.steps.HttpAnswering.{AnswersWith};
@@ -16,11 +16,8 @@ mod body;
 use addr::Day;
 use answer::HttpAnswer;
 use desk::Desk;
-use http_messages::{
-    Action, BodyFault, ContentType, HeadFault, Refusal, Request, RequestFault, read_body,
-    read_head, read_request,
-};
-use requests::{LineFault, read_http_request};
+use http_messages::{BodyFault, HeadFault, Refusal, read_body, read_head};
+use requests::{Head, LineFault, RequestHeadFault, read_http_request, read_request_head};
 use sqlite::Alter;
 use std::alloc::Global;
 use streams::{Drain, Source};
@@ -85,7 +82,7 @@ pub fn serve_one<S: Source, D: Drain, A: Alter>(
     Ok(())
 }
 
-// Reads a request and asks it; `None` where the source ended or failed before its end.
+/// Reads a request and asks it; `None` where the source ended or failed before its end.
 fn answer_next<S: Source, A: Alter>(
     alloc: Global,
     source: &mut S,
@@ -107,24 +104,24 @@ fn answer_next<S: Source, A: Alter>(
         Err(HeadFault::TooLong) => return Some(HttpAnswer::Refused(Refusal::BadRequest)),
         Err(HeadFault::CutShort) => return None,
     };
-    match read_request(alloc, head.as_slice()) {
+    match read_request_head(alloc, head.as_slice()) {
         Ok(request) => answer_request(alloc, source, desk, day, &request),
-        Err(RequestFault::Refused(refusal)) => Some(HttpAnswer::Refused(refusal)),
-        Err(RequestFault::Memory) => Some(HttpAnswer::NotRead),
+        Err(RequestHeadFault::Refused(refusal)) => Some(HttpAnswer::Refused(refusal)),
+        Err(RequestHeadFault::Memory) => Some(HttpAnswer::NotRead),
     }
 }
 
-// Reads the body of a request, if it has one, and asks the request.
+/// Reads the body of a request, if it has one, and asks the request.
 fn answer_request<S: Source, A: Alter>(
     alloc: Global,
     source: &mut S,
     desk: &mut Desk<A>,
     day: Day,
-    request: &Request<'_>,
+    request: &Head<'_>,
 ) -> Option<HttpAnswer>
     ensures some { IfSome result (λ answer. (rest : List ℕ)
         × Gives rest (S.handed_out source.old) (S.handed_out source.new)
-        × ((head : List ℕ) → IsWholeHead head → SaysHead head (Ok (asked_by request.now))
+        × ((head : List ℕ) → IsWholeHead head → SaysHead head (Ok (head_view request.now))
         → AnswersWith A.Store desk.old day (head ++ rest) answer desk.new)) }
     ensures none { result ≡ None → (rest : List ℕ) × (size : ℕ)
         × Gives rest (S.handed_out source.old) (S.handed_out source.new)
@@ -143,34 +140,25 @@ fn answer_request<S: Source, A: Alter>(
     }
 }
 
-// Asks the desk what a head and its body say.
+/// Asks the desk what a head and its body say.
 fn answer_to<A: Alter>(
     alloc: Global,
     desk: &mut Desk<A>,
     day: Day,
-    request: &Request<'_>,
+    request: &Head<'_>,
     body: Option<&[u8]>,
 ) -> HttpAnswer
     ensures answer { (bytes : List ℕ)
-        → IsMessage bytes (asked_by request.now) (option_copied body.entry)
+        → IsMessage bytes (head_view request.now) (option_copied body.entry)
         → AnswersWith A.Store desk.old day bytes result desk.new }
     ensures later { IsLaterDesk A.Store desk.old desk.new }
 {
     match read_http_request(alloc, day, request, body) {
         Ok(asked) => HttpAnswer::Replied(
-            list_form(request.action),
+            request.action.list_form(),
             desk.handle(asked.day, &asked.caller, &asked.request),
         ),
         Err(LineFault::Malformed(malformed)) => HttpAnswer::Malformed(malformed),
         Err(LineFault::Memory) => HttpAnswer::NotRead,
-    }
-}
-
-fn list_form(action: Action) -> ContentType
-    ensures { result ≡ list_form action }
-{
-    match action {
-        Action::Export => ContentType::Csv,
-        _ => ContentType::Json,
     }
 }

@@ -83,7 +83,7 @@ impl LineBuffer {
     }
 }
 
-/// What stands before the first line feed, and what after it.
+/// What is before the first line feed, and what is after it.
 pub(crate) fn cut_at_line_feed(bytes: &[u8]) -> Option<(&[u8], &[u8])>
     ensures found { IfSome result (λ cut. pieces bytes.now ≡ cut.0.now ∷ pieces cut.1.now) }
     ensures shorter { IfSome result (λ cut. length cut.1.now < length bytes.now) }

@@ -38,7 +38,7 @@ pub fn write_reply<D: Drain>(reply: &Reply, drain: &mut D) -> Result<(), Failed>
     }
 }
 
-/// The text of a reply that tells only whether something was done, with its line feed; `None` for
+/// The text of a reply that says only whether something was done, with its line feed; `None` for
 /// the replies that show something.
 pub fn short_text(reply: &Reply) -> Option<ArrayString<128>>
     ensures { option_map (λ text. text.bytes) result ≡ short_text reply.now }

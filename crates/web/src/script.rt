@@ -18,7 +18,7 @@ pub enum ScriptFault {
     Read,
     /// A write failed. The line in hand may have been acted on, and no later one was.
     Write,
-    /// No memory was found for the line at the start. Nothing was read.
+    /// An allocation failed for the line at the start. Nothing was read.
     Memory,
 }
 
@@ -57,7 +57,7 @@ pub(crate) trait AnswerLines {
         ensures failed { OnErr result (D.has_failed drain.new ≡ true) };
 }
 
-// Answers each line that the bytes complete, and keeps what follows the last of them.
+/// Answers each line that the bytes complete, and keeps what follows the last of them.
 fn answer_completed<D: Drain, E: AnswerLines>(
     alloc: Global,
     bytes: &[u8],
@@ -86,7 +86,7 @@ fn answer_completed<D: Drain, E: AnswerLines>(
     Ok(())
 }
 
-// Answers the last line, which no line feed ended, if there is one.
+/// Answers the last line, which no line feed ended, if there is one.
 fn answer_last<D: Drain, E: AnswerLines>(
     alloc: Global,
     buffer: &LineBuffer,

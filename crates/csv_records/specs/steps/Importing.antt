@@ -14,12 +14,12 @@ use Rattle.csv_records.specs.Imports.{import_fault_number, import_header, is_row
 use Rattle.csv_records.specs.declared.imports.ImportFault.{ImportFault}
 use Rattle.csv_records.specs.declared.imports.ImportFault.TheVariants.{Form, Prefix as PrefixFault, Asn as AsnFault, Max, Day, Count}
 
-abbrev pub terms_of : (((Asn × Prefix) × ℕ) × ℕ) × ℕ → ImportRow
-terms_of p = record { asn = p.0.0.0.0; prefix = p.0.0.0.1; max = p.0.0.1; from = p.0.1; until = p.1 }
+abbrev pub import_row : (((Asn × Prefix) × ℕ) × ℕ) × ℕ → ImportRow
+import_row p = record { asn = p.0.0.0.0; prefix = p.0.0.0.1; max = p.0.0.1; from = p.0.1; until = p.1 }
 
 abbrev pub row_of : Option Asn → Option Prefix → Option ℕ → Option ℕ → Option ℕ → Result ImportRow ImportFault
 row_of asn prefix max from until =
-    mapped terms_of
+    mapped import_row
     (both import_fault_number
     (both import_fault_number
     (both import_fault_number

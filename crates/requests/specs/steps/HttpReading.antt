@@ -8,10 +8,10 @@ use Rattle.json_values.specs.Parts.{both, mapped, unless}
 use Rattle.json_values.specs.Tree.{only, tree_of}
 use Rattle.registry.specs.declared.authorization.ImportRow.{ImportRow}
 use Rattle.csv_records.specs.steps.Importing.{import_in}
-use Rattle.http_messages.specs.Requests.{Asked as Head}
-use Rattle.http_messages.specs.declared.action.Action.{Action}
-use Rattle.http_messages.specs.declared.action.Action.TheVariants.{Import, Slurm}
-use Rattle.requests.specs.HttpFaults.{body_bytes, caller_name, fault_of_import, json_tree, path_number}
+use Rattle.requests.specs.RequestHeads.{Head}
+use Rattle.requests.specs.declared.action.Action.{Action}
+use Rattle.requests.specs.declared.action.Action.TheVariants.{Import, Slurm}
+use Rattle.requests.specs.HttpFaults.{body_bytes, head_caller, fault_of_import, json_tree, path_number}
 use Rattle.requests.specs.RequestFaults.{body_members, malformed_number, names_of}
 use Rattle.requests.specs.declared.request.commands.Subject.{Subject}
 use Rattle.requests.specs.declared.request.fault.Fault.{Fault}
@@ -25,7 +25,7 @@ path_subject head = record {
 }
 
 abbrev pub caller_of : Head → Result (List ℕ) Fault
-caller_of head = ok_or (caller_name head) Caller
+caller_of head = ok_or (head_caller head) Caller
 
 abbrev pub object_request : Action → Subject → Data → Result RequestTerms Fault
 object_request action subject d =

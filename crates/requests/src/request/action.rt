@@ -1,14 +1,15 @@
-// What a request's `do` says.
+//! What a request's `do` says, and which members the request may have.
 ghost use Rattle.std.specs.Prelude.{◌≡◌, ◌+◌, map, length};
 ghost use Rattle.serde_json.specs.View.{view};
 ghost use Rattle.json_values.specs.Tree.{only};
 ghost use Rattle.requests.specs.RequestFaults.{action_in, action_of, body_members, members_of, named_by, names_of};
 
 use super::fault::Fault;
-use http_messages::Action;
+use crate::action::Action;
 use json_values::only;
 use serde_json::Value;
 
+/// What the member `do` asks for.
 pub(crate) fn action_in(value: &Value) -> Option<Action>
     ensures { result ≡ action_in (view value.now) }
 {
@@ -18,6 +19,7 @@ pub(crate) fn action_in(value: &Value) -> Option<Action>
     }
 }
 
+/// What a word of `do` asks for.
 fn action_of(text: &str) -> Option<Action>
     ensures { result ≡ action_of text.now }
 {
@@ -84,12 +86,15 @@ fn line_members(action: Action) -> &'static [&'static str]
     }
 }
 
-fn body_members(action: Action) -> &'static [&'static str]
+/// The members of the request's body: those of its line, except what every line has and what the
+/// request names.
+pub(crate) fn body_members(action: Action) -> &'static [&'static str]
     ensures { map (λ name. name.now) result.now ≡ names_of (body_members action) }
 {
     &line_members(action)[members_before_body(action)..]
 }
 
+/// How many members of the line are not the body's.
 fn members_before_body(action: Action) -> usize
     ensures { result ≡ 3 + length (named_by action) }
 {

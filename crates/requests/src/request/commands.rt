@@ -1,4 +1,4 @@
-// One reader for each request, of what it names and of its further members: null where it has none.
+//! One reader for each request, of what it names and of its further members: null where it has none.
 ghost use Rattle.std.specs.Prelude.{◌≡◌};
 ghost use Rattle.serde_json.specs.Data.{null};
 ghost use Rattle.serde_json.specs.View.{view};
@@ -9,8 +9,8 @@ use super::fault::Fault;
 use super::members::{
     caller_in, day_in, holder_in, max_in, prefix_in, role_in, scope_in, terms_in,
 };
+use crate::action::Action;
 use addr::{Day, Name, Prefix};
-use http_messages::Action;
 use json_values::both;
 use registry::{Command, Query, Request, Role, Scope};
 use serde_json::Value;

@@ -1,17 +1,17 @@
-// SLURM files (RFC 8416). An outer error is want of memory.
+//! SLURM files (RFC 8416).
 ghost use Rattle.std.specs.Prelude.{◌≡◌, IfOk};
 ghost use Rattle.serde_json.specs.View.{view};
 ghost use Rattle.json_values.specs.Parts.{mapped};
 ghost use Rattle.requests.specs.steps.RequestReading.{as_file, file_in, request_terms, slurm_request};
 
-use super::fault::Fault;
+use super::fault::{Fault, Read};
 use registry::{Command, Request};
 use serde_json::Value;
 use slurm::{Slurm, SlurmFault};
 use std::alloc::{AllocError, Global};
 
 /// The request with the file that is a member.
-pub(crate) fn slurm_in(alloc: Global, value: &Value) -> Result<Result<Request, Fault>, AllocError>
+pub(crate) fn slurm_in(alloc: Global, value: &Value) -> Read<Request>
     ensures { IfOk result (λ asked. mapped request_terms asked
         ≡ slurm_request (file_in (view value.now))) }
 {
@@ -20,7 +20,7 @@ pub(crate) fn slurm_in(alloc: Global, value: &Value) -> Result<Result<Request, F
 }
 
 /// The request with the file that the value is.
-pub(crate) fn slurm_of(alloc: Global, value: &Value) -> Result<Result<Request, Fault>, AllocError>
+pub(crate) fn slurm_of(alloc: Global, value: &Value) -> Read<Request>
     ensures { IfOk result (λ asked. mapped request_terms asked
         ≡ slurm_request (as_file (view value.now))) }
 {
@@ -35,7 +35,7 @@ fn asked_slurm(file: Result<Slurm, Fault>) -> Result<Request, Fault>
     Ok(Request::Command(Command::Slurm { file }))
 }
 
-fn file_in(alloc: Global, value: &Value) -> Result<Result<Slurm, Fault>, AllocError>
+fn file_in(alloc: Global, value: &Value) -> Read<Slurm>
     ensures { IfOk result (λ file. file ≡ file_in (view value.now)) }
 {
     match value.get("file") {
@@ -44,7 +44,7 @@ fn file_in(alloc: Global, value: &Value) -> Result<Result<Slurm, Fault>, AllocEr
     }
 }
 
-fn as_file(alloc: Global, value: &Value) -> Result<Result<Slurm, Fault>, AllocError>
+fn as_file(alloc: Global, value: &Value) -> Read<Slurm>
     ensures { IfOk result (λ file. file ≡ as_file (view value.now)) }
 {
     match Slurm::of(alloc, value) {

@@ -1,4 +1,4 @@
-// What may be wrong with a request.
+//! What may be wrong with a request.
 ghost use Rattle.std.specs.Prelude.{◌≡◌};
 ghost use Rattle.requests.specs.HttpFaults.{fault_of_import};
 ghost use Rattle.requests.specs.RequestFaults.{as_malformed, malformed_number, slurm_number};
@@ -6,8 +6,12 @@ ghost use Rattle.requests.specs.RequestFaults.{as_malformed, malformed_number, s
 use crate::malformed::Malformed;
 use csv_records::ImportFault;
 use slurm::SlurmFault;
+use std::alloc::AllocError;
 
-/// Of several faults the one with the lowest number is told.
+/// What is read, or its lowest fault; the outer error is an allocation that failed.
+pub(crate) type Read<T> = Result<Result<T, Fault>, AllocError>;
+
+/// Of several faults the one with the lowest number is reported.
 #[derive(Clone, Copy, Debug, PartialEq, Eq)]
 pub(crate) enum Fault {
     /// The text is not JSON, or nests deeper than 127.

@@ -1,4 +1,4 @@
-// Lists of rows, of changes and of routes. An outer error is want of memory.
+//! Lists of rows, of changes and of routes.
 ghost use Rattle.std.specs.Prelude.{◌≡◌, Some, IfOk};
 ghost use Rattle.serde_json.specs.View.{view};
 ghost use Rattle.json_values.specs.Parts.{mapped};
@@ -6,14 +6,14 @@ ghost use Rattle.requests.specs.steps.RequestReading.{change_by, change_in, coun
 
 use super::action::action_in;
 use super::commands::Subject;
-use super::fault::Fault;
+use super::fault::{Fault, Read};
 use super::members::{number_in, origin_in, prefix_in, row_members_in, terms_in};
+use crate::action::Action;
 use addr::{Name, Origin, Prefix, Route};
-use http_messages::Action;
 use json_values::{FromJson, both, each, only, unless};
 use registry::{Command, ImportRow, Proposed, Query, Request};
 use serde_json::Value;
-use std::alloc::{AllocError, Global};
+use std::alloc::Global;
 
 /// How many rows or routes a request may have.
 const MOST_ITEMS: usize = 10_000;
@@ -23,11 +23,7 @@ const MOST_CHANGES: usize = 1_000;
 
 // ---- requests
 
-pub(crate) fn import_in(
-    alloc: Global,
-    subject: Subject,
-    value: &Value,
-) -> Result<Result<Request, Fault>, AllocError>
+pub(crate) fn import_in(alloc: Global, subject: Subject, value: &Value) -> Read<Request>
     ensures { IfOk result (λ request. mapped request_terms request
         ≡ request_in Action.Import subject (view value.now)) }
 {
@@ -42,10 +38,7 @@ pub(crate) fn asked_import(parts: Result<(Name, Vec<ImportRow>), Fault>) -> Resu
     Ok(Request::Command(Command::Import { holder, rows }))
 }
 
-pub(crate) fn validity_in(
-    alloc: Global,
-    value: &Value,
-) -> Result<Result<Request, Fault>, AllocError>
+pub(crate) fn validity_in(alloc: Global, value: &Value) -> Read<Request>
     ensures { IfOk result (λ request. mapped request_terms request
         ≡ mapped validity (routes_in (view value.now))) }
 {
@@ -60,11 +53,7 @@ fn asked_validity(routes: Result<Vec<Route>, Fault>) -> Result<Request, Fault>
     Ok(Request::Query(Query::Validity { routes }))
 }
 
-pub(crate) fn what_if_in(
-    alloc: Global,
-    subject: Subject,
-    value: &Value,
-) -> Result<Result<Request, Fault>, AllocError>
+pub(crate) fn what_if_in(alloc: Global, subject: Subject, value: &Value) -> Read<Request>
     ensures { IfOk result (λ request. mapped request_terms request
         ≡ request_in Action.WhatIf subject (view value.now)) }
 {
@@ -95,7 +84,7 @@ fn items_in<T: FromJson<Fault>>(
     name: &str,
     least: usize,
     most: usize,
-) -> Result<Result<Vec<T>, Fault>, AllocError>
+) -> Read<Vec<T>>
     ensures { IfOk result (λ items. mapped (λ v. v.items) items
         ≡ items_in T.reading least most name.now (view value.now)) }
 {

@@ -1,4 +1,4 @@
-// The members of requests: each reader asks one member, which has to be there.
+//! The members of requests: each reader asks one member, which has to be there.
 ghost use Rattle.std.specs.Prelude.{◌≡◌, codes};
 ghost use Rattle.serde_json.specs.View.{view};
 ghost use Rattle.json_values.specs.Values.{as_asn};

@@ -3,7 +3,7 @@ ghost use Rattle.std.specs.Prelude.{◌≡◌, ◌&&◌, Some, Err, IfOk};
 ghost use Rattle.std.specs.Option.{option_copied};
 ghost use Rattle.serde_json.specs.View.{view};
 ghost use Rattle.json_values.specs.Parts.{mapped};
-ghost use Rattle.http_messages.specs.Requests.{asked_by};
+ghost use Rattle.requests.specs.RequestHeads.{head_view};
 ghost use Rattle.requests.specs.HttpFaults.{body_bytes, http_fault, json_tree, path_number};
 ghost use Rattle.requests.specs.HttpRequests.{SaysAsked};
 ghost use Rattle.requests.specs.steps.HttpReading.{asked_of, caller_of, import_body, import_rows, object_body, object_request, path_subject, request_of};
@@ -12,29 +12,30 @@ ghost use Rattle.requests.specs.steps.RequestReading.{asked_terms, file_of, requ
 use super::action::only_body_members_of;
 use super::commands::Subject;
 use super::exceptions::slurm_of;
-use super::fault::Fault;
+use super::fault::{Fault, Read};
 use super::lists::asked_import;
 use super::{LineFault, asked_with, request_in};
+use crate::action::Action;
+use crate::head::Head;
 use crate::malformed::Malformed;
 use addr::{Day, Name, number_from_text};
 use csv_records::read_import;
-use http_messages::{Action, Request as Head};
 use json_values::{both, tree_of, unless};
 use registry::{Asked, ImportRow, LAST_NUMBER, Request};
 use serde_json::Value;
 use slurm::SlurmFault;
-use std::alloc::{AllocError, Global};
+use std::alloc::Global;
 
-/// Reads the request that a head and its body are, or tells its lowest fault.
+/// The request that a head and its body are, or its lowest fault.
 pub fn read_http_request(
     alloc: Global,
     day: Day,
     head: &Head<'_>,
     body: Option<&[u8]>,
 ) -> Result<Asked, LineFault>
-    ensures ok { IfOk result (SaysAsked day (asked_by head.now) (option_copied body.entry)) }
+    ensures ok { IfOk result (SaysAsked day (head_view head.now) (option_copied body.entry)) }
     ensures malformed { (m : Malformed) → result ≡ Err (LineFault.Malformed m)
-        → http_fault (asked_by head.now) (option_copied body.entry) ≡ Some m }
+        → http_fault (head_view head.now) (option_copied body.entry) ≡ Some m }
 {
     match asked_of(alloc, day, head, body) {
         Ok(Ok(asked)) => Ok(asked),
@@ -43,23 +44,16 @@ pub fn read_http_request(
     }
 }
 
-// In what follows an outer error is want of memory.
-
-fn asked_of(
-    alloc: Global,
-    day: Day,
-    head: &Head<'_>,
-    body: Option<&[u8]>,
-) -> Result<Result<Asked, Fault>, AllocError>
+fn asked_of(alloc: Global, day: Day, head: &Head<'_>, body: Option<&[u8]>) -> Read<Asked>
     ensures { IfOk result (λ asked. mapped asked_terms asked
-        ≡ asked_of day (asked_by head.now) (option_copied body.entry)) }
+        ≡ asked_of day (head_view head.now) (option_copied body.entry)) }
 {
     let request = request_of(alloc, head, body)?;
     Ok(asked_with(both(Ok(day), both(caller_of(head), request))))
 }
 
 fn caller_of(head: &Head<'_>) -> Result<Name, Fault>
-    ensures { result ≡ caller_of (asked_by head.now) }
+    ensures { result ≡ caller_of (head_view head.now) }
 {
     match head.caller {
         Some(caller) => Name::read(caller).ok_or(Fault::Caller),
@@ -67,13 +61,9 @@ fn caller_of(head: &Head<'_>) -> Result<Name, Fault>
     }
 }
 
-fn request_of(
-    alloc: Global,
-    head: &Head<'_>,
-    body: Option<&[u8]>,
-) -> Result<Result<Request, Fault>, AllocError>
+fn request_of(alloc: Global, head: &Head<'_>, body: Option<&[u8]>) -> Read<Request>
     ensures { IfOk result (λ request. mapped request_terms request
-        ≡ request_of (asked_by head.now) (option_copied body.entry)) }
+        ≡ request_of (head_view head.now) (option_copied body.entry)) }
 {
     let subject = path_subject(head);
     match head.action {
@@ -83,7 +73,7 @@ fn request_of(
     }
 }
 
-fn file_body(alloc: Global, body: Option<&[u8]>) -> Result<Result<Request, Fault>, AllocError>
+fn file_body(alloc: Global, body: Option<&[u8]>) -> Read<Request>
     ensures { IfOk result (λ request. mapped request_terms request
         ≡ slurm_request (file_of (json_tree (option_copied body.entry)))) }
 {
@@ -96,11 +86,7 @@ fn file_body(alloc: Global, body: Option<&[u8]>) -> Result<Result<Request, Fault
     }
 }
 
-fn import_body(
-    alloc: Global,
-    subject: Subject,
-    body: Option<&[u8]>,
-) -> Result<Result<Request, Fault>, AllocError>
+fn import_body(alloc: Global, subject: Subject, body: Option<&[u8]>) -> Read<Request>
     ensures { IfOk result (λ request. mapped request_terms request
         ≡ import_body subject (option_copied body.entry)) }
 {
@@ -117,7 +103,7 @@ fn body_bytes(body: Option<&[u8]>) -> &[u8]
     }
 }
 
-fn import_rows(alloc: Global, text: &[u8]) -> Result<Result<Vec<ImportRow>, Fault>, AllocError>
+fn import_rows(alloc: Global, text: &[u8]) -> Read<Vec<ImportRow>>
     ensures { IfOk result (λ rows. mapped (λ v. v.items) rows ≡ import_rows text.now) }
 {
     match read_import(alloc, text)? {
@@ -131,7 +117,7 @@ fn object_body(
     action: Action,
     subject: Subject,
     body: Option<&[u8]>,
-) -> Result<Result<Request, Fault>, AllocError>
+) -> Read<Request>
     ensures { IfOk result (λ request. mapped request_terms request
         ≡ object_body action subject (option_copied body.entry)) }
 {
@@ -145,7 +131,7 @@ fn object_body(
 }
 
 fn path_subject(head: &Head<'_>) -> Subject
-    ensures { result ≡ path_subject (asked_by head.now) }
+    ensures { result ≡ path_subject (head_view head.now) }
 {
     Subject {
         holder: Name::read(head.holder).ok_or(Fault::Holder),
@@ -162,12 +148,7 @@ fn path_number(text: &[u8]) -> Option<u32>
     }
 }
 
-fn object_request(
-    alloc: Global,
-    action: Action,
-    subject: Subject,
-    value: &Value,
-) -> Result<Result<Request, Fault>, AllocError>
+fn object_request(alloc: Global, action: Action, subject: Subject, value: &Value) -> Read<Request>
     ensures { IfOk result (λ request. mapped request_terms request
         ≡ object_request action subject (view value.now)) }
 {

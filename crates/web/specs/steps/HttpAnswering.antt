@@ -20,7 +20,7 @@ AnswersWith g old day bytes (Replied form reply) new =
     (request : Asked) × ReadsHttp day bytes (asked form request) × RepliesAt g old request reply new
 AnswersWith g old day bytes NotRead new = IsWithinMessage bytes × (new ≡ old)
 
--- the response to a reply; only one that shows something may want memory
+-- the response to a reply; only one that shows something allocates
 abbrev pub IsReplyResponse : ContentType → Reply → List ℕ → Type 0
 IsReplyResponse form reply text =
     (text ≡ reply_response form reply) ⊎ ((short_text reply ≡ None) × (text ≡ unavailable_response))

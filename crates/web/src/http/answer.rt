@@ -1,4 +1,4 @@
-// What an HTTP request is answered with, and the response that tells it.
+//! What an HTTP request is answered with, and the response that says so.
 ghost use Rattle.std.specs.Prelude.{◌≡◌, ◌++◌, ℕ, List, true, OnOk, OnErr};
 ghost use Rattle.streams.specs.Streams.{AppendsBeginning};
 ghost use Rattle.web.specs.HttpResponses.{json_response, refusal_response, reply_status, reply_type, unavailable_response};
@@ -16,15 +16,15 @@ use streams::{Drain, Failed};
 pub(crate) enum HttpAnswer {
     Refused(Refusal),
     Malformed(Malformed),
-    /// A reply, and the form in which its list is asked for.
+    /// A reply, and the form that the request wants for a list.
     Replied(ContentType, Reply),
-    /// No memory was found to read the request.
+    /// An allocation failed, so the request was not read.
     NotRead,
 }
 
 impl HttpAnswer {
-    /// Writes the response. What a reply shows is collected first; where no memory is found for
-    /// that, the response says so.
+    /// Writes the response. What a reply shows is collected first; if an allocation fails
+    /// there, the response says so.
     pub(crate) fn write<D: Drain>(&self, alloc: Global, drain: &mut D) -> Result<(), Failed>
         ensures ok { OnOk result ((text : List ℕ) × IsResponse self.now text
             × (D.written drain.new ≡ D.written drain.old ++ text)) }

@@ -1,4 +1,4 @@
-// The bodies of responses, collected before a response is written, since its head tells their length.
+//! The bodies of responses, collected before a response is written, since its head has their length.
 ghost use Rattle.std.specs.Prelude.{◌≡◌, ◌++◌, IfOk, OnOk};
 ghost use Rattle.web.specs.HttpResponses.{reply_body};
 ghost use Rattle.web.specs.ReplyText.{line_text};
@@ -10,7 +10,7 @@ use http_messages::ContentType;
 use std::alloc::{AllocError, Global};
 use streams::{Drain, Failed};
 
-// Takes bytes until no memory is found for them.
+/// Takes bytes until an allocation for them fails.
 #[derive(Drop)]
 struct Body {
     bytes: Vec<u8>,
@@ -57,7 +57,7 @@ fn csv_body(alloc: Global, reply: &Reply) -> Result<Vec<u8>, AllocError>
     }
 }
 
-// The text of a reply as a line has it.
+/// The text of a reply as a line has it.
 fn json_body(alloc: Global, reply: &Reply) -> Result<Vec<u8>, AllocError>
     ensures { IfOk result (λ body. body.items ≡ line_text reply.now) }
 {

@@ -1,4 +1,4 @@
-// The texts of what replies list.
+//! The texts of what replies list.
 ghost use Rattle.std.specs.Prelude.{◌≡◌, ℕ, List};
 ghost use Rattle.addr.specs.Day.{day_text};
 ghost use Rattle.addr.specs.PrefixText.{spelling};

@@ -1,4 +1,4 @@
-// Lists, written item by item.
+//! Lists, written item by item.
 ghost use Rattle.std.specs.Prelude.{◌≡◌, ◌++◌, true, map, OnOk, OnErr};
 ghost use Rattle.streams.specs.Streams.{AppendsBeginning};
 ghost use Rattle.web.specs.ReplyText.{comma_joined, list_text};

@@ -1,6 +1,5 @@
-use Rattle.std.proofs.Common.{◌≡◌, ◌++◌, ◌-◌, length}
+use Rattle.std.proofs.Common.{◌≡◌, ◌++◌, length}
 use Rattle.http_messages.specs.HeadEnd.{LacksEnd}
-use Rattle.http_messages.specs.declared.head.TheConstants.{HEAD_LIMIT}
 use Rattle.http_messages.proofs.head.read_head.Given as goal
 
 abbrev pub invariant-loop-head : goal.invariant-loop-head

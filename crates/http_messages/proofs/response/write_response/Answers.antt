@@ -1,4 +1,4 @@
-use Rattle.std.proofs.Common.{◌≡◌, ◌∙◌}
+use Rattle.std.proofs.Common.{◌∙◌}
 use Rattle.http_messages.proofs.ResponseLemmas.{first-broken, both-written, second-broken}
 use Rattle.http_messages.proofs.response.write_response.Goals as goal
 

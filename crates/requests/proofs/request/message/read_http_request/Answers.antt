@@ -1,18 +1,18 @@
 use Rattle.std.proofs.Common.{◌≡◌, Some, ap, ◌∙◌}
 use Rattle.std.specs.Option.{option_copied}
-use Rattle.http_messages.specs.Requests.{asked_by}
+use Rattle.requests.specs.RequestHeads.{head_view}
 use Rattle.requests.proofs.HttpReadLemmas.{http-read, http-refused}
 use Rattle.requests.specs.declared.malformed.Malformed.{Malformed}
 use Rattle.requests.proofs.request.message.read_http_request.Goals as goal
 
 pub returns-in-Ok-Ok-clause-ok : goal.returns-in-Ok-Ok-clause-ok
 returns-in-Ok-Ok-clause-ok c =
-    http-read (asked_by c.args.head.now) (option_copied c.args.body) c.args.day c.in-Ok-Ok.asked
+    http-read (head_view c.args.head.now) (option_copied c.args.body) c.args.day c.in-Ok-Ok.asked
     (rw c.in-Ok-Ok.field-0-is at c.in-Ok-Ok.ensures)
 
 pub returns-in-Ok-Err-clause-malformed : goal.returns-in-Ok-Err-clause-malformed
 returns-in-Ok-Err-clause-malformed c = λ m told.
     let same : c.malformed.result ≡ m = cc in
-    http-refused (asked_by c.args.head.now) (option_copied c.args.body) c.args.day c.in-Ok-Err.fault
+    http-refused (head_view c.args.head.now) (option_copied c.args.body) c.args.day c.in-Ok-Err.fault
     (rw c.in-Ok-Err.field-0-is at c.in-Ok-Err.ensures)
     ∙ ap (λ (x : Malformed). Some x) (rw (← c.malformed.ensures) same)

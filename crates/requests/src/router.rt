@@ -1,14 +1,14 @@
-// The path of a target.
+//! The path of a target.
 ghost use Rattle.std.specs.Prelude.{◌≡◌, ◌==◌, option_map, IfOk, OnOk};
 ghost use Rattle.matchit.specs.Seek.{first};
-ghost use Rattle.http_messages.specs.Paths.{has_query, path_of, routes, with_path};
+ghost use Rattle.requests.specs.Paths.{has_query, path_of, routes, with_path};
 
 use crate::path::Path;
 use matchit::Router;
 use std::alloc::{AllocError, Global};
 use std::str::from_utf8;
 
-// The path that a target has in the table of routes.
+/// The path that a target has in the table of routes.
 pub(crate) fn path_of(alloc: Global, target: &[u8]) -> Result<Option<Path>, AllocError>
     ensures { IfOk result (λ path. path ≡ path_of target.now) }
 {
@@ -60,7 +60,7 @@ fn routes(alloc: Global) -> Result<Router<Path>, AllocError>
     Ok(router)
 }
 
-// No two of the paths conflict, so that only memory can fail.
+/// No two of the paths conflict, so that only an allocation can fail.
 fn add(router: &mut Router<Path>, path: Path) -> Result<(), AllocError>
     ensures { OnOk result (router.new ≡ with_path path router.old) }
 {

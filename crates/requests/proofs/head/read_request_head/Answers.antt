@@ -1,8 +1,8 @@
-use Rattle.std.proofs.Common.{◌≡◌, ◌≤◌, List, ℕ, ap, subst, ◌∙◌, arith, inl, length, map, take}
+use Rattle.std.proofs.Common.{◌≡◌, ◌≤◌, ap, subst, ◌∙◌, arith, inl, length, map, take}
 use Rattle.std.proofs.lemmas.List.{length-take, length-map}
 use Rattle.httparse.specs.Spans.{header_bytes, name_and_value}
-use Rattle.http_messages.specs.Requests.{AnswersAsked, request_of}
-use Rattle.http_messages.proofs.request.read_request.Goals as goal
+use Rattle.requests.specs.RequestHeads.{AnswersRequestHead, head_of}
+use Rattle.requests.proofs.head.read_request_head.Goals as goal
 
 pub returns : goal.returns
 returns c =
@@ -11,11 +11,11 @@ returns c =
     let method_is : c.of-method.result.now ≡ head.method = c.of-method.ensures ∙ is_at.method in
     let target_is : c.of-target.result.now ≡ head.target = c.of-target.ensures ∙ is_at.path in
     let fields = map name_and_value head.fields in
-    let same : request_of c.of-method.result.now c.of-target.result.now (map (header_bytes c.args.head.now) found)
-    ≡ request_of head.method head.target fields =
-    ap (λ method. request_of method c.of-target.result.now (map (header_bytes c.args.head.now) found)) method_is
-    ∙ ap (λ target. request_of head.method target (map (header_bytes c.args.head.now) found)) target_is
-    ∙ ap (λ those. request_of head.method head.target those) is_at.fields in
+    let same : head_of c.of-method.result.now c.of-target.result.now (map (header_bytes c.args.head.now) found)
+    ≡ head_of head.method head.target fields =
+    ap (λ method. head_of method c.of-target.result.now (map (header_bytes c.args.head.now) found)) method_is
+    ∙ ap (λ target. head_of head.method target (map (header_bytes c.args.head.now) found)) target_is
+    ∙ ap (λ those. head_of head.method head.target those) is_at.fields in
     let few : length head.fields ≤ 32 =
     omega (
       arith,
@@ -25,4 +25,4 @@ returns c =
       length-take c.in-Some.request.headers c.parse_head.new.fields,
       c.parse_head.auto.fields,
     ) in
-    inl (head, (few, reads), subst (λ asked. AnswersAsked asked c.request_of.result) same c.request_of.ensures)
+    inl (head, (few, reads), subst (λ asked. AnswersRequestHead asked c.head_of.result) same c.head_of.ensures)

@@ -1,9 +1,9 @@
 use Rattle.std.proofs.Common.{ap, sym, ◌∙◌}
 use Rattle.std.specs.Option.{option_map}
 use Rattle.matchit.specs.Seek.{first}
-use Rattle.http_messages.specs.Paths.{route_at}
-use Rattle.http_messages.proofs.PathLemmas.{path_of-bytes, path_of-text}
-use Rattle.http_messages.proofs.router.path_of.Goals as goal
+use Rattle.requests.specs.Paths.{route_at}
+use Rattle.requests.proofs.PathLemmas.{path_of-bytes, path_of-text}
+use Rattle.requests.proofs.router.path_of.Goals as goal
 
 pub returns-in_default : goal.returns-in_default
 returns-in_default c = path_of-bytes c.args.target.now c.if-has_query.ensures c.in_default.ensures.cases.0

@@ -1,13 +1,14 @@
--- The table of routes: the paths, their methods in order, and what each asks for. A path's parameters stand in braces.
-use Rattle.std.specs.Prelude.{ℕ, List, [], ◌∷◌, codes, if◌then◌else◌, Option, Some, None}
+-- The table of routes: the paths, their methods in order, and what each asks for. A path's parameters are in braces.
+use Rattle.std.specs.Prelude.{ℕ, List, [], ◌∷◌, codes, if◌then◌else◌, Option, Some, None, is_some}
 use Rattle.std.specs.Str.{bytes_eq}
 use Rattle.http_messages.specs.Methods.{method_name}
 use Rattle.http_messages.specs.declared.method.Method.{Method}
+use Rattle.http_messages.specs.declared.method.Methods.{Methods}
 use Rattle.http_messages.specs.declared.method.Method.TheVariants as method
-use Rattle.http_messages.specs.declared.action.Action.{Action}
-use Rattle.http_messages.specs.declared.action.Action.TheVariants as action
-use Rattle.http_messages.specs.declared.path.Path.{Path}
-use Rattle.http_messages.specs.declared.path.Path.TheVariants.{Holder, Delegations, Reclaims, Transfers, Grants, Grant, Auths, Auth, Content, Export, Imports, WhatIf, Slurm, Payloads, Validity}
+use Rattle.requests.specs.declared.action.Action.{Action}
+use Rattle.requests.specs.declared.action.Action.TheVariants as action
+use Rattle.requests.specs.declared.path.Path.{Path}
+use Rattle.requests.specs.declared.path.Path.TheVariants.{Holder, Delegations, Reclaims, Transfers, Grants, Grant, Auths, Auth, Content, Export, Imports, WhatIf, Slurm, Payloads, Validity}
 
 abbrev pub template_of : Path → List ℕ
 template_of Holder = codes "/holders/{holder}"
@@ -49,3 +50,13 @@ abbrev pub action_at : List ℕ → List (Method × Action) → Option Action
 action_at name [] = None
 action_at name ((method, action) ∷ rest) =
     if bytes_eq (method_name method) name then Some action else action_at name rest
+
+-- the methods by which a path asks for something
+abbrev pub methods_of : Path → Methods
+methods_of path = record {
+  get = is_some (action_at (method_name method.Get) (actions_of path));
+  put = is_some (action_at (method_name method.Put) (actions_of path));
+  post = is_some (action_at (method_name method.Post) (actions_of path));
+  patch = is_some (action_at (method_name method.Patch) (actions_of path));
+  delete = is_some (action_at (method_name method.Delete) (actions_of path));
+}

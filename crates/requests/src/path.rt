@@ -1,13 +1,14 @@
 //! The paths of the desk and the methods that each has.
-ghost use Rattle.std.specs.Prelude.{◌≡◌};
-ghost use Rattle.http_messages.specs.Routes.{action_at, actions_of, template_of};
+ghost use Rattle.std.specs.Prelude.{◌≡◌, is_some};
+ghost use Rattle.http_messages.specs.Methods.{method_name};
+ghost use Rattle.requests.specs.Routes.{action_at, actions_of, methods_of, template_of};
 
 use crate::action::Action;
-use crate::method::Method;
+use http_messages::{Method, Methods};
 
 /// A path of the table of routes.
 #[derive(Clone, Copy, Debug, PartialEq, Eq)]
-pub enum Path {
+pub(crate) enum Path {
     Holder,
     Delegations,
     Reclaims,
@@ -27,7 +28,7 @@ pub enum Path {
 
 impl Path {
     /// The path with its parameters in braces.
-    pub fn template(self) -> &'static str
+    pub(crate) fn template(self) -> &'static str
         ensures { result.now ≡ template_of self }
     {
         match self {
@@ -50,7 +51,7 @@ impl Path {
     }
 
     /// The methods of the path in the order of the table, and what each asks for.
-    pub fn actions(self) -> &'static [(Method, Action)]
+    pub(crate) fn actions(self) -> &'static [(Method, Action)]
         ensures { result.now ≡ actions_of self }
     {
         match self {
@@ -74,6 +75,25 @@ impl Path {
             Path::Payloads => &[(Method::Get, Action::Payloads)],
             Path::Validity => &[(Method::Post, Action::Validity)],
         }
+    }
+
+    /// The methods by which the path asks for something.
+    pub(crate) fn methods(self) -> Methods
+        ensures { result ≡ methods_of self }
+    {
+        Methods {
+            get: self.has(Method::Get),
+            put: self.has(Method::Put),
+            post: self.has(Method::Post),
+            patch: self.has(Method::Patch),
+            delete: self.has(Method::Delete),
+        }
+    }
+
+    fn has(self, method: Method) -> bool
+        ensures { result ≡ is_some (action_at (method_name method) (actions_of self)) }
+    {
+        self.action(method.name().as_bytes()).is_some()
     }
 
     /// What a method of this name asks for at the path.

@@ -1,17 +1,17 @@
-// The pieces of a path between its slashes.
+//! The pieces of a path between its slashes.
 ghost use Rattle.std.specs.Prelude.{◌≡◌, position};
-ghost use Rattle.http_messages.specs.Paths.{after_slash, before_slash, holder_in, is_slash, number_in};
+ghost use Rattle.requests.specs.Paths.{after_slash, before_slash, holder_piece, is_slash, number_piece};
 
-// What stands in the path's place of a holder.
-pub(crate) fn holder_in(path: &[u8]) -> &[u8]
-    ensures { result.now ≡ holder_in path.now }
+/// The piece that names a holder.
+pub(crate) fn holder_piece(path: &[u8]) -> &[u8]
+    ensures { result.now ≡ holder_piece path.now }
 {
     before_slash(after_slash(after_slash(path)))
 }
 
-// What stands in the path's place of a number.
-pub(crate) fn number_in(path: &[u8]) -> &[u8]
-    ensures { result.now ≡ number_in path.now }
+/// The piece that is a number.
+pub(crate) fn number_piece(path: &[u8]) -> &[u8]
+    ensures { result.now ≡ number_piece path.now }
 {
     before_slash(after_slash(after_slash(after_slash(after_slash(path)))))
 }

@@ -1,6 +1,6 @@
 -- The path of a request's target. A target with a query or a fragment (RFC 3986 section 3), in absolute form, or that is no
 -- text has none. Percent signs are not decoded.
-use Rattle.std.specs.Prelude.{ℕ, ◌==◌, ◌||◌, Bool, List, [], if◌then◌else◌, Option, Some, None, option_map, Result, Ok, Err}
+use Rattle.std.specs.Prelude.{ℕ, ◌==◌, ◌||◌, Bool, List, [], if◌then◌else◌, Option, None, option_map, Result, Ok, Err}
 use Rattle.std.specs.Str.{is_utf8}
 use Rattle.std.specs.List.{after_first, before_first, list_any}
 use Rattle.matchit.specs.Order.{placed}
@@ -9,9 +9,9 @@ use Rattle.matchit.specs.Router.{RouteOf, route_from}
 use Rattle.matchit.specs.Rows.{RowsOf}
 use Rattle.matchit.specs.Seek.{first}
 use Rattle.matchit.specs.declared.error.InsertError.{InsertError}
-use Rattle.http_messages.specs.Routes.{template_of}
-use Rattle.http_messages.specs.declared.path.Path.{Path}
-use Rattle.http_messages.specs.declared.path.Path.TheVariants.{Holder, Delegations, Reclaims, Transfers, Grants, Grant, Auths, Auth, Content, Export, Imports, WhatIf, Slurm, Payloads, Validity}
+use Rattle.requests.specs.Routes.{template_of}
+use Rattle.requests.specs.declared.path.Path.{Path}
+use Rattle.requests.specs.declared.path.Path.TheVariants.{Holder, Delegations, Reclaims, Transfers, Grants, Grant, Auths, Auth, Content, Export, Imports, WhatIf, Slurm, Payloads, Validity}
 
 -- the routes of a router, as its crate keeps them
 abbrev pub Router : Type 0
@@ -55,10 +55,10 @@ after_slash path = after_first is_slash path
 abbrev pub before_slash : List ℕ → List ℕ
 before_slash path = before_first is_slash path
 
--- what stands in a path's place of a holder: between its second slash and the next
-abbrev pub holder_in : List ℕ → List ℕ
-holder_in path = before_slash (after_slash (after_slash path))
+-- the piece of a path that names a holder: between its second slash and the next
+abbrev pub holder_piece : List ℕ → List ℕ
+holder_piece path = before_slash (after_slash (after_slash path))
 
 -- and of a number: between its fourth slash and the next
-abbrev pub number_in : List ℕ → List ℕ
-number_in path = before_slash (after_slash (after_slash (after_slash (after_slash path))))
+abbrev pub number_piece : List ℕ → List ℕ
+number_piece path = before_slash (after_slash (after_slash (after_slash (after_slash path))))

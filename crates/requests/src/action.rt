@@ -1,0 +1,49 @@
+//! What a request asks for.
+ghost use Rattle.std.specs.Prelude.{◌≡◌};
+ghost use Rattle.requests.specs.Actions.{list_form, takes_body};
+
+use crate::request::action::body_members;
+use http_messages::ContentType;
+
+/// What a request asks for.
+#[derive(Clone, Copy, Debug, PartialEq, Eq)]
+pub enum Action {
+    Register,
+    Delegate,
+    Reclaim,
+    Transfer,
+    Grant,
+    Revoke,
+    List,
+    Create,
+    Show,
+    Amend,
+    Withdraw,
+    Content,
+    /// The list, answered as CSV.
+    Export,
+    Import,
+    WhatIf,
+    Slurm,
+    Payloads,
+    Validity,
+}
+
+impl Action {
+    /// Whether an HTTP request has a body for it.
+    pub fn takes_body(self) -> bool
+        ensures { result ≡ takes_body self }
+    {
+        !body_members(self).is_empty()
+    }
+
+    /// The form in which it asks for a list.
+    pub fn list_form(self) -> ContentType
+        ensures { result ≡ list_form self }
+    {
+        match self {
+            Action::Export => ContentType::Csv,
+            _ => ContentType::Json,
+        }
+    }
+}
