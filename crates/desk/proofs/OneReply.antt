@@ -19,7 +19,7 @@ use Rattle.registry.specs.Permission.{is_permitted_terms}
 use Rattle.registry.specs.Terms.{grant_terms, Keeps, AreActive, HeldSinceMade, authorizations_made, authorization_terms}
 use Rattle.registry.specs.Verdict.{auth_of_number, ShowVerdict, ListVerdict}
 use Rattle.histories.specs.OneOutcome.{OneHypotheticalOutcome, OneOutcome}
-use Rattle.histories.proofs.OneOutcome.{One, asked, accepted}
+use Rattle.histories.proofs.OneOutcome.{One, checked, accepted}
 use Rattle.desk.specs.Answer.{AnswersCommand, AnswersShow, AnswersContent, AnswersList}
 use Rattle.desk.specs.ContentText.{IsContentText}
 use Rattle.desk.specs.HolderAnswers.{deciding_entries, IsAnswerOn, SaySame, OneReply}
@@ -32,10 +32,10 @@ use Rattle.desk.proofs.HolderLemmas.{counts_of_import}
 -- ---- verdicts
 
 one_show : (history : History) (h : List ℕ) (day : ℕ) (caller : List ℕ) (n : ℕ) → One (ShowVerdict history h day caller n)
-one_show history h day caller n = asked (asked accepted)
+one_show history h day caller n = checked (checked accepted)
 
 one_list : (history : History) (h : List ℕ) (day : ℕ) (caller : List ℕ) → One (ListVerdict history h day caller)
-one_list history h day caller = asked accepted
+one_list history h day caller = checked accepted
 
 none≢some : {r : Rule} {A : Type 0} → None ≡ Some r → A
 none≢some same = absurd cc
