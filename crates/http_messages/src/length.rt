@@ -33,6 +33,7 @@ pub fn body_length(
     }
 }
 
+/// The length that `Content-Length` gives, within the limit.
 fn length_within(text: &[u8], has_body: bool) -> Result<Option<usize>, Refusal>
     ensures { result ≡ length_within has_body (content_length text.now) }
 {
@@ -61,6 +62,7 @@ fn capped_length(text: &[u8]) -> Option<usize>
     Some(capped_number(text))
 }
 
+/// Whether the text is one decimal digit or more.
 fn is_number(text: &[u8]) -> bool
     ensures { result ≡ is_number text.now }
 {
@@ -73,6 +75,7 @@ fn are_digits(text: &[u8]) -> bool
     text.iter().all(|byte| byte.is_ascii_digit())
 }
 
+/// The number that digits write, or one more than the limit.
 fn capped_number(digits: &[u8]) -> usize
     requires { is_number digits.now ≡ true }
     ensures { result ≡ min (digits_value 10 digits.now) (BODY_LIMIT + 1) }

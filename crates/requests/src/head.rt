@@ -65,6 +65,7 @@ fn parse_head(head: &[u8], fields: &mut [HeaderSpan]) -> Option<RequestSpans>
     }
 }
 
+/// What a method, a target and fields ask for, or their first fault.
 fn head_of<'a>(
     alloc: Global,
     head: &'a [u8],
@@ -97,6 +98,7 @@ fn head_of<'a>(
     }
 }
 
+/// The value of the one field `Desk-Caller`.
 fn caller_field<'a>(head: &'a [u8], fields: &[HeaderSpan]) -> Option<&'a [u8]>
     requires { All (IsHeaderWithin (length head.now)) fields.now }
     ensures { option_map (λ caller. caller.now) result

@@ -90,6 +90,7 @@ impl Path {
         }
     }
 
+    /// Whether the path has this method.
     fn has(self, method: Method) -> bool
         ensures { result ≡ is_some (action_at (method_name method) (actions_of self)) }
     {

@@ -16,6 +16,7 @@ pub(crate) fn number_piece(path: &[u8]) -> &[u8]
     before_slash(after_slash(after_slash(after_slash(after_slash(path)))))
 }
 
+/// What is before the first slash.
 fn before_slash(path: &[u8]) -> &[u8]
     ensures { result.now ≡ before_slash path.now }
 {
@@ -25,6 +26,7 @@ fn before_slash(path: &[u8]) -> &[u8]
     }
 }
 
+/// What is after the first slash.
 fn after_slash(path: &[u8]) -> &[u8]
     ensures { result.now ≡ after_slash path.now }
 {

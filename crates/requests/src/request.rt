@@ -52,6 +52,7 @@ pub fn read_line_request(alloc: Global, line: &[u8]) -> Result<Asked, LineFault>
     }
 }
 
+/// The request of a line, or its lowest fault.
 fn asked_in(alloc: Global, line: &[u8]) -> Read<Asked>
     ensures { IfOk result (λ asked. mapped asked_terms asked ≡ asked_in line.now) }
 {
@@ -64,6 +65,7 @@ fn asked_in(alloc: Global, line: &[u8]) -> Read<Asked>
     }
 }
 
+/// The request of a JSON value, by its `do`.
 fn asked_by(alloc: Global, value: &Value) -> Read<Asked>
     ensures { IfOk result (λ asked. mapped asked_terms asked
         ≡ asked_by (action_in (view value.now)) (view value.now)) }
@@ -74,6 +76,7 @@ fn asked_by(alloc: Global, value: &Value) -> Read<Asked>
     }
 }
 
+/// The request of a JSON value whose `do` is known.
 fn asked_as(alloc: Global, action: Action, value: &Value) -> Read<Asked>
     ensures { IfOk result (λ asked. mapped asked_terms asked ≡ asked_as action (view value.now)) }
 {
@@ -85,6 +88,7 @@ fn asked_as(alloc: Global, action: Action, value: &Value) -> Read<Asked>
     Ok(unless(asked, only_members_of(action, value)))
 }
 
+/// Puts day, caller and request together.
 fn asked_with(parts: Result<(Day, (Name, Request)), Fault>) -> Result<Asked, Fault>
     ensures { result ≡ mapped (λ p. record { day = p.0; caller = p.1.0; request = p.1.1 }) parts }
 {
@@ -96,6 +100,7 @@ fn asked_with(parts: Result<(Day, (Name, Request)), Fault>) -> Result<Asked, Fau
     })
 }
 
+/// What a line names, by its members.
 fn line_subject(value: &Value) -> Subject
     ensures { result ≡ line_subject (view value.now) }
 {

@@ -22,12 +22,14 @@ pub(crate) fn path_of(alloc: Global, target: &[u8]) -> Result<Option<Path>, Allo
     Ok(value_at(&router, text))
 }
 
+/// Whether a target has a query or a fragment.
 fn has_query(target: &[u8]) -> bool
     ensures { result ≡ has_query target.now }
 {
     target.iter().any(|byte| *byte == b'?' || *byte == b'#')
 }
 
+/// The path that the routes give a text.
 fn value_at(router: &Router<Path>, text: &str) -> Option<Path>
     ensures { result ≡ option_map (λ route. route.value) (first router.now text.now) }
 {

@@ -22,12 +22,14 @@ pub(crate) struct Subject {
     pub(crate) number: Result<u32, Fault>,
 }
 
+/// The holder that is named, and the member `prefix`.
 fn holder_and_prefix(subject: Subject, value: &Value) -> Result<(Name, Prefix), Fault>
     ensures { result ≡ holder_and_prefix subject (view value.now) }
 {
     both(subject.holder, prefix_in(value))
 }
 
+/// The holder and the number that are named.
 fn holder_and_number(subject: Subject) -> Result<(Name, u32), Fault>
     ensures { result ≡ holder_and_number subject }
 {
@@ -68,6 +70,7 @@ pub(crate) fn reclaim_in(subject: Subject, value: &Value) -> Result<Request, Fau
     Ok(Request::Command(Command::Reclaim { holder, prefix }))
 }
 
+/// What a grant gives, and to whom.
 fn access_in(value: &Value) -> Result<(Name, (Role, (Scope, Day))), Fault>
     ensures { result ≡ access_in (view value.now) }
 {

@@ -28,6 +28,7 @@ pub(crate) fn slurm_of(alloc: Global, value: &Value) -> Read<Request>
     Ok(asked_slurm(file))
 }
 
+/// The request with this file.
 fn asked_slurm(file: Result<Slurm, Fault>) -> Result<Request, Fault>
     ensures { result ≡ mapped (λ f. Request.Command (Command.Slurm f)) file }
 {
@@ -35,6 +36,7 @@ fn asked_slurm(file: Result<Slurm, Fault>) -> Result<Request, Fault>
     Ok(Request::Command(Command::Slurm { file }))
 }
 
+/// The file that is the member `file`.
 fn file_in(alloc: Global, value: &Value) -> Read<Slurm>
     ensures { IfOk result (λ file. file ≡ file_in (view value.now)) }
 {
@@ -44,6 +46,7 @@ fn file_in(alloc: Global, value: &Value) -> Read<Slurm>
     }
 }
 
+/// The file that a value is.
 fn as_file(alloc: Global, value: &Value) -> Read<Slurm>
     ensures { IfOk result (λ file. file ≡ as_file (view value.now)) }
 {

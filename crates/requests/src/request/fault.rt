@@ -40,6 +40,7 @@ pub(crate) enum Fault {
 }
 
 impl Fault {
+    /// The number that is reported.
     pub(crate) fn number(self) -> u8
         ensures { result ≡ malformed_number self }
     {
@@ -60,6 +61,7 @@ impl Fault {
         }
     }
 
+    /// The fault of a request with a faulty import.
     pub(crate) fn of_import(fault: ImportFault) -> Fault
         ensures { result ≡ fault_of_import fault }
     {
@@ -73,6 +75,7 @@ impl Fault {
         }
     }
 
+    /// The number of the fault of a SLURM file.
     fn slurm_number(self) -> Option<u8>
         ensures { result ≡ slurm_number self }
     {
@@ -82,6 +85,7 @@ impl Fault {
         }
     }
 
+    /// What is reported of a request with this fault.
     pub(crate) fn malformed(self) -> Malformed
         ensures { result ≡ as_malformed self }
     {

@@ -23,6 +23,7 @@ const MOST_CHANGES: usize = 1_000;
 
 // ---- requests
 
+/// The import with the rows that are a member.
 pub(crate) fn import_in(alloc: Global, subject: Subject, value: &Value) -> Read<Request>
     ensures { IfOk result (λ request. mapped request_terms request
         ≡ request_in Action.Import subject (view value.now)) }
@@ -31,6 +32,7 @@ pub(crate) fn import_in(alloc: Global, subject: Subject, value: &Value) -> Read<
     Ok(asked_import(both(subject.holder, rows)))
 }
 
+/// The import of these rows.
 pub(crate) fn asked_import(parts: Result<(Name, Vec<ImportRow>), Fault>) -> Result<Request, Fault>
     ensures { result ≡ mapped (λ p. Request.Command (Command.Import p.0 p.1)) parts }
 {
@@ -38,6 +40,7 @@ pub(crate) fn asked_import(parts: Result<(Name, Vec<ImportRow>), Fault>) -> Resu
     Ok(Request::Command(Command::Import { holder, rows }))
 }
 
+/// The query for the validity of the routes that are a member.
 pub(crate) fn validity_in(alloc: Global, value: &Value) -> Read<Request>
     ensures { IfOk result (λ request. mapped request_terms request
         ≡ mapped validity (routes_in (view value.now))) }
@@ -46,6 +49,7 @@ pub(crate) fn validity_in(alloc: Global, value: &Value) -> Read<Request>
     Ok(asked_validity(routes))
 }
 
+/// The query for the validity of these routes.
 fn asked_validity(routes: Result<Vec<Route>, Fault>) -> Result<Request, Fault>
     ensures { result ≡ mapped (λ r. Request.Query (Query.Validity r)) routes }
 {
@@ -53,6 +57,7 @@ fn asked_validity(routes: Result<Vec<Route>, Fault>) -> Result<Request, Fault>
     Ok(Request::Query(Query::Validity { routes }))
 }
 
+/// The query for what the changes that are a member would do to the routes that are another.
 pub(crate) fn what_if_in(alloc: Global, subject: Subject, value: &Value) -> Read<Request>
     ensures { IfOk result (λ request. mapped request_terms request
         ≡ request_in Action.WhatIf subject (view value.now)) }
@@ -62,6 +67,7 @@ pub(crate) fn what_if_in(alloc: Global, subject: Subject, value: &Value) -> Read
     Ok(asked_what_if(both(subject.holder, both(changes, routes))))
 }
 
+/// The query for what these changes would do to these routes.
 fn asked_what_if(
     parts: Result<(Name, (Vec<Proposed>, Vec<Route>)), Fault>,
 ) -> Result<Request, Fault>
@@ -98,6 +104,7 @@ fn items_in<T: FromJson<Fault>>(
     Ok(unless(items, count_of(least, most, values.len())))
 }
 
+/// Whether there are `least` to `most` items.
 fn count_of(least: usize, most: usize, count: usize) -> Result<(), Fault>
     ensures { result ≡ count_of least most count }
 {
@@ -134,6 +141,7 @@ impl FromJson<Fault> for Proposed {
     }
 }
 
+/// A change that creates an authorization.
 fn creation_in(value: &Value) -> Result<Proposed, Fault>
     ensures { result ≡ change_by (Some Action.Create) (view value.now) }
 {
@@ -144,6 +152,7 @@ fn creation_in(value: &Value) -> Result<Proposed, Fault>
     Ok(Proposed::Create(terms))
 }
 
+/// A change that withdraws one.
 fn withdrawal_in(value: &Value) -> Result<Proposed, Fault>
     ensures { result ≡ change_by (Some Action.Withdraw) (view value.now) }
 {

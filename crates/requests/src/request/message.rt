@@ -44,6 +44,7 @@ pub fn read_http_request(
     }
 }
 
+/// The request of a head and a body on this day, or its lowest fault.
 fn asked_of(alloc: Global, day: Day, head: &Head<'_>, body: Option<&[u8]>) -> Read<Asked>
     ensures { IfOk result (λ asked. mapped asked_terms asked
         ≡ asked_of day (head_view head.now) (option_copied body.entry)) }
@@ -52,6 +53,7 @@ fn asked_of(alloc: Global, day: Day, head: &Head<'_>, body: Option<&[u8]>) -> Re
     Ok(asked_with(both(Ok(day), both(caller_of(head), request))))
 }
 
+/// The caller that the head names.
 fn caller_of(head: &Head<'_>) -> Result<Name, Fault>
     ensures { result ≡ caller_of (head_view head.now) }
 {
@@ -61,6 +63,7 @@ fn caller_of(head: &Head<'_>) -> Result<Name, Fault>
     }
 }
 
+/// What a head and a body ask, whoever the caller is.
 fn request_of(alloc: Global, head: &Head<'_>, body: Option<&[u8]>) -> Read<Request>
     ensures { IfOk result (λ request. mapped request_terms request
         ≡ request_of (head_view head.now) (option_copied body.entry)) }
@@ -73,6 +76,7 @@ fn request_of(alloc: Global, head: &Head<'_>, body: Option<&[u8]>) -> Read<Reque
     }
 }
 
+/// The request of a body that is a SLURM file.
 fn file_body(alloc: Global, body: Option<&[u8]>) -> Read<Request>
     ensures { IfOk result (λ request. mapped request_terms request
         ≡ slurm_request (file_of (json_tree (option_copied body.entry)))) }
@@ -86,6 +90,7 @@ fn file_body(alloc: Global, body: Option<&[u8]>) -> Read<Request>
     }
 }
 
+/// The request of a body that is an import in CSV.
 fn import_body(alloc: Global, subject: Subject, body: Option<&[u8]>) -> Read<Request>
     ensures { IfOk result (λ request. mapped request_terms request
         ≡ import_body subject (option_copied body.entry)) }
@@ -94,6 +99,7 @@ fn import_body(alloc: Global, subject: Subject, body: Option<&[u8]>) -> Read<Req
     Ok(asked_import(both(subject.holder, rows)))
 }
 
+/// The bytes of a body: none where there is no body.
 fn body_bytes(body: Option<&[u8]>) -> &[u8]
     ensures { result.now ≡ body_bytes (option_copied body.entry) }
 {
@@ -103,6 +109,7 @@ fn body_bytes(body: Option<&[u8]>) -> &[u8]
     }
 }
 
+/// The rows of an import in CSV.
 fn import_rows(alloc: Global, text: &[u8]) -> Read<Vec<ImportRow>>
     ensures { IfOk result (λ rows. mapped (λ v. v.items) rows ≡ import_rows text.now) }
 {
@@ -112,6 +119,7 @@ fn import_rows(alloc: Global, text: &[u8]) -> Read<Vec<ImportRow>>
     }
 }
 
+/// The request of a body that is a JSON object.
 fn object_body(
     alloc: Global,
     action: Action,
@@ -130,6 +138,7 @@ fn object_body(
     }
 }
 
+/// What the path names.
 fn path_subject(head: &Head<'_>) -> Subject
     ensures { result ≡ path_subject (head_view head.now) }
 {
@@ -139,6 +148,7 @@ fn path_subject(head: &Head<'_>) -> Subject
     }
 }
 
+/// The number of a grant or of an authorization, from the path.
 fn path_number(text: &[u8]) -> Option<u32>
     ensures { result ≡ path_number text.now }
 {
@@ -148,6 +158,7 @@ fn path_number(text: &[u8]) -> Option<u32>
     }
 }
 
+/// The request of a JSON object that has the members of a body and no others.
 fn object_request(alloc: Global, action: Action, subject: Subject, value: &Value) -> Read<Request>
     ensures { IfOk result (λ request. mapped request_terms request
         ≡ object_request action subject (view value.now)) }
