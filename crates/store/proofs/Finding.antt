@@ -1,5 +1,5 @@
 -- What the queries of the values of one holder answer.
-use Rattle.std.proofs.Common.{◌≡◌, ℕ, suc, Bool, List, [], ◌∷◌, map, filter, drop, length, Option, Some, None, Ordering, Equal, refl, sym, ap, subst, ◌∙◌, codes, IsPermutation, IsSorted, IsTrue, false}
+use Rattle.std.proofs.Common.{◌≡◌, ℕ, suc, Bool, List, [], ◌∷◌, map, filter, drop, length, Option, Some, None, Ordering, Equal, refl, sym, ap, subst, ◌∙◌, IsPermutation, IsSorted, IsTrue, false}
 use Rattle.std.specs.Ordering.{then_cmp, ordering_then}
 use Rattle.std.proofs.lemmas.List.Sorted.{IsPermutation-trans, IsPermutation-map}
 use Rattle.sqlite.specs.Effect.{Database, Reads}
@@ -123,7 +123,7 @@ counters_query = record {
   counted = refl;
   text = SELECT_COUNTERS.now;
   order = [];
-  titles = codes "grants" ∷ codes "auths" ∷ [];
+  titles = _;
   means = counters_is;
   held = λ _ _ _ holds. holds.holders;
   shows = λ _ _. refl;
@@ -140,7 +140,7 @@ spans_query = record {
   counted = refl;
   text = SELECT_HOLDER_SPANS.now;
   order = upwards 1 ∷ upwards 2 ∷ [];
-  titles = codes "family" ∷ codes "lo" ∷ codes "hi" ∷ [];
+  titles = _;
   means = spans_is;
   held = λ _ _ _ holds. holds.holdings;
   shows = λ h r. map-map (columns (0 ∷ 1 ∷ 2 ∷ [])) (holding_row h) r.holdings;
@@ -157,7 +157,7 @@ grants_query = record {
   counted = refl;
   text = SELECT_HOLDER_GRANTS.now;
   order = upwards 2 ∷ [];
-  titles = codes "number" ∷ codes "caller" ∷ codes "role" ∷ codes "family" ∷ codes "lo" ∷ codes "len" ∷ codes "until" ∷ [];
+  titles = _;
   means = grants_is;
   held = λ _ _ _ holds. holds.grants;
   shows = λ h r. map-map (columns grant_places) (granted_row h) r.grants ∙ (λ i. map (λ g. grant_shown h g i) r.grants);
@@ -177,7 +177,7 @@ auths_query = record {
   counted = refl;
   text = SELECT_HOLDER_AUTHS.now;
   order = upwards 2 ∷ [];
-  titles = codes "number" ∷ codes "asn" ∷ codes "family" ∷ codes "lo" ∷ codes "len" ∷ codes "max" ∷ codes "opens" ∷ codes "ends" ∷ [];
+  titles = _;
   means = auths_is;
   held = λ _ _ _ holds. holds.auths;
   shows = λ h r. map-map (columns auth_places) (auth_row h) r.auths;
