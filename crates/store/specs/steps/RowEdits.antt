@@ -1,5 +1,5 @@
 -- The steps in which a change edits the rows of a holder.
-use Rattle.std.specs.Prelude.{ℕ, Bool, true, false, ◌==◌, not, List, [], ◌∷◌, ◌++◌, filter}
+use Rattle.std.specs.Prelude.{ℕ, Bool, true, false, ◌==◌, not, List, ◌++◌, filter}
 use Rattle.std.specs.List.{list_any}
 use Rattle.addr.specs.Spans.{without_runs}
 use Rattle.addr.specs.declared.span.Span.{Span}
