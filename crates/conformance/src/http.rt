@@ -122,7 +122,7 @@ fn reason_of(status: &str) -> Result<&'static str, Fail> {
     }
 }
 
-/// A response in JSON, of which the status and the body stand in a row.
+/// A response in JSON; a row has its status and its body.
 pub(crate) fn json_response(alloc: Global, output: &str) -> Result<String, Fail> {
     let (status, text) = output.split_once(' ').ok_or("no body")?;
     let body = format!(in alloc; "{text}\n")?;

@@ -1,4 +1,4 @@
--- What a reading tells is the lowest of all faults, combinator by combinator.
+-- A reading reports the lowest of all faults, combinator by combinator.
 use Rattle.std.proofs.Common.{◌≡◌, ℕ, Bool, true, false, if◌then◌else◌, List, [], ◌∷◌, ◌++◌, Option, Some, None, is_some, Result, Ok, Err, refl, ap, sym, ◌∙◌}
 use Rattle.std.proofs.lemmas.Bool.{and_parts}
 use Rattle.std.proofs.lemmas.List.Folds.{list_all-append}
@@ -23,7 +23,7 @@ lowest-append number [] ys = refl
 lowest-append number (n ∷ xs) ys =
     ap (lower_of number (Some n)) (lowest-append number xs ys) ∙ sym (lower_of-assoc number (Some n) (lowest number xs) (lowest number ys))
 
--- the reading tells the lowest of these faults, and a value where there are none
+-- the reading reports the lowest of these faults, and a value where there are none
 pub record Told {A F : Type 0} (number : F → ℕ) (r : Result A F) (faults : List F) : Type 0 where
   pub is : result_err r ≡ lowest number faults
 

@@ -1,5 +1,5 @@
--- The faults of a JSON value as a list, wherever in the value they stand. The lowest of all is
--- told: faults are compared by `number`.
+-- The faults of a JSON value as a list, wherever in the value they are. The lowest of all is
+-- reported: faults are compared by `number`.
 use Rattle.std.specs.Prelude.{ℕ, Bool, true, false, List, [], ◌∷◌, Option, Some, None, is_some}
 use Rattle.serde_json.specs.Data.{Data, Members}
 use Rattle.serde_json.specs.Find.{as_object}

@@ -1,5 +1,5 @@
 -- Steps of readers: values that are read of several parts. A whole is read from all of its parts,
--- so that its fault is the lowest of all of theirs, wherever they stand: faults are compared by
+-- so that its fault is the lowest of all of theirs, wherever they are: faults are compared by
 -- `number`.
 use Rattle.std.specs.Prelude.{ℕ, nat_le, if◌then◌else◌, List, [], ◌∷◌, ◌++◌, Option, Some, None, Result, Ok, Err}
 

@@ -7,7 +7,7 @@ pub trait Fault: Copy {
 
     ghost members: { Self };
 
-    /// Where several faults apply, the one of the lowest number is told.
+    /// Where several faults apply, the one of the lowest number is reported.
     fn number(self) -> u8
         ensures { result ≡ number self };
 

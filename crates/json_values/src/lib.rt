@@ -1,5 +1,5 @@
 //! Reading JSON values: those that lines and SLURM files have in common, and the parts of a value.
-//! All parts are read, and of all their faults the one of the lowest number is told.
+//! All parts are read, and of all their faults the one of the lowest number is reported.
 #![tactic(auto)]
 
 mod fault;

@@ -49,7 +49,7 @@ impl<T: Drop, F: Fault> Gathered<T, F> {
     }
 }
 
-/// What all values are read as, in their order. The outer error is want of memory.
+/// What all values are read as, in their order. The outer error is an allocation that failed.
 pub fn each<T: FromJson<F>, F: Fault>(
     alloc: Global,
     values: &[Value],

@@ -1,4 +1,4 @@
--- What `dedup` keeps where `==` holds of what an order does not tell apart.
+-- What `dedup` keeps where `==` holds of what an order does not distinguish.
 use Rattle.std.proofs.Common.{◌≡◌, Bool, true, List, sym, ap, subst, ◌∙◌, Ordering}
 use Rattle.std.specs.Cmp.{IsTotalOrder, IsEquivalence, both_ways, eq_by_cmp_equiv}
 use Rattle.std.specs.List.{dedup, list_any}

@@ -74,7 +74,7 @@ IsCutShort bytes =
     × (bytes ≡ head ++ rest) × IsWholeHead head × SaysHead head (Ok said)
     × (said.body_length ≡ Some size) × (length rest < size))
 
--- the bytes end with a head, or with the body that it tells
+-- the bytes end with a head, or with the body whose length it gives
 abbrev pub IsWithinMessage : List ℕ → Type 0
 IsWithinMessage bytes =
     IsWholeHead bytes ⊎ ((said : Head) × (body : Option (List ℕ)) × IsMessage bytes said body)

@@ -1,4 +1,4 @@
-//! What a request is refused for before it is asked of the desk.
+//! What a request is refused for before the desk sees it.
 ghost use Rattle.std.specs.Prelude.{◌≡◌};
 
 use crate::request::fault::Fault;

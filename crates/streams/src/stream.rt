@@ -1,4 +1,4 @@
-//! Where bytes come from and where they go, each told by what has passed so far, since what a file
+//! Where bytes come from and where they go, each modelled by what has passed so far, since what a file
 //! or a socket will give is not known.
 ghost use Rattle.std.specs.Prelude.{◌≡◌, ℕ, Bool, List, true, ◌++◌, ◌<◌, ◌≤◌, ◌^◌, ◌&&◌, ◌==◌, nat_lt, length, take, is_err, IsErr, IfOk, OnOk, OnErr};
 ghost use Rattle.streams.specs.Streams.{AppendsBeginning};
@@ -9,7 +9,7 @@ pub struct Failed;
 
 /// What gives bytes. An end is a read that had room and was given nothing.
 pub trait Source {
-    // The bytes handed out so far.
+    // The bytes given so far.
     ghost handed_out: { Self → List ℕ };
 
     // Whether the last read met the end.
@@ -20,7 +20,7 @@ pub trait Source {
     // How many more reads may be answered at most. So read number 2^64 fails at the latest.
     ghost reads_left: { Self → ℕ };
 
-    /// Puts the next bytes at the buffer's start, and tells how many. The rest of the buffer may
+    /// Puts the next bytes at the buffer's start, and returns how many. The rest of the buffer may
     /// change.
     fn read(&mut self, buffer: &mut [u8]) -> Result<usize, Failed>
         ensures bound { IfOk result (λ n. n ≤ length buffer.new) }
@@ -44,7 +44,7 @@ pub trait Drain {
 
     ghost has_failed: { Self → Bool };
 
-    /// Writes a beginning of the bytes, and tells its length.
+    /// Writes a beginning of the bytes, and returns its length.
     fn write(&mut self, bytes: &[u8]) -> Result<usize, Failed>
         ensures bound { IfOk result (λ n. n ≤ length bytes.now) }
         ensures some { IfOk result (λ n. 0 < length bytes.now → 0 < n) }

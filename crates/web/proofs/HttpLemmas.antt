@@ -93,7 +93,7 @@ long-keeps charter before after day caller (CommandRequest command) Unavailable 
 long-keeps charter before after day caller (CommandRequest command) other answers long = absurd answers
 
 module _ {S : Type 0} (g : Ghosts S) where
-  -- a request was asked of the desk
+  -- the desk answered a request
   pub replies_at : (old new : Desk S) (request : Asked) (reply : Reply) → charter_of new ≡ charter_of old
       → (IsOnCleanDisk g new → (history : History) → IsLegal (charter_of old) history → HoldsHistory g old history
       → IsAnswered g (charter_of old) history request.day request.caller request.request reply new)

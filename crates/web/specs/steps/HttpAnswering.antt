@@ -12,7 +12,7 @@ use Rattle.web.specs.ReplyText.{short_text}
 use Rattle.web.specs.declared.http.answer.HttpAnswer.{HttpAnswer}
 use Rattle.web.specs.declared.http.answer.HttpAnswer.TheVariants.{Malformed, NotRead, Refused, Replied}
 
--- what the bytes are answered with, and what was asked of the desk
+-- what the bytes are answered with, and the request that the desk answered
 abbrev pub AnswersWith : {S : Type 0} → Ghosts S → Desk S → ℕ → List ℕ → HttpAnswer → Desk S → Type 0
 AnswersWith g old day bytes (Refused refusal) new = ReadsHttp day bytes (refused refusal) × (new ≡ old)
 AnswersWith g old day bytes (Malformed fault) new = ReadsHttp day bytes (malformed fault) × (new ≡ old)
