@@ -13,7 +13,7 @@ mod opened_desks;
 #[cfg(test)]
 mod replies;
 #[cfg(test)]
-mod requests;
+mod request_lines;
 #[cfg(test)]
 mod rules;
 #[cfg(test)]

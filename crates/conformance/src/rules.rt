@@ -3,8 +3,8 @@ use crate::scripts::{ALPHA, Dialogue, example_charter, example_desk};
 use addr::{Asn, Day, Holdings, Name, Prefix};
 use desk::{Reply, Request};
 use policy::{
-    AuthTerms, Change, Command, Edit, Granted, HolderRows, ImportRow, Proposed, Refusal, Role, Rule, Scope,
-    View, decide, suppose,
+    AuthTerms, Change, Command, Edit, Granted, HolderRows, ImportRow, Proposed, Refusal, Role,
+    Rule, Scope, View, decide, suppose,
 };
 use std::alloc::Global;
 use std::test::Fail;

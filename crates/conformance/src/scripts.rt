@@ -25,8 +25,8 @@ mod imports;
 mod other_holders;
 mod repeats;
 mod resources;
-mod suppositions;
 mod vrps;
+mod what_if;
 
 /// `alpha` has 192.0.2.0/24, and `ann` is its manager.
 pub(crate) const ALPHA: &str = r#"
@@ -301,7 +301,7 @@ fn scripts_have_their_replies(rt: HostRuntime) -> Result<(), Fail> {
     assert_all(&rt, rt.alloc(), amendments::SCRIPTS)?;
     assert_all(&rt, rt.alloc(), contents::SCRIPTS)?;
     assert_all(&rt, rt.alloc(), imports::SCRIPTS)?;
-    assert_all(&rt, rt.alloc(), suppositions::SCRIPTS)?;
+    assert_all(&rt, rt.alloc(), what_if::SCRIPTS)?;
     assert_all(&rt, rt.alloc(), vrps::SCRIPTS)?;
     assert_all(&rt, rt.alloc(), exceptions::SCRIPTS)
 }
