@@ -1,3 +1,4 @@
+//! AS numbers.
 ghost use Rattle.std.specs.Prelude.{◌≡◌, ℕ, ◌^◌, ◌<◌, MatchOption, Some};
 ghost use Rattle.std.specs.Option.{option_map};
 ghost use Rattle.addr.specs.Digits.{asn_text, asn_in};

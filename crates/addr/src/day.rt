@@ -1,3 +1,4 @@
+//! Days of the calendar.
 ghost use Rattle.std.specs.Prelude.{◌≡◌, ◌+◌, ◌≤◌, ◌++◌, IfSome, nat_le, if◌then◌else◌, pos, Some, None};
 ghost use Rattle.arrayvec.specs.ArrayString.{array_string_len};
 ghost use Rattle.jiff.specs.Words.{epoch_day};

@@ -1,3 +1,4 @@
+//! Address families.
 ghost use Rattle.std.specs.Prelude.{◌≡◌, ◌-◌, ◌^◌};
 ghost use Rattle.addr.specs.Family.{width, family_eq};
 

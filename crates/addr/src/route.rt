@@ -1,3 +1,4 @@
+//! Announced routes.
 use crate::{Asn, Prefix};
 
 /// Who announced a route: an AS, or none where the path names no single one (RFC 6811 section 2).

@@ -45,7 +45,7 @@ impl PrefixFault {
     }
 }
 
-// What a text of the loose shape says: the length may be too great, and bits past it may be set.
+/// What a text of the loose shape says: the length may be too great, and bits past it may be set.
 #[derive(Clone, Copy)]
 struct PrefixParts {
     family: Family,

@@ -1,3 +1,4 @@
+//! Validated ROA payloads.
 ghost use Rattle.std.specs.Prelude.{◌≡◌, ◌≤◌, ◌↔◌, IsSome, IfSome};
 ghost use Rattle.addr.specs.Family.{width};
 

@@ -1,3 +1,4 @@
+//! The charter: operators and pool.
 ghost use Rattle.std.specs.Prelude.{nat_eq, ◌||◌, Err, IfOk, IsPermutation, IsSorted, ◌≡◌, ◌≤◌, ◌↔◌, true, false, IsTrue, IfNone, IfSome, option_copied, find};
 ghost use Rattle.std.specs.Ordering.{nat_cmp};
 ghost use Rattle.std.specs.Cmp.Lexicographic.{pointwise, slice_cmp};

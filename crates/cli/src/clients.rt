@@ -1,4 +1,4 @@
-// Clients on the loopback for tests.
+//! Clients on the loopback for tests.
 use crate::serve::serve_on;
 use addr::Day;
 use desk::Desk;
@@ -12,7 +12,7 @@ use std::time::Clock;
 
 pub(crate) const CHARTER: &str = "kind,value\noperator,reg\npool,192.0.2.0/24\n";
 
-// Requests that leave one authorization at `alpha`, as caller, method, path and body.
+/// Requests that leave one authorization at `alpha`, as caller, method, path and body.
 pub(crate) const SETUP: [(&str, &str, &str, &str); 4] = [
     ("reg", "PUT", "/holders/alpha", ""),
     (
@@ -33,7 +33,7 @@ pub(crate) const SETUP: [(&str, &str, &str, &str); 4] = [
 pub(crate) const CREATE: &str = "{\"asn\":64496,\"prefix\":\"192.0.2.0/24\",\"max\":24,\
     \"from\":\"2026-01-01\",\"until\":\"2026-12-31\"}";
 
-// What the clients were answered, and the lines on their connections.
+/// What the clients were answered, and the lines on their connections.
 #[derive(Drop)]
 pub(crate) struct Served {
     pub(crate) answers: Vec<String>,
@@ -51,7 +51,7 @@ pub(crate) fn request(
     )
 }
 
-// Each client connects and sends its text, the desk serves them all, and each client reads.
+/// Each client connects and sends its text, the desk serves them all, and each client reads.
 pub(crate) fn serve<R: Clock, S: Alter>(
     rt: &HostRuntime,
     clock: &R,

@@ -138,7 +138,7 @@ fn run_help_task(rt: &HostRuntime) -> Result<(), ProgramFault> {
     }
 }
 
-// Both files are read before either is judged.
+/// Both files are read before either is judged.
 fn run_check_task(rt: &HostRuntime, payloads: &str, routes: &str) -> Result<(), ProgramFault> {
     let payloads = read_file(rt, payloads)?;
     let routes = read_file(rt, routes)?;
@@ -153,7 +153,7 @@ fn read_file(rt: &HostRuntime, path: &str) -> Result<Vec<u8>, ProgramFault> {
     }
 }
 
-// How many bytes the file has; none where there is no such file.
+/// How many bytes the file has; none where there is no such file.
 fn size_of(rt: &HostRuntime, path: &str) -> Result<Option<u64>, ProgramFault> {
     match fs::metadata(rt, path) {
         Ok(metadata) => Ok(Some(metadata.len())),
@@ -162,7 +162,7 @@ fn size_of(rt: &HostRuntime, path: &str) -> Result<Option<u64>, ProgramFault> {
     }
 }
 
-// The fault of an allocation that failed, or else this fault.
+/// The fault of an allocation that failed, or else this fault.
 fn fault_of_error(error: &io::Error, fault: ProgramFault) -> ProgramFault {
     match error.kind() {
         ErrorKind::OutOfMemory => ProgramFault::Memory,

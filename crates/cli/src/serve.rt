@@ -49,7 +49,7 @@ pub fn serve_on<R: Clock, S: Alter, W: Write>(
     Ok(())
 }
 
-// Answers the request of a connection.
+/// Answers the request of a connection.
 fn answer<R: Clock, S: Alter>(
     alloc: Global,
     clock: &R,
@@ -69,7 +69,7 @@ fn answer<R: Clock, S: Alter>(
     serve_one(alloc, &mut source, &mut drain, desk, day)
 }
 
-// The line for a connection that failed.
+/// The line for a connection that failed.
 fn fault_line(number: u32, fault: WebFault) -> ArrayString<80>
     ensures { result.bytes ≡ fault_line number (web_fault_number fault) }
 {

@@ -1,3 +1,4 @@
+//! Runs of the program's tasks.
 use super::run_task;
 use crate::clients::{CHARTER, SETUP, request, serve};
 use crate::desk_file::{close_desk, open_desk};

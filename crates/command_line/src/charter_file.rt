@@ -22,8 +22,8 @@ enum CharterRow {
     Pool(Prefix),
 }
 
-// The rows that were read. A file may have any number of them, so sets find a row that repeats
-// another.
+/// The rows that were read. A file may have any number of them, so sets find a row that repeats
+/// another.
 #[derive(Drop)]
 struct CharterRows {
     operators: Vec<Name>,
@@ -113,7 +113,7 @@ impl CharterRows {
         Ok(())
     }
 
-    // The fault of the row that comes next.
+    /// The fault of the row that comes next.
     fn fault(&self, fault: RowFault) -> FileFault
         ensures { result
             ≡ file.Row (length self.now.operators.items + length self.now.pool.items + 1) fault }
@@ -124,7 +124,7 @@ impl CharterRows {
         }
     }
 
-    // Puts the row into its set, and answers whether it was not there.
+    /// Puts the row into its set, and answers whether it was not there.
     fn note(&mut self, row: &CharterRow) -> Result<bool, AllocError>
         ensures is_new { IfOk result (λ is_new. is_new ≡ not (is_noted self.old row.now)) }
         ensures noted { OnOk result (

@@ -44,7 +44,7 @@ pub fn check_on<D: Drain>(
     Ok(())
 }
 
-// The lines for the routes of a file.
+/// The lines for the routes of a file.
 fn lines_of(alloc: Global, index: &ListIndex, text: &[u8]) -> Result<Vec<u8>, FileFault>
     ensures ok { IfOk result (λ lines. (routes : List announced.Route)
         × (csv_records text.now ≡ route_header ∷ map route_row routes)
@@ -84,7 +84,7 @@ fn lines_of_rows(
     Ok(lines)
 }
 
-// The texts of a row have one spelling, so they are what is printed.
+/// The texts of a row have one spelling, so they are what is printed.
 fn push_line(lines: &mut Vec<u8>, read: &RouteRow<'_>, state: Validity) -> Result<(), AllocError>
     ensures { OnOk result (lines.new.items
         ≡ lines.old.items ++ (read.now.prefix.now ++ 44 ∷ read.now.origin.now

@@ -138,7 +138,7 @@ fn task_of_five<'a>(
     }
 }
 
-// The text after each option of `serve`.
+/// The text after each option of `serve`.
 #[derive(Clone, Copy)]
 struct ServeTexts<'a> {
     database: &'a str,

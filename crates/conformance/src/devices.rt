@@ -16,7 +16,7 @@ struct Outcome {
     written: Vec<u8>,
 }
 
-// Runs a script that comes in pieces, and then ends or fails, into a device that takes `room` bytes.
+/// Runs a script that comes in pieces, and then ends or fails, into a device that takes `room` bytes.
 fn run(
     alloc: Global,
     desk: &mut Desk<MemStore>,
@@ -104,8 +104,8 @@ const REGISTER_THREE: &str = r#"{"day":"2026-03-01","caller":"reg","do":"registe
 
 const DONE_THREE: &str = "{\"done\":null}\n{\"done\":null}\n{\"done\":null}\n";
 
-// Asked again, the commands that were acted on are denied: the one whose reply was cut short, and
-// none after it.
+/// Asked again, the commands that were acted on are denied: the one whose reply was cut short, and
+/// none after it.
 #[test]
 fn write_that_fails_cuts_the_replies_short(rt: HostRuntime) -> Result<(), Fail> {
     let alloc = rt.alloc();

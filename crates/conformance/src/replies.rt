@@ -26,7 +26,7 @@ fn vrp(asn: u32, prefix: &str, max: u8) -> Result<Vrp, Fail> {
     Ok(Vrp::from_parts(prefix, max, Asn(asn)).ok_or("a VRP")?)
 }
 
-// What the reply writes to a device that takes `room` bytes.
+/// What the reply writes to a device that takes `room` bytes.
 fn written(alloc: Global, reply: &Reply, room: usize) -> (Result<(), Failed>, Vec<u8>) {
     let mut sheet = Sheet {
         bytes: Vec::new(alloc),
@@ -40,7 +40,7 @@ fn written(alloc: Global, reply: &Reply, room: usize) -> (Result<(), Failed>, Ve
     (result, sheet.bytes)
 }
 
-// The reply writes this text, which is its short text if it has one.
+/// The reply writes this text, which is its short text if it has one.
 fn assert_printed(rt: &impl Abort, alloc: Global, reply: &Reply, text: &str) {
     let (result, bytes) = written(alloc, reply, usize::MAX);
     assert_eq!(rt; result, Ok(()), "of {text}");

@@ -257,7 +257,7 @@ const LIMITED: [(&str, &str, &str, &str, u32); 4] = [
     ),
 ];
 
-// A list of so many items, the last of which has this prefix.
+/// A list of so many items, the last of which has this prefix.
 fn list_of(
     alloc: Global,
     before: &str,
@@ -314,7 +314,7 @@ fn nesting_over_127_is_no_json(rt: HostRuntime) -> Result<(), Fail> {
     Ok(())
 }
 
-// The numbers of a line that brings this file, both 0 where it is a request.
+/// The numbers of a line that brings this file, both 0 where it is a request.
 fn reported_of_file(alloc: Global, file: &str) -> Result<(u8, u8), Fail> {
     let request = format!(in alloc; "reg {{\"do\":\"slurm\",\"file\":{file}}}")?;
     let line = line_of(alloc, "2026-03-01", &request)?;
@@ -327,7 +327,7 @@ fn reported_of_file(alloc: Global, file: &str) -> Result<(u8, u8), Fail> {
     }
 }
 
-// The line's own object is one level more.
+/// The line's own object is one level more.
 #[test]
 fn limits_of_slurm_files(rt: HostRuntime) -> Result<(), Fail> {
     for (filters, numbers) in [(4095, (0, 0)), (4096, (11, 11))] {

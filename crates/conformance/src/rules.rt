@@ -17,7 +17,7 @@ fn first_of_march() -> Result<Day, Fail> {
     Ok(Day::read(b"2026-03-01").ok_or("a day")?)
 }
 
-// The limits on the number of rows are those of texts alone.
+/// The limits on the number of rows are those of texts alone.
 #[test]
 fn import_without_rows_asks_no_rule(rt: HostRuntime) -> Result<(), Fail> {
     let mut desk = example_desk(rt.alloc())?;
@@ -41,8 +41,8 @@ fn import_without_rows_asks_no_rule(rt: HostRuntime) -> Result<(), Fail> {
     Ok(())
 }
 
-// The holder of 192.0.2.0/24 at which so many authorizations were made, none of them active, with
-// `ann` as its manager.
+/// The holder of 192.0.2.0/24 at which so many authorizations were made, none of them active, with
+/// `ann` as its manager.
 fn view_after(alloc: Global, created: u32) -> Result<View, Fail> {
     let mut holdings = Holdings::new(alloc);
     holdings.add(&Prefix::read(b"192.0.2.0/24")?)?;
@@ -80,7 +80,7 @@ fn terms(asn: u32) -> Result<AuthTerms, Fail> {
     Ok(row(asn)?.terms())
 }
 
-// The rule and the row that a denial names.
+/// The rule and the row that a denial names.
 fn denial<T: Drop>(judged: Result<T, Refusal>) -> Option<(Rule, Option<u64>)> {
     match judged {
         Err(Refusal::Denied(rule, row)) => Some((rule, row)),
@@ -88,7 +88,7 @@ fn denial<T: Drop>(judged: Result<T, Refusal>) -> Option<(Rule, Option<u64>)> {
     }
 }
 
-// The decision on an import by `ann` where so many authorizations were made.
+/// The decision on an import by `ann` where so many authorizations were made.
 fn import_after(
     alloc: Global,
     created: u32,

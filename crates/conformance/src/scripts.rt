@@ -151,7 +151,7 @@ impl Dialogue {
         Ok(())
     }
 
-    // What the desk writes to the script, which a source gives few bytes at a time.
+    /// What the desk writes to the script, which a source gives few bytes at a time.
     fn replies(&self, desk: &mut Desk<MemStore>) -> Result<Vec<u8>, Fail> {
         let mut source = Device::new(Tape {
             bytes: self.script.as_bytes(),
@@ -184,7 +184,7 @@ impl Dialogue {
         Ok(())
     }
 
-    // The lines that are requests, sent as one list, have the same replies.
+    /// The lines that are requests, sent as one list, have the same replies.
     fn assert_replies_of_run(
         &self,
         rt: &impl Abort,
@@ -218,7 +218,7 @@ impl Dialogue {
     }
 }
 
-// The script has these replies, line by line and as one list.
+/// The script has these replies, line by line and as one list.
 fn assert_replies(
     rt: &impl Abort,
     alloc: Global,
@@ -233,7 +233,7 @@ fn assert_replies(
     dialogue.assert_replies_of_run(rt, name, &mut desk_of(alloc, pool)?)
 }
 
-// The lines of a set-up.
+/// The lines of a set-up.
 fn setup_of(name: &str) -> Result<&'static str, Fail> {
     match name {
         "holder" => Ok(ALPHA),
@@ -248,7 +248,7 @@ fn setup_of(name: &str) -> Result<&'static str, Fail> {
     }
 }
 
-// The script of a heading and lines has its replies.
+/// The script of a heading and lines has its replies.
 fn assert_script(rt: &impl Abort, alloc: Global, script: &str) -> Result<(), Fail> {
     let (heading, lines) = script.split_once('\n').unwrap_or((script, ""));
     let mut texts = Vec::new(alloc);
@@ -269,7 +269,7 @@ fn assert_all(rt: &impl Abort, alloc: Global, scripts: &str) -> Result<(), Fail>
     Ok(())
 }
 
-// Of a pair of scripts the one whose own lines begin so; the other's begin with `other`.
+/// Of a pair of scripts the one whose own lines begin so; the other's begin with `other`.
 fn one_of_pair(alloc: Global, pair: &str, own: &str, other: &str) -> Result<String, Fail> {
     let mut script = String::new(alloc);
     for line in pair.lines() {
@@ -281,8 +281,8 @@ fn one_of_pair(alloc: Global, pair: &str, own: &str, other: &str) -> Result<Stri
     Ok(script)
 }
 
-// A script that sends its first line twice, and all lines that follow the second reply after each
-// of the two.
+/// A script that sends its first line twice, and all lines that follow the second reply after each
+/// of the two.
 fn asked_twice(alloc: Global, script: &str) -> Result<String, Fail> {
     let (heading, lines) = script.split_once('\n').ok_or("no lines")?;
     let (first, after_first) = lines.split_once('\n').ok_or("no second reply")?;

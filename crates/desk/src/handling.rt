@@ -1,3 +1,4 @@
+//! The desk, and how it handles requests.
 ghost use Rattle.std.specs.Prelude.{◌≡◌, ◌≢◌, false, None, [], Err, IfOk, OnOk, OnErr};
 ghost use Rattle.registry.specs.History.{History};
 ghost use Rattle.registry.specs.Rows.{rows_if_any, RowsIfAny};

@@ -1,3 +1,4 @@
+//! What the desk answers.
 use addr::Vrp;
 use payload::Validity;
 use registry::{Auth, Refusal, Rule};

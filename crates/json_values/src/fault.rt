@@ -1,3 +1,4 @@
+//! Faults that have numbers.
 ghost use Rattle.std.specs.Prelude.{◌≡◌, ℕ};
 ghost use Rattle.json_values.specs.Parts.{lower};
 

@@ -1,3 +1,4 @@
+//! Lists of items.
 ghost use Rattle.std.specs.Prelude.{◌≡◌, map, [], Ok, IfOk, OnOk};
 ghost use Rattle.serde_json.specs.View.{view};
 ghost use Rattle.json_values.specs.Gathering.{so_far};

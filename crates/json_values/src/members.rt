@@ -1,3 +1,4 @@
+//! Members of objects.
 ghost use Rattle.std.specs.Prelude.{◌≡◌, map, Result, string_bytes};
 ghost use Rattle.std.specs.BTreeMap.{keys};
 ghost use Rattle.std.specs.List.{list_all, list_any};

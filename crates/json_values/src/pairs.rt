@@ -1,3 +1,4 @@
+//! Two parts together.
 ghost use Rattle.std.specs.Prelude.{◌≡◌};
 ghost use Rattle.json_values.specs.Parts.{both, unless};
 

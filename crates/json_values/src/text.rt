@@ -1,3 +1,4 @@
+//! JSON texts.
 ghost use Rattle.std.specs.Prelude.{◌≡◌, IfOk, option_map};
 ghost use Rattle.serde_json.specs.View.{view};
 ghost use Rattle.json_values.specs.Tree.{tree_of};

@@ -1,3 +1,4 @@
+//! Values as names, prefixes, days and numbers.
 ghost use Rattle.std.specs.Prelude.{◌≡◌, ◌≤◌, IfSome};
 ghost use Rattle.serde_json.specs.View.{view};
 ghost use Rattle.json_values.specs.Values.{as_asn, as_day, as_name, as_number_in, as_prefix};

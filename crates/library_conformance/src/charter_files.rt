@@ -65,7 +65,7 @@ const COUNTS: [(u8, u8, &str, &str); 7] = [
     ),
 ];
 
-// The line of the file's fault, or an empty one.
+/// The line of the file's fault, or an empty one.
 fn line(alloc: Global, text: &str) -> Result<String, AllocError> {
     match charter_from(alloc, text.as_bytes()) {
         Ok(_) => format!(in alloc; ""),
@@ -73,7 +73,7 @@ fn line(alloc: Global, text: &str) -> Result<String, AllocError> {
     }
 }
 
-// A file with so many operators and so many prefixes, and a row after them.
+/// A file with so many operators and so many prefixes, and a row after them.
 fn file_of(alloc: Global, operators: u8, prefixes: u8, last: &str) -> Result<String, AllocError> {
     let mut text = format!(in alloc; "kind,value\n")?;
     for number in 0..operators {

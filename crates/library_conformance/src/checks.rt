@@ -123,7 +123,7 @@ struct Ended {
     status: u8,
 }
 
-// The check writes to a drain that takes so many bytes.
+/// The check writes to a drain that takes so many bytes.
 fn checked(
     alloc: Global,
     payloads: &[u8],

@@ -61,7 +61,7 @@ fn is_refused(alloc: Global, octets: &[u8]) -> bool {
     matches!(decode(alloc, octets), Err(DecodeFault::NotContent))
 }
 
-// An entry by its prefix and maxLength.
+/// An entry by its prefix and maxLength.
 fn entry_of(text: &str) -> Result<Entry, Fail> {
     let (prefix, max) = text.split_once(' ').ok_or("no maxLength")?;
     Ok(Entry {
@@ -70,7 +70,7 @@ fn entry_of(text: &str) -> Result<Entry, Fail> {
     })
 }
 
-// A content by its AS, and its entries with commas between them.
+/// A content by its AS, and its entries with commas between them.
 fn content_of(alloc: Global, text: &str) -> Result<Content, Fail> {
     let (asn, terms) = text.split_once(' ').ok_or("no entries")?;
     let asn = Asn::from_text(asn.as_bytes()).ok_or("no AS number")?;
@@ -92,7 +92,7 @@ pub(crate) fn host_prefixes(alloc: Global, count: u8) -> Result<Vec<Entry>, Fail
     Ok(entries)
 }
 
-// The content in hex, which is decoded to the same content.
+/// The content in hex, which is decoded to the same content.
 fn encoded(rt: &impl Abort, alloc: Global, content: &Content, name: &str) -> Result<String, Fail> {
     let octets = encode(alloc, content)?;
     let decoded = decode(alloc, octets.as_slice())?;
@@ -111,7 +111,7 @@ fn vectors_are_encoded_and_decoded(rt: HostRuntime) -> Result<(), Fail> {
     Ok(())
 }
 
-// The content of so many host prefixes has so many octets, which begin so.
+/// The content of so many host prefixes has so many octets, which begin so.
 fn assert_host_prefixes(
     rt: &impl Abort,
     alloc: Global,
@@ -126,14 +126,14 @@ fn assert_host_prefixes(
     Ok(())
 }
 
-// The lengths in the content take two octets.
+/// The lengths in the content take two octets.
 #[test]
 fn content_of_fourteen_prefixes(rt: HostRuntime) -> Result<(), Fail> {
     let beginning = "30818f020300fbf030818730818404020001307e3007030500c0000200";
     assert_host_prefixes(&rt, rt.alloc(), 14, 146, beginning)
 }
 
-// The lengths in the content take three octets.
+/// The lengths in the content take three octets.
 #[test]
 fn content_of_sixty_four_prefixes(rt: HostRuntime) -> Result<(), Fail> {
     let beginning = "30820255020300fbf03082024c3082024804020001308202403007030500c0000200";
@@ -156,7 +156,7 @@ fn decode_refuses_other_spellings(rt: HostRuntime) -> Result<(), Fail> {
     Ok(())
 }
 
-// And every proper beginning of a content, no octets among them.
+/// And every proper beginning of a content, no octets among them.
 #[test]
 fn decode_refuses_cut_negative_and_set_unused_bit(rt: HostRuntime) -> Result<(), Fail> {
     for row in &rows_of(rt.alloc(), VECTORS)? {

@@ -121,7 +121,7 @@ fn prefix_text_faults(rt: HostRuntime) -> Result<(), Fail> {
     Ok(())
 }
 
-// The prefix of an address alone, of IPv4 where it has eight hex digits.
+/// The prefix of an address alone, of IPv4 where it has eight hex digits.
 fn address(digits: &str) -> Result<Prefix, Fail> {
     let (family, first) = if digits.len() == 8 {
         (

@@ -125,7 +125,7 @@ const FILTERINGS: &str = r#"
 1 | {"prefix":"192.0.2.0/25"},{"prefix":"192.0.2.0/24","asn":64497} | {"asn":64496,"prefix":"192.0.2.0/24"},{"asn":64497,"prefix":"192.0.2.0/24"} => no yes
 "#;
 
-// The number of the fault, 0 where the text is a file.
+/// The number of the fault, 0 where the text is a file.
 fn fault(alloc: Global, text: &str) -> u8 {
     match Slurm::read(alloc, text.as_bytes()) {
         Ok(_) => 0,
@@ -133,7 +133,7 @@ fn fault(alloc: Global, text: &str) -> u8 {
     }
 }
 
-// A file of these entries; `more` follows the other members of the outermost object.
+/// A file of these entries; `more` follows the other members of the outermost object.
 fn file(
     alloc: Global,
     version: &str,
@@ -148,7 +148,7 @@ fn file(
     )
 }
 
-// A file by its parts, which ` | ` parts.
+/// A file by its parts, which ` | ` parts.
 fn file_of(alloc: Global, parts: &str) -> Result<String, AllocError> {
     let mut parts = parts.split('|');
     let version = parts.next().unwrap_or("").trim();
@@ -231,7 +231,7 @@ fn nesting_limit(rt: HostRuntime) -> Result<(), Fail> {
     Ok(())
 }
 
-// So many filters and then this one, after one assertion.
+/// So many filters and then this one, after one assertion.
 fn file_of_filters(alloc: Global, count: u32, last: &str) -> Result<String, AllocError> {
     let mut filters = String::new(alloc);
     for _ in 0..count {
@@ -241,7 +241,7 @@ fn file_of_filters(alloc: Global, count: u32, last: &str) -> Result<String, Allo
     file(alloc, "1", &filters, "{\"prefix\":\"::/8\",\"asn\":1}", "")
 }
 
-// How many entries the file has as a value, 0 where it is none.
+/// How many entries the file has as a value, 0 where it is none.
 fn entries_read(alloc: Global, text: &str) -> Result<usize, Fail> {
     let value = Value::from_str(alloc, text)?;
     match Slurm::of(alloc, &value) {
@@ -250,7 +250,7 @@ fn entries_read(alloc: Global, text: &str) -> Result<usize, Fail> {
     }
 }
 
-// A fault in the last of too many entries is the lower one.
+/// A fault in the last of too many entries is the lower one.
 #[test]
 fn limit_of_entries(rt: HostRuntime) -> Result<(), Fail> {
     let alloc = rt.alloc();

@@ -100,7 +100,7 @@ fn assert_written(rt: &impl Abort, day: &Day, text: &str) {
     assert_eq!(rt; written.as_str(), text);
 }
 
-// Each day is written as it was read.
+/// Each day is written as it was read.
 #[test]
 fn reads_days_alone(rt: HostRuntime) -> Result<(), Fail> {
     for row in DAYS.lines() {
@@ -132,7 +132,7 @@ fn reads_as_numbers_alone(rt: HostRuntime) -> Result<(), Fail> {
     Ok(())
 }
 
-// Each number is written as it was read.
+/// Each number is written as it was read.
 #[test]
 fn reads_plain_numbers_alone(rt: HostRuntime) -> Result<(), Fail> {
     for row in NUMBERS.lines() {
@@ -214,7 +214,7 @@ fn holdings_reach_the_last_ipv6_address(rt: HostRuntime) -> Result<(), Fail> {
     Ok(())
 }
 
-// A charter of that many equal operators and pool prefixes.
+/// A charter of that many equal operators and pool prefixes.
 fn charter_of(
     alloc: Global,
     operators: u32,

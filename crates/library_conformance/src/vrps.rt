@@ -119,7 +119,7 @@ impl Sink for FirstVrps {
         ∙ append_assoc (a.vrps.items ++ option_to_list a.refused) vs ws };
 }
 
-// A route by its prefix and origin.
+/// A route by its prefix and origin.
 pub(crate) fn route_of(text: &str) -> Result<Route, Fail> {
     let (prefix, origin) = text.split_once(' ').ok_or("no origin")?;
     Ok(Route {

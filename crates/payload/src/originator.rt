@@ -1,3 +1,4 @@
+//! What a VRP says of its prefix.
 ghost use Rattle.std.specs.Prelude.{◌≡◌};
 
 use addr::{Asn, Origin, Route, Vrp};

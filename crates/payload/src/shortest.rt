@@ -1,3 +1,4 @@
+//! The shortest prefixes of a list.
 use addr::{Family, Prefix, Vrp};
 
 /// For each family a number of bits that no prefix of a list is shorter than.

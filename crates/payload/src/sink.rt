@@ -1,3 +1,4 @@
+//! Sinks, which take VRPs one after another.
 ghost use Rattle.std.specs.Prelude.{◌≡◌, List, Bool, false, ◌∷◌, [], ◌++◌, is_err};
 ghost use Rattle.addr.specs.declared.vrp.Vrp.{Vrp};
 

@@ -1,3 +1,4 @@
+//! A set of VRPs in a tree of prefixes.
 ghost use Rattle.std.specs.Prelude.{◌≡◌, ◌≤◌, ◌+◌, length, IfOk};
 ghost use Rattle.addr.specs.OriginValidation.{validation_state};
 ghost use Rattle.payload.specs.SearchDepths.{search_depths};

@@ -1,3 +1,4 @@
+//! Validation states of routes (RFC 6811 section 2).
 use std::fmt;
 
 /// The validation state of a route (RFC 6811 section 2).

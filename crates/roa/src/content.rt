@@ -1,3 +1,4 @@
+//! The content of a ROA (RFC 9582 section 4) as a value.
 ghost use Rattle.std.specs.Prelude.{◌≡◌, ◌<◌, ◌≤◌, ◌↔◌, true, length, IsTrue, IfOk, IfErr, IfSome, IfNone, IsPermutation};
 ghost use Rattle.std.specs.List.{list_all};
 ghost use Rattle.roa.specs.declared.content.TheConstants.Content.{MAX_ENTRIES};

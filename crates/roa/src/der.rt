@@ -1,10 +1,11 @@
+//! Tags and lengths of DER (X.690).
 ghost use Rattle.std.specs.Prelude.{◌≡◌, length};
 ghost use Rattle.roa.specs.RoaContent.{family_octets};
 ghost use Rattle.roa.specs.ContentOctets.{integer_len};
 
 use addr::Family;
 
-// The tags (X.690 section 8.1.2, X.680 section 8.4), of which SEQUENCE is constructed.
+/// The tags (X.690 section 8.1.2, X.680 section 8.4), of which SEQUENCE is constructed.
 pub(crate) const INTEGER: u8 = 0x02;
 
 pub(crate) const BIT_STRING: u8 = 0x03;
@@ -13,7 +14,7 @@ pub(crate) const OCTET_STRING: u8 = 0x04;
 
 pub(crate) const SEQUENCE: u8 = 0x30;
 
-// The first octet of a length that takes one or two more octets (X.690 section 8.1.3.5).
+/// The first octet of a length that takes one or two more octets (X.690 section 8.1.3.5).
 pub(crate) const ONE_OCTET_LENGTH: u8 = 0x81;
 
 pub(crate) const TWO_OCTET_LENGTH: u8 = 0x82;

@@ -1,3 +1,4 @@
+//! Why octets are no content.
 ghost use Rattle.std.specs.Prelude.{◌≡◌};
 ghost use Rattle.roa.specs.declared.fault.DecodeFault.TheVariants.{Memory};
 

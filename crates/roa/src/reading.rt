@@ -1,3 +1,4 @@
+//! Decoding a content.
 ghost use Rattle.std.specs.Prelude.{◌≡◌, ◌<◌, ◌≤◌, ◌*◌, ◌-◌, ◌^◌, length, map, IfSome, IfOk, MatchResult};
 ghost use Rattle.addr.specs.Family.{width};
 ghost use Rattle.roa.specs.steps.Reading.{Gives, length_at, contents_at, element_at, whole, integer_of, prefix_of, max_of, entry_of, entry_at, entries_of, block_at, family_at, blocks_of, fields_of, content_of, numbers, Adds, AddsThen, IsReadAs};

@@ -1,3 +1,4 @@
+//! Why something is no SLURM file.
 ghost use Rattle.std.specs.Prelude.{◌≡◌};
 ghost use Rattle.slurm.specs.Fault.{slurm_fault_number};
 

@@ -1,3 +1,4 @@
+//! Prefix filters.
 ghost use Rattle.std.specs.Prelude.{◌≡◌};
 ghost use Rattle.std.specs.List.{list_any};
 ghost use Rattle.slurm.specs.Filter.{filter_matches};

@@ -1,3 +1,4 @@
+//! Prefix filters that are sorted for searches.
 ghost use Rattle.std.specs.Prelude.{◌≡◌, ◌↔◌, Any, IsTrue, IfOk};
 ghost use Rattle.std.specs.List.{list_any};
 ghost use Rattle.slurm.specs.Filter.{FilterMatches, filter_matches};

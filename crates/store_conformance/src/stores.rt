@@ -38,7 +38,7 @@ fn registered_holder(alloc: Global) -> Result<Store<MemStore>, Fail> {
     Ok(store)
 }
 
-// Changes the rows of `alpha`.
+/// Changes the rows of `alpha`.
 fn change(store: &mut Store<MemStore>, edit: Edit) -> Result<Result<(), StoreFault>, Fail> {
     let holder = name("alpha")?;
     let change = Change::Holders {
@@ -66,7 +66,7 @@ fn authorization(number: u32) -> Result<Auth, Fail> {
     })
 }
 
-// So many authorizations of one prefix, each of an AS of its own, where four were made before.
+/// So many authorizations of one prefix, each of an AS of its own, where four were made before.
 fn next_authorizations(alloc: Global, count: u32) -> Result<Vec<Auth>, Fail> {
     let mut auths = Vec::new(alloc);
     for number in 5..5u32.saturating_add(count) {
@@ -87,7 +87,7 @@ fn grant() -> Result<Granted, Fail> {
     })
 }
 
-// The runs of 192.0.2.0/24 except this prefix, in place of all of it.
+/// The runs of 192.0.2.0/24 except this prefix, in place of all of it.
 fn hold(alloc: Global, without: Option<&Prefix>) -> Result<Edit, Fail> {
     let mut holdings = Holdings::new(alloc);
     let whole = Prefix::read(b"192.0.2.0/24")?;
@@ -164,7 +164,7 @@ fn overlapping_after_reclaim(rt: HostRuntime) -> Result<(), Fail> {
     Ok(())
 }
 
-// The rows of `alpha`, of which no delegation's prefix is taken.
+/// The rows of `alpha`, of which no delegation's prefix is taken.
 fn view(alloc: Global, store: &mut Store<MemStore>) -> Result<View, Fail> {
     match store.load_holder(alloc, &name("alpha")?) {
         Ok(holder) => Ok(View {
@@ -175,7 +175,7 @@ fn view(alloc: Global, store: &mut Store<MemStore>) -> Result<View, Fail> {
     }
 }
 
-// How many runs a delegation to `alpha` takes away, and how many it puts.
+/// How many runs a delegation to `alpha` takes away, and how many it puts.
 fn runs_moved(alloc: Global, view: &View, prefix: &str) -> Result<(usize, usize), Fail> {
     let command = Command::Delegate {
         holder: name("alpha")?,
@@ -228,7 +228,7 @@ fn database_that_has_tables_is_refused(rt: HostRuntime) -> Result<(), Fail> {
     Ok(())
 }
 
-// A maxLength below the length of its prefix: the columns hold it, and no VRP has it.
+/// A maxLength below the length of its prefix: the columns hold it, and no VRP has it.
 #[test]
 fn authorization_that_gives_no_vrp_is_another_schema(rt: HostRuntime) -> Result<(), Fail> {
     let mut store = registered_holder(rt.alloc())?;
@@ -240,7 +240,7 @@ fn authorization_that_gives_no_vrp_is_another_schema(rt: HostRuntime) -> Result<
     Ok(())
 }
 
-// The one file of the store.
+/// The one file of the store.
 fn only_file(alloc: Global, store: &mut Store<MemStore>) -> Result<Slurm, Fail> {
     let Ok(mut files) = store.slurm_files(alloc) else {
         return Err("no files".into());

@@ -85,7 +85,7 @@ impl<T: Read> Source for Device<T> {
 }
 
 impl<T: Read> Device<T> {
-    // A read, made again where it was interrupted.
+    /// A read, made again where it was interrupted.
     fn read_uninterrupted(&mut self, buffer: &mut [u8]) -> io::Result<usize>
         ensures bound { ReadsAtMost result buffer.new }
         ensures reads { ReadConsumes (T.remaining (device_inner self.old))
@@ -136,7 +136,7 @@ impl<T: Write> Drain for Device<T> {
 }
 
 impl<T: Write> Device<T> {
-    // Writes a beginning of the bytes, which is not flushed yet.
+    /// Writes a beginning of the bytes, which is not flushed yet.
     fn write_some(&mut self, bytes: &[u8]) -> Result<usize, Failed>
         ensures bound { IfOk result (λ n. n ≤ length bytes.now) }
         ensures some { IfOk result (λ n. 0 < length bytes.now → 0 < n) }
@@ -168,7 +168,7 @@ impl<T: Write> Device<T> {
         }
     }
 
-    // A write, made again where it was interrupted.
+    /// A write, made again where it was interrupted.
     fn write_uninterrupted(&mut self, bytes: &[u8]) -> io::Result<usize>
         ensures bound { WritesAtMost result bytes.now }
         ensures writes { WriteAppends (T.contents (device_inner self.old))
@@ -206,7 +206,7 @@ impl<T: Write> Device<T> {
         Ok(())
     }
 
-    // A flush, made again where it was interrupted.
+    /// A flush, made again where it was interrupted.
     fn flush_uninterrupted(&mut self) -> io::Result<()>
         ensures writes { Keeps (T.contents (device_inner self.old))
             (T.contents (device_inner self.new)) }

@@ -1,4 +1,4 @@
-// The bytes that passed a device. They exist only in proofs.
+//! The bytes that passed a device. They exist only in proofs.
 ghost use Rattle.std.specs.Prelude.{◌≡◌, ◌++◌, ℕ, List, []};
 ghost use base.Fml.{ftrue};
 ghost use Rattle.streams.specs.steps.Trail.{bytes_code};
@@ -14,7 +14,7 @@ impl Model for Trail {
     ghost also_owns = { λ _. ftrue };
 }
 
-// Bytes that pass at once.
+/// Bytes that pass at once.
 #[derive(Drop)]
 pub(crate) struct Piece<'a> {
     pub(crate) bytes: &'a [u8],

@@ -1,4 +1,4 @@
-// Reading: loosely first, and then by comparing with the one spelling.
+//! Reading: loosely first, and then by comparing with the one spelling.
 ghost use Rattle.std.specs.Prelude.{◌≡◌, ◌==◌, ◌<◌, ◌^◌, None, Some, length, option_map, MatchResult, IfSome};
 ghost use Rattle.std.specs.List.{position};
 ghost use Rattle.std.specs.Int.Digits.{number_from_digits};
@@ -11,14 +11,14 @@ use crate::{Family, Prefix};
 use arrayvec::ArrayString;
 use std::net::Ipv6Addr;
 
-// Where the separator first is.
+/// Where the separator first is.
 fn find_byte(text: &[u8], separator: u8) -> Option<usize>
     ensures { result ≡ position (λ byte. byte == separator) text.now }
 {
     text.iter().position(|byte| *byte == separator)
 }
 
-// The texts before and after the first separator.
+/// The texts before and after the first separator.
 fn cut_text(text: &[u8], separator: u8) -> Option<(&[u8], &[u8])>
     ensures { option_map (λ cut. (cut.0.now, cut.1.now)) result ≡ cut_at separator text.now }
 {
@@ -26,7 +26,7 @@ fn cut_text(text: &[u8], separator: u8) -> Option<(&[u8], &[u8])>
     Some((&text[..at], &text[at + 1..]))
 }
 
-// One to three decimal digits.
+/// One to three decimal digits.
 fn read_decimal(digits: &[u8]) -> Option<u16>
     ensures { result ≡ short_number 10 3 digits.now }
 {
@@ -67,7 +67,7 @@ fn read_dotted(text: &[u8]) -> Option<u32>
     Some(((a * 0x100 + b) * 0x100 + c) * 0x100 + d)
 }
 
-// `Ipv6Addr` also reads an address that ends in dotted decimal, which no text of a prefix does.
+/// `Ipv6Addr` also reads an address that ends in dotted decimal, which no text of a prefix does.
 fn read_groups(text: &[u8]) -> Option<[u16; 8]>
     ensures { result ≡ loose_groups text.now }
 {
@@ -116,7 +116,7 @@ fn read_loosely(text: &[u8]) -> Option<PrefixParts>
     })
 }
 
-// The prefix that the text spells, or the first fault of the text.
+/// The prefix that the text spells, or the first fault of the text.
 #[tactic(auto, unfolding(crate::specs::PrefixText::prefix_text_fault))]
 pub(super) fn read_prefix(text: &[u8]) -> Result<Prefix, PrefixFault>
     ensures { MatchResult result

@@ -1,4 +1,4 @@
-// Writing the one spelling.
+//! Writing the one spelling.
 ghost use Rattle.std.specs.Prelude.{◌≡◌, ◌+◌, ◌*◌, ◌<◌, ◌≤◌, ◌++◌, length, decimal};
 ghost use Rattle.std.specs.Char.{digit_char};
 ghost use Rattle.arrayvec.specs.ArrayString.{array_string_len};
@@ -9,7 +9,7 @@ use crate::Family;
 use crate::ascii::push_ascii;
 use arrayvec::ArrayString;
 
-// `255.255.255.255/999`, and eight groups of four digits with seven colons, `/` and three digits, fit.
+/// `255.255.255.255/999`, and eight groups of four digits with seven colons, `/` and three digits, fit.
 type Buffer = ArrayString<48>;
 
 #[tactic(auto, using(crate::proofs::PrefixTextLemmas::decimal_one, crate::proofs::PrefixTextLemmas::decimal_two, crate::proofs::PrefixTextLemmas::decimal_three))]
@@ -58,7 +58,7 @@ fn push_group(text: &mut Buffer, group: u16)
     push_ascii(text, hex_digit(group % 16));
 }
 
-// Groups with a colon between them.
+/// Groups with a colon between them.
 fn push_groups(text: &mut Buffer, groups: &[u16])
     requires { array_string_len text.old + 5 * length groups.now ≤ 48 }
     ensures bytes { text.new.bytes ≡ text.old.bytes ++ groups_text groups.now }
@@ -73,7 +73,7 @@ fn push_groups(text: &mut Buffer, groups: &[u16])
     }
 }
 
-// The start and the length of the longest run of zero groups, of equal runs the first.
+/// The start and the length of the longest run of zero groups, of equal runs the first.
 fn longest_run(groups: &[u16]) -> (usize, usize)
     ensures value { result ≡ longest_zero_run groups.now }
     ensures within { result.0 + result.1 ≤ length groups.now }
@@ -89,7 +89,7 @@ fn longest_run(groups: &[u16]) -> (usize, usize)
     longest
 }
 
-// Fills `digits` with the last digits of `number` in the base, the highest first.
+/// Fills `digits` with the last digits of `number` in the base, the highest first.
 fn write_digits(mut number: u128, base: u128, digits: &mut [u16])
     requires many { 2 ≤ base }
     requires few { base ≤ 0x10000 }
@@ -136,7 +136,7 @@ fn push_hex_groups(text: &mut Buffer, address: u128)
     push_groups(text, &groups[start + len..]);
 }
 
-// Puts the one spelling in place of what `text` held.
+/// Puts the one spelling in place of what `text` held.
 #[tactic(auto, unfolding(crate::specs::PrefixText::spelling))]
 pub(super) fn write_spelling(text: &mut Buffer, family: Family, address: u128, length: u16)
     requires { length < 1000 }

@@ -1,3 +1,4 @@
+//! The lines and statuses of faults.
 use super::{fault_of_script, fault_of_store};
 use std::rt::HostRuntime;
 use store::StoreFault;

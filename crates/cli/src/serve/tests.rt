@@ -1,3 +1,4 @@
+//! Connections that are served.
 use crate::clients::{CHARTER, CREATE, SETUP, request, serve};
 use addr::Day;
 use command_line::charter_from;
@@ -46,7 +47,7 @@ fn denial_is_403_and_payloads_are_csv(rt: HostRuntime) -> Result<(), Fail> {
     Ok(())
 }
 
-// Half a minute passes at each reading.
+/// Half a minute passes at each reading.
 #[derive(Drop)]
 struct Slow {
     readings: Cell<u64>,

@@ -25,7 +25,7 @@ impl<'a, R: Clock> Timed<'a, R> {
         }
     }
 
-    // What is left of its time, which is some.
+    /// What is left of its time, which is some.
     fn time_left(&self) -> io::Result<Duration> {
         let limit = Duration::from_secs(TIME_LIMIT);
         match limit.checked_sub(self.start.elapsed(self.clock)?) {
@@ -50,7 +50,7 @@ impl<R: Clock> Write for Timed<'_, R> {
         stream.write(bytes)
     }
 
-    // A stream keeps nothing back.
+    /// A stream keeps nothing back.
     fn flush(&mut self) -> io::Result<()> {
         Ok(())
     }

@@ -1,4 +1,4 @@
-// The headers of CSV files.
+//! The headers of CSV files.
 ghost use Rattle.std.specs.Prelude.{◌≡◌, ◌∷◌, None, IfOk, IfErr};
 ghost use Rattle.command_line.specs.CsvRows.{header_fault, IsTold};
 ghost use Rattle.csv_records.specs.CsvRecords.{csv_records, records_left, IsReading};
@@ -8,7 +8,7 @@ use crate::fault::FileFault;
 use csv_records::CsvRecords;
 use std::alloc::Global;
 
-// The records after the header.
+/// The records after the header.
 pub(crate) fn after_header<'a>(
     alloc: Global,
     text: &'a [u8],

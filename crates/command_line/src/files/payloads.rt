@@ -1,4 +1,4 @@
-// Payload files: VRPs, in any order.
+//! Payload files: VRPs, in any order.
 ghost use Rattle.std.specs.Prelude.{◌≡◌, [], ◌∷◌, None, Some, map, decimal, IfSome, IfOk, IfErr, MatchResult};
 ghost use Rattle.csv.specs.Records.{fields_of};
 ghost use Rattle.addr.specs.Address.{FitsMaxLength};
@@ -14,7 +14,7 @@ use csv::ByteRecord;
 use csv_records::{CsvRecords, three_fields};
 use std::alloc::Global;
 
-// The VRPs of the rows.
+/// The VRPs of the rows.
 pub(crate) fn read_payloads(alloc: Global, text: &[u8]) -> Result<Vec<Vrp>, FileFault>
     ensures ok { IfOk result (λ vrps.
         csv_records text.now ≡ payload_header ∷ map payload_row vrps.items) }

@@ -1,4 +1,4 @@
-// Route files: announced routes.
+//! Route files: announced routes.
 ghost use Rattle.std.specs.Prelude.{◌≡◌, None, Some, MatchOption, MatchResult};
 ghost use Rattle.csv.specs.Records.{fields_of};
 ghost use Rattle.command_line.specs.CsvRows.{origin_fault, origin_text, route_fault, route_row, route_texts_fault};
@@ -10,7 +10,7 @@ use addr::{Asn, Origin, Prefix, Route};
 use csv::ByteRecord;
 use csv_records::two_fields;
 
-// A route, and the row's texts of its prefix and its origin.
+/// A route, and the row's texts of its prefix and its origin.
 #[derive(Clone, Copy)]
 pub(crate) struct RouteRow<'a> {
     pub(crate) route: Route,

@@ -15,7 +15,7 @@ const SHOWN: &str =
 /// What comes after a request, and is not read.
 const NEXT: &str = "GET /payloads HTTP/1.1\r\n\r\n";
 
-// A request, and then another one.
+/// A request, and then another one.
 fn followed(alloc: Global, row: &str) -> Result<String, Fail> {
     let mut text = request_of(alloc, row)?;
     text.push_str(NEXT)?;
@@ -43,7 +43,7 @@ fn no_byte_after_the_request_is_read(rt: HostRuntime) -> Result<(), Fail> {
     Ok(())
 }
 
-// Nothing is acted on: the whole request is then the first one.
+/// Nothing is acted on: the whole request is then the first one.
 #[test]
 fn request_cut_short_is_not_acted_on(rt: HostRuntime) -> Result<(), Fail> {
     let alloc = rt.alloc();
@@ -64,7 +64,7 @@ fn request_cut_short_is_not_acted_on(rt: HostRuntime) -> Result<(), Fail> {
     Ok(())
 }
 
-// The request was acted on, and a beginning of its response is out.
+/// The request was acted on, and a beginning of its response is out.
 #[test]
 fn response_cut_short_was_acted_on(rt: HostRuntime) -> Result<(), Fail> {
     let alloc = rt.alloc();

@@ -260,7 +260,7 @@ GET /holders/zeta/export ann => 403 {"denied":"grant"}
 DELETE /holders/alpha/auths/2 ann => 200 {"done":null}
 "#;
 
-// The request of an import whose body is one part and then the other.
+/// The request of an import whose body is one part and then the other.
 fn import_of(
     alloc: Global,
     holder: &str,
@@ -279,7 +279,7 @@ fn import_of(
     Ok(request)
 }
 
-// The import by `ann` of these rows has this response.
+/// The import by `ann` of these rows has this response.
 fn assert_import(
     rt: &impl Abort,
     alloc: Global,
@@ -292,7 +292,7 @@ fn assert_import(
     assert_response(rt, alloc, desk, &request, &response, output)
 }
 
-// The row's request is answered with this CSV.
+/// The row's request is answered with this CSV.
 fn assert_csv(
     rt: &impl Abort,
     alloc: Global,
@@ -305,7 +305,7 @@ fn assert_csv(
     assert_response(rt, alloc, desk, request.as_bytes(), &response, row)
 }
 
-// The bytes of a text, a line feed for each semicolon.
+/// The bytes of a text, a line feed for each semicolon.
 fn body_of(alloc: Global, text: &str) -> Result<Vec<u8>, Fail> {
     let mut body = Vec::new(alloc);
     for byte in text.bytes() {
@@ -318,7 +318,7 @@ fn body_of(alloc: Global, text: &str) -> Result<Vec<u8>, Fail> {
     Ok(body)
 }
 
-// Each row's body, after these bytes, has its response.
+/// Each row's body, after these bytes, has its response.
 fn assert_imports(
     rt: &impl Abort,
     alloc: Global,
@@ -354,7 +354,7 @@ fn bodies_of_imports(rt: HostRuntime) -> Result<(), Fail> {
     Ok(())
 }
 
-// So many rows like the one above, and then another.
+/// So many rows like the one above, and then another.
 fn rows_of_many(alloc: Global, count: u32, last: &[u8]) -> Result<Vec<u8>, Fail> {
     let mut rows = Vec::new(alloc);
     for _ in 0..count {

@@ -9,7 +9,7 @@ const HEAD_LIMIT: usize = 8192;
 
 const BODY_LIMIT: usize = 1_048_576;
 
-// A request for VRPs whose head has so many bytes.
+/// A request for VRPs whose head has so many bytes.
 fn head_of(alloc: Global, length: usize) -> Result<String, Fail> {
     let mut text = String::from_str(
         alloc,
@@ -22,7 +22,7 @@ fn head_of(alloc: Global, length: usize) -> Result<String, Fail> {
     Ok(text)
 }
 
-// A request for VRPs with so many fields.
+/// A request for VRPs with so many fields.
 fn fields_of(alloc: Global, count: u32) -> Result<String, Fail> {
     let mut text = String::from_str(alloc, "GET /payloads HTTP/1.1\r\nDesk-Caller: bob\r\n")?;
     for _ in 1..count {
@@ -32,7 +32,7 @@ fn fields_of(alloc: Global, count: u32) -> Result<String, Fail> {
     Ok(text)
 }
 
-// A request whose body is this text and then spaces.
+/// A request whose body is this text and then spaces.
 fn padded(alloc: Global, text: &str, length: usize) -> Result<String, Fail> {
     let mut request = format!(in alloc;
         "POST /validity HTTP/1.1\r\nDesk-Caller: bob\r\nContent-Length: {length}\r\n\r\n{text}"

@@ -149,7 +149,7 @@ const METHODS: [&str; 9] = [
     "GET", "PUT", "POST", "PATCH", "DELETE", "HEAD", "OPTIONS", "get", "TRACE",
 ];
 
-// A request without a caller.
+/// A request without a caller.
 fn bare_request(alloc: Global, method: &str, target: &str, fields: &str) -> Result<String, Fail> {
     Ok(format!(in alloc; "{method} {target} HTTP/1.1\r\n{fields}\r\n")?)
 }

@@ -85,7 +85,7 @@ ann {"do":"whatif","holder":"alpha","changes":[{"do":"withdraw","number":1},{"do
 ann {"do":"create","holder":"alpha","asn":64496,"prefix":"192.0.2.0/25","max":25,"from":"2026-01-01","until":"2026-12-31"} => {"denied":"room"}
 "#;
 
-// So many objects that begin with these members, one for each AS from 1 on.
+/// So many objects that begin with these members, one for each AS from 1 on.
 fn terms_of_many(alloc: Global, members: &str, count: u32) -> Result<String, Fail> {
     let mut objects = String::new(alloc);
     for asn in 1..=count {

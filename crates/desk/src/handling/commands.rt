@@ -1,3 +1,4 @@
+//! Commands: judged on the rows, then made.
 ghost use Rattle.std.specs.Prelude.{◌≡◌, true, false, option_copied, IfOk, IfErr, MatchResult};
 ghost use Rattle.registry.specs.Answer.{IsAccepted, IsViewOf, RowsOfNamed, ReportsTaken};
 ghost use Rattle.registry.specs.Rows.{rows_if_any, RowsIfAny};

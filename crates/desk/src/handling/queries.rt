@@ -1,3 +1,4 @@
+//! Queries: answered from the rows.
 ghost use Rattle.std.specs.Prelude.{◌≡◌, ◌↔◌, Contains, false, IfOk};
 ghost use Rattle.addr.specs.declared.vrp.Vrp.{Vrp};
 ghost use Rattle.payload.specs.VrpSet as set;

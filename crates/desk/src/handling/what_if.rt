@@ -1,3 +1,4 @@
+//! What-if requests.
 ghost use Rattle.std.specs.Prelude.{◌≡◌, false, IfErr, IfOk, List, MatchResult};
 ghost use Rattle.addr.specs.declared.route.Route.{Route};
 ghost use Rattle.payload.specs.VrpSet as set;

@@ -1,3 +1,4 @@
+//! Whether a trie has a VRP.
 ghost use Rattle.std.specs.Prelude.{◌≡◌, ◌≤◌};
 ghost use Rattle.addr.specs.Family.{width};
 ghost use Rattle.payload.specs.steps.Tree.{IsPruned, has, subtree, tree};

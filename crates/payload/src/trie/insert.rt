@@ -1,3 +1,4 @@
+//! Putting a VRP into a trie.
 ghost use Rattle.std.specs.Prelude.{◌≡◌, ◌≤◌, not, false, IfOk, OnOk, OnErr};
 ghost use Rattle.addr.specs.Family.{width};
 ghost use Rattle.payload.specs.steps.Tree.{IsInserted, IsPruned, has, is_bare, only, subtree, tree};

@@ -1,3 +1,4 @@
+//! The nodes of a trie.
 use crate::originator::Originator;
 use std::alloc::Global;
 use std::marker::Model;

@@ -1,3 +1,4 @@
+//! Taking a VRP out of a trie.
 ghost use Rattle.std.specs.Prelude.{◌≡◌, ◌≤◌, false};
 ghost use Rattle.addr.specs.Family.{width};
 ghost use Rattle.payload.specs.steps.Tree.{IsPruned, IsRemoved, has, is_bare, subtree, tree};

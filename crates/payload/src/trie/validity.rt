@@ -1,3 +1,4 @@
+//! Judging a route on a trie.
 ghost use Rattle.std.specs.Prelude.{◌≡◌, ◌+◌, ◌≤◌, true};
 ghost use Rattle.std.specs.List.{list_any};
 ghost use Rattle.payload.specs.ValidityState.{state_of};

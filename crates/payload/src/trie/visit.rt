@@ -1,3 +1,4 @@
+//! The VRPs of a trie in their order.
 ghost use Rattle.std.specs.Prelude.{◌≡◌, ◌+◌, ◌<◌, true, false, OnOk, OnErr};
 ghost use Rattle.addr.specs.Family.{width};
 ghost use Rattle.payload.specs.Visit.{TookBeginning};
