@@ -12,9 +12,9 @@ use crate::CsvRecords;
 use crate::fields::field;
 use addr::{Asn, Day, Prefix, number_from_text};
 use csv::ByteRecord;
-use json_values::{Gathered, both};
+use json_values::{Gathered, Read, both};
 use registry::ImportRow;
-use std::alloc::{AllocError, Global};
+use std::alloc::Global;
 
 /// How many rows an import may have.
 const MOST_ROWS: usize = 10_000;
@@ -66,12 +66,8 @@ impl json_values::Fault for ImportFault {
     }
 }
 
-/// The rows of the import that a text is, or its lowest fault. The outer error is an
-/// allocation that failed.
-pub fn read_import(
-    alloc: Global,
-    text: &[u8],
-) -> Result<Result<Vec<ImportRow>, ImportFault>, AllocError>
+/// The rows of the import that a text is.
+pub fn read_import(alloc: Global, text: &[u8]) -> Read<Vec<ImportRow>, ImportFault>
     ensures rows { IfOk result (λ read. IfOk read (λ rows. IsImport text.now rows.items)) }
     ensures fault { IfOk result (λ read. result_err read ≡ import_fault text.now) }
     ensures read { IfOk result (λ read. mapped (λ v. v.items) read ≡ import_in text.now) }
@@ -80,7 +76,7 @@ pub fn read_import(
     Ok(read)
 }
 
-fn import_in(alloc: Global, text: &[u8]) -> Result<Result<Vec<ImportRow>, ImportFault>, AllocError>
+fn import_in(alloc: Global, text: &[u8]) -> Read<Vec<ImportRow>, ImportFault>
     ensures { IfOk result (λ read. mapped (λ v. v.items) read ≡ import_in text.now) }
 {
     let header = &["asn", "prefix", "maxlength", "from", "until"];
@@ -91,10 +87,7 @@ fn import_in(alloc: Global, text: &[u8]) -> Result<Result<Vec<ImportRow>, Import
     Ok(counted(rows))
 }
 
-fn read_rows(
-    alloc: Global,
-    records: &mut CsvRecords<'_>,
-) -> Result<Result<Vec<ImportRow>, ImportFault>, AllocError>
+fn read_rows(alloc: Global, records: &mut CsvRecords<'_>) -> Read<Vec<ImportRow>, ImportFault>
     requires { IsReading records.old }
     ensures { IfOk result (λ read. mapped (λ v. v.items) read
         ≡ each import_fault_number row_in (records_left records.old)) }

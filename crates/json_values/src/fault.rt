@@ -2,6 +2,11 @@
 ghost use Rattle.std.specs.Prelude.{◌≡◌, ℕ};
 ghost use Rattle.json_values.specs.Parts.{lower};
 
+use std::alloc::AllocError;
+
+/// What is read, or its lowest fault. The outer error is an allocation that failed.
+pub type Read<T, F> = Result<Result<T, F>, AllocError>;
+
 /// What may be wrong with a text.
 pub trait Fault: Copy {
     ghost number: { Self → ℕ };

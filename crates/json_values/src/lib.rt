@@ -9,9 +9,9 @@ mod pairs;
 mod text;
 mod values;
 
-pub use fault::Fault;
+pub use fault::{Fault, Read};
 pub use lists::{Gathered, each};
-pub use members::{FromJson, member, only, optional, required};
+pub use members::{FromJson, FromJsonIn, member, only, optional, required};
 pub use pairs::{both, unless};
 pub use text::tree_of;
 pub use values::{as_asn, as_day, as_name, as_number_in, as_prefix};

@@ -5,7 +5,7 @@ ghost use Rattle.json_values.specs.Gathering.{so_far};
 ghost use Rattle.json_values.specs.Parts.{each, mapped, with_last};
 
 use crate::fault::lower;
-use crate::{Fault, FromJson};
+use crate::{Fault, FromJsonIn, Read};
 use serde_json::Value;
 use std::alloc::{AllocError, Global};
 
@@ -50,17 +50,15 @@ impl<T: Drop, F: Fault> Gathered<T, F> {
     }
 }
 
-/// What all values are read as, in their order. The outer error is an allocation that failed.
-pub fn each<T: FromJson<F>, F: Fault>(
-    alloc: Global,
-    values: &[Value],
-) -> Result<Result<Vec<T>, F>, AllocError>
+/// What all values are read as, in their order.
+pub fn each<T: FromJsonIn<F>, F: Fault>(alloc: Global, values: &[Value]) -> Read<Vec<T>, F>
     ensures { IfOk result (λ read. mapped (λ v. v.items) read
         ≡ each F.number T.reading (map view values.now)) }
 {
     let mut gathered = Gathered::new(alloc);
     for value in values {
-        gathered.add(T::from_json(value))?;
+        let read = T::from_json_in(alloc, value)?;
+        gathered.add(read)?;
     }
     Ok(gathered.finish())
 }

@@ -1,5 +1,5 @@
 //! Members of objects.
-ghost use Rattle.std.specs.Prelude.{◌≡◌, map, Result, string_bytes};
+ghost use Rattle.std.specs.Prelude.{◌≡◌, map, IfOk, Result, string_bytes};
 ghost use Rattle.std.specs.BTreeMap.{keys};
 ghost use Rattle.std.specs.List.{list_all, list_any};
 ghost use Rattle.std.specs.Option.{ok_or};
@@ -10,8 +10,9 @@ ghost use Rattle.serde_json.specs.View.{view};
 ghost use Rattle.json_values.specs.Parts.{mapped};
 ghost use Rattle.json_values.specs.Tree.{only, optional, required};
 
-use crate::Fault;
+use crate::{Fault, Read};
 use serde_json::{Map, Value};
+use std::alloc::Global;
 
 /// What a JSON value is read as, or the fault that it has.
 pub trait FromJson<F: Fault>: Drop {
@@ -19,6 +20,25 @@ pub trait FromJson<F: Fault>: Drop {
 
     fn from_json(value: &Value) -> Result<Self, F>
         ensures { result ≡ reading (view value.now) };
+}
+
+/// What a JSON value is read as, or the fault that it has, where reading it may take memory. What
+/// holds a list holds it in a type whose `Model` is the list: a `Vec` has a capacity besides, which
+/// no JSON value says.
+pub trait FromJsonIn<F: Fault>: Drop {
+    ghost reading: { Data → Result Self F };
+
+    fn from_json_in(alloc: Global, value: &Value) -> Read<Self, F>
+        ensures { IfOk result (λ read. read ≡ reading (view value.now)) };
+}
+
+/// What takes no memory.
+impl<T: FromJson<F>, F: Fault> FromJsonIn<F> for T {
+    ghost reading = { T.FromJson.reading };
+
+    fn from_json_in(_alloc: Global, value: &Value) -> Read<T, F> {
+        Ok(T::from_json(value))
+    }
 }
 
 /// The member of that name, which has to be there.

@@ -8,12 +8,12 @@ ghost use Rattle.slurm.specs.SlurmFaults.{array_at};
 ghost use Rattle.slurm.specs.steps.SlurmFile.{bgpsec_from, entries_from, part_in};
 
 use crate::SlurmFault;
-use json_values::{FromJson, each, only, unless};
+use json_values::{FromJson, Read, each, only, unless};
 use serde_json::Value;
-use std::alloc::{AllocError, Global};
+use std::alloc::Global;
 
 /// The entries of a list, or the lowest fault of the list and of all of its entries.
-type Listed<T> = Result<Vec<T>, SlurmFault>;
+type Listed<T> = Read<Vec<T>, SlurmFault>;
 
 fn array_in<'a>(value: &'a Value, name: &str) -> Option<&'a Vec<Value>>
     ensures { option_map (λ v. items_view v.now.items) result ≡ array_at name.now (view value.now) }
@@ -24,12 +24,8 @@ fn array_in<'a>(value: &'a Value, name: &str) -> Option<&'a Vec<Value>>
     }
 }
 
-/// The array of that name, each item read. The outer error is an allocation that failed.
-fn entries_in<T: FromJson<SlurmFault>>(
-    alloc: Global,
-    value: &Value,
-    name: &str,
-) -> Result<Listed<T>, AllocError>
+/// The array of that name, each item read.
+fn entries_in<T: FromJson<SlurmFault>>(alloc: Global, value: &Value, name: &str) -> Listed<T>
     ensures { IfOk result (λ read. mapped (λ v. v.items) read
         ≡ entries_from T.reading (array_at name.now (view value.now))) }
 {
@@ -58,7 +54,7 @@ fn part<T: FromJson<SlurmFault>>(
     value: &Value,
     entries: &str,
     bgpsec: &str,
-) -> Result<Listed<T>, AllocError>
+) -> Listed<T>
     ensures { IfOk result (λ read. mapped (λ v. v.items) read
         ≡ part_in T.reading entries.now bgpsec.now (view value.now)) }
 {
@@ -69,14 +65,14 @@ fn part<T: FromJson<SlurmFault>>(
 }
 
 /// The part of that name: an object of the entries, and of the BGPsec entries, of which there must
-/// be none. The outer error is an allocation that failed.
+/// be none.
 pub(crate) fn required_part<T: FromJson<SlurmFault>>(
     alloc: Global,
     value: &Value,
     name: &str,
     entries: &str,
     bgpsec: &str,
-) -> Result<Listed<T>, AllocError>
+) -> Listed<T>
     ensures { IfOk result (λ read. mapped (λ v. v.items) read
         ≡ required SlurmFault.Members (part_in T.reading entries.now bgpsec.now)
         (get name.now (view value.now))) }

@@ -6,10 +6,9 @@ ghost use Rattle.requests.specs.RequestFaults.{as_malformed, malformed_number, s
 use crate::malformed::Malformed;
 use csv_records::ImportFault;
 use slurm::SlurmFault;
-use std::alloc::AllocError;
 
-/// What is read, or its lowest fault; the outer error is an allocation that failed.
-pub(crate) type Read<T> = Result<Result<T, Fault>, AllocError>;
+/// What is read of a request.
+pub(crate) type Read<T> = json_values::Read<T, Fault>;
 
 /// Of several faults the one with the lowest number is reported.
 #[derive(Clone, Copy, Debug, PartialEq, Eq)]

@@ -10,7 +10,7 @@ use super::fault::{Fault, Read};
 use super::members::{number_in, origin_in, prefix_in, row_members_in, terms_in};
 use crate::action::Action;
 use addr::{Name, Origin, Prefix, Route};
-use json_values::{FromJson, both, each, only, unless};
+use json_values::{FromJson, FromJsonIn, both, each, only, unless};
 use registry::{Command, ImportRow, Proposed, Query, Request};
 use serde_json::Value;
 use std::alloc::Global;
@@ -84,7 +84,7 @@ fn asked_what_if(
 // ---- lists
 
 /// What the items of the member of that name are read as, of which there may be `least` to `most`.
-fn items_in<T: FromJson<Fault>>(
+fn items_in<T: FromJsonIn<Fault>>(
     alloc: Global,
     value: &Value,
     name: &str,

@@ -6,4 +6,4 @@ use Rattle.json_values.proofs.lists.each.Given as goal
 
 abbrev pub invariant-loop-value : goal.invariant-loop-value
 invariant-loop-value g l =
-    so_far l.gathered ≡ each g.F.Fault.number g.T.FromJson.reading (map view (take l.value-index l.values))
+    so_far l.gathered ≡ each g.F.Fault.number g.T.FromJsonIn.reading (map view (take l.value-index l.values))
