@@ -2,5 +2,6 @@
 #![tactic(auto)]
 
 mod charter;
+pub mod laws;
 
 pub use charter::{Charter, CharterFault};

@@ -6,6 +6,7 @@ mod charter_file;
 mod check;
 mod fault;
 mod files;
+pub mod laws;
 mod words;
 
 pub use charter_file::charter_from;

@@ -3,6 +3,7 @@
 
 mod fields;
 mod imports;
+pub mod laws;
 mod lines;
 mod records;
 

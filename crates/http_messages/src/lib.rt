@@ -5,6 +5,7 @@
 mod body;
 mod field;
 mod head;
+pub mod laws;
 mod length;
 mod method;
 mod reading;

@@ -1,6 +1,8 @@
 //! Laws of the definitions. `entry_fits` is about its arguments: it reads them all, for the proofs
 //! alone.
 
+ghost use Rattle.std.specs.Prelude.{◌≡◌};
+ghost use Rattle.registry.specs.declared.limits.TheConstants.{MOST_GRANTS, MOST_AUTHORIZATIONS, LAST_NUMBER};
 ghost use Rattle.registry.specs.Unregistered.{UnregisteredHaveNothing};
 ghost use Rattle.registry.specs.Values.{EntryFits};
 
@@ -22,3 +24,10 @@ pub fn entry_fits(day: Day, caller: &Name, command: &Command)
     name_fits(caller);
     command_fits(command);
 }
+
+/// The limits of the rule `room` in numbers, so that a changed constant is not proved.
+pub fn limits()
+    ensures grants { MOST_GRANTS ≡ 64 }
+    ensures authorizations { MOST_AUTHORIZATIONS ≡ 1000 }
+    ensures numbers { LAST_NUMBER ≡ 999999 }
+{}

@@ -3,6 +3,7 @@
 
 mod action;
 mod head;
+pub mod laws;
 mod malformed;
 mod path;
 mod piece;

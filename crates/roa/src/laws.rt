@@ -3,6 +3,7 @@
 ghost use Rattle.std.specs.Prelude.{◌≡◌, ℕ, List, ◌++◌, ◌↔◌};
 ghost use Rattle.roa.specs.RoaContent.{RouteOriginAttestation, IsContent, Encodes};
 ghost use Rattle.roa.specs.ContentOctets.{content_octets};
+ghost use Rattle.roa.specs.declared.content.TheConstants.Content.{MAX_ENTRIES};
 
 /// No octets of a content begin those of another: from whatever follows, both the content and where
 /// it ends are known. So of one content there are no two.
@@ -15,4 +16,9 @@ pub fn prefix_free()
 pub fn one_spelling()
     ensures { (content : RouteOriginAttestation) (octets : List ℕ) → IsContent content
         → Encodes content octets ↔ (octets ≡ content_octets content) }
+{}
+
+/// The limit of a content in numbers, so that a changed constant is not proved.
+pub fn limits()
+    ensures { MAX_ENTRIES ≡ 64 }
 {}

@@ -8,6 +8,7 @@ mod fault;
 mod file;
 mod filter;
 mod index;
+pub mod laws;
 mod lists;
 mod members;
 mod reach;

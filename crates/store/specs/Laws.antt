@@ -2,9 +2,11 @@
 use Rattle.std.specs.Prelude.{◌≡◌, ℕ, List, Option, IsTrue}
 use Rattle.std.specs.List.{AllByRecursion}
 use Rattle.sqlite_trees.specs.Tree.{Trees}
+use Rattle.sqlite_trees.specs.declared.memory.MemStore.{MemStore}
 use Rattle.addr.specs.Name.{is_name}
 use Rattle.charters.specs.CharterSets.{IsCharter}
 use Rattle.sqlite.specs.Effect.{Database}
+use Rattle.sqlite.specs.Held.{Held, state}
 use Rattle.sqlite.specs.Steps.{over_memory}
 use Rattle.charters.specs.declared.charter.Charter.{Charter}
 use Rattle.registry.specs.declared.rows.HolderRows.{HolderRows}
@@ -18,6 +20,7 @@ use Rattle.tables.specs.Tables.{desk_tables}
 use Rattle.database.specs.Databases.{IsHonest, IsOfAnotherSchema}
 use Rattle.database.specs.TablesRead.{TablesRead}
 use Rattle.store.specs.Loads.{AreLoaded, AllGiveOn}
+use Rattle.store.specs.StoreRows.{StoreView, state_of, Holds}
 
 -- The rows of a holder after a history, as they are loaded, are its rows after the history.
 abbrev pub LoadsRowsOfHistories : Type 0
@@ -61,6 +64,16 @@ HistoriesRead =
 -- memory returns what was written
 abbrev pub MemoryIsHonest : Type 0
 MemoryIsHonest = IsHonest over_memory
+
+-- memory never shuts, whatever the connection does
+abbrev pub MemoryStaysOpen : Type 0
+MemoryStaysOpen = (conn : Held MemStore) → IsTrue (state over_memory conn).is_open
+
+-- Where a store in memory is said to hold rows, its tables do: neither premise of `Holds` is left.
+abbrev pub MemoryHoldsRows : Type 0
+MemoryHoldsRows =
+    (store : StoreView MemStore) (rows : AllRows) → Holds over_memory store rows
+    → TablesHold store.charter rows (state_of over_memory store).now.trees
 
 -- Tables of a desk that read are not of another schema.
 abbrev pub TablesThatReadAreOurs : Type 0

@@ -1,7 +1,8 @@
 //! Laws over the definitions alone: each function's contract states one, and its body at most calls
 //! laws of `histories`.
 ghost use Rattle.store.specs.Laws.{AuthsOfHistoriesGive, ExceptionsOfHistoriesFit, HistoriesRead};
-ghost use Rattle.store.specs.Laws.{LoadsRowsOfHistories, MemoryIsHonest, RowsOfHistoriesFit};
+ghost use Rattle.store.specs.Laws.{LoadsRowsOfHistories, MemoryHoldsRows, MemoryIsHonest};
+ghost use Rattle.store.specs.Laws.{MemoryStaysOpen, RowsOfHistoriesFit};
 ghost use Rattle.store.specs.Laws.{TablesThatReadAreOurs};
 
 /// Where the tables hold the rows of a history, what is loaded of a holder are its rows after that
@@ -47,6 +48,13 @@ pub fn tables_of_a_history_read()
 /// A connection to memory is honest, so that what is said of an honest disk is said of it.
 pub fn memory_is_honest()
     ensures { MemoryIsHonest }
+{}
+
+/// A connection to memory is open after every call, so that what is said of an open store is said
+/// of one in memory.
+pub fn memory_stays_open()
+    ensures open { MemoryStaysOpen }
+    ensures rows { MemoryHoldsRows }
 {}
 
 /// Tables of a desk that read are never refused as those of another schema.

@@ -1,0 +1,15 @@
+//! Laws of the definitions. Each function does nothing: what it ensures is the law.
+ghost use Rattle.std.specs.Prelude.{◌≡◌};
+ghost use Rattle.requests.specs.declared.head.TheConstants.{FIELD_LIMIT};
+ghost use Rattle.requests.specs.declared.request.TheConstants.{LINE_LENGTH_LIMIT};
+ghost use Rattle.requests.specs.declared.request.lists.TheConstants.{MOST_ITEMS, MOST_CHANGES};
+ghost use Rattle.requests.specs.declared.request.members.TheConstants.{GREATEST_MAX};
+
+/// The limits of a request in numbers, so that a changed constant is not proved.
+pub fn limits()
+    ensures line { LINE_LENGTH_LIMIT ≡ 1048576 }
+    ensures fields { FIELD_LIMIT ≡ 32 }
+    ensures items { MOST_ITEMS ≡ 10000 }
+    ensures changes { MOST_CHANGES ≡ 1000 }
+    ensures greatest_max { GREATEST_MAX ≡ 255 }
+{}
