@@ -1,6 +1,6 @@
 -- A request has one reply on given entries.
 use Rattle.std.proofs.Common.{◌≡◌, ℕ, List, [], ◌∷◌, Option, Some, None, IfSome, inl, inr, refl, sym, ap, ◌∙◌, subst, filter, arith}
-use Rattle.std.specs.Prelude.{IsSome}
+use Rattle.std.specs.Prelude.{◌↔◌, IsSome}
 use Rattle.std.specs.Global.{Vec}
 use Rattle.std.specs.String.{string_bytes}
 use Rattle.std.proofs.lemmas.Bool.{false≢true, true≢false}
@@ -21,7 +21,10 @@ use Rattle.registry.specs.Verdict.{auth_of_number, ShowVerdict, ListVerdict}
 use Rattle.histories.specs.OneOutcome.{OneHypotheticalOutcome, OneOutcome}
 use Rattle.histories.proofs.OneOutcome.{One, checked, accepted}
 use Rattle.desk.specs.Answer.{AnswersCommand, AnswersShow, AnswersContent, AnswersList}
-use Rattle.desk.specs.ContentText.{IsContentText}
+use Rattle.hex.specs.Hex.{encode_lower}
+use Rattle.roa.specs.ContentOctets.{content_octets}
+use Rattle.roa.specs.RoaContent.{RouteOriginAttestation, Encodes, IsContent}
+use Rattle.desk.specs.ContentText.{content_of, IsContentText}
 use Rattle.desk.specs.HolderAnswers.{deciding_entries, IsAnswerOn, SaySame, OneReply}
 use Rattle.registry.specs.declared.asked.Request.{Request}
 use Rattle.registry.specs.declared.asked.Request.TheVariants.{Command as CommandRequest, Query as QueryRequest}
@@ -122,20 +125,30 @@ one_of_show history h day caller n (Denied r row) Unavailable x y = tt
 one_of_show history h day caller n (Denied r row) b x y = absurd y
 one_of_show history h day caller n a b x y = absurd x
 
-one_of_content : (history : History) (h : List ℕ) (day : ℕ) (caller : List ℕ) (n : ℕ) (a b : Reply)
+-- the octets of a content, of which there is one list
+abbrev OneSpelling : Type 0
+OneSpelling =
+    (content : RouteOriginAttestation) (octets : List ℕ) → IsContent content → Encodes content octets ↔ (octets ≡ content_octets content)
+
+one_text : OneSpelling → (x y : Auth) (text other : List ℕ) → x ≡ y → IsContentText x text → IsContentText y other → text ≡ other
+one_text spelling x y text other same a b =
+    let b' : IsContentText x other = subst (λ (auth : Auth). IsContentText auth other) (sym same) b in
+    a.3 ∙ ap encode_lower ((spelling (content_of x) a.1 a.0).0 a.2 ∙ sym ((spelling (content_of x) b'.1 b'.0).0 b'.2)) ∙ sym b'.3
+
+one_of_content : OneSpelling → (history : History) (h : List ℕ) (day : ℕ) (caller : List ℕ) (n : ℕ) (a b : Reply)
     → AnswersContent history h day caller n a → AnswersContent history h day caller n b → SaySame a b
-one_of_content history h day caller n Unavailable b x y = tt
-one_of_content history h day caller n (Content s) (Content t) x y =
-    (x.0, x.2, subst (λ (auth : Auth). IsContentText auth (string_bytes t)) (sym (one_shown history h day caller n x.0 y.0 x.1 y.1)) y.2)
-one_of_content history h day caller n (Content text) (Denied s row) x y = none≢some ((one_show history h day caller n).same None (Some s) x.1.0 y.0)
-one_of_content history h day caller n (Content text) Unavailable x y = tt
-one_of_content history h day caller n (Content text) b x y = absurd y
-one_of_content history h day caller n (Denied r row) (Content text) x y = none≢some ((one_show history h day caller n).same None (Some r) y.1.0 x.0)
-one_of_content history h day caller n (Denied r row) (Denied s other) x y =
+one_of_content spelling history h day caller n Unavailable b x y = tt
+one_of_content spelling history h day caller n (Content s) (Content t) x y =
+    one_text spelling x.0 y.0 (string_bytes s) (string_bytes t) (one_shown history h day caller n x.0 y.0 x.1 y.1) x.2 y.2
+one_of_content spelling history h day caller n (Content text) (Denied s row) x y = none≢some ((one_show history h day caller n).same None (Some s) x.1.0 y.0)
+one_of_content spelling history h day caller n (Content text) Unavailable x y = tt
+one_of_content spelling history h day caller n (Content text) b x y = absurd y
+one_of_content spelling history h day caller n (Denied r row) (Content text) x y = none≢some ((one_show history h day caller n).same None (Some r) y.1.0 x.0)
+one_of_content spelling history h day caller n (Denied r row) (Denied s other) x y =
     denied_whole r s row other ((one_show history h day caller n).same (Some r) (Some s) x.0 y.0) x.1 y.1
-one_of_content history h day caller n (Denied r row) Unavailable x y = tt
-one_of_content history h day caller n (Denied r row) b x y = absurd y
-one_of_content history h day caller n a b x y = absurd x
+one_of_content spelling history h day caller n (Denied r row) Unavailable x y = tt
+one_of_content spelling history h day caller n (Denied r row) b x y = absurd y
+one_of_content spelling history h day caller n a b x y = absurd x
 
 one_of_list : (history : History) (h : List ℕ) (day : ℕ) (caller : List ℕ) (a b : Reply)
     → AnswersList history h day caller a → AnswersList history h day caller b → SaySame a b
@@ -195,16 +208,16 @@ agreed : (charter : Charter) (one other : History) (day : ℕ) (caller : List �
 agreed charter one other day caller request a b determined some same x y =
     one_on charter day caller request a b (deciding_entries request one) determined some x (subst (AnswersOn charter day caller request b) (sym same) y)
 
-pub one_reply : OneOutcome → OneHypotheticalOutcome → OneReply
-one_reply law would charter one other day caller (CommandRequest c) a b some same x y =
+pub one_reply : OneOutcome → OneHypotheticalOutcome → OneSpelling → OneReply
+one_reply law would spelling charter one other day caller (CommandRequest c) a b some same x y =
     agreed charter one other day caller (CommandRequest c) a b (λ history p q. one_of_command law charter history day caller c a b p.0 q.0 p.1 q.1) some same x y
-one_reply law would charter one other day caller (QueryRequest (ShowQuery h n)) a b some same x y =
+one_reply law would spelling charter one other day caller (QueryRequest (ShowQuery h n)) a b some same x y =
     agreed charter one other day caller (QueryRequest (ShowQuery h n)) a b (λ history p q. one_of_show history h day caller n a b p.1.0 q.1.0) some same x y
-one_reply law would charter one other day caller (QueryRequest (ContentQuery h n)) a b some same x y =
-    agreed charter one other day caller (QueryRequest (ContentQuery h n)) a b (λ history p q. one_of_content history h day caller n a b p.1.0 q.1.0) some same x y
-one_reply law would charter one other day caller (QueryRequest (ListQuery h)) a b some same x y =
+one_reply law would spelling charter one other day caller (QueryRequest (ContentQuery h n)) a b some same x y =
+    agreed charter one other day caller (QueryRequest (ContentQuery h n)) a b (λ history p q. one_of_content spelling history h day caller n a b p.1.0 q.1.0) some same x y
+one_reply law would spelling charter one other day caller (QueryRequest (ListQuery h)) a b some same x y =
     agreed charter one other day caller (QueryRequest (ListQuery h)) a b (λ history p q. one_of_list history h day caller a b p.1.0 q.1.0) some same x y
-one_reply law would charter one other day caller (QueryRequest PayloadsQuery) a b some same x y = absurd (false≢true some)
-one_reply law would charter one other day caller (QueryRequest (ValidityQuery routes)) a b some same x y = absurd (false≢true some)
-one_reply law would charter one other day caller (QueryRequest (WhatIfQuery h changes routes)) a b some same x y =
+one_reply law would spelling charter one other day caller (QueryRequest PayloadsQuery) a b some same x y = absurd (false≢true some)
+one_reply law would spelling charter one other day caller (QueryRequest (ValidityQuery routes)) a b some same x y = absurd (false≢true some)
+one_reply law would spelling charter one other day caller (QueryRequest (WhatIfQuery h changes routes)) a b some same x y =
     agreed charter one other day caller (QueryRequest (WhatIfQuery h changes routes)) a b (λ history p q. one_of_what_if would charter history day caller h changes routes a b p q) some same x y

@@ -16,7 +16,6 @@ use Rattle.registry.specs.Verdict.{IsLegal}
 use Rattle.sqlite.specs.Store.{Ghosts}
 use Rattle.store.specs.StoreRows.{Holds}
 use Rattle.desk.specs.Answer.{AnswersRequest}
-use Rattle.desk.specs.ContentText.{IsContentText}
 use Rattle.registry.specs.declared.asked.Asked.{Asked}
 use Rattle.registry.specs.declared.asked.Request.{Request}
 use Rattle.registry.specs.declared.asked.Request.TheVariants.{Command as CommandRequest, Query as QueryRequest}
@@ -53,15 +52,14 @@ AnswersByEntries =
     → AnswersRequest charter history day caller request reply after
     → IsAnswerByEntries charter history day caller request reply
 
--- The replies say the same: of lists the items, of contents that they are texts of one authorization's. Of
--- Unavailable, and of the states of two what-ifs, nothing is required.
+-- The replies say the same: of lists the items, of contents the text. Of Unavailable, and of the states of two
+-- what-ifs, nothing is required.
 abbrev pub SaySame : Reply → Reply → Type 0
 SaySame Unavailable other = Unit {0}
 SaySame one Unavailable = Unit {0}
 SaySame (Report states) (Report others) = Unit {0}
 SaySame (Listed xs) (Listed ys) = xs.items ≡ ys.items
-SaySame (Content text) (Content other) =
-    (x : Auth) × IsContentText x (string_bytes text) × IsContentText x (string_bytes other)
+SaySame (Content text) (Content other) = string_bytes text ≡ string_bytes other
 SaySame one other = one ≡ other
 
 -- histories that agree on the entries that decide a request give it the same reply

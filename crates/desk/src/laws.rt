@@ -26,6 +26,7 @@ pub fn one_reply()
 {
     histories::laws::one_outcome();
     histories::laws::one_hypothetical_outcome();
+    roa::laws::one_spelling();
 }
 
 /// If a what-if reports states for changes at a holder, then the same changes are accepted where the
