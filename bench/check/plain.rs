@@ -3,7 +3,7 @@
 //!
 //!     plain PAYLOADS.csv ROUTES.csv
 //!
-//! Fields are taken as they stand, without quotes. Nothing is printed where a row is faulty.
+//! Fields are taken as they are, without quotes. Nothing is printed where a row is faulty.
 
 use std::error::Error;
 use std::fs;
@@ -11,7 +11,7 @@ use std::io::{self, BufWriter, Write};
 use std::net::IpAddr;
 use std::process::ExitCode;
 
-/// A prefix, its bits aligned to the left in both families; in order, it stands before what it covers.
+/// A prefix, its bits aligned to the left in both families; it sorts before what it covers.
 #[derive(Clone, Copy, PartialEq, Eq, PartialOrd, Ord)]
 struct Prefix {
     is_v6: bool,

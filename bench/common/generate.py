@@ -4,7 +4,7 @@
     generate.py [--shuffled] [--seed S] VRPS ROUTES PAYLOADS.csv ROUTES.csv
 
 The same arguments give the same files. The rows rise by family, address, length and what follows;
-with --shuffled they stand in any order. No VRP stands twice; a route may.
+with --shuffled they are in any order. No VRP occurs twice; a route may.
 """
 
 import argparse

@@ -29,7 +29,7 @@ use Rattle.addr.specs.Order.{family_cmp, prefix_cmp}
 use Rattle.charters.specs.Repeats.{has_repeat}
 use Rattle.command_line.specs.CharterFile.{charter_fault, charter_row, fault_of_pair, first_charter_fault, kind_and_value_fault, kind_of, operators_in, pool_in, pool_kind, is_noted, same_row, value_of, HoldsRows}
 use Rattle.csv_records.specs.Fields.{Fields}
-use Rattle.command_line.specs.CsvRows.{at_row, IsTold}
+use Rattle.command_line.specs.CsvRows.{at_row, IsReported}
 use Rattle.csv_records.specs.Fields.{fields_eq, two_of}
 use Rattle.csv_records.specs.Lines.{prefix_text}
 use Rattle.command_line.specs.declared.charter_file.CharterRow.{CharterRow}
@@ -188,19 +188,19 @@ length-map : (rows : List CharterRow) → length (map charter_row rows) ≡ leng
 length-map [] = refl
 length-map (r ∷ rows) = ap suc (length-map rows)
 
-told-later : (fault : FileFault) (k : ℕ) (why : Option RowFault) (later : Option FileFault) → IsTold fault (at_row k why None) → IsTold fault (at_row k why later)
-told-later file.Memory k why later told = tt
-told-later file.Header k None later told = cc
-told-later file.Header k (Some f) later told = told
-told-later (file.Row n w) k None later told = cc
-told-later (file.Row n w) k (Some f) later told = told
+reported-later : (fault : FileFault) (k : ℕ) (why : Option RowFault) (later : Option FileFault) → IsReported fault (at_row k why None) → IsReported fault (at_row k why later)
+reported-later file.Memory k why later reported = tt
+reported-later file.Header k None later reported = cc
+reported-later file.Header k (Some f) later reported = reported
+reported-later (file.Row n w) k None later reported = cc
+reported-later (file.Row n w) k (Some f) later reported = reported
 
-pub told-first : (fault : FileFault) (all left rest : List Fields) (fields : Fields) (rows : List CharterRow)
+pub reported-first : (fault : FileFault) (all left rest : List Fields) (fields : Fields) (rows : List CharterRow)
     → first_charter_fault [] all ≡ first_charter_fault (map charter_row rows) left → left ≡ fields ∷ rest
-    → IsTold fault (at_row (length rows + 1) (charter_fault (map charter_row rows) fields) None)
-    → IsTold fault (first_charter_fault [] all)
-told-first fault all left rest fields rows same l told =
-    rw (same, l, length-map rows) (told-later fault (length rows + 1) (charter_fault (map charter_row rows) fields) _ told)
+    → IsReported fault (at_row (length rows + 1) (charter_fault (map charter_row rows) fields) None)
+    → IsReported fault (first_charter_fault [] all)
+reported-first fault all left rest fields rows same l reported =
+    rw (same, l, length-map rows) (reported-later fault (length rows + 1) (charter_fault (map charter_row rows) fields) _ reported)
 
 -- ---- no operator and no prefix twice
 
@@ -284,9 +284,9 @@ pub row_repeated : (old : CharterRows) (r : CharterRow) (fields : Fields) (kind 
     → false ≡ not (is_noted old r)
     → fault ≡ file.Row (length old.operators.items + length old.pool.items + 1) row.Repeated
     → (rows : List CharterRow) → HoldsRows old rows
-    → IsTold fault (at_row (length rows + 1) (charter_fault (map charter_row rows) fields) None)
-row_repeated old r fields kind value fault pair read known told rows held =
+    → IsReported fault (at_row (length rows + 1) (charter_fault (map charter_row rows) fields) None)
+row_repeated old r fields kind value fault pair read known reported rows held =
     let same : fields ≡ charter_row r = two_fields fields kind value pair ∙ rw (read.0, read.1) refl in
     let plain : fault_of_pair (two_of fields) ≡ None = rw (← pair) read.2 in
     let again = charter_fault-noted old rows r fields true held same plain (not-false (is_noted old r) (sym known)) in
-    rw (told, again, held.count) refl
+    rw (reported, again, held.count) refl

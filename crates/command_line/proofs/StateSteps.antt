@@ -5,28 +5,28 @@ use Rattle.addr.specs.OriginValidation.{ValidationState, validation_state}
 use Rattle.addr.specs.declared.route.Route.{Route}
 use Rattle.payload.specs.VrpSet as set
 use Rattle.addr.specs.OriginValidation.{state_text}
-use Rattle.command_line.specs.Check.{state_line, states_text}
+use Rattle.command_line.specs.Check.{state_line, state_lines}
 use Rattle.csv_records.specs.Fields.{Fields}
 use Rattle.command_line.specs.CsvRows.{first_fault, origin_text, route_fault, route_row}
 use Rattle.csv_records.specs.Lines.{prefix_text}
 
-pub rows_more : (all left rest : List Fields) (row : Fields) (routes : List Route) (r : Route)
+pub routes_more : (all left rest : List Fields) (row : Fields) (routes : List Route) (r : Route)
     → all ≡ map route_row routes ++ left → left ≡ row ∷ rest → row ≡ route_row r
     → all ≡ map route_row (routes ++ r ∷ []) ++ rest
-rows_more all left rest row routes r a l same =
+routes_more all left rest row routes r a l same =
     rw (a, l, same, map-append route_row routes (r ∷ []), append_assoc) refl
 
-states_more : (vrps : set.VrpSet) (routes : List Route) (r : Route) → states_text vrps (routes ++ r ∷ []) ≡ states_text vrps routes ++ state_line vrps r
+states_more : (vrps : set.VrpSet) (routes : List Route) (r : Route) → state_lines vrps (routes ++ r ∷ []) ≡ state_lines vrps routes ++ state_line vrps r
 states_more vrps [] r = append-nil (state_line vrps r)
 states_more vrps (s ∷ routes) r =
     ap (λ (t : List ℕ). state_line vrps s ++ t) (states_more vrps routes r)
-    ∙ sym (append_assoc (state_line vrps s) (states_text vrps routes) (state_line vrps r))
+    ∙ sym (append_assoc (state_line vrps s) (state_lines vrps routes) (state_line vrps r))
 
 pub line_more : (vrps : set.VrpSet) (routes : List Route) (r : Route) (old new prefix origin : List ℕ) (state : ValidationState)
-    → old ≡ states_text vrps routes → prefix ≡ prefix_text r.prefix → origin ≡ origin_text r.origin
+    → old ≡ state_lines vrps routes → prefix ≡ prefix_text r.prefix → origin ≡ origin_text r.origin
     → state ≡ validation_state (set.items vrps) r
     → new ≡ old ++ (prefix ++ 44 ∷ origin ++ 44 ∷ state_text state ++ 10 ∷ [])
-    → new ≡ states_text vrps (routes ++ r ∷ [])
+    → new ≡ state_lines vrps (routes ++ r ∷ [])
 line_more vrps routes r old new prefix origin state before one two judged pushed =
     pushed ∙ rw (before, one, two, judged, states_more vrps routes r) refl
 
@@ -37,6 +37,6 @@ longer old new front e =
     let third = length-append front (10 ∷ []) in
     omega arith
 
-pub first_more : (k : ℕ) (left rest : List Fields) (row : Fields) → left ≡ row ∷ rest → route_fault row ≡ None
+pub first_route_more : (k : ℕ) (left rest : List Fields) (row : Fields) → left ≡ row ∷ rest → route_fault row ≡ None
     → first_fault route_fault k left ≡ first_fault route_fault (k + 1) rest
-first_more k left rest row l none = rw (l, none) refl
+first_route_more k left rest row l none = rw (l, none) refl

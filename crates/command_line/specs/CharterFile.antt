@@ -18,7 +18,7 @@ use Rattle.charters.specs.declared.charter.Charter.{Charter}
 use Rattle.csv_records.specs.CsvRecords.{csv_records}
 use Rattle.csv_records.specs.Fields.{Fields, fields_eq, two_of}
 use Rattle.csv_records.specs.Lines.{prefix_text}
-use Rattle.command_line.specs.CsvRows.{at_row, header_fault, or_else, prefix_fault, unless}
+use Rattle.command_line.specs.CsvRows.{at_row, header_fault, or_else, prefix_fault, fault_if_none}
 use Rattle.command_line.specs.ProgramFaults.{fault_of_file}
 use Rattle.command_line.specs.declared.charter_file.CharterRow.{CharterRow}
 use Rattle.command_line.specs.declared.charter_file.CharterRow.TheVariants.{Operator, Pool}
@@ -64,7 +64,7 @@ pool_in (Pool prefix ∷ rows) = prefix ∷ pool_in rows
 
 abbrev pub kind_and_value_fault : List ℕ → List ℕ → Option RowFault
 kind_and_value_fault kind value =
-    if bytes_eq kind operator_kind then unless (name_in value) row.Name else
+    if bytes_eq kind operator_kind then fault_if_none (name_in value) row.Name else
     if bytes_eq kind pool_kind then prefix_fault value else Some row.Kind
 
 abbrev pub fault_of_pair : Option (List ℕ × List ℕ) → Option RowFault

@@ -20,20 +20,20 @@ abbrev pub state_line : set.VrpSet → Route → List ℕ
 state_line vrps r =
     prefix_text r.prefix ++ 44 ∷ origin_text r.origin ++ 44 ∷ state_text (validation_state (set.items vrps) r) ++ 10 ∷ []
 
-abbrev pub states_text : set.VrpSet → List Route → List ℕ
-states_text vrps [] = []
-states_text vrps (r ∷ routes) = state_line vrps r ++ states_text vrps routes
+abbrev pub state_lines : set.VrpSet → List Route → List ℕ
+state_lines vrps [] = []
+state_lines vrps (r ∷ routes) = state_line vrps r ++ state_lines vrps routes
 
 -- the files are these VRPs and these routes, each under its header
-pub record AreFilesOf (payloads routes : List ℕ) (vrps : List Vrp) (announced : List Route) : Type 0 where
+pub record AreCheckFiles (payloads routes : List ℕ) (vrps : List Vrp) (announced : List Route) : Type 0 where
   pub payload_file : csv_records payloads ≡ payload_header ∷ map payload_row vrps
   pub route_file : csv_records routes ≡ route_header ∷ map route_row announced
 
 -- the text is the lines of a check of the two files
 abbrev pub JudgesFiles : List ℕ → List ℕ → List ℕ → Type 0
 JudgesFiles payloads routes text = (vrps : List Vrp) × (announced : List Route)
-    × AreFilesOf payloads routes vrps announced
-    × (text ≡ states_text (set.from_list vrps) announced)
+    × AreCheckFiles payloads routes vrps announced
+    × (text ≡ state_lines (set.from_list vrps) announced)
 
 -- the first fault of the payload file, or else of the route file
 abbrev pub check_fault : List ℕ → List ℕ → Option ProgramFault

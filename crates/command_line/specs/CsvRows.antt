@@ -42,16 +42,16 @@ abbrev pub file_fault : Fields → (Fields → Option RowFault) → List Fields 
 file_fault header fault_of records = or_else (header_fault header records) (first_fault fault_of 1 (drop 1 records))
 
 -- the fault is that of the file, or an allocation failed
-abbrev pub IsTold : FileFault → Option FileFault → Type 0
-IsTold file.Memory first = Unit
-IsTold file.Header first = first ≡ Some file.Header
-IsTold (file.Row k fault) first = first ≡ Some (file.Row k fault)
+abbrev pub IsReported : FileFault → Option FileFault → Type 0
+IsReported file.Memory first = Unit
+IsReported file.Header first = first ≡ Some file.Header
+IsReported (file.Row k fault) first = first ≡ Some (file.Row k fault)
 
 -- ---- payload rows: AS, prefix and maxLength
 
-abbrev pub unless : {T : Type 0} → Option T → RowFault → Option RowFault
-unless (Some good) fault = None
-unless None fault = Some fault
+abbrev pub fault_if_none : {T : Type 0} → Option T → RowFault → Option RowFault
+fault_if_none (Some good) fault = None
+fault_if_none None fault = Some fault
 
 abbrev pub prefix_fault : List ℕ → Option RowFault
 prefix_fault text = option_map row.Prefix (prefix_text_fault text)
@@ -68,11 +68,11 @@ length_and_width text = option_map (λ parts. (parts.length, width parts.family)
 -- the maxLength of a prefix: from its length to the width of its family
 abbrev pub length_fault : Option (ℕ × ℕ) → List ℕ → Option RowFault
 length_fault None max = None
-length_fault (Some bounds) max = unless (number_between bounds.0 bounds.1 max) row.Length
+length_fault (Some bounds) max = fault_if_none (number_between bounds.0 bounds.1 max) row.Length
 
 abbrev pub payload_texts_fault : List ℕ → List ℕ → List ℕ → Option RowFault
 payload_texts_fault asn prefix max =
-    or_else (unless (asn_in asn) row.Asn) (or_else (prefix_fault prefix) (length_fault (length_and_width prefix) max))
+    or_else (fault_if_none (asn_in asn) row.Asn) (or_else (prefix_fault prefix) (length_fault (length_and_width prefix) max))
 
 abbrev pub fault_of_three : Option (List ℕ × (List ℕ × List ℕ)) → Option RowFault
 fault_of_three None = Some row.Fields
@@ -98,7 +98,7 @@ route_row r = prefix_text r.prefix ∷ origin_text r.origin ∷ []
 
 -- an AS number or `NONE`
 abbrev pub origin_fault : List ℕ → Option RowFault
-origin_fault text = if bytes_eq text no_origin then None else unless (asn_in text) row.Origin
+origin_fault text = if bytes_eq text no_origin then None else fault_if_none (asn_in text) row.Origin
 
 abbrev pub route_texts_fault : List ℕ → List ℕ → Option RowFault
 route_texts_fault prefix origin = or_else (prefix_fault prefix) (origin_fault origin)

@@ -45,21 +45,21 @@ row_fault_text row.Origin = codes "origin"
 row_fault_text row.Repeated = codes "repeated"
 
 -- the line on standard error, without its line feed
-abbrev pub line_text : ProgramFault → List ℕ
-line_text Words = codes "roadesk: words"
-line_text Day = codes "roadesk: day"
-line_text File = codes "roadesk: file"
-line_text Database = codes "roadesk: database"
-line_text Socket = codes "roadesk: socket"
-line_text Stream = codes "roadesk: stream"
-line_text Memory = codes "roadesk: memory"
-line_text (Header file) = codes "roadesk: " ++ file_name file ++ codes " header"
-line_text (Row file number fault) =
+abbrev pub program_fault_text : ProgramFault → List ℕ
+program_fault_text Words = codes "roadesk: words"
+program_fault_text Day = codes "roadesk: day"
+program_fault_text File = codes "roadesk: file"
+program_fault_text Database = codes "roadesk: database"
+program_fault_text Socket = codes "roadesk: socket"
+program_fault_text Stream = codes "roadesk: stream"
+program_fault_text Memory = codes "roadesk: memory"
+program_fault_text (Header file) = codes "roadesk: " ++ file_name file ++ codes " header"
+program_fault_text (Row file number fault) =
     codes "roadesk: " ++ file_name file ++ codes " row " ++ decimal number
     ++ codes ": " ++ row_fault_text fault
-line_text CharterCount = codes "roadesk: charter count"
-line_text Schema = codes "roadesk: schema"
-line_text Exists = codes "roadesk: exists"
+program_fault_text CharterCount = codes "roadesk: charter count"
+program_fault_text Schema = codes "roadesk: schema"
+program_fault_text Exists = codes "roadesk: exists"
 
 abbrev pub fault_of_words : WordsFault → ProgramFault
 fault_of_words words.Words = Words

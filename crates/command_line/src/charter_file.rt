@@ -3,7 +3,7 @@ ghost use Rattle.std.specs.Prelude.{◌≡◌, ◌+◌, ◌++◌, ◌∷◌, ◌
 ghost use Rattle.csv.specs.Records.{fields_of};
 ghost use Rattle.command_line.specs.CharterFile.{charter_fault, charter_file_fault, charter_row, first_charter_fault, kind_and_value_fault, kind_of, operators_in, pool_in, is_noted, same_row, value_of, HoldsRows, IsCharterFile, IsCharterOf, RefusesCharter};
 ghost use Rattle.csv_records.specs.CsvRecords.{csv_records, records_left, IsReading};
-ghost use Rattle.command_line.specs.CsvRows.{at_row, IsTold};
+ghost use Rattle.command_line.specs.CsvRows.{at_row, IsReported};
 ghost use Rattle.command_line.specs.declared.charter_file.CharterRow as read;
 ghost use Rattle.command_line.specs.declared.fault.FileFault.TheVariants as file;
 
@@ -39,7 +39,7 @@ pub fn charter_from(alloc: Global, text: &[u8]) -> Result<Charter, ProgramFault>
         (rows : List read.CharterRow) × IsCharterOf text.now charter rows) }
     ensures err { IfErr result (λ fault. RefusesCharter fault text.now) }
 {
-    let rows = match read_charter(alloc, text) {
+    let rows = match read_charter_rows(alloc, text) {
         Ok(rows) => rows,
         Err(fault) => return Err(fault.of(InputFile::Charter)),
     };
@@ -51,11 +51,12 @@ pub fn charter_from(alloc: Global, text: &[u8]) -> Result<Charter, ProgramFault>
     }
 }
 
-fn read_charter(alloc: Global, text: &[u8]) -> Result<CharterRows, FileFault>
+fn read_charter_rows(alloc: Global, text: &[u8]) -> Result<CharterRows, FileFault>
     ensures ok { IfOk result (λ kept.
         (rows : List read.CharterRow) × IsCharterFile text.now rows × HoldsRows kept rows) }
     ensures faultless { IfOk result (λ kept. charter_file_fault (csv_records text.now) ≡ None) }
-    ensures err { IfErr result (λ fault. IsTold fault (charter_file_fault (csv_records text.now))) }
+    ensures err { IfErr result (λ fault.
+        IsReported fault (charter_file_fault (csv_records text.now))) }
 {
     let mut records = after_header(alloc, text, &["kind", "value"])?;
     read_rows(alloc, &mut records)
@@ -68,7 +69,7 @@ fn read_rows(alloc: Global, records: &mut CsvRecords<'_>) -> Result<CharterRows,
     ensures faultless { IfOk result (λ kept.
         first_charter_fault [] (records_left records.old) ≡ None) }
     ensures err { IfErr result (λ fault.
-        IsTold fault (first_charter_fault [] (records_left records.old))) }
+        IsReported fault (first_charter_fault [] (records_left records.old))) }
 {
     let mut rows = CharterRows::new(alloc);
     while records.advance()? {
@@ -95,7 +96,7 @@ impl CharterRows {
             × HoldsRows self.new (rows ++ r ∷ [])
             × (charter_fault (map charter_row rows) (fields_of row.now) ≡ None)) }
         ensures err { IfErr result (λ fault. (rows : List read.CharterRow) → HoldsRows self.old rows
-            → IsTold fault (at_row (length rows + 1)
+            → IsReported fault (at_row (length rows + 1)
             (charter_fault (map charter_row rows) (fields_of row.now)) None)) }
     {
         let Some((kind, value)) = two_fields(row) else {

@@ -3,9 +3,9 @@ ghost use Rattle.std.specs.Prelude.{◌≡◌, ◌++◌, ◌∷◌, [], ℕ, Lis
 ghost use Rattle.addr.specs.OriginValidation.{state_text};
 ghost use Rattle.addr.specs.declared.route.Route as announced;
 ghost use Rattle.payload.specs.ValidityState.{state_of};
-ghost use Rattle.command_line.specs.Check.{states_text, check_fault, JudgesFiles, EndsCheck};
+ghost use Rattle.command_line.specs.Check.{state_lines, check_fault, JudgesFiles, EndsCheck};
 ghost use Rattle.csv_records.specs.CsvRecords.{csv_records, records_left, IsReading};
-ghost use Rattle.command_line.specs.CsvRows.{file_fault, first_fault, route_fault, route_header, route_row, IsTold};
+ghost use Rattle.command_line.specs.CsvRows.{file_fault, first_fault, route_fault, route_header, route_row, IsReported};
 
 use crate::fault::{FileFault, InputFile, ProgramFault};
 use crate::files::{RouteRow, after_header, read_payloads, read_route};
@@ -48,11 +48,11 @@ pub fn check_on<D: Drain>(
 fn lines_of(alloc: Global, index: &ListIndex, text: &[u8]) -> Result<Vec<u8>, FileFault>
     ensures ok { IfOk result (λ lines. (routes : List announced.Route)
         × (csv_records text.now ≡ route_header ∷ map route_row routes)
-        × (lines.items ≡ states_text index.now routes)) }
+        × (lines.items ≡ state_lines index.now routes)) }
     ensures faultless { IfOk result (λ lines.
         file_fault route_header route_fault (csv_records text.now) ≡ None) }
     ensures err { IfErr result (λ fault.
-        IsTold fault (file_fault route_header route_fault (csv_records text.now))) }
+        IsReported fault (file_fault route_header route_fault (csv_records text.now))) }
 {
     let mut records = after_header(alloc, text, &["prefix", "origin"])?;
     lines_of_rows(alloc, index, &mut records)
@@ -66,11 +66,11 @@ fn lines_of_rows(
     requires { IsReading records.old }
     ensures ok { IfOk result (λ lines. (routes : List announced.Route)
         × (records_left records.old ≡ map route_row routes)
-        × (lines.items ≡ states_text index.now routes)) }
+        × (lines.items ≡ state_lines index.now routes)) }
     ensures faultless { IfOk result (λ lines.
         first_fault route_fault 1 (records_left records.old) ≡ None) }
     ensures err { IfErr result (λ fault.
-        IsTold fault (first_fault route_fault 1 (records_left records.old))) }
+        IsReported fault (first_fault route_fault 1 (records_left records.old))) }
 {
     let mut lines = Vec::new(alloc);
     let mut row = 1;

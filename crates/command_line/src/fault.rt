@@ -1,7 +1,7 @@
 //! How the program ends where it does not do its task: a line on standard error and a status.
 ghost use Rattle.std.specs.Prelude.{◌≡◌, ◌≤◌, length};
 ghost use Rattle.command_line.specs.declared.fault.FileFault.TheVariants.{Memory};
-ghost use Rattle.command_line.specs.ProgramFaults.{fault_of_file, fault_of_words, file_name, line_text, row_fault_text, status_of};
+ghost use Rattle.command_line.specs.ProgramFaults.{fault_of_file, fault_of_words, file_name, program_fault_text, row_fault_text, status_of};
 
 use crate::words::WordsFault;
 use addr::{PrefixFault, digits};
@@ -146,7 +146,7 @@ impl ProgramFault {
 
     /// The line on standard error, without its line feed.
     pub fn line(&self) -> ArrayString<80>
-        ensures { result.bytes ≡ line_text self.now }
+        ensures { result.bytes ≡ program_fault_text self.now }
     {
         let mut text = ArrayString::new();
         text.push_str("roadesk: ");

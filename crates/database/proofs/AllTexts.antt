@@ -21,7 +21,7 @@ use Rattle.tables.specs.declared.pool.TheConstants.{SELECT_ALL_PREFIXES}
 use Rattle.tables.proofs.Selecting.{from_table, no_limit, picks, permuted}
 use Rattle.database.proofs.Columns.{shown_at, shown_columns}
 use Rattle.tables.proofs.Texts.{Means, upwards}
-use Rattle.database.specs.steps.Numbered.{columns_and_rowid, AnswersRows, SelectsAll}
+use Rattle.database.specs.steps.Numbered.{columns_and_rowid, AnswersSelect, SelectsAll}
 
 -- SELECT these columns and the rowid FROM the table ORDER BY rowid
 abbrev pub all_of_table : ℕ → List ℕ → List (List ℕ) → Command
@@ -34,7 +34,7 @@ shown_numbered places r = map-append (λ t. eval t ([] ∷ r ∷ [])) (shown_at 
 selects_all : (tree : ℕ) (places : List ℕ) (titles : List (List ℕ)) (sql : List ℕ) → Means sql (all_of_table tree places titles) → SelectsAll (length places) tree places sql
 selects_all tree places titles sql means = record { counted = refl; plain = means.plain; unlisted = means.unlisted; found = found }
   where
-    found : (db : Database) (rows : List Row) → AnswersRows sql db rows → IsPermutation (map (columns_and_rowid places) (db.trees tree)) rows
+    found : (db : Database) (rows : List Row) → AnswersSelect sql db rows → IsPermutation (map (columns_and_rowid places) (db.trees tree)) rows
     found db rows read =
         let answer = (subst (λ (k : Command). Reads k db [] rows) (means.is db.schema) read).answer Null in
         let every : filter (picks [] []) (db.trees tree) ≡ db.trees tree = filter_all (picks [] []) (db.trees tree) (all_of (λ r. picks [] [] r ≡ true) (λ r. refl) (db.trees tree)) in

@@ -27,7 +27,7 @@ use Rattle.sqlite_schema.specs.Rules.{are_typed, are_present, passes, agree, equ
 use Rattle.sqlite_rules.specs.Lists.{Has}
 use Rattle.sqlite_rules.proofs.ListLemmas.{all_has, test_has, some_has, some_from}
 use Rattle.sqlite_catalog.specs.Listing.{IsSound, IsGuarded, automatic}
-use Rattle.tables.specs.Tables.{desk_tables, names_holder, rising, holder}
+use Rattle.tables.specs.Tables.{desk_tables, holder_reference, rising, holder}
 use Rattle.tables.specs.TablesHold.{is_name_of}
 use Rattle.tables.proofs.TreeRows.{alike_flip}
 
@@ -100,7 +100,7 @@ equal_itself (Blob b) some = true_back _ ∙ ap is_eq (tied_itself value_cmp_tot
 
 -- ---- keys
 
-parent_is : (place : ℕ) → parent_key desk_tables (names_holder place) ≡ Some (holder.tree, 1 ∷ [], rising)
+parent_is : (place : ℕ) → parent_key desk_tables (holder_reference place) ≡ Some (holder.tree, 1 ∷ [], rising)
 unfolding same_name joined
 parent_is place = refl
 
@@ -147,16 +147,16 @@ module _ (schema : Schema) (db : Trees) (tables : schema.tables ≡ desk_tables)
         (db t.tree) (passed Datatype t has) filled
 
     -- the holder of a row is registered
-    pub all_referred : (k : ℕ) (c : Column) → slice_get t.columns k ≡ Some c → c.not_null ≡ true → t.references ≡ names_holder (k + 1) ∷ []
+    pub all_referred : (k : ℕ) (c : Column) → slice_get t.columns k ≡ Some c → c.not_null ≡ true → t.references ≡ holder_reference (k + 1) ∷ []
         → AllByRecursion (λ r. (p : Row) × Has (db holder.tree) p × (equal Binary (column p 1) (column r (k + 1)) ≡ true)) (db t.tree)
     all_referred k c is required references =
         all_both (λ r. passes ForeignKey schema db t r ≡ true) (λ r. are_present None 0 t.columns r ≡ true) _
         (λ r refers all.
         let some : is_null (column r (k + 1)) ≡ false = subst (λ n. is_null (column r n) ≡ false) (omega arith) (present t.columns k c 0 r is required all) in
         let parents = subst (λ ts. list_all (has_parent ts db r) t.references ≡ true) tables refers in
-        let these : list_all (has_parent desk_tables db r) (names_holder (k + 1) ∷ []) ≡ true = rw references at parents in
-        let one : (is_null (column r (k + 1)) || false || is_held db ((k + 1) ∷ []) r (parent_key desk_tables (names_holder (k + 1)))) ≡ true = (and_parts _ _ these).0 in
-        let held : is_held db ((k + 1) ∷ []) r (parent_key desk_tables (names_holder (k + 1))) ≡ true = rw some at one in
+        let these : list_all (has_parent desk_tables db r) (holder_reference (k + 1) ∷ []) ≡ true = rw references at parents in
+        let one : (is_null (column r (k + 1)) || false || is_held db ((k + 1) ∷ []) r (parent_key desk_tables (holder_reference (k + 1)))) ≡ true = (and_parts _ _ these).0 in
+        let held : is_held db ((k + 1) ∷ []) r (parent_key desk_tables (holder_reference (k + 1))) ≡ true = rw some at one in
         let at_key = subst (λ key. is_held db ((k + 1) ∷ []) r key ≡ true) (parent_is (k + 1)) held in
         let found = some_has (λ p. agree rising (1 ∷ []) p ((k + 1) ∷ []) r) (db holder.tree) at_key in
         (found.0, found.1, sym (agree_is 1 (k + 1) found.0 r) ∙ found.2))

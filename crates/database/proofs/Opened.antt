@@ -28,7 +28,7 @@ use Rattle.slurm.specs.Exceptions.{Exceptions}
 use Rattle.tables.specs.declared.exception.ExceptionRow.{ExceptionRow}
 use Rattle.tables.specs.Cells.{number_cell, kind_number, exception_row, span_cells, grant_cells, auth_cells, holder_row, holding_row, granted_row, auth_row}
 use Rattle.tables.specs.Decode.{first_columns, exception_columns}
-use Rattle.tables.specs.Tables.{desk_tables, names_holder, required_column, meta, operator, pool, holder, holding, granted, auth, slurm, contents, columns, IsTree, AreTrees}
+use Rattle.tables.specs.Tables.{desk_tables, holder_reference, required_column, meta, operator, pool, holder, holding, granted, auth, slurm, contents, columns, IsTree, AreTrees}
 use Rattle.tables.specs.TablesHold.{HoldsExceptions}
 use Rattle.tables.proofs.Inserting.{each_table}
 use Rattle.tables.proofs.PartLemmas.{names, name_of-true, name_of_itself}
@@ -133,7 +133,7 @@ module _ (db : Database) (tables : db.schema.tables ≡ desk_tables) (sound : Is
 
     module _ {X : Type 0} (t : Table) (has : Has desk_tables t) (key : t.key ≡ None) (last : ℕ) (ends : Column)
         (is : slice_get t.columns last ≡ Some ends) (filled : ends.not_null ≡ true) (count : length t.columns ≡ last + 1)
-        (place : ℕ) (column_of : Column) (at : slice_get t.columns place ≡ Some column_of) (named : column_of.not_null ≡ true) (refers : t.references ≡ names_holder (place + 1) ∷ [])
+        (place : ℕ) (column_of : Column) (at : slice_get t.columns place ≡ Some column_of) (named : column_of.not_null ≡ true) (refers : t.references ≡ holder_reference (place + 1) ∷ [])
         (places : List ℕ) (cells : X → Row) (fits : X → Type 0) (row : List ℕ → X → Row)
         (joins : (c : Row) (h : List ℕ) (x : X) → length c ≡ last + 1 → column c place ≡ Text h → columns places c ≡ cells x → c ≡ row h x)
         (each : AllByRecursion (ShowsSome cells fits) (shown_in t.tree places db)) where

@@ -51,8 +51,8 @@ all_below (a ∷ b ∷ rows) next =
     let first : AreBelow a b = next 0 a (omega arith) in
     ((first, all_weaker (AreBelow b) (AreBelow a) (λ c. below_then (last_value a) (last_value b) (last_value c) first) rows later.0), later)
 
-pub rises : (rows : List Row) → AllAdjacentBelow AreBelow rows (length rows) → AllByRecursion (λ c. is_int (last_value c) ≡ true) rows → Rise rows
-rises rows next ints = (ascending_weaker AreBelow _ (λ a b. below_apart (last_value a) (last_value b)) rows (all_below rows next), ints)
+pub rows_rise : (rows : List Row) → AllAdjacentBelow AreBelow rows (length rows) → AllByRecursion (λ c. is_int (last_value c) ≡ true) rows → Rise rows
+rows_rise rows next ints = (ascending_weaker AreBelow _ (λ a b. below_apart (last_value a) (last_value b)) rows (all_below rows next), ints)
 
 -- ---- rows in another order
 
@@ -77,8 +77,8 @@ last_of_numbered places r =
     let at : length (shown ++ rowid r ∷ []) - 1 ≡ length shown = omega (arith, length-append shown (rowid r ∷ [])) in
     ap (column (shown ++ rowid r ∷ [])) at ∙ get_or-append_seam shown (rowid r) [] Null
 
-pub tree_of : (places : List ℕ) (tree rows : List Row) → IsPermutation (map (columns_and_rowid places) tree) rows → Rise rows → IsTree tree
-tree_of places tree rows same up =
+pub is_tree : (places : List ℕ) (tree rows : List Row) → IsPermutation (map (columns_and_rowid places) tree) rows → Rise rows → IsTree tree
+is_tree places tree rows same up =
     let back = IsPermutation-sym _ _ same in
     let apart = (stay_apart rows (map (columns_and_rowid places) tree) back).1 up.0 in
     let is = last_of_numbered places in (

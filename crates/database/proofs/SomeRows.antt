@@ -17,11 +17,11 @@ use Rattle.tables.proofs.PartLemmas.{names, name_of-true, name_of_itself}
 -- ---- the rows of one name
 
 -- the values of the rows that have the name
-pub gathered : {X : Type 0} (place : ℕ) (h : List ℕ) (row : X → Row) (P : Row → Type 0)
+pub values_named : {X : Type 0} (place : ℕ) (h : List ℕ) (row : X → Row) (P : Row → Type 0)
     → ((c : Row) → P c → column c place ≡ Text h → (x : X) × (c ≡ row x)) → (table : List Row) → AllByRecursion P table
     → (xs : List X) × (map row xs ≡ filter (names place h) table)
-gathered place h row P shown [] all = ([], refl)
-gathered {X} place h row P shown (c ∷ table) all = go (names place h c) refl (gathered place h row P shown table all.1)
+values_named place h row P shown [] all = ([], refl)
+values_named {X} place h row P shown (c ∷ table) all = go (names place h c) refl (values_named place h row P shown table all.1)
   where
     go : (b : Bool) → names place h c ≡ b → (xs : List X) × (map row xs ≡ filter (names place h) table)
         → (xs : List X) × (map row xs ≡ cond b (c ∷ filter (names place h) table) (filter (names place h) table))
@@ -55,13 +55,13 @@ module _ (holders : List Row) (made : AllByRecursion (λ c. (h : List ℕ) × (n
     (once : (h : List ℕ) (xs : List (ℕ × ℕ)) → map (λ (n : ℕ × ℕ). holder_row h n.0 n.1) xs ≡ filter (names 0 h) holders → length xs < 2) where
   abbrev counters : (h : List ℕ) → (xs : List (ℕ × ℕ)) × (map (λ (n : ℕ × ℕ). holder_row h n.0 n.1) xs ≡ filter (names 0 h) holders)
   counters h =
-      gathered 0 h (λ n. holder_row h n.0 n.1) _
+      values_named 0 h (λ n. holder_row h n.0 n.1) _
       (λ c it is. let same : Text it.0 ≡ Text h = ap (λ r. column r 0) (sym it.2) ∙ is in let name : it.0 ≡ h = cc in (it.1, it.2 ∙ ap (λ k. holder_row k it.1.0 it.1.1) name)) holders made
 
   module _ {X : Type 0} (place : ℕ) (row : List ℕ → X → Row) (named : (h : List ℕ) (x : X) → column (row h x) place ≡ Text h) (table : List Row) (all : AllByRecursion (IsPartRow X place row holders) table) where
     pub of_holder : (h : List ℕ) → (xs : List X) × (map (row h) xs ≡ filter (names place h) table)
     of_holder h =
-        gathered place h (row h) (IsPartRow X place row holders)
+        values_named place h (row h) (IsPartRow X place row holders)
         (λ c it is.
         let same : Text it.name ≡ Text h = sym (named it.name it.value) ∙ ap (λ r. column r place) (sym it.is) ∙ is in
         let name : it.name ≡ h = cc in

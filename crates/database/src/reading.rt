@@ -14,7 +14,7 @@ ghost use Rattle.tables.specs.Cells.{schema_row};
 ghost use Rattle.tables.specs.Decode.{first_columns};
 ghost use Rattle.tables.specs.Tables.{operator, pool, holder, holding, granted, auth, slurm, IsTree, OverDesk};
 ghost use Rattle.database.specs.TablesRead.{HoldSomeRows, ShowsSome, TablesRead};
-ghost use Rattle.database.specs.steps.Numbered.{AnswersRows, AreRead, Rise, SelectsAll, shown_in};
+ghost use Rattle.database.specs.steps.Numbered.{AnswersSelect, AreRead, Rise, SelectsAll, shown_in};
 ghost use Rattle.database.specs.steps.Opened.{ShowExceptions, ShowHolders, ShowsCharter, ShowsSchema};
 ghost use Rattle.database.specs.Queries.{IsAsked, IsClean, IsReadyToAsk};
 
@@ -52,7 +52,7 @@ fn ask_all<S: Alter>(conn: &mut Connection<S>, sql: &str) -> Result<Vec<Row>, St
     requires unlisted { OverDesk (λ s. reads_listing s sql.now ≡ false) }
     ensures asked { IsAsked S.Store conn.old conn.new result }
     ensures answered { IsClean S.Store conn.new → IfOk result (λ rows.
-        AnswersRows sql.now (state S.Store conn.old).now rows.items) }
+        AnswersSelect sql.now (state S.Store conn.old).now rows.items) }
     ensures rise { IfOk result (λ rows. Rise rows.items) }
     ensures no_schema { result ≢ Err StoreFault.Schema }
 {

@@ -9,7 +9,7 @@ use Rattle.registry.specs.RowsOfAll.{AllRows, HasRows}
 use Rattle.registry.specs.Verdict.{IsLegal}
 use Rattle.charters.specs.declared.charter.Charter.{Charter}
 use Rattle.tables.specs.TablesHold.{TablesHold}
-use Rattle.store.specs.StoreRows.{state_of, Holds}
+use Rattle.store.specs.StoreRows.{connection_state, Holds}
 use Rattle.desk.specs.declared.handling.Desk.{Desk}
 
 abbrev pub charter_of : {S : Type 0} → Desk S → Charter
@@ -18,7 +18,7 @@ charter_of desk = desk.store.charter
 -- The disk of the desk returned what was written, as memory always does. Of a desk whose disk did not,
 -- nothing is known.
 abbrev pub IsOnCleanDisk : {S : Type 0} → Ghosts S → Desk S → Type 0
-IsOnCleanDisk g desk = HasCleanDisk (state_of g desk.store)
+IsOnCleanDisk g desk = HasCleanDisk (connection_state g desk.store)
 
 -- the tables of the desk hold the rows of the history
 abbrev pub HoldsHistory : {S : Type 0} → Ghosts S → Desk S → History → Type 0

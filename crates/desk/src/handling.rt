@@ -5,7 +5,7 @@ ghost use Rattle.registry.specs.Rows.{rows_if_any, RowsIfAny};
 ghost use Rattle.sqlite.specs.Held.{state};
 ghost use Rattle.sqlite.specs.State.{HasCleanDisk};
 ghost use Rattle.sqlite.specs.Steps.{over_memory};
-ghost use Rattle.store.specs.StoreRows.{state_of, IfClean, IsRead, IsOpened};
+ghost use Rattle.store.specs.StoreRows.{connection_state, IfClean, IsRead, IsOpened};
 ghost use Rattle.database.specs.Databases.{IsDeskWhileOpen, IsNew, IsUnused, LeavesNew};
 ghost use Rattle.database.specs.Databases.{IsHonest, IsOfAnotherSchema};
 ghost use Rattle.desk.specs.Answer.{is_accepted, IsAnswered};
@@ -46,11 +46,11 @@ impl<S: Alter + Drop> Desk<S> {
         ensures empty { IfOk result (λ desk. HoldsHistory S.Store desk []) }
         ensures unused { OnOk result (IsUnused (state S.Store conn)) }
         ensures made { IfOk result (λ desk. IfClean S.Store desk.store
-            (IsNew charter.now (state_of S.Store desk.store))) }
+            (IsNew charter.now (connection_state S.Store desk.store))) }
         ensures clean { IfOk result (λ desk. IsOnCleanDisk S.Store desk
             → HasCleanDisk (state S.Store conn)) }
         ensures left { IfOk result (λ desk. IfClean S.Store desk.store
-            (LeavesNew charter.now (state_of S.Store desk.store))) }
+            (LeavesNew charter.now (connection_state S.Store desk.store))) }
         ensures no_schema { result ≢ Err StoreFault.Schema }
     {
         let store = Store::create_on(conn, charter)?;

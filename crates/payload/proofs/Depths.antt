@@ -21,8 +21,8 @@ use Rattle.payload.specs.declared.originator.Originator.{Originator}
 use Rattle.payload.specs.steps.Tree.{Tree, Leaf, Fork, IsPruned, below, is_bare, nodes_on_path}
 use Rattle.payload.specs.steps.Trie.{authorizes, bits_from, node_vrps, originator_of, vrps_at, vrps_below}
 use Rattle.payload.proofs.Bits.{bits_from-end}
-use Rattle.payload.proofs.Halves.{half_size, lower, upper, contains-lower, contains-upper, contains-trans, contains-longer, lower-bit, upper-bit, lower-contains, upper-contains, within-first}
-use Rattle.payload.proofs.TrieVrps.{HasLengths, contains-itself, lower_vrps, upper_vrps, leaf-or-room, node_vrps-cons, vrp_of, IsRound, any-node, any-parts, any-zero, any-one, none-lower, none-upper, All-within}
+use Rattle.payload.proofs.Halves.{half_size, lower_half, upper_half, contains-lower_half, contains-upper_half, contains-trans, contains-longer, lower_half-bit, upper_half-bit, lower_half-contains, upper_half-contains, within-first}
+use Rattle.payload.proofs.TrieVrps.{HasLengths, contains-itself, lower_vrps, upper_vrps, leaf-or-room, node_vrps-cons, vrp_of, IsRound, any-node, any-parts, any-zero, any-one, none-lower_half, none-upper_half, All-within}
 use Rattle.payload.proofs.TrieWalks.{bit-of-cases, next-zero, next-one}
 
 -- ---- the first bits of prefixes
@@ -112,7 +112,7 @@ is_searched-zero route p os low high k pruned inside longer bit =
     agreeing =
         any-parts test p os low high
         ∙ ap (λ b. b || (list_any test (lower_vrps p low) || list_any test (upper_vrps p high))) (node-agrees p route.prefix os k pruned.0.lengths longer)
-        ∙ ap (λ b. list_any test (lower_vrps p low) || b) (none-upper test p high pruned.2.1 (λ room v inside. not-agrees p v.prefix route.prefix k longer (λ same. absurd (omega (arith, bit, same, upper-bit p v.prefix room inside)))))
+        ∙ ap (λ b. list_any test (lower_vrps p low) || b) (none-upper_half test p high pruned.2.1 (λ room v inside. not-agrees p v.prefix route.prefix k longer (λ same. absurd (omega (arith, bit, same, upper_half-bit p v.prefix room inside)))))
         ∙ or-false _
 
     matching : list_any (matches_before route k) (vrps_at p (Fork os low high)) ≡ (list_any (authorizes route) os || list_any (matches_before route k) (lower_vrps p low))
@@ -133,7 +133,7 @@ is_searched-one route p os low high k pruned inside longer bit =
     agreeing =
         any-parts test p os low high
         ∙ ap (λ b. b || (list_any test (lower_vrps p low) || list_any test (upper_vrps p high))) (node-agrees p route.prefix os k pruned.0.lengths longer)
-        ∙ ap (λ b. b || list_any test (upper_vrps p high)) (none-lower test p low pruned.1.1 (λ room v inside. not-agrees p v.prefix route.prefix k longer (λ same. absurd (omega (arith, bit, same, lower-bit p v.prefix room inside)))))
+        ∙ ap (λ b. b || list_any test (upper_vrps p high)) (none-lower_half test p low pruned.1.1 (λ room v inside. not-agrees p v.prefix route.prefix k longer (λ same. absurd (omega (arith, bit, same, lower_half-bit p v.prefix room inside)))))
 
     matching : list_any (matches_before route k) (vrps_at p (Fork os low high)) ≡ (list_any (authorizes route) os || list_any (matches_before route k) (upper_vrps p high))
     matching =
@@ -152,10 +152,10 @@ some-vrp test p (Fork [] (Fork os low high) other) pruned node full each =
     let room : p.length < width p.family = omega (arith, pruned.1.1.0.fits) in
     any-parts test p [] (Fork os low high) other
     ∙ ap (λ b. b || list_any test (upper_vrps p other))
-    (some-vrp test (lower p room) (Fork os low high) pruned.1.1 (λ e. cc) pruned.1.0 (λ v inside. each v (contains-trans p (lower p room) v.prefix (contains-lower p room) inside)))
+    (some-vrp test (lower_half p room) (Fork os low high) pruned.1.1 (λ e. cc) pruned.1.0 (λ v inside. each v (contains-trans p (lower_half p room) v.prefix (contains-lower_half p room) inside)))
 some-vrp test p (Fork [] Leaf (Fork os low high)) pruned node full each =
     let room : p.length < width p.family = omega (arith, pruned.2.1.0.fits) in
-    some-vrp test (upper p room) (Fork os low high) pruned.2.1 (λ e. cc) pruned.2.0 (λ v inside. each v (contains-trans p (upper p room) v.prefix (contains-upper p room) inside))
+    some-vrp test (upper_half p room) (Fork os low high) pruned.2.1 (λ e. cc) pruned.2.0 (λ v inside. each v (contains-trans p (upper_half p room) v.prefix (contains-upper_half p room) inside))
 some-vrp test p (Fork [] Leaf Leaf) pruned node full each = cc
 
 -- the length of a node's prefix
@@ -231,8 +231,8 @@ passing-below route p (Fork os low high) (suc m) pruned inside long =
           ∙ passing-unless (list_any (authorizes route) os) (is_searched route (lower_vrps p low)) (p.length + 1) (suc m) (nodes_on_path (authorizes route) (bits_from q (p.length + 1)) low) (elim (leaf-or-room p low pruned.1.1) [
             | inl leaf ↦ without-node route p.family p.first (p.length + 1) low (p.length + 1) (suc m) (bits_from q (p.length + 1)) leaf
             | inr room ↦
-                let inside' = lower-contains p q room inside longer bit in
-                with-node route (lower p room) low m pruned.1.0 pruned.1.1 inside' (passing-below route (lower p room) low m pruned.1.1 inside' (omega arith))
+                let inside' = lower_half-contains p q room inside longer bit in
+                with-node route (lower_half p room) low m pruned.1.0 pruned.1.1 inside' (passing-below route (lower_half p room) low m pruned.1.1 inside' (omega arith))
           ]))
       | inr bit ↦
           rw (next-one q p.length longer bit)
@@ -240,7 +240,7 @@ passing-below route p (Fork os low high) (suc m) pruned inside long =
           ∙ passing-unless (list_any (authorizes route) os) (is_searched route (upper_vrps p high)) (p.length + 1) (suc m) (nodes_on_path (authorizes route) (bits_from q (p.length + 1)) high) (elim (leaf-or-room p high pruned.2.1) [
             | inl leaf ↦ without-node route p.family (p.first + half_size p) (p.length + 1) high (p.length + 1) (suc m) (bits_from q (p.length + 1)) leaf
             | inr room ↦
-                let inside' = upper-contains p q room inside longer bit in
-                with-node route (upper p room) high m pruned.2.0 pruned.2.1 inside' (passing-below route (upper p room) high m pruned.2.1 inside' (omega arith))
+                let inside' = upper_half-contains p q room inside longer bit in
+                with-node route (upper_half p room) high m pruned.2.0 pruned.2.1 inside' (passing-below route (upper_half p room) high m pruned.2.1 inside' (omega arith))
           ]))
     ]

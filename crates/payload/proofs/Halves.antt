@@ -24,8 +24,8 @@ multiple-next n m h =
     let one : n + 1 * m ≡ n + m = omega arith in
     ap (λ k. k % m) (sym one) ∙ add-mul-mod_self_right n 1 m ∙ h
 
-abbrev pub lower : (p : Prefix) → p.length < width p.family → Prefix
-lower p room = record {
+abbrev pub lower_half : (p : Prefix) → p.length < width p.family → Prefix
+lower_half p room = record {
   family = p.family;
   first = p.first;
   length = p.length + 1;
@@ -34,8 +34,8 @@ lower p room = record {
   in_family = omega (arith, doubled (width p.family) p.length room, p.in_family);
 }
 
-abbrev pub upper : (p : Prefix) → p.length < width p.family → Prefix
-upper p room = record {
+abbrev pub upper_half : (p : Prefix) → p.length < width p.family → Prefix
+upper_half p room = record {
   family = p.family;
   first = p.first + half_size p;
   length = p.length + 1;
@@ -94,32 +94,32 @@ bit-in_upper p q room inside high =
 -- ---- what the halves contain
 
 -- a longer prefix in p lies in the lower half, or in the upper one, as its next bit says
-pub lower-contains : (p q : Prefix) (room : p.length < width p.family) → contains p q ≡ true → p.length < q.length → bit_of q p.length ≡ 0 → contains (lower p room) q ≡ true
-lower-contains p q room inside longer bit =
+pub lower_half-contains : (p q : Prefix) (room : p.length < width p.family) → contains p q ≡ true → p.length < q.length → bit_of q p.length ≡ 0 → contains (lower_half p room) q ≡ true
+lower_half-contains p q room inside longer bit =
     let ends = contains-ends p q inside in
     let widths : width p.family ≡ width q.family = ap width ends.family in
     elim (cases_lt q.first (p.first + half_size p)) [
       | inl low ↦
-          let within = block-within p.first q.first q.first (width p.family - (p.length + 1)) (width q.family - q.length) (lower p room).aligned q.aligned ends.first (omega arith) low (λ same. omega (arith, widths, longer)) in
-          ends-contains (lower p room) q ends.family ends.first (omega (arith, within, first-last (lower p room), first-last q))
+          let within = block-within p.first q.first q.first (width p.family - (p.length + 1)) (width q.family - q.length) (lower_half p room).aligned q.aligned ends.first (omega arith) low (λ same. omega (arith, widths, longer)) in
+          ends-contains (lower_half p room) q ends.family ends.first (omega (arith, within, first-last (lower_half p room), first-last q))
       | inr high ↦ absurd (omega (arith, bit-in_upper p q room inside high, bit))
     ]
 
-pub upper-contains : (p q : Prefix) (room : p.length < width p.family) → contains p q ≡ true → p.length < q.length → bit_of q p.length ≡ 1 → contains (upper p room) q ≡ true
-upper-contains p q room inside longer bit =
+pub upper_half-contains : (p q : Prefix) (room : p.length < width p.family) → contains p q ≡ true → p.length < q.length → bit_of q p.length ≡ 1 → contains (upper_half p room) q ≡ true
+upper_half-contains p q room inside longer bit =
     let ends = contains-ends p q inside in
     let widths : width p.family ≡ width q.family = ap width ends.family in
     elim (cases_lt q.first (p.first + half_size p)) [
       | inl low ↦ absurd (omega (arith, bit-in_lower p q room inside low, bit))
-      | inr high ↦ ends-contains (upper p room) q ends.family high (omega (arith, ends.last, first-last p, first-last (upper p room), first-last q, doubled (width p.family) p.length room))
+      | inr high ↦ ends-contains (upper_half p room) q ends.family high (omega (arith, ends.last, first-last p, first-last (upper_half p room), first-last q, doubled (width p.family) p.length room))
     ]
 
 -- a half lies in p
-pub contains-lower : (p : Prefix) (room : p.length < width p.family) → contains p (lower p room) ≡ true
-contains-lower p room = ends-contains p (lower p room) refl (omega arith) (omega (arith, first-last p, first-last (lower p room), doubled (width p.family) p.length room))
+pub contains-lower_half : (p : Prefix) (room : p.length < width p.family) → contains p (lower_half p room) ≡ true
+contains-lower_half p room = ends-contains p (lower_half p room) refl (omega arith) (omega (arith, first-last p, first-last (lower_half p room), doubled (width p.family) p.length room))
 
-pub contains-upper : (p : Prefix) (room : p.length < width p.family) → contains p (upper p room) ≡ true
-contains-upper p room = ends-contains p (upper p room) refl (omega arith) (omega (arith, first-last p, first-last (upper p room), doubled (width p.family) p.length room))
+pub contains-upper_half : (p : Prefix) (room : p.length < width p.family) → contains p (upper_half p room) ≡ true
+contains-upper_half p room = ends-contains p (upper_half p room) refl (omega arith) (omega (arith, first-last p, first-last (upper_half p room), doubled (width p.family) p.length room))
 
 pub contains-trans : (p q r : Prefix) → contains p q ≡ true → contains q r ≡ true → contains p r ≡ true
 contains-trans p q r one other =
@@ -149,36 +149,36 @@ contains-same p q inside short =
     same_prefix p q ends.family (omega (arith, ends.first, ends.last, first-last p, first-last q)) lengths
 
 -- the bit of what lies in a half
-pub lower-bit : (p q : Prefix) (room : p.length < width p.family) → contains (lower p room) q ≡ true → bit_of q p.length ≡ 0
-lower-bit p q room inside =
-    bit-in_lower p q room (contains-trans p (lower p room) q (contains-lower p room) inside) (within-first (lower p room) q inside)
+pub lower_half-bit : (p q : Prefix) (room : p.length < width p.family) → contains (lower_half p room) q ≡ true → bit_of q p.length ≡ 0
+lower_half-bit p q room inside =
+    bit-in_lower p q room (contains-trans p (lower_half p room) q (contains-lower_half p room) inside) (within-first (lower_half p room) q inside)
 
-pub upper-bit : (p q : Prefix) (room : p.length < width p.family) → contains (upper p room) q ≡ true → bit_of q p.length ≡ 1
-upper-bit p q room inside =
-    bit-in_upper p q room (contains-trans p (upper p room) q (contains-upper p room) inside) (contains-ends (upper p room) q inside).first
+pub upper_half-bit : (p q : Prefix) (room : p.length < width p.family) → contains (upper_half p room) q ≡ true → bit_of q p.length ≡ 1
+upper_half-bit p q room inside =
+    bit-in_upper p q room (contains-trans p (upper_half p room) q (contains-upper_half p room) inside) (contains-ends (upper_half p room) q inside).first
 
 -- ---- half of the addresses, as a shift gives it
 
 pub shifted-half : (p : Prefix) (w : ℕ) → p.length < width p.family → w ≡ width p.family → (1 * 2 ^ (w - (p.length + 1))) % 2 ^ 128 ≡ half_size p
 shifted-half p w room is = rw is (one_shl (width p.family - (p.length + 1)) 128 (omega (arith, width_small p.family)))
 
-pub upper-fits : (p : Prefix) (room : p.length < width p.family) → p.first + half_size p < 2 ^ 128
-upper-fits p room = below_widest p.family (p.first + half_size p) (first_below (upper p room))
+pub upper_half-fits : (p : Prefix) (room : p.length < width p.family) → p.first + half_size p < 2 ^ 128
+upper_half-fits p room = below_widest p.family (p.first + half_size p) (first_below (upper_half p room))
 
 -- ---- the half whose next bit is this one
 
 abbrev pub half : (bit : Bool) (p : Prefix) → p.length < width p.family → Prefix
-half false p room = lower p room
-half true p room = upper p room
+half false p room = lower_half p room
+half true p room = upper_half p room
 
 pub half-aligned : (bit : Bool) (p : Prefix) (first : ℕ) → p.length < width p.family → first ≡ half_first bit p → first % half_size p ≡ 0
-half-aligned false p first room is = rw is (lower p room).aligned
-half-aligned true p first room is = rw is (upper p room).aligned
+half-aligned false p first room is = rw is (lower_half p room).aligned
+half-aligned true p first room is = rw is (upper_half p room).aligned
 
 pub half-in_family : (bit : Bool) (p : Prefix) (first : ℕ) → p.length < width p.family → first ≡ half_first bit p → first + half_size p ≤ 2 ^ width p.family
-half-in_family false p first room is = rw is (lower p room).in_family
-half-in_family true p first room is = rw is (upper p room).in_family
+half-in_family false p first room is = rw is (lower_half p room).in_family
+half-in_family true p first room is = rw is (upper_half p room).in_family
 
 pub half-fits : (bit : Bool) (p : Prefix) → p.length < width p.family → half_first bit p < 2 ^ 128
 half-fits false p room = below_widest p.family p.first (first_below p)
-half-fits true p room = upper-fits p room
+half-fits true p room = upper_half-fits p room

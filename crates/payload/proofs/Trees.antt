@@ -11,7 +11,7 @@ use Rattle.std.proofs.lemmas.List.Elements.{All-nil, All-cons}
 use Rattle.addr.proofs.OrderLemmas.{both_equal}
 use Rattle.payload.specs.Rising.{RiseBy}
 use Rattle.payload.specs.declared.originator.Originator.{Originator}
-use Rattle.payload.specs.steps.Tree.{Tree, Leaf, Fork, Top, tree, AreOriginators, IsInserted, IsRemoved, IsPruned, has, is_bare, is_place, only, originator_cmp, same_numbers}
+use Rattle.payload.specs.steps.Tree.{Tree, Leaf, Fork, Top, tree, AreOriginators, IsInserted, IsRemoved, IsPruned, has, is_bare, is_place, chain, originator_cmp, same_originator}
 use Rattle.payload.proofs.SortedItems.{All-inserted, All-removed}
 
 abbrev pub is_originator : Originator → Originator → Bool
@@ -25,7 +25,7 @@ originators_exact o q e =
     let parts = both_equal _ _ e in
     let max = nat_cmp-IsAntisymmetric _ _ parts.0 in
     let asn = nat_cmp-IsAntisymmetric _ _ parts.1 in
-    same_numbers o q (λ i. (max i, asn i))
+    same_originator o q (λ i. (max i, asn i))
 
 pub has-leaf : (path : List Bool) (o : Originator) → has path o Leaf ≡ false
 has-leaf [] o = refl
@@ -94,16 +94,16 @@ removed-bare path o old new bare is other q = has-leaf other q ∙ sym (bare-non
 
 -- ---- new nodes
 
-pub inserted-only : (path : List Bool) (o : Originator) → IsInserted path o Leaf (only path o)
-inserted-only [] o [] q = refl
-inserted-only [] o (false ∷ other) q = refl
-inserted-only [] o (true ∷ other) q = refl
-inserted-only (false ∷ path) o [] q = refl
-inserted-only (false ∷ path) o (false ∷ other) q = inserted-only path o other q
-inserted-only (false ∷ path) o (true ∷ other) q = refl
-inserted-only (true ∷ path) o [] q = refl
-inserted-only (true ∷ path) o (false ∷ other) q = refl
-inserted-only (true ∷ path) o (true ∷ other) q = inserted-only path o other q
+pub inserted-chain : (path : List Bool) (o : Originator) → IsInserted path o Leaf (chain path o)
+inserted-chain [] o [] q = refl
+inserted-chain [] o (false ∷ other) q = refl
+inserted-chain [] o (true ∷ other) q = refl
+inserted-chain (false ∷ path) o [] q = refl
+inserted-chain (false ∷ path) o (false ∷ other) q = inserted-chain path o other q
+inserted-chain (false ∷ path) o (true ∷ other) q = refl
+inserted-chain (true ∷ path) o [] q = refl
+inserted-chain (true ∷ path) o (false ∷ other) q = refl
+inserted-chain (true ∷ path) o (true ∷ other) q = inserted-chain path o other q
 
 none-rise : RiseBy originator_cmp []
 none-rise i j d less within = absurd (omega arith)
@@ -114,18 +114,18 @@ one-rises o i j d less within = absurd (omega arith)
 pub no_originators : (width len : ℕ) → len ≤ width → AreOriginators width len []
 no_originators width len fits = record { fits = fits; rise = none-rise; lengths = All-nil _ }
 
-pub pruned-only : (width len : ℕ) (path : List Bool) (o : Originator) → len + length path ≤ o.max → o.max ≤ width → IsPruned width len (only path o)
-pruned-only width len [] o low high = (
+pub pruned-chain : (width len : ℕ) (path : List Bool) (o : Originator) → len + length path ≤ o.max → o.max ≤ width → IsPruned width len (chain path o)
+pruned-chain width len [] o low high = (
   record { fits = omega arith; rise = one-rises o; lengths = All-cons (λ q. (len ≤ q.max) × (q.max ≤ width)) o [] (omega arith, high) (All-nil _) },
   (refl, tt),
   (refl, tt),
 )
-pruned-only width len (false ∷ path) o low high =
-    let rest : IsPruned width (len + 1) (only path o) = pruned-only width (len + 1) path o (omega arith) high in
-    (no_originators width len (omega arith), (full-inserted path o Leaf (only path o) (inserted-only path o), rest), (refl, tt))
-pruned-only width len (true ∷ path) o low high =
-    let rest : IsPruned width (len + 1) (only path o) = pruned-only width (len + 1) path o (omega arith) high in
-    (no_originators width len (omega arith), (refl, tt), (full-inserted path o Leaf (only path o) (inserted-only path o), rest))
+pruned-chain width len (false ∷ path) o low high =
+    let rest : IsPruned width (len + 1) (chain path o) = pruned-chain width (len + 1) path o (omega arith) high in
+    (no_originators width len (omega arith), (full-inserted path o Leaf (chain path o) (inserted-chain path o), rest), (refl, tt))
+pruned-chain width len (true ∷ path) o low high =
+    let rest : IsPruned width (len + 1) (chain path o) = pruned-chain width (len + 1) path o (omega arith) high in
+    (no_originators width len (omega arith), (refl, tt), (full-inserted path o Leaf (chain path o) (inserted-chain path o), rest))
 
 -- ---- the originators at one node
 

@@ -18,7 +18,7 @@ use Rattle.payload.specs.Rising.{AreRising, RiseBy}
 use Rattle.payload.specs.declared.originator.Originator.{Originator}
 use Rattle.payload.specs.steps.Tree.{Tree, Leaf, Fork, IsPruned, originator_cmp}
 use Rattle.payload.specs.steps.Trie.{node_vrps, vrps_at}
-use Rattle.payload.proofs.Halves.{lower, upper, contains-lower, contains-upper, contains-trans, contains-longer, within-first}
+use Rattle.payload.proofs.Halves.{lower_half, upper_half, contains-lower_half, contains-upper_half, contains-trans, contains-longer, within-first}
 use Rattle.addr.proofs.PrefixOrderLemmas.{cmp-less, cmp-equal, contains-ends}
 use Rattle.payload.proofs.TrieVrps.{HasLengths, node_vrps-cons, lower_vrps, upper_vrps, leaf-or-room, vrp_of, All-node, All-within}
 
@@ -67,18 +67,18 @@ node-rises p (o ∷ os) all rise =
     rw tie less))
     (node-rises p os rest (λ i j d less within. rise (suc i) (suc j) d (omega arith) (omega arith))))
 
-All-lower : (P : Vrp → Type 0) (p : Prefix) (zero : Tree) → IsPruned (width p.family) (p.length + 1) zero → ((room : p.length < width p.family) (v : Vrp) → contains (lower p room) v.prefix ≡ true → P v) → All P (lower_vrps p zero)
-All-lower P p zero pruned each =
+All-lower_half : (P : Vrp → Type 0) (p : Prefix) (zero : Tree) → IsPruned (width p.family) (p.length + 1) zero → ((room : p.length < width p.family) (v : Vrp) → contains (lower_half p room) v.prefix ≡ true → P v) → All P (lower_vrps p zero)
+All-lower_half P p zero pruned each =
     elim (leaf-or-room p zero pruned) [
       | inl leaf ↦ rw leaf (All-nil P)
-      | inr room ↦ All-weaker _ P (each room) _ (All-within (lower p room) zero pruned)
+      | inr room ↦ All-weaker _ P (each room) _ (All-within (lower_half p room) zero pruned)
     ]
 
-All-upper : (P : Vrp → Type 0) (p : Prefix) (one : Tree) → IsPruned (width p.family) (p.length + 1) one → ((room : p.length < width p.family) (v : Vrp) → contains (upper p room) v.prefix ≡ true → P v) → All P (upper_vrps p one)
-All-upper P p one pruned each =
+All-upper_half : (P : Vrp → Type 0) (p : Prefix) (one : Tree) → IsPruned (width p.family) (p.length + 1) one → ((room : p.length < width p.family) (v : Vrp) → contains (upper_half p room) v.prefix ≡ true → P v) → All P (upper_vrps p one)
+All-upper_half P p one pruned each =
     elim (leaf-or-room p one pruned) [
       | inl leaf ↦ rw leaf (All-nil P)
-      | inr room ↦ All-weaker _ P (each room) _ (All-within (upper p room) one pruned)
+      | inr room ↦ All-weaker _ P (each room) _ (All-within (upper_half p room) one pruned)
     ]
 
 none-rise : AreRising []
@@ -94,25 +94,25 @@ vrps-rise p (Fork os zero one) pruned =
     (pairs-append Before (lower_vrps p zero) (upper_vrps p one)
     (elim (leaf-or-room p zero pruned.1.1) [
       | inl leaf ↦ rw leaf none-rise
-      | inr room ↦ vrps-rise (lower p room) zero pruned.1.1
+      | inr room ↦ vrps-rise (lower_half p room) zero pruned.1.1
     ])
     (elim (leaf-or-room p one pruned.2.1) [
       | inl leaf ↦ rw leaf none-rise
-      | inr room ↦ vrps-rise (upper p room) one pruned.2.1
+      | inr room ↦ vrps-rise (upper_half p room) one pruned.2.1
     ])
-    (All-lower (λ v. All (Before v) (upper_vrps p one)) p zero pruned.1.1 (λ room v low.
-    All-upper (Before v) p one pruned.2.1 (λ room' w high.
-    let below = contains-ends (lower p room) v.prefix low in
-    let above = contains-ends (upper p room') w.prefix high in
+    (All-lower_half (λ v. All (Before v) (upper_vrps p one)) p zero pruned.1.1 (λ room v low.
+    All-upper_half (Before v) p one pruned.2.1 (λ room' w high.
+    let below = contains-ends (lower_half p room) v.prefix low in
+    let above = contains-ends (upper_half p room') w.prefix high in
     less-first v w (sym below.family ∙ above.family) (first-below p room v low w room' high)))))
     (All-node (HasLengths p) (λ v. All (Before v) (lower_vrps p zero ++ upper_vrps p one)) p os pruned.0.lengths pruned.0.lengths (λ v at fits.
     All-append (Before v) (lower_vrps p zero) (upper_vrps p one)
-    (All-lower (Before v) p zero pruned.1.1 (λ room w inside.
-    less-within p v w at (contains-trans p (lower p room) w.prefix (contains-lower p room) inside) (omega (arith, contains-longer (lower p room) w.prefix inside))))
-    (All-upper (Before v) p one pruned.2.1 (λ room w inside.
-    less-within p v w at (contains-trans p (upper p room) w.prefix (contains-upper p room) inside) (omega (arith, contains-longer (upper p room) w.prefix inside))))))
+    (All-lower_half (Before v) p zero pruned.1.1 (λ room w inside.
+    less-within p v w at (contains-trans p (lower_half p room) w.prefix (contains-lower_half p room) inside) (omega (arith, contains-longer (lower_half p room) w.prefix inside))))
+    (All-upper_half (Before v) p one pruned.2.1 (λ room w inside.
+    less-within p v w at (contains-trans p (upper_half p room) w.prefix (contains-upper_half p room) inside) (omega (arith, contains-longer (upper_half p room) w.prefix inside))))))
   where
-    first-below : (p : Prefix) (room : p.length < width p.family) (v : Vrp) → contains (lower p room) v.prefix ≡ true → (w : Vrp) (room' : p.length < width p.family) → contains (upper p room') w.prefix ≡ true → v.prefix.first < w.prefix.first
+    first-below : (p : Prefix) (room : p.length < width p.family) (v : Vrp) → contains (lower_half p room) v.prefix ≡ true → (w : Vrp) (room' : p.length < width p.family) → contains (upper_half p room') w.prefix ≡ true → v.prefix.first < w.prefix.first
     first-below p room v low w room' high =
-        let above = contains-ends (upper p room') w.prefix high in
-        omega (arith, above.first, within-first (lower p room) v.prefix low)
+        let above = contains-ends (upper_half p room') w.prefix high in
+        omega (arith, above.first, within-first (lower_half p room) v.prefix low)

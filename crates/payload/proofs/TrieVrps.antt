@@ -13,8 +13,8 @@ use Rattle.addr.specs.declared.prefix.Prefix.{Prefix}
 use Rattle.addr.specs.declared.vrp.Vrp.{Vrp}
 use Rattle.payload.specs.declared.originator.Originator.{Originator}
 use Rattle.payload.specs.steps.Tree.{Tree, Leaf, Fork, IsPruned}
-use Rattle.payload.specs.steps.Trie.{node_vrps, originator_of, vrp_at, vrp_if, vrp_with, vrps_at, vrps_below}
-use Rattle.payload.proofs.Halves.{half_size, lower, upper, contains-lower, contains-upper, contains-trans, contains-longer, lower-bit, upper-bit}
+use Rattle.payload.specs.steps.Trie.{node_vrps, originator_of, vrp_at, vrp_if, vrp_of_parts, vrps_at, vrps_below}
+use Rattle.payload.proofs.Halves.{half_size, lower_half, upper_half, contains-lower_half, contains-upper_half, contains-trans, contains-longer, lower_half-bit, upper_half-bit}
 use Rattle.addr.proofs.PrefixOrderLemmas.{ends-contains}
 
 abbrev pub HasLengths : Prefix → Originator → Type 0
@@ -33,8 +33,8 @@ prefix_with-of p = by _ _ _
     by (yes a) (no b) c = absurd (b p.aligned)
     by (yes a) (yes b) (no c) = absurd (c p.in_family)
 
-vrp_with-of : (p : Prefix) (o : Originator) (fits : HasLengths p o) → vrp_with o p ≡ Some (vrp_of p o fits)
-vrp_with-of p o fits = by _ _
+vrp_of_parts-of : (p : Prefix) (o : Originator) (fits : HasLengths p o) → vrp_of_parts o p ≡ Some (vrp_of p o fits)
+vrp_of_parts-of p o fits = by _ _
   where
     by : (a : Dec (p.length ≤ o.max)) (b : Dec (o.max ≤ width p.family)) → vrp_if p o.max o.asn a b ≡ Some (vrp_of p o fits)
     by (yes a) (yes b) = ap Some (same_vrp _ (vrp_of p o fits) refl refl refl)
@@ -42,7 +42,7 @@ vrp_with-of p o fits = by _ _
     by (yes a) (no b) = absurd (b fits.1)
 
 pub vrp_at-of : (p : Prefix) (o : Originator) (fits : HasLengths p o) → vrp_at p.family p.first p.length o ≡ Some (vrp_of p o fits)
-vrp_at-of p o fits = rw (prefix_with-of p) (vrp_with-of p o fits)
+vrp_at-of p o fits = rw (prefix_with-of p) (vrp_of_parts-of p o fits)
 
 pub node_vrps-cons : (p : Prefix) (o : Originator) (os : List Originator) (fits : HasLengths p o) → node_vrps p (o ∷ os) ≡ vrp_of p o fits ∷ node_vrps p os
 node_vrps-cons p o os fits = rw (vrp_at-of p o fits)
@@ -84,11 +84,11 @@ All-within p (Fork os zero one) pruned =
     (All-append (IsInside p) (vrps_below p.family p.first (p.length + 1) zero) _
     (elim (leaf-or-room p zero pruned.1.1) [
       | inl leaf ↦ rw leaf (All-nil (IsInside p))
-      | inr room ↦ All-weaker _ (IsInside p) (λ v inside. contains-trans p (lower p room) v.prefix (contains-lower p room) inside) _ (All-within (lower p room) zero pruned.1.1)
+      | inr room ↦ All-weaker _ (IsInside p) (λ v inside. contains-trans p (lower_half p room) v.prefix (contains-lower_half p room) inside) _ (All-within (lower_half p room) zero pruned.1.1)
     ])
     (elim (leaf-or-room p one pruned.2.1) [
       | inl leaf ↦ rw leaf (All-nil (IsInside p))
-      | inr room ↦ All-weaker _ (IsInside p) (λ v inside. contains-trans p (upper p room) v.prefix (contains-upper p room) inside) _ (All-within (upper p room) one pruned.2.1)
+      | inr room ↦ All-weaker _ (IsInside p) (λ v inside. contains-trans p (upper_half p room) v.prefix (contains-upper_half p room) inside) _ (All-within (upper_half p room) one pruned.2.1)
     ]))
 
 -- the children's VRPs
@@ -98,18 +98,18 @@ lower_vrps p zero = vrps_below p.family p.first (p.length + 1) zero
 abbrev pub upper_vrps : Prefix → Tree → List Vrp
 upper_vrps p one = vrps_below p.family (p.first + half_size p) (p.length + 1) one
 
-pub none-lower : (test : Vrp → Bool) (p : Prefix) (zero : Tree) → IsPruned (width p.family) (p.length + 1) zero → ((room : p.length < width p.family) (v : Vrp) → contains (lower p room) v.prefix ≡ true → test v ≡ false) → list_any test (lower_vrps p zero) ≡ false
-none-lower test p zero pruned out =
+pub none-lower_half : (test : Vrp → Bool) (p : Prefix) (zero : Tree) → IsPruned (width p.family) (p.length + 1) zero → ((room : p.length < width p.family) (v : Vrp) → contains (lower_half p room) v.prefix ≡ true → test v ≡ false) → list_any test (lower_vrps p zero) ≡ false
+none-lower_half test p zero pruned out =
     elim (leaf-or-room p zero pruned) [
       | inl leaf ↦ rw leaf
-      | inr room ↦ list_any_none test _ (All-weaker _ (λ v. test v ≡ false) (out room) _ (All-within (lower p room) zero pruned))
+      | inr room ↦ list_any_none test _ (All-weaker _ (λ v. test v ≡ false) (out room) _ (All-within (lower_half p room) zero pruned))
     ]
 
-pub none-upper : (test : Vrp → Bool) (p : Prefix) (one : Tree) → IsPruned (width p.family) (p.length + 1) one → ((room : p.length < width p.family) (v : Vrp) → contains (upper p room) v.prefix ≡ true → test v ≡ false) → list_any test (upper_vrps p one) ≡ false
-none-upper test p one pruned out =
+pub none-upper_half : (test : Vrp → Bool) (p : Prefix) (one : Tree) → IsPruned (width p.family) (p.length + 1) one → ((room : p.length < width p.family) (v : Vrp) → contains (upper_half p room) v.prefix ≡ true → test v ≡ false) → list_any test (upper_vrps p one) ≡ false
+none-upper_half test p one pruned out =
     elim (leaf-or-room p one pruned) [
       | inl leaf ↦ rw leaf
-      | inr room ↦ list_any_none test _ (All-weaker _ (λ v. test v ≡ false) (out room) _ (All-within (upper p room) one pruned))
+      | inr room ↦ list_any_none test _ (All-weaker _ (λ v. test v ≡ false) (out room) _ (All-within (upper_half p room) one pruned))
     ]
 
 pub any-parts : (test : Vrp → Bool) (p : Prefix) (os : List Originator) (zero one : Tree) → list_any test (vrps_at p (Fork os zero one)) ≡ (list_any test (node_vrps p os) || (list_any test (lower_vrps p zero) || list_any test (upper_vrps p one)))
@@ -126,21 +126,21 @@ IsRound q test = (v : Vrp) → test v ≡ true → contains v.prefix q ≡ true
 pub any-here : (test : Vrp → Bool) (p q : Prefix) (os : List Originator) (zero one : Tree) → IsRound q test → IsPruned (width p.family) p.length (Fork os zero one) → q.length ≤ p.length → list_any test (vrps_at p (Fork os zero one)) ≡ list_any test (node_vrps p os)
 any-here test p q os zero one round pruned short =
     any-parts test p os zero one
-    ∙ ap (λ b. list_any test (node_vrps p os) || (b || list_any test (upper_vrps p one))) (none-lower test p zero pruned.1.1 (λ room v inside. false_from_ne_true _ (λ passes.
-    absurd (omega (arith, contains-longer v.prefix q (round v passes), contains-longer (lower p room) v.prefix inside)))))
-    ∙ ap (λ b. list_any test (node_vrps p os) || b) (none-upper test p one pruned.2.1 (λ room v inside. false_from_ne_true _ (λ passes.
-    absurd (omega (arith, contains-longer v.prefix q (round v passes), contains-longer (upper p room) v.prefix inside)))))
+    ∙ ap (λ b. list_any test (node_vrps p os) || (b || list_any test (upper_vrps p one))) (none-lower_half test p zero pruned.1.1 (λ room v inside. false_from_ne_true _ (λ passes.
+    absurd (omega (arith, contains-longer v.prefix q (round v passes), contains-longer (lower_half p room) v.prefix inside)))))
+    ∙ ap (λ b. list_any test (node_vrps p os) || b) (none-upper_half test p one pruned.2.1 (λ room v inside. false_from_ne_true _ (λ passes.
+    absurd (omega (arith, contains-longer v.prefix q (round v passes), contains-longer (upper_half p room) v.prefix inside)))))
     ∙ or-false _
 
 pub any-zero : (test : Vrp → Bool) (p q : Prefix) (os : List Originator) (zero one : Tree) → IsRound q test → IsPruned (width p.family) p.length (Fork os zero one) → bit_of q p.length ≡ 0 → list_any test (vrps_at p (Fork os zero one)) ≡ (list_any test (node_vrps p os) || list_any test (lower_vrps p zero))
 any-zero test p q os zero one round pruned bit =
     any-parts test p os zero one
-    ∙ ap (λ b. list_any test (node_vrps p os) || (list_any test (lower_vrps p zero) || b)) (none-upper test p one pruned.2.1 (λ room v inside. false_from_ne_true _ (λ passes.
-    absurd (omega (arith, bit, upper-bit p q room (contains-trans (upper p room) v.prefix q inside (round v passes)))))))
+    ∙ ap (λ b. list_any test (node_vrps p os) || (list_any test (lower_vrps p zero) || b)) (none-upper_half test p one pruned.2.1 (λ room v inside. false_from_ne_true _ (λ passes.
+    absurd (omega (arith, bit, upper_half-bit p q room (contains-trans (upper_half p room) v.prefix q inside (round v passes)))))))
     ∙ ap (λ b. list_any test (node_vrps p os) || b) (or-false _)
 
 pub any-one : (test : Vrp → Bool) (p q : Prefix) (os : List Originator) (zero one : Tree) → IsRound q test → IsPruned (width p.family) p.length (Fork os zero one) → bit_of q p.length ≡ 1 → list_any test (vrps_at p (Fork os zero one)) ≡ (list_any test (node_vrps p os) || list_any test (upper_vrps p one))
 any-one test p q os zero one round pruned bit =
     any-parts test p os zero one
-    ∙ ap (λ b. list_any test (node_vrps p os) || (b || list_any test (upper_vrps p one))) (none-lower test p zero pruned.1.1 (λ room v inside. false_from_ne_true _ (λ passes.
-    absurd (omega (arith, bit, lower-bit p q room (contains-trans (lower p room) v.prefix q inside (round v passes)))))))
+    ∙ ap (λ b. list_any test (node_vrps p os) || (b || list_any test (upper_vrps p one))) (none-lower_half test p zero pruned.1.1 (λ room v inside. false_from_ne_true _ (λ passes.
+    absurd (omega (arith, bit, lower_half-bit p q room (contains-trans (lower_half p room) v.prefix q inside (round v passes)))))))

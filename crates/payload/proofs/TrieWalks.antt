@@ -17,7 +17,7 @@ use Rattle.payload.specs.declared.originator.Originator.{Originator}
 use Rattle.payload.specs.steps.Tree.{Tree, Leaf, Fork, IsPruned, has, has_on_path}
 use Rattle.payload.specs.steps.Trie.{bits_from, node_vrps, originator_of, vrps_at}
 use Rattle.payload.proofs.Bits.{bits_from-end, bits_from-next}
-use Rattle.payload.proofs.Halves.{lower, upper, contains-same, lower-contains, upper-contains}
+use Rattle.payload.proofs.Halves.{lower_half, upper_half, contains-same, lower_half-contains, upper_half-contains}
 use Rattle.addr.proofs.PrefixOrderLemmas.{ends-contains}
 use Rattle.payload.proofs.Sets.{is_vrp, same_vrp-equal}
 use Rattle.payload.proofs.Trees.{has-leaf, is_originator}
@@ -74,7 +74,7 @@ any-is_vrp v p (Fork os zero one) pruned inside =
             ∙ ap (λ b. b || list_any (is_vrp v) (lower_vrps p zero)) (none-above v p os zero one pruned longer)
             ∙ elim (leaf-or-room p zero pruned.1.1) [
               | inl leaf ↦ rw leaf (sym (has-leaf (bits_from v.prefix (p.length + 1)) (originator_of v)))
-              | inr room ↦ any-is_vrp v (lower p room) zero pruned.1.1 (lower-contains p v.prefix room inside longer bit)
+              | inr room ↦ any-is_vrp v (lower_half p room) zero pruned.1.1 (lower_half-contains p v.prefix room inside longer bit)
             ])
         | inr bit ↦
             rw (next-one v.prefix p.length longer bit)
@@ -82,7 +82,7 @@ any-is_vrp v p (Fork os zero one) pruned inside =
             ∙ ap (λ b. b || list_any (is_vrp v) (upper_vrps p one)) (none-above v p os zero one pruned longer)
             ∙ elim (leaf-or-room p one pruned.2.1) [
               | inl leaf ↦ rw leaf (sym (has-leaf (bits_from v.prefix (p.length + 1)) (originator_of v)))
-              | inr room ↦ any-is_vrp v (upper p room) one pruned.2.1 (upper-contains p v.prefix room inside longer bit)
+              | inr room ↦ any-is_vrp v (upper_half p room) one pruned.2.1 (upper_half-contains p v.prefix room inside longer bit)
             ])
       ]
     ]
@@ -122,7 +122,7 @@ any-covers route passes p (Fork os zero one) pruned inside =
             ∙ ap (λ b. b || list_any test (lower_vrps p zero)) node
             ∙ ap (λ b. list_any passes os || b) (elim (leaf-or-room p zero pruned.1.1) [
               | inl leaf ↦ rw leaf (sym (on-path-leaf passes (bits_from q (p.length + 1))))
-              | inr room ↦ any-covers route passes (lower p room) zero pruned.1.1 (lower-contains p q room inside longer bit)
+              | inr room ↦ any-covers route passes (lower_half p room) zero pruned.1.1 (lower_half-contains p q room inside longer bit)
             ]))
         | inr bit ↦
             rw (next-one q p.length longer bit)
@@ -130,7 +130,7 @@ any-covers route passes p (Fork os zero one) pruned inside =
             ∙ ap (λ b. b || list_any test (upper_vrps p one)) node
             ∙ ap (λ b. list_any passes os || b) (elim (leaf-or-room p one pruned.2.1) [
               | inl leaf ↦ rw leaf (sym (on-path-leaf passes (bits_from q (p.length + 1))))
-              | inr room ↦ any-covers route passes (upper p room) one pruned.2.1 (upper-contains p q room inside longer bit)
+              | inr room ↦ any-covers route passes (upper_half p room) one pruned.2.1 (upper_half-contains p q room inside longer bit)
             ]))
       ]
     ]

@@ -14,13 +14,13 @@ use Rattle.addr.specs.declared.prefix.Prefix.{Prefix}
 use Rattle.addr.specs.declared.vrp.Vrp.{Vrp}
 use Rattle.payload.specs.VrpSet as set
 use Rattle.payload.specs.declared.originator.Originator.{Originator}
-use Rattle.payload.specs.steps.Tree.{Tree, Leaf, IsInserted, IsRemoved, IsPruned, has, is_place, only}
+use Rattle.payload.specs.steps.Tree.{Tree, Leaf, IsInserted, IsRemoved, IsPruned, has, is_place, chain}
 use Rattle.payload.specs.steps.Trie.{bits_from, originator_of, trie_vrps, vrps_at, vrps_below, whole}
 use Rattle.payload.proofs.Bits.{length-bits_from}
-use Rattle.payload.proofs.Halves.{lower, upper, contains-longer}
+use Rattle.payload.proofs.Halves.{lower_half, upper_half, contains-longer}
 use Rattle.addr.proofs.PrefixOrderLemmas.{contains-ends, ends-contains}
 use Rattle.payload.proofs.Sets.{is_vrp, same_vrp-equal, contains-from_list}
-use Rattle.payload.proofs.Trees.{has-leaf, inserted-only, pruned-only, place-itself}
+use Rattle.payload.proofs.Trees.{has-leaf, inserted-chain, pruned-chain, place-itself}
 use Rattle.payload.proofs.TrieVrps.{All-within, leaf-or-room, node_vrps-cons}
 use Rattle.payload.proofs.TrieWalks.{any-is_vrp}
 
@@ -44,49 +44,49 @@ none-of_six test six pruned out = list_any_none test _ (All-weaker _ (λ v. test
 other-family : (v w : Vrp) (f g : Family) → v.prefix.family ≡ f → w.prefix.family ≡ g → (f ≡ g → ⊥) → is_vrp v w ≡ false
 other-family v w f g one two apart = false_from_ne_true (is_vrp v w) (λ is. apart (sym one ∙ ap (λ u. u.prefix.family) (same_vrp-equal v w is) ∙ two))
 
-abbrev pub path_of : Vrp → List Bool
-path_of v = bits_from v.prefix 0
+abbrev pub vrp_path : Vrp → List Bool
+vrp_path v = bits_from v.prefix 0
 
 -- the trie has a VRP where its family's tree has it
-pub any-in_four : (v : Vrp) (four six : Tree) → IsPruned 32 0 four → IsPruned 128 0 six → v.prefix.family ≡ V4 → list_any (is_vrp v) (trie_vrps four six) ≡ has (path_of v) (originator_of v) four
+pub any-in_four : (v : Vrp) (four six : Tree) → IsPruned 32 0 four → IsPruned 128 0 six → v.prefix.family ≡ V4 → list_any (is_vrp v) (trie_vrps four six) ≡ has (vrp_path v) (originator_of v) four
 any-in_four v four six prune4 prune6 is =
     list_any-append (is_vrp v) (vrps_below V4 0 0 four) (vrps_below V6 0 0 six)
     ∙ ap (λ b. list_any (is_vrp v) (vrps_below V4 0 0 four) || b) (none-of_six (is_vrp v) six prune6 (λ w other. other-family v w V4 V6 is other (λ e. cc)))
     ∙ or-false _
     ∙ any-is_vrp v (whole V4) four prune4 (whole-four v.prefix is)
 
-pub any-in_six : (v : Vrp) (four six : Tree) → IsPruned 32 0 four → IsPruned 128 0 six → v.prefix.family ≡ V6 → list_any (is_vrp v) (trie_vrps four six) ≡ has (path_of v) (originator_of v) six
+pub any-in_six : (v : Vrp) (four six : Tree) → IsPruned 32 0 four → IsPruned 128 0 six → v.prefix.family ≡ V6 → list_any (is_vrp v) (trie_vrps four six) ≡ has (vrp_path v) (originator_of v) six
 any-in_six v four six prune4 prune6 is =
     list_any-append (is_vrp v) (vrps_below V4 0 0 four) (vrps_below V6 0 0 six)
     ∙ ap (λ b. b || list_any (is_vrp v) (vrps_below V6 0 0 six)) (none-of_four (is_vrp v) four prune4 (λ w other. other-family v w V6 V4 is other (λ e. cc)))
     ∙ any-is_vrp v (whole V6) six prune6 (whole-six v.prefix is)
 
-pub contains-in_four : (s : set.VrpSet) (v : Vrp) (four six : Tree) → set.from_list (trie_vrps four six) ≡ s → IsPruned 32 0 four → IsPruned 128 0 six → v.prefix.family ≡ V4 → has (path_of v) (originator_of v) four ≡ set.contains s v
+pub contains-in_four : (s : set.VrpSet) (v : Vrp) (four six : Tree) → set.from_list (trie_vrps four six) ≡ s → IsPruned 32 0 four → IsPruned 128 0 six → v.prefix.family ≡ V4 → has (vrp_path v) (originator_of v) four ≡ set.contains s v
 contains-in_four s v four six view prune4 prune6 is = sym (ap (λ t. set.contains t v) (sym view) ∙ contains-from_list (trie_vrps four six) v ∙ any-in_four v four six prune4 prune6 is)
 
-pub contains-in_six : (s : set.VrpSet) (v : Vrp) (four six : Tree) → set.from_list (trie_vrps four six) ≡ s → IsPruned 32 0 four → IsPruned 128 0 six → v.prefix.family ≡ V6 → has (path_of v) (originator_of v) six ≡ set.contains s v
+pub contains-in_six : (s : set.VrpSet) (v : Vrp) (four six : Tree) → set.from_list (trie_vrps four six) ≡ s → IsPruned 32 0 four → IsPruned 128 0 six → v.prefix.family ≡ V6 → has (vrp_path v) (originator_of v) six ≡ set.contains s v
 contains-in_six s v four six view prune4 prune6 is = sym (ap (λ t. set.contains t v) (sym view) ∙ contains-from_list (trie_vrps four six) v ∙ any-in_six v four six prune4 prune6 is)
 
 -- ---- a VRP's place is its own
 
-no-leaf : (path : List Bool) (o : Originator) → only path o ≡ Leaf → ⊥
+no-leaf : (path : List Bool) (o : Originator) → chain path o ≡ Leaf → ⊥
 no-leaf [] o e = cc
 no-leaf (false ∷ path) o e = cc
 no-leaf (true ∷ path) o e = cc
 
 -- the tree of one originator has one VRP
-one-vrp : (p : Prefix) (path : List Bool) (o : Originator) → IsPruned (width p.family) p.length (only path o) → length (vrps_at p (only path o)) ≡ 1
+one-vrp : (p : Prefix) (path : List Bool) (o : Originator) → IsPruned (width p.family) p.length (chain path o) → length (vrps_at p (chain path o)) ≡ 1
 one-vrp p [] o pruned = ap (λ (vs : List Vrp). length (vs ++ [])) (node_vrps-cons p o [] (pruned.0.lengths 0 o (lit< tt)))
 one-vrp p (false ∷ path) o pruned =
-    ap length (append-nil (vrps_below p.family p.first (p.length + 1) (only path o)))
-    ∙ elim (leaf-or-room p (only path o) pruned.1.1) [
+    ap length (append-nil (vrps_below p.family p.first (p.length + 1) (chain path o)))
+    ∙ elim (leaf-or-room p (chain path o) pruned.1.1) [
       | inl leaf ↦ absurd (no-leaf path o leaf)
-      | inr room ↦ one-vrp (lower p room) path o pruned.1.1
+      | inr room ↦ one-vrp (lower_half p room) path o pruned.1.1
     ]
 one-vrp p (true ∷ path) o pruned =
-    elim (leaf-or-room p (only path o) pruned.2.1) [
+    elim (leaf-or-room p (chain path o) pruned.2.1) [
       | inl leaf ↦ absurd (no-leaf path o leaf)
-      | inr room ↦ one-vrp (upper p room) path o pruned.2.1
+      | inr room ↦ one-vrp (upper_half p room) path o pruned.2.1
     ]
 
 single : (v : Vrp) (vrps : List Vrp) → length vrps ≡ 1 → list_any (is_vrp v) vrps ≡ true → vrps ≡ v ∷ []
@@ -98,8 +98,8 @@ pub place-is_vrp : (p : Prefix) (v w : Vrp) → contains p v.prefix ≡ true →
 place-is_vrp p v w inside inside' =
     sym (or-false _)
     ∙ ap (λ b. is_place path o (bits_from w.prefix p.length) (originator_of w) || b) (sym (has-leaf (bits_from w.prefix p.length) (originator_of w)))
-    ∙ sym (inserted-only path o (bits_from w.prefix p.length) (originator_of w))
-    ∙ sym (any-is_vrp w p (only path o) pruned inside')
+    ∙ sym (inserted-chain path o (bits_from w.prefix p.length) (originator_of w))
+    ∙ sym (any-is_vrp w p (chain path o) pruned inside')
     ∙ ap (list_any (is_vrp w)) alone
     ∙ or-false _
   where
@@ -109,14 +109,14 @@ place-is_vrp p v w inside inside' =
     o : Originator
     o = originator_of v
 
-    pruned : IsPruned (width p.family) p.length (only path o)
+    pruned : IsPruned (width p.family) p.length (chain path o)
     pruned =
         let longer : p.length ≤ v.prefix.length = contains-longer p v.prefix inside in
-        pruned-only (width p.family) p.length path o (omega (arith, length-bits_from v.prefix p.length, v.at_least_length)) (subst (λ (f : Family). v.max ≤ width f) (sym (contains-ends p v.prefix inside).family) v.at_most_width)
+        pruned-chain (width p.family) p.length path o (omega (arith, length-bits_from v.prefix p.length, v.at_least_length)) (subst (λ (f : Family). v.max ≤ width f) (sym (contains-ends p v.prefix inside).family) v.at_most_width)
 
-    alone : vrps_at p (only path o) ≡ v ∷ []
+    alone : vrps_at p (chain path o) ≡ v ∷ []
     alone = single v _ (one-vrp p path o pruned)
-        (any-is_vrp v p (only path o) pruned inside ∙ inserted-only path o path o ∙ ap (λ b. b || has path o Leaf) (place-itself path o))
+        (any-is_vrp v p (chain path o) pruned inside ∙ inserted-chain path o path o ∙ ap (λ b. b || has path o Leaf) (place-itself path o))
 
 -- ---- a change of one tree is one of the set
 
@@ -124,50 +124,50 @@ families : (f : Family) → (f ≡ V4) ⊎ (f ≡ V6)
 families V4 = inl refl
 families V6 = inr refl
 
-pub insert-four : (v : Vrp) (four new six : Tree) → IsPruned 32 0 four → IsPruned 32 0 new → IsPruned 128 0 six → v.prefix.family ≡ V4 → IsInserted (path_of v) (originator_of v) four new → (w : Vrp) → list_any (is_vrp w) (trie_vrps new six) ≡ (is_vrp w v || list_any (is_vrp w) (trie_vrps four six))
+pub insert-four : (v : Vrp) (four new six : Tree) → IsPruned 32 0 four → IsPruned 32 0 new → IsPruned 128 0 six → v.prefix.family ≡ V4 → IsInserted (vrp_path v) (originator_of v) four new → (w : Vrp) → list_any (is_vrp w) (trie_vrps new six) ≡ (is_vrp w v || list_any (is_vrp w) (trie_vrps four six))
 insert-four v four new six old4 new4 prune6 family is w =
     elim (families w.prefix.family) [
       | inl same ↦
-          any-in_four w new six new4 prune6 same ∙ is (path_of w) (originator_of w)
-          ∙ ap (λ b. b || has (path_of w) (originator_of w) four) (place-is_vrp (whole V4) v w (whole-four v.prefix family) (whole-four w.prefix same))
+          any-in_four w new six new4 prune6 same ∙ is (vrp_path w) (originator_of w)
+          ∙ ap (λ b. b || has (vrp_path w) (originator_of w) four) (place-is_vrp (whole V4) v w (whole-four v.prefix family) (whole-four w.prefix same))
           ∙ ap (λ b. is_vrp w v || b) (sym (any-in_four w four six old4 prune6 same))
       | inr other ↦
           any-in_six w new six new4 prune6 other ∙ sym (any-in_six w four six old4 prune6 other)
           ∙ ap (λ b. b || list_any (is_vrp w) (trie_vrps four six)) (sym (other-family w v V6 V4 other family (λ e. cc)))
     ]
 
-pub insert-six : (v : Vrp) (four six new : Tree) → IsPruned 32 0 four → IsPruned 128 0 six → IsPruned 128 0 new → v.prefix.family ≡ V6 → IsInserted (path_of v) (originator_of v) six new → (w : Vrp) → list_any (is_vrp w) (trie_vrps four new) ≡ (is_vrp w v || list_any (is_vrp w) (trie_vrps four six))
+pub insert-six : (v : Vrp) (four six new : Tree) → IsPruned 32 0 four → IsPruned 128 0 six → IsPruned 128 0 new → v.prefix.family ≡ V6 → IsInserted (vrp_path v) (originator_of v) six new → (w : Vrp) → list_any (is_vrp w) (trie_vrps four new) ≡ (is_vrp w v || list_any (is_vrp w) (trie_vrps four six))
 insert-six v four six new prune4 old6 new6 family is w =
     elim (families w.prefix.family) [
       | inl other ↦
           any-in_four w four new prune4 new6 other ∙ sym (any-in_four w four six prune4 old6 other)
           ∙ ap (λ b. b || list_any (is_vrp w) (trie_vrps four six)) (sym (other-family w v V4 V6 other family (λ e. cc)))
       | inr same ↦
-          any-in_six w four new prune4 new6 same ∙ is (path_of w) (originator_of w)
-          ∙ ap (λ b. b || has (path_of w) (originator_of w) six) (place-is_vrp (whole V6) v w (whole-six v.prefix family) (whole-six w.prefix same))
+          any-in_six w four new prune4 new6 same ∙ is (vrp_path w) (originator_of w)
+          ∙ ap (λ b. b || has (vrp_path w) (originator_of w) six) (place-is_vrp (whole V6) v w (whole-six v.prefix family) (whole-six w.prefix same))
           ∙ ap (λ b. is_vrp w v || b) (sym (any-in_six w four six prune4 old6 same))
     ]
 
-pub remove-four : (v : Vrp) (four new six : Tree) → IsPruned 32 0 four → IsPruned 32 0 new → IsPruned 128 0 six → v.prefix.family ≡ V4 → IsRemoved (path_of v) (originator_of v) four new → (w : Vrp) → list_any (is_vrp w) (trie_vrps new six) ≡ (not (is_vrp w v) && list_any (is_vrp w) (trie_vrps four six))
+pub remove-four : (v : Vrp) (four new six : Tree) → IsPruned 32 0 four → IsPruned 32 0 new → IsPruned 128 0 six → v.prefix.family ≡ V4 → IsRemoved (vrp_path v) (originator_of v) four new → (w : Vrp) → list_any (is_vrp w) (trie_vrps new six) ≡ (not (is_vrp w v) && list_any (is_vrp w) (trie_vrps four six))
 remove-four v four new six old4 new4 prune6 family is w =
     elim (families w.prefix.family) [
       | inl same ↦
-          any-in_four w new six new4 prune6 same ∙ is (path_of w) (originator_of w)
-          ∙ ap (λ b. not b && has (path_of w) (originator_of w) four) (place-is_vrp (whole V4) v w (whole-four v.prefix family) (whole-four w.prefix same))
+          any-in_four w new six new4 prune6 same ∙ is (vrp_path w) (originator_of w)
+          ∙ ap (λ b. not b && has (vrp_path w) (originator_of w) four) (place-is_vrp (whole V4) v w (whole-four v.prefix family) (whole-four w.prefix same))
           ∙ ap (λ b. not (is_vrp w v) && b) (sym (any-in_four w four six old4 prune6 same))
       | inr other ↦
           any-in_six w new six new4 prune6 other ∙ sym (any-in_six w four six old4 prune6 other)
           ∙ ap (λ b. not b && list_any (is_vrp w) (trie_vrps four six)) (sym (other-family w v V6 V4 other family (λ e. cc)))
     ]
 
-pub remove-six : (v : Vrp) (four six new : Tree) → IsPruned 32 0 four → IsPruned 128 0 six → IsPruned 128 0 new → v.prefix.family ≡ V6 → IsRemoved (path_of v) (originator_of v) six new → (w : Vrp) → list_any (is_vrp w) (trie_vrps four new) ≡ (not (is_vrp w v) && list_any (is_vrp w) (trie_vrps four six))
+pub remove-six : (v : Vrp) (four six new : Tree) → IsPruned 32 0 four → IsPruned 128 0 six → IsPruned 128 0 new → v.prefix.family ≡ V6 → IsRemoved (vrp_path v) (originator_of v) six new → (w : Vrp) → list_any (is_vrp w) (trie_vrps four new) ≡ (not (is_vrp w v) && list_any (is_vrp w) (trie_vrps four six))
 remove-six v four six new prune4 old6 new6 family is w =
     elim (families w.prefix.family) [
       | inl other ↦
           any-in_four w four new prune4 new6 other ∙ sym (any-in_four w four six prune4 old6 other)
           ∙ ap (λ b. not b && list_any (is_vrp w) (trie_vrps four six)) (sym (other-family w v V4 V6 other family (λ e. cc)))
       | inr same ↦
-          any-in_six w four new prune4 new6 same ∙ is (path_of w) (originator_of w)
-          ∙ ap (λ b. not b && has (path_of w) (originator_of w) six) (place-is_vrp (whole V6) v w (whole-six v.prefix family) (whole-six w.prefix same))
+          any-in_six w four new prune4 new6 same ∙ is (vrp_path w) (originator_of w)
+          ∙ ap (λ b. not b && has (vrp_path w) (originator_of w) six) (place-is_vrp (whole V6) v w (whole-six v.prefix family) (whole-six w.prefix same))
           ∙ ap (λ b. not (is_vrp w v) && b) (sym (any-in_six w four six prune4 old6 same))
     ]

@@ -75,7 +75,7 @@ unlike-between v w route max asn top others less from =
 
     too_short : w.max < route.prefix.length → nat_le route.prefix.length v.max ≡ false
     too_short long = elim before [
-      | inl lower ↦ grind (arith, nat_tests)
+      | inl lower_half ↦ grind (arith, nat_tests)
       | inr tie ↦ let same = tie.0 in grind (arith, nat_tests)
     ]
 
@@ -83,7 +83,7 @@ unlike-between v w route max asn top others less from =
     other_as fits =
         let same : max ≡ w.max = top fits in
         elim before [
-          | inl lower ↦ elim onwards [ inl higher ↦ absurd (omega arith) | inr tie ↦ absurd (omega (arith, tie.0)) ]
+          | inl lower_half ↦ elim onwards [ inl higher ↦ absurd (omega arith) | inr tie ↦ absurd (omega (arith, tie.0)) ]
           | inr tie ↦ elim onwards [ inl higher ↦ absurd (omega (arith, tie.0)) | inr later ↦ others v.asn later.1 tie.1 ]
         ]
 

@@ -28,7 +28,7 @@ use Rattle.registry.specs.declared.grant.Scope.{Scope}
 use Rattle.registry.specs.declared.grant.Scope.TheVariants.{All, Only}
 use Rattle.registry.specs.Rows.{new_rows, edited, replaced_by}
 use Rattle.tables.specs.Tables.{holder, holding, granted, auth}
-use Rattle.tables.specs.Cells.{number_cell, family_number, address, role_number, scope_cells, auth_cells, holder_row, holding_row, granted_row, auth_row}
+use Rattle.tables.specs.Cells.{number_cell, family_number, address_bytes, role_number, scope_cells, auth_cells, holder_row, holding_row, granted_row, auth_row}
 use Rattle.tables.specs.TablesHold.{is_name_of, part_rows, holder_part, holding_part, granted_part, auth_part}
 use Rattle.tables.specs.declared.auth.TheConstants.{DELETE_AUTH, INSERT_AUTH, UPDATE_AUTH}
 use Rattle.tables.specs.declared.granted.TheConstants.{DELETE_GRANT, INSERT_GRANT}
@@ -40,7 +40,7 @@ use Rattle.store.specs.steps.Statements.{EditsHolder, Registers}
 use Rattle.tables.proofs.Addresses.{addresses_in_order}
 use Rattle.tables.proofs.Selecting.{picks}
 use Rattle.tables.proofs.Updating.{changed_if}
-use Rattle.tables.proofs.CellLemmas.{cast_number, cast_holder, cast_holding, cast_granted, cast_auth, is_number, number_of_number, appended}
+use Rattle.tables.proofs.CellLemmas.{cast_number, cast_holder, cast_holding, cast_granted, cast_auth, is_number_cell, number_of_number, appended}
 use Rattle.tables.proofs.PartLemmas.{names, name_of-true, name_of_itself, put_local}
 use Rattle.database.proofs.StatementLemmas.{puts_row}
 use Rattle.store.proofs.PartSteps.{puts_edit, takes_edit, changes_edit}
@@ -66,7 +66,7 @@ use Rattle.tables.proofs.Texts.{
 
 -- the one of a holder and a number
 abbrev is_of : List ℕ → ℕ → Row → Bool
-is_of h n c = is_name_of h (column c 0) && is_number n (column c 1)
+is_of h n c = is_name_of h (column c 0) && is_number_cell n (column c 1)
 
 of_holder : (h : List ℕ) (n : ℕ) (c : Row) → is_of h n c ≡ true → is_name_of h (column c 0) ≡ true
 of_holder h n c is = (and_parts _ _ is).0
@@ -74,41 +74,41 @@ of_holder h n c is = (and_parts _ _ is).0
 of_tests : (h : List ℕ) (n : ℕ) (more r : Row) → picks (Text h ∷ number_cell n ∷ more) (equals 1 0 ∷ equals 2 1 ∷ []) r ≡ is_of h n (drop 1 r)
 of_tests h n more r =
     ap₂ ◌&&◌ (equals_text (column r 1) h ∙ ap (is_name_of h) (column_after r 0))
-    (last_term (equals_int (column r 2) (pos n) ∙ ap (is_number n) (column_after r 1)))
+    (last_term (equals_int (column r 2) (pos n) ∙ ap (is_number_cell n) (column_after r 1)))
 
 -- the one of a holder and a run of addresses
 abbrev is_bytes : List ℕ → Value → Bool
 is_bytes b v = is_eq (value_cmp v (Blob b))
 
 abbrev is_run : List ℕ → Span → Row → Bool
-is_run h s c = is_number (family_number s.family) (column c 0) && (is_bytes (address s.lo) (column c 1) && (is_bytes (address s.hi) (column c 2) && is_name_of h (column c 3)))
+is_run h s c = is_number_cell (family_number s.family) (column c 0) && (is_bytes (address_bytes s.lo) (column c 1) && (is_bytes (address_bytes s.hi) (column c 2) && is_name_of h (column c 3)))
 
 of_run : (h : List ℕ) (s : Span) (c : Row) → is_run h s c ≡ true → is_name_of h (column c 3) ≡ true
 of_run h s c is =
-    let ends = (and_parts (is_number (family_number s.family) (column c 0)) (is_bytes (address s.lo) (column c 1) && (is_bytes (address s.hi) (column c 2) && is_name_of h (column c 3))) is).1 in
-    let last = (and_parts (is_bytes (address s.lo) (column c 1)) (is_bytes (address s.hi) (column c 2) && is_name_of h (column c 3)) ends).1 in
-    (and_parts (is_bytes (address s.hi) (column c 2)) (is_name_of h (column c 3)) last).1
+    let ends = (and_parts (is_number_cell (family_number s.family) (column c 0)) (is_bytes (address_bytes s.lo) (column c 1) && (is_bytes (address_bytes s.hi) (column c 2) && is_name_of h (column c 3))) is).1 in
+    let last = (and_parts (is_bytes (address_bytes s.lo) (column c 1)) (is_bytes (address_bytes s.hi) (column c 2) && is_name_of h (column c 3)) ends).1 in
+    (and_parts (is_bytes (address_bytes s.hi) (column c 2)) (is_name_of h (column c 3)) last).1
 
 abbrev run_tests : List Term
 run_tests = equals 1 0 ∷ equals 2 1 ∷ equals 3 2 ∷ equals 4 3 ∷ []
 
 tests_run : (h : List ℕ) (s : Span) (r : Row) → picks (holding_row h s) run_tests r ≡ is_run h s (drop 1 r)
 tests_run h s r =
-    ap₂ ◌&&◌ (equals_int (column r 1) (pos (family_number s.family)) ∙ ap (is_number (family_number s.family)) (column_after r 0))
-    (ap₂ ◌&&◌ (equals_blob (column r 2) (address s.lo) ∙ ap (is_bytes (address s.lo)) (column_after r 1))
-    (ap₂ ◌&&◌ (equals_blob (column r 3) (address s.hi) ∙ ap (is_bytes (address s.hi)) (column_after r 2))
+    ap₂ ◌&&◌ (equals_int (column r 1) (pos (family_number s.family)) ∙ ap (is_number_cell (family_number s.family)) (column_after r 0))
+    (ap₂ ◌&&◌ (equals_blob (column r 2) (address_bytes s.lo) ∙ ap (is_bytes (address_bytes s.lo)) (column_after r 1))
+    (ap₂ ◌&&◌ (equals_blob (column r 3) (address_bytes s.hi) ∙ ap (is_bytes (address_bytes s.hi)) (column_after r 2))
     (last_term (equals_text (column r 4) h ∙ ap (is_name_of h) (column_after r 3)))))
 
 -- a run of a holder's rows is this one where family and ends are the same
-same_family_number : (f g : Family) → is_number (family_number g) (number_cell (family_number f)) ≡ family_eq f g
+same_family_number : (f g : Family) → is_number_cell (family_number g) (number_cell (family_number f)) ≡ family_eq f g
 same_family_number V4 V4 = number_of_number 4 4
 same_family_number V4 V6 = number_of_number 4 6
 same_family_number V6 V4 = number_of_number 6 4
 same_family_number V6 V6 = number_of_number 6 6
 
-same_address : (f g : Family) (m n : ℕ) → m < 2 ^ width f → n < 2 ^ width g → is_bytes (address n) (Blob (address m)) ≡ (m == n)
+same_address : (f g : Family) (m n : ℕ) → m < 2 ^ width f → n < 2 ^ width g → is_bytes (address_bytes n) (Blob (address_bytes m)) ≡ (m == n)
 same_address f g m n low below =
-    ap is_eq (value_cmp-Blob (address m) (address n) ∙ addresses_in_order m n (below_widest f m low) (below_widest g n below)) ∙ eq_is
+    ap is_eq (value_cmp-Blob (address_bytes m) (address_bytes n) ∙ addresses_in_order m n (below_widest f m low) (below_widest g n below)) ∙ eq_is
   where
     eq_is : is_eq (nat_cmp m n) ≡ (m == n)
     eq_is = grind (arith, nat_tests)
@@ -221,7 +221,7 @@ module _ (h : List ℕ) (old new : State) where
       amend_sets (amended_row x) amend_is terms (λ c is. name_kept h x.number c (of_holder h x.number c is)) (λ r. changed r.auths) (in_auths h (λ r. map (replaced_by x) r.auths)) refl
     where
       terms : (r : Row) → cast_all auth.columns (eval_all amend_sets (auth_row h x ∷ r ∷ [])) ≡ amended_row x (drop 1 r)
-      terms r = λ i. cast Words (column_after r 0 i) ∷ cast Integer (column_after r 1 i) ∷ cast_number x.asn.0 i ∷ cast_number (family_number x.prefix.family) i ∷ Blob (address x.prefix.first)
+      terms r = λ i. cast Words (column_after r 0 i) ∷ cast Integer (column_after r 1 i) ∷ cast_number x.asn.0 i ∷ cast_number (family_number x.prefix.family) i ∷ Blob (address_bytes x.prefix.first)
           ∷ cast_number x.prefix.length i ∷ cast_number x.max i ∷ cast_number x.from i ∷ cast_number x.until i ∷ []
 
       each : (y : Auth) → auth_row h (replaced_by x y) ≡ changed_if (is_of h x.number) (amended_row x) (auth_row h y)

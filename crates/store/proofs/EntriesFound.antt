@@ -33,9 +33,9 @@ use Rattle.tables.specs.Decode.{exception_columns, first_columns}
 use Rattle.tables.specs.Tables.{slurm, contents, columns}
 use Rattle.tables.specs.TablesHold.{ArePlaced, HoldsExceptions, TablesHold}
 use Rattle.tables.specs.declared.exception.TheConstants.{SELECT_ASSERTIONS, SELECT_FILTERS}
-use Rattle.database.specs.steps.Numbered.{AnswersRows}
+use Rattle.database.specs.steps.Numbered.{AnswersSelect}
 use Rattle.store.specs.steps.Queries.{by_column, SelectsEntries}
-use Rattle.tables.proofs.CellLemmas.{is_number, number_of_number}
+use Rattle.tables.proofs.CellLemmas.{is_number_cell, number_of_number}
 use Rattle.tables.proofs.CellsOnce.{one_prefix}
 use Rattle.tables.proofs.Selecting.{from_table, no_limit, picks, permuted, sorted}
 use Rattle.tables.proofs.Texts.{Means, upwards, kind_tests, filters_is, assertions_is}
@@ -52,7 +52,7 @@ abbrev brings : ExceptionRow → Exception
 brings r = r.exception
 
 abbrev is_of_kind : ℕ → Exception → Bool
-is_of_kind kind e = is_number kind (number_cell (kind_number e))
+is_of_kind kind e = is_number_cell kind (number_cell (kind_number e))
 
 -- the exceptions of one kind, of those of a file
 module _ (exceptions : Exceptions) (filters assertions : List ExceptionRow) (placed : ArePlaced (map FilterOf exceptions.filters) filters) (also : ArePlaced (map Assertion exceptions.assertions) assertions) where
@@ -100,7 +100,7 @@ pub record EntryQuery {X : Type 0} (cells : X → Row) (items : Exceptions → L
   pub rows :
       (exceptions : Exceptions) (table : List Row) → HoldsExceptions exceptions table
       → (rows : List ExceptionRow) × ArePlaced (map of_kind (items exceptions)) rows
-      × IsPermutation (map exception_row rows) (filter (λ c. is_number kind (column c 1)) (map exception_columns table))
+      × IsPermutation (map exception_row rows) (filter (λ c. is_number_cell kind (column c 1)) (map exception_columns table))
   pub whole : (c : Row) → columns places c ≡ columns places (exception_columns c)
   pub position : (r : ExceptionRow) → column (columns places (exception_row r)) 5 ≡ number_cell r.position
   pub keyed : (params r : Row) → column r 3 ∷ [] ≡ map (column (eval_all (shown_at places) (params ∷ r ∷ []))) (5 ∷ [])
@@ -115,27 +115,27 @@ module _ {X : Type 0} (cells : X → Row) (items : Exceptions → List X) (q : E
   abbrev shown : ExceptionRow → Row
   shown r = columns q.places (exception_row r)
 
-  of_test : (r : Row) → picks [] (kind_tests q.kind) r ≡ is_number q.kind (column (drop 1 r) 1)
-  of_test r = last_term (equals_int (column r 2) (pos q.kind) ∙ ap (is_number q.kind) (column_after r 1))
+  of_test : (r : Row) → picks [] (kind_tests q.kind) r ≡ is_number_cell q.kind (column (drop 1 r) 1)
+  of_test r = last_term (equals_int (column r 2) (pos q.kind) ∙ ap (is_number_cell q.kind) (column_after r 1))
 
-  module _ (db : Database) (rows : List Row) (answered : AnswersRows q.text db rows) where
+  module _ (db : Database) (rows : List Row) (answered : AnswersSelect q.text db rows) where
     answers : IsAnswer (from_table slurm.tree (kind_tests q.kind) (shown_at q.places) (upwards 3 ∷ []) no_limit) (overlay db.trees []) [] rows
     answers = (subst (λ (k : Command). Reads k db [] rows) (q.means.is db.schema) answered).answer Null
 
     rises : IsSorted (by_column 5) rows
     rises = sorted slurm.tree (kind_tests q.kind) (shown_at q.places) (upwards 3 ∷ []) db.trees [] rows (5 ∷ []) (by_column 5) (q.keyed []) (λ x y. then-Equal _) answers
 
-    finds : IsPermutation (map (columns q.places) (filter (λ c. is_number q.kind (column c 1)) (contents (db.trees slurm.tree)))) rows
+    finds : IsPermutation (map (columns q.places) (filter (λ c. is_number_cell q.kind (column c 1)) (contents (db.trees slurm.tree)))) rows
     finds =
-        let same = of_contents (λ r. eval_all (shown_at q.places) ([] ∷ r ∷ [])) (columns q.places) (picks [] (kind_tests q.kind)) (λ c. is_number q.kind (column c 1)) (shown_columns q.places []) of_test (db.trees slurm.tree) in
+        let same = of_contents (λ r. eval_all (shown_at q.places) ([] ∷ r ∷ [])) (columns q.places) (picks [] (kind_tests q.kind)) (λ c. is_number_cell q.kind (column c 1)) (shown_columns q.places []) of_test (db.trees slurm.tree) in
         subst (λ l. IsPermutation l rows) same (permuted slurm.tree (kind_tests q.kind) (shown_at q.places) (upwards 3 ∷ []) db.trees [] rows answers)
 
     -- short rows show what they show with all their columns
     seen : (table : List Row)
-        → map (columns q.places) (filter (λ c. is_number q.kind (column c 1)) (map exception_columns table)) ≡ map (columns q.places) (filter (λ c. is_number q.kind (column c 1)) table)
+        → map (columns q.places) (filter (λ c. is_number_cell q.kind (column c 1)) (map exception_columns table)) ≡ map (columns q.places) (filter (λ c. is_number_cell q.kind (column c 1)) table)
     seen table =
-        ap (map (columns q.places)) (filter-map (λ c. is_number q.kind (column c 1)) exception_columns table)
-        ∙ map-map (columns q.places) exception_columns _ ∙ (λ i. map (λ c. sym (q.whole c) i) (filter (λ c. is_number q.kind (column c 1)) table))
+        ap (map (columns q.places)) (filter-map (λ c. is_number_cell q.kind (column c 1)) exception_columns table)
+        ∙ map-map (columns q.places) exception_columns _ ∙ (λ i. map (λ c. sym (q.whole c) i) (filter (λ c. is_number_cell q.kind (column c 1)) table))
 
     in_order : (placed : List ExceptionRow) → IsAscending (λ (a b : ExceptionRow). a.position < b.position) placed → IsPermutation (map shown placed) rows → rows ≡ map shown placed
     in_order placed rise same =
@@ -148,7 +148,7 @@ module _ {X : Type 0} (cells : X → Row) (items : Exceptions → List X) (q : E
     found : (charter : CharterSets) (all : AllRows) → TablesHold charter all db.trees → map (first_columns 5) rows ≡ map cells (items all.exceptions)
     found charter all holds =
         let mine = q.rows all.exceptions (contents (db.trees slurm.tree)) holds.exceptions in
-        let show = subst (λ l. IsPermutation l (map (columns q.places) (filter (λ c. is_number q.kind (column c 1)) (map exception_columns (contents (db.trees slurm.tree))))))
+        let show = subst (λ l. IsPermutation l (map (columns q.places) (filter (λ c. is_number_cell q.kind (column c 1)) (map exception_columns (contents (db.trees slurm.tree))))))
         (map-map (columns q.places) exception_row mine.0) (IsPermutation-map (columns q.places) _ _ mine.2) in
         let same = in_order mine.0 mine.1.rise (IsPermutation-trans _ _ _ show (subst (λ l. IsPermutation l rows) (sym (seen (contents (db.trees slurm.tree)))) finds)) in
         let of : Exception → Row = λ e. columns q.of_exception (exception_cells e) in
@@ -176,10 +176,10 @@ one_filter (Both p a) (Both q b) is = ap₂ Both (one_prefix p q cc) (one_asn a 
 
 -- the rows of one kind are those of the exceptions of that kind
 pub rows_of_kind : (kind : ℕ) (table : List Row) (all mine : List ExceptionRow) → IsPermutation (map exception_row all) (map exception_columns table) → filter (λ r. is_of_kind kind (brings r)) all ≡ mine
-    → IsPermutation (map exception_row mine) (filter (λ c. is_number kind (column c 1)) (map exception_columns table))
+    → IsPermutation (map exception_row mine) (filter (λ c. is_number_cell kind (column c 1)) (map exception_columns table))
 rows_of_kind kind table all mine same just =
-    subst (λ l. IsPermutation l (filter (λ c. is_number kind (column c 1)) (map exception_columns table))) (filter-map (λ c. is_number kind (column c 1)) exception_row all ∙ ap (map exception_row) just)
-    (IsPermutation-filter (λ c. is_number kind (column c 1)) _ _ same)
+    subst (λ l. IsPermutation l (filter (λ c. is_number_cell kind (column c 1)) (map exception_columns table))) (filter-map (λ c. is_number_cell kind (column c 1)) exception_row all ∙ ap (map exception_row) just)
+    (IsPermutation-filter (λ c. is_number_cell kind (column c 1)) _ _ same)
 
 pub filter_shown : (f : Filter) → columns (0 ∷ 1 ∷ 2 ∷ 3 ∷ 4 ∷ []) (filter_cells f) ≡ filter_cells f
 filter_shown (Under p) = refl

@@ -52,7 +52,7 @@ of_contents shows cells passes goes same tests rows =
 
 -- The query of a holder's values: their table, the columns that it shows, its text, what it is sorted by, and
 -- the titles of its columns.
-pub record Query {X : Type 0} (cells : X → Row) (width : ℕ) (items : Rows → List X) (cmp : Row → Row → Ordering) : Type 0 where
+pub record HolderQuery {X : Type 0} (cells : X → Row) (width : ℕ) (items : Rows → List X) (cmp : Row → Row → Ordering) : Type 0 where
   pub part : Part
   pub places : List ℕ
   pub counted : length places ≡ width
@@ -81,7 +81,7 @@ pub record Query {X : Type 0} (cells : X → Row) (width : ℕ) (items : Rows �
       → key_cmp 0 (map (λ (k : Term × Key). k.1) order) (map (column x) keys) (map (column y) keys) ≡ cmp x y
   pub once : (x y : X) → cells x ≡ cells y → x ≡ y
 
-module _ {X : Type 0} (cells : X → Row) (width : ℕ) (items : Rows → List X) (cmp : Row → Row → Ordering) (q : Query cells width items cmp) where
+module _ {X : Type 0} (cells : X → Row) (width : ℕ) (items : Rows → List X) (cmp : Row → Row → Ordering) (q : HolderQuery cells width items cmp) where
   abbrev tests : List Term
   tests = equals (suc q.part.place) 0 ∷ []
 
@@ -116,7 +116,7 @@ module _ {X : Type 0} (cells : X → Row) (width : ℕ) (items : Rows → List X
 
 -- ---- the four queries
 
-abbrev pub counters_query : Query cells_of_counters 2 counters_of_rows (λ _ _. Equal)
+abbrev pub counters_query : HolderQuery cells_of_counters 2 counters_of_rows (λ _ _. Equal)
 counters_query = record {
   part = holder_part;
   places = 1 ∷ 2 ∷ [];
@@ -133,7 +133,7 @@ counters_query = record {
   once = one_counters;
 }
 
-abbrev pub spans_query : Query span_cells 3 (λ (r : Rows). r.holdings) (then_cmp (by_column 0) (by_column 1))
+abbrev pub spans_query : HolderQuery span_cells 3 (λ (r : Rows). r.holdings) (then_cmp (by_column 0) (by_column 1))
 spans_query = record {
   part = holding_part;
   places = 0 ∷ 1 ∷ 2 ∷ [];
@@ -150,7 +150,7 @@ spans_query = record {
   once = one_span;
 }
 
-abbrev pub grants_query : Query grant_cells 7 (λ (r : Rows). r.grants) (by_column 0)
+abbrev pub grants_query : HolderQuery grant_cells 7 (λ (r : Rows). r.grants) (by_column 0)
 grants_query = record {
   part = granted_part;
   places = grant_places;
@@ -170,7 +170,7 @@ grants_query = record {
 abbrev auth_places : List ℕ
 auth_places = 1 ∷ 2 ∷ 3 ∷ 4 ∷ 5 ∷ 6 ∷ 7 ∷ 8 ∷ []
 
-abbrev pub auths_query : Query auth_cells 8 (λ (r : Rows). r.auths) (by_column 0)
+abbrev pub auths_query : HolderQuery auth_cells 8 (λ (r : Rows). r.auths) (by_column 0)
 auths_query = record {
   part = auth_part;
   places = auth_places;

@@ -22,7 +22,7 @@ use Rattle.registry.specs.declared.rows.HolderRows.{HolderRows}
 use Rattle.registry.specs.Rows.{Rows}
 use Rattle.tables.specs.Cells.{number_cell}
 use Rattle.tables.specs.TablesHold.{items_if_any, TablesHold}
-use Rattle.store.specs.steps.Queries.{by_column, WasRead}
+use Rattle.store.specs.steps.Queries.{by_column, IsOpenWith}
 use Rattle.tables.specs.declared.holder.Counters.{Counters}
 use Rattle.registry.specs.Values.{IsCount, GrantFits, AuthFits, FitIfAny}
 use Rattle.registry.specs.RowsOfAll.{AllRows}
@@ -54,8 +54,8 @@ one_run_more spans i s before after low is same added a =
 
 -- ---- the runs in another order have the same addresses
 
-pub same_addresses : (xs ys : List Span) → IsPermutation xs ys → HaveSame xs ys
-same_addresses xs ys same a = sym (list_any-IsPermutation (λ s. span_has s a) xs ys same)
+pub same-permuted : (xs ys : List Span) → IsPermutation xs ys → HaveSame xs ys
+same-permuted xs ys same a = sym (list_any-IsPermutation (λ s. span_has s a) xs ys same)
 
 -- ---- rows that fit
 
@@ -107,9 +107,9 @@ held_before old mid same charter rows holds = subst (λ (d : Database). TablesHo
 pub never_fit :
     {X : Type 0} (fits : X → Type 0) (items : Rows → List X) → ((o : Option Rows) → FitIfAny o → All fits (items_if_any items o))
     → (h : List ℕ) (old mid : State) → IsTrue old.is_open → mid.now ≡ old.now
-    → WasRead (λ all. ¬ All fits (items_if_any items (all.of_holder h))) mid → WasRead (λ all. ¬ FitIfAny (all.of_holder h)) old
-never_fit fits items each h old mid opened same told =
-    (opened, λ charter rows holds fit. told.1 charter rows (held_before old mid same charter rows holds) (each (rows.of_holder h) fit))
+    → IsOpenWith (λ all. ¬ All fits (items_if_any items (all.of_holder h))) mid → IsOpenWith (λ all. ¬ FitIfAny (all.of_holder h)) old
+never_fit fits items each h old mid opened same refusal =
+    (opened, λ charter rows holds fit. refusal.1 charter rows (held_before old mid same charter rows holds) (each (rows.of_holder h) fit))
 
 pub none_loaded : (o : Option Rows) → AreCounters o None → AreLoaded o None
 none_loaded None none = tt

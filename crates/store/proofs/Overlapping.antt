@@ -23,7 +23,7 @@ use Rattle.addr.specs.declared.span.Span.{Span}
 use Rattle.addr.proofs.AddressLemmas.{below_widest, first_below}
 use Rattle.registry.specs.RowsOfAll.{AllRows}
 use Rattle.tables.specs.Tables.{desk_tables, contents}
-use Rattle.tables.specs.Cells.{number_cell, family_number, address, holding_row}
+use Rattle.tables.specs.Cells.{number_cell, family_number, address_bytes, holding_row}
 use Rattle.tables.specs.TablesHold.{HoldsPart, holding_part}
 use Rattle.tables.specs.declared.holding.TheConstants.{SELECT_OVERLAP}
 use Rattle.store.specs.steps.Queries.{MeetsSome}
@@ -42,16 +42,16 @@ family_tested V6 V6 = refl
 le_is : (a b : ℕ) → is_le (nat_cmp a b) ≡ nat_le a b
 le_is a b = grind (arith, nat_tests)
 
-address_le : (a b : ℕ) → a < 2 ^ 128 → b < 2 ^ 128 → is_true (binary (Compare Le Binary) (Blob (address a)) (Blob (address b))) ≡ nat_le a b
-address_le a b low high = at_blobs false Le (address a) (address b) ∙ ap is_le (addresses_in_order a b low high) ∙ le_is a b
+address_le : (a b : ℕ) → a < 2 ^ 128 → b < 2 ^ 128 → is_true (binary (Compare Le Binary) (Blob (address_bytes a)) (Blob (address_bytes b))) ≡ nat_le a b
+address_le a b low high = at_blobs false Le (address_bytes a) (address_bytes b) ∙ ap is_le (addresses_in_order a b low high) ∙ le_is a b
 
-address_ge : (a b : ℕ) → a < 2 ^ 128 → b < 2 ^ 128 → is_true (binary (Compare Ge Binary) (Blob (address a)) (Blob (address b))) ≡ nat_le b a
-address_ge a b low high = at_blobs false Ge (address a) (address b) ∙ ap is_le (addresses_in_order b a high low) ∙ le_is b a
+address_ge : (a b : ℕ) → a < 2 ^ 128 → b < 2 ^ 128 → is_true (binary (Compare Ge Binary) (Blob (address_bytes a)) (Blob (address_bytes b))) ≡ nat_le b a
+address_ge a b low high = at_blobs false Ge (address_bytes a) (address_bytes b) ∙ ap is_le (addresses_in_order b a high low) ∙ le_is b a
 
 -- ---- runs that share an address with a prefix
 
 abbrev pub run_params : Prefix → Row
-run_params p = number_cell (family_number p.family) ∷ Blob (address p.first) ∷ Blob (address (last_of p)) ∷ []
+run_params p = number_cell (family_number p.family) ∷ Blob (address_bytes p.first) ∷ Blob (address_bytes (last_of p)) ∷ []
 
 -- a row without its rowid passes
 abbrev overlaps : Prefix → Row → Bool
@@ -107,7 +107,7 @@ module _ (p : Prefix) (old new : State) (has : IsTrue old.is_open → old.now.sc
       let first = first_shown 8 overlap_tests (lit (Int (pos 1)) ∷ []) old.now.trees (run_params p) rows (read.answer Null) in
       ap not (ap (λ l. length l == 0) first.2 ∙ one_or_none first.0 _ first.1) ∙ some_pass (picks (run_params p) overlap_tests) (overlaps p) (columns_alone p) (old.now.trees 8)
 
-  pub told_overlap : (empty : Bool) (count : ℕ) → count ≡ length rows → empty ≡ (count == 0) → (all : AllRows) → HoldsPart holding_part all.of_holder (contents (old.now.trees 8)) → IsTrue (not empty) ↔ MeetsSome all p
-  told_overlap empty count counted tells all holds =
-      let same : not empty ≡ list_any (overlaps p) (contents (old.now.trees 8)) = ap not (tells ∙ ap (λ n. n == 0) counted) ∙ not_empty in
+  pub overlap-iff : (empty : Bool) (count : ℕ) → count ≡ length rows → empty ≡ (count == 0) → (all : AllRows) → HoldsPart holding_part all.of_holder (contents (old.now.trees 8)) → IsTrue (not empty) ↔ MeetsSome all p
+  overlap-iff empty count counted is all holds =
+      let same : not empty ≡ list_any (overlaps p) (contents (old.now.trees 8)) = ap not (is ∙ ap (λ n. n == 0) counted) ∙ not_empty in
       (λ yes. meets_some p all _ holds (sym same ∙ yes), λ some. same ∙ some_meets p all _ holds some)

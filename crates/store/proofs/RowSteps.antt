@@ -119,15 +119,15 @@ module _ (h : List ℕ) (edit : Edit) where
   some_edited None some = absurd cc
   some_edited (Some r) some = refl
 
-  pub turned_registered : (told : Bool) (a b c : State) → AnswersWhetherRegistered h told a b → told ≡ true → EditsHolder h (edited edit) b c → MakesChange edited_at a c
-  turned_registered told a b c tells is done = record {
-    was_open = tells.was_open;
+  pub turned_registered : (is_there : Bool) (a b c : State) → AnswersWhetherRegistered h is_there a b → is_there ≡ true → EditsHolder h (edited edit) b c → MakesChange edited_at a c
+  turned_registered is_there a b c answers is done = record {
+    was_open = answers.was_open;
     ready = done.ready;
     rows = λ charter rows was.
-        let some : IsSome (rows.of_holder h) = sym (tells.answer charter rows was) ∙ is in
+        let some : IsSome (rows.of_holder h) = sym (answers.answer charter rows was) ∙ is in
         let after : AllRows = edited_at rows in
         same_rows charter (at_holder h (option_map (edited edit)) rows) after.of_holder c.now.trees (at_name (option_map (edited edit)) rows.of_holder (some_edited (rows.of_holder h) some))
-        (done.rows charter rows (subst (λ (d : Database). TablesHold charter rows d.trees) (sym tells.same) was) some);
+        (done.rows charter rows (subst (λ (d : Database). TablesHold charter rows d.trees) (sym answers.same) was) some);
   }
 
   none_there : (o : Option Rows) → is_some o ≡ false → o ≡ None
@@ -144,26 +144,26 @@ module _ (h : List ℕ) (edit : Edit) where
   from_none (Amend x) = refl
   from_none (Withdraw n) = refl
 
-  pub turned_new : (told : Bool) (a b c : State) → AnswersWhetherRegistered h told a b → told ≡ false → is_registration edit ≡ true → Registers h b c → MakesChange edited_at a c
-  turned_new told a b c tells is registers done = record {
-    was_open = tells.was_open;
+  pub turned_new : (is_there : Bool) (a b c : State) → AnswersWhetherRegistered h is_there a b → is_there ≡ false → is_registration edit ≡ true → Registers h b c → MakesChange edited_at a c
+  turned_new is_there a b c answers is registers done = record {
+    was_open = answers.was_open;
     ready = done.ready;
     rows = λ charter rows was.
-        let none = none_there (rows.of_holder h) (sym (tells.answer charter rows was) ∙ is) in
+        let none = none_there (rows.of_holder h) (sym (answers.answer charter rows was) ∙ is) in
         let after : AllRows = edited_at rows in
         same_rows charter (at_holder h (λ _. Some new_rows) rows) after.of_holder c.now.trees (at_name (λ _. Some new_rows) rows.of_holder (sym (from_none edit ∙ cond-true _ _ _ registers) ∙ ap (edited_if_any edit) (sym none)))
-        (done.rows charter rows (subst (λ (d : Database). TablesHold charter rows d.trees) (sym tells.same) was) none);
+        (done.rows charter rows (subst (λ (d : Database). TablesHold charter rows d.trees) (sym answers.same) was) none);
   }
 
-  pub turned_none : (told : Bool) (a b : State) → AnswersWhetherRegistered h told a b → told ≡ false → is_registration edit ≡ false → MakesChange edited_at a b
-  turned_none told a b tells is leaves = record {
-    was_open = tells.was_open;
-    ready = tells.ready;
+  pub turned_none : (is_there : Bool) (a b : State) → AnswersWhetherRegistered h is_there a b → is_there ≡ false → is_registration edit ≡ false → MakesChange edited_at a b
+  turned_none is_there a b answers is leaves = record {
+    was_open = answers.was_open;
+    ready = answers.ready;
     rows = λ charter rows was.
-        let none = none_there (rows.of_holder h) (sym (tells.answer charter rows was) ∙ is) in
+        let none = none_there (rows.of_holder h) (sym (answers.answer charter rows was) ∙ is) in
         let after : AllRows = edited_at rows in
         same_rows charter rows after.of_holder b.now.trees (λ k. kept (same_name h k) (rows.of_holder k) ∙ at_name (λ o. o) rows.of_holder (none ∙ sym (from_none edit ∙ cond-false _ _ _ leaves) ∙ ap (edited_if_any edit) (sym none)) k)
-        (subst (λ (d : Database). TablesHold charter rows d.trees) (sym tells.same) was);
+        (subst (λ (d : Database). TablesHold charter rows d.trees) (sym answers.same) was);
   }
     where
       kept : (b : Bool) (o : Option Rows) → o ≡ cond b o o

@@ -22,8 +22,8 @@ view_code {S} store =
     code_by (Held S × CharterSets) (coded× (held_code store) charter.the_row.coded)
     (λ v. (v.connection, v.charter)) (λ p. record { connection = p.0; charter = p.1 }) (λ _. refl)
 
-abbrev pub state_of : {S : Type 0} → Ghosts S → StoreView S → State
-state_of g store = state g store.connection
+abbrev pub connection_state : {S : Type 0} → Ghosts S → StoreView S → State
+connection_state g store = state g store.connection
 
 -- all rows after a change, from those before it
 abbrev pub RowChange : Type 0
@@ -33,12 +33,12 @@ RowChange = AllRows → AllRows
 -- failure of the disk shut the connection, which then answers nothing more.
 abbrev pub Holds : {S : Type 0} → Ghosts S → StoreView S → AllRows → Type 0
 Holds g store rows =
-    HasCleanDisk (state_of g store) → IsTrue (state_of g store).is_open
-    → TablesHold store.charter rows (state_of g store).now.trees
+    HasCleanDisk (connection_state g store) → IsTrue (connection_state g store).is_open
+    → TablesHold store.charter rows (connection_state g store).now.trees
 
 -- it is so, unless the disk returned what was not written
 abbrev pub IfClean : {S : Type 0} → Ghosts S → StoreView S → Type 0 → Type 0
-IfClean g store so = HasCleanDisk (state_of g store) → so
+IfClean g store so = HasCleanDisk (connection_state g store) → so
 
 -- the tables hold the rows after the change, if they held those before it
 abbrev pub HoldsAfter : {S : Type 0} → Ghosts S → StoreView S → StoreView S → RowChange → Type 0
@@ -47,23 +47,23 @@ HoldsAfter g old new to = (rows : AllRows) → Holds g old rows → Holds g new 
 -- A crash leaves what it left before, or rows turned so.
 abbrev pub MayLeave : {S : Type 0} → Ghosts S → StoreView S → StoreView S → RowChange → Type 0
 MayLeave g old new to =
-    (trees : Trees) → (state_of g new).may_leave trees
-    → (state_of g old).may_leave trees
+    (trees : Trees) → (connection_state g new).may_leave trees
+    → (connection_state g old).may_leave trees
     ⊎ ((rows : AllRows) → Holds g old rows → TablesHold old.charter (to rows) trees)
 
 -- A crash leaves rows turned so, and nothing else.
 abbrev pub LeavesOnly : {S : Type 0} → Ghosts S → StoreView S → StoreView S → RowChange → Type 0
 LeavesOnly g old new to =
     (rows : AllRows) → Holds g old rows → (trees : Trees)
-    → (state_of g new).may_leave trees → TablesHold old.charter (to rows) trees
+    → (connection_state g new).may_leave trees → TablesHold old.charter (to rows) trees
 
 -- A read: the charter and the rows stay, and a crash leaves nothing else than before. A disk that returns what
 -- was written did so before.
 pub record IsRead {S : Type 0} (g : Ghosts S) (old new : StoreView S) : Type 0 where
-  pub clean : HasCleanDisk (state_of g new) → HasCleanDisk (state_of g old)
+  pub clean : HasCleanDisk (connection_state g new) → HasCleanDisk (connection_state g old)
   pub charter : new.charter ≡ old.charter
-  pub rows : HasCleanDisk (state_of g new) → (rows : AllRows) → Holds g old rows → Holds g new rows
-  pub crash : HasCleanDisk (state_of g new) → (trees : Trees) → (state_of g new).may_leave trees → (state_of g old).may_leave trees
+  pub rows : HasCleanDisk (connection_state g new) → (rows : AllRows) → Holds g old rows → Holds g new rows
+  pub crash : HasCleanDisk (connection_state g new) → (trees : Trees) → (connection_state g new).may_leave trees → (connection_state g old).may_leave trees
 
 -- ---- an opened store
 
@@ -72,11 +72,11 @@ pub record IsRead {S : Type 0} (g : Ghosts S) (old new : StoreView S) : Type 0 w
 pub record IsOpened {S : Type 0} (g : Ghosts S) (found : State) (store : StoreView S) : Type 0 where
   pub idle : found.in_transaction ≡ false
   pub tables : found.now.schema.tables ≡ desk_tables
-  pub is_open : IsTrue (state_of g store).is_open
+  pub is_open : IsTrue (connection_state g store).is_open
   pub some : (rows : AllRows) × Holds g store rows × ExceptionsFit rows.exceptions
   pub same :
       (charter : CharterSets) (rows : AllRows) → IsCharter charter
       → TablesHold charter rows found.now.trees → (store.charter ≡ charter) × Holds g store rows
   pub left :
       (rows : AllRows) → Holds g store rows → (trees : Trees)
-      → (state_of g store).may_leave trees → TablesHold store.charter rows trees
+      → (connection_state g store).may_leave trees → TablesHold store.charter rows trees

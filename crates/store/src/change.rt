@@ -2,7 +2,7 @@
 ghost use Rattle.std.specs.Prelude.{◌≡◌, ◌≢◌, Err};
 ghost use Rattle.registry.specs.Rows.{edited, changed_by_one};
 ghost use Rattle.registry.specs.RowsOfAll.{changed_rows};
-ghost use Rattle.store.specs.steps.RowEdits.{held, with_new_auths, is_registration};
+ghost use Rattle.store.specs.steps.RowEdits.{with_new_auths, with_replaced_holdings, is_registration};
 ghost use Rattle.database.specs.Statements.{IsReady, WhenClean, StaysInside, IfDone};
 ghost use Rattle.store.specs.steps.Statements.{IfEdited, MakesChange, each_holder};
 
@@ -19,7 +19,11 @@ use sqlite::{Alter, Error, Transaction};
 use std::slice;
 
 /// Puts a grant, and its number as the counter.
-fn grant<S: Alter>(tx: &mut Transaction<'_, S>, holder: &Name, grant: &Granted) -> Result<(), Error>
+fn put_new_grant<S: Alter>(
+    tx: &mut Transaction<'_, S>,
+    holder: &Name,
+    grant: &Granted,
+) -> Result<(), Error>
     requires { WhenClean S.Store IsReady tx.old }
     ensures done { IfEdited S.Store result holder.now
         (edited (Edit.Grant grant.now)) tx.old tx.new }
@@ -30,7 +34,7 @@ fn grant<S: Alter>(tx: &mut Transaction<'_, S>, holder: &Name, grant: &Granted) 
 }
 
 /// Puts authorizations, and sets how many were made at the holder.
-fn create<S: Alter>(
+fn put_new_auths<S: Alter>(
     tx: &mut Transaction<'_, S>,
     holder: &Name,
     auths: &[Auth],
@@ -47,7 +51,7 @@ fn create<S: Alter>(
 
 /// Takes away some of the holder's runs, puts others, and takes away the authorizations of these
 /// numbers. A run that is put may begin where one that is taken away does, so they go first.
-fn hold<S: Alter>(
+fn replace_holdings<S: Alter>(
     tx: &mut Transaction<'_, S>,
     holder: &Name,
     removed: &[Span],
@@ -56,7 +60,7 @@ fn hold<S: Alter>(
 ) -> Result<(), Error>
     requires { WhenClean S.Store IsReady tx.old }
     ensures done { IfEdited S.Store result holder.now
-        (held removed.now added.now ended.now) tx.old tx.new }
+        (with_replaced_holdings removed.now added.now ended.now) tx.old tx.new }
     ensures inside { StaysInside S.Store tx.old tx.new }
 {
     take_holdings(tx, holder, removed)?;
@@ -81,11 +85,11 @@ fn edit_rows<S: Alter>(
             removed,
             added,
             ended,
-        } => hold(tx, holder, removed, added, ended)?,
-        Edit::Grant(granted) => grant(tx, holder, granted)?,
+        } => replace_holdings(tx, holder, removed, added, ended)?,
+        Edit::Grant(granted) => put_new_grant(tx, holder, granted)?,
         Edit::Revoke(number) => take_grant(tx, holder, *number)?,
-        Edit::Create(auth) => create(tx, holder, slice::from_ref(auth), auth.number)?,
-        Edit::Import { auths, created } => create(tx, holder, auths, *created)?,
+        Edit::Create(auth) => put_new_auths(tx, holder, slice::from_ref(auth), auth.number)?,
+        Edit::Import { auths, created } => put_new_auths(tx, holder, auths, *created)?,
         Edit::Amend(auth) => amend_auth(tx, holder, auth)?,
         Edit::Withdraw(number) => take_auth(tx, holder, *number)?,
     }

@@ -12,7 +12,7 @@ ghost use Rattle.database.specs.Queries.{IsAsked, IsClean, IsReadyToAsk};
 ghost use Rattle.database.specs.Statements.{IsReady, WhenClean, IfDone, StaysInside};
 ghost use Rattle.database.specs.steps.Making.{PutsRows};
 ghost use Rattle.store.specs.Loads.{AreFilesOf};
-ghost use Rattle.store.specs.steps.Queries.{IsOfAll, SelectsEntries, WasRead};
+ghost use Rattle.store.specs.steps.Queries.{IsOfAll, SelectsEntries, IsOpenWith};
 ghost use Rattle.store.specs.steps.Statements.{MakesChange, TakesRows, entry_rows};
 
 use crate::StoreFault;
@@ -28,7 +28,7 @@ use tables::{
 };
 
 /// An entry of a SLURM file, which a row of the table of exceptions shows.
-pub(crate) trait Entry: FromRow {
+pub(crate) trait ExceptionEntry: FromRow {
     // Such entries of a file.
     ghost items: { Exceptions → List Self };
 
@@ -42,7 +42,7 @@ pub(crate) trait Entry: FromRow {
         ensures { SelectsEntries Self.cells Self.width items result.now };
 }
 
-impl Entry for Filter {
+impl ExceptionEntry for Filter {
     ghost use Rattle.tables.specs.declared.exception.Exception.TheVariants.{Filter as FilterOf};
 
     ghost items = { λ exceptions. exceptions.filters };
@@ -58,7 +58,7 @@ impl Entry for Filter {
     }
 }
 
-impl Entry for Vrp {
+impl ExceptionEntry for Vrp {
     ghost use Rattle.tables.specs.declared.exception.Exception.TheVariants.{Assertion};
 
     ghost items = { λ exceptions. exceptions.assertions };
@@ -95,7 +95,10 @@ fn put_exception<S: Alter>(tx: &mut Transaction<'_, S>, row: &ExceptionRow) -> R
 }
 
 /// Puts the entries of one kind, at the positions from 1 up.
-fn put_entries<T: Entry, S: Alter>(tx: &mut Transaction<'_, S>, entries: &[T]) -> Result<(), Error>
+fn put_entries<T: ExceptionEntry, S: Alter>(
+    tx: &mut Transaction<'_, S>,
+    entries: &[T],
+) -> Result<(), Error>
     requires ready { WhenClean S.Store IsReady tx.old }
     requires number { length entries.now ≤ MOST_ENTRIES }
     ensures done { IfDone S.Store result
@@ -130,7 +133,7 @@ pub(crate) fn replace_exceptions<S: Alter>(
 }
 
 /// The entries of one kind, in the file's order.
-fn load_entries<T: Entry, S: Alter>(
+fn load_entries<T: ExceptionEntry, S: Alter>(
     conn: &mut Connection<S>,
     alloc: Global,
 ) -> Result<Vec<T>, StoreFault>
@@ -139,7 +142,7 @@ fn load_entries<T: Entry, S: Alter>(
     ensures found { IsClean S.Store conn.new → IfOk result (λ entries.
         IsOfAll (λ rows. entries.items ≡ T.items rows.exceptions) (state S.Store conn.old)) }
     ensures schema { IsClean S.Store conn.new → result ≡ Err StoreFault.Schema
-        → WasRead (λ rows. ¬ All T.fits (T.items rows.exceptions)) (state S.Store conn.old) }
+        → IsOpenWith (λ rows. ¬ All T.fits (T.items rows.exceptions)) (state S.Store conn.old) }
 {
     let rows = ask(conn, T::select(), &[])?;
     read_all(alloc, &rows)
@@ -175,7 +178,7 @@ pub(crate) fn load_files<S: Alter>(
     ensures found { IsClean S.Store conn.new → IfOk result (λ files.
         IsOfAll (λ rows. AreFilesOf rows.exceptions files.items) (state S.Store conn.old)) }
     ensures schema { IsClean S.Store conn.new → result ≡ Err StoreFault.Schema
-        → WasRead (λ rows. ¬ ExceptionsFit rows.exceptions) (state S.Store conn.old) }
+        → IsOpenWith (λ rows. ¬ ExceptionsFit rows.exceptions) (state S.Store conn.old) }
 {
     let filters: Vec<Filter> = load_entries(conn, alloc)?;
     let assertions: Vec<Vrp> = load_entries(conn, alloc)?;

@@ -8,7 +8,7 @@ ghost use Rattle.registry.specs.Values.{FitIfAny};
 ghost use Rattle.store.specs.Loads.{HaveSame, AreLoaded, AllGiveOn};
 ghost use Rattle.tables.specs.TablesHold.{items_if_any};
 ghost use Rattle.database.specs.Queries.{IsAsked, IsClean, IsReadyToAsk};
-ghost use Rattle.store.specs.steps.Queries.{IsOf, IsOfAll, WasRead};
+ghost use Rattle.store.specs.steps.Queries.{IsOf, IsOfAll, IsOpenWith};
 
 use crate::StoreFault;
 use crate::across::in_force_rows;
@@ -21,7 +21,7 @@ use std::alloc::{AllocError, Global};
 use tables::{Counters, name_values};
 
 /// The addresses of the runs, as maximal runs.
-fn joined(alloc: Global, spans: &[Span]) -> Result<Holdings, AllocError>
+fn holdings_of(alloc: Global, spans: &[Span]) -> Result<Holdings, AllocError>
     ensures same { IfOk result (λ holdings. HaveSame spans.now holdings) }
     ensures maximal { IfOk result AreMaximal }
 {
@@ -48,7 +48,7 @@ fn load_values<T: OfHolder, S: Alter>(
     ensures rising { IsClean S.Store conn.new → IfOk result (λ values.
         IsSorted T.order (map T.cells values.items)) }
     ensures schema { IsClean S.Store conn.new → result ≡ Err StoreFault.Schema
-        → WasRead (λ all. ¬ All T.fits (items_if_any T.items (all.of_holder holder.now)))
+        → IsOpenWith (λ all. ¬ All T.fits (items_if_any T.items (all.of_holder holder.now)))
         (state S.Store conn.old) }
 {
     let rows = ask(conn, T::select(), &name_values(holder))?;
@@ -66,7 +66,7 @@ pub(crate) fn load_rows<S: Alter>(
     ensures found { IsClean S.Store conn.new → IfOk result (λ loaded.
         IsOf (λ rows. AreLoaded rows loaded) holder.now (state S.Store conn.old)) }
     ensures schema { IsClean S.Store conn.new → result ≡ Err StoreFault.Schema
-        → WasRead (λ all. ¬ FitIfAny (all.of_holder holder.now)) (state S.Store conn.old) }
+        → IsOpenWith (λ all. ¬ FitIfAny (all.of_holder holder.now)) (state S.Store conn.old) }
 {
     let counters: Vec<Counters> = load_values(conn, alloc, holder)?;
     let Some(Counters { granted, created }) = counters.first().copied() else {
@@ -76,7 +76,7 @@ pub(crate) fn load_rows<S: Alter>(
     let grants = load_values(conn, alloc, holder)?;
     let auths = load_values(conn, alloc, holder)?;
     Ok(Some(HolderRows {
-        holdings: joined(alloc, &spans)?,
+        holdings: holdings_of(alloc, &spans)?,
         grants,
         auths,
         granted,
@@ -96,7 +96,7 @@ pub(crate) fn load_vrps<S: Alter>(
         IsOfAll (λ rows. (v : Vrp) → Contains vrps.items v ↔ IsGivenOn rows day v)
         (state S.Store conn.old)) }
     ensures schema { IsClean S.Store conn.new → result ≡ Err StoreFault.Schema
-        → WasRead (λ rows. ¬ AllGiveOn rows day) (state S.Store conn.old) }
+        → IsOpenWith (λ rows. ¬ AllGiveOn rows day) (state S.Store conn.old) }
 {
     let rows = in_force_rows(conn, day)?;
     read_all(alloc, &rows)

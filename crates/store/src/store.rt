@@ -68,7 +68,7 @@ impl<S: Alter> Model for Store<S> {
 }
 
 impl<S: Alter + Drop> Store<S> {
-    ghost use Rattle.store.specs.StoreRows.{state_of, Holds, IfClean};
+    ghost use Rattle.store.specs.StoreRows.{connection_state, Holds, IfClean};
 
     /// A store over a connection to a database that has no table yet, with this charter, where no
     /// holder is registered and no exception is in force. A connection in a transaction is refused,
@@ -79,11 +79,11 @@ impl<S: Alter + Drop> Store<S> {
         ensures unused { OnOk result (IsUnused (state S.Store conn)) }
         ensures unlimited { IfOk result (λ store. store.connection.step_limit ≡ None) }
         ensures made { IfOk result (λ store. IfClean S.Store store
-            (IsNew charter.now (state_of S.Store store))) }
+            (IsNew charter.now (connection_state S.Store store))) }
         ensures clean { IfOk result (λ store. IfClean S.Store store
             (HasCleanDisk (state S.Store conn))) }
         ensures left { IfOk result (λ store. IfClean S.Store store
-            (LeavesNew charter.now (state_of S.Store store))) }
+            (LeavesNew charter.now (connection_state S.Store store))) }
         ensures no_schema { result ≢ Err StoreFault.Schema }
     {
         let kept = charter.clone()?;
@@ -119,7 +119,7 @@ impl<S: Alter> Store<S> {
     ghost use Rattle.registry.specs.RowsOfAll.{IsTaken, IsGivenOn};
     ghost use Rattle.registry.specs.Values.{FitIfAny, ExceptionsFit};
     ghost use Rattle.store.specs.Loads.{OfHeldRows, AreLoaded, AllGiveOn, AreFilesOf};
-    ghost use Rattle.store.specs.StoreRows.{state_of, Holds, IsRead};
+    ghost use Rattle.store.specs.StoreRows.{connection_state, Holds, IsRead};
     ghost use Rattle.database.specs.Databases.{IsDeskWhileOpen};
     ghost use Rattle.store.specs.StoreRows.{IfClean, HoldsAfter, MayLeave, LeavesOnly};
 
@@ -211,9 +211,10 @@ impl<S: Alter> Store<S> {
             (MayLeave S.Store self.old self.new (changed_rows change.now)) }
         ensures left { IfClean S.Store self.new
             (OnOk result (LeavesOnly S.Store self.old self.new (changed_rows change.now))) }
-        ensures clean { IfClean S.Store self.new (HasCleanDisk (state_of S.Store self.old)) }
+        ensures clean { IfClean S.Store self.new
+            (HasCleanDisk (connection_state S.Store self.old)) }
         ensures is_open { IfClean S.Store self.new
-            (OnOk result (IsTrue (state_of S.Store self.new).is_open)) }
+            (OnOk result (IsTrue (connection_state S.Store self.new).is_open)) }
         ensures no_schema { result ≢ Err StoreFault.Schema }
     {
         commit_change(&mut self.conn, change)

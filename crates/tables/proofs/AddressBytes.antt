@@ -5,7 +5,7 @@ use Rattle.std.proofs.Math.Arith.{mod-mul}
 use Rattle.std.proofs.Math.Nat.{div-div-eq-div-mul, pow-succ', pow-le-pow_right, mod-eq_of_lt, zero-lt-suc}
 use Rattle.std.proofs.lemmas.Nat.{div-mul-add, mod-mul-add}
 use Rattle.std.proofs.lemmas.List.{take_all}
-use Rattle.tables.specs.Cells.{address}
+use Rattle.tables.specs.Cells.{address_bytes}
 
 pub powers_positive : (k : ℕ) → 0 < 256 ^ k
 powers_positive zero = omega arith
@@ -35,14 +35,14 @@ same_bytes (suc k) m n same =
     let parts : (x : ℕ) → x % 256 ^ suc k ≡ (x / 256 ^ k % 256) * 256 ^ k + x % 256 ^ k = λ x. ap (λ p. x % p) (pow-succ' 256 k) ∙ mod-mul x (zero-lt-suc 255) (powers_positive k) in
     parts m ∙ (λ i. high i * 256 ^ k + low i) ∙ sym (parts n)
 
-pub address_once : (m n : ℕ) → m < 2 ^ 128 → n < 2 ^ 128 → address m ≡ address n → m ≡ n
-unfolding address
+pub address_once : (m n : ℕ) → m < 2 ^ 128 → n < 2 ^ 128 → address_bytes m ≡ address_bytes n → m ≡ n
+unfolding address_bytes
 address_once m n below_m below_n same =
     sym (mod-eq_of_lt {m = 2 ^ 128} below_m) ∙ same_bytes 16 m n same ∙ mod-eq_of_lt {m = 2 ^ 128} below_n
 
-pub length-address : (n : ℕ) → length (address n) ≡ 16
-unfolding address
-length-address n = refl
+pub length-address_bytes : (n : ℕ) → length (address_bytes n) ≡ 16
+unfolding address_bytes
+length-address_bytes n = refl
 
 -- what a loop over the bytes keeps, from none to one more
 pub below_more : (i n b : ℕ) → n < 256 ^ i → b < 256 → n * 256 + b < 256 ^ (i + 1)
@@ -59,7 +59,7 @@ pub bytes_next : (i n b : ℕ) → b < 256 → bytes_high_first (i + 1) (n * 256
 bytes_next i n b small = let e : i + 1 ≡ suc i = omega arith in ap (λ k. bytes_high_first k (n * 256 + b)) e ∙ bytes_more i n b small
 
 -- the number that a loop has read at the end of 16 bytes
-pub address_read : (bytes : List ℕ) (i n : ℕ) → length bytes ≡ 16 → i ≡ 16 → bytes_high_first i n ≡ take i bytes → bytes ≡ address n
-unfolding address
+pub address_read : (bytes : List ℕ) (i n : ℕ) → length bytes ≡ 16 → i ≡ 16 → bytes_high_first i n ≡ take i bytes → bytes ≡ address_bytes n
+unfolding address_bytes
 address_read bytes i n whole ends read =
     sym (take_all 16 bytes (omega arith)) ∙ sym (subst (λ k. bytes_high_first k n ≡ take k bytes) ends read)

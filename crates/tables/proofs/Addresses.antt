@@ -6,7 +6,7 @@ use Rattle.std.specs.Int.{byte_at, bytes_high_first}
 use Rattle.std.specs.Cmp.{ranks, nat_cmp_is}
 use Rattle.std.specs.Cmp.Lexicographic.{slice_cmp}
 use Rattle.std.specs.Ordering.{ordering_then, MatchOrdering}
-use Rattle.tables.specs.Cells.{address}
+use Rattle.tables.specs.Cells.{address_bytes}
 use Rattle.tables.proofs.AddressBytes.{powers_positive, byte_is}
 
 below_next : (p d c x y : ℕ) → x < c → p * c + x < (p + 1 + d) * c + y
@@ -40,6 +40,6 @@ bytes_in_order (suc k) a b =
     let digits : (n : ℕ) → n % 256 ^ suc k ≡ byte_at k n * c + n % c = λ n. ap (λ m. n % m) (pow-succ' 256 k) ∙ mod-mul n (omega arith) some ∙ ap (λ d. d * c + n % c) (sym (byte_is k n)) in
     ap (ordering_then (nat_cmp (byte_at k a) (byte_at k b))) (bytes_in_order k a b) ∙ two_digits c (byte_at k a) (byte_at k b) (a % c) (b % c) (mod-lt a some) (mod-lt b some) ∙ sym (ap₂ nat_cmp (digits a) (digits b))
 
-pub addresses_in_order : (a b : ℕ) → a < 2 ^ 128 → b < 2 ^ 128 → slice_cmp nat_cmp (address a) (address b) ≡ nat_cmp a b
-unfolding address
+pub addresses_in_order : (a b : ℕ) → a < 2 ^ 128 → b < 2 ^ 128 → slice_cmp nat_cmp (address_bytes a) (address_bytes b) ≡ nat_cmp a b
+unfolding address_bytes
 addresses_in_order a b low high = bytes_in_order 16 a b ∙ ap₂ nat_cmp (mod-eq_of_lt low) (mod-eq_of_lt high)

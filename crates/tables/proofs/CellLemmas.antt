@@ -21,7 +21,7 @@ use Rattle.tables.specs.declared.exception.Exception.{Exception}
 use Rattle.tables.specs.declared.exception.Exception.TheVariants.{Filter as FilterOf, Assertion}
 use Rattle.tables.specs.declared.exception.ExceptionRow.{ExceptionRow}
 use Rattle.tables.specs.Tables.{meta, pool, holder, holding, granted, auth, slurm}
-use Rattle.tables.specs.Cells.{number_cell, family_number, role_number, address, schema_row, prefix_cells, scope_cells, holder_row, holding_row, granted_row, auth_row, exception_row}
+use Rattle.tables.specs.Cells.{number_cell, family_number, role_number, address_bytes, schema_row, prefix_cells, scope_cells, holder_row, holding_row, granted_row, auth_row, exception_row}
 use Rattle.tables.proofs.Inserting.{either, cast_null}
 
 pub cast_number : (n : ℕ) → cast Integer (number_cell n) ≡ number_cell n
@@ -32,42 +32,42 @@ pub cast_schema : cast_all meta.columns schema_row ≡ schema_row
 cast_schema = λ i. Text (codes "schema") ∷ cast_number 1 i ∷ []
 
 pub cast_prefix : (p : Prefix) → cast_all pool.columns (prefix_cells p) ≡ prefix_cells p
-cast_prefix p = λ i. cast_number (family_number p.family) i ∷ Blob (address p.first) ∷ cast_number p.length i ∷ []
+cast_prefix p = λ i. cast_number (family_number p.family) i ∷ Blob (address_bytes p.first) ∷ cast_number p.length i ∷ []
 
 pub cast_holder : (h : List ℕ) (granted created : ℕ) → cast_all holder.columns (holder_row h granted created) ≡ holder_row h granted created
 cast_holder h granted created = λ i. Text h ∷ cast_number granted i ∷ cast_number created i ∷ []
 
 pub cast_holding : (h : List ℕ) (s : Span) → cast_all holding.columns (holding_row h s) ≡ holding_row h s
-cast_holding h s = λ i. cast_number (family_number s.family) i ∷ Blob (address s.lo) ∷ Blob (address s.hi) ∷ Text h ∷ []
+cast_holding h s = λ i. cast_number (family_number s.family) i ∷ Blob (address_bytes s.lo) ∷ Blob (address_bytes s.hi) ∷ Text h ∷ []
 
 pub cast_granted : (h : List ℕ) (g : Granted) → cast_all granted.columns (granted_row h g) ≡ granted_row h g
 cast_granted h g = go g.scope
   where
     go : (scope : Scope) → cast_all granted.columns (Text h ∷ number_cell g.number ∷ Text g.caller ∷ number_cell (role_number g.role) ∷ scope_cells scope ++ number_cell g.until ∷ []) ≡ Text h ∷ number_cell g.number ∷ Text g.caller ∷ number_cell (role_number g.role) ∷ scope_cells scope ++ number_cell g.until ∷ []
     go All = λ i. Text h ∷ cast_number g.number i ∷ Text g.caller ∷ cast_number (role_number g.role) i ∷ cast_null i ∷ Null ∷ cast_null i ∷ cast_number g.until i ∷ []
-    go (Only p) = λ i. Text h ∷ cast_number g.number i ∷ Text g.caller ∷ cast_number (role_number g.role) i ∷ cast_number (family_number p.family) i ∷ Blob (address p.first) ∷ cast_number p.length i ∷ cast_number g.until i ∷ []
+    go (Only p) = λ i. Text h ∷ cast_number g.number i ∷ Text g.caller ∷ cast_number (role_number g.role) i ∷ cast_number (family_number p.family) i ∷ Blob (address_bytes p.first) ∷ cast_number p.length i ∷ cast_number g.until i ∷ []
 
 pub cast_auth : (h : List ℕ) (x : Auth) → cast_all auth.columns (auth_row h x) ≡ auth_row h x
-cast_auth h x = λ i. Text h ∷ cast_number x.number i ∷ cast_number x.asn.0 i ∷ cast_number (family_number x.prefix.family) i ∷ Blob (address x.prefix.first) ∷ cast_number x.prefix.length i
+cast_auth h x = λ i. Text h ∷ cast_number x.number i ∷ cast_number x.asn.0 i ∷ cast_number (family_number x.prefix.family) i ∷ Blob (address_bytes x.prefix.first) ∷ cast_number x.prefix.length i
     ∷ cast_number x.max i ∷ cast_number x.from i ∷ cast_number x.until i ∷ []
 
 pub cast_exception : (r : ExceptionRow) → cast_all slurm.columns (exception_row r) ≡ exception_row r
 cast_exception r = go r.exception
   where
     go : (e : Exception) → cast_all slurm.columns (exception_row (record r { exception = e })) ≡ exception_row (record r { exception = e })
-    go (FilterOf (Under p)) = λ i. Text (codes "main") ∷ cast_number 1 i ∷ cast_number r.position i ∷ cast_number (family_number p.family) i ∷ Blob (address p.first) ∷ cast_number p.length i ∷ cast_null i ∷ cast_null i ∷ []
+    go (FilterOf (Under p)) = λ i. Text (codes "main") ∷ cast_number 1 i ∷ cast_number r.position i ∷ cast_number (family_number p.family) i ∷ Blob (address_bytes p.first) ∷ cast_number p.length i ∷ cast_null i ∷ cast_null i ∷ []
     go (FilterOf (By asn)) = λ i. Text (codes "main") ∷ cast_number 1 i ∷ cast_number r.position i ∷ cast_null i ∷ Null ∷ cast_null i ∷ cast_null i ∷ cast_number asn.0 i ∷ []
-    go (FilterOf (Both p asn)) = λ i. Text (codes "main") ∷ cast_number 1 i ∷ cast_number r.position i ∷ cast_number (family_number p.family) i ∷ Blob (address p.first) ∷ cast_number p.length i ∷ cast_null i ∷ cast_number asn.0 i ∷ []
-    go (Assertion v) = λ i. Text (codes "main") ∷ cast_number 2 i ∷ cast_number r.position i ∷ cast_number (family_number v.prefix.family) i ∷ Blob (address v.prefix.first) ∷ cast_number v.prefix.length i ∷ cast_number v.max i ∷ cast_number v.asn.0 i ∷ []
+    go (FilterOf (Both p asn)) = λ i. Text (codes "main") ∷ cast_number 1 i ∷ cast_number r.position i ∷ cast_number (family_number p.family) i ∷ Blob (address_bytes p.first) ∷ cast_number p.length i ∷ cast_null i ∷ cast_number asn.0 i ∷ []
+    go (Assertion v) = λ i. Text (codes "main") ∷ cast_number 2 i ∷ cast_number r.position i ∷ cast_number (family_number v.prefix.family) i ∷ Blob (address_bytes v.prefix.first) ∷ cast_number v.prefix.length i ∷ cast_number v.max i ∷ cast_number v.asn.0 i ∷ []
 
 -- a value is this number
-abbrev pub is_number : ℕ → Value → Bool
-is_number n v = is_eq (value_cmp v (number_cell n))
+abbrev pub is_number_cell : ℕ → Value → Bool
+is_number_cell n v = is_eq (value_cmp v (number_cell n))
 
 same_number : (m n : ℕ) → is_eq (int_cmp (pos m) (pos n)) ≡ (m == n)
 same_number m n = grind (arith, ints)
 
-pub number_of_number : (m n : ℕ) → is_number n (number_cell m) ≡ (m == n)
+pub number_of_number : (m n : ℕ) → is_number_cell n (number_cell m) ≡ (m == n)
 number_of_number m n = ap is_eq (value_cmp-Int (pos m) (pos n)) ∙ same_number m n
 
 -- one more at the end is one more at the front, in another order

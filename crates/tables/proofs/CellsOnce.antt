@@ -19,7 +19,7 @@ use Rattle.registry.specs.declared.grant.Scope.{Scope}
 use Rattle.registry.specs.declared.grant.Scope.TheVariants.{All, Only}
 use Rattle.registry.specs.Rows.{Rows}
 use Rattle.tables.specs.declared.holder.Counters.{Counters}
-use Rattle.tables.specs.Cells.{number_cell, family_number, role_number, address, prefix_cells, scope_cells, span_cells, counter_cells, grant_cells, auth_cells}
+use Rattle.tables.specs.Cells.{number_cell, family_number, role_number, address_bytes, prefix_cells, scope_cells, span_cells, counter_cells, grant_cells, auth_cells}
 use Rattle.tables.proofs.AddressBytes.{address_once}
 
 one_number : (m n : ℕ) → number_cell m ≡ number_cell n → m ≡ n
@@ -42,7 +42,7 @@ one_role Auditor Manager is = absurd cc
 one_role Auditor Clerk is = absurd cc
 one_role Auditor Auditor is = refl
 
-one_address : (f g : Family) (m n : ℕ) → m < 2 ^ width f → n < 2 ^ width g → Blob (address m) ≡ Blob (address n) → m ≡ n
+one_address : (f g : Family) (m n : ℕ) → m < 2 ^ width f → n < 2 ^ width g → Blob (address_bytes m) ≡ Blob (address_bytes n) → m ≡ n
 one_address f g m n low below is = address_once m n (below_widest f m low) (below_widest g n below) cc
 
 pub one_prefix : (p q : Prefix) → prefix_cells p ≡ prefix_cells q → p ≡ q

@@ -16,10 +16,10 @@ use Rattle.addr.specs.declared.span.Span.{Span}
 use Rattle.addr.specs.Family.{width}
 use Rattle.addr.specs.Address.{IsPrefix}
 use Rattle.addr.proofs.AddressLemmas.{below_widest, first_below}
-use Rattle.tables.specs.Cells.{address, number_cell, family_number, prefix_cells, span_cells}
+use Rattle.tables.specs.Cells.{address_bytes, number_cell, family_number, prefix_cells, span_cells}
 use Rattle.tables.specs.Tables.{columns}
 use Rattle.tables.specs.Decode.{Decodes, first_columns}
-use Rattle.tables.proofs.AddressBytes.{address_once, length-address}
+use Rattle.tables.proofs.AddressBytes.{address_once, length-address_bytes}
 use Rattle.tables.proofs.CellsOnce.{one_family}
 
 pub all_columns : (count : ℕ) (row : Row) → length row ≡ count → row ≡ first_columns count row
@@ -37,19 +37,19 @@ are_whole places kept rows same =
     first_of_all count rows (all-permutation (λ c. length c ≡ count) _ rows same (all-map _ (columns places) kept (all_of _ (λ c. length-map places (column c)) kept)))
 
 pub address_reads :
-    (bytes : List ℕ) (r : Option ℕ) → IfSome r (λ n. bytes ≡ address n) → (r ≡ None → length bytes ≢ 16)
-    → Decodes (λ n. Blob (address n)) (λ _. ⊤) (Blob bytes) r
-address_reads bytes None some none = λ n _ same. none refl (let e : address n ≡ bytes = cc in sym (ap length e) ∙ length-address n)
+    (bytes : List ℕ) (r : Option ℕ) → IfSome r (λ n. bytes ≡ address_bytes n) → (r ≡ None → length bytes ≢ 16)
+    → Decodes (λ n. Blob (address_bytes n)) (λ _. ⊤) (Blob bytes) r
+address_reads bytes None some none = λ n _ same. none refl (let e : address_bytes n ≡ bytes = cc in sym (ap length e) ∙ length-address_bytes n)
 address_reads bytes (Some n) some none = (tt, ap Blob some)
 
 prefix_of_parts :
     (p : Prefix) (family : Family) (first length : ℕ) → first < 2 ^ 128
-    → prefix_cells p ≡ number_cell (family_number family) ∷ Blob (address first) ∷ number_cell length ∷ []
+    → prefix_cells p ≡ number_cell (family_number family) ∷ Blob (address_bytes first) ∷ number_cell length ∷ []
     → IsPrefix family first length
 prefix_of_parts p family first length fits same =
     let f : p.family ≡ family = one_family p.family family (cc) in
     let inside : p.first < 2 ^ width p.family = first_below p in
-    let bytes : address p.first ≡ address first = cc in
+    let bytes : address_bytes p.first ≡ address_bytes first = cc in
     let a : p.first ≡ first = address_once p.first first (below_widest p.family p.first inside) fits bytes in
     let l : p.length ≡ length = cc in
     subst (λ g. IsPrefix g first length) f
@@ -59,21 +59,21 @@ prefix_of_parts p family first length fits same =
 pub prefix_reads :
     (r : Option Prefix) (family : Family) (first length : ℕ) → first < 2 ^ 128 → (IsSome r ↔ IsPrefix family first length)
     → IfSome r (λ p. (p.family ≡ family) × (p.first ≡ first) × (p.length ≡ length))
-    → Decodes prefix_cells (λ _. ⊤) (number_cell (family_number family) ∷ Blob (address first) ∷ number_cell length ∷ []) r
+    → Decodes prefix_cells (λ _. ⊤) (number_cell (family_number family) ∷ Blob (address_bytes first) ∷ number_cell length ∷ []) r
 prefix_reads None family first length fits some parts =
     λ p _ same. let is : IsSome {T = Prefix} None = some.1 (prefix_of_parts p family first length fits same) in cc
 prefix_reads (Some p) family first length fits some parts =
-    (tt, sym (λ i. number_cell (family_number (parts.0 i)) ∷ Blob (address (parts.1 i)) ∷ number_cell (parts.2 i) ∷ []))
+    (tt, sym (λ i. number_cell (family_number (parts.0 i)) ∷ Blob (address_bytes (parts.1 i)) ∷ number_cell (parts.2 i) ∷ []))
 
 span_of_parts :
     (s : Span) (family : Family) (lo hi : ℕ) → lo < 2 ^ 128 → hi < 2 ^ 128
-    → span_cells s ≡ number_cell (family_number family) ∷ Blob (address lo) ∷ Blob (address hi) ∷ []
+    → span_cells s ≡ number_cell (family_number family) ∷ Blob (address_bytes lo) ∷ Blob (address_bytes hi) ∷ []
     → (lo ≤ hi) × (hi < 2 ^ width family)
 span_of_parts s family lo hi lo_fits hi_fits same =
     let f : s.family ≡ family = one_family s.family family (cc) in
     let low : s.hi < 2 ^ 128 = below_widest s.family s.hi s.in_family in
-    let first : address s.lo ≡ address lo = cc in
-    let last : address s.hi ≡ address hi = cc in
+    let first : address_bytes s.lo ≡ address_bytes lo = cc in
+    let last : address_bytes s.hi ≡ address_bytes hi = cc in
     let l : s.lo ≡ lo = address_once s.lo lo (omega arith) lo_fits first in
     let h : s.hi ≡ hi = address_once s.hi hi low hi_fits last in
     let w : 2 ^ width s.family ≡ 2 ^ width family = ap (λ g. 2 ^ width g) f in
@@ -83,11 +83,11 @@ pub span_reads :
     (r : Option Span) (family : Family) (lo hi : ℕ) → lo < 2 ^ 128 → hi < 2 ^ 128
     → (IsSome r ↔ ((lo ≤ hi) × (hi < 2 ^ width family)))
     → IfSome r (λ s. (s.family ≡ family) × (s.lo ≡ lo) × (s.hi ≡ hi))
-    → Decodes span_cells (λ _. ⊤) (number_cell (family_number family) ∷ Blob (address lo) ∷ Blob (address hi) ∷ []) r
+    → Decodes span_cells (λ _. ⊤) (number_cell (family_number family) ∷ Blob (address_bytes lo) ∷ Blob (address_bytes hi) ∷ []) r
 span_reads None family lo hi lo_fits hi_fits some parts =
     λ s _ same. let is : IsSome {T = Span} None = some.1 (span_of_parts s family lo hi lo_fits hi_fits same) in cc
 span_reads (Some s) family lo hi lo_fits hi_fits some parts =
-    (tt, sym (λ i. number_cell (family_number (parts.0 i)) ∷ Blob (address (parts.1 i)) ∷ Blob (address (parts.2 i)) ∷ []))
+    (tt, sym (λ i. number_cell (family_number (parts.0 i)) ∷ Blob (address_bytes (parts.1 i)) ∷ Blob (address_bytes (parts.2 i)) ∷ []))
 
 -- rows that show values, in whatever order, have none that shows no value
 pub all_show :

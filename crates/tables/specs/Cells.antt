@@ -29,8 +29,8 @@ family_number V4 = 4
 family_number V6 = 6
 
 -- the 16 bytes of an address, the greatest first
-unfoldable pub address : ℕ → List ℕ
-address n = to_be_bytes w128 n
+unfoldable pub address_bytes : ℕ → List ℕ
+address_bytes n = to_be_bytes w128 n
 
 abbrev pub role_number : Role → ℕ
 role_number Manager = 1
@@ -39,7 +39,7 @@ role_number Auditor = 3
 
 abbrev pub prefix_cells : Prefix → Row
 prefix_cells p =
-    number_cell (family_number p.family) ∷ Blob (address p.first) ∷ number_cell p.length ∷ []
+    number_cell (family_number p.family) ∷ Blob (address_bytes p.first) ∷ number_cell p.length ∷ []
 
 -- no prefix is all of them
 abbrev pub scope_cells : Scope → Row
@@ -55,7 +55,7 @@ abbrev pub counter_cells : ℕ → ℕ → Row
 counter_cells granted created = number_cell granted ∷ number_cell created ∷ []
 
 abbrev pub span_cells : Span → Row
-span_cells s = number_cell (family_number s.family) ∷ Blob (address s.lo) ∷ Blob (address s.hi) ∷ []
+span_cells s = number_cell (family_number s.family) ∷ Blob (address_bytes s.lo) ∷ Blob (address_bytes s.hi) ∷ []
 
 abbrev pub grant_cells : Granted → Row
 grant_cells g =

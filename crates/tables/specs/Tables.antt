@@ -30,8 +30,8 @@ abbrev pub rising : Order
 rising = record { digits = 0 }
 
 -- this column is the name of a registered holder
-abbrev pub names_holder : ℕ → Reference
-names_holder place = record {
+abbrev pub holder_reference : ℕ → Reference
+holder_reference place = record {
   columns = place ∷ [];
   parent = codes "holder";
   parent_columns = codes "name" ∷ [];
@@ -84,21 +84,21 @@ abbrev pub holding : Table
 holding = keyed (codes "holding") 8
     (required_column (codes "family") Integer ∷ required_column (codes "lo") Blob ∷ required_column (codes "hi") Blob
     ∷ required_column (codes "holder") Text ∷ [])
-    (1 ∷ 2 ∷ []) (names_holder 4 ∷ [])
+    (1 ∷ 2 ∷ []) (holder_reference 4 ∷ [])
 
 abbrev pub granted : Table
 granted = keyed (codes "granted") 10
     (required_column (codes "holder") Text ∷ required_column (codes "number") Integer ∷ required_column (codes "caller") Text
     ∷ required_column (codes "role") Integer ∷ optional_column (codes "family") Integer ∷ optional_column (codes "lo") Blob
     ∷ optional_column (codes "len") Integer ∷ required_column (codes "until") Integer ∷ [])
-    (1 ∷ 2 ∷ []) (names_holder 1 ∷ [])
+    (1 ∷ 2 ∷ []) (holder_reference 1 ∷ [])
 
 abbrev pub auth : Table
 auth = strict (codes "auth") 12
     (required_column (codes "holder") Text ∷ required_column (codes "number") Integer ∷ required_column (codes "asn") Integer
     ∷ required_column (codes "family") Integer ∷ required_column (codes "lo") Blob ∷ required_column (codes "len") Integer
     ∷ required_column (codes "max") Integer ∷ required_column (codes "opens") Integer ∷ required_column (codes "ends") Integer ∷ [])
-    (1 ∷ 2 ∷ []) ((1 ∷ 2 ∷ []) ∷ (3 ∷ 4 ∷ 5 ∷ 6 ∷ 7 ∷ []) ∷ []) (rising ∷ rising ∷ []) (names_holder 1 ∷ [])
+    (1 ∷ 2 ∷ []) ((1 ∷ 2 ∷ []) ∷ (3 ∷ 4 ∷ 5 ∷ 6 ∷ 7 ∷ []) ∷ []) (rising ∷ rising ∷ []) (holder_reference 1 ∷ [])
 
 abbrev pub slurm : Table
 slurm = keyed (codes "slurm") 15

@@ -2,11 +2,13 @@
 ghost use Rattle.std.specs.Prelude.{◌≡◌};
 ghost use Rattle.registry.specs.Values.{AuthFits, VrpFits};
 ghost use Rattle.sqlite.specs.Values.{bound};
-ghost use Rattle.tables.specs.Cells.{address, auth_cells, auth_row, vrp_cells};
+ghost use Rattle.tables.specs.Cells.{address_bytes, auth_cells, auth_row, vrp_cells};
 
 use crate::FromRow;
 use crate::cells::family_number;
-use crate::decode::{asn_in, cell, day_in, given_number_in, max_length_in, prefix_in, vrp_in};
+use crate::decode::{
+    cell, decode_asn, decode_day, decode_max_length, decode_number, decode_prefix, decode_vrp,
+};
 use addr::{Name, Vrp};
 use registry::Auth;
 use sqlite::Row;
@@ -47,7 +49,7 @@ pub const SELECT_IN_FORCE: &str = "\
 
 /// A row of the table, with the bytes of the first address of the authorization's prefix.
 pub fn auth_values<'a>(holder: &'a Name, auth: &Auth, first: &'a [u8]) -> [ValueRef<'a>; 9]
-    requires { first.now ≡ address auth.now.prefix.first }
+    requires { first.now ≡ address_bytes auth.now.prefix.first }
     ensures { bound result ≡ auth_row holder.now auth.now }
 {
     [
@@ -71,14 +73,14 @@ impl FromRow for Auth {
     ghost fits = { AuthFits };
 
     fn in_row(row: &Row) -> Option<Auth> {
-        let prefix = prefix_in(cell(row, 2), cell(row, 3), cell(row, 4))?;
+        let prefix = decode_prefix(cell(row, 2), cell(row, 3), cell(row, 4))?;
         Some(Auth {
-            number: given_number_in(cell(row, 0))?,
-            asn: asn_in(cell(row, 1))?,
+            number: decode_number(cell(row, 0))?,
+            asn: decode_asn(cell(row, 1))?,
             prefix,
-            max: max_length_in(&prefix, cell(row, 5))?,
-            from: day_in(cell(row, 6))?,
-            until: day_in(cell(row, 7))?,
+            max: decode_max_length(&prefix, cell(row, 5))?,
+            from: decode_day(cell(row, 6))?,
+            until: decode_day(cell(row, 7))?,
         })
     }
 }
@@ -91,7 +93,7 @@ impl FromRow for Vrp {
     ghost fits = { VrpFits };
 
     fn in_row(row: &Row) -> Option<Vrp> {
-        vrp_in(
+        decode_vrp(
             cell(row, 0),
             cell(row, 1),
             cell(row, 2),

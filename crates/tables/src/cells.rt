@@ -3,14 +3,14 @@
 ghost use Rattle.std.specs.Prelude.{◌≡◌, [], ◌∷◌};
 ghost use Rattle.sqlite.specs.Values.{bound};
 ghost use Rattle.sqlite_value.specs.declared.value.Value.TheVariants.{Text};
-ghost use Rattle.tables.specs.Cells.{address, number_cell, family_number, prefix_cells};
+ghost use Rattle.tables.specs.Cells.{address_bytes, number_cell, family_number, prefix_cells};
 
 use addr::{Family, Name, Prefix};
 use sqlite::types::{ToSql, ValueRef};
 
 /// The bytes of an address, the greatest first.
 pub fn address_bytes(number: u128) -> [u8; 16]
-    ensures { result ≡ address number }
+    ensures { result ≡ address_bytes number }
 {
     number.to_be_bytes()
 }
@@ -41,7 +41,7 @@ pub fn number_values<'a>(holder: &'a Name, number: u32) -> [ValueRef<'a>; 2]
 
 /// The columns of a prefix, with the bytes of its first address.
 pub fn prefix_values<'a>(prefix: &Prefix, first: &'a [u8]) -> [ValueRef<'a>; 3]
-    requires { first.now ≡ address prefix.now.first }
+    requires { first.now ≡ address_bytes prefix.now.first }
     ensures { bound result ≡ prefix_cells prefix.now }
 {
     [

@@ -8,7 +8,7 @@ ghost use Rattle.registry.specs.Values.{IsU8, IsU32, IsCount, IsNumber, VrpFits}
 ghost use Rattle.sqlite_value.specs.declared.value.Value.TheVariants.{Text, Blob};
 ghost use Rattle.sqlite_value.specs.Order.{column};
 ghost use Rattle.sqlite_value.specs.Value.{owned};
-ghost use Rattle.tables.specs.Cells.{address, number_cell, family_number, role_number, prefix_cells, scope_cells, span_cells, vrp_cells};
+ghost use Rattle.tables.specs.Cells.{address_bytes, number_cell, family_number, role_number, prefix_cells, scope_cells, span_cells, vrp_cells};
 ghost use Rattle.tables.specs.Decode.{Decodes, first_columns};
 
 use addr::{Asn, Day, Family, Name, Prefix, Span, Vrp};
@@ -17,8 +17,8 @@ use sqlite::Row;
 use sqlite::types::ValueRef;
 
 /// The number whose 16 bytes they are, the greatest first.
-fn address_in(bytes: &[u8]) -> Option<u128>
-    ensures some { IfSome result (λ number. bytes.now ≡ address number) }
+fn address_from_bytes(bytes: &[u8]) -> Option<u128>
+    ensures some { IfSome result (λ number. bytes.now ≡ address_bytes number) }
     ensures none { result ≡ None → length bytes.now ≢ 16 }
 {
     if bytes.len() != 16 {
@@ -39,7 +39,7 @@ pub(crate) fn cell(row: &Row, at: usize) -> ValueRef<'_>
 }
 
 /// A number below 2 ^ 32.
-pub(crate) fn u32_in(value: ValueRef<'_>) -> Option<u32>
+pub(crate) fn decode_u32(value: ValueRef<'_>) -> Option<u32>
     ensures { Decodes number_cell IsU32 (owned value.entry) result }
 {
     match value {
@@ -49,23 +49,23 @@ pub(crate) fn u32_in(value: ValueRef<'_>) -> Option<u32>
 }
 
 /// How many grants or authorizations were made.
-pub(crate) fn count_in(value: ValueRef<'_>) -> Option<u32>
+pub(crate) fn decode_count(value: ValueRef<'_>) -> Option<u32>
     ensures { Decodes number_cell IsCount (owned value.entry) result }
 {
-    let count = u32_in(value)?;
+    let count = decode_u32(value)?;
     (count <= LAST_NUMBER).then_some(count)
 }
 
 /// The number of a grant or an authorization.
-pub(crate) fn given_number_in(value: ValueRef<'_>) -> Option<u32>
+pub(crate) fn decode_number(value: ValueRef<'_>) -> Option<u32>
     ensures { Decodes number_cell IsNumber (owned value.entry) result }
 {
-    let number = count_in(value)?;
+    let number = decode_count(value)?;
     (number >= 1).then_some(number)
 }
 
 /// A number below 256.
-pub(crate) fn byte_in(value: ValueRef<'_>) -> Option<u8>
+pub(crate) fn decode_u8(value: ValueRef<'_>) -> Option<u8>
     ensures { Decodes number_cell IsU8 (owned value.entry) result }
 {
     match value {
@@ -75,14 +75,14 @@ pub(crate) fn byte_in(value: ValueRef<'_>) -> Option<u8>
 }
 
 /// A day, by its number.
-pub(crate) fn day_in(value: ValueRef<'_>) -> Option<Day>
+pub(crate) fn decode_day(value: ValueRef<'_>) -> Option<Day>
     ensures { Decodes number_cell IsDay (owned value.entry) result }
 {
-    Day::from_number(u32_in(value)?)
+    Day::from_number(decode_u32(value)?)
 }
 
 /// A family, by its number.
-fn family_in(value: ValueRef<'_>) -> Option<Family>
+fn decode_family(value: ValueRef<'_>) -> Option<Family>
     ensures { Decodes (λ family. number_cell (family_number family)) (λ _. ⊤)
         (owned value.entry) result }
 {
@@ -94,7 +94,7 @@ fn family_in(value: ValueRef<'_>) -> Option<Family>
 }
 
 /// A role, by its number.
-pub(crate) fn role_in(value: ValueRef<'_>) -> Option<Role>
+pub(crate) fn decode_role(value: ValueRef<'_>) -> Option<Role>
     ensures { Decodes (λ role. number_cell (role_number role)) (λ _. ⊤) (owned value.entry) result }
 {
     match value {
@@ -106,7 +106,7 @@ pub(crate) fn role_in(value: ValueRef<'_>) -> Option<Role>
 }
 
 /// The name of a holder, a caller or an operator.
-pub(crate) fn name_in(value: ValueRef<'_>) -> Option<Name>
+pub(crate) fn decode_name(value: ValueRef<'_>) -> Option<Name>
     ensures { Decodes Text (λ text. IsTrue (is_name text)) (owned value.entry) result }
 {
     match value {
@@ -116,17 +116,17 @@ pub(crate) fn name_in(value: ValueRef<'_>) -> Option<Name>
 }
 
 /// An address, as a number.
-fn number_of_address_in(value: ValueRef<'_>) -> Option<u128>
-    ensures { Decodes (λ number. Blob (address number)) (λ _. ⊤) (owned value.entry) result }
+fn decode_address(value: ValueRef<'_>) -> Option<u128>
+    ensures { Decodes (λ number. Blob (address_bytes number)) (λ _. ⊤) (owned value.entry) result }
 {
     match value {
-        ValueRef::Blob(bytes) => address_in(bytes),
+        ValueRef::Blob(bytes) => address_from_bytes(bytes),
         _ => None,
     }
 }
 
 /// The prefix that three columns show.
-pub(crate) fn prefix_in(
+pub(crate) fn decode_prefix(
     family: ValueRef<'_>,
     first: ValueRef<'_>,
     length: ValueRef<'_>,
@@ -134,22 +134,22 @@ pub(crate) fn prefix_in(
     ensures { Decodes prefix_cells (λ _. ⊤)
         (owned family.entry ∷ owned first.entry ∷ owned length.entry ∷ []) result }
 {
-    let family = family_in(family)?;
-    let first = number_of_address_in(first)?;
-    let length = byte_in(length)?;
+    let family = decode_family(family)?;
+    let first = decode_address(first)?;
+    let length = decode_u8(length)?;
     Prefix::from_parts(family, first, length)
 }
 
 /// A maxLength of the prefix.
-pub(crate) fn max_length_in(prefix: &Prefix, value: ValueRef<'_>) -> Option<u8>
+pub(crate) fn decode_max_length(prefix: &Prefix, value: ValueRef<'_>) -> Option<u8>
     ensures { Decodes number_cell (FitsMaxLength prefix.now) (owned value.entry) result }
 {
-    let max = byte_in(value)?;
+    let max = decode_u8(value)?;
     prefix.fits_max_length(max).then_some(max)
 }
 
 /// The scope that three columns show, which are NULL where it is all prefixes.
-pub(crate) fn scope_in(
+pub(crate) fn decode_scope(
     family: ValueRef<'_>,
     first: ValueRef<'_>,
     length: ValueRef<'_>,
@@ -159,30 +159,30 @@ pub(crate) fn scope_in(
 {
     match (family, first, length) {
         (ValueRef::Null, ValueRef::Null, ValueRef::Null) => Some(Scope::All),
-        _ => Some(Scope::Only(prefix_in(family, first, length)?)),
+        _ => Some(Scope::Only(decode_prefix(family, first, length)?)),
     }
 }
 
 /// The run of addresses that three columns show.
-pub(crate) fn span_in(family: ValueRef<'_>, lo: ValueRef<'_>, hi: ValueRef<'_>) -> Option<Span>
+pub(crate) fn decode_span(family: ValueRef<'_>, lo: ValueRef<'_>, hi: ValueRef<'_>) -> Option<Span>
     ensures { Decodes span_cells (λ _. ⊤)
         (owned family.entry ∷ owned lo.entry ∷ owned hi.entry ∷ []) result }
 {
-    let family = family_in(family)?;
-    let lo = number_of_address_in(lo)?;
-    let hi = number_of_address_in(hi)?;
+    let family = decode_family(family)?;
+    let lo = decode_address(lo)?;
+    let hi = decode_address(hi)?;
     Span::from_parts(family, lo, hi)
 }
 
 /// An AS number.
-pub(crate) fn asn_in(value: ValueRef<'_>) -> Option<Asn>
+pub(crate) fn decode_asn(value: ValueRef<'_>) -> Option<Asn>
     ensures { Decodes (λ asn. number_cell asn.0) (λ asn. IsU32 asn.0) (owned value.entry) result }
 {
-    Some(Asn(u32_in(value)?))
+    Some(Asn(decode_u32(value)?))
 }
 
 /// The VRP that five columns show.
-pub(crate) fn vrp_in(
+pub(crate) fn decode_vrp(
     asn: ValueRef<'_>,
     family: ValueRef<'_>,
     first: ValueRef<'_>,
@@ -193,7 +193,7 @@ pub(crate) fn vrp_in(
         (owned asn.entry ∷ owned family.entry ∷ owned first.entry ∷ owned length.entry
         ∷ owned max.entry ∷ []) result }
 {
-    let asn = asn_in(asn)?;
-    let prefix = prefix_in(family, first, length)?;
-    Vrp::from_parts(prefix, byte_in(max)?, asn)
+    let asn = decode_asn(asn)?;
+    let prefix = decode_prefix(family, first, length)?;
+    Vrp::from_parts(prefix, decode_u8(max)?, asn)
 }

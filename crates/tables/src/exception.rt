@@ -4,13 +4,13 @@ ghost use Rattle.sqlite.specs.Values.{bound};
 ghost use Rattle.registry.specs.Values.{FilterFits};
 ghost use Rattle.sqlite_value.specs.declared.value.Value.TheVariants.{Text};
 ghost use Rattle.sqlite_value.specs.Value.{owned};
-ghost use Rattle.tables.specs.Cells.{address, number_cell, kind_number, filter_first, filter_cells, assertion_cells, exception_first, exception_cells, exception_row};
+ghost use Rattle.tables.specs.Cells.{address_bytes, number_cell, kind_number, filter_first, filter_cells, assertion_cells, exception_first, exception_cells, exception_row};
 ghost use Rattle.tables.specs.Decode.{Decodes, IsPosition, ExceptionFits, ExceptionRowFits};
 ghost use Rattle.tables.specs.Tables.{columns};
 
 use crate::FromRow;
 use crate::cells::prefix_values;
-use crate::decode::{asn_in, cell, prefix_in, u32_in, vrp_in};
+use crate::decode::{cell, decode_asn, decode_prefix, decode_u32, decode_vrp};
 use addr::Vrp;
 use slurm::Filter;
 use sqlite::Row;
@@ -69,8 +69,8 @@ impl FromRow for ExceptionRow {
             return None;
         }
         Some(ExceptionRow {
-            position: position_in(cell(row, 2))?,
-            exception: exception_in(row)?,
+            position: decode_position(cell(row, 2))?,
+            exception: decode_exception(row)?,
         })
     }
 }
@@ -83,7 +83,7 @@ impl FromRow for Filter {
     ghost fits = { FilterFits };
 
     fn in_row(row: &Row) -> Option<Filter> {
-        filter_in(
+        decode_filter(
             cell(row, 0),
             cell(row, 1),
             cell(row, 2),
@@ -104,31 +104,35 @@ fn is_main(file: ValueRef<'_>) -> bool
 }
 
 /// The place of an exception among those of its kind.
-fn position_in(value: ValueRef<'_>) -> Option<u32>
+fn decode_position(value: ValueRef<'_>) -> Option<u32>
     ensures { Decodes number_cell IsPosition (owned value.entry) result }
 {
-    match u32_in(value)? {
+    match decode_u32(value)? {
         0 => None,
         position => Some(position),
     }
 }
 
 /// The exception that the columns show beside those of the file and the position.
-fn exception_in(row: &Row) -> Option<Exception>
+fn decode_exception(row: &Row) -> Option<Exception>
     ensures { Decodes (λ e. number_cell (kind_number e) ∷ exception_cells e) ExceptionFits
         (columns (1 ∷ 3 ∷ 4 ∷ 5 ∷ 6 ∷ 7 ∷ []) row.now) result }
 {
     let (family, first, length) = (cell(row, 3), cell(row, 4), cell(row, 5));
     let (max, asn) = (cell(row, 6), cell(row, 7));
     match cell(row, 1) {
-        ValueRef::Int(1) => Some(Exception::Filter(filter_in(family, first, length, max, asn)?)),
-        ValueRef::Int(2) => Some(Exception::Assertion(vrp_in(asn, family, first, length, max)?)),
+        ValueRef::Int(1) => Some(Exception::Filter(decode_filter(
+            family, first, length, max, asn,
+        )?)),
+        ValueRef::Int(2) => Some(Exception::Assertion(decode_vrp(
+            asn, family, first, length, max,
+        )?)),
         _ => None,
     }
 }
 
 /// The prefix filter that the columns show.
-fn filter_in(
+fn decode_filter(
     family: ValueRef<'_>,
     first: ValueRef<'_>,
     length: ValueRef<'_>,
@@ -141,13 +145,13 @@ fn filter_in(
 {
     match (family, first, length, max, asn) {
         (ValueRef::Null, ValueRef::Null, ValueRef::Null, ValueRef::Null, _) => {
-            Some(Filter::By(asn_in(asn)?))
+            Some(Filter::By(decode_asn(asn)?))
         }
         (_, _, _, ValueRef::Null, ValueRef::Null) => {
-            Some(Filter::Under(prefix_in(family, first, length)?))
+            Some(Filter::Under(decode_prefix(family, first, length)?))
         }
         (_, _, _, ValueRef::Null, _) => {
-            Some(Filter::Both(prefix_in(family, first, length)?, asn_in(asn)?))
+            Some(Filter::Both(decode_prefix(family, first, length)?, decode_asn(asn)?))
         }
         _ => None,
     }
@@ -166,7 +170,7 @@ pub fn exception_first(exception: &Exception) -> u128
 
 /// The columns of a prefix filter, with the bytes of the first address of its prefix.
 fn filter_values<'a>(filter: &Filter, first: &'a [u8]) -> [ValueRef<'a>; 5]
-    requires { first.now ≡ address (filter_first filter.now) }
+    requires { first.now ≡ address_bytes (filter_first filter.now) }
     ensures { bound result ≡ filter_cells filter.now }
 {
     match filter {
@@ -190,7 +194,7 @@ fn filter_values<'a>(filter: &Filter, first: &'a [u8]) -> [ValueRef<'a>; 5]
 
 /// The columns of a prefix assertion, with the bytes of the first address of its prefix.
 fn assertion_values<'a>(vrp: &Vrp, first: &'a [u8]) -> [ValueRef<'a>; 5]
-    requires { first.now ≡ address vrp.now.prefix.first }
+    requires { first.now ≡ address_bytes vrp.now.prefix.first }
     ensures { bound result ≡ assertion_cells vrp.now }
 {
     let [family, lo, length] = prefix_values(&vrp.prefix, first);
@@ -205,7 +209,7 @@ fn assertion_values<'a>(vrp: &Vrp, first: &'a [u8]) -> [ValueRef<'a>; 5]
 
 /// A row of the table, with the bytes of the first address of its prefix.
 pub fn exception_values<'a>(row: &ExceptionRow, first: &'a [u8]) -> [ValueRef<'a>; 8]
-    requires { first.now ≡ address (exception_first row.now.exception) }
+    requires { first.now ≡ address_bytes (exception_first row.now.exception) }
     ensures { bound result ≡ exception_row row.now }
 {
     let (kind, [family, lo, length, max, asn]) = match &row.exception {

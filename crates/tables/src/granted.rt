@@ -2,11 +2,11 @@
 ghost use Rattle.std.specs.Prelude.{◌≡◌};
 ghost use Rattle.registry.specs.Values.{GrantFits};
 ghost use Rattle.sqlite.specs.Values.{bound};
-ghost use Rattle.tables.specs.Cells.{address, role_number, scope_first, scope_cells, grant_cells, granted_row};
+ghost use Rattle.tables.specs.Cells.{address_bytes, role_number, scope_first, scope_cells, grant_cells, granted_row};
 
 use crate::FromRow;
 use crate::cells::prefix_values;
-use crate::decode::{cell, day_in, given_number_in, name_in, role_in, scope_in};
+use crate::decode::{cell, decode_day, decode_name, decode_number, decode_role, decode_scope};
 use addr::Name;
 use registry::{Granted, Role, Scope};
 use sqlite::Row;
@@ -58,7 +58,7 @@ pub fn scope_first(scope: &Scope) -> u128
 
 /// The columns of a scope, with the bytes of the first address of its prefix.
 fn scope_values<'a>(scope: &Scope, first: &'a [u8]) -> [ValueRef<'a>; 3]
-    requires { first.now ≡ address (scope_first scope.now) }
+    requires { first.now ≡ address_bytes (scope_first scope.now) }
     ensures { bound result ≡ scope_cells scope.now }
 {
     match scope {
@@ -73,7 +73,7 @@ pub fn granted_values<'a>(
     grant: &'a Granted,
     first: &'a [u8],
 ) -> [ValueRef<'a>; 8]
-    requires { first.now ≡ address (scope_first grant.now.scope) }
+    requires { first.now ≡ address_bytes (scope_first grant.now.scope) }
     ensures { bound result ≡ granted_row holder.now grant.now }
 {
     let [family, lo, length] = scope_values(&grant.scope, first);
@@ -98,11 +98,11 @@ impl FromRow for Granted {
 
     fn in_row(row: &Row) -> Option<Granted> {
         Some(Granted {
-            number: given_number_in(cell(row, 0))?,
-            caller: name_in(cell(row, 1))?,
-            role: role_in(cell(row, 2))?,
-            scope: scope_in(cell(row, 3), cell(row, 4), cell(row, 5))?,
-            until: day_in(cell(row, 6))?,
+            number: decode_number(cell(row, 0))?,
+            caller: decode_name(cell(row, 1))?,
+            role: decode_role(cell(row, 2))?,
+            scope: decode_scope(cell(row, 3), cell(row, 4), cell(row, 5))?,
+            until: decode_day(cell(row, 6))?,
         })
     }
 }

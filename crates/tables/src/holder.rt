@@ -6,7 +6,7 @@ ghost use Rattle.registry.specs.Values.{IsCount};
 ghost use Rattle.tables.specs.Cells.{counter_cells, holder_row};
 
 use crate::FromRow;
-use crate::decode::{cell, count_in, name_in};
+use crate::decode::{cell, decode_count, decode_name};
 use addr::Name;
 use sqlite::Row;
 
@@ -46,8 +46,8 @@ impl FromRow for Counters {
 
     fn in_row(row: &Row) -> Option<Counters> {
         Some(Counters {
-            granted: count_in(cell(row, 0))?,
-            created: count_in(cell(row, 1))?,
+            granted: decode_count(cell(row, 0))?,
+            created: decode_count(cell(row, 1))?,
         })
     }
 }
@@ -70,10 +70,10 @@ impl FromRow for Registered {
 
     fn in_row(row: &Row) -> Option<Registered> {
         Some(Registered {
-            name: name_in(cell(row, 0))?,
+            name: decode_name(cell(row, 0))?,
             counters: Counters {
-                granted: count_in(cell(row, 1))?,
-                created: count_in(cell(row, 2))?,
+                granted: decode_count(cell(row, 1))?,
+                created: decode_count(cell(row, 2))?,
             },
         })
     }

@@ -1,11 +1,11 @@
 //! The table `holding`, of which each row is a run of addresses and the name of its holder.
 ghost use Rattle.std.specs.Prelude.{◌≡◌, ⊤};
 ghost use Rattle.sqlite.specs.Values.{bound};
-ghost use Rattle.tables.specs.Cells.{address, span_cells, holding_row};
+ghost use Rattle.tables.specs.Cells.{address_bytes, span_cells, holding_row};
 
 use crate::FromRow;
 use crate::cells::family_number;
-use crate::decode::{cell, span_in};
+use crate::decode::{cell, decode_span};
 use addr::{Name, Span};
 use sqlite::Row;
 use sqlite::types::{ToSql, ValueRef};
@@ -44,8 +44,8 @@ pub fn holding_values<'a>(
     first: &'a [u8],
     last: &'a [u8],
 ) -> [ValueRef<'a>; 4]
-    requires first { first.now ≡ address span.now.lo }
-    requires last { last.now ≡ address span.now.hi }
+    requires first { first.now ≡ address_bytes span.now.lo }
+    requires last { last.now ≡ address_bytes span.now.hi }
     ensures { bound result ≡ holding_row holder.now span.now }
 {
     [
@@ -64,6 +64,6 @@ impl FromRow for Span {
     ghost fits = { λ _. ⊤ };
 
     fn in_row(row: &Row) -> Option<Span> {
-        span_in(cell(row, 0), cell(row, 1), cell(row, 2))
+        decode_span(cell(row, 0), cell(row, 1), cell(row, 2))
     }
 }

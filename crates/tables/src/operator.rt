@@ -4,7 +4,7 @@ ghost use Rattle.addr.specs.Name.{is_name};
 ghost use Rattle.sqlite_value.specs.declared.value.Value.TheVariants.{Text};
 
 use crate::FromRow;
-use crate::decode::{cell, name_in};
+use crate::decode::{cell, decode_name};
 use addr::Name;
 use sqlite::Row;
 
@@ -26,6 +26,6 @@ impl FromRow for Name {
     ghost fits = { λ text. IsTrue (is_name text) };
 
     fn in_row(row: &Row) -> Option<Name> {
-        name_in(cell(row, 0))
+        decode_name(cell(row, 0))
     }
 }

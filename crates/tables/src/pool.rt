@@ -3,7 +3,7 @@ ghost use Rattle.std.specs.Prelude.{⊤};
 ghost use Rattle.tables.specs.Cells.{prefix_cells};
 
 use crate::FromRow;
-use crate::decode::{cell, prefix_in};
+use crate::decode::{cell, decode_prefix};
 use addr::Prefix;
 use sqlite::Row;
 
@@ -26,6 +26,6 @@ impl FromRow for Prefix {
     ghost fits = { λ _. ⊤ };
 
     fn in_row(row: &Row) -> Option<Prefix> {
-        prefix_in(cell(row, 0), cell(row, 1), cell(row, 2))
+        decode_prefix(cell(row, 0), cell(row, 1), cell(row, 2))
     }
 }

@@ -1,6 +1,6 @@
 //! The headers of CSV files.
 ghost use Rattle.std.specs.Prelude.{◌≡◌, ◌∷◌, None, IfOk, IfErr};
-ghost use Rattle.command_line.specs.CsvRows.{header_fault, IsTold};
+ghost use Rattle.command_line.specs.CsvRows.{header_fault, IsReported};
 ghost use Rattle.csv_records.specs.CsvRecords.{csv_records, records_left, IsReading};
 ghost use Rattle.csv_records.specs.Fields.{texts_of};
 
@@ -20,7 +20,7 @@ pub(crate) fn after_header<'a>(
     ensures faultless { IfOk result (λ records.
         header_fault (texts_of header.now) (csv_records text.now) ≡ None) }
     ensures err { IfErr result (λ fault.
-        IsTold fault (header_fault (texts_of header.now) (csv_records text.now))) }
+        IsReported fault (header_fault (texts_of header.now) (csv_records text.now))) }
 {
     match CsvRecords::after_header(alloc, text, header)? {
         Some(records) => Ok(records),

@@ -4,7 +4,7 @@ ghost use Rattle.csv.specs.Records.{fields_of};
 ghost use Rattle.addr.specs.Address.{FitsMaxLength};
 ghost use Rattle.addr.specs.Family.{width};
 ghost use Rattle.csv_records.specs.CsvRecords.{csv_records, records_left, IsReading};
-ghost use Rattle.command_line.specs.CsvRows.{file_fault, first_fault, number_between, payload_fault, payload_texts_fault, IsTold};
+ghost use Rattle.command_line.specs.CsvRows.{file_fault, first_fault, number_between, payload_fault, payload_texts_fault, IsReported};
 ghost use Rattle.csv_records.specs.Lines.{payload_header, payload_row};
 
 use super::after_header;
@@ -21,7 +21,7 @@ pub(crate) fn read_payloads(alloc: Global, text: &[u8]) -> Result<Vec<Vrp>, File
     ensures faultless { IfOk result (λ vrps.
         file_fault payload_header payload_fault (csv_records text.now) ≡ None) }
     ensures err { IfErr result (λ fault.
-        IsTold fault (file_fault payload_header payload_fault (csv_records text.now))) }
+        IsReported fault (file_fault payload_header payload_fault (csv_records text.now))) }
 {
     let mut records = after_header(alloc, text, &["asn", "prefix", "maxlength"])?;
     read_rows(alloc, &mut records)
@@ -33,7 +33,7 @@ fn read_rows(alloc: Global, records: &mut CsvRecords<'_>) -> Result<Vec<Vrp>, Fi
     ensures faultless { IfOk result (λ vrps.
         first_fault payload_fault 1 (records_left records.old) ≡ None) }
     ensures err { IfErr result (λ fault.
-        IsTold fault (first_fault payload_fault 1 (records_left records.old))) }
+        IsReported fault (first_fault payload_fault 1 (records_left records.old))) }
 {
     let mut vrps = Vec::new(alloc);
     while records.advance()? {

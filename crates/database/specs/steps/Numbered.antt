@@ -33,8 +33,8 @@ abbrev pub columns_and_rowid : List ℕ → Row → Row
 columns_and_rowid places r = columns places (drop 1 r) ++ rowid r ∷ []
 
 -- over the tables of a desk the text, which has no parameter, answers these rows
-abbrev pub AnswersRows : List ℕ → Database → List Row → Type 0
-AnswersRows sql db rows = Reads (command_of (understood (desk_beside db.schema) sql)) db [] rows
+abbrev pub AnswersSelect : List ℕ → Database → List Row → Type 0
+AnswersSelect sql db rows = Reads (command_of (understood (desk_beside db.schema) sql)) db [] rows
 
 -- The text selects these columns of all rows of a table, which are so many, and the rowids after them. It reads the tables alone.
 pub record SelectsAll (width tree : ℕ) (places : List ℕ) (sql : List ℕ) : Type 0 where
@@ -42,7 +42,7 @@ pub record SelectsAll (width tree : ℕ) (places : List ℕ) (sql : List ℕ) : 
   pub plain : OverDesk (λ s. IsPlain (understood s sql))
   pub unlisted : OverDesk (λ s. reads_listing s sql ≡ false)
   pub found :
-      (db : Database) (rows : List Row) → AnswersRows sql db rows
+      (db : Database) (rows : List Row) → AnswersSelect sql db rows
       → IsPermutation (map (columns_and_rowid places) (db.trees tree)) rows
 
 -- these columns of all rows of a table

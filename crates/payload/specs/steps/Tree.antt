@@ -54,10 +54,10 @@ has [] o tree = list_any (eq_by_cmp originator_cmp o) (here tree)
 has (bit ∷ path) o tree = has path o (below bit tree)
 
 -- the tree with this originator at the end of the path, and nothing else
-abbrev pub only : List Bool → Originator → Tree
-only [] o = Fork (o ∷ []) Leaf Leaf
-only (false ∷ path) o = Fork [] (only path o) Leaf
-only (true ∷ path) o = Fork [] Leaf (only path o)
+abbrev pub chain : List Bool → Originator → Tree
+chain [] o = Fork (o ∷ []) Leaf Leaf
+chain (false ∷ path) o = Fork [] (chain path o) Leaf
+chain (true ∷ path) o = Fork [] Leaf (chain path o)
 
 -- some originator on the path passes the test
 abbrev pub has_on_path : (Originator → Bool) → List Bool → Tree → Bool
@@ -120,14 +120,14 @@ weight (Fork originators zero one) = 1 + (weight zero + weight one)
 
 -- ---- a tree is stored as a tree of its lists
 
-abbrev pub numbers_of : Originator → ℕ × ℕ
-numbers_of o = (o.max, o.asn.0)
+abbrev pub originator_numbers : Originator → ℕ × ℕ
+originator_numbers o = (o.max, o.asn.0)
 
-pub same_numbers : (o q : Originator) → numbers_of o ≡ numbers_of q → o ≡ q
-same_numbers o q e = λ i. record { max = (e i).0; asn = record { 0 = (e i).1 } }
+pub same_originator : (o q : Originator) → originator_numbers o ≡ originator_numbers q → o ≡ q
+same_originator o q e = λ i. record { max = (e i).0; asn = record { 0 = (e i).1 } }
 
 abbrev pub coded_originator : Coded Originator
-coded_originator = coded_via (coded× coded_ℕ coded_ℕ) numbers_of same_numbers
+coded_originator = coded_via (coded× coded_ℕ coded_ℕ) originator_numbers same_originator
 
 abbrev code_of : Tree → Gv
 code_of Leaf = gnil

@@ -52,12 +52,12 @@ vrp_if p max asn (yes low) (yes high) =
 vrp_if p max asn _ _ = None
 
 -- the VRP of these parts, if there is one
-abbrev pub vrp_with : Originator → Prefix → Option Vrp
-vrp_with o p = vrp_if p o.max o.asn (dec_le p.length o.max) (dec_le o.max (width p.family))
+abbrev pub vrp_of_parts : Originator → Prefix → Option Vrp
+vrp_of_parts o p = vrp_if p o.max o.asn (dec_le p.length o.max) (dec_le o.max (width p.family))
 
 abbrev pub vrp_at : Family → ℕ → ℕ → Originator → Option Vrp
 vrp_at family first len o =
-    option_and_then (vrp_with o) (prefix_with (record { family = family; address = first; length = len }))
+    option_and_then (vrp_of_parts o) (prefix_with (record { family = family; address = first; length = len }))
 
 -- the VRPs of a tree whose root is at the prefix of this first address and length: those of its node, those of the
 -- prefix's lower half and those of its upper half

@@ -1,7 +1,7 @@
 //! Putting a VRP into a trie.
 ghost use Rattle.std.specs.Prelude.{◌≡◌, ◌≤◌, not, false, IfOk, OnOk, OnErr};
 ghost use Rattle.addr.specs.Family.{width};
-ghost use Rattle.payload.specs.steps.Tree.{IsInserted, IsPruned, has, is_bare, only, subtree, tree};
+ghost use Rattle.payload.specs.steps.Tree.{IsInserted, IsPruned, has, is_bare, chain, subtree, tree};
 ghost use Rattle.payload.specs.steps.Trie.{bits_from, originator_of};
 
 use crate::originator::Originator;
@@ -65,7 +65,7 @@ fn insert_below(
 fn chain(alloc: Global, vrp: &Vrp, at: u8) -> Result<Node, AllocError>
     requires { at ≤ vrp.now.prefix.length }
     ensures { IfOk result (λ node.
-        tree node ≡ only (bits_from vrp.now.prefix at) (originator_of vrp.now)) }
+        tree node ≡ chain (bits_from vrp.now.prefix at) (originator_of vrp.now)) }
 {
     let mut originators = Vec::new(alloc);
     if at == vrp.prefix.length {

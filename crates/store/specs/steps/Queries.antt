@@ -25,7 +25,7 @@ use Rattle.tables.specs.Cells.{number_cell, prefix_cells}
 use Rattle.tables.specs.Decode.{first_columns}
 use Rattle.tables.specs.Tables.{desk_beside, OverDesk, contents, columns}
 use Rattle.tables.specs.TablesHold.{TablesHold, items_if_any, auth_part}
-use Rattle.database.specs.steps.Numbered.{AnswersRows}
+use Rattle.database.specs.steps.Numbered.{AnswersSelect}
 
 -- it is so of all rows, and of those of one holder, whatever charter and rows the tables hold
 abbrev pub IsOfAll : (AllRows → Type 0) → State → Type 0
@@ -37,8 +37,8 @@ abbrev pub IsOf : (Option Rows → Type 0) → List ℕ → State → Type 0
 IsOf so h s = IsOfAll (λ rows. so (rows.of_holder h)) s
 
 -- the database could be read, and it is so of all rows
-abbrev pub WasRead : (AllRows → Type 0) → State → Type 0
-WasRead so s = IsTrue s.is_open × IsOfAll so s
+abbrev pub IsOpenWith : (AllRows → Type 0) → State → Type 0
+IsOpenWith so s = IsTrue s.is_open × IsOfAll so s
 
 abbrev pub by_column : ℕ → Row → Row → Ordering
 by_column at = on (λ r. column r at) value_cmp
@@ -79,7 +79,7 @@ pub record SelectsEntries
   pub plain : OverDesk (λ s. IsPlain (understood s sql))
   pub unlisted : OverDesk (λ s. reads_listing s sql ≡ false)
   pub found :
-      (db : Database) (rows : List Row) → AnswersRows sql db rows
+      (db : Database) (rows : List Row) → AnswersSelect sql db rows
       → (charter : CharterSets) (all : AllRows) → TablesHold charter all db.trees
       → map (first_columns width) rows ≡ map cells (items all.exceptions)
   pub once : (x y : X) → cells x ≡ cells y → x ≡ y

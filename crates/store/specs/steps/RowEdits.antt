@@ -36,8 +36,8 @@ abbrev pub with_new_auths : List Auth → ℕ → Rows → Rows
 with_new_auths xs created r = with_created created (with_auths xs r)
 
 -- some runs are held no longer, others are held, and these authorizations end
-abbrev pub held : List Span → List Span → List ℕ → Rows → Rows
-held removed added ended r = without_auths ended (with_holdings added (without_holdings removed r))
+abbrev pub with_replaced_holdings : List Span → List Span → List ℕ → Rows → Rows
+with_replaced_holdings removed added ended r = without_auths ended (with_holdings added (without_holdings removed r))
 
 abbrev pub is_registration : Edit → Bool
 is_registration Register = true

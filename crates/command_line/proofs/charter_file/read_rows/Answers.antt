@@ -1,7 +1,7 @@
 use Rattle.std.proofs.Common.{◌++◌, ◌∷◌, [], ◌∙◌}
 use Rattle.std.proofs.lemmas.Result.{err_from_is_err_and}
 use Rattle.csv_records.specs.CsvRecords.{current, records_left}
-use Rattle.command_line.proofs.CharterSteps.{rows_more, first_more, told-first}
+use Rattle.command_line.proofs.CharterSteps.{rows_more, first_more, reported-first}
 use Rattle.command_line.proofs.charter_file.read_rows.Goals as goal
 
 pub loop-rows-preserved : goal.loop-rows-preserved
@@ -24,5 +24,5 @@ returns-in_err-take-clause-err c =
     let found = rw c.if-branch.true at c.in_ok-advance.ensures.found in
     let (rows, read, held, first) = c.loop-rows.invariant.read in
     let p = err_from_is_err_and c.from_residual-in_err-take.result c.from_residual-in_err-take.ensures.1 in
-    rw (p.1, p.2) (told-first c.in_err-take.field-0.0 (records_left c.args.records.now) (records_left c.loop-rows.records) (records_left c.advance.new.self) (current c.advance.new.self) rows first found
+    rw (p.1, p.2) (reported-first c.in_err-take.field-0.0 (records_left c.args.records.now) (records_left c.loop-rows.records) (records_left c.advance.new.self) (current c.advance.new.self) rows first found
     (rw c.row.ensures at (c.in_err-take.ensures.err rows held)))

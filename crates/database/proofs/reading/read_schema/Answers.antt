@@ -8,7 +8,7 @@ use Rattle.tables.specs.Decode.{first_columns}
 use Rattle.tables.proofs.SomeRow.{has_permuted}
 use Rattle.database.specs.steps.Numbered.{shown_in}
 use Rattle.database.proofs.AllTexts.{selects_meta}
-use Rattle.database.proofs.Rowids.{tree_of, shown_of}
+use Rattle.database.proofs.Rowids.{is_tree, shown_of}
 use Rattle.database.proofs.Unread.{has_some, some_from_has, only_one, schema_in}
 use Rattle.database.proofs.reading.read_schema.Goals as goal
 
@@ -36,6 +36,6 @@ returns-clause-found g c clean =
     let some = has_some (first_columns 2) rows schema_row (rw c.deref.ensures.value at (c.some_shows_schema.ensures.0 c.if-not-some_shows_schema.false)) in
     let one : length (map (first_columns 2) rows) ≡ 1 = omega (arith, c.len.ensures, c.if-len-ne1.false, c.in_ok-rows.rows.ok.0, length-map rows (first_columns 2)) in
     record {
-      whole = tree_of (0 ∷ 1 ∷ []) (db.trees 0) rows found c.in_ok-rows.ensures.rise;
+      whole = is_tree (0 ∷ 1 ∷ []) (db.trees 0) rows found c.in_ok-rows.ensures.rise;
       shown = subst (λ l. IsPermutation l (shown_in 0 (0 ∷ 1 ∷ []) db)) (only_one (map (first_columns 2) rows) schema_row some one) (IsPermutation-sym _ _ same);
     }

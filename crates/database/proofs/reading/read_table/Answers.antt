@@ -1,5 +1,5 @@
 use Rattle.sqlite.specs.Held.{state}
-use Rattle.database.proofs.Rowids.{tree_of, shown_of, values_read, some_unread, ok_with}
+use Rattle.database.proofs.Rowids.{is_tree, shown_of, values_read, some_unread, ok_with}
 use Rattle.database.proofs.reading.read_table.Goals as goal
 
 pub returns-clause-tree : goal.returns-clause-tree
@@ -7,7 +7,7 @@ returns-clause-tree g c clean =
     let db = (state g.S.Store c.args.conn.now).now in
     let asks = c.select_all.ensures in
     let rows = c.in_ok-rows.rows.items in
-    ok_with _ c.read_all.result (tree_of g.T.InTable.places (db.trees g.T.InTable.tree) rows (asks.found db rows (c.in_ok-rows.ensures.answered clean)) c.in_ok-rows.ensures.rise)
+    ok_with _ c.read_all.result (is_tree g.T.InTable.places (db.trees g.T.InTable.tree) rows (asks.found db rows (c.in_ok-rows.ensures.answered clean)) c.in_ok-rows.ensures.rise)
 
 pub returns-clause-read : goal.returns-clause-read
 returns-clause-read g c clean =

@@ -1,10 +1,10 @@
 use Rattle.std.proofs.Common.{false, true, not, ◌≡◌, ◌≤◌, sym, ap, ◌∙◌, subst, arith}
 use Rattle.std.proofs.lemmas.Result.{on_ok_weaker}
 use Rattle.addr.specs.Family.{width}
-use Rattle.payload.specs.steps.Tree.{Leaf, IsInserted, IsPruned, is_bare, only, subtree, tree}
+use Rattle.payload.specs.steps.Tree.{Leaf, IsInserted, IsPruned, is_bare, chain, subtree, tree}
 use Rattle.payload.specs.steps.Trie.{bits_from, originator_of}
 use Rattle.payload.proofs.Bits.{bits_from-next, length-bits_from}
-use Rattle.payload.proofs.Trees.{full-after, full-inserted, has-leaf, inserted-one, inserted-only, inserted-zero, originators-after, pruned-only}
+use Rattle.payload.proofs.Trees.{full-after, full-inserted, has-leaf, inserted-one, inserted-chain, inserted-zero, originators-after, pruned-chain}
 use Rattle.payload.proofs.trie.+insert.Goals as goal
 
 pub insert::insert_below-returns-in-Some-clause-full : goal.insert::insert_below-returns-in-Some-clause-full
@@ -19,24 +19,24 @@ pub insert::insert_below-returns-in_ok-new-in-None-clause-ok : goal.insert::inse
 insert::insert_below-returns-in_ok-new-in-None-clause-ok t c =
     let path = bits_from c.args.vrp.now.prefix c.args.at in
     let o = originator_of c.args.vrp.now in
-    let new : tree c.in_ok-new-in-None.field-0.value ≡ only path o = ap tree c.in_ok-new-in-None.ensures.ok ∙ c.in_ok-chain-in-None.ensures in
-    subst (IsInserted path o (subtree c.args.child.now)) (sym new) (rw c.in-None.is (inserted-only path o))
+    let new : tree c.in_ok-new-in-None.field-0.value ≡ chain path o = ap tree c.in_ok-new-in-None.ensures.ok ∙ c.in_ok-chain-in-None.ensures in
+    subst (IsInserted path o (subtree c.args.child.now)) (sym new) (rw c.in-None.is (inserted-chain path o))
 
 pub insert::insert_below-returns-in_ok-new-in-None-clause-pruned : goal.insert::insert_below-returns-in_ok-new-in-None-clause-pruned
 insert::insert_below-returns-in_ok-new-in-None-clause-pruned t c =
     let v = c.args.vrp.now in
     let path = bits_from v.prefix c.args.at in
     let o = originator_of v in
-    let new : tree c.in_ok-new-in-None.field-0.value ≡ only path o = ap tree c.in_ok-new-in-None.ensures.ok ∙ c.in_ok-chain-in-None.ensures in
+    let new : tree c.in_ok-new-in-None.field-0.value ≡ chain path o = ap tree c.in_ok-new-in-None.ensures.ok ∙ c.in_ok-chain-in-None.ensures in
     subst (IsPruned (width v.prefix.family) c.args.at) (sym new)
-    (pruned-only (width v.prefix.family) c.args.at path o (omega (arith, length-bits_from v.prefix c.args.at, v.at_least_length, c.requires.within)) v.at_most_width)
+    (pruned-chain (width v.prefix.family) c.args.at path o (omega (arith, length-bits_from v.prefix c.args.at, v.at_least_length, c.requires.within)) v.at_most_width)
 
 pub insert::insert_below-returns-in_ok-new-in-None-clause-full : goal.insert::insert_below-returns-in_ok-new-in-None-clause-full
 insert::insert_below-returns-in_ok-new-in-None-clause-full t c =
     let path = bits_from c.args.vrp.now.prefix c.args.at in
     let o = originator_of c.args.vrp.now in
-    let new : tree c.in_ok-new-in-None.field-0.value ≡ only path o = ap tree c.in_ok-new-in-None.ensures.ok ∙ c.in_ok-chain-in-None.ensures in
-    subst (λ t. is_bare t ≡ false) (sym new) (full-inserted path o Leaf (only path o) (inserted-only path o))
+    let new : tree c.in_ok-new-in-None.field-0.value ≡ chain path o = ap tree c.in_ok-new-in-None.ensures.ok ∙ c.in_ok-chain-in-None.ensures in
+    subst (λ t. is_bare t ≡ false) (sym new) (full-inserted path o Leaf (chain path o) (inserted-chain path o))
 
 pub node::Node::insert-returns-then-at-vrp-clause-pruned : goal.node::Node::insert-returns-then-at-vrp-clause-pruned
 node::Node::insert-returns-then-at-vrp-clause-pruned t c =

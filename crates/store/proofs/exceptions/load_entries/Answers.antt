@@ -19,7 +19,7 @@ returns-clause-found g c clean =
     let asks = c.select.ensures in
     let it = answered c.select.result.now [] _ old (state g.S.Store c.ask.new.conn) rows asks.plain asks.unlisted (c.requires.tables first) refl (c.in_ok-rows.ensures.shown clean) in
     IfOk-weaker c.read_all.result _ _ (λ entries shown charter all holds.
-    same_values g.T.FromRow.cells asks.once entries.items (g.T.Entry.items all.exceptions) (sym shown ∙ asks.found old.now rows it charter all holds))
+    same_values g.T.FromRow.cells asks.once entries.items (g.T.ExceptionEntry.items all.exceptions) (sym shown ∙ asks.found old.now rows it charter all holds))
     (rw c.deref.ensures.value at c.read_all.ensures.shown)
 
 pub returns-clause-schema : goal.returns-clause-schema
@@ -30,6 +30,6 @@ returns-clause-schema g c clean refused =
     let asks = c.select.ensures in
     let it = answered c.select.result.now [] _ old (state g.S.Store c.ask.new.conn) rows asks.plain asks.unlisted (c.requires.tables first) refl (c.in_ok-rows.ensures.shown clean) in (
       (c.in_ok-rows.ensures.asked.same clean).0.was_open,
-      λ charter all holds fit. all_show g.T.FromRow.cells g.T.FromRow.fits (g.T.Entry.items all.exceptions) _ fit (IsPermutation-refl _)
+      λ charter all holds fit. all_show g.T.FromRow.cells g.T.FromRow.fits (g.T.ExceptionEntry.items all.exceptions) _ fit (IsPermutation-refl _)
           (rw (asks.found old.now rows it charter all holds) at (rw c.deref.ensures.value at (c.read_all.ensures.schema refused))),
     )

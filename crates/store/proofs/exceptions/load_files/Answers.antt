@@ -11,17 +11,17 @@ use Rattle.store.proofs.exceptions.load_files.Goals as goal
 
 pub returns-in_err-filters-clause-schema : goal.returns-in_err-filters-clause-schema
 returns-in_err-filters-clause-schema g c clean is =
-    let told = c.load_entries.ensures.schema clean (refused_by c.load_entries.result c.from_residual.result c.in_err-filters.field-0.0 c.in_err-filters.was c.from_residual.ensures.1 is) in
-    (told.0, λ charter rows holds fit. told.1 charter rows holds fit.filters)
+    let refusal = c.load_entries.ensures.schema clean (refused_by c.load_entries.result c.from_residual.result c.in_err-filters.field-0.0 c.in_err-filters.was c.from_residual.ensures.1 is) in
+    (refusal.0, λ charter rows holds fit. refusal.1 charter rows holds fit.filters)
 
 pub returns-in_err-assertions-clause-schema : goal.returns-in_err-assertions-clause-schema
 returns-in_err-assertions-clause-schema g c clean is =
     let old = state g.S.Store c.args.conn.now in
     let mid = state g.S.Store c.load_entries.new.conn in
     let first = c.in_ok-filters.ensures.asked.same (omega (arith, clean, c.load_entries-2.ensures.asked.survives.clean)) in
-    let told = c.load_entries-2.ensures.schema clean
+    let refusal = c.load_entries-2.ensures.schema clean
     (refused_by c.load_entries-2.result c.from_residual-in_err-assertions.result c.in_err-assertions.field-0.0 c.in_err-assertions.was c.from_residual-in_err-assertions.ensures.1 is) in
-    (first.0.was_open, λ charter rows holds fit. told.1 charter rows (held_before old mid first.0.now_is charter rows holds) fit.assertions)
+    (first.0.was_open, λ charter rows holds fit. refusal.1 charter rows (held_before old mid first.0.now_is charter rows holds) fit.assertions)
 
 pub returns-clause-found : goal.returns-clause-found
 returns-clause-found g c clean =

@@ -6,7 +6,7 @@ use Rattle.tables.specs.Cells.{grant_cells, auth_cells}
 use Rattle.registry.specs.Values.{GrantFits, AuthFits}
 use Rattle.tables.specs.TablesHold.{items_if_any}
 use Rattle.tables.proofs.CellsOnce.{counters_of_rows}
-use Rattle.store.proofs.Loading.{AreCounters, CountersFit, counters_fit, all_spans_fit, grants_fit, auths_fit, first_counters, by_number, same_addresses, held_before, never_fit, none_loaded, all_loaded}
+use Rattle.store.proofs.Loading.{AreCounters, CountersFit, counters_fit, all_spans_fit, grants_fit, auths_fit, first_counters, by_number, same-permuted, held_before, never_fit, none_loaded, all_loaded}
 use Rattle.database.proofs.QueryLemmas.{refused_by}
 use Rattle.store.proofs.load.load_rows.Goals as goal
 
@@ -64,7 +64,7 @@ returns-clause-found g c clean charter all holds =
     let spans = c.in_ok-spans.ensures.found clean_2 charter all (held_before old (state g.S.Store c.load_values.new.conn) after_counters charter all holds) in
     let grants = c.in_ok-grants.ensures.found clean_3 charter all (held_before old (state g.S.Store c.load_values-2.new.conn) after_spans charter all holds) in
     let auths = c.in_ok-auths.ensures.found clean charter all (held_before old (state g.S.Store c.load_values-3.new.conn) after_grants charter all holds) in
-    all_loaded o c.in-Some.field-0 _ counters refl refl c.in_ok-joined.ensures.maximal
-    (λ a. rw c.deref-2.ensures.value at (c.in_ok-joined.ensures.same a) ∙ same_addresses _ c.in_ok-spans.spans.items spans a)
+    all_loaded o c.in-Some.field-0 _ counters refl refl c.in_ok-holdings_of.ensures.maximal
+    (λ a. rw c.deref-2.ensures.value at (c.in_ok-holdings_of.ensures.same a) ∙ same-permuted _ c.in_ok-spans.spans.items spans a)
     (grants, by_number grant_cells (λ x. x.number) (λ x. refl) c.in_ok-grants.grants.items (c.in_ok-grants.ensures.rising clean_3))
     (auths, by_number auth_cells (λ x. x.number) (λ x. refl) c.in_ok-auths.auths.items (c.in_ok-auths.ensures.rising clean))

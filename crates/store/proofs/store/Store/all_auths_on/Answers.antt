@@ -23,5 +23,5 @@ returns-clause-schema g c clean refused =
     let charter = c.self.inside.charter in
     let was : over charter old ≡ c.args.self.now = c.self.view_is in
     let before : HasCleanDisk (state g.S.Store old) = omega (arith, c.load_vrps.ensures.asked.survives.clean) in
-    let told = c.load_vrps.ensures.schema clean refused in
-    subst (λ store. (rows : AllRows) → Holds g.S.Store store rows → ¬ AllGiveOn rows c.args.day) was (λ rows holds. told.1 charter rows (holds before told.0))
+    let refusal = c.load_vrps.ensures.schema clean refused in
+    subst (λ store. (rows : AllRows) → Holds g.S.Store store rows → ¬ AllGiveOn rows c.args.day) was (λ rows holds. refusal.1 charter rows (holds before refusal.0))

@@ -12,6 +12,6 @@ returns-clause-schema g c clean refused =
     let old = c.self.inside.conn in
     let was : over c.self.inside.charter old ≡ c.args.self.now = c.self.view_is in
     let before : HasCleanDisk (state g.S.Store old) = omega (arith, c.load_rows.ensures.asked.survives.clean) in
-    let told = c.load_rows.ensures.schema clean refused in
+    let refusal = c.load_rows.ensures.schema clean refused in
     subst (λ store. (rows : AllRows) → Holds g.S.Store store rows → ¬ FitIfAny (rows.of_holder c.args.holder.now)) was
-    (λ rows holds. told.1 c.self.inside.charter rows (holds before told.0))
+    (λ rows holds. refusal.1 c.self.inside.charter rows (holds before refusal.0))

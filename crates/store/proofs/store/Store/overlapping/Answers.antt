@@ -15,4 +15,4 @@ returns-clause-found g c clean =
     let before : HasCleanDisk (state g.S.Store old) = omega (arith, c.some_overlap.ensures.asked.survives.clean) in
     let opened = (c.in_ok-some_overlap.ensures.asked.same clean).0.was_open in
     subst (λ store. (rows : AllRows) → Holds g.S.Store store rows → IsTrue c.in_ok-some_overlap.field-0 ↔ IsTaken rows p) was
-    (λ rows holds. let told = c.in_ok-some_overlap.ensures.found clean c.self.inside.charter rows (holds before opened) in (λ yes. (taken_iff rows p).0 (told.0 yes), λ taken. told.1 ((taken_iff rows p).1 taken)))
+    (λ rows holds. let found = c.in_ok-some_overlap.ensures.found clean c.self.inside.charter rows (holds before opened) in (λ yes. (taken_iff rows p).0 (found.0 yes), λ taken. found.1 ((taken_iff rows p).1 taken)))

@@ -1,7 +1,7 @@
 use Rattle.std.proofs.Common.{◌≡◌, ◌<◌, ◌++◌, [], ◌∷◌, arith, rules, sym, ◌∙◌, get_or}
 use Rattle.std.proofs.lemmas.List.{take_more}
 use Rattle.tables.proofs.AddressBytes.{room, below_more, bytes_next, address_read}
-use Rattle.tables.proofs.decode.address_in.Goals as goal
+use Rattle.tables.proofs.decode.address_from_bytes.Goals as goal
 
 pub overflow_mul-number : goal.overflow_mul-number
 overflow_mul-number c =

@@ -2,7 +2,7 @@ use Rattle.std.proofs.Common.{refl}
 use Rattle.store.specs.steps.RowEdits.{with_auths, with_created, with_new_auths}
 use Rattle.store.proofs.RowSteps.{done_after}
 use Rattle.database.proofs.StatementLemmas.{stays_then}
-use Rattle.store.proofs.change.create.Goals as goal
+use Rattle.store.proofs.change.put_new_auths.Goals as goal
 
 pub returns-clause-done : goal.returns-clause-done
 returns-clause-done g c =

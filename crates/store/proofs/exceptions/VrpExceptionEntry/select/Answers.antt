@@ -1,5 +1,5 @@
 use Rattle.store.proofs.EntriesFound.{selects_entries, assertions_query}
-use Rattle.store.proofs.exceptions.VrpEntry.select.Goals as goal
+use Rattle.store.proofs.exceptions.VrpExceptionEntry.select.Goals as goal
 
 pub returns : goal.returns
 returns c = selects_entries _ _ assertions_query

@@ -4,7 +4,7 @@ use Rattle.registry.specs.Rows.{edited}
 use Rattle.store.specs.steps.RowEdits.{with_grants, with_granted}
 use Rattle.store.proofs.RowSteps.{done_after}
 use Rattle.database.proofs.StatementLemmas.{stays_then}
-use Rattle.store.proofs.change.grant.Goals as goal
+use Rattle.store.proofs.change.put_new_grant.Goals as goal
 
 pub returns-clause-done : goal.returns-clause-done
 returns-clause-done g c =

@@ -1,9 +1,9 @@
 use Rattle.std.proofs.Common.{arith, refl}
 use Rattle.registry.specs.Rows.{Rows}
-use Rattle.store.specs.steps.RowEdits.{with_holdings, without_holdings, without_auths, held}
+use Rattle.store.specs.steps.RowEdits.{with_holdings, without_holdings, without_auths, with_replaced_holdings}
 use Rattle.store.proofs.RowSteps.{done_then, done_after}
 use Rattle.database.proofs.StatementLemmas.{stays_then}
-use Rattle.store.proofs.change.hold.Goals as goal
+use Rattle.store.proofs.change.replace_holdings.Goals as goal
 
 pub returns-in_err-put_rows-clause-inside : goal.returns-in_err-put_rows-clause-inside
 returns-in_err-put_rows-clause-inside g c = stays_then g.S.Store _ _ _ c.take_holdings.ensures.inside c.put_rows.ensures.inside
@@ -14,7 +14,7 @@ returns-clause-done g c =
     let gone = c.args.removed.now in
     let spans = c.args.added.now in
     let other : Rows → Rows = λ r. with_holdings spans (without_holdings gone r) in
-    done_after g.S.Store c.take_auths.result h other (without_auths c.args.ended.now) (held gone spans c.args.ended.now) c.args.tx.now _ _ (λ r. refl) c.take_auths.ensures.inside
+    done_after g.S.Store c.take_auths.result h other (without_auths c.args.ended.now) (with_replaced_holdings gone spans c.args.ended.now) c.args.tx.now _ _ (λ r. refl) c.take_auths.ensures.inside
     (λ clean. done_then h (without_holdings gone) (with_holdings spans) other _ _ _ (λ r. refl) (c.in_ok-take_holdings.ensures.done (omega (arith, c.put_rows.ensures.inside.survives.clean))) (c.in_ok-put_rows.ensures.done clean))
     c.take_auths.ensures.done
 

@@ -3,7 +3,7 @@ use Rattle.std.specs.Prelude.{⊤}
 use Rattle.tables.specs.Cells.{span_cells}
 use Rattle.tables.specs.Decode.{Decodes}
 use Rattle.tables.proofs.ReadLemmas.{span_reads}
-use Rattle.tables.proofs.decode.span_in.Goals as goal
+use Rattle.tables.proofs.decode.decode_span.Goals as goal
 
 pub returns : goal.returns
 returns c =

@@ -3,7 +3,7 @@ use Rattle.std.specs.Prelude.{⊤}
 use Rattle.tables.specs.Cells.{prefix_cells}
 use Rattle.tables.specs.Decode.{Decodes}
 use Rattle.tables.proofs.ReadLemmas.{prefix_reads}
-use Rattle.tables.proofs.decode.prefix_in.Goals as goal
+use Rattle.tables.proofs.decode.decode_prefix.Goals as goal
 
 pub returns : goal.returns
 returns c =
