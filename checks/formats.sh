@@ -39,6 +39,17 @@ check_lines() {
     awk 'NR % 2 == 0' "$work/1.jsonl" | diff - "$work/replied"
 }
 
+# Each word of the table of requests has a line.
+check_words() {
+    local word missing=0
+    for word in $(sed -n 's/.*Some("\([a-z]*\)").*/\1/p' "$top/crates/requests/src/table.rt"); do
+        grep -q "\"do\":\"$word\"" "$work/1.jsonl" && continue
+        echo "no line with the word $word"
+        missing=1
+    done
+    return "$missing"
+}
+
 # ask N PORT: the response to the request of block N.
 ask() {
     local connection
@@ -67,5 +78,6 @@ check_messages() {
 
 failed=0
 check_lines && echo "lines: as said" || failed=1
+check_words && echo "words: each has a line" || failed=1
 check_messages && echo "messages: as said" || failed=1
 exit "$failed"

@@ -4,3 +4,4 @@ pub mod PathLemmas
 pub mod RequestFaultLemmas
 pub mod RequestReadLemmas
 pub mod SlurmReadLemmas
+pub mod TableLemmas

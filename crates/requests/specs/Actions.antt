@@ -1,10 +1,8 @@
 -- What follows from the request alone.
 use Rattle.std.specs.Prelude.{◌==◌, not, Bool, length}
 use Rattle.http_messages.specs.declared.response.ContentType.{ContentType}
-use Rattle.http_messages.specs.declared.response.ContentType.TheVariants.{Csv, Json}
-use Rattle.requests.specs.RequestFaults.{body_members, names_of}
+use Rattle.requests.specs.RequestFaults.{body_members, form_of, names_of}
 use Rattle.requests.specs.declared.action.Action.{Action}
-use Rattle.requests.specs.declared.action.Action.TheVariants.{Export}
 
 -- an HTTP request has a body if it has members beside those that its path names
 abbrev pub takes_body : Action → Bool
@@ -12,5 +10,4 @@ takes_body action = not (length (names_of (body_members action)) == 0)
 
 -- the form in which an action asks for a list
 abbrev pub list_form : Action → ContentType
-list_form Export = Csv
-list_form _ = Json
+list_form action = (form_of action).list_form

@@ -1,6 +1,7 @@
--- Every fault of a line as a request, wherever it is in the line: the lowest of all is reported.
+-- The table of requests, and every fault of a line as one of them, wherever it is in the line: the lowest of all is
+-- reported.
 -- A line is judged by the tree that the JSON reader gives: of a repeated member it has the last value.
-use Rattle.std.specs.Prelude.{ℕ, nat_le, nat_lt, ◌&&◌, Bool, List, [], ◌∷◌, ◌++◌, map, length, codes, if◌then◌else◌, Option, Some, None, option_map, option_and_then}
+use Rattle.std.specs.Prelude.{ℕ, nat_le, nat_lt, ◌&&◌, Bool, false, List, [], ◌∷◌, ◌++◌, map, length, codes, if◌then◌else◌, Option, Some, None, option_map, option_and_then, find}
 use Rattle.std.specs.List.{flat_map}
 use Rattle.std.specs.Option.{option_to_list}
 use Rattle.std.specs.Str.{bytes_eq}
@@ -12,6 +13,12 @@ use Rattle.json_values.specs.Tree.{tree_of, list_of}
 use Rattle.json_values.specs.Values.{as_name, as_prefix, as_day, as_asn}
 use Rattle.slurm.specs.Fault.{slurm_fault_number}
 use Rattle.slurm.specs.SlurmFaults.{slurm_fault}
+use Rattle.http_messages.specs.declared.method.Method.{Method}
+use Rattle.http_messages.specs.declared.method.Method.TheVariants.{Get, Put, Post, Patch, Delete}
+use Rattle.http_messages.specs.declared.response.ContentType.{ContentType}
+use Rattle.http_messages.specs.declared.response.ContentType.TheVariants.{Csv, Json as JsonText}
+use Rattle.requests.specs.declared.path.Path.{Path}
+use Rattle.requests.specs.declared.path.Path.TheVariants as path
 use Rattle.requests.specs.RequestValues.{as_origin, as_max, as_number, as_role, as_scope}
 use Rattle.requests.specs.declared.request.TheConstants.{LINE_LENGTH_LIMIT}
 use Rattle.requests.specs.declared.malformed.Malformed.{Malformed}
@@ -123,27 +130,40 @@ list_faults item_faults least most (Some items) =
 
 -- ---- what is asked
 
+-- the requests, in the order of their table
+abbrev pub all_actions : List Action
+all_actions =
+    Register ∷ Delegate ∷ Reclaim ∷ Transfer ∷ Grant ∷ Revoke ∷ ListAction ∷ Create ∷ Show ∷ Amend ∷ Withdraw
+    ∷ Content ∷ Export ∷ Import ∷ WhatIf ∷ Slurm ∷ Payloads ∷ Validity ∷ []
+
+-- the word of a request in the member `do`, which a change has too; an export is no line
+abbrev pub word_of : Action → Option (List ℕ)
+word_of Register = Some (codes "register")
+word_of Delegate = Some (codes "delegate")
+word_of Reclaim = Some (codes "reclaim")
+word_of Transfer = Some (codes "transfer")
+word_of Grant = Some (codes "grant")
+word_of Revoke = Some (codes "revoke")
+word_of ListAction = Some (codes "list")
+word_of Create = Some (codes "create")
+word_of Show = Some (codes "show")
+word_of Amend = Some (codes "amend")
+word_of Withdraw = Some (codes "withdraw")
+word_of Content = Some (codes "content")
+word_of Export = None
+word_of Import = Some (codes "import")
+word_of WhatIf = Some (codes "whatif")
+word_of Slurm = Some (codes "slurm")
+word_of Payloads = Some (codes "payloads")
+word_of Validity = Some (codes "validity")
+
+abbrev pub is_word : List ℕ → Option (List ℕ) → Bool
+is_word text None = false
+is_word text (Some word) = bytes_eq word text
+
 -- what a member `do` says
 abbrev pub action_of : List ℕ → Option Action
-action_of text =
-    if bytes_eq text (codes "register") then Some Register
-    else (if bytes_eq text (codes "delegate") then Some Delegate
-    else (if bytes_eq text (codes "transfer") then Some Transfer
-    else (if bytes_eq text (codes "reclaim") then Some Reclaim
-    else (if bytes_eq text (codes "grant") then Some Grant
-    else (if bytes_eq text (codes "revoke") then Some Revoke
-    else (if bytes_eq text (codes "create") then Some Create
-    else (if bytes_eq text (codes "amend") then Some Amend
-    else (if bytes_eq text (codes "withdraw") then Some Withdraw
-    else (if bytes_eq text (codes "slurm") then Some Slurm
-    else (if bytes_eq text (codes "show") then Some Show
-    else (if bytes_eq text (codes "content") then Some Content
-    else (if bytes_eq text (codes "list") then Some ListAction
-    else (if bytes_eq text (codes "payloads") then Some Payloads
-    else (if bytes_eq text (codes "validity") then Some Validity
-    else (if bytes_eq text (codes "import") then Some Import
-    else (if bytes_eq text (codes "whatif") then Some WhatIf
-    else None))))))))))))))))
+action_of text = find (λ action. is_word text (word_of action)) all_actions
 
 abbrev pub action_in : Data → Option Action
 action_in d = option_and_then action_of (option_and_then as_str (get (codes "do") d))
@@ -188,49 +208,60 @@ pub data Named : Type 0 where
   HolderName : Named
   NumberGiven : Named
 
--- what a request names, and the members of what it says further, of which the body of an HTTP request is made
-pub record Parts : Type 0 where
+-- how a request is written: what it names, the members of what it says further, of which the body of an HTTP request is
+-- made, its method and path, and the form in which it asks for a list
+pub record RequestForm : Type 0 where
   pub names : List Named
   pub members : List (List ℕ × Kind)
+  pub method : Method
+  pub path : Path
+  pub list_form : ContentType
 
-abbrev names_nothing : List (List ℕ × Kind) → Parts
-names_nothing members = record { names = []; members = members }
+abbrev json_form : List Named → List (List ℕ × Kind) → Method → Path → RequestForm
+json_form names members method at =
+    record { names = names; members = members; method = method; path = at; list_form = JsonText }
 
-abbrev names_holder : List (List ℕ × Kind) → Parts
-names_holder members = record { names = HolderName ∷ []; members = members }
+abbrev names_nothing : List (List ℕ × Kind) → Method → Path → RequestForm
+names_nothing = json_form []
 
-abbrev names_number : List (List ℕ × Kind) → Parts
-names_number members = record { names = HolderName ∷ NumberGiven ∷ []; members = members }
+abbrev names_holder : List (List ℕ × Kind) → Method → Path → RequestForm
+names_holder = json_form (HolderName ∷ [])
+
+abbrev names_number : List (List ℕ × Kind) → Method → Path → RequestForm
+names_number = json_form (HolderName ∷ NumberGiven ∷ [])
 
 -- the table of requests
-abbrev pub parts_of : Action → Parts
-parts_of Register = names_holder []
-parts_of Delegate = names_holder ((codes "prefix", prefix) ∷ [])
-parts_of Transfer =
+abbrev pub form_of : Action → RequestForm
+form_of Register = names_holder [] Put path.Holder
+form_of Delegate = names_holder ((codes "prefix", prefix) ∷ []) Post path.Delegations
+form_of Reclaim = names_holder ((codes "prefix", prefix) ∷ []) Post path.Reclaims
+form_of Transfer =
     names_nothing ((codes "prefix", prefix) ∷ (codes "giver", holder_name) ∷ (codes "taker", holder_name) ∷ [])
-parts_of Reclaim = names_holder ((codes "prefix", prefix) ∷ [])
-parts_of Grant =
+    Post path.Transfers
+form_of Grant =
     names_holder
     ((codes "name", caller_name) ∷ (codes "role", role) ∷ (codes "scope", scope) ∷ (codes "until", day) ∷ [])
-parts_of Revoke = names_number []
-parts_of Create = names_holder terms_members
-parts_of Amend = names_number ((codes "max", max_length) ∷ (codes "until", day) ∷ [])
-parts_of Withdraw = names_number []
-parts_of Slurm = names_nothing ((codes "file", file) ∷ [])
-parts_of Show = names_number []
-parts_of Content = names_number []
-parts_of ListAction = names_holder []
-parts_of Export = names_holder []
-parts_of Import = names_holder ((codes "rows", rows) ∷ [])
-parts_of WhatIf = names_holder ((codes "changes", changes) ∷ (codes "routes", routes) ∷ [])
-parts_of Payloads = names_nothing []
-parts_of Validity = names_nothing ((codes "routes", routes) ∷ [])
+    Post path.Grants
+form_of Revoke = names_number [] Delete path.Grant
+form_of ListAction = names_holder [] Get path.Auths
+form_of Create = names_holder terms_members Post path.Auths
+form_of Show = names_number [] Get path.Auth
+form_of Amend = names_number ((codes "max", max_length) ∷ (codes "until", day) ∷ []) Patch path.Auth
+form_of Withdraw = names_number [] Delete path.Auth
+form_of Content = names_number [] Get path.Content
+form_of Export =
+    record { names = HolderName ∷ []; members = []; method = Get; path = path.Export; list_form = Csv }
+form_of Import = names_holder ((codes "rows", rows) ∷ []) Post path.Imports
+form_of WhatIf = names_holder ((codes "changes", changes) ∷ (codes "routes", routes) ∷ []) Post path.WhatIf
+form_of Slurm = names_nothing ((codes "file", file) ∷ []) Put path.Slurm
+form_of Payloads = names_nothing [] Get path.Payloads
+form_of Validity = names_nothing ((codes "routes", routes) ∷ []) Post path.Validity
 
 abbrev pub named_by : Action → List Named
-named_by action = (parts_of action).names
+named_by action = (form_of action).names
 
 abbrev pub body_members : Action → List (List ℕ × Kind)
-body_members action = (parts_of action).members
+body_members action = (form_of action).members
 
 abbrev pub named_member : Named → List ℕ × Kind
 named_member HolderName = (codes "holder", holder_name)

@@ -7,7 +7,7 @@ use Rattle.requests.specs.Actions.{takes_body}
 use Rattle.http_messages.specs.Fields.{Fields, only_value, values_of}
 use Rattle.http_messages.specs.Lengths.{body_length}
 use Rattle.requests.specs.Paths.{holder_piece, number_piece, path_of}
-use Rattle.requests.specs.Routes.{action_at, actions_of, methods_of}
+use Rattle.requests.specs.Routes.{action_at, methods_of}
 use Rattle.requests.specs.declared.action.Action.{Action}
 use Rattle.requests.specs.declared.path.Path.{Path}
 use Rattle.http_messages.specs.declared.refusal.Refusal.{Refusal}
@@ -53,7 +53,7 @@ head_as path target fields (Some action) =
 
 abbrev pub head_at : List ℕ → List ℕ → Fields → Option Path → Result Head Refusal
 head_at method target fields None = Err NotFound
-head_at method target fields (Some path) = head_as path target fields (action_at method (actions_of path))
+head_at method target fields (Some path) = head_as path target fields (action_at method path)
 
 -- what a method, a target and fields ask for, or their first fault
 abbrev pub head_of : List ℕ → List ℕ → Fields → Result Head Refusal

@@ -2,7 +2,6 @@
 ghost use Rattle.std.specs.Prelude.{◌≡◌};
 ghost use Rattle.requests.specs.Actions.{list_form, takes_body};
 
-use crate::request::action::body_members;
 use http_messages::ContentType;
 
 /// What a request asks for.
@@ -34,16 +33,13 @@ impl Action {
     pub fn takes_body(self) -> bool
         ensures { result ≡ takes_body self }
     {
-        !body_members(self).is_empty()
+        !self.form().body_members.is_empty()
     }
 
     /// The form in which it asks for a list.
     pub fn list_form(self) -> ContentType
         ensures { result ≡ list_form self }
     {
-        match self {
-            Action::Export => ContentType::Csv,
-            _ => ContentType::Json,
-        }
+        self.form().list_form
     }
 }

@@ -9,6 +9,7 @@ mod path;
 mod piece;
 mod request;
 mod router;
+mod table;
 
 pub use action::Action;
 pub use head::{FIELD_LIMIT, Head, RequestHeadFault, read_request_head};

@@ -1,9 +1,11 @@
 //! The paths of the desk and the methods that each has.
 ghost use Rattle.std.specs.Prelude.{◌≡◌, is_some};
 ghost use Rattle.http_messages.specs.Methods.{method_name};
-ghost use Rattle.requests.specs.Routes.{action_at, actions_of, methods_of, template_of};
+ghost use Rattle.requests.specs.RequestFaults.{form_of};
+ghost use Rattle.requests.specs.Routes.{action_at, is_asked_by, methods_of, template_of};
 
 use crate::action::Action;
+use crate::table::ACTIONS;
 use http_messages::{Method, Methods};
 
 /// A path of the table of routes.
@@ -50,33 +52,6 @@ impl Path {
         }
     }
 
-    /// The methods of the path in the order of the table, and what each asks for.
-    pub(crate) fn actions(self) -> &'static [(Method, Action)]
-        ensures { result.now ≡ actions_of self }
-    {
-        match self {
-            Path::Holder => &[(Method::Put, Action::Register)],
-            Path::Delegations => &[(Method::Post, Action::Delegate)],
-            Path::Reclaims => &[(Method::Post, Action::Reclaim)],
-            Path::Transfers => &[(Method::Post, Action::Transfer)],
-            Path::Grants => &[(Method::Post, Action::Grant)],
-            Path::Grant => &[(Method::Delete, Action::Revoke)],
-            Path::Auths => &[(Method::Get, Action::List), (Method::Post, Action::Create)],
-            Path::Auth => &[
-                (Method::Get, Action::Show),
-                (Method::Patch, Action::Amend),
-                (Method::Delete, Action::Withdraw),
-            ],
-            Path::Content => &[(Method::Get, Action::Content)],
-            Path::Export => &[(Method::Get, Action::Export)],
-            Path::Imports => &[(Method::Post, Action::Import)],
-            Path::WhatIf => &[(Method::Post, Action::WhatIf)],
-            Path::Slurm => &[(Method::Put, Action::Slurm)],
-            Path::Payloads => &[(Method::Get, Action::Payloads)],
-            Path::Validity => &[(Method::Post, Action::Validity)],
-        }
-    }
-
     /// The methods by which the path asks for something.
     pub(crate) fn methods(self) -> Methods
         ensures { result ≡ methods_of self }
@@ -92,20 +67,28 @@ impl Path {
 
     /// Whether the path has this method.
     fn has(self, method: Method) -> bool
-        ensures { result ≡ is_some (action_at (method_name method) (actions_of self)) }
+        ensures { result ≡ is_some (action_at (method_name method) self) }
     {
         self.action(method.name().as_bytes()).is_some()
     }
 
     /// What a method of this name asks for at the path.
     pub(crate) fn action(self, method: &[u8]) -> Option<Action>
-        ensures { result ≡ action_at method.now (actions_of self) }
+        ensures { result ≡ action_at method.now self }
     {
-        for (name, action) in self.actions() {
-            if name.name().as_bytes() == method {
+        for action in ACTIONS {
+            if self.is_asked(method, *action) {
                 return Some(*action);
             }
         }
         None
+    }
+
+    /// Whether a method of this name asks for that at the path.
+    fn is_asked(self, method: &[u8], action: Action) -> bool
+        ensures { result ≡ is_asked_by method.now self (form_of action) }
+    {
+        let form = action.form();
+        form.path == self && form.method.name().as_bytes() == method
     }
 }

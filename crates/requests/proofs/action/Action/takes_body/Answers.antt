@@ -3,4 +3,4 @@ use Rattle.std.proofs.lemmas.List.{length-map}
 use Rattle.requests.proofs.action.Action.takes_body.Goals as goal
 
 pub returns : goal.returns
-returns c = rw (c.is_empty.ensures, ← c.body_members.ensures, length-map) refl
+returns c = rw (c.is_empty.ensures, ← c.form.ensures.body, length-map) refl

@@ -1,6 +1,9 @@
-use Rattle.std.proofs.Common.{◌≡◌, drop}
-use Rattle.requests.specs.Routes.{action_at, actions_of}
+use Rattle.std.proofs.Common.{◌≡◌, drop, find}
+use Rattle.requests.specs.RequestFaults.{form_of}
+use Rattle.requests.specs.Routes.{action_at, is_asked_by}
 use Rattle.requests.proofs.path.Path.action.Given as goal
 
-abbrev pub invariant-loop-name : goal.invariant-loop-name
-invariant-loop-name l = action_at l.method (drop l.name-index l.name-items) ≡ action_at l.method (actions_of l.fn.self)
+abbrev pub invariant-loop-action : goal.invariant-loop-action
+invariant-loop-action l =
+    find (λ action. is_asked_by l.method l.self (form_of action)) (drop l.action-index l.action-items)
+    ≡ action_at l.method l.fn.self

@@ -1,0 +1,113 @@
+//! The table of requests.
+ghost use Rattle.std.specs.Prelude.{◌≡◌, map, option_map};
+ghost use Rattle.requests.specs.RequestFaults.{body_members, form_of, members_of, names_of, word_of};
+
+use crate::action::Action;
+use crate::path::Path;
+use http_messages::{ContentType, Method};
+
+/// All requests, in the order of the table.
+pub(crate) const ACTIONS: &[Action] = &[
+    Action::Register,
+    Action::Delegate,
+    Action::Reclaim,
+    Action::Transfer,
+    Action::Grant,
+    Action::Revoke,
+    Action::List,
+    Action::Create,
+    Action::Show,
+    Action::Amend,
+    Action::Withdraw,
+    Action::Content,
+    Action::Export,
+    Action::Import,
+    Action::WhatIf,
+    Action::Slurm,
+    Action::Payloads,
+    Action::Validity,
+];
+
+/// A row of the table: how a request is written.
+#[derive(Clone, Copy, Debug)]
+pub(crate) struct RequestForm {
+    /// Its word in `do`; `None` where no line asks for it.
+    pub(crate) word: Option<&'static str>,
+    /// The members of its line: those of every line, what it names, and those of its body.
+    pub(crate) line_members: &'static [&'static str],
+    pub(crate) body_members: &'static [&'static str],
+    pub(crate) method: Method,
+    pub(crate) path: Path,
+    /// The form in which it asks for a list.
+    pub(crate) list_form: ContentType,
+}
+
+/// A row: the word, the members that name something, the further members, the method, the path and
+/// the form in which it asks for a list.
+macro_rules! row {
+    (
+        $word:expr, [$($named:literal),*] [$($member:literal),*],
+        $method:ident $path:ident $list:ident
+    ) => {
+        RequestForm {
+            word: $word,
+            line_members: &["day", "caller", "do", $($named,)* $($member,)*],
+            body_members: &[$($member,)*],
+            method: Method::$method,
+            path: Path::$path,
+            list_form: ContentType::$list,
+        }
+    };
+}
+
+impl Action {
+    /// The row of the request.
+    pub(crate) fn form(self) -> RequestForm
+        ensures word { option_map (λ word. word.now) result.word ≡ word_of self }
+        ensures line { map (λ name. name.now) result.line_members.now ≡ names_of (members_of self) }
+        ensures body { map (λ name. name.now) result.body_members.now
+            ≡ names_of (body_members self) }
+        ensures method { result.method ≡ (form_of self).method }
+        ensures path { result.path ≡ (form_of self).path }
+        ensures list { result.list_form ≡ (form_of self).list_form }
+    {
+        match self {
+            Action::Register => row!(Some("register"), ["holder"] [], Put Holder Json),
+            Action::Delegate => row!(
+                Some("delegate"), ["holder"] ["prefix"],
+                Post Delegations Json
+            ),
+            Action::Reclaim => row!(Some("reclaim"), ["holder"] ["prefix"], Post Reclaims Json),
+            Action::Transfer => row!(
+                Some("transfer"), [] ["prefix", "giver", "taker"],
+                Post Transfers Json
+            ),
+            Action::Grant => row!(
+                Some("grant"), ["holder"] ["name", "role", "scope", "until"],
+                Post Grants Json
+            ),
+            Action::Revoke => row!(Some("revoke"), ["holder", "number"] [], Delete Grant Json),
+            Action::List => row!(Some("list"), ["holder"] [], Get Auths Json),
+            Action::Create => row!(
+                Some("create"), ["holder"] ["asn", "prefix", "max", "from", "until"],
+                Post Auths Json
+            ),
+            Action::Show => row!(Some("show"), ["holder", "number"] [], Get Auth Json),
+            Action::Amend => row!(
+                Some("amend"), ["holder", "number"] ["max", "until"],
+                Patch Auth Json
+            ),
+            Action::Withdraw => row!(Some("withdraw"), ["holder", "number"] [], Delete Auth Json),
+            Action::Content => row!(Some("content"), ["holder", "number"] [], Get Content Json),
+            Action::Export => row!(None, ["holder"] [], Get Export Csv),
+            Action::Import => row!(Some("import"), ["holder"] ["rows"], Post Imports Json),
+            Action::WhatIf => row!(
+                Some("whatif"), ["holder"] ["changes", "routes"],
+                Post WhatIf Json
+            ),
+            Action::Slurm => row!(Some("slurm"), [] ["file"], Put Slurm Json),
+            Action::Payloads => row!(Some("payloads"), [] [], Get Payloads Json),
+            Action::Validity => row!(Some("validity"), [] ["routes"], Post Validity Json),
+        }
+    }
+}
