@@ -1,6 +1,6 @@
 //! The texts of replies, and writes that fail.
 use addr::{Asn, Day, Prefix, Vrp};
-use desk::Reply;
+use desk::{Reply, Vrps};
 use library_conformance::sheet::Sheet;
 use payload::Validity;
 use policy::{Auth, Rule};
@@ -107,11 +107,11 @@ fn prints_authorizations(rt: HostRuntime) -> Result<(), Fail> {
 #[test]
 fn prints_vrps_and_states(rt: HostRuntime) -> Result<(), Fail> {
     let alloc = rt.alloc();
-    let none = Reply::Payloads(Vec::new(alloc));
+    let none = Reply::Payloads(Vrps::from(Vec::new(alloc)));
     assert_printed(&rt, alloc, &none, "{\"payloads\":[]}\n");
     let v4 = vrp(64496, "192.0.2.0/24", 24)?;
     let v6 = vrp(4_294_967_295, "::/0", 128)?;
-    let two = Reply::Payloads(vec![in alloc; v4, v6]?);
+    let two = Reply::Payloads(Vrps::from(vec![in alloc; v4, v6]?));
     let payloads =
         "{\"payloads\":[{\"asn\":64496,\"prefix\":\"192.0.2.0/24\",\"max\":24},{\"asn\":4294967295,\"prefix\":\"::/0\",\"max\":128}]}\n";
     assert_printed(&rt, alloc, &two, payloads);

@@ -1,9 +1,9 @@
 -- The VRPs that changes at a holder would exchange.
-use Rattle.std.proofs.Common.{◌≡◌, ℕ, ◌≤◌, Bool, true, false, not, ◌↔◌, inl, inr, List, [], ◌∷◌, ◌++◌, Option, Some, None, Err, IfSome, refl, sym, ap, ◌∙◌, subst, length, Contains, filter, arith}
+use Rattle.std.proofs.Common.{◌≡◌, ℕ, ◌≤◌, Bool, true, false, not, ◌↔◌, ◌⊎◌, inl, inr, List, [], ◌∷◌, ◌++◌, Option, Some, None, Err, IfSome, refl, sym, ap, ◌∙◌, subst, length, Contains, filter, arith}
 use Rattle.std.specs.Prelude.{IsSome}
 use Rattle.std.specs.List.{list_all, list_any}
 use Rattle.std.specs.Option.{option_to_list}
-use Rattle.std.proofs.lemmas.Bool.{and_from, and_parts, cases_Bool, eqb-true, false≢true, le-leb, not-true, true≢false}
+use Rattle.std.proofs.lemmas.Bool.{and_from, and_parts, cases_Bool, eqb-true, false≢true, le-leb, not-true, or_parts, true≢false}
 use Rattle.std.proofs.lemmas.List.Elements.{Contains-append_left, Contains-append_right, Contains-append_cases}
 use Rattle.addr.proofs.Equality.{equal_prefix}
 use Rattle.addr.specs.Order.{same_vrp}
@@ -18,6 +18,7 @@ use Rattle.registry.proofs.Names.{same_name-true}
 use Rattle.registry.proofs.Unregistered.{has_nothing}
 use Rattle.registry.specs.Answer.{IsHypotheticalAnswer}
 use Rattle.registry.specs.DailyVrps.{IsVrpInForce}
+use Rattle.registry.specs.ExceptionsInForce.{exceptions_in_force}
 use Rattle.registry.specs.History.{History, same_name}
 use Rattle.registry.specs.HypotheticalHistory.{HypotheticalHistory}
 use Rattle.registry.specs.Rows.{Rows, RowsOf, RowsIfAny}
@@ -25,6 +26,7 @@ use Rattle.registry.specs.RowsOfAll.{AllRows, HasRows}
 use Rattle.registry.specs.Terms.{authorization_terms, share_vrp, AreActive, HeldSinceMade, IsActive, IsVrpOf, Keeps}
 use Rattle.registry.specs.Verdict.{terms_fit_length, IsLegal}
 use Rattle.registry.specs.declared.authorization.Auth.{Auth}
+use Rattle.charters.specs.Repeats.{has_repeat}
 use Rattle.charters.specs.declared.charter.Charter.{Charter}
 use Rattle.registry.specs.declared.command.Proposed.{Proposed}
 use Rattle.registry.specs.declared.rule.Refusal.{Refusal}
@@ -32,7 +34,7 @@ use Rattle.registry.specs.declared.rule.Refusal.TheVariants.{Denied, Memory}
 use Rattle.slurm.specs.Exceptions.{Exceptions}
 use Rattle.store.specs.Loads.{AreFilesOf}
 use Rattle.desk.specs.Answer.{refused_with, AnswersWhatIf}
-use Rattle.desk.specs.steps.WhatIf.{auths_if_any, AreInForceOn, AreVrpsOf, Exchanges, GivesOn, IsExchanged, WouldExchange}
+use Rattle.desk.specs.steps.WhatIf.{auths_if_any, AreGivingOn, AreInForceOn, AreVrpsOf, Exchanges, GivesOn, IsExchanged, WouldExchange}
 use Rattle.desk.proofs.DailyLemmas.{any_among, at_head, head_or_tail, kept_is, kept_was, none_in_nil}
 use Rattle.desk.proofs.ExceptionLemmas.{kept_or_more}
 use Rattle.desk.proofs.ExportLemmas.{is_among, items_such}
@@ -193,51 +195,129 @@ given_once xs ys none v x y in_xs in_ys is also =
     let here = all_among (λ z. not (list_any (λ w. share_vrp z w) ys)) xs x none in_xs in
     true≢false (sym (any_among (λ w. share_vrp x w) ys y in_ys (shared_vrp x y v is also)) ∙ not-true _ here)
 
-module _ (shared : NoSharedVrp) (charter : Charter) (before after : History) (holder : List ℕ) (day : ℕ) (all : AllRows)
-    (legal : IsLegal charter before) (legal_after : IsLegal charter after) (has : HasRows all before) (differ : DifferAtMostAt holder before after)
-    (mine later : List Auth) (are_mine : AreActive before holder mine) (are_later : AreActive after holder later)
-    (removed added : List Vrp) (are_removed : AreVrpsOf mine day removed) (are_added : AreVrpsOf later day added) where
-  -- the active authorizations of another holder, before and after
-  others : (h : List ℕ) → same_name holder h ≡ false → (auths : List Auth) × AreActive before h auths × AreActive after h auths
-  others h other =
+-- in a list without a repeat one authorization alone gives a VRP
+given_by_one : (xs : List Auth) → has_repeat share_vrp xs ≡ false → (v : Vrp) (x y : Auth) → Contains xs x → Contains xs y → IsVrpOf x v → IsVrpOf y v → x ≡ y
+given_by_one [] once v x y there also is too = absurd (none_in_nil x there)
+given_by_one (z ∷ zs) once v x y there also is too =
+    let parts = or_parts (list_any (λ w. share_vrp z w) zs) (has_repeat share_vrp zs) once in
+    elim (head_or_tail z zs x there) [
+      | inl first ↦ elim (head_or_tail z zs y also) [
+        | inl same ↦ sym first ∙ same
+        | inr later ↦ absurd (no_more parts.0 y later (subst (λ (w : Auth). IsVrpOf w v) (sym first) is) too)
+      ]
+      | inr rest ↦ elim (head_or_tail z zs y also) [
+        | inl same ↦ absurd (no_more parts.0 x rest (subst (λ (w : Auth). IsVrpOf w v) (sym same) too) is)
+        | inr later ↦ given_by_one zs parts.1 v x y rest later is too
+      ]
+    ]
+  where
+    no_more : list_any (λ w. share_vrp z w) zs ≡ false → (w : Auth) → Contains zs w → IsVrpOf z v → IsVrpOf w v → ⊥
+    no_more none w in_zs of_z of_w = true≢false (sym (any_among (λ u. share_vrp z u) zs w in_zs (shared_vrp z w v of_z of_w)) ∙ none)
+
+-- ---- authorizations that end and begin
+
+-- from the one history to the other, the ended authorizations of the holder are active no more, and then the begun ones
+-- are; all others, of whatever holder, stay as they are; an amendment ends one and begins one of the same number
+pub record EndsAndBegins (before after : History) (holder : List ℕ) (ended begun : List Auth) : Type 0 where
+  pub were : (x : Auth) → Contains ended x → IsActive before holder x
+  pub own : (x : Auth) → IsActive after holder x ↔ ((IsActive before holder x × ¬ Contains ended x) ⊎ Contains begun x)
+  pub others : (h : List ℕ) (x : Auth) → same_name holder h ≡ false → IsActive after h x ↔ IsActive before h x
+
+module _ (shared : NoSharedVrp) (charter : Charter) (before : History) (all : AllRows) (legal : IsLegal charter before) (has : HasRows all before) where
+  active_of : (h : List ℕ) → (auths : List Auth) × AreActive before h auths
+  active_of h = (auths_if_any (all.of_holder h), active_rows charter before h (all.of_holder h) legal (has.holders h))
+
+  -- of all active authorizations one alone gives a VRP
+  one_gives : (g h : List ℕ) (x y : Auth) (v : Vrp) → IsActive before g x → IsActive before h y → IsVrpOf x v → IsVrpOf y v → (same_name g h ≡ true) × (x ≡ y)
+  one_gives g h x y v active also is too =
+      let xs = active_of g in
+      let in_xs = has_active before g xs.0 xs.1 in
+      elim (cases_Bool (same_name g h)) [
+        | inl same ↦
+            let active_too = subst (λ (k : List ℕ). IsActive before k y) (sym (same_name-true g h same)) also in
+            (same, given_by_one xs.0 ((shared charter before legal).0 g xs.0 xs.1) v x y (in_xs x active) (in_xs y active_too) is too)
+        | inr other ↦
+            let ys = active_of h in
+            let none = (shared charter before legal).1 g h xs.0 ys.0 other xs.1 ys.1 in
+            absurd (given_once xs.0 ys.0 none v x y (in_xs x active) (has_active before h ys.0 ys.1 y also) is too)
+      ]
+
+  module _ (after : History) (holder : List ℕ) (ended begun : List Auth) (turns : EndsAndBegins before after holder ended begun) (day : ℕ) where
+    -- no ended authorization gives a VRP of one that stays
+    none_ended : (h : List ℕ) (x : Auth) (v : Vrp) → IsActive before h x → IsVrpOf x v → (same_name holder h ≡ true → ¬ Contains ended x) → ¬ AreGivingOn ended day v
+    none_ended h x v active is stays gone =
+        let one = one_gives holder h gone.0 x v (turns.were gone.0 gone.1) active gone.2.2 is in
+        stays one.0 (subst (Contains ended) one.1 gone.1)
+
+    goes : (v : Vrp) → IsVrpInForce after day v → (IsVrpInForce before day v × ¬ AreGivingOn ended day v) ⊎ AreGivingOn begun day v
+    goes v (h, x, (active, since, to), is) =
+        elim (cases_Bool (same_name holder h)) [
+          | inl own ↦
+              let at_holder = subst (λ (k : List ℕ). IsActive after k x) (sym (same_name-true holder h own)) active in
+              elim ((turns.own x).0 at_holder) [
+                | inl stays ↦ inl ((holder, x, (stays.0, since, to), is), none_ended holder x v stays.0 is (λ _. stays.1))
+                | inr new ↦ inr (x, new, (since, to, is))
+              ]
+          | inr other ↦
+              let was = (turns.others h x other).0 active in
+              inl ((h, x, (was, since, to), is), none_ended h x v was is (λ own. absurd (true≢false (sym own ∙ other))))
+        ]
+
+    comes : (v : Vrp) → (IsVrpInForce before day v × ¬ AreGivingOn ended day v) ⊎ AreGivingOn begun day v → IsVrpInForce after day v
+    comes v (inl ((h, x, (active, since, to), is), stays)) =
+        elim (cases_Bool (same_name holder h)) [
+          | inl own ↦
+              let at_holder = subst (λ (k : List ℕ). IsActive before k x) (sym (same_name-true holder h own)) active in
+              (holder, x, ((turns.own x).1 (inl (at_holder, λ gone. stays (x, gone, (since, to, is)))), since, to), is)
+          | inr other ↦ (h, x, ((turns.others h x other).1 active, since, to), is)
+        ]
+    comes v (inr (x, new, (since, to, is))) = (holder, x, ((turns.own x).1 (inr new), since, to), is)
+
+    -- the VRPs of the ended authorizations are in force no more, and those of the begun ones are
+    pub in_force_then : (v : Vrp) → IsVrpInForce after day v ↔ ((IsVrpInForce before day v × ¬ AreGivingOn ended day v) ⊎ AreGivingOn begun day v)
+    in_force_then v = (goes v, comes v)
+
+    -- so they are exchanged
+    pub exchanges : (removed added : List Vrp) → AreVrpsOf ended day removed → AreVrpsOf begun day added → exceptions_in_force after ≡ exceptions_in_force before
+        → Exchanges before after day removed added
+    exchanges removed added are_removed are_added same = record {
+      vrps = λ v. (
+        λ is. elim ((in_force_then v).0 is) [
+          | inl kept ↦ inl (kept.0, λ there. kept.1 ((are_removed v).0 there))
+          | inr new ↦ inr ((are_added v).1 new)
+        ],
+        λ is. elim is [
+          | inl kept ↦ (in_force_then v).1 (inl (kept.0, λ gone. kept.1 ((are_removed v).1 gone)))
+          | inr new ↦ (in_force_then v).1 (inr ((are_added v).0 new))
+        ],
+      );
+      exceptions = same;
+    }
+
+-- ---- the exchange that a what-if makes
+
+-- all active authorizations of the holder end, and all of its hypothetical ones begin
+all_turn : (charter : Charter) (before after : History) (holder : List ℕ) (all : AllRows) → IsLegal charter before → IsLegal charter after → HasRows all before
+    → DifferAtMostAt holder before after → (mine later : List Auth) → AreActive before holder mine → AreActive after holder later
+    → EndsAndBegins before after holder mine later
+all_turn charter before after holder all legal legal_after has differ mine later are_mine are_later = record {
+  were = is_active before holder mine are_mine;
+  own = λ x. (
+    λ active. inr (has_active after holder later are_later x active),
+    λ is. elim is [
+      | inl kept ↦ absurd (kept.1 (has_active before holder mine are_mine x kept.0))
+      | inr new ↦ is_active after holder later are_later x new
+    ],
+  );
+  others = λ h x other.
       let rows = all.of_holder h in
-      let is = has.holders h in
-      (auths_if_any rows, active_rows charter before h rows legal is, active_rows charter after h rows legal_after ((differ.others h rows other).0 is))
-
-  goes : (v : Vrp) → IsVrpInForce after day v → IsExchanged removed added (IsVrpInForce before day v) v
-  goes v is =
-      elim (cases_Bool (same_name holder is.0)) [
-        | inl own ↦
-            let active = subst (λ (h : List ℕ). IsActive after h is.1) (sym (same_name-true holder is.0 own)) is.2.0 in
-            inr ((are_added v).1 (is.1, has_active after holder later are_later is.1 active, (is.2.1, is.2.2, is.3)))
-        | inr other ↦
-            let auths = others is.0 other in
-            let there = has_active after is.0 auths.0 auths.2 is.1 is.2.0 in
-            let none = (shared charter before legal).1 holder is.0 mine auths.0 other are_mine auths.1 in
-            inl (
-              (is.0, is.1, (is_active before is.0 auths.0 auths.1 is.1 there, is.2.1, is.2.2), is.3),
-              λ taken. let from = (are_removed v).0 taken in given_once mine auths.0 none v from.0 is.1 from.1 there from.2.2 is.3,
-            )
-      ]
-
-  comes : (v : Vrp) → IsExchanged removed added (IsVrpInForce before day v) v → IsVrpInForce after day v
-  comes v (inl kept) =
-      let is = kept.0 in
-      elim (cases_Bool (same_name holder is.0)) [
-        | inl own ↦
-            let active = subst (λ (h : List ℕ). IsActive before h is.1) (sym (same_name-true holder is.0 own)) is.2.0 in
-            absurd (kept.1 ((are_removed v).1 (is.1, has_active before holder mine are_mine is.1 active, (is.2.1, is.2.2, is.3))))
-        | inr other ↦
-            let auths = others is.0 other in
-            let there = has_active before is.0 auths.0 auths.1 is.1 is.2.0 in
-            (is.0, is.1, (is_active after is.0 auths.0 auths.2 is.1 there, is.2.1, is.2.2), is.3)
-      ]
-  comes v (inr new) =
-      let from = (are_added v).0 new in
-      (holder, from.0, (is_active after holder later are_later from.0 from.1, from.2.0, from.2.1), from.2.2)
-
-  exchanges : Exchanges before after day removed added
-  exchanges = record { vrps = λ v. (goes v, comes v); exceptions = sym differ.exceptions }
+      let auths = auths_if_any rows in
+      let was = active_rows charter before h rows legal (has.holders h) in
+      let is = active_rows charter after h rows legal_after ((differ.others h rows other).0 (has.holders h)) in (
+        λ active. is_active before h auths was x (has_active after h auths is x active),
+        λ active. is_active after h auths is x (has_active before h auths was x active),
+      );
+}
 
 -- the changes exchange what the holder's authorizations give for what those give that they would leave
 pub would_exchange : NoSharedVrp → HypotheticalIsLegal → HypotheticalKeepsOthers → (charter : Charter) (history after : History) (day : ℕ) (caller holder : List ℕ) (changes : List Proposed)
@@ -245,10 +325,11 @@ pub would_exchange : NoSharedVrp → HypotheticalIsLegal → HypotheticalKeepsOt
     → HypotheticalHistory charter day caller holder history changes after → RowsOf after holder later
     → (removed added : List Vrp) → AreVrpsOf (auths_if_any rows) day removed → AreVrpsOf later.auths day added
     → WouldExchange charter history day caller holder changes removed added
-would_exchange shared legally others_keep charter history after day caller holder changes all legal has rows later of would of_later removed added are_removed are_added = (
-  after,
-  would,
-  exchanges shared charter history after holder day all legal (legally charter day caller holder history changes after legal would) has
-      (others_keep charter day caller holder history changes after legal would)
-      (auths_if_any rows) later.auths (active_rows charter history holder rows legal of) of_later.auths removed added are_removed are_added,
-)
+would_exchange shared legally others_keep charter history after day caller holder changes all legal has rows later of would of_later removed added are_removed are_added =
+    let differ = others_keep charter day caller holder history changes after legal would in
+    let turns = all_turn charter history after holder all legal (legally charter day caller holder history changes after legal would) has differ
+    (auths_if_any rows) later.auths (active_rows charter history holder rows legal of) of_later.auths in (
+      after,
+      would,
+      exchanges shared charter history all legal has after holder (auths_if_any rows) later.auths turns day removed added are_removed are_added (sym differ.exceptions),
+    )

@@ -100,7 +100,7 @@ AnswersList history h day caller other = ⊥
 
 -- the reply to a request for the VRPs of a day
 abbrev pub AnswersPayloads : History → ℕ → Reply → Type 0
-AnswersPayloads history day (Payloads vrps) = AreVrpsOn history day vrps.items
+AnswersPayloads history day (Payloads vrps) = AreVrpsOn history day vrps
 AnswersPayloads history day Unavailable = Unit {0}
 AnswersPayloads history day other = ⊥
 

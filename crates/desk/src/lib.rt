@@ -8,7 +8,9 @@ mod gathering;
 mod handling;
 pub mod laws;
 mod reply;
+mod vrps;
 
 pub use handling::Desk;
 pub use registry::{Asked, Request};
 pub use reply::Reply;
+pub use vrps::Vrps;

@@ -1,5 +1,5 @@
 //! What the desk answers.
-use addr::Vrp;
+use crate::Vrps;
 use payload::Validity;
 use registry::{Auth, Refusal, Rule};
 use std::alloc::AllocError;
@@ -19,7 +19,7 @@ pub enum Reply {
     /// The octets of an authorization's ROA content, in lower-case hex.
     Content(String),
     /// The VRPs of the day, rising.
-    Payloads(Vec<Vrp>),
+    Payloads(Vrps),
     /// In the order of the routes.
     Answers(Vec<Validity>),
     /// Of each route, in their order: the state now, and after the changes.

@@ -60,7 +60,7 @@ long-status Unavailable long = cc
 long-status other long = refl
 
 -- what CSV has no rows for
-pub csv-other : (reply : Reply) → ((auths : Vec Auth) → reply ≡ Listed auths → ⊥) → ((vrps : Vec Vrp) → reply ≡ Payloads vrps → ⊥)
+pub csv-other : (reply : Reply) → ((auths : Vec Auth) → reply ≡ Listed auths → ⊥) → ((vrps : List Vrp) → reply ≡ Payloads vrps → ⊥)
     → line_text reply ≡ reply_body Csv reply
 csv-other (Listed auths) no_list no_payloads = absurd (no_list auths refl)
 csv-other (Payloads vrps) no_list no_payloads = absurd (no_payloads vrps refl)

@@ -38,7 +38,7 @@ reply_type form _ = Json
 
 abbrev pub reply_body : ContentType → Reply → List ℕ
 reply_body Csv (Listed auths) = csv_text list_header list_row auths.items
-reply_body Csv (Payloads vrps) = csv_text payload_header payload_row vrps.items
+reply_body Csv (Payloads vrps) = csv_text payload_header payload_row vrps
 reply_body _ reply = line_text reply
 
 -- a reply, with lists in this form

@@ -9,10 +9,10 @@ ghost use Rattle.desk.specs.Desk.{charter_of, OfHistories};
 ghost use Rattle.desk.specs.steps.WhatIf.{AreInForceOn};
 
 use super::Desk;
-use crate::Reply;
 use crate::content::content_text;
 use crate::exceptions::excepted;
 use crate::gathering::{gather, judge};
+use crate::{Reply, Vrps};
 use addr::{Day, Name, Route, Vrp};
 use payload::Trie;
 use registry::Query;
@@ -121,7 +121,8 @@ impl<S: Alter> Desk<S> {
         ensures never_done { IfOk result (λ reply. is_accepted reply ≡ false) }
     {
         let index = self.index_on(day)?;
-        Ok(Reply::Payloads(gather(self.alloc, &index)?))
+        let vrps = gather(self.alloc, &index)?;
+        Ok(Reply::Payloads(Vrps::from(vrps)))
     }
 
     /// The state of each route on the day.
