@@ -76,6 +76,7 @@ pub fn read_import(alloc: Global, text: &[u8]) -> Read<Vec<ImportRow>, ImportFau
     Ok(read)
 }
 
+/// The rows below the header, or the lowest fault, computed as the definition does.
 fn import_in(alloc: Global, text: &[u8]) -> Read<Vec<ImportRow>, ImportFault>
     ensures { IfOk result (λ read. mapped (λ v. v.items) read ≡ import_in text.now) }
 {
@@ -87,6 +88,7 @@ fn import_in(alloc: Global, text: &[u8]) -> Read<Vec<ImportRow>, ImportFault>
     Ok(counted(rows))
 }
 
+/// Reads the rows that are left.
 fn read_rows(alloc: Global, records: &mut CsvRecords<'_>) -> Read<Vec<ImportRow>, ImportFault>
     requires { IsReading records.old }
     ensures { IfOk result (λ read. mapped (λ v. v.items) read
@@ -99,6 +101,7 @@ fn read_rows(alloc: Global, records: &mut CsvRecords<'_>) -> Read<Vec<ImportRow>
     Ok(gathered.finish())
 }
 
+/// Refuses rows without a fault of their own that are too many, or none.
 fn counted(rows: Result<Vec<ImportRow>, ImportFault>) -> Result<Vec<ImportRow>, ImportFault>
     ensures { mapped (λ v. v.items) result ≡ and_then counted (mapped (λ v. v.items) rows) }
 {
@@ -110,6 +113,7 @@ fn counted(rows: Result<Vec<ImportRow>, ImportFault>) -> Result<Vec<ImportRow>, 
     }
 }
 
+/// The row that a record says, or its lowest fault.
 fn read_row(row: &ByteRecord) -> Result<ImportRow, ImportFault>
     ensures { result ≡ row_in (fields_of row.now) }
 {
@@ -125,6 +129,7 @@ fn read_row(row: &ByteRecord) -> Result<ImportRow, ImportFault>
     )
 }
 
+/// The row of its five fields, where each was read.
 fn row_of(
     asn: Option<Asn>,
     prefix: Option<Prefix>,
@@ -145,6 +150,7 @@ fn row_of(
     import_row(both(first_day, until.ok_or(ImportFault::Day)))
 }
 
+/// The row of parts that came as pairs.
 fn import_row(
     parts: Result<((((Asn, Prefix), u8), Day), Day), ImportFault>,
 ) -> Result<ImportRow, ImportFault>
@@ -160,18 +166,21 @@ fn import_row(
     })
 }
 
+/// The field `asn`.
 fn asn_in(text: &[u8]) -> Option<Asn>
     ensures { result ≡ named_asn text.now }
 {
     Asn::from_text(text)
 }
 
+/// The field `prefix`.
 fn prefix_in(text: &[u8]) -> Option<Prefix>
     ensures { result ≡ spelled_prefix text.now }
 {
     Prefix::read(text).ok()
 }
 
+/// The field `maxlength`: whether it fits the prefix is judged later.
 fn max_in(text: &[u8]) -> Option<u8>
     ensures { result ≡ max_in text.now }
 {

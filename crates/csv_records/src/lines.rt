@@ -9,11 +9,13 @@ use arrayvec::ArrayString;
 use registry::Auth;
 use std::alloc::{AllocError, Global};
 
+/// What is exported as a line.
 trait CsvRow {
     ghost use Rattle.csv_records.specs.Fields.{Fields};
 
     ghost fields: { Self → Fields };
 
+    /// The line with its line feed.
     fn line(&self) -> ArrayString<160>
         ensures { result.bytes ≡ csv_line (fields self.now) };
 }
@@ -60,6 +62,7 @@ pub fn list_lines(alloc: Global, auths: &[Auth]) -> Result<Vec<u8>, AllocError>
     lines(alloc, "number,asn,prefix,maxlength,from,until\n", auths)
 }
 
+/// The header, which has its line feed, and a line for each row.
 fn lines<R: CsvRow>(alloc: Global, header: &str, rows: &[R]) -> Result<Vec<u8>, AllocError>
     ensures { IfOk result (λ text. text.items
         ≡ header.now ++ flat_map (λ row. csv_line (R.fields row)) rows.now) }
@@ -72,6 +75,7 @@ fn lines<R: CsvRow>(alloc: Global, header: &str, rows: &[R]) -> Result<Vec<u8>, 
     Ok(text)
 }
 
+/// The fields that VRPs and authorizations share.
 fn vrp_fields(asn: Asn, prefix: &Prefix, max: u8) -> ArrayString<100>
     ensures { result.bytes ≡ fields_text (vrp_fields asn prefix.now max) }
 {
@@ -87,6 +91,7 @@ fn vrp_fields(asn: Asn, prefix: &Prefix, max: u8) -> ArrayString<100>
     text
 }
 
+/// A day as `YYYY-MM-DD`.
 fn day_text(day: Day) -> ArrayString<10>
     ensures { result.bytes ≡ day_text day }
 {

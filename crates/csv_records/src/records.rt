@@ -15,6 +15,7 @@ pub struct CsvRecords<'a> {
 }
 
 impl<'a> CsvRecords<'a> {
+    /// A reader before the first record, which may be a header.
     fn new(alloc: Global, text: &'a [u8]) -> CsvRecords<'a>
         ensures reading { IsReading result }
         ensures all { records_left result ≡ csv_records text.now }

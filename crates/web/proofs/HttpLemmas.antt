@@ -29,16 +29,11 @@ use Rattle.web.specs.HttpAnswers.{KeepsHistories, RepliesAt, RespondsTo}
 use Rattle.requests.specs.HttpRequests.{asked, malformed, refused, SaysHead}
 use Rattle.web.specs.HttpResponses.{json_response, reply_body, reply_response, reply_status}
 use Rattle.web.specs.ReplyText.{line_text, short_text}
-use Rattle.web.specs.steps.HttpAnswering.{AnswersWith, IsResponse}
-use Rattle.web.specs.declared.http.answer.HttpAnswer.{HttpAnswer}
-use Rattle.web.specs.declared.http.answer.HttpAnswer.TheVariants.{Malformed, NotRead, Refused, Replied}
+use Rattle.web.specs.steps.HttpAnswering.{AnswersNext, IsReplyResponse, ReadsNext}
+use Rattle.web.specs.declared.http.reading.Next.{Next}
+use Rattle.web.specs.declared.http.reading.Next.TheVariants.{Asked as AskedNext, Malformed, NotRead, Refused}
 
--- a text of which this holds, where a call ended well or ill
-pub text-ok : {T E : Type 0} (r : Result T E) (P Q : List ℕ → Type 0) (text : List ℕ)
-    → P text → OnOk r (Q text) → OnOk r ((x : List ℕ) × P x × Q x)
-text-ok (Ok x) P Q text holds written = (text, holds, written)
-text-ok (Err e) P Q text holds written = tt
-
+-- a text of which this holds, of which a call that failed wrote a beginning
 pub text-err : {T E : Type 0} (r : Result T E) (P Q : List ℕ → Type 0) (text : List ℕ)
     → P text → OnErr r (Q text) → OnErr r ((x : List ℕ) × P x × Q x)
 text-err (Ok x) P Q text holds written = tt
@@ -102,7 +97,7 @@ module _ {S : Type 0} (g : Ghosts S) where
       let is = answered clean before stands.legal stands.rows in
       (is.after, record { chartered = charter; legal = is.legal; rows = is.rows_after }, is.values, is.answers)
 
-  same_keeps : (desk : Desk S) → KeepsHistories g desk desk
+  pub same_keeps : (desk : Desk S) → KeepsHistories g desk desk
   same_keeps desk = λ clean before stands. (before, stands, λ fits. fits, refl)
 
   shown_keeps : (old new : Desk S) (request : Asked) (reply : Reply) → RepliesAt g old request reply new
@@ -111,23 +106,44 @@ module _ {S : Type 0} (g : Ghosts S) where
       let (after, stands_after, values, answers) = replies clean before stands in
       (after, stands_after, values, long-keeps (charter_of old) before after request.day request.caller request.request reply answers long)
 
-  -- the response says what the bytes were answered with
-  pub responds : (old new : Desk S) (day : ℕ) (bytes text : List ℕ) (answer : HttpAnswer)
-      → AnswersWith g old day bytes answer new → IsResponse answer text → RespondsTo g old day bytes text new
-  responds old new day bytes text (Refused refusal) (reads, same) is = inl (refused refusal, reads, (is, same))
-  responds old new day bytes text (Malformed fault) (reads, same) is = inl (malformed fault, reads, (is, same))
-  responds old new day bytes text (Replied form reply) (request, reads, replies) (inl is) =
-      inl (asked form request, reads, (reply, is, replies))
-  responds old new day bytes text (Replied form reply) (request, reads, replies) (inr (long, is)) =
-      inr (inr (reads.0, reads.1, reads.2), is, shown_keeps old new request reply replies long)
-  responds old new day bytes text NotRead (within, same) is = inr (within, is, rw same (same_keeps old))
+  -- a request that the desk answered, and the response to its reply
+  answers-asked : (old new : Desk S) (form : ContentType) (request : Asked) (reply : Reply) (text : List ℕ)
+      → RepliesAt g old request reply new → IsReplyResponse form reply text → AnswersNext g old (AskedNext form request) text new
+  answers-asked old new form request reply text replies (inl is) = inl (reply, is, replies)
+  answers-asked old new form request reply text replies (inr (long, is)) =
+      inr (is, shown_keeps old new request reply replies long)
 
-  -- the head, and then the rest of the message
-  pub next-answered : (old new : Desk S) (day : ℕ) (r : Option HttpAnswer) (said : Head) (head before between after : List ℕ)
-      → IsWholeHead head → SaysHead head (Ok said) → Gives head before between
-      → IfSome r (λ answer. (rest : List ℕ) × Gives rest between after
-      × ((whole : List ℕ) → IsWholeHead whole → SaysHead whole (Ok said) → AnswersWith g old day (whole ++ rest) answer new))
-      → IfSome r (λ answer. (bytes : List ℕ) × Gives bytes before after × AnswersWith g old day bytes answer new)
-  next-answered old new day None said head before between after whole says given read = tt
-  next-answered old new day (Some answer) said head before between after whole says given (rest, given_rest, answered) =
-      (head ++ rest, gives-more before between after head rest given given_rest, answered head whole says)
+  pub asked-ok : {T E : Type 0} (r : Result T E) (old new : Desk S) (form : ContentType) (request : Asked) (reply : Reply)
+      (Q : List ℕ → Type 0) → RepliesAt g old request reply new
+      → OnOk r ((text : List ℕ) × IsReplyResponse form reply text × Q text)
+      → OnOk r ((text : List ℕ) × AnswersNext g old (AskedNext form request) text new × Q text)
+  asked-ok (Ok x) old new form request reply Q replies (text, is, written) =
+      (text, answers-asked old new form request reply text replies is, written)
+  asked-ok (Err e) old new form request reply Q replies written = tt
+
+  pub asked-err : {T E : Type 0} (r : Result T E) (old new : Desk S) (form : ContentType) (request : Asked) (reply : Reply)
+      (Q : List ℕ → Type 0) → RepliesAt g old request reply new
+      → OnErr r ((text : List ℕ) × IsReplyResponse form reply text × Q text)
+      → OnErr r ((text : List ℕ) × AnswersNext g old (AskedNext form request) text new × Q text)
+  asked-err (Ok x) old new form request reply Q replies written = tt
+  asked-err (Err e) old new form request reply Q replies (text, is, written) =
+      (text, answers-asked old new form request reply text replies is, written)
+
+  -- the response to what was read is that to the bytes
+  pub responds : (old new : Desk S) (day : ℕ) (bytes text : List ℕ) (next : Next)
+      → ReadsNext day bytes next → AnswersNext g old next text new → RespondsTo g old day bytes text new
+  responds old new day bytes text (Refused refusal) reads answers = inl (refused refusal, reads, answers)
+  responds old new day bytes text (Malformed fault) reads answers = inl (malformed fault, reads, answers)
+  responds old new day bytes text (AskedNext form request) reads (inl answers) = inl (asked form request, reads, answers)
+  responds old new day bytes text (AskedNext form request) reads (inr (is, keeps)) = inr (inr (reads.0, reads.1, reads.2), is, keeps)
+  responds old new day bytes text NotRead within (is, keeps) = inr (within, is, keeps)
+
+-- the head, and then the rest of the message
+pub next-read : (day : ℕ) (r : Option Next) (said : Head) (head before between after : List ℕ)
+    → IsWholeHead head → SaysHead head (Ok said) → Gives head before between
+    → IfSome r (λ next. (rest : List ℕ) × Gives rest between after
+    × ((whole : List ℕ) → IsWholeHead whole → SaysHead whole (Ok said) → ReadsNext day (whole ++ rest) next))
+    → IfSome r (λ next. (bytes : List ℕ) × Gives bytes before after × ReadsNext day bytes next)
+next-read day None said head before between after whole says given read = tt
+next-read day (Some next) said head before between after whole says given (rest, given_rest, reads) =
+    (head ++ rest, gives-more before between after head rest given given_rest, reads head whole says)

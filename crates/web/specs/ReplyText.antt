@@ -66,6 +66,9 @@ denied_text rule (Some row) = codes "{\"denied\":\"" ++ rule_name rule ++ codes 
 abbrev pub unavailable_text : List ℕ
 unavailable_text = codes "{\"unavailable\":true}\n"
 
+abbrev pub shown_text : Auth → List ℕ
+shown_text auth = codes "{\"shown\":" ++ auth_text auth ++ codes "}\n"
+
 -- the hex of a content
 abbrev pub content_text : List ℕ → List ℕ
 content_text hex = codes "{\"content\":\"" ++ hex ++ codes "\"}\n"
@@ -78,7 +81,7 @@ list_text opening texts = opening ++ comma_joined texts ++ codes "]}\n"
 abbrev pub line_text : Reply → List ℕ
 line_text (Done number) = done_text number
 line_text (Imported made present) = imported_text made present
-line_text (Shown auth) = codes "{\"shown\":" ++ auth_text auth ++ codes "}\n"
+line_text (Shown auth) = shown_text auth
 line_text (Content text) = content_text (string_bytes text)
 line_text (Listed auths) = list_text (codes "{\"listed\":[") (map auth_text auths.items)
 line_text (Payloads vrps) = list_text (codes "{\"payloads\":[") (map vrp_text vrps)

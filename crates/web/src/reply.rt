@@ -1,7 +1,7 @@
 //! The texts of replies.
-ghost use Rattle.std.specs.Prelude.{◌≡◌, ◌++◌, true, codes, option_map, OnOk, OnErr};
+ghost use Rattle.std.specs.Prelude.{◌≡◌, ◌++◌, true, option_map, OnOk, OnErr};
 ghost use Rattle.streams.specs.Streams.{AppendsBeginning};
-ghost use Rattle.web.specs.ReplyText.{auth_text, content_text, denied_text, done_text, imported_text, line_text, short_text, unavailable_text};
+ghost use Rattle.web.specs.ReplyText.{content_text, denied_text, done_text, imported_text, line_text, short_text, shown_text, unavailable_text};
 
 pub(crate) mod items;
 mod list;
@@ -9,7 +9,7 @@ mod list;
 use addr::digits;
 use arrayvec::ArrayString;
 use desk::Reply;
-use items::ItemText;
+use items::Item;
 use list::write_list;
 use registry::{Auth, Rule};
 use streams::{Drain, Failed, write_all};
@@ -27,7 +27,7 @@ pub fn write_reply<D: Drain>(reply: &Reply, drain: &mut D) -> Result<(), Failed>
             drain,
             imported_text(*made, *present).as_str().as_bytes(),
         ),
-        Reply::Shown(auth) => write_all(drain, shown_text(auth).as_str().as_bytes()),
+        Reply::Shown(auth) => write_shown(auth, drain),
         Reply::Content(text) => write_content(text.as_str(), drain),
         Reply::Listed(auths) => write_list(b"{\"listed\":[", auths.as_slice(), drain),
         Reply::Payloads(vrps) => write_list(b"{\"payloads\":[", vrps.as_slice(), drain),
@@ -52,6 +52,7 @@ pub fn short_text(reply: &Reply) -> Option<ArrayString<128>>
     }
 }
 
+/// Of an accepted command, with the number of the grant or authorization that it made.
 pub(crate) fn done_text(number: Option<u32>) -> ArrayString<128>
     ensures { result.bytes ≡ done_text number }
 {
@@ -67,6 +68,7 @@ pub(crate) fn done_text(number: Option<u32>) -> ArrayString<128>
     text
 }
 
+/// Of an import: how many authorizations it made, and how many of its rows were there already.
 pub(crate) fn imported_text(made: u64, present: u64) -> ArrayString<128>
     ensures { result.bytes ≡ imported_text made present }
 {
@@ -79,34 +81,33 @@ pub(crate) fn imported_text(made: u64, present: u64) -> ArrayString<128>
     text
 }
 
-fn shown_text(auth: &Auth) -> ArrayString<280>
-    ensures { result.bytes ≡ codes "{\"shown\":" ++ auth_text auth.now ++ codes "}\n" }
+/// Writes what one authorization is.
+fn write_shown<D: Drain>(auth: &Auth, drain: &mut D) -> Result<(), Failed>
+    ensures ok { OnOk result (D.written drain.new ≡ D.written drain.old ++ shown_text auth.now) }
+    ensures err { OnErr result
+        (AppendsBeginning (D.written drain.old) (D.written drain.new) (shown_text auth.now)) }
+    ensures failed { OnErr result (D.has_failed drain.new ≡ true) }
 {
-    let mut text = ArrayString::new();
-    text.push_str("{\"shown\":");
-    text.push_str(auth.item_text().as_str());
-    text.push_str("}\n");
-    text
+    write_all(drain, b"{\"shown\":")?;
+    auth.write(true, drain)?;
+    write_all(drain, b"}\n")?;
+    Ok(())
 }
 
+/// Writes a content, given in hex.
 fn write_content<D: Drain>(hex: &str, drain: &mut D) -> Result<(), Failed>
     ensures ok { OnOk result (D.written drain.new ≡ D.written drain.old ++ content_text hex.now) }
     ensures err { OnErr result
         (AppendsBeginning (D.written drain.old) (D.written drain.new) (content_text hex.now)) }
     ensures failed { OnErr result (D.has_failed drain.new ≡ true) }
 {
-    let Ok(()) = write_all(drain, b"{\"content\":\"") else {
-        return Err(Failed);
-    };
-    let Ok(()) = write_all(drain, hex.as_bytes()) else {
-        return Err(Failed);
-    };
-    let Ok(()) = write_all(drain, b"\"}\n") else {
-        return Err(Failed);
-    };
+    write_all(drain, b"{\"content\":\"")?;
+    write_all(drain, hex.as_bytes())?;
+    write_all(drain, b"\"}\n")?;
     Ok(())
 }
 
+/// Of a denial: its rule, and the row of the import that it is about.
 pub(crate) fn denied_text(rule: Rule, row: Option<u64>) -> ArrayString<128>
     ensures { result.bytes ≡ denied_text rule row }
 {
@@ -124,6 +125,7 @@ pub(crate) fn denied_text(rule: Rule, row: Option<u64>) -> ArrayString<128>
     text
 }
 
+/// Where an allocation or the store failed.
 pub(crate) fn unavailable_text() -> ArrayString<128>
     ensures { result.bytes ≡ unavailable_text }
 {

@@ -22,6 +22,7 @@ enum LineAnswer {
 }
 
 impl LineAnswer {
+    /// Writes the line that answers.
     fn write<D: Drain>(&self, drain: &mut D) -> Result<(), Failed>
         ensures ok { OnOk result
             (D.written drain.new ≡ D.written drain.old ++ answer_text self.now) }

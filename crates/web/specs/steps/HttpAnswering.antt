@@ -1,32 +1,36 @@
--- How the code answers an HTTP request: first what with, and then the text of it.
+-- How the code answers an HTTP request: first it is read, and then it is acted on and the response written.
 use Rattle.std.specs.Prelude.{◌≡◌, ◌⊎◌, ℕ, List, None}
 use Rattle.sqlite.specs.Store.{Ghosts}
 use Rattle.http_messages.specs.declared.response.ContentType.{ContentType}
-use Rattle.registry.specs.declared.asked.Asked.{Asked}
 use Rattle.desk.specs.declared.handling.Desk.{Desk}
 use Rattle.desk.specs.declared.reply.Reply.{Reply}
-use Rattle.web.specs.HttpAnswers.{RepliesAt}
 use Rattle.requests.specs.HttpRequests.{asked, IsWithinMessage, malformed, ReadsHttp, refused}
-use Rattle.web.specs.HttpResponses.{malformed_response, refusal_response, reply_response, unavailable_response}
+use Rattle.web.specs.HttpAnswers.{AnswersHttp, KeepsHistories}
+use Rattle.web.specs.HttpResponses.{reply_response, unavailable_response}
 use Rattle.web.specs.ReplyText.{short_text}
-use Rattle.web.specs.declared.http.answer.HttpAnswer.{HttpAnswer}
-use Rattle.web.specs.declared.http.answer.HttpAnswer.TheVariants.{Malformed, NotRead, Refused, Replied}
+use Rattle.web.specs.declared.http.reading.Next.{Next}
+use Rattle.web.specs.declared.http.reading.Next.TheVariants.{Asked, Malformed, NotRead, Refused}
 
--- what the bytes are answered with, and the request that the desk answered
-abbrev pub AnswersWith : {S : Type 0} → Ghosts S → Desk S → ℕ → List ℕ → HttpAnswer → Desk S → Type 0
-AnswersWith g old day bytes (Refused refusal) new = ReadsHttp day bytes (refused refusal) × (new ≡ old)
-AnswersWith g old day bytes (Malformed fault) new = ReadsHttp day bytes (malformed fault) × (new ≡ old)
-AnswersWith g old day bytes (Replied form reply) new =
-    (request : Asked) × ReadsHttp day bytes (asked form request) × RepliesAt g old request reply new
-AnswersWith g old day bytes NotRead new = IsWithinMessage bytes × (new ≡ old)
+-- what was read is what the bytes ask for, or an allocation failed within them
+abbrev pub ReadsNext : ℕ → List ℕ → Next → Type 0
+ReadsNext day bytes (Refused refusal) = ReadsHttp day bytes (refused refusal)
+ReadsNext day bytes (Malformed fault) = ReadsHttp day bytes (malformed fault)
+ReadsNext day bytes (Asked form request) = ReadsHttp day bytes (asked form request)
+ReadsNext day bytes NotRead = IsWithinMessage bytes
+
+-- the response says that an allocation failed, and nothing has changed
+abbrev pub AnswersUnavailable : {S : Type 0} → Ghosts S → Desk S → List ℕ → Desk S → Type 0
+AnswersUnavailable g old text new = (text ≡ unavailable_response) × KeepsHistories g old new
+
+-- the response to what was read
+abbrev pub AnswersNext : {S : Type 0} → Ghosts S → Desk S → Next → List ℕ → Desk S → Type 0
+AnswersNext g old (Refused refusal) text new = AnswersHttp g old (refused refusal) text new
+AnswersNext g old (Malformed fault) text new = AnswersHttp g old (malformed fault) text new
+AnswersNext g old (Asked form request) text new =
+    AnswersHttp g old (asked form request) text new ⊎ AnswersUnavailable g old text new
+AnswersNext g old NotRead text new = AnswersUnavailable g old text new
 
 -- the response to a reply; only one that shows something allocates
 abbrev pub IsReplyResponse : ContentType → Reply → List ℕ → Type 0
 IsReplyResponse form reply text =
     (text ≡ reply_response form reply) ⊎ ((short_text reply ≡ None) × (text ≡ unavailable_response))
-
-abbrev pub IsResponse : HttpAnswer → List ℕ → Type 0
-IsResponse (Refused refusal) text = text ≡ refusal_response refusal
-IsResponse (Malformed fault) text = text ≡ malformed_response fault
-IsResponse (Replied form reply) text = IsReplyResponse form reply text
-IsResponse NotRead text = text ≡ unavailable_response

@@ -1,11 +1,15 @@
 -- The items of a list in a reply, as they are written one after the other.
-use Rattle.std.specs.Prelude.{ℕ, Bool, true, false, List, [], ◌∷◌, ◌++◌}
+use Rattle.std.specs.Prelude.{ℕ, Bool, true, false, List, [], ◌∷◌, ◌++◌, codes}
 use Rattle.web.specs.ReplyText.{comma_joined}
+
+-- what stands before an item, which is or is not the first
+abbrev pub separator : Bool → List ℕ
+separator true = []
+separator false = codes ","
 
 -- an item, behind a comma where it is not the first
 abbrev pub item_after : Bool → List ℕ → List ℕ
-item_after true text = text
-item_after false text = 44 ∷ text
+item_after is_first text = separator is_first ++ text
 
 abbrev pub after_commas : List (List ℕ) → List ℕ
 after_commas [] = []

@@ -34,6 +34,7 @@ impl Drain for Body {
     }
 }
 
+/// The body of a reply that is sent as this type.
 pub(super) fn reply_body(
     alloc: Global,
     content_type: ContentType,
@@ -47,6 +48,7 @@ pub(super) fn reply_body(
     }
 }
 
+/// A list as CSV; another reply has no rows, and is as in JSON.
 fn csv_body(alloc: Global, reply: &Reply) -> Result<Vec<u8>, AllocError>
     ensures { IfOk result (λ body. body.items ≡ reply_body ContentType.Csv reply.now) }
 {

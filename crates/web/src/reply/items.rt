@@ -1,26 +1,37 @@
-//! The texts of what replies list.
-ghost use Rattle.std.specs.Prelude.{◌≡◌, ℕ, List};
+//! What replies list and show, item by item.
+ghost use Rattle.std.specs.Prelude.{◌≡◌, ◌++◌, ◌≤◌, ℕ, List, true, length, OnOk, OnErr};
 ghost use Rattle.addr.specs.Day.{day_text};
 ghost use Rattle.addr.specs.PrefixText.{spelling};
+ghost use Rattle.streams.specs.Streams.{AppendsBeginning};
 ghost use Rattle.web.specs.ReplyText.{auth_text, quoted_state, states_text, terms_text, vrp_text};
+ghost use Rattle.web.specs.steps.ReplyItems.{item_after, separator};
 
 use addr::{Asn, Day, Prefix, Vrp, digits};
 use arrayvec::ArrayString;
 use payload::Validity;
 use registry::Auth;
+use streams::{Drain, Failed, write_all};
 
-pub(super) trait ItemText {
+/// An item of a list. Each write may be a call of the system, so an item of bounded length is
+/// written in one, with the comma before it.
+pub(super) trait Item {
     ghost text: { Self → List ℕ };
 
-    fn item_text(&self) -> ArrayString<255>
-        ensures { result.bytes ≡ text self.now };
+    /// Writes the item, behind a comma where it is not the first of its list.
+    fn write<D: Drain>(&self, is_first: bool, drain: &mut D) -> Result<(), Failed>
+        ensures ok { OnOk result (D.written drain.new
+            ≡ D.written drain.old ++ item_after is_first (text self.now)) }
+        ensures err { OnErr result (AppendsBeginning (D.written drain.old) (D.written drain.new)
+            (item_after is_first (text self.now))) }
+        ensures failed { OnErr result (D.has_failed drain.new ≡ true) };
 }
 
-impl ItemText for Auth {
+impl Item for Auth {
     ghost text = { auth_text };
 
-    fn item_text(&self) -> ArrayString<255> {
-        let mut text = ArrayString::new();
+    fn write<D: Drain>(&self, is_first: bool, drain: &mut D) -> Result<(), Failed> {
+        let mut text: ArrayString<256> = ArrayString::new();
+        text.push_str(separator(is_first));
         text.push_str("{\"number\":");
         text.push_str(digits(u64::from(self.number)).as_str());
         text.push_str(",");
@@ -30,48 +41,60 @@ impl ItemText for Auth {
         text.push_str("\",\"until\":\"");
         text.push_str(day_text(self.until).as_str());
         text.push_str("\"}");
-        text
+        write_all(drain, text.as_str().as_bytes())
     }
 }
 
-impl ItemText for Vrp {
+impl Item for Vrp {
     ghost text = { vrp_text };
 
-    fn item_text(&self) -> ArrayString<255> {
-        let mut text = ArrayString::new();
+    fn write<D: Drain>(&self, is_first: bool, drain: &mut D) -> Result<(), Failed> {
+        let mut text: ArrayString<256> = ArrayString::new();
+        text.push_str(separator(is_first));
         text.push_str("{");
         text.push_str(terms_text(self.asn, &self.prefix, self.max).as_str());
         text.push_str("}");
-        text
+        write_all(drain, text.as_str().as_bytes())
     }
 }
 
-impl ItemText for Validity {
+impl Item for Validity {
     ghost text = { quoted_state };
 
-    fn item_text(&self) -> ArrayString<255> {
-        let mut text = ArrayString::new();
+    fn write<D: Drain>(&self, is_first: bool, drain: &mut D) -> Result<(), Failed> {
+        let mut text: ArrayString<256> = ArrayString::new();
+        text.push_str(separator(is_first));
         text.push_str(state_text(self));
-        text
+        write_all(drain, text.as_str().as_bytes())
     }
 }
 
 /// Of a route: its state now, and after changes.
-impl ItemText for (Validity, Validity) {
+impl Item for (Validity, Validity) {
     ghost text = { states_text };
 
-    fn item_text(&self) -> ArrayString<255> {
+    fn write<D: Drain>(&self, is_first: bool, drain: &mut D) -> Result<(), Failed> {
         let (now, after) = self;
-        let mut text = ArrayString::new();
+        let mut text: ArrayString<256> = ArrayString::new();
+        text.push_str(separator(is_first));
         text.push_str("[");
         text.push_str(state_text(now));
         text.push_str(",");
         text.push_str(state_text(after));
         text.push_str("]");
-        text
+        write_all(drain, text.as_str().as_bytes())
     }
 }
 
+/// What stands before an item.
+fn separator(is_first: bool) -> &'static str
+    ensures text { result.now ≡ separator is_first }
+    ensures bound { length result.now ≤ 1 }
+{
+    if is_first { "" } else { "," }
+}
+
+/// A state, between quotation marks.
 fn state_text(validity: &Validity) -> &'static str
     ensures { result.now ≡ quoted_state validity.now }
 {
@@ -82,6 +105,7 @@ fn state_text(validity: &Validity) -> &'static str
     }
 }
 
+/// The members that authorizations and VRPs share.
 fn terms_text(asn: Asn, prefix: &Prefix, max: u8) -> ArrayString<120>
     ensures { result.bytes ≡ terms_text asn prefix.now max }
 {
@@ -95,6 +119,7 @@ fn terms_text(asn: Asn, prefix: &Prefix, max: u8) -> ArrayString<120>
     text
 }
 
+/// The one spelling of a prefix.
 pub(crate) fn prefix_text(prefix: &Prefix) -> ArrayString<48>
     ensures { result.bytes ≡ spelling prefix.now.family prefix.now.first prefix.now.length }
 {
@@ -103,6 +128,7 @@ pub(crate) fn prefix_text(prefix: &Prefix) -> ArrayString<48>
     text
 }
 
+/// A day as `YYYY-MM-DD`.
 fn day_text(day: Day) -> ArrayString<10>
     ensures { result.bytes ≡ day_text day }
 {

@@ -2,7 +2,7 @@ use Rattle.std.proofs.Common.{inl, inr, refl, sym}
 use Rattle.streams.specs.Streams.{AppendsBeginning}
 use Rattle.web.specs.steps.HttpAnswering.{IsReplyResponse}
 use Rattle.web.proofs.HttpLemmas.{long-status, short-response, text-err}
-use Rattle.web.proofs.http.answer.write_reply_response.Goals as goal
+use Rattle.web.proofs.http.response.write_reply_response.Goals as goal
 
 pub returns-in-Some-clause-err : goal.returns-in-Some-clause-err
 returns-in-Some-clause-err g c =

@@ -1,12 +1,12 @@
 use Rattle.std.proofs.Common.{◌++◌, [], Err, sym, ap, ◌∙◌, refl, inl}
 use Rattle.std.proofs.lemmas.List.{append-nil}
-use Rattle.web.proofs.http.answer_request.Goals as goal
+use Rattle.web.proofs.http.reading.read_rest.Goals as goal
 
 pub returns-in_default-clause-some : goal.returns-in_default-clause-some
 returns-in_default-clause-some g c = (
   [],
   sym (append-nil (g.S.Source.handed_out c.args.source.now)),
-  λ head whole says. c.answer_to.ensures.answer (head ++ [])
+  λ head whole says. c.next_of.ensures (head ++ [])
       (record { head = head; is_whole = whole; says = says; size = sym c.in_default.is; all = refl }),
 )
 
@@ -14,5 +14,5 @@ pub returns-in-Err-Memory-clause-some : goal.returns-in-Err-Memory-clause-some
 returns-in-Err-Memory-clause-some g c = (
   [],
   c.in-Err-Memory.ensures.memory (ap Err c.in-Err-Memory.field-0-is) ∙ sym (append-nil (g.S.Source.handed_out c.args.source.now)),
-  λ head whole says. (inl (rw (append-nil head) whole), refl),
+  λ head whole says. inl (rw (append-nil head) whole),
 )

@@ -1,50 +1,52 @@
-//! What an HTTP request is answered with, and the response that says so.
+//! Acting on a request, and the response.
 ghost use Rattle.std.specs.Prelude.{◌≡◌, ◌++◌, ℕ, List, true, OnOk, OnErr};
 ghost use Rattle.streams.specs.Streams.{AppendsBeginning};
 ghost use Rattle.web.specs.HttpResponses.{json_response, refusal_response, reply_status, reply_type, unavailable_response};
-ghost use Rattle.web.specs.steps.HttpAnswering.{IsReplyResponse, IsResponse};
+ghost use Rattle.web.specs.ScriptAnswer.{IsLaterDesk};
+ghost use Rattle.web.specs.steps.HttpAnswering.{AnswersNext, IsReplyResponse};
 
 use super::body::reply_body;
+use super::reading::Next;
 use crate::reply::{short_text, unavailable_text};
-use desk::Reply;
+use desk::{Desk, Reply};
 use http_messages::{ContentType, Refusal, Status, fault_text, write_response};
-use requests::Malformed;
+use sqlite::Alter;
 use std::alloc::Global;
 use streams::{Drain, Failed};
 
-#[derive(Debug, Drop)]
-pub(crate) enum HttpAnswer {
-    Refused(Refusal),
-    Malformed(Malformed),
-    /// A reply, and the form that the request wants for a list.
-    Replied(ContentType, Reply),
-    /// An allocation failed, so the request was not read.
-    NotRead,
-}
-
-impl HttpAnswer {
-    /// Writes the response. What a reply shows is collected first; if an allocation fails
-    /// there, the response says so.
-    pub(crate) fn write<D: Drain>(&self, alloc: Global, drain: &mut D) -> Result<(), Failed>
-        ensures ok { OnOk result ((text : List ℕ) × IsResponse self.now text
-            × (D.written drain.new ≡ D.written drain.old ++ text)) }
-        ensures err { OnErr result ((text : List ℕ) × IsResponse self.now text
-            × AppendsBeginning (D.written drain.old) (D.written drain.new) text) }
-        ensures failed { OnErr result (D.has_failed drain.new ≡ true) }
-    {
-        match self {
-            HttpAnswer::Refused(refusal) => write_refusal(drain, *refusal),
-            HttpAnswer::Malformed(malformed) => write_json(
-                drain,
-                Status::BadRequest,
-                malformed.text().as_str(),
-            ),
-            HttpAnswer::Replied(form, reply) => write_reply_response(alloc, drain, *form, reply),
-            HttpAnswer::NotRead => write_unavailable(drain),
+/// Acts on what was asked, and writes the response. What a reply shows is collected first; if an
+/// allocation fails there, the response says so.
+pub(super) fn respond<D: Drain, A: Alter>(
+    alloc: Global,
+    drain: &mut D,
+    desk: &mut Desk<A>,
+    next: &Next,
+) -> Result<(), Failed>
+    ensures ok { OnOk result ((text : List ℕ)
+        × AnswersNext A.Store desk.old next.now text desk.new
+        × (D.written drain.new ≡ D.written drain.old ++ text)) }
+    ensures err { OnErr result ((text : List ℕ)
+        × AnswersNext A.Store desk.old next.now text desk.new
+        × AppendsBeginning (D.written drain.old) (D.written drain.new) text) }
+    ensures failed { OnErr result (D.has_failed drain.new ≡ true) }
+    ensures later { IsLaterDesk A.Store desk.old desk.new }
+{
+    match next {
+        Next::Refused(refusal) => write_refusal(drain, *refusal),
+        Next::Malformed(malformed) => write_json(
+            drain,
+            Status::BadRequest,
+            malformed.text().as_str(),
+        ),
+        Next::Asked(form, asked) => {
+            let reply = desk.handle(asked.day, &asked.caller, &asked.request);
+            write_reply_response(alloc, drain, *form, &reply)
         }
+        Next::NotRead => write_unavailable(drain),
     }
 }
 
+/// Writes a response whose body is this JSON text.
 fn write_json<D: Drain>(drain: &mut D, status: Status, text: &str) -> Result<(), Failed>
     ensures ok { OnOk result
         (D.written drain.new ≡ D.written drain.old ++ json_response status text.now) }
@@ -55,6 +57,7 @@ fn write_json<D: Drain>(drain: &mut D, status: Status, text: &str) -> Result<(),
     write_response(drain, status, ContentType::Json, text.as_bytes())
 }
 
+/// Writes the response to what the protocol refuses.
 fn write_refusal<D: Drain>(drain: &mut D, refusal: Refusal) -> Result<(), Failed>
     ensures ok { OnOk result
         (D.written drain.new ≡ D.written drain.old ++ refusal_response refusal) }
@@ -66,6 +69,8 @@ fn write_refusal<D: Drain>(drain: &mut D, refusal: Refusal) -> Result<(), Failed
     write_json(drain, status, fault_text(status).as_str())
 }
 
+/// Writes the response to a reply. One that shows something has its body collected first, since
+/// the head tells its length.
 fn write_reply_response<D: Drain>(
     alloc: Global,
     drain: &mut D,
@@ -88,6 +93,7 @@ fn write_reply_response<D: Drain>(
     }
 }
 
+/// The status of the response to a reply.
 fn reply_status(reply: &Reply) -> Status
     ensures { result ≡ reply_status reply.now }
 {
@@ -98,6 +104,7 @@ fn reply_status(reply: &Reply) -> Status
     }
 }
 
+/// What a reply is sent as, where a list is sent in this form.
 fn reply_type(form: ContentType, reply: &Reply) -> ContentType
     ensures { result ≡ reply_type form reply.now }
 {
@@ -108,6 +115,7 @@ fn reply_type(form: ContentType, reply: &Reply) -> ContentType
     }
 }
 
+/// Writes the response where an allocation failed.
 fn write_unavailable<D: Drain>(drain: &mut D) -> Result<(), Failed>
     ensures ok { OnOk result
         (D.written drain.new ≡ D.written drain.old ++ unavailable_response) }

@@ -1,0 +1,7 @@
+use Rattle.std.specs.Option.{option_copied}
+use Rattle.requests.specs.RequestHeads.{head_view}
+use Rattle.web.proofs.http.reading.next_of.Goals as goal
+
+pub returns-in-Ok : goal.returns-in-Ok
+returns-in-Ok c = λ bytes message.
+    (head_view c.args.request.now, option_copied c.args.body, message, c.in-Ok.ensures.ok, c.list_form.ensures)

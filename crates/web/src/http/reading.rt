@@ -1,0 +1,84 @@
+//! What a connection asks for, read before anything is acted on.
+ghost use Rattle.std.specs.Prelude.{◌≡◌, ◌++◌, ◌<◌, ℕ, List, Ok, None, Some, length, IfSome};
+ghost use Rattle.std.specs.Option.{option_copied};
+ghost use Rattle.http_messages.specs.HeadEnd.{IsWholeHead};
+ghost use Rattle.http_messages.specs.Input.{Gives, IsOver};
+ghost use Rattle.requests.specs.RequestHeads.{head_view};
+ghost use Rattle.requests.specs.HttpRequests.{IsCutShort, IsMessage, SaysHead};
+ghost use Rattle.web.specs.steps.HttpAnswering.{ReadsNext};
+
+use addr::Day;
+use http_messages::{BodyFault, ContentType, HeadFault, Refusal, read_body, read_head};
+use registry::Asked;
+use requests::{
+    Head, LineFault, Malformed, RequestHeadFault, read_http_request, read_request_head,
+};
+use std::alloc::Global;
+use streams::Source;
+
+/// What a connection asks for. It borrows nothing of the bytes that were read.
+#[derive(Debug, Drop)]
+pub(super) enum Next {
+    Refused(Refusal),
+    Malformed(Malformed),
+    /// A request, and the form in which it wants a list.
+    Asked(ContentType, Asked),
+    /// An allocation failed, so the request was not read.
+    NotRead,
+}
+
+/// Reads what a connection asks for; `None` where the source ended or failed before its end.
+pub(super) fn read_next<S: Source>(alloc: Global, source: &mut S, day: Day) -> Option<Next>
+    ensures some { IfSome result (λ next. (bytes : List ℕ)
+        × Gives bytes (S.handed_out source.old) (S.handed_out source.new)
+        × ReadsNext day bytes next) }
+    ensures none { result ≡ None → (bytes : List ℕ)
+        × Gives bytes (S.handed_out source.old) (S.handed_out source.new)
+        × IsCutShort bytes
+        × IsOver (S.has_ended source.new) (S.has_failed source.new) }
+{
+    let head = match read_head(source) {
+        Ok(head) => head,
+        Err(HeadFault::TooLong) => return Some(Next::Refused(Refusal::BadRequest)),
+        Err(HeadFault::CutShort) => return None,
+    };
+    match read_request_head(alloc, head.as_slice()) {
+        Ok(request) => read_rest(alloc, source, day, &request),
+        Err(RequestHeadFault::Refused(refusal)) => Some(Next::Refused(refusal)),
+        Err(RequestHeadFault::Memory) => Some(Next::NotRead),
+    }
+}
+
+/// Reads the body that a head announces, if it does, and then what both ask for.
+fn read_rest<S: Source>(alloc: Global, source: &mut S, day: Day, request: &Head<'_>) -> Option<Next>
+    ensures some { IfSome result (λ next. (rest : List ℕ)
+        × Gives rest (S.handed_out source.old) (S.handed_out source.new)
+        × ((head : List ℕ) → IsWholeHead head → SaysHead head (Ok (head_view request.now))
+        → ReadsNext day (head ++ rest) next)) }
+    ensures none { result ≡ None → (rest : List ℕ) × (size : ℕ)
+        × Gives rest (S.handed_out source.old) (S.handed_out source.new)
+        × (request.now.body_length ≡ Some size) × (length rest < size)
+        × IsOver (S.has_ended source.new) (S.has_failed source.new) }
+{
+    let Some(size) = request.body_length else {
+        return Some(next_of(alloc, day, request, None));
+    };
+    match read_body(alloc, source, size) {
+        Ok(body) => Some(next_of(alloc, day, request, Some(body.as_slice()))),
+        Err(BodyFault::CutShort) => None,
+        Err(BodyFault::Memory) => Some(Next::NotRead),
+    }
+}
+
+/// What a head and its body ask for.
+fn next_of(alloc: Global, day: Day, request: &Head<'_>, body: Option<&[u8]>) -> Next
+    ensures { (bytes : List ℕ)
+        → IsMessage bytes (head_view request.now) (option_copied body.entry)
+        → ReadsNext day bytes result }
+{
+    match read_http_request(alloc, day, request, body) {
+        Ok(asked) => Next::Asked(request.action.list_form(), asked),
+        Err(LineFault::Malformed(malformed)) => Next::Malformed(malformed),
+        Err(LineFault::Memory) => Next::NotRead,
+    }
+}
