@@ -17,7 +17,7 @@ use Rattle.registry.specs.Verdict.{IsLegal}
 use Rattle.charters.specs.declared.charter.Charter.{Charter}
 use Rattle.tables.specs.TablesHold.{TablesHold}
 use Rattle.database.specs.Databases.{IsDeskWhileOpen}
-use Rattle.desk.specs.Desk.{charter_of, ContinuesHistories, HoldsHistory, StandsFor}
+use Rattle.desk.specs.Desk.{charter_of, ContinuesHistories, HoldsHistory, Represents}
 use Rattle.desk.specs.declared.handling.Desk.{Desk}
 use Rattle.cli.specs.DeskFiles.{AreDeskFiles, KeepDesk}
 
@@ -42,7 +42,7 @@ closed_keeps g desk conn files history same settled copied holds =
 pub opened_continues : {D : Type 0} {g : Ghosts D} (image : Image) (conn : Held (FileStore D g)) (desk : Desk (FileStore D g))
     → IsOpened conn → FindsIn image (file_state conn) → ContinuesHistories over_files (file_state conn) desk
     → (charter : Charter) (history : History) → IsCharter charter → IsLegal charter history
-    → AreDeskFiles image charter history → StandsFor over_files charter desk history
+    → AreDeskFiles image charter history → Represents over_files charter desk history
 opened_continues image conn desk opened found continues charter history chartered legal files =
     let same = ∥∥₁_elim files.2 (Trees-set _ _) (found.holds files.0) in
     let trees = ap (λ d. d.trees) opened.0.clean ∙ same in

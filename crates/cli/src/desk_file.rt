@@ -10,7 +10,7 @@ ghost use Rattle.registry.specs.History.{History};
 ghost use Rattle.registry.specs.Verdict.{IsLegal};
 ghost use Rattle.charters.specs.declared.charter.Charter as shown;
 ghost use Rattle.database.specs.Databases.{IsUnused};
-ghost use Rattle.desk.specs.Desk.{charter_of, HoldsHistory, IsOnCleanDisk, StandsFor};
+ghost use Rattle.desk.specs.Desk.{charter_of, HoldsHistory, IsOnCleanDisk, Represents};
 ghost use Rattle.cli.specs.DeskFiles.{AreDeskFiles, IsOfDatabase, KeepDesk};
 
 use crate::fault::fault_of_store;
@@ -71,7 +71,7 @@ pub fn open_desk<S: Start>(
     ensures continued { IfOk result (λ desk. IsOnCleanDisk over_files desk
         → (charter : shown.Charter) (history : History) → IsCharter charter → IsLegal charter history
         → AreDeskFiles (image_at S.Start) charter history
-        → StandsFor over_files charter desk history) }
+        → Represents over_files charter desk history) }
 {
     let conn = connect(rt, path, start)?;
     match Desk::open_from(rt.alloc(), conn) {

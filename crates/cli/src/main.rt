@@ -67,7 +67,7 @@ fn run_task(rt: &HostRuntime, task: &Task<'_>) -> Result<(), ProgramFault> {
 }
 
 fn run_script_task(rt: &HostRuntime, charter: &str) -> Result<(), ProgramFault> {
-    let text = read_file(rt, charter)?;
+    let text = read_input(rt, charter)?;
     let charter = charter_from(rt.alloc(), &text)?;
     let Ok(mut desk) = Desk::open_memory(rt.alloc(), &charter) else {
         return Err(ProgramFault::Database);
@@ -78,7 +78,7 @@ fn run_script_task(rt: &HostRuntime, charter: &str) -> Result<(), ProgramFault> 
 }
 
 fn run_init_task(rt: &HostRuntime, database: &str, charter: &str) -> Result<(), ProgramFault> {
-    let text = read_file(rt, charter)?;
+    let text = read_input(rt, charter)?;
     let charter = charter_from(rt.alloc(), &text)?;
     match size_of(rt, database)? {
         None | Some(0) => {}
@@ -140,13 +140,13 @@ fn run_help_task(rt: &HostRuntime) -> Result<(), ProgramFault> {
 
 /// Both files are read before either is judged.
 fn run_check_task(rt: &HostRuntime, payloads: &str, routes: &str) -> Result<(), ProgramFault> {
-    let payloads = read_file(rt, payloads)?;
-    let routes = read_file(rt, routes)?;
+    let payloads = read_input(rt, payloads)?;
+    let routes = read_input(rt, routes)?;
     let mut drain = Device::new(io::writer(rt));
     check_on(rt.alloc(), &payloads, &routes, &mut drain)
 }
 
-fn read_file(rt: &HostRuntime, path: &str) -> Result<Vec<u8>, ProgramFault> {
+fn read_input(rt: &HostRuntime, path: &str) -> Result<Vec<u8>, ProgramFault> {
     match fs::read(rt, path) {
         Ok(bytes) => Ok(bytes),
         Err(error) => Err(fault_of_error(&error, ProgramFault::File)),

@@ -37,7 +37,7 @@ KeepsRows g old new =
     IsOnCleanDisk g new → (rows : AllRows) → Holds g old.store rows → Holds g new.store rows
 
 -- the desk has the charter and the rows of the history, which is legal for it
-pub record StandsFor {S : Type 0} (g : Ghosts S) (charter : Charter) (desk : Desk S) (history : History) : Type 0 where
+pub record Represents {S : Type 0} (g : Ghosts S) (charter : Charter) (desk : Desk S) (history : History) : Type 0 where
   pub chartered : charter_of desk ≡ charter
   pub legal : IsLegal charter history
   pub rows : HoldsHistory g desk history
@@ -48,4 +48,4 @@ abbrev pub ContinuesHistories : {S : Type 0} → Ghosts S → State → Desk S �
 ContinuesHistories g found desk =
     (charter : Charter) (history : History) (rows : AllRows)
     → IsCharter charter → IsLegal charter history → HasRows rows history
-    → TablesHold charter rows found.now.trees → StandsFor g charter desk history
+    → TablesHold charter rows found.now.trees → Represents g charter desk history

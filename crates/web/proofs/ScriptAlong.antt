@@ -32,38 +32,38 @@ module _ {State History : Type 0}
     (IsSound : State → Type 0)
     (sound_before : (state next : State) (line : Option (List ℕ)) (reply : List ℕ)
     → answers state line reply next → IsSound next → IsSound state)
-    (StandsFor : State → History → Type 0)
+    (Represents : State → History → Type 0)
     (answers_there : History → Option (List ℕ) → List ℕ → History → Type 0)
     (each : (state next : State) (line : Option (List ℕ)) (reply : List ℕ) (history : History)
-    → IsSound next → StandsFor state history → answers state line reply next
-    → (later : History) × StandsFor next later × answers_there history line reply later) where
+    → IsSound next → Represents state history → answers state line reply next
+    → (later : History) × Represents next later × answers_there history line reply later) where
   pub Replies-along : (old new : State) (lines : List (List ℕ)) (text : List ℕ) (history : History)
-      → IsSound new → StandsFor old history → Replies answers old lines text new
-      → (later : History) × StandsFor new later × Replies answers_there history lines text later
-  Replies-along old new [] text history sound stands script = (history, rw script.1 stands, (script.0, refl))
-  Replies-along old new (line ∷ lines) text history sound stands script =
+      → IsSound new → Represents old history → Replies answers old lines text new
+      → (later : History) × Represents new later × Replies answers_there history lines text later
+  Replies-along old new [] text history sound represents script = (history, rw script.1 represents, (script.0, refl))
+  Replies-along old new (line ∷ lines) text history sound represents script =
       let (reply, replies, next, is_text, acted, rest) = script in
       let sound_between = Replies-sound answers IsSound sound_before next new lines replies rest sound in
-      let (between, stands_between, acted_there) = each old next (within_limit line) reply history sound_between stands acted in
-      let (later, stands_later, rest_there) = Replies-along next new lines replies between sound stands_between rest in
-      (later, stands_later, (reply, replies, between, is_text, acted_there, rest_there))
+      let (between, represents_between, acted_there) = each old next (within_limit line) reply history sound_between represents acted in
+      let (later, represents_later, rest_there) = Replies-along next new lines replies between sound represents_between rest in
+      (later, represents_later, (reply, replies, between, is_text, acted_there, rest_there))
 
   pub AnswersEach-along : (old new : State) (lines : List (List ℕ)) (w w' : List ℕ) (history : History)
-      → IsSound new → StandsFor old history → AnswersEach answers old new lines w w'
-      → (later : History) × StandsFor new later × AnswersEach answers_there history later lines w w'
-  AnswersEach-along old new lines w w' history sound stands (text, script, written) =
-      let (later, stands_later, script_there) = Replies-along old new lines text history sound stands script in
-      (later, stands_later, (text, script_there, written))
+      → IsSound new → Represents old history → AnswersEach answers old new lines w w'
+      → (later : History) × Represents new later × AnswersEach answers_there history later lines w w'
+  AnswersEach-along old new lines w w' history sound represents (text, script, written) =
+      let (later, represents_later, script_there) = Replies-along old new lines text history sound represents script in
+      (later, represents_later, (text, script_there, written))
 
   pub BreaksOff-along : (old new : State) (lines : List (List ℕ)) (w w' : List ℕ) (history : History)
-      → IsSound new → StandsFor old history → BreaksOff answers old new lines w w'
-      → (later : History) × StandsFor new later × BreaksOff answers_there history later lines w w'
-  BreaksOff-along old new lines w w' history sound stands broken =
+      → IsSound new → Represents old history → BreaksOff answers old new lines w w'
+      → (later : History) × Represents new later × BreaksOff answers_there history later lines w w'
+  BreaksOff-along old new lines w w' history sound represents broken =
       let (before, after, line, text, reply, next, are, script, acted, written) = broken in
       let sound_between = sound_before next new (within_limit line) reply acted sound in
-      let (between, stands_between, script_there) = Replies-along old next before text history sound_between stands script in
-      let (later, stands_later, acted_there) = each next new (within_limit line) reply between sound stands_between acted in (
+      let (between, represents_between, script_there) = Replies-along old next before text history sound_between represents script in
+      let (later, represents_later, acted_there) = each next new (within_limit line) reply between sound represents_between acted in (
         later,
-        stands_later,
+        represents_later,
         (before, after, line, text, reply, between, are, script_there, acted_there, written),
       )

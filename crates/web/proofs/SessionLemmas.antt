@@ -6,7 +6,7 @@ use Rattle.registry.specs.Values.{HistoryFits}
 use Rattle.registry.specs.Verdict.{IsLegal}
 use Rattle.charters.specs.declared.charter.Charter.{Charter}
 use Rattle.desk.specs.Answer.{IsAnswered}
-use Rattle.desk.specs.Desk.{charter_of, HoldsHistory, IsOnCleanDisk, StandsFor}
+use Rattle.desk.specs.Desk.{charter_of, HoldsHistory, IsOnCleanDisk, Represents}
 use Rattle.web.specs.ReplyText.{line_text}
 use Rattle.requests.specs.RequestText.{ReadsLine}
 use Rattle.web.specs.Script.{AnswersEach, BreaksOff}
@@ -34,8 +34,8 @@ module _ {S : Type 0} (g : Ghosts S) where
   pub replied_at : (old new : Desk S) (line : List ℕ) (asked : Asked) (reply : Reply) → IsLaterDesk g old new → ReadsLine line asked → (IsOnCleanDisk g new → (history : History) → IsLegal (charter_of old) history → HoldsHistory g old history → IsAnswered g (charter_of old) history asked.day asked.caller asked.request reply new) → AnswersLineAt g old (Some line) (line_text reply) new
   replied_at old new line asked reply later reads answered = (
     later,
-    λ clean history stands.
-        let is = answered clean history stands.legal stands.rows in
+    λ clean history represents.
+        let is = answered clean history represents.legal represents.rows in
         (is.after, record { chartered = later.charter; legal = is.legal; rows = is.rows_after }, is.values, inr (inl (asked, reply, reads, is.answers, refl))),
   )
 
@@ -55,22 +55,22 @@ module _ {S : Type 0} (g : Ghosts S) where
       BreaksOff-sound (AnswersLineAt g) (λ state. IsLaterDesk g state new) (later_before new) old new lines w w' broken (same_desk new)
 
   -- the desk represents a history that goes on from a first one
-  abbrev Stands : Charter → History → Desk S → History → Type 0
-  Stands charter first desk history = StandsFor g charter desk history × (HistoryFits first → HistoryFits history)
+  abbrev RepresentsFrom : Charter → History → Desk S → History → Type 0
+  RepresentsFrom charter first desk history = Represents g charter desk history × (HistoryFits first → HistoryFits history)
 
   -- a line answered by the desk is answered on each history that the desk represents
-  line_along : (charter : Charter) (first : History) (state next : Desk S) (line : Option (List ℕ)) (reply : List ℕ) (history : History) → IsOnCleanDisk g next → Stands charter first state history → AnswersLineAt g state line reply next → (later : History) × Stands charter first next later × AnswersLine charter history line reply later
-  line_along charter first state next line reply history clean (stands, values) at =
-      let P : Charter → Type 0 = λ k. StandsFor g k state history → (later : History) × StandsFor g k next later × (HistoryFits history → HistoryFits later) × AnswersLine k history line reply later in
-      let (later, stands_later, values_later, answered) = subst P stands.chartered (at.1 clean history) stands in
-      (later, (stands_later, λ fits. values_later (values fits)), answered)
+  line_along : (charter : Charter) (first : History) (state next : Desk S) (line : Option (List ℕ)) (reply : List ℕ) (history : History) → IsOnCleanDisk g next → RepresentsFrom charter first state history → AnswersLineAt g state line reply next → (later : History) × RepresentsFrom charter first next later × AnswersLine charter history line reply later
+  line_along charter first state next line reply history clean (represents, values) at =
+      let P : Charter → Type 0 = λ k. Represents g k state history → (later : History) × Represents g k next later × (HistoryFits history → HistoryFits later) × AnswersLine k history line reply later in
+      let (later, represents_later, values_later, answered) = subst P represents.chartered (at.1 clean history) represents in
+      (later, (represents_later, λ fits. values_later (values fits)), answered)
 
   pub each_along : (old new : Desk S) (lines : List (List ℕ)) (w w' : List ℕ) → AnswersEach (AnswersLineAt g) old new lines w w' → AnswersLines g old new lines w w'
-  each_along old new lines w w' each = λ clean history stands.
-      let (later, (stands_later, values), answered) = AnswersEach-along (AnswersLineAt g) (IsOnCleanDisk g) clean_before (Stands (charter_of old) history) (AnswersLine (charter_of old)) (line_along (charter_of old) history) old new lines w w' history clean (stands, λ fits. fits) each in
-      (later, stands_later, values, answered)
+  each_along old new lines w w' each = λ clean history represents.
+      let (later, (represents_later, values), answered) = AnswersEach-along (AnswersLineAt g) (IsOnCleanDisk g) clean_before (RepresentsFrom (charter_of old) history) (AnswersLine (charter_of old)) (line_along (charter_of old) history) old new lines w w' history clean (represents, λ fits. fits) each in
+      (later, represents_later, values, answered)
 
   pub broken_along : (old new : Desk S) (lines : List (List ℕ)) (w w' : List ℕ) → BreaksOff (AnswersLineAt g) old new lines w w' → BreaksOffLines g old new lines w w'
-  broken_along old new lines w w' broken = λ clean history stands.
-      let (later, (stands_later, values), answered) = BreaksOff-along (AnswersLineAt g) (IsOnCleanDisk g) clean_before (Stands (charter_of old) history) (AnswersLine (charter_of old)) (line_along (charter_of old) history) old new lines w w' history clean (stands, λ fits. fits) broken in
-      (later, stands_later, values, answered)
+  broken_along old new lines w w' broken = λ clean history represents.
+      let (later, (represents_later, values), answered) = BreaksOff-along (AnswersLineAt g) (IsOnCleanDisk g) clean_before (RepresentsFrom (charter_of old) history) (AnswersLine (charter_of old)) (line_along (charter_of old) history) old new lines w w' history clean (represents, λ fits. fits) broken in
+      (later, represents_later, values, answered)

@@ -7,7 +7,7 @@ use Rattle.registry.specs.History.{History}
 use Rattle.registry.specs.Values.{HistoryFits}
 use Rattle.charters.specs.declared.charter.Charter.{Charter}
 use Rattle.desk.specs.Answer.{AnswersRequest}
-use Rattle.desk.specs.Desk.{charter_of, IsOnCleanDisk, StandsFor}
+use Rattle.desk.specs.Desk.{charter_of, IsOnCleanDisk, Represents}
 use Rattle.requests.specs.MalformedText.{malformed_text}
 use Rattle.web.specs.ReplyText.{line_text, unavailable_text}
 use Rattle.requests.specs.RequestFaults.{request_fault, too_long}
@@ -44,9 +44,9 @@ AnswersLine charter before (Some line) text after =
 -- types where the first was so. Nothing is said where the disk returned what was not written.
 abbrev pub OnHistories : {S : Type 0} → Ghosts S → Desk S → Desk S → (History → History → Type 0) → Type 0
 OnHistories g old new goes_on =
-    IsOnCleanDisk g new → (before : History) → StandsFor g (charter_of old) old before
+    IsOnCleanDisk g new → (before : History) → Represents g (charter_of old) old before
     → (after : History)
-    × StandsFor g (charter_of old) new after
+    × Represents g (charter_of old) new after
     × (HistoryFits before → HistoryFits after)
     × goes_on before after
 
