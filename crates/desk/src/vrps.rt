@@ -1,3 +1,4 @@
+//! The VRPs of a reply.
 ghost use Rattle.std.specs.Prelude.{◌≡◌};
 
 use addr::Vrp;
