@@ -33,7 +33,7 @@ spelled_prefix-Spells p text spelled =
 
 pub spelled_prefix-fault : (text : List ℕ) (fault : PrefixFault) → prefix_text_fault text ≡ Some fault → spelled_prefix text ≡ None
 unfolding spelled_prefix
-spelled_prefix-fault text fault told = rw told refl
+spelled_prefix-fault text fault reported = rw reported refl
 
 -- what `Prefix::read` answers, by its one clause that has both outcomes
 pub spelled_prefix-gives : (text : List ℕ) (read : Result Prefix PrefixFault)
@@ -48,11 +48,11 @@ spelled_prefix-read text (Ok p) fault each = sym (spelled_prefix-Spells p text (
 spelled_prefix-read text (Err n) fault each = sym (spelled_prefix-fault text n fault)
 
 fault-unless_spelled : (text : List ℕ) (fault : Option PrefixFault) → prefix_text_fault text ≡ fault → (p : Prefix) → spelled_prefix text ≡ Some p → Spells p text
-fault-unless_spelled text None none p told =
+fault-unless_spelled text None none p reported =
     let some = (prefix_text_law.faultless text).0 none in
-    let same : some.0 ≡ p = same_Some _ _ (sym (spelled_prefix-Spells some.0 text some.1) ∙ told) in
+    let same : some.0 ≡ p = same_Some _ _ (sym (spelled_prefix-Spells some.0 text some.1) ∙ reported) in
     subst (λ (q : Prefix). Spells q text) same some.1
-fault-unless_spelled text (Some fault) is p told = absurd (none-some p (sym (spelled_prefix-fault text fault is) ∙ told))
+fault-unless_spelled text (Some fault) is p reported = absurd (none-some p (sym (spelled_prefix-fault text fault is) ∙ reported))
 
 pub Spells-spelled_prefix : (p : Prefix) (text : List ℕ) → spelled_prefix text ≡ Some p → Spells p text
-Spells-spelled_prefix p text told = fault-unless_spelled text (prefix_text_fault text) refl p told
+Spells-spelled_prefix p text reported = fault-unless_spelled text (prefix_text_fault text) refl p reported

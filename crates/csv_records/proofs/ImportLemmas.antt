@@ -10,7 +10,7 @@ use Rattle.addr.specs.PrefixText.{spelled_prefix}
 use Rattle.addr.specs.declared.asn.Asn.{Asn as AsnNumber}
 use Rattle.addr.specs.declared.prefix.Prefix.{Prefix as PrefixValue}
 use Rattle.registry.specs.declared.authorization.ImportRow.{ImportRow}
-use Rattle.json_values.proofs.FaultLemmas.{lowest-append, told-if}
+use Rattle.json_values.proofs.FaultLemmas.{lowest-append, reported-if}
 use Rattle.json_values.proofs.ReadingLemmas.{Reads, reads-both, reads-each, reads-mapped, reads-ok_or}
 use Rattle.json_values.specs.Faults.{fault_unless, lower_of, lowest}
 use Rattle.json_values.specs.Parts.{and_then, each, lower, mapped}
@@ -49,7 +49,7 @@ module _ (asn : Option AsnNumber) (prefix : Option PrefixValue) (max from until 
 
 reads-row : (fields : Fields) → Reads import_fault_number (row_in fields) (row_faults fields) (SaysRow fields)
 reads-row (a ∷ b ∷ c ∷ d ∷ e ∷ []) = reads-of (named_asn a) (spelled_prefix b) (max_in c) (day_in d) (day_in e)
-reads-row other = record { told = record { is = refl }; value = tt }
+reads-row other = record { reported = record { is = refl }; value = tt }
 
 reads-rows : (rows : List Fields)
     → Reads import_fault_number (each import_fault_number row_in rows) (flat_map row_faults rows) (AllZip SaysRow rows)
@@ -77,11 +77,11 @@ err-counted : (rows : List Fields) (faults : List ImportFault) (r : Result (List
     → result_err r ≡ lowest import_fault_number faults → IfOk r (AllZip SaysRow rows)
     → result_err (and_then counted r)
     ≡ lowest import_fault_number (faults ++ fault_unless (is_row_count (length rows)) Count)
-err-counted rows faults (Ok terms) told zip =
-    rw (lowest-append import_fault_number faults (fault_unless (is_row_count (length rows)) Count), ← told, zip-length rows terms zip)
-    (told-if import_fault_number (is_row_count (length terms)) terms Count).is
-err-counted rows faults (Err fault) told zip =
-    rw (lowest-append import_fault_number faults (fault_unless (is_row_count (length rows)) Count), ← told)
+err-counted rows faults (Ok terms) reported zip =
+    rw (lowest-append import_fault_number faults (fault_unless (is_row_count (length rows)) Count), ← reported, zip-length rows terms zip)
+    (reported-if import_fault_number (is_row_count (length terms)) terms Count).is
+err-counted rows faults (Err fault) reported zip =
+    rw (lowest-append import_fault_number faults (fault_unless (is_row_count (length rows)) Count), ← reported)
     (first (is_row_count (length rows)))
   where
     first : (b : Bool) → Some fault ≡ lower_of import_fault_number (Some fault) (lowest import_fault_number (fault_unless b Count))
@@ -117,7 +117,7 @@ err-rows : (records : List Fields) → result_err (rows_in (rows_after import_he
 err-rows [] = refl
 err-rows (first ∷ rows) = elim (cases_Bool (fields_eq first import_header)) [
   | inl same ↦ rw same (err-counted rows (flat_map row_faults rows) (each import_fault_number row_in rows)
-      (reads-rows rows).told.is (reads-rows rows).value)
+      (reads-rows rows).reported.is (reads-rows rows).value)
   | inr other ↦ rw other (form-first (lowest import_fault_number
       (flat_map row_faults rows ++ fault_unless (is_row_count (length rows)) Count)))
 ]
@@ -137,13 +137,13 @@ says-rows (first ∷ rows) = elim (cases_Bool (fields_eq first import_header)) [
     said (Err fault) is zip = tt
 
 -- its fault
-pub import_in-told : (text : List ℕ) → result_err (import_in text) ≡ import_fault text
-import_in-told text = err-rows (csv_records text)
+pub import_in-reported : (text : List ℕ) → result_err (import_in text) ≡ import_fault text
+import_in-reported text = err-rows (csv_records text)
 
-pub import-told : (text : List ℕ) (read : Result (Vec ImportRow) ImportFault) → mapped (λ v. v.items) read ≡ import_in text
+pub import-reported : (text : List ℕ) (read : Result (Vec ImportRow) ImportFault) → mapped (λ v. v.items) read ≡ import_in text
     → result_err read ≡ import_fault text
-import-told text (Ok rows) is = ap result_err is ∙ import_in-told text
-import-told text (Err fault) is = ap result_err is ∙ import_in-told text
+import-reported text (Ok rows) is = ap result_err is ∙ import_in-reported text
+import-reported text (Err fault) is = ap result_err is ∙ import_in-reported text
 
 -- its rows
 pub import_in-said : (text : List ℕ) → IfOk (import_in text) (IsImport text)

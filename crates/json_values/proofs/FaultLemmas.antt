@@ -24,7 +24,7 @@ lowest-append number (n ∷ xs) ys =
     ap (lower_of number (Some n)) (lowest-append number xs ys) ∙ sym (lower_of-assoc number (Some n) (lowest number xs) (lowest number ys))
 
 -- the reading reports the lowest of these faults, and a value where there are none
-pub record Told {A F : Type 0} (number : F → ℕ) (r : Result A F) (faults : List F) : Type 0 where
+pub record Reported {A F : Type 0} (number : F → ℕ) (r : Result A F) (faults : List F) : Type 0 where
   pub is : result_err r ≡ lowest number faults
 
 pub err-both : {A B F : Type 0} (number : F → ℕ) (a : Result A F) (b : Result B F) → result_err (both number a b) ≡ lower_of number (result_err a) (result_err b)
@@ -37,41 +37,41 @@ pub err-mapped : {A B F : Type 0} (f : A → B) (r : Result A F) → result_err 
 err-mapped f (Ok a) = refl
 err-mapped f (Err n) = refl
 
-pub told-both : {A B F : Type 0} {number : F → ℕ} {a : Result A F} {b : Result B F} {xs ys : List F} → Told number a xs → Told number b ys → Told number (both number a b) (xs ++ ys)
-told-both {number = number} {a = a} {b = b} {xs = xs} {ys = ys} h k = record { is = rw (err-both number a b, h.is, k.is) (sym (lowest-append number xs ys)) }
+pub reported-both : {A B F : Type 0} {number : F → ℕ} {a : Result A F} {b : Result B F} {xs ys : List F} → Reported number a xs → Reported number b ys → Reported number (both number a b) (xs ++ ys)
+reported-both {number = number} {a = a} {b = b} {xs = xs} {ys = ys} h k = record { is = rw (err-both number a b, h.is, k.is) (sym (lowest-append number xs ys)) }
 
-pub told-mapped : {A B F : Type 0} {number : F → ℕ} (f : A → B) {r : Result A F} {xs : List F} → Told number r xs → Told number (mapped f r) xs
-told-mapped f {r = r} h = record { is = err-mapped f r ∙ h.is }
+pub reported-mapped : {A B F : Type 0} {number : F → ℕ} (f : A → B) {r : Result A F} {xs : List F} → Reported number r xs → Reported number (mapped f r) xs
+reported-mapped f {r = r} h = record { is = err-mapped f r ∙ h.is }
 
-pub told-unless : {A B F : Type 0} {number : F → ℕ} {a : Result A F} {b : Result B F} {xs ys : List F} → Told number a xs → Told number b ys → Told number (unless number a b) (xs ++ ys)
-told-unless h k = told-mapped (λ p. p.0) (told-both h k)
+pub reported-unless : {A B F : Type 0} {number : F → ℕ} {a : Result A F} {b : Result B F} {xs ys : List F} → Reported number a xs → Reported number b ys → Reported number (unless number a b) (xs ++ ys)
+reported-unless h k = reported-mapped (λ p. p.0) (reported-both h k)
 
-pub told-if : {A F : Type 0} (number : F → ℕ) (b : Bool) (a : A) (n : F) → Told number (if b then Ok a else Err n) (fault_unless b n)
-told-if number true a n = record { is = refl }
-told-if number false a n = record { is = refl }
+pub reported-if : {A F : Type 0} (number : F → ℕ) (b : Bool) (a : A) (n : F) → Reported number (if b then Ok a else Err n) (fault_unless b n)
+reported-if number true a n = record { is = refl }
+reported-if number false a n = record { is = refl }
 
-pub told-ok_or : {A F : Type 0} (number : F → ℕ) (o : Option A) (n : F) → Told number (ok_or o n) (fault_unless (is_some o) n)
-told-ok_or number None n = record { is = refl }
-told-ok_or number (Some a) n = record { is = refl }
+pub reported-ok_or : {A F : Type 0} (number : F → ℕ) (o : Option A) (n : F) → Reported number (ok_or o n) (fault_unless (is_some o) n)
+reported-ok_or number None n = record { is = refl }
+reported-ok_or number (Some a) n = record { is = refl }
 
-told-only_of : {F : Type 0} (number : F → ℕ) (fault : F) (names : List (List ℕ)) (members : Option Members) → Told number (only_of fault names members) (fault_unless (is_object_of names members) fault)
-told-only_of number fault names None = record { is = refl }
-told-only_of number fault names (Some ms) = told-if number (has_only names ms) tt fault
+reported-only_of : {F : Type 0} (number : F → ℕ) (fault : F) (names : List (List ℕ)) (members : Option Members) → Reported number (only_of fault names members) (fault_unless (is_object_of names members) fault)
+reported-only_of number fault names None = record { is = refl }
+reported-only_of number fault names (Some ms) = reported-if number (has_only names ms) tt fault
 
-pub told-only : {F : Type 0} (number : F → ℕ) (fault : F) (names : List (List ℕ)) (d : Data) → Told number (only fault names d) (name_faults fault names d)
-told-only number fault names d = told-only_of number fault names (as_object d)
+pub reported-only : {F : Type 0} (number : F → ℕ) (fault : F) (names : List (List ℕ)) (d : Data) → Reported number (only fault names d) (name_faults fault names d)
+reported-only number fault names d = reported-only_of number fault names (as_object d)
 
-pub told-required : {A F : Type 0} (number : F → ℕ) (missing : F) (reading : Data → Result A F) (faults : Data → List F) (o : Option Data) → ((d : Data) → Told number (reading d) (faults d)) → Told number (required missing reading o) (required_faults missing faults o)
-told-required number missing reading faults None h = record { is = refl }
-told-required number missing reading faults (Some d) h = h d
+pub reported-required : {A F : Type 0} (number : F → ℕ) (missing : F) (reading : Data → Result A F) (faults : Data → List F) (o : Option Data) → ((d : Data) → Reported number (reading d) (faults d)) → Reported number (required missing reading o) (required_faults missing faults o)
+reported-required number missing reading faults None h = record { is = refl }
+reported-required number missing reading faults (Some d) h = h d
 
-pub told-optional : {A F : Type 0} (number : F → ℕ) (reading : Data → Result A F) (faults : Data → List F) (o : Option Data) → ((d : Data) → Told number (reading d) (faults d)) → Told number (optional reading o) (optional_faults faults o)
-told-optional number reading faults None h = record { is = refl }
-told-optional number reading faults (Some d) h = told-mapped Some (h d)
+pub reported-optional : {A F : Type 0} (number : F → ℕ) (reading : Data → Result A F) (faults : Data → List F) (o : Option Data) → ((d : Data) → Reported number (reading d) (faults d)) → Reported number (optional reading o) (optional_faults faults o)
+reported-optional number reading faults None h = record { is = refl }
+reported-optional number reading faults (Some d) h = reported-mapped Some (h d)
 
-pub told-each : {A D F : Type 0} (number : F → ℕ) (reading : D → Result A F) (faults : D → List F) (ds : List D) → ((d : D) → Told number (reading d) (faults d)) → Told number (each number reading ds) (flat_map faults ds)
-told-each number reading faults [] h = record { is = refl }
-told-each number reading faults (d ∷ ds) h = told-mapped (λ p. p.0 ∷ p.1) (told-both (h d) (told-each number reading faults ds h))
+pub reported-each : {A D F : Type 0} (number : F → ℕ) (reading : D → Result A F) (faults : D → List F) (ds : List D) → ((d : D) → Reported number (reading d) (faults d)) → Reported number (each number reading ds) (flat_map faults ds)
+reported-each number reading faults [] h = record { is = refl }
+reported-each number reading faults (d ∷ ds) h = reported-mapped (λ p. p.0 ∷ p.1) (reported-both (h d) (reported-each number reading faults ds h))
 
 -- ---- a test that all faults of a list pass
 
@@ -98,14 +98,14 @@ pass-flat_map faults [] k = record { each = refl }
 pass-flat_map faults (d ∷ ds) k = pass-append (k d) (pass-flat_map faults ds k)
 
 lower_of-passes : {F : Type 0} (number : F → ℕ) (p : F → Bool) (m : F) (o : Option F) (n : F) → p m ≡ true → ((k : F) → o ≡ Some k → p k ≡ true) → lower_of number (Some m) o ≡ Some n → p n ≡ true
-lower_of-passes number p m None n first others told = let same : m ≡ n = cc in rw (← same) first
-lower_of-passes number p m (Some k) n first others told =
+lower_of-passes number p m None n first others reported = let same : m ≡ n = cc in rw (← same) first
+lower_of-passes number p m (Some k) n first others reported =
     let same : lower number m k ≡ n = cc in
     rw (← same) (lower-each number (λ f. p f ≡ true) m k first (others k refl))
 
 -- then the lowest passes it
 pub lowest-passes : {F : Type 0} (number : F → ℕ) (p : F → Bool) (faults : List F) (n : F) → Pass p faults → lowest number faults ≡ Some n → p n ≡ true
-lowest-passes number p [] n h told = cc
-lowest-passes number p (m ∷ faults) n h told =
+lowest-passes number p [] n h reported = cc
+lowest-passes number p (m ∷ faults) n h reported =
     let both = and_parts (p m) (list_all p faults) h.each in
-    lower_of-passes number p m (lowest number faults) n both.0 (λ k is. lowest-passes number p faults k (record { each = both.1 }) is) told
+    lower_of-passes number p m (lowest number faults) n both.0 (λ k is. lowest-passes number p faults k (record { each = both.1 }) is) reported

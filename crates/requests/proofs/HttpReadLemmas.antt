@@ -8,11 +8,11 @@ use Rattle.std.specs.Result.{result_err, result_map_both}
 use Rattle.addr.specs.Name.{name_in}
 use Rattle.serde_json.specs.Data.{Data, null}
 use Rattle.registry.specs.declared.authorization.ImportRow.{ImportRow}
-use Rattle.json_values.proofs.FaultLemmas.{told-only}
+use Rattle.json_values.proofs.FaultLemmas.{reported-only}
 use Rattle.json_values.specs.Faults.{fault_unless, lower_of, lowest, name_faults}
 use Rattle.json_values.specs.Parts.{lower, mapped}
 use Rattle.json_values.specs.Tree.{tree_of}
-use Rattle.csv_records.proofs.ImportLemmas.{import_in-said, import_in-told}
+use Rattle.csv_records.proofs.ImportLemmas.{import_in-said, import_in-reported}
 use Rattle.csv_records.specs.Imports.{import_fault, IsImport}
 use Rattle.csv_records.specs.declared.imports.ImportFault.{ImportFault}
 use Rattle.csv_records.specs.steps.Importing.{import_in}
@@ -45,21 +45,21 @@ lowest-json (fault ∷ faults) =
     ap Some (sym (lower-json fault)) ∙ ap (lower_of malformed_number (Some fault)) (lowest-json faults)
 
 reads-day : (day : ℕ) → ReadsUnlessFaulty (Ok day) [] (λ asked_day. asked_day ≡ day)
-reads-day day = record { told = record { is = refl }; value = refl }
+reads-day day = record { reported = record { is = refl }; value = refl }
 
 -- the rows of an import
 reads-text : (text : List ℕ) → ReadsUnlessFaulty (import_rows text) (import_faults text) (IsImport text)
 reads-text text =
     record {
-      told = record { is = told (import_in text) (import_fault text) (import_in-told text) };
+      reported = record { is = reported (import_in text) (import_fault text) (import_in-reported text) };
       value = said (import_in text) (import_in-said text);
     }
   where
-    told : (read : Result (List ImportRow) ImportFault) (found : Option ImportFault) → result_err read ≡ found
+    reported : (read : Result (List ImportRow) ImportFault) (found : Option ImportFault) → result_err read ≡ found
         → result_err (result_map_both (λ rows. rows) fault_of_import read)
         ≡ lowest malformed_number (map fault_of_import (option_to_list found))
-    told (Ok rows) found is = rw (← is) refl
-    told (Err fault) found is = rw (← is) refl
+    reported (Ok rows) found is = rw (← is) refl
+    reported (Err fault) found is = rw (← is) refl
 
     said : (read : Result (List ImportRow) ImportFault) → IfOk read (IsImport text)
         → IfOk (result_map_both (λ rows. rows) fault_of_import read) (IsImport text)
@@ -94,11 +94,11 @@ module _ (head : Head) (body : Option (List ℕ)) where
 
     reads-tree : (found : Option Data)
         → ReadsUnlessFaulty (tree_request action (path_subject head) found) (in_path ++ parsed_body_faults action found) (SaysTree found)
-    reads-tree None = record { told = record { is = lowest-json in_path }; value = tt }
+    reads-tree None = record { reported = record { is = lowest-json in_path }; value = tt }
     reads-tree (Some d) =
         reads-says (λ terms says. (d, refl, says))
         (rw (← append_assoc in_path (member_faults (body_members action) d) (name_faults Members (names_of (body_members action)) d))
-        (reads-unless (reads-members d) (told-only malformed_number Members (names_of (body_members action)) d)))
+        (reads-unless (reads-members d) (reported-only malformed_number Members (names_of (body_members action)) d)))
 
     reads-object : (bytes : Option (List ℕ))
         → ReadsUnlessFaulty (object_body action (path_subject head) bytes) (in_path ++ object_body_faults action bytes)
@@ -109,7 +109,7 @@ module _ (head : Head) (body : Option (List ℕ)) where
   -- a body that is a file
   reads-slurm : head.action ≡ Slurm → (found : Option Data)
       → ReadsUnlessFaulty (slurm_request (file_of found)) (file_faults found) (SaysTree found)
-  reads-slurm does None = record { told = record { is = refl }; value = tt }
+  reads-slurm does None = record { reported = record { is = refl }; value = tt }
   reads-slurm does (Some d) = reads-mapped _ (λ p says. (d, refl, (ap Some does, says))) (reads-file_of (Some d))
 
   -- a body that is an import
@@ -142,7 +142,7 @@ module _ (head : Head) (body : Option (List ℕ)) where
   http-read day asked read =
       let reads = reads-http day in
       let says = rw (← read) at reads.value in
-      let fault = rw (← read) at reads.told.is in record {
+      let fault = rw (← read) at reads.reported.is in record {
         tree = says.2.0;
         is_tree = says.2.1;
         on_day = says.0;
@@ -155,4 +155,4 @@ module _ (head : Head) (body : Option (List ℕ)) where
   pub http-refused : (day : ℕ) (fault : Fault) → mapped asked_terms (Err fault) ≡ asked_of day head body
       → http_fault head body ≡ Some (as_malformed fault)
   http-refused day fault read =
-      let told = rw (← read) at (reads-http day).told.is in rw (← told) refl
+      let reported = rw (← read) at (reads-http day).reported.is in rw (← reported) refl

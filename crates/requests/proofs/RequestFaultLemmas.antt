@@ -5,7 +5,7 @@ use Rattle.std.specs.Prelude.{IfOk}
 use Rattle.std.specs.Option.{ok_or}
 use Rattle.serde_json.specs.Data.{Data}
 use Rattle.serde_json.specs.Find.{get}
-use Rattle.json_values.proofs.FaultLemmas.{told-ok_or, told-required}
+use Rattle.json_values.proofs.FaultLemmas.{reported-ok_or, reported-required}
 use Rattle.json_values.proofs.ReadingLemmas.{Reads, value-ok_or}
 use Rattle.json_values.specs.Faults.{reading_faults, required_faults}
 use Rattle.json_values.specs.Tree.{required}
@@ -32,7 +32,7 @@ ReadsMember reading n name d =
 pub reads-member : {A : Type 0} (reading : Data → Option A) (n : Fault) (name : List ℕ) (d : Data) →
     ReadsMember reading n name d
 reads-member reading n name d = record {
-  told = told-required malformed_number Members _ (reading_faults reading n) (get name d)
-      (λ e. told-ok_or malformed_number (reading e) n);
+  reported = reported-required malformed_number Members _ (reading_faults reading n) (get name d)
+      (λ e. reported-ok_or malformed_number (reading e) n);
   value = found-reads reading n (get name d);
 }

@@ -9,7 +9,7 @@ use Rattle.registry.specs.declared.command.Query.TheVariants.{Validity}
 use Rattle.serde_json.specs.Data.{Data, Items}
 use Rattle.serde_json.specs.Find.{get, as_array, as_str}
 use Rattle.slurm.specs.SlurmEntries.{SaysExceptions}
-use Rattle.json_values.proofs.FaultLemmas.{told-if, told-only}
+use Rattle.json_values.proofs.FaultLemmas.{reported-if, reported-only}
 use Rattle.json_values.specs.Faults.{required_faults}
 use Rattle.json_values.specs.Parts.{both, mapped}
 use Rattle.json_values.specs.Tree.{tree_of, list_of}
@@ -77,41 +77,41 @@ reads-row : (d : Data) → ReadsUnlessFaulty (row_in d) (object_faults terms_mem
 reads-row d =
     reads-unless
     (reads-mapped _ (λ p says. (says.0, says.1.0, says.1.1.0, says.1.1.1.0, says.1.1.1.1)) (reads-one-prefix d))
-    (told-only malformed_number Members (names_of terms_members) d)
+    (reported-only malformed_number Members (names_of terms_members) d)
 
 reads-change : (action : Option Action) (d : Data) → action_in d ≡ action →
     ReadsUnlessFaulty (change_by action d) (change_faults action d) (SaysChange d)
 reads-change (Some AskCreate) d does =
     rw (do-faultless d AskCreate (get (codes "do") d) does)
     (reads-mapped CreateChange (λ terms says. (does, says))
-    (reads-unless (reads-terms d) (told-only malformed_number Members (names_of creation_members) d)))
+    (reads-unless (reads-terms d) (reported-only malformed_number Members (names_of creation_members) d)))
 reads-change (Some AskWithdraw) d does =
     rw (do-faultless d AskWithdraw (get (codes "do") d) does)
     (reads-mapped WithdrawChange (λ n says. (does, says))
-    (reads-unless (reads-last (number d)) (told-only malformed_number Members (names_of withdrawal_members) d)))
-reads-change other d does = record { told = record { is = refl }; value = tt }
+    (reads-unless (reads-last (number d)) (reported-only malformed_number Members (names_of withdrawal_members) d)))
+reads-change other d does = record { reported = record { is = refl }; value = tt }
 
 reads-route : (d : Data) → ReadsUnlessFaulty (route_in d) (object_faults route_members d) (SaysRoute d)
 reads-route d =
     reads-unless
     (reads-mapped (λ p. record { prefix = p.0; origin = p.1 }) (λ p read. (read.0, read.1))
     (reads-both (prefix d) (reads-last (reads-member as_origin Asn (codes "origin") d))))
-    (told-only malformed_number Members (names_of route_members) d)
+    (reported-only malformed_number Members (names_of route_members) d)
 
 module _ {A : Type 0} (reading : Data → Result A Fault) (faults : Data → List Fault) (Says : Data → A → Type 0)
     (least most : ℕ) (reads : (d : Data) → ReadsUnlessFaulty (reading d) (faults d) (Says d)) where
   reads-items : (found : Option Items) →
       ReadsUnlessFaulty (items_of reading least most found) (list_faults faults least most found)
       (λ values. (items : Items) × (found ≡ Some items) × AllZip Says (list_of items) values)
-  reads-items None = record { told = record { is = refl }; value = tt }
+  reads-items None = record { reported = record { is = refl }; value = tt }
   reads-items (Some items) =
       reads-unless (reads-says (λ values each. (items, refl, each)) (reads-each reading faults Says (list_of items) reads))
-      (told-if malformed_number (is_count least most (length (list_of items))) tt Count)
+      (reported-if malformed_number (is_count least most (length (list_of items))) tt Count)
 
   -- the items of a member
   reads-list : (member : Option Data) → ReadsUnlessFaulty (items_of reading least most (option_and_then as_array member))
       (required_faults Members (λ value. list_faults faults least most (as_array value)) member) (HasItems Says member)
-  reads-list None = record { told = record { is = refl }; value = tt }
+  reads-list None = record { reported = record { is = refl }; value = tt }
   reads-list (Some value) = reads-items (as_array value)
 
 pub reads-rows : (d : Data) → ReadsUnlessFaulty (rows_in d) (required_faults Members (rows d) (get (codes "rows") d))
@@ -205,7 +205,7 @@ module _ (h : Heading) (subject : Subject) (named : Named → List Fault)
   reads-request AskWhatIf d does file_brought rows_brought =
       reads-mapped _ (λ p says. (does, says.0, says.1.0, says.1.1))
       (reads-both (reads-last holder) (reads-both (reads-changes d) (reads-last (reads-routes d))))
-  reads-request AskPayloads d does file_brought rows_brought = record { told = record { is = refl }; value = does }
+  reads-request AskPayloads d does file_brought rows_brought = record { reported = record { is = refl }; value = does }
   reads-request AskValidity d does file_brought rows_brought =
       reads-mapped validity (λ p says. (does, says))
       (reads-last (reads-routes d))
@@ -237,15 +237,15 @@ reads-asked action d does =
     (reads-both (reads-member as_day Day (codes "day") d)
     (reads-both (reads-member as_name Caller (codes "caller") d)
     (reads-request (line_heading d) (line_subject d) (named_faults d) (holder d) (number d) action d does (λ _. reads-file d) (λ _. reads-rows d)))))
-    (told-only malformed_number Members (names_of (members_of action)) d))
+    (reported-only malformed_number Members (names_of (members_of action)) d))
 
 reads-by : (action : Option Action) (d : Data) → action_in d ≡ action →
     ReadsUnlessFaulty (asked_by action d) (action_faults action d) (AsksTerms (Some d))
-reads-by None d does = record { told = record { is = refl }; value = tt }
+reads-by None d does = record { reported = record { is = refl }; value = tt }
 reads-by (Some action) d does = reads-asked action d does
 
 reads-tree : (found : Option Data) → ReadsUnlessFaulty (asked_from found) (tree_faults found) (AsksTerms found)
-reads-tree None = record { told = record { is = refl }; value = tt }
+reads-tree None = record { reported = record { is = refl }; value = tt }
 reads-tree (Some d) = reads-by (action_in d) d refl
 
 reads-line : (line : List ℕ) →
@@ -256,7 +256,7 @@ reads-line line = by_length (nat_lt LINE_LENGTH_LIMIT (length line))
         ReadsUnlessFaulty (if is_long then Err TooLong else asked_from (tree_of line))
         (if is_long then TooLong ∷ [] else tree_faults (tree_of line))
         (AsksTerms (tree_of line))
-    by_length true = record { told = record { is = refl }; value = tt }
+    by_length true = record { reported = record { is = refl }; value = tt }
     by_length false = reads-tree (tree_of line)
 
 -- what was read of a line is what the line says
@@ -265,7 +265,7 @@ pub line-read : (line : List ℕ) (asked : Asked) →
 line-read line asked read =
     let reads = reads-line line in
     let says = rw (← read) at reads.value in
-    let fault = rw (← read) at reads.told.is in record {
+    let fault = rw (← read) at reads.reported.is in record {
       tree = says.0;
       is_json = says.1;
       day = says.2;
@@ -279,4 +279,4 @@ pub line-refused : (line : List ℕ) (fault : Fault) →
     mapped asked_terms (Err fault) ≡ asked_in line →
     request_fault line ≡ Some (as_malformed fault)
 line-refused line fault read =
-    let told = rw (← read) at (reads-line line).told.is in rw (← told) refl
+    let reported = rw (← read) at (reads-line line).reported.is in rw (← reported) refl

@@ -15,7 +15,7 @@ use Rattle.addr.specs.declared.vrp.Vrp.{Vrp}
 use Rattle.serde_json.specs.Data.{Data}
 use Rattle.serde_json.specs.Find.{get}
 use Rattle.slurm.proofs.SlurmEntryLemmas.{answer-said}
-use Rattle.slurm.proofs.SlurmFaultLemmas.{slurm_fault-told}
+use Rattle.slurm.proofs.SlurmFaultLemmas.{slurm_fault-reported}
 use Rattle.slurm.specs.Exceptions.{Exceptions}
 use Rattle.slurm.specs.SlurmEntries.{IsPrefixMember, IsAsnMember, IsMaxLengthMember, IsFilterOf, SaysFilter, SaysAssertion, SaysExceptions}
 use Rattle.slurm.specs.SlurmFaults.{slurm_fault, filters_at, assertions_at}
@@ -88,19 +88,19 @@ read_ok d file says faultless = go (slurm_in d) refl
   where
     go : (read : Result Exceptions SlurmFault) → slurm_in d ≡ read → Ok file ≡ read
     go (Ok other) is = ap (λ (x : Exceptions). Ok x) (same_exceptions d file other says (answer-said d (Ok other) is))
-    go (Err n) is = let told : Some n ≡ None = sym (ap result_err is) ∙ slurm_fault-told d ∙ faultless in absurd (none-some n (sym told))
+    go (Err n) is = let reported : Some n ≡ None = sym (ap result_err is) ∙ slurm_fault-reported d ∙ faultless in absurd (none-some n (sym reported))
 
 -- and so is the lowest fault of another
 pub read_err : (d : Data) (fault : SlurmFault) → slurm_fault (Some d) ≡ Some fault → Err fault ≡ slurm_in d
-read_err d fault told = go (slurm_in d) refl
+read_err d fault reported = go (slurm_in d) refl
   where
     go : (read : Result Exceptions SlurmFault) → slurm_in d ≡ read → Err fault ≡ read
-    go (Ok other) is = let none : None ≡ Some fault = sym (ap result_err is) ∙ slurm_fault-told d ∙ told in absurd (none-some fault none)
-    go (Err n) is = ap (λ (x : SlurmFault). Err x) (same_Some fault n (sym (sym (ap result_err is) ∙ slurm_fault-told d ∙ told)))
+    go (Ok other) is = let none : None ≡ Some fault = sym (ap result_err is) ∙ slurm_fault-reported d ∙ reported in absurd (none-some fault none)
+    go (Err n) is = ap (λ (x : SlurmFault). Err x) (same_Some fault n (sym (sym (ap result_err is) ∙ slurm_fault-reported d ∙ reported)))
 
-told-file : (read : Result Exceptions SlurmFault) → result_err (result_map_both (λ (x : Exceptions). x) File read) ≡ lowest malformed_number (map File (option_to_list (result_err read)))
-told-file (Ok exceptions) = refl
-told-file (Err n) = refl
+reported-file : (read : Result Exceptions SlurmFault) → result_err (result_map_both (λ (x : Exceptions). x) File read) ≡ lowest malformed_number (map File (option_to_list (result_err read)))
+reported-file (Ok exceptions) = refl
+reported-file (Err n) = refl
 
 said-file : (value : Data) (read : Result Exceptions SlurmFault) → slurm_in value ≡ read → IfOk (result_map_both (λ x. x) File read) (SaysExceptions (Some value))
 said-file value (Ok exceptions) is = answer-said value (Ok exceptions) is
@@ -109,7 +109,7 @@ said-file value (Err n) is = tt
 -- what is read of a file is what it says, and its fault the lowest
 reads-as_file : (value : Data) → ReadsUnlessFaulty (as_file value) (file_faults (Some value)) (SaysExceptions (Some value))
 reads-as_file value = record {
-  told = record { is = told-file (slurm_in value) ∙ ap (λ (fault : Option SlurmFault). lowest malformed_number (map File (option_to_list fault))) (slurm_fault-told value) };
+  reported = record { is = reported-file (slurm_in value) ∙ ap (λ (fault : Option SlurmFault). lowest malformed_number (map File (option_to_list fault))) (slurm_fault-reported value) };
   value = said-file value (slurm_in value) refl;
 }
 
@@ -117,10 +117,10 @@ pub reads-file : (d : Data) → ReadsUnlessFaulty (file_in d) (required_faults M
 reads-file d = at (get (codes "file") d)
   where
     at : (member : Option Data) → ReadsUnlessFaulty (required Members as_file member) (required_faults Members (file d) member) (SaysExceptions member)
-    at None = record { told = record { is = refl }; value = tt }
+    at None = record { reported = record { is = refl }; value = tt }
     at (Some value) = reads-as_file value
 
 -- the same of a file that may be no JSON
 pub reads-file_of : (found : Option Data) → ReadsUnlessFaulty (file_of found) (file_faults found) (SaysExceptions found)
-reads-file_of None = record { told = record { is = refl }; value = tt }
+reads-file_of None = record { reported = record { is = refl }; value = tt }
 reads-file_of (Some value) = reads-as_file value

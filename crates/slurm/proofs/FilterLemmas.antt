@@ -17,7 +17,7 @@ filter_matches-Decides (Both p asn) v = Decides-and _ _ (contains_each p v.prefi
 
 pub some_filter : (filters : List Filter) (v : Vrp) → IsTrue (list_any (λ f. filter_matches f v) filters) ↔ Any (λ f. FilterMatches f v) filters
 some_filter filters v = (
-  λ told. let some = Any-from_list_any (λ f. filter_matches f v) filters told in
+  λ reported. let some = Any-from_list_any (λ f. filter_matches f v) filters reported in
       (some.0, some.1, some.2, some.3, (filter_matches-Decides some.1 v).0 some.4),
   λ some. list_any-from_Any (λ f. filter_matches f v) filters
       (some.0, some.1, some.2, some.3, (filter_matches-Decides some.1 v).1 some.4),

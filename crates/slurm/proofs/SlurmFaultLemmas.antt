@@ -15,7 +15,7 @@ use Rattle.addr.specs.declared.prefix.Prefix.{Prefix}
 use Rattle.addr.specs.declared.vrp.Vrp.{Vrp}
 use Rattle.serde_json.specs.Data.{Data, Items, no_items, item}
 use Rattle.serde_json.specs.Find.{get, as_object, as_str}
-use Rattle.json_values.proofs.FaultLemmas.{Pass, Told, err-both, lowest-append, lowest-passes, pass-append, pass-flat_map, pass-optional, pass-required, pass-unless, told-both, told-each, told-if, told-mapped, told-ok_or, told-only, told-optional, told-required, told-unless}
+use Rattle.json_values.proofs.FaultLemmas.{Pass, Reported, err-both, lowest-append, lowest-passes, pass-append, pass-flat_map, pass-optional, pass-required, pass-unless, reported-both, reported-each, reported-if, reported-mapped, reported-ok_or, reported-only, reported-optional, reported-required, reported-unless}
 use Rattle.json_values.proofs.PartsLemmas.{lower-first}
 use Rattle.json_values.specs.Faults.{fault_unless, lower_of, lowest, name_faults, optional_faults, reading_faults, required_faults}
 use Rattle.json_values.specs.Parts.{both, mapped, and_then}
@@ -35,21 +35,21 @@ use Rattle.slurm.specs.declared.members.MaxPrefixLength.{MaxPrefixLength as Leng
 
 -- ---- single members
 
-told-prefix : (d : Data) → Told slurm_fault_number (prefix_in d) (prefix_faults d)
-told-prefix d = told-ok_or slurm_fault_number (as_prefix d) PrefixFault
+reported-prefix : (d : Data) → Reported slurm_fault_number (prefix_in d) (prefix_faults d)
+reported-prefix d = reported-ok_or slurm_fault_number (as_prefix d) PrefixFault
 
-told-asn : (d : Data) → Told slurm_fault_number (asn_in d) (asn_faults d)
-told-asn d = told-ok_or slurm_fault_number (as_asn d) AsnFault
+reported-asn : (d : Data) → Reported slurm_fault_number (asn_in d) (asn_faults d)
+reported-asn d = reported-ok_or slurm_fault_number (as_asn d) AsnFault
 
-told-comment : (d : Data) → Told slurm_fault_number (comment_in d) (comment_faults d)
-told-comment d = told-if slurm_fault_number (is_some (as_str d)) (record {}) Comment
+reported-comment : (d : Data) → Reported slurm_fault_number (comment_in d) (comment_faults d)
+reported-comment d = reported-if slurm_fault_number (is_some (as_str d)) (record {}) Comment
 
-told-version_from : (n : Option ℕ) → Told slurm_fault_number (version_from n) (fault_unless (is_one n) Version)
-told-version_from None = record { is = refl }
-told-version_from (Some n) = told-if slurm_fault_number (n == 1) (record {}) Version
+reported-version_from : (n : Option ℕ) → Reported slurm_fault_number (version_from n) (fault_unless (is_one n) Version)
+reported-version_from None = record { is = refl }
+reported-version_from (Some n) = reported-if slurm_fault_number (n == 1) (record {}) Version
 
-told-version : (d : Data) → Told slurm_fault_number (version_in d) (version_faults d)
-told-version d = told-version_from (whole_number d)
+reported-version : (d : Data) → Reported slurm_fault_number (version_in d) (version_faults d)
+reported-version d = reported-version_from (whole_number d)
 
 -- ---- filters
 
@@ -64,29 +64,29 @@ err-filter_asn : (asn : Result Asn SlurmFault) → result_err (and_then filter_o
 err-filter_asn (Ok asn) = refl
 err-filter_asn (Err n) = refl
 
-told-filter_of : (p asn : Option Data) →
-    Told slurm_fault_number (and_then filter_of (both slurm_fault_number (optional prefix_in p) (optional asn_in asn)))
+reported-filter_of : (p asn : Option Data) →
+    Reported slurm_fault_number (and_then filter_of (both slurm_fault_number (optional prefix_in p) (optional asn_in asn)))
     (optional_faults prefix_faults p ++ optional_faults asn_faults asn ++ fault_unless (is_some p || is_some asn) EmptyFilter)
-told-filter_of (Some p) asn = record {
+reported-filter_of (Some p) asn = record {
   is =
       err-filter_prefix (prefix_in p) (optional asn_in asn)
-      ∙ (told-both (told-mapped Some (told-prefix p)) (told-optional slurm_fault_number asn_in asn_faults asn told-asn)).is
+      ∙ (reported-both (reported-mapped Some (reported-prefix p)) (reported-optional slurm_fault_number asn_in asn_faults asn reported-asn)).is
       ∙ ap (lowest slurm_fault_number) (sym (append-nil (prefix_faults p ++ optional_faults asn_faults asn)));
 }
-told-filter_of None (Some asn) = record {
+reported-filter_of None (Some asn) = record {
   is =
       err-filter_asn (asn_in asn)
       ∙ err-both {A = Option Prefix} slurm_fault_number (Ok None) (mapped Some (asn_in asn))
-      ∙ (told-mapped {B = Option Asn} Some (told-asn asn)).is
+      ∙ (reported-mapped {B = Option Asn} Some (reported-asn asn)).is
       ∙ ap (lowest slurm_fault_number) (sym (append-nil (asn_faults asn)));
 }
-told-filter_of None None = record { is = refl }
+reported-filter_of None None = record { is = refl }
 
-told-filter : (d : Data) → Told slurm_fault_number (filter_in d) (filter_faults d)
-told-filter d =
-    told-unless (told-unless (told-filter_of (get (codes "prefix") d) (get (codes "asn") d))
-    (told-only slurm_fault_number Members filter_names d))
-    (told-optional slurm_fault_number comment_in comment_faults (get (codes "comment") d) told-comment)
+reported-filter : (d : Data) → Reported slurm_fault_number (filter_in d) (filter_faults d)
+reported-filter d =
+    reported-unless (reported-unless (reported-filter_of (get (codes "prefix") d) (get (codes "asn") d))
+    (reported-only slurm_fault_number Members filter_names d))
+    (reported-optional slurm_fault_number comment_in comment_faults (get (codes "comment") d) reported-comment)
 
 -- ---- assertions
 
@@ -119,18 +119,18 @@ lower_of-low m true low = refl
 lower_of-low m false low = ap Some (sym (lower-first slurm_fault_number m MaxPrefixLength low))
 
 -- a prefix and a number: the VRP is there where the number is in its range
-told-in_range : (p : Prefix) (max : Option LengthRead) (asn : Result Asn SlurmFault) (xs : List SlurmFault) → Told slurm_fault_number asn xs → OfAsn asn →
-    Told slurm_fault_number (and_then assertion_of (both slurm_fault_number (Ok p) (both slurm_fault_number asn (Ok max)))) (xs ++ fault_unless (fits_max_length p (max_length p max)) MaxPrefixLength)
-told-in_range p max (Ok asn) xs h low =
+reported-in_range : (p : Prefix) (max : Option LengthRead) (asn : Result Asn SlurmFault) (xs : List SlurmFault) → Reported slurm_fault_number asn xs → OfAsn asn →
+    Reported slurm_fault_number (and_then assertion_of (both slurm_fault_number (Ok p) (both slurm_fault_number asn (Ok max)))) (xs ++ fault_unless (fits_max_length p (max_length p max)) MaxPrefixLength)
+reported-in_range p max (Ok asn) xs h low =
     let range = fits_max_length p (max_length p max) in
     record {
       is =
-          (told-ok_or slurm_fault_number (vrp_with p (max_length p max) asn) MaxPrefixLength).is
+          (reported-ok_or slurm_fault_number (vrp_with p (max_length p max) asn) MaxPrefixLength).is
           ∙ ap (λ (b : Bool). lowest slurm_fault_number (fault_unless b MaxPrefixLength)) (is_some-vrp_with p (max_length p max) asn)
           ∙ ap (λ (o : Option SlurmFault). lower_of slurm_fault_number o (lowest slurm_fault_number (fault_unless range MaxPrefixLength))) h.is
           ∙ sym (lowest-append slurm_fault_number xs (fault_unless range MaxPrefixLength));
     }
-told-in_range p max (Err m) xs h low =
+reported-in_range p max (Err m) xs h low =
     let range = fits_max_length p (max_length p max) in
     record {
       is =
@@ -147,76 +147,76 @@ err-no_number p (Err m) = refl
 own_length : (p : Prefix) → fits_max_length p p.length ≡ true
 own_length p = rw (le-leb p.length p.length (omega arith), le-leb p.length (width p.family) p.length_fits) refl
 
-told-max : (p : Prefix) (asn : Result Asn SlurmFault) (xs : List SlurmFault) (number : Option ℕ) → Told slurm_fault_number asn xs → OfAsn asn →
-    Told slurm_fault_number (and_then assertion_of (both slurm_fault_number (Ok p) (both slurm_fault_number asn (mapped {B = Option LengthRead} Some (ok_or (option_map (λ n. record { 0 = n }) number) MaxPrefixLength)))))
+reported-max : (p : Prefix) (asn : Result Asn SlurmFault) (xs : List SlurmFault) (number : Option ℕ) → Reported slurm_fault_number asn xs → OfAsn asn →
+    Reported slurm_fault_number (and_then assertion_of (both slurm_fault_number (Ok p) (both slurm_fault_number asn (mapped {B = Option LengthRead} Some (ok_or (option_map (λ n. record { 0 = n }) number) MaxPrefixLength)))))
     (xs ++ fault_unless (is_max_length (Some p) number) MaxPrefixLength)
-told-max p asn xs None h low = record {
+reported-max p asn xs None h low = record {
   is =
       err-no_number p asn ∙ err-both {B = Option LengthRead} slurm_fault_number asn (Err MaxPrefixLength)
       ∙ ap (λ (o : Option SlurmFault). lower_of slurm_fault_number o (Some MaxPrefixLength)) h.is ∙ sym (lowest-append slurm_fault_number xs (MaxPrefixLength ∷ []));
 }
-told-max p asn xs (Some n) h low = told-in_range p (Some (record { 0 = n })) asn xs h low
+reported-max p asn xs (Some n) h low = reported-in_range p (Some (record { 0 = n })) asn xs h low
 
-told-with_prefix : (p : Prefix) (asn max : Option Data) →
-    Told slurm_fault_number (and_then assertion_of (both slurm_fault_number (Ok p) (both slurm_fault_number (required Members asn_in asn) (optional length_in max))))
+reported-with_prefix : (p : Prefix) (asn max : Option Data) →
+    Reported slurm_fault_number (and_then assertion_of (both slurm_fault_number (Ok p) (both slurm_fault_number (required Members asn_in asn) (optional length_in max))))
     (required_faults Members asn_faults asn ++ optional_faults (max_length_faults (Some p)) max)
-told-with_prefix p asn None =
-    let own = told-in_range p None (required Members asn_in asn) (required_faults Members asn_faults asn) (told-required slurm_fault_number Members asn_in asn_faults asn told-asn) (asn-low asn) in
+reported-with_prefix p asn None =
+    let own = reported-in_range p None (required Members asn_in asn) (required_faults Members asn_faults asn) (reported-required slurm_fault_number Members asn_in asn_faults asn reported-asn) (asn-low asn) in
     record { is = own.is ∙ ap (λ (b : Bool). lowest slurm_fault_number (required_faults Members asn_faults asn ++ fault_unless b MaxPrefixLength)) (own_length p) }
-told-with_prefix p asn (Some max) =
-    told-max p (required Members asn_in asn) (required_faults Members asn_faults asn) (whole_number max) (told-required slurm_fault_number Members asn_in asn_faults asn told-asn) (asn-low asn)
+reported-with_prefix p asn (Some max) =
+    reported-max p (required Members asn_in asn) (required_faults Members asn_faults asn) (whole_number max) (reported-required slurm_fault_number Members asn_in asn_faults asn reported-asn) (asn-low asn)
 
 -- without a prefix
-told-length : (d : Data) → Told slurm_fault_number (length_in d) (max_length_faults None d)
-told-length d = told-number (whole_number d)
+reported-length : (d : Data) → Reported slurm_fault_number (length_in d) (max_length_faults None d)
+reported-length d = reported-number (whole_number d)
   where
-    told-number : (n : Option ℕ) → Told {A = LengthRead} slurm_fault_number (ok_or (option_map (λ k. record { 0 = k }) n) MaxPrefixLength) (fault_unless (is_max_length None n) MaxPrefixLength)
-    told-number None = record { is = refl }
-    told-number (Some n) = record { is = refl }
+    reported-number : (n : Option ℕ) → Reported {A = LengthRead} slurm_fault_number (ok_or (option_map (λ k. record { 0 = k }) n) MaxPrefixLength) (fault_unless (is_max_length None n) MaxPrefixLength)
+    reported-number None = record { is = refl }
+    reported-number (Some n) = record { is = refl }
 
 err-no_prefix : (m : SlurmFault) (others : Result (Asn × Option LengthRead) SlurmFault) → result_err (and_then assertion_of (both slurm_fault_number (Err m) others)) ≡ lower_of slurm_fault_number (Some m) (result_err others)
 err-no_prefix m (Ok others) = refl
 err-no_prefix m (Err n) = refl
 
-told-no_prefix : (m : SlurmFault) (asn max : Option Data) →
-    Told slurm_fault_number (and_then assertion_of (both slurm_fault_number (Err m) (both slurm_fault_number (required Members asn_in asn) (optional length_in max))))
+reported-no_prefix : (m : SlurmFault) (asn max : Option Data) →
+    Reported slurm_fault_number (and_then assertion_of (both slurm_fault_number (Err m) (both slurm_fault_number (required Members asn_in asn) (optional length_in max))))
     (m ∷ [] ++ required_faults Members asn_faults asn ++ optional_faults (max_length_faults None) max)
-told-no_prefix m asn max =
-    let others = told-both (told-required slurm_fault_number Members asn_in asn_faults asn told-asn) (told-optional slurm_fault_number length_in (max_length_faults None) max told-length) in
+reported-no_prefix m asn max =
+    let others = reported-both (reported-required slurm_fault_number Members asn_in asn_faults asn reported-asn) (reported-optional slurm_fault_number length_in (max_length_faults None) max reported-length) in
     record { is = err-no_prefix m (both slurm_fault_number (required Members asn_in asn) (optional length_in max)) ∙ ap (lower_of slurm_fault_number (Some m)) others.is }
 
-told-read_prefix : (p : Option Prefix) (asn max : Option Data) →
-    Told slurm_fault_number (and_then assertion_of (both slurm_fault_number (ok_or p PrefixFault) (both slurm_fault_number (required Members asn_in asn) (optional length_in max))))
+reported-read_prefix : (p : Option Prefix) (asn max : Option Data) →
+    Reported slurm_fault_number (and_then assertion_of (both slurm_fault_number (ok_or p PrefixFault) (both slurm_fault_number (required Members asn_in asn) (optional length_in max))))
     (fault_unless (is_some p) PrefixFault ++ required_faults Members asn_faults asn ++ optional_faults (max_length_faults p) max)
-told-read_prefix None asn max = told-no_prefix PrefixFault asn max
-told-read_prefix (Some p) asn max = told-with_prefix p asn max
+reported-read_prefix None asn max = reported-no_prefix PrefixFault asn max
+reported-read_prefix (Some p) asn max = reported-with_prefix p asn max
 
-told-assertion_of : (p asn max : Option Data) →
-    Told slurm_fault_number (and_then assertion_of (both slurm_fault_number (required Members prefix_in p) (both slurm_fault_number (required Members asn_in asn) (optional length_in max))))
+reported-assertion_of : (p asn max : Option Data) →
+    Reported slurm_fault_number (and_then assertion_of (both slurm_fault_number (required Members prefix_in p) (both slurm_fault_number (required Members asn_in asn) (optional length_in max))))
     (required_faults Members prefix_faults p ++ required_faults Members asn_faults asn ++ optional_faults (max_length_faults (option_and_then as_prefix p)) max)
-told-assertion_of None asn max = told-no_prefix Members asn max
-told-assertion_of (Some p) asn max = told-read_prefix (as_prefix p) asn max
+reported-assertion_of None asn max = reported-no_prefix Members asn max
+reported-assertion_of (Some p) asn max = reported-read_prefix (as_prefix p) asn max
 
-told-assertion : (d : Data) → Told slurm_fault_number (assertion_in d) (assertion_faults d)
-told-assertion d =
-    told-unless (told-unless (told-assertion_of (get (codes "prefix") d) (get (codes "asn") d) (get (codes "maxPrefixLength") d))
-    (told-only slurm_fault_number Members assertion_names d))
-    (told-optional slurm_fault_number comment_in comment_faults (get (codes "comment") d) told-comment)
+reported-assertion : (d : Data) → Reported slurm_fault_number (assertion_in d) (assertion_faults d)
+reported-assertion d =
+    reported-unless (reported-unless (reported-assertion_of (get (codes "prefix") d) (get (codes "asn") d) (get (codes "maxPrefixLength") d))
+    (reported-only slurm_fault_number Members assertion_names d))
+    (reported-optional slurm_fault_number comment_in comment_faults (get (codes "comment") d) reported-comment)
 
 -- ---- the file
 
-told-entries : {A : Type 0} (reading : Data → Result A SlurmFault) (faults : Data → List SlurmFault) (items : Option Items) → ((d : Data) → Told slurm_fault_number (reading d) (faults d)) → Told slurm_fault_number (entries_from reading items) (entries_faults faults items)
-told-entries reading faults None h = record { is = refl }
-told-entries reading faults (Some items) h = told-each slurm_fault_number reading faults (list_of items) h
+reported-entries : {A : Type 0} (reading : Data → Result A SlurmFault) (faults : Data → List SlurmFault) (items : Option Items) → ((d : Data) → Reported slurm_fault_number (reading d) (faults d)) → Reported slurm_fault_number (entries_from reading items) (entries_faults faults items)
+reported-entries reading faults None h = record { is = refl }
+reported-entries reading faults (Some items) h = reported-each slurm_fault_number reading faults (list_of items) h
 
-told-bgpsec : (items : Option Items) → Told slurm_fault_number (bgpsec_from items) (bgpsec_faults items)
-told-bgpsec None = record { is = refl }
-told-bgpsec (Some no_items) = record { is = refl }
-told-bgpsec (Some (item d ds)) = record { is = refl }
+reported-bgpsec : (items : Option Items) → Reported slurm_fault_number (bgpsec_from items) (bgpsec_faults items)
+reported-bgpsec None = record { is = refl }
+reported-bgpsec (Some no_items) = record { is = refl }
+reported-bgpsec (Some (item d ds)) = record { is = refl }
 
-told-part : {A : Type 0} (reading : Data → Result A SlurmFault) (faults : Data → List SlurmFault) (entries bgpsec : List ℕ) → ((d : Data) → Told slurm_fault_number (reading d) (faults d)) → (d : Data) → Told slurm_fault_number (part_in reading entries bgpsec d) (part_faults faults entries bgpsec d)
-told-part reading faults entries bgpsec h d =
-    told-unless (told-unless (told-entries reading faults (array_at entries d) h) (told-only slurm_fault_number Members (entries ∷ bgpsec ∷ []) d)) (told-bgpsec (array_at bgpsec d))
+reported-part : {A : Type 0} (reading : Data → Result A SlurmFault) (faults : Data → List SlurmFault) (entries bgpsec : List ℕ) → ((d : Data) → Reported slurm_fault_number (reading d) (faults d)) → (d : Data) → Reported slurm_fault_number (part_in reading entries bgpsec d) (part_faults faults entries bgpsec d)
+reported-part reading faults entries bgpsec h d =
+    reported-unless (reported-unless (reported-entries reading faults (array_at entries d) h) (reported-only slurm_fault_number Members (entries ∷ bgpsec ∷ []) d)) (reported-bgpsec (array_at bgpsec d))
 
 abbrev lists_faults : Data → List SlurmFault
 lists_faults d =
@@ -226,16 +226,16 @@ lists_faults d =
     ++ name_faults Members file_names d
     ++ required_faults Members version_faults (get (codes "slurmVersion") d)
 
-told-lists : (d : Data) → Told slurm_fault_number (lists_in d) (lists_faults d)
-told-lists d =
-    told-unless (told-unless (told-unless (told-both
-    (told-required slurm_fault_number Members filters_in filters_faults (get (codes "validationOutputFilters") d)
-    (told-part filter_in filter_faults (codes "prefixFilters") (codes "bgpsecFilters") told-filter))
-    (told-required slurm_fault_number Members assertions_in assertions_faults (get (codes "locallyAddedAssertions") d)
-    (told-part assertion_in assertion_faults (codes "prefixAssertions") (codes "bgpsecAssertions") told-assertion)))
-    (told-if slurm_fault_number (is_some (as_object d)) tt NotObject))
-    (told-only slurm_fault_number Members file_names d))
-    (told-required slurm_fault_number Members version_in version_faults (get (codes "slurmVersion") d) told-version)
+reported-lists : (d : Data) → Reported slurm_fault_number (lists_in d) (lists_faults d)
+reported-lists d =
+    reported-unless (reported-unless (reported-unless (reported-both
+    (reported-required slurm_fault_number Members filters_in filters_faults (get (codes "validationOutputFilters") d)
+    (reported-part filter_in filter_faults (codes "prefixFilters") (codes "bgpsecFilters") reported-filter))
+    (reported-required slurm_fault_number Members assertions_in assertions_faults (get (codes "locallyAddedAssertions") d)
+    (reported-part assertion_in assertion_faults (codes "prefixAssertions") (codes "bgpsecAssertions") reported-assertion)))
+    (reported-if slurm_fault_number (is_some (as_object d)) tt NotObject))
+    (reported-only slurm_fault_number Members file_names d))
+    (reported-required slurm_fault_number Members version_in version_faults (get (codes "slurmVersion") d) reported-version)
 
 -- ---- no fault of a tree is `NotJson` or over `TooMany`
 
@@ -304,11 +304,11 @@ counts-lists d (Err n) is = tt
 
 -- ---- the whole
 
-err-exceptions_of : (lists : Result Lists SlurmFault) (faults : List SlurmFault) (count : ℕ) → Told slurm_fault_number lists faults → Counts lists count → Pass is_tree_fault faults →
+err-exceptions_of : (lists : Result Lists SlurmFault) (faults : List SlurmFault) (count : ℕ) → Reported slurm_fault_number lists faults → Counts lists count → Pass is_tree_fault faults →
     result_err (and_then (λ p. exceptions_of p.0 p.1) lists) ≡ lowest slurm_fault_number (faults ++ fault_unless (nat_le count MOST_ENTRIES) TooMany)
 err-exceptions_of (Ok lists) faults count h counts low =
     rw (counts, lowest-append slurm_fault_number faults (fault_unless (nat_le count MOST_ENTRIES) TooMany), ← h.is)
-    (told-if {A = Exceptions} slurm_fault_number (nat_le count MOST_ENTRIES) (record { filters = lists.0; assertions = lists.1 }) TooMany).is
+    (reported-if {A = Exceptions} slurm_fault_number (nat_le count MOST_ENTRIES) (record { filters = lists.0; assertions = lists.1 }) TooMany).is
 err-exceptions_of (Err n) faults count h counts low =
     rw (lowest-append slurm_fault_number faults (fault_unless (nat_le count MOST_ENTRIES) TooMany), ← h.is) (last (nat_le count MOST_ENTRIES))
   where
@@ -321,18 +321,18 @@ err-exceptions_of (Err n) faults count h counts low =
     last true = refl
     last false = ap Some (sym (lower-first slurm_fault_number n TooMany below))
 
-pub slurm_fault-told : (d : Data) → result_err (slurm_in d) ≡ slurm_fault (Some d)
-slurm_fault-told d = err-exceptions_of (lists_in d) (lists_faults d) (entry_count d) (told-lists d) (counts-lists d (lists_in d) refl) (pass-lists d)
+pub slurm_fault-reported : (d : Data) → result_err (slurm_in d) ≡ slurm_fault (Some d)
+slurm_fault-reported d = err-exceptions_of (lists_in d) (lists_faults d) (entry_count d) (reported-lists d) (counts-lists d (lists_in d) refl) (pass-lists d)
 
 -- a tree that was read as a file has no fault
 pub slurm_fault-none : (d : Data) (answer : Result Exceptions SlurmFault) → IfOk answer (λ file. slurm_in d ≡ Ok file) → OnOk answer (slurm_fault (Some d) ≡ None)
-slurm_fault-none d (Ok file) read = sym (slurm_fault-told d) ∙ ap result_err read
+slurm_fault-none d (Ok file) read = sym (slurm_fault-reported d) ∙ ap result_err read
 slurm_fault-none d (Err n) read = tt
 
 -- the fault of a tree is another than that there is none
 pub tree_is_json : (d : Data) (answer : Result Exceptions SlurmFault) → IfErr answer (λ fault. fault ≢ Memory → slurm_fault (Some d) ≡ Some fault) → answer ≢ Err NotJson
-tree_is_json d (Ok file) fault told = cc
-tree_is_json d (Err n) fault told =
+tree_is_json d (Ok file) fault reported = cc
+tree_is_json d (Err n) fault reported =
     let is : n ≡ NotJson = cc in
     let lowest_is = subst (λ (m : SlurmFault). m ≢ Memory → slurm_fault (Some d) ≡ Some m) is fault (λ same. cc) in
     let all = pass-append (pass-lists d) (pass-unless (nat_le (entry_count d) MOST_ENTRIES) TooMany refl) in

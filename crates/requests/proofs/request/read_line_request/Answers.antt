@@ -8,7 +8,7 @@ returns-in-Ok-Ok-clause-ok c =
     line-read c.args.line.now c.in-Ok-Ok.asked (rw c.in-Ok-Ok.field-0-is at c.in-Ok-Ok.ensures)
 
 pub returns-in-Ok-Err-clause-malformed : goal.returns-in-Ok-Err-clause-malformed
-returns-in-Ok-Err-clause-malformed c = λ m told.
+returns-in-Ok-Err-clause-malformed c = λ m reported.
     let same : c.malformed.result ≡ m = cc in
     line-refused c.args.line.now c.in-Ok-Err.fault (rw c.in-Ok-Err.field-0-is at c.in-Ok-Err.ensures)
     ∙ ap (λ (x : Malformed). Some x) (rw (← c.malformed.ensures) same)

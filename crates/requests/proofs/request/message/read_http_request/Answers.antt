@@ -11,7 +11,7 @@ returns-in-Ok-Ok-clause-ok c =
     (rw c.in-Ok-Ok.field-0-is at c.in-Ok-Ok.ensures)
 
 pub returns-in-Ok-Err-clause-malformed : goal.returns-in-Ok-Err-clause-malformed
-returns-in-Ok-Err-clause-malformed c = λ m told.
+returns-in-Ok-Err-clause-malformed c = λ m reported.
     let same : c.malformed.result ≡ m = cc in
     http-refused (head_view c.args.head.now) (option_copied c.args.body) c.args.day c.in-Ok-Err.fault
     (rw c.in-Ok-Err.field-0-is at c.in-Ok-Err.ensures)
