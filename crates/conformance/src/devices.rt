@@ -11,7 +11,7 @@ use std::test::Fail;
 use web::{Device, Drain, ScriptFault, Source, run_script};
 
 #[derive(Drop)]
-struct Outcome {
+struct ScriptOutcome {
     result: Result<(), ScriptFault>,
     written: Vec<u8>,
 }
@@ -24,7 +24,7 @@ fn run(
     fails: bool,
     piece: usize,
     room: usize,
-) -> Outcome {
+) -> ScriptOutcome {
     let mut source = Device::new(Tape {
         bytes,
         piece,
@@ -40,7 +40,7 @@ fn run(
         let mut drain = Device::new(&mut sheet);
         run_script(alloc, &mut source, &mut drain, desk)
     };
-    Outcome {
+    ScriptOutcome {
         result,
         written: sheet.bytes,
     }

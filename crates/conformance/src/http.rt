@@ -6,7 +6,7 @@ use crate::fakes::Tape;
 use crate::scripts::example_desk;
 use addr::Day;
 use desk::Desk;
-use library_conformance::rows::rows_of;
+use library_conformance::rows::table_rows;
 use library_conformance::sheet::Sheet;
 use sqlite::MemStore;
 use std::alloc::Global;
@@ -78,7 +78,7 @@ pub(crate) fn serve(
 }
 
 /// The bytes of a row's request.
-pub(crate) fn request_of(alloc: Global, row: &str) -> Result<String, Fail> {
+pub(crate) fn request_text(alloc: Global, row: &str) -> Result<String, Fail> {
     let (method, after_method) = row.split_once(' ').ok_or("no method")?;
     let (target, after_target) = after_method.split_once(' ').ok_or("no target")?;
     let (caller, body) = after_target.split_once(' ').unwrap_or((after_target, ""));
@@ -152,8 +152,8 @@ pub(crate) fn assert_rows(
     desk: &mut Desk<MemStore>,
     table: &str,
 ) -> Result<(), Fail> {
-    for row in &rows_of(alloc, table)? {
-        let request = request_of(alloc, row.input)?;
+    for row in &table_rows(alloc, table)? {
+        let request = request_text(alloc, row.input)?;
         let response = json_response(alloc, row.output)?;
         let name = format!(in alloc; "{}: {}", row.name, row.input)?;
         assert_response(rt, alloc, desk, request.as_bytes(), &response, &name)?;

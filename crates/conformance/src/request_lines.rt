@@ -1,7 +1,7 @@
 //! Lines of a script: the number that is reported of a malformed one, 0 where it is a request.
 use crate::scripts::exceptions::file_of_many;
 use crate::scripts::line_of;
-use library_conformance::rows::{nested, rows_of};
+use library_conformance::rows::{nested, table_rows};
 use std::alloc::Global;
 use std::test::Fail;
 use web::{LineFault, read_line_request};
@@ -25,7 +25,7 @@ const NOT_JSON: [&[u8]; 9] = [
 
 /// Lines. Of a repeated member the last value counts, and a text may be escaped.
 const LINES: &str = r#"
-# tells_what_a_line_is_refused_for
+# reports_why_a_line_is_refused
 {"day":"2026-03-01","caller":"reg","do":"register","holder":"alpha"} => 0
  { "holder" : "alpha" , "do" : "register" , "caller" : "reg" , "day" : "2026-03-01" }  => 0
 {"day":"2026-03-01","caller":"reg","do":"register","holder":"Alpha","holder":"alpha"} => 0
@@ -41,7 +41,7 @@ null => 2
 {"day":"2026-03-01","caller":"reg","do":"register","holder":7} => 3
 {"day":"2026-03-01","caller":null,"do":"register","holder":"alpha"} => 4
 {"day":"2026-02-29","caller":"reg","do":"register","holder":"alpha"} => 8
-# lowest_malformed_number_is_told
+# lowest_malformed_number_is_reported
 {"day":"2026-03-01","caller":"Reg","do":"delegate","holder":"alpha","prefix":"192.0.2.1/24"} => 4
 {"day":"2026-02-30","caller":"reg","do":"delegate","holder":"alpha","prefix":"192.0.2.1/24"} => 5
 {"day":"","caller":"","do":"register","holder":""} => 3
@@ -84,7 +84,7 @@ reg {"do":"import","holder":"Alpha","rows":[]} => 3
 Reg {"do":"import","holder":"alpha","rows":[]} => 4
 reg {"do":"import","holder":"alpha"} => 2
 reg {"do":"export","holder":"alpha"} => 2
-# lowest_number_over_all_rows_is_told
+# lowest_number_over_all_rows_is_reported
 reg {"do":"import","holder":"alpha","rows":[{"asn":null,"prefix":"192.0.2.0/24","max":24,"from":"2026-01-01","until":"2026-12-31"},{"asn":64496,"prefix":"192.0.2.1/24","max":24,"from":"2026-01-01","until":"2026-12-31"}]} => 5
 reg {"do":"import","holder":"alpha","rows":[{"asn":64496,"prefix":"192.0.2.0/24","max":24,"from":"","until":""},{"asn":64496,"prefix":"192.0.2.0/24","max":256,"from":"2026-01-01","until":"2026-12-31"}]} => 7
 reg {"do":"import","holder":"alpha","rows":[{"asn":64496,"prefix":"192.0.2.0/24","max":24,"from":"","until":"2026-12-31"},{"asn":-1,"prefix":"192.0.2.0/24","max":256,"from":"2026-01-01","until":"2026-12-31"}]} => 6
@@ -128,7 +128,7 @@ reg {"do":"whatif","holder":"alpha ","changes":[],"routes":[{"prefix":"::/0","or
 - {"do":"whatif","holder":"alpha","changes":[],"routes":[{"prefix":"::/0","origin":1}]} => 4
 reg {"do":"whatif","holder":"alpha","changes":[]} => 2
 reg {"do":"whatif","holder":"alpha","routes":[{"prefix":"::/0","origin":1}]} => 2
-# lowest_number_over_all_changes_and_routes_is_told
+# lowest_number_over_all_changes_and_routes_is_reported
 reg {"do":"whatif","holder":"alpha","changes":[{"do":"withdraw","number":0}],"routes":[]} => 10
 reg {"do":"whatif","holder":"alpha","changes":[{"do":"withdraw","number":0},{"do":"create","asn":64496,"prefix":"192.0.2.0/24","max":256,"from":"","until":""}],"routes":[{"prefix":"::/0","origin":1}]} => 7
 reg {"do":"whatif","holder":"alpha","changes":[{"do":"withdraw","number":0}],"routes":[{"prefix":"::/0","origin":-1}]} => 6
@@ -139,7 +139,7 @@ Reg {"do":"whatif","holder":"","changes":[{"do":"withdraw","number":0}],"routes"
 
 /// Requests with their callers before them.
 const REQUESTS: &str = r#"
-# tells_the_number_of_each_member
+# reports_the_number_of_each_member
 reg {"do":"delegate","holder":"alpha","prefix":"192.0.2.0/24"} => 0
 reg {"do":"delegate","holder":"alpha","prefix":"192.0.2.1/24"} => 5
 reg {"do":"delegate","holder":"alpha","prefix":24} => 5
@@ -205,17 +205,17 @@ fn reported(alloc: Global, line: &[u8]) -> u8 {
 }
 
 #[test]
-fn tells_what_a_line_is_refused_for(rt: HostRuntime) -> Result<(), Fail> {
+fn reports_why_a_line_is_refused(rt: HostRuntime) -> Result<(), Fail> {
     let alloc = rt.alloc();
     for line in NOT_JSON {
         assert_eq!(rt; reported(alloc, line), 1, "{line:?}");
     }
-    for row in &rows_of(alloc, LINES)? {
+    for row in &table_rows(alloc, LINES)? {
         let number = reported(alloc, row.input.as_bytes()).to_string(alloc)?;
         assert_eq!(rt; number.as_str(), row.output, "{}: {}", row.name, row.input);
     }
     for table in [REQUESTS, LISTS] {
-        for row in &rows_of(alloc, table)? {
+        for row in &table_rows(alloc, table)? {
             let line = line_of(alloc, "2026-03-01", row.input)?;
             let number = reported(alloc, line.as_bytes()).to_string(alloc)?;
             assert_eq!(rt; number.as_str(), row.output, "{}: {}", row.name, row.input);
@@ -258,7 +258,7 @@ const LIMITED: [(&str, &str, &str, &str, u32); 4] = [
 ];
 
 /// A list of so many items, the last of which has this prefix.
-fn list_of(
+fn long_list(
     alloc: Global,
     before: &str,
     after: &str,
@@ -288,7 +288,7 @@ fn limits_of_lists(rt: HostRuntime) -> Result<(), Fail> {
             (most + 1, "::/0", 12),
             (most + 1, "::", 5),
         ] {
-            let list = list_of(alloc, before, after, count, last)?;
+            let list = long_list(alloc, before, after, count, last)?;
             let request = format!(in alloc; "{head}{list}{end}")?;
             let line = line_of(alloc, "2026-03-01", &request)?;
             assert_eq!(rt;

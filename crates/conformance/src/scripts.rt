@@ -7,7 +7,7 @@
 use crate::fakes::Tape;
 use addr::{Name, Prefix};
 use desk::Desk;
-use library_conformance::rows::parts_of;
+use library_conformance::rows::split_row;
 use library_conformance::sheet::Sheet;
 use policy::Charter;
 use sqlite::MemStore;
@@ -72,7 +72,7 @@ const EXAMPLE_POOL: &[&str] = &["192.0.2.0/24", "198.51.100.0/24", "2001:db8::/3
 const HALVES: &[&str] = &["192.0.2.0/25", "192.0.2.128/25"];
 
 /// The charter of the operator `reg` and this pool.
-fn charter_of(alloc: Global, pool: &[&str]) -> Result<Charter, Fail> {
+fn charter_with_pool(alloc: Global, pool: &[&str]) -> Result<Charter, Fail> {
     let mut operators = Vec::new(alloc);
     operators.push(Name::read(b"reg").ok_or("a name")?)?;
     let mut prefixes = Vec::new(alloc);
@@ -84,7 +84,7 @@ fn charter_of(alloc: Global, pool: &[&str]) -> Result<Charter, Fail> {
 
 /// A new desk with the operator `reg` and this pool.
 pub(crate) fn desk_of(alloc: Global, pool: &[&str]) -> Result<Desk<MemStore>, Fail> {
-    let charter = charter_of(alloc, pool)?;
+    let charter = charter_with_pool(alloc, pool)?;
     let Ok(desk) = Desk::open_memory(alloc, &charter) else {
         return Err("no desk".into());
     };
@@ -92,7 +92,7 @@ pub(crate) fn desk_of(alloc: Global, pool: &[&str]) -> Result<Desk<MemStore>, Fa
 }
 
 pub(crate) fn example_charter(alloc: Global) -> Result<Charter, Fail> {
-    charter_of(alloc, EXAMPLE_POOL)
+    charter_with_pool(alloc, EXAMPLE_POOL)
 }
 
 pub(crate) fn example_desk(alloc: Global) -> Result<Desk<MemStore>, Fail> {
@@ -138,7 +138,7 @@ impl Dialogue {
                 day.clear();
                 day.push_str(next)?;
             } else if let Some((request, reply)) = line.split_once(" => ") {
-                let request = exceptions::request_of(self.alloc, request)?;
+                let request = exceptions::request_line(self.alloc, request)?;
                 let line = line_of(self.alloc, &day, &request)?;
                 self.script.push_str(&line)?;
                 self.script.push('\n')?;
@@ -287,7 +287,7 @@ fn asked_twice(alloc: Global, script: &str) -> Result<String, Fail> {
     let (heading, lines) = script.split_once('\n').ok_or("no lines")?;
     let (first, after_first) = lines.split_once('\n').ok_or("no second reply")?;
     let (again, looks) = after_first.split_once('\n').ok_or("nothing is looked at")?;
-    let (request, _) = parts_of(first)?;
+    let (request, _) = split_row(first)?;
     let second = again.strip_prefix("again").ok_or("no second reply")?;
     let asked = format!(in alloc; "{heading}\n{first}\n{looks}\n{request}{second}\n{looks}")?;
     Ok(asked)

@@ -1,5 +1,5 @@
 //! Charter files: what they spell, and the line of the fault of each that is refused.
-use crate::rows::rows_of;
+use crate::rows::table_rows;
 use addr::{Name, Prefix};
 use command_line::charter_from;
 use std::alloc::{AllocError, Global};
@@ -74,7 +74,12 @@ fn line(alloc: Global, text: &str) -> Result<String, AllocError> {
 }
 
 /// A file with so many operators and so many prefixes, and a row after them.
-fn file_of(alloc: Global, operators: u8, prefixes: u8, last: &str) -> Result<String, AllocError> {
+fn charter_file(
+    alloc: Global,
+    operators: u8,
+    prefixes: u8,
+    last: &str,
+) -> Result<String, AllocError> {
     let mut text = format!(in alloc; "kind,value\n")?;
     for number in 0..operators {
         let row = format!(in alloc; "operator,op-{number}\n")?;
@@ -111,7 +116,7 @@ fn charter_of_rows(rt: HostRuntime) -> Result<(), Fail> {
 
 #[test]
 fn faults(rt: HostRuntime) -> Result<(), Fail> {
-    for row in &rows_of(rt.alloc(), FAULTS)? {
+    for row in &table_rows(rt.alloc(), FAULTS)? {
         let text = row.input.replace(rt.alloc(), ';', "\n")?;
         let fault = line(rt.alloc(), &text)?;
         assert_eq!(rt; fault.as_str(), row.output, "{}: {:?}", row.name, row.input);
@@ -122,7 +127,7 @@ fn faults(rt: HostRuntime) -> Result<(), Fail> {
 #[test]
 fn counts(rt: HostRuntime) -> Result<(), Fail> {
     for (operators, prefixes, last, expected) in COUNTS {
-        let text = file_of(rt.alloc(), operators, prefixes, last)?;
+        let text = charter_file(rt.alloc(), operators, prefixes, last)?;
         let fault = line(rt.alloc(), &text)?;
         assert_eq!(rt;
             fault.as_str(),

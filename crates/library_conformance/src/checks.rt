@@ -1,5 +1,5 @@
 //! Checks of routes on VRPs: the lines of two files, and the line of the fault where one is refused.
-use crate::rows::rows_of;
+use crate::rows::table_rows;
 use crate::sheet::Sheet;
 use command_line::check_on;
 use std::alloc::{AllocError, Global};
@@ -246,7 +246,7 @@ fn check_takes_headers_alone_and_each_form_of_csv(rt: HostRuntime) -> Result<(),
 #[test]
 fn check_refuses_bad_files(rt: HostRuntime) -> Result<(), Fail> {
     let alloc = rt.alloc();
-    for row in &rows_of(alloc, BAD_PAYLOADS)? {
+    for row in &table_rows(alloc, BAD_PAYLOADS)? {
         let payloads = row.input.replace(alloc, ';', "\n")?;
         assert_refuses(
             &rt,
@@ -256,7 +256,7 @@ fn check_refuses_bad_files(rt: HostRuntime) -> Result<(), Fail> {
             row.output,
         )?;
     }
-    for row in &rows_of(alloc, BAD_ROUTES)? {
+    for row in &table_rows(alloc, BAD_ROUTES)? {
         let routes = row.input.replace(alloc, ';', "\n")?;
         assert_refuses(&rt, alloc, VRPS.as_bytes(), routes.as_bytes(), row.output)?;
     }

@@ -1,5 +1,5 @@
 //! ROA contents as hex text, both ways, and octets that are none.
-use crate::rows::rows_of;
+use crate::rows::table_rows;
 use addr::{Asn, Family, Prefix};
 use roa::{Content, ContentFault, DecodeFault, Entry, decode, encode};
 use std::alloc::Global;
@@ -53,7 +53,7 @@ two equal entries => 301f020300fbf0301830160402000130103006030400c00002300603040
 entries that fall => 301f020300fbf0301830160402000130103006030400c000033006030400c00002
 "#;
 
-fn octets_of(alloc: Global, hex: &str) -> Result<Vec<u8>, Fail> {
+fn parse_octets(alloc: Global, hex: &str) -> Result<Vec<u8>, Fail> {
     Ok(hex::decode(alloc, hex)?)
 }
 
@@ -62,7 +62,7 @@ fn is_refused(alloc: Global, octets: &[u8]) -> bool {
 }
 
 /// An entry by its prefix and maxLength.
-fn entry_of(text: &str) -> Result<Entry, Fail> {
+fn parse_entry(text: &str) -> Result<Entry, Fail> {
     let (prefix, max) = text.split_once(' ').ok_or("no maxLength")?;
     Ok(Entry {
         prefix: Prefix::read(prefix.as_bytes())?,
@@ -71,12 +71,12 @@ fn entry_of(text: &str) -> Result<Entry, Fail> {
 }
 
 /// A content by its AS, and its entries with commas between them.
-fn content_of(alloc: Global, text: &str) -> Result<Content, Fail> {
+fn parse_content(alloc: Global, text: &str) -> Result<Content, Fail> {
     let (asn, terms) = text.split_once(' ').ok_or("no entries")?;
     let asn = Asn::from_text(asn.as_bytes()).ok_or("no AS number")?;
     let mut entries = Vec::new(alloc);
     for term in terms.split(',') {
-        entries.push(entry_of(term.trim())?)?;
+        entries.push(parse_entry(term.trim())?)?;
     }
     Ok(Content::make(asn, entries)?)
 }
@@ -103,8 +103,8 @@ fn encoded(rt: &impl Abort, alloc: Global, content: &Content, name: &str) -> Res
 
 #[test]
 fn vectors_are_encoded_and_decoded(rt: HostRuntime) -> Result<(), Fail> {
-    for row in &rows_of(rt.alloc(), VECTORS)? {
-        let content = content_of(rt.alloc(), row.input)?;
+    for row in &table_rows(rt.alloc(), VECTORS)? {
+        let content = parse_content(rt.alloc(), row.input)?;
         let hex = encoded(&rt, rt.alloc(), &content, row.name)?;
         assert_eq!(rt; hex.as_str(), row.output, "{}", row.name);
     }
@@ -149,8 +149,8 @@ fn content_of_sixty_five_prefixes_is_refused(rt: HostRuntime) -> Result<(), Fail
 
 #[test]
 fn decode_refuses_other_spellings(rt: HostRuntime) -> Result<(), Fail> {
-    for row in &rows_of(rt.alloc(), REFUSED)? {
-        let octets = octets_of(rt.alloc(), row.output)?;
+    for row in &table_rows(rt.alloc(), REFUSED)? {
+        let octets = parse_octets(rt.alloc(), row.output)?;
         assert!(rt; is_refused(rt.alloc(), octets.as_slice()), "{}", row.input);
     }
     Ok(())
@@ -159,8 +159,8 @@ fn decode_refuses_other_spellings(rt: HostRuntime) -> Result<(), Fail> {
 /// And every proper beginning of a content, no octets among them.
 #[test]
 fn decode_refuses_cut_negative_and_set_unused_bit(rt: HostRuntime) -> Result<(), Fail> {
-    for row in &rows_of(rt.alloc(), VECTORS)? {
-        let octets = octets_of(rt.alloc(), row.output)?;
+    for row in &table_rows(rt.alloc(), VECTORS)? {
+        let octets = parse_octets(rt.alloc(), row.output)?;
         for end in 0..octets.len() {
             assert!(rt;
                 is_refused(rt.alloc(), &octets.as_slice()[..end]),

@@ -1,7 +1,7 @@
 //! That calls which allocate succeed where there is memory, which no contract says.
 use crate::contents::host_prefixes;
 use crate::slurm_sample::SAMPLE;
-use crate::vrps::{NESTED, WIDE, fill, vrp_of, vrps_of};
+use crate::vrps::{NESTED, WIDE, fill, parse_vrp, vrps_of};
 use addr::{Asn, Holdings, Prefix};
 use payload::{ListIndex, PayloadIndex};
 use roa::{Content, decode, encode};
@@ -20,7 +20,7 @@ fn allocating_calls_succeed_in_ample_memory(rt: HostRuntime) -> Result<(), Fail>
 
     let mut index = ListIndex::new(alloc);
     assert_eq!(rt; fill(&mut index, vrps_of(alloc, NESTED)?.as_slice())?, 2);
-    assert!(rt; !index.insert(vrp_of(WIDE)?)?);
+    assert!(rt; !index.insert(parse_vrp(WIDE)?)?);
 
     let content = Content::make(Asn(64496), host_prefixes(alloc, 64)?)?;
     let octets = encode(alloc, &content)?;

@@ -1,5 +1,5 @@
 //! Texts of prefixes: their faults, and the spellings of another program.
-use crate::rows::parts_of;
+use crate::rows::split_row;
 use addr::{Family, Prefix};
 use arrayvec::ArrayString;
 use hex::FromHex;
@@ -106,7 +106,7 @@ fn assert_written(rt: &impl Abort, prefix: &Prefix, text: &str) {
 #[test]
 fn prefix_text_faults(rt: HostRuntime) -> Result<(), Fail> {
     for row in TEXTS.lines() {
-        let (text, fault) = parts_of(row)?;
+        let (text, fault) = split_row(row)?;
         match Prefix::read(text.as_bytes()) {
             Ok(prefix) => {
                 assert_written(&rt, &prefix, text);
@@ -140,7 +140,7 @@ fn address(digits: &str) -> Result<Prefix, Fail> {
 #[test]
 fn spells_addresses_as_another_program_does(rt: HostRuntime) -> Result<(), Fail> {
     for row in ADDRESSES.lines() {
-        let (digits, text) = parts_of(row)?;
+        let (digits, text) = split_row(row)?;
         let prefix = address(digits)?;
         assert_written(&rt, &prefix, text);
         assert_eq!(rt; Prefix::read(text.as_bytes()), Ok(prefix), "{text}");

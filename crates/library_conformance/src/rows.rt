@@ -14,7 +14,7 @@ pub struct Row<'a> {
 }
 
 /// The rows of a table, of which there are some.
-pub fn rows_of(alloc: Global, table: &str) -> Result<Vec<Row<'_>>, Fail>
+pub fn table_rows(alloc: Global, table: &str) -> Result<Vec<Row<'_>>, Fail>
     ensures { IfOk result (λ rows. rows.items ≢ []) }
 {
     let mut rows = Vec::new(alloc);
@@ -32,7 +32,7 @@ pub fn rows_of(alloc: Global, table: &str) -> Result<Vec<Row<'_>>, Fail>
 fn push_rows<'a>(rows: &mut Vec<Row<'a>>, name: &'a str, lines: &'a str) -> Result<(), Fail> {
     for line in lines.lines() {
         if !line.is_empty() {
-            let (input, output) = parts_of(line)?;
+            let (input, output) = split_row(line)?;
             rows.push(Row {
                 name,
                 input,
@@ -44,7 +44,7 @@ fn push_rows<'a>(rows: &mut Vec<Row<'a>>, name: &'a str, lines: &'a str) -> Resu
 }
 
 /// The input and the output of a row; an error where it has no arrow.
-pub fn parts_of(row: &str) -> Result<(&str, &str), Fail>
+pub fn split_row(row: &str) -> Result<(&str, &str), Fail>
     ensures { MatchResult result
         (λ parts. row.now ≡ parts.0.now ++ (codes " => " ++ parts.1.now))
         (λ _. (input output : List ℕ) → row.now ≢ input ++ (codes " => " ++ output)) }

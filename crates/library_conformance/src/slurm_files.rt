@@ -1,7 +1,7 @@
 //! SLURM files: the lowest fault of each text, and what a file filters and asserts.
-use crate::rows::{nested, rows_of};
+use crate::rows::{nested, table_rows};
 use crate::slurm_sample::SAMPLE;
-use crate::vrps::vrp_of;
+use crate::vrps::parse_vrp;
 use addr::{Asn, Prefix};
 use serde_json::Value;
 use slurm::{Filter, Slurm, SlurmFault};
@@ -18,7 +18,7 @@ const PARTS: &str = r#"
 1 | {"comment":"x"} => 9
 # unknown_member_before_version
 2 | | | ,"notes":"x" => 3
-# lowest_fault_is_told
+# lowest_fault_is_reported
 1 | | | ,"notes":1 => 3
 2 | | | ,"notes":1 => 3
 2 => 4
@@ -91,7 +91,7 @@ const TEXTS: &str = r#"
  => 1
 [{] => 1
 {}{} => 1
-# lowest_fault_is_told
+# lowest_fault_is_reported
 7 => 2
 [] => 2
 # shape_of_a_file
@@ -104,7 +104,7 @@ const TEXTS: &str = r#"
 {"slurmVersion":1,"validationOutputFilters":{"prefixFilters":[],"bgpsecFilters":[]},"locallyAddedAssertions":{"prefixAssertions":[]}} => 3
 {"slurmVersion":1,"validationOutputFilters":{"prefixFilters":{},"bgpsecFilters":[]},"locallyAddedAssertions":{"prefixAssertions":[],"bgpsecAssertions":[]}} => 3
 {"slurmVersion":1,"validationOutputFilters":{"prefixFilters":[],"bgpsecFilters":[],"aspaFilters":[]},"locallyAddedAssertions":{"prefixAssertions":[],"bgpsecAssertions":[]}} => 3
-# lowest_fault_is_told
+# lowest_fault_is_reported
 {"slurmVersion":2,"validationOutputFilters":{"prefixFilters":[],"bgpsecFilters":[1]},"locallyAddedAssertions":{"prefixAssertions":[],"bgpsecAssertions":[]}} => 4
 {"slurmVersion":1,"validationOutputFilters":{"prefixFilters":[],"bgpsecFilters":[1]},"locallyAddedAssertions":{"prefixAssertions":[],"bgpsecAssertions":[]}} => 5
 {"slurmVersion":1,"validationOutputFilters":{"prefixFilters":[{"prefix":null}],"bgpsecFilters":[null]},"locallyAddedAssertions":{"prefixAssertions":[],"bgpsecAssertions":[]}} => 5
@@ -149,7 +149,7 @@ fn file(
 }
 
 /// A file by its parts, which ` | ` parts.
-fn file_of(alloc: Global, parts: &str) -> Result<String, AllocError> {
+fn file_from_parts(alloc: Global, parts: &str) -> Result<String, AllocError> {
     let mut parts = parts.split('|');
     let version = parts.next().unwrap_or("").trim();
     let filters = parts.next().unwrap_or("").trim();
@@ -159,14 +159,14 @@ fn file_of(alloc: Global, parts: &str) -> Result<String, AllocError> {
 }
 
 #[test]
-fn lowest_slurm_fault_is_told(rt: HostRuntime) -> Result<(), Fail> {
+fn lowest_slurm_fault_is_reported(rt: HostRuntime) -> Result<(), Fail> {
     let alloc = rt.alloc();
-    for row in &rows_of(alloc, PARTS)? {
-        let text = file_of(alloc, row.input)?;
+    for row in &table_rows(alloc, PARTS)? {
+        let text = file_from_parts(alloc, row.input)?;
         let found = fault(alloc, &text).to_string(alloc)?;
         assert_eq!(rt; found.as_str(), row.output, "{}: {}", row.name, row.input);
     }
-    for row in &rows_of(alloc, TEXTS)? {
+    for row in &table_rows(alloc, TEXTS)? {
         let found = fault(alloc, row.input).to_string(alloc)?;
         assert_eq!(rt; found.as_str(), row.output, "{}: {}", row.name, row.input);
     }
@@ -179,8 +179,8 @@ fn lowest_slurm_fault_is_told(rt: HostRuntime) -> Result<(), Fail> {
 #[test]
 fn filters_match_vrps(rt: HostRuntime) -> Result<(), Fail> {
     let alloc = rt.alloc();
-    for row in &rows_of(alloc, FILTERINGS)? {
-        let text = file_of(alloc, row.input)?;
+    for row in &table_rows(alloc, FILTERINGS)? {
+        let text = file_from_parts(alloc, row.input)?;
         let slurm = Slurm::read(alloc, text.as_bytes())?;
         let mut answers = String::new(alloc);
         for vrp in slurm.assertions() {
@@ -207,8 +207,8 @@ fn sample_has_its_filters_and_assertions(rt: HostRuntime) -> Result<(), Fail> {
         Filter::Both(Prefix::read(b"198.51.100.0/24")?, Asn(64497)),
     ];
     let assertions = [
-        vrp_of("AS64496 198.51.100.0/24 24")?,
-        vrp_of("AS64496 2001:db8::/32 48")?,
+        parse_vrp("AS64496 198.51.100.0/24 24")?,
+        parse_vrp("AS64496 2001:db8::/32 48")?,
     ];
     let value = Value::from_str(alloc, SAMPLE)?;
     for slurm in [

@@ -1,6 +1,6 @@
 //! The two representations of a set of VRPs, beside one another, and what a trie counts.
-use crate::rows::rows_of;
-use crate::vrps::{FirstVrps, fill, route_of, vrp_of, vrps_of};
+use crate::rows::table_rows;
+use crate::vrps::{FirstVrps, fill, parse_route, parse_vrp, vrps_of};
 use addr::{Asn, Family, Prefix, Vrp};
 use payload::{ListIndex, PayloadIndex, Trie, Validity};
 use std::alloc::Global;
@@ -163,9 +163,9 @@ fn assert_rows(
     trie: &Trie,
     routes: &str,
 ) -> Result<(), Fail> {
-    for row in &rows_of(alloc, routes)? {
+    for row in &table_rows(alloc, routes)? {
         let (state, count) = row.output.split_once(' ').ok_or("no count")?;
-        let route = route_of(row.input)?;
+        let route = parse_route(row.input)?;
         let (counted, lengths) = trie.validity_counted(&route);
         assert_eq!(rt; list.validity(&route).as_str(), state, "{}", row.input);
         assert_eq!(rt; trie.validity(&route).as_str(), state, "{}", row.input);
@@ -216,14 +216,14 @@ fn chain(alloc: Global) -> Result<Vec<Vrp>, Fail> {
 fn chain_of_nested_prefixes(rt: HostRuntime) -> Result<(), Fail> {
     let alloc = rt.alloc();
     let vrps = chain(alloc)?;
-    let host = route_of("::/128 AS64496")?;
+    let host = parse_route("::/128 AS64496")?;
     let mut trie = Trie::new(alloc);
     for vrp in vrps.iter().rev() {
         assert!(rt; trie.insert(*vrp)?);
     }
     assert!(rt; listed(alloc, &trie)? == vrps);
     assert_eq!(rt;
-        trie.validity_counted(&route_of("::/128 AS64497")?),
+        trie.validity_counted(&parse_route("::/128 AS64497")?),
         (Validity::Invalid, 129)
     );
     let mut nodes = 0u32;
@@ -246,17 +246,17 @@ fn thousand_vrps_of_one_prefix(rt: HostRuntime) -> Result<(), Fail> {
         assert!(rt; trie.insert(vrp)? && !trie.insert(vrp)?);
     }
     assert_eq!(rt;
-        trie.validity_counted(&route_of("192.0.2.0/24 AS1000")?),
+        trie.validity_counted(&parse_route("192.0.2.0/24 AS1000")?),
         (Validity::Valid, 25)
     );
     assert_eq!(rt;
-        trie.validity_counted(&route_of("192.0.2.0/24 AS1001")?),
+        trie.validity_counted(&parse_route("192.0.2.0/24 AS1001")?),
         (Validity::Invalid, 25)
     );
     for asn in 1..1000 {
         let vrp = Vrp::from_parts(prefix, 24, Asn(asn)).ok_or("a VRP")?;
         assert!(rt; trie.remove(&vrp));
     }
-    assert!(rt; listed(alloc, &trie)?.as_slice() == &[vrp_of("AS1000 192.0.2.0/24 24")?][..]);
+    assert!(rt; listed(alloc, &trie)?.as_slice() == &[parse_vrp("AS1000 192.0.2.0/24 24")?][..]);
     Ok(())
 }

@@ -1,5 +1,5 @@
 //! Names, days, AS numbers, plain numbers, holdings and charters.
-use crate::rows::parts_of;
+use crate::rows::split_row;
 use addr::{Asn, Day, Family, Holdings, Name, Prefix, PrefixFault, Span, digits, number_from_text};
 use arrayvec::ArrayString;
 use policy::{Charter, CharterFault};
@@ -85,7 +85,7 @@ const CHARTERS: [(u32, u32, CharterFault); 6] = [
 #[test]
 fn reads_names_alone(rt: HostRuntime) -> Result<(), Fail> {
     for row in NAMES.lines() {
-        let (text, expected) = parts_of(row)?;
+        let (text, expected) = split_row(row)?;
         match Name::read(text.as_bytes()) {
             Some(name) => assert_eq!(rt; name.as_str(), expected, "{text:?}"),
             None => assert_eq!(rt; "none", expected, "{text:?}"),
@@ -104,7 +104,7 @@ fn assert_written(rt: &impl Abort, day: &Day, text: &str) {
 #[test]
 fn reads_days_alone(rt: HostRuntime) -> Result<(), Fail> {
     for row in DAYS.lines() {
-        let (text, expected) = parts_of(row)?;
+        let (text, expected) = split_row(row)?;
         match Day::read(text.as_bytes()) {
             Some(day) => {
                 assert_written(&rt, &day, text);
@@ -123,7 +123,7 @@ fn reads_days_alone(rt: HostRuntime) -> Result<(), Fail> {
 #[test]
 fn reads_as_numbers_alone(rt: HostRuntime) -> Result<(), Fail> {
     for row in AS_TEXTS.lines() {
-        let (text, expected) = parts_of(row)?;
+        let (text, expected) = split_row(row)?;
         match Asn::from_text(text.as_bytes()) {
             Some(asn) => assert_eq!(rt; digits(u64::from(asn.0)).as_str(), expected, "{text:?}"),
             None => assert_eq!(rt; "none", expected, "{text:?}"),
@@ -136,7 +136,7 @@ fn reads_as_numbers_alone(rt: HostRuntime) -> Result<(), Fail> {
 #[test]
 fn reads_plain_numbers_alone(rt: HostRuntime) -> Result<(), Fail> {
     for row in NUMBERS.lines() {
-        let (text, expected) = parts_of(row)?;
+        let (text, expected) = split_row(row)?;
         match number_from_text(text.as_bytes()) {
             Some(number) => assert_eq!(rt; digits(number).as_str(), expected, "{text:?}"),
             None => assert_eq!(rt; "none", expected, "{text:?}"),
@@ -215,7 +215,7 @@ fn holdings_reach_the_last_ipv6_address(rt: HostRuntime) -> Result<(), Fail> {
 }
 
 /// A charter of that many equal operators and pool prefixes.
-fn charter_of(
+fn charter_of_equals(
     alloc: Global,
     operators: u32,
     pool: u32,
@@ -234,7 +234,7 @@ fn charter_of(
 #[test]
 fn charters_of_wrong_counts_or_repeats(rt: HostRuntime) -> Result<(), Fail> {
     for (operators, pool, fault) in CHARTERS {
-        let made = charter_of(rt.alloc(), operators, pool)?;
+        let made = charter_of_equals(rt.alloc(), operators, pool)?;
         assert_eq!(rt; made.err(), Some(fault), "{operators} and {pool}");
     }
     Ok(())

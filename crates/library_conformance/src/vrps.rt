@@ -3,7 +3,7 @@ ghost use Rattle.std.specs.Prelude.{◌≡◌, ◌++◌, is_some, option_to_list
 ghost use Rattle.std.proofs.Common.{ap, append_assoc, sym, ◌∙◌};
 ghost use Rattle.std.proofs.lemmas.List.{append-nil};
 
-use crate::rows::rows_of;
+use crate::rows::table_rows;
 use addr::{Asn, Origin, Prefix, Route, Vrp};
 use payload::{ListIndex, PayloadIndex, Sink, Stop};
 use std::alloc::Global;
@@ -53,23 +53,23 @@ const VISITS: [(usize, usize, Result<(), Stop>); 3] = [
     (0, 0, Err(Stop)),
 ];
 
-fn asn_of(text: &str) -> Result<Asn, Fail> {
+fn parse_asn(text: &str) -> Result<Asn, Fail> {
     Ok(Asn::from_text(text.as_bytes()).ok_or("no AS number")?)
 }
 
 /// A VRP by its AS, prefix and maxLength.
-pub(crate) fn vrp_of(text: &str) -> Result<Vrp, Fail> {
+pub(crate) fn parse_vrp(text: &str) -> Result<Vrp, Fail> {
     let (asn, terms) = text.split_once(' ').ok_or("no prefix")?;
     let (prefix, max) = terms.split_once(' ').ok_or("no maxLength")?;
     let prefix = Prefix::read(prefix.as_bytes())?;
-    Ok(Vrp::from_parts(prefix, max.parse()?, asn_of(asn)?).ok_or("a VRP")?)
+    Ok(Vrp::from_parts(prefix, max.parse()?, parse_asn(asn)?).ok_or("a VRP")?)
 }
 
 /// The VRPs of the lines.
 pub(crate) fn vrps_of(alloc: Global, lines: &str) -> Result<Vec<Vrp>, Fail> {
     let mut vrps = Vec::new(alloc);
     for line in lines.trim().lines() {
-        vrps.push(vrp_of(line)?)?;
+        vrps.push(parse_vrp(line)?)?;
     }
     Ok(vrps)
 }
@@ -120,21 +120,21 @@ impl Sink for FirstVrps {
 }
 
 /// A route by its prefix and origin.
-pub(crate) fn route_of(text: &str) -> Result<Route, Fail> {
+pub(crate) fn parse_route(text: &str) -> Result<Route, Fail> {
     let (prefix, origin) = text.split_once(' ').ok_or("no origin")?;
     Ok(Route {
         prefix: Prefix::read(prefix.as_bytes())?,
         origin: match origin {
             "none" => Origin::None,
-            asn => Origin::As(asn_of(asn)?),
+            asn => Origin::As(parse_asn(asn)?),
         },
     })
 }
 
 fn assert_states(rt: &impl Abort, alloc: Global, vrps: &str, states: &str) -> Result<(), Fail> {
     let index = ListIndex::from(vrps_of(alloc, vrps)?);
-    for row in &rows_of(alloc, states)? {
-        let state = index.validity(&route_of(row.input)?);
+    for row in &table_rows(alloc, states)? {
+        let state = index.validity(&parse_route(row.input)?);
         assert_eq!(rt; state.as_str(), row.output, "{}", row.input);
     }
     Ok(())
@@ -153,7 +153,7 @@ fn states_of_routes(rt: HostRuntime) -> Result<(), Fail> {
 #[test]
 fn visits_rise_and_stop(rt: HostRuntime) -> Result<(), Fail> {
     let index = ListIndex::from(vrps_of(rt.alloc(), NESTED)?);
-    let rising = [vrp_of(WIDE)?, vrp_of(NARROW)?];
+    let rising = [parse_vrp(WIDE)?, parse_vrp(NARROW)?];
     for (most, kept, answer) in VISITS {
         let mut first = FirstVrps {
             vrps: Vec::new(rt.alloc()),

@@ -1,5 +1,5 @@
 //! The words after the program's name, and the tasks that they name.
-use crate::rows::rows_of;
+use crate::rows::table_rows;
 use command_line::{Task, WordsFault, read_words};
 use std::alloc::{AllocError, Global};
 use std::test::Fail;
@@ -66,7 +66,7 @@ fn shown(alloc: Global, task: &Task<'_>) -> Result<String, AllocError> {
 
 #[test]
 fn words_of_each_task(rt: HostRuntime) -> Result<(), Fail> {
-    for row in &rows_of(rt.alloc(), LINES)? {
+    for row in &table_rows(rt.alloc(), LINES)? {
         let task = named(rt.alloc(), row.input)?;
         assert_eq!(rt; task.as_str(), row.output, "{}: {:?}", row.name, row.input);
     }

@@ -1,7 +1,7 @@
 //! Databases that were made by SQL, and what opening them as a store answers: `ok`, or the fault.
 //! The statements and the answers follow from the formats of the tables.
 use crate::example_database::{TABLES, made};
-use library_conformance::rows::rows_of;
+use library_conformance::rows::table_rows;
 use sqlite::{Alter, Connection};
 use sqlite_disk::{Disk, Files, Memory};
 use sqlite_pager::Options;
@@ -190,7 +190,7 @@ fn answer_of<S: Alter + Drop>(alloc: Global, conn: Connection<S>) -> &'static st
 }
 
 fn assert_answers(rt: &impl Abort, alloc: Global, rows: &str) -> Result<(), Fail> {
-    for row in rows_of(alloc, rows)? {
+    for row in table_rows(alloc, rows)? {
         let mut conn = made(alloc, TABLES)?;
         conn.execute_batch(row.input)?;
         let answer = answer_of(alloc, conn);
@@ -211,7 +211,7 @@ fn opening_asks_each_exception(rt: HostRuntime) -> Result<(), Fail> {
 
 #[test]
 fn opening_asks_the_tables(rt: HostRuntime) -> Result<(), Fail> {
-    for row in rows_of(rt.alloc(), OTHER_TABLES)? {
+    for row in table_rows(rt.alloc(), OTHER_TABLES)? {
         let (old, new) = row.input.split_once(" | ").ok_or("two parts")?;
         let (before, after) = TABLES.split_once(old).ok_or("a part of the statements")?;
         let tables = format!(in rt.alloc(); "{before}{new}{after}")?;

@@ -1,5 +1,5 @@
 //! Connections in pieces, cut short, failing, and with bytes to come.
-use super::{AT_ONCE, Manner, json_response, registered_holder, request_of, serve};
+use super::{AT_ONCE, Manner, json_response, registered_holder, request_text, serve};
 use std::alloc::Global;
 use std::test::Fail;
 use web::WebFault;
@@ -17,7 +17,7 @@ const NEXT: &str = "GET /payloads HTTP/1.1\r\n\r\n";
 
 /// A request, and then another one.
 fn followed(alloc: Global, row: &str) -> Result<String, Fail> {
-    let mut text = request_of(alloc, row)?;
+    let mut text = request_text(alloc, row)?;
     text.push_str(NEXT)?;
     Ok(text)
 }
@@ -48,7 +48,7 @@ fn no_byte_after_the_request_is_read(rt: HostRuntime) -> Result<(), Fail> {
 fn request_cut_short_is_not_acted_on(rt: HostRuntime) -> Result<(), Fail> {
     let alloc = rt.alloc();
     let mut desk = registered_holder(&rt, alloc)?;
-    let request = request_of(alloc, CREATE)?;
+    let request = request_text(alloc, CREATE)?;
     let bytes = request.as_bytes();
     for end in 0..bytes.len() {
         for fails in [false, true] {
@@ -68,9 +68,9 @@ fn request_cut_short_is_not_acted_on(rt: HostRuntime) -> Result<(), Fail> {
 #[test]
 fn response_cut_short_was_acted_on(rt: HostRuntime) -> Result<(), Fail> {
     let alloc = rt.alloc();
-    let create = request_of(alloc, CREATE)?;
+    let create = request_text(alloc, CREATE)?;
     let done = json_response(alloc, "200 {\"done\":1}")?;
-    let show = request_of(alloc, SHOW)?;
+    let show = request_text(alloc, SHOW)?;
     let shown = json_response(alloc, SHOWN)?;
     for room in 0..done.len() {
         let mut desk = registered_holder(&rt, alloc)?;

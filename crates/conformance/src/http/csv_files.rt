@@ -1,9 +1,9 @@
 //! Imports and exports over HTTP: bodies and answers that are CSV.
 use super::{
-    assert_response, assert_rows, json_response, registered_holder, request_of, response_of,
+    assert_response, assert_rows, json_response, registered_holder, request_text, response_of,
 };
 use desk::Desk;
-use library_conformance::rows::rows_of;
+use library_conformance::rows::table_rows;
 use sqlite::MemStore;
 use std::alloc::Global;
 use std::process::Abort;
@@ -300,7 +300,7 @@ fn assert_csv(
     row: &str,
     body: &str,
 ) -> Result<(), Fail> {
-    let request = request_of(alloc, row)?;
+    let request = request_text(alloc, row)?;
     let response = response_of(alloc, "200", "text/csv", "", body)?;
     assert_response(rt, alloc, desk, request.as_bytes(), &response, row)
 }
@@ -326,7 +326,7 @@ fn assert_imports(
     header: &[u8],
     table: &str,
 ) -> Result<(), Fail> {
-    for row in &rows_of(alloc, table)? {
+    for row in &table_rows(alloc, table)? {
         let body = body_of(alloc, row.input)?;
         let request = import_of(alloc, "alpha", "ann", [header, &body])?;
         let response = json_response(alloc, row.output)?;

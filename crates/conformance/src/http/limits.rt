@@ -10,7 +10,7 @@ const HEAD_LIMIT: usize = 8192;
 const BODY_LIMIT: usize = 1_048_576;
 
 /// A request for VRPs whose head has so many bytes.
-fn head_of(alloc: Global, length: usize) -> Result<String, Fail> {
+fn long_head(alloc: Global, length: usize) -> Result<String, Fail> {
     let mut text = String::from_str(
         alloc,
         "GET /payloads HTTP/1.1\r\nDesk-Caller: bob\r\nFiller: ",
@@ -23,7 +23,7 @@ fn head_of(alloc: Global, length: usize) -> Result<String, Fail> {
 }
 
 /// A request for VRPs with so many fields.
-fn fields_of(alloc: Global, count: u32) -> Result<String, Fail> {
+fn many_fields(alloc: Global, count: u32) -> Result<String, Fail> {
     let mut text = String::from_str(alloc, "GET /payloads HTTP/1.1\r\nDesk-Caller: bob\r\n")?;
     for _ in 1..count {
         text.push_str("Filler: x\r\n")?;
@@ -49,9 +49,9 @@ fn head_and_field_limits(rt: HostRuntime) -> Result<(), Fail> {
     let mut desk = example_desk(alloc)?;
     let csv = response_of(alloc, "200", "text/csv", "", "asn,prefix,maxlength\n")?;
     let refused = json_response(alloc, "400 {\"error\":400}")?;
-    let head = head_of(alloc, HEAD_LIMIT)?;
+    let head = long_head(alloc, HEAD_LIMIT)?;
     assert_response(&rt, alloc, &mut desk, head.as_bytes(), &csv, "8192 bytes")?;
-    let longer = head_of(alloc, HEAD_LIMIT + 1)?;
+    let longer = long_head(alloc, HEAD_LIMIT + 1)?;
     assert_response(
         &rt,
         alloc,
@@ -60,9 +60,9 @@ fn head_and_field_limits(rt: HostRuntime) -> Result<(), Fail> {
         &refused,
         "8193 bytes",
     )?;
-    let fields = fields_of(alloc, 32)?;
+    let fields = many_fields(alloc, 32)?;
     assert_response(&rt, alloc, &mut desk, fields.as_bytes(), &csv, "32 fields")?;
-    let more = fields_of(alloc, 33)?;
+    let more = many_fields(alloc, 33)?;
     assert_response(
         &rt,
         alloc,

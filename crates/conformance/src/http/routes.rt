@@ -1,5 +1,5 @@
 //! Requests of every path, and what they are refused for.
-use super::{assert_response, assert_rows, registered_holder, request_of, response_of};
+use super::{assert_response, assert_rows, registered_holder, request_text, response_of};
 use crate::scripts::example_desk;
 use std::alloc::Global;
 use std::test::Fail;
@@ -176,11 +176,11 @@ fn malformed_requests_have_their_lowest_number(rt: HostRuntime) -> Result<(), Fa
 fn payloads_are_answered_as_csv(rt: HostRuntime) -> Result<(), Fail> {
     let alloc = rt.alloc();
     let mut desk = registered_holder(&rt, alloc)?;
-    let payloads = request_of(alloc, "GET /payloads bob")?;
+    let payloads = request_text(alloc, "GET /payloads bob")?;
     let header = "asn,prefix,maxlength\n";
     let empty = response_of(alloc, "200", "text/csv", "", header)?;
     assert_response(&rt, alloc, &mut desk, payloads.as_bytes(), &empty, "none")?;
-    let create = request_of(
+    let create = request_text(
         alloc,
         r#"POST /holders/alpha/auths ann {"asn":64496,"prefix":"192.0.2.0/24","max":24,"from":"2026-01-01","until":"2026-12-31"}"#,
     )?;
@@ -213,7 +213,7 @@ fn target_without_a_path_is_not_found(rt: HostRuntime) -> Result<(), Fail> {
 }
 
 #[test]
-fn other_methods_are_told_those_of_the_path(rt: HostRuntime) -> Result<(), Fail> {
+fn other_methods_are_answered_with_those_allowed(rt: HostRuntime) -> Result<(), Fail> {
     let alloc = rt.alloc();
     let mut desk = example_desk(alloc)?;
     for (path, allowed) in ALLOWED {

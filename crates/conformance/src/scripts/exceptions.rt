@@ -31,7 +31,7 @@ slurm {"prefix":"192.0.2.0/24"} ; {"asn":64500,"prefix":"198.51.100.0/24"} => {"
 bob {"do":"payloads"} => {"payloads":[{"asn":64500,"prefix":"198.51.100.0/24","max":24}]}
 slurm ; => {"done":null}
 bob {"do":"payloads"} => {"payloads":[{"asn":64496,"prefix":"192.0.2.0/24","max":24}]}
-# next_file_stands_in_the_place_of_the_last after holder, authorization
+# next_file_replaces_the_last after holder, authorization
 slurm {"asn":64496} ; {"asn":64500,"prefix":"198.51.100.0/24"} => {"done":null}
 slurm {"asn":64499} ; {"asn":64501,"prefix":"203.0.113.0/24"} => {"done":null}
 bob {"do":"payloads"} => {"payloads":[{"asn":64496,"prefix":"192.0.2.0/24","max":24},{"asn":64501,"prefix":"203.0.113.0/24","max":24}]}
@@ -101,7 +101,7 @@ bob {"do":"payloads"} => {"payloads":[{"asn":64496,"prefix":"198.51.100.0/24","m
 "#;
 
 /// The file of these filters and these assertions.
-pub(crate) fn file_of(alloc: Global, filters: &str, assertions: &str) -> Result<String, Fail> {
+pub(crate) fn slurm_file(alloc: Global, filters: &str, assertions: &str) -> Result<String, Fail> {
     let file = format!(in alloc;
         "{{\"slurmVersion\":1,\
          \"validationOutputFilters\":{{\"prefixFilters\":[{filters}],\"bgpsecFilters\":[]}},\
@@ -111,12 +111,12 @@ pub(crate) fn file_of(alloc: Global, filters: &str, assertions: &str) -> Result<
 }
 
 /// The request of a row that begins with `slurm `; any other as it is.
-pub(crate) fn request_of(alloc: Global, row: &str) -> Result<String, Fail> {
+pub(crate) fn request_line(alloc: Global, row: &str) -> Result<String, Fail> {
     let Some(lists) = row.strip_prefix("slurm ") else {
         return Ok(String::from_str(alloc, row)?);
     };
     let (filters, assertions) = lists.split_once(';').ok_or("no two lists")?;
-    let file = file_of(alloc, filters.trim(), assertions.trim())?;
+    let file = slurm_file(alloc, filters.trim(), assertions.trim())?;
     let request = format!(in alloc; "reg {{\"do\":\"slurm\",\"file\":{file}}}")?;
     Ok(request)
 }
@@ -127,5 +127,5 @@ pub(crate) fn file_of_many(alloc: Global, filters: u32) -> Result<String, Fail> 
     for _ in 1..filters {
         list.push_str(r#",{"asn":64499}"#)?;
     }
-    file_of(alloc, &list, r#"{"asn":64500,"prefix":"198.51.100.0/24"}"#)
+    slurm_file(alloc, &list, r#"{"asn":64500,"prefix":"198.51.100.0/24"}"#)
 }

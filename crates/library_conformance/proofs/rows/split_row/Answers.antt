@@ -5,7 +5,7 @@ use Rattle.std.proofs.lemmas.Result.{MatchResult-from_err}
 use Rattle.std.proofs.lemmas.Str.Pattern.{split_text_parts}
 use Rattle.std.specs.Option.{is_some}
 use Rattle.std.specs.Result.{is_ok}
-use Rattle.library_conformance.proofs.rows.parts_of.Goals as goal
+use Rattle.library_conformance.proofs.rows.split_row.Goals as goal
 
 pub returns-in_err-ok_or : goal.returns-in_err-ok_or
 returns-in_err-ok_or c =
