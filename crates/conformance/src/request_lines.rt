@@ -41,7 +41,7 @@ null => 2
 {"day":"2026-03-01","caller":"reg","do":"register","holder":7} => 3
 {"day":"2026-03-01","caller":null,"do":"register","holder":"alpha"} => 4
 {"day":"2026-02-29","caller":"reg","do":"register","holder":"alpha"} => 8
-# lowest_malformed_number_is_reported
+# lowest_malformed_number_is_told
 {"day":"2026-03-01","caller":"Reg","do":"delegate","holder":"alpha","prefix":"192.0.2.1/24"} => 4
 {"day":"2026-02-30","caller":"reg","do":"delegate","holder":"alpha","prefix":"192.0.2.1/24"} => 5
 {"day":"","caller":"","do":"register","holder":""} => 3

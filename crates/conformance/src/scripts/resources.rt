@@ -2,7 +2,7 @@
 
 pub(crate) const SCRIPTS: &str = r#"
 # empty_script_writes_nothing
-# lowest_malformed_number_is_reported
+# lowest_malformed_number_is_told
 Reg {"do":"delegate","holder":"alpha","prefix":"192.0.2.1/24"} => {"malformed":4}
 # register_twice_and_by_a_stranger
 reg {"do":"register","holder":"alpha"} => {"done":null}
