@@ -1,3 +1,4 @@
+pub mod ConnectionTime
 pub mod DeskFiles
 pub mod Serving
 pub mod TaskFaults

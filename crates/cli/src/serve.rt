@@ -4,11 +4,13 @@ ghost use Rattle.web.specs.WebFault.{web_fault_number};
 ghost use Rattle.web.specs.ScriptAnswer.{IsLaterDesk};
 ghost use Rattle.cli.specs.Serving.{fault_line, Serves, ServesEach};
 
+mod peer;
 mod timed;
 
 use addr::{Day, digits};
 use arrayvec::ArrayString;
 use desk::Desk;
+use peer::{Peer, Socket};
 use sqlite::Alter;
 use std::alloc::Global;
 use std::io::Write;
@@ -61,11 +63,28 @@ fn answer<R: Clock, S: Alter>(
     ensures unread { result ≡ Err WebFault.Read → desk.new ≡ desk.old }
     ensures later { IsLaterDesk S.Store desk.old desk.new }
 {
-    let Ok(start) = Instant::now(clock) else {
+    let Ok(began) = Instant::now(clock) else {
         return Err(WebFault::Read);
     };
-    let mut source = Device::new(Timed::new(clock, stream, start));
-    let mut drain = Device::new(Timed::new(clock, stream, start));
+    let from = Socket::new(clock, stream, began);
+    let to = Socket::new(clock, stream, began);
+    answer_in_time(alloc, from, to, desk, day)
+}
+
+/// Answers the request that one peer sends, to the other.
+fn answer_in_time<P: Peer + Drop, Q: Peer + Drop, S: Alter>(
+    alloc: Global,
+    from: P,
+    to: Q,
+    desk: &mut Desk<S>,
+    day: Day,
+) -> Result<(), WebFault>
+    ensures serves { Serves S.Store day desk.old desk.new }
+    ensures unread { result ≡ Err WebFault.Read → desk.new ≡ desk.old }
+    ensures later { IsLaterDesk S.Store desk.old desk.new }
+{
+    let mut source = Device::new(Timed::new(from));
+    let mut drain = Device::new(Timed::new(to));
     serve_one(alloc, &mut source, &mut drain, desk, day)
 }
 

@@ -1,15 +1,22 @@
 //! Connections that are served.
+ghost use Rattle.std.specs.Prelude.{option_map};
+ghost use Rattle.std.specs.Duration.{as_nanos};
+ghost use Rattle.std.specs.Time.{instant_nanos};
+
 use crate::clients::{CHARTER, CREATE, SETUP, request, serve};
+use crate::serve::answer_in_time;
+use crate::serve::peer::Peer;
 use addr::Day;
 use command_line::charter_from;
 use desk::Desk;
 use sqlite::MemStore;
 use std::cell::Cell;
-use std::io;
+use std::io::{self, Read, Write};
 use std::process::Abort;
 use std::rt::HostRuntime;
 use std::test::Fail;
-use std::time::{Clock, Duration};
+use std::time::{Clock, Duration, Instant};
+use web::WebFault;
 
 fn desk_in_memory<R: Abort + AllocGlobal>(rt: &R) -> Desk<MemStore> {
     let charter = charter_from(rt.alloc(), CHARTER.as_bytes()).expect(rt, "a charter");
@@ -47,17 +54,27 @@ fn denial_is_403_and_payloads_are_csv(rt: HostRuntime) -> Result<(), Fail> {
     Ok(())
 }
 
-/// Half a minute passes at each reading.
+/// A clock that advances at each reading.
 #[derive(Drop)]
 struct Slow {
-    readings: Cell<u64>,
+    seconds: Cell<u64>,
+    step: u64,
+}
+
+impl Slow {
+    fn by(step: u64) -> Slow {
+        Slow {
+            seconds: Cell::new(0),
+            step,
+        }
+    }
 }
 
 impl Clock for Slow {
     fn monotonic(&self) -> io::Result<Duration> {
-        let readings = self.readings.get();
-        self.readings.set(readings.saturating_add(1));
-        Ok(Duration::from_secs(readings.saturating_mul(30)))
+        let seconds = self.seconds.get();
+        self.seconds.set(seconds.saturating_add(self.step));
+        Ok(Duration::from_secs(seconds))
     }
 
     fn since_1970(&self) -> io::Result<Duration> {
@@ -71,14 +88,119 @@ fn a_connection_has_to_end_in_time(rt: HostRuntime) -> Result<(), Fail> {
     let mut texts = Vec::new(rt.alloc());
     texts.push(String::new(rt.alloc()))?;
     texts.push(String::new(rt.alloc()))?;
-    let clock = Slow {
-        readings: Cell::new(0),
-    };
+    let clock = Slow::by(30);
     let day = Day::read(b"2026-03-01").expect(&rt, "a day");
     let served = serve(&rt, &clock, &mut desk, day, &texts)?;
     assert_eq!(rt;
         served.errors.as_slice(),
         b"roadesk: connection 1: fault 1\nroadesk: connection 2: fault 1\n".as_slice()
     );
+    Ok(())
+}
+
+/// A peer that gives and takes at most so many bytes at a call.
+#[derive(Drop)]
+struct Trickle<'a> {
+    clock: &'a Slow,
+    most: usize,
+    rest: &'a [u8],
+    taken: &'a mut Vec<u8>,
+    began: Instant,
+    last_seen: Option<Instant>,
+    read_timeout: Option<Duration>,
+    write_timeout: Option<Duration>,
+}
+
+impl<'a> Trickle<'a> {
+    fn new(
+        clock: &'a Slow,
+        most: usize,
+        rest: &'a [u8],
+        taken: &'a mut Vec<u8>,
+    ) -> io::Result<Trickle<'a>> {
+        Ok(Trickle {
+            clock,
+            most,
+            rest,
+            taken,
+            began: Instant::now(clock)?,
+            last_seen: None,
+            read_timeout: None,
+            write_timeout: None,
+        })
+    }
+}
+
+impl Peer for Trickle<'_> {
+    ghost began = { λ peer. instant_nanos peer.began };
+
+    ghost last_seen = { λ peer. option_map instant_nanos peer.last_seen };
+
+    ghost read_timeout = { λ peer. option_map as_nanos peer.read_timeout };
+
+    ghost write_timeout = { λ peer. option_map as_nanos peer.write_timeout };
+
+    fn began(&self) -> Instant {
+        self.began
+    }
+
+    fn now(&mut self) -> io::Result<Instant> {
+        let now = Instant::now(self.clock)?;
+        self.last_seen = Some(now);
+        Ok(now)
+    }
+
+    fn set_read_timeout(&mut self, timeout: Duration) -> io::Result<()> {
+        self.read_timeout = Some(timeout);
+        Ok(())
+    }
+
+    fn set_write_timeout(&mut self, timeout: Duration) -> io::Result<()> {
+        self.write_timeout = Some(timeout);
+        Ok(())
+    }
+
+    fn read(&mut self, buffer: &mut [u8]) -> io::Result<usize> {
+        self.last_seen = None;
+        let count = self.most.min(buffer.len());
+        self.rest.read(&mut buffer[..count])
+    }
+
+    fn write(&mut self, bytes: &[u8]) -> io::Result<usize> {
+        self.last_seen = None;
+        let count = self.most.min(bytes.len());
+        self.taken.write(&bytes[..count])
+    }
+}
+
+const REQUEST: &str = "GET /payloads HTTP/1.1\r\nDesk-Caller: reg\r\nContent-Length: 0\r\n\r\n";
+
+const RESPONSE: &str = "HTTP/1.1 200 OK\r\nContent-Type: text/csv\r\nContent-Length: 21\r\n\
+    Connection: close\r\n\r\nasn,prefix,maxlength\n";
+
+/// How many bytes pass at a call, the seconds between two readings of the clock on the side that
+/// reads and on the one that writes, and what becomes of the connection.
+const TRICKLES: [(usize, u64, u64, Result<(), WebFault>, &str); 3] = [
+    (3, 0, 0, Ok(()), RESPONSE),
+    (1, 1, 0, Err(WebFault::Read), ""),
+    (3, 0, 30, Err(WebFault::Write), ""),
+];
+
+#[test]
+fn peers_that_trickle(rt: HostRuntime) -> Result<(), Fail> {
+    let mut desk = desk_in_memory(&rt);
+    let day = Day::read(b"2026-03-01").expect(&rt, "a day");
+    for (most, reading, writing, result, response) in TRICKLES {
+        let (reading, writing) = (Slow::by(reading), Slow::by(writing));
+        let mut sent = Vec::new(rt.alloc());
+        let mut taken = Vec::new(rt.alloc());
+        let from = Trickle::new(&reading, most, REQUEST.as_bytes(), &mut sent)?;
+        let to = Trickle::new(&writing, most, b"", &mut taken)?;
+        assert_eq!(rt;
+            answer_in_time(rt.alloc(), from, to, &mut desk, day),
+            result
+        );
+        assert_eq!(rt; taken.as_slice(), response.as_bytes());
+    }
     Ok(())
 }

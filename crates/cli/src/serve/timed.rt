@@ -1,7 +1,12 @@
 //! The stream of a connection that has to end in time.
+ghost use Rattle.std.specs.Prelude.{◌≡◌, ◌+◌, ◌-◌, ◌≤◌, Some, IfOk};
+ghost use Rattle.std.specs.Duration.{as_nanos};
+ghost use Rattle.std.specs.Io.KnownBytes.{Keeps};
+ghost use Rattle.cli.specs.ConnectionTime.{EndsInTime};
+
+use crate::serve::peer::Peer;
 use std::io::{self, ErrorKind, Read, Write};
-use std::net::TcpStream;
-use std::time::{Clock, Duration, Instant};
+use std::time::Duration;
 
 /// How long a whole connection may take, in seconds.
 const TIME_LIMIT: u64 = 30;
@@ -9,45 +14,49 @@ const TIME_LIMIT: u64 = 30;
 /// A stream whose reads and writes fail once its time is up, so that a peer that sends or takes
 /// nothing, or a byte now and then, does not hold the desk.
 #[derive(Drop)]
-pub(crate) struct Timed<'a, R> {
-    clock: &'a R,
-    stream: &'a TcpStream,
-    start: Instant,
+pub(crate) struct Timed<P> {
+    peer: P,
 }
 
-impl<'a, R: Clock> Timed<'a, R> {
-    /// A stream whose time began then.
-    pub(crate) fn new(clock: &'a R, stream: &'a TcpStream, start: Instant) -> Timed<'a, R> {
-        Timed {
-            clock,
-            stream,
-            start,
-        }
+impl<P: Peer> Timed<P> {
+    pub(crate) fn new(peer: P) -> Timed<P>
+        ensures { result.peer ≡ peer }
+    {
+        Timed { peer }
     }
 
     /// What is left of its time, which is some.
-    fn time_left(&self) -> io::Result<Duration> {
-        let limit = Duration::from_secs(TIME_LIMIT);
-        match limit.checked_sub(self.start.elapsed(self.clock)?) {
+    fn time_left(&mut self) -> io::Result<Duration>
+        ensures ok { IfOk result (λ left. EndsInTime (P.began self.new.peer)
+            (P.last_seen self.new.peer) (Some (as_nanos left))) }
+        ensures remaining { Keeps (P.remaining self.old.peer) (P.remaining self.new.peer) }
+        ensures contents { Keeps (P.contents self.old.peer) (P.contents self.new.peer) }
+    {
+        let elapsed = self.peer.now()?.duration_since(self.peer.began());
+        match Duration::from_secs(TIME_LIMIT).checked_sub(elapsed) {
             Some(left) if !left.is_zero() => Ok(left),
             _ => Err(ErrorKind::TimedOut.into()),
         }
     }
 }
 
-impl<R: Clock> Read for Timed<'_, R> {
+impl<P: Peer> Read for Timed<P> {
+    ghost remaining = { λ timed. P.remaining timed.peer };
+
     fn read(&mut self, buffer: &mut [u8]) -> io::Result<usize> {
-        self.stream.set_read_timeout(Some(self.time_left()?))?;
-        let mut stream = self.stream;
-        stream.read(buffer)
+        let left = self.time_left()?;
+        self.peer.set_read_timeout(left)?;
+        self.peer.read(buffer)
     }
 }
 
-impl<R: Clock> Write for Timed<'_, R> {
+impl<P: Peer> Write for Timed<P> {
+    ghost contents = { λ timed. P.contents timed.peer };
+
     fn write(&mut self, bytes: &[u8]) -> io::Result<usize> {
-        self.stream.set_write_timeout(Some(self.time_left()?))?;
-        let mut stream = self.stream;
-        stream.write(bytes)
+        let left = self.time_left()?;
+        self.peer.set_write_timeout(left)?;
+        self.peer.write(bytes)
     }
 
     /// A stream keeps nothing back.

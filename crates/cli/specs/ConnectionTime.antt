@@ -1,0 +1,13 @@
+-- The time that a connection may take, and when a call of its peer is within it.
+use Rattle.std.specs.Prelude.{ℕ, ◌+◌, ◌-◌, ◌*◌, ◌≤◌, Option, Some, None}
+
+-- nanoseconds of 30 seconds
+abbrev pub connection_limit : ℕ
+connection_limit = 30 * 1_000_000_000
+
+-- A call that waits at most for this timeout ends within the connection's time, when the clock was last read and no call
+-- has waited since.
+abbrev pub EndsInTime : ℕ → Option ℕ → Option ℕ → Type 0
+EndsInTime began (Some now) (Some timeout) = timeout + (now - began) ≤ connection_limit
+EndsInTime began None timeout = ⊥
+EndsInTime began (Some now) None = ⊥
