@@ -20,7 +20,7 @@ use Rattle.tables.specs.Tables.{desk_tables}
 use Rattle.database.specs.Databases.{IsHonest, IsOfAnotherSchema}
 use Rattle.database.specs.TablesRead.{TablesRead}
 use Rattle.store.specs.Loads.{AreLoaded, AllGiveOn}
-use Rattle.store.specs.StoreRows.{StoreView, state_of, Holds}
+use Rattle.store.specs.StoreRows.{StoreView, connection_state, Holds}
 
 -- The rows of a holder after a history, as they are loaded, are its rows after the history.
 abbrev pub LoadsRowsOfHistories : Type 0
@@ -73,7 +73,7 @@ MemoryStaysOpen = (conn : Held MemStore) → IsTrue (state over_memory conn).is_
 abbrev pub MemoryHoldsRows : Type 0
 MemoryHoldsRows =
     (store : StoreView MemStore) (rows : AllRows) → Holds over_memory store rows
-    → TablesHold store.charter rows (state_of over_memory store).now.trees
+    → TablesHold store.charter rows (connection_state over_memory store).now.trees
 
 -- Tables of a desk that read are not of another schema.
 abbrev pub TablesThatReadAreOurs : Type 0
