@@ -18,19 +18,27 @@ use Rattle.registry.specs.History.{same_name}
 use Rattle.registry.specs.declared.change.Edit.{Edit}
 use Rattle.registry.specs.declared.change.Edit.TheVariants.{Register, Hold, Grant, Revoke, Create, Import, Amend, Withdraw}
 use Rattle.registry.specs.Rows.{Rows, new_rows, edited, edited_if_any}
-use Rattle.registry.specs.RowsOfAll.{AllRows}
+use Rattle.registry.specs.declared.change.Change.TheVariants.{Holders}
+use Rattle.registry.specs.declared.change.HolderChange.{HolderChange}
+use Rattle.registry.specs.RowsOfAll.{AllRows, changed_rows}
 use Rattle.registry.proofs.Names.{same_name-true}
+use Rattle.tables.specs.Tables.{slurm}
 use Rattle.tables.specs.TablesHold.{TablesHold}
 use Rattle.store.specs.steps.RowEdits.{without_holdings, without_auths, is_registration}
 use Rattle.database.specs.Statements.{state_in, IfDone, StaysInside, IsReady}
 use Rattle.store.specs.StoreRows.{RowChange}
-use Rattle.store.specs.steps.Statements.{at_holder, EditsRows, EditsHolder, AnswersWhetherRegistered, Registers, MakesChange}
+use Rattle.store.specs.steps.Statements.{at_holder, KeepsExceptions, EditsRows, EditsHolder, AnswersWhetherRegistered, Registers, HoldersBecome, RowsBecome, MakesChange}
 use Rattle.tables.proofs.TreeRows.{filter_twice, all_kept, neither}
 
 -- equal rows of every holder
 pub same_rows : (charter : CharterSets) (rows : AllRows) (other : List ℕ → Option Rows) (trees : Trees) → ((k : List ℕ) → rows.of_holder k ≡ other k)
     → TablesHold charter rows trees → TablesHold charter (record rows { of_holder = other }) trees
 same_rows charter rows other trees same holds = subst (λ of_holder. TablesHold charter (record rows { of_holder = of_holder }) trees) (λ i k. same k i) holds
+
+-- and the exceptions kept
+kept_rows : (charter : CharterSets) (rows : AllRows) (other : List ℕ → Option Rows) (old new : Trees) → ((k : List ℕ) → rows.of_holder k ≡ other k)
+    → KeepsExceptions charter rows old new → KeepsExceptions charter (record rows { of_holder = other }) old new
+kept_rows charter rows other old new same kept = record { held = same_rows charter rows other new same kept.held; exceptions = kept.exceptions }
 
 edited_still : (o : Option Rows) (edit : Rows → Rows) (b : Bool) → IsSome o → IsSome (cond b (option_map edit o) o)
 edited_still None edit b some = absurd cc
@@ -47,8 +55,10 @@ module _ (h : List ℕ) where
   edits_then f g a b c first second charter rows holds some =
       let once : AllRows = at_holder h (option_map f) rows in
       let both : AllRows = at_holder h (option_map (λ r. g (f r))) rows in
-      same_rows charter (at_holder h (option_map g) once) both.of_holder c.trees (λ k. in_turn f g (rows.of_holder k) (same_name h k))
-      (second charter once (first charter rows holds some) (edited_still (rows.of_holder h) f (same_name h h) some))
+      let one = first charter rows holds some in
+      let two = second charter once one.held (edited_still (rows.of_holder h) f (same_name h h) some) in
+      kept_rows charter (at_holder h (option_map g) once) both.of_holder a.trees c.trees (λ k. in_turn f g (rows.of_holder k) (same_name h k))
+      (record { held = two.held; exceptions = two.exceptions ∙ one.exceptions })
 
   none_edited : (f : Rows → Rows) → ((r : Rows) → f r ≡ r) → (o : Option Rows) (b : Bool) → o ≡ cond b (option_map f o) o
   none_edited f same None true = refl
@@ -58,7 +68,7 @@ module _ (h : List ℕ) where
   pub edits_none : (f : Rows → Rows) (a : Database) → ((r : Rows) → f r ≡ r) → EditsRows h f a a
   edits_none f a same charter rows holds some =
       let after : AllRows = at_holder h (option_map f) rows in
-      same_rows charter rows after.of_holder a.trees (λ k. none_edited f same (rows.of_holder k) (same_name h k)) holds
+      kept_rows charter rows after.of_holder a.trees a.trees (λ k. none_edited f same (rows.of_holder k) (same_name h k)) (record { held = holds; exceptions = refl })
 
   pub edits_as : (f g : Rows → Rows) (a b : Database) → ((r : Rows) → f r ≡ g r) → EditsRows h f a b → EditsRows h g a b
   edits_as f g a b same = subst (λ e. EditsRows h e a b) (λ i r. same r i)
@@ -101,6 +111,11 @@ module _ {S : Type 0} (g : Ghosts S) where
   done_after r h f e to a b c same stay first second clean =
       on_ok_weaker r (done_then h f e to (state_in g a) (state_in g b) (state_in g c) same (first (omega (arith, stay.survives.clean)))) (second clean)
 
+-- an answer changes nothing before what follows it
+after_answer : (h : List ℕ) (is_there : Bool) (a b : State) → AnswersWhetherRegistered h is_there a b → (charter : CharterSets) (rows : AllRows) (new : Trees)
+    → KeepsExceptions charter rows b.now.trees new → KeepsExceptions charter rows a.now.trees new
+after_answer h is_there a b answers charter rows new kept = record { held = kept.held; exceptions = kept.exceptions ∙ ap (λ (d : Database). d.trees slurm.tree) answers.same }
+
 -- ---- a change
 
 module _ (h : List ℕ) (edit : Edit) where
@@ -119,15 +134,15 @@ module _ (h : List ℕ) (edit : Edit) where
   some_edited None some = absurd cc
   some_edited (Some r) some = refl
 
-  pub turned_registered : (is_there : Bool) (a b c : State) → AnswersWhetherRegistered h is_there a b → is_there ≡ true → EditsHolder h (edited edit) b c → MakesChange edited_at a c
+  pub turned_registered : (is_there : Bool) (a b c : State) → AnswersWhetherRegistered h is_there a b → is_there ≡ true → EditsHolder h (edited edit) b c → MakesChange (HoldersBecome edited_at) a c
   turned_registered is_there a b c answers is done = record {
     was_open = answers.was_open;
     ready = done.ready;
-    rows = λ charter rows was.
+    made = λ charter rows was.
         let some : IsSome (rows.of_holder h) = sym (answers.answer charter rows was) ∙ is in
         let after : AllRows = edited_at rows in
-        same_rows charter (at_holder h (option_map (edited edit)) rows) after.of_holder c.now.trees (at_name (option_map (edited edit)) rows.of_holder (some_edited (rows.of_holder h) some))
-        (done.rows charter rows (subst (λ (d : Database). TablesHold charter rows d.trees) (sym answers.same) was) some);
+        kept_rows charter (at_holder h (option_map (edited edit)) rows) after.of_holder a.now.trees c.now.trees (at_name (option_map (edited edit)) rows.of_holder (some_edited (rows.of_holder h) some))
+        (after_answer h is_there a b answers charter (at_holder h (option_map (edited edit)) rows) c.now.trees (done.rows charter rows (subst (λ (d : Database). TablesHold charter rows d.trees) (sym answers.same) was) some));
   }
 
   none_there : (o : Option Rows) → is_some o ≡ false → o ≡ None
@@ -144,31 +159,47 @@ module _ (h : List ℕ) (edit : Edit) where
   from_none (Amend x) = refl
   from_none (Withdraw n) = refl
 
-  pub turned_new : (is_there : Bool) (a b c : State) → AnswersWhetherRegistered h is_there a b → is_there ≡ false → is_registration edit ≡ true → Registers h b c → MakesChange edited_at a c
+  pub turned_new : (is_there : Bool) (a b c : State) → AnswersWhetherRegistered h is_there a b → is_there ≡ false → is_registration edit ≡ true → Registers h b c → MakesChange (HoldersBecome edited_at) a c
   turned_new is_there a b c answers is registers done = record {
     was_open = answers.was_open;
     ready = done.ready;
-    rows = λ charter rows was.
+    made = λ charter rows was.
         let none = none_there (rows.of_holder h) (sym (answers.answer charter rows was) ∙ is) in
         let after : AllRows = edited_at rows in
-        same_rows charter (at_holder h (λ _. Some new_rows) rows) after.of_holder c.now.trees (at_name (λ _. Some new_rows) rows.of_holder (sym (from_none edit ∙ cond-true _ _ _ registers) ∙ ap (edited_if_any edit) (sym none)))
-        (done.rows charter rows (subst (λ (d : Database). TablesHold charter rows d.trees) (sym answers.same) was) none);
+        kept_rows charter (at_holder h (λ _. Some new_rows) rows) after.of_holder a.now.trees c.now.trees (at_name (λ _. Some new_rows) rows.of_holder (sym (from_none edit ∙ cond-true _ _ _ registers) ∙ ap (edited_if_any edit) (sym none)))
+        (after_answer h is_there a b answers charter (at_holder h (λ _. Some new_rows) rows) c.now.trees (done.rows charter rows (subst (λ (d : Database). TablesHold charter rows d.trees) (sym answers.same) was) none));
   }
 
-  pub turned_none : (is_there : Bool) (a b : State) → AnswersWhetherRegistered h is_there a b → is_there ≡ false → is_registration edit ≡ false → MakesChange edited_at a b
+  pub turned_none : (is_there : Bool) (a b : State) → AnswersWhetherRegistered h is_there a b → is_there ≡ false → is_registration edit ≡ false → MakesChange (HoldersBecome edited_at) a b
   turned_none is_there a b answers is leaves = record {
     was_open = answers.was_open;
     ready = answers.ready;
-    rows = λ charter rows was.
+    made = λ charter rows was.
         let none = none_there (rows.of_holder h) (sym (answers.answer charter rows was) ∙ is) in
         let after : AllRows = edited_at rows in
-        same_rows charter rows after.of_holder b.now.trees (λ k. kept (same_name h k) (rows.of_holder k) ∙ at_name (λ o. o) rows.of_holder (none ∙ sym (from_none edit ∙ cond-false _ _ _ leaves) ∙ ap (edited_if_any edit) (sym none)) k)
-        (subst (λ (d : Database). TablesHold charter rows d.trees) (sym answers.same) was);
+        kept_rows charter rows after.of_holder a.now.trees b.now.trees (λ k. kept (same_name h k) (rows.of_holder k) ∙ at_name (λ o. o) rows.of_holder (none ∙ sym (from_none edit ∙ cond-false _ _ _ leaves) ∙ ap (edited_if_any edit) (sym none)) k)
+        (record { held = subst (λ (d : Database). TablesHold charter rows d.trees) (sym answers.same) was; exceptions = ap (λ (d : Database). d.trees slurm.tree) answers.same });
   }
     where
       kept : (b : Bool) (o : Option Rows) → o ≡ cond b o o
       kept true o = refl
       kept false o = refl
 
-pub turned_then : (f g : RowChange) (a b c : State) → MakesChange f a b → MakesChange g b c → MakesChange (λ rows. g (f rows)) a c
-turned_then f g a b c first second = record { was_open = first.was_open; ready = second.ready; rows = λ charter rows was. second.rows charter (f rows) (first.rows charter rows was) }
+pub turned_then : (f g : RowChange) (a b c : State) → MakesChange (HoldersBecome f) a b → MakesChange (HoldersBecome g) b c → MakesChange (HoldersBecome (λ rows. g (f rows))) a c
+turned_then f g a b c first second = record {
+  was_open = first.was_open;
+  ready = second.ready;
+  made = λ charter rows was.
+      let one = first.made charter rows was in
+      let two = second.made charter (f rows) one.held in
+      record { held = two.held; exceptions = two.exceptions ∙ one.exceptions };
+}
+
+-- rows of holders that became those of the change
+pub holders_changed : (first : HolderChange) (second : Option HolderChange) (a b : State) → MakesChange (HoldersBecome (changed_rows (Holders first second))) a b
+    → MakesChange (RowsBecome (Holders first second)) a b
+holders_changed first second a b turned = record {
+  was_open = turned.was_open;
+  ready = turned.ready;
+  made = λ charter rows was. let it = turned.made charter rows was in (it.held, it.exceptions);
+}

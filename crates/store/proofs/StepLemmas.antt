@@ -22,7 +22,7 @@ use Rattle.tables.specs.Tables.{contents, is_table}
 use Rattle.tables.specs.Cells.{schema_row, operator_row, prefix_cells}
 use Rattle.tables.specs.steps.Edits.{Edits}
 use Rattle.tables.specs.TablesHold.{Part, part_rows, is_name_of, holder_part, holding_part, granted_part, auth_part, HoldsPart, HoldsCharter, HoldsExceptions, TablesHold}
-use Rattle.store.specs.steps.Statements.{EditsRows, at_holder}
+use Rattle.store.specs.steps.Statements.{EditsRows, KeepsExceptions, at_holder}
 use Rattle.tables.proofs.PartLemmas.{names, IsLocal, EditsPart, turned_at, part_same, part_turned}
 use Rattle.tables.proofs.Selecting.{picks}
 use Rattle.tables.proofs.Texts.{equals}
@@ -68,8 +68,11 @@ is_part_tree t = list_any (λ part. part.tree == t) (holder_part ∷ holding_par
 
 module _ (tree : ℕ) (by : List Row → List Row) (old new : Database) (e : Edits tree by old new) (is : is_part_tree tree ≡ true) where
   -- a table that is no part stays where a part is edited
+  tree_still : (t : ℕ) → is_table t ≡ true → is_part_tree t ≡ false → new.trees t ≡ old.trees t
+  tree_still t table apart = e.others t table (λ same. both_ways _ (subst (λ k. is_part_tree k ≡ false) same apart) is)
+
   still : (t : ℕ) → is_table t ≡ true → is_part_tree t ≡ false → contents (old.trees t) ≡ contents (new.trees t)
-  still t table apart = ap contents (sym (e.others t table (λ same. both_ways _ (subst (λ k. is_part_tree k ≡ false) same apart) is)))
+  still t table apart = ap contents (sym (tree_still t table apart))
 
   charter_still : (charter : CharterSets) → HoldsCharter charter old.trees → HoldsCharter charter new.trees
   charter_still charter was = record {
@@ -96,15 +99,18 @@ module _ (so : Option Rows → Type 0) (h : List ℕ) (to : Option Rows → Opti
         part_same p rows h to (contents (new.trees p.tree))
         (subst (λ t. HoldsPart p rows (contents t)) (sym (e.others p.tree other.1 (λ it. both_ways _ other.0 (rw it (eq-eqb part.tree part.tree refl))))) holds) (other.2 (rows h) is)
 
-    pub turns_rows : is_part_tree part.tree ≡ true → AllFollow → (charter : CharterSets) (rows : AllRows) → TablesHold charter rows old.trees → so (rows.of_holder h) → TablesHold charter (at_holder h to rows) new.trees
+    pub turns_rows : is_part_tree part.tree ≡ true → AllFollow → (charter : CharterSets) (rows : AllRows) → TablesHold charter rows old.trees → so (rows.of_holder h) → KeepsExceptions charter (at_holder h to rows) old.trees new.trees
     turns_rows is parts charter rows was is_so = record {
-      charter_kept = charter_still part.tree by old new e is charter was.charter_kept;
-      holders = turned_part holder_part rows.of_holder is_so parts.0 was.holders;
-      holdings = turned_part holding_part rows.of_holder is_so parts.1 was.holdings;
-      grants = turned_part granted_part rows.of_holder is_so parts.2 was.grants;
-      auths = turned_part auth_part rows.of_holder is_so parts.3 was.auths;
-      exceptions = subst (HoldsExceptions rows.exceptions) (still part.tree by old new e is 15 refl refl) was.exceptions;
-      whole = sound_still part.tree by old new e was.whole;
+      held = record {
+        charter_kept = charter_still part.tree by old new e is charter was.charter_kept;
+        holders = turned_part holder_part rows.of_holder is_so parts.0 was.holders;
+        holdings = turned_part holding_part rows.of_holder is_so parts.1 was.holdings;
+        grants = turned_part granted_part rows.of_holder is_so parts.2 was.grants;
+        auths = turned_part auth_part rows.of_holder is_so parts.3 was.auths;
+        exceptions = subst (HoldsExceptions rows.exceptions) (still part.tree by old new e is 15 refl refl) was.exceptions;
+        whole = sound_still part.tree by old new e was.whole;
+      };
+      exceptions = tree_still part.tree by old new e is 15 refl refl;
     }
 
 -- an edit of the rows of a registered holder

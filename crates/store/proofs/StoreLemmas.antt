@@ -8,10 +8,11 @@ use Rattle.sqlite.proofs.StateLemmas.{survives_then}
 use Rattle.sqlite.specs.Store.{Ghosts}
 use Rattle.sqlite_trees.specs.Tree.{Trees}
 use Rattle.charters.specs.CharterSets.{CharterSets}
-use Rattle.registry.specs.RowsOfAll.{AllRows, blank_rows}
+use Rattle.registry.specs.declared.change.Change.{Change}
+use Rattle.registry.specs.RowsOfAll.{AllRows, blank_rows, changed_rows}
 use Rattle.database.specs.Queries.{IsAsBefore}
 use Rattle.store.specs.steps.Queries.{IsOfAll}
-use Rattle.store.specs.StoreRows.{RowChange, StoreView, Holds, IsRead, MayLeave, LeavesOnly}
+use Rattle.store.specs.StoreRows.{StoreView, Holds, IsRead, MayLeave, LeavesOnly, PlacesExceptions, LeavesPlaced}
 use Rattle.database.specs.Databases.{IsNew, IsDeskWhileOpen}
 use Rattle.store.specs.steps.Statements.{CommitsChange, MayCommit, MakesChange, RowsBecome}
 use Rattle.tables.specs.TablesHold.{TablesHold}
@@ -22,36 +23,51 @@ kept_still old new before same kept clean opened =
     let was = kept (before clean) as_before.0 in
     record { tables = ap (λ (d : Database). d.schema.tables) as_before.1 ∙ was.tables; settled = as_before.2 ∙ was.settled ∙ sym as_before.1 }
 
-pub kept_after : {X E : Type 0} (r : Result X E) (to : RowChange) (old new : State) → (HasCleanDisk new → HasCleanDisk old) → (HasCleanDisk new → OnOk r (CommitsChange to old new))
+pub kept_after : {X E : Type 0} (r : Result X E) (change : Change) (old new : State) → (HasCleanDisk new → HasCleanDisk old) → (HasCleanDisk new → OnOk r (CommitsChange change old new))
     → (HasCleanDisk new → IsTrue new.is_open → OnErr r (IsAsBefore old new)) → IsDeskWhileOpen old → IsDeskWhileOpen new
-kept_after (Ok a) to old new before ok err kept clean opened = let made = ok clean in record { tables = made.tables; settled = made.committed }
-kept_after (Err e) to old new before ok err kept clean opened = kept_still old new before err kept clean opened
+kept_after (Ok a) change old new before ok err kept clean opened = let made = ok clean in record { tables = made.tables; settled = made.committed }
+kept_after (Err e) change old new before ok err kept clean opened = kept_still old new before err kept clean opened
 
 -- the store over a connection
 abbrev pub over : {S : Type 0} → CharterSets → Held S → StoreView S
 over charter connection = record { connection = connection; charter = charter }
 
-module _ {S X E : Type 0} (g : Ghosts S) (r : Result X E) (to : RowChange) (charter : CharterSets) (old new : Held S) (clean : HasCleanDisk (state g new)) (before : HasCleanDisk (state g new) → HasCleanDisk (state g old)) where
-  pub holds_ok : OnOk r (CommitsChange to (state g old) (state g new)) → OnOk r ((rows : AllRows) → Holds g (over charter old) rows → Holds g (over charter new) (to rows))
+module _ {S X E : Type 0} (g : Ghosts S) (r : Result X E) (change : Change) (charter : CharterSets) (old new : Held S) (clean : HasCleanDisk (state g new)) (before : HasCleanDisk (state g new) → HasCleanDisk (state g old)) where
+  pub holds_ok : OnOk r (CommitsChange change (state g old) (state g new)) → OnOk r ((rows : AllRows) → Holds g (over charter old) rows → Holds g (over charter new) (changed_rows change rows))
   holds_ok = go r
     where
-      go : (r : Result X E) → OnOk r (CommitsChange to (state g old) (state g new)) → OnOk r ((rows : AllRows) → Holds g (over charter old) rows → Holds g (over charter new) (to rows))
-      go (Ok a) made = λ rows holds _ opened. made.rows charter rows (holds (before clean) made.was_open)
+      go : (r : Result X E) → OnOk r (CommitsChange change (state g old) (state g new)) → OnOk r ((rows : AllRows) → Holds g (over charter old) rows → Holds g (over charter new) (changed_rows change rows))
+      go (Ok a) made = λ rows holds _ opened. (made.rows charter rows (holds (before clean) made.was_open)).0
       go (Err e) made = tt
 
-  pub may_leave : Survives (state g old) (state g new) (MayCommit to (state g old)) → MayLeave g (over charter old) (over charter new) to
+  pub may_leave : Survives (state g old) (state g new) (MayCommit change (state g old)) → MayLeave g (over charter old) (over charter new) (changed_rows change)
   may_leave survives trees left = elim (survives.crash clean trees left) [
     | inl was ↦ inl was
-    | inr now ↦ inr (λ rows holds. subst (TablesHold charter (to rows)) (sym now.3) (now.2 charter rows (holds (before clean) now.1)))
+    | inr now ↦ inr (λ rows holds. subst (TablesHold charter (changed_rows change rows)) (sym now.3) (now.2 charter rows (holds (before clean) now.1)).0)
   ]
 
   -- an open store leaves what it committed
-  pub leaves_only : ((trees : Trees) → IsTrue (state g new).is_open → (state g new).may_leave trees → trees ≡ (state g new).committed.trees) → OnOk r (CommitsChange to (state g old) (state g new)) → OnOk r (LeavesOnly g (over charter old) (over charter new) to)
+  pub leaves_only : ((trees : Trees) → IsTrue (state g new).is_open → (state g new).may_leave trees → trees ≡ (state g new).committed.trees) → OnOk r (CommitsChange change (state g old) (state g new)) → OnOk r (LeavesOnly g (over charter old) (over charter new) (changed_rows change))
   leaves_only settled = go r
     where
-      go : (r : Result X E) → OnOk r (CommitsChange to (state g old) (state g new)) → OnOk r (LeavesOnly g (over charter old) (over charter new) to)
+      go : (r : Result X E) → OnOk r (CommitsChange change (state g old) (state g new)) → OnOk r (LeavesOnly g (over charter old) (over charter new) (changed_rows change))
       go (Ok a) made = λ rows holds trees left.
-          subst (TablesHold charter (to rows)) (sym (settled trees made.is_open left ∙ ap (λ (d : Database). d.trees) made.committed)) (made.rows charter rows (holds (before clean) made.was_open))
+          subst (TablesHold charter (changed_rows change rows)) (sym (settled trees made.is_open left ∙ ap (λ (d : Database). d.trees) made.committed))
+          (made.rows charter rows (holds (before clean) made.was_open)).0
+      go (Err e) made = tt
+
+  -- it places the exceptions, and they are left so
+  pub leaves_placed : ((trees : Trees) → IsTrue (state g new).is_open → (state g new).may_leave trees → trees ≡ (state g new).committed.trees) → OnOk r (CommitsChange change (state g old) (state g new))
+      → OnOk r ((rows : AllRows) → Holds g (over charter old) rows → LeavesPlaced g change (over charter old) (over charter new))
+  leaves_placed settled = go r
+    where
+      go : (r : Result X E) → OnOk r (CommitsChange change (state g old) (state g new)) → OnOk r ((rows : AllRows) → Holds g (over charter old) rows → LeavesPlaced g change (over charter old) (over charter new))
+      go (Ok a) made = λ rows holds.
+          let placed = (made.rows charter rows (holds (before clean) made.was_open)).1 in
+          record {
+            shown = placed;
+            left = λ trees left. subst (PlacesExceptions change (state g old).now.trees) (sym (settled trees made.is_open left ∙ ap (λ (d : Database). d.trees) made.committed)) placed;
+          }
       go (Err e) made = tt
 
 -- a new store leaves its charter and no holder
@@ -77,24 +93,24 @@ of_store g charter old new (Err e) so clean same found = tt
 
 -- ---- a change within a transaction, and its commit
 
-module _ {S : Type 0} (g : Ghosts S) (to : RowChange) (first begun mid last : Held S) (begins : begun ≡ record first { in_transaction = true }) where
-  from_first : MakesChange to (state g begun) (state g mid) → IsTrue (state g first).is_open × RowsBecome to (state g first).now (state g mid).now
-  from_first turned = let it = subst (λ h. MakesChange to (state g h) (state g mid)) begins turned in (it.was_open, it.rows)
+module _ {S : Type 0} (g : Ghosts S) (change : Change) (first begun mid last : Held S) (begins : begun ≡ record first { in_transaction = true }) where
+  from_first : MakesChange (RowsBecome change) (state g begun) (state g mid) → IsTrue (state g first).is_open × RowsBecome change (state g first).now (state g mid).now
+  from_first turned = let it = subst (λ h. MakesChange (RowsBecome change) (state g h) (state g mid)) begins turned in (it.was_open, it.made)
 
-  pub commit_ok : MakesChange to (state g begun) (state g mid) → Shows (state g mid) (state g last) (state g mid).now (state g mid).now false → CommitsChange to (state g first) (state g last)
+  pub commit_ok : MakesChange (RowsBecome change) (state g begun) (state g mid) → Shows (state g mid) (state g last) (state g mid).now (state g mid).now false → CommitsChange change (state g first) (state g last)
   commit_ok turned shown =
       let it = from_first turned in
       record {
         was_open = it.0;
         is_open = shown.is_open;
         tables = ap (λ (d : Database). d.schema.tables) shown.now_is ∙ turned.ready.tables shown.was_open;
-        rows = λ charter rows was. subst (λ (d : Database). TablesHold charter (to rows) d.trees) (sym shown.now_is) (it.1 charter rows was);
+        rows = subst (RowsBecome change (state g first).now) (sym shown.now_is) it.1;
         committed = shown.committed_is ∙ sym shown.now_is;
       }
 
-  pub commit_crash : Survives (state g begun) (state g mid) (λ _. ⊥) → Survives (state g mid) (state g last) (λ db. db ≡ (state g mid).now.trees) → (HasCleanDisk (state g mid) → MakesChange to (state g begun) (state g mid))
-      → Survives (state g first) (state g last) (MayCommit to (state g first))
+  pub commit_crash : Survives (state g begun) (state g mid) (λ _. ⊥) → Survives (state g mid) (state g last) (λ db. db ≡ (state g mid).now.trees) → (HasCleanDisk (state g mid) → MakesChange (RowsBecome change) (state g begun) (state g mid))
+      → Survives (state g first) (state g last) (MayCommit change (state g first))
   commit_crash inside end turned =
-      survives_then (state g first) (state g mid) (state g last) (λ _. ⊥) (λ db. db ≡ (state g mid).now.trees) (MayCommit to (state g first)) (λ _ db none. absurd none)
+      survives_then (state g first) (state g mid) (state g last) (λ _. ⊥) (λ db. db ≡ (state g mid).now.trees) (MayCommit change (state g first)) (λ _ db none. absurd none)
       (λ clean db is. let it = from_first (turned (omega (arith, end.clean))) in ((state g mid).now, it.0, it.1, is))
       (survives_begin g first (state g mid) (λ _. ⊥) (subst (λ h. Survives (state g h) (state g mid) (λ _. ⊥)) begins inside)) end

@@ -7,10 +7,12 @@ use Rattle.sqlite.specs.Store.{Ghosts}
 use Rattle.sqlite_trees.specs.Tree.{Trees}
 use Rattle.charters.specs.contracts.charter.Charter as charter
 use Rattle.charters.specs.CharterSets.{CharterSets, IsCharter}
+use Rattle.registry.specs.declared.change.Change.{Change}
+use Rattle.registry.specs.declared.change.Change.TheVariants.{Holders, Exceptions}
 use Rattle.registry.specs.RowsOfAll.{AllRows}
 use Rattle.registry.specs.Values.{ExceptionsFit}
-use Rattle.tables.specs.Tables.{desk_tables}
-use Rattle.tables.specs.TablesHold.{TablesHold}
+use Rattle.tables.specs.Tables.{desk_tables, slurm, contents}
+use Rattle.tables.specs.TablesHold.{TablesHold, HoldsFile}
 
 -- a store as its connection and its charter
 pub record StoreView (S : Type 0) : Type 0 where
@@ -56,6 +58,19 @@ abbrev pub LeavesOnly : {S : Type 0} → Ghosts S → StoreView S → StoreView 
 LeavesOnly g old new to =
     (rows : AllRows) → Holds g old rows → (trees : Trees)
     → (connection_state g new).may_leave trees → TablesHold old.charter (to rows) trees
+
+-- What a change does to the table of exceptions: one of the SLURM file puts those of the file, each kind at the
+-- positions 1, 2, 3 and so on, and any other leaves the table as it was.
+abbrev pub PlacesExceptions : Change → Trees → Trees → Type 0
+PlacesExceptions (Holders first second) old new = new slurm.tree ≡ old slurm.tree
+PlacesExceptions (Exceptions file) old new = HoldsFile file (contents (new slurm.tree))
+
+-- the tables are so after the change, and a crash leaves them so
+pub record LeavesPlaced {S : Type 0} (g : Ghosts S) (change : Change) (old new : StoreView S) : Type 0 where
+  pub shown : PlacesExceptions change (connection_state g old).now.trees (connection_state g new).now.trees
+  pub left :
+      (trees : Trees) → (connection_state g new).may_leave trees
+      → PlacesExceptions change (connection_state g old).now.trees trees
 
 -- A read: the charter and the rows stay, and a crash leaves nothing else than before. A disk that returns what
 -- was written did so before.

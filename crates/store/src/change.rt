@@ -1,10 +1,9 @@
 //! What a change does to the tables.
 ghost use Rattle.std.specs.Prelude.{◌≡◌, ◌≢◌, Err};
 ghost use Rattle.registry.specs.Rows.{edited, changed_by_one};
-ghost use Rattle.registry.specs.RowsOfAll.{changed_rows};
 ghost use Rattle.store.specs.steps.RowEdits.{with_new_auths, with_replaced_holdings, is_registration};
 ghost use Rattle.database.specs.Statements.{IsReady, WhenClean, StaysInside, IfDone};
-ghost use Rattle.store.specs.steps.Statements.{IfEdited, MakesChange, each_holder};
+ghost use Rattle.store.specs.steps.Statements.{IfEdited, MakesChange, HoldersBecome, RowsBecome, each_holder};
 
 use crate::StoreFault;
 use crate::auth::{amend_auth, take_auth, take_auths};
@@ -110,7 +109,7 @@ fn edit_holder<S: Alter>(
 ) -> Result<(), StoreFault>
     requires { WhenClean S.Store IsReady tx.old }
     ensures done { IfDone S.Store result
-        (MakesChange (each_holder (changed_by_one change.now))) tx.old tx.new }
+        (MakesChange (HoldersBecome (each_holder (changed_by_one change.now)))) tx.old tx.new }
     ensures inside { StaysInside S.Store tx.old tx.new }
     ensures no_schema { result ≢ Err StoreFault.Schema }
 {
@@ -130,7 +129,7 @@ pub(crate) fn make_change<S: Alter>(
 ) -> Result<(), StoreFault>
     requires { WhenClean S.Store IsReady tx.old }
     ensures done { IfDone S.Store result
-        (MakesChange (changed_rows change.now)) tx.old tx.new }
+        (MakesChange (RowsBecome change.now)) tx.old tx.new }
     ensures inside { StaysInside S.Store tx.old tx.new }
     ensures no_schema { result ≢ Err StoreFault.Schema }
 {

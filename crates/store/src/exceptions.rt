@@ -1,7 +1,6 @@
 //! The exceptions of the SLURM file in force: its prefix filters and its prefix assertions.
 ghost use Rattle.std.specs.Prelude.{◌≡◌, ◌+◌, ◌≤◌, List, [], ◌∷◌, map, length, All, Err, IfOk};
 ghost use Rattle.sqlite.specs.Held.{state};
-ghost use Rattle.registry.specs.RowsOfAll.{changed_rows};
 ghost use Rattle.registry.specs.Values.{ExceptionsFit};
 ghost use Rattle.slurm.specs.Exceptions.{Exceptions};
 ghost use Rattle.slurm.specs.declared.exceptions.TheConstants.{MOST_ENTRIES};
@@ -13,7 +12,7 @@ ghost use Rattle.database.specs.Statements.{IsReady, WhenClean, IfDone, StaysIns
 ghost use Rattle.database.specs.steps.Making.{PutsRows};
 ghost use Rattle.store.specs.Loads.{AreFilesOf};
 ghost use Rattle.store.specs.steps.Queries.{IsOfAll, SelectsEntries, IsOpenWith};
-ghost use Rattle.store.specs.steps.Statements.{MakesChange, TakesRows, entry_rows};
+ghost use Rattle.store.specs.steps.Statements.{MakesChange, RowsBecome, TakesRows, entry_rows};
 
 use crate::StoreFault;
 use addr::Vrp;
@@ -124,7 +123,7 @@ pub(crate) fn replace_exceptions<S: Alter>(
 ) -> Result<(), Error>
     requires { WhenClean S.Store IsReady tx.old }
     ensures done { IfDone S.Store result
-        (MakesChange (changed_rows (Change.Exceptions file.now))) tx.old tx.new }
+        (MakesChange (RowsBecome (Change.Exceptions file.now))) tx.old tx.new }
     ensures inside { StaysInside S.Store tx.old tx.new }
 {
     take_exceptions(tx)?;

@@ -28,9 +28,9 @@ fn commit_change<S: Alter>(conn: &mut Connection<S>, change: &Change) -> Result<
     requires tables { HasDeskTables (state S.Store conn.old) }
     ensures idle { conn.new.in_transaction ≡ false }
     ensures ok { IfCommitted S.Store result
-        (CommitsChange (changed_rows change.now)) conn.old conn.new }
+        (CommitsChange change.now) conn.old conn.new }
     ensures err { IfRolledBack S.Store result conn.old conn.new }
-    ensures crash { CommitsAtMost S.Store (MayCommit (changed_rows change.now)) conn.old conn.new }
+    ensures crash { CommitsAtMost S.Store (MayCommit change.now) conn.old conn.new }
     ensures no_schema { result ≢ Err StoreFault.Schema }
 {
     // Its clause `settled` is for the proof: outside a transaction all that is shown is committed.
@@ -121,7 +121,7 @@ impl<S: Alter> Store<S> {
     ghost use Rattle.store.specs.Loads.{OfHeldRows, AreLoaded, AllGiveOn, AreFilesOf};
     ghost use Rattle.store.specs.StoreRows.{connection_state, Holds, IsRead};
     ghost use Rattle.database.specs.Databases.{IsDeskWhileOpen};
-    ghost use Rattle.store.specs.StoreRows.{IfClean, HoldsAfter, MayLeave, LeavesOnly};
+    ghost use Rattle.store.specs.StoreRows.{IfClean, HoldsAfter, MayLeave, LeavesOnly, LeavesPlaced};
 
     /// The operators and the pool.
     pub fn charter(&self) -> &Charter
@@ -211,6 +211,9 @@ impl<S: Alter> Store<S> {
             (MayLeave S.Store self.old self.new (changed_rows change.now)) }
         ensures left { IfClean S.Store self.new
             (OnOk result (LeavesOnly S.Store self.old self.new (changed_rows change.now))) }
+        ensures positions { IfClean S.Store self.new
+            (OnOk result (OfHeldRows S.Store self.old (λ _.
+            LeavesPlaced S.Store change.now self.old self.new))) }
         ensures clean { IfClean S.Store self.new
             (HasCleanDisk (connection_state S.Store self.old)) }
         ensures is_open { IfClean S.Store self.new

@@ -1,6 +1,6 @@
 -- What the tables hold: the charter, the rows of every holder, and the exceptions of the SLURM file in force.
 use Rattle.std.specs.Prelude.{◌≡◌, ℕ, ◌<◌, Bool, true, false, List, [], ◌∷◌, ◌++◌, map, filter, Option, Some, None, IsPermutation}
-use Rattle.std.specs.List.{AllByRecursion}
+use Rattle.std.specs.List.{AllByRecursion, enumerate_from}
 use Rattle.std.specs.Ordering.{is_eq}
 use Rattle.sqlite_value.specs.declared.value.Value.{Value}
 use Rattle.sqlite_value.specs.declared.value.Value.TheVariants.{Text}
@@ -69,6 +69,16 @@ pub record HoldsExceptions (exceptions : Exceptions) (table : List Row) : Type 0
   pub filters_placed : ArePlaced (map FilterOf exceptions.filters) filters
   pub assertions_placed : ArePlaced (map Assertion exceptions.assertions) assertions
   pub rows : IsPermutation (map exception_row (filters ++ assertions)) (map exception_columns table)
+
+-- exceptions at the positions 1, 2, 3 and so on
+abbrev pub at_positions : List Exception → List ExceptionRow
+at_positions exceptions =
+    map (λ (e : ℕ × Exception). let row : ExceptionRow = record { position = e.0; exception = e.1 } in row) (enumerate_from 1 exceptions)
+
+-- the table has the filters and the assertions of a file, each kind at the positions 1, 2, 3 and so on, and no other row
+abbrev pub HoldsFile : Exceptions → List Row → Type 0
+HoldsFile file table =
+    IsPermutation (map exception_row (at_positions (map FilterOf file.filters) ++ at_positions (map Assertion file.assertions))) table
 
 -- the tables have the number of the schema, the operators and the pool, in some order, and nothing else
 pub record HoldsCharter (charter : CharterSets) (trees : Trees) : Type 0 where

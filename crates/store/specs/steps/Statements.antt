@@ -1,5 +1,5 @@
 -- What a statement within a transaction does to the rows of a holder, or to the exceptions.
-use Rattle.std.specs.Prelude.{◌≡◌, ℕ, suc, Bool, List, [], ◌∷◌, map, IsTrue, Option, Some, None, option_map, is_some, IsSome, Result, if◌then◌else◌}
+use Rattle.std.specs.Prelude.{◌≡◌, ℕ, Bool, List, [], map, IsTrue, Option, Some, None, option_map, is_some, IsSome, Result, if◌then◌else◌}
 use Rattle.sqlite.specs.declared.transaction.Transaction.{Transaction}
 use Rattle.sqlite.specs.Effect.{Database}
 use Rattle.sqlite.specs.State.{State}
@@ -9,14 +9,14 @@ use Rattle.sqlite_value.specs.Order.{Row}
 use Rattle.charters.specs.CharterSets.{CharterSets}
 use Rattle.registry.specs.History.{same_name}
 use Rattle.registry.specs.Rows.{Rows, new_rows}
-use Rattle.registry.specs.RowsOfAll.{AllRows}
-use Rattle.store.specs.StoreRows.{RowChange}
+use Rattle.registry.specs.declared.change.Change.{Change}
+use Rattle.registry.specs.RowsOfAll.{AllRows, changed_rows}
+use Rattle.store.specs.StoreRows.{RowChange, PlacesExceptions}
 use Rattle.tables.specs.Cells.{exception_row}
-use Rattle.tables.specs.Tables.{desk_tables, IsTree}
+use Rattle.tables.specs.Tables.{desk_tables, slurm, IsTree}
 use Rattle.tables.specs.declared.exception.Exception.{Exception}
-use Rattle.tables.specs.declared.exception.ExceptionRow.{ExceptionRow}
 use Rattle.tables.specs.steps.Edits.{Edits}
-use Rattle.tables.specs.TablesHold.{TablesHold}
+use Rattle.tables.specs.TablesHold.{TablesHold, at_positions}
 use Rattle.database.specs.Statements.{IfDone, IsReady}
 
 -- the rows of every holder turned; the exceptions stay
@@ -29,12 +29,17 @@ each_holder to rows = record rows { of_holder = λ k. to k (rows.of_holder k) }
 abbrev pub at_holder : List ℕ → (Option Rows → Option Rows) → RowChange
 at_holder h to = each_holder (λ k rows. if same_name h k then to rows else rows)
 
+-- the tables hold these rows, and the table of exceptions is as it was
+pub record KeepsExceptions (charter : CharterSets) (rows : AllRows) (old new : Trees) : Type 0 where
+  pub held : TablesHold charter rows new
+  pub exceptions : new slurm.tree ≡ old slurm.tree
+
 -- Where the holder is registered, its rows are edited, and those of every other holder stay, as the charter
 -- and the exceptions do.
 abbrev pub EditsRows : List ℕ → (Rows → Rows) → Database → Database → Type 0
 EditsRows h edit old new =
     (charter : CharterSets) (rows : AllRows) → TablesHold charter rows old.trees → IsSome (rows.of_holder h)
-    → TablesHold charter (at_holder h (option_map edit) rows) new.trees
+    → KeepsExceptions charter (at_holder h (option_map edit) rows) old.trees new.trees
 
 -- the transaction goes on, and the rows of the holder are edited
 pub record EditsHolder (h : List ℕ) (edit : Rows → Rows) (old new : State) : Type 0 where
@@ -59,7 +64,7 @@ pub record Registers (h : List ℕ) (old new : State) : Type 0 where
   pub ready : IsReady new
   pub rows :
       (charter : CharterSets) (rows : AllRows) → TablesHold charter rows old.now.trees
-      → rows.of_holder h ≡ None → TablesHold charter (at_holder h (λ _. Some new_rows) rows) new.now.trees
+      → rows.of_holder h ≡ None → KeepsExceptions charter (at_holder h (λ _. Some new_rows) rows) old.now.trees new.now.trees
 
 -- ---- the exceptions
 
@@ -69,38 +74,38 @@ pub record TakesRows (tree : ℕ) (old new : State) : Type 0 where
   pub ready : IsReady new
   pub edits : IsTree (old.now.trees tree) → Edits tree (λ _. []) old.now new.now
 
--- exceptions of one kind, at the positions that follow this one
-abbrev pub placed_after : {X : Type 0} → ℕ → (X → Exception) → List X → List ExceptionRow
-placed_after at of_kind [] = []
-placed_after at of_kind (x ∷ xs) =
-    record { position = suc at; exception = of_kind x } ∷ placed_after (suc at) of_kind xs
-
--- their rows, at the positions from 1 up
+-- the rows of exceptions of one kind, at the positions from 1 up
 abbrev pub entry_rows : {X : Type 0} → (X → Exception) → List X → List Row
-entry_rows of_kind xs = map exception_row (placed_after 0 of_kind xs)
+entry_rows of_kind xs = map exception_row (at_positions (map of_kind xs))
 
 -- ---- all rows
 
--- the tables hold the rows after the change, if they held those before it
-abbrev pub RowsBecome : RowChange → Database → Database → Type 0
-RowsBecome to old new =
+-- the tables hold the rows turned so, if they held those before, and the table of exceptions is as it was
+abbrev pub HoldersBecome : RowChange → Database → Database → Type 0
+HoldersBecome to old new =
     (charter : CharterSets) (rows : AllRows) → TablesHold charter rows old.trees
-    → TablesHold charter (to rows) new.trees
+    → KeepsExceptions charter (to rows) old.trees new.trees
 
--- the transaction goes on, and the change is made
-pub record MakesChange (to : RowChange) (old new : State) : Type 0 where
+-- the tables hold the rows after the change, if they held those before it, and it places the exceptions
+abbrev pub RowsBecome : Change → Database → Database → Type 0
+RowsBecome change old new =
+    (charter : CharterSets) (rows : AllRows) → TablesHold charter rows old.trees
+    → TablesHold charter (changed_rows change rows) new.trees × PlacesExceptions change old.trees new.trees
+
+-- the transaction goes on, and it is so of the databases before and after
+pub record MakesChange (so : Database → Database → Type 0) (old new : State) : Type 0 where
   pub was_open : IsTrue old.is_open
   pub ready : IsReady new
-  pub rows : RowsBecome to old.now new.now
+  pub made : so old.now new.now
 
 -- the change is made and committed
-pub record CommitsChange (to : RowChange) (old new : State) : Type 0 where
+pub record CommitsChange (change : Change) (old new : State) : Type 0 where
   pub was_open : IsTrue old.is_open
   pub is_open : IsTrue new.is_open
   pub tables : new.now.schema.tables ≡ desk_tables
-  pub rows : RowsBecome to old.now new.now
+  pub rows : RowsBecome change old.now new.now
   pub committed : new.committed ≡ new.now
 
 -- what a commit may put on the disk: the trees of a database after the change
-abbrev pub MayCommit : RowChange → State → Trees → Type 0
-MayCommit to old trees = (db : Database) × IsTrue old.is_open × RowsBecome to old.now db × (trees ≡ db.trees)
+abbrev pub MayCommit : Change → State → Trees → Type 0
+MayCommit change old trees = (db : Database) × IsTrue old.is_open × RowsBecome change old.now db × (trees ≡ db.trees)

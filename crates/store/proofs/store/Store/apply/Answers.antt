@@ -2,8 +2,8 @@ use Rattle.std.proofs.Common.{◌≡◌, arith, subst, OnOk}
 use Rattle.sqlite.specs.Held.{state}
 use Rattle.sqlite.specs.State.{HasCleanDisk}
 use Rattle.registry.specs.RowsOfAll.{AllRows, changed_rows}
-use Rattle.store.specs.StoreRows.{RowChange, Holds, MayLeave, LeavesOnly}
-use Rattle.store.proofs.StoreLemmas.{over, holds_ok, may_leave, leaves_only}
+use Rattle.store.specs.StoreRows.{RowChange, Holds, MayLeave, LeavesOnly, LeavesPlaced}
+use Rattle.store.proofs.StoreLemmas.{over, holds_ok, may_leave, leaves_only, leaves_placed}
 use Rattle.store.proofs.store.Store.apply.Goals as goal
 
 pub returns-clause-ok : goal.returns-clause-ok
@@ -15,7 +15,7 @@ returns-clause-ok g c clean =
     let was : over charter old ≡ c.args.self.now = c.self.view_is in
     let before : HasCleanDisk (state g.S.Store new) → HasCleanDisk (state g.S.Store old) = λ clean. omega (arith, c.commit_change.ensures.crash.clean) in
     subst (λ store. OnOk c.commit_change.result ((rows : AllRows) → Holds g.S.Store store rows → Holds g.S.Store (over charter new) (to rows))) was
-    (holds_ok g.S.Store c.commit_change.result to charter old new clean before (c.commit_change.ensures.ok clean))
+    (holds_ok g.S.Store c.commit_change.result c.args.change.now charter old new clean before (c.commit_change.ensures.ok clean))
 
 pub returns-clause-crash : goal.returns-clause-crash
 returns-clause-crash g c clean =
@@ -25,7 +25,7 @@ returns-clause-crash g c clean =
     let charter = c.self.inside.charter in
     let was : over charter old ≡ c.args.self.now = c.self.view_is in
     let before : HasCleanDisk (state g.S.Store new) → HasCleanDisk (state g.S.Store old) = λ clean. omega (arith, c.commit_change.ensures.crash.clean) in
-    subst (λ store. MayLeave g.S.Store store (over charter new) to) was (may_leave g.S.Store c.commit_change.result to charter old new clean before c.commit_change.ensures.crash)
+    subst (λ store. MayLeave g.S.Store store (over charter new) to) was (may_leave g.S.Store c.commit_change.result c.args.change.now charter old new clean before c.commit_change.ensures.crash)
 
 pub returns-clause-left : goal.returns-clause-left
 returns-clause-left g c clean =
@@ -36,4 +36,15 @@ returns-clause-left g c clean =
     let was : over charter old ≡ c.args.self.now = c.self.view_is in
     let before : HasCleanDisk (state g.S.Store new) → HasCleanDisk (state g.S.Store old) = λ clean. omega (arith, c.commit_change.ensures.crash.clean) in
     subst (λ store. OnOk c.commit_change.result (LeavesOnly g.S.Store store (over charter new) to)) was
-    (leaves_only g.S.Store c.commit_change.result to charter old new clean before (λ trees. g.met.S.Store.settled new.store trees) (c.commit_change.ensures.ok clean))
+    (leaves_only g.S.Store c.commit_change.result c.args.change.now charter old new clean before (λ trees. g.met.S.Store.settled new.store trees) (c.commit_change.ensures.ok clean))
+
+pub returns-clause-positions : goal.returns-clause-positions
+returns-clause-positions g c clean =
+    let change = c.args.change.now in
+    let old = c.self.inside.conn in
+    let new = c.commit_change.new.conn in
+    let charter = c.self.inside.charter in
+    let was : over charter old ≡ c.args.self.now = c.self.view_is in
+    let before : HasCleanDisk (state g.S.Store new) → HasCleanDisk (state g.S.Store old) = λ clean. omega (arith, c.commit_change.ensures.crash.clean) in
+    subst (λ store. OnOk c.commit_change.result ((rows : AllRows) → Holds g.S.Store store rows → LeavesPlaced g.S.Store change store (over charter new))) was
+    (leaves_placed g.S.Store c.commit_change.result change charter old new clean before (λ trees. g.met.S.Store.settled new.store trees) (c.commit_change.ensures.ok clean))
