@@ -1,13 +1,14 @@
 -- Databases that have the tables of a desk.
-use Rattle.std.specs.Prelude.{◌≡◌, ◌⊎◌, false, IsTrue}
+use Rattle.std.specs.Prelude.{◌≡◌, ◌≢◌, ◌⊎◌, false, IsTrue}
 use Rattle.sqlite.specs.Effect.{Database}
 use Rattle.sqlite.specs.Held.{Held, state}
 use Rattle.sqlite.specs.State.{State, HasCleanDisk}
 use Rattle.sqlite.specs.Store.{Ghosts}
+use Rattle.sqlite_schema.specs.declared.schema.Schema.{Schema}
 use Rattle.sqlite_trees.specs.Tree.{Trees}
 use Rattle.charters.specs.CharterSets.{CharterSets}
 use Rattle.registry.specs.RowsOfAll.{blank_rows}
-use Rattle.tables.specs.Tables.{blank_schema, desk_schema, desk_tables, SameRows}
+use Rattle.tables.specs.Tables.{blank_schema, desk_schema, desk_tables, unindexed_schema, SameRows}
 use Rattle.tables.specs.Schemas.{has_names}
 use Rattle.tables.specs.TablesHold.{TablesHold}
 use Rattle.database.specs.TablesRead.{TablesRead, HoldSomeRows}
@@ -55,12 +56,19 @@ LeavesOldOrNew charter old new =
 
 -- ---- an opened database
 
+-- Where there is nothing beside the tables of a desk, the index of a holder's runs is made. Every other schema
+-- stays as it is: no index, view or table is made or dropped.
+abbrev pub AddsMissingIndex : Schema → Schema → Type 0
+AddsMissingIndex old new =
+    ((old ≡ unindexed_schema) × (new ≡ desk_schema)) ⊎ ((old ≢ unindexed_schema) × (new ≡ old))
+
 -- the database is a desk, no row of it changed, and its tables hold the charter and some rows
 pub record OpensDesk (charter : CharterSets) (old new : State) : Type 0 where
   pub idle : old.in_transaction ≡ false
   pub tables : old.now.schema.tables ≡ desk_tables
   pub is_open : IsTrue new.is_open
   pub desk : IsDesk new
+  pub schema : AddsMissingIndex old.now.schema new.now.schema
   pub rows : SameRows old.now.trees new.now.trees
   pub some : HoldSomeRows charter old.now.trees
 

@@ -1,5 +1,5 @@
 //! The index by which the runs of a holder are found.
-ghost use Rattle.std.specs.Prelude.{◌≡◌, ◌≢◌, false, Err, IsTrue};
+ghost use Rattle.std.specs.Prelude.{◌≡◌, ◌≢◌, true, false, Err, IsTrue};
 ghost use Rattle.sqlite.specs.Held.{state};
 ghost use Rattle.sqlite.specs.State.{HasCleanDisk};
 ghost use Rattle.tables.specs.Tables.{unindexed_schema};
@@ -28,7 +28,7 @@ pub(crate) fn add_index<S: Alter>(conn: &mut Connection<S>) -> Result<(), StoreF
     requires unindexed { HasCleanDisk (state S.Store conn.old)
         → IsTrue (state S.Store conn.old).is_open → conn.old.schema ≡ unindexed_schema }
     ensures idle { conn.new.in_transaction ≡ false }
-    ensures added { IfCommitted S.Store result StaysDesk conn.old conn.new }
+    ensures added { IfCommitted S.Store result (StaysDesk true) conn.old conn.new }
     ensures err { IfRolledBack S.Store result conn.old conn.new }
     ensures crash { CommitsAtMost S.Store MayCommitIndex conn.old conn.new }
     ensures no_schema { result ≢ Err StoreFault.Schema }

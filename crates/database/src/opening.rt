@@ -94,7 +94,7 @@ fn add_missing_index<S: Alter>(
     requires desk { IsClean S.Store conn.old
         → IsOpenDesk is_unindexed (state S.Store conn.old) }
     ensures idle { conn.new.in_transaction ≡ false }
-    ensures kept { IfCommitted S.Store result StaysDesk conn.old conn.new }
+    ensures kept { IfCommitted S.Store result (StaysDesk is_unindexed) conn.old conn.new }
     ensures err { IfRolledBack S.Store result conn.old conn.new }
     ensures crash { CommitsAtMost S.Store MayCommitIndex conn.old conn.new }
     ensures no_schema { result ≢ Err StoreFault.Schema }

@@ -165,6 +165,7 @@ module _ (h : List ℕ) (old new : State) where
       let put = puts_row 3 holder refl old new (Text h ∷ []) (lit Null ∷ col 0 0 ∷ lit (Int (pos 0)) ∷ lit (Int (pos 0)) ∷ []) 4 (holder_row h 0 0) put_holder_is refl (cast_holder h 0 0) ready ran in
       record {
         ready = put.ready;
+        schema = put.edits.schema;
         rows = turns_rows (λ o. o ≡ None) h (λ _. Some new_rows) holder_part (λ rows. holder_row h 0 0 ∷ rows) old.now new.now put.edits (put_local 0 h (holder_row h 0 0) refl) (λ o none. rw none (IsPermutation-refl _)) refl
             (inl refl, inr (refl, refl, λ o none. ap (part_rows holding_part h) none), inr (refl, refl, λ o none. ap (part_rows granted_part h) none), inr (refl, refl, λ o none. ap (part_rows auth_part h) none));
       }

@@ -25,6 +25,7 @@ module _ {S : Type 0} (g : Ghosts S) (charter : CharterSets) (found : State) (h 
     idle = is.idle;
     tables = is.tables;
     is_open = is.is_open;
+    schema = is.schema;
     some = (is.some.0, λ _ _. now_held is.some.0 is.some.1, is.some.2);
     same = λ other rows valid holds.
         let one : charter ≡ other = same_charter charter other found.now.trees rising valid is.some.1.charter_kept holds.charter_kept in

@@ -74,10 +74,10 @@ module _ (h : List ℕ) where
   edits_as f g a b same = subst (λ e. EditsRows h e a b) (λ i r. same r i)
 
   pub done_none : (f : Rows → Rows) (old : State) → ((r : Rows) → f r ≡ r) → IsReady old → EditsHolder h f old old
-  done_none f old same ready = record { ready = ready; rows = edits_none f old.now same }
+  done_none f old same ready = record { ready = ready; schema = refl; rows = edits_none f old.now same }
 
   pub done_then : (f g e : Rows → Rows) (a b c : State) → ((r : Rows) → g (f r) ≡ e r) → EditsHolder h f a b → EditsHolder h g b c → EditsHolder h e a c
-  done_then f g e a b c same first second = record { ready = second.ready; rows = edits_as (λ r. g (f r)) e a.now c.now same (edits_then f g a.now b.now c.now first.rows second.rows) }
+  done_then f g e a b c same first second = record { ready = second.ready; schema = second.schema ∙ first.schema; rows = edits_as (λ r. g (f r)) e a.now c.now same (edits_then f g a.now b.now c.now first.rows second.rows) }
 
 -- rows without some, and then without others
 filter_both : {X Y : Type 0} (test : X → Y → Bool) (ys zs : List Y) (xs : List X)
@@ -138,6 +138,7 @@ module _ (h : List ℕ) (edit : Edit) where
   turned_registered is_there a b c answers is done = record {
     was_open = answers.was_open;
     ready = done.ready;
+    schema = done.schema ∙ ap (λ (d : Database). d.schema) answers.same;
     made = λ charter rows was.
         let some : IsSome (rows.of_holder h) = sym (answers.answer charter rows was) ∙ is in
         let after : AllRows = edited_at rows in
@@ -163,6 +164,7 @@ module _ (h : List ℕ) (edit : Edit) where
   turned_new is_there a b c answers is registers done = record {
     was_open = answers.was_open;
     ready = done.ready;
+    schema = done.schema ∙ ap (λ (d : Database). d.schema) answers.same;
     made = λ charter rows was.
         let none = none_there (rows.of_holder h) (sym (answers.answer charter rows was) ∙ is) in
         let after : AllRows = edited_at rows in
@@ -174,6 +176,7 @@ module _ (h : List ℕ) (edit : Edit) where
   turned_none is_there a b answers is leaves = record {
     was_open = answers.was_open;
     ready = answers.ready;
+    schema = ap (λ (d : Database). d.schema) answers.same;
     made = λ charter rows was.
         let none = none_there (rows.of_holder h) (sym (answers.answer charter rows was) ∙ is) in
         let after : AllRows = edited_at rows in
@@ -189,6 +192,7 @@ pub turned_then : (f g : RowChange) (a b c : State) → MakesChange (HoldersBeco
 turned_then f g a b c first second = record {
   was_open = first.was_open;
   ready = second.ready;
+  schema = second.schema ∙ first.schema;
   made = λ charter rows was.
       let one = first.made charter rows was in
       let two = second.made charter (f rows) one.held in
@@ -201,5 +205,6 @@ pub holders_changed : (first : HolderChange) (second : Option HolderChange) (a b
 holders_changed first second a b turned = record {
   was_open = turned.was_open;
   ready = turned.ready;
+  schema = turned.schema;
   made = λ charter rows was. let it = turned.made charter rows was in (it.held, it.exceptions);
 }

@@ -28,6 +28,11 @@ pub kept_after : {X E : Type 0} (r : Result X E) (change : Change) (old new : St
 kept_after (Ok a) change old new before ok err kept clean opened = let made = ok clean in record { tables = made.tables; settled = made.committed }
 kept_after (Err e) change old new before ok err kept clean opened = kept_still old new before err kept clean opened
 
+-- the schema stays, whether the change is made or not
+pub schema_kept : {X E : Type 0} (r : Result X E) (change : Change) (old new : State) → OnOk r (CommitsChange change old new) → OnErr r (IsAsBefore old new) → new.now.schema ≡ old.now.schema
+schema_kept (Ok a) change old new made failed = made.schema
+schema_kept (Err e) change old new made failed = ap (λ (d : Database). d.schema) failed.1
+
 -- the store over a connection
 abbrev pub over : {S : Type 0} → CharterSets → Held S → StoreView S
 over charter connection = record { connection = connection; charter = charter }
@@ -94,8 +99,8 @@ of_store g charter old new (Err e) so clean same found = tt
 -- ---- a change within a transaction, and its commit
 
 module _ {S : Type 0} (g : Ghosts S) (change : Change) (first begun mid last : Held S) (begins : begun ≡ record first { in_transaction = true }) where
-  from_first : MakesChange (RowsBecome change) (state g begun) (state g mid) → IsTrue (state g first).is_open × RowsBecome change (state g first).now (state g mid).now
-  from_first turned = let it = subst (λ h. MakesChange (RowsBecome change) (state g h) (state g mid)) begins turned in (it.was_open, it.made)
+  from_first : MakesChange (RowsBecome change) (state g begun) (state g mid) → IsTrue (state g first).is_open × RowsBecome change (state g first).now (state g mid).now × ((state g mid).now.schema ≡ (state g first).now.schema)
+  from_first turned = let it = subst (λ h. MakesChange (RowsBecome change) (state g h) (state g mid)) begins turned in (it.was_open, it.made, it.schema)
 
   pub commit_ok : MakesChange (RowsBecome change) (state g begun) (state g mid) → Shows (state g mid) (state g last) (state g mid).now (state g mid).now false → CommitsChange change (state g first) (state g last)
   commit_ok turned shown =
@@ -104,6 +109,7 @@ module _ {S : Type 0} (g : Ghosts S) (change : Change) (first begun mid last : H
         was_open = it.0;
         is_open = shown.is_open;
         tables = ap (λ (d : Database). d.schema.tables) shown.now_is ∙ turned.ready.tables shown.was_open;
+        schema = ap (λ (d : Database). d.schema) shown.now_is ∙ it.2;
         rows = subst (RowsBecome change (state g first).now) (sym shown.now_is) it.1;
         committed = shown.committed_is ∙ sym shown.now_is;
       }

@@ -13,6 +13,7 @@ use Rattle.registry.specs.RowsOfAll.{AllRows}
 use Rattle.registry.specs.Values.{ExceptionsFit}
 use Rattle.tables.specs.Tables.{desk_tables, slurm, contents}
 use Rattle.tables.specs.TablesHold.{TablesHold, HoldsFile}
+use Rattle.database.specs.Databases.{AddsMissingIndex}
 
 -- a store as its connection and its charter
 pub record StoreView (S : Type 0) : Type 0 where
@@ -72,6 +73,12 @@ pub record LeavesPlaced {S : Type 0} (g : Ghosts S) (change : Change) (old new :
       (trees : Trees) → (connection_state g new).may_leave trees
       → PlacesExceptions change (connection_state g old).now.trees trees
 
+-- While the store is open its schema is as it was: no table, index or view was made or dropped.
+abbrev pub KeepsSchema : {S : Type 0} → Ghosts S → StoreView S → StoreView S → Type 0
+KeepsSchema g old new =
+    IsTrue (connection_state g new).is_open
+    → (connection_state g new).now.schema ≡ (connection_state g old).now.schema
+
 -- A read: the charter and the rows stay, and a crash leaves nothing else than before. A disk that returns what
 -- was written did so before.
 pub record IsRead {S : Type 0} (g : Ghosts S) (old new : StoreView S) : Type 0 where
@@ -82,12 +89,14 @@ pub record IsRead {S : Type 0} (g : Ghosts S) (old new : StoreView S) : Type 0 w
 
 -- ---- an opened store
 
--- A store over a database that was found. It holds some rows, with the exceptions of one SLURM file, and what
--- the tables held before, with its charter; and a crash leaves the rows that it holds.
+-- A store over a database that was found, to which at most the index of a holder's runs was added. It holds some
+-- rows, with the exceptions of one SLURM file, and what the tables held before, with its charter; and a crash
+-- leaves the rows that it holds.
 pub record IsOpened {S : Type 0} (g : Ghosts S) (found : State) (store : StoreView S) : Type 0 where
   pub idle : found.in_transaction ≡ false
   pub tables : found.now.schema.tables ≡ desk_tables
   pub is_open : IsTrue (connection_state g store).is_open
+  pub schema : AddsMissingIndex found.now.schema (connection_state g store).now.schema
   pub some : (rows : AllRows) × Holds g store rows × ExceptionsFit rows.exceptions
   pub same :
       (charter : CharterSets) (rows : AllRows) → IsCharter charter

@@ -122,6 +122,7 @@ impl<S: Alter> Store<S> {
     ghost use Rattle.store.specs.StoreRows.{connection_state, Holds, IsRead};
     ghost use Rattle.database.specs.Databases.{IsDeskWhileOpen};
     ghost use Rattle.store.specs.StoreRows.{IfClean, HoldsAfter, MayLeave, LeavesOnly, LeavesPlaced};
+    ghost use Rattle.store.specs.StoreRows.{KeepsSchema};
 
     /// The operators and the pool.
     pub fn charter(&self) -> &Charter
@@ -214,6 +215,7 @@ impl<S: Alter> Store<S> {
         ensures positions { IfClean S.Store self.new
             (OnOk result (OfHeldRows S.Store self.old (λ _.
             LeavesPlaced S.Store change.now self.old self.new))) }
+        ensures beside { IfClean S.Store self.new (KeepsSchema S.Store self.old self.new) }
         ensures clean { IfClean S.Store self.new
             (HasCleanDisk (connection_state S.Store self.old)) }
         ensures is_open { IfClean S.Store self.new

@@ -1,5 +1,5 @@
 -- The making of the tables, one after another, and their first rows.
-use Rattle.std.specs.Prelude.{◌≡◌, ℕ, suc, true, List, [], ◌++◌, IsTrue, take, nat_le, if◌then◌else◌}
+use Rattle.std.specs.Prelude.{◌≡◌, ℕ, suc, Bool, true, List, [], ◌++◌, IsTrue, take, nat_le, if◌then◌else◌}
 use Rattle.std.specs.List.{AllByRecursion}
 use Rattle.sqlite.specs.State.{State}
 use Rattle.sqlite_schema.specs.declared.schema.Schema.{Schema}
@@ -35,11 +35,13 @@ pub record MakesIndex (old new : State) : Type 0 where
   pub schema : new.now.schema ≡ desk_schema
   pub rows : SameRows old.now.trees new.now.trees
 
--- the connection stays open over a desk, which is committed, and no row changed
-pub record StaysDesk (old new : State) : Type 0 where
+-- The connection stays open over a desk, which is committed, and no row changed. The index of a holder's runs is
+-- made, or the schema is as it was.
+pub record StaysDesk (is_added : Bool) (old new : State) : Type 0 where
   pub was_open : IsTrue old.is_open
   pub is_open : IsTrue new.is_open
   pub desk : IsDesk new
+  pub schema : new.now.schema ≡ (if is_added then desk_schema else old.now.schema)
   pub rows : SameRows old.now.trees new.now.trees
 
 -- the transaction goes on, and these rows were put into a table

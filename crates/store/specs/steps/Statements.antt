@@ -41,9 +41,10 @@ EditsRows h edit old new =
     (charter : CharterSets) (rows : AllRows) → TablesHold charter rows old.trees → IsSome (rows.of_holder h)
     → KeepsExceptions charter (at_holder h (option_map edit) rows) old.trees new.trees
 
--- the transaction goes on, and the rows of the holder are edited
+-- the transaction goes on, the schema stays, and the rows of the holder are edited
 pub record EditsHolder (h : List ℕ) (edit : Rows → Rows) (old new : State) : Type 0 where
   pub ready : IsReady new
+  pub schema : new.now.schema ≡ old.now.schema
   pub rows : EditsRows h edit old.now new.now
 
 abbrev pub IfEdited : {S X E : Type 0} (g : Ghosts S) → Result X E → List ℕ → (Rows → Rows)
@@ -59,19 +60,21 @@ pub record AnswersWhetherRegistered (h : List ℕ) (is_there : Bool) (old new : 
       (charter : CharterSets) (rows : AllRows) → TablesHold charter rows old.now.trees
       → is_there ≡ is_some (rows.of_holder h)
 
--- the transaction goes on, and the holder is registered, if it was not
+-- the transaction goes on, the schema stays, and the holder is registered, if it was not
 pub record Registers (h : List ℕ) (old new : State) : Type 0 where
   pub ready : IsReady new
+  pub schema : new.now.schema ≡ old.now.schema
   pub rows :
       (charter : CharterSets) (rows : AllRows) → TablesHold charter rows old.now.trees
       → rows.of_holder h ≡ None → KeepsExceptions charter (at_holder h (λ _. Some new_rows) rows) old.now.trees new.now.trees
 
 -- ---- the exceptions
 
--- the transaction goes on, and every row of a table that has rowids is taken away
+-- the transaction goes on, the schema stays, and every row of a table that has rowids is taken away
 pub record TakesRows (tree : ℕ) (old new : State) : Type 0 where
   pub was_open : IsTrue old.is_open
   pub ready : IsReady new
+  pub schema : new.now.schema ≡ old.now.schema
   pub edits : IsTree (old.now.trees tree) → Edits tree (λ _. []) old.now new.now
 
 -- the rows of exceptions of one kind, at the positions from 1 up
@@ -92,17 +95,19 @@ RowsBecome change old new =
     (charter : CharterSets) (rows : AllRows) → TablesHold charter rows old.trees
     → TablesHold charter (changed_rows change rows) new.trees × PlacesExceptions change old.trees new.trees
 
--- the transaction goes on, and it is so of the databases before and after
+-- the transaction goes on, the schema stays, and it is so of the databases before and after
 pub record MakesChange (so : Database → Database → Type 0) (old new : State) : Type 0 where
   pub was_open : IsTrue old.is_open
   pub ready : IsReady new
+  pub schema : new.now.schema ≡ old.now.schema
   pub made : so old.now new.now
 
--- the change is made and committed
+-- the change is made and committed, and the schema stays
 pub record CommitsChange (change : Change) (old new : State) : Type 0 where
   pub was_open : IsTrue old.is_open
   pub is_open : IsTrue new.is_open
   pub tables : new.now.schema.tables ≡ desk_tables
+  pub schema : new.now.schema ≡ old.now.schema
   pub rows : RowsBecome change old.now new.now
   pub committed : new.committed ≡ new.now
 

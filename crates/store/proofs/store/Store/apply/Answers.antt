@@ -2,8 +2,8 @@ use Rattle.std.proofs.Common.{◌≡◌, arith, subst, OnOk}
 use Rattle.sqlite.specs.Held.{state}
 use Rattle.sqlite.specs.State.{HasCleanDisk}
 use Rattle.registry.specs.RowsOfAll.{AllRows, changed_rows}
-use Rattle.store.specs.StoreRows.{RowChange, Holds, MayLeave, LeavesOnly, LeavesPlaced}
-use Rattle.store.proofs.StoreLemmas.{over, holds_ok, may_leave, leaves_only, leaves_placed}
+use Rattle.store.specs.StoreRows.{RowChange, Holds, MayLeave, LeavesOnly, LeavesPlaced, connection_state}
+use Rattle.store.proofs.StoreLemmas.{over, holds_ok, may_leave, leaves_only, leaves_placed, schema_kept}
 use Rattle.store.proofs.store.Store.apply.Goals as goal
 
 pub returns-clause-ok : goal.returns-clause-ok
@@ -48,3 +48,12 @@ returns-clause-positions g c clean =
     let before : HasCleanDisk (state g.S.Store new) → HasCleanDisk (state g.S.Store old) = λ clean. omega (arith, c.commit_change.ensures.crash.clean) in
     subst (λ store. OnOk c.commit_change.result ((rows : AllRows) → Holds g.S.Store store rows → LeavesPlaced g.S.Store change store (over charter new))) was
     (leaves_placed g.S.Store c.commit_change.result change charter old new clean before (λ trees. g.met.S.Store.settled new.store trees) (c.commit_change.ensures.ok clean))
+
+pub returns-clause-beside : goal.returns-clause-beside
+returns-clause-beside g c clean opened =
+    let old = c.self.inside.conn in
+    let new = c.commit_change.new.conn in
+    let charter = c.self.inside.charter in
+    let was : over charter old ≡ c.args.self.now = c.self.view_is in
+    subst (λ store. (state g.S.Store new).now.schema ≡ (connection_state g.S.Store store).now.schema) was
+    (schema_kept c.commit_change.result c.args.change.now (state g.S.Store old) (state g.S.Store new) (c.commit_change.ensures.ok clean) (c.commit_change.ensures.err clean opened))
