@@ -8,6 +8,8 @@ pub mod CharterSteps
 mod Rowids
 mod AllTexts
 mod Obeyed
+mod Moved
+mod Payloads
 mod SomeRows
 mod SomeExceptions
 mod Unread

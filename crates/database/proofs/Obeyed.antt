@@ -1,6 +1,6 @@
 -- What the rules of SQLite say of the rows of a desk's tables: how many columns they have, that a holder is
 -- registered, that no holder is registered twice, and that no two exceptions of one kind have one position.
-use Rattle.std.proofs.Common.{◌≡◌, ℕ, zero, suc, ◌+◌, ◌<◌, ◌≤◌, Bool, true, false, not, ◌&&◌, ◌||◌, List, [], ◌∷◌, drop, length, slice_get, slice_index_or, ◌==◌, Some, None, Ordering, Less, Equal, Greater, refl, inl, inr, sym, ap, subst, ◌∙◌, is_eq, arith}
+use Rattle.std.proofs.Common.{◌≡◌, ℕ, zero, suc, ◌+◌, ◌<◌, ◌≤◌, Bool, true, false, not, ◌&&◌, ◌||◌, List, [], ◌∷◌, codes, drop, length, slice_get, slice_index_or, ◌==◌, Some, None, Ordering, Less, Equal, Greater, refl, inl, inr, sym, ap, subst, ◌∙◌, is_eq, arith}
 use Rattle.std.specs.List.{AllByRecursion, list_all}
 use Rattle.std.specs.Ordering.{is_ne}
 use Rattle.std.proofs.lemmas.Bool.{and_parts, and_from, both_ways, not-true, eq-eqb}
@@ -27,9 +27,12 @@ use Rattle.sqlite_schema.specs.Rules.{are_typed, are_present, passes, agree, equ
 use Rattle.sqlite_rules.specs.Lists.{Has}
 use Rattle.sqlite_rules.proofs.ListLemmas.{all_has, test_has, some_has, some_from}
 use Rattle.sqlite_catalog.specs.Listing.{IsSound, IsGuarded, automatic}
-use Rattle.tables.specs.Tables.{desk_tables, holder_reference, rising, holder}
+use Rattle.sqlite_schema.specs.declared.schema.Kind.TheVariants.{Integer as OfInteger, Blob as OfBlob}
+use Rattle.tables.specs.Tables.{desk_tables, holder_reference, required_column, rising, holder, auth}
 use Rattle.tables.specs.TablesHold.{is_name_of}
 use Rattle.tables.proofs.TreeRows.{alike_flip}
+use Rattle.database.specs.Laws.{payload_columns}
+use Rattle.database.proofs.Columns.{column_after}
 
 -- ---- the number of columns
 
@@ -125,6 +128,26 @@ HasAt at v c = (column c at ≡ v) × (is_null v ≡ false)
 have_same : (at : ℕ) (v : Value) (a b : Row) → HasAt at v a → HasAt at v b → same_at at a b ≡ true
 have_same at v a b one other = (λ i. equal Binary (one.0 i) (other.0 i)) ∙ equal_itself v one.1
 
+abbrev pub payload_key : List ℕ
+payload_key = 3 ∷ 4 ∷ 5 ∷ 6 ∷ 7 ∷ []
+
+payload_key_is : (a b : Row) → agree rising payload_key a payload_key b ≡ (same_at 3 a b && (same_at 4 a b && (same_at 5 a b && (same_at 6 a b && (same_at 7 a b && true)))))
+unfolding first_key
+payload_key_is a b = refl
+
+-- rows of the table `auth` that have the same VRP agree in its second key
+pub agree_in_payload : (a b : Row) → are_present None 0 auth.columns b ≡ true → payload_columns (drop 1 a) ≡ payload_columns (drop 1 b) → agree rising payload_key a payload_key b ≡ true
+agree_in_payload a b filled same =
+    let cell = λ (k : ℕ) (c : Column) (is : slice_get auth.columns k ≡ Some c) (required : c.not_null ≡ true) (equal : column (drop 1 a) k ≡ column (drop 1 b) k).
+    let some : is_null (column b (suc k)) ≡ false = subst (λ n. is_null (column b n) ≡ false) (omega arith) (present auth.columns k c 0 b is required filled) in
+    have_same (suc k) (column b (suc k)) a b (column_after a k ∙ equal ∙ sym (column_after b k), some) (refl, some) in
+    payload_key_is a b
+    ∙ and_from _ _ (cell 2 (required_column (codes "asn") OfInteger) refl refl (ap (λ c. column c 0) same))
+    (and_from _ _ (cell 3 (required_column (codes "family") OfInteger) refl refl (ap (λ c. column c 1) same))
+    (and_from _ _ (cell 4 (required_column (codes "lo") OfBlob) refl refl (ap (λ c. column c 2) same))
+    (and_from _ _ (cell 5 (required_column (codes "len") OfInteger) refl refl (ap (λ c. column c 3) same))
+    (and_from _ _ (cell 6 (required_column (codes "max") OfInteger) refl refl (ap (λ c. column c 4) same)) refl))))
+
 pub agree_in_key : (u v w : Value) (a b : Row) → HasAt 1 u a → HasAt 1 u b → HasAt 2 v a → HasAt 2 v b → HasAt 3 w a → HasAt 3 w b → agree rising slurm_key a slurm_key b ≡ true
 agree_in_key u v w a b u_a u_b v_a v_b w_a w_b =
     slurm_key_is a b ∙ and_from _ _ (have_same 1 u a b u_a u_b) (and_from _ _ (have_same 2 v a b v_a v_b) (and_from _ _ (have_same 3 w a b w_a w_b) refl))
@@ -136,7 +159,7 @@ module _ (schema : Schema) (db : Trees) (tables : schema.tables ≡ desk_tables)
       (subst (AllByRecursion (λ t. AllByRecursion (λ r. passes rule schema db t r ≡ true) (db t.tree))) tables (sound.obeys.rules rule)) has
 
   module _ (t : Table) (has : Has desk_tables t) (key : t.key ≡ None) where
-    filled : AllByRecursion (λ r. are_present None 0 t.columns r ≡ true) (db t.tree)
+    pub filled : AllByRecursion (λ r. are_present None 0 t.columns r ≡ true) (db t.tree)
     filled = all_weaker _ _ (λ r is. rw key at is) (db t.tree) (passed NotNull t has)
 
     -- each row has as many columns as the table, where the last is NOT NULL
@@ -162,15 +185,15 @@ module _ (schema : Schema) (db : Trees) (tables : schema.tables ≡ desk_tables)
         (found.0, found.1, sym (agree_is 1 (k + 1) found.0 r) ∙ found.2))
         (db t.tree) (passed ForeignKey t has) filled
 
-  -- rows of a table that agree in its key have one rowid
-  module _ (t : Table) (has : Has desk_tables t) (key : List ℕ) (is_key : slice_get t.uniques 0 ≡ Some key) (upwards : slice_index_or t.orders 0 plain ≡ rising) where
+  -- rows of a table that agree in one of its keys have one rowid
+  module _ (t : Table) (has : Has desk_tables t) (place : ℕ) (key : List ℕ) (is_key : slice_get t.uniques place ≡ Some key) (upwards : slice_index_or t.orders place plain ≡ rising) where
     unclashed : (b : Row) → Has (db t.tree) b → clashes rising key (db t.tree) b ≡ false
     unclashed b has_b =
         let rows = db t.tree in
-        let guarded = all_has (IsGuarded schema.indexes) desk_tables t (subst (AllByRecursion (IsGuarded schema.indexes)) tables sound.lists.guarded) has 0 key is_key in
+        let guarded = all_has (IsGuarded schema.indexes) desk_tables t (subst (AllByRecursion (IsGuarded schema.indexes)) tables sound.lists.guarded) has place key is_key in
         let unique = all_has (λ r. passes Unique schema db t r ≡ true) rows b (passed Unique t has) has_b in
-        let free : not ((t.tree == t.tree) && clashes (slice_index_or t.orders 0 plain) key rows b) ≡ true =
-        test_has (λ i. not (guards i t && clashes i.order i.columns rows b)) schema.indexes (automatic t 0 key guarded.0) unique guarded.1 in
+        let free : not ((t.tree == t.tree) && clashes (slice_index_or t.orders place plain) key rows b) ≡ true =
+        test_has (λ i. not (guards i t && clashes i.order i.columns rows b)) schema.indexes (automatic t place key guarded.0) unique guarded.1 in
         not-true _ (rw (eq-eqb t.tree t.tree refl, upwards) at free)
 
     pub once_by_key : (a b : Row) → Has (db t.tree) a → Has (db t.tree) b → is_int (rowid a) ≡ true → is_int (rowid b) ≡ true → is_eq (value_cmp (rowid a) (rowid b)) ≡ false
@@ -186,4 +209,4 @@ module _ (schema : Schema) (db : Trees) (tables : schema.tables ≡ desk_tables)
   -- rows of one name have one rowid
   pub once : (a b : Row) → Has (db holder.tree) a → Has (db holder.tree) b → is_int (rowid a) ≡ true → is_int (rowid b) ≡ true → is_eq (value_cmp (rowid a) (rowid b)) ≡ false
       → equal Binary (column a 1) (column b 1) ≡ false
-  once a b has_a has_b one other apart = sym (agree_is 1 1 a b) ∙ once_by_key holder (inr (inr (inr (inl refl)))) (1 ∷ []) refl refl a b has_a has_b one other apart
+  once a b has_a has_b one other apart = sym (agree_is 1 1 a b) ∙ once_by_key holder (inr (inr (inr (inl refl)))) 0 (1 ∷ []) refl refl a b has_a has_b one other apart

@@ -76,7 +76,7 @@ module _ (db : Database) (tables : db.schema.tables ≡ desk_tables) (sound : Is
         let int = λ (c : Row) (has : Has tree c). all_has (λ c. is_int (rowid c) ≡ true) tree c shown.rows.whole.1 has in
         let cell = λ (c : Row) (x : ExceptionRow) (is : Shows c x) (at : ℕ) (same : column (exception_columns (drop 1 c)) at ≡ column (drop 1 c) at).
         column_after c at ∙ sym same ∙ ap (λ l. column l at) is in
-        let differ = once_by_key db.schema db.trees tables sound slurm at_slurm slurm_key refl refl a b has_a has_b (int a has_a) (int b has_b) apart in
+        let differ = once_by_key db.schema db.trees tables sound slurm at_slurm 0 slurm_key refl refl a b has_a has_b (int a has_a) (int b has_b) apart in
         both_ways _ differ
         (agree_in_key (Text (codes "main")) (number_cell (kind_number s.exception)) (number_cell s.position) a b
         (cell a r one 0 refl, refl) (cell b s other 0 refl, refl)

@@ -22,6 +22,7 @@ use Rattle.tables.specs.Tables.{columns, contents, IsTree}
 use Rattle.database.specs.declared.fault.StoreFault.{StoreFault}
 use Rattle.database.specs.TablesRead.{ShowsSome}
 use Rattle.tables.proofs.TreeRows.{alike_flip}
+use Rattle.database.proofs.Moved.{ascending_moved}
 use Rattle.database.specs.steps.Numbered.{last_value, is_integer_below, Rise, columns_and_rowid, AreRead}
 
 -- ---- from each row and the next to all rows
@@ -59,15 +60,8 @@ rows_rise rows next ints = (ascending_weaker AreBelow _ (λ a b. below_apart (la
 abbrev AreApart : Row → Row → Type 0
 AreApart a b = is_eq (value_cmp (last_value a) (last_value b)) ≡ false
 
--- the rows are the same, and apart if those are
-abbrev StayApart : List Row → List Row → Type 0
-StayApart xs ys = IsPermutation xs ys × (IsAscending AreApart xs → IsAscending AreApart ys)
-
-stay_apart : (xs ys : List Row) → IsPermutation xs ys → StayApart xs ys
-stay_apart = along_permutation StayApart (λ xs. (IsPermutation-refl xs, λ up. up))
-    (λ x xs ys same. (IsPermutation-cons x xs ys same.0, λ up. (all-permutation (AreApart x) xs ys same.0 up.0, same.1 up.1)))
-    (λ x y xs. (IsPermutation-middle (x ∷ []) y xs, λ up. ((alike_flip (last_value y) (last_value x) ∙ up.0.0, up.1.0), (up.0.1, up.1.1))))
-    (λ xs ys zs p q. (IsPermutation-trans xs ys zs p.0 q.0, λ up. q.1 (p.1 up)))
+stay_apart : (xs ys : List Row) → IsPermutation xs ys → IsAscending AreApart xs → IsAscending AreApart ys
+stay_apart = ascending_moved AreApart (λ a b apart. alike_flip (last_value b) (last_value a) ∙ apart)
 
 -- ---- the tree that they are of
 
@@ -80,7 +74,7 @@ last_of_numbered places r =
 pub is_tree : (places : List ℕ) (tree rows : List Row) → IsPermutation (map (columns_and_rowid places) tree) rows → Rise rows → IsTree tree
 is_tree places tree rows same up =
     let back = IsPermutation-sym _ _ same in
-    let apart = (stay_apart rows (map (columns_and_rowid places) tree) back).1 up.0 in
+    let apart = stay_apart rows (map (columns_and_rowid places) tree) back up.0 in
     let is = last_of_numbered places in (
       ascending_weaker _ _ (λ a b h. (λ i. is_eq (value_cmp (sym (is a) i) (sym (is b) i))) ∙ h) tree (ascending_from_map AreApart (columns_and_rowid places) tree apart),
       all_weaker _ _ (λ a h. ap is_int (sym (is a)) ∙ h) tree (all_from_map (λ c. is_int (last_value c) ≡ true) (columns_and_rowid places) tree (all-permutation _ rows _ back up.1)),

@@ -3,4 +3,5 @@ pub mod Databases
 pub mod Statements
 pub mod Queries
 pub mod TablesRead
+pub mod Laws
 pub mod steps

@@ -4,6 +4,7 @@
 mod charter;
 mod fault;
 mod index;
+pub mod laws;
 mod making;
 mod opening;
 mod query;

@@ -1,5 +1,7 @@
 -- The VRPs that the authorizations in force give, and the prefixes that are taken.
-use Rattle.std.proofs.Common.{◌≡◌, ◌↔◌, ◌≢◌, ℕ, true, ◌&&◌, ◌==◌, List, map, Any, Contains, refl, sym, ap, subst, ◌∙◌}
+use Rattle.std.proofs.Common.{◌≡◌, ◌↔◌, ◌≢◌, ℕ, true, ◌&&◌, ◌==◌, List, map, Any, Contains, arith, refl, sym, ap, subst, ◌∙◌}
+use Rattle.std.specs.Prelude.{AllPairs}
+use Rattle.std.proofs.lemmas.List.{get_or-map, length-map}
 use Rattle.std.proofs.lemmas.Bool.{and_parts, and_from, eqb-true, eq-eqb}
 use Rattle.sqlite_value.specs.Order.{Row}
 use Rattle.sqlite_rules.proofs.ListLemmas.{has_contained, contains_had}
@@ -42,6 +44,13 @@ one_vrp v w is =
     let asn : v.asn.0 ≡ w.asn.0 = cc in
     let max : v.max ≡ w.max = cc in
     same_vrp v w (one_prefix v.prefix w.prefix cc) max (ap (λ (n : ℕ). let a : Asn = record { 0 = n } in a) asn)
+
+-- VRPs that are shown by rows of which no two are equal
+pub given_once : (vrps : List Vrp) (rows : List Row) → rows ≡ map vrp_cells vrps → AllPairs ◌≢◌ rows → AllPairs ◌≢◌ vrps
+given_once vrps rows shown differ i j d below within same =
+    let cells = subst (AllPairs ◌≢◌) shown differ in
+    cells i j (vrp_cells d) below (omega (arith, within, length-map vrps vrp_cells))
+    (get_or-map vrp_cells vrps i d (vrp_cells d) (omega (arith, below, within)) ∙ ap vrp_cells same ∙ sym (get_or-map vrp_cells vrps j d (vrp_cells d) within))
 
 module _ (day : ℕ) (all : AllRows) (rows : List Row) (each : (row : Row) → Contains rows row ↔ IsPayloadOn all day row) where
   is_given : (vrps : List Vrp) → rows ≡ map vrp_cells vrps → (v : Vrp) → Contains vrps v → IsGivenOn all day v

@@ -1,5 +1,5 @@
 //! What is loaded from the tables.
-ghost use Rattle.std.specs.Prelude.{◌≡◌, ◌↔◌, map, All, Contains, Err, IfOk, IsPermutation, IsSorted};
+ghost use Rattle.std.specs.Prelude.{◌≡◌, ◌≢◌, ◌↔◌, map, All, AllPairs, Contains, Err, IfOk, IsPermutation, IsSorted};
 ghost use Rattle.sqlite.specs.Held.{state};
 ghost use Rattle.addr.specs.Spans.{AreMaximal};
 ghost use Rattle.addr.specs.declared.vrp.Vrp.{Vrp};
@@ -95,9 +95,14 @@ pub(crate) fn load_vrps<S: Alter>(
     ensures found { IsClean S.Store conn.new → IfOk result (λ vrps.
         IsOfAll (λ rows. (v : Vrp) → Contains vrps.items v ↔ IsGivenOn rows day v)
         (state S.Store conn.old)) }
+    ensures once { IsClean S.Store conn.new → IfOk result (λ vrps.
+        IsOfAll (λ _. AllPairs ◌≢◌ vrps.items) (state S.Store conn.old)) }
     ensures schema { IsClean S.Store conn.new → result ≡ Err StoreFault.Schema
         → IsOpenWith (λ rows. ¬ AllGiveOn rows day) (state S.Store conn.old) }
 {
+    // Its clause `live` is for the proof: the rows obey the schema.
+    let _schema = conn.schema();
+    database::laws::auths_differ();
     let rows = in_force_rows(conn, day)?;
     read_all(alloc, &rows)
 }

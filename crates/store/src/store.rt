@@ -114,7 +114,7 @@ impl<S: Alter + Drop> Store<S> {
 }
 
 impl<S: Alter> Store<S> {
-    ghost use Rattle.std.specs.Prelude.{Option, Contains};
+    ghost use Rattle.std.specs.Prelude.{Option, AllPairs, Contains};
     ghost use Rattle.addr.specs.declared.vrp.Vrp.{Vrp};
     ghost use Rattle.registry.specs.RowsOfAll.{IsTaken, IsGivenOn};
     ghost use Rattle.registry.specs.Values.{FitIfAny, ExceptionsFit};
@@ -184,6 +184,8 @@ impl<S: Alter> Store<S> {
         ensures found { IfClean S.Store self.new (IfOk result (λ vrps.
             OfHeldRows S.Store self.old (λ rows.
             (v : Vrp) → Contains vrps.items v ↔ IsGivenOn rows day v))) }
+        ensures once { IfClean S.Store self.new (IfOk result (λ vrps.
+            OfHeldRows S.Store self.old (λ _. AllPairs ◌≢◌ vrps.items))) }
         ensures schema { IfClean S.Store self.new (result ≡ Err StoreFault.Schema
             → OfHeldRows S.Store self.old (λ rows. ¬ AllGiveOn rows day)) }
     {

@@ -23,8 +23,9 @@ use Rattle.registry.specs.RowsOfAll.{AllRows}
 use Rattle.slurm.specs.Exceptions.{Exceptions}
 use Rattle.tables.specs.Cells.{number_cell, prefix_cells}
 use Rattle.tables.specs.Decode.{first_columns}
-use Rattle.tables.specs.Tables.{desk_beside, OverDesk, contents, columns}
+use Rattle.tables.specs.Tables.{desk_beside, OverDesk, contents}
 use Rattle.tables.specs.TablesHold.{TablesHold, items_if_any, auth_part}
+use Rattle.database.specs.Laws.{payload_columns}
 use Rattle.database.specs.steps.Numbered.{AnswersSelect}
 
 -- it is so of all rows, and of those of one holder, whatever charter and rows the tables hold
@@ -105,7 +106,7 @@ is_open_on day c =
 abbrev pub FindsInForce : ℕ → Database → List Row → Type 0
 FindsInForce day db rows =
     IsPermutation
-    (map (columns (2 ∷ 3 ∷ 4 ∷ 5 ∷ 6 ∷ [])) (filter (is_open_on day) (contents (db.trees auth_part.tree)))) rows
+    (map payload_columns (filter (is_open_on day) (contents (db.trees auth_part.tree)))) rows
 
 -- an authorization of some holder is in force on the day, and this is its payload
 abbrev pub IsPayloadOn : AllRows → ℕ → Row → Type 0

@@ -1,0 +1,7 @@
+//! Laws of the definitions. Each function does nothing: what it ensures is the law.
+ghost use Rattle.database.specs.Laws.{AuthsDiffer};
+
+/// No two authorizations of a desk, of whatever holders, have the same AS, prefix and maxLength.
+pub fn auths_differ()
+    ensures { AuthsDiffer }
+{}
