@@ -18,7 +18,10 @@ UPDATE meta SET value = 2 => schema
 UPDATE meta SET value = 0 => schema
 UPDATE meta SET name = 'version' => schema
 DELETE FROM meta => schema
+# further_row_of_meta
 INSERT INTO meta VALUES ('notes', 1) => database
+INSERT INTO meta VALUES ('Schema', 1) => database
+UPDATE meta SET value = 2; INSERT INTO meta VALUES ('notes', 1) => schema
 # charter
 INSERT INTO operator VALUES ('-reg') => schema
 INSERT INTO operator VALUES ('Reg') => schema
@@ -111,10 +114,20 @@ DROP INDEX holding_of => ok
 CREATE INDEX auth_by_as ON auth (asn, family) => ok
 CREATE UNIQUE INDEX one_caller ON granted (caller) => ok
 CREATE VIEW in_force AS SELECT holder, number FROM auth WHERE opens <= 20513 AND ends >= 20513 => ok
-# tables_made_again
-CREATE TABLE notes (text TEXT) STRICT => database
+# table_too_few
+DROP TABLE meta => schema
+DROP TABLE operator => schema
+DROP TABLE pool => schema
+DROP TABLE holding; DROP TABLE granted; DROP TABLE auth; DROP TABLE holder => schema
+DROP TABLE holding => schema
+DROP TABLE granted => schema
+DROP TABLE auth => schema
 DROP TABLE slurm => schema
 DROP TABLE slurm; CREATE TABLE exceptions (file TEXT) STRICT => schema
+# table_too_many
+CREATE TABLE notes (text TEXT) STRICT => database
+CREATE TABLE notes (holder TEXT REFERENCES holder (name)) STRICT => database
+# table_made_again
 DROP TABLE meta; CREATE TABLE meta (name TEXT NOT NULL, value INTEGER NOT NULL, PRIMARY KEY (name)) STRICT; INSERT INTO meta VALUES ('schema', 1) => database
 "#;
 
