@@ -20,13 +20,13 @@ use Rattle.histories.specs.Ranges.{LegalRowsFit, ExceptionsInForceFit}
 use Rattle.registry.specs.RowsOfAll.{AllRows}
 use Rattle.registry.proofs.Names.{same_name-true}
 use Rattle.tables.specs.Cells.{schema_row, holder_row, holding_row, granted_row, auth_row, exception_row}
+use Rattle.tables.specs.Laws.{ExceptionsAreCounted}
 use Rattle.tables.specs.Tables.{meta, holder, contents}
 use Rattle.tables.specs.TablesHold.{Part, TablesHold, HoldsPart, holder_part, holding_part, granted_part, auth_part, ArePlaced, HoldsExceptions}
 use Rattle.tables.specs.declared.exception.Exception.{Exception}
 use Rattle.tables.specs.declared.exception.Exception.TheVariants.{Filter as FilterOf, Assertion}
 use Rattle.tables.specs.declared.exception.ExceptionRow.{ExceptionRow}
 use Rattle.tables.specs.Decode.{IsPosition, ExceptionFits, ExceptionRowFits, exception_columns}
-use Rattle.tables.proofs.HeldExceptions.{held_number}
 use Rattle.tables.proofs.SomeRow.{has_permuted, of_some}
 use Rattle.store.specs.Laws.{HistoriesRead}
 use Rattle.database.specs.TablesRead.{ShowsHolder, ShowsOfHolder, ShowsException, TablesRead}
@@ -53,9 +53,9 @@ exceptions_read exceptions table holds fit =
     (all-map ShowsException exception_row (holds.filters ++ holds.assertions)
     (all_from _ (holds.filters ++ holds.assertions) (λ r has. (r, all_has ExceptionRowFits _ r (all-append ExceptionRowFits holds.filters holds.assertions filters assertions) has, refl))))
 
-pub held_read : (charter : CharterSets) (rows : AllRows) (trees : Trees) → IsCharter charter → AllByRecursion (λ name. IsTrue (is_name name)) charter.operators
+pub held_read : ExceptionsAreCounted → (charter : CharterSets) (rows : AllRows) (trees : Trees) → IsCharter charter → AllByRecursion (λ name. IsTrue (is_name name)) charter.operators
     → ((h : List ℕ) (r : Rows) → rows.of_holder h ≡ Some r → IsTrue (is_name h) × RowsFit r) → ExceptionsFit rows.exceptions → TablesHold charter rows trees → TablesRead trees
-held_read charter rows trees is named fit exceptions_fit holds = record {
+held_read counted charter rows trees is named fit exceptions_fit holds = record {
   schema = contains_had _ schema_row (has_permuted (schema_row ∷ []) (contents (trees meta.tree)) schema_row holds.charter_kept.schema (inl refl));
   charter = record {
     operators = charter.operators;
@@ -84,7 +84,7 @@ held_read charter rows trees is named fit exceptions_fit holds = record {
       let it = has_mapped (auth_row h) r.auths c has in
       (h, it.0, all_has AuthFits r.auths it.0 (recursion_from_All AuthFits r.auths (fit h r there).1.auths) it.1, it.2));
   exceptions = exceptions_read rows.exceptions _ holds.exceptions exceptions_fit;
-  exceptions_number = omega (arith, exceptions_fit.number, held_number rows.exceptions _ holds.exceptions);
+  exceptions_number = omega (arith, exceptions_fit.number, counted rows.exceptions _ holds.exceptions);
 }
   where
     one_row : (row c : Row) → Has (row ∷ []) c → c ≡ row
@@ -105,9 +105,9 @@ registered_named (e ∷ before) h is fit = go (registers e.command h) refl is (�
     go true here is later = named_by e.command h here fit.0.command
     go false there is later = later is
 
-pub opens_again : LegalRowsFit → ExceptionsInForceFit → HistoriesRead
-opens_again rows_fit in_force_fit charter history rows trees legal fits have is named holds =
-    held_read charter rows trees is named (λ h r there.
+pub opens_again : LegalRowsFit → ExceptionsInForceFit → ExceptionsAreCounted → HistoriesRead
+opens_again rows_fit in_force_fit counted charter history rows trees legal fits have is named holds =
+    held_read counted charter rows trees is named (λ h r there.
     let of = subst (RowsIfAny history h) there (have.holders h) in
     (registered_named history h of.0 fits, rows_fit charter history h r legal fits of.1))
     (subst ExceptionsFit (sym have.exceptions) (in_force_fit history fits)) holds

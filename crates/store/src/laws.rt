@@ -1,5 +1,5 @@
 //! Laws over the definitions alone: each function's contract states one, and its body at most calls
-//! laws of `histories`.
+//! laws of `histories` and `tables`.
 ghost use Rattle.store.specs.Laws.{AuthsOfHistoriesGive, ExceptionsOfHistoriesFit, HistoriesRead};
 ghost use Rattle.store.specs.Laws.{LoadsRowsOfHistories, MemoryHoldsRows, MemoryIsHonest};
 ghost use Rattle.store.specs.Laws.{MemoryStaysOpen, RowsOfHistoriesFit};
@@ -43,6 +43,7 @@ pub fn tables_of_a_history_read()
 {
     histories::laws::legal_rows_fit();
     histories::laws::exceptions_in_force_fit();
+    tables::laws::exceptions_are_counted();
 }
 
 /// A connection to memory is honest, so that what is said of an honest disk is said of it.
@@ -60,4 +61,6 @@ pub fn memory_stays_open()
 /// Tables of a desk that read are never refused as those of another schema.
 pub fn tables_that_read_are_ours()
     ensures { TablesThatReadAreOurs }
-{}
+{
+    tables::laws::desk_tables_are_named();
+}

@@ -8,6 +8,7 @@ mod exception;
 mod granted;
 mod holder;
 mod holding;
+pub mod laws;
 mod meta;
 mod names;
 mod operator;

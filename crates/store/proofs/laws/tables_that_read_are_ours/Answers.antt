@@ -1,9 +1,8 @@
 use Rattle.std.proofs.Common.{inl, inr}
-use Rattle.tables.proofs.DeskTables.{names_there}
 use Rattle.store.proofs.laws.tables_that_read_are_ours.Goals as goal
 
 pub returns : goal.returns
 returns c db tables read other = elim other [
-  | inl missing ↦ absurd (let there = names_there db.schema tables in cc)
+  | inl missing ↦ absurd (let there = c.desk_tables_are_named.ensures db.schema tables in cc)
   | inr unread ↦ unread.1 read
 ]

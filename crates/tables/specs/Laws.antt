@@ -1,0 +1,18 @@
+-- What holds of the tables of a desk.
+use Rattle.std.specs.Prelude.{◌≡◌, ◌+◌, true, List, length}
+use Rattle.sqlite_schema.specs.declared.schema.Schema.{Schema}
+use Rattle.sqlite_value.specs.Order.{Row}
+use Rattle.slurm.specs.Exceptions.{Exceptions}
+use Rattle.tables.specs.Schemas.{has_names}
+use Rattle.tables.specs.Tables.{desk_tables}
+use Rattle.tables.specs.TablesHold.{HoldsExceptions}
+
+-- A schema that has the tables of a desk has their names and those of their columns, whatever is beside them.
+abbrev pub DeskTablesAreNamed : Type 0
+DeskTablesAreNamed = (schema : Schema) → schema.tables ≡ desk_tables → has_names schema desk_tables ≡ true
+
+-- A table that holds exceptions has as many rows as they are.
+abbrev pub ExceptionsAreCounted : Type 0
+ExceptionsAreCounted =
+    (exceptions : Exceptions) (table : List Row) → HoldsExceptions exceptions table
+    → length exceptions.filters + length exceptions.assertions ≡ length table

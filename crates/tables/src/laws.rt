@@ -1,0 +1,13 @@
+//! Laws of the definitions. Each function does nothing: what it ensures is the law.
+ghost use Rattle.tables.specs.Laws.{DeskTablesAreNamed, ExceptionsAreCounted};
+
+/// The tables of a desk have their own names, so that no test by names refuses them.
+#[tactic(auto, using(crate::proofs::DeskTables::names_there))]
+pub fn desk_tables_are_named()
+    ensures { DeskTablesAreNamed }
+{}
+
+/// A table that holds exceptions has a row for each of them, and no other.
+pub fn exceptions_are_counted()
+    ensures { ExceptionsAreCounted }
+{}
