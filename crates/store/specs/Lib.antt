@@ -1,4 +1,5 @@
 pub mod StoreRows
+pub mod RefusedOpening
 pub mod Loads
 pub mod Laws
 pub mod steps

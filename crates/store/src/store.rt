@@ -1,8 +1,9 @@
 //! The store: a connection to the tables of a desk, and its charter.
-ghost use Rattle.std.specs.Prelude.{◌≡◌, ◌≢◌, ◌↔◌, false, None, Err, OnOk, OnErr, IfOk, IsTrue};
+ghost use Rattle.std.specs.Prelude.{◌≡◌, ◌≢◌, ◌↔◌, false, None, Err, OnOk, OnErr, IfOk, IfErr, IsTrue};
 ghost use Rattle.sqlite.specs.Held.{state};
 ghost use Rattle.sqlite.specs.State.{HasCleanDisk};
 ghost use Rattle.registry.specs.RowsOfAll.{blank_rows, changed_rows};
+ghost use Rattle.store.specs.RefusedOpening.{IsGivenBack};
 ghost use Rattle.store.specs.StoreRows.{IsOpened};
 ghost use Rattle.database.specs.Databases.{HasDeskTables, IsUnused, IsNew, LeavesNew};
 ghost use Rattle.database.specs.Databases.{IsHonest, IsOfAnotherSchema};
@@ -97,7 +98,7 @@ impl<S: Alter + Drop> Store<S> {
     /// A store over a database that has the tables of a desk. A connection in a transaction is
     /// refused, and a limit of its steps is lifted. Where there is nothing beside the tables, the
     /// index of a holder's runs is added; other indexes and views are left alone.
-    pub fn open_from(alloc: Global, mut conn: Connection<S>) -> Result<Self, StoreFault>
+    pub fn open_from(alloc: Global, conn: Connection<S>) -> Result<Self, StoreFault>
         ensures opened { IfOk result (λ store. IfClean S.Store store
             (IsOpened S.Store (state S.Store conn) store)) }
         ensures unlimited { IfOk result (λ store. store.connection.step_limit ≡ None) }
@@ -106,10 +107,34 @@ impl<S: Alter + Drop> Store<S> {
         ensures schema { IsHonest S.Store → result ≡ Err StoreFault.Schema
             → IsOfAnotherSchema (state S.Store conn).now }
     {
-        let charter = open_tables(&mut conn, alloc)?;
-        // Its clause `valid` is for the proof: the charter keeps its rules.
-        let _rising = charter.operators();
-        Ok(Store { conn, charter })
+        match Store::open_or_return(alloc, conn) {
+            Ok(store) => Ok(store),
+            Err((fault, _)) => Err(fault),
+        }
+    }
+
+    /// As `open_from`, and gives the connection back where it is refused, so that whether its disk
+    /// returned what was written can be said of it.
+    pub fn open_or_return(
+        alloc: Global,
+        mut conn: Connection<S>,
+    ) -> Result<Self, (StoreFault, Connection<S>)>
+        ensures opened { IfOk result (λ store. IfClean S.Store store
+            (IsOpened S.Store (state S.Store conn) store)) }
+        ensures unlimited { IfOk result (λ store. store.connection.step_limit ≡ None) }
+        ensures clean { IfOk result (λ store. IfClean S.Store store
+            (HasCleanDisk (state S.Store conn))) }
+        ensures err { IfErr result (λ refused.
+            IsGivenBack S.Store (state S.Store conn) refused.0 refused.1) }
+    {
+        match open_tables(&mut conn, alloc) {
+            Ok(charter) => {
+                // Its clause `valid` is for the proof: the charter keeps its rules.
+                let _rising = charter.operators();
+                Ok(Store { conn, charter })
+            }
+            Err(fault) => Err((fault, conn)),
+        }
     }
 }
 
