@@ -1,4 +1,5 @@
 -- The steps of the code, which no public contract cites.
+pub mod Admission
 pub mod Creation
 pub mod Exchange
 pub mod Part

@@ -7,8 +7,9 @@ ghost use Rattle.registry.specs.History.{History};
 ghost use Rattle.registry.specs.Resources.{IsFree};
 ghost use Rattle.registry.specs.Terms.{terms_overlap};
 ghost use Rattle.registry.specs.Verdict.{IsLegal};
-ghost use Rattle.registry.specs.Rows.{rows_if_any, RowsIfAny};
+ghost use Rattle.registry.specs.Rows.{rows_of, rows_if_any, RowsOf, RowsIfAny};
 ghost use Rattle.policy.specs.steps.Exchange.{Exchanges};
+ghost use Rattle.policy.specs.steps.Admission.{IsAdmitted};
 ghost use Rattle.registry.specs.Answer.{AnswersRows, JudgesRows, RowsOfNamed, IsAnswer, IsViewOf, is_transfer, takes_memory, holder_of, taker_of};
 
 mod import;
@@ -115,6 +116,28 @@ fn decide_register(basis: Basis<'_>, holder: Holder<'_>) -> Result<Change, Rule>
     Ok(change_of(holder.name, Edit::Register))
 }
 
+/// The rows of the holder, where all rules of a delegation hold.
+fn rows_for_delegation<'a>(
+    charter: &Charter,
+    caller: &Name,
+    holder: Holder<'a>,
+    taken: bool,
+    prefix: &Prefix,
+) -> Result<&'a HolderRows, Rule>
+    ensures { (history : History) (day : ℕ)
+        → RowsIfAny history holder.entry.name.now (rows_if_any (option_copied holder.entry.rows))
+        → MatchBool taken (IsFree history prefix.now → ⊥) (IsFree history prefix.now)
+        → IsAdmitted charter.now history day caller.now
+        (Command.Delegate holder.entry.name.now prefix.now)
+        (λ rows. RowsOf history holder.entry.name.now (rows_of rows.now)) result }
+{
+    require(charter.is_operator(caller), Rule::Operator)?;
+    let rows = registered(holder.rows)?;
+    require(charter.has_in_pool(prefix), Rule::Pool)?;
+    require(!taken, Rule::Free)?;
+    Ok(rows)
+}
+
 /// Decides a delegation.
 fn decide_delegate(
     alloc: Global,
@@ -129,13 +152,29 @@ fn decide_delegate(
         → IsAnswer basis.entry.charter.now history basis.entry.day basis.entry.caller.now
         (Command.Delegate holder.entry.name.now prefix.now) result }
 {
-    require(basis.charter.is_operator(basis.caller), Rule::Operator)?;
-    let rows = registered(holder.rows)?;
-    require(basis.charter.has_in_pool(prefix), Rule::Pool)?;
-    require(!taken, Rule::Free)?;
+    let rows = rows_for_delegation(basis.charter, basis.caller, holder, taken, prefix)?;
     let more = with_prefix(&rows.holdings, prefix)?;
     let edit = exchange(&rows.holdings, &more, Vec::new(alloc))?;
     Ok(change_of(holder.name, edit))
+}
+
+/// The rows of the holder, where all rules of a reclaim hold.
+fn rows_for_reclaim<'a>(
+    charter: &Charter,
+    caller: &Name,
+    holder: Holder<'a>,
+    prefix: &Prefix,
+) -> Result<&'a HolderRows, Rule>
+    ensures { (history : History) (day : ℕ)
+        → RowsIfAny history holder.entry.name.now (rows_if_any (option_copied holder.entry.rows))
+        → IsAdmitted charter.now history day caller.now
+        (Command.Reclaim holder.entry.name.now prefix.now)
+        (λ rows. RowsOf history holder.entry.name.now (rows_of rows.now)) result }
+{
+    require(charter.is_operator(caller), Rule::Operator)?;
+    let rows = registered(holder.rows)?;
+    require(holds(rows, prefix), Rule::Held)?;
+    Ok(rows)
 }
 
 /// Decides a reclaim.
@@ -149,9 +188,7 @@ fn decide_reclaim(
         basis.entry.day basis.entry.caller.now
         (Command.Reclaim holder.entry.name.now prefix.now) result }
 {
-    require(basis.charter.is_operator(basis.caller), Rule::Operator)?;
-    let rows = registered(holder.rows)?;
-    require(holds(rows, prefix), Rule::Held)?;
+    let rows = rows_for_reclaim(basis.charter, basis.caller, holder, prefix)?;
     let less = without_prefix(&rows.holdings, prefix)?;
     let ended = numbers_overlapping(alloc, &rows.auths, prefix)?;
     let edit = exchange(&rows.holdings, &less, ended)?;
@@ -237,6 +274,30 @@ fn decide_withdraw(basis: Basis<'_>, holder: Holder<'_>, number: u32) -> Result<
     Ok(change_of(holder.name, Edit::Withdraw(number)))
 }
 
+/// The rows of the giver and of the taker, where all rules of a transfer hold.
+fn rows_for_transfer<'a>(
+    charter: &Charter,
+    caller: &Name,
+    prefix: &Prefix,
+    giver: Holder<'a>,
+    taker: Holder<'a>,
+) -> Result<(&'a HolderRows, &'a HolderRows), Rule>
+    ensures { (history : History) (day : ℕ)
+        → RowsIfAny history giver.entry.name.now (rows_if_any (option_copied giver.entry.rows))
+        → RowsIfAny history taker.entry.name.now (rows_if_any (option_copied taker.entry.rows))
+        → IsAdmitted charter.now history day caller.now
+        (Command.Transfer prefix.now giver.entry.name.now taker.entry.name.now)
+        (λ both. RowsOf history giver.entry.name.now (rows_of both.0.now)
+        × RowsOf history taker.entry.name.now (rows_of both.1.now)) result }
+{
+    require(charter.is_operator(caller), Rule::Operator)?;
+    let giving = registered(giver.rows)?;
+    let taking = registered(taker.rows)?;
+    require(*giver.name != *taker.name, Rule::Distinct)?;
+    require(holds(giving, prefix), Rule::Held)?;
+    Ok((giving, taking))
+}
+
 /// Decides a transfer.
 fn decide_transfer(
     alloc: Global,
@@ -252,11 +313,7 @@ fn decide_transfer(
         → IsAnswer charter.now history day caller.now
         (Command.Transfer prefix.now giver.entry.name.now taker.entry.name.now) result }
 {
-    require(charter.is_operator(caller), Rule::Operator)?;
-    let giving = registered(giver.rows)?;
-    let taking = registered(taker.rows)?;
-    require(*giver.name != *taker.name, Rule::Distinct)?;
-    require(holds(giving, prefix), Rule::Held)?;
+    let (giving, taking) = rows_for_transfer(charter, caller, prefix, giver, taker)?;
     let less = without_prefix(&giving.holdings, prefix)?;
     let more = with_prefix(&taking.holdings, prefix)?;
     let ended = numbers_overlapping(alloc, &giving.auths, prefix)?;

@@ -147,11 +147,16 @@ pub record IsAccepted (charter : Charter) (history : History) (day : ℕ) (calle
   pub sparing : IsSparing change
   pub of_command : IsOfCommand command change
 
--- denied exactly by the rules; else accepted
+-- no rule denies the command. Of an import nothing is said: its rows take memory while they are judged.
+abbrev pub IsDeniedByNone : Charter → History → ℕ → List ℕ → Command → Type 0
+IsDeniedByNone charter history day caller (Import holder rows) = Unit {0}
+IsDeniedByNone charter history day caller command = Verdict charter history day caller command None
+
+-- denied exactly by the rules; else accepted, unless memory was refused
 abbrev pub IsAnswer : Charter → History → ℕ → List ℕ → Command → Result Change Refusal → Type 0
 IsAnswer charter history day caller command (Err (Denied rule row)) =
     IsDenied charter history day caller command rule row
-IsAnswer charter history day caller command (Err Memory) = Unit {0}
+IsAnswer charter history day caller command (Err Memory) = IsDeniedByNone charter history day caller command
 IsAnswer charter history day caller command (Ok change) = IsAccepted charter history day caller command change
 
 -- the hypothetical rows are those of the history that the changes would leave; or the rule denies the first
@@ -185,10 +190,10 @@ IsListed history h day caller listed =
     ListVerdict history h day caller None
     × OfActive history h (λ active. listed ≡ filter (λ x. is_permitted_terms (grant_terms history h) day caller Look x) active)
 
--- a list is denied exactly by the verdict
+-- a list is denied exactly by the verdict; where it is not, memory may be refused
 abbrev pub IsListRefusal : History → List ℕ → ℕ → List ℕ → Refusal → Type 0
 IsListRefusal history h day caller (Denied rule row) = ListVerdict history h day caller (Some rule) × (row ≡ None)
-IsListRefusal history h day caller Memory = Unit {0}
+IsListRefusal history h day caller Memory = ListVerdict history h day caller None
 
 -- a fact about every legal history, at each holder that has these rows in it
 abbrev pub OfRows : Charter → Option Rows → (History → List ℕ → Type 0) → Type 0

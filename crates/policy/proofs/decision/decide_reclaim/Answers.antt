@@ -1,4 +1,5 @@
 use Rattle.std.proofs.Common.{sym, ◌∙◌, ap, subst, refl}
+use Rattle.std.proofs.lemmas.Result.{err_from_is_err_and}
 use Rattle.registry.specs.declared.command.Command.TheVariants.{Reclaim}
 use Rattle.registry.specs.Answer.{edit_number, IsAccepted}
 use Rattle.registry.specs.Rows.{rows_of}
@@ -7,20 +8,40 @@ use Rattle.registry.proofs.Ended.{numbers_where}
 use Rattle.policy.proofs.CarrySpace.{sparing, carries-reclaim}
 use Rattle.policy.proofs.decision.decide_reclaim.Goals as goal
 
+pub returns-in_err-rows : goal.returns-in_err-rows
+returns-in_err-rows c history legal are =
+    let refused = err_from_is_err_and c.from_residual.result c.from_residual.ensures.1 in
+    rw (refused.1, refused.2) (c.in_err-rows.ensures history c.args.basis.day are, refl)
+
+pub returns-in_err-less : goal.returns-in_err-less
+returns-in_err-less c history legal are =
+    let refused = err_from_is_err_and c.from_residual-in_err-less.result c.from_residual-in_err-less.ensures.1 in
+    rw (refused.1, refused.2) (c.in_ok-rows.ensures history c.args.basis.day are).0
+
+pub returns-in_err-ended : goal.returns-in_err-ended
+returns-in_err-ended c history legal are =
+    let refused = err_from_is_err_and c.from_residual-in_err-ended.result c.from_residual-in_err-ended.ensures.1 in
+    rw (refused.1, refused.2) (c.in_ok-rows.ensures history c.args.basis.day are).0
+
+pub returns-in_err-edit : goal.returns-in_err-edit
+returns-in_err-edit c history legal are =
+    let refused = err_from_is_err_and c.from_residual-in_err-edit.result c.from_residual-in_err-edit.ensures.1 in
+    rw (refused.1, refused.2) (c.in_ok-rows.ensures history c.args.basis.day are).0
+
 pub returns : goal.returns
 returns c history legal are =
     let a = c.args in
     let h = a.holder.name.now in
     let p = a.prefix.now in
-    let had = c.in_ok-rows.ensures history h are in
-    let held = (c.holds.ensures history h had.1).0 c.in_ok-require-2.ensures in
+    let had = c.in_ok-rows.ensures history a.basis.day are in
+    let rules = had.0.1 in
     let numbers = c.in_ok-ended.ensures ∙ ap (numbers_where (λ x. terms_overlap x p)) c.deref.ensures.value in
     subst (IsAccepted a.basis.charter.now history a.basis.day a.basis.caller.now (Reclaim h p)) (sym c.change_of.ensures) (record {
       after = _;
-      leaves = ((sym c.is_operator.ensures ∙ c.in_ok-require.ensures, (had.0, (held, tt))), refl);
+      leaves = (had.0, refl);
       numbered = ap edit_number c.in_ok-edit.ensures.is;
       carries = carries-reclaim history a.basis.day a.basis.caller.now h p c.in_ok-less.less c.in_ok-ended.ended c.in_ok-edit.edit (rows_of c.in_ok-rows.rows.now)
-          had.0 held had.1 c.in_ok-edit.ensures c.in_ok-less.ensures numbers;
+          rules.0 rules.1.0 had.1 c.in_ok-edit.ensures c.in_ok-less.ensures numbers;
       sparing = (sparing _ _ _ _ c.in_ok-edit.ensures, tt);
       of_command = (refl, tt);
     })

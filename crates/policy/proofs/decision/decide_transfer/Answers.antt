@@ -1,8 +1,6 @@
-use Rattle.std.proofs.Common.{sym, ◌∙◌, ap, refl}
-use Rattle.std.proofs.lemmas.Bool.{not-true}
-use Rattle.registry.specs.declared.command.Command.TheVariants.{Transfer}
+use Rattle.std.proofs.Common.{◌∙◌, ap, refl}
+use Rattle.std.proofs.lemmas.Result.{err_from_is_err_and}
 use Rattle.registry.specs.Answer.{edit_number}
-use Rattle.registry.specs.History.{Entry, same_name}
 use Rattle.registry.specs.Rows.{rows_of}
 use Rattle.registry.specs.Terms.{terms_overlap}
 use Rattle.registry.proofs.Names.{same_name-false}
@@ -10,22 +8,49 @@ use Rattle.registry.proofs.Ended.{numbers_where}
 use Rattle.policy.proofs.CarrySpace.{sparing, carries-transfer}
 use Rattle.policy.proofs.decision.decide_transfer.Goals as goal
 
+pub returns-in_err-giving : goal.returns-in_err-giving
+returns-in_err-giving c history day legal giver_are taker_are =
+    let refused = err_from_is_err_and c.from_residual.result c.from_residual.ensures.1 in
+    rw (refused.1, refused.2) (c.in_err-giving.ensures history day giver_are taker_are, refl)
+
+pub returns-in_err-less : goal.returns-in_err-less
+returns-in_err-less c history day legal giver_are taker_are =
+    let refused = err_from_is_err_and c.from_residual-in_err-less.result c.from_residual-in_err-less.ensures.1 in
+    rw (refused.1, refused.2) (c.in_ok-giving.ensures history day giver_are taker_are).0
+
+pub returns-in_err-more : goal.returns-in_err-more
+returns-in_err-more c history day legal giver_are taker_are =
+    let refused = err_from_is_err_and c.from_residual-in_err-more.result c.from_residual-in_err-more.ensures.1 in
+    rw (refused.1, refused.2) (c.in_ok-giving.ensures history day giver_are taker_are).0
+
+pub returns-in_err-ended : goal.returns-in_err-ended
+returns-in_err-ended c history day legal giver_are taker_are =
+    let refused = err_from_is_err_and c.from_residual-in_err-ended.result c.from_residual-in_err-ended.ensures.1 in
+    rw (refused.1, refused.2) (c.in_ok-giving.ensures history day giver_are taker_are).0
+
+pub returns-in_err-from_giver : goal.returns-in_err-from_giver
+returns-in_err-from_giver c history day legal giver_are taker_are =
+    let refused = err_from_is_err_and c.from_residual-in_err-from_giver.result c.from_residual-in_err-from_giver.ensures.1 in
+    rw (refused.1, refused.2) (c.in_ok-giving.ensures history day giver_are taker_are).0
+
+pub returns-in_err-to_taker : goal.returns-in_err-to_taker
+returns-in_err-to_taker c history day legal giver_are taker_are =
+    let refused = err_from_is_err_and c.from_residual-in_err-to_taker.result c.from_residual-in_err-to_taker.ensures.1 in
+    rw (refused.1, refused.2) (c.in_ok-giving.ensures history day giver_are taker_are).0
+
 pub returns : goal.returns
 returns c history day legal giver_are taker_are =
     let a = c.args in
     let p = a.prefix.now in
-    let e : Entry = record { day = day; caller = a.caller.now; command = Transfer p a.giver.name.now a.taker.name.now } in
-    let gave = c.in_ok-giving.ensures history a.giver.name.now giver_are in
-    let took = c.in_ok-taking.ensures history a.taker.name.now taker_are in
-    let differ = not-true (same_name a.giver.name.now a.taker.name.now) (sym c.ne.ensures ∙ c.in_ok-require-2.ensures) in
-    let held = (c.holds.ensures history a.giver.name.now gave.1).0 c.in_ok-require-3.ensures in
+    let had = c.in_ok-giving.ensures history day giver_are taker_are in
+    let rules = had.0.1 in
     let numbers = c.in_ok-ended.ensures ∙ ap (numbers_where (λ x. terms_overlap x p)) c.deref.ensures.value in record {
       after = _;
-      leaves = ((sym c.is_operator.ensures ∙ c.in_ok-require.ensures, ((gave.0, took.0), (differ, (held, tt)))), refl);
+      leaves = (had.0, refl);
       numbered = ap edit_number c.in_ok-from_giver.ensures.is;
       carries = carries-transfer history day a.caller.now a.giver.name.now a.taker.name.now p c.in_ok-less.less c.in_ok-more.more c.in_ok-ended.ended c.new.result c.in_ok-from_giver.from_giver c.in_ok-to_taker.to_taker
-          (rows_of c.in_ok-giving.giving.now) (rows_of c.in_ok-taking.taking.now)
-          gave.0 took.0 (same_name-false a.giver.name.now a.taker.name.now differ) held gave.1 took.1
+          (rows_of c.in_ok-giving.giving.now) (rows_of c.in_ok-giving.taking.now)
+          rules.0.0 rules.0.1 (same_name-false a.giver.name.now a.taker.name.now rules.1.0) rules.1.1.0 had.1.0 had.1.1
           c.in_ok-from_giver.ensures c.in_ok-less.ensures c.in_ok-to_taker.ensures c.in_ok-more.ensures numbers c.new.ensures.items;
       sparing = (sparing _ _ _ _ c.in_ok-from_giver.ensures, sparing _ _ _ _ c.in_ok-to_taker.ensures);
       of_command = (refl, refl);
