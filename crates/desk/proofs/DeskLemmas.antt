@@ -11,8 +11,7 @@ use Rattle.registry.specs.Answer.{IsAccepted, IsAnswer, IsListRefusal, IsOfComma
 use Rattle.registry.specs.declared.rule.Refusal.{Refusal}
 use Rattle.registry.specs.declared.rule.Refusal.TheVariants.{Denied, Memory}
 use Rattle.registry.specs.declared.change.Change.{Change}
-use Rattle.histories.specs.Growth.{GrowthFits, GrowthIsLegal}
-use Rattle.desk.specs.Answer.{is_import, refused_with, AnswersCommand, AnswersList, AnswersQuery, IsAnswered}
+use Rattle.desk.specs.Answer.{is_import, refused_with, AnswersCommand, AnswersList, AnswersQuery}
 use Rattle.registry.specs.declared.asked.Request.TheVariants.{Command as CommandRequest}
 use Rattle.desk.specs.declared.reply.Reply.{Reply}
 use Rattle.desk.specs.declared.reply.Reply.TheVariants.{Done, Imported, Unavailable}
@@ -28,7 +27,6 @@ use Rattle.registry.specs.declared.command.Command.{Command}
 use Rattle.registry.specs.declared.command.Command.TheVariants.{Import}
 use Rattle.registry.specs.declared.command.Query.{Query}
 use Rattle.registry.specs.declared.command.Query.TheVariants.{Show, Content, List as ListQuery, Payloads, Validity, WhatIf}
-use Rattle.registry.specs.Values.{EntryFits}
 use Rattle.registry.specs.Verdict.{IsLegal}
 use Rattle.charters.specs.declared.charter.Charter.{Charter}
 use Rattle.registry.proofs.Names.{held_by_itself}
@@ -74,6 +72,14 @@ pub tells_taken : (charter : Charter) (rows : AllRows) (history : History) → I
 tells_taken charter rows history legal has p true tells = taken_not_free rows history has p (tells.0 refl)
 tells_taken charter rows history legal has p false tells = untaken_free charter rows history legal has p (λ taken. false≢true (tells.1 taken))
 
+-- the rows after an accepted command are those of the history that it leaves
+pub rows_carried : (charter : Charter) (history : History) (day : ℕ) (caller : List ℕ) (command : Command) (change : Change) (rows : AllRows)
+    → (accepted : IsAccepted charter history day caller command change) → HasRows rows history → HasRows (changed_rows change rows) accepted.after
+rows_carried charter history day caller command change rows accepted has = record {
+  holders = λ h. accepted.carries.holders h (rows.of_holder h) (has.holders h);
+  exceptions = ap (changed_exceptions change) has.exceptions ∙ sym accepted.carries.exceptions;
+}
+
 -- ---- desks before and after
 
 module _ {S : Type 0} (g : Ghosts S) where
@@ -100,35 +106,6 @@ module _ {S : Type 0} (g : Ghosts S) where
   pub found_later : (so : History → Type 0) (old mid new : Desk S) → IsRead g old.store mid.store → IsRead g mid.store new.store → OfHistories g mid new so → OfHistories g old new so
   found_later so old mid new first second found clean history legal held =
       found clean history (subst (λ (k : Charter). IsLegal k history) (sym first.charter) legal) (still_held old mid history first.rows (second.clean clean) held)
-
-  -- a command that changes nothing
-  pub not_done : (charter : Charter) (history : History) (day : ℕ) (caller : List ℕ) (command : Command) (reply : Reply) (desk : Desk S)
-      → IsLegal charter history → AnswersCommand charter history day caller command reply history → HoldsHistory g desk history
-      → IsAnswered g charter history day caller (CommandRequest command) reply desk
-  not_done charter history day caller command reply desk legal answers held =
-      record { after = history; legal = legal; values = λ fit. fit; answers = answers; rows_after = held }
-
-  -- a command that was accepted, whose change was made
-  pub accepted_answered : GrowthIsLegal → GrowthFits → (charter : Charter) (history : History) (day : ℕ) (caller : List ℕ) (command : Command) (change : Change) (reply : Reply) (old new : Desk S)
-      → EntryFits (record { day = day; caller = caller; command = command }) → IsLegal charter history → HoldsHistory g old history → IsAccepted charter history day caller command change
-      → AnswersAccepted command change reply → HoldsAfter g old.store new.store (changed_rows change)
-      → IsAnswered g charter history day caller (CommandRequest command) reply new
-  accepted_answered grown fits charter history day caller command change reply old new values legal held accepted answers applied =
-      let rows = held.0 in
-      record {
-        after = accepted.after;
-        legal = grown charter history day caller command accepted.after legal accepted.leaves;
-        values = λ fit. fits charter history day caller command accepted.after values fit accepted.leaves;
-        answers = answers charter history day caller accepted;
-        rows_after = (
-          changed_rows change rows,
-          record {
-            holders = λ h. accepted.carries.holders h (rows.of_holder h) (held.1.holders h);
-            exceptions = ap (changed_exceptions change) held.1.exceptions ∙ sym accepted.carries.exceptions;
-          },
-          applied rows held.2,
-        );
-      }
 
   -- where all rows are kept, so are those of other holders
   pub all_kept : (changes : List ℕ → Bool) (excepts : Bool) (old new : Desk S) → KeepsRows g old new → IsOnCleanDisk g new → KeepsOthers g changes excepts old new

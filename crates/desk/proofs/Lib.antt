@@ -4,6 +4,7 @@ pub mod OneReply
 pub mod AsDone
 pub mod DeskLemmas
 pub mod RunLemmas
+pub mod CrashLemmas
 pub mod DailyLemmas
 pub mod ExportLemmas
 pub mod ExceptionLemmas

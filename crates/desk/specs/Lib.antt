@@ -1,4 +1,5 @@
 pub mod Answer
+pub mod CrashOutcomes
 pub mod Run
 pub mod AsDone
 pub mod HolderAnswers

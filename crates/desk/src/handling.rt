@@ -1,5 +1,5 @@
 //! The desk, and how it handles requests.
-ghost use Rattle.std.specs.Prelude.{◌≡◌, ◌≢◌, false, None, [], Err, IfOk, OnOk, OnErr};
+ghost use Rattle.std.specs.Prelude.{◌≡◌, ◌≢◌, true, false, None, [], ◌∷◌, Err, IfOk, OnOk, OnErr};
 ghost use Rattle.registry.specs.History.{History};
 ghost use Rattle.registry.specs.Rows.{rows_if_any, RowsIfAny};
 ghost use Rattle.sqlite.specs.Held.{state};
@@ -9,6 +9,7 @@ ghost use Rattle.store.specs.StoreRows.{connection_state, IfClean, IsRead, IsOpe
 ghost use Rattle.database.specs.Databases.{IsDeskWhileOpen, IsNew, IsUnused, LeavesNew};
 ghost use Rattle.database.specs.Databases.{IsHonest, IsOfAnotherSchema};
 ghost use Rattle.desk.specs.Answer.{is_accepted, IsAnswered};
+ghost use Rattle.desk.specs.CrashOutcomes.{asked_on, AreKept, IsKept, LeavesAlong, StaysOpen};
 ghost use Rattle.desk.specs.Run.{AreAnswered};
 ghost use Rattle.desk.specs.HolderAnswers.{may_change, may_change_any, may_except, may_except_any};
 ghost use Rattle.desk.specs.HolderAnswers.{IsAnswerByEntries, KeepsOthers, RunsByEntries};
@@ -85,6 +86,13 @@ impl<S: Alter> Desk<S> {
         ensures charter { charter_of self.new ≡ charter_of self.old }
         ensures clean { IsOnCleanDisk S.Store self.new → IsOnCleanDisk S.Store self.old }
         ensures kept { is_accepted result ≡ false → KeepsRows S.Store self.old self.new }
+        ensures is_open { is_accepted result ≡ true → StaysOpen S.Store self.new }
+        ensures left { OfHistories S.Store self.old self.new (λ history.
+            IsKept S.Store (charter_of self.old) history (asked_on day caller.now request.now) result
+            self.old self.new) }
+        ensures crash { OfHistories S.Store self.old self.new (λ history.
+            LeavesAlong S.Store (charter_of self.old) self.old history
+            (λ pending. asked_on day caller.now request.now ∷ pending) self.new history) }
         ensures isolated { OfHistories S.Store self.old self.new (λ history.
             IsAnswerByEntries (charter_of self.old) history day caller.now request.now result) }
         ensures others { OfHistories S.Store self.old self.new (λ _.
@@ -103,6 +111,8 @@ impl<S: Alter> Desk<S> {
     pub fn run(&mut self, asked: &[Asked]) -> Result<Vec<Reply>, AllocError>
         ensures answered { IfOk result (λ replies. OfHistories S.Store self.old self.new (λ history.
             AreAnswered S.Store (charter_of self.old) history asked.now replies.items self.new)) }
+        ensures left { IfOk result (λ replies. OfHistories S.Store self.old self.new (λ history.
+            AreKept S.Store (charter_of self.old) history asked.now replies.items self.old self.new)) }
         ensures charter { charter_of self.new ≡ charter_of self.old }
         ensures clean { IsOnCleanDisk S.Store self.new → IsOnCleanDisk S.Store self.old }
         ensures err { OnErr result (self.new ≡ self.old) }

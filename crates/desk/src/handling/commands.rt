@@ -3,7 +3,8 @@ ghost use Rattle.std.specs.Prelude.{◌≡◌, true, false, option_copied, IfOk,
 ghost use Rattle.registry.specs.Answer.{IsAccepted, IsViewOf, RowsOfNamed, ReportsTaken};
 ghost use Rattle.registry.specs.Rows.{rows_if_any, RowsIfAny};
 ghost use Rattle.store.specs.StoreRows.{IsRead};
-ghost use Rattle.desk.specs.Answer.{is_accepted, AnswersCommand, IsAnswered};
+ghost use Rattle.desk.specs.Answer.{is_accepted, AnswersCommand};
+ghost use Rattle.desk.specs.CrashOutcomes.{asked_on, IsKept, StaysOpen};
 ghost use Rattle.desk.specs.Desk.{charter_of, IsOnCleanDisk, KeepsRows, OfHistories};
 ghost use Rattle.desk.specs.HolderAnswers.{may_change, may_except, KeepsOthers};
 ghost use Rattle.desk.specs.steps.Accepting.{AnswersAccepted};
@@ -36,12 +37,13 @@ impl<S: Alter> Desk<S> {
     /// Judges the command, and makes its change where it is accepted. The commit comes last, so
     /// that nothing fails after it.
     pub(super) fn carry_out(&mut self, day: Day, caller: &Name, command: &Command) -> Reply
-        ensures answered { OfHistories S.Store self.old self.new (λ history.
-            IsAnswered S.Store (charter_of self.old) history day caller.now
-            (Request.Command command.now) result self.new) }
+        ensures left { OfHistories S.Store self.old self.new (λ history.
+            IsKept S.Store (charter_of self.old) history (asked_on day caller.now (Request.Command command.now)) result
+            self.old self.new) }
         ensures charter { charter_of self.new ≡ charter_of self.old }
         ensures clean { IsOnCleanDisk S.Store self.new → IsOnCleanDisk S.Store self.old }
         ensures kept { is_accepted result ≡ false → KeepsRows S.Store self.old self.new }
+        ensures is_open { is_accepted result ≡ true → StaysOpen S.Store self.new }
         ensures others { OfHistories S.Store self.old self.new (λ _.
             KeepsOthers S.Store (may_change (Request.Command command.now))
             (may_except (Request.Command command.now)) self.old self.new) }

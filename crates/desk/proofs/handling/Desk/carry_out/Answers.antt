@@ -2,33 +2,38 @@ use Rattle.std.proofs.Common.{refl}
 use Rattle.desk.specs.Desk.{charter_of}
 use Rattle.desk.specs.HolderAnswers.{may_change, may_except}
 use Rattle.registry.specs.declared.asked.Request.TheVariants.{Command as CommandRequest}
-use Rattle.desk.specs.declared.reply.Reply.TheVariants.{Unavailable}
-use Rattle.desk.proofs.DeskLemmas.{still_held, not_done, accepted_answered, all_kept, changed_kept}
+use Rattle.desk.specs.CrashOutcomes.{asked_on}
+use Rattle.desk.proofs.CrashLemmas.{accepted_kept, failed_kept, read_kept}
+use Rattle.desk.proofs.DeskLemmas.{still_held, all_kept, changed_kept}
 use Rattle.desk.proofs.handling.Desk.carry_out.Goals as goal
 
-pub returns-in-Err-clause-answered : goal.returns-in-Err-clause-answered
-returns-in-Err-clause-answered g c clean history legal held =
-    not_done g.S.Store (charter_of c.args.self.now) history c.args.day c.args.caller.now c.args.command.now c.in-Err.refused c.decide.new.self legal
-    (c.in-Err.ensures.answer clean history legal held) (still_held g.S.Store c.args.self.now c.decide.new.self history c.in-Err.ensures.read.rows clean held)
+pub returns-in-Err-clause-left : goal.returns-in-Err-clause-left
+returns-in-Err-clause-left g c clean history legal held =
+    read_kept g.S.Store history (asked_on c.args.day c.args.caller.now (CommandRequest c.args.command.now)) c.in-Err.refused c.args.self.now c.decide.new.self
+    c.in-Err.ensures.never_done c.in-Err.ensures.read clean legal (c.in-Err.ensures.answer clean history legal held) held
 
-pub returns-in-Ok-apply-clause-answered : goal.returns-in-Ok-apply-clause-answered
-returns-in-Ok-apply-clause-answered g c clean history legal held =
+pub returns-in-Ok-apply-clause-left : goal.returns-in-Ok-apply-clause-left
+returns-in-Ok-apply-clause-left g c clean history legal held =
     let mid = c.decide.new.self in
     let before = c.in-Ok-apply.ensures.clean clean in
-    accepted_answered g.S.Store c.growth_is_legal.ensures c.growth_fits.ensures (charter_of c.args.self.now) history c.args.day c.args.caller.now c.args.command.now c.in-Ok.change c.accepted-reply.result
-    mid (record mid { store = c.apply.new.self })
-    c.entry_fits.ensures legal (still_held g.S.Store c.args.self.now mid history c.in-Ok.ensures.read.rows before held)
-    (c.in-Ok.ensures.answer before history legal held) c.accepted-reply.ensures.answers (c.in-Ok-apply.ensures.ok clean)
+    accepted_kept g.S.Store c.growth_is_legal.ensures c.growth_fits.ensures history c.args.day c.args.caller.now c.args.command.now c.in-Ok.change c.accepted-reply.result
+    c.args.self.now mid (record mid { store = c.apply.new.self }) c.entry_fits.ensures c.in-Ok.ensures.read legal
+    (still_held g.S.Store c.args.self.now mid history c.in-Ok.ensures.read.rows before held) (c.in-Ok.ensures.answer before history legal held)
+    c.accepted-reply.ensures.answers (c.in-Ok-apply.ensures.ok clean) (c.in-Ok-apply.ensures.left clean)
 
 pub returns-clause-kept : goal.returns-clause-kept
-returns-clause-kept g c not_done clean rows holds =
+returns-clause-kept g c refused clean rows holds =
     c.in-Err-apply.ensures.err clean rows (c.in-Ok.ensures.read.rows (c.in-Err-apply.ensures.clean clean) rows holds)
 
-pub returns-clause-answered : goal.returns-clause-answered
-returns-clause-answered g c clean history legal held =
-    let new = record c.decide.new.self { store = c.apply.new.self } in
-    not_done g.S.Store (charter_of c.args.self.now) history c.args.day c.args.caller.now c.args.command.now Unavailable new legal refl
+pub returns-clause-left : goal.returns-clause-left
+returns-clause-left g c clean history legal held =
+    let mid = c.decide.new.self in
+    let new = record mid { store = c.apply.new.self } in
+    let before = c.in-Err-apply.ensures.clean clean in
+    failed_kept g.S.Store history c.args.day c.args.caller.now c.args.command.now c.in-Ok.change c.accepted-reply.result c.args.self.now mid new
+    c.in-Ok.ensures.read before legal (still_held g.S.Store c.args.self.now mid history c.in-Ok.ensures.read.rows before held)
     (still_held g.S.Store c.args.self.now new history (returns-clause-kept g c refl) clean held)
+    (c.in-Ok.ensures.answer before history legal held) c.accepted-reply.ensures.answers c.accepted-reply.ensures.accepted (c.in-Err-apply.ensures.crash clean)
 
 pub returns-in-Err-clause-others : goal.returns-in-Err-clause-others
 returns-in-Err-clause-others g c clean history legal held =
