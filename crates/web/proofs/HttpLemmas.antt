@@ -1,5 +1,6 @@
 -- The answers to HTTP requests and the responses that give them.
-use Rattle.std.proofs.Common.{◌≡◌, ℕ, List, ◌++◌, Option, Some, None, Result, Ok, Err, refl, ap, ◌∙◌, append_assoc, inl, inr}
+use Rattle.std.proofs.Common.{◌≡◌, ℕ, Bool, true, false, List, ◌++◌, codes, Option, Some, None, Result, Ok, Err, refl, sym, ap, ◌∙◌, append_assoc, get_or, inl, inr}
+use Rattle.std.specs.Fmt.{digits}
 use Rattle.std.specs.Global.{Vec}
 use Rattle.std.proofs.lemmas.Option.{same_Some}
 use Rattle.std.specs.Prelude.{IfSome}
@@ -8,27 +9,28 @@ use Rattle.sqlite.specs.Store.{Ghosts}
 use Rattle.addr.specs.declared.vrp.Vrp.{Vrp}
 use Rattle.registry.specs.declared.authorization.Auth.{Auth}
 use Rattle.registry.specs.History.{History}
-use Rattle.registry.specs.Verdict.{IsLegal}
 use Rattle.charters.specs.declared.charter.Charter.{Charter}
 use Rattle.http_messages.specs.HeadEnd.{IsWholeHead}
 use Rattle.http_messages.specs.Input.{Gives}
 use Rattle.requests.specs.RequestHeads.{AnswersHead, Head, head_view}
 use Rattle.requests.specs.declared.head.Head.{Head as HeadRead}
+use Rattle.http_messages.specs.ResponseText.{response_head, status_line}
 use Rattle.http_messages.specs.declared.response.ContentType.{ContentType}
 use Rattle.http_messages.specs.declared.response.ContentType.TheVariants.{Csv}
 use Rattle.http_messages.specs.declared.status.Status.TheVariants.{Done as DoneStatus, Forbidden, ServiceUnavailable}
-use Rattle.desk.specs.Answer.{AnswersRequest, IsAnswered}
-use Rattle.desk.specs.Desk.{charter_of, HoldsHistory, IsOnCleanDisk}
+use Rattle.desk.specs.Answer.{AnswersRequest, is_accepted}
+use Rattle.desk.specs.Desk.{charter_of, KeepsRows}
 use Rattle.registry.specs.declared.asked.Asked.{Asked}
 use Rattle.registry.specs.declared.asked.Request.{Request}
 use Rattle.registry.specs.declared.asked.Request.TheVariants.{Command as CommandRequest, Query as QueryRequest}
 use Rattle.desk.specs.declared.handling.Desk.{Desk}
 use Rattle.desk.specs.declared.reply.Reply.{Reply}
 use Rattle.desk.specs.declared.reply.Reply.TheVariants.{Done, Imported, Listed, Payloads, Denied, Unavailable}
-use Rattle.web.specs.HttpAnswers.{KeepsHistories, RepliesAt, RespondsTo}
+use Rattle.web.specs.HttpAnswers.{KeepsAll, RespondsTo}
 use Rattle.requests.specs.HttpRequests.{asked, malformed, refused, SaysHead}
-use Rattle.web.specs.HttpResponses.{json_response, reply_body, reply_response, reply_status}
+use Rattle.web.specs.HttpResponses.{HasErrorStatus, json_response, reply_body, reply_response, reply_status}
 use Rattle.web.specs.ReplyText.{line_text, short_text}
+use Rattle.web.specs.ScriptAnswer.{RepliesAt}
 use Rattle.web.specs.steps.HttpAnswering.{AnswersNext, IsReplyResponse, ReadsNext}
 use Rattle.web.specs.declared.http.reading.Next.{Next}
 use Rattle.web.specs.declared.http.reading.Next.TheVariants.{Asked as AskedNext, Malformed, NotRead, Refused}
@@ -87,24 +89,53 @@ long-keeps charter before after day caller (CommandRequest command) (Denied rule
 long-keeps charter before after day caller (CommandRequest command) Unavailable answers long = answers
 long-keeps charter before after day caller (CommandRequest command) other answers long = absurd answers
 
-module _ {S : Type 0} (g : Ghosts S) where
-  -- the desk answered a request
-  pub replies_at : (old new : Desk S) (request : Asked) (reply : Reply) → charter_of new ≡ charter_of old
-      → (IsOnCleanDisk g new → (history : History) → IsLegal (charter_of old) history → HoldsHistory g old history
-      → IsAnswered g (charter_of old) history request.day request.caller request.request reply new)
-      → RepliesAt g old request reply new
-  replies_at old new request reply charter answered = λ clean before stands.
-      let is = answered clean before stands.legal stands.rows in
-      (is.after, record { chartered = charter; legal = is.legal; rows = is.rows_after }, is.values, is.answers)
+-- only a reply that shows nothing is of an accepted command
+shown-unaccepted : (reply : Reply) → short_text reply ≡ None → is_accepted reply ≡ false
+shown-unaccepted (Done number) long = cc
+shown-unaccepted (Imported made present) long = cc
+shown-unaccepted other long = refl
 
-  pub same_keeps : (desk : Desk S) → KeepsHistories g desk desk
-  same_keeps desk = λ clean before stands. (before, stands, λ fits. fits, refl)
+-- the status line of a response to a reply of an accepted command
+accepted_line : (form : ContentType) (reply : Reply) → is_accepted reply ≡ true
+    → (rest : List ℕ) × (reply_response form reply ≡ codes "HTTP/1.1 200" ++ rest)
+unfolding response_head digits
+accepted_line form (Done number) accepted = (_, refl)
+accepted_line form (Imported made present) accepted = (_, refl)
+accepted_line form other accepted = cc
+
+two_is_four : ◌≡◌ {A = ℕ} 50 52 → ⊥
+two_is_four same = cc
+
+two_is_five : ◌≡◌ {A = ℕ} 50 53 → ⊥
+two_is_five same = cc
+
+-- that of an error is another, from the first digit on
+error_line : (rest : List ℕ) → HasErrorStatus (codes "HTTP/1.1 200" ++ rest) → ⊥
+unfolding digits
+error_line rest (DoneStatus, more, other, is) = other refl
+error_line rest (ServiceUnavailable, more, other, is) = two_is_five (ap (λ line. get_or line 9 0) is)
+error_line rest (status, more, other, is) = two_is_four (ap (λ line. get_or line 9 0) is)
+
+-- a text that begins so has it too
+pub longer_error : (text more : List ℕ) → HasErrorStatus text → HasErrorStatus (text ++ more)
+longer_error text more (status, rest, other, is) =
+    let line = codes "HTTP/1.1 " ++ status_line status in
+    let appended : text ≡ line ++ rest = is ∙ sym (append_assoc (codes "HTTP/1.1 ") (status_line status) rest) in
+    (status, rest ++ more, other,
+     ap (λ u. u ++ more) appended ∙ append_assoc line rest more ∙ append_assoc (codes "HTTP/1.1 ") (status_line status) (rest ++ more))
+
+module _ {S : Type 0} (g : Ghosts S) where
+  pub same_keeps : (desk : Desk S) → KeepsAll g desk desk
+  same_keeps desk = (λ clean rows holds. holds, λ clean before stands. (before, stands, λ fits. fits, refl))
 
   shown_keeps : (old new : Desk S) (request : Asked) (reply : Reply) → RepliesAt g old request reply new
-      → short_text reply ≡ None → KeepsHistories g old new
-  shown_keeps old new request reply replies long = λ clean before stands.
-      let (after, stands_after, values, answers) = replies clean before stands in
-      (after, stands_after, values, long-keeps (charter_of old) before after request.day request.caller request.request reply answers long)
+      → short_text reply ≡ None → KeepsAll g old new
+  shown_keeps old new request reply replies long = (
+    replies.kept (shown-unaccepted reply long),
+    λ clean before stands.
+        let (after, stands_after, values, answers) = replies.replies clean before stands in
+        (after, stands_after, values, long-keeps (charter_of old) before after request.day request.caller request.request reply answers long),
+  )
 
   -- a request that the desk answered, and the response to its reply
   answers-asked : (old new : Desk S) (form : ContentType) (request : Asked) (reply : Reply) (text : List ℕ)
@@ -137,6 +168,20 @@ module _ {S : Type 0} (g : Ghosts S) where
   responds old new day bytes text (AskedNext form request) reads (inl answers) = inl (asked form request, reads, answers)
   responds old new day bytes text (AskedNext form request) reads (inr (is, keeps)) = inr (inr (reads.0, reads.1, reads.2), is, keeps)
   responds old new day bytes text NotRead within (is, keeps) = inr (within, is, keeps)
+
+  -- a response of an error keeps the rows
+  pub keeps_rows : (old new : Desk S) (day : ℕ) (bytes text : List ℕ) → RespondsTo g old day bytes text new
+      → HasErrorStatus text → KeepsRows g old new
+  keeps_rows old new day bytes text (inl (refused refusal, reads, (is, same))) error = λ clean rows holds. rw same holds
+  keeps_rows old new day bytes text (inl (malformed fault, reads, (is, same))) error = λ clean rows holds. rw same holds
+  keeps_rows old new day bytes text (inl (asked form request, reads, (reply, is, replies))) error = go (is_accepted reply) refl
+    where
+      go : (accepted : Bool) → is_accepted reply ≡ accepted → KeepsRows g old new
+      go false unaccepted = replies.kept unaccepted
+      go true accepted =
+          let (rest, line) = accepted_line form reply accepted in
+          absurd (error_line rest (rw (← line, ← is) error))
+  keeps_rows old new day bytes text (inr (within, is, keeps)) error = keeps.0
 
 -- the head, and then the rest of the message
 pub next-read : (day : ℕ) (r : Option Next) (said : Head) (head before between after : List ℕ)

@@ -1,3 +1,4 @@
+pub mod DeskReplies
 pub mod HttpLemmas
 pub mod LineSplits
 pub mod ReplyLemmas

@@ -1,23 +1,16 @@
 -- What a desk answers to an HTTP request, and the history that this leaves.
 use Rattle.std.specs.Prelude.{◌≡◌, ◌⊎◌, ℕ, List}
 use Rattle.sqlite.specs.Store.{Ghosts}
-use Rattle.desk.specs.Answer.{AnswersRequest}
-use Rattle.desk.specs.Desk.{charter_of}
-use Rattle.registry.specs.declared.asked.Asked.{Asked}
+use Rattle.desk.specs.Desk.{KeepsRows}
 use Rattle.desk.specs.declared.handling.Desk.{Desk}
 use Rattle.desk.specs.declared.reply.Reply.{Reply}
 use Rattle.requests.specs.HttpRequests.{asked, HttpRequest, IsWithinMessage, malformed, ReadsHttp, refused}
 use Rattle.web.specs.HttpResponses.{malformed_response, refusal_response, reply_response, unavailable_response}
-use Rattle.web.specs.ScriptAnswer.{OnHistories}
+use Rattle.web.specs.ScriptAnswer.{OnHistories, RepliesAt}
 
--- the reply to a request, on each history that the desk represents
-abbrev pub RepliesAt : {S : Type 0} → Ghosts S → Desk S → Asked → Reply → Desk S → Type 0
-RepliesAt g old request reply new = OnHistories g old new (λ before after.
-    AnswersRequest (charter_of old) before request.day request.caller request.request reply after)
-
--- each history that the desk represents stays
-abbrev pub KeepsHistories : {S : Type 0} → Ghosts S → Desk S → Desk S → Type 0
-KeepsHistories g old new = OnHistories g old new (λ before after. after ≡ before)
+-- the rows of the tables stay, and each history that the desk represents
+abbrev pub KeepsAll : {S : Type 0} → Ghosts S → Desk S → Desk S → Type 0
+KeepsAll g old new = KeepsRows g old new × OnHistories g old new (λ before after. after ≡ before)
 
 -- the response to what the bytes ask, a list in the form that the request wants; what is refused or malformed does not
 -- reach the desk
@@ -32,4 +25,4 @@ AnswersHttp g old (asked form request) text new =
 abbrev pub RespondsTo : {S : Type 0} → Ghosts S → Desk S → ℕ → List ℕ → List ℕ → Desk S → Type 0
 RespondsTo g old day bytes text new =
     ((request : HttpRequest) × ReadsHttp day bytes request × AnswersHttp g old request text new)
-    ⊎ (IsWithinMessage bytes × (text ≡ unavailable_response) × KeepsHistories g old new)
+    ⊎ (IsWithinMessage bytes × (text ≡ unavailable_response) × KeepsAll g old new)

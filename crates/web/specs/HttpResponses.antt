@@ -1,7 +1,7 @@
 -- The texts of responses to HTTP requests: as http_messages defines them, with the text of a reply as their body. VRPs
 -- and exports are sent as CSV, everything else in JSON.
-use Rattle.std.specs.Prelude.{ℕ, List}
-use Rattle.http_messages.specs.ResponseText.{fault_text, refused_status, response_text}
+use Rattle.std.specs.Prelude.{◌≡◌, ◌≢◌, ℕ, List, ◌++◌, codes}
+use Rattle.http_messages.specs.ResponseText.{fault_text, refused_status, response_text, status_line}
 use Rattle.http_messages.specs.declared.refusal.Refusal.{Refusal}
 use Rattle.http_messages.specs.declared.response.ContentType.{ContentType}
 use Rattle.http_messages.specs.declared.response.ContentType.TheVariants.{Csv, Json}
@@ -49,3 +49,9 @@ reply_response form reply =
 -- where an allocation failed
 abbrev pub unavailable_response : List ℕ
 unavailable_response = json_response ServiceUnavailable unavailable_text
+
+-- the bytes begin with the status line of an error, which is every status but 200
+abbrev pub HasErrorStatus : List ℕ → Type 0
+HasErrorStatus bytes =
+    (status : Status) × (rest : List ℕ) × (status ≢ DoneStatus)
+    × (bytes ≡ codes "HTTP/1.1 " ++ status_line status ++ rest)

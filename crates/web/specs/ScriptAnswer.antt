@@ -1,13 +1,13 @@
 -- What a script's line is answered with, and the history that this leaves: a line that is no request
 -- has its malformed text, another the text of the desk's reply; a line for which an allocation failed
 -- has the text of Unavailable and is in no history.
-use Rattle.std.specs.Prelude.{◌≡◌, ℕ, List, Option, Some, None, ◌⊎◌}
+use Rattle.std.specs.Prelude.{◌≡◌, ℕ, false, List, Option, Some, None, ◌⊎◌}
 use Rattle.sqlite.specs.Store.{Ghosts}
 use Rattle.registry.specs.History.{History}
 use Rattle.registry.specs.Values.{HistoryFits}
 use Rattle.charters.specs.declared.charter.Charter.{Charter}
-use Rattle.desk.specs.Answer.{AnswersRequest}
-use Rattle.desk.specs.Desk.{charter_of, IsOnCleanDisk, Represents}
+use Rattle.desk.specs.Answer.{AnswersRequest, is_accepted}
+use Rattle.desk.specs.Desk.{charter_of, IsOnCleanDisk, KeepsRows, Represents}
 use Rattle.requests.specs.MalformedText.{malformed_text}
 use Rattle.web.specs.ReplyText.{line_text, unavailable_text}
 use Rattle.requests.specs.RequestFaults.{request_fault, too_long}
@@ -54,6 +54,14 @@ OnHistories g old new goes_on =
 pub record IsLaterDesk {S : Type 0} (g : Ghosts S) (old new : Desk S) : Type 0 where
   pub charter : charter_of new ≡ charter_of old
   pub clean : IsOnCleanDisk g new → IsOnCleanDisk g old
+
+-- The reply of a desk to a request: it is that on each history that the desk represents, and one to no accepted
+-- command leaves the rows, whether they are those of a history or not.
+pub record RepliesAt {S : Type 0} (g : Ghosts S) (old : Desk S) (request : Asked) (reply : Reply) (new : Desk S) : Type 0 where
+  pub later : IsLaterDesk g old new
+  pub replies : OnHistories g old new (λ before after.
+      AnswersRequest (charter_of old) before request.day request.caller request.request reply after)
+  pub kept : is_accepted reply ≡ false → KeepsRows g old new
 
 -- the answer to a line by a desk: that of every history that it represents
 abbrev pub AnswersLineAt : {S : Type 0} → Ghosts S → Desk S → Option (List ℕ) → List ℕ → Desk S → Type 0

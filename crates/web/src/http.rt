@@ -1,9 +1,12 @@
 //! The desk over HTTP, one request a connection.
 ghost use Rattle.std.specs.Prelude.{◌≡◌, ◌++◌, ℕ, List, Err, true, OnOk};
+ghost use Rattle.std.specs.Io.{appended_bytes};
 ghost use Rattle.streams.specs.Streams.{AppendsBeginning};
+ghost use Rattle.desk.specs.Desk.{KeepsRows};
 ghost use Rattle.http_messages.specs.Input.{Gives, IsOver};
 ghost use Rattle.requests.specs.HttpRequests.{IsCutShort};
 ghost use Rattle.web.specs.HttpAnswers.{RespondsTo};
+ghost use Rattle.web.specs.HttpResponses.{HasErrorStatus};
 ghost use Rattle.web.specs.ScriptAnswer.{IsLaterDesk};
 
 mod body;
@@ -66,6 +69,10 @@ pub fn serve_one<S: Source, D: Drain, A: Alter>(
         × RespondsTo A.Store desk.old day bytes text desk.new
         × AppendsBeginning (D.written drain.old) (D.written drain.new) text }
     ensures write_failed { result ≡ Err WebFault.Write → D.has_failed drain.new ≡ true }
+
+    // A response of another status than 200 leaves the rows, even if it breaks off.
+    ensures kept { HasErrorStatus (appended_bytes (D.written drain.old) (D.written drain.new))
+        → KeepsRows A.Store desk.old desk.new }
 
     ensures desk { IsLaterDesk A.Store desk.old desk.new }
 {

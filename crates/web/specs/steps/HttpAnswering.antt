@@ -5,7 +5,7 @@ use Rattle.http_messages.specs.declared.response.ContentType.{ContentType}
 use Rattle.desk.specs.declared.handling.Desk.{Desk}
 use Rattle.desk.specs.declared.reply.Reply.{Reply}
 use Rattle.requests.specs.HttpRequests.{asked, IsWithinMessage, malformed, ReadsHttp, refused}
-use Rattle.web.specs.HttpAnswers.{AnswersHttp, KeepsHistories}
+use Rattle.web.specs.HttpAnswers.{AnswersHttp, KeepsAll}
 use Rattle.web.specs.HttpResponses.{reply_response, unavailable_response}
 use Rattle.web.specs.ReplyText.{short_text}
 use Rattle.web.specs.declared.http.reading.Next.{Next}
@@ -20,7 +20,7 @@ ReadsNext day bytes NotRead = IsWithinMessage bytes
 
 -- the response says that an allocation failed, and nothing has changed
 abbrev pub AnswersUnavailable : {S : Type 0} → Ghosts S → Desk S → List ℕ → Desk S → Type 0
-AnswersUnavailable g old text new = (text ≡ unavailable_response) × KeepsHistories g old new
+AnswersUnavailable g old text new = (text ≡ unavailable_response) × KeepsAll g old new
 
 -- the response to what was read
 abbrev pub AnswersNext : {S : Type 0} → Ghosts S → Desk S → Next → List ℕ → Desk S → Type 0

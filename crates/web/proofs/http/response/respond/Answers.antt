@@ -1,7 +1,8 @@
 use Rattle.std.proofs.Common.{◌≡◌, ◌++◌, refl}
 use Rattle.streams.specs.Streams.{AppendsBeginning}
 use Rattle.web.specs.steps.HttpAnswering.{AnswersNext}
-use Rattle.web.proofs.HttpLemmas.{asked-err, asked-ok, replies_at, same_keeps, text-err}
+use Rattle.web.proofs.DeskReplies.{replies_at}
+use Rattle.web.proofs.HttpLemmas.{asked-err, asked-ok, same_keeps, text-err}
 use Rattle.web.proofs.http.response.respond.Goals as goal
 
 pub returns-in-Refused-clause-err : goal.returns-in-Refused-clause-err
@@ -23,7 +24,8 @@ returns-in-Asked-clause-ok g c =
     c.handle-reply.result
     (λ text. g.D.Drain.written c.write_reply_response.new.drain ≡ g.D.Drain.written c.args.drain.now ++ text)
     (replies_at g.A.Store c.args.desk.now c.handle-reply.new.self c.in-Asked.asked c.handle-reply.result
-    c.handle-reply.ensures.charter c.handle-reply.ensures.answered) c.write_reply_response.ensures.ok)
+    (record { charter = c.handle-reply.ensures.charter; clean = c.handle-reply.ensures.clean })
+    c.handle-reply.ensures.answered c.handle-reply.ensures.kept) c.write_reply_response.ensures.ok)
 
 pub returns-in-Asked-clause-err : goal.returns-in-Asked-clause-err
 returns-in-Asked-clause-err g c =
@@ -32,7 +34,8 @@ returns-in-Asked-clause-err g c =
     c.handle-reply.result
     (AppendsBeginning (g.D.Drain.written c.args.drain.now) (g.D.Drain.written c.write_reply_response.new.drain))
     (replies_at g.A.Store c.args.desk.now c.handle-reply.new.self c.in-Asked.asked c.handle-reply.result
-    c.handle-reply.ensures.charter c.handle-reply.ensures.answered) c.write_reply_response.ensures.err)
+    (record { charter = c.handle-reply.ensures.charter; clean = c.handle-reply.ensures.clean })
+    c.handle-reply.ensures.answered c.handle-reply.ensures.kept) c.write_reply_response.ensures.err)
 
 pub returns-in-NotRead-clause-err : goal.returns-in-NotRead-clause-err
 returns-in-NotRead-clause-err g c =
