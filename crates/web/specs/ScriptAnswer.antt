@@ -1,7 +1,7 @@
--- What a script's line is answered with, and the history that this leaves: a line that is no request
--- has its malformed text, another the text of the desk's reply; a line for which an allocation failed
--- has the text of Unavailable and is in no history.
-use Rattle.std.specs.Prelude.{◌≡◌, ℕ, false, List, Option, Some, None, ◌⊎◌}
+-- What a script's line is answered with, and what this leaves: a line that is no request has its malformed text,
+-- another the text of the reply; a line for which an allocation failed has the text of Unavailable and changes
+-- nothing.
+use Rattle.std.specs.Prelude.{◌≡◌, ℕ, true, false, List, ◌++◌, Option, Some, None, ◌⊎◌}
 use Rattle.sqlite.specs.Store.{Ghosts}
 use Rattle.registry.specs.History.{History}
 use Rattle.registry.specs.Values.{HistoryFits}
@@ -20,25 +20,12 @@ use Rattle.requests.specs.declared.malformed.Malformed.{Malformed}
 use Rattle.web.specs.declared.session.LineAnswer.{LineAnswer}
 use Rattle.web.specs.declared.session.LineAnswer.TheVariants.{Refused, Replied}
 
--- the line is no request, and the text says why
-abbrev pub IsRefused : List ℕ → List ℕ → Type 0
-IsRefused line text = (m : Malformed) × (request_fault line ≡ Some m) × (text ≡ malformed_text m)
+-- ---- replies
 
--- the line is a request, and the text is the desk's reply to it
-abbrev pub IsReplied : Charter → History → List ℕ → List ℕ → History → Type 0
-IsReplied charter before line text after =
-    (asked : Asked) × (reply : Reply)
-    × ReadsLine line asked
-    × AnswersRequest charter before asked.day asked.caller asked.request reply after
-    × (text ≡ line_text reply)
-
--- the answer to a line, `None` where it is over the limit
-abbrev pub AnswersLine : Charter → History → Option (List ℕ) → List ℕ → History → Type 0
-AnswersLine charter before None text after = (text ≡ malformed_text too_long) × (after ≡ before)
-AnswersLine charter before (Some line) text after =
-    (IsRefused line text × (after ≡ before))
-    ⊎ (IsReplied charter before line text after
-    ⊎ ((text ≡ unavailable_text) × (after ≡ before)))
+-- the reply to a request on a history, and the history that it leaves
+abbrev pub RepliesOn : Charter → History → Asked → Reply → History → Type 0
+RepliesOn charter before request reply after =
+    AnswersRequest charter before request.day request.caller request.request reply after
 
 -- Each history that the old desk represents goes on to one that the new desk represents, of values of their
 -- types where the first was so. Nothing is said where the disk returned what was not written.
@@ -59,26 +46,64 @@ pub record IsLaterDesk {S : Type 0} (g : Ghosts S) (old new : Desk S) : Type 0 w
 -- command leaves the rows, whether they are those of a history or not.
 pub record RepliesAt {S : Type 0} (g : Ghosts S) (old : Desk S) (request : Asked) (reply : Reply) (new : Desk S) : Type 0 where
   pub later : IsLaterDesk g old new
-  pub replies : OnHistories g old new (λ before after.
-      AnswersRequest (charter_of old) before request.day request.caller request.request reply after)
+  pub replies : OnHistories g old new (λ before after. RepliesOn (charter_of old) before request reply after)
   pub kept : is_accepted reply ≡ false → KeepsRows g old new
 
--- the answer to a line by a desk: that of every history that it represents
+-- ---- answers to lines, by what `replies state request reply next` says may be replied to a request, and which state
+-- that leaves
+
+-- the line is no request, and the text says why
+abbrev pub IsRefused : List ℕ → List ℕ → Type 0
+IsRefused line text = (m : Malformed) × (request_fault line ≡ Some m) × (text ≡ malformed_text m)
+
+-- the line is a request, and the text is the reply to it
+abbrev pub IsReplied : {State : Type 0} → (State → Asked → Reply → State → Type 0)
+    → State → List ℕ → List ℕ → State → Type 0
+IsReplied replies old line text new =
+    (request : Asked) × (reply : Reply)
+    × ReadsLine line request
+    × replies old request reply new
+    × (text ≡ line_text reply)
+
+-- the answer to a line, `None` where it is over the limit
+abbrev pub AnswersLine : {State : Type 0} → (State → Asked → Reply → State → Type 0)
+    → State → Option (List ℕ) → List ℕ → State → Type 0
+AnswersLine replies old None text new = (text ≡ malformed_text too_long) × (new ≡ old)
+AnswersLine replies old (Some line) text new =
+    (IsRefused line text × (new ≡ old))
+    ⊎ (IsReplied replies old line text new
+    ⊎ ((text ≡ unavailable_text) × (new ≡ old)))
+
+-- the answer of a desk to a line
 abbrev pub AnswersLineAt : {S : Type 0} → Ghosts S → Desk S → Option (List ℕ) → List ℕ → Desk S → Type 0
-AnswersLineAt g old line text new = IsLaterDesk g old new
-    × OnHistories g old new (λ before after. AnswersLine (charter_of old) before line text after)
+AnswersLineAt g = AnswersLine (RepliesAt g)
 
--- the replies of a desk to the lines were written
+-- the answer to a line on a history
+abbrev pub AnswersLineOn : Charter → History → Option (List ℕ) → List ℕ → History → Type 0
+AnswersLineOn charter = AnswersLine (RepliesOn charter)
+
+-- the answers to the lines were written, each by the desk that the one before it left, and they are those on each
+-- history that the first desk represents
 abbrev pub AnswersLines : {S : Type 0} → Ghosts S → Desk S → Desk S → List (List ℕ) → List ℕ → List ℕ → Type 0
-AnswersLines g old new lines written_old written_new = OnHistories g old new (λ before after.
-    AnswersEach (AnswersLine (charter_of old)) before after lines written_old written_new)
+AnswersLines g old new lines written_old written_new =
+    AnswersEach (AnswersLineAt g) old new lines written_old written_new
+    × OnHistories g old new (λ before after.
+    AnswersEach (AnswersLineOn (charter_of old)) before after lines written_old written_new)
 
--- the replies of a desk were written up to within the one to some line, the last that was acted on
+-- they were written up to within the one to some line, the last that was acted on
 abbrev pub BreaksOffLines : {S : Type 0} → Ghosts S → Desk S → Desk S → List (List ℕ) → List ℕ → List ℕ → Type 0
-BreaksOffLines g old new lines written_old written_new = OnHistories g old new (λ before after.
-    BreaksOff (AnswersLine (charter_of old)) before after lines written_old written_new)
+BreaksOffLines g old new lines written_old written_new =
+    BreaksOff (AnswersLineAt g) old new lines written_old written_new
+    × OnHistories g old new (λ before after.
+    BreaksOff (AnswersLineOn (charter_of old)) before after lines written_old written_new)
 
 -- the text of an answer to a line
 abbrev pub answer_text : LineAnswer → List ℕ
 answer_text (Refused malformed) = malformed_text malformed
 answer_text (Replied reply) = line_text reply
+
+-- the reply to an accepted command stands somewhere in the text
+abbrev pub SaysAccepted : List ℕ → Type 0
+SaysAccepted text =
+    (before after : List ℕ) × (reply : Reply)
+    × (is_accepted reply ≡ true) × (text ≡ before ++ line_text reply ++ after)

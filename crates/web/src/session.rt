@@ -1,8 +1,9 @@
 //! Scripts over a desk.
-ghost use Rattle.std.specs.Prelude.{◌≡◌, ◌++◌, true, Err, OnOk, OnErr};
+ghost use Rattle.std.specs.Prelude.{◌≡◌, ◌≢◌, ◌++◌, true, Err, OnOk, OnErr};
 ghost use Rattle.std.specs.Io.{StartsWith, appended_bytes};
 ghost use Rattle.std.specs.Option.{option_copied};
-ghost use Rattle.web.specs.ScriptAnswer.{AnswersLineAt, AnswersLines, BreaksOffLines, IsLaterDesk, answer_text};
+ghost use Rattle.desk.specs.Desk.{KeepsRows};
+ghost use Rattle.web.specs.ScriptAnswer.{AnswersLineAt, AnswersLines, BreaksOffLines, IsLaterDesk, SaysAccepted, answer_text};
 ghost use Rattle.web.specs.ScriptLines.{lines_read, script_lines, whole_lines};
 ghost use Rattle.streams.specs.Streams.{AppendsBeginning};
 
@@ -97,6 +98,12 @@ pub fn run_script<S: Source, D: Drain, A: Alter>(
         (lines_read (S.has_ended source.new)
         (appended_bytes (S.handed_out source.old) (S.handed_out source.new)))
         (D.written drain.old) (D.written drain.new) }
+
+    // Where no command is said to be accepted, the rows stay. Of a reply that broke off nothing is
+    // said.
+    ensures kept { result ≢ Err ScriptFault.Write
+        → ¬ SaysAccepted (appended_bytes (D.written drain.old) (D.written drain.new))
+        → KeepsRows A.Store desk.old desk.new }
 
     ensures desk { IsLaterDesk A.Store desk.old desk.new }
 
