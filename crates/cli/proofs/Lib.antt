@@ -1,2 +1,3 @@
+mod ConnectionLemmas
 pub mod DeskFileLemmas
 pub mod ServingLemmas

@@ -5,9 +5,10 @@ use Rattle.std.specs.Prelude.{ℕ, ◌+◌, ◌-◌, ◌*◌, ◌≤◌, Option,
 abbrev pub connection_limit : ℕ
 connection_limit = 30 * 1_000_000_000
 
--- A call that waits at most for this timeout ends within the connection's time, when the clock was last read and no call
--- has waited since.
-abbrev pub EndsInTime : ℕ → Option ℕ → Option ℕ → Type 0
-EndsInTime began (Some now) (Some timeout) = timeout + (now - began) ≤ connection_limit
-EndsInTime began None timeout = ⊥
-EndsInTime began (Some now) None = ⊥
+-- A call that waits at most for this timeout ends within the time of a connection that began then, when the clock was last
+-- read and no call has waited since. Of one whose beginning is not known, no call does.
+abbrev pub EndsInTime : Option ℕ → Option ℕ → Option ℕ → Type 0
+EndsInTime None now timeout = ⊥
+EndsInTime (Some began) None timeout = ⊥
+EndsInTime (Some began) (Some now) None = ⊥
+EndsInTime (Some began) (Some now) (Some timeout) = timeout + (now - began) ≤ connection_limit

@@ -1,21 +1,64 @@
 -- What `roadesk serve` does on its connections, and the line that it prints for one that failed.
-use Rattle.std.specs.Prelude.{◌≡◌, ◌⊎◌, ℕ, zero, suc, List, [], ◌∷◌, ◌++◌, codes, decimal}
+use Rattle.std.specs.Prelude.{◌≡◌, ℕ, suc, Bool, true, List, [], ◌∷◌, ◌++◌, length, Option, Some, None, codes, decimal}
 use Rattle.sqlite.specs.Store.{Ghosts}
 use Rattle.desk.specs.declared.handling.Desk.{Desk}
+use Rattle.http_messages.specs.Input.{IsOver}
+use Rattle.requests.specs.HttpRequests.{IsCutShort}
 use Rattle.web.specs.HttpAnswers.{RespondsTo}
+use Rattle.web.specs.ScriptAnswer.{IsLaterDesk}
+use Rattle.web.specs.WebFault.{web_fault_number}
+use Rattle.web.specs.declared.http.WebFault.{WebFault}
+use Rattle.web.specs.declared.http.WebFault.TheVariants.{Read, Write}
 
--- A connection on a day: the desk responded to the bytes that came, whether the response went out whole or
--- not, or it is as it was.
-abbrev pub Serves : {S : Type 0} → Ghosts S → ℕ → Desk S → Desk S → Type 0
-Serves g day old new = ((bytes text : List ℕ) × RespondsTo g old day bytes text new) ⊎ (new ≡ old)
+-- What passed on a connection: the bytes that were read, whether the last read met the end or failed, the bytes that were
+-- written, whether the last write failed, and the fault that serving it ended with.
+pub record Transcript : Type 0 where
+  pub received : List ℕ
+  pub has_ended : Bool
+  pub read_failed : Bool
+  pub sent : List ℕ
+  pub write_failed : Bool
+  pub fault : Option WebFault
 
--- so many connections, one after the other
+-- ---- one connection
+
+-- Without a fault, what was sent is the desk's response to what was received. With the first, no whole request came, no
+-- more can come, and nothing was done. With the second, a write failed within the response.
+abbrev pub EndsWith : {S : Type 0} → Ghosts S → ℕ → Desk S → Transcript → Option WebFault → Desk S → Type 0
+EndsWith g day old passed None new = RespondsTo g old day passed.received passed.sent new
+EndsWith g day old passed (Some Read) new =
+    IsCutShort passed.received × IsOver passed.has_ended passed.read_failed × (passed.sent ≡ []) × (new ≡ old)
+EndsWith g day old passed (Some Write) new =
+    (unsent : List ℕ) × RespondsTo g old day passed.received (passed.sent ++ unsent) new × (passed.write_failed ≡ true)
+
+-- a connection on a day, and the desk before and after it
+abbrev pub Serves : {S : Type 0} → Ghosts S → ℕ → Desk S → Transcript → Desk S → Type 0
+Serves g day old passed new = IsLaterDesk g old new × EndsWith g day old passed passed.fault new
+
+-- ---- one after the other
+
+-- each is answered on the state that the one before it left
+abbrev pub AnswersInTurn : {State : Type 0} → (State → Transcript → State → Type 0) → State → List Transcript → State → Type 0
+AnswersInTurn answers old [] new = new ≡ old
+AnswersInTurn {State} answers old (passed ∷ later) new =
+    (next : State) × answers old passed next × AnswersInTurn answers next later new
+
+-- so many connections
 abbrev pub ServesEach : {S : Type 0} → Ghosts S → ℕ → ℕ → Desk S → Desk S → Type 0
-ServesEach g day zero old new = new ≡ old
-ServesEach {S} g day (suc count) old new =
-    (next : Desk S) × ServesEach g day count old next × Serves g day next new
+ServesEach g day count old new =
+    (passed : List Transcript) × (length passed ≡ count) × AnswersInTurn (Serves g day) old passed new
 
 -- the line for the connection of this number, counted from 1, and this fault
 abbrev pub fault_line : ℕ → ℕ → List ℕ
 fault_line connection fault =
     codes "roadesk: connection " ++ decimal connection ++ codes ": fault " ++ decimal fault ++ 10 ∷ []
+
+-- the line where there is a fault
+abbrev pub line_for : ℕ → Option WebFault → List ℕ
+line_for connection None = []
+line_for connection (Some fault) = fault_line connection (web_fault_number fault)
+
+-- the lines for connections that are counted from this number on
+abbrev pub fault_lines : ℕ → List Transcript → List ℕ
+fault_lines number [] = []
+fault_lines number (passed ∷ later) = line_for number passed.fault ++ fault_lines (suc number) later

@@ -20,7 +20,7 @@ pub(crate) trait Peer {
     ghost contents: { Self → Option (List ℕ) } = { λ _. None };
 
     // When the connection began, in nanoseconds of the clock.
-    ghost began: { Self → ℕ };
+    ghost began: { Self → Option ℕ };
 
     // What the clock said last, unless a call may have waited since.
     ghost last_seen: { Self → Option ℕ };
@@ -30,8 +30,9 @@ pub(crate) trait Peer {
 
     ghost write_timeout: { Self → Option ℕ };
 
-    fn began(&self) -> Instant
-        ensures { instant_nanos result ≡ began self.now };
+    /// When the connection began; `None` where the clock failed then.
+    fn began(&self) -> Option<Instant>
+        ensures { option_map instant_nanos result ≡ began self.now };
 
     fn now(&mut self) -> io::Result<Instant>
         ensures ok { IfOk result (λ now. last_seen self.new ≡ Some (instant_nanos now)) }
@@ -77,7 +78,7 @@ pub(crate) trait Peer {
 pub(crate) struct Socket<'a, R> {
     clock: &'a R,
     stream: &'a TcpStream,
-    began: Instant,
+    began: Option<Instant>,
     last_seen: Option<Instant>,
     read_timeout: Option<Duration>,
     write_timeout: Option<Duration>,
@@ -85,7 +86,11 @@ pub(crate) struct Socket<'a, R> {
 
 impl<'a, R: Clock> Socket<'a, R> {
     /// The socket of a connection that began then.
-    pub(crate) fn new(clock: &'a R, stream: &'a TcpStream, began: Instant) -> Socket<'a, R> {
+    pub(crate) fn new(
+        clock: &'a R,
+        stream: &'a TcpStream,
+        began: Option<Instant>,
+    ) -> Socket<'a, R> {
         Socket {
             clock,
             stream,
@@ -98,7 +103,7 @@ impl<'a, R: Clock> Socket<'a, R> {
 }
 
 impl<R: Clock> Peer for Socket<'_, R> {
-    ghost began = { λ socket. instant_nanos socket.began };
+    ghost began = { λ socket. option_map instant_nanos socket.began };
 
     ghost last_seen = { λ socket. option_map instant_nanos socket.last_seen };
 
@@ -106,7 +111,7 @@ impl<R: Clock> Peer for Socket<'_, R> {
 
     ghost write_timeout = { λ socket. option_map as_nanos socket.write_timeout };
 
-    fn began(&self) -> Instant {
+    fn began(&self) -> Option<Instant> {
         self.began
     }
 

@@ -3,20 +3,23 @@ ghost use Rattle.std.specs.Prelude.{option_map};
 ghost use Rattle.std.specs.Duration.{as_nanos};
 ghost use Rattle.std.specs.Time.{instant_nanos};
 
+use super::answer_each;
 use crate::clients::{CHARTER, CREATE, SETUP, request, serve};
-use crate::serve::answer_in_time;
+use crate::serve::connections::{AnswerConnections, Connections, answer_in_time};
+use crate::serve::log::Printed;
 use crate::serve::peer::Peer;
 use addr::Day;
 use command_line::charter_from;
 use desk::Desk;
 use sqlite::MemStore;
+use std::alloc::Global;
 use std::cell::Cell;
-use std::io::{self, Read, Write};
+use std::io::{self, ErrorKind, Read, Write};
 use std::process::Abort;
 use std::rt::HostRuntime;
 use std::test::Fail;
 use std::time::{Clock, Duration, Instant};
-use web::WebFault;
+use web::{Device, Failed, WebFault};
 
 fn desk_in_memory<R: Abort + AllocGlobal>(rt: &R) -> Desk<MemStore> {
     let charter = charter_from(rt.alloc(), CHARTER.as_bytes()).expect(rt, "a charter");
@@ -105,7 +108,7 @@ struct Trickle<'a> {
     most: usize,
     rest: &'a [u8],
     taken: &'a mut Vec<u8>,
-    began: Instant,
+    began: Option<Instant>,
     last_seen: Option<Instant>,
     read_timeout: Option<Duration>,
     write_timeout: Option<Duration>,
@@ -123,7 +126,7 @@ impl<'a> Trickle<'a> {
             most,
             rest,
             taken,
-            began: Instant::now(clock)?,
+            began: Some(Instant::now(clock)?),
             last_seen: None,
             read_timeout: None,
             write_timeout: None,
@@ -132,7 +135,7 @@ impl<'a> Trickle<'a> {
 }
 
 impl Peer for Trickle<'_> {
-    ghost began = { λ peer. instant_nanos peer.began };
+    ghost began = { λ peer. option_map instant_nanos peer.began };
 
     ghost last_seen = { λ peer. option_map instant_nanos peer.last_seen };
 
@@ -140,7 +143,7 @@ impl Peer for Trickle<'_> {
 
     ghost write_timeout = { λ peer. option_map as_nanos peer.write_timeout };
 
-    fn began(&self) -> Instant {
+    fn began(&self) -> Option<Instant> {
         self.began
     }
 
@@ -202,5 +205,137 @@ fn peers_that_trickle(rt: HostRuntime) -> Result<(), Fail> {
         );
         assert_eq!(rt; taken.as_slice(), response.as_bytes());
     }
+    Ok(())
+}
+
+/// Connections on which a client sends a text and takes so many bytes. Accepting a further one
+/// fails.
+#[derive(Drop)]
+struct Clients<'a> {
+    rest: &'a [(&'a str, usize)],
+    has_failed: bool,
+}
+
+impl Connections for Clients<'_> {
+    ghost has_failed = { λ clients. clients.has_failed };
+
+    fn answer_next<E: AnswerConnections>(
+        &mut self,
+        alloc: Global,
+        engine: &mut E,
+        day: Day,
+    ) -> Result<Result<(), WebFault>, Failed> {
+        let Some(((text, room), rest)) = self.rest.split_first() else {
+            self.has_failed = true;
+            return Err(Failed);
+        };
+        self.rest = rest;
+        let mut taken = [0; 256];
+        let room = (*room).min(taken.len());
+        let mut source = Device::new(text.as_bytes());
+        let mut drain = Device::new(&mut taken[..room]);
+        Ok(engine.answer(alloc, &mut source, &mut drain, day))
+    }
+}
+
+const CUT_SHORT: &str = "GET /payloads HTTP/1.1\r\nDesk-Cal";
+
+/// The connections, how many are wanted, what becomes of the run, and the lines on those that
+/// failed.
+const RUNS: [(&[(&str, usize)], u32, Result<(), Failed>, &str); 5] = [
+    (&[], 0, Ok(()), ""),
+    (&[(REQUEST, 256), (CUT_SHORT, 256)], 1, Ok(()), ""),
+    (
+        &[
+            (REQUEST, 256),
+            (CUT_SHORT, 256),
+            (REQUEST, 256),
+            (REQUEST, 100),
+            ("", 0),
+        ],
+        5,
+        Ok(()),
+        "roadesk: connection 2: fault 1\nroadesk: connection 4: fault 2\n\
+        roadesk: connection 5: fault 1\n",
+    ),
+    (&[], 1, Err(Failed), ""),
+    (
+        &[(CUT_SHORT, 256), (REQUEST, 256), (REQUEST, 0)],
+        4,
+        Err(Failed),
+        "roadesk: connection 1: fault 1\nroadesk: connection 3: fault 2\n",
+    ),
+];
+
+#[test]
+fn a_line_for_each_fault_and_no_others(rt: HostRuntime) -> Result<(), Fail> {
+    let mut desk = desk_in_memory(&rt);
+    let day = Day::read(b"2026-03-01").expect(&rt, "a day");
+    for (clients, count, result, lines) in RUNS {
+        let mut connections = Clients {
+            rest: clients,
+            has_failed: false,
+        };
+        let mut errors = Vec::new(rt.alloc());
+        let mut log = Printed::new(&mut errors);
+        assert_eq!(rt;
+            answer_each(
+                rt.alloc(),
+                &mut connections,
+                count,
+                &mut desk,
+                day,
+                &mut log
+            ),
+            result
+        );
+        assert_eq!(rt; errors.as_slice(), lines.as_bytes());
+    }
+    Ok(())
+}
+
+/// A writer whose first write fails.
+#[derive(Drop)]
+struct FailsOnce<'a> {
+    has_failed: bool,
+    taken: &'a mut Vec<u8>,
+}
+
+impl Write for FailsOnce<'_> {
+    fn write(&mut self, bytes: &[u8]) -> io::Result<usize> {
+        if self.has_failed {
+            return self.taken.write(bytes);
+        }
+        self.has_failed = true;
+        Err(ErrorKind::StorageFull.into())
+    }
+
+    fn flush(&mut self) -> io::Result<()> {
+        Ok(())
+    }
+}
+
+#[test]
+fn a_line_that_cannot_be_written_is_lost(rt: HostRuntime) -> Result<(), Fail> {
+    let mut desk = desk_in_memory(&rt);
+    let day = Day::read(b"2026-03-01").expect(&rt, "a day");
+    let mut connections = Clients {
+        rest: &[("", 0), ("", 0)],
+        has_failed: false,
+    };
+    let mut taken = Vec::new(rt.alloc());
+    let mut errors = FailsOnce {
+        has_failed: false,
+        taken: &mut taken,
+    };
+    let mut log = Printed::new(&mut errors);
+    assert_eq!(rt;
+        answer_each(rt.alloc(), &mut connections, 2, &mut desk, day, &mut log),
+        Ok(())
+    );
+    assert_eq!(rt;
+        taken.as_slice(),
+        b"roadesk: connection 2: fault 1\n".as_slice()
+    );
     Ok(())
 }

@@ -32,7 +32,10 @@ impl<P: Peer> Timed<P> {
         ensures remaining { Keeps (P.remaining self.old.peer) (P.remaining self.new.peer) }
         ensures contents { Keeps (P.contents self.old.peer) (P.contents self.new.peer) }
     {
-        let elapsed = self.peer.now()?.duration_since(self.peer.began());
+        let Some(began) = self.peer.began() else {
+            return Err(ErrorKind::TimedOut.into());
+        };
+        let elapsed = self.peer.now()?.duration_since(began);
         match Duration::from_secs(TIME_LIMIT).checked_sub(elapsed) {
             Some(left) if !left.is_zero() => Ok(left),
             _ => Err(ErrorKind::TimedOut.into()),

@@ -1,0 +1,132 @@
+//! Connections that are accepted and answered, one after the other.
+ghost use Rattle.std.specs.Prelude.{◌≡◌, ◌∷◌, ℕ, Bool, List, [], Option, None, true, IfOk, OnErr};
+ghost use Rattle.std.specs.Result.{result_err};
+ghost use Rattle.cli.specs.Connections.{Accepts};
+ghost use Rattle.cli.specs.Serving.{Serves, Transcript};
+ghost use Rattle.web.specs.declared.http.WebFault.{WebFault as Fault};
+
+use crate::serve::peer::{Peer, Socket};
+use crate::serve::timed::Timed;
+use addr::Day;
+use desk::Desk;
+use sqlite::Alter;
+use std::alloc::Global;
+use std::net::TcpListener;
+use std::time::{Clock, Instant};
+use web::{Device, Drain, Failed, Source, WebFault, serve_one};
+
+/// What answers connections, one after the other.
+pub(crate) trait AnswerConnections {
+    // What may pass on a connection on a day, and which state that leaves.
+    ghost answers: { ℕ → Self → Transcript → Self → Type 0 };
+
+    /// Answers the request of a new connection.
+    fn answer<S: Source, D: Drain>(
+        &mut self,
+        alloc: Global,
+        source: &mut S,
+        drain: &mut D,
+        day: Day,
+    ) -> Result<(), WebFault>
+        ensures { S.handed_out source.old ≡ [] → D.written drain.old ≡ []
+            → answers day self.old (record {
+              received = S.handed_out source.new;
+              has_ended = S.has_ended source.new;
+              read_failed = S.has_failed source.new;
+              sent = D.written drain.new;
+              write_failed = D.has_failed drain.new;
+              fault = result_err result;
+            }) self.new };
+}
+
+impl<A: Alter> AnswerConnections for Desk<A> {
+    ghost answers = { Serves A.Store };
+
+    fn answer<S: Source, D: Drain>(
+        &mut self,
+        alloc: Global,
+        source: &mut S,
+        drain: &mut D,
+        day: Day,
+    ) -> Result<(), WebFault> {
+        serve_one(alloc, source, drain, self, day)
+    }
+}
+
+/// Where connections come from.
+pub(crate) trait Connections {
+    // Those that were accepted, where they are known.
+    ghost accepted: { Self → Option (List Transcript) } = { λ _. None };
+
+    // Whether the last one could not be accepted.
+    ghost has_failed: { Self → Bool };
+
+    /// Accepts a connection, and has it answered. It has ended when the call returns.
+    fn answer_next<E: AnswerConnections>(
+        &mut self,
+        alloc: Global,
+        engine: &mut E,
+        day: Day,
+    ) -> Result<Result<(), WebFault>, Failed>
+        ensures ok { IfOk result (λ ended. (passed : Transcript) × (passed.fault ≡ result_err ended)
+            × Accepts (accepted self.old) (accepted self.new) (passed ∷ [])
+            × E.answers day engine.old passed engine.new) }
+        ensures err { OnErr result (engine.new ≡ engine.old) }
+        ensures not_accepted { OnErr result (Accepts (accepted self.old) (accepted self.new) []) }
+        ensures failed { OnErr result (has_failed self.new ≡ true) };
+}
+
+/// The connections to a listener.
+#[derive(Drop)]
+pub(crate) struct Incoming<'a, R> {
+    clock: &'a R,
+    listener: &'a TcpListener,
+    // Kept for proofs.
+    has_failed: bool,
+}
+
+impl<'a, R: Clock> Incoming<'a, R> {
+    pub(crate) fn new(clock: &'a R, listener: &'a TcpListener) -> Incoming<'a, R> {
+        Incoming {
+            clock,
+            listener,
+            has_failed: false,
+        }
+    }
+}
+
+impl<R: Clock> Connections for Incoming<'_, R> {
+    ghost has_failed = { λ incoming. incoming.has_failed };
+
+    fn answer_next<E: AnswerConnections>(
+        &mut self,
+        alloc: Global,
+        engine: &mut E,
+        day: Day,
+    ) -> Result<Result<(), WebFault>, Failed> {
+        let Ok((stream, _)) = self.listener.accept() else {
+            self.has_failed = true;
+            return Err(Failed);
+        };
+        let began = Instant::now(self.clock).ok();
+        let from = Socket::new(self.clock, &stream, began);
+        let to = Socket::new(self.clock, &stream, began);
+        Ok(answer_in_time(alloc, from, to, engine, day))
+    }
+}
+
+/// Has the connection answered whose client sends from one peer, and takes at the other.
+pub(crate) fn answer_in_time<P: Peer + Drop, Q: Peer + Drop, E: AnswerConnections>(
+    alloc: Global,
+    from: P,
+    to: Q,
+    engine: &mut E,
+    day: Day,
+) -> Result<(), WebFault>
+    ensures { (passed : Transcript) × (passed.fault ≡ result_err result)
+        × E.answers day engine.old passed engine.new }
+{
+    let mut source = Device::new(Timed::new(from));
+    let mut drain = Device::new(Timed::new(to));
+    engine.answer(alloc, &mut source, &mut drain, day)
+}
