@@ -1,10 +1,11 @@
 //! The desk, and how it handles requests.
-ghost use Rattle.std.specs.Prelude.{◌≡◌, ◌≢◌, true, false, None, [], ◌∷◌, Err, IfOk, OnOk, OnErr};
+ghost use Rattle.std.specs.Prelude.{◌≡◌, ◌≢◌, true, false, None, [], ◌∷◌, Err, IfOk, IfErr, OnOk, OnErr};
 ghost use Rattle.registry.specs.History.{History};
 ghost use Rattle.registry.specs.Rows.{rows_if_any, RowsIfAny};
 ghost use Rattle.sqlite.specs.Held.{state};
 ghost use Rattle.sqlite.specs.State.{HasCleanDisk};
 ghost use Rattle.sqlite.specs.Steps.{over_memory};
+ghost use Rattle.store.specs.RefusedOpening.{IsGivenBack};
 ghost use Rattle.store.specs.StoreRows.{connection_state, IfClean, IsRead, IsOpened};
 ghost use Rattle.database.specs.Databases.{IsDeskWhileOpen, IsNew, IsUnused, LeavesNew};
 ghost use Rattle.database.specs.Databases.{IsHonest, IsOfAnotherSchema};
@@ -71,8 +72,32 @@ impl<S: Alter + Drop> Desk<S> {
         ensures schema { IsHonest S.Store → result ≡ Err StoreFault.Schema
             → IsOfAnotherSchema (state S.Store conn).now }
     {
-        let store = Store::open_from(alloc, conn)?;
-        Ok(Desk { alloc, store })
+        match Desk::open_or_return(alloc, conn) {
+            Ok(desk) => Ok(desk),
+            Err((fault, _)) => Err(fault),
+        }
+    }
+
+    /// As `open_from`, and gives the connection back where it is refused, so that whether its disk
+    /// returned what was written can be said of it.
+    pub fn open_or_return(
+        alloc: Global,
+        conn: Connection<S>,
+    ) -> Result<Self, (StoreFault, Connection<S>)>
+        ensures opened { IfOk result (λ desk. IfClean S.Store desk.store
+            (IsOpened S.Store (state S.Store conn) desk.store)) }
+        ensures history { IfOk result (λ desk. IsOnCleanDisk S.Store desk
+            → ContinuesHistories S.Store (state S.Store conn) desk) }
+        ensures unlimited { IfOk result (λ desk. desk.store.connection.step_limit ≡ None) }
+        ensures clean { IfOk result (λ desk. IsOnCleanDisk S.Store desk
+            → HasCleanDisk (state S.Store conn)) }
+        ensures err { IfErr result (λ refused.
+            IsGivenBack S.Store (state S.Store conn) refused.0 refused.1) }
+    {
+        match Store::open_or_return(alloc, conn) {
+            Ok(store) => Ok(Desk { alloc, store }),
+            Err(refused) => Err(refused),
+        }
     }
 }
 
