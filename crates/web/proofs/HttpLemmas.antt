@@ -30,8 +30,9 @@ use Rattle.web.specs.HttpAnswers.{KeepsAll, RespondsTo}
 use Rattle.requests.specs.HttpRequests.{asked, malformed, refused, SaysHead}
 use Rattle.web.specs.HttpResponses.{HasErrorStatus, json_response, reply_body, reply_response, reply_status}
 use Rattle.web.specs.ReplyText.{line_text, short_text}
+use Rattle.web.specs.RequestExtent.{HasExtent}
 use Rattle.web.specs.ScriptAnswer.{RepliesAt}
-use Rattle.web.specs.steps.HttpAnswering.{AnswersNext, IsReplyResponse, ReadsNext}
+use Rattle.web.specs.steps.HttpAnswering.{AnswersNext, extent_of, IsReplyResponse, ReadsNext}
 use Rattle.web.specs.declared.http.reading.Next.{Next}
 use Rattle.web.specs.declared.http.reading.Next.TheVariants.{Asked as AskedNext, Malformed, NotRead, Refused}
 
@@ -182,6 +183,14 @@ module _ {S : Type 0} (g : Ghosts S) where
           let (rest, line) = accepted_line form reply accepted in
           absurd (error_line rest (rw (← line, ← is) error))
   keeps_rows old new day bytes text (inr (within, is, keeps)) error = keeps.0
+
+  -- how much was read of it
+  pub extent-read : (old new : Desk S) (day : ℕ) (bytes text : List ℕ) (next : Next)
+      → ReadsNext day bytes next → AnswersNext g old next text new → HasExtent day bytes text (extent_of next)
+  extent-read old new day bytes text (Refused refusal) reads answers = inl (refusal, reads)
+  extent-read old new day bytes text (Malformed fault) reads answers = (reads.0, reads.1, reads.2)
+  extent-read old new day bytes text (AskedNext form request) reads answers = (reads.0, reads.1, reads.2)
+  extent-read old new day bytes text NotRead within (is, keeps) = inr is
 
 -- the head, and then the rest of the message
 pub next-read : (day : ℕ) (r : Option Next) (said : Head) (head before between after : List ℕ)

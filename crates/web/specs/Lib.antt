@@ -1,6 +1,7 @@
 pub mod HttpAnswers
 pub mod HttpResponses
 pub mod ReplyText
+pub mod RequestExtent
 pub mod Script
 pub mod ScriptFault
 pub mod ScriptLines

@@ -1,5 +1,5 @@
 //! The desk over HTTP, one request a connection.
-ghost use Rattle.std.specs.Prelude.{◌≡◌, ◌++◌, ℕ, List, Err, true, OnOk};
+ghost use Rattle.std.specs.Prelude.{◌≡◌, ◌++◌, ℕ, List, Err, true, IfOk, OnOk};
 ghost use Rattle.std.specs.Io.{appended_bytes};
 ghost use Rattle.streams.specs.Streams.{AppendsBeginning};
 ghost use Rattle.desk.specs.Desk.{KeepsRows};
@@ -7,6 +7,7 @@ ghost use Rattle.http_messages.specs.Input.{Gives, IsOver};
 ghost use Rattle.requests.specs.HttpRequests.{IsCutShort};
 ghost use Rattle.web.specs.HttpAnswers.{RespondsTo};
 ghost use Rattle.web.specs.HttpResponses.{HasErrorStatus};
+ghost use Rattle.web.specs.RequestExtent.{HasExtent};
 ghost use Rattle.web.specs.ScriptAnswer.{IsLaterDesk};
 
 mod body;
@@ -43,6 +44,15 @@ impl WebFault {
     }
 }
 
+/// How much of a request was read before it was answered.
+#[derive(Clone, Copy, Debug, PartialEq, Eq)]
+pub enum Extent {
+    /// The whole request.
+    Whole,
+    /// A part, of which more may come.
+    Part,
+}
+
 /// Answers the one request of a connection on the desk, on this day. No byte is read past the head,
 /// nor past the body where one is read.
 pub fn serve_one<S: Source, D: Drain, A: Alter>(
@@ -76,11 +86,49 @@ pub fn serve_one<S: Source, D: Drain, A: Alter>(
 
     ensures desk { IsLaterDesk A.Store desk.old desk.new }
 {
+    match serve_request(alloc, source, drain, desk, day) {
+        Ok(_) => Ok(()),
+        Err(fault) => Err(fault),
+    }
+}
+
+/// Answers the one request of a connection as [`serve_one`] does, and returns how much of it was
+/// read.
+pub fn serve_request<S: Source, D: Drain, A: Alter>(
+    alloc: Global,
+    source: &mut S,
+    drain: &mut D,
+    desk: &mut Desk<A>,
+    day: Day,
+) -> Result<Extent, WebFault>
+    ensures ok { IfOk result (λ extent. (bytes text : List ℕ)
+        × Gives bytes (S.handed_out source.old) (S.handed_out source.new)
+        × RespondsTo A.Store desk.old day bytes text desk.new
+        × HasExtent day bytes text extent
+        × (D.written drain.new ≡ D.written drain.old ++ text)) }
+
+    ensures read { result ≡ Err WebFault.Read → (bytes : List ℕ)
+        × Gives bytes (S.handed_out source.old) (S.handed_out source.new)
+        × IsCutShort bytes
+        × IsOver (S.has_ended source.new) (S.has_failed source.new)
+        × (desk.new ≡ desk.old) × (drain.new ≡ drain.old) }
+
+    // A beginning of the response is out, and the request was acted on as it says.
+    ensures write { result ≡ Err WebFault.Write → (bytes text : List ℕ)
+        × Gives bytes (S.handed_out source.old) (S.handed_out source.new)
+        × RespondsTo A.Store desk.old day bytes text desk.new
+        × AppendsBeginning (D.written drain.old) (D.written drain.new) text }
+    ensures write_failed { result ≡ Err WebFault.Write → D.has_failed drain.new ≡ true }
+
+    ensures kept { HasErrorStatus (appended_bytes (D.written drain.old) (D.written drain.new))
+        → KeepsRows A.Store desk.old desk.new }
+    ensures desk { IsLaterDesk A.Store desk.old desk.new }
+{
     let Some(next) = read_next(alloc, source, day) else {
         return Err(WebFault::Read);
     };
     let Ok(()) = respond(alloc, drain, desk, &next) else {
         return Err(WebFault::Write);
     };
-    Ok(())
+    Ok(next.extent())
 }

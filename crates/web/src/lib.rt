@@ -7,7 +7,7 @@ mod reply;
 mod script;
 mod session;
 
-pub use http::{WebFault, serve_one};
+pub use http::{Extent, WebFault, serve_one, serve_request};
 pub use reply::{short_text, write_reply};
 pub use requests::{LineFault, Malformed, read_line_request};
 pub use script::ScriptFault;

@@ -8,6 +8,8 @@ use Rattle.requests.specs.HttpRequests.{asked, IsWithinMessage, malformed, Reads
 use Rattle.web.specs.HttpAnswers.{AnswersHttp, KeepsAll}
 use Rattle.web.specs.HttpResponses.{reply_response, unavailable_response}
 use Rattle.web.specs.ReplyText.{short_text}
+use Rattle.web.specs.declared.http.Extent.{Extent}
+use Rattle.web.specs.declared.http.Extent.TheVariants.{Part, Whole}
 use Rattle.web.specs.declared.http.reading.Next.{Next}
 use Rattle.web.specs.declared.http.reading.Next.TheVariants.{Asked, Malformed, NotRead, Refused}
 
@@ -17,6 +19,13 @@ ReadsNext day bytes (Refused refusal) = ReadsHttp day bytes (refused refusal)
 ReadsNext day bytes (Malformed fault) = ReadsHttp day bytes (malformed fault)
 ReadsNext day bytes (Asked form request) = ReadsHttp day bytes (asked form request)
 ReadsNext day bytes NotRead = IsWithinMessage bytes
+
+-- how much of a request was read for it
+abbrev pub extent_of : Next → Extent
+extent_of (Refused refusal) = Part
+extent_of (Malformed fault) = Whole
+extent_of (Asked form request) = Whole
+extent_of NotRead = Part
 
 -- the response says that an allocation failed, and nothing has changed
 abbrev pub AnswersUnavailable : {S : Type 0} → Ghosts S → Desk S → List ℕ → Desk S → Type 0

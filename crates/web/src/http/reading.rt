@@ -5,8 +5,9 @@ ghost use Rattle.http_messages.specs.HeadEnd.{IsWholeHead};
 ghost use Rattle.http_messages.specs.Input.{Gives, IsOver};
 ghost use Rattle.requests.specs.RequestHeads.{head_view};
 ghost use Rattle.requests.specs.HttpRequests.{IsCutShort, IsMessage, SaysHead};
-ghost use Rattle.web.specs.steps.HttpAnswering.{ReadsNext};
+ghost use Rattle.web.specs.steps.HttpAnswering.{ReadsNext, extent_of};
 
+use super::Extent;
 use addr::Day;
 use http_messages::{BodyFault, ContentType, HeadFault, Refusal, read_body, read_head};
 use registry::Asked;
@@ -25,6 +26,18 @@ pub(super) enum Next {
     Asked(ContentType, Asked),
     /// An allocation failed, so the request was not read.
     NotRead,
+}
+
+impl Next {
+    /// How much of the request was read for it.
+    pub(super) fn extent(&self) -> Extent
+        ensures { result ≡ extent_of self.now }
+    {
+        match self {
+            Next::Refused(_) | Next::NotRead => Extent::Part,
+            Next::Malformed(_) | Next::Asked(..) => Extent::Whole,
+        }
+    }
 }
 
 /// Reads what a connection asks for; `None` where the source ended or failed before its end.

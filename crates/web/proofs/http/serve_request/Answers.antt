@@ -1,6 +1,6 @@
 use Rattle.streams.proofs.StreamLemmas.{appended_bytes-append}
-use Rattle.web.proofs.HttpLemmas.{keeps_rows, longer_error, responds}
-use Rattle.web.proofs.http.serve_one.Goals as goal
+use Rattle.web.proofs.HttpLemmas.{extent-read, keeps_rows, longer_error, responds}
+use Rattle.web.proofs.http.serve_request.Goals as goal
 
 pub returns-in_default-respond-clause-write : goal.returns-in_default-respond-clause-write
 returns-in_default-respond-clause-write g c = λ is.
@@ -11,8 +11,14 @@ returns-in_default-respond-clause-write g c = λ is.
 pub returns-clause-ok : goal.returns-clause-ok
 returns-clause-ok g c =
     let (bytes, given, reads) = c.in-Some.ensures.some in
-    let (text, answers, written) = c.in-Ok.ensures.ok in
-    (bytes, text, given, responds g.A.Store c.args.desk.now c.respond.new.desk c.args.day bytes text _ reads answers, written)
+    let (text, answers, written) = c.in-Ok.ensures.ok in (
+      bytes,
+      text,
+      given,
+      responds g.A.Store c.args.desk.now c.respond.new.desk c.args.day bytes text _ reads answers,
+      rw c.extent.ensures (extent-read g.A.Store c.args.desk.now c.respond.new.desk c.args.day bytes text _ reads answers),
+      written,
+    )
 
 pub returns-in_default-respond-clause-kept : goal.returns-in_default-respond-clause-kept
 returns-in_default-respond-clause-kept g c = λ error.
