@@ -11,10 +11,10 @@ use Rattle.registry.specs.Answer.{IsAccepted, IsAnswer, IsListRefusal, IsOfComma
 use Rattle.registry.specs.declared.rule.Refusal.{Refusal}
 use Rattle.registry.specs.declared.rule.Refusal.TheVariants.{Denied, Memory}
 use Rattle.registry.specs.declared.change.Change.{Change}
-use Rattle.desk.specs.Answer.{is_import, refused_with, AnswersCommand, AnswersList, AnswersQuery}
+use Rattle.desk.specs.Answer.{is_accepted, is_import, only_reads, refused_with, AnswersCommand, AnswersList, AnswersQuery}
 use Rattle.registry.specs.declared.asked.Request.TheVariants.{Command as CommandRequest}
 use Rattle.desk.specs.declared.reply.Reply.{Reply}
-use Rattle.desk.specs.declared.reply.Reply.TheVariants.{Done, Imported, Unavailable}
+use Rattle.desk.specs.declared.reply.Reply.TheVariants.{Denied as DeniedReply, Done, Imported, Unavailable}
 use Rattle.desk.specs.declared.handling.Desk.{Desk}
 use Rattle.desk.specs.Desk.{charter_of, HoldsHistory, IsOnCleanDisk, KeepsRows, OfHistories}
 use Rattle.desk.specs.HolderAnswers.{may_change, may_except, KeepsOthers}
@@ -136,6 +136,11 @@ query_unavailable charter history day caller (Validity routes) = tt
 query_unavailable charter history day caller (WhatIf h changes routes) = tt
 
 -- ---- acceptances
+
+-- an accepted command does more than read
+pub accepted_acts : (command : Command) (reply : Reply) → is_accepted reply ≡ true → only_reads (CommandRequest command) reply ≡ false
+accepted_acts command (DeniedReply rule row) accepted = absurd (false≢true accepted)
+accepted_acts command reply accepted = refl
 
 -- a command other than an import is none
 not_import : (command : Command) → ((h : List ℕ) (rows : Vec ImportRow) → command ≡ Import h rows → ⊥) → is_import command ≡ false

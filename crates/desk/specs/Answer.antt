@@ -54,6 +54,12 @@ is_accepted (Done number) = true
 is_accepted (Imported made present) = true
 is_accepted other = false
 
+-- a request that reads and does nothing else: a query, or a command that is denied
+abbrev pub only_reads : Request → Reply → Bool
+only_reads (QueryRequest query) reply = true
+only_reads (CommandRequest command) (Denied rule row) = true
+only_reads (CommandRequest command) other = false
+
 abbrev pub is_import : Command → Bool
 is_import (Import holder rows) = true
 is_import other = false

@@ -9,7 +9,7 @@ ghost use Rattle.store.specs.RefusedOpening.{IsGivenBack};
 ghost use Rattle.store.specs.StoreRows.{connection_state, IfClean, IsRead, IsOpened};
 ghost use Rattle.database.specs.Databases.{IsDeskWhileOpen, IsNew, IsUnused, LeavesNew};
 ghost use Rattle.database.specs.Databases.{IsHonest, IsOfAnotherSchema};
-ghost use Rattle.desk.specs.Answer.{is_accepted, IsAnswered};
+ghost use Rattle.desk.specs.Answer.{is_accepted, only_reads, IsAnswered};
 ghost use Rattle.desk.specs.CrashOutcomes.{asked_on, AreKept, IsKept, LeavesAlong, StaysOpen};
 ghost use Rattle.desk.specs.Run.{AreAnswered};
 ghost use Rattle.desk.specs.HolderAnswers.{may_change, may_change_any, may_except, may_except_any};
@@ -111,6 +111,8 @@ impl<S: Alter> Desk<S> {
         ensures charter { charter_of self.new ≡ charter_of self.old }
         ensures clean { IsOnCleanDisk S.Store self.new → IsOnCleanDisk S.Store self.old }
         ensures kept { is_accepted result ≡ false → KeepsRows S.Store self.old self.new }
+        ensures read { only_reads request.now result ≡ true
+            → IsRead S.Store self.old.store self.new.store }
         ensures is_open { is_accepted result ≡ true → StaysOpen S.Store self.new }
         ensures left { OfHistories S.Store self.old self.new (λ history.
             IsKept S.Store (charter_of self.old) history (asked_on day caller.now request.now) result

@@ -3,7 +3,7 @@ ghost use Rattle.std.specs.Prelude.{◌≡◌, true, false, option_copied, IfOk,
 ghost use Rattle.registry.specs.Answer.{IsAccepted, IsViewOf, RowsOfNamed, ReportsTaken};
 ghost use Rattle.registry.specs.Rows.{rows_if_any, RowsIfAny};
 ghost use Rattle.store.specs.StoreRows.{IsRead};
-ghost use Rattle.desk.specs.Answer.{is_accepted, AnswersCommand};
+ghost use Rattle.desk.specs.Answer.{is_accepted, only_reads, AnswersCommand};
 ghost use Rattle.desk.specs.CrashOutcomes.{asked_on, IsKept, StaysOpen};
 ghost use Rattle.desk.specs.Desk.{charter_of, IsOnCleanDisk, KeepsRows, OfHistories};
 ghost use Rattle.desk.specs.HolderAnswers.{may_change, may_except, KeepsOthers};
@@ -43,6 +43,8 @@ impl<S: Alter> Desk<S> {
         ensures charter { charter_of self.new ≡ charter_of self.old }
         ensures clean { IsOnCleanDisk S.Store self.new → IsOnCleanDisk S.Store self.old }
         ensures kept { is_accepted result ≡ false → KeepsRows S.Store self.old self.new }
+        ensures read { only_reads (Request.Command command.now) result ≡ true
+            → IsRead S.Store self.old.store self.new.store }
         ensures is_open { is_accepted result ≡ true → StaysOpen S.Store self.new }
         ensures others { OfHistories S.Store self.old self.new (λ _.
             KeepsOthers S.Store (may_change (Request.Command command.now))

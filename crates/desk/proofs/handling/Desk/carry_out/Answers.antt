@@ -1,10 +1,11 @@
-use Rattle.std.proofs.Common.{refl}
+use Rattle.std.proofs.Common.{refl, sym, ◌∙◌}
+use Rattle.std.proofs.lemmas.Bool.{false≢true}
 use Rattle.desk.specs.Desk.{charter_of}
 use Rattle.desk.specs.HolderAnswers.{may_change, may_except}
 use Rattle.registry.specs.declared.asked.Request.TheVariants.{Command as CommandRequest}
 use Rattle.desk.specs.CrashOutcomes.{asked_on}
 use Rattle.desk.proofs.CrashLemmas.{accepted_kept, failed_kept, read_kept}
-use Rattle.desk.proofs.DeskLemmas.{still_held, all_kept, changed_kept}
+use Rattle.desk.proofs.DeskLemmas.{still_held, accepted_acts, all_kept, changed_kept}
 use Rattle.desk.proofs.handling.Desk.carry_out.Goals as goal
 
 pub returns-in-Err-clause-left : goal.returns-in-Err-clause-left
@@ -20,6 +21,10 @@ returns-in-Ok-apply-clause-left g c clean history legal held =
     c.args.self.now mid (record mid { store = c.apply.new.self }) c.entry_fits.ensures c.in-Ok.ensures.read legal
     (still_held g.S.Store c.args.self.now mid history c.in-Ok.ensures.read.rows before held) (c.in-Ok.ensures.answer before history legal held)
     c.accepted-reply.ensures.answers (c.in-Ok-apply.ensures.ok clean) (c.in-Ok-apply.ensures.left clean)
+
+pub returns-in-Ok-apply-clause-read : goal.returns-in-Ok-apply-clause-read
+returns-in-Ok-apply-clause-read g c reads =
+    absurd (false≢true (sym (accepted_acts c.args.command.now c.accepted-reply.result c.accepted-reply.ensures.accepted) ∙ reads))
 
 pub returns-clause-kept : goal.returns-clause-kept
 returns-clause-kept g c refused clean rows holds =

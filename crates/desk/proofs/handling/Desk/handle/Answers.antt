@@ -39,6 +39,9 @@ returns-in-Command-clause-isolated g c clean history legal held =
 pub returns-in-Command-clause-others : goal.returns-in-Command-clause-others
 returns-in-Command-clause-others g c clean history legal held = rw c.in-Command.is (c.carry_out.ensures.others clean history legal held)
 
+pub returns-in-Command-clause-read : goal.returns-in-Command-clause-read
+returns-in-Command-clause-read g c = rw c.in-Command.is c.carry_out.ensures.read
+
 pub returns-in-Query-clause-isolated : goal.returns-in-Query-clause-isolated
 returns-in-Query-clause-isolated g c clean history legal held =
     c.answers_by_entries.ensures (charter_of c.args.self.now) history c.args.day c.args.caller.now c.args.request.now c.answer.result history legal
