@@ -173,12 +173,12 @@ module _ {S : Type 0} (g : Ghosts S) where
       as_pending charter before kept.answered.after asked reply pending trees kept.answered.answers (kept.left pending left trees leaves)
 
   -- the request at an index was answered after those before it
-  kept_next : (charter : Charter) (history : History) (asked : List Asked) (index : ℕ) (a : Asked) (replies : List Reply) (reply : Reply) (start old new : Desk S)
+  left_next : (charter : Charter) (history : History) (asked : List Asked) (index : ℕ) (a : Asked) (replies : List Reply) (reply : Reply) (start old new : Desk S)
       → index < length asked → a ≡ get_or asked index a
       → (so_far : AreKept g charter history (take index asked) replies start old)
       → IsKept g charter so_far.answered.after a reply old new
       → AreKept g charter history (take (index + 1) asked) (replies ++ reply ∷ []) start new
-  kept_next charter history asked index a replies reply start old new below here so_far is =
+  left_next charter history asked index a replies reply start old new below here so_far is =
       let grown : take (index + 1) asked ≡ take index asked ++ a ∷ [] = taken_more asked index a below here in
       record {
         answered = record {
@@ -195,13 +195,13 @@ module _ {S : Type 0} (g : Ghosts S) where
       }
 
   -- the same, by a desk that keeps each history of its rows, with the charter as it now is
-  pub kept_more : (charter here : Charter) (history : History) (asked : List Asked) (index : ℕ) (a : Asked) (replies grown : List Reply) (reply : Reply) (start old new : Desk S)
+  pub left_more : (charter here : Charter) (history : History) (asked : List Asked) (index : ℕ) (a : Asked) (replies grown : List Reply) (reply : Reply) (start old new : Desk S)
       → here ≡ charter → index < length asked → a ≡ get_or asked index a → grown ≡ replies ++ reply ∷ []
       → AreKept g charter history (take index asked) replies start old
       → ((h : History) → IsLegal here h → HoldsHistory g old h → IsKept g here h a reply old new)
       → AreKept g charter history (take (index + 1) asked) grown start new
-  kept_more charter here history asked index a replies grown reply start old new same below at pushed so_far keeps =
+  left_more charter here history asked index a replies grown reply start old new same below at pushed so_far keeps =
       let after = so_far.answered.after in
       let is = subst (λ (k : Charter). IsLegal k after → IsKept g k after a reply old new) same
       (λ legal. keeps after legal so_far.answered.rows_after) so_far.answered.legal in
-      rw pushed (kept_next charter history asked index a replies reply start old new below at so_far is)
+      rw pushed (left_next charter history asked index a replies reply start old new below at so_far is)

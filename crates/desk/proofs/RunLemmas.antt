@@ -1,13 +1,14 @@
 -- Runs that go on by one request.
-use Rattle.std.proofs.Common.{◌≡◌, ℕ, Bool, ◌+◌, ◌<◌, ◌||◌, List, [], ◌∷◌, ◌++◌, length, get_or, take, refl, sym, ap, ◌∙◌, subst}
+use Rattle.std.proofs.Common.{◌≡◌, ℕ, Bool, false, ◌+◌, ◌<◌, ◌||◌, List, [], ◌∷◌, ◌++◌, length, get_or, take, refl, sym, ap, ◌∙◌, subst}
 use Rattle.std.specs.List.{list_any}
 use Rattle.std.proofs.lemmas.Bool.{or_parts}
 use Rattle.std.proofs.lemmas.List.{take_more}
-use Rattle.std.proofs.lemmas.List.Folds.{list_any_more}
+use Rattle.std.proofs.lemmas.List.Folds.{list_any-append, list_any_more}
 use Rattle.registry.specs.History.{History}
 use Rattle.charters.specs.declared.charter.Charter.{Charter}
-use Rattle.desk.specs.Answer.{AnswersRequest}
+use Rattle.desk.specs.Answer.{is_accepted, AnswersRequest}
 use Rattle.sqlite.specs.Store.{Ghosts}
+use Rattle.desk.specs.Desk.{IsOnCleanDisk, KeepsRows}
 use Rattle.desk.specs.declared.handling.Desk.{Desk}
 use Rattle.desk.specs.HolderAnswers.{may_change, may_change_any, may_except, may_except_any, KeepsOthers}
 use Rattle.desk.specs.Run.{Runs}
@@ -28,6 +29,16 @@ Runs-append charter before middle after (x ∷ asked) (r ∷ replies) a reply ru
 -- the requests up to an index, with the one there
 pub taken_more : (asked : List Asked) (index : ℕ) (a : Asked) → index < length asked → a ≡ get_or asked index a → take (index + 1) asked ≡ take index asked ++ a ∷ []
 taken_more asked index a below here = take_more asked index a below ∙ ap (λ x. take index asked ++ x ∷ []) (sym here)
+
+-- one more reply that accepts nothing keeps the rows, where those before it accept nothing either
+pub kept_more : {S : Type 0} (g : Ghosts S) (replies grown : List Reply) (reply : Reply) (start old new : Desk S)
+    → grown ≡ replies ++ reply ∷ [] → (IsOnCleanDisk g new → IsOnCleanDisk g old)
+    → (list_any is_accepted replies ≡ false → KeepsRows g start old) → (is_accepted reply ≡ false → KeepsRows g old new)
+    → list_any is_accepted grown ≡ false → KeepsRows g start new
+kept_more g replies grown reply start old new pushed before first second none clean rows holds =
+    let both : (list_any is_accepted replies || (is_accepted reply || false)) ≡ false = sym (list_any-append is_accepted replies (reply ∷ [])) ∙ ap (list_any is_accepted) (sym pushed) ∙ none in
+    let parts = or_parts (list_any is_accepted replies) (is_accepted reply || false) both in
+    second (or_parts (is_accepted reply) false parts.1).0 clean rows (first parts.0 (before clean) rows holds)
 
 -- one more request leaves the rows of those that neither it nor those before it may change
 pub others_more : {S : Type 0} (g : Ghosts S) (asked : List Asked) (index : ℕ) (a : Asked) (start old new : Desk S)

@@ -1,5 +1,6 @@
 //! The desk, and how it handles requests.
 ghost use Rattle.std.specs.Prelude.{◌≡◌, ◌≢◌, true, false, None, [], ◌∷◌, Err, IfOk, IfErr, OnOk, OnErr};
+ghost use Rattle.std.specs.List.{list_any};
 ghost use Rattle.registry.specs.History.{History};
 ghost use Rattle.registry.specs.Rows.{rows_if_any, RowsIfAny};
 ghost use Rattle.sqlite.specs.Held.{state};
@@ -143,6 +144,8 @@ impl<S: Alter> Desk<S> {
         ensures charter { charter_of self.new ≡ charter_of self.old }
         ensures clean { IsOnCleanDisk S.Store self.new → IsOnCleanDisk S.Store self.old }
         ensures err { OnErr result (self.new ≡ self.old) }
+        ensures kept { IfOk result (λ replies. list_any is_accepted replies.items ≡ false
+            → KeepsRows S.Store self.old self.new) }
         ensures isolated { IfOk result (λ replies. OfHistories S.Store self.old self.new (λ history.
             RunsByEntries (charter_of self.old) history asked.now replies.items)) }
         ensures others { OfHistories S.Store self.old self.new (λ _.

@@ -1,9 +1,9 @@
 use Rattle.std.proofs.Common.{◌∙◌, refl, arith, take_all}
 use Rattle.std.specs.Prelude.{IsOk}
 use Rattle.desk.specs.Desk.{charter_of}
-use Rattle.desk.proofs.CrashLemmas.{kept_more}
+use Rattle.desk.proofs.CrashLemmas.{left_more}
 use Rattle.desk.proofs.HolderLemmas.{runs_by_entries}
-use Rattle.desk.proofs.RunLemmas.{others_more}
+use Rattle.desk.proofs.RunLemmas.{kept_more, others_more}
 use Rattle.desk.proofs.handling.Desk.run.Goals as goal
 
 pub loop-one-init : goal.loop-one-init
@@ -12,7 +12,8 @@ loop-one-init g c = record {
   clean = λ clean. clean;
   room = omega (arith, c.in_ok-replies.ensures.capacity);
   count = c.in_ok-replies.ensures.len;
-  kept = λ clean history legal held.
+  kept = λ none clean rows holds. holds;
+  left = λ clean history legal held.
       rw c.in_ok-replies.ensures.items (record {
         answered = record { after = history; legal = legal; values = λ fit. fit; runs = refl; rows_after = held };
         left = λ pending left. left;
@@ -29,14 +30,16 @@ loop-one-preserved g c =
       clean = λ clean. so_far.clean (c.handle-reply.ensures.clean clean);
       room = omega (arith, so_far.room, c.push.ensures.capacity);
       count = (rw pushed at c.push.ensures.len) ∙ rw so_far.count refl;
-      kept = λ clean history legal held.
-          kept_more g.S.Store (charter_of c.args.self.now) (charter_of c.loop-one.self) history c.args.asked.now c.loop-one.one-index c.one-item.result
+      kept = kept_more g.S.Store c.loop-one.replies.items c.push.new.self.items c.handle-reply.result c.args.self.now c.loop-one.self c.handle-reply.new.self
+          (rw pushed at c.push.ensures.items) c.handle-reply.ensures.clean so_far.kept c.handle-reply.ensures.kept;
+      left = λ clean history legal held.
+          left_more g.S.Store (charter_of c.args.self.now) (charter_of c.loop-one.self) history c.args.asked.now c.loop-one.one-index c.one-item.result
           c.loop-one.replies.items c.push.new.self.items c.handle-reply.result c.args.self.now c.loop-one.self c.handle-reply.new.self
-          so_far.chartered c.loop-one-test.true c.one-item.is (rw pushed at c.push.ensures.items) (so_far.kept (c.handle-reply.ensures.clean clean) history legal held)
+          so_far.chartered c.loop-one-test.true c.one-item.is (rw pushed at c.push.ensures.items) (so_far.left (c.handle-reply.ensures.clean clean) history legal held)
           (c.handle-reply.ensures.left clean);
       others = λ clean history legal held.
           let before = c.handle-reply.ensures.clean clean in
-          let is = (so_far.kept before history legal held).answered in
+          let is = (so_far.left before history legal held).answered in
           others_more g.S.Store c.args.asked.now c.loop-one.one-index c.one-item.result c.args.self.now c.loop-one.self c.handle-reply.new.self
           c.loop-one-test.true c.one-item.is (so_far.others before history legal held)
           (c.handle-reply.ensures.others clean is.after (rw so_far.chartered is.legal) is.rows_after);
@@ -44,7 +47,7 @@ loop-one-preserved g c =
 
 pub returns-clause-left : goal.returns-clause-left
 returns-clause-left g c clean history legal held =
-    rw (take_all c.loop-one.one-index c.args.asked.now (omega (arith, c.loop-one-test.false))) at (c.loop-one.invariant.kept clean history legal held)
+    rw (take_all c.loop-one.one-index c.args.asked.now (omega (arith, c.loop-one-test.false))) at (c.loop-one.invariant.left clean history legal held)
 
 pub returns-clause-answered : goal.returns-clause-answered
 returns-clause-answered g c clean history legal held = (returns-clause-left g c clean history legal held).answered
