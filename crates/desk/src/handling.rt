@@ -48,6 +48,7 @@ impl<S: Alter + Drop> Desk<S> {
         ensures charter { IfOk result (λ desk. charter_of desk ≡ charter.now) }
         ensures empty { IfOk result (λ desk. HoldsHistory S.Store desk []) }
         ensures unused { OnOk result (IsUnused (state S.Store conn)) }
+        ensures unlimited { IfOk result (λ desk. desk.store.connection.step_limit ≡ None) }
         ensures made { IfOk result (λ desk. IfClean S.Store desk.store
             (IsNew charter.now (connection_state S.Store desk.store))) }
         ensures clean { IfOk result (λ desk. IsOnCleanDisk S.Store desk
