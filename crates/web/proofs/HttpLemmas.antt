@@ -1,5 +1,5 @@
 -- The answers to HTTP requests and the responses that give them.
-use Rattle.std.proofs.Common.{◌≡◌, ℕ, Bool, true, false, List, ◌++◌, codes, Option, Some, None, Result, Ok, Err, refl, sym, ap, ◌∙◌, append_assoc, get_or, inl, inr}
+use Rattle.std.proofs.Common.{◌≡◌, ℕ, Bool, true, false, List, ◌++◌, codes, Option, Some, None, Result, Ok, Err, refl, ap, ◌∙◌, append_assoc, get_or, inl, inr}
 use Rattle.std.specs.Fmt.{digits}
 use Rattle.std.specs.Global.{Vec}
 use Rattle.std.proofs.lemmas.Option.{same_Some}
@@ -120,10 +120,7 @@ error_line rest (status, more, other, is) = two_is_four (ap (λ line. get_or lin
 -- a text that begins so has it too
 pub longer_error : (text more : List ℕ) → HasErrorStatus text → HasErrorStatus (text ++ more)
 longer_error text more (status, rest, other, is) =
-    let line = codes "HTTP/1.1 " ++ status_line status in
-    let appended : text ≡ line ++ rest = is ∙ sym (append_assoc (codes "HTTP/1.1 ") (status_line status) rest) in
-    (status, rest ++ more, other,
-     ap (λ u. u ++ more) appended ∙ append_assoc line rest more ∙ append_assoc (codes "HTTP/1.1 ") (status_line status) (rest ++ more))
+    (status, rest ++ more, other, ap (λ u. u ++ more) is ∙ append_assoc (codes "HTTP/1.1 " ++ status_line status) rest more)
 
 module _ {S : Type 0} (g : Ghosts S) where
   pub same_keeps : (desk : Desk S) → KeepsAll g desk desk

@@ -74,14 +74,20 @@ module _ {S : Type 0} (g : Ghosts S) where
       (later, (represents_later, λ fits. values_later (values fits)), inr (inl (request, reply, reads, replied, is)))
 
   pub each_along : (old new : Desk S) (lines : List (List ℕ)) (w w' : List ℕ) → AnswersEach (AnswersLineAt g) old new lines w w' → AnswersLines g old new lines w w'
-  each_along old new lines w w' each = (each, λ clean history represents.
-      let (later, (represents_later, values), answered) = AnswersEach-along (AnswersLineAt g) (IsOnCleanDisk g) clean_before (RepresentsFrom (charter_of old) history) (AnswersLineOn (charter_of old)) (line_along (charter_of old) history) old new lines w w' history clean (represents, λ fits. fits) each in
-      (later, represents_later, values, answered))
+  each_along old new lines w w' each = (
+    each,
+    λ clean history represents.
+        let (later, (represents_later, values), answered) = AnswersEach-along (AnswersLineAt g) (IsOnCleanDisk g) clean_before (RepresentsFrom (charter_of old) history) (AnswersLineOn (charter_of old)) (line_along (charter_of old) history) old new lines w w' history clean (represents, λ fits. fits) each in
+        (later, represents_later, values, answered),
+  )
 
   pub broken_along : (old new : Desk S) (lines : List (List ℕ)) (w w' : List ℕ) → BreaksOff (AnswersLineAt g) old new lines w w' → BreaksOffLines g old new lines w w'
-  broken_along old new lines w w' broken = (broken, λ clean history represents.
-      let (later, (represents_later, values), answered) = BreaksOff-along (AnswersLineAt g) (IsOnCleanDisk g) clean_before (RepresentsFrom (charter_of old) history) (AnswersLineOn (charter_of old)) (line_along (charter_of old) history) old new lines w w' history clean (represents, λ fits. fits) broken in
-      (later, represents_later, values, answered))
+  broken_along old new lines w w' broken = (
+    broken,
+    λ clean history represents.
+        let (later, (represents_later, values), answered) = BreaksOff-along (AnswersLineAt g) (IsOnCleanDisk g) clean_before (RepresentsFrom (charter_of old) history) (AnswersLineOn (charter_of old)) (line_along (charter_of old) history) old new lines w w' history clean (represents, λ fits. fits) broken in
+        (later, represents_later, values, answered),
+  )
 
   -- ---- rows
 
