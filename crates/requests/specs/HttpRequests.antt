@@ -5,7 +5,7 @@ use Rattle.httparse.specs.Grammar.{RequestHead}
 use Rattle.httparse.specs.Spans.{name_and_value}
 use Rattle.serde_json.specs.Data.{Data, null}
 use Rattle.http_messages.specs.HeadEnd.{IsWholeHead, LacksEnd}
-use Rattle.requests.specs.RequestHeads.{Head, head_of, IsHeadOf}
+use Rattle.requests.specs.RequestHeads.{Head, SaysHead}
 use Rattle.requests.specs.declared.action.Action.{Action}
 use Rattle.requests.specs.declared.action.Action.TheVariants.{Import}
 use Rattle.http_messages.specs.declared.head.TheConstants.{HEAD_LIMIT}
@@ -46,13 +46,6 @@ pub record SaysAsked (day : ℕ) (head : Head) (body : Option (List ℕ)) (asked
   pub faultless : http_faults head body ≡ []
 
 -- ---- messages
-
--- what the bytes of a head ask for, or why they are refused
-abbrev pub SaysHead : List ℕ → Result Head Refusal → Type 0
-SaysHead bytes said =
-    ((head : RequestHead) × IsHeadOf bytes head
-    × (head_of head.method head.target (map name_and_value head.fields) ≡ said))
-    ⊎ (((head : RequestHead) → ¬ (IsHeadOf bytes head)) × (said ≡ Err BadRequest))
 
 -- the bytes are a whole head and the whole body of which it gives the length, and nothing after them
 pub record IsMessage (bytes : List ℕ) (said : Head) (body : Option (List ℕ)) : Type 0 where

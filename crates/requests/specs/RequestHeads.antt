@@ -1,6 +1,6 @@
 -- What the head of a request asks for. Its faults have an order: no head of the grammar, no route, no such method, then the
 -- length of the body.
-use Rattle.std.specs.Prelude.{◌≡◌, ◌≤◌, ◌⊎◌, ⊤, ℕ, List, [], length, map, codes, Option, Some, None, option_map, Result, Ok, Err}
+use Rattle.std.specs.Prelude.{◌≡◌, ◌≤◌, ◌⊎◌, ℕ, List, [], length, map, codes, Option, Some, None, option_map, Result, Ok, Err}
 use Rattle.httparse.specs.Grammar.{ReadsRequest, RequestHead}
 use Rattle.httparse.specs.Spans.{name_and_value}
 use Rattle.requests.specs.Actions.{takes_body}
@@ -13,8 +13,6 @@ use Rattle.requests.specs.declared.path.Path.{Path}
 use Rattle.http_messages.specs.declared.refusal.Refusal.{Refusal}
 use Rattle.http_messages.specs.declared.refusal.Refusal.TheVariants.{BadRequest, MethodNotAllowed, NotFound}
 use Rattle.requests.specs.declared.head.Head.{Head as HeadRead}
-use Rattle.requests.specs.declared.head.RequestHeadFault.{RequestHeadFault}
-use Rattle.requests.specs.declared.head.RequestHeadFault.TheVariants.{Memory, Refused}
 use Rattle.requests.specs.declared.head.TheConstants.{FIELD_LIMIT}
 
 -- what a request asks for
@@ -69,19 +67,18 @@ head_view head = record {
   body_length = head.body_length;
 }
 
--- the answer says what is asked; where an allocation failed, it says nothing
-abbrev pub AnswersRequestHead : Result Head Refusal → Result HeadRead RequestHeadFault → Type 0
-AnswersRequestHead asked (Ok head) = asked ≡ Ok (head_view head)
-AnswersRequestHead asked (Err (Refused refusal)) = asked ≡ Err refusal
-AnswersRequestHead asked (Err Memory) = ⊤
+-- what was read of a head, as bytes
+abbrev pub read_view : Result HeadRead Refusal → Result Head Refusal
+read_view (Ok head) = Ok (head_view head)
+read_view (Err refusal) = Err refusal
 
 -- the bytes are this head, of the grammar of httparse (RFC 9112 sections 2 to 5), and nothing else
 abbrev pub IsHeadOf : List ℕ → RequestHead → Type 0
 IsHeadOf bytes head = (length head.fields ≤ FIELD_LIMIT) × ReadsRequest bytes head []
 
--- what the head asks for; where the bytes are no head, the answer says that they are refused
-abbrev pub AnswersHead : List ℕ → Result HeadRead RequestHeadFault → Type 0
-AnswersHead bytes result =
+-- what the bytes of a head ask for, or why they are refused
+abbrev pub SaysHead : List ℕ → Result Head Refusal → Type 0
+SaysHead bytes said =
     ((head : RequestHead) × IsHeadOf bytes head
-    × AnswersRequestHead (head_of head.method head.target (map name_and_value head.fields)) result)
-    ⊎ (((head : RequestHead) → ¬ (IsHeadOf bytes head)) × (result ≡ Err (Refused BadRequest)))
+    × (head_of head.method head.target (map name_and_value head.fields) ≡ said))
+    ⊎ (((head : RequestHead) → ¬ (IsHeadOf bytes head)) × (said ≡ Err BadRequest))

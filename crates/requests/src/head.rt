@@ -2,15 +2,14 @@
 ghost use Rattle.std.specs.Prelude.{◌≡◌, ◌≤◌, [], ℕ, map, option_map, length, take, All, IfSome, IfNone};
 ghost use Rattle.httparse.specs.Grammar.{ReadsRequest, RequestHead};
 ghost use Rattle.httparse.specs.Spans.{IsHeaderWithin, IsRequestAt, IsRequestWithin, header_bytes};
-ghost use Rattle.requests.specs.RequestHeads.{AnswersHead, AnswersRequestHead, caller_field, head_of};
+ghost use Rattle.requests.specs.RequestHeads.{SaysHead, caller_field, head_of, read_view};
 
 use crate::action::Action;
 use crate::piece::{holder_piece, number_piece};
-use crate::router::path_of;
+use crate::router::Routes;
 use http_messages::{Refusal, body_length, only_value};
 use httparse::Status;
 use httparse::spans::{EMPTY_HEADER_SPAN, HeaderSpan, RequestSpans, parse_request};
-use std::alloc::Global;
 
 /// How many fields a head may have.
 pub const FIELD_LIMIT: usize = 32;
@@ -29,25 +28,17 @@ pub struct Head<'a> {
     pub body_length: Option<usize>,
 }
 
-/// Why a head asks for nothing.
-#[derive(Clone, Copy, Debug, PartialEq, Eq)]
-pub enum RequestHeadFault {
-    Refused(Refusal),
-    /// An allocation failed, for the routes.
-    Memory,
-}
-
 /// What a head asks for, or the first fault of it.
-pub fn read_request_head<'a>(alloc: Global, head: &'a [u8]) -> Result<Head<'a>, RequestHeadFault>
-    ensures { AnswersHead head.now result }
+pub fn read_request_head<'a>(routes: &Routes, head: &'a [u8]) -> Result<Head<'a>, Refusal>
+    ensures { SaysHead head.now (read_view result) }
 {
     let mut spans = [EMPTY_HEADER_SPAN; FIELD_LIMIT];
     let Some(request) = parse_head(head, &mut spans) else {
-        return Err(RequestHeadFault::Refused(Refusal::BadRequest));
+        return Err(Refusal::BadRequest);
     };
     let method = request.method.of(head);
     let target = request.path.of(head);
-    head_of(alloc, head, method, target, &spans[..request.headers])
+    head_of(routes, head, method, target, &spans[..request.headers])
 }
 
 /// The head where it is one of exactly these bytes.
@@ -67,35 +58,30 @@ fn parse_head(head: &[u8], fields: &mut [HeaderSpan]) -> Option<RequestSpans>
 
 /// What a method, a target and fields ask for, or their first fault.
 fn head_of<'a>(
-    alloc: Global,
+    routes: &Routes,
     head: &'a [u8],
     method: &[u8],
     target: &'a [u8],
     fields: &[HeaderSpan],
-) -> Result<Head<'a>, RequestHeadFault>
+) -> Result<Head<'a>, Refusal>
     requires { All (IsHeaderWithin (length head.now)) fields.now }
-    ensures { AnswersRequestHead
-        (head_of method.now target.now (map (header_bytes head.now) fields.now)) result }
+    ensures { read_view result
+        ≡ head_of method.now target.now (map (header_bytes head.now) fields.now) }
 {
-    let Ok(found) = path_of(alloc, target) else {
-        return Err(RequestHeadFault::Memory);
-    };
-    let Some(path) = found else {
-        return Err(RequestHeadFault::Refused(Refusal::NotFound));
+    let Some(path) = routes.path_of(target) else {
+        return Err(Refusal::NotFound);
     };
     let Some(action) = path.action(method) else {
-        return Err(RequestHeadFault::Refused(Refusal::MethodNotAllowed(path.methods())));
+        return Err(Refusal::MethodNotAllowed(path.methods()));
     };
-    match body_length(head, fields, action.takes_body()) {
-        Ok(body_length) => Ok(Head {
-            action,
-            holder: holder_piece(target),
-            number: number_piece(target),
-            caller: caller_field(head, fields),
-            body_length,
-        }),
-        Err(refusal) => Err(RequestHeadFault::Refused(refusal)),
-    }
+    let body_length = body_length(head, fields, action.takes_body())?;
+    Ok(Head {
+        action,
+        holder: holder_piece(target),
+        number: number_piece(target),
+        caller: caller_field(head, fields),
+        body_length,
+    })
 }
 
 /// The value of the one field `Desk-Caller`.

@@ -12,8 +12,9 @@ mod router;
 mod table;
 
 pub use action::Action;
-pub use head::{FIELD_LIMIT, Head, RequestHeadFault, read_request_head};
+pub use head::{FIELD_LIMIT, Head, read_request_head};
 pub use malformed::Malformed;
 pub use registry::{Asked, Request};
 pub use request::message::read_http_request;
 pub use request::{LINE_LENGTH_LIMIT, LineFault, read_line_request};
+pub use router::Routes;

@@ -12,8 +12,7 @@ use Rattle.registry.specs.History.{History}
 use Rattle.charters.specs.declared.charter.Charter.{Charter}
 use Rattle.http_messages.specs.HeadEnd.{IsWholeHead}
 use Rattle.http_messages.specs.Input.{Gives}
-use Rattle.requests.specs.RequestHeads.{AnswersHead, Head, head_view}
-use Rattle.requests.specs.declared.head.Head.{Head as HeadRead}
+use Rattle.requests.specs.RequestHeads.{Head, SaysHead}
 use Rattle.http_messages.specs.ResponseText.{response_head, status_line}
 use Rattle.http_messages.specs.declared.response.ContentType.{ContentType}
 use Rattle.http_messages.specs.declared.response.ContentType.TheVariants.{Csv}
@@ -27,7 +26,7 @@ use Rattle.desk.specs.declared.handling.Desk.{Desk}
 use Rattle.desk.specs.declared.reply.Reply.{Reply}
 use Rattle.desk.specs.declared.reply.Reply.TheVariants.{Done, Imported, Listed, Payloads, Denied, Unavailable}
 use Rattle.web.specs.HttpAnswers.{KeepsAll, RespondsTo}
-use Rattle.requests.specs.HttpRequests.{asked, malformed, refused, SaysHead}
+use Rattle.requests.specs.HttpRequests.{asked, malformed, refused}
 use Rattle.web.specs.HttpResponses.{HasErrorStatus, json_response, reply_body, reply_response, reply_status}
 use Rattle.web.specs.ReplyText.{line_text, short_text}
 use Rattle.web.specs.RequestExtent.{HasExtent}
@@ -70,13 +69,6 @@ pub gives-more : (before between after head rest : List ℕ) → Gives head befo
     → Gives (head ++ rest) before after
 gives-more before between after head rest given given_rest =
     given_rest ∙ ap (λ u. u ++ rest) given ∙ append_assoc before head rest
-
--- ---- heads
-
--- what was read of a head is what it says
-pub head-said : (bytes : List ℕ) (request : HeadRead) → AnswersHead bytes (Ok request) → SaysHead bytes (Ok (head_view request))
-head-said bytes request (inl (head, is, says)) = inl (head, is, says)
-head-said bytes request (inr (none, refusal)) = cc
 
 -- ---- desks
 

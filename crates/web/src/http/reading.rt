@@ -3,17 +3,15 @@ ghost use Rattle.std.specs.Prelude.{◌≡◌, ◌++◌, ◌<◌, ℕ, List, Ok,
 ghost use Rattle.std.specs.Option.{option_copied};
 ghost use Rattle.http_messages.specs.HeadEnd.{IsWholeHead};
 ghost use Rattle.http_messages.specs.Input.{Gives, IsOver};
-ghost use Rattle.requests.specs.RequestHeads.{head_view};
-ghost use Rattle.requests.specs.HttpRequests.{IsCutShort, IsMessage, SaysHead};
+ghost use Rattle.requests.specs.RequestHeads.{SaysHead, head_view};
+ghost use Rattle.requests.specs.HttpRequests.{IsCutShort, IsMessage};
 ghost use Rattle.web.specs.steps.HttpAnswering.{ReadsNext, extent_of};
 
 use super::Extent;
 use addr::Day;
 use http_messages::{BodyFault, ContentType, HeadFault, Refusal, read_body, read_head};
 use registry::Asked;
-use requests::{
-    Head, LineFault, Malformed, RequestHeadFault, read_http_request, read_request_head,
-};
+use requests::{Head, LineFault, Malformed, Routes, read_http_request, read_request_head};
 use std::alloc::Global;
 use streams::Source;
 
@@ -55,10 +53,12 @@ pub(super) fn read_next<S: Source>(alloc: Global, source: &mut S, day: Day) -> O
         Err(HeadFault::TooLong) => return Some(Next::Refused(Refusal::BadRequest)),
         Err(HeadFault::CutShort) => return None,
     };
-    match read_request_head(alloc, head.as_slice()) {
+    let Ok(routes) = Routes::new(alloc) else {
+        return Some(Next::NotRead);
+    };
+    match read_request_head(&routes, head.as_slice()) {
         Ok(request) => read_rest(alloc, source, day, &request),
-        Err(RequestHeadFault::Refused(refusal)) => Some(Next::Refused(refusal)),
-        Err(RequestHeadFault::Memory) => Some(Next::NotRead),
+        Err(refusal) => Some(Next::Refused(refusal)),
     }
 }
 

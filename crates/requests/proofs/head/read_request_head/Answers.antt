@@ -1,7 +1,7 @@
-use Rattle.std.proofs.Common.{◌≡◌, ◌≤◌, ap, subst, ◌∙◌, arith, inl, length, map, take}
+use Rattle.std.proofs.Common.{◌≡◌, ◌≤◌, ap, sym, ◌∙◌, arith, inl, length, map, take}
 use Rattle.std.proofs.lemmas.List.{length-take, length-map}
 use Rattle.httparse.specs.Spans.{header_bytes, name_and_value}
-use Rattle.requests.specs.RequestHeads.{AnswersRequestHead, head_of}
+use Rattle.requests.specs.RequestHeads.{head_of}
 use Rattle.requests.proofs.head.read_request_head.Goals as goal
 
 pub returns : goal.returns
@@ -25,4 +25,4 @@ returns c =
       length-take c.in-Some.request.headers c.parse_head.new.fields,
       c.parse_head.auto.fields,
     ) in
-    inl (head, (few, reads), subst (λ asked. AnswersRequestHead asked c.head_of.result) same c.head_of.ensures)
+    inl (head, (few, reads), sym same ∙ sym c.head_of.ensures)
