@@ -1,5 +1,5 @@
 //! The texts of responses.
-ghost use Rattle.std.specs.Prelude.{◌≡◌, ◌++◌, ◌+◌, ◌≤◌, true, codes, decimal, length, OnOk, OnErr};
+ghost use Rattle.std.specs.Prelude.{◌≡◌, ◌++◌, ◌+◌, ◌≤◌, true, codes, decimal, length, IfSome, IsSome, OnOk, OnErr};
 ghost use Rattle.arrayvec.specs.ArrayString.{array_string_len};
 ghost use Rattle.streams.specs.Streams.{AppendsBeginning};
 ghost use Rattle.http_messages.specs.ResponseText.{allow_line, fault_text, methods_text, response_head, response_text, status_line, type_text, with_method};
@@ -7,7 +7,7 @@ ghost use Rattle.http_messages.specs.ResponseText.{allow_line, fault_text, metho
 use crate::method::{Method, Methods};
 use crate::status::Status;
 use addr::digits;
-use arrayvec::ArrayString;
+use arrayvec::{ArrayString, ArrayVec};
 use streams::{Drain, Failed, write_all};
 
 /// What a response's body is.
@@ -30,7 +30,10 @@ impl ContentType {
     }
 }
 
-/// Writes a whole response.
+/// How many bytes a response may have to be handed on at once.
+const SHORT_RESPONSE: usize = 4096;
+
+/// Writes a whole response, a short one at once.
 pub fn write_response<D: Drain>(
     drain: &mut D,
     status: Status,
@@ -44,8 +47,26 @@ pub fn write_response<D: Drain>(
     ensures failed { OnErr result (D.has_failed drain.new ≡ true) }
 {
     let head = response_head(status, content_type, body.len() as u64);
+    if let Some(text) = short_response(head.as_str().as_bytes(), body) {
+        return write_all(drain, text.as_slice());
+    }
     write_all(drain, head.as_str().as_bytes())?;
     write_all(drain, body)
+}
+
+/// Head and body in one piece, where both are short.
+fn short_response(head: &[u8], body: &[u8]) -> Option<ArrayVec<u8, SHORT_RESPONSE>>
+    ensures text { IfSome result (λ text. text.items ≡ head.now ++ body.now) }
+    ensures some { length head.now + length body.now ≤ SHORT_RESPONSE → IsSome result }
+{
+    let mut text = ArrayVec::new();
+    let Ok(()) = text.try_extend_from_slice(head) else {
+        return None;
+    };
+    let Ok(()) = text.try_extend_from_slice(body) else {
+        return None;
+    };
+    Some(text)
 }
 
 #[tactic(auto, unfolding(crate::specs::ResponseText::response_head))]

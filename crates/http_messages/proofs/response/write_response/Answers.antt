@@ -5,16 +5,16 @@ use Rattle.http_messages.proofs.response.write_response.Goals as goal
 pub returns-in_err-write_all-clause-err : goal.returns-in_err-write_all-clause-err
 returns-in_err-write_all-clause-err g c =
     first-broken c.from_residual.result _ _ _ _ _
-    (c.as_bytes.ensures.value ∙ c.as_str.ensures.value ∙ c.response_head-head.ensures) c.in_err-write_all.ensures.err
+    (c.as_bytes-2.ensures.value ∙ c.as_str-2.ensures.value ∙ c.response_head-head.ensures) c.in_err-write_all.ensures.err
 
 pub returns-clause-ok : goal.returns-clause-ok
 returns-clause-ok g c =
-    both-written c.write_all-2.result _ _ _ _ _ _
-    (c.as_bytes.ensures.value ∙ c.as_str.ensures.value ∙ c.response_head-head.ensures)
-    c.in_ok-write_all.ensures.ok c.write_all-2.ensures.ok
+    both-written c.write_all-3.result _ _ _ _ _ _
+    (c.as_bytes-2.ensures.value ∙ c.as_str-2.ensures.value ∙ c.response_head-head.ensures)
+    c.in_ok-write_all.ensures.ok c.write_all-3.ensures.ok
 
 pub returns-clause-err : goal.returns-clause-err
 returns-clause-err g c =
-    second-broken c.write_all-2.result _ _ _ _ _ _
-    (c.as_bytes.ensures.value ∙ c.as_str.ensures.value ∙ c.response_head-head.ensures)
-    c.in_ok-write_all.ensures.ok c.write_all-2.ensures.err
+    second-broken c.write_all-3.result _ _ _ _ _ _
+    (c.as_bytes-2.ensures.value ∙ c.as_str-2.ensures.value ∙ c.response_head-head.ensures)
+    c.in_ok-write_all.ensures.ok c.write_all-3.ensures.err
