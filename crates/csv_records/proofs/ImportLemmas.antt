@@ -1,6 +1,7 @@
 -- What the code reads of an import: the rows that the text says, and its lowest fault.
-use Rattle.std.proofs.Common.{◌≡◌, ℕ, suc, inl, inr, List, [], ◌∷◌, ◌++◌, length, Bool, true, false, if◌then◌else◌, Option, Some, None, is_some, Result, Ok, Err, refl, sym, ap, ◌∙◌}
+use Rattle.std.proofs.Common.{◌≡◌, ℕ, suc, inl, inr, List, [], ◌∷◌, ◌++◌, length, Bool, true, false, if◌then◌else◌, Option, Some, None, is_some, Result, Ok, Err, refl, sym, subst, ap, ◌∙◌}
 use Rattle.std.proofs.lemmas.Bool.{cases_Bool}
+use Rattle.std.proofs.lemmas.Option.{none-some, same_Some}
 use Rattle.std.specs.Global.{Vec}
 use Rattle.std.specs.List.{AllZip, flat_map}
 use Rattle.std.specs.Prelude.{IfOk}
@@ -97,6 +98,39 @@ says-counted rows (Ok terms) zip = by_count (is_row_count (length terms)) (count
     by_count false r is = rw (← is) tt
 says-counted rows (Err fault) zip = tt
 
+-- ---- a text says one list of rows
+
+same-row : (fields : Fields) (one other : ImportRow) → SaysRow fields one → SaysRow fields other → one ≡ other
+same-row (a ∷ b ∷ c ∷ d ∷ e ∷ []) one other (asn, prefix, max, from, until) (asn_too, prefix_too, max_too, from_too, until_too) =
+    ap (λ (v : AsnNumber). record { asn = v; prefix = one.prefix; max = one.max; from = one.from; until = one.until })
+    (same_Some one.asn other.asn (sym asn ∙ asn_too))
+    ∙ ap (λ (v : PrefixValue). record { asn = other.asn; prefix = v; max = one.max; from = one.from; until = one.until })
+    (same_Some one.prefix other.prefix (sym prefix ∙ prefix_too))
+    ∙ ap (λ (v : ℕ). record { asn = other.asn; prefix = other.prefix; max = v; from = one.from; until = one.until })
+    (same_Some one.max other.max (sym max ∙ max_too))
+    ∙ ap (λ (v : ℕ). record { asn = other.asn; prefix = other.prefix; max = other.max; from = v; until = one.until })
+    (same_Some one.from other.from (sym from ∙ from_too))
+    ∙ ap (λ (v : ℕ). record { asn = other.asn; prefix = other.prefix; max = other.max; from = other.from; until = v })
+    (same_Some one.until other.until (sym until ∙ until_too))
+same-row fields one other says says_too = absurd says
+
+same-rows : (records : List Fields) (xs ys : List ImportRow) → AllZip SaysRow records xs → AllZip SaysRow records ys → xs ≡ ys
+same-rows [] [] [] one other = refl
+same-rows [] [] (y ∷ ys) one other = absurd other
+same-rows [] (x ∷ xs) ys one other = absurd one
+same-rows (r ∷ rs) [] ys one other = absurd one
+same-rows (r ∷ rs) (x ∷ xs) [] one other = absurd other
+same-rows (r ∷ rs) (x ∷ xs) (y ∷ ys) one other = rw (same-row r x y one.0 other.0, same-rows rs xs ys one.1 other.1) refl
+
+abbrev below_header : List Fields → List Fields
+below_header [] = []
+below_header (_ ∷ rows) = rows
+
+same-import : (text : List ℕ) (xs ys : List ImportRow) → IsImport text xs → IsImport text ys → xs ≡ ys
+same-import text xs ys (records, is, says) (others, is_too, says_too) =
+    let same : others ≡ records = ap below_header (sym is_too ∙ is) in
+    same-rows records xs ys says (subst (λ (rows : List Fields). AllZip SaysRow rows ys) same says_too)
+
 -- ---- texts
 
 -- no fault is lower than this one
@@ -153,3 +187,25 @@ pub import-said : (text : List ℕ) (read : Result (Vec ImportRow) ImportFault) 
     → IfOk read (λ rows. IsImport text rows.items)
 import-said text (Ok rows) is = rw (← is) at (import_in-said text)
 import-said text (Err fault) is = tt
+
+-- what says the rows of a text, or its fault, was read of it
+pub import-read : (text : List ℕ) (read : Result (Vec ImportRow) ImportFault)
+    → IfOk read (λ rows. IsImport text rows.items) → result_err read ≡ import_fault text
+    → mapped (λ v. v.items) read ≡ import_in text
+import-read text (Ok rows) says reported = go (import_in text) refl
+  where
+    go : (r : Result (List ImportRow) ImportFault) → import_in text ≡ r → Ok rows.items ≡ r
+    go (Ok others) is =
+        ap (λ (xs : List ImportRow). Ok xs) (same-import text rows.items others says
+        (subst (λ (r : Result (List ImportRow) ImportFault). IfOk r (IsImport text)) is (import_in-said text)))
+    go (Err fault) is =
+        let none : None ≡ Some fault = reported ∙ sym (import_in-reported text) ∙ ap result_err is in
+        absurd (none-some fault none)
+import-read text (Err fault) says reported = go (import_in text) refl
+  where
+    go : (r : Result (List ImportRow) ImportFault) → import_in text ≡ r → Err fault ≡ r
+    go (Ok others) is =
+        let none : None ≡ Some fault = ap result_err (sym is) ∙ import_in-reported text ∙ sym reported in
+        absurd (none-some fault none)
+    go (Err other) is =
+        ap (λ (n : ImportFault). Err n) (same_Some fault other (reported ∙ sym (import_in-reported text) ∙ ap result_err is))

@@ -70,7 +70,6 @@ impl json_values::Fault for ImportFault {
 pub fn read_import(alloc: Global, text: &[u8]) -> Read<Vec<ImportRow>, ImportFault>
     ensures rows { IfOk result (λ read. IfOk read (λ rows. IsImport text.now rows.items)) }
     ensures fault { IfOk result (λ read. result_err read ≡ import_fault text.now) }
-    ensures read { IfOk result (λ read. mapped (λ v. v.items) read ≡ import_in text.now) }
 {
     let read = import_in(alloc, text)?;
     Ok(read)

@@ -1,6 +1,7 @@
 -- What the code reads of an HTTP message is the request that the message is, and its fault the lowest.
 use Rattle.std.proofs.Common.{◌≡◌, ℕ, List, [], ◌∷◌, ◌++◌, map, Option, Some, None, is_some, Result, Ok, Err, refl, sym, ap, ◌∙◌, append_assoc}
 use Rattle.std.proofs.lemmas.Option.{same_Some}
+use Rattle.std.specs.Global.{Vec}
 use Rattle.std.specs.List.{flat_map}
 use Rattle.std.specs.Option.{option_to_list}
 use Rattle.std.specs.Prelude.{IfOk}
@@ -12,7 +13,7 @@ use Rattle.json_values.proofs.FaultLemmas.{reported-only}
 use Rattle.json_values.specs.Faults.{fault_unless, lower_of, lowest, name_faults}
 use Rattle.json_values.specs.Parts.{lower, mapped}
 use Rattle.json_values.specs.Tree.{tree_of}
-use Rattle.csv_records.proofs.ImportLemmas.{import_in-said, import_in-reported}
+use Rattle.csv_records.proofs.ImportLemmas.{import-read, import_in-said, import_in-reported}
 use Rattle.csv_records.specs.Imports.{import_fault, IsImport}
 use Rattle.csv_records.specs.declared.imports.ImportFault.{ImportFault}
 use Rattle.csv_records.specs.steps.Importing.{import_in}
@@ -65,6 +66,17 @@ reads-text text =
         → IfOk (result_map_both (λ rows. rows) fault_of_import read) (IsImport text)
     said (Ok rows) is = is
     said (Err fault) is = is
+
+-- what says the rows of a text, or its fault, was read of it
+pub import_rows-read : (text : List ℕ) (read : Result (Vec ImportRow) ImportFault)
+    → IfOk read (λ rows. IsImport text rows.items) → result_err read ≡ import_fault text
+    → result_map_both (λ rows. rows.items) fault_of_import read ≡ import_rows text
+import_rows-read text read says reported = as_fault read (import-read text read says reported)
+  where
+    as_fault : (r : Result (Vec ImportRow) ImportFault) → mapped (λ rows. rows.items) r ≡ import_in text
+        → result_map_both (λ rows. rows.items) fault_of_import r ≡ import_rows text
+    as_fault (Ok rows) is = ap (result_map_both (λ (xs : List ImportRow). xs) fault_of_import) is
+    as_fault (Err fault) is = ap (result_map_both (λ (xs : List ImportRow). xs) fault_of_import) is
 
 -- except for files and imports a body is to be an object
 pub request_by-other : (action : Action) (subject : Subject) (body : Option (List ℕ))
