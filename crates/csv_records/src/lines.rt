@@ -92,7 +92,7 @@ fn vrp_fields(asn: Asn, prefix: &Prefix, max: u8) -> ArrayString<100>
 }
 
 /// A day as `YYYY-MM-DD`.
-fn day_text(day: Day) -> ArrayString<10>
+pub fn day_text(day: Day) -> ArrayString<10>
     ensures { result.bytes ≡ day_text day }
 {
     let mut text = ArrayString::new();

@@ -1,13 +1,13 @@
 //! What replies list and show, item by item.
 ghost use Rattle.std.specs.Prelude.{◌≡◌, ◌++◌, ◌≤◌, ℕ, List, true, length, OnOk, OnErr};
-ghost use Rattle.addr.specs.Day.{day_text};
 ghost use Rattle.addr.specs.PrefixText.{spelling};
 ghost use Rattle.streams.specs.Streams.{AppendsBeginning};
 ghost use Rattle.web.specs.ReplyText.{auth_text, quoted_state, states_text, terms_text, vrp_text};
 ghost use Rattle.web.specs.steps.ReplyItems.{item_after, separator};
 
-use addr::{Asn, Day, Prefix, Vrp, digits};
+use addr::{Asn, Prefix, Vrp, digits};
 use arrayvec::ArrayString;
+use csv_records::day_text;
 use payload::Validity;
 use registry::Auth;
 use streams::{Drain, Failed, write_all};
@@ -125,14 +125,5 @@ pub(crate) fn prefix_text(prefix: &Prefix) -> ArrayString<48>
 {
     let mut text = ArrayString::new();
     prefix.write_to(&mut text);
-    text
-}
-
-/// A day as `YYYY-MM-DD`.
-fn day_text(day: Day) -> ArrayString<10>
-    ensures { result.bytes ≡ day_text day }
-{
-    let mut text = ArrayString::new();
-    day.write_to(&mut text);
     text
 }
