@@ -1,5 +1,5 @@
 -- A desk over several connections.
-use Rattle.std.proofs.Common.{◌≡◌, ◌∙◌, ◌<◌, ℕ, Bool, true, List, [], ◌∷◌, ◌++◌, length, Result, Ok, Err, OnOk, OnErr, ap, refl, subst, sym}
+use Rattle.std.proofs.Common.{◌≡◌, ◌∙◌, ◌<◌, ℕ, Bool, true, List, [], ◌∷◌, ◌++◌, length, Result, Ok, Err, IfOk, OnOk, OnErr, ap, refl, subst, sym}
 use Rattle.std.specs.Result.{result_err}
 use Rattle.sqlite.specs.Store.{Ghosts}
 use Rattle.desk.specs.declared.handling.Desk.{Desk}
@@ -7,7 +7,9 @@ use Rattle.streams.specs.Streams.{AppendsBeginning}
 use Rattle.http_messages.specs.Input.{Gives, IsOver}
 use Rattle.requests.specs.HttpRequests.{IsCutShort}
 use Rattle.web.specs.HttpAnswers.{RespondsTo}
+use Rattle.web.specs.RequestExtent.{HasExtent}
 use Rattle.web.specs.ScriptAnswer.{IsLaterDesk}
+use Rattle.web.specs.declared.http.Extent.{Extent}
 use Rattle.web.specs.declared.http.WebFault.{WebFault}
 use Rattle.web.specs.declared.http.WebFault.TheVariants.{Read, Write}
 use Rattle.cli.specs.Serving.{AnswersInTurn, Serves, ServesEach, Transcript}
@@ -25,12 +27,12 @@ module _ {S : Type 0} (g : Ghosts S) where
   later-in-turn day old new (first ∷ later) (next, served, in_turn) =
       later_still old next new served.0 (later-in-turn day next new later in_turn)
 
-  -- what `serve_one` says of a connection on which nothing has passed before
-  pub serves : {T : Type 0} (result : Result T WebFault) (day : ℕ) (old new : Desk S) (given_old given_new : List ℕ)
+  -- what `serve_request` says of a connection on which nothing has passed before
+  pub serves : (result : Result Extent WebFault) (day : ℕ) (old new : Desk S) (given_old given_new : List ℕ)
       (written_old written_new : List ℕ) (has_ended read_failed write_failed : Bool)
       → IsLaterDesk g old new
-      → OnOk result ((bytes text : List ℕ) × Gives bytes given_old given_new × RespondsTo g old day bytes text new
-      × (written_new ≡ written_old ++ text))
+      → IfOk result (λ extent. (bytes text : List ℕ) × Gives bytes given_old given_new × RespondsTo g old day bytes text new
+      × HasExtent day bytes text extent × (written_new ≡ written_old ++ text))
       → (result ≡ Err Read → (bytes : List ℕ) × Gives bytes given_old given_new × IsCutShort bytes
       × IsOver has_ended read_failed × (new ≡ old) × (written_new ≡ written_old))
       → (result ≡ Err Write → (bytes text : List ℕ) × Gives bytes given_old given_new × RespondsTo g old day bytes text new
@@ -47,7 +49,7 @@ module _ {S : Type 0} (g : Ghosts S) where
       }) new
   serves (Ok x) day old new given_old given_new written_old written_new has_ended read_failed write_failed later ok read write
       failed none_given none_written =
-      let (bytes, text, given, responds, written) = ok in
+      let (bytes, text, given, responds, extent, written) = ok in
       let received : bytes ≡ given_new = sym (given ∙ ap (λ before. before ++ bytes) none_given) in
       let sent : text ≡ written_new = sym (written ∙ ap (λ before. before ++ text) none_written) in
       (later, subst (λ b. RespondsTo g old day b written_new new) received (subst (λ t. RespondsTo g old day bytes t new) sent responds))
@@ -81,4 +83,4 @@ module _ {S : Type 0} (g : Ghosts S) where
       → OnErr result (length passed < count) → AnswersInTurn (Serves g day) old passed new
       → OnErr result ((served : ℕ) × (served < count) × ServesEach g day served old new)
   served-err (Ok x) day count old new passed few in_turn = tt
-  served-err (Err e) day count old new passed few in_turn = (length passed, few, passed, refl, in_turn)
+  served-err (Err e) day count old new passed few in_turn = (length passed, few, (passed, refl, in_turn))

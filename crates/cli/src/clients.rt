@@ -5,7 +5,7 @@ use desk::Desk;
 use sqlite::Alter;
 use std::alloc::{AllocError, Global};
 use std::io::{self, ErrorKind, Read, Write};
-use std::net::{TcpListener, TcpStream};
+use std::net::{Shutdown, TcpListener, TcpStream};
 use std::rt::HostRuntime;
 use std::test::Fail;
 use std::time::Clock;
@@ -51,7 +51,8 @@ pub(crate) fn request(
     )
 }
 
-/// Each client connects and sends its text, the desk serves them all, and each client reads.
+/// Each client connects and sends its text and no more, the desk serves them all, and each client
+/// reads.
 pub(crate) fn serve<R: Clock, S: Alter>(
     rt: &HostRuntime,
     clock: &R,
@@ -67,6 +68,7 @@ pub(crate) fn serve<R: Clock, S: Alter>(
         count = count.saturating_add(1);
         let mut client = TcpStream::connect(rt, address)?;
         client.write_all(text.as_bytes())?;
+        client.shutdown(Shutdown::Write)?;
         clients.push(client)?;
     }
     let mut errors = Vec::new(rt.alloc());

@@ -1,6 +1,7 @@
 //! Connections that are accepted and answered, one after the other.
-ghost use Rattle.std.specs.Prelude.{◌≡◌, ◌∷◌, ℕ, Bool, List, [], Option, None, true, IfOk, OnErr};
+ghost use Rattle.std.specs.Prelude.{◌≡◌, ◌<◌, ◌≤◌, ◌∷◌, ℕ, Bool, List, [], Option, None, true, length, IfOk, OnErr};
 ghost use Rattle.std.specs.Result.{result_err};
+ghost use Rattle.http_messages.specs.Input.{Gives, IsOver};
 ghost use Rattle.cli.specs.Connections.{Accepts};
 ghost use Rattle.cli.specs.Serving.{Serves, Transcript};
 ghost use Rattle.web.specs.declared.http.WebFault.{WebFault as Fault};
@@ -11,23 +12,23 @@ use addr::Day;
 use desk::Desk;
 use sqlite::Alter;
 use std::alloc::Global;
-use std::net::TcpListener;
+use std::net::{Shutdown, TcpListener, TcpStream};
 use std::time::{Clock, Instant};
-use web::{Device, Drain, Failed, Source, WebFault, serve_one};
+use web::{Device, Drain, Extent, Failed, Source, WebFault, serve_request};
 
 /// What answers connections, one after the other.
 pub(crate) trait AnswerConnections {
     // What may pass on a connection on a day, and which state that leaves.
     ghost answers: { ℕ → Self → Transcript → Self → Type 0 };
 
-    /// Answers the request of a new connection.
+    /// Answers the request of a new connection, and returns how much of it was read.
     fn answer<S: Source, D: Drain>(
         &mut self,
         alloc: Global,
         source: &mut S,
         drain: &mut D,
         day: Day,
-    ) -> Result<(), WebFault>
+    ) -> Result<Extent, WebFault>
         ensures { S.handed_out source.old ≡ [] → D.written drain.old ≡ []
             → answers day self.old (record {
               received = S.handed_out source.new;
@@ -48,8 +49,8 @@ impl<A: Alter> AnswerConnections for Desk<A> {
         source: &mut S,
         drain: &mut D,
         day: Day,
-    ) -> Result<(), WebFault> {
-        serve_one(alloc, source, drain, self, day)
+    ) -> Result<Extent, WebFault> {
+        serve_request(alloc, source, drain, self, day)
     }
 }
 
@@ -67,7 +68,7 @@ pub(crate) trait Connections {
         alloc: Global,
         engine: &mut E,
         day: Day,
-    ) -> Result<Result<(), WebFault>, Failed>
+    ) -> Result<Result<Extent, WebFault>, Failed>
         ensures ok { IfOk result (λ ended. (passed : Transcript) × (passed.fault ≡ result_err ended)
             × Accepts (accepted self.old) (accepted self.new) (passed ∷ [])
             × E.answers day engine.old passed engine.new) }
@@ -103,7 +104,7 @@ impl<R: Clock> Connections for Incoming<'_, R> {
         alloc: Global,
         engine: &mut E,
         day: Day,
-    ) -> Result<Result<(), WebFault>, Failed> {
+    ) -> Result<Result<Extent, WebFault>, Failed> {
         let Ok((stream, _)) = self.listener.accept() else {
             self.has_failed = true;
             return Err(Failed);
@@ -111,7 +112,43 @@ impl<R: Clock> Connections for Incoming<'_, R> {
         let began = Instant::now(self.clock).ok();
         let from = Socket::new(self.clock, &stream, began);
         let to = Socket::new(self.clock, &stream, began);
-        Ok(answer_in_time(alloc, from, to, engine, day))
+        let ended = answer_in_time(alloc, from, to, engine, day);
+        if let Ok(Extent::Part) = ended {
+            self.let_response_arrive(&stream, began);
+        }
+        Ok(ended)
+    }
+}
+
+impl<R: Clock> Incoming<'_, R> {
+    /// Ends the response, and discards what the client still sends of its request: a stream that is
+    /// closed with bytes unread is reset, and the client may lose the response.
+    fn let_response_arrive(&self, stream: &TcpStream, began: Option<Instant>) {
+        if stream.shutdown(Shutdown::Write).is_ok() {
+            let rest = Socket::new(self.clock, stream, began);
+            discard(&mut Device::new(Timed::new(rest)));
+        }
+    }
+}
+
+/// How many bytes are discarded at most.
+const DISCARD_LIMIT: usize = 2 * 1_048_576;
+
+/// Takes what the source still gives, until it ends or fails or so many bytes have come.
+fn discard<S: Source>(source: &mut S)
+    ensures { (bytes : List ℕ) × Gives bytes (S.handed_out source.old) (S.handed_out source.new)
+        × (length bytes ≤ DISCARD_LIMIT)
+        × (length bytes < DISCARD_LIMIT
+        → IsOver (S.has_ended source.new) (S.has_failed source.new)) }
+{
+    let mut piece = [0; 4096];
+    let mut left = DISCARD_LIMIT;
+    while left > 0 {
+        let room = left.min(piece.len());
+        match source.read(&mut piece[..room]) {
+            Ok(count) if count > 0 => left -= count,
+            _ => return,
+        }
     }
 }
 
@@ -122,7 +159,7 @@ pub(crate) fn answer_in_time<P: Peer + Drop, Q: Peer + Drop, E: AnswerConnection
     to: Q,
     engine: &mut E,
     day: Day,
-) -> Result<(), WebFault>
+) -> Result<Extent, WebFault>
     ensures { (passed : Transcript) × (passed.fault ≡ result_err result)
         × E.answers day engine.old passed engine.new }
 {

@@ -8,7 +8,7 @@ ghost use Rattle.web.specs.WebFault.{web_fault_number};
 use addr::digits;
 use arrayvec::ArrayString;
 use std::io::Write;
-use web::WebFault;
+use web::{Extent, WebFault};
 
 /// Where lines go. One that cannot be written is lost, and the next is tried.
 pub(crate) trait Log {
@@ -53,7 +53,7 @@ impl<W: Write> Log for Printed<'_, W> {
 }
 
 /// Adds the line for the connection of this number, where it failed.
-pub(super) fn log_fault<L: Log>(log: &mut L, number: u32, ended: Result<(), WebFault>)
+pub(super) fn log_fault<L: Log>(log: &mut L, number: u32, ended: Result<Extent, WebFault>)
     ensures { Logs (L.has_lost log.old) (L.has_lost log.new) (L.contents log.old)
         (L.contents log.new) (line_for number (result_err ended)) }
 {

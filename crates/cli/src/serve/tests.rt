@@ -19,7 +19,7 @@ use std::process::Abort;
 use std::rt::HostRuntime;
 use std::test::Fail;
 use std::time::{Clock, Duration, Instant};
-use web::{Device, Failed, WebFault};
+use web::{Device, Extent, Failed, WebFault};
 
 fn desk_in_memory<R: Abort + AllocGlobal>(rt: &R) -> Desk<MemStore> {
     let charter = charter_from(rt.alloc(), CHARTER.as_bytes()).expect(rt, "a charter");
@@ -54,6 +54,43 @@ fn denial_is_403_and_payloads_are_csv(rt: HostRuntime) -> Result<(), Fail> {
         "HTTP/1.1 200 OK\r\nContent-Type: text/csv\r\nContent-Length: 45\r\n\
         Connection: close\r\n\r\nasn,prefix,maxlength\nAS64496,192.0.2.0/24,24\n"
     );
+    Ok(())
+}
+
+/// Requests that are refused before their bodies are read, and the responses.
+const REFUSED: [(&str, &str); 3] = [
+    (
+        "PATCH /holders/h/auths/ HTTP/1.1\r\nContent-Length: 30\r\n\r\n\
+        {\"from\":\"2026-01-01\",\"asn\":10}",
+        "HTTP/1.1 404 Not Found\r\nContent-Type: application/json\r\nContent-Length: 14\r\n\
+        Connection: close\r\n\r\n{\"error\":404}\n",
+    ),
+    (
+        "POST /holders/gamma/imports HTTP/1.1\r\nContent-Length: 1048577\r\n\r\n\
+        asn,prefix,maxlength,from,until\n",
+        "HTTP/1.1 413 Content Too Large\r\nContent-Type: application/json\r\n\
+        Content-Length: 14\r\nConnection: close\r\n\r\n{\"error\":413}\n",
+    ),
+    (
+        "DELETE /payloads HTTP/1.1\r\nContent-Length: 3\r\n\r\nall",
+        "HTTP/1.1 405 Method Not Allowed\r\nContent-Type: application/json\r\n\
+        Content-Length: 14\r\nAllow: GET\r\nConnection: close\r\n\r\n{\"error\":405}\n",
+    ),
+];
+
+#[test]
+fn a_response_arrives_whose_request_has_its_body_unread(rt: HostRuntime) -> Result<(), Fail> {
+    let mut desk = desk_in_memory(&rt);
+    let mut texts = Vec::new(rt.alloc());
+    for (text, _) in REFUSED {
+        texts.push(String::from_str(rt.alloc(), text)?)?;
+    }
+    let day = Day::read(b"2026-03-01").expect(&rt, "a day");
+    let served = serve(&rt, &rt, &mut desk, day, &texts)?;
+    assert_eq!(rt; served.errors.len(), 0);
+    for ((_, response), answer) in REFUSED.into_iter().zip(&served.answers) {
+        assert_eq!(rt; answer.as_str(), response);
+    }
     Ok(())
 }
 
@@ -183,8 +220,8 @@ const RESPONSE: &str = "HTTP/1.1 200 OK\r\nContent-Type: text/csv\r\nContent-Len
 
 /// How many bytes pass at a call, the seconds between two readings of the clock on the side that
 /// reads and on the one that writes, and what becomes of the connection.
-const TRICKLES: [(usize, u64, u64, Result<(), WebFault>, &str); 3] = [
-    (3, 0, 0, Ok(()), RESPONSE),
+const TRICKLES: [(usize, u64, u64, Result<Extent, WebFault>, &str); 3] = [
+    (3, 0, 0, Ok(Extent::Whole), RESPONSE),
     (1, 1, 0, Err(WebFault::Read), ""),
     (3, 0, 30, Err(WebFault::Write), ""),
 ];
@@ -224,7 +261,7 @@ impl Connections for Clients<'_> {
         alloc: Global,
         engine: &mut E,
         day: Day,
-    ) -> Result<Result<(), WebFault>, Failed> {
+    ) -> Result<Result<Extent, WebFault>, Failed> {
         let Some(((text, room), rest)) = self.rest.split_first() else {
             self.has_failed = true;
             return Err(Failed);
