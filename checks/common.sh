@@ -1,5 +1,5 @@
 # shellcheck shell=bash
-# Sourced by the scripts beside it: the `top` of the repository, `skip`, `need` and `find_program`.
+# Sourced by the scripts beside it: the `top` of the repository, `skip`, `need`, `find_program`, `expect` and `free_port`.
 
 top=$(cd "$(dirname "${BASH_SOURCE[0]}")/.." && pwd)
 
@@ -24,4 +24,24 @@ find_program() {
     [ -x "$program" ] || skip "no program $program: run ./roadesk build first, or name another in PROGRAM"
     [ -n "${PROGRAM:-}" ] || "$top/roadesk" build || exit 2
     program=$(realpath "$program")
+}
+
+failed=0
+
+# expect NAME FOUND EXPECTED: whether the two are the same; `failed` is 1 where they are not.
+expect() {
+    if [ "$2" = "$3" ]; then
+        echo "$1: ok"
+    else
+        printf '%s: found\n%s\nexpected\n%s\n' "$1" "$2" "$3"
+        failed=1
+    fi
+}
+
+# A port of 127.0.0.1 where nothing listens.
+free_port() {
+    local port
+    for port in $(shuf -i 20000-30000 -n 20); do
+        (: <"/dev/tcp/127.0.0.1/$port") 2>/dev/null || { echo "$port" && return; }
+    done
 }

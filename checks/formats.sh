@@ -25,14 +25,6 @@ sent() {
         { printf "%s%s", (lines++ ? "\n" : ""), $0 }' "$1"
 }
 
-# A port of 127.0.0.1 where nothing listens.
-free_port() {
-    local port
-    for port in $(shuf -i 20000-30000 -n 20); do
-        (: <"/dev/tcp/127.0.0.1/$port") 2>/dev/null || { echo "$port" && return; }
-    done
-}
-
 check_lines() {
     blocks jsonl
     awk 'NR % 2' "$work/1.jsonl" | "$program" script --charter "$charter" >"$work/replied"
@@ -76,7 +68,6 @@ check_messages() {
     return "$differs"
 }
 
-failed=0
 check_lines && echo "lines: as said" || failed=1
 check_words && echo "words: each has a line" || failed=1
 check_messages && echo "messages: as said" || failed=1

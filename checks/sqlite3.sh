@@ -10,18 +10,7 @@ set -u
 . "$(dirname "${BASH_SOURCE[0]}")/common.sh"
 . "$top/bench/common/work.sh"
 need rt sqlite3
-failed=0
 rm -f "$work"/*.db*
-
-# expect NAME FOUND EXPECTED
-expect() {
-    if [ "$2" = "$3" ]; then
-        echo "$1: ok"
-    else
-        printf '%s: found\n%s\nexpected\n%s\n' "$1" "$2" "$3"
-        failed=1
-    fi
-}
 
 # What a store made, read by sqlite3.
 store=$("$common/build.sh" "$top/bench/store/store.rattle" "$work" memory 2 2) ||
