@@ -1,5 +1,5 @@
 //! How a script is read and its replies are written: pieces, ends, failures and the limit of a line.
-use crate::fakes::{Peer, Tape};
+use crate::fakes::{Drip, Peer, Tape};
 use crate::scripts::example_desk;
 use desk::Desk;
 use library_conformance::sheet::Sheet;
@@ -8,7 +8,7 @@ use std::alloc::Global;
 use std::cell::Cell;
 use std::io::{BufWriter, Error, ErrorKind, Read, Write};
 use std::test::Fail;
-use web::{Device, Drain, ScriptFault, Source, run_script};
+use web::{Device, Drain, ScriptFault, Source, run_script, write_all};
 
 #[derive(Drop)]
 struct ScriptOutcome {
@@ -300,5 +300,65 @@ fn device_writes(rt: HostRuntime) -> Result<(), Fail> {
         assert_eq!(rt; counter.calls.get(), calls, "{name}");
         assert_eq!(rt; counter.flushes.get(), flushes, "{name}");
     }
+    Ok(())
+}
+
+/// More calls than a counter of 16 bits counts, each of which passes a byte.
+const MANY_CALLS: usize = 70_000;
+
+#[test]
+fn device_reads_on_after_many_calls(rt: HostRuntime) -> Result<(), Fail> {
+    let mut drip = Drip {
+        piece: 1,
+        calls: 0,
+        written: Vec::new(rt.alloc()),
+    };
+    {
+        let mut device = Device::new(&mut drip);
+        for read in 0..MANY_CALLS {
+            assert_eq!(rt; device.read(&mut [0; 8]), Ok(1), "of read {read}");
+        }
+    }
+    assert_eq!(rt; drip.calls, MANY_CALLS);
+    Ok(())
+}
+
+/// How many bytes a writer takes a call, a text, and the calls that write it through a device.
+const PIECES: [(&str, usize, &[u8], usize); 5] = [
+    ("one_byte_is_one_call", 1, b"r", 1),
+    ("each_byte_is_a_call", 1, b"reply", 5),
+    ("the_last_piece_is_shorter", 2, b"reply", 3),
+    ("the_last_piece_is_one_byte", 4, b"reply", 2),
+    ("all_bytes_are_one_call", 5, b"reply", 1),
+];
+
+#[test]
+fn device_hands_on_every_byte(rt: HostRuntime) -> Result<(), Fail> {
+    for (name, piece, text, calls) in PIECES {
+        let mut drip = Drip {
+            piece,
+            calls: 0,
+            written: Vec::new(rt.alloc()),
+        };
+        let result = write_all(&mut Device::new(&mut drip), text);
+        assert_eq!(rt; result, Ok(()), "{name}");
+        assert_eq!(rt; drip.written.as_slice(), text, "{name}");
+        assert_eq!(rt; drip.calls, calls, "{name}");
+    }
+    Ok(())
+}
+
+#[test]
+fn device_writes_on_after_many_calls(rt: HostRuntime) -> Result<(), Fail> {
+    let mut drip = Drip {
+        piece: 1,
+        calls: 0,
+        written: Vec::new(rt.alloc()),
+    };
+    let text = vec![in rt.alloc(); b'r'; MANY_CALLS]?;
+    let result = write_all(&mut Device::new(&mut drip), text.as_slice());
+    assert_eq!(rt; result, Ok(()));
+    assert_eq!(rt; drip.written.as_slice(), text.as_slice());
+    assert_eq!(rt; drip.calls, MANY_CALLS);
     Ok(())
 }

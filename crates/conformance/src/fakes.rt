@@ -62,3 +62,31 @@ impl Write for &Peer {
         Ok(())
     }
 }
+
+/// Passes at most `piece` bytes a call, and keeps those that were written.
+#[derive(Drop)]
+pub(crate) struct Drip {
+    pub(crate) piece: usize,
+    pub(crate) calls: usize,
+    pub(crate) written: Vec<u8>,
+}
+
+impl Read for Drip {
+    fn read(&mut self, buffer: &mut [u8]) -> Result<usize> {
+        self.calls = self.calls.saturating_add(1);
+        Ok(buffer.len().min(self.piece))
+    }
+}
+
+impl Write for Drip {
+    fn write(&mut self, bytes: &[u8]) -> Result<usize> {
+        self.calls = self.calls.saturating_add(1);
+        let count = bytes.len().min(self.piece);
+        self.written.extend_from_slice(&bytes[..count])?;
+        Ok(count)
+    }
+
+    fn flush(&mut self) -> Result<()> {
+        Ok(())
+    }
+}
