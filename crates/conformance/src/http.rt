@@ -2,7 +2,7 @@
 //!
 //! A row is `METHOD TARGET CALLER BODY => STATUS BODY`, the body of a request left out where it has
 //! none. The rows of a table are sent to one desk, one after the other, on the first of March.
-use crate::fakes::Tape;
+use crate::fakes::{Drip, Tape};
 use crate::scripts::example_desk;
 use addr::Day;
 use desk::Desk;
@@ -75,6 +75,30 @@ pub(crate) fn serve(
         written: sheet.bytes,
         unread: tape.bytes.len(),
     })
+}
+
+/// How many writes of a connection that takes all bytes the response to a row's request is.
+pub(crate) fn writes_of(
+    alloc: Global,
+    desk: &mut Desk<MemStore>,
+    row: &str,
+) -> Result<usize, Fail> {
+    let day = Day::read(b"2026-03-01").ok_or("a day")?;
+    let request = request_text(alloc, row)?;
+    let mut source = Device::new(Tape {
+        bytes: request.as_bytes(),
+        piece: usize::MAX,
+        fails: false,
+        is_interrupted: false,
+    });
+    let mut drip = Drip {
+        piece: usize::MAX,
+        calls: 0,
+        written: Vec::new(alloc),
+    };
+    let result = serve_one(alloc, &mut source, &mut Device::new(&mut drip), desk, day);
+    result.map_err(|_| "not served")?;
+    Ok(drip.calls)
 }
 
 /// The bytes of a row's request.

@@ -1,5 +1,5 @@
 //! Connections in pieces, cut short, failing, and with bytes to come.
-use super::{AT_ONCE, Manner, json_response, registered_holder, request_text, serve};
+use super::{AT_ONCE, Manner, json_response, registered_holder, request_text, serve, writes_of};
 use std::alloc::Global;
 use std::test::Fail;
 use web::WebFault;
@@ -88,6 +88,24 @@ fn response_cut_short_was_acted_on(rt: HostRuntime) -> Result<(), Fail> {
             shown.as_bytes(),
             "after {room} bytes"
         );
+    }
+    Ok(())
+}
+
+/// Requests that are answered with a few bytes.
+const SHORT: [&str; 4] = [
+    CREATE,
+    SHOW,
+    "GET /holders/alpha/export ann",
+    "GET /nowhere ann",
+];
+
+#[test]
+fn short_response_is_one_write(rt: HostRuntime) -> Result<(), Fail> {
+    let alloc = rt.alloc();
+    let mut desk = registered_holder(&rt, alloc)?;
+    for row in SHORT {
+        assert_eq!(rt; writes_of(alloc, &mut desk, row)?, 1, "of {row:?}");
     }
     Ok(())
 }

@@ -1,6 +1,7 @@
 //! Imports and exports over HTTP: bodies and answers that are CSV.
 use super::{
     assert_response, assert_rows, json_response, registered_holder, request_text, response_of,
+    writes_of,
 };
 use desk::Desk;
 use library_conformance::rows::table_rows;
@@ -406,5 +407,7 @@ fn export_a_thousand_authorizations(rt: HostRuntime) -> Result<(), Fail> {
     }
     let made = "200 {\"made\":1000,\"present\":0}";
     assert_import(&rt, alloc, &mut desk, rows.as_bytes(), made)?;
-    assert_csv(&rt, alloc, &mut desk, EXPORT, &exported)
+    assert_csv(&rt, alloc, &mut desk, EXPORT, &exported)?;
+    assert_eq!(rt; writes_of(alloc, &mut desk, EXPORT)?, 2);
+    Ok(())
 }
