@@ -1,5 +1,5 @@
 -- The answers to HTTP requests and the responses that give them.
-use Rattle.std.proofs.Common.{◌≡◌, ℕ, Bool, true, false, List, ◌++◌, codes, Option, Some, None, Result, Ok, Err, refl, ap, ◌∙◌, append_assoc, get_or, inl, inr}
+use Rattle.std.proofs.Common.{◌≡◌, ℕ, Bool, true, false, List, ◌++◌, codes, Option, Some, None, Result, Ok, Err, refl, ap, subst, ◌∙◌, append_assoc, get_or, inl, inr}
 use Rattle.std.specs.Fmt.{digits}
 use Rattle.std.specs.Global.{Vec}
 use Rattle.std.proofs.lemmas.Option.{same_Some}
@@ -22,6 +22,7 @@ use Rattle.desk.specs.Desk.{charter_of, KeepsRows}
 use Rattle.registry.specs.declared.asked.Asked.{Asked}
 use Rattle.registry.specs.declared.asked.Request.{Request}
 use Rattle.registry.specs.declared.asked.Request.TheVariants.{Command as CommandRequest, Query as QueryRequest}
+use Rattle.desk.specs.CrashOutcomes.{LeavesAtMost, pending_after}
 use Rattle.desk.specs.declared.handling.Desk.{Desk}
 use Rattle.desk.specs.declared.reply.Reply.{Reply}
 use Rattle.desk.specs.declared.reply.Reply.TheVariants.{Done, Imported, Listed, Payloads, Denied, Unavailable}
@@ -88,6 +89,13 @@ shown-unaccepted (Done number) long = cc
 shown-unaccepted (Imported made present) long = cc
 shown-unaccepted other long = refl
 
+-- and only one that shows nothing makes a request pending
+shown-pending : (request : Asked) (reply : Reply) → short_text reply ≡ None → (pending : List Asked) → pending_after request reply pending ≡ pending
+shown-pending request (Done number) long pending = cc
+shown-pending request (Imported made present) long pending = cc
+shown-pending request Unavailable long pending = cc
+shown-pending request other long pending = refl
+
 -- the status line of a response to a reply of an accepted command
 accepted_line : (form : ContentType) (reply : Reply) → is_accepted reply ≡ true
     → (rest : List ℕ) × (reply_response form reply ≡ codes "HTTP/1.1 200" ++ rest)
@@ -116,15 +124,23 @@ longer_error text more (status, rest, other, is) =
 
 module _ {S : Type 0} (g : Ghosts S) where
   pub same_keeps : (desk : Desk S) → KeepsAll g desk desk
-  same_keeps desk = (λ clean rows holds. holds, λ clean before stands. (before, stands, λ fits. fits, refl))
+  same_keeps desk = (λ clean rows holds. holds, λ clean before stands. (before, stands, λ fits. fits, (refl, λ pending left. left)))
 
   shown_keeps : (old new : Desk S) (request : Asked) (reply : Reply) → RepliesAt g old request reply new
       → short_text reply ≡ None → KeepsAll g old new
   shown_keeps old new request reply replies long = (
     replies.kept (shown-unaccepted reply long),
     λ clean before stands.
-        let (after, stands_after, values, answers) = replies.replies clean before stands in
-        (after, stands_after, values, long-keeps (charter_of old) before after request.day request.caller request.request reply answers long),
+        let (after, stands_after, values, (answers, left)) = replies.replies clean before stands in
+        (
+          after,
+          stands_after,
+          values,
+          (
+            long-keeps (charter_of old) before after request.day request.caller request.request reply answers long,
+            λ pending was. subst (LeavesAtMost g (charter_of old) new after) (shown-pending request reply long pending) (left pending was),
+          ),
+        ),
   )
 
   -- a request that the desk answered, and the response to its reply

@@ -12,6 +12,7 @@ use Rattle.web.specs.ReplyText.{line_text}
 use Rattle.web.specs.Script.{AnswersEach, BreaksOff, Replies}
 use Rattle.web.specs.ScriptAnswer.{AnswersLineAt, AnswersLineOn, AnswersLines, BreaksOffLines, IsLaterDesk, RepliesOn, SaysAccepted}
 use Rattle.web.specs.ScriptLines.{within_limit}
+use Rattle.desk.specs.CrashOutcomes.{LeavesAlong, pending_after}
 use Rattle.desk.specs.declared.handling.Desk.{Desk}
 use Rattle.web.specs.declared.script.ScriptFault.{ScriptFault}
 use Rattle.web.specs.declared.script.ScriptFault.TheVariants as script
@@ -69,8 +70,8 @@ module _ {S : Type 0} (g : Ghosts S) where
   line_along charter first state next (Some line) text history clean from (inl (refused, same)) = (history, rw same from, inl (refused, refl))
   line_along charter first state next (Some line) text history clean from (inr (inr (is, same))) = (history, rw same from, inr (inr (is, refl)))
   line_along charter first state next (Some line) text history clean (represents, values) (inr (inl (request, reply, reads, at, is))) =
-      let P : Charter → Type 0 = λ k. Represents g k state history → (later : History) × Represents g k next later × (HistoryFits history → HistoryFits later) × RepliesOn k history request reply later in
-      let (later, represents_later, values_later, replied) = subst P represents.chartered (at.replies clean history) represents in
+      let P : Charter → Type 0 = λ k. Represents g k state history → (later : History) × Represents g k next later × (HistoryFits history → HistoryFits later) × (RepliesOn k history request reply later × LeavesAlong g k state history (pending_after request reply) next later) in
+      let (later, represents_later, values_later, (replied, left)) = subst P represents.chartered (at.replies clean history) represents in
       (later, (represents_later, λ fits. values_later (values fits)), inr (inl (request, reply, reads, replied, is)))
 
   pub each_along : (old new : Desk S) (lines : List (List ℕ)) (w w' : List ℕ) → AnswersEach (AnswersLineAt g) old new lines w w' → AnswersLines g old new lines w w'

@@ -1,16 +1,20 @@
 -- What a desk answers to an HTTP request, and the history that this leaves.
 use Rattle.std.specs.Prelude.{◌≡◌, ◌⊎◌, ℕ, List}
 use Rattle.sqlite.specs.Store.{Ghosts}
-use Rattle.desk.specs.Desk.{KeepsRows}
+use Rattle.desk.specs.CrashOutcomes.{LeavesAlong}
+use Rattle.desk.specs.Desk.{charter_of, KeepsRows}
 use Rattle.desk.specs.declared.handling.Desk.{Desk}
 use Rattle.desk.specs.declared.reply.Reply.{Reply}
 use Rattle.requests.specs.HttpRequests.{asked, HttpRequest, IsWithinMessage, malformed, ReadsHttp, refused}
 use Rattle.web.specs.HttpResponses.{malformed_response, refusal_response, reply_response, unavailable_response}
 use Rattle.web.specs.ScriptAnswer.{OnHistories, RepliesAt}
 
--- the rows of the tables stay, and each history that the desk represents
+-- the rows of the tables stay, and each history that the desk represents, of which a crash leaves no more than before
 abbrev pub KeepsAll : {S : Type 0} → Ghosts S → Desk S → Desk S → Type 0
-KeepsAll g old new = KeepsRows g old new × OnHistories g old new (λ before after. after ≡ before)
+KeepsAll g old new =
+    KeepsRows g old new
+    × OnHistories g old new (λ before after. (after ≡ before)
+    × LeavesAlong g (charter_of old) old before (λ pending. pending) new after)
 
 -- the response to what the bytes ask, a list in the form that the request wants; what is refused or malformed does not
 -- reach the desk

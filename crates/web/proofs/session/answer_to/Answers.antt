@@ -10,6 +10,6 @@ returns-in-Ok g c =
       c.in-Ok.ensures.ok,
       replies_at g.A.Store c.args.desk.now c.handle.new.self c.in-Ok.asked c.handle.result
           (record { charter = c.handle.ensures.charter; clean = c.handle.ensures.clean })
-          c.handle.ensures.answered c.handle.ensures.kept,
+          c.handle.ensures.left c.handle.ensures.kept,
       refl,
     )))
