@@ -17,9 +17,14 @@ use Rattle.registry.specs.Verdict.{IsLegal}
 use Rattle.charters.specs.declared.charter.Charter.{Charter}
 use Rattle.tables.specs.TablesHold.{TablesHold}
 use Rattle.database.specs.Databases.{IsDeskWhileOpen}
-use Rattle.desk.specs.Desk.{charter_of, ContinuesHistories, HoldsHistory, Represents}
+use Rattle.desk.specs.Desk.{charter_of, ContinuesHistories, HoldsHistory, IsOnCleanDisk, Represents}
 use Rattle.desk.specs.declared.handling.Desk.{Desk}
 use Rattle.cli.specs.DeskFiles.{AreDeskFiles, KeepDesk}
+
+-- a disk that returned what was written until the close did so before
+pub closed_clean : {D : Type 0} {g : Ghosts D} (desk : Desk (FileStore D g)) (conn : Held (FileStore D g)) (files : Files D)
+    → conn ≡ desk.store.connection → IsCopied conn files → IsOnCleanDisk over_files desk
+closed_clean desk conn files same copied = subst (λ h. HasCleanDisk (file_state h)) same copied.was_clean
 
 -- what was committed is what the desk shows
 pub closed_keeps : {D : Type 0} (g : Ghosts D) (desk : Desk (FileStore D g)) (conn : Held (FileStore D g)) (files : Files D)
@@ -27,7 +32,7 @@ pub closed_keeps : {D : Type 0} (g : Ghosts D) (desk : Desk (FileStore D g)) (co
     → conn ≡ desk.store.connection → IsDeskWhileOpen (file_state conn) → IsCopied conn files
     → HoldsHistory over_files desk history → KeepDesk g (charter_of desk) history files
 closed_keeps g desk conn files history same settled copied holds =
-    let clean = subst (λ h. HasCleanDisk (file_state h)) same copied.was_clean in
+    let clean = closed_clean desk conn files same copied in
     let live = subst (λ h. IsTrue (file_state h).is_open) same copied.was_open in
     let kept = settled copied.was_clean copied.was_open in
     let trees = ap (λ d. d.trees) kept.settled ∙ ap (λ h. (file_state h).now.trees) same in

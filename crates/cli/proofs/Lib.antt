@@ -1,3 +1,4 @@
 mod ConnectionLemmas
 pub mod DeskFileLemmas
 pub mod ServingLemmas
+pub mod HistoryLemmas

@@ -5,12 +5,19 @@ use Rattle.sqlite_disk.specs.declared.Files.{Files}
 use Rattle.sqlite_wal.specs.Recovery.{Image}
 use Rattle.sqlite_wal.specs.Files.{outcomes}
 use Rattle.sqlite_trees.specs.Tree.{Trees}
+use Rattle.sqlite_store.specs.declared.store.FileStore.{FileStore}
 use Rattle.sqlite.specs.Closing.{HoldsAlone}
-use Rattle.sqlite.specs.Files.{HoldsDatabase, image_of}
+use Rattle.sqlite.specs.Files.{file_state, HoldsDatabase, image_of, IsOpened, over_files}
+use Rattle.sqlite.specs.Held.{Held}
+use Rattle.sqlite.specs.Start.{FindsIn}
+use Rattle.sqlite.specs.State.{HasCleanDisk}
 use Rattle.registry.specs.History.{History}
 use Rattle.registry.specs.RowsOfAll.{AllRows, HasRows}
 use Rattle.charters.specs.declared.charter.Charter.{Charter}
 use Rattle.tables.specs.TablesHold.{TablesHold}
+use Rattle.store.specs.RefusedOpening.{IsGivenBack}
+use Rattle.cli.specs.declared.desk_file.OpenFault.{OpenFault}
+use Rattle.cli.specs.declared.desk_file.OpenFault.TheVariants.{File, Store}
 use Rattle.command_line.specs.declared.fault.ProgramFault.{ProgramFault}
 use Rattle.command_line.specs.declared.fault.ProgramFault.TheVariants.{Database, Memory}
 
@@ -35,3 +42,13 @@ pub record KeepDesk {D : Type 0} (g : Ghosts D) (charter : Charter) (history : H
 -- the database or memory failed
 abbrev pub IsOfDatabase : ProgramFault → Type 0
 IsOfDatabase fault = (fault ≡ Database) ⊎ (fault ≡ Memory)
+
+-- Why the desk in the files was not opened: the files could not be opened, or the database that was found there was
+-- refused and given back. So the fault is `Schema` only where the files hold a database of another schema, or the
+-- disk returned what was not written.
+abbrev pub RefusesFiles : {D : Type 0} {g : Ghosts D} → Image → OpenFault (FileStore D g) → Type 0
+RefusesFiles image (File fault) = IsOfDatabase fault
+RefusesFiles {D} {g} image (Store fault conn) =
+    (opened : Held (FileStore D g))
+    × (HasCleanDisk (file_state opened) → IsOpened opened × FindsIn image (file_state opened))
+    × IsGivenBack over_files (file_state opened) fault conn

@@ -1,10 +1,12 @@
--- How the faults of a script and of the store become the program's.
+-- How the faults of a script, of the store and of an open become the program's.
 use Rattle.command_line.specs.declared.fault.ProgramFault.{ProgramFault}
 use Rattle.command_line.specs.declared.fault.ProgramFault.TheVariants.{Database, Memory, Schema, Stream}
 use Rattle.database.specs.declared.fault.StoreFault.{StoreFault}
 use Rattle.database.specs.declared.fault.StoreFault.TheVariants as store
 use Rattle.web.specs.declared.script.ScriptFault.{ScriptFault}
 use Rattle.web.specs.declared.script.ScriptFault.TheVariants as script
+use Rattle.cli.specs.declared.desk_file.OpenFault.{OpenFault}
+use Rattle.cli.specs.declared.desk_file.OpenFault.TheVariants as opening
 
 -- a stream failed, or an allocation
 abbrev pub fault_of_script : ScriptFault → ProgramFault
@@ -15,3 +17,7 @@ fault_of_script script.Memory = Memory
 abbrev pub fault_of_store : StoreFault → ProgramFault
 fault_of_store store.Database = Database
 fault_of_store store.Schema = Schema
+
+abbrev pub fault_of_open : {S : Type 0} → OpenFault S → ProgramFault
+fault_of_open (opening.File fault) = fault
+fault_of_open (opening.Store fault conn) = fault_of_store fault

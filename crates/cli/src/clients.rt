@@ -51,8 +51,39 @@ pub(crate) fn request(
     )
 }
 
-/// Each client connects and sends its text and no more, the desk serves them all, and each client
-/// reads.
+/// Binds the address; then each client connects, and sends its text and no more.
+pub(crate) fn bind_for(
+    rt: &HostRuntime,
+    address: &str,
+    texts: &[String],
+    clients: &mut Vec<TcpStream>,
+) -> io::Result<TcpListener> {
+    let listener = TcpListener::bind(rt, address)?;
+    let address = listener.local_addr()?;
+    for text in texts {
+        let mut client = TcpStream::connect(rt, address)?;
+        client.write_all(text.as_bytes())?;
+        client.shutdown(Shutdown::Write)?;
+        clients.push(client)?;
+    }
+    Ok(listener)
+}
+
+/// What each client is answered.
+pub(crate) fn answers_to(
+    rt: &HostRuntime,
+    clients: &mut Vec<TcpStream>,
+) -> Result<Vec<String>, Fail> {
+    let mut answers = Vec::new(rt.alloc());
+    for client in clients {
+        let mut answer = String::new(rt.alloc());
+        client.read_to_string(&mut answer)?;
+        answers.push(answer)?;
+    }
+    Ok(answers)
+}
+
+/// Each client connects and sends its text, the desk serves them all, and each client reads.
 pub(crate) fn serve<R: Clock, S: Alter>(
     rt: &HostRuntime,
     clock: &R,
@@ -60,26 +91,13 @@ pub(crate) fn serve<R: Clock, S: Alter>(
     day: Day,
     texts: &[String],
 ) -> Result<Served, Fail> {
-    let listener = TcpListener::bind(rt, "127.0.0.1:0")?;
-    let address = listener.local_addr()?;
     let mut clients = Vec::new(rt.alloc());
-    let mut count = 0u32;
-    for text in texts {
-        count = count.saturating_add(1);
-        let mut client = TcpStream::connect(rt, address)?;
-        client.write_all(text.as_bytes())?;
-        client.shutdown(Shutdown::Write)?;
-        clients.push(client)?;
-    }
+    let listener = bind_for(rt, "127.0.0.1:0", texts, &mut clients)?;
     let mut errors = Vec::new(rt.alloc());
+    let count = clients.len() as u32;
     let Ok(()) = serve_on(rt.alloc(), clock, &listener, count, desk, day, &mut errors) else {
         return Err(io::Error::from(ErrorKind::Other).into());
     };
-    let mut answers = Vec::new(rt.alloc());
-    for client in &mut clients {
-        let mut answer = String::new(rt.alloc());
-        client.read_to_string(&mut answer)?;
-        answers.push(answer)?;
-    }
+    let answers = answers_to(rt, &mut clients)?;
     Ok(Served { answers, errors })
 }

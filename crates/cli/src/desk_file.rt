@@ -1,5 +1,5 @@
 //! The database file of a desk.
-ghost use Rattle.std.specs.Prelude.{◌≡◌, ◌≢◌, [], Err, IfOk, IfErr, OnOk};
+ghost use Rattle.std.specs.Prelude.{◌≡◌, [], IfOk, IfErr, OnOk};
 ghost use Rattle.sqlite_wal.specs.Files.{image_at};
 ghost use Rattle.sqlite_wal.specs.Reads.{AreClean};
 ghost use Rattle.sqlite.specs.Files.{file_state, over_files, IsOpened};
@@ -11,18 +11,29 @@ ghost use Rattle.registry.specs.Verdict.{IsLegal};
 ghost use Rattle.charters.specs.declared.charter.Charter as shown;
 ghost use Rattle.database.specs.Databases.{IsUnused};
 ghost use Rattle.desk.specs.Desk.{charter_of, HoldsHistory, IsOnCleanDisk, Represents};
-ghost use Rattle.cli.specs.DeskFiles.{AreDeskFiles, IsOfDatabase, KeepDesk};
+ghost use Rattle.cli.specs.DeskFiles.{AreDeskFiles, IsOfDatabase, KeepDesk, RefusesFiles};
 
 use crate::fault::fault_of_store;
 use command_line::ProgramFault;
 use desk::Desk;
 use policy::Charter;
-use sqlite::{Connection, Error, ErrorCode};
+use sqlite::{Alter, Connection, Error, ErrorCode};
 use sqlite_disk::{Disk, Files, Start};
 use sqlite_std_file::FileFrom;
 use sqlite_store::FileStore;
 use std::alloc::Global;
 use std::rt::HostRuntime;
+use store::StoreFault;
+
+/// Why the desk in a file was not opened.
+#[derive(Drop)]
+pub enum OpenFault<S: Alter> {
+    /// The file could not be opened, or is no database.
+    File(ProgramFault),
+    /// The database was refused. Its connection is given back, so that whether its disk returned
+    /// what was written can be said of it.
+    Store(StoreFault, Connection<S>),
+}
 
 /// A connection to the file at the path, which is made where there is none.
 pub fn connect<S: Start>(
@@ -52,7 +63,7 @@ pub fn make_desk<D: Disk + Drop>(
     ensures made { IfOk result (λ files. AreClean D.Disk files.log files.db
         → KeepDesk D.Disk charter.now [] files) }
     ensures unused { OnOk result (IsUnused (file_state conn)) }
-    ensures err { result ≢ Err ProgramFault.Schema }
+    ensures err { IfErr result (λ fault. fault ≡ ProgramFault.Database) }
 {
     let desk = match Desk::create_on(alloc, conn, charter) {
         Ok(desk) => desk,
@@ -67,21 +78,27 @@ pub fn open_desk<S: Start>(
     rt: &HostRuntime,
     path: &str,
     start: S,
-) -> Result<Desk<FileStore<FileFrom<S>>>, ProgramFault>
+) -> Result<Desk<FileStore<FileFrom<S>>>, OpenFault<FileStore<FileFrom<S>>>>
     ensures continued { IfOk result (λ desk. IsOnCleanDisk over_files desk
         → (charter : shown.Charter) (history : History) → IsCharter charter → IsLegal charter history
         → AreDeskFiles (image_at S.Start) charter history
         → Represents over_files charter desk history) }
+    ensures err { IfErr result (RefusesFiles (image_at S.Start)) }
 {
-    let conn = connect(rt, path, start)?;
-    match Desk::open_from(rt.alloc(), conn) {
+    let conn = match connect(rt, path, start) {
+        Ok(conn) => conn,
+        Err(fault) => return Err(OpenFault::File(fault)),
+    };
+    match Desk::open_or_return(rt.alloc(), conn) {
         Ok(desk) => Ok(desk),
-        Err(fault) => Err(fault_of_store(fault)),
+        Err((fault, conn)) => Err(OpenFault::Store(fault, conn)),
     }
 }
 
 /// Ends the desk, so that its one file holds everything.
 pub fn close_desk<D: Disk + Drop>(desk: Desk<FileStore<D>>) -> Result<Files<D>, ProgramFault>
+    ensures clean { IfOk result (λ files. AreClean D.Disk files.log files.db
+        → IsOnCleanDisk over_files desk) }
     ensures kept { IfOk result (λ files. AreClean D.Disk files.log files.db
         → (history : History) → HoldsHistory over_files desk history
         → KeepDesk D.Disk (charter_of desk) history files) }

@@ -1,8 +1,11 @@
-//! How the faults of a script and of the store become the program's.
+//! How the faults of a script, of the store and of an open become the program's.
 ghost use Rattle.std.specs.Prelude.{◌≡◌};
-ghost use Rattle.cli.specs.TaskFaults.{fault_of_script, fault_of_store};
+ghost use Rattle.cli.specs.TaskFaults.{fault_of_open, fault_of_script, fault_of_store};
 
+use crate::desk_file::OpenFault;
 use command_line::ProgramFault;
+use sqlite::Alter;
+use std::io::{self, ErrorKind};
 use store::StoreFault;
 use web::ScriptFault;
 
@@ -23,6 +26,24 @@ pub fn fault_of_store(fault: StoreFault) -> ProgramFault
     match fault {
         StoreFault::Database => ProgramFault::Database,
         StoreFault::Schema => ProgramFault::Schema,
+    }
+}
+
+/// The program's fault where the desk in a file was not opened.
+pub fn fault_of_open<S: Alter>(fault: &OpenFault<S>) -> ProgramFault
+    ensures { result ≡ fault_of_open fault.now }
+{
+    match fault {
+        OpenFault::File(fault) => *fault,
+        OpenFault::Store(fault, _) => fault_of_store(*fault),
+    }
+}
+
+/// The fault of an allocation that failed, or else this fault.
+pub fn fault_of_error(error: &io::Error, fault: ProgramFault) -> ProgramFault {
+    match error.kind() {
+        ErrorKind::OutOfMemory => ProgramFault::Memory,
+        _ => fault,
     }
 }
 

@@ -1,21 +1,23 @@
 //! The program `roadesk`, a hosted route origin authorization desk.
 #![tactic(auto)]
 
+pub mod check_files;
 #[cfg(test)]
 mod clients;
 pub mod desk_file;
 pub mod fault;
 pub mod help;
 pub mod serve;
+pub mod serve_desk;
 
 use addr::Day;
+use check_files::{PayloadFile, RouteFile, check_files};
 pub use command_line::{ProgramFault, Task, WordsFault, charter_from, check_on, read_words};
 use desk::Desk;
-use desk_file::{close_desk, connect, make_desk, open_desk};
-use fault::fault_of_script;
+use desk_file::{connect, make_desk, open_desk};
+use fault::{fault_of_error, fault_of_open, fault_of_script};
 use help::help_text;
-use serve::serve_on;
-use sqlite::Alter;
+use serve_desk::serve_desk;
 use sqlite_std_file::Unknown;
 use std::io::{self, ErrorKind};
 use std::net::TcpListener;
@@ -46,12 +48,19 @@ fn run(rt: &HostRuntime) -> Result<(), ProgramFault> {
         words.push(arg.as_str()).map_err(|_| ProgramFault::Memory)?;
     }
     match read_words(&words) {
-        Ok(task) => run_task(rt, &task),
+        Ok(task) => run_task(rt, &task, |address| TcpListener::bind(rt, address)),
         Err(fault) => Err(ProgramFault::from(fault)),
     }
 }
 
-fn run_task(rt: &HostRuntime, task: &Task<'_>) -> Result<(), ProgramFault> {
+/// Does the task. A task that serves is lent what binds its socket.
+fn run_task<B: FnOnce(&str) -> io::Result<TcpListener>>(
+    rt: &HostRuntime,
+    task: &Task<'_>,
+    bind: B,
+) -> Result<(), ProgramFault>
+    requires { B.IsAlwaysCallable bind }
+{
     match task {
         Task::Script { charter } => run_script_task(rt, charter),
         Task::Init { database, charter } => run_init_task(rt, database, charter),
@@ -60,7 +69,7 @@ fn run_task(rt: &HostRuntime, task: &Task<'_>) -> Result<(), ProgramFault> {
             address,
             count,
             day,
-        } => run_serve_task(rt, database, address, *count, *day),
+        } => run_serve_task(rt, database, *count, *day, || bind(address)),
         Task::Check { payloads, routes } => run_check_task(rt, payloads, routes),
         Task::Help => run_help_task(rt),
     }
@@ -89,44 +98,27 @@ fn run_init_task(rt: &HostRuntime, database: &str, charter: &str) -> Result<(), 
     Ok(())
 }
 
-fn run_serve_task(
+fn run_serve_task<B: FnOnce() -> io::Result<TcpListener>>(
     rt: &HostRuntime,
     database: &str,
-    address: &str,
     count: u32,
     day: Day,
-) -> Result<(), ProgramFault> {
+    bind: B,
+) -> Result<(), ProgramFault>
+    requires { B.IsAlwaysCallable bind }
+{
     // An open would make a database where there is none.
     match size_of(rt, database)? {
         None => return Err(ProgramFault::Database),
         Some(0) => return Err(ProgramFault::Schema),
         Some(_) => {}
     }
-    let mut desk = open_desk(rt, database, Unknown)?;
-    let served = serve_at(rt, address, count, &mut desk, day);
-    // The files are closed after a fault of the socket too.
-    let closed = close_desk(desk);
-    served?;
-    closed?;
-    Ok(())
-}
-
-fn serve_at<S: Alter>(
-    rt: &HostRuntime,
-    address: &str,
-    count: u32,
-    desk: &mut Desk<S>,
-    day: Day,
-) -> Result<(), ProgramFault> {
-    let listener = match TcpListener::bind(rt, address) {
-        Ok(listener) => listener,
-        Err(error) => return Err(fault_of_error(&error, ProgramFault::Socket)),
+    let desk = match open_desk(rt, database, Unknown) {
+        Ok(desk) => desk,
+        Err(fault) => return Err(fault_of_open(&fault)),
     };
-    let mut errors = rt.stderr();
-    match serve_on(rt.alloc(), rt, &listener, count, desk, day, &mut errors) {
-        Ok(()) => Ok(()),
-        Err(Failed) => Err(ProgramFault::Socket),
-    }
+    serve_desk(rt, desk, bind, count, day, &mut rt.stderr())?;
+    Ok(())
 }
 
 fn run_help_task(rt: &HostRuntime) -> Result<(), ProgramFault> {
@@ -140,10 +132,10 @@ fn run_help_task(rt: &HostRuntime) -> Result<(), ProgramFault> {
 
 /// Both files are read before either is judged.
 fn run_check_task(rt: &HostRuntime, payloads: &str, routes: &str) -> Result<(), ProgramFault> {
-    let payloads = read_input(rt, payloads)?;
-    let routes = read_input(rt, routes)?;
+    let payloads = PayloadFile(read_input(rt, payloads)?);
+    let routes = RouteFile(read_input(rt, routes)?);
     let mut drain = Device::new(io::writer(rt));
-    check_on(rt.alloc(), &payloads, &routes, &mut drain)
+    check_files(rt.alloc(), &payloads, &routes, &mut drain)
 }
 
 fn read_input(rt: &HostRuntime, path: &str) -> Result<Vec<u8>, ProgramFault> {
@@ -159,14 +151,6 @@ fn size_of(rt: &HostRuntime, path: &str) -> Result<Option<u64>, ProgramFault> {
         Ok(metadata) => Ok(Some(metadata.len())),
         Err(error) if error.kind() == ErrorKind::NotFound => Ok(None),
         Err(error) => Err(fault_of_error(&error, ProgramFault::Database)),
-    }
-}
-
-/// The fault of an allocation that failed, or else this fault.
-fn fault_of_error(error: &io::Error, fault: ProgramFault) -> ProgramFault {
-    match error.kind() {
-        ErrorKind::OutOfMemory => ProgramFault::Memory,
-        _ => fault,
     }
 }
 

@@ -1,12 +1,18 @@
 //! Runs of the program's tasks.
 use super::run_task;
-use crate::clients::{CHARTER, SETUP, request, serve};
+use crate::clients::{CHARTER, SETUP, answers_to, bind_for, request, serve};
 use crate::desk_file::{close_desk, open_desk};
 use crate::help::help_text;
 use addr::Day;
 use command_line::{ProgramFault, Task};
-use sqlite_std_file::Unknown;
+use desk::Desk;
+use sqlite::Connection;
+use sqlite_std_file::{FileFrom, Unknown};
+use sqlite_store::FileStore;
+use std::alloc::AllocError;
 use std::fs;
+use std::io::{self, ErrorKind};
+use std::net::TcpListener;
 use std::rt::HostRuntime;
 use std::test::Fail;
 
@@ -16,8 +22,16 @@ const CHARTER_FILE: &str = "roadesk_test/charter.csv";
 
 const DATABASE: &str = "roadesk_test/a.db";
 
+const PAYLOADS: &str = "roadesk_test/payloads.csv";
+
+const ROUTES: &str = "roadesk_test/routes.csv";
+
+fn run(rt: &HostRuntime, task: &Task<'_>) -> Result<(), ProgramFault> {
+    run_task(rt, task, |address| TcpListener::bind(rt, address))
+}
+
 fn init(rt: &HostRuntime, database: &str) -> Result<(), ProgramFault> {
-    run_task(
+    run(
         rt,
         &Task::Init {
             database,
@@ -32,7 +46,7 @@ fn serve_once(
     address: &str,
     day: Day,
 ) -> Result<(), ProgramFault> {
-    run_task(
+    run(
         rt,
         &Task::Serve {
             database,
@@ -41,6 +55,35 @@ fn serve_once(
             day,
         },
     )
+}
+
+/// The desk in the database of these tests.
+fn open(rt: &HostRuntime) -> Result<Desk<FileStore<FileFrom<Unknown>>>, Fail> {
+    match open_desk(rt, DATABASE, Unknown) {
+        Ok(desk) => Ok(desk),
+        Err(_) => Err(io::Error::from(ErrorKind::Other).into()),
+    }
+}
+
+/// The requests as bytes.
+fn requests(
+    rt: &HostRuntime,
+    parts: &[(&str, &str, &str, &str)],
+) -> Result<Vec<String>, AllocError> {
+    let mut texts = Vec::new(rt.alloc());
+    for one in parts {
+        texts.push(request(rt.alloc(), *one)?)?;
+    }
+    Ok(texts)
+}
+
+/// An empty folder with a charter in it.
+fn make_folder(rt: &HostRuntime) -> Result<(), Fail> {
+    // Only a run that was cut off has left the folder.
+    let _ = fs::remove_dir_all(rt, FOLDER);
+    fs::create_dir(rt, FOLDER)?;
+    fs::write(rt, CHARTER_FILE, CHARTER.as_bytes())?;
+    Ok(())
 }
 
 const USAGES: [&str; 5] = [
@@ -63,10 +106,7 @@ fn help_names_the_five_tasks(rt: HostRuntime) -> Result<(), Fail> {
 #[test]
 fn a_desk_in_a_file_is_served_again(rt: HostRuntime) -> Result<(), Fail> {
     let day = Day::read(b"2026-03-01").expect(&rt, "a day");
-    // Only a run that was cut off has left the folder.
-    let _ = fs::remove_dir_all(&rt, FOLDER);
-    fs::create_dir(&rt, FOLDER)?;
-    fs::write(&rt, CHARTER_FILE, CHARTER.as_bytes())?;
+    make_folder(&rt)?;
 
     assert_eq!(rt;
         serve_once(&rt, DATABASE, "127.0.0.1:0", day),
@@ -90,18 +130,14 @@ fn a_desk_in_a_file_is_served_again(rt: HostRuntime) -> Result<(), Fail> {
         Err(ProgramFault::Socket)
     );
 
-    let mut desk = open_desk(&rt, DATABASE, Unknown).expect(&rt, "a desk");
-    let mut texts = Vec::new(rt.alloc());
-    for parts in SETUP {
-        texts.push(request(rt.alloc(), parts)?)?;
-    }
+    let mut desk = open(&rt)?;
+    let texts = requests(&rt, &SETUP)?;
     let served = serve(&rt, &rt, &mut desk, day, &texts)?;
     assert_eq!(rt; served.errors.len(), 0);
     assert!(rt; close_desk(desk).is_ok());
 
-    let mut desk = open_desk(&rt, DATABASE, Unknown).expect(&rt, "the same desk");
-    let mut texts = Vec::new(rt.alloc());
-    texts.push(request(rt.alloc(), ("ann", "GET", "/holders/alpha/auths/1", ""))?)?;
+    let mut desk = open(&rt)?;
+    let texts = requests(&rt, &[("ann", "GET", "/holders/alpha/auths/1", "")])?;
     let served = serve(&rt, &rt, &mut desk, day, &texts)?;
     assert_eq!(rt; served.answers.len(), 1);
     assert!(rt;
@@ -126,5 +162,130 @@ fn an_empty_file_is_not_served(rt: HostRuntime) -> Result<(), Fail> {
     );
     assert_eq!(rt; fs::metadata(&rt, empty)?.len(), 0);
     fs::remove_file(&rt, empty)?;
+    Ok(())
+}
+
+/// Runs the task `serve` for as many connections as there are requests, and returns the answers.
+fn serve_requests(
+    rt: &HostRuntime,
+    day: Day,
+    parts: &[(&str, &str, &str, &str)],
+) -> Result<Vec<String>, Fail> {
+    let texts = requests(rt, parts)?;
+    let mut clients = Vec::new(rt.alloc());
+    let task = Task::Serve {
+        database: DATABASE,
+        address: "127.0.0.1:0",
+        count: texts.len() as u32,
+        day,
+    };
+    let ran = run_task(rt, &task, |address| {
+        bind_for(rt, address, &texts, &mut clients)
+    });
+    match ran {
+        Ok(()) => answers_to(rt, &mut clients),
+        Err(_) => Err(io::Error::from(ErrorKind::Other).into()),
+    }
+}
+
+/// Days, and the payloads that a desk exports on them which has the authorization of `SETUP`.
+const DAYS: [(&str, &str); 4] = [
+    ("2025-12-31", "asn,prefix,maxlength\n"),
+    (
+        "2026-01-01",
+        "asn,prefix,maxlength\nAS64496,192.0.2.0/24,24\n",
+    ),
+    (
+        "2026-12-31",
+        "asn,prefix,maxlength\nAS64496,192.0.2.0/24,24\n",
+    ),
+    ("2027-01-01", "asn,prefix,maxlength\n"),
+];
+
+#[test]
+fn serve_answers_each_connection_on_its_day(rt: HostRuntime) -> Result<(), Fail> {
+    make_folder(&rt)?;
+    assert_eq!(rt; init(&rt, DATABASE), Ok(()));
+    let day = Day::read(b"2026-03-01").expect(&rt, "a day");
+    let answers = serve_requests(&rt, day, &SETUP)?;
+    assert_eq!(rt; answers.len(), SETUP.len());
+    for (number, answer) in answers.iter().enumerate() {
+        assert!(rt;
+            answer.starts_with("HTTP/1.1 200 OK\r\n"),
+            "request {number}"
+        );
+    }
+    for (text, payloads) in DAYS {
+        let day = Day::read(text.as_bytes()).expect(&rt, text);
+        let answers = serve_requests(&rt, day, &[("bob", "GET", "/payloads", "")])?;
+        assert!(rt; answers[0].ends_with(payloads), "{text}");
+    }
+    fs::remove_dir_all(&rt, FOLDER)?;
+    Ok(())
+}
+
+/// Statements over the database of a desk, and the line and the status of `serve` on what they
+/// leave.
+const OTHER_TABLES: [(&str, &str, &str, u8); 2] = [
+    ("one too few", "DROP TABLE slurm", "roadesk: schema", 5),
+    (
+        "one too many",
+        "CREATE TABLE further (name TEXT NOT NULL) STRICT",
+        "roadesk: database",
+        3,
+    ),
+];
+
+#[test]
+fn a_file_of_other_tables_is_not_served(rt: HostRuntime) -> Result<(), Fail> {
+    let day = Day::read(b"2026-03-01").expect(&rt, "a day");
+    for (name, statement, line, status) in OTHER_TABLES {
+        make_folder(&rt)?;
+        assert_eq!(rt; init(&rt, DATABASE), Ok(()), "{name}");
+        let mut conn = Connection::open(&rt, DATABASE)?;
+        conn.execute_batch(statement)?;
+        conn.close()?;
+        let ended = serve_once(&rt, DATABASE, "127.0.0.1:0", day);
+        let fault = ended.err().expect(&rt, name);
+        assert_eq!(rt; fault.line().as_str(), line, "{name}");
+        assert_eq!(rt; fault.status(), status, "{name}");
+    }
+    fs::remove_dir_all(&rt, FOLDER)?;
+    Ok(())
+}
+
+/// Files of payloads and of routes, and the line of the fault of their check, which is empty where
+/// there is none.
+const CHECKED: [(&str, &str, &str, &str); 2] = [
+    (
+        "good files",
+        "asn,prefix,maxlength\nAS64496,192.0.2.0/24,24\n",
+        "prefix,origin\n192.0.2.0/24,AS64496\n",
+        "",
+    ),
+    (
+        "exchanged files",
+        "prefix,origin\n192.0.2.0/24,AS64496\n",
+        "asn,prefix,maxlength\nAS64496,192.0.2.0/24,24\n",
+        "roadesk: payloads header",
+    ),
+];
+
+#[test]
+fn check_judges_the_routes_on_the_payloads(rt: HostRuntime) -> Result<(), Fail> {
+    make_folder(&rt)?;
+    for (name, payloads, routes, line) in CHECKED {
+        fs::write(&rt, PAYLOADS, payloads.as_bytes())?;
+        fs::write(&rt, ROUTES, routes.as_bytes())?;
+        let task = Task::Check {
+            payloads: PAYLOADS,
+            routes: ROUTES,
+        };
+        match run(&rt, &task) {
+            Ok(()) => assert_eq!(rt; "", line, "{name}"),
+            Err(fault) => assert_eq!(rt; fault.line().as_str(), line, "{name}"),
+        }
+    }
+    fs::remove_dir_all(&rt, FOLDER)?;
     Ok(())
 }

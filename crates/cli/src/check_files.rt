@@ -1,0 +1,31 @@
+//! The task `check` on the bytes of its two files.
+ghost use Rattle.std.specs.Prelude.{◌≡◌, ◌++◌, ℕ, List, IfErr, OnOk};
+ghost use Rattle.command_line.specs.Check.{EndsCheck, JudgesFiles};
+
+use command_line::{ProgramFault, check_on};
+use std::alloc::Global;
+use web::Drain;
+
+/// The bytes of a file of payloads.
+#[derive(Drop)]
+pub struct PayloadFile(pub Vec<u8>);
+
+/// The bytes of a file of routes.
+#[derive(Drop)]
+pub struct RouteFile(pub Vec<u8>);
+
+/// As `check_on`, where neither file can be taken for the other.
+pub fn check_files<D: Drain>(
+    alloc: Global,
+    payloads: &PayloadFile,
+    routes: &RouteFile,
+    drain: &mut D,
+) -> Result<(), ProgramFault>
+    ensures ok { OnOk result ((text : List ℕ)
+        × JudgesFiles payloads.now.0.items routes.now.0.items text
+        × (D.written drain.new ≡ D.written drain.old ++ text)) }
+    ensures err { IfErr result (λ fault. EndsCheck fault payloads.now.0.items routes.now.0.items
+        (D.written drain.old) (D.written drain.new) (D.has_failed drain.new)) }
+{
+    check_on(alloc, &payloads.0, &routes.0, drain)
+}
