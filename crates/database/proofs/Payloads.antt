@@ -1,5 +1,5 @@
 -- No two authorizations of a desk have the same VRP, since the table `auth` has a key of these columns.
-use Rattle.std.proofs.Common.{◌≡◌, ◌≢◌, true, false, List, [], ◌∷◌, map, filter, drop, refl, inl, inr, sym, is_eq, IsPermutation, None}
+use Rattle.std.proofs.Common.{◌≡◌, ◌≢◌, true, false, None, drop, refl, inl, inr, sym, is_eq}
 use Rattle.std.proofs.lemmas.Bool.{both_ways}
 use Rattle.sqlite.specs.Effect.{Database, IsDatabase}
 use Rattle.sqlite_value.specs.Order.{Row, value_cmp}

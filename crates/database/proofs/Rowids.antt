@@ -8,14 +8,14 @@ use Rattle.std.proofs.lemmas.List.{length-append, length-map}
 use Rattle.std.proofs.lemmas.List.FromFn.{fill_by_all}
 use lib.ListN.{get_or-append}
 use lib.Seq.{get_or-append_seam}
-use Rattle.std.proofs.lemmas.List.Sorted.{IsPermutation-map, IsPermutation-refl, IsPermutation-sym, IsPermutation-cons, IsPermutation-middle, IsPermutation-trans}
+use Rattle.std.proofs.lemmas.List.Sorted.{IsPermutation-map, IsPermutation-sym}
 use Rattle.sqlite_value.specs.declared.value.Value.{Value}
 use Rattle.sqlite_value.specs.declared.value.Value.TheVariants.{Null, Int}
 use Rattle.sqlite_value.specs.Order.{Row, column, value_cmp}
 use Rattle.sqlite_value.proofs.OrderLemmas.{value_cmp-Int}
 use Rattle.sqlite_trees.specs.Tree.{rowid, IsAscending}
 use Rattle.sqlite_trees.specs.View.{is_int}
-use Rattle.sqlite_trees.proofs.ListLemmas.{map-map, all_weaker, all_from_map, all-permutation, along_permutation, ascending_from_map, ascending_weaker}
+use Rattle.sqlite_trees.proofs.ListLemmas.{map-map, all_weaker, all_from_map, all-permutation, ascending_from_map, ascending_weaker}
 use Rattle.sqlite_rules.proofs.ListLemmas.{all_has, any_has}
 use Rattle.tables.specs.Decode.{ShowsNone, first_columns}
 use Rattle.tables.specs.Tables.{columns, contents, IsTree}
