@@ -1,5 +1,6 @@
 # shellcheck shell=bash
-# Sourced by the scripts beside it: the `top` of the repository, `skip`, `need`, `find_program`, `expect` and `free_port`.
+# Sourced by the scripts beside it: the `top` of the repository, `skip`, `need`, `find_program`, `expect` and
+# `free_port`.
 
 top=$(cd "$(dirname "${BASH_SOURCE[0]}")/.." && pwd)
 

@@ -376,9 +376,9 @@ class Check:
         self.counts = Counter()
 
     def serve(self, db, port, count):
-        words = [self.program, "serve", "--db", db, "--listen", f"127.0.0.1:{port}", "--count", str(count), "--day", DAY]
+        words = ["serve", "--db", db, "--listen", f"127.0.0.1:{port}", "--count", str(count), "--day", DAY]
         with open(self.folder / "errors", "w") as errors:
-            return subprocess.Popen(words, stderr=errors)
+            return subprocess.Popen([self.program, *words], stderr=errors)
 
     def errors(self):
         return (self.folder / "errors").read_text()

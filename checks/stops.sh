@@ -74,7 +74,8 @@ stop() {
 ask() {
     local response status
     while :; do
-        response=$(curl -s -m 60 -X "$2" -H "Desk-Caller: $1" ${4:+-d "$4"} -w '%{http_code}' "http://127.0.0.1:$port$3")
+        response=$(curl -s -m 60 -X "$2" -H "Desk-Caller: $1" ${4:+-d "$4"} -w '%{http_code}' \
+            "http://127.0.0.1:$port$3")
         status=$?
         # The desk may not listen yet.
         [ "$status" = 7 ] && kill -0 "$server" 2>/dev/null || break
@@ -352,7 +353,7 @@ other_users() {
 }
 
 two_programs() {
-    local file
+    local file count
     file=$(copy shared)
     start "$file" 1000000
     expect 'a desk that is served' "$(create 2)" '200 {"done":2}'
@@ -464,7 +465,8 @@ edited_rows() {
     refused 'a day after the last' "UPDATE auth SET ends = 2932897" "$schema"
     refused 'a number to 0' "UPDATE auth SET number = 0" "$schema"
     refused 'a filter of nothing' "INSERT INTO slurm VALUES ('main', 1, 1, NULL, NULL, NULL, NULL, NULL)" "$schema"
-    refused 'an assertion without maxLength' "INSERT INTO slurm VALUES ('main', 2, 1, 4, $lo, 24, NULL, 64496)" "$schema"
+    refused 'an assertion without maxLength' \
+        "INSERT INTO slurm VALUES ('main', 2, 1, 4, $lo, 24, NULL, 64496)" "$schema"
     refused 'another SLURM file' "INSERT INTO slurm VALUES ('more', 1, 1, NULL, NULL, NULL, NULL, 64496)" "$schema"
     refused 'a table away' "DROP TABLE slurm" "$schema"
     refused 'a column away' "ALTER TABLE slurm DROP COLUMN max" "$schema"
@@ -483,7 +485,6 @@ edited_rows() {
     expect 'what that desk has' "$(sqlite3 "$work/edited.db" 'SELECT auths, number FROM holder, auth')" '0|1'
 }
 
-if [ -n "${ONLY:-}" ]; then make_first; $ONLY; exit "$failed"; fi
 make_first
 init_is_killed
 serve_is_killed
