@@ -1,8 +1,6 @@
 -- Which request the bytes of an HTTP message are: a head as http_messages defines it, with the body that it announces.
-use Rattle.std.specs.Prelude.{◌≡◌, ◌<◌, ◌⊎◌, ℕ, List, [], ◌++◌, length, map, Option, Some, option_map, Result, Ok, Err}
+use Rattle.std.specs.Prelude.{◌≡◌, ◌<◌, ◌⊎◌, ℕ, List, [], ◌++◌, length, Option, Some, option_map, Ok, Err}
 use Rattle.addr.specs.Name.{name_in}
-use Rattle.httparse.specs.Grammar.{RequestHead}
-use Rattle.httparse.specs.Spans.{name_and_value}
 use Rattle.serde_json.specs.Data.{Data, null}
 use Rattle.http_messages.specs.HeadEnd.{IsWholeHead, LacksEnd}
 use Rattle.requests.specs.RequestHeads.{Head, SaysHead}
