@@ -80,7 +80,8 @@ pub fn open_desk<S: Start>(
     start: S,
 ) -> Result<Desk<FileStore<FileFrom<S>>>, OpenFault<FileStore<FileFrom<S>>>>
     ensures continued { IfOk result (λ desk. IsOnCleanDisk over_files desk
-        → (charter : shown.Charter) (history : History) → IsCharter charter → IsLegal charter history
+        → (charter : shown.Charter) (history : History)
+        → IsCharter charter → IsLegal charter history
         → AreDeskFiles (image_at S.Start) charter history
         → Represents over_files charter desk history) }
     ensures err { IfErr result (RefusesFiles (image_at S.Start)) }

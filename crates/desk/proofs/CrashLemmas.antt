@@ -48,8 +48,13 @@ made_left : (charter : Charter) (history : History) (day : ℕ) (caller : List �
     → MayBeLeft charter history (asked_on day caller (CommandRequest command) ∷ pending) trees
 made_left charter history day caller command change reply pending trees accepted answers done rows has holds =
     let asked = asked_on day caller (CommandRequest command) in
-    inr (asked, accepted.after, newest asked pending, (reply, done, answers charter history day caller accepted),
-    (changed_rows change rows, rows_carried charter history day caller command change rows accepted has, holds))
+    inr (
+      asked,
+      accepted.after,
+      newest asked pending,
+      (reply, done, answers charter history day caller accepted),
+      (changed_rows change rows, rows_carried charter history day caller command change rows accepted has, holds),
+    )
 
 -- a command that is not accepted leaves the history
 command_unchanged : (charter : Charter) (before after : History) (day : ℕ) (caller : List ℕ) (command : Command) (reply : Reply)
@@ -109,7 +114,7 @@ module _ {S : Type 0} (g : Ghosts S) where
       elim (crash trees leaves) [
         | inl was ↦ one_more (charter_of old) history (asked_on day caller (CommandRequest command)) pending trees (left trees (read.crash clean trees was))
         | inr now ↦ made_left (charter_of old) history day caller command change reply pending trees accepted answers done held.0 held.1
-          (subst (λ (k : Charter). TablesHold k (changed_rows change held.0) trees) read.charter (now held.0 held.2))
+            (subst (λ (k : Charter). TablesHold k (changed_rows change held.0) trees) read.charter (now held.0 held.2))
       ]
 
   -- a change that was made is left alone
@@ -119,8 +124,11 @@ module _ {S : Type 0} (g : Ghosts S) where
       → LeavesOnly g mid.store new.store (changed_rows change)
       → LeavesAlong g (charter_of old) old history to new accepted.after
   made_leaves history day caller command change to old mid new read held accepted only pending left trees leaves =
-      inl (changed_rows change held.0, rows_carried (charter_of old) history day caller command change held.0 accepted held.1,
-      subst (λ (k : Charter). TablesHold k (changed_rows change held.0) trees) read.charter (only held.0 held.2 trees leaves))
+      inl (
+        changed_rows change held.0,
+        rows_carried (charter_of old) history day caller command change held.0 accepted held.1,
+        subst (λ (k : Charter). TablesHold k (changed_rows change held.0) trees) read.charter (only held.0 held.2 trees leaves),
+      )
 
   -- a request that was not accepted, after a read
   pub read_kept : (history : History) (asked : Asked) (reply : Reply) (old new : Desk S) → is_accepted reply ≡ false

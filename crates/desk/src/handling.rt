@@ -117,8 +117,8 @@ impl<S: Alter> Desk<S> {
             → IsRead S.Store self.old.store self.new.store }
         ensures is_open { is_accepted result ≡ true → StaysOpen S.Store self.new }
         ensures left { OfHistories S.Store self.old self.new (λ history.
-            IsKept S.Store (charter_of self.old) history (asked_on day caller.now request.now) result
-            self.old self.new) }
+            IsKept S.Store (charter_of self.old) history
+            (asked_on day caller.now request.now) result self.old self.new) }
         ensures crash { OfHistories S.Store self.old self.new (λ history.
             LeavesAlong S.Store (charter_of self.old) self.old history
             (λ pending. asked_on day caller.now request.now ∷ pending) self.new history) }
@@ -141,7 +141,8 @@ impl<S: Alter> Desk<S> {
         ensures answered { IfOk result (λ replies. OfHistories S.Store self.old self.new (λ history.
             AreAnswered S.Store (charter_of self.old) history asked.now replies.items self.new)) }
         ensures left { IfOk result (λ replies. OfHistories S.Store self.old self.new (λ history.
-            AreKept S.Store (charter_of self.old) history asked.now replies.items self.old self.new)) }
+            AreKept S.Store (charter_of self.old) history asked.now replies.items
+            self.old self.new)) }
         ensures charter { charter_of self.new ≡ charter_of self.old }
         ensures clean { IsOnCleanDisk S.Store self.new → IsOnCleanDisk S.Store self.old }
         ensures err { OnErr result (self.new ≡ self.old) }

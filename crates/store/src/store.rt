@@ -146,8 +146,8 @@ impl<S: Alter> Store<S> {
     ghost use Rattle.store.specs.Loads.{OfHeldRows, AreLoaded, AllGiveOn, AreFilesOf};
     ghost use Rattle.store.specs.StoreRows.{connection_state, Holds, IsRead};
     ghost use Rattle.database.specs.Databases.{IsDeskWhileOpen};
-    ghost use Rattle.store.specs.StoreRows.{IfClean, HoldsAfter, MayLeave, LeavesOnly, LeavesPlaced};
-    ghost use Rattle.store.specs.StoreRows.{KeepsSchema};
+    ghost use Rattle.store.specs.StoreRows.{IfClean, HoldsAfter, MayLeave, LeavesOnly};
+    ghost use Rattle.store.specs.StoreRows.{KeepsSchema, LeavesPlaced};
 
     /// The operators and the pool.
     pub fn charter(&self) -> &Charter

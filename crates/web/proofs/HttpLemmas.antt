@@ -131,8 +131,7 @@ module _ {S : Type 0} (g : Ghosts S) where
   shown_keeps old new request reply replies long = (
     replies.kept (shown-unaccepted reply long),
     λ clean before stands.
-        let (after, stands_after, values, (answers, left)) = replies.replies clean before stands in
-        (
+        let (after, stands_after, values, (answers, left)) = replies.replies clean before stands in (
           after,
           stands_after,
           values,

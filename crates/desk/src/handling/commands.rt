@@ -38,8 +38,8 @@ impl<S: Alter> Desk<S> {
     /// that nothing fails after it.
     pub(super) fn carry_out(&mut self, day: Day, caller: &Name, command: &Command) -> Reply
         ensures left { OfHistories S.Store self.old self.new (λ history.
-            IsKept S.Store (charter_of self.old) history (asked_on day caller.now (Request.Command command.now)) result
-            self.old self.new) }
+            IsKept S.Store (charter_of self.old) history
+            (asked_on day caller.now (Request.Command command.now)) result self.old self.new) }
         ensures charter { charter_of self.new ≡ charter_of self.old }
         ensures clean { IsOnCleanDisk S.Store self.new → IsOnCleanDisk S.Store self.old }
         ensures kept { is_accepted result ≡ false → KeepsRows S.Store self.old self.new }
