@@ -1,6 +1,5 @@
 use Rattle.std.proofs.Common.{refl, sym, ◌∙◌}
 use Rattle.std.proofs.lemmas.Bool.{false≢true}
-use Rattle.desk.specs.Desk.{charter_of}
 use Rattle.desk.specs.HolderAnswers.{may_change, may_except}
 use Rattle.registry.specs.declared.asked.Request.TheVariants.{Command as CommandRequest}
 use Rattle.desk.specs.CrashOutcomes.{asked_on}
