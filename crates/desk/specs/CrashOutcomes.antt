@@ -12,7 +12,7 @@ use Rattle.registry.specs.declared.asked.Request.{Request}
 use Rattle.tables.specs.TablesHold.{TablesHold}
 use Rattle.store.specs.StoreRows.{connection_state}
 use Rattle.desk.specs.Answer.{is_accepted, AnswersRequest, IsAnswered}
-use Rattle.desk.specs.Desk.{IsOnCleanDisk}
+use Rattle.desk.specs.Desk.{store_of, IsOnCleanDisk}
 use Rattle.desk.specs.Run.{AreAnswered}
 use Rattle.desk.specs.declared.handling.Desk.{Desk}
 use Rattle.desk.specs.declared.reply.Reply.{Reply}
@@ -23,7 +23,7 @@ asked_on day caller request = record { day = day; caller = caller; request = req
 
 -- no failure of the disk shut the connection, where the disk returned what was written
 abbrev pub StaysOpen : {S : Type 0} → Ghosts S → Desk S → Type 0
-StaysOpen g desk = IsOnCleanDisk g desk → IsTrue (connection_state g desk.store).is_open
+StaysOpen g desk = IsOnCleanDisk g desk → IsTrue (connection_state g (store_of desk)).is_open
 
 -- the tables hold the charter and the rows of the history
 abbrev pub HoldDesk : Charter → History → Trees → Type 0
@@ -61,7 +61,7 @@ pending_after_all (asked ∷ more) [] pending = pending
 -- a crash at this moment leaves the history, or the history with one of the pending requests
 abbrev pub LeavesAtMost : {S : Type 0} → Ghosts S → Charter → Desk S → History → List Asked → Type 0
 LeavesAtMost g charter desk history pending =
-    (trees : Trees) → (connection_state g desk.store).may_leave trees → MayBeLeft charter history pending trees
+    (trees : Trees) → (connection_state g (store_of desk)).may_leave trees → MayBeLeft charter history pending trees
 
 -- where that was so with the one history before, it is so with the other one after, of what is then pending
 abbrev pub LeavesAlong :

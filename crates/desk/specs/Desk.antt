@@ -9,20 +9,24 @@ use Rattle.registry.specs.RowsOfAll.{AllRows, HasRows}
 use Rattle.registry.specs.Verdict.{IsLegal}
 use Rattle.charters.specs.declared.charter.Charter.{Charter}
 use Rattle.tables.specs.TablesHold.{TablesHold}
-use Rattle.store.specs.StoreRows.{connection_state, Holds}
+use Rattle.store.specs.StoreRows.{connection_state, Holds, StoreView}
 use Rattle.desk.specs.declared.handling.Desk.{Desk}
 
+-- what a desk shows: its store
+abbrev pub store_of : {S : Type 0} → Desk S → StoreView S
+store_of desk = desk.store
+
 abbrev pub charter_of : {S : Type 0} → Desk S → Charter
-charter_of desk = desk.store.charter
+charter_of desk = (store_of desk).charter
 
 -- The disk of the desk returned what was written, as memory always does. Of a desk whose disk did not,
 -- nothing is known.
 abbrev pub IsOnCleanDisk : {S : Type 0} → Ghosts S → Desk S → Type 0
-IsOnCleanDisk g desk = HasCleanDisk (connection_state g desk.store)
+IsOnCleanDisk g desk = HasCleanDisk (connection_state g (store_of desk))
 
 -- the tables of the desk hold the rows of the history
 abbrev pub HoldsHistory : {S : Type 0} → Ghosts S → Desk S → History → Type 0
-HoldsHistory g desk history = (rows : AllRows) × HasRows rows history × Holds g desk.store rows
+HoldsHistory g desk history = (rows : AllRows) × HasRows rows history × Holds g (store_of desk) rows
 
 -- it is so of each legal history whose rows the tables held before, where the disk returned what was
 -- written
@@ -34,7 +38,8 @@ OfHistories g old new so =
 -- the tables hold the rows that they held
 abbrev pub KeepsRows : {S : Type 0} → Ghosts S → Desk S → Desk S → Type 0
 KeepsRows g old new =
-    IsOnCleanDisk g new → (rows : AllRows) → Holds g old.store rows → Holds g new.store rows
+    IsOnCleanDisk g new → (rows : AllRows)
+    → Holds g (store_of old) rows → Holds g (store_of new) rows
 
 -- the desk has the charter and the rows of the history, which is legal for it
 pub record Represents {S : Type 0} (g : Ghosts S) (charter : Charter) (desk : Desk S) (history : History) : Type 0 where

@@ -15,6 +15,7 @@ use Rattle.registry.specs.Verdict.{IsLegal}
 use Rattle.sqlite.specs.Store.{Ghosts}
 use Rattle.store.specs.StoreRows.{Holds}
 use Rattle.desk.specs.Answer.{AnswersRequest}
+use Rattle.desk.specs.Desk.{store_of}
 use Rattle.registry.specs.declared.asked.Asked.{Asked}
 use Rattle.registry.specs.declared.asked.Request.{Request}
 use Rattle.registry.specs.declared.asked.Request.TheVariants.{Command as CommandRequest, Query as QueryRequest}
@@ -102,7 +103,7 @@ may_except_any asked = list_any (λ a. may_except a.request) asked
 -- the exceptions that they held, unless these may change
 abbrev pub KeepsOthers : {S : Type 0} → Ghosts S → (List ℕ → Bool) → Bool → Desk S → Desk S → Type 0
 KeepsOthers g changes excepts old new =
-    (rows : AllRows) → Holds g old.store rows
-    → (after : AllRows) × Holds g new.store after
+    (rows : AllRows) → Holds g (store_of old) rows
+    → (after : AllRows) × Holds g (store_of new) after
     × ((h : List ℕ) → changes h ≡ false → after.of_holder h ≡ rows.of_holder h)
     × (excepts ≡ false → after.exceptions ≡ rows.exceptions)

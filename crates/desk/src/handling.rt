@@ -15,7 +15,8 @@ ghost use Rattle.desk.specs.CrashOutcomes.{asked_on, AreKept, IsKept, LeavesAlon
 ghost use Rattle.desk.specs.Run.{AreAnswered};
 ghost use Rattle.desk.specs.HolderAnswers.{may_change, may_change_any, may_except, may_except_any};
 ghost use Rattle.desk.specs.HolderAnswers.{IsAnswerByEntries, KeepsOthers, RunsByEntries};
-ghost use Rattle.desk.specs.Desk.{charter_of, ContinuesHistories, HoldsHistory, IsOnCleanDisk, KeepsRows, OfHistories};
+ghost use Rattle.desk.specs.Desk.{charter_of, store_of, ContinuesHistories, HoldsHistory};
+ghost use Rattle.desk.specs.Desk.{IsOnCleanDisk, KeepsRows, OfHistories};
 
 mod commands;
 mod queries;
@@ -48,13 +49,13 @@ impl<S: Alter + Drop> Desk<S> {
         ensures charter { IfOk result (λ desk. charter_of desk ≡ charter.now) }
         ensures empty { IfOk result (λ desk. HoldsHistory S.Store desk []) }
         ensures unused { OnOk result (IsUnused (state S.Store conn)) }
-        ensures unlimited { IfOk result (λ desk. desk.store.connection.step_limit ≡ None) }
-        ensures made { IfOk result (λ desk. IfClean S.Store desk.store
-            (IsNew charter.now (connection_state S.Store desk.store))) }
+        ensures unlimited { IfOk result (λ desk. (store_of desk).connection.step_limit ≡ None) }
+        ensures made { IfOk result (λ desk. IfClean S.Store (store_of desk)
+            (IsNew charter.now (connection_state S.Store (store_of desk)))) }
         ensures clean { IfOk result (λ desk. IsOnCleanDisk S.Store desk
             → HasCleanDisk (state S.Store conn)) }
-        ensures left { IfOk result (λ desk. IfClean S.Store desk.store
-            (LeavesNew charter.now (connection_state S.Store desk.store))) }
+        ensures left { IfOk result (λ desk. IfClean S.Store (store_of desk)
+            (LeavesNew charter.now (connection_state S.Store (store_of desk)))) }
         ensures no_schema { result ≢ Err StoreFault.Schema }
     {
         let store = Store::create_on(conn, charter)?;
@@ -64,11 +65,11 @@ impl<S: Alter + Drop> Desk<S> {
     /// A desk over a database that has the tables of one, with the charter and the rows that they
     /// hold. A connection in a transaction is refused, and a limit of its steps is lifted.
     pub fn open_from(alloc: Global, conn: Connection<S>) -> Result<Self, StoreFault>
-        ensures opened { IfOk result (λ desk. IfClean S.Store desk.store
-            (IsOpened S.Store (state S.Store conn) desk.store)) }
+        ensures opened { IfOk result (λ desk. IfClean S.Store (store_of desk)
+            (IsOpened S.Store (state S.Store conn) (store_of desk))) }
         ensures history { IfOk result (λ desk. IsOnCleanDisk S.Store desk
             → ContinuesHistories S.Store (state S.Store conn) desk) }
-        ensures unlimited { IfOk result (λ desk. desk.store.connection.step_limit ≡ None) }
+        ensures unlimited { IfOk result (λ desk. (store_of desk).connection.step_limit ≡ None) }
         ensures clean { IfOk result (λ desk. IsOnCleanDisk S.Store desk
             → HasCleanDisk (state S.Store conn)) }
         ensures schema { IsHonest S.Store → result ≡ Err StoreFault.Schema
@@ -86,11 +87,11 @@ impl<S: Alter + Drop> Desk<S> {
         alloc: Global,
         conn: Connection<S>,
     ) -> Result<Self, (StoreFault, Connection<S>)>
-        ensures opened { IfOk result (λ desk. IfClean S.Store desk.store
-            (IsOpened S.Store (state S.Store conn) desk.store)) }
+        ensures opened { IfOk result (λ desk. IfClean S.Store (store_of desk)
+            (IsOpened S.Store (state S.Store conn) (store_of desk))) }
         ensures history { IfOk result (λ desk. IsOnCleanDisk S.Store desk
             → ContinuesHistories S.Store (state S.Store conn) desk) }
-        ensures unlimited { IfOk result (λ desk. desk.store.connection.step_limit ≡ None) }
+        ensures unlimited { IfOk result (λ desk. (store_of desk).connection.step_limit ≡ None) }
         ensures clean { IfOk result (λ desk. IsOnCleanDisk S.Store desk
             → HasCleanDisk (state S.Store conn)) }
         ensures err { IfErr result (λ refused.
@@ -114,7 +115,7 @@ impl<S: Alter> Desk<S> {
         ensures clean { IsOnCleanDisk S.Store self.new → IsOnCleanDisk S.Store self.old }
         ensures kept { is_accepted result ≡ false → KeepsRows S.Store self.old self.new }
         ensures read { only_reads request.now result ≡ true
-            → IsRead S.Store self.old.store self.new.store }
+            → IsRead S.Store (store_of self.old) (store_of self.new) }
         ensures is_open { is_accepted result ≡ true → StaysOpen S.Store self.new }
         ensures left { OfHistories S.Store self.old self.new (λ history.
             IsKept S.Store (charter_of self.old) history
@@ -176,7 +177,7 @@ impl<S: Alter> Desk<S> {
 
     /// Returns the connection.
     pub fn close(self) -> Connection<S>
-        ensures same { result ≡ self.store.connection }
+        ensures same { result ≡ (store_of self).connection }
         ensures idle { result.in_transaction ≡ false }
         ensures desk { IsDeskWhileOpen (state S.Store result) }
     {
