@@ -249,7 +249,8 @@ fn peers_that_trickle(rt: HostRuntime) -> Result<(), Fail> {
 /// fails.
 #[derive(Drop)]
 struct Clients<'a> {
-    rest: &'a [(&'a str, usize)],
+    clients: &'a [(&'a str, usize)],
+    accepted: usize,
     has_failed: bool,
 }
 
@@ -262,11 +263,11 @@ impl Connections for Clients<'_> {
         engine: &mut E,
         day: Day,
     ) -> Result<Result<Extent, WebFault>, Failed> {
-        let Some(((text, room), rest)) = self.rest.split_first() else {
+        let Some((text, room)) = self.clients.get(self.accepted) else {
             self.has_failed = true;
             return Err(Failed);
         };
-        self.rest = rest;
+        self.accepted = self.accepted.saturating_add(1);
         let mut taken = [0; 256];
         let room = (*room).min(taken.len());
         let mut source = Device::new(text.as_bytes());
@@ -310,7 +311,8 @@ fn a_line_for_each_fault_and_no_others(rt: HostRuntime) -> Result<(), Fail> {
     let day = Day::read(b"2026-03-01").expect(&rt, "a day");
     for (clients, count, result, lines) in RUNS {
         let mut connections = Clients {
-            rest: clients,
+            clients,
+            accepted: 0,
             has_failed: false,
         };
         let mut errors = Vec::new(rt.alloc());
@@ -357,7 +359,8 @@ fn a_line_that_cannot_be_written_is_lost(rt: HostRuntime) -> Result<(), Fail> {
     let mut desk = desk_in_memory(&rt);
     let day = Day::read(b"2026-03-01").expect(&rt, "a day");
     let mut connections = Clients {
-        rest: &[("", 0), ("", 0)],
+        clients: &[("", 0), ("", 0)],
+        accepted: 0,
         has_failed: false,
     };
     let mut taken = Vec::new(rt.alloc());
