@@ -94,7 +94,7 @@ pub(crate) fn serve<R: Clock, S: Alter>(
     let mut clients = Vec::new(rt.alloc());
     let listener = bind_for(rt, "127.0.0.1:0", texts, &mut clients)?;
     let mut errors = Vec::new(rt.alloc());
-    let count = clients.len() as u32;
+    let count = u32::try_from(clients.len()).unwrap_or(u32::MAX);
     let Ok(()) = serve_on(rt.alloc(), clock, &listener, count, desk, day, &mut errors) else {
         return Err(io::Error::from(ErrorKind::Other).into());
     };

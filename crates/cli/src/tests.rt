@@ -176,7 +176,7 @@ fn serve_requests(
     let task = Task::Serve {
         database: DATABASE,
         address: "127.0.0.1:0",
-        count: texts.len() as u32,
+        count: u32::try_from(texts.len()).unwrap_or(u32::MAX),
         day,
     };
     let ran = run_task(rt, &task, |address| {
