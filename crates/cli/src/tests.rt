@@ -218,7 +218,8 @@ fn serve_answers_each_connection_on_its_day(rt: HostRuntime) -> Result<(), Fail>
     for (text, payloads) in DAYS {
         let day = Day::read(text.as_bytes()).expect(&rt, text);
         let answers = serve_requests(&rt, day, &[("bob", "GET", "/payloads", "")])?;
-        assert!(rt; answers[0].ends_with(payloads), "{text}");
+        let answer = answers.first().expect(&rt, text);
+        assert!(rt; answer.ends_with(payloads), "{text}");
     }
     fs::remove_dir_all(&rt, FOLDER)?;
     Ok(())
