@@ -1,6 +1,6 @@
 //! The path of a target.
-ghost use Rattle.std.specs.Prelude.{◌≡◌, OnOk};
-ghost use Rattle.requests.specs.Paths.{has_query, path_of, route_at, with_path};
+ghost use Rattle.std.specs.Prelude.{◌≡◌, IfOk, OnOk};
+ghost use Rattle.requests.specs.Paths.{has_query, path_of, route_at, routes, with_path};
 
 use crate::path::Path;
 use matchit::Router;
@@ -28,7 +28,9 @@ impl Model for Routes {
 impl Routes {
     /// Only an allocation can fail.
     #[tactic(auto, unfolding(crate::specs::Paths::routes))]
-    pub fn new(alloc: Global) -> Result<Routes, AllocError> {
+    pub fn new(alloc: Global) -> Result<Routes, AllocError>
+        ensures { IfOk result (λ made. made ≡ routes) }
+    {
         let mut router = Router::new(alloc);
         add(&mut router, Path::Holder)?;
         add(&mut router, Path::Delegations)?;
