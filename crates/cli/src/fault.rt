@@ -1,5 +1,6 @@
 //! How the faults of a script, of the store and of an open become the program's.
-ghost use Rattle.std.specs.Prelude.{◌≡◌};
+ghost use Rattle.std.specs.Prelude.{◌≡◌, ◌≢◌};
+ghost use Rattle.std.specs.IoError.{error_kind};
 ghost use Rattle.cli.specs.TaskFaults.{fault_of_open, fault_of_script, fault_of_store};
 
 use crate::desk_file::OpenFault;
@@ -40,7 +41,10 @@ pub fn fault_of_open<S: Alter>(fault: &OpenFault<S>) -> ProgramFault
 }
 
 /// The fault of an allocation that failed, or else this fault.
-pub fn fault_of_error(error: &io::Error, fault: ProgramFault) -> ProgramFault {
+pub(crate) fn fault_of_error(error: &io::Error, fault: ProgramFault) -> ProgramFault
+    ensures memory { error_kind error.now ≡ ErrorKind.OutOfMemory → result ≡ ProgramFault.Memory }
+    ensures other { error_kind error.now ≢ ErrorKind.OutOfMemory → result ≡ fault }
+{
     match error.kind() {
         ErrorKind::OutOfMemory => ProgramFault::Memory,
         _ => fault,
