@@ -1,13 +1,16 @@
-//! Laws of the definitions. `entry_fits` is about its arguments: it reads them all, for the proofs
-//! alone.
+//! Laws of the definitions. `entry_fits` and `operators_fit` are about their arguments: they read
+//! them all, for the proofs alone.
 
-ghost use Rattle.std.specs.Prelude.{◌≡◌};
+ghost use Rattle.std.specs.Prelude.{◌≡◌, IsTrue};
+ghost use Rattle.std.specs.List.{AllByRecursion};
+ghost use Rattle.addr.specs.Name.{is_name};
+ghost use Rattle.charters.specs.Charter.{operators_of};
 ghost use Rattle.registry.specs.declared.limits.TheConstants.{MOST_GRANTS, MOST_AUTHORIZATIONS, LAST_NUMBER};
 ghost use Rattle.registry.specs.Unregistered.{UnregisteredHaveNothing};
 ghost use Rattle.registry.specs.Values.{EntryFits};
 
-use crate::Command;
-use crate::values::{command_fits, day_fits, name_fits};
+use crate::values::{command_fits, day_fits, name_fits, names_fit};
+use crate::{Charter, Command};
 use addr::{Day, Name};
 
 /// A holder that is not registered in a legal history has no address, no grant and no
@@ -23,6 +26,13 @@ pub fn entry_fits(day: Day, caller: &Name, command: &Command)
     day_fits(day);
     name_fits(caller);
     command_fits(command);
+}
+
+/// The operators of a charter are names.
+pub fn operators_fit(charter: &Charter)
+    ensures { AllByRecursion (λ name. IsTrue (is_name name)) (operators_of charter.now) }
+{
+    names_fit(charter.operators());
 }
 
 /// The limits of the rule `room` in numbers, so that a changed constant is not proved.

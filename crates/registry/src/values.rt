@@ -2,6 +2,7 @@
 //! of a type as any number and any text.
 
 ghost use Rattle.std.specs.Prelude.{All, IsTrue};
+ghost use Rattle.std.specs.List.{AllByRecursion};
 ghost use Rattle.addr.specs.Day.{IsDay};
 ghost use Rattle.addr.specs.Name.{is_name};
 ghost use Rattle.registry.specs.Values.{IsU8, IsU32, CommandFits, ExceptionsFit, FilterFits, ImportRowFits, TermsFit, VrpFits};
@@ -64,6 +65,16 @@ pub(crate) fn name_fits(name: &Name)
     ensures { IsTrue (is_name name.now) }
 {
     let _ = name.as_bytes();
+}
+
+/// The texts of the names are those of names.
+pub(crate) fn names_fit(names: &[Name])
+    ensures { AllByRecursion (λ name. IsTrue (is_name name)) names.now }
+{
+    if let [first, others @ ..] = names {
+        name_fits(first);
+        names_fit(others);
+    }
 }
 
 /// The number of a day is a day's.

@@ -1,0 +1,5 @@
+use Rattle.std.proofs.Common.{length}
+use Rattle.registry.proofs.values.+names_fit.Given as goal
+
+abbrev pub decreases-names_fit : goal.decreases-names_fit
+decreases-names_fit l = length l.names.now
