@@ -15,12 +15,12 @@ use Rattle.requests.specs.declared.request.fault.Fault.{Fault}
 use Rattle.requests.specs.steps.RequestReading.{asked_terms, import, request_terms, what_if}
 
 -- the parts as they are asked
-abbrev asked_from : ℕ × (List ℕ × Request) → Asked
-asked_from p = record { day = p.0; caller = p.1.0; request = p.1.1 }
+abbrev asked_with : ℕ × (List ℕ × Request) → Asked
+asked_with p = record { day = p.0; caller = p.1.0; request = p.1.1 }
 
 pub asked_terms-parts : (day : Result ℕ Fault) (caller : Result (List ℕ) Fault)
     (request : Result Request Fault) →
-    mapped asked_terms (mapped asked_from
+    mapped asked_terms (mapped asked_with
     (both malformed_number day (both malformed_number caller request)))
     ≡ both malformed_number day (both malformed_number caller (mapped request_terms request))
 asked_terms-parts (Ok day) (Ok caller) (Ok request) = refl

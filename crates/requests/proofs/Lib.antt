@@ -1,4 +1,5 @@
 pub mod AskedLemmas
+pub mod HeadLemmas
 pub mod HttpReadLemmas
 pub mod PathLemmas
 pub mod RequestFaultLemmas

@@ -76,7 +76,7 @@ reads-terms d =
 reads-row : (d : Data) → ReadsUnlessFaulty (row_in d) (object_faults terms_members d) (HasRow d)
 reads-row d =
     reads-unless
-    (reads-mapped _ (λ p says. (says.0, says.1.0, says.1.1.0, says.1.1.1.0, says.1.1.1.1)) (reads-one-prefix d))
+    (reads-mapped _ (λ terms says. says) (reads-terms d))
     (reported-only malformed_number Members (names_of terms_members) d)
 
 reads-change : (action : Option Action) (d : Data) → action_in d ≡ action →

@@ -65,11 +65,6 @@ IsCutShort bytes =
     × (bytes ≡ head ++ rest) × IsWholeHead head × SaysHead head (Ok said)
     × (said.body_length ≡ Some size) × (length rest < size))
 
--- the bytes end with a head, or with the body whose length it gives
-abbrev pub IsWithinMessage : List ℕ → Type 0
-IsWithinMessage bytes =
-    IsWholeHead bytes ⊎ ((said : Head) × (body : Option (List ℕ)) × IsMessage bytes said body)
-
 -- ---- what the bytes ask for
 
 -- a refusal by the protocol, a malformed request, or a request and the form in which it asks for a list
@@ -87,3 +82,15 @@ ReadsHttp day bytes (malformed fault) =
 ReadsHttp day bytes (asked form request) =
     (said : Head) × (body : Option (List ℕ)) × IsMessage bytes said body × SaysAsked day said body request
     × (form ≡ list_form said.action)
+
+-- the bytes are a request without a fault
+abbrev pub IsRequest : ℕ → List ℕ → Type 0
+IsRequest day bytes = (form : ContentType) × (request : Asked) × ReadsHttp day bytes (asked form request)
+
+-- Reading on from these bytes takes memory: before the first of them, for the paths; after a head that nothing refuses,
+-- for the body that it announces; after that body, to read it.
+abbrev pub NeedsMemory : List ℕ → Type 0
+NeedsMemory bytes =
+    (bytes ≡ [])
+    ⊎ ((said : Head) × (size : ℕ) × IsWholeHead bytes × SaysHead bytes (Ok said) × (said.body_length ≡ Some size))
+    ⊎ ((said : Head) × (body : List ℕ) × IsMessage bytes said (Some body))

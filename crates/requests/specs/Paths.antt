@@ -1,6 +1,6 @@
 -- The path of a request's target. A target with a query or a fragment (RFC 3986 section 3), in absolute form, or that is no
 -- text has none. Percent signs are not decoded.
-use Rattle.std.specs.Prelude.{ℕ, ◌==◌, ◌||◌, Bool, List, [], if◌then◌else◌, Option, None, option_map, Result, Ok, Err}
+use Rattle.std.specs.Prelude.{ℕ, ◌==◌, ◌||◌, Bool, List, [], fold, if◌then◌else◌, Option, None, option_map, Result, Ok, Err}
 use Rattle.std.specs.Str.{is_utf8}
 use Rattle.std.specs.List.{after_first, before_first, list_any}
 use Rattle.matchit.specs.Order.{placed}
@@ -9,9 +9,8 @@ use Rattle.matchit.specs.Router.{RouteOf, route_from}
 use Rattle.matchit.specs.Rows.{RowsOf}
 use Rattle.matchit.specs.Seek.{first}
 use Rattle.matchit.specs.declared.error.InsertError.{InsertError}
-use Rattle.requests.specs.Routes.{template_of}
+use Rattle.requests.specs.Routes.{all_paths}
 use Rattle.requests.specs.declared.path.Path.{Path}
-use Rattle.requests.specs.declared.path.Path.TheVariants.{Holder, Delegations, Reclaims, Transfers, Grants, Grant, Auths, Auth, Content, Export, Imports, WhatIf, Slurm, Payloads, Validity}
 
 -- the routes of a router, as its crate keeps them
 abbrev pub Router : Type 0
@@ -19,23 +18,19 @@ Router = RowsOf (RouteOf Path)
 
 -- the routes with one more
 abbrev pub with_route : Result Scan InsertError → Path → Router → Router
-with_route (Ok scan) path routes = placed (scan.pattern, route_from scan path) routes
-with_route (Err _) path routes = routes
+with_route (Ok scan) path router = placed (scan.pattern, route_from scan path) router
+with_route (Err _) path router = router
 
-abbrev pub with_path : Path → Router → Router
-with_path path routes = with_route (parse_route (template_of path)) path routes
+abbrev pub with_path : Router → List ℕ × Path → Router
+with_path router (template, path) = with_route (parse_route template) path router
 
--- the routes of all paths
-unfoldable pub routes : Router
-routes =
-    with_path Validity (with_path Payloads (with_path Slurm (with_path WhatIf (with_path Imports
-    (with_path Export (with_path Content (with_path Auth (with_path Auths (with_path Grant
-    (with_path Grants (with_path Transfers (with_path Reclaims (with_path Delegations
-    (with_path Holder []))))))))))))))
+-- the routes of all paths; a route elsewhere is one that is announced
+unfoldable pub path_routes : Router
+path_routes = fold with_path [] all_paths
 
 -- the path that the routes give a text
-abbrev pub route_at : List ℕ → Option Path
-route_at text = option_map (λ route. route.value) (first routes text)
+abbrev pub path_at : List ℕ → Option Path
+path_at text = option_map (λ route. route.value) (first path_routes text)
 
 -- the target has a query or a fragment, which 63 (`?`) and 35 (`#`) begin
 abbrev pub has_query : List ℕ → Bool
@@ -43,7 +38,7 @@ has_query target = list_any (λ b. b == 63 || b == 35) target
 
 -- the path of a target
 abbrev pub path_of : List ℕ → Option Path
-path_of target = if has_query target then None else (if is_utf8 target then route_at target else None)
+path_of target = if has_query target then None else (if is_utf8 target then path_at target else None)
 
 -- 47 is a slash
 abbrev pub is_slash : ℕ → Bool

@@ -1,5 +1,5 @@
 -- The paths, and what their methods ask for by the table of requests. A path's parameters are in braces.
-use Rattle.std.specs.Prelude.{ℕ, ◌&&◌, Bool, List, codes, Option, is_some, find}
+use Rattle.std.specs.Prelude.{ℕ, ◌&&◌, Bool, List, [], ◌∷◌, codes, Option, is_some, find}
 use Rattle.std.specs.Str.{bytes_eq}
 use Rattle.http_messages.specs.Methods.{method_name}
 use Rattle.http_messages.specs.declared.method.Methods.{Methods}
@@ -10,22 +10,25 @@ use Rattle.requests.specs.declared.action.Action.{Action}
 use Rattle.requests.specs.declared.path.Path.{Path}
 use Rattle.requests.specs.declared.path.Path.TheVariants.{Holder, Delegations, Reclaims, Transfers, Grants, Grant, Auths, Auth, Content, Export, Imports, WhatIf, Slurm, Payloads, Validity}
 
-abbrev pub template_of : Path → List ℕ
-template_of Holder = codes "/holders/{holder}"
-template_of Delegations = codes "/holders/{holder}/delegations"
-template_of Reclaims = codes "/holders/{holder}/reclaims"
-template_of Transfers = codes "/transfers"
-template_of Grants = codes "/holders/{holder}/grants"
-template_of Grant = codes "/holders/{holder}/grants/{number}"
-template_of Auths = codes "/holders/{holder}/auths"
-template_of Auth = codes "/holders/{holder}/auths/{number}"
-template_of Content = codes "/holders/{holder}/auths/{number}/content"
-template_of Export = codes "/holders/{holder}/export"
-template_of Imports = codes "/holders/{holder}/imports"
-template_of WhatIf = codes "/holders/{holder}/whatif"
-template_of Slurm = codes "/slurm"
-template_of Payloads = codes "/payloads"
-template_of Validity = codes "/validity"
+-- all paths, each with its template
+abbrev pub all_paths : List (List ℕ × Path)
+all_paths =
+    (codes "/holders/{holder}", Holder)
+    ∷ (codes "/holders/{holder}/delegations", Delegations)
+    ∷ (codes "/holders/{holder}/reclaims", Reclaims)
+    ∷ (codes "/transfers", Transfers)
+    ∷ (codes "/holders/{holder}/grants", Grants)
+    ∷ (codes "/holders/{holder}/grants/{number}", Grant)
+    ∷ (codes "/holders/{holder}/auths", Auths)
+    ∷ (codes "/holders/{holder}/auths/{number}", Auth)
+    ∷ (codes "/holders/{holder}/auths/{number}/content", Content)
+    ∷ (codes "/holders/{holder}/export", Export)
+    ∷ (codes "/holders/{holder}/imports", Imports)
+    ∷ (codes "/holders/{holder}/whatif", WhatIf)
+    ∷ (codes "/slurm", Slurm)
+    ∷ (codes "/payloads", Payloads)
+    ∷ (codes "/validity", Validity)
+    ∷ []
 
 -- the method of this name asks for it at the path
 abbrev pub is_asked_by : List ℕ → Path → RequestForm → Bool

@@ -5,6 +5,7 @@ mod action;
 mod head;
 pub mod laws;
 mod malformed;
+mod member_names;
 mod path;
 mod piece;
 mod request;

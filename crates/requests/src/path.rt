@@ -2,7 +2,7 @@
 ghost use Rattle.std.specs.Prelude.{◌≡◌, is_some};
 ghost use Rattle.http_messages.specs.Methods.{method_name};
 ghost use Rattle.requests.specs.RequestFaults.{form_of};
-ghost use Rattle.requests.specs.Routes.{action_at, is_asked_by, methods_of, template_of};
+ghost use Rattle.requests.specs.Routes.{action_at, is_asked_by, methods_of};
 
 use crate::action::Action;
 use crate::table::ACTIONS;
@@ -28,30 +28,26 @@ pub(crate) enum Path {
     Validity,
 }
 
-impl Path {
-    /// The path with its parameters in braces.
-    pub(crate) fn template(self) -> &'static str
-        ensures { result.now ≡ template_of self }
-    {
-        match self {
-            Path::Holder => "/holders/{holder}",
-            Path::Delegations => "/holders/{holder}/delegations",
-            Path::Reclaims => "/holders/{holder}/reclaims",
-            Path::Transfers => "/transfers",
-            Path::Grants => "/holders/{holder}/grants",
-            Path::Grant => "/holders/{holder}/grants/{number}",
-            Path::Auths => "/holders/{holder}/auths",
-            Path::Auth => "/holders/{holder}/auths/{number}",
-            Path::Content => "/holders/{holder}/auths/{number}/content",
-            Path::Export => "/holders/{holder}/export",
-            Path::Imports => "/holders/{holder}/imports",
-            Path::WhatIf => "/holders/{holder}/whatif",
-            Path::Slurm => "/slurm",
-            Path::Payloads => "/payloads",
-            Path::Validity => "/validity",
-        }
-    }
+/// All paths, each with its template, which has the parameters in braces.
+pub(crate) const PATHS: &[(&str, Path)] = &[
+    ("/holders/{holder}", Path::Holder),
+    ("/holders/{holder}/delegations", Path::Delegations),
+    ("/holders/{holder}/reclaims", Path::Reclaims),
+    ("/transfers", Path::Transfers),
+    ("/holders/{holder}/grants", Path::Grants),
+    ("/holders/{holder}/grants/{number}", Path::Grant),
+    ("/holders/{holder}/auths", Path::Auths),
+    ("/holders/{holder}/auths/{number}", Path::Auth),
+    ("/holders/{holder}/auths/{number}/content", Path::Content),
+    ("/holders/{holder}/export", Path::Export),
+    ("/holders/{holder}/imports", Path::Imports),
+    ("/holders/{holder}/whatif", Path::WhatIf),
+    ("/slurm", Path::Slurm),
+    ("/payloads", Path::Payloads),
+    ("/validity", Path::Validity),
+];
 
+impl Path {
     /// The methods by which the path asks for something.
     pub(crate) fn methods(self) -> Methods
         ensures { result ≡ methods_of self }

@@ -1,26 +1,28 @@
 //! Reading requests: here from JSON lines.
-ghost use Rattle.std.specs.Prelude.{◌≡◌, Some, Err, IfOk};
+ghost use Rattle.std.specs.Prelude.{◌≡◌, Some, Err, true, IfOk, OnErr};
 ghost use Rattle.serde_json.specs.View.{view};
 ghost use Rattle.json_values.specs.Parts.{mapped};
 ghost use Rattle.json_values.specs.Tree.{tree_of};
+ghost use Rattle.requests.specs.Actions.{takes_body};
 ghost use Rattle.requests.specs.RequestFaults.{action_in, request_fault};
 ghost use Rattle.requests.specs.RequestText.{ReadsLine};
 ghost use Rattle.requests.specs.steps.RequestReading.{asked_as, asked_by, asked_in, asked_terms, line_subject, request_in, request_terms};
 
-pub(crate) mod action;
 mod commands;
 mod exceptions;
 pub(crate) mod fault;
+pub(crate) mod form;
 mod lists;
 pub(crate) mod members;
 pub(crate) mod message;
 
 use crate::action::Action;
 use crate::malformed::Malformed;
-use action::{action_in, only_members_of};
+use crate::member_names::{CALLER, DAY, HOLDER};
 use addr::{Day, Name};
 use commands::Subject;
 use fault::{Fault, Read};
+use form::{action_in, only_members_of};
 use json_values::{both, tree_of, unless};
 use members::{caller_in, day_in, holder_in, number_in};
 use registry::{Asked, Query, Request};
@@ -38,8 +40,8 @@ pub enum LineFault {
     Memory,
 }
 
-/// The request that a line is, or its lowest fault. A JSON number is taken if it is written in plain
-/// digits; of a repeated member the last value counts.
+/// The request that a line is, or its lowest fault. A JSON number is taken if it is written in
+/// plain digits; of a repeated member the last value counts.
 pub fn read_line_request(alloc: Global, line: &[u8]) -> Result<Asked, LineFault>
     ensures ok { IfOk result (ReadsLine line.now) }
     ensures malformed { (m : Malformed) → result ≡ Err (LineFault.Malformed m)
@@ -81,10 +83,7 @@ fn asked_as(alloc: Global, action: Action, value: &Value) -> Read<Asked>
     ensures { IfOk result (λ asked. mapped asked_terms asked ≡ asked_as action (view value.now)) }
 {
     let request = request_in(alloc, action, line_subject(value), value)?;
-    let asked = asked_with(both(
-        day_in(value, "day"),
-        both(caller_in(value, "caller"), request),
-    ));
+    let asked = asked_with(both(day_in(value, DAY), both(caller_in(value, CALLER), request)));
     Ok(unless(asked, only_members_of(action, value)))
 }
 
@@ -105,15 +104,16 @@ fn line_subject(value: &Value) -> Subject
     ensures { result ≡ line_subject (view value.now) }
 {
     Subject {
-        holder: holder_in(value, "holder"),
+        holder: holder_in(value, HOLDER),
         number: number_in(value),
     }
 }
 
 /// The request with this subject and these further members.
 fn request_in(alloc: Global, action: Action, subject: Subject, value: &Value) -> Read<Request>
-    ensures { IfOk result (λ request. mapped request_terms request
+    ensures read { IfOk result (λ request. mapped request_terms request
         ≡ request_in action subject (view value.now)) }
+    ensures memory { OnErr result (takes_body action ≡ true) }
 {
     match action {
         Action::Register => Ok(commands::register_in(subject)),

@@ -1,8 +1,8 @@
 //! The path of a target.
 ghost use Rattle.std.specs.Prelude.{◌≡◌, IfOk, OnOk};
-ghost use Rattle.requests.specs.Paths.{has_query, path_of, route_at, routes, with_path};
+ghost use Rattle.requests.specs.Paths.{has_query, path_at, path_of, path_routes, with_path};
 
-use crate::path::Path;
+use crate::path::{PATHS, Path};
 use matchit::Router;
 use std::alloc::{AllocError, Global};
 use std::marker::Model;
@@ -16,37 +16,25 @@ pub struct Routes {
 
 impl Model for Routes {
     ghost use Rattle.std.specs.Prelude.{◌≡◌};
-    ghost use Rattle.requests.specs.Paths.{Router, routes};
+    ghost use Rattle.requests.specs.Paths.{Router, path_routes};
 
     ghost Value = { Router };
 
     ghost view = { λ kept. kept.router };
 
-    ghost invariant = { λ kept. kept.router ≡ routes };
+    ghost invariant = { λ kept. kept.router ≡ path_routes };
 }
 
 impl Routes {
     /// Only an allocation can fail.
-    #[tactic(auto, unfolding(crate::specs::Paths::routes))]
+    #[tactic(auto, unfolding(crate::specs::Paths::path_routes))]
     pub fn new(alloc: Global) -> Result<Routes, AllocError>
-        ensures { IfOk result (λ made. made ≡ routes) }
+        ensures { IfOk result (λ made. made ≡ path_routes) }
     {
         let mut router = Router::new(alloc);
-        add(&mut router, Path::Holder)?;
-        add(&mut router, Path::Delegations)?;
-        add(&mut router, Path::Reclaims)?;
-        add(&mut router, Path::Transfers)?;
-        add(&mut router, Path::Grants)?;
-        add(&mut router, Path::Grant)?;
-        add(&mut router, Path::Auths)?;
-        add(&mut router, Path::Auth)?;
-        add(&mut router, Path::Content)?;
-        add(&mut router, Path::Export)?;
-        add(&mut router, Path::Imports)?;
-        add(&mut router, Path::WhatIf)?;
-        add(&mut router, Path::Slurm)?;
-        add(&mut router, Path::Payloads)?;
-        add(&mut router, Path::Validity)?;
+        for (template, path) in PATHS {
+            add(&mut router, template, *path)?;
+        }
         Ok(Routes { router })
     }
 
@@ -65,7 +53,7 @@ impl Routes {
 
     /// The path that a text is.
     fn path_at(&self, text: &str) -> Option<Path>
-        ensures { result ≡ route_at text.now }
+        ensures { result ≡ path_at text.now }
     {
         match self.router.at(text) {
             Ok(found) => Some(*found.value),
@@ -82,10 +70,10 @@ fn has_query(target: &[u8]) -> bool
 }
 
 /// No two of the paths conflict, so that only an allocation can fail.
-fn add(router: &mut Router<Path>, path: Path) -> Result<(), AllocError>
-    ensures { OnOk result (router.new ≡ with_path path router.old) }
+fn add(router: &mut Router<Path>, template: &str, path: Path) -> Result<(), AllocError>
+    ensures { OnOk result (router.new ≡ with_path router.old (template.now, path)) }
 {
-    match router.insert(path.template(), path) {
+    match router.insert(template, path) {
         Ok(()) => Ok(()),
         Err(_) => Err(AllocError),
     }

@@ -3,6 +3,10 @@ ghost use Rattle.std.specs.Prelude.{◌≡◌, map, option_map};
 ghost use Rattle.requests.specs.RequestFaults.{body_members, form_of, members_of, names_of, word_of};
 
 use crate::action::Action;
+use crate::member_names::{
+    ASN, CALLER, CHANGES, DAY, DO, FILE, FROM, GIVER, HOLDER, MAX, NAME, NUMBER, PREFIX, ROLE,
+    ROUTES, ROWS, SCOPE, TAKER, UNTIL,
+};
 use crate::path::Path;
 use http_messages::{ContentType, Method};
 
@@ -46,12 +50,12 @@ pub(crate) struct RequestForm {
 /// the form in which it asks for a list.
 macro_rules! row {
     (
-        $word:expr, [$($named:literal),*] [$($member:literal),*],
+        $word:expr, [$($named:ident),*] [$($member:ident),*],
         $method:ident $path:ident $list:ident
     ) => {
         RequestForm {
             word: $word,
-            line_members: &["day", "caller", "do", $($named,)* $($member,)*],
+            line_members: &[DAY, CALLER, DO, $($named,)* $($member,)*],
             body_members: &[$($member,)*],
             method: Method::$method,
             path: Path::$path,
@@ -72,42 +76,42 @@ impl Action {
         ensures list { result.list_form ≡ (form_of self).list_form }
     {
         match self {
-            Action::Register => row!(Some("register"), ["holder"] [], Put Holder Json),
+            Action::Register => row!(Some("register"), [HOLDER] [], Put Holder Json),
             Action::Delegate => row!(
-                Some("delegate"), ["holder"] ["prefix"],
+                Some("delegate"), [HOLDER] [PREFIX],
                 Post Delegations Json
             ),
-            Action::Reclaim => row!(Some("reclaim"), ["holder"] ["prefix"], Post Reclaims Json),
+            Action::Reclaim => row!(Some("reclaim"), [HOLDER] [PREFIX], Post Reclaims Json),
             Action::Transfer => row!(
-                Some("transfer"), [] ["prefix", "giver", "taker"],
+                Some("transfer"), [] [PREFIX, GIVER, TAKER],
                 Post Transfers Json
             ),
             Action::Grant => row!(
-                Some("grant"), ["holder"] ["name", "role", "scope", "until"],
+                Some("grant"), [HOLDER] [NAME, ROLE, SCOPE, UNTIL],
                 Post Grants Json
             ),
-            Action::Revoke => row!(Some("revoke"), ["holder", "number"] [], Delete Grant Json),
-            Action::List => row!(Some("list"), ["holder"] [], Get Auths Json),
+            Action::Revoke => row!(Some("revoke"), [HOLDER, NUMBER] [], Delete Grant Json),
+            Action::List => row!(Some("list"), [HOLDER] [], Get Auths Json),
             Action::Create => row!(
-                Some("create"), ["holder"] ["asn", "prefix", "max", "from", "until"],
+                Some("create"), [HOLDER] [ASN, PREFIX, MAX, FROM, UNTIL],
                 Post Auths Json
             ),
-            Action::Show => row!(Some("show"), ["holder", "number"] [], Get Auth Json),
+            Action::Show => row!(Some("show"), [HOLDER, NUMBER] [], Get Auth Json),
             Action::Amend => row!(
-                Some("amend"), ["holder", "number"] ["max", "until"],
+                Some("amend"), [HOLDER, NUMBER] [MAX, UNTIL],
                 Patch Auth Json
             ),
-            Action::Withdraw => row!(Some("withdraw"), ["holder", "number"] [], Delete Auth Json),
-            Action::Content => row!(Some("content"), ["holder", "number"] [], Get Content Json),
-            Action::Export => row!(None, ["holder"] [], Get Export Csv),
-            Action::Import => row!(Some("import"), ["holder"] ["rows"], Post Imports Json),
+            Action::Withdraw => row!(Some("withdraw"), [HOLDER, NUMBER] [], Delete Auth Json),
+            Action::Content => row!(Some("content"), [HOLDER, NUMBER] [], Get Content Json),
+            Action::Export => row!(None, [HOLDER] [], Get Export Csv),
+            Action::Import => row!(Some("import"), [HOLDER] [ROWS], Post Imports Json),
             Action::WhatIf => row!(
-                Some("whatif"), ["holder"] ["changes", "routes"],
+                Some("whatif"), [HOLDER] [CHANGES, ROUTES],
                 Post WhatIf Json
             ),
-            Action::Slurm => row!(Some("slurm"), [] ["file"], Put Slurm Json),
+            Action::Slurm => row!(Some("slurm"), [] [FILE], Put Slurm Json),
             Action::Payloads => row!(Some("payloads"), [] [], Get Payloads Json),
-            Action::Validity => row!(Some("validity"), [] ["routes"], Post Validity Json),
+            Action::Validity => row!(Some("validity"), [] [ROUTES], Post Validity Json),
         }
     }
 }

@@ -1,5 +1,5 @@
 -- The answers to HTTP requests and the responses that give them.
-use Rattle.std.proofs.Common.{◌≡◌, ℕ, Bool, true, false, List, ◌++◌, codes, Option, Some, None, Result, Ok, Err, refl, ap, subst, ◌∙◌, append_assoc, get_or, inl, inr}
+use Rattle.std.proofs.Common.{◌≡◌, ℕ, Bool, true, false, List, ◌++◌, codes, Option, Some, None, Result, Ok, Err, refl, ap, subst, ◌∙◌, append_assoc, get_or, inl, inr, is_some, sym, true≢false, option_copied, Bor}
 use Rattle.std.specs.Fmt.{digits}
 use Rattle.std.specs.Global.{Vec}
 use Rattle.std.proofs.lemmas.Option.{same_Some}
@@ -27,7 +27,9 @@ use Rattle.desk.specs.declared.handling.Desk.{Desk}
 use Rattle.desk.specs.declared.reply.Reply.{Reply}
 use Rattle.desk.specs.declared.reply.Reply.TheVariants.{Done, Imported, Listed, Payloads, Denied, Unavailable}
 use Rattle.web.specs.HttpAnswers.{KeepsAll, RespondsTo}
-use Rattle.requests.specs.HttpRequests.{asked, malformed, refused}
+use Rattle.requests.specs.Actions.{takes_body}
+use Rattle.requests.specs.HttpRequests.{asked, IsMessage, malformed, NeedsMemory, refused}
+use Rattle.requests.proofs.HeadLemmas.{says-length}
 use Rattle.web.specs.HttpResponses.{HasErrorStatus, json_response, reply_body, reply_response, reply_status}
 use Rattle.web.specs.ReplyText.{line_text, short_text}
 use Rattle.web.specs.RequestExtent.{HasExtent}
@@ -171,8 +173,8 @@ module _ {S : Type 0} (g : Ghosts S) where
   responds old new day bytes text (Refused refusal) reads answers = inl (refused refusal, reads, answers)
   responds old new day bytes text (Malformed fault) reads answers = inl (malformed fault, reads, answers)
   responds old new day bytes text (AskedNext form request) reads (inl answers) = inl (asked form request, reads, answers)
-  responds old new day bytes text (AskedNext form request) reads (inr (is, keeps)) = inr (inr (reads.0, reads.1, reads.2), is, keeps)
-  responds old new day bytes text NotRead within (is, keeps) = inr (within, is, keeps)
+  responds old new day bytes text (AskedNext form request) reads (inr (is, keeps)) = inr (inr (form, request, reads), is, keeps)
+  responds old new day bytes text NotRead needs (is, same) = inr (inl (needs, same), is, rw same (same_keeps old))
 
   -- a response of an error keeps the rows
   pub keeps_rows : (old new : Desk S) (day : ℕ) (bytes text : List ℕ) → RespondsTo g old day bytes text new
@@ -186,7 +188,7 @@ module _ {S : Type 0} (g : Ghosts S) where
       go true accepted =
           let (rest, line) = accepted_line form reply accepted in
           absurd (error_line rest (rw (← line, ← is) error))
-  keeps_rows old new day bytes text (inr (within, is, keeps)) error = keeps.0
+  keeps_rows old new day bytes text (inr (cause, is, keeps)) error = keeps.0
 
   -- how much was read of it
   pub extent-read : (old new : Desk S) (day : ℕ) (bytes text : List ℕ) (next : Next)
@@ -194,7 +196,15 @@ module _ {S : Type 0} (g : Ghosts S) where
   extent-read old new day bytes text (Refused refusal) reads answers = inl (refusal, reads)
   extent-read old new day bytes text (Malformed fault) reads answers = (reads.0, reads.1, reads.2)
   extent-read old new day bytes text (AskedNext form request) reads answers = (reads.0, reads.1, reads.2)
-  extent-read old new day bytes text NotRead within (is, keeps) = inr is
+  extent-read old new day bytes text NotRead needs (is, same) = inr is
+
+-- a message without a body that is read takes no memory
+pub unread-needs : (bytes : List ℕ) (said : Head) (body : Option (Bor (List ℕ))) → IsMessage bytes said (option_copied body)
+    → (body ≡ None → takes_body said.action ≡ true) → NeedsMemory bytes
+unread-needs bytes said None message takes =
+    let short : is_some said.body_length ≡ false = rw (← message.size) refl in
+    absurd (true≢false (sym (takes refl) ∙ sym (says-length message.head said message.says) ∙ short))
+unread-needs bytes said (Some body) message takes = inr (inr (said, body.now, message))
 
 -- the head, and then the rest of the message
 pub next-read : (day : ℕ) (r : Option Next) (said : Head) (head before between after : List ℕ)

@@ -5,7 +5,7 @@ use Rattle.desk.specs.CrashOutcomes.{LeavesAlong}
 use Rattle.desk.specs.Desk.{charter_of, KeepsRows}
 use Rattle.desk.specs.declared.handling.Desk.{Desk}
 use Rattle.desk.specs.declared.reply.Reply.{Reply}
-use Rattle.requests.specs.HttpRequests.{asked, HttpRequest, IsWithinMessage, malformed, ReadsHttp, refused}
+use Rattle.requests.specs.HttpRequests.{asked, HttpRequest, IsRequest, malformed, NeedsMemory, ReadsHttp, refused}
 use Rattle.web.specs.HttpResponses.{malformed_response, refusal_response, reply_response, unavailable_response}
 use Rattle.web.specs.ScriptAnswer.{OnHistories, RepliesAt}
 
@@ -24,9 +24,10 @@ AnswersHttp g old (malformed fault) text new = (text ≡ malformed_response faul
 AnswersHttp g old (asked form request) text new =
     (reply : Reply) × (text ≡ reply_response form reply) × RepliesAt g old request reply new
 
--- The response of a desk to the bytes that were read, on a day. Where an allocation failed, for the request or for
--- what it shows, the response says so and nothing has changed.
+-- The response of a desk to the bytes that were read, on a day. Where an allocation failed, the response says so and
+-- nothing has changed: it failed before the request was known, and the desk was not asked; or for what a request without
+-- a fault shows. What is refused by its head, or malformed without a body, never has this response.
 abbrev pub RespondsTo : {S : Type 0} → Ghosts S → Desk S → ℕ → List ℕ → List ℕ → Desk S → Type 0
 RespondsTo g old day bytes text new =
     ((request : HttpRequest) × ReadsHttp day bytes request × AnswersHttp g old request text new)
-    ⊎ (IsWithinMessage bytes × (text ≡ unavailable_response) × KeepsAll g old new)
+    ⊎ (((NeedsMemory bytes × (new ≡ old)) ⊎ IsRequest day bytes) × (text ≡ unavailable_response) × KeepsAll g old new)

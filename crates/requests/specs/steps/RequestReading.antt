@@ -109,10 +109,18 @@ terms_in d =
     mapped (λ p. record { asn = p.0; prefix = p.1.0; max = p.1.1.0; from = p.1.1.1.0; until = p.1.1.1.1 })
     (one_prefix_in d)
 
+-- a row of an import has the members of a create
 abbrev pub row_members_in : Data → Result ImportRow Fault
 row_members_in d =
-    mapped (λ p. record { asn = p.0; prefix = p.1.0; max = p.1.1.0; from = p.1.1.1.0; until = p.1.1.1.1 })
-    (one_prefix_in d)
+    mapped
+    (λ (terms : AuthTerms). record {
+      asn = terms.asn;
+      prefix = terms.prefix;
+      max = terms.max;
+      from = terms.from;
+      until = terms.until;
+    })
+    (terms_in d)
 
 abbrev pub row_in : Data → Result ImportRow Fault
 row_in d = unless malformed_number (row_members_in d) (only Members (names_of terms_members) d)

@@ -1,4 +1,5 @@
-//! One reader for each request, of what it names and of its further members: null where it has none.
+//! One reader for each request, of what it names and of its further members: null where it has
+//! none.
 ghost use Rattle.std.specs.Prelude.{◌≡◌};
 ghost use Rattle.serde_json.specs.Data.{null};
 ghost use Rattle.serde_json.specs.View.{view};
@@ -10,12 +11,14 @@ use super::members::{
     caller_in, day_in, holder_in, max_in, prefix_in, role_in, scope_in, terms_in,
 };
 use crate::action::Action;
+use crate::member_names::{GIVER, NAME, TAKER, UNTIL};
 use addr::{Day, Name, Prefix};
 use json_values::both;
 use registry::{Command, Query, Request, Role, Scope};
 use serde_json::Value;
 
-/// The holder and the number that a request names. Where it names none, the fault counts for nothing.
+/// The holder and the number that a request names. Where it names none, the fault counts for
+/// nothing.
 #[derive(Clone, Copy, Debug)]
 pub(crate) struct Subject {
     pub(crate) holder: Result<Name, Fault>,
@@ -54,7 +57,7 @@ pub(crate) fn transfer_in(value: &Value) -> Result<Request, Fault>
     ensures { (subject : Subject) → mapped request_terms result
         ≡ request_in Action.Transfer subject (view value.now) }
 {
-    let holders = both(holder_in(value, "giver"), holder_in(value, "taker"));
+    let holders = both(holder_in(value, GIVER), holder_in(value, TAKER));
     let (prefix, (giver, taker)) = both(prefix_in(value), holders)?;
     Ok(Request::Command(Command::Transfer {
         prefix,
@@ -74,11 +77,8 @@ pub(crate) fn reclaim_in(subject: Subject, value: &Value) -> Result<Request, Fau
 fn access_in(value: &Value) -> Result<(Name, (Role, (Scope, Day))), Fault>
     ensures { result ≡ access_in (view value.now) }
 {
-    let access = both(
-        role_in(value),
-        both(scope_in(value), day_in(value, "until")),
-    );
-    both(caller_in(value, "name"), access)
+    let access = both(role_in(value), both(scope_in(value), day_in(value, UNTIL)));
+    both(caller_in(value, NAME), access)
 }
 
 pub(crate) fn grant_in(subject: Subject, value: &Value) -> Result<Request, Fault>
@@ -111,7 +111,7 @@ pub(crate) fn create_in(subject: Subject, value: &Value) -> Result<Request, Faul
 pub(crate) fn amend_in(subject: Subject, value: &Value) -> Result<Request, Fault>
     ensures { mapped request_terms result ≡ request_in Action.Amend subject (view value.now) }
 {
-    let terms = both(max_in(value), day_in(value, "until"));
+    let terms = both(max_in(value), day_in(value, UNTIL));
     let ((holder, number), (max, until)) = both(holder_and_number(subject), terms)?;
     Ok(Request::Command(Command::Amend {
         holder,

@@ -5,6 +5,7 @@ ghost use Rattle.json_values.specs.Parts.{mapped};
 ghost use Rattle.requests.specs.steps.RequestReading.{as_file, file_in, request_terms, slurm_request};
 
 use super::fault::{Fault, Read};
+use crate::member_names::FILE;
 use registry::{Command, Request};
 use serde_json::Value;
 use slurm::{Slurm, SlurmFault};
@@ -40,7 +41,7 @@ fn asked_slurm(file: Result<Slurm, Fault>) -> Result<Request, Fault>
 fn file_in(alloc: Global, value: &Value) -> Read<Slurm>
     ensures { IfOk result (λ file. file ≡ file_in (view value.now)) }
 {
-    match value.get("file") {
+    match value.get(FILE) {
         Some(file) => as_file(alloc, file),
         None => Ok(Err(Fault::Members)),
     }

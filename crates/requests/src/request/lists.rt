@@ -4,11 +4,14 @@ ghost use Rattle.serde_json.specs.View.{view};
 ghost use Rattle.json_values.specs.Parts.{mapped};
 ghost use Rattle.requests.specs.steps.RequestReading.{change_by, change_in, count_of, items_in, request_in, request_terms, route_in, routes_in, row_in, validity};
 
-use super::action::action_in;
 use super::commands::Subject;
 use super::fault::{Fault, Read};
+use super::form::action_in;
 use super::members::{number_in, origin_in, prefix_in, row_members_in, terms_in};
 use crate::action::Action;
+use crate::member_names::{
+    ASN, CHANGES, DO, FROM, MAX, NUMBER, ORIGIN, PREFIX, ROUTES, ROWS, UNTIL,
+};
 use addr::{Name, Origin, Prefix, Route};
 use json_values::{FromJson, FromJsonIn, both, each, only, unless};
 use registry::{Command, ImportRow, Proposed, Query, Request};
@@ -28,7 +31,7 @@ pub(crate) fn import_in(alloc: Global, subject: Subject, value: &Value) -> Read<
     ensures { IfOk result (λ request. mapped request_terms request
         ≡ request_in Action.Import subject (view value.now)) }
 {
-    let rows = items_in(alloc, value, "rows", 1, MOST_ITEMS)?;
+    let rows = items_in(alloc, value, ROWS, 1, MOST_ITEMS)?;
     Ok(asked_import(both(subject.holder, rows)))
 }
 
@@ -45,7 +48,7 @@ pub(crate) fn validity_in(alloc: Global, value: &Value) -> Read<Request>
     ensures { IfOk result (λ request. mapped request_terms request
         ≡ mapped validity (routes_in (view value.now))) }
 {
-    let routes = items_in(alloc, value, "routes", 1, MOST_ITEMS)?;
+    let routes = items_in(alloc, value, ROUTES, 1, MOST_ITEMS)?;
     Ok(asked_validity(routes))
 }
 
@@ -62,8 +65,8 @@ pub(crate) fn what_if_in(alloc: Global, subject: Subject, value: &Value) -> Read
     ensures { IfOk result (λ request. mapped request_terms request
         ≡ request_in Action.WhatIf subject (view value.now)) }
 {
-    let changes = items_in(alloc, value, "changes", 0, MOST_CHANGES)?;
-    let routes = items_in(alloc, value, "routes", 1, MOST_ITEMS)?;
+    let changes = items_in(alloc, value, CHANGES, 0, MOST_CHANGES)?;
+    let routes = items_in(alloc, value, ROUTES, 1, MOST_ITEMS)?;
     Ok(asked_what_if(both(subject.holder, both(changes, routes))))
 }
 
@@ -124,7 +127,7 @@ impl FromJson<Fault> for ImportRow {
     fn from_json(value: &Value) -> Result<ImportRow, Fault> {
         unless(
             row_members_in(value),
-            only(value, &["asn", "prefix", "max", "from", "until"]),
+            only(value, &[ASN, PREFIX, MAX, FROM, UNTIL]),
         )
     }
 }
@@ -147,7 +150,7 @@ fn creation_in(value: &Value) -> Result<Proposed, Fault>
 {
     let terms = unless(
         terms_in(value),
-        only(value, &["do", "asn", "prefix", "max", "from", "until"]),
+        only(value, &[DO, ASN, PREFIX, MAX, FROM, UNTIL]),
     )?;
     Ok(Proposed::Create(terms))
 }
@@ -156,7 +159,7 @@ fn creation_in(value: &Value) -> Result<Proposed, Fault>
 fn withdrawal_in(value: &Value) -> Result<Proposed, Fault>
     ensures { result ≡ change_by (Some Action.Withdraw) (view value.now) }
 {
-    let number = unless(number_in(value), only(value, &["do", "number"]))?;
+    let number = unless(number_in(value), only(value, &[DO, NUMBER]))?;
     Ok(Proposed::Withdraw(number))
 }
 
@@ -165,7 +168,7 @@ impl FromJson<Fault> for Route {
 
     fn from_json(value: &Value) -> Result<Route, Fault> {
         let members = both(prefix_in(value), origin_in(value));
-        unless(route_of(members), only(value, &["prefix", "origin"]))
+        unless(route_of(members), only(value, &[PREFIX, ORIGIN]))
     }
 }
 

@@ -7,6 +7,7 @@ ghost use Rattle.requests.specs.RequestValues.{any_scope, as_max, as_number, as_
 ghost use Rattle.requests.specs.steps.RequestReading.{caller_in, day_in, holder_in, max_in, member_in, number_in, one_prefix_in, prefix_in, row_members_in, terms_in};
 
 use super::fault::Fault;
+use crate::member_names::{ASN, FROM, MAX, NUMBER, ORIGIN, PREFIX, ROLE, SCOPE, UNTIL};
 use addr::{Asn, Day, Name, Origin, Prefix};
 use json_values::{as_asn, as_day, as_name, as_number_in, as_prefix, both, member};
 use registry::{AuthTerms, ImportRow, LAST_NUMBER, Role, Scope};
@@ -58,7 +59,7 @@ fn as_role(value: &Value) -> Option<Role>
 fn role_at(value: &Value) -> Option<Role>
     ensures { result ≡ role_at (view value.now) }
 {
-    as_role(value.get("role")?)
+    as_role(value.get(ROLE)?)
 }
 
 fn any_scope(value: &Value) -> Option<Scope>
@@ -103,31 +104,31 @@ pub(crate) fn caller_in(value: &Value, name: &str) -> Result<Name, Fault>
 pub(crate) fn prefix_in(value: &Value) -> Result<Prefix, Fault>
     ensures { result ≡ prefix_in (view value.now) }
 {
-    as_prefix(member(value, "prefix")?).ok_or(Fault::Prefix)
+    as_prefix(member(value, PREFIX)?).ok_or(Fault::Prefix)
 }
 
 pub(crate) fn asn_in(value: &Value) -> Result<Asn, Fault>
     ensures { result ≡ member_in as_asn Fault.Asn (codes "asn") (view value.now) }
 {
-    as_asn(member(value, "asn")?).ok_or(Fault::Asn)
+    as_asn(member(value, ASN)?).ok_or(Fault::Asn)
 }
 
 pub(crate) fn origin_in(value: &Value) -> Result<Origin, Fault>
     ensures { result ≡ member_in as_origin Fault.Asn (codes "origin") (view value.now) }
 {
-    as_origin(member(value, "origin")?).ok_or(Fault::Asn)
+    as_origin(member(value, ORIGIN)?).ok_or(Fault::Asn)
 }
 
 pub(crate) fn max_in(value: &Value) -> Result<u8, Fault>
     ensures { result ≡ max_in (view value.now) }
 {
-    as_max(member(value, "max")?).ok_or(Fault::Max)
+    as_max(member(value, MAX)?).ok_or(Fault::Max)
 }
 
 pub(crate) fn number_in(value: &Value) -> Result<u32, Fault>
     ensures { result ≡ number_in (view value.now) }
 {
-    as_number(member(value, "number")?).ok_or(Fault::Number)
+    as_number(member(value, NUMBER)?).ok_or(Fault::Number)
 }
 
 pub(crate) fn day_in(value: &Value, name: &str) -> Result<Day, Fault>
@@ -139,7 +140,7 @@ pub(crate) fn day_in(value: &Value, name: &str) -> Result<Day, Fault>
 pub(crate) fn role_in(value: &Value) -> Result<Role, Fault>
     ensures { result ≡ member_in as_role Fault.Role (codes "role") (view value.now) }
 {
-    as_role(member(value, "role")?).ok_or(Fault::Role)
+    as_role(member(value, ROLE)?).ok_or(Fault::Role)
 }
 
 /// AS number, prefix, maxLength, first and last day.
@@ -149,7 +150,7 @@ type OnePrefix = (Asn, (Prefix, (u8, (Day, Day))));
 fn one_prefix_in(value: &Value) -> Result<OnePrefix, Fault>
     ensures { result ≡ one_prefix_in (view value.now) }
 {
-    let days = both(day_in(value, "from"), day_in(value, "until"));
+    let days = both(day_in(value, FROM), day_in(value, UNTIL));
     both(
         asn_in(value),
         both(prefix_in(value), both(max_in(value), days)),
@@ -170,17 +171,17 @@ pub(crate) fn terms_in(value: &Value) -> Result<AuthTerms, Fault>
     })
 }
 
-/// The members of a row of an import.
+/// The members of a row of an import, which are those of a create.
 pub(crate) fn row_members_in(value: &Value) -> Result<ImportRow, Fault>
     ensures { result ≡ row_members_in (view value.now) }
 {
-    let (asn, (prefix, (max, (from, until)))) = one_prefix_in(value)?;
+    let terms = terms_in(value)?;
     Ok(ImportRow {
-        asn,
-        prefix,
-        max,
-        from,
-        until,
+        asn: terms.asn,
+        prefix: terms.prefix,
+        max: terms.max,
+        from: terms.from,
+        until: terms.until,
     })
 }
 
@@ -189,5 +190,5 @@ pub(crate) fn scope_in(value: &Value) -> Result<Scope, Fault>
     ensures { result ≡ member_in (as_scope (role_at (view value.now))) Fault.Role (codes "scope")
         (view value.now) }
 {
-    as_scope(role_at(value), member(value, "scope")?).ok_or(Fault::Role)
+    as_scope(role_at(value), member(value, SCOPE)?).ok_or(Fault::Role)
 }

@@ -1,18 +1,19 @@
 //! Reading requests from HTTP messages.
-ghost use Rattle.std.specs.Prelude.{◌≡◌, ◌&&◌, Some, Err, IfOk};
+ghost use Rattle.std.specs.Prelude.{◌≡◌, ◌&&◌, None, Some, Err, true, IfOk, OnErr};
 ghost use Rattle.std.specs.Option.{option_copied};
 ghost use Rattle.serde_json.specs.View.{view};
 ghost use Rattle.json_values.specs.Parts.{mapped};
+ghost use Rattle.requests.specs.Actions.{takes_body};
 ghost use Rattle.requests.specs.RequestHeads.{head_view};
 ghost use Rattle.requests.specs.HttpFaults.{body_bytes, http_fault, json_tree, path_number};
 ghost use Rattle.requests.specs.HttpRequests.{SaysAsked};
 ghost use Rattle.requests.specs.steps.HttpReading.{asked_of, caller_of, import_body, import_rows, object_body, object_request, path_subject, request_of};
 ghost use Rattle.requests.specs.steps.RequestReading.{asked_terms, file_of, request_terms, slurm_request};
 
-use super::action::only_body_members_of;
 use super::commands::Subject;
 use super::exceptions::slurm_of;
 use super::fault::{Fault, Read};
+use super::form::only_body_members_of;
 use super::lists::asked_import;
 use super::{LineFault, asked_with, request_in};
 use crate::action::Action;
@@ -36,6 +37,9 @@ pub fn read_http_request(
     ensures ok { IfOk result (SaysAsked day (head_view head.now) (option_copied body.entry)) }
     ensures malformed { (m : Malformed) → result ≡ Err (LineFault.Malformed m)
         → http_fault (head_view head.now) (option_copied body.entry) ≡ Some m }
+    // A request that is complete without a body takes no memory.
+    ensures memory { result ≡ Err LineFault.Memory → body.entry ≡ None
+        → takes_body head.now.action ≡ true }
 {
     match asked_of(alloc, day, head, body) {
         Ok(Ok(asked)) => Ok(asked),
@@ -46,8 +50,9 @@ pub fn read_http_request(
 
 /// The request of a head and a body on this day, or its lowest fault.
 fn asked_of(alloc: Global, day: Day, head: &Head<'_>, body: Option<&[u8]>) -> Read<Asked>
-    ensures { IfOk result (λ asked. mapped asked_terms asked
+    ensures read { IfOk result (λ asked. mapped asked_terms asked
         ≡ asked_of day (head_view head.now) (option_copied body.entry)) }
+    ensures memory { OnErr result (body.entry ≡ None → takes_body head.now.action ≡ true) }
 {
     let request = request_of(alloc, head, body)?;
     Ok(asked_with(both(Ok(day), both(caller_of(head), request))))
@@ -65,8 +70,9 @@ fn caller_of(head: &Head<'_>) -> Result<Name, Fault>
 
 /// What a head and a body ask, whoever the caller is.
 fn request_of(alloc: Global, head: &Head<'_>, body: Option<&[u8]>) -> Read<Request>
-    ensures { IfOk result (λ request. mapped request_terms request
+    ensures read { IfOk result (λ request. mapped request_terms request
         ≡ request_of (head_view head.now) (option_copied body.entry)) }
+    ensures memory { OnErr result (body.entry ≡ None → takes_body head.now.action ≡ true) }
 {
     let subject = path_subject(head);
     match head.action {
@@ -126,8 +132,9 @@ fn object_body(
     subject: Subject,
     body: Option<&[u8]>,
 ) -> Read<Request>
-    ensures { IfOk result (λ request. mapped request_terms request
+    ensures read { IfOk result (λ request. mapped request_terms request
         ≡ object_body action subject (option_copied body.entry)) }
+    ensures memory { OnErr result (body.entry ≡ None → takes_body action ≡ true) }
 {
     let Some(bytes) = body else {
         return request_in(alloc, action, subject, &Value::Null);

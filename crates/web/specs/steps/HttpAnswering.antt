@@ -4,7 +4,7 @@ use Rattle.sqlite.specs.Store.{Ghosts}
 use Rattle.http_messages.specs.declared.response.ContentType.{ContentType}
 use Rattle.desk.specs.declared.handling.Desk.{Desk}
 use Rattle.desk.specs.declared.reply.Reply.{Reply}
-use Rattle.requests.specs.HttpRequests.{asked, IsWithinMessage, malformed, ReadsHttp, refused}
+use Rattle.requests.specs.HttpRequests.{asked, malformed, NeedsMemory, ReadsHttp, refused}
 use Rattle.web.specs.HttpAnswers.{AnswersHttp, KeepsAll}
 use Rattle.web.specs.HttpResponses.{reply_response, unavailable_response}
 use Rattle.web.specs.ReplyText.{short_text}
@@ -13,12 +13,12 @@ use Rattle.web.specs.declared.http.Extent.TheVariants.{Part, Whole}
 use Rattle.web.specs.declared.http.reading.Next.{Next}
 use Rattle.web.specs.declared.http.reading.Next.TheVariants.{Asked, Malformed, NotRead, Refused}
 
--- what was read is what the bytes ask for, or an allocation failed within them
+-- what was read is what the bytes ask for, or an allocation failed where reading on takes one
 abbrev pub ReadsNext : ℕ → List ℕ → Next → Type 0
 ReadsNext day bytes (Refused refusal) = ReadsHttp day bytes (refused refusal)
 ReadsNext day bytes (Malformed fault) = ReadsHttp day bytes (malformed fault)
 ReadsNext day bytes (Asked form request) = ReadsHttp day bytes (asked form request)
-ReadsNext day bytes NotRead = IsWithinMessage bytes
+ReadsNext day bytes NotRead = NeedsMemory bytes
 
 -- how much of a request was read for it
 abbrev pub extent_of : Next → Extent
@@ -37,7 +37,7 @@ AnswersNext g old (Refused refusal) text new = AnswersHttp g old (refused refusa
 AnswersNext g old (Malformed fault) text new = AnswersHttp g old (malformed fault) text new
 AnswersNext g old (Asked form request) text new =
     AnswersHttp g old (asked form request) text new ⊎ AnswersUnavailable g old text new
-AnswersNext g old NotRead text new = AnswersUnavailable g old text new
+AnswersNext g old NotRead text new = (text ≡ unavailable_response) × (new ≡ old)
 
 -- the response to a reply; only one that shows something allocates
 abbrev pub IsReplyResponse : ContentType → Reply → List ℕ → Type 0

@@ -48,13 +48,14 @@ pub(super) fn read_next<S: Source>(alloc: Global, source: &mut S, day: Day) -> O
         × IsCutShort bytes
         × IsOver (S.has_ended source.new) (S.has_failed source.new) }
 {
+    // Before the head is read, so that nothing that its bytes decide can be out of memory.
+    let Ok(routes) = Routes::new(alloc) else {
+        return Some(Next::NotRead);
+    };
     let head = match read_head(source) {
         Ok(head) => head,
         Err(HeadFault::TooLong) => return Some(Next::Refused(Refusal::BadRequest)),
         Err(HeadFault::CutShort) => return None,
-    };
-    let Ok(routes) = Routes::new(alloc) else {
-        return Some(Next::NotRead);
     };
     match read_request_head(&routes, head.as_slice()) {
         Ok(request) => read_rest(alloc, source, day, &request),

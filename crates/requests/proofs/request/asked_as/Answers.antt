@@ -14,7 +14,7 @@ returns c =
       c.both-2.ensures,
       c.both.ensures,
       asked_terms-parts c.day_in.result c.caller_in.result c.in_ok-request.request,
-      c.in_ok-request.ensures,
+      c.in_ok-request.ensures.read,
       c.line_subject.ensures,
       c.day_in.ensures,
       c.caller_in.ensures,

@@ -9,6 +9,6 @@ returns c =
     rw (
       c.unless.ensures,
       mapped-unless malformed_number request_terms c.in_ok-request.request c.only_body_members_of.result,
-      c.in_ok-request.ensures,
+      c.in_ok-request.ensures.read,
       c.only_body_members_of.ensures,
     ) refl

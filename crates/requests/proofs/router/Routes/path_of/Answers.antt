@@ -1,5 +1,5 @@
 use Rattle.std.proofs.Common.{ap, sym, ◌∙◌}
-use Rattle.requests.specs.Paths.{route_at}
+use Rattle.requests.specs.Paths.{path_at}
 use Rattle.requests.proofs.PathLemmas.{path_of-bytes, path_of-text}
 use Rattle.requests.proofs.router.Routes.path_of.Goals as goal
 
@@ -9,5 +9,5 @@ returns-in_default c = path_of-bytes c.args.target.now c.if-has_query.ensures c.
 pub returns : goal.returns
 returns c =
     c.path_at.ensures
-    ∙ ap route_at c.in-Ok.ensures.cases.0
+    ∙ ap path_at c.in-Ok.ensures.cases.0
     ∙ sym (path_of-text c.args.target.now c.if-has_query.ensures c.in-Ok.ensures.cases.1)

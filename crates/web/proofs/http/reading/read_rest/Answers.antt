@@ -1,5 +1,6 @@
-use Rattle.std.proofs.Common.{◌++◌, [], Err, sym, ap, ◌∙◌, refl, inl}
+use Rattle.std.proofs.Common.{◌++◌, [], Err, sym, ap, ◌∙◌, refl, inl, inr}
 use Rattle.std.proofs.lemmas.List.{append-nil}
+use Rattle.requests.specs.RequestHeads.{head_view}
 use Rattle.web.proofs.http.reading.read_rest.Goals as goal
 
 pub returns-in_default-clause-some : goal.returns-in_default-clause-some
@@ -14,5 +15,11 @@ pub returns-in-Err-Memory-clause-some : goal.returns-in-Err-Memory-clause-some
 returns-in-Err-Memory-clause-some g c = (
   [],
   c.in-Err-Memory.ensures.memory (ap Err c.in-Err-Memory.field-0-is) ∙ sym (append-nil (g.S.Source.handed_out c.args.source.now)),
-  λ head whole says. inl (rw (append-nil head) whole),
+  λ head whole says. inr (inl (
+    head_view c.args.request.now,
+    c.in-Some.size,
+    rw (append-nil head) whole,
+    rw (append-nil head) says,
+    c.in-Some.is,
+  )),
 )

@@ -2,7 +2,7 @@ use Rattle.std.proofs.Common.{◌≡◌, ◌++◌, refl}
 use Rattle.streams.specs.Streams.{AppendsBeginning}
 use Rattle.web.specs.steps.HttpAnswering.{AnswersNext}
 use Rattle.web.proofs.DeskReplies.{replies_at}
-use Rattle.web.proofs.HttpLemmas.{asked-err, asked-ok, same_keeps, text-err}
+use Rattle.web.proofs.HttpLemmas.{asked-err, asked-ok, text-err}
 use Rattle.web.proofs.http.response.respond.Goals as goal
 
 pub returns-in-Refused-clause-err : goal.returns-in-Refused-clause-err
@@ -41,4 +41,4 @@ pub returns-in-NotRead-clause-err : goal.returns-in-NotRead-clause-err
 returns-in-NotRead-clause-err g c =
     text-err c.write_unavailable.result (λ text. AnswersNext g.A.Store c.args.desk.now c.args.next.now text c.args.desk.now)
     (AppendsBeginning (g.D.Drain.written c.args.drain.now) (g.D.Drain.written c.write_unavailable.new.drain))
-    _ (rw c.in-NotRead.is (refl, same_keeps g.A.Store c.args.desk.now)) c.write_unavailable.ensures.err
+    _ (rw c.in-NotRead.is (refl, refl)) c.write_unavailable.ensures.err

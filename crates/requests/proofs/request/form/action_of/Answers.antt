@@ -1,7 +1,7 @@
 use Rattle.std.proofs.Common.{sym, ◌∙◌}
 use Rattle.requests.specs.RequestFaults.{all_actions, is_word, word_of}
 use Rattle.requests.proofs.TableLemmas.{find-past}
-use Rattle.requests.proofs.request.action.action_of.Goals as goal
+use Rattle.requests.proofs.request.form.action_of.Goals as goal
 
 pub loop-action-preserved : goal.loop-action-preserved
 loop-action-preserved c =

@@ -1,4 +1,4 @@
-//! What a request's `do` says, and which members the request may have.
+//! The form of a JSON request: the word of its `do`, and the members that it may have.
 ghost use Rattle.std.specs.Prelude.{◌≡◌};
 ghost use Rattle.serde_json.specs.View.{view};
 ghost use Rattle.json_values.specs.Tree.{only};
@@ -6,6 +6,7 @@ ghost use Rattle.requests.specs.RequestFaults.{action_in, action_of, body_member
 
 use super::fault::Fault;
 use crate::action::Action;
+use crate::member_names::DO;
 use crate::table::ACTIONS;
 use json_values::only;
 use serde_json::Value;
@@ -14,7 +15,7 @@ use serde_json::Value;
 pub(crate) fn action_in(value: &Value) -> Option<Action>
     ensures { result ≡ action_in (view value.now) }
 {
-    match value.get("do") {
+    match value.get(DO) {
         Some(member) => action_of(member.as_str()?),
         None => None,
     }

@@ -1,6 +1,6 @@
 use Rattle.std.proofs.Common.{◌≡◌, drop, find}
 use Rattle.requests.specs.RequestFaults.{action_of, is_word, word_of}
-use Rattle.requests.proofs.request.action.action_of.Given as goal
+use Rattle.requests.proofs.request.form.action_of.Given as goal
 
 abbrev pub invariant-loop-action : goal.invariant-loop-action
 invariant-loop-action l =
