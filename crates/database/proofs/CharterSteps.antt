@@ -2,7 +2,7 @@
 use Rattle.std.proofs.Common.{◌≡◌, ◌≢◌, ℕ, pos, ◌+◌, ◌<◌, List, [], ◌∷◌, ◌++◌, map, take, get_or, length, codes, true, false, refl, sym, ap, subst, ◌∙◌, append-nil, append_assoc, IsPermutation}
 use Rattle.std.proofs.lemmas.List.{map-append}
 use Rattle.std.proofs.lemmas.List.Sorted.{IsPermutation-refl, IsPermutation-trans, IsPermutation-cons, IsPermutation-middle}
-use Rattle.sqlite.specs.Effect.{Database}
+use Rattle.sqlite.specs.Effect.{Database, IsDatabase}
 use Rattle.sqlite.specs.State.{State, Shows}
 use Rattle.sqlite_value.specs.declared.value.Value.TheVariants.{Null, Int, Text}
 use Rattle.sqlite_value.specs.Order.{Row}
@@ -40,6 +40,7 @@ module _ (tree : ℕ) where
   pub puts_none : (s : State) → IsReady s → PutsRows tree [] s s
   puts_none s ready = record {
     ready = ready;
+    sound = λ sound. sound;
     edits = record { schema = refl; others = λ t is other. refl; rows = IsPermutation-refl _; whole = λ whole. whole };
   }
 
@@ -48,6 +49,7 @@ module _ (tree : ℕ) where
       let before = contents (a.now.trees tree) in
       record {
         ready = second.ready;
+        sound = λ sound. second.sound (first.sound sound);
         edits = record {
           schema = second.edits.schema ∙ first.edits.schema;
           others = λ t is other. second.edits.others t is other ∙ first.edits.others t is other;
@@ -79,6 +81,7 @@ has_charter charter a b c d made schema operators prefixes =
     record {
       inside = prefixes.ready.inside;
       schema = third.schema ∙ second.schema ∙ first.schema ∙ made.schema;
+      sound = prefixes.sound (operators.sound (schema.sound (made.sound refl)));
       rows = record {
         charter_kept = record {
           schema = subst (λ t. IsPermutation (schema_row ∷ []) (contents t)) (sym (third.others 0 refl (λ same. cc) ∙ second.others 0 refl (λ same. cc))) (first_rows 0 (schema_row ∷ []) a.now b.now first (at 0 refl));
@@ -100,6 +103,7 @@ pub new_after : (charter : CharterSets) (mid last : State) → HasCharter charte
 new_after charter mid last has shown = record {
   is_open = shown.is_open;
   schema = ap (λ (d : Database). d.schema) shown.now_is ∙ has.schema;
+  sound = subst IsDatabase (sym shown.now_is) has.sound;
   settled = shown.committed_is ∙ sym shown.now_is;
   rows = subst (λ (d : Database). TablesHold charter blank_rows d.trees) (sym shown.now_is) has.rows;
 }

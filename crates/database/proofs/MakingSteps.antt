@@ -5,7 +5,7 @@ use Rattle.std.proofs.lemmas.List.Sorted.{IsPermutation-refl}
 use Rattle.sqlite_value.specs.Order.{Row}
 use Rattle.sqlite.specs.Change.{created, indexed, next_tree, KeepsRows}
 use Rattle.sqlite.specs.Does.{Tally, Does, lacks_sequence}
-use Rattle.sqlite.specs.Effect.{Database}
+use Rattle.sqlite.specs.Effect.{Database, IsDatabase}
 use Rattle.sqlite.specs.State.{State, mode_of, Writes}
 use Rattle.sqlite.proofs.Callers.{runs_as}
 use Rattle.sqlite_trees.proofs.ListLemmas.{all_both, all-append}
@@ -22,11 +22,12 @@ use Rattle.tables.proofs.Inserting.{went, same_value, each_table}
 use Rattle.database.proofs.Creates.{Defines, index_defined}
 
 -- one table more
-grown : (n : ℕ) (table : Table) (old new : State) → IsMadeTo n old → take (suc n) desk_tables ≡ take n desk_tables ++ table ∷ [] → new.in_transaction ≡ true → new.now.schema ≡ schema_so_far (suc n)
+grown : (n : ℕ) (table : Table) (old new : State) → IsMadeTo n old → take (suc n) desk_tables ≡ take n desk_tables ++ table ∷ [] → new.in_transaction ≡ true → new.now.schema ≡ schema_so_far (suc n) → IsDatabase new.now
     → KeepsRows (take n desk_tables) old.now.trees new.now.trees → new.now.trees table.tree ≡ [] → IsMadeTo (suc n) new
-grown n table old new before next inside schema kept empty = record {
+grown n table old new before next inside schema sound kept empty = record {
   inside = inside;
   schema = schema;
+  sound = λ _. sound;
   empty = subst (AllByRecursion (λ t. new.now.trees t.tree ≡ [])) (sym next)
       (all-append (λ t. new.now.trees t.tree ≡ []) (take n desk_tables) (table ∷ [])
       (all_both (λ t. new.now.trees t.tree ≡ old.now.trees t.tree) (λ t. old.now.trees t.tree ≡ []) (λ t. new.now.trees t.tree ≡ []) (λ t same none. same ∙ none) (take n desk_tables) kept before.empty)
@@ -47,7 +48,7 @@ makes n sql table d next old new before ran =
     let now : new.now ≡ first.0 = ap (λ (p : Tally × Database). p.1) (same_value all.2) ∙ same_value (rw plain at first.2) in
     let kept : KeepsRows (take n desk_tables) old.now.trees first.0.trees = subst (λ (s : Schema). KeepsRows s.tables old.now.trees first.0.trees) before.schema made.others in
     let empty : first.0.trees table.tree ≡ [] = subst (λ t. first.0.trees t ≡ []) (ap next_tree before.schema ∙ d.place) made.empty in
-    grown n table old new before next ran.1.1.mode (ap (λ (d : Database). d.schema) now ∙ schema)
+    grown n table old new before next ran.1.1.mode (ap (λ (d : Database). d.schema) now ∙ schema) w.sound
     (subst (λ (d : Database). KeepsRows (take n desk_tables) old.now.trees d.trees) (sym now) kept) (ap (λ (d : Database). d.trees table.tree) now ∙ empty)
 
 -- an empty table has the rows of no holder
@@ -76,6 +77,7 @@ adds old new before ran =
       was_open = ran.1.1.was_open;
       inside = ran.1.1.mode;
       schema = ap (λ (d : Database). d.schema) now ∙ made.is ∙ ap (indexed unindexed_schema holding) same ∙ d.made;
+      sound = w.sound;
       rows = each_table (λ t. new.now.trees t ≡ old.now.trees t) desk_tables (subst (λ (d : Database). KeepsRows desk_tables old.now.trees d.trees) (sym now) made.rows);
     }
 
@@ -83,6 +85,7 @@ pub made_all : (old new : State) → IsMadeTo 8 old → MakesIndex old new → I
 made_all old new before made = record {
   inside = made.inside;
   schema = made.schema;
+  sound = λ _. made.sound;
   empty = all_both (λ t. new.now.trees t.tree ≡ old.now.trees t.tree) (λ t. old.now.trees t.tree ≡ []) (λ t. new.now.trees t.tree ≡ []) (λ t same none. same ∙ none) desk_tables
       (made.rows 0 refl, (made.rows 2 refl, (made.rows 4 refl, (made.rows 6 refl, (made.rows 8 refl, (made.rows 10 refl, (made.rows 12 refl, (made.rows 15 refl, tt)))))))) before.empty;
 }

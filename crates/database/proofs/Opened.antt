@@ -4,6 +4,7 @@ use Rattle.std.specs.Prelude.{⊤}
 use Rattle.std.specs.List.{AllByRecursion}
 use Rattle.std.proofs.lemmas.Bool.{both_ways}
 use Rattle.std.proofs.lemmas.List.{length-map}
+use Rattle.std.proofs.lemmas.List.Sorted.{Contains-permutation}
 use Rattle.sqlite.specs.Effect.{Database}
 use Rattle.sqlite_value.specs.declared.keys.Collation.TheVariants.{Binary}
 use Rattle.sqlite_value.specs.declared.value.Value.TheVariants.{Text}
@@ -16,24 +17,24 @@ use Rattle.sqlite_schema.specs.declared.schema.Kind.TheVariants.{Integer, Text a
 use Rattle.sqlite_schema.specs.declared.schema.Table.{Table}
 use Rattle.sqlite_schema.specs.Rules.{equal}
 use Rattle.sqlite_rules.specs.Lists.{Has}
-use Rattle.sqlite_rules.proofs.ListLemmas.{all_has, all_from, has_filtered}
+use Rattle.sqlite_rules.proofs.ListLemmas.{all_has, all_from, contains_had, has_filtered}
 use Rattle.sqlite_rules.proofs.ProbeLemmas.{mapped_has}
 use Rattle.sqlite_catalog.specs.Listing.{IsSound}
 use Rattle.addr.specs.declared.span.Span.{Span}
-use Rattle.charters.specs.CharterSets.{CharterSets}
+use Rattle.charters.specs.CharterSets.{CharterSets, IsCharter}
 use Rattle.registry.specs.declared.authorization.Auth.{Auth}
 use Rattle.registry.specs.declared.grant.Granted.{Granted}
 use Rattle.registry.specs.Values.{AuthFits, GrantFits, ExceptionsFit}
 use Rattle.slurm.specs.Exceptions.{Exceptions}
 use Rattle.tables.specs.declared.exception.ExceptionRow.{ExceptionRow}
-use Rattle.tables.specs.Cells.{number_cell, kind_number, exception_row, span_cells, grant_cells, auth_cells, holder_row, holding_row, granted_row, auth_row}
+use Rattle.tables.specs.Cells.{schema_row, operator_row, prefix_cells, number_cell, kind_number, exception_row, span_cells, grant_cells, auth_cells, holder_row, holding_row, granted_row, auth_row}
 use Rattle.tables.specs.Decode.{first_columns, exception_columns}
 use Rattle.tables.specs.Tables.{desk_tables, holder_reference, required_column, meta, operator, pool, holder, holding, granted, auth, slurm, contents, columns, IsTree, AreTrees}
 use Rattle.tables.specs.TablesHold.{HoldsExceptions}
 use Rattle.tables.proofs.Inserting.{each_table}
 use Rattle.tables.proofs.PartLemmas.{names, name_of-true, name_of_itself}
 use Rattle.tables.proofs.ReadLemmas.{all_columns, first_of_all}
-use Rattle.database.specs.TablesRead.{ShowsSome, ShowsHolder, HoldSomeRows}
+use Rattle.database.specs.TablesRead.{ShowsSome, ShowsHolder, ShowsOfHolder, HoldSomeRows, TablesRead}
 use Rattle.database.specs.steps.Numbered.{shown_in}
 use Rattle.database.specs.steps.Opened.{ShowsSchema, ShowsCharter, ShowExceptions, ShowHolders}
 use Rattle.database.proofs.Obeyed.{slurm_key, agree_in_key, all_whole, all_referred, once_by_key, once, equal_texts}
@@ -98,10 +99,11 @@ module _ (db : Database) (tables : db.schema.tables ≡ desk_tables) (sound : Is
   -- ---- holders
 
   module _ (shown : ShowHolders db) where
+    holders_read : AllByRecursion ShowsHolder holders
+    holders_read = subst (AllByRecursion ShowsHolder) (all_shown holder 2 (required_column (codes "auths") Integer) at_holder refl refl refl refl) shown.holders.each
+
     made : AllByRecursion Makes holders
-    made =
-        all_weaker ShowsHolder Makes (λ c it. (it.0, (it.1, it.2), it.6)) holders
-        (subst (AllByRecursion ShowsHolder) (all_shown holder 2 (required_column (codes "auths") Integer) at_holder refl refl refl refl) shown.holders.each)
+    made = all_weaker ShowsHolder Makes (λ c it. (it.0, (it.1, it.2), it.6)) holders holders_read
 
     -- ---- nobody is registered twice
 
@@ -140,7 +142,11 @@ module _ (db : Database) (tables : db.schema.tables ≡ desk_tables) (sound : Is
       abbrev Refers : Row → Type 0
       Refers r = (p : Row) × Has (db.trees holder.tree) p × (equal Binary (column p 1) (column r (place + 1)) ≡ true)
 
-      part_row : (r : Row) → length (drop 1 r) ≡ last + 1 → Refers r → ShowsSome cells fits (columns places (drop 1 r)) → IsPartRow X place row holders (drop 1 r)
+      -- it shows a value beside the name of a registered holder, and the value is in its type's range
+      abbrev IsReadRow : Row → Type 0
+      IsReadRow c = IsPartRow X place row holders c × ShowsOfHolder row fits c
+
+      part_row : (r : Row) → length (drop 1 r) ≡ last + 1 → Refers r → ShowsSome cells fits (columns places (drop 1 r)) → IsReadRow (drop 1 r)
       part_row r whole parent value =
           let p = drop 1 parent.0 in
           let among = mapped_has (drop 1) (db.trees holder.tree) parent.0 parent.1 in
@@ -150,35 +156,45 @@ module _ (db : Database) (tables : db.schema.tables ≡ desk_tables) (sound : Is
           ap (λ v. equal Binary v (column r (place + 1))) (column_after parent.0 0 ∙ name) in
           let held = name_of-true it.0 (column r (place + 1)) (sym (equal_texts it.0 (column r (place + 1))) ∙ sym same ∙ parent.2) in
           let after : column r (place + 1) ≡ column (drop 1 r) place = subst (λ n. column r n ≡ column (drop 1 r) place) (omega arith) (column_after r place) in
-          record { name = it.0; value = value.0; is = joins (drop 1 r) it.0 value.0 whole (sym after ∙ held) value.2; registered = (p, among, name) }
+          let is = joins (drop 1 r) it.0 value.0 whole (sym after ∙ held) value.2 in
+          (record { name = it.0; value = value.0; is = is; registered = (p, among, name) }, (it.0, value.0, value.1, is))
 
-      part_rows_of : AllByRecursion (IsPartRow X place row holders) (contents (db.trees t.tree))
+      part_rows_of : AllByRecursion IsReadRow (contents (db.trees t.tree))
       part_rows_of =
           let rows = db.trees t.tree in
           let values = all_from_map (λ c. ShowsSome cells fits (columns places c)) (drop 1) rows (all_from_map (ShowsSome cells fits) (columns places) (contents rows) each) in
           let widths = all_whole db.schema db.trees tables sound t has key last ends is filled count in
           let parents = all_referred db.schema db.trees tables sound t has key place column_of at named refers in
           let both = all_both (λ r. length (drop 1 r) ≡ last + 1) Refers (λ r. (length (drop 1 r) ≡ last + 1) × Refers r) (λ r w p. (w, p)) rows widths parents in
-          all-map (IsPartRow X place row holders) (drop 1) rows
+          all-map IsReadRow (drop 1) rows
           (all_both (λ r. (length (drop 1 r) ≡ last + 1) × Refers r) (λ r. ShowsSome cells fits (columns places (drop 1 r))) _ (λ r it value. part_row r it.0 it.1 value) rows both values)
 
-    held : AllByRecursion (IsPartRow Span 3 holding_row holders) (contents (db.trees holding.tree))
-    held =
+    held_read : AllByRecursion (λ c. IsPartRow Span 3 holding_row holders c × ShowsOfHolder holding_row (λ _. ⊤) c) (contents (db.trees holding.tree))
+    held_read =
         part_rows_of holding (inr (inr (inr (inr (inl refl))))) refl 3 (required_column (codes "holder") OfText) refl refl refl 3 (required_column (codes "holder") OfText) refl refl refl
         (0 ∷ 1 ∷ 2 ∷ []) span_cells (λ _. ⊤) holding_row
         (λ c h s whole name shows. all_columns 4 c whole ∙ (λ i. shows i ++ name i ∷ [])) shown.holdings.each
 
-    given : AllByRecursion (IsPartRow Granted 0 granted_row holders) (contents (db.trees granted.tree))
-    given =
+    held : AllByRecursion (IsPartRow Span 3 holding_row holders) (contents (db.trees holding.tree))
+    held = all_weaker _ _ (λ c both. both.0) (contents (db.trees holding.tree)) held_read
+
+    given_read : AllByRecursion (λ c. IsPartRow Granted 0 granted_row holders c × ShowsOfHolder granted_row GrantFits c) (contents (db.trees granted.tree))
+    given_read =
         part_rows_of granted (inr (inr (inr (inr (inr (inl refl)))))) refl 7 (required_column (codes "until") Integer) refl refl refl 0 (required_column (codes "holder") OfText) refl refl refl
         (1 ∷ 2 ∷ 3 ∷ 4 ∷ 5 ∷ 6 ∷ 7 ∷ []) grant_cells GrantFits granted_row
         (λ c h g whole name shows. all_columns 8 c whole ∙ (λ i. name i ∷ shows i)) shown.grants.each
 
-    active : AllByRecursion (IsPartRow Auth 0 auth_row holders) (contents (db.trees auth.tree))
-    active =
+    given : AllByRecursion (IsPartRow Granted 0 granted_row holders) (contents (db.trees granted.tree))
+    given = all_weaker _ _ (λ c both. both.0) (contents (db.trees granted.tree)) given_read
+
+    active_read : AllByRecursion (λ c. IsPartRow Auth 0 auth_row holders c × ShowsOfHolder auth_row AuthFits c) (contents (db.trees auth.tree))
+    active_read =
         part_rows_of auth (inr (inr (inr (inr (inr (inr (inl refl))))))) refl 8 (required_column (codes "ends") Integer) refl refl refl 0 (required_column (codes "holder") OfText) refl refl refl
         (1 ∷ 2 ∷ 3 ∷ 4 ∷ 5 ∷ 6 ∷ 7 ∷ 8 ∷ []) auth_cells AuthFits auth_row
         (λ c h x whole name shows. all_columns 9 c whole ∙ (λ i. name i ∷ shows i)) shown.auths.each
+
+    active : AllByRecursion (IsPartRow Auth 0 auth_row holders) (contents (db.trees auth.tree))
+    active = all_weaker _ _ (λ c both. both.0) (contents (db.trees auth.tree)) active_read
 
     -- ---- all of them
 
@@ -187,6 +203,36 @@ module _ (db : Database) (tables : db.schema.tables ≡ desk_tables) (sound : Is
       trees_whole =
           each_table (λ t. IsTree (db.trees t)) desk_tables
           (schema.whole, (chartered.operators.whole, (chartered.pool.whole, (shown.holders.whole, (shown.holdings.whole, (shown.grants.whole, (shown.auths.whole, (excepted.rows.whole, tt))))))))
+
+      schema_only : IsPermutation (schema_row ∷ []) (contents (db.trees meta.tree))
+      schema_only = subst (IsPermutation _) (all_shown meta 1 (required_column (codes "value") Integer) (inl refl) refl refl refl refl) schema.shown
+
+      operators_only : IsPermutation (map operator_row charter.operators) (contents (db.trees operator.tree))
+      operators_only = subst (IsPermutation _) (all_shown operator 0 (required_column (codes "name") OfText) (inr (inl refl)) refl refl refl refl) chartered.operators.shown
+
+      pool_only : IsPermutation (map prefix_cells charter.pool) (contents (db.trees pool.tree))
+      pool_only = subst (IsPermutation _) (all_shown pool 2 (required_column (codes "len") Integer) (inr (inr (inl refl))) refl refl refl refl) chartered.pool.shown
+
+      pub tables_read : IsCharter charter → TablesRead db.trees
+      tables_read sets = record {
+        schema = Contains-permutation (schema_row ∷ []) (contents (db.trees meta.tree)) schema_row schema_only (contains_had (schema_row ∷ []) schema_row (inl refl));
+        charter = record {
+          operators = charter.operators;
+          prefixes = charter.pool;
+          named = chartered.named;
+          number = sets.number;
+          operators_once = sets.operators_once;
+          prefixes_once = sets.pool_once;
+          operators_shown = operators_only;
+          prefixes_shown = pool_only;
+        };
+        holders = holders_read;
+        holdings = all_weaker _ _ (λ c both. both.1) (contents (db.trees holding.tree)) held_read;
+        grants = all_weaker _ _ (λ c both. both.1) (contents (db.trees granted.tree)) given_read;
+        auths = all_weaker _ _ (λ c both. both.1) (contents (db.trees auth.tree)) active_read;
+        exceptions = excepted.rows.each;
+        exceptions_number = excepted.number;
+      }
 
       pub some_rows : HoldSomeRows charter db.trees
       some_rows =
@@ -198,9 +244,9 @@ module _ (db : Database) (tables : db.schema.tables ≡ desk_tables) (sound : Is
             },
             record {
               charter_kept = record {
-                schema = subst (IsPermutation _) (all_shown meta 1 (required_column (codes "value") Integer) (inl refl) refl refl refl refl) schema.shown;
-                operators = subst (IsPermutation _) (all_shown operator 0 (required_column (codes "name") OfText) (inr (inl refl)) refl refl refl refl) chartered.operators.shown;
-                pool = subst (IsPermutation _) (all_shown pool 2 (required_column (codes "len") Integer) (inr (inr (inl refl))) refl refl refl refl) chartered.pool.shown;
+                schema = schema_only;
+                operators = operators_only;
+                pool = pool_only;
               };
               holders = parts.holders_held;
               holdings = parts.holdings_held;

@@ -51,8 +51,9 @@ module _ (at : ℕ) (t : Table) (there : slice_get desk_tables at ≡ Some (as_s
       → IsReady old → IsExecuted sql params old new → PutsRows t.tree (row ∷ []) old new
   puts_row params terms width row means values typed ready ran =
       let has = has_schema params means ready ran in
-      let e = inserting.puts at t there old.now.schema terms width row old new _ params ran.0 has values typed (wrote params means ready ran) in
-      record { ready = ready_still params means ready ran (e.schema ∙ has); edits = e }
+      let w = wrote params means ready ran in
+      let e = inserting.puts at t there old.now.schema terms width row old new _ params ran.0 has values typed w in
+      record { ready = ready_still params means ready ran (e.schema ∙ has); sound = λ _. w.sound; edits = e }
 
 -- ---- statements in turn
 

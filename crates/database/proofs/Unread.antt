@@ -134,13 +134,14 @@ module _ (db : Database) (read : TablesRead db.trees) where
 
 pub charter_shown :
     (r : Result CharterSets StoreFault) (names : List (List ℕ)) (prefixes : List Prefix) (db : Database)
-    → ShowsRows operator.tree (0 ∷ []) (map operator_row names) db → ShowsRows pool.tree (0 ∷ 1 ∷ 2 ∷ []) (map prefix_cells prefixes) db
+    → AllByRecursion (λ name. IsTrue (is_name name)) names → ShowsRows operator.tree (0 ∷ []) (map operator_row names) db → ShowsRows pool.tree (0 ∷ 1 ∷ 2 ∷ []) (map prefix_cells prefixes) db
     → IfOk r (λ charter. IsPermutation names charter.operators) → IfOk r (λ charter. IsPermutation prefixes charter.pool) → IfOk r (λ charter. ShowsCharter charter db)
-charter_shown (Ok charter) names prefixes db one other operators prefixed = record {
+charter_shown (Ok charter) names prefixes db named one other operators prefixed = record {
+  named = all-permutation _ names charter.operators operators named;
   operators = record { whole = one.whole; shown = IsPermutation-trans _ _ _ (IsPermutation-map operator_row _ _ (IsPermutation-sym _ _ operators)) one.shown };
   pool = record { whole = other.whole; shown = IsPermutation-trans _ _ _ (IsPermutation-map prefix_cells _ _ (IsPermutation-sym _ _ prefixed)) other.shown };
 }
-charter_shown (Err e) names prefixes db one other operators prefixed = tt
+charter_shown (Err e) names prefixes db named one other operators prefixed = tt
 
 one_operator : (m n : List ℕ) → operator_row m ≡ operator_row n → m ≡ n
 one_operator m n is = cc

@@ -1,9 +1,10 @@
 -- Databases that have the tables of a desk.
 use Rattle.std.specs.Prelude.{◌≡◌, ◌≢◌, ◌⊎◌, false, IsTrue}
-use Rattle.sqlite.specs.Effect.{Database}
+use Rattle.sqlite.specs.Effect.{Database, IsDatabase}
 use Rattle.sqlite.specs.Held.{Held, state}
 use Rattle.sqlite.specs.State.{State, HasCleanDisk}
 use Rattle.sqlite.specs.Store.{Ghosts}
+use Rattle.sqlite_catalog.specs.Listing.{IsSound}
 use Rattle.sqlite_schema.specs.declared.schema.Schema.{Schema}
 use Rattle.sqlite_trees.specs.Tree.{Trees}
 use Rattle.charters.specs.CharterSets.{CharterSets}
@@ -26,6 +27,12 @@ pub record IsDesk (s : State) : Type 0 where
 abbrev pub IsDeskWhileOpen : State → Type 0
 IsDeskWhileOpen s = HasCleanDisk s → IsTrue s.is_open → IsDesk s
 
+-- the trees list a schema that has the tables of a desk, and obey it
+pub record IsDeskTrees (trees : Trees) : Type 0 where
+  pub schema : Schema
+  pub tables : schema.tables ≡ desk_tables
+  pub sound : IsSound schema trees
+
 -- The disk returns what was written, whatever the connection does. Memory is such a one.
 abbrev pub IsHonest : {S : Type 0} → Ghosts S → Type 0
 IsHonest {S} g = (h : Held S) → HasCleanDisk (state g h)
@@ -41,18 +48,20 @@ pub record IsUnused (s : State) : Type 0 where
 pub record IsNew (charter : CharterSets) (s : State) : Type 0 where
   pub is_open : IsTrue s.is_open
   pub schema : s.now.schema ≡ desk_schema
+  pub sound : IsDatabase s.now
   pub settled : s.committed ≡ s.now
   pub rows : TablesHold charter blank_rows s.now.trees
 
 -- a crash leaves the tables with the charter and blank rows
 abbrev pub LeavesNew : CharterSets → State → Type 0
-LeavesNew charter s = (trees : Trees) → s.may_leave trees → TablesHold charter blank_rows trees
+LeavesNew charter s =
+    (trees : Trees) → s.may_leave trees → TablesHold charter blank_rows trees × IsDeskTrees trees
 
 -- a crash leaves what it left before, or, of an unused database, the tables with the charter and blank rows
 abbrev pub LeavesOldOrNew : CharterSets → State → State → Type 0
 LeavesOldOrNew charter old new =
     (trees : Trees) → new.may_leave trees
-    → old.may_leave trees ⊎ (IsUnused old × TablesHold charter blank_rows trees)
+    → old.may_leave trees ⊎ (IsUnused old × TablesHold charter blank_rows trees × IsDeskTrees trees)
 
 -- ---- an opened database
 
@@ -62,7 +71,8 @@ abbrev pub AddsMissingIndex : Schema → Schema → Type 0
 AddsMissingIndex old new =
     ((old ≡ unindexed_schema) × (new ≡ desk_schema)) ⊎ ((old ≢ unindexed_schema) × (new ≡ old))
 
--- the database is a desk, no row of it changed, and its tables hold the charter and some rows
+-- The database is a desk, and no row of it changed. Its tables hold the charter and some rows, and each row is in
+-- the range of its type.
 pub record OpensDesk (charter : CharterSets) (old new : State) : Type 0 where
   pub idle : old.in_transaction ≡ false
   pub tables : old.now.schema.tables ≡ desk_tables
@@ -71,10 +81,11 @@ pub record OpensDesk (charter : CharterSets) (old new : State) : Type 0 where
   pub schema : AddsMissingIndex old.now.schema new.now.schema
   pub rows : SameRows old.now.trees new.now.trees
   pub some : HoldSomeRows charter old.now.trees
+  pub reads : TablesRead old.now.trees
 
--- what the commit of an added index may put on the disk: the same rows
+-- what the commit of an added index may put on the disk: the trees of a desk with the same rows
 abbrev pub MayCommitIndex : State → Trees → Type 0
-MayCommitIndex old trees = IsTrue old.is_open × SameRows old.now.trees trees
+MayCommitIndex old trees = IsTrue old.is_open × SameRows old.now.trees trees × IsDeskTrees trees
 
 -- a crash leaves what it left before, or tables with the same rows
 abbrev pub LeavesSameRows : State → State → Type 0

@@ -3,6 +3,7 @@ use Rattle.std.specs.Prelude.{◌≡◌, ◌≢◌, Bool, List, [], ◌∷◌, m
 use Rattle.sqlite.specs.Effect.{Database, IsDatabase}
 use Rattle.sqlite_value.specs.Order.{Row}
 use Rattle.tables.specs.Tables.{desk_tables, auth, contents, columns, IsTree}
+use Rattle.database.specs.Databases.{IsDeskTrees}
 
 -- the columns of the table `auth` that make a VRP: the AS, the prefix and the maxLength
 abbrev pub payload_columns : Row → Row
@@ -15,3 +16,8 @@ AuthsDiffer =
     → (picked : Row → Bool) (rows : List Row)
     → IsPermutation (map payload_columns (filter picked (contents (db.trees auth.tree)))) rows
     → AllPairs ◌≢◌ rows
+
+-- A database over the trees of a desk has the tables of a desk: trees list one schema at most.
+abbrev pub DeskTreesHaveTables : Type 0
+DeskTreesHaveTables =
+    (db : Database) → IsDatabase db → IsDeskTrees db.trees → db.schema.tables ≡ desk_tables

@@ -3,7 +3,7 @@ ghost use Rattle.std.specs.Prelude.{◌≡◌, ◌≢◌, ◌↔◌, false, None
 ghost use Rattle.sqlite.specs.Held.{state};
 ghost use Rattle.sqlite.specs.State.{HasCleanDisk};
 ghost use Rattle.registry.specs.RowsOfAll.{blank_rows};
-ghost use Rattle.database.specs.Databases.{IsUnused, IsNew, LeavesOldOrNew};
+ghost use Rattle.database.specs.Databases.{IsUnused, IsNew, IsDeskTrees, LeavesOldOrNew};
 ghost use Rattle.tables.specs.Tables.{blank_schema};
 ghost use Rattle.tables.specs.TablesHold.{TablesHold};
 ghost use Rattle.database.specs.Statements.{IfCommitted, IfRolledBack, CommitsAtMost};
@@ -83,7 +83,8 @@ fn commit_tables<S: Alter>(conn: &mut Connection<S>, charter: &Charter) -> Resul
     ensures made { IfCommitted S.Store result (λ _. IsNew charter.now) conn.old conn.new }
     ensures err { IfRolledBack S.Store result conn.old conn.new }
     ensures crash { CommitsAtMost S.Store
-        (λ _. TablesHold charter.now blank_rows) conn.old conn.new }
+        (λ _ trees. TablesHold charter.now blank_rows trees × IsDeskTrees trees)
+        conn.old conn.new }
     ensures no_schema { result ≢ Err StoreFault.Schema }
 {
     // Its clause `settled` is for the proof: outside a transaction all that is shown is committed.

@@ -255,6 +255,8 @@ pub(crate) fn read_tables<S: Alter>(
     ensures asked { IsAsked S.Store conn.old conn.new result }
     ensures held { IsClean S.Store conn.new → IfOk result (λ charter.
         HoldSomeRows charter (state S.Store conn.old).now.trees) }
+    ensures reads { IsClean S.Store conn.new
+        → OnOk result (TablesRead (state S.Store conn.old).now.trees) }
     ensures schema { IsClean S.Store conn.new → result ≡ Err StoreFault.Schema
         → ¬ TablesRead (state S.Store conn.old).now.trees }
 {
@@ -262,6 +264,8 @@ pub(crate) fn read_tables<S: Alter>(
     let _schema = conn.schema();
     read_schema(conn)?;
     let charter = read_charter(conn, alloc)?;
+    // Its clause `valid` is for the proof: the operators and the pool make a charter.
+    let _operators = charter.operators();
     read_holders(conn, alloc)?;
     read_exceptions(conn, alloc)?;
     Ok(charter)

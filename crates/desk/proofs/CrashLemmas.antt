@@ -18,6 +18,7 @@ use Rattle.registry.specs.declared.asked.Request.TheVariants.{Command as Command
 use Rattle.registry.specs.declared.change.Change.{Change}
 use Rattle.registry.specs.declared.command.Command.{Command}
 use Rattle.tables.specs.TablesHold.{TablesHold}
+use Rattle.database.specs.Databases.{IsDeskTrees}
 use Rattle.store.specs.StoreRows.{HoldsAfter, IsRead, MayLeave, LeavesOnly}
 use Rattle.desk.specs.Answer.{is_accepted, AnswersCommand, AnswersRequest}
 use Rattle.desk.specs.CrashOutcomes.{asked_on, AreKept, IsKept, LeavesAlong, MayBeLeft, pending_after, pending_after_all}
@@ -44,16 +45,16 @@ one_more charter history asked pending trees (inr is) =
 -- the tables after a change that may have been made
 made_left : (charter : Charter) (history : History) (day : ℕ) (caller : List ℕ) (command : Command) (change : Change) (reply : Reply) (pending : List Asked) (trees : Trees)
     → (accepted : IsAccepted charter history day caller command change) → AnswersAccepted command change reply → is_accepted reply ≡ true
-    → (rows : AllRows) → HasRows rows history → TablesHold charter (changed_rows change rows) trees
+    → (rows : AllRows) → HasRows rows history → TablesHold charter (changed_rows change rows) trees → IsDeskTrees trees
     → MayBeLeft charter history (asked_on day caller (CommandRequest command) ∷ pending) trees
-made_left charter history day caller command change reply pending trees accepted answers done rows has holds =
+made_left charter history day caller command change reply pending trees accepted answers done rows has holds desk =
     let asked = asked_on day caller (CommandRequest command) in
     inr (
       asked,
       accepted.after,
       newest asked pending,
       (reply, done, answers charter history day caller accepted),
-      (changed_rows change rows, rows_carried charter history day caller command change rows accepted has, holds),
+      (changed_rows change rows, rows_carried charter history day caller command change rows accepted has, holds, desk),
     )
 
 -- a command that is not accepted leaves the history
@@ -114,7 +115,7 @@ module _ {S : Type 0} (g : Ghosts S) where
       elim (crash trees leaves) [
         | inl was ↦ one_more (charter_of old) history (asked_on day caller (CommandRequest command)) pending trees (left trees (read.crash clean trees was))
         | inr now ↦ made_left (charter_of old) history day caller command change reply pending trees accepted answers done held.0 held.1
-            (subst (λ (k : Charter). TablesHold k (changed_rows change held.0) trees) read.charter (now held.0 held.2))
+            (subst (λ (k : Charter). TablesHold k (changed_rows change held.0) trees) read.charter (now.1 held.0 held.2)) now.0
       ]
 
   -- a change that was made is left alone
@@ -124,10 +125,12 @@ module _ {S : Type 0} (g : Ghosts S) where
       → LeavesOnly g mid.store new.store (changed_rows change)
       → LeavesAlong g (charter_of old) old history to new accepted.after
   made_leaves history day caller command change to old mid new read held accepted only pending left trees leaves =
+      let it = only held.0 held.2 trees leaves in
       inl (
         changed_rows change held.0,
         rows_carried (charter_of old) history day caller command change held.0 accepted held.1,
-        subst (λ (k : Charter). TablesHold k (changed_rows change held.0) trees) read.charter (only held.0 held.2 trees leaves),
+        subst (λ (k : Charter). TablesHold k (changed_rows change held.0) trees) read.charter it.0,
+        it.1,
       )
 
   -- a request that was not accepted, after a read

@@ -160,7 +160,8 @@ answers_by_entries commands imports queries changes charter history day caller (
 
 -- ---- runs
 
-legal_after : GrowthIsLegal → (charter : Charter) (before : History) (day : ℕ) (caller : List ℕ) (request : Request) (reply : Reply) (after : History)
+-- an answered request leaves a legal history legal
+pub legal_after : GrowthIsLegal → (charter : Charter) (before : History) (day : ℕ) (caller : List ℕ) (request : Request) (reply : Reply) (after : History)
     → IsLegal charter before → AnswersRequest charter before day caller request reply after → IsLegal charter after
 legal_after grown charter before day caller (CommandRequest command) (Done number) after legal answers = grown charter before day caller command after legal answers.1
 legal_after grown charter before day caller (CommandRequest command) (Imported made present) after legal answers = grown charter before day caller command after legal answers.0

@@ -5,6 +5,7 @@ pub mod AsDone
 pub mod DeskLemmas
 pub mod RunLemmas
 pub mod CrashLemmas
+pub mod ResumedLemmas
 pub mod DailyLemmas
 pub mod ExportLemmas
 pub mod ExceptionLemmas

@@ -10,9 +10,10 @@ use Rattle.registry.specs.RowsOfAll.{AllRows, HasRows}
 use Rattle.registry.specs.declared.asked.Asked.{Asked}
 use Rattle.registry.specs.declared.asked.Request.{Request}
 use Rattle.tables.specs.TablesHold.{TablesHold}
+use Rattle.database.specs.Databases.{IsDeskTrees}
 use Rattle.store.specs.StoreRows.{connection_state}
 use Rattle.desk.specs.Answer.{is_accepted, AnswersRequest, IsAnswered}
-use Rattle.desk.specs.Desk.{store_of, IsOnCleanDisk}
+use Rattle.desk.specs.Desk.{charter_of, store_of, HoldsHistory, IsOnCleanDisk}
 use Rattle.desk.specs.Run.{AreAnswered}
 use Rattle.desk.specs.declared.handling.Desk.{Desk}
 use Rattle.desk.specs.declared.reply.Reply.{Reply}
@@ -25,10 +26,10 @@ asked_on day caller request = record { day = day; caller = caller; request = req
 abbrev pub StaysOpen : {S : Type 0} → Ghosts S → Desk S → Type 0
 StaysOpen g desk = IsOnCleanDisk g desk → IsTrue (connection_state g (store_of desk)).is_open
 
--- the tables hold the charter and the rows of the history
+-- the trees are those of a desk, whose tables hold the charter and the rows of the history
 abbrev pub HoldDesk : Charter → History → Trees → Type 0
 HoldDesk charter history trees =
-    (rows : AllRows) × HasRows rows history × TablesHold charter rows trees
+    (rows : AllRows) × HasRows rows history × TablesHold charter rows trees × IsDeskTrees trees
 
 -- the request is accepted on the history, and this is the history that it leaves
 abbrev pub IsAcceptedOn : Charter → History → Asked → History → Type 0
@@ -62,6 +63,11 @@ pending_after_all (asked ∷ more) [] pending = pending
 abbrev pub LeavesAtMost : {S : Type 0} → Ghosts S → Charter → Desk S → History → List Asked → Type 0
 LeavesAtMost g charter desk history pending =
     (trees : Trees) → (connection_state g (store_of desk)).may_leave trees → MayBeLeft charter history pending trees
+
+-- no request is pending: a crash leaves the history that the desk holds, and no other
+abbrev pub HasNonePending : {S : Type 0} → Ghosts S → Desk S → Type 0
+HasNonePending g desk =
+    (history : History) → HoldsHistory g desk history → LeavesAtMost g (charter_of desk) desk history []
 
 -- where that was so with the one history before, it is so with the other one after, of what is then pending
 abbrev pub LeavesAlong :

@@ -1,5 +1,6 @@
 pub mod Answer
 pub mod CrashOutcomes
+pub mod Resumed
 pub mod Run
 pub mod AsDone
 pub mod HolderAnswers

@@ -11,7 +11,9 @@ ghost use Rattle.store.specs.StoreRows.{connection_state, IfClean, IsRead, IsOpe
 ghost use Rattle.database.specs.Databases.{IsDeskWhileOpen, IsNew, IsUnused, LeavesNew};
 ghost use Rattle.database.specs.Databases.{IsHonest, IsOfAnotherSchema};
 ghost use Rattle.desk.specs.Answer.{is_accepted, only_reads, IsAnswered};
-ghost use Rattle.desk.specs.CrashOutcomes.{asked_on, AreKept, IsKept, LeavesAlong, StaysOpen};
+ghost use Rattle.desk.specs.CrashOutcomes.{asked_on, AreKept, HasNonePending, IsKept};
+ghost use Rattle.desk.specs.CrashOutcomes.{LeavesAlong, LeavesAtMost, StaysOpen};
+ghost use Rattle.desk.specs.Resumed.{FindsLeft, ResumesHistories};
 ghost use Rattle.desk.specs.Run.{AreAnswered};
 ghost use Rattle.desk.specs.HolderAnswers.{may_change, may_change_any, may_except, may_except_any};
 ghost use Rattle.desk.specs.HolderAnswers.{IsAnswerByEntries, KeepsOthers, RunsByEntries};
@@ -56,6 +58,8 @@ impl<S: Alter + Drop> Desk<S> {
             → HasCleanDisk (state S.Store conn)) }
         ensures left { IfOk result (λ desk. IfClean S.Store (store_of desk)
             (LeavesNew charter.now (connection_state S.Store (store_of desk)))) }
+        ensures none_pending { IfOk result (λ desk. IsOnCleanDisk S.Store desk
+            → LeavesAtMost S.Store charter.now desk [] []) }
         ensures no_schema { result ≢ Err StoreFault.Schema }
     {
         let store = Store::create_on(conn, charter)?;
@@ -69,6 +73,10 @@ impl<S: Alter + Drop> Desk<S> {
             (IsOpened S.Store (state S.Store conn) (store_of desk))) }
         ensures history { IfOk result (λ desk. IsOnCleanDisk S.Store desk
             → ContinuesHistories S.Store (state S.Store conn) desk) }
+        ensures resumed { IfOk result (λ desk. IsOnCleanDisk S.Store desk
+            → ResumesHistories S.Store (state S.Store conn) desk) }
+        ensures none_pending { IfOk result (λ desk. IsOnCleanDisk S.Store desk
+            → HasNonePending S.Store desk) }
         ensures unlimited { IfOk result (λ desk. (store_of desk).connection.step_limit ≡ None) }
         ensures clean { IfOk result (λ desk. IsOnCleanDisk S.Store desk
             → HasCleanDisk (state S.Store conn)) }
@@ -91,12 +99,24 @@ impl<S: Alter + Drop> Desk<S> {
             (IsOpened S.Store (state S.Store conn) (store_of desk))) }
         ensures history { IfOk result (λ desk. IsOnCleanDisk S.Store desk
             → ContinuesHistories S.Store (state S.Store conn) desk) }
+        ensures resumed { IfOk result (λ desk. IsOnCleanDisk S.Store desk
+            → ResumesHistories S.Store (state S.Store conn) desk) }
+        ensures none_pending { IfOk result (λ desk. IsOnCleanDisk S.Store desk
+            → HasNonePending S.Store desk) }
         ensures unlimited { IfOk result (λ desk. (store_of desk).connection.step_limit ≡ None) }
         ensures clean { IfOk result (λ desk. IsOnCleanDisk S.Store desk
             → HasCleanDisk (state S.Store conn)) }
         ensures err { IfErr result (λ refused.
             IsGivenBack S.Store (state S.Store conn) refused.0 refused.1) }
+        ensures not_schema { IfErr result (λ refused. HasCleanDisk (state S.Store refused.1)
+            → refused.0 ≡ StoreFault.Schema → ¬ FindsLeft (state S.Store conn)) }
     {
+        histories::laws::growth_is_legal();
+        database::laws::desk_trees_have_tables();
+        store::laws::tables_that_read_are_ours();
+        store::laws::tables_of_a_history_read();
+        // Its clause `live` is for the proof: what is shown obeys the schema.
+        let _schema = conn.schema();
         match Store::open_or_return(alloc, conn) {
             Ok(store) => Ok(Desk { alloc, store }),
             Err(refused) => Err(refused),
@@ -191,6 +211,7 @@ impl Desk<MemStore> {
     pub fn open_memory(alloc: Global, charter: &Charter) -> Result<Self, StoreFault>
         ensures charter { IfOk result (λ desk. charter_of desk ≡ charter.now) }
         ensures empty { IfOk result (λ desk. HoldsHistory over_memory desk []) }
+        ensures unlimited { IfOk result (λ desk. (store_of desk).connection.step_limit ≡ None) }
         ensures no_schema { result ≢ Err StoreFault.Schema }
     {
         let store = Store::open_memory(alloc, charter)?;

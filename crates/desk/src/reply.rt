@@ -27,7 +27,8 @@ pub enum Reply {
     /// The first rule that does not hold; for an import also its row, for a what-if request its
     /// change, counted from 1.
     Denied(Rule, Option<u64>),
-    /// An allocation failed, or the database did not answer; nothing has changed.
+    /// An allocation failed, or the database did not answer. Nothing has changed until a stop; after
+    /// one a command that was answered so may be found made.
     Unavailable,
 }
 

@@ -166,6 +166,7 @@ module _ (h : List ℕ) (old new : State) where
       record {
         ready = put.ready;
         schema = put.edits.schema;
+        sound = put.sound;
         rows = turns_rows (λ o. o ≡ None) h (λ _. Some new_rows) holder_part (λ rows. holder_row h 0 0 ∷ rows) old.now new.now put.edits (put_local 0 h (holder_row h 0 0) refl) (λ o none. rw none (IsPermutation-refl _)) refl
             (inl refl, inr (refl, refl, λ o none. ap (part_rows holding_part h) none), inr (refl, refl, λ o none. ap (part_rows granted_part h) none), inr (refl, refl, λ o none. ap (part_rows auth_part h) none));
       }

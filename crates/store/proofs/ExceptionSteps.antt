@@ -58,6 +58,7 @@ module _ (old new : State) where
         was_open = ran.1.1.was_open;
         ready = ready_still [] take_exceptions_is ready ran (deleting.applied 7 slurm refl old.now.schema [] old new _ [] ran.0 has w).2;
         schema = (deleting.applied 7 slurm refl old.now.schema [] old new _ [] ran.0 has w).2 ∙ sym has;
+        sound = λ _. w.sound;
         edits = λ whole. subst (λ by. Edits slurm.tree by old.now new.now) (λ i rows. none_left rows i)
             (deleting.takes 7 slurm refl old.now.schema [] (λ c. true) old new _ [] ran.0 has (λ r. refl) whole w);
       }
@@ -144,6 +145,7 @@ replaces file a b c d few_filters few_assertions taken filters assertions = reco
   was_open = taken.was_open;
   ready = assertions.ready;
   schema = assertions.edits.schema ∙ filters.edits.schema ∙ taken.schema;
+  sound = λ sound. assertions.sound (filters.sound (taken.sound sound));
   made = λ charter rows was.
       let first = entry_rows FilterOf file.filters in
       let last = entry_rows Assertion file.assertions in

@@ -14,3 +14,4 @@ mod EntriesFound
 mod HistoryRows
 mod HeldRead
 mod OpenedStore
+mod ReadRows

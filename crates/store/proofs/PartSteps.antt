@@ -31,7 +31,12 @@ module _ (at : ℕ) (t : Table) (there : slice_get desk_tables at ≡ Some (as_s
     pub puts_edit : (row : Row) → column row place ≡ Text h → ((r : Rows) → IsPermutation (rows h (edit r)) (row ∷ rows h r))
         → AllEdited h edit part → PutsRows t.tree (row ∷ []) old new → EditsHolder h edit old new
     puts_edit row named put parts puts =
-        record { ready = puts.ready; schema = puts.edits.schema; rows = edits_rows h edit part (λ rows. row ∷ rows) old.now new.now puts.edits (put_local place h row named) put parted parts }
+        record {
+          ready = puts.ready;
+          schema = puts.edits.schema;
+          sound = puts.sound;
+          rows = edits_rows h edit part (λ rows. row ∷ rows) old.now new.now puts.edits (put_local place h row named) put parted parts;
+        }
 
     module _ (tests : List Term) (goes : Row → Bool) (params : Row) (same : (r : Row) → picks params tests r ≡ goes (drop 1 r)) (own : (c : Row) → goes c ≡ true → names place h c ≡ true) where
       pub takes_edit : {sql : List ℕ} → Means sql (Delete at (deleting.deletion at t there old.now.schema tests)) → ((r : Rows) → rows h (edit r) ≡ filter (λ c. not (goes c)) (rows h r))
@@ -42,6 +47,7 @@ module _ (at : ℕ) (t : Table) (there : slice_get desk_tables at ≡ Some (as_s
           record {
             ready = ready_still params means ready ran (deleting.applied at t there old.now.schema tests old new _ params ran.0 has w).2;
             schema = (deleting.applied at t there old.now.schema tests old new _ params ran.0 has w).2 ∙ sym has;
+            sound = λ _. w.sound;
             rows = λ charter held was some.
                 edits_rows h edit part (filter (λ c. not (goes c))) old.now new.now (deleting.takes at t there old.now.schema tests goes old new _ params ran.0 has same (was.whole t.tree is) w)
                 (take_local place h goes own) (λ r. IsPermutation-same _ _ (taken r)) parted parts charter held was some;
@@ -57,6 +63,7 @@ module _ (at : ℕ) (t : Table) (there : slice_get desk_tables at ≡ Some (as_s
           record {
             ready = ready_still params means ready ran (updating.applied at t there old.now.schema tests sets old new _ params ran.0 has w).2;
             schema = (updating.applied at t there old.now.schema tests sets old new _ params ran.0 has w).2 ∙ sym has;
+            sound = λ _. w.sound;
             rows = λ charter held was some.
                 edits_rows h edit part (map (changed_if goes change)) old.now new.now (updating.changes at t there old.now.schema tests sets goes change old new _ params ran.0 has same sets_to (was.whole t.tree is) w)
                 (change_local place h goes own change keeps) (λ r. IsPermutation-same _ _ (changed r)) parted parts charter held was some;

@@ -5,7 +5,7 @@ use Rattle.std.proofs.lemmas.Bool.{cond-true, cond-false}
 use Rattle.std.proofs.lemmas.Result.{on_ok_weaker}
 use Rattle.std.proofs.lemmas.List.Folds.{list_any-append}
 use Rattle.std.specs.List.{list_any}
-use Rattle.sqlite.specs.Effect.{Database}
+use Rattle.sqlite.specs.Effect.{Database, IsDatabase}
 use Rattle.sqlite.specs.declared.transaction.Transaction.{Transaction}
 use Rattle.sqlite.specs.State.{State, HasCleanDisk}
 use Rattle.sqlite.specs.Store.{Ghosts}
@@ -74,10 +74,15 @@ module _ (h : List ℕ) where
   edits_as f g a b same = subst (λ e. EditsRows h e a b) (λ i r. same r i)
 
   pub done_none : (f : Rows → Rows) (old : State) → ((r : Rows) → f r ≡ r) → IsReady old → EditsHolder h f old old
-  done_none f old same ready = record { ready = ready; schema = refl; rows = edits_none f old.now same }
+  done_none f old same ready = record { ready = ready; schema = refl; sound = λ sound. sound; rows = edits_none f old.now same }
 
   pub done_then : (f g e : Rows → Rows) (a b c : State) → ((r : Rows) → g (f r) ≡ e r) → EditsHolder h f a b → EditsHolder h g b c → EditsHolder h e a c
-  done_then f g e a b c same first second = record { ready = second.ready; schema = second.schema ∙ first.schema; rows = edits_as (λ r. g (f r)) e a.now c.now same (edits_then f g a.now b.now c.now first.rows second.rows) }
+  done_then f g e a b c same first second = record {
+    ready = second.ready;
+    schema = second.schema ∙ first.schema;
+    sound = λ sound. second.sound (first.sound sound);
+    rows = edits_as (λ r. g (f r)) e a.now c.now same (edits_then f g a.now b.now c.now first.rows second.rows);
+  }
 
 -- rows without some, and then without others
 filter_both : {X Y : Type 0} (test : X → Y → Bool) (ys zs : List Y) (xs : List X)
@@ -139,6 +144,7 @@ module _ (h : List ℕ) (edit : Edit) where
     was_open = answers.was_open;
     ready = done.ready;
     schema = done.schema ∙ ap (λ (d : Database). d.schema) answers.same;
+    sound = λ sound. done.sound (subst IsDatabase (sym answers.same) sound);
     made = λ charter rows was.
         let some : IsSome (rows.of_holder h) = sym (answers.answer charter rows was) ∙ is in
         let after : AllRows = edited_at rows in
@@ -165,6 +171,7 @@ module _ (h : List ℕ) (edit : Edit) where
     was_open = answers.was_open;
     ready = done.ready;
     schema = done.schema ∙ ap (λ (d : Database). d.schema) answers.same;
+    sound = λ sound. done.sound (subst IsDatabase (sym answers.same) sound);
     made = λ charter rows was.
         let none = none_there (rows.of_holder h) (sym (answers.answer charter rows was) ∙ is) in
         let after : AllRows = edited_at rows in
@@ -177,6 +184,7 @@ module _ (h : List ℕ) (edit : Edit) where
     was_open = answers.was_open;
     ready = answers.ready;
     schema = ap (λ (d : Database). d.schema) answers.same;
+    sound = subst IsDatabase (sym answers.same);
     made = λ charter rows was.
         let none = none_there (rows.of_holder h) (sym (answers.answer charter rows was) ∙ is) in
         let after : AllRows = edited_at rows in
@@ -193,6 +201,7 @@ turned_then f g a b c first second = record {
   was_open = first.was_open;
   ready = second.ready;
   schema = second.schema ∙ first.schema;
+  sound = λ sound. second.sound (first.sound sound);
   made = λ charter rows was.
       let one = first.made charter rows was in
       let two = second.made charter (f rows) one.held in
@@ -206,5 +215,6 @@ holders_changed first second a b turned = record {
   was_open = turned.was_open;
   ready = turned.ready;
   schema = turned.schema;
+  sound = turned.sound;
   made = λ charter rows was. let it = turned.made charter rows was in (it.held, it.exceptions);
 }

@@ -1,11 +1,12 @@
 -- What a change that was tried leaves of a store.
 use Rattle.std.proofs.Common.{◌≡◌, inl, inr, Result, Ok, Err, OnOk, OnErr, IfOk, IsTrue, true, false, arith, sym, ap, subst, ◌∙◌}
-use Rattle.sqlite.specs.Effect.{Database}
+use Rattle.sqlite.specs.Effect.{Database, IsDatabase}
 use Rattle.sqlite.specs.Held.{Held, state}
-use Rattle.sqlite.specs.State.{State, HasCleanDisk, IsUnchanged, Survives, Shows}
+use Rattle.sqlite.specs.State.{State, HasCleanDisk, IsLive, IsUnchanged, Survives, Shows}
 use Rattle.sqlite.proofs.Callers.{survives_begin}
 use Rattle.sqlite.proofs.StateLemmas.{survives_then}
 use Rattle.sqlite.specs.Store.{Ghosts}
+use Rattle.sqlite_schema.specs.declared.schema.Schema.{Schema}
 use Rattle.sqlite_trees.specs.Tree.{Trees}
 use Rattle.charters.specs.CharterSets.{CharterSets}
 use Rattle.registry.specs.declared.change.Change.{Change}
@@ -13,7 +14,7 @@ use Rattle.registry.specs.RowsOfAll.{AllRows, blank_rows, changed_rows}
 use Rattle.database.specs.Queries.{IsAsBefore}
 use Rattle.store.specs.steps.Queries.{IsOfAll}
 use Rattle.store.specs.StoreRows.{StoreView, Holds, IsRead, MayLeave, LeavesOnly, PlacesExceptions, LeavesPlaced}
-use Rattle.database.specs.Databases.{IsNew, IsDeskWhileOpen}
+use Rattle.database.specs.Databases.{HasDeskTables, IsNew, IsDeskTrees, IsDeskWhileOpen, LeavesNew}
 use Rattle.store.specs.steps.Statements.{CommitsChange, MayCommit, MakesChange, RowsBecome}
 use Rattle.tables.specs.TablesHold.{TablesHold}
 
@@ -48,7 +49,7 @@ module _ {S X E : Type 0} (g : Ghosts S) (r : Result X E) (change : Change) (cha
   pub may_leave : Survives (state g old) (state g new) (MayCommit change (state g old)) → MayLeave g (over charter old) (over charter new) (changed_rows change)
   may_leave survives trees left = elim (survives.crash clean trees left) [
     | inl was ↦ inl was
-    | inr now ↦ inr (λ rows holds. subst (TablesHold charter (changed_rows change rows)) (sym now.3) (now.2 charter rows (holds (before clean) now.1)).0)
+    | inr now ↦ inr (now.4, λ rows holds. subst (TablesHold charter (changed_rows change rows)) (sym now.3) (now.2 charter rows (holds (before clean) now.1)).0)
   ]
 
   -- an open store leaves what it committed
@@ -57,8 +58,9 @@ module _ {S X E : Type 0} (g : Ghosts S) (r : Result X E) (change : Change) (cha
     where
       go : (r : Result X E) → OnOk r (CommitsChange change (state g old) (state g new)) → OnOk r (LeavesOnly g (over charter old) (over charter new) (changed_rows change))
       go (Ok a) made = λ rows holds trees left.
-          subst (TablesHold charter (changed_rows change rows)) (sym (settled trees made.is_open left ∙ ap (λ (d : Database). d.trees) made.committed))
-          (made.rows charter rows (holds (before clean) made.was_open)).0
+          let shown : IsDeskTrees (state g new).now.trees = record { schema = (state g new).now.schema; tables = made.tables; sound = made.sound } in
+          subst (λ t. TablesHold charter (changed_rows change rows) t × IsDeskTrees t) (sym (settled trees made.is_open left ∙ ap (λ (d : Database). d.trees) made.committed))
+          ((made.rows charter rows (holds (before clean) made.was_open)).0, shown)
       go (Err e) made = tt
 
   -- it places the exceptions, and they are left so
@@ -77,8 +79,10 @@ module _ {S X E : Type 0} (g : Ghosts S) (r : Result X E) (change : Change) (cha
 
 -- a new store leaves its charter and no holder
 pub leaves_new : {S : Type 0} (g : Ghosts S) (charter : CharterSets) (h : Held S) → ((trees : Trees) → IsTrue (state g h).is_open → (state g h).may_leave trees → trees ≡ (state g h).committed.trees) → IsNew charter (state g h)
-    → (trees : Trees) → (state g h).may_leave trees → TablesHold charter blank_rows trees
-leaves_new g charter h settled new trees left = subst (TablesHold charter blank_rows) (sym (settled trees new.is_open left ∙ ap (λ (d : Database). d.trees) new.settled)) new.rows
+    → LeavesNew charter (state g h)
+leaves_new g charter h settled new trees left =
+    let shown : IsDeskTrees (state g h).now.trees = record { schema = (state g h).now.schema; tables = ap (λ (s : Schema). s.tables) new.schema; sound = new.sound } in
+    subst (λ t. TablesHold charter blank_rows t × IsDeskTrees t) (sym (settled trees new.is_open left ∙ ap (λ (d : Database). d.trees) new.settled)) (new.rows, shown)
 
 -- ---- a read
 
@@ -100,23 +104,30 @@ of_store g charter old new (Err e) so clean same found = tt
 
 module _ {S : Type 0} (g : Ghosts S) (change : Change) (first begun mid last : Held S) (begins : begun ≡ record first { in_transaction = true }) where
   from_first : MakesChange (RowsBecome change) (state g begun) (state g mid) → IsTrue (state g first).is_open × RowsBecome change (state g first).now (state g mid).now × ((state g mid).now.schema ≡ (state g first).now.schema)
-  from_first turned = let it = subst (λ h. MakesChange (RowsBecome change) (state g h) (state g mid)) begins turned in (it.was_open, it.made, it.schema)
+      × (IsDatabase (state g first).now → IsDatabase (state g mid).now)
+  from_first turned = let it = subst (λ h. MakesChange (RowsBecome change) (state g h) (state g mid)) begins turned in (it.was_open, it.made, it.schema, it.sound)
 
-  pub commit_ok : MakesChange (RowsBecome change) (state g begun) (state g mid) → Shows (state g mid) (state g last) (state g mid).now (state g mid).now false → CommitsChange change (state g first) (state g last)
-  commit_ok turned shown =
+  pub commit_ok : IsLive (state g first) → MakesChange (RowsBecome change) (state g begun) (state g mid) → Shows (state g mid) (state g last) (state g mid).now (state g mid).now false → CommitsChange change (state g first) (state g last)
+  commit_ok live turned shown =
       let it = from_first turned in
       record {
         was_open = it.0;
         is_open = shown.is_open;
         tables = ap (λ (d : Database). d.schema.tables) shown.now_is ∙ turned.ready.tables shown.was_open;
         schema = ap (λ (d : Database). d.schema) shown.now_is ∙ it.2;
+        sound = subst IsDatabase (sym shown.now_is) (it.3 (live it.0).0);
         rows = subst (RowsBecome change (state g first).now) (sym shown.now_is) it.1;
         committed = shown.committed_is ∙ sym shown.now_is;
       }
 
-  pub commit_crash : Survives (state g begun) (state g mid) (λ _. ⊥) → Survives (state g mid) (state g last) (λ db. db ≡ (state g mid).now.trees) → (HasCleanDisk (state g mid) → MakesChange (RowsBecome change) (state g begun) (state g mid))
+  pub commit_crash : HasDeskTables (state g first) → IsLive (state g first) → Survives (state g begun) (state g mid) (λ _. ⊥) → Survives (state g mid) (state g last) (λ db. db ≡ (state g mid).now.trees) → (HasCleanDisk (state g mid) → MakesChange (RowsBecome change) (state g begun) (state g mid))
       → Survives (state g first) (state g last) (MayCommit change (state g first))
-  commit_crash inside end turned =
+  commit_crash tables live inside end turned =
+      let run = survives_begin g first (state g mid) (λ _. ⊥) (subst (λ h. Survives (state g h) (state g mid) (λ _. ⊥)) begins inside) in
       survives_then (state g first) (state g mid) (state g last) (λ _. ⊥) (λ db. db ≡ (state g mid).now.trees) (MayCommit change (state g first)) (λ _ db none. absurd none)
-      (λ clean db is. let it = from_first (turned (omega (arith, end.clean))) in ((state g mid).now, it.0, it.1, is))
-      (survives_begin g first (state g mid) (λ _. ⊥) (subst (λ h. Survives (state g h) (state g mid) (λ _. ⊥)) begins inside)) end
+      (λ clean db is.
+      let it = from_first (turned (omega (arith, end.clean))) in
+      let same = ap (λ (s : Schema). s.tables) it.2 ∙ tables (omega (arith, end.clean, run.clean)) it.0 in
+      let shown : IsDeskTrees (state g mid).now.trees = record { schema = (state g mid).now.schema; tables = same; sound = it.3 (live it.0).0 } in
+      ((state g mid).now, it.0, it.1, is, subst IsDeskTrees (sym is) shown))
+      run end

@@ -20,7 +20,7 @@ use Rattle.tables.specs.Tables.{desk_tables}
 use Rattle.database.specs.Databases.{IsHonest, IsOfAnotherSchema}
 use Rattle.database.specs.TablesRead.{TablesRead}
 use Rattle.store.specs.Loads.{AreLoaded, AllGiveOn}
-use Rattle.store.specs.StoreRows.{StoreView, connection_state, Holds}
+use Rattle.store.specs.StoreRows.{AreInRange, StoreView, connection_state, Holds}
 
 -- The rows of a holder after a history, as they are loaded, are its rows after the history.
 abbrev pub LoadsRowsOfHistories : Type 0
@@ -60,6 +60,16 @@ HistoriesRead =
     → IsLegal charter history → HistoryFits history → HasRows rows history
     → IsCharter charter → AllByRecursion (λ name. IsTrue (is_name name)) charter.operators
     → TablesHold charter rows trees → TablesRead trees
+
+-- Whatever rows tables hold that read, their values are in range.
+abbrev pub RowsThatReadFit : Type 0
+RowsThatReadFit =
+    (charter : Charter) (rows : AllRows) (trees : Trees)
+    → TablesHold charter rows trees → TablesRead trees → AreInRange rows
+
+-- On each day the authorizations in force of rows in range give VRPs.
+abbrev pub RowsInRangeGive : Type 0
+RowsInRangeGive = (rows : AllRows) (day : ℕ) → AreInRange rows → AllGiveOn rows day
 
 -- memory returns what was written
 abbrev pub MemoryIsHonest : Type 0

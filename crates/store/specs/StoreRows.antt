@@ -1,5 +1,5 @@
 -- What a store shows and holds, as it is and after a crash.
-use Rattle.std.specs.Prelude.{◌≡◌, ◌⊎◌, false, IsTrue, refl}
+use Rattle.std.specs.Prelude.{◌≡◌, ◌⊎◌, ℕ, List, false, IsTrue, refl}
 use Rattle.std.specs.Coded.{Coded, code_by, coded×}
 use Rattle.sqlite.specs.Held.{Held, held_code, state}
 use Rattle.sqlite.specs.State.{State, HasCleanDisk}
@@ -10,10 +10,11 @@ use Rattle.charters.specs.CharterSets.{CharterSets, IsCharter}
 use Rattle.registry.specs.declared.change.Change.{Change}
 use Rattle.registry.specs.declared.change.Change.TheVariants.{Holders, Exceptions}
 use Rattle.registry.specs.RowsOfAll.{AllRows}
-use Rattle.registry.specs.Values.{ExceptionsFit}
+use Rattle.registry.specs.Values.{ExceptionsFit, FitIfAny}
 use Rattle.tables.specs.Tables.{desk_tables, slurm, contents}
 use Rattle.tables.specs.TablesHold.{TablesHold, HoldsFile}
-use Rattle.database.specs.Databases.{AddsMissingIndex}
+use Rattle.database.specs.Databases.{AddsMissingIndex, IsDeskTrees}
+use Rattle.database.specs.TablesRead.{TablesRead}
 
 -- a store as its connection and its charter
 pub record StoreView (S : Type 0) : Type 0 where
@@ -47,18 +48,18 @@ IfClean g store so = HasCleanDisk (connection_state g store) → so
 abbrev pub HoldsAfter : {S : Type 0} → Ghosts S → StoreView S → StoreView S → RowChange → Type 0
 HoldsAfter g old new to = (rows : AllRows) → Holds g old rows → Holds g new (to rows)
 
--- A crash leaves what it left before, or rows turned so.
+-- A crash leaves what it left before, or the trees of a desk with rows turned so.
 abbrev pub MayLeave : {S : Type 0} → Ghosts S → StoreView S → StoreView S → RowChange → Type 0
 MayLeave g old new to =
     (trees : Trees) → (connection_state g new).may_leave trees
     → (connection_state g old).may_leave trees
-    ⊎ ((rows : AllRows) → Holds g old rows → TablesHold old.charter (to rows) trees)
+    ⊎ (IsDeskTrees trees × ((rows : AllRows) → Holds g old rows → TablesHold old.charter (to rows) trees))
 
--- A crash leaves rows turned so, and nothing else.
+-- A crash leaves the trees of a desk with rows turned so, and nothing else.
 abbrev pub LeavesOnly : {S : Type 0} → Ghosts S → StoreView S → StoreView S → RowChange → Type 0
 LeavesOnly g old new to =
     (rows : AllRows) → Holds g old rows → (trees : Trees)
-    → (connection_state g new).may_leave trees → TablesHold old.charter (to rows) trees
+    → (connection_state g new).may_leave trees → TablesHold old.charter (to rows) trees × IsDeskTrees trees
 
 -- What a change does to the table of exceptions: one of the SLURM file puts those of the file, each kind at the
 -- positions 1, 2, 3 and so on, and any other leaves the table as it was.
@@ -89,18 +90,24 @@ pub record IsRead {S : Type 0} (g : Ghosts S) (old new : StoreView S) : Type 0 w
 
 -- ---- an opened store
 
+-- each value of the rows is in the range of its type, and the exceptions are those of one SLURM file
+abbrev pub AreInRange : AllRows → Type 0
+AreInRange rows = ((h : List ℕ) → FitIfAny (rows.of_holder h)) × ExceptionsFit rows.exceptions
+
 -- A store over a database that was found, to which at most the index of a holder's runs was added. It holds some
--- rows, with the exceptions of one SLURM file, and what the tables held before, with its charter; and a crash
--- leaves the rows that it holds.
+-- rows, each value of which is in the range of its type, and what the tables held before, with its charter; each row
+-- that was found reads; and a crash leaves the trees of a desk with the rows that it holds.
 pub record IsOpened {S : Type 0} (g : Ghosts S) (found : State) (store : StoreView S) : Type 0 where
   pub idle : found.in_transaction ≡ false
   pub tables : found.now.schema.tables ≡ desk_tables
   pub is_open : IsTrue (connection_state g store).is_open
   pub schema : AddsMissingIndex found.now.schema (connection_state g store).now.schema
-  pub some : (rows : AllRows) × Holds g store rows × ExceptionsFit rows.exceptions
+  pub some : (rows : AllRows) × Holds g store rows × AreInRange rows
+  pub reads : TablesRead found.now.trees
   pub same :
       (charter : CharterSets) (rows : AllRows) → IsCharter charter
       → TablesHold charter rows found.now.trees → (store.charter ≡ charter) × Holds g store rows
   pub left :
       (rows : AllRows) → Holds g store rows → (trees : Trees)
       → (connection_state g store).may_leave trees → TablesHold store.charter rows trees
+  pub listed : (trees : Trees) → (connection_state g store).may_leave trees → IsDeskTrees trees

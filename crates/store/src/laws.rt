@@ -2,8 +2,8 @@
 //! laws of `histories` and `tables`.
 ghost use Rattle.store.specs.Laws.{AuthsOfHistoriesGive, ExceptionsOfHistoriesFit, HistoriesRead};
 ghost use Rattle.store.specs.Laws.{LoadsRowsOfHistories, MemoryHoldsRows, MemoryIsHonest};
-ghost use Rattle.store.specs.Laws.{MemoryStaysOpen, RowsOfHistoriesFit};
-ghost use Rattle.store.specs.Laws.{TablesThatReadAreOurs};
+ghost use Rattle.store.specs.Laws.{MemoryStaysOpen, RowsInRangeGive, RowsOfHistoriesFit};
+ghost use Rattle.store.specs.Laws.{RowsThatReadFit, TablesThatReadAreOurs};
 
 /// Where the tables hold the rows of a history, what is loaded of a holder are its rows after that
 /// history, as `registry` defines them.
@@ -45,6 +45,14 @@ pub fn tables_of_a_history_read()
     histories::laws::exceptions_in_force_fit();
     tables::laws::exceptions_are_counted();
 }
+
+/// The rows of tables that read are in range, so that after an opening no load answers `Schema`:
+/// by clause `opened` the store holds such rows, and by clause `schema` a load answers it only where
+/// all rows that the store holds have a value that does not fit.
+pub fn rows_that_read_fit()
+    ensures fit { RowsThatReadFit }
+    ensures give { RowsInRangeGive }
+{}
 
 /// A connection to memory is honest, so that what is said of an honest disk is said of it.
 pub fn memory_is_honest()

@@ -34,8 +34,10 @@ fn commit_change<S: Alter>(conn: &mut Connection<S>, change: &Change) -> Result<
     ensures crash { CommitsAtMost S.Store (MayCommit change.now) conn.old conn.new }
     ensures no_schema { result ≢ Err StoreFault.Schema }
 {
-    // Its clause `settled` is for the proof: outside a transaction all that is shown is committed.
+    // Two clauses are for the proof: outside a transaction all that is shown is committed, and what
+    // is shown obeys the schema.
     let _idle = conn.is_autocommit();
+    let _schema = conn.schema();
     let mut tx = conn.transaction();
     make_change(&mut tx, change)?;
     tx.commit()?;
@@ -129,8 +131,10 @@ impl<S: Alter + Drop> Store<S> {
     {
         match open_tables(&mut conn, alloc) {
             Ok(charter) => {
-                // Its clause `valid` is for the proof: the charter keeps its rules.
+                // Two clauses are for the proof: the charter keeps its rules, and what is shown
+                // obeys the schema.
                 let _rising = charter.operators();
+                let _schema = conn.schema();
                 Ok(Store { conn, charter })
             }
             Err(fault) => Err((fault, conn)),
@@ -272,6 +276,7 @@ impl Store<MemStore> {
     pub fn open_memory(alloc: Global, charter: &Charter) -> Result<Self, StoreFault>
         ensures charter { IfOk result (λ store. store.charter ≡ charter.now) }
         ensures rows { IfOk result (λ store. Holds over_memory store blank_rows) }
+        ensures unlimited { IfOk result (λ store. store.connection.step_limit ≡ None) }
         ensures no_schema { result ≢ Err StoreFault.Schema }
     {
         let conn = Connection::open_in_memory(alloc)?;

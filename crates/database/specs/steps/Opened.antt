@@ -1,8 +1,9 @@
 -- What the queries of all rows of the tables show.
-use Rattle.std.specs.Prelude.{ℕ, ◌≤◌, List, [], ◌∷◌, length, map, IsPermutation, ⊤}
+use Rattle.std.specs.Prelude.{ℕ, ◌≤◌, List, [], ◌∷◌, length, map, IsPermutation, IsTrue, ⊤}
 use Rattle.std.specs.List.{AllByRecursion}
 use Rattle.sqlite.specs.Effect.{Database}
 use Rattle.sqlite_value.specs.Order.{Row}
+use Rattle.addr.specs.Name.{is_name}
 use Rattle.charters.specs.CharterSets.{CharterSets}
 use Rattle.registry.specs.Values.{AuthFits, GrantFits}
 use Rattle.slurm.specs.declared.exceptions.TheConstants.{MOST_ENTRIES}
@@ -26,6 +27,7 @@ abbrev pub ShowsSchema : Database → Type 0
 ShowsSchema = ShowsRows meta.tree (0 ∷ 1 ∷ []) (schema_row ∷ [])
 
 pub record ShowsCharter (charter : CharterSets) (db : Database) : Type 0 where
+  pub named : AllByRecursion (λ name. IsTrue (is_name name)) charter.operators
   pub operators : ShowsRows operator.tree (0 ∷ []) (map operator_row charter.operators) db
   pub pool : ShowsRows pool.tree (0 ∷ 1 ∷ 2 ∷ []) (map prefix_cells charter.pool) db
 

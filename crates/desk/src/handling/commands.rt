@@ -50,6 +50,7 @@ impl<S: Alter> Desk<S> {
             KeepsOthers S.Store (may_change (Request.Command command.now))
             (may_except (Request.Command command.now)) self.old self.new) }
     {
+        // For the proof alone: the laws that it uses, of which the first reads the values.
         registry::laws::entry_fits(day, caller, command);
         histories::laws::growth_is_legal();
         histories::laws::growth_fits();

@@ -1,7 +1,7 @@
 -- What a statement within a transaction does to the rows of a holder, or to the exceptions.
 use Rattle.std.specs.Prelude.{◌≡◌, ℕ, Bool, List, [], map, IsTrue, Option, Some, None, option_map, is_some, IsSome, Result, if◌then◌else◌}
 use Rattle.sqlite.specs.declared.transaction.Transaction.{Transaction}
-use Rattle.sqlite.specs.Effect.{Database}
+use Rattle.sqlite.specs.Effect.{Database, IsDatabase}
 use Rattle.sqlite.specs.State.{State}
 use Rattle.sqlite.specs.Store.{Ghosts}
 use Rattle.sqlite_trees.specs.Tree.{Trees}
@@ -17,6 +17,7 @@ use Rattle.tables.specs.Tables.{desk_tables, slurm, IsTree}
 use Rattle.tables.specs.declared.exception.Exception.{Exception}
 use Rattle.tables.specs.steps.Edits.{Edits}
 use Rattle.tables.specs.TablesHold.{TablesHold, at_positions}
+use Rattle.database.specs.Databases.{IsDeskTrees}
 use Rattle.database.specs.Statements.{IfDone, IsReady}
 
 -- the rows of every holder turned; the exceptions stay
@@ -45,6 +46,7 @@ EditsRows h edit old new =
 pub record EditsHolder (h : List ℕ) (edit : Rows → Rows) (old new : State) : Type 0 where
   pub ready : IsReady new
   pub schema : new.now.schema ≡ old.now.schema
+  pub sound : IsDatabase old.now → IsDatabase new.now
   pub rows : EditsRows h edit old.now new.now
 
 abbrev pub IfEdited : {S X E : Type 0} (g : Ghosts S) → Result X E → List ℕ → (Rows → Rows)
@@ -64,6 +66,7 @@ pub record AnswersWhetherRegistered (h : List ℕ) (is_there : Bool) (old new : 
 pub record Registers (h : List ℕ) (old new : State) : Type 0 where
   pub ready : IsReady new
   pub schema : new.now.schema ≡ old.now.schema
+  pub sound : IsDatabase old.now → IsDatabase new.now
   pub rows :
       (charter : CharterSets) (rows : AllRows) → TablesHold charter rows old.now.trees
       → rows.of_holder h ≡ None → KeepsExceptions charter (at_holder h (λ _. Some new_rows) rows) old.now.trees new.now.trees
@@ -75,6 +78,7 @@ pub record TakesRows (tree : ℕ) (old new : State) : Type 0 where
   pub was_open : IsTrue old.is_open
   pub ready : IsReady new
   pub schema : new.now.schema ≡ old.now.schema
+  pub sound : IsDatabase old.now → IsDatabase new.now
   pub edits : IsTree (old.now.trees tree) → Edits tree (λ _. []) old.now new.now
 
 -- the rows of exceptions of one kind, at the positions from 1 up
@@ -100,6 +104,7 @@ pub record MakesChange (so : Database → Database → Type 0) (old new : State)
   pub was_open : IsTrue old.is_open
   pub ready : IsReady new
   pub schema : new.now.schema ≡ old.now.schema
+  pub sound : IsDatabase old.now → IsDatabase new.now
   pub made : so old.now new.now
 
 -- the change is made and committed, and the schema stays
@@ -108,9 +113,11 @@ pub record CommitsChange (change : Change) (old new : State) : Type 0 where
   pub is_open : IsTrue new.is_open
   pub tables : new.now.schema.tables ≡ desk_tables
   pub schema : new.now.schema ≡ old.now.schema
+  pub sound : IsDatabase new.now
   pub rows : RowsBecome change old.now new.now
   pub committed : new.committed ≡ new.now
 
--- what a commit may put on the disk: the trees of a database after the change
+-- what a commit may put on the disk: the trees of a desk after the change
 abbrev pub MayCommit : Change → State → Trees → Type 0
-MayCommit change old trees = (db : Database) × IsTrue old.is_open × RowsBecome change old.now db × (trees ≡ db.trees)
+MayCommit change old trees =
+    (db : Database) × IsTrue old.is_open × RowsBecome change old.now db × (trees ≡ db.trees) × IsDeskTrees trees

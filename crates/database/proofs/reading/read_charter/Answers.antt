@@ -1,4 +1,5 @@
 use Rattle.std.proofs.Common.{[], ◌∷◌, map, subst, sym, arith, IsPermutation}
+use Rattle.std.proofs.lemmas.List.Elements.{recursion_from_All}
 use Rattle.std.proofs.lemmas.List.Sorted.{IsPermutation-sym}
 use Rattle.sqlite.specs.Effect.{Database}
 use Rattle.sqlite.specs.Held.{state}
@@ -28,6 +29,7 @@ returns-clause-found g c clean =
     let clean_1 : HasCleanDisk (state g.S.Store c.read_table.new.conn) = omega (arith, clean, c.read_table-2.ensures.asked.survives.clean) in
     let now = (c.in_ok-operators.ensures.asked.same clean_1).0.now_is in
     charter_shown c.make_charter.result c.in_ok-operators.operators.items c.in_ok-pool.pool.items (state g.S.Store c.args.conn.now).now
+    (recursion_from_All _ _ (c.in_ok-operators.ensures.read clean_1).fit)
     (record { whole = c.in_ok-operators.ensures.tree clean_1; shown = IsPermutation-sym _ _ (c.in_ok-operators.ensures.read clean_1).same })
     (subst (ShowsRows _ _ _) now (record { whole = c.in_ok-pool.ensures.tree clean; shown = IsPermutation-sym _ _ (c.in_ok-pool.ensures.read clean).same }))
     c.make_charter.ensures.operators c.make_charter.ensures.pool

@@ -6,6 +6,7 @@ use Rattle.registry.specs.Rows.{changed_by_one}
 use Rattle.database.specs.Statements.{state_in}
 use Rattle.store.specs.steps.Statements.{each_holder, RowsBecome, MakesChange}
 use Rattle.store.proofs.RowSteps.{turned_then, holders_changed}
+use Rattle.database.proofs.StatementLemmas.{stays_then}
 use Rattle.store.proofs.change.make_change.Goals as goal
 
 pub returns-in_ok-edit_holder-in-Holders-2-clause-done : goal.returns-in_ok-edit_holder-in-Holders-2-clause-done
@@ -18,6 +19,9 @@ returns-in_ok-edit_holder-in-Holders-2-clause-done g c clean =
     let both = turned_then (each_holder (changed_by_one one)) (each_holder (changed_by_one two)) old _ new first (c.in_ok-edit_holder-in-Holders-2.ensures.done clean) in
     subst (λ (change : Change). MakesChange (RowsBecome change) old new) (sym c.in-Holders.is)
     (subst (λ (second : Option HolderChange). MakesChange (RowsBecome (Holders one second)) old new) (sym c.in-Some.is) (holders_changed one (Some two) old new both))
+
+pub returns-in_ok-edit_holder-in-Holders-2-clause-inside : goal.returns-in_ok-edit_holder-in-Holders-2-clause-inside
+returns-in_ok-edit_holder-in-Holders-2-clause-inside g c = stays_then g.S.Store _ _ _ c.edit_holder.ensures.inside c.edit_holder-in-Some.ensures.inside
 
 pub returns-in_default-clause-done : goal.returns-in_default-clause-done
 returns-in_default-clause-done g c clean =

@@ -11,7 +11,7 @@ returns-in_err-commit-clause-crash g c =
     let change = c.args.change.now in
     let end = c.commit.new.self.0 in
     let same : end ≡ c.conn-2-1.given.0 = search rules in
-    let whole = commit_crash g.S.Store change first c.transaction-tx.result.conn.now c.make_change.new.tx.conn.now end c.transaction-tx.ensures.begun c.make_change.ensures.inside.survives c.commit.ensures.survives c.in_ok-make_change.ensures.done in
+    let whole = commit_crash g.S.Store change first c.transaction-tx.result.conn.now c.make_change.new.tx.conn.now end c.transaction-tx.ensures.begun c.requires.tables c.schema-schema.ensures.live c.make_change.ensures.inside.survives c.commit.ensures.survives c.in_ok-make_change.ensures.done in
     subst (λ h. Survives (state g.S.Store first) (state g.S.Store h) (MayCommit change (state g.S.Store first))) same whole
 
 pub returns-clause-ok : goal.returns-clause-ok
@@ -22,7 +22,7 @@ returns-clause-ok g c clean =
     let same : end ≡ c.conn-2-1.given.0 = search rules in
     let late : HasCleanDisk (state g.S.Store end) = search rules in
     let turned = c.in_ok-make_change.ensures.done (omega (arith, c.commit.ensures.survives.clean)) in
-    let made = commit_ok g.S.Store change first c.transaction-tx.result.conn.now c.make_change.new.tx.conn.now end c.transaction-tx.ensures.begun turned (c.in_ok-commit.ensures.ok late).1 in
+    let made = commit_ok g.S.Store change first c.transaction-tx.result.conn.now c.make_change.new.tx.conn.now end c.transaction-tx.ensures.begun c.schema-schema.ensures.live turned (c.in_ok-commit.ensures.ok late).1 in
     subst (λ h. CommitsChange change (state g.S.Store first) (state g.S.Store h)) same made
 
 pub returns-clause-crash : goal.returns-clause-crash
@@ -31,5 +31,5 @@ returns-clause-crash g c =
     let change = c.args.change.now in
     let end = c.commit.new.self.0 in
     let same : end ≡ c.conn-2-1.given.0 = search rules in
-    let whole = commit_crash g.S.Store change first c.transaction-tx.result.conn.now c.make_change.new.tx.conn.now end c.transaction-tx.ensures.begun c.make_change.ensures.inside.survives c.commit.ensures.survives c.in_ok-make_change.ensures.done in
+    let whole = commit_crash g.S.Store change first c.transaction-tx.result.conn.now c.make_change.new.tx.conn.now end c.transaction-tx.ensures.begun c.requires.tables c.schema-schema.ensures.live c.make_change.ensures.inside.survives c.commit.ensures.survives c.in_ok-make_change.ensures.done in
     subst (λ h. Survives (state g.S.Store first) (state g.S.Store h) (MayCommit change (state g.S.Store first))) same whole

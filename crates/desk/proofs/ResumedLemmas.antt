@@ -1,0 +1,60 @@
+-- What a desk holds that was opened over what a stop left.
+use Rattle.std.proofs.Common.{inl, inr, [], refl, subst}
+use Rattle.sqlite.specs.State.{State, IsLive}
+use Rattle.sqlite.specs.Store.{Ghosts}
+use Rattle.charters.specs.CharterSets.{IsCharter}
+use Rattle.charters.specs.declared.charter.Charter.{Charter}
+use Rattle.histories.specs.Growth.{GrowthIsLegal}
+use Rattle.registry.specs.History.{History}
+use Rattle.registry.specs.Values.{HistoryFits}
+use Rattle.registry.specs.Verdict.{IsLegal}
+use Rattle.database.specs.Databases.{IsOfAnotherSchema}
+use Rattle.database.specs.Laws.{DeskTreesHaveTables}
+use Rattle.store.specs.Laws.{HistoriesRead, TablesThatReadAreOurs}
+use Rattle.store.specs.StoreRows.{IsOpened}
+use Rattle.desk.specs.CrashOutcomes.{HasNonePending, HoldDesk, LeavesAtMost, MayBeLeft}
+use Rattle.desk.specs.Desk.{store_of, ContinuesHistories, Represents}
+use Rattle.desk.specs.Resumed.{FindsLeft, ResumesHistories}
+use Rattle.desk.specs.declared.handling.Desk.{Desk}
+use Rattle.desk.proofs.HolderLemmas.{legal_after}
+
+module _ {S : Type 0} (g : Ghosts S) where
+  -- what an opened desk holds is all that a crash leaves
+  pub opened_none_pending : (found : State) (desk : Desk S) → IsOpened g found (store_of desk) → HasNonePending g desk
+  opened_none_pending found desk opened history held trees leaves =
+      inl (held.0, held.1, opened.left held.0 held.2 trees leaves, opened.listed trees leaves)
+
+  -- where the tables hold a legal history, the desk goes on with it alone
+  continued : (found : State) (desk : Desk S) → ContinuesHistories g found desk → HasNonePending g desk
+      → (charter : Charter) (history : History) → IsCharter charter → IsLegal charter history → HoldDesk charter history found.now.trees
+      → Represents g charter desk history × LeavesAtMost g charter desk history []
+  continued found desk continues alone charter history is legal held =
+      let now = continues charter history held.0 is legal held.1 held.2 in
+      (now, subst (λ (k : Charter). LeavesAtMost g k desk history []) now.chartered (alone history now.rows))
+
+  -- the tables that were found hold the history before, or that with a pending request
+  pub resumes : GrowthIsLegal → (found : State) (desk : Desk S) → ContinuesHistories g found desk → HasNonePending g desk
+      → ResumesHistories g found desk
+  resumes grown found desk continues alone charter before pending is legal (inl held) =
+      let now = continued found desk continues alone charter before is legal held in
+      (before, inl refl, now.0, now.1)
+  resumes grown found desk continues alone charter before pending is legal (inr (asked, after, among, accepted, held)) =
+      let later = legal_after grown charter before asked.day asked.caller asked.request accepted.0 after legal accepted.2 in
+      let now = continued found desk continues alone charter after is later held in
+      (after, inr (asked, among, accepted), now.0, now.1)
+
+-- what may be left of a legal history is a database of this schema
+pub left_is_ours : DeskTreesHaveTables → TablesThatReadAreOurs → HistoriesRead → GrowthIsLegal → (found : State) → IsLive found
+    → FindsLeft found → ¬ IsOfAnotherSchema found.now
+left_is_ours listed ours reads grown found live it = go it.left
+  where
+    go_on : (history : History) → IsLegal it.charter history → HistoryFits history → HoldDesk it.charter history found.now.trees → ¬ IsOfAnotherSchema found.now
+    go_on history legal fits held =
+        ours found.now (listed found.now (live it.is_open).0 held.3)
+        (reads it.charter history held.0 found.now.trees legal fits held.1 it.chartered it.named held.2)
+
+    go : MayBeLeft it.charter it.before it.pending found.now.trees → ¬ IsOfAnotherSchema found.now
+    go (inl held) = go_on it.before it.legal (it.fits it.before (inl refl)) held
+    go (inr (asked, after, among, accepted, held)) =
+        let legal = legal_after grown it.charter it.before asked.day asked.caller asked.request accepted.0 after it.legal accepted.2 in
+        go_on after legal (it.fits after (inr (asked, among, accepted))) held

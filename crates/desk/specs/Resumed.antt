@@ -1,0 +1,48 @@
+-- What a desk holds that was opened over what a stop left.
+use Rattle.std.specs.Prelude.{◌≡◌, ◌⊎◌, List, [], Contains, IsTrue}
+use Rattle.std.specs.List.{AllByRecursion}
+use Rattle.sqlite.specs.State.{State}
+use Rattle.sqlite.specs.Store.{Ghosts}
+use Rattle.addr.specs.Name.{is_name}
+use Rattle.charters.specs.CharterSets.{IsCharter}
+use Rattle.charters.specs.declared.charter.Charter.{Charter}
+use Rattle.registry.specs.History.{History}
+use Rattle.registry.specs.Values.{HistoryFits}
+use Rattle.registry.specs.Verdict.{IsLegal}
+use Rattle.registry.specs.declared.asked.Asked.{Asked}
+use Rattle.desk.specs.CrashOutcomes.{IsAcceptedOn, LeavesAtMost, MayBeLeft}
+use Rattle.desk.specs.Desk.{Represents}
+use Rattle.desk.specs.declared.handling.Desk.{Desk}
+
+-- the history before, or that history with one of the pending requests accepted
+abbrev pub IsAtMostOneMore : Charter → History → List Asked → History → Type 0
+IsAtMostOneMore charter before pending after =
+    (after ≡ before)
+    ⊎ ((asked : Asked) × Contains pending asked × IsAcceptedOn charter before asked after)
+
+-- The desk has the history before, or that history with one of the pending requests accepted. A crash leaves what the
+-- desk has and nothing else, so no request is pending any more.
+abbrev pub Resumes : {S : Type 0} → Ghosts S → Charter → History → List Asked → Desk S → Type 0
+Resumes g charter before pending desk =
+    (after : History) × IsAtMostOneMore charter before pending after
+    × Represents g charter desk after × LeavesAtMost g charter desk after []
+
+-- where the tables that were found may be left of a legal history with requests pending, the desk resumes it
+abbrev pub ResumesHistories : {S : Type 0} → Ghosts S → State → Desk S → Type 0
+ResumesHistories g found desk =
+    (charter : Charter) (before : History) (pending : List Asked)
+    → IsCharter charter → IsLegal charter before → MayBeLeft charter before pending found.now.trees
+    → Resumes g charter before pending desk
+
+-- An open connection found what may be left of a legal history with requests pending. The operators of the charter have
+-- names, and whichever request is accepted, the values of the history are those of their types.
+pub record FindsLeft (found : State) : Type 0 where
+  pub charter : Charter
+  pub before : History
+  pub pending : List Asked
+  pub is_open : IsTrue found.is_open
+  pub chartered : IsCharter charter
+  pub named : AllByRecursion (λ name. IsTrue (is_name name)) charter.operators
+  pub legal : IsLegal charter before
+  pub fits : (after : History) → IsAtMostOneMore charter before pending after → HistoryFits after
+  pub left : MayBeLeft charter before pending found.now.trees
