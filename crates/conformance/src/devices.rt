@@ -7,6 +7,7 @@ use sqlite::MemStore;
 use std::alloc::Global;
 use std::cell::Cell;
 use std::io::{BufWriter, Error, ErrorKind, Read, Write};
+use std::process::Abort;
 use std::test::Fail;
 use web::{Device, Drain, ScriptFault, Source, run_script, write_all};
 
@@ -188,59 +189,103 @@ fn reply_reaches_the_peer_before_the_next_line_is_read(rt: HostRuntime) -> Resul
     Ok(())
 }
 
-/// Counts the calls that are made of it. The first ones are interrupted, and then each of the kinds
-/// that are named fails.
+/// Every kind of error but `Interrupted`, after which a call is made again.
+const KINDS: [ErrorKind; 41] = [
+    ErrorKind::NotFound,
+    ErrorKind::PermissionDenied,
+    ErrorKind::ConnectionRefused,
+    ErrorKind::ConnectionReset,
+    ErrorKind::HostUnreachable,
+    ErrorKind::NetworkUnreachable,
+    ErrorKind::ConnectionAborted,
+    ErrorKind::NotConnected,
+    ErrorKind::AddrInUse,
+    ErrorKind::AddrNotAvailable,
+    ErrorKind::NetworkDown,
+    ErrorKind::BrokenPipe,
+    ErrorKind::AlreadyExists,
+    ErrorKind::WouldBlock,
+    ErrorKind::NotADirectory,
+    ErrorKind::IsADirectory,
+    ErrorKind::DirectoryNotEmpty,
+    ErrorKind::ReadOnlyFilesystem,
+    ErrorKind::FilesystemLoop,
+    ErrorKind::StaleNetworkFileHandle,
+    ErrorKind::InvalidInput,
+    ErrorKind::InvalidData,
+    ErrorKind::TimedOut,
+    ErrorKind::WriteZero,
+    ErrorKind::StorageFull,
+    ErrorKind::NotSeekable,
+    ErrorKind::QuotaExceeded,
+    ErrorKind::FileTooLarge,
+    ErrorKind::ResourceBusy,
+    ErrorKind::ExecutableFileBusy,
+    ErrorKind::Deadlock,
+    ErrorKind::CrossesDevices,
+    ErrorKind::TooManyLinks,
+    ErrorKind::InvalidFilename,
+    ErrorKind::ArgumentListTooLong,
+    ErrorKind::Unsupported,
+    ErrorKind::UnexpectedEof,
+    ErrorKind::OutOfMemory,
+    ErrorKind::InProgress,
+    ErrorKind::Other,
+    ErrorKind::Uncategorized,
+];
+
+/// Calls of one sort: the first ones are interrupted, and those after them may fail.
 #[derive(Drop)]
-struct Counter {
-    interruptions: Cell<usize>,
-    fails: bool,
-    flush_fails: bool,
-    calls: Cell<usize>,
-    flushes: Cell<usize>,
+struct Calls {
+    made: Cell<usize>,
+    interruptions: usize,
+    failure: Option<ErrorKind>,
 }
 
-impl Counter {
-    fn new(interruptions: usize, fails: bool, flush_fails: bool) -> Counter {
-        Counter {
-            interruptions: Cell::new(interruptions),
-            fails,
-            flush_fails,
-            calls: Cell::new(0),
-            flushes: Cell::new(0),
+impl Calls {
+    fn new(interruptions: usize, failure: Option<ErrorKind>) -> Calls {
+        Calls {
+            made: Cell::new(0),
+            interruptions,
+            failure,
         }
     }
 
-    fn answer(&self, fails: bool) -> std::io::Result<()> {
-        let interruptions = self.interruptions.get();
-        if interruptions > 0 {
-            self.interruptions.set(interruptions - 1);
+    fn answer(&self) -> std::io::Result<()> {
+        let made = self.made.get();
+        self.made.set(made.saturating_add(1));
+        if made < self.interruptions {
             return Err(Error::new(ErrorKind::Interrupted, "interrupted"));
         }
-        if fails {
-            return Err(Error::new(ErrorKind::ConnectionReset, "torn"));
+        match self.failure {
+            Some(kind) => Err(Error::new(kind, "torn")),
+            None => Ok(()),
         }
-        Ok(())
     }
+}
+
+/// Counts the reads and the writes that are made of it, and its flushes.
+#[derive(Drop)]
+struct Counter {
+    calls: Calls,
+    flushes: Calls,
 }
 
 impl Read for &Counter {
     fn read(&mut self, buffer: &mut [u8]) -> std::io::Result<usize> {
-        self.calls.set(self.calls.get().saturating_add(1));
-        self.answer(self.fails)?;
+        self.calls.answer()?;
         Ok(buffer.len())
     }
 }
 
 impl Write for &Counter {
     fn write(&mut self, bytes: &[u8]) -> std::io::Result<usize> {
-        self.calls.set(self.calls.get().saturating_add(1));
-        self.answer(self.fails)?;
+        self.calls.answer()?;
         Ok(bytes.len())
     }
 
     fn flush(&mut self) -> std::io::Result<()> {
-        self.flushes.set(self.flushes.get().saturating_add(1));
-        self.answer(self.flush_fails)
+        self.flushes.answer()
     }
 }
 
@@ -257,54 +302,104 @@ const READS: [(&str, usize, bool, usize); 4] = [
     ),
 ];
 
-#[test]
-fn device_reads(rt: HostRuntime) -> Result<(), Fail> {
+/// Where reads fail they do so with an error of this kind.
+fn assert_reads(rt: &impl Abort, kind: ErrorKind) {
     for (name, interruptions, fails, calls) in READS {
-        let counter = Counter::new(interruptions, fails, false);
+        let counter = Counter {
+            calls: Calls::new(interruptions, fails.then_some(kind)),
+            flushes: Calls::new(0, None),
+        };
         let mut device = Device::new(&counter);
         for _ in 0..2 {
             let result = device.read(&mut [0; 8]);
-            assert_eq!(rt; result.is_err(), fails, "{name}");
+            assert_eq!(rt; result.is_err(), fails, "{name}, {kind:?}");
         }
-        assert_eq!(rt; counter.calls.get(), calls, "{name}");
+        assert_eq!(rt; counter.calls.made.get(), calls, "{name}, {kind:?}");
     }
-    Ok(())
 }
 
-/// A writer's interruptions, whether its writes and its flushes then fail, and the writes and the
-/// flushes that two writes of its device make.
-const WRITES: [(&str, usize, bool, bool, usize, usize); 5] = [
-    ("each_write_is_flushed", 0, false, false, 2, 2),
-    ("interrupted_write_is_made_again", 3, false, false, 5, 2),
-    ("failed_write_is_not_made_again", 0, true, false, 1, 0),
-    ("failed_flush_is_not_made_again", 0, false, true, 1, 1),
+#[test]
+fn device_reads(rt: HostRuntime) {
+    for kind in KINDS {
+        assert_reads(&rt, kind);
+    }
+}
+
+/// How many writes are interrupted and whether they then fail, the same for flushes, and the writes
+/// and the flushes that two writes of the device make.
+const WRITES: [(&str, (usize, bool), (usize, bool), usize, usize); 7] = [
+    ("each_write_is_flushed", (0, false), (0, false), 2, 2),
+    (
+        "interrupted_write_is_made_again",
+        (3, false),
+        (0, false),
+        5,
+        2,
+    ),
+    (
+        "interrupted_flush_is_made_again",
+        (0, false),
+        (3, false),
+        2,
+        5,
+    ),
+    (
+        "failed_write_is_not_made_again",
+        (0, true),
+        (0, false),
+        1,
+        0,
+    ),
+    (
+        "failed_flush_is_not_made_again",
+        (0, false),
+        (0, true),
+        1,
+        1,
+    ),
     (
         "write_that_fails_after_interruptions_is_the_last",
-        3,
-        true,
-        false,
+        (3, true),
+        (0, false),
         4,
         0,
     ),
+    (
+        "flush_that_fails_after_interruptions_is_the_last",
+        (0, false),
+        (3, true),
+        1,
+        4,
+    ),
 ];
 
-#[test]
-fn device_writes(rt: HostRuntime) -> Result<(), Fail> {
-    for (name, interruptions, fails, flush_fails, calls, flushes) in WRITES {
-        let counter = Counter::new(interruptions, fails, flush_fails);
+/// Where writes and flushes fail they do so with an error of this kind.
+fn assert_writes(rt: &impl Abort, kind: ErrorKind) {
+    for (name, writes, flushes, calls, flush_calls) in WRITES {
+        let counter = Counter {
+            calls: Calls::new(writes.0, writes.1.then_some(kind)),
+            flushes: Calls::new(flushes.0, flushes.1.then_some(kind)),
+        };
+        let fails = writes.1 || flushes.1;
         let mut device = Device::new(&counter);
         for _ in 0..2 {
             let result = device.write(b"reply");
-            assert_eq!(rt; result.is_err(), fails || flush_fails, "{name}");
+            assert_eq!(rt; result.is_err(), fails, "{name}, {kind:?}");
         }
-        assert_eq!(rt; counter.calls.get(), calls, "{name}");
-        assert_eq!(rt; counter.flushes.get(), flushes, "{name}");
+        assert_eq!(rt; counter.calls.made.get(), calls, "{name}, {kind:?}");
+        assert_eq!(rt; counter.flushes.made.get(), flush_calls, "{name}, {kind:?}");
     }
-    Ok(())
 }
 
-/// More calls than a counter of 16 bits counts, each of which passes a byte.
-const MANY_CALLS: usize = 70_000;
+#[test]
+fn device_writes(rt: HostRuntime) {
+    for kind in KINDS {
+        assert_writes(&rt, kind);
+    }
+}
+
+/// More calls than a counter of 16 bits or a round limit counts, each of which passes a byte.
+const MANY_CALLS: usize = 100_001;
 
 #[test]
 fn device_reads_on_after_many_calls(rt: HostRuntime) -> Result<(), Fail> {

@@ -9,6 +9,8 @@ mod fakes;
 #[cfg(test)]
 mod http;
 #[cfg(test)]
+mod many_vrps;
+#[cfg(test)]
 mod opened_desks;
 #[cfg(test)]
 mod replies;

@@ -224,6 +224,23 @@ fn check_payload_order_and_repeats(rt: HostRuntime) -> Result<(), Fail> {
     )
 }
 
+/// More VRPs than a round limit, of which a route is judged on the last.
+#[test]
+fn check_takes_100_001_payloads(rt: HostRuntime) -> Result<(), Fail> {
+    let alloc = rt.alloc();
+    let mut payloads = String::from_str(alloc, "asn,prefix,maxlength\n")?;
+    for asn in 1u32..=100_001 {
+        payloads.push_str(&format!(in alloc; "AS{asn},192.0.2.0/24,24\n")?)?;
+    }
+    assert_prints(
+        &rt,
+        alloc,
+        &payloads,
+        "prefix,origin\n192.0.2.0/24,AS100001\n192.0.2.0/24,AS100002\n",
+        "192.0.2.0/24,AS100001,Valid\n192.0.2.0/24,AS100002,Invalid\n",
+    )
+}
+
 #[test]
 fn check_refuses_route_origin(rt: HostRuntime) -> Result<(), Fail> {
     assert_refuses(

@@ -1,0 +1,113 @@
+//! The requests that the desks of these tests are asked, one after the other.
+use addr::{Name, Prefix};
+use desk::Desk;
+use library_conformance::rows::{split_row, table_rows};
+use library_conformance::sheet::Sheet;
+use policy::Charter;
+use sqlite::Alter;
+use std::alloc::Global;
+use std::process::Abort;
+use std::test::Fail;
+use web::{Device, run_script};
+
+/// Each with its reply, and with the reply where it is asked once more.
+const REQUESTS: &str = r#"
+reg {"do":"register","holder":"alpha"} => {"done":null} => {"denied":"fresh"}
+reg {"do":"delegate","holder":"alpha","prefix":"192.0.2.0/24"} => {"done":null} => {"denied":"free"}
+reg {"do":"grant","holder":"alpha","name":"ann","role":"manager","scope":"all","until":"2026-12-31"} => {"done":1} => {"done":2}
+ann {"do":"create","holder":"alpha","asn":64496,"prefix":"192.0.2.0/24","max":24,"from":"2026-01-01","until":"2026-12-31"} => {"done":1} => {"denied":"same"}
+ann {"do":"import","holder":"alpha","rows":[{"asn":64497,"prefix":"192.0.2.0/25","max":25,"from":"2026-01-01","until":"2026-12-31"},{"asn":64498,"prefix":"192.0.2.128/25","max":26,"from":"2026-01-01","until":"2026-12-31"}]} => {"made":2,"present":0} => {"made":0,"present":2}
+reg {"do":"register","holder":"beta"} => {"done":null} => {"denied":"fresh"}
+reg {"do":"delegate","holder":"alpha","prefix":"198.51.100.0/24"} => {"done":null} => {"denied":"free"}
+reg {"do":"transfer","prefix":"198.51.100.0/24","giver":"alpha","taker":"beta"} => {"done":null} => {"denied":"held"}
+"#;
+
+/// How many there are.
+pub(crate) const REQUEST_COUNT: usize = 8;
+
+/// What is there once all were asked, however often.
+const AFTERWARDS: &str = r#"
+ann {"do":"list","holder":"alpha"} => {"listed":[{"number":1,"asn":64496,"prefix":"192.0.2.0/24","max":24,"from":"2026-01-01","until":"2026-12-31"},{"number":2,"asn":64497,"prefix":"192.0.2.0/25","max":25,"from":"2026-01-01","until":"2026-12-31"},{"number":3,"asn":64498,"prefix":"192.0.2.128/25","max":26,"from":"2026-01-01","until":"2026-12-31"}]}
+reg {"do":"reclaim","holder":"beta","prefix":"198.51.100.0/24"} => {"done":null}
+"#;
+
+const UNAVAILABLE: &str = r#"{"unavailable":true}"#;
+
+/// The operator `reg`, and a pool of two prefixes.
+pub(crate) fn example_charter(alloc: Global) -> Result<Charter, Fail> {
+    let mut operators = Vec::new(alloc);
+    operators.push(Name::read(b"reg").ok_or("a name")?)?;
+    let mut pool = Vec::new(alloc);
+    for text in ["192.0.2.0/24", "198.51.100.0/24"] {
+        pool.push(Prefix::read(text.as_bytes())?)?;
+    }
+    Ok(Charter::make(operators, pool)?)
+}
+
+/// The reply of the desk to a request, which has its caller before it.
+fn ask<S: Alter>(alloc: Global, desk: &mut Desk<S>, request: &str) -> Result<String, Fail> {
+    let (caller, members) = request.split_once(" {").ok_or("no caller")?;
+    let line = format!(in alloc; "{{\"day\":\"2026-03-01\",\"caller\":\"{caller}\",{members}\n")?;
+    let mut sheet = Sheet {
+        bytes: Vec::new(alloc),
+        room: usize::MAX,
+        is_interrupted: false,
+    };
+    let mut source = Device::new(line.as_bytes());
+    let mut drain = Device::new(&mut sheet);
+    run_script(alloc, &mut source, &mut drain, desk)?;
+    drop(drain);
+    let mut reply = String::from_utf8(sheet.bytes)?;
+    let end = reply.pop();
+    if end != Some('\n') {
+        return Err("no whole reply".into());
+    }
+    Ok(reply)
+}
+
+/// Asks until the desk is unavailable twice. How many requests were answered.
+pub(crate) fn ask_all<S: Alter>(
+    rt: &impl Abort,
+    alloc: Global,
+    desk: &mut Desk<S>,
+) -> Result<usize, Fail> {
+    let mut answered = 0usize;
+    for row in &table_rows(alloc, REQUESTS)? {
+        let (expected, _) = split_row(row.output)?;
+        let mut reply = ask(alloc, desk, row.input)?;
+        if reply.as_str() == UNAVAILABLE {
+            reply = ask(alloc, desk, row.input)?;
+        }
+        if reply.as_str() == UNAVAILABLE {
+            break;
+        }
+        assert_eq!(rt; reply.as_str(), expected, "{}", row.input);
+        answered = answered.saturating_add(1);
+    }
+    Ok(answered)
+}
+
+/// Asks all again. The desk had the first of them, so many as are returned, and none after these.
+pub(crate) fn count_found<S: Alter>(
+    rt: &impl Abort,
+    alloc: Global,
+    desk: &mut Desk<S>,
+) -> Result<usize, Fail> {
+    let mut found = 0usize;
+    let mut is_found = true;
+    for row in &table_rows(alloc, REQUESTS)? {
+        let (first, again) = split_row(row.output)?;
+        let reply = ask(alloc, desk, row.input)?;
+        is_found = is_found && reply.as_str() == again;
+        if is_found {
+            found = found.saturating_add(1);
+        } else {
+            assert_eq!(rt; reply.as_str(), first, "{} after {found}", row.input);
+        }
+    }
+    for row in &table_rows(alloc, AFTERWARDS)? {
+        let reply = ask(alloc, desk, row.input)?;
+        assert_eq!(rt; reply.as_str(), row.output, "{} after {found}", row.input);
+    }
+    Ok(found)
+}
