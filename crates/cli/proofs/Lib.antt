@@ -1,4 +1,3 @@
 mod ConnectionLemmas
-pub mod DeskFileLemmas
 pub mod ServingLemmas
 pub mod HistoryLemmas

@@ -1,5 +1,5 @@
 -- A desk over several connections.
-use Rattle.std.proofs.Common.{◌≡◌, ◌∙◌, ◌<◌, ℕ, Bool, true, List, [], ◌∷◌, ◌++◌, length, Result, Ok, Err, IfOk, OnOk, OnErr, ap, refl, subst, sym}
+use Rattle.std.proofs.Common.{◌≡◌, ◌∙◌, ℕ, Bool, true, List, [], ◌∷◌, ◌++◌, Result, Ok, Err, IfOk, ap, refl, subst, sym}
 use Rattle.std.specs.Result.{result_err}
 use Rattle.sqlite.specs.Store.{Ghosts}
 use Rattle.desk.specs.declared.handling.Desk.{Desk}
@@ -12,7 +12,7 @@ use Rattle.web.specs.ScriptAnswer.{IsLaterDesk}
 use Rattle.web.specs.declared.http.Extent.{Extent}
 use Rattle.web.specs.declared.http.WebFault.{WebFault}
 use Rattle.web.specs.declared.http.WebFault.TheVariants.{Read, Write}
-use Rattle.cli.specs.Serving.{AnswersInTurn, Serves, ServesEach, Transcript}
+use Rattle.cli.specs.Serving.{AnswersInTurn, Serves, Transcript}
 
 module _ {S : Type 0} (g : Ghosts S) where
   same_desk : (desk : Desk S) → IsLaterDesk g desk desk
@@ -72,15 +72,3 @@ module _ {S : Type 0} (g : Ghosts S) where
           failed refl,
         ),
       )
-
-  pub served-ok : {T E : Type 0} (result : Result T E) (day count : ℕ) (old new : Desk S) (passed : List Transcript)
-      → OnOk result (length passed ≡ count) → AnswersInTurn (Serves g day) old passed new
-      → OnOk result (ServesEach g day count old new)
-  served-ok (Ok x) day count old new passed all in_turn = (passed, all, in_turn)
-  served-ok (Err e) day count old new passed all in_turn = tt
-
-  pub served-err : {T E : Type 0} (result : Result T E) (day count : ℕ) (old new : Desk S) (passed : List Transcript)
-      → OnErr result (length passed < count) → AnswersInTurn (Serves g day) old passed new
-      → OnErr result ((served : ℕ) × (served < count) × ServesEach g day served old new)
-  served-err (Ok x) day count old new passed few in_turn = tt
-  served-err (Err e) day count old new passed few in_turn = (length passed, few, (passed, refl, in_turn))

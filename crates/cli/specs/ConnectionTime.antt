@@ -1,5 +1,5 @@
 -- The time that a connection may take, and when a call of its peer is within it.
-use Rattle.std.specs.Prelude.{ℕ, ◌+◌, ◌-◌, ◌*◌, ◌≤◌, Option, Some, None}
+use Rattle.std.specs.Prelude.{ℕ, ◌+◌, ◌-◌, ◌*◌, ◌≤◌, Option, Some, None, ⊤}
 
 -- nanoseconds of 30 seconds
 abbrev pub connection_limit : ℕ
@@ -12,3 +12,13 @@ EndsInTime None now timeout = ⊥
 EndsInTime (Some began) None timeout = ⊥
 EndsInTime (Some began) (Some now) None = ⊥
 EndsInTime (Some began) (Some now) (Some timeout) = timeout + (now - began) ≤ connection_limit
+
+-- At this reading of the clock no time is left of a connection that began then, or one of the two is not known.
+abbrev pub IsUp : Option ℕ → Option ℕ → Type 0
+IsUp None now = ⊤
+IsUp (Some began) None = ⊤
+IsUp (Some began) (Some now) = connection_limit ≤ now - began
+
+-- how many bytes of a request are discarded at most: 2 MiB
+abbrev pub discard_limit : ℕ
+discard_limit = 2 * 1_048_576

@@ -1,6 +1,5 @@
 pub mod ConnectionTime
 pub mod Connections
-pub mod DeskFiles
 pub mod ServedHistories
 pub mod Serving
 pub mod TaskFaults

@@ -1,5 +1,5 @@
 -- What `roadesk serve` does on its connections, and the line that it prints for one that failed.
-use Rattle.std.specs.Prelude.{◌≡◌, ℕ, suc, Bool, true, List, [], ◌∷◌, ◌++◌, length, Option, Some, None, codes, decimal}
+use Rattle.std.specs.Prelude.{◌≡◌, ℕ, suc, Bool, true, List, [], ◌∷◌, ◌++◌, Option, Some, None, codes, decimal}
 use Rattle.sqlite.specs.Store.{Ghosts}
 use Rattle.desk.specs.declared.handling.Desk.{Desk}
 use Rattle.http_messages.specs.Input.{IsOver}
@@ -22,18 +22,21 @@ pub record Transcript : Type 0 where
 
 -- ---- one connection
 
--- Without a fault, what was sent is the desk's response to what was received. With the first, no whole request came, no
+-- What became of a connection, where `responds old received text new` says what may be responded, and which state that
+-- leaves. Without a fault, what was sent is the response to what was received. With the first, no whole request came, no
 -- more can come, and nothing was done. With the second, a write failed within the response.
-abbrev pub EndsWith : {S : Type 0} → Ghosts S → ℕ → Desk S → Transcript → Option WebFault → Desk S → Type 0
-EndsWith g day old passed None new = RespondsTo g old day passed.received passed.sent new
-EndsWith g day old passed (Some Read) new =
+abbrev pub EndsWith : {State : Type 0} → (State → List ℕ → List ℕ → State → Type 0) → State → Transcript → Option WebFault → State → Type 0
+EndsWith responds old passed None new = responds old passed.received passed.sent new
+EndsWith responds old passed (Some Read) new =
     IsCutShort passed.received × IsOver passed.has_ended passed.read_failed × (passed.sent ≡ []) × (new ≡ old)
-EndsWith g day old passed (Some Write) new =
-    (unsent : List ℕ) × RespondsTo g old day passed.received (passed.sent ++ unsent) new × (passed.write_failed ≡ true)
+EndsWith responds old passed (Some Write) new =
+    (unsent : List ℕ) × responds old passed.received (passed.sent ++ unsent) new × (passed.write_failed ≡ true)
 
 -- a connection on a day, and the desk before and after it
 abbrev pub Serves : {S : Type 0} → Ghosts S → ℕ → Desk S → Transcript → Desk S → Type 0
-Serves g day old passed new = IsLaterDesk g old new × EndsWith g day old passed passed.fault new
+Serves g day old passed new =
+    IsLaterDesk g old new
+    × EndsWith (λ before bytes text after. RespondsTo g before day bytes text after) old passed passed.fault new
 
 -- ---- one after the other
 
@@ -42,11 +45,6 @@ abbrev pub AnswersInTurn : {State : Type 0} → (State → Transcript → State 
 AnswersInTurn answers old [] new = new ≡ old
 AnswersInTurn {State} answers old (passed ∷ later) new =
     (next : State) × answers old passed next × AnswersInTurn answers next later new
-
--- so many connections
-abbrev pub ServesEach : {S : Type 0} → Ghosts S → ℕ → ℕ → Desk S → Desk S → Type 0
-ServesEach g day count old new =
-    (passed : List Transcript) × (length passed ≡ count) × AnswersInTurn (Serves g day) old passed new
 
 -- the line for the connection of this number, counted from 1, and this fault
 abbrev pub fault_line : ℕ → ℕ → List ℕ

@@ -5,8 +5,8 @@ use Rattle.database.specs.declared.fault.StoreFault.{StoreFault}
 use Rattle.database.specs.declared.fault.StoreFault.TheVariants as store
 use Rattle.web.specs.declared.script.ScriptFault.{ScriptFault}
 use Rattle.web.specs.declared.script.ScriptFault.TheVariants as script
-use Rattle.cli.specs.declared.desk_file.OpenFault.{OpenFault}
-use Rattle.cli.specs.declared.desk_file.OpenFault.TheVariants as opening
+use Rattle.desk_files.specs.declared.file.OpenFault.{OpenFault}
+use Rattle.desk_files.specs.declared.file.OpenFault.TheVariants as opening
 
 -- a stream failed, or an allocation
 abbrev pub fault_of_script : ScriptFault → ProgramFault

@@ -1,5 +1,5 @@
 //! Clients on the loopback for tests.
-use crate::serve::serve_on;
+use crate::serve::{Incoming, Printed, serve_on};
 use addr::Day;
 use desk::Desk;
 use sqlite::Alter;
@@ -51,11 +51,19 @@ pub(crate) fn request(
     )
 }
 
+/// What a client does once its text is sent.
+#[derive(Clone, Copy)]
+pub(crate) enum AfterText {
+    ShutsWriting,
+    StaysOpen,
+}
+
 /// Binds the address; then each client connects, and sends its text and no more.
 pub(crate) fn bind_for(
     rt: &HostRuntime,
     address: &str,
     texts: &[String],
+    after: AfterText,
     clients: &mut Vec<TcpStream>,
 ) -> io::Result<TcpListener> {
     let listener = TcpListener::bind(rt, address)?;
@@ -63,7 +71,9 @@ pub(crate) fn bind_for(
     for text in texts {
         let mut client = TcpStream::connect(rt, address)?;
         client.write_all(text.as_bytes())?;
-        client.shutdown(Shutdown::Write)?;
+        if let AfterText::ShutsWriting = after {
+            client.shutdown(Shutdown::Write)?;
+        }
         clients.push(client)?;
     }
     Ok(listener)
@@ -90,12 +100,15 @@ pub(crate) fn serve<R: Clock, S: Alter>(
     desk: &mut Desk<S>,
     day: Day,
     texts: &[String],
+    after: AfterText,
 ) -> Result<Served, Fail> {
     let mut clients = Vec::new(rt.alloc());
-    let listener = bind_for(rt, "127.0.0.1:0", texts, &mut clients)?;
+    let listener = bind_for(rt, "127.0.0.1:0", texts, after, &mut clients)?;
     let mut errors = Vec::new(rt.alloc());
     let count = u32::try_from(clients.len()).unwrap_or(u32::MAX);
-    let Ok(()) = serve_on(rt.alloc(), clock, &listener, count, desk, day, &mut errors) else {
+    let mut connections = Incoming::new(clock, &listener);
+    let mut log = Printed::new(&mut errors);
+    let Ok(()) = serve_on(rt.alloc(), &mut connections, count, desk, day, &mut log) else {
         return Err(io::Error::from(ErrorKind::Other).into());
     };
     let answers = answers_to(rt, &mut clients)?;

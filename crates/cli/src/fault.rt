@@ -3,8 +3,8 @@ ghost use Rattle.std.specs.Prelude.{◌≡◌, ◌≢◌};
 ghost use Rattle.std.specs.IoError.{error_kind};
 ghost use Rattle.cli.specs.TaskFaults.{fault_of_open, fault_of_script, fault_of_store};
 
-use crate::desk_file::OpenFault;
 use command_line::ProgramFault;
+use desk_files::OpenFault;
 use sqlite::Alter;
 use std::io::{self, ErrorKind};
 use store::StoreFault;

@@ -4,7 +4,6 @@
 pub mod check_files;
 #[cfg(test)]
 mod clients;
-pub mod desk_file;
 pub mod fault;
 pub mod help;
 pub mod serve;
@@ -14,9 +13,10 @@ use addr::Day;
 use check_files::{PayloadFile, RouteFile, check_files};
 pub use command_line::{ProgramFault, Task, WordsFault, charter_from, check_on, read_words};
 use desk::Desk;
-use desk_file::{connect, make_desk, open_desk};
+use desk_files::{close_desk, connect, make_desk, open_desk};
 use fault::{fault_of_error, fault_of_open, fault_of_script};
 use help::help_text;
+use serve::{Incoming, Printed};
 use serve_desk::serve_desk;
 use sqlite_std_file::Unknown;
 use std::io::{self, ErrorKind};
@@ -117,8 +117,19 @@ fn run_serve_task<B: FnOnce() -> io::Result<TcpListener>>(
         Ok(desk) => desk,
         Err(fault) => return Err(fault_of_open(&fault)),
     };
-    serve_desk(rt, desk, bind, count, day, &mut rt.stderr())?;
-    Ok(())
+    match bind() {
+        Ok(listener) => {
+            let mut errors = rt.stderr();
+            let mut connections = Incoming::new(rt, &listener);
+            let mut log = Printed::new(&mut errors);
+            serve_desk(rt.alloc(), desk, &mut connections, count, day, &mut log)?;
+            Ok(())
+        }
+        Err(error) => {
+            let _ = close_desk(desk);
+            Err(fault_of_error(&error, ProgramFault::Socket))
+        }
+    }
 }
 
 fn run_help_task(rt: &HostRuntime) -> Result<(), ProgramFault> {

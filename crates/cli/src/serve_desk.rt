@@ -1,75 +1,54 @@
 //! The task `serve` from the desk that was opened to the files that it leaves.
-ghost use Rattle.std.specs.Prelude.{◌≡◌, IfOk, OnOk};
+ghost use Rattle.std.specs.Prelude.{◌≡◌, ◌≤◌, ◌⊎◌, ℕ, List, length, IfOk, IfErr, OnOk, true};
 ghost use Rattle.sqlite.specs.Files.{over_files};
 ghost use Rattle.sqlite_wal.specs.Reads.{AreClean};
 ghost use Rattle.registry.specs.History.{History};
 ghost use Rattle.charters.specs.declared.charter.Charter as shown;
 ghost use Rattle.desk.specs.Desk.{IsOnCleanDisk, Represents};
-ghost use Rattle.web.specs.ScriptAnswer.{IsLaterDesk};
+ghost use Rattle.cli.specs.Connections.{Accepts, Logs};
 ghost use Rattle.cli.specs.ServedHistories.{KeepServed};
-ghost use Rattle.cli.specs.Serving.{ServesEach};
+ghost use Rattle.cli.specs.Serving.{Transcript, fault_lines};
 
-use crate::desk_file::close_desk;
-use crate::fault::fault_of_error;
-use crate::serve::serve_on;
+use crate::serve::{Connections, Log, serve_on};
 use addr::Day;
 use command_line::ProgramFault;
 use desk::Desk;
-use sqlite::Alter;
+use desk_files::close_desk;
 use sqlite_disk::{Disk, Files};
 use sqlite_store::FileStore;
-use std::io::{self, Write};
-use std::net::TcpListener;
-use std::rt::HostRuntime;
+use std::alloc::Global;
 use web::Failed;
 
-/// Binds the socket, serves this many connections on this day, and ends the desk. Where the socket
-/// fails, the desk is ended too.
-pub fn serve_desk<D: Disk + Drop, B: FnOnce() -> io::Result<TcpListener>, W: Write>(
-    rt: &HostRuntime,
+/// Serves this many connections on this day, and ends the desk. Where accepting fails, the desk is
+/// ended too.
+pub fn serve_desk<D: Disk + Drop, C: Connections, L: Log>(
+    alloc: Global,
     mut desk: Desk<FileStore<D>>,
-    bind: B,
+    connections: &mut C,
     count: u32,
     day: Day,
-    errors: &mut W,
+    log: &mut L,
 ) -> Result<Files<D>, ProgramFault>
-    requires { B.IsAlwaysCallable bind }
     ensures clean { IfOk result (λ files. AreClean D.Disk files.log files.db
         → IsOnCleanDisk over_files desk) }
-    ensures kept { IfOk result (λ files. AreClean D.Disk files.log files.db
+    // Of these connections all is said: there are as many, they were accepted, the files have what
+    // they lead to, and the log has the lines of those that failed.
+    ensures served { (passed : List Transcript)
+        × (length passed ≤ count) × OnOk result (length passed ≡ count)
+        × Accepts (C.accepted connections.old) (C.accepted connections.new) passed
+        × Logs (L.has_lost log.old) (L.has_lost log.new) (L.contents log.old)
+        (L.contents log.new) (fault_lines 1 passed)
+        × IfOk result (λ files. AreClean D.Disk files.log files.db
         → (charter : shown.Charter) (history : History) → Represents over_files charter desk history
-        → KeepServed D.Disk charter day count history files) }
+        → KeepServed D.Disk charter day passed history files) }
+    ensures err { IfErr result (λ fault.
+        ((fault ≡ ProgramFault.Socket) × (C.has_failed connections.new ≡ true))
+        ⊎ (fault ≡ ProgramFault.Database)) }
 {
-    match serve_bound(rt, bind, count, &mut desk, day, errors) {
-        Ok(()) => {}
-        Err(fault) => {
-            let _ = close_desk(desk);
-            return Err(fault);
-        }
-    }
-    let files = close_desk(desk)?;
-    Ok(files)
-}
-
-/// Binds the socket and serves the connections.
-fn serve_bound<B: FnOnce() -> io::Result<TcpListener>, S: Alter, W: Write>(
-    rt: &HostRuntime,
-    bind: B,
-    count: u32,
-    desk: &mut Desk<S>,
-    day: Day,
-    errors: &mut W,
-) -> Result<(), ProgramFault>
-    requires { B.IsAlwaysCallable bind }
-    ensures ok { OnOk result (ServesEach S.Store day count desk.old desk.new) }
-    ensures later { IsLaterDesk S.Store desk.old desk.new }
-{
-    let listener = match bind() {
-        Ok(listener) => listener,
-        Err(error) => return Err(fault_of_error(&error, ProgramFault::Socket)),
-    };
-    match serve_on(rt.alloc(), rt, &listener, count, desk, day, errors) {
-        Ok(()) => Ok(()),
+    let served = serve_on(alloc, connections, count, &mut desk, day, log);
+    let files = close_desk(desk);
+    match served {
+        Ok(()) => files,
         Err(Failed) => Err(ProgramFault::Socket),
     }
 }

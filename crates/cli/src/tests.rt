@@ -1,7 +1,6 @@
 //! Runs of the program's tasks.
 use super::run_task;
-use crate::clients::{CHARTER, SETUP, answers_to, bind_for, request, serve};
-use crate::desk_file::{close_desk, open_desk};
+use crate::clients::{AfterText, CHARTER, SETUP, answers_to, bind_for, request, serve};
 use crate::help::help_text;
 use addr::Day;
 use command_line::{ProgramFault, Task};
@@ -132,13 +131,13 @@ fn a_desk_in_a_file_is_served_again(rt: HostRuntime) -> Result<(), Fail> {
 
     let mut desk = open(&rt)?;
     let texts = requests(&rt, &SETUP)?;
-    let served = serve(&rt, &rt, &mut desk, day, &texts)?;
+    let served = serve(&rt, &rt, &mut desk, day, &texts, AfterText::ShutsWriting)?;
     assert_eq!(rt; served.errors.len(), 0);
     assert!(rt; close_desk(desk).is_ok());
 
     let mut desk = open(&rt)?;
     let texts = requests(&rt, &[("ann", "GET", "/holders/alpha/auths/1", "")])?;
-    let served = serve(&rt, &rt, &mut desk, day, &texts)?;
+    let served = serve(&rt, &rt, &mut desk, day, &texts, AfterText::ShutsWriting)?;
     assert_eq!(rt; served.answers.len(), 1);
     assert!(rt;
         served.answers[0].ends_with(
@@ -180,7 +179,7 @@ fn serve_requests(
         day,
     };
     let ran = run_task(rt, &task, |address| {
-        bind_for(rt, address, &texts, &mut clients)
+        bind_for(rt, address, &texts, AfterText::ShutsWriting, &mut clients)
     });
     match ran {
         Ok(()) => answers_to(rt, &mut clients),

@@ -2,6 +2,7 @@
 ghost use Rattle.std.specs.Prelude.{◌≡◌, ◌<◌, ◌≤◌, ◌∷◌, ℕ, Bool, List, [], Option, None, true, length, IfOk, OnErr};
 ghost use Rattle.std.specs.Result.{result_err};
 ghost use Rattle.http_messages.specs.Input.{Gives, IsOver};
+ghost use Rattle.cli.specs.ConnectionTime.{discard_limit};
 ghost use Rattle.cli.specs.Connections.{Accepts};
 ghost use Rattle.cli.specs.Serving.{Serves, Transcript};
 ghost use Rattle.web.specs.declared.http.WebFault.{WebFault as Fault};
@@ -17,7 +18,7 @@ use std::time::{Clock, Instant};
 use web::{Device, Drain, Extent, Failed, Source, WebFault, serve_request};
 
 /// What answers connections, one after the other.
-pub(crate) trait AnswerConnections {
+pub trait AnswerConnections {
     // What may pass on a connection on a day, and which state that leaves.
     ghost answers: { ℕ → Self → Transcript → Self → Type 0 };
 
@@ -55,7 +56,7 @@ impl<A: Alter> AnswerConnections for Desk<A> {
 }
 
 /// Where connections come from.
-pub(crate) trait Connections {
+pub trait Connections {
     // Those that were accepted, where they are known.
     ghost accepted: { Self → Option (List Transcript) } = { λ _. None };
 
@@ -79,7 +80,7 @@ pub(crate) trait Connections {
 
 /// The connections to a listener.
 #[derive(Drop)]
-pub(crate) struct Incoming<'a, R> {
+pub struct Incoming<'a, R> {
     clock: &'a R,
     listener: &'a TcpListener,
     // Kept for proofs.
@@ -137,8 +138,8 @@ const DISCARD_LIMIT: usize = 2 * 1_048_576;
 /// Takes what the source still gives, until it ends or fails or so many bytes have come.
 fn discard<S: Source>(source: &mut S)
     ensures { (bytes : List ℕ) × Gives bytes (S.handed_out source.old) (S.handed_out source.new)
-        × (length bytes ≤ DISCARD_LIMIT)
-        × (length bytes < DISCARD_LIMIT
+        × (length bytes ≤ discard_limit)
+        × (length bytes < discard_limit
         → IsOver (S.has_ended source.new) (S.has_failed source.new)) }
 {
     let mut piece = [0; 4096];

@@ -11,7 +11,7 @@ use std::io::Write;
 use web::{Extent, WebFault};
 
 /// Where lines go. One that cannot be written is lost, and the next is tried.
-pub(crate) trait Log {
+pub trait Log {
     // What it has, where that is known.
     ghost contents: { Self → Option (List ℕ) } = { λ _. None };
 
@@ -25,7 +25,7 @@ pub(crate) trait Log {
 
 /// The log that a writer is.
 #[derive(Drop)]
-pub(crate) struct Printed<'a, W> {
+pub struct Printed<'a, W> {
     writer: &'a mut W,
     // Kept for proofs.
     has_lost: bool,

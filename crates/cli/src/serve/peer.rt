@@ -1,5 +1,5 @@
 //! The other end of a connection, with the clock that its calls are held to.
-ghost use Rattle.std.specs.Prelude.{◌≡◌, ℕ, List, Option, Some, None, IfOk, OnOk, option_map};
+ghost use Rattle.std.specs.Prelude.{◌≡◌, ℕ, List, Option, Some, None, IfOk, OnErr, OnOk, option_map};
 ghost use Rattle.std.specs.Duration.{as_nanos};
 ghost use Rattle.std.specs.Io.{ReadsAtMost, WritesAtMost};
 ghost use Rattle.std.specs.Io.KnownBytes.{Keeps, ReadConsumes, WriteAppends};
@@ -36,6 +36,7 @@ pub(crate) trait Peer {
 
     fn now(&mut self) -> io::Result<Instant>
         ensures ok { IfOk result (λ now. last_seen self.new ≡ Some (instant_nanos now)) }
+        ensures err { OnErr result (last_seen self.new ≡ None) }
         ensures began { began self.new ≡ began self.old }
         ensures remaining { Keeps (remaining self.old) (remaining self.new) }
         ensures contents { Keeps (contents self.old) (contents self.new) };
@@ -116,6 +117,7 @@ impl<R: Clock> Peer for Socket<'_, R> {
     }
 
     fn now(&mut self) -> io::Result<Instant> {
+        self.last_seen = None;
         let now = Instant::now(self.clock)?;
         self.last_seen = Some(now);
         Ok(now)

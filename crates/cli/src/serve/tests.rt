@@ -3,22 +3,27 @@ ghost use Rattle.std.specs.Prelude.{option_map};
 ghost use Rattle.std.specs.Duration.{as_nanos};
 ghost use Rattle.std.specs.Time.{instant_nanos};
 
-use super::answer_each;
-use crate::clients::{CHARTER, CREATE, SETUP, request, serve};
-use crate::serve::connections::{AnswerConnections, Connections, answer_in_time};
+mod clocks;
+mod sockets;
+
+use super::{answer_each, serve_on};
+use crate::clients::{AfterText, CHARTER, CREATE, SETUP, request, serve};
+use crate::serve::connections::{AnswerConnections, Connections, Incoming, answer_in_time};
 use crate::serve::log::Printed;
 use crate::serve::peer::Peer;
 use addr::Day;
+use clocks::{Sending, Slow};
 use command_line::charter_from;
 use desk::Desk;
 use sqlite::MemStore;
 use std::alloc::Global;
 use std::cell::Cell;
 use std::io::{self, ErrorKind, Read, Write};
+use std::net::{TcpListener, TcpStream};
 use std::process::Abort;
 use std::rt::HostRuntime;
 use std::test::Fail;
-use std::time::{Clock, Duration, Instant};
+use std::time::{Duration, Instant};
 use web::{Device, Extent, Failed, WebFault};
 
 fn desk_in_memory<R: Abort + AllocGlobal>(rt: &R) -> Desk<MemStore> {
@@ -36,7 +41,7 @@ fn denial_is_403_and_payloads_are_csv(rt: HostRuntime) -> Result<(), Fail> {
     texts.push(request(rt.alloc(), ("bob", "POST", "/holders/alpha/auths", CREATE))?)?;
     texts.push(request(rt.alloc(), ("bob", "GET", "/payloads", ""))?)?;
     let day = Day::read(b"2026-03-01").expect(&rt, "a day");
-    let served = serve(&rt, &rt, &mut desk, day, &texts)?;
+    let served = serve(&rt, &rt, &mut desk, day, &texts, AfterText::ShutsWriting)?;
     assert_eq!(rt; served.errors.len(), 0);
     assert_eq!(rt; served.answers.len(), 6);
     assert_eq!(rt;
@@ -86,7 +91,7 @@ fn a_response_arrives_whose_request_has_its_body_unread(rt: HostRuntime) -> Resu
         texts.push(String::from_str(rt.alloc(), text)?)?;
     }
     let day = Day::read(b"2026-03-01").expect(&rt, "a day");
-    let served = serve(&rt, &rt, &mut desk, day, &texts)?;
+    let served = serve(&rt, &rt, &mut desk, day, &texts, AfterText::ShutsWriting)?;
     assert_eq!(rt; served.errors.len(), 0);
     for ((_, response), answer) in REFUSED.into_iter().zip(&served.answers) {
         assert_eq!(rt; answer.as_str(), response);
@@ -94,47 +99,67 @@ fn a_response_arrives_whose_request_has_its_body_unread(rt: HostRuntime) -> Resu
     Ok(())
 }
 
-/// A clock that advances at each reading.
-#[derive(Drop)]
-struct Slow {
-    seconds: Cell<u64>,
-    step: u64,
-}
-
-impl Slow {
-    fn by(step: u64) -> Slow {
-        Slow {
-            seconds: Cell::new(0),
-            step,
-        }
-    }
-}
-
-impl Clock for Slow {
-    fn monotonic(&self) -> io::Result<Duration> {
-        let seconds = self.seconds.get();
-        self.seconds.set(seconds.saturating_add(self.step));
-        Ok(Duration::from_secs(seconds))
-    }
-
-    fn since_1970(&self) -> io::Result<Duration> {
-        Err(io::ErrorKind::Unsupported.into())
-    }
-}
+/// What clients send that stay open.
+const UNFINISHED: [&str; 2] = ["", "GET "];
 
 #[test]
 fn a_connection_has_to_end_in_time(rt: HostRuntime) -> Result<(), Fail> {
     let mut desk = desk_in_memory(&rt);
     let mut texts = Vec::new(rt.alloc());
-    texts.push(String::new(rt.alloc()))?;
-    texts.push(String::new(rt.alloc()))?;
-    let clock = Slow::by(30);
+    for text in UNFINISHED {
+        texts.push(String::from_str(rt.alloc(), text)?)?;
+    }
+    let clock = Slow::by(Duration::from_millis(29_950));
     let day = Day::read(b"2026-03-01").expect(&rt, "a day");
-    let served = serve(&rt, &clock, &mut desk, day, &texts)?;
+    let served = serve(&rt, &clock, &mut desk, day, &texts, AfterText::StaysOpen)?;
     assert_eq!(rt;
         served.errors.as_slice(),
         b"roadesk: connection 1: fault 1\nroadesk: connection 2: fault 1\n".as_slice()
     );
+    Ok(())
+}
+
+/// Heads of requests whose bodies are not read, how many bytes follow them, and the responses.
+const LONG: [(&str, usize, &str); 2] = [
+    (
+        "POST /holders/gamma/imports HTTP/1.1\r\nContent-Length: 1048577\r\n\r\n",
+        480_000,
+        "HTTP/1.1 413 Content Too Large\r\nContent-Type: application/json\r\n\
+        Content-Length: 14\r\nConnection: close\r\n\r\n{\"error\":413}\n",
+    ),
+    (
+        "DELETE /payloads HTTP/1.1\r\nContent-Length: 1048576\r\n\r\n",
+        1_048_576,
+        "HTTP/1.1 405 Method Not Allowed\r\nContent-Type: application/json\r\n\
+        Content-Length: 14\r\nAllow: GET\r\nConnection: close\r\n\r\n{\"error\":405}\n",
+    ),
+];
+
+#[test]
+fn a_response_arrives_whose_request_is_long(rt: HostRuntime) -> Result<(), Fail> {
+    let mut desk = desk_in_memory(&rt);
+    let day = Day::read(b"2026-03-01").expect(&rt, "a day");
+    for (head, length, response) in LONG {
+        let listener = TcpListener::bind(&rt, "127.0.0.1:0")?;
+        let mut client = TcpStream::connect(&rt, listener.local_addr()?)?;
+        let mut text = String::from_str(rt.alloc(), head)?;
+        for _ in 0..length {
+            text.push('a')?;
+        }
+        let clock = Sending::new(&client, text.as_bytes())?;
+        let mut errors = Vec::new(rt.alloc());
+        let mut connections = Incoming::new(&clock, &listener);
+        let mut log = Printed::new(&mut errors);
+        assert_eq!(rt;
+            serve_on(rt.alloc(), &mut connections, 1, &mut desk, day, &mut log),
+            Ok(())
+        );
+        assert_eq!(rt; errors.len(), 0, "{head}");
+        client.set_nonblocking(false)?;
+        let mut answer = String::new(rt.alloc());
+        client.read_to_string(&mut answer)?;
+        assert_eq!(rt; answer.as_str(), response);
+    }
     Ok(())
 }
 
@@ -144,6 +169,7 @@ struct Trickle<'a> {
     clock: &'a Slow,
     most: usize,
     rest: &'a [u8],
+    left: &'a Cell<usize>,
     taken: &'a mut Vec<u8>,
     began: Option<Instant>,
     last_seen: Option<Instant>,
@@ -156,12 +182,14 @@ impl<'a> Trickle<'a> {
         clock: &'a Slow,
         most: usize,
         rest: &'a [u8],
+        left: &'a Cell<usize>,
         taken: &'a mut Vec<u8>,
     ) -> io::Result<Trickle<'a>> {
         Ok(Trickle {
             clock,
             most,
             rest,
+            left,
             taken,
             began: Some(Instant::now(clock)?),
             last_seen: None,
@@ -185,6 +213,7 @@ impl Peer for Trickle<'_> {
     }
 
     fn now(&mut self) -> io::Result<Instant> {
+        self.last_seen = None;
         let now = Instant::now(self.clock)?;
         self.last_seen = Some(now);
         Ok(now)
@@ -203,7 +232,9 @@ impl Peer for Trickle<'_> {
     fn read(&mut self, buffer: &mut [u8]) -> io::Result<usize> {
         self.last_seen = None;
         let count = self.most.min(buffer.len());
-        self.rest.read(&mut buffer[..count])
+        let given = self.rest.read(&mut buffer[..count])?;
+        self.left.set(self.rest.len());
+        Ok(given)
     }
 
     fn write(&mut self, bytes: &[u8]) -> io::Result<usize> {
@@ -218,29 +249,37 @@ const REQUEST: &str = "GET /payloads HTTP/1.1\r\nDesk-Caller: reg\r\nContent-Len
 const RESPONSE: &str = "HTTP/1.1 200 OK\r\nContent-Type: text/csv\r\nContent-Length: 21\r\n\
     Connection: close\r\n\r\nasn,prefix,maxlength\n";
 
+/// A request, and bytes after its end.
+const TWO_REQUESTS: &[u8] =
+    b"GET /payloads HTTP/1.1\r\nDesk-Caller: reg\r\nContent-Length: 0\r\n\r\nGET /";
+
 /// How many bytes pass at a call, the seconds between two readings of the clock on the side that
-/// reads and on the one that writes, and what becomes of the connection.
-const TRICKLES: [(usize, u64, u64, Result<Extent, WebFault>, &str); 3] = [
-    (3, 0, 0, Ok(Extent::Whole), RESPONSE),
-    (1, 1, 0, Err(WebFault::Read), ""),
-    (3, 0, 30, Err(WebFault::Write), ""),
+/// reads and on the one that writes, what becomes of the connection, and how many bytes the client
+/// still has to send.
+const TRICKLES: [(usize, u64, u64, Result<Extent, WebFault>, &str, usize); 3] = [
+    (3, 0, 0, Ok(Extent::Whole), RESPONSE, 5),
+    (1, 1, 0, Err(WebFault::Read), "", 39),
+    (3, 0, 30, Err(WebFault::Write), "", 5),
 ];
 
 #[test]
 fn peers_that_trickle(rt: HostRuntime) -> Result<(), Fail> {
     let mut desk = desk_in_memory(&rt);
     let day = Day::read(b"2026-03-01").expect(&rt, "a day");
-    for (most, reading, writing, result, response) in TRICKLES {
-        let (reading, writing) = (Slow::by(reading), Slow::by(writing));
+    for (most, reading, writing, result, response, left) in TRICKLES {
+        let reading = Slow::by(Duration::from_secs(reading));
+        let writing = Slow::by(Duration::from_secs(writing));
+        let (unread, none) = (Cell::new(TWO_REQUESTS.len()), Cell::new(0));
         let mut sent = Vec::new(rt.alloc());
         let mut taken = Vec::new(rt.alloc());
-        let from = Trickle::new(&reading, most, REQUEST.as_bytes(), &mut sent)?;
-        let to = Trickle::new(&writing, most, b"", &mut taken)?;
+        let from = Trickle::new(&reading, most, TWO_REQUESTS, &unread, &mut sent)?;
+        let to = Trickle::new(&writing, most, b"", &none, &mut taken)?;
         assert_eq!(rt;
             answer_in_time(rt.alloc(), from, to, &mut desk, day),
             result
         );
         assert_eq!(rt; taken.as_slice(), response.as_bytes());
+        assert_eq!(rt; unread.get(), left);
     }
     Ok(())
 }

@@ -1,8 +1,8 @@
 //! The stream of a connection that has to end in time.
-ghost use Rattle.std.specs.Prelude.{◌≡◌, ◌+◌, ◌-◌, ◌≤◌, Some, IfOk};
+ghost use Rattle.std.specs.Prelude.{◌≡◌, ◌+◌, ◌-◌, ◌≤◌, Some, IfOk, OnErr};
 ghost use Rattle.std.specs.Duration.{as_nanos};
 ghost use Rattle.std.specs.Io.KnownBytes.{Keeps};
-ghost use Rattle.cli.specs.ConnectionTime.{EndsInTime};
+ghost use Rattle.cli.specs.ConnectionTime.{EndsInTime, IsUp};
 
 use crate::serve::peer::Peer;
 use std::io::{self, ErrorKind, Read, Write};
@@ -25,10 +25,12 @@ impl<P: Peer> Timed<P> {
         Timed { peer }
     }
 
-    /// What is left of its time, which is some.
+    /// What is left of its time, which is some. Fails where none is, or the clock does.
     fn time_left(&mut self) -> io::Result<Duration>
         ensures ok { IfOk result (λ left. EndsInTime (P.began self.new.peer)
             (P.last_seen self.new.peer) (Some (as_nanos left))) }
+        ensures err { OnErr result
+            (IsUp (P.began self.new.peer) (P.last_seen self.new.peer)) }
         ensures remaining { Keeps (P.remaining self.old.peer) (P.remaining self.new.peer) }
         ensures contents { Keeps (P.contents self.old.peer) (P.contents self.new.peer) }
     {

@@ -1,6 +1,6 @@
 use Rattle.std.proofs.Common.{subst, []}
-use Rattle.cli.specs.DeskFiles.{KeepDesk}
-use Rattle.cli.proofs.desk_file.make_desk.Goals as goal
+use Rattle.desk_files.specs.DeskFiles.{KeepDesk}
+use Rattle.desk_files.proofs.file.make_desk.Goals as goal
 
 pub returns-clause-made : goal.returns-clause-made
 returns-clause-made g c clean =

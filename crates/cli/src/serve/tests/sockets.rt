@@ -1,0 +1,209 @@
+//! Sockets that are held to a clock.
+ghost use Rattle.std.specs.Prelude.{⊤};
+
+use super::clocks::Slow;
+use crate::clients::{AfterText, bind_for};
+use crate::serve::connections::{AnswerConnections, Connections, Incoming};
+use crate::serve::peer::Socket;
+use crate::serve::timed::Timed;
+use addr::Day;
+use std::alloc::Global;
+use std::io::{self, Read, Write};
+use std::net::{TcpListener, TcpStream};
+use std::rt::HostRuntime;
+use std::test::Fail;
+use std::time::{Duration, Instant};
+use web::{Drain, Extent, Failed, Source, WebFault};
+
+/// The two ends of a connection.
+fn connect(rt: &HostRuntime) -> io::Result<(TcpStream, TcpStream)> {
+    let listener = TcpListener::bind(rt, "127.0.0.1:0")?;
+    let client = TcpStream::connect(rt, listener.local_addr()?)?;
+    let (stream, _) = listener.accept()?;
+    Ok((client, stream))
+}
+
+/// How long a connection has lasted at a call, and the timeout that the socket then has, in
+/// milliseconds.
+const TIMEOUTS: [(u64, u64); 3] = [(0, 30_000), (29_000, 1_000), (29_500, 500)];
+
+#[test]
+fn a_call_has_the_time_that_is_left(rt: HostRuntime) -> Result<(), Fail> {
+    for (elapsed, timeout) in TIMEOUTS {
+        let (mut client, stream) = connect(&rt)?;
+        client.write_all(b"a")?;
+        let clock = Slow::by(Duration::ZERO);
+        let began = Instant::now(&clock).ok();
+        clock.advance(Duration::from_millis(elapsed));
+        let timeout = Some(Duration::from_millis(timeout));
+        let mut socket = Timed::new(Socket::new(&clock, &stream, began));
+        let mut piece = [0; 4];
+        assert_eq!(rt; socket.read(&mut piece)?, 1, "{elapsed}");
+        assert_eq!(rt; stream.read_timeout()?, timeout, "{elapsed}");
+        assert_eq!(rt; stream.write_timeout()?, None, "{elapsed}");
+        assert_eq!(rt; socket.write(b"a")?, 1, "{elapsed}");
+        assert_eq!(rt; stream.write_timeout()?, timeout, "{elapsed}");
+    }
+    Ok(())
+}
+
+#[test]
+fn calls_a_second_apart_are_made_for_30_seconds(rt: HostRuntime) -> Result<(), Fail> {
+    let (mut client, stream) = connect(&rt)?;
+    client.write_all([b'a'; 31].as_slice())?;
+    let second = Duration::from_secs(1);
+    let (reading, writing) = (Slow::by(second), Slow::by(second));
+    let mut from = Timed::new(Socket::new(&reading, &stream, Instant::now(&reading).ok()));
+    let mut to = Timed::new(Socket::new(&writing, &stream, Instant::now(&writing).ok()));
+    let mut piece = [0; 1];
+    for number in 1..=31 {
+        let is_in_time = number <= 29;
+        assert_eq!(rt; from.read(&mut piece).is_ok(), is_in_time, "{number}");
+        assert_eq!(rt; to.write(b"a").is_ok(), is_in_time, "{number}");
+    }
+    Ok(())
+}
+
+/// What is done of a connection whose client sends and takes nothing.
+#[derive(Clone, Copy)]
+enum Action {
+    Read,
+    WriteOn,
+    AnswerPart,
+    AnswerWhole,
+}
+
+/// Does one thing of a connection, shortly before its time is up.
+#[derive(Drop)]
+struct Late<'a> {
+    clock: &'a Slow,
+    action: Action,
+    written: usize,
+}
+
+/// How many pieces no socket has room for.
+const PIECES: u32 = 4096;
+
+impl Late<'_> {
+    /// Writes pieces until the drain fails.
+    fn write_on<D: Drain>(&mut self, drain: &mut D) {
+        let piece = [b'a'; 16_384];
+        for _ in 0..PIECES {
+            match drain.write(&piece) {
+                Ok(count) if count > 0 => self.written = self.written.saturating_add(count),
+                _ => return,
+            }
+        }
+    }
+}
+
+impl AnswerConnections for Late<'_> {
+    ghost answers = { λ _ _ _ _. ⊤ };
+
+    fn answer<S: Source, D: Drain>(
+        &mut self,
+        _alloc: Global,
+        source: &mut S,
+        drain: &mut D,
+        _day: Day,
+    ) -> Result<Extent, WebFault> {
+        self.clock.advance(Duration::from_millis(29_950));
+        match self.action {
+            Action::Read => match source.read(&mut [0; 4]) {
+                Ok(_) => Ok(Extent::Whole),
+                Err(Failed) => Err(WebFault::Read),
+            },
+            Action::WriteOn => {
+                self.write_on(drain);
+                Err(WebFault::Write)
+            }
+            Action::AnswerPart => Ok(Extent::Part),
+            Action::AnswerWhole => Ok(Extent::Whole),
+        }
+    }
+}
+
+/// What is done of the connection, what becomes of it, and how often the clock is read, where that
+/// is known.
+const SILENT: [(&str, Action, Result<Extent, WebFault>, Option<u32>); 4] = [
+    ("a read", Action::Read, Err(WebFault::Read), Some(2)),
+    (
+        "a long response",
+        Action::WriteOn,
+        Err(WebFault::Write),
+        None,
+    ),
+    (
+        "a part, and the rest",
+        Action::AnswerPart,
+        Ok(Extent::Part),
+        Some(2),
+    ),
+    ("the whole", Action::AnswerWhole, Ok(Extent::Whole), Some(1)),
+];
+
+#[test]
+fn a_silent_client_does_not_hold_the_desk(rt: HostRuntime) -> Result<(), Fail> {
+    let day = Day::read(b"2026-03-01").expect(&rt, "a day");
+    let mut texts = Vec::new(rt.alloc());
+    texts.push(String::new(rt.alloc()))?;
+    for (name, action, result, readings) in SILENT {
+        let mut clients = Vec::new(rt.alloc());
+        let listener = bind_for(
+            &rt,
+            "127.0.0.1:0",
+            &texts,
+            AfterText::StaysOpen,
+            &mut clients,
+        )?;
+        let clock = Slow::by(Duration::ZERO);
+        let mut late = Late {
+            clock: &clock,
+            action,
+            written: 0,
+        };
+        let start = Instant::now(&rt)?;
+        let ended = Incoming::new(&clock, &listener).answer_next(rt.alloc(), &mut late, day);
+        assert!(rt; start.elapsed(&rt)? < Duration::from_secs(10), "{name}");
+        assert_eq!(rt; ended, Ok(result), "{name}");
+        if let Some(count) = readings {
+            assert_eq!(rt; clock.readings(), count, "{name}");
+        }
+        for client in clients {
+            assert_eq!(rt; bytes_left(client)?, late.written, "{name}");
+        }
+    }
+    Ok(())
+}
+
+/// How many bytes a client still has to take.
+fn bytes_left(mut client: TcpStream) -> io::Result<usize> {
+    let mut piece = [0; 16_384];
+    let mut left = 0usize;
+    for _ in 0..u64::MAX {
+        let count = client.read(&mut piece)?;
+        if count == 0 {
+            break;
+        }
+        left = left.saturating_add(count);
+    }
+    Ok(left)
+}
+
+#[test]
+fn time_begins_once_a_connection_is_accepted(rt: HostRuntime) -> Result<(), Fail> {
+    let day = Day::read(b"2026-03-01").expect(&rt, "a day");
+    let listener = TcpListener::bind(&rt, "127.0.0.1:0")?;
+    // With no client to wait for, accepting fails.
+    listener.set_nonblocking(true)?;
+    let clock = Slow::by(Duration::ZERO);
+    let mut late = Late {
+        clock: &clock,
+        action: Action::AnswerWhole,
+        written: 0,
+    };
+    let ended = Incoming::new(&clock, &listener).answer_next(rt.alloc(), &mut late, day);
+    assert_eq!(rt; ended, Err(Failed));
+    assert_eq!(rt; clock.readings(), 0);
+    Ok(())
+}

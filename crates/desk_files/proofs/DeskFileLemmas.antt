@@ -1,0 +1,148 @@
+-- What an end and a stop leave of a desk's files, and what the next open finds there.
+use Rattle.std.proofs.Common.{◌≡◌, ap, sym, subst, ◌∙◌, IsTrue, List, Result, Ok, Err, IfOk, arith}
+use Rattle.std.proofs.Math.Logic.{∥∥₁_elim, ∥∥₁_map}
+use Rattle.sqlite_disk.specs.declared.Disk.{Ghosts}
+use Rattle.sqlite_disk.specs.declared.Files.{Files}
+use Rattle.sqlite_wal.specs.Files.{outcomes}
+use Rattle.sqlite_wal.specs.Reads.{AreClean}
+use Rattle.sqlite_wal.specs.Recovery.{Image}
+use Rattle.sqlite_pool.proofs.StateLemmas.{clean_is, may_leave_is}
+use Rattle.sqlite_trees.specs.Props.{Trees-set}
+use Rattle.sqlite_trees.specs.Tree.{Trees}
+use Rattle.sqlite_trees.specs.View.{IsClean, IsQuiet}
+use Rattle.sqlite_trees.proofs.Doubt.{no_doubt}
+use Rattle.sqlite_store.specs.FileStore.{faults, files, is_shielded, recovers, view}
+use Rattle.sqlite_store.specs.declared.store.FileStore.{FileStore}
+use Rattle.sqlite.specs.Closing.{IsCopied}
+use Rattle.sqlite.specs.Files.{file_state, image_of, over_files, Finds, HoldsDatabase, IsOpened}
+use Rattle.sqlite.specs.Held.{AreDatabases, Held}
+use Rattle.sqlite.specs.Start.{FindsIn}
+use Rattle.sqlite.specs.State.{HasCleanDisk, IsLive}
+use Rattle.sqlite.proofs.Theorems.{opens_again}
+use Rattle.charters.specs.CharterSets.{IsCharter}
+use Rattle.registry.specs.History.{History}
+use Rattle.registry.specs.declared.asked.Asked.{Asked}
+use Rattle.charters.specs.declared.charter.Charter.{Charter}
+use Rattle.tables.specs.TablesHold.{TablesHold}
+use Rattle.database.specs.Databases.{IsDeskTrees, IsDeskWhileOpen}
+use Rattle.desk.specs.CrashOutcomes.{LeavesAtMost, MayBeLeft}
+use Rattle.desk.specs.Desk.{charter_of, ContinuesHistories, HoldsHistory, IsOnCleanDisk, Represents}
+use Rattle.desk.specs.Resumed.{FindsLeft, ResumesHistories}
+use Rattle.desk.specs.declared.handling.Desk.{Desk}
+use Rattle.desk_files.specs.DeskFiles.{AreLeftFiles, AreLeftOfLegal, ContinuesFiles, IsOver, KeepDesk, ResumesFiles}
+
+-- a disk that returned what was written until the close did so before
+pub closed_clean : {D : Type 0} {g : Ghosts D} (desk : Desk (FileStore D g)) (conn : Held (FileStore D g)) (files : Files D)
+    → conn ≡ desk.store.connection → IsCopied conn files → IsOnCleanDisk over_files desk
+closed_clean desk conn files same copied = subst (λ h. HasCleanDisk (file_state h)) same copied.was_clean
+
+-- what was committed is what the desk shows
+pub closed_keeps : {D : Type 0} (g : Ghosts D) (desk : Desk (FileStore D g)) (conn : Held (FileStore D g)) (files : Files D)
+    (history : History)
+    → conn ≡ desk.store.connection → IsDeskWhileOpen (file_state conn) → IsLive (file_state conn) → IsCopied conn files
+    → HoldsHistory over_files desk history → KeepDesk g (charter_of desk) history files
+closed_keeps g desk conn files history same settled obeyed copied holds =
+    let clean = closed_clean desk conn files same copied in
+    let live = subst (λ h. IsTrue (file_state h).is_open) same copied.was_open in
+    let kept = settled copied.was_clean copied.was_open in
+    let trees = ap (λ d. d.trees) kept.settled ∙ ap (λ h. (file_state h).now.trees) same in
+    let listed : IsDeskTrees (file_state conn).committed.trees = record {
+      schema = (file_state conn).committed.schema;
+      tables = ap (λ d. d.schema.tables) kept.settled ∙ kept.tables;
+      sound = (obeyed copied.was_open).1;
+    } in
+    record {
+      trees = (file_state conn).committed.trees;
+      desk = (holds.0, holds.1, subst (TablesHold (charter_of desk) holds.0) (sym trees) (holds.2 clean live), listed);
+      seen = copied.seen;
+      left = copied.left;
+    }
+
+-- an opened connection shows the tables that the files hold
+shown_trees : {D : Type 0} {g : Ghosts D} (image : Image) (conn : Held (FileStore D g)) (trees : Trees)
+    → IsOpened conn → FindsIn image (file_state conn) → ∥ HoldsDatabase image trees ∥₁ → (file_state conn).now.trees ≡ trees
+shown_trees image conn trees opened found held =
+    ap (λ d. d.trees) opened.0.clean ∙ ∥∥₁_elim held (Trees-set _ _) (found.holds trees)
+
+-- an opened desk continues what the files hold
+pub opened_continues : {D : Type 0} {g : Ghosts D} (image : Image) (conn : Held (FileStore D g)) (desk : Desk (FileStore D g))
+    → IsOpened conn → FindsIn image (file_state conn) → ContinuesHistories over_files (file_state conn) desk
+    → ContinuesFiles image desk
+opened_continues image conn desk opened found continues charter history chartered legal files =
+    let trees = shown_trees image conn files.0 opened found files.2 in
+    continues charter history files.1.0 chartered legal files.1.1
+    (subst (TablesHold charter files.1.0) (sym trees) files.1.2)
+
+-- an opened desk resumes what a crash left in the files
+pub opened_resumes : {D : Type 0} {g : Ghosts D} (image : Image) (conn : Held (FileStore D g)) (desk : Desk (FileStore D g))
+    → IsOpened conn → FindsIn image (file_state conn) → ResumesHistories over_files (file_state conn) desk
+    → ResumesFiles image desk
+opened_resumes image conn desk opened found resumes charter before pending chartered legal files =
+    let trees = shown_trees image conn files.0 opened found files.2 in
+    resumes charter before pending chartered legal (subst (MayBeLeft charter before pending) (sym trees) files.1)
+
+-- an opened connection found what the files may be left of
+pub opened_finds_left : {D : Type 0} {g : Ghosts D} (image : Image) (conn : Held (FileStore D g))
+    → IsOpened conn → FindsIn image (file_state conn) → AreLeftOfLegal image → FindsLeft (file_state conn)
+opened_finds_left image conn opened found it =
+    let trees = shown_trees image conn it.left.0 opened found it.left.2 in
+    record {
+      charter = it.charter;
+      before = it.before;
+      pending = it.pending;
+      is_open = opened.0.is_open;
+      chartered = it.chartered;
+      named = it.named;
+      legal = it.legal;
+      fits = it.fits;
+      left = subst (MayBeLeft it.charter it.before it.pending) (sym trees) it.left.1;
+    }
+
+-- a connection that found what the files held was opened over files that read so
+pub finds_over : {D : Type 0} {g : Ghosts D} (files : Files D) (conn : Held (FileStore D g))
+    → (HasCleanDisk (file_state conn) → IsOpened conn) → (HasCleanDisk (file_state conn) → Finds files conn)
+    → IsOver conn (image_of g files)
+finds_over files conn opened found clean =
+    let it = found clean in
+    (opened clean, record { holds = it.holds; reads = it.reads })
+
+-- a desk that continues the files of one that was closed has its history
+pub reopened_same : {D : Type 0} (g : Ghosts D) (desk again : Desk (FileStore D g)) (files : Files D) (charter : Charter)
+    (history : History)
+    → ((history : History) → HoldsHistory over_files desk history → KeepDesk g (charter_of desk) history files)
+    → ContinuesFiles (image_of g files) again → IsCharter charter → Represents over_files charter desk history
+    → Represents over_files charter again history
+reopened_same g desk again files charter history keeps continues chartered is =
+    let kept = subst (λ held. KeepDesk g held history files) is.chartered (keeps history is.rows) in
+    continues charter history chartered is.legal (kept.trees, kept.desk, kept.seen.both)
+
+pub if_ok_both : {T E : Type 0} (result : Result T E) (P Q R : T → Type 0) → ((x : T) → P x → Q x → R x) → IfOk result P
+    → IfOk result Q → IfOk result R
+if_ok_both (Ok x) P Q R both p q = both x p q
+if_ok_both (Err e) P Q R both p q = tt
+
+-- what is left of a desk's files by a process that ends
+module _ {D : Type 0} (g : Ghosts D) (desk : Desk (FileStore D g)) (conn : Held (FileStore D g)) (back : FileStore D g)
+    (same : conn ≡ desk.store.connection) (quiet : IsQuiet view faults recovers is_shielded conn.store back) where
+  stopped_store : (log db : D) → (log, db) ≡ files back → AreClean g log db → IsClean (view back)
+  stopped_store log db given clean = no_doubt _ (clean_is back.pool ∙ subst (λ p. AreClean g p.0 p.1) given clean)
+
+  pub stopped_clean : (log db : D) → (log, db) ≡ files back → AreClean g log db → IsOnCleanDisk over_files desk
+  stopped_clean log db given clean =
+      let none = stopped_store log db given clean in
+      subst (λ h. HasCleanDisk (file_state h)) same (omega (arith, none, quiet.clean))
+
+  pub stopped_left : (log db : D) → (log, db) ≡ files back → AreClean g log db
+      → (IsClean (view back) → IsTrue (view back).is_numbered) → (IsClean (view back) → AreDatabases (recovers back))
+      → (charter : Charter) (history : History) (pending : List Asked)
+      → LeavesAtMost over_files charter desk history pending
+      → (image : Image) → outcomes g log db image → ∥ AreLeftFiles image charter history pending ∥₁
+  stopped_left log db given clean numbered sound charter history pending left image may =
+      let none = stopped_store log db given clean in
+      let held = subst (λ p. AreClean g p.0 p.1) given clean in
+      let at = may_leave_is back.pool image held (subst (λ p. outcomes g p.0 p.1 image) given may) in
+      ∥∥₁_map (opens_again back (numbered none) (sound none) image at) (λ db. let r : AreLeftFiles image charter history pending = (
+        db.0,
+        left db.0 (subst (λ h. (file_state h).may_leave db.0) same (quiet.outcomes db.0 db.1)),
+        ∣ db.2 ∣₁,
+      ) in r)

@@ -1,0 +1,2 @@
+pub mod DeskFileLemmas
+pub mod LifeLemmas

@@ -1,0 +1,92 @@
+-- What a desk has after a crash, and after lives with a crash after each.
+use Rattle.std.proofs.Common.{◌≡◌, ℕ, ◌+◌, ◌<◌, List, [], ◌∷◌, ◌++◌, length, get_or, map, take, refl, sym, ap, ◌∙◌, subst}
+use Rattle.std.specs.Borrow.{Bor}
+use Rattle.std.specs.Global.{Vec}
+use Rattle.std.proofs.lemmas.List.{map-append, take_more}
+use Rattle.sqlite.specs.Held.{Held, state}
+use Rattle.sqlite.specs.Store.{Ghosts}
+use Rattle.sqlite_trees.specs.View.{IsQuiet}
+use Rattle.charters.specs.declared.charter.Charter.{Charter}
+use Rattle.registry.specs.History.{History}
+use Rattle.registry.specs.Verdict.{IsLegal}
+use Rattle.registry.specs.declared.asked.Asked.{Asked}
+use Rattle.desk.specs.CrashOutcomes.{pending_after_all, AreKept, MayBeLeft}
+use Rattle.desk.specs.Desk.{charter_of, HoldsHistory}
+use Rattle.desk.specs.Resumed.{IsAtMostOneMore, ResumesHistories}
+use Rattle.desk.specs.Run.{Runs}
+use Rattle.desk.specs.declared.handling.Desk.{Desk}
+use Rattle.desk.specs.declared.reply.Reply.{Reply}
+use Rattle.desk_files.specs.Lives.{Lives, LivesOn, ResumesAfter}
+
+abbrev requests : Bor (List Asked) → List Asked
+requests asked = asked.now
+
+abbrev items : Vec Reply → List Reply
+items list = list.items
+
+-- one more life at the end
+Lives-append : (charter : Charter) (before middle left next : History) (lives : List (List Asked)) (replies : List (List Reply))
+    (asked : List Asked) (list : List Reply)
+    → Lives charter before lives replies middle → Runs charter middle asked list left
+    → IsAtMostOneMore charter left (pending_after_all asked list []) next
+    → Lives charter before (lives ++ asked ∷ []) (replies ++ list ∷ []) next
+Lives-append charter before middle left next [] [] asked list lived runs more =
+    (left, next, subst (λ (h : History). Runs charter h asked list left) lived runs, more, refl)
+Lives-append charter before middle left next [] (r ∷ replies) asked list lived runs more = absurd lived
+Lives-append charter before middle left next (a ∷ lives) [] asked list lived runs more = absurd lived
+Lives-append charter before middle left next (a ∷ lives) (r ∷ replies) asked list lived runs more = (
+  lived.0,
+  lived.1,
+  lived.2,
+  lived.3,
+  Lives-append charter lived.1 middle left next lives replies asked list lived.4 runs more,
+)
+
+module _ {S : Type 0} (g : Ghosts S) where
+  -- The desk resumes what the desk before the crash may leave: that one's connection was given back as a store, the store
+  -- crashed and was opened again, and the desk was opened over a connection to it.
+  pub crash_resumes : (desk again : Desk S) (closed : Held S) (back fresh : S) (conn : Held S)
+      → closed ≡ desk.store.connection
+      → IsQuiet g.view g.faults g.recovers g.is_shielded closed.store back
+      → g.recovers back (g.view fresh).committed → (g.view fresh).trees ≡ (g.view fresh).committed
+      → (state g conn).now.trees ≡ (g.view fresh).trees
+      → ResumesHistories g (state g conn) again → ResumesAfter g desk again
+  crash_resumes desk again closed back fresh conn same quiet found settled shown resumes charter before pending is legal left =
+      let committed = (g.view fresh).committed in
+      let may = subst (λ (h : Held S). (state g h).may_leave committed) same (quiet.outcomes committed found) in
+      resumes charter before pending is legal (subst (MayBeLeft charter before pending) (sym (shown ∙ settled)) (left committed may))
+
+  -- one more list, then a crash
+  one_more_life : (start old ran new : Desk S) (lives : List (List Asked)) (replies : List (List Reply)) (asked : List Asked) (list : List Reply)
+      → LivesOn g start lives replies old
+      → ((history : History) → IsLegal (charter_of old) history → HoldsHistory g old history → AreKept g (charter_of old) history asked list old ran)
+      → ResumesAfter g ran new
+      → LivesOn g start (lives ++ asked ∷ []) (replies ++ list ∷ []) new
+  one_more_life start old ran new lives replies asked list so_far keeps resumes charter before is has alone =
+      let was = so_far charter before is has alone in
+      let middle = was.0 in
+      let kept : AreKept g charter middle asked list old ran =
+      subst (λ (k : Charter). IsLegal k middle → AreKept g k middle asked list old ran) was.2.chartered
+      (λ legal. keeps middle legal was.2.rows) was.2.legal in
+      let again = resumes charter kept.answered.after (pending_after_all asked list []) is kept.answered.legal (kept.left [] was.3) in (
+        again.0,
+        Lives-append charter before middle kept.answered.after again.0 lives replies asked list was.1 kept.answered.runs again.1,
+        again.2,
+        again.3,
+      )
+
+  -- the same, of the list at an index
+  pub live_more : (start old ran new : Desk S) (lives : List (Bor (List Asked))) (index : ℕ) (asked : Bor (List Asked)) (replies grown : List (Vec Reply)) (list : Vec Reply)
+      → index < length lives → asked ≡ get_or lives index asked → grown ≡ replies ++ list ∷ []
+      → LivesOn g start (map requests (take index lives)) (map items replies) old
+      → ((history : History) → IsLegal (charter_of old) history → HoldsHistory g old history → AreKept g (charter_of old) history asked.now list.items old ran)
+      → ResumesAfter g ran new
+      → LivesOn g start (map requests (take (index + 1) lives)) (map items grown) new
+  live_more start old ran new lives index asked replies grown list below here pushed so_far keeps resumes =
+      let taken : take (index + 1) lives ≡ take index lives ++ asked ∷ [] = take_more lives index asked below ∙ ap (λ x. take index lives ++ x ∷ []) (sym here) in
+      let requested : map requests (take (index + 1) lives) ≡ map requests (take index lives) ++ asked.now ∷ [] =
+      ap (map requests) taken ∙ map-append requests (take index lives) (asked ∷ []) in
+      let replied : map items grown ≡ map items replies ++ list.items ∷ [] = ap (map items) pushed ∙ map-append items replies (list ∷ []) in
+      subst (λ (l : List (List Asked)). LivesOn g start l (map items grown) new) (sym requested)
+      (subst (λ (r : List (List Reply)). LivesOn g start (map requests (take index lives) ++ asked.now ∷ []) r new) (sym replied)
+      (one_more_life start old ran new (map requests (take index lives)) (map items replies) asked.now list.items so_far keeps resumes))

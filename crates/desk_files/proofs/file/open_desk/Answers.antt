@@ -1,0 +1,23 @@
+use Rattle.std.proofs.Common.{IfErr, IfOk, subst}
+use Rattle.sqlite.specs.Files.{over_files}
+use Rattle.desk.specs.Desk.{IsOnCleanDisk}
+use Rattle.desk_files.specs.DeskFiles.{ContinuesFiles, RefusesFiles, RefusesNoLeft, ResumesFiles}
+use Rattle.desk_files.proofs.file.open_desk.Goals as goal
+
+pub returns-in-Ok-clause-continued : goal.returns-in-Ok-clause-continued
+returns-in-Ok-clause-continued g c =
+    subst (λ image. IfOk c.open_files.result (λ desk. IsOnCleanDisk over_files desk → ContinuesFiles image desk))
+    c.in-Ok.ensures.image c.open_files.ensures.continued
+
+pub returns-in-Ok-clause-resumed : goal.returns-in-Ok-clause-resumed
+returns-in-Ok-clause-resumed g c =
+    subst (λ image. IfOk c.open_files.result (λ desk. IsOnCleanDisk over_files desk → ResumesFiles image desk))
+    c.in-Ok.ensures.image c.open_files.ensures.resumed
+
+pub returns-in-Ok-clause-err : goal.returns-in-Ok-clause-err
+returns-in-Ok-clause-err g c =
+    subst (λ image. IfErr c.open_files.result (RefusesFiles image)) c.in-Ok.ensures.image c.open_files.ensures.err
+
+pub returns-in-Ok-clause-not_schema : goal.returns-in-Ok-clause-not_schema
+returns-in-Ok-clause-not_schema g c =
+    subst (λ image. IfErr c.open_files.result (RefusesNoLeft image)) c.in-Ok.ensures.image c.open_files.ensures.not_schema

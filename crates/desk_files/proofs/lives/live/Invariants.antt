@@ -1,0 +1,15 @@
+use Rattle.std.proofs.Common.{◌≡◌, ◌≤◌, length, map, take}
+use Rattle.std.specs.Prelude.{vec_len, vec_capacity}
+use Rattle.desk.specs.Desk.{IsOnCleanDisk}
+use Rattle.desk_files.specs.Lives.{LivesOn}
+use Rattle.desk_files.proofs.lives.live.Given as goal
+
+abbrev pub invariant-loop-asked : goal.invariant-loop-asked
+invariant-loop-asked g l = record {
+  room : length l.lives ≤ vec_capacity l.replies;
+  count : vec_len l.replies ≡ l.asked-index;
+  clean : IsOnCleanDisk g.S.Store l.desk → IsOnCleanDisk g.S.Store l.initial.desk;
+  lived :
+      IsOnCleanDisk g.S.Store l.desk
+      → LivesOn g.S.Store l.initial.desk (map (λ asked. asked.now) (take l.asked-index l.lives)) (map (λ list. list.items) l.replies.items) l.desk;
+}

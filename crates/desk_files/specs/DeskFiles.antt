@@ -1,0 +1,125 @@
+-- The files of a desk: a database file and its log.
+use Rattle.std.specs.Prelude.{◌≡◌, ◌⊎◌, ℕ, List, IsTrue, ⊤}
+use Rattle.std.specs.List.{AllByRecursion}
+use Rattle.sqlite_disk.specs.declared.Disk.{Ghosts}
+use Rattle.sqlite_disk.specs.Events.{replay}
+use Rattle.sqlite_disk.specs.Modelled.{start_of}
+use Rattle.sqlite_disk.specs.declared.Files.{Files}
+use Rattle.sqlite_disk.specs.declared.calls.Calls as calls
+use Rattle.sqlite_disk.specs.declared.modelled.Modelled.{Modelled}
+use Rattle.sqlite_disk.specs.declared.start.Start as start
+use Rattle.sqlite_std_file.specs.declared.host.Host.{Host}
+use Rattle.sqlite_wal.specs.Recovery.{Image}
+use Rattle.sqlite_wal.specs.Files.{outcomes}
+use Rattle.sqlite_trees.specs.Tree.{Trees}
+use Rattle.sqlite_store.specs.declared.store.FileStore.{FileStore}
+use Rattle.sqlite.specs.Closing.{HoldsAlone}
+use Rattle.sqlite.specs.Files.{file_state, HoldsDatabase, image_of, IsOpened, over_files}
+use Rattle.sqlite.specs.Held.{Held}
+use Rattle.sqlite.specs.Start.{FindsIn}
+use Rattle.sqlite.specs.State.{HasCleanDisk}
+use Rattle.addr.specs.Name.{is_name}
+use Rattle.registry.specs.History.{History}
+use Rattle.registry.specs.Values.{HistoryFits}
+use Rattle.registry.specs.Verdict.{IsLegal}
+use Rattle.registry.specs.declared.asked.Asked.{Asked}
+use Rattle.charters.specs.CharterSets.{IsCharter}
+use Rattle.charters.specs.declared.charter.Charter.{Charter}
+use Rattle.database.specs.declared.fault.StoreFault.TheVariants.{Schema}
+use Rattle.store.specs.RefusedOpening.{IsGivenBack}
+use Rattle.desk.specs.CrashOutcomes.{HoldDesk, LeavesAtMost, MayBeLeft}
+use Rattle.desk.specs.Desk.{Represents}
+use Rattle.desk.specs.Resumed.{IsAtMostOneMore, Resumes}
+use Rattle.desk.specs.declared.handling.Desk.{Desk}
+use Rattle.desk_files.specs.declared.file.OpenFault.{OpenFault}
+use Rattle.desk_files.specs.declared.file.OpenFault.TheVariants.{File, Store}
+use Rattle.command_line.specs.declared.fault.ProgramFault.{ProgramFault}
+use Rattle.command_line.specs.declared.fault.ProgramFault.TheVariants.{Database, Memory}
+
+-- the files hold a database with the charter and the rows of the history
+abbrev pub AreDeskFiles : Image → Charter → History → Type 0
+AreDeskFiles image charter history =
+    (trees : Trees) × HoldDesk charter history trees × ∥ HoldsDatabase image trees ∥₁
+
+-- how a file reads, by what was done to it since it was opened
+abbrev pub seen_in : {S : Type 0} {g : calls.Ghosts Host} (first : start.Ghosts S) → Modelled Host S g first → List ℕ
+seen_in first file = (replay (start_of first file) file.calls.log.events).seen
+
+-- and so do the two
+abbrev pub image_in : {S : Type 0} {g : calls.Ghosts Host} (first : start.Ghosts S) → Files (Modelled Host S g first) → Image
+image_in first files = record { log = seen_in first files.log; db = seen_in first files.db }
+
+-- where the disk returned what was written, the connection was opened over files that read so
+abbrev pub IsOver : {D : Type 0} {g : Ghosts D} → Held (FileStore D g) → Image → Type 0
+IsOver conn image = HasCleanDisk (file_state conn) → IsOpened conn × FindsIn image (file_state conn)
+
+-- where the files hold a charter and a legal history, the desk has that charter and that history
+abbrev pub ContinuesFiles : {D : Type 0} {g : Ghosts D} → Image → Desk (FileStore D g) → Type 0
+ContinuesFiles image desk =
+    (charter : Charter) (history : History)
+    → IsCharter charter → IsLegal charter history → AreDeskFiles image charter history
+    → Represents over_files charter desk history
+
+-- The files hold a database whose tables may be left of the history with these requests pending.
+abbrev pub AreLeftFiles : Image → Charter → History → List Asked → Type 0
+AreLeftFiles image charter history pending =
+    (trees : Trees) × MayBeLeft charter history pending trees × ∥ HoldsDatabase image trees ∥₁
+
+-- where the files may be left of a legal history with requests pending, the desk resumes it
+abbrev pub ResumesFiles : {D : Type 0} {g : Ghosts D} → Image → Desk (FileStore D g) → Type 0
+ResumesFiles image desk =
+    (charter : Charter) (before : History) (pending : List Asked)
+    → IsCharter charter → IsLegal charter before → AreLeftFiles image charter before pending
+    → Resumes over_files charter before pending desk
+
+-- The files may be left of a legal history with requests pending. The operators of the charter have names, and
+-- whichever request is accepted, the values of the history are those of their types.
+pub record AreLeftOfLegal (image : Image) : Type 0 where
+  pub charter : Charter
+  pub before : History
+  pub pending : List Asked
+  pub chartered : IsCharter charter
+  pub named : AllByRecursion (λ name. IsTrue (is_name name)) charter.operators
+  pub legal : IsLegal charter before
+  pub fits : (after : History) → IsAtMostOneMore charter before pending after → HistoryFits after
+  pub left : AreLeftFiles image charter before pending
+
+-- The files hold a desk, as they read now and as a crash leaves them, and the database file does so
+-- without its log.
+pub record KeepDesk {D : Type 0} (g : Ghosts D) (charter : Charter) (history : History) (files : Files D) : Type 0 where
+  pub trees : Trees
+  pub desk : HoldDesk charter history trees
+  pub seen : HoldsAlone (image_of g files) trees
+  pub left : (image : Image) → outcomes g files.log files.db image → HoldsAlone image trees
+
+-- The files hold a database as it may be left of any history with requests pending of which a crash of the desk may
+-- leave no more; so do they once the power has failed.
+pub record LeavesFiles {D : Type 0} (g : Ghosts D) (desk : Desk (FileStore D g)) (files : Files D) : Type 0 where
+  pub seen :
+      (charter : Charter) (history : History) (pending : List Asked)
+      → LeavesAtMost over_files charter desk history pending
+      → ∥ AreLeftFiles (image_of g files) charter history pending ∥₁
+  pub left :
+      (charter : Charter) (history : History) (pending : List Asked)
+      → LeavesAtMost over_files charter desk history pending
+      → (image : Image) → outcomes g files.log files.db image
+      → ∥ AreLeftFiles image charter history pending ∥₁
+
+-- the database or memory failed
+abbrev pub IsOfDatabase : ProgramFault → Type 0
+IsOfDatabase fault = (fault ≡ Database) ⊎ (fault ≡ Memory)
+
+-- Why the desk in the files was not opened: the files could not be opened, or the database that was found there was
+-- refused and given back. So the fault is `Schema` only where the files hold a database of another schema, or the
+-- disk returned what was not written.
+abbrev pub RefusesFiles : {D : Type 0} {g : Ghosts D} → Image → OpenFault (FileStore D g) → Type 0
+RefusesFiles image (File fault) = IsOfDatabase fault
+RefusesFiles {D} {g} image (Store fault conn) =
+    (opened : Held (FileStore D g)) × IsOver opened image
+    × IsGivenBack over_files (file_state opened) fault conn
+
+-- Where the disk returned what was written, files that may be left of a legal history are not refused as a database of
+-- another schema.
+abbrev pub RefusesNoLeft : {D : Type 0} {g : Ghosts D} → Image → OpenFault (FileStore D g) → Type 0
+RefusesNoLeft image (File fault) = ⊤
+RefusesNoLeft image (Store fault conn) = HasCleanDisk (file_state conn) → fault ≡ Schema → ¬ AreLeftOfLegal image

@@ -1,0 +1,2 @@
+pub mod DeskFiles
+pub mod Lives

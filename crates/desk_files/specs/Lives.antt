@@ -1,0 +1,44 @@
+-- The lives of a desk over a disk that may crash: lists of requests, with a crash after each.
+use Rattle.std.specs.Prelude.{◌≡◌, List, [], ◌∷◌}
+use Rattle.sqlite.specs.Store.{Ghosts}
+use Rattle.charters.specs.CharterSets.{IsCharter}
+use Rattle.charters.specs.declared.charter.Charter.{Charter}
+use Rattle.registry.specs.History.{History}
+use Rattle.registry.specs.Verdict.{IsLegal}
+use Rattle.registry.specs.declared.asked.Asked.{Asked}
+use Rattle.desk.specs.CrashOutcomes.{pending_after_all, LeavesAtMost}
+use Rattle.desk.specs.Desk.{Represents}
+use Rattle.desk.specs.Resumed.{IsAtMostOneMore, Resumes}
+use Rattle.desk.specs.Run.{Runs}
+use Rattle.desk.specs.declared.handling.Desk.{Desk}
+use Rattle.desk.specs.declared.reply.Reply.{Reply}
+
+-- where a crash of the desk leaves at most a legal history with requests pending, the desk that is opened next
+-- resumes it
+abbrev pub ResumesAfter : {S : Type 0} → Ghosts S → Desk S → Desk S → Type 0
+ResumesAfter g desk again =
+    (charter : Charter) (before : History) (pending : List Asked)
+    → IsCharter charter → IsLegal charter before → LeavesAtMost g charter desk before pending
+    → Resumes g charter before pending again
+
+-- A life is a list of requests, each of which has one reply. It begins with the history that the life before it left,
+-- or with that history and one more request of that life, which was answered Unavailable after the last one there that
+-- was accepted.
+abbrev pub Lives : Charter → History → List (List Asked) → List (List Reply) → History → Type 0
+Lives charter before [] [] after = after ≡ before
+Lives charter before [] (replies ∷ more) after = ⊥
+Lives charter before (asked ∷ lives) [] after = ⊥
+Lives charter before (asked ∷ lives) (replies ∷ more) after =
+    (left : History) × (next : History)
+    × Runs charter before asked replies left
+    × IsAtMostOneMore charter left (pending_after_all asked replies []) next
+    × Lives charter next lives more after
+
+-- Where the old desk had a history, and a crash of it left that and nothing else, the new desk has a history to which
+-- the lives lead from there, and a crash of it leaves that and nothing else.
+abbrev pub LivesOn : {S : Type 0} → Ghosts S → Desk S → List (List Asked) → List (List Reply) → Desk S → Type 0
+LivesOn g old lives replies new =
+    (charter : Charter) (before : History) → IsCharter charter
+    → Represents g charter old before → LeavesAtMost g charter old before []
+    → (after : History) × Lives charter before lives replies after
+    × Represents g charter new after × LeavesAtMost g charter new after []

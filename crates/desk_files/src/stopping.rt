@@ -1,0 +1,47 @@
+//! What becomes of a desk's files at the end of a process.
+ghost use Rattle.std.specs.Prelude.{IfOk};
+ghost use Rattle.sqlite.specs.Files.{over_files};
+ghost use Rattle.sqlite_wal.specs.Reads.{AreClean};
+ghost use Rattle.charters.specs.CharterSets.{IsCharter};
+ghost use Rattle.registry.specs.History.{History};
+ghost use Rattle.charters.specs.declared.charter.Charter as shown;
+ghost use Rattle.desk.specs.CrashOutcomes.{HasNonePending};
+ghost use Rattle.desk.specs.Desk.{IsOnCleanDisk, Represents};
+ghost use Rattle.desk_files.specs.DeskFiles.{LeavesFiles};
+
+use crate::file::{OpenFault, close_desk, open_files};
+use desk::Desk;
+use sqlite_disk::{Disk, Files};
+use sqlite_pager::Options;
+use sqlite_store::FileStore;
+use std::alloc::Global;
+
+/// Gives back the files of the desk as they are, as a process leaves them that ends at this moment:
+/// nothing more is written, and what was not committed is lost.
+pub fn stop<D: Disk + Drop>(desk: Desk<FileStore<D>>) -> Files<D>
+    ensures clean { AreClean D.Disk result.log result.db → IsOnCleanDisk over_files desk }
+    ensures left { AreClean D.Disk result.log result.db → LeavesFiles D.Disk desk result }
+{
+    desk.close().into_store().close()
+}
+
+/// Closes the desk's files and opens the desk in them again.
+pub fn reopen<D: Disk + Drop>(
+    alloc: Global,
+    desk: Desk<FileStore<D>>,
+    options: Options,
+) -> Result<Desk<FileStore<D>>, OpenFault<FileStore<D>>>
+    ensures clean { IfOk result (λ again. IsOnCleanDisk over_files again
+        → IsOnCleanDisk over_files desk) }
+    ensures same { IfOk result (λ again. IsOnCleanDisk over_files again
+        → (charter : shown.Charter) (history : History) → IsCharter charter
+        → Represents over_files charter desk history
+        → Represents over_files charter again history) }
+    ensures none_pending { IfOk result (λ again. IsOnCleanDisk over_files again
+        → HasNonePending over_files again) }
+{
+    match close_desk(desk) {
+        Ok(files) => open_files(alloc, files, options),
+        Err(fault) => Err(OpenFault::File(fault)),
+    }
+}
