@@ -5,6 +5,7 @@ use crate::help::help_text;
 use addr::Day;
 use command_line::{ProgramFault, Task};
 use desk::Desk;
+use desk_files::{close_desk, open_desk};
 use sqlite::Connection;
 use sqlite_std_file::{FileFrom, Unknown};
 use sqlite_store::FileStore;
