@@ -16,10 +16,10 @@ use Rattle.cli.specs.Serving.{AnswersInTurn, Serves, Transcript}
 
 module _ {S : Type 0} (g : Ghosts S) where
   same_desk : (desk : Desk S) → IsLaterDesk g desk desk
-  same_desk desk = record { charter = refl; clean = λ c. c }
+  same_desk desk = record { charter = refl; limit = refl; clean = λ c. c }
 
   later_still : (old state new : Desk S) → IsLaterDesk g old state → IsLaterDesk g state new → IsLaterDesk g old new
-  later_still old state new first then = record { charter = then.charter ∙ first.charter; clean = λ c. first.clean (then.clean c) }
+  later_still old state new first then = record { charter = then.charter ∙ first.charter; limit = then.limit ∙ first.limit; clean = λ c. first.clean (then.clean c) }
 
   pub later-in-turn : (day : ℕ) (old new : Desk S) (passed : List Transcript) → AnswersInTurn (Serves g day) old passed new
       → IsLaterDesk g old new

@@ -91,6 +91,7 @@ module _ {S : Type 0} (g : Ghosts S) where
   read_then a b c first second = record {
     clean = λ clean. first.clean (second.clean clean);
     charter = second.charter ∙ first.charter;
+    limit = second.limit ∙ first.limit;
     rows = λ clean rows holds. second.rows clean rows (first.rows (second.clean clean) rows holds);
     crash = λ clean trees left. first.crash (second.clean clean) trees (second.crash clean trees left);
   }

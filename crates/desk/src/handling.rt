@@ -132,6 +132,8 @@ impl<S: Alter> Desk<S> {
             IsAnswered S.Store (charter_of self.old) history day caller.now request.now
             result self.new) }
         ensures charter { charter_of self.new ≡ charter_of self.old }
+        ensures limit { (store_of self.new).connection.step_limit
+            ≡ (store_of self.old).connection.step_limit }
         ensures clean { IsOnCleanDisk S.Store self.new → IsOnCleanDisk S.Store self.old }
         ensures kept { is_accepted result ≡ false → KeepsRows S.Store self.old self.new }
         ensures read { only_reads request.now result ≡ true
@@ -165,6 +167,8 @@ impl<S: Alter> Desk<S> {
             AreKept S.Store (charter_of self.old) history asked.now replies.items
             self.old self.new)) }
         ensures charter { charter_of self.new ≡ charter_of self.old }
+        ensures limit { (store_of self.new).connection.step_limit
+            ≡ (store_of self.old).connection.step_limit }
         ensures clean { IsOnCleanDisk S.Store self.new → IsOnCleanDisk S.Store self.old }
         ensures err { OnErr result (self.new ≡ self.old) }
         ensures kept { IfOk result (λ replies. list_any is_accepted replies.items ≡ false

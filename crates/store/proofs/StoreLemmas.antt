@@ -90,6 +90,7 @@ pub read_then : {S : Type 0} (g : Ghosts S) (a b c : StoreView S) → IsRead g a
 read_then g a b c first second = record {
   clean = λ clean. first.clean (second.clean clean);
   charter = second.charter ∙ first.charter;
+  limit = second.limit ∙ first.limit;
   rows = λ clean rows holds. second.rows clean rows (first.rows (second.clean clean) rows holds);
   crash = λ clean trees left. first.crash (second.clean clean) trees (second.crash clean trees left);
 }

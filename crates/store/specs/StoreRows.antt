@@ -80,11 +80,12 @@ KeepsSchema g old new =
     IsTrue (connection_state g new).is_open
     → (connection_state g new).now.schema ≡ (connection_state g old).now.schema
 
--- A read: the charter and the rows stay, and a crash leaves nothing else than before. A disk that returns what
--- was written did so before.
+-- A read: the charter, the rows and the limit of steps stay, and a crash leaves nothing else than before. A disk that
+-- returns what was written did so before.
 pub record IsRead {S : Type 0} (g : Ghosts S) (old new : StoreView S) : Type 0 where
   pub clean : HasCleanDisk (connection_state g new) → HasCleanDisk (connection_state g old)
   pub charter : new.charter ≡ old.charter
+  pub limit : new.connection.step_limit ≡ old.connection.step_limit
   pub rows : HasCleanDisk (connection_state g new) → (rows : AllRows) → Holds g old rows → Holds g new rows
   pub crash : HasCleanDisk (connection_state g new) → (trees : Trees) → (connection_state g new).may_leave trees → (connection_state g old).may_leave trees
 

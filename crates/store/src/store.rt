@@ -235,6 +235,7 @@ impl<S: Alter> Store<S> {
     /// Makes the change in one transaction: all of it, or after a fault nothing.
     pub fn apply(&mut self, change: &Change) -> Result<(), StoreFault>
         ensures charter { self.new.charter ≡ self.old.charter }
+        ensures limit { self.new.connection.step_limit ≡ self.old.connection.step_limit }
         ensures ok { IfClean S.Store self.new
             (OnOk result (HoldsAfter S.Store self.old self.new (changed_rows change.now))) }
         ensures err { IfClean S.Store self.new

@@ -35,7 +35,7 @@ however_ended (Err script.Memory) ok read write memory = memory refl
 module _ {S : Type 0} (g : Ghosts S) where
   -- nothing was asked
   pub same_desk : (desk : Desk S) → IsLaterDesk g desk desk
-  same_desk desk = record { charter = refl; clean = λ clean. clean }
+  same_desk desk = record { charter = refl; limit = refl; clean = λ clean. clean }
 
   later_line : (old new : Desk S) (line : Option (List ℕ)) (text : List ℕ) → AnswersLineAt g old line text new → IsLaterDesk g old new
   later_line old new None text (is, same) = rw same (same_desk old)
@@ -46,7 +46,7 @@ module _ {S : Type 0} (g : Ghosts S) where
   later_before : (last state next : Desk S) (line : Option (List ℕ)) (reply : List ℕ) → AnswersLineAt g state line reply next → IsLaterDesk g next last → IsLaterDesk g state last
   later_before last state next line reply at later =
       let here = later_line state next line reply at in
-      record { charter = later.charter ∙ here.charter; clean = λ clean. here.clean (later.clean clean) }
+      record { charter = later.charter ∙ here.charter; limit = later.limit ∙ here.limit; clean = λ clean. here.clean (later.clean clean) }
 
   clean_before : (state next : Desk S) (line : Option (List ℕ)) (reply : List ℕ) → AnswersLineAt g state line reply next → IsOnCleanDisk g next → IsOnCleanDisk g state
   clean_before state next line reply at = (later_line state next line reply at).clean

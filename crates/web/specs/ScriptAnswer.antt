@@ -8,7 +8,7 @@ use Rattle.registry.specs.Values.{HistoryFits}
 use Rattle.charters.specs.declared.charter.Charter.{Charter}
 use Rattle.desk.specs.Answer.{AnswersRequest, is_accepted}
 use Rattle.desk.specs.CrashOutcomes.{LeavesAlong, pending_after}
-use Rattle.desk.specs.Desk.{charter_of, IsOnCleanDisk, KeepsRows, Represents}
+use Rattle.desk.specs.Desk.{charter_of, store_of, IsOnCleanDisk, KeepsRows, Represents}
 use Rattle.requests.specs.MalformedText.{malformed_text}
 use Rattle.web.specs.ReplyText.{line_text, unavailable_text}
 use Rattle.requests.specs.RequestFaults.{request_fault, too_long}
@@ -38,9 +38,11 @@ OnHistories g old new goes_on =
     × (HistoryFits before → HistoryFits after)
     × goes_on before after
 
--- the desk at a later time: its charter is the same, and a disk that returns what was written did so before
+-- The desk at a later time: its charter and the limit of its steps are the same, and a disk that returns what was
+-- written did so before.
 pub record IsLaterDesk {S : Type 0} (g : Ghosts S) (old new : Desk S) : Type 0 where
   pub charter : charter_of new ≡ charter_of old
+  pub limit : (store_of new).connection.step_limit ≡ (store_of old).connection.step_limit
   pub clean : IsOnCleanDisk g new → IsOnCleanDisk g old
 
 -- The reply of a desk to a request: it is that on each history that the desk represents, of which a crash leaves no

@@ -41,6 +41,8 @@ impl<S: Alter> Desk<S> {
             IsKept S.Store (charter_of self.old) history
             (asked_on day caller.now (Request.Command command.now)) result self.old self.new) }
         ensures charter { charter_of self.new ≡ charter_of self.old }
+        ensures limit { self.new.store.connection.step_limit
+            ≡ self.old.store.connection.step_limit }
         ensures clean { IsOnCleanDisk S.Store self.new → IsOnCleanDisk S.Store self.old }
         ensures kept { is_accepted result ≡ false → KeepsRows S.Store self.old self.new }
         ensures read { only_reads (Request.Command command.now) result ≡ true

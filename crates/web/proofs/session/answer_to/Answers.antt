@@ -9,7 +9,7 @@ returns-in-Ok g c =
       c.handle.result,
       c.in-Ok.ensures.ok,
       replies_at g.A.Store c.args.desk.now c.handle.new.self c.in-Ok.asked c.handle.result
-          (record { charter = c.handle.ensures.charter; clean = c.handle.ensures.clean })
+          (record { charter = c.handle.ensures.charter; limit = c.handle.ensures.limit; clean = c.handle.ensures.clean })
           c.handle.ensures.left c.handle.ensures.kept,
       refl,
     )))

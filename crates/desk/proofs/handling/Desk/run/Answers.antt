@@ -9,6 +9,7 @@ use Rattle.desk.proofs.handling.Desk.run.Goals as goal
 pub loop-one-init : goal.loop-one-init
 loop-one-init g c = record {
   chartered = refl;
+  limit = refl;
   clean = λ clean. clean;
   room = omega (arith, c.in_ok-replies.ensures.capacity);
   count = c.in_ok-replies.ensures.len;
@@ -27,6 +28,7 @@ loop-one-preserved g c =
     let pushed : IsOk c.push.result = c.push.ensures.succeeds (omega (arith, so_far.room, so_far.count, c.loop-one-test.true)) in
     record {
       chartered = c.handle-reply.ensures.charter ∙ so_far.chartered;
+      limit = c.handle-reply.ensures.limit ∙ so_far.limit;
       clean = λ clean. so_far.clean (c.handle-reply.ensures.clean clean);
       room = omega (arith, so_far.room, c.push.ensures.capacity);
       count = (rw pushed at c.push.ensures.len) ∙ rw so_far.count refl;

@@ -2,7 +2,7 @@ use Rattle.std.proofs.Common.{◌≡◌, ◌≤◌, false, take, length}
 use Rattle.std.specs.List.{list_any}
 use Rattle.std.specs.Prelude.{vec_len, vec_capacity}
 use Rattle.desk.specs.Answer.{is_accepted}
-use Rattle.desk.specs.Desk.{charter_of, IsOnCleanDisk, KeepsRows, OfHistories}
+use Rattle.desk.specs.Desk.{charter_of, store_of, IsOnCleanDisk, KeepsRows, OfHistories}
 use Rattle.desk.specs.HolderAnswers.{may_change_any, may_except_any, KeepsOthers}
 use Rattle.desk.specs.CrashOutcomes.{AreKept}
 use Rattle.desk.proofs.handling.Desk.run.Given as goal
@@ -10,6 +10,7 @@ use Rattle.desk.proofs.handling.Desk.run.Given as goal
 abbrev pub invariant-loop-one : goal.invariant-loop-one
 invariant-loop-one g l = record {
   chartered : charter_of l.self ≡ charter_of l.initial.self;
+  limit : (store_of l.self).connection.step_limit ≡ (store_of l.initial.self).connection.step_limit;
   clean : IsOnCleanDisk g.S.Store l.self → IsOnCleanDisk g.S.Store l.initial.self;
   room : length l.asked ≤ vec_capacity l.replies;
   count : vec_len l.replies ≡ l.one-index;

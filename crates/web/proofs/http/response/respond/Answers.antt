@@ -24,7 +24,7 @@ returns-in-Asked-clause-ok g c =
     c.handle-reply.result
     (λ text. g.D.Drain.written c.write_reply_response.new.drain ≡ g.D.Drain.written c.args.drain.now ++ text)
     (replies_at g.A.Store c.args.desk.now c.handle-reply.new.self c.in-Asked.asked c.handle-reply.result
-    (record { charter = c.handle-reply.ensures.charter; clean = c.handle-reply.ensures.clean })
+    (record { charter = c.handle-reply.ensures.charter; limit = c.handle-reply.ensures.limit; clean = c.handle-reply.ensures.clean })
     c.handle-reply.ensures.left c.handle-reply.ensures.kept) c.write_reply_response.ensures.ok)
 
 pub returns-in-Asked-clause-err : goal.returns-in-Asked-clause-err
@@ -34,7 +34,7 @@ returns-in-Asked-clause-err g c =
     c.handle-reply.result
     (AppendsBeginning (g.D.Drain.written c.args.drain.now) (g.D.Drain.written c.write_reply_response.new.drain))
     (replies_at g.A.Store c.args.desk.now c.handle-reply.new.self c.in-Asked.asked c.handle-reply.result
-    (record { charter = c.handle-reply.ensures.charter; clean = c.handle-reply.ensures.clean })
+    (record { charter = c.handle-reply.ensures.charter; limit = c.handle-reply.ensures.limit; clean = c.handle-reply.ensures.clean })
     c.handle-reply.ensures.left c.handle-reply.ensures.kept) c.write_reply_response.ensures.err)
 
 pub returns-in-NotRead-clause-err : goal.returns-in-NotRead-clause-err
