@@ -1,6 +1,6 @@
 //! The requests that the desks of these tests are asked, one after the other.
 use addr::{Name, Prefix};
-use desk::Desk;
+use desk::{Asked, Desk, Reply};
 use library_conformance::rows::{split_row, table_rows};
 use library_conformance::sheet::Sheet;
 use policy::Charter;
@@ -8,7 +8,7 @@ use sqlite::Alter;
 use std::alloc::Global;
 use std::process::Abort;
 use std::test::Fail;
-use web::{Device, run_script};
+use web::{Device, read_line_request, run_script, write_reply};
 
 /// Each with its reply, and with the reply where it is asked once more.
 const REQUESTS: &str = r#"
@@ -24,6 +24,9 @@ reg {"do":"transfer","prefix":"198.51.100.0/24","giver":"alpha","taker":"beta"} 
 
 /// How many there are.
 pub(crate) const REQUEST_COUNT: usize = 8;
+
+/// How many come before the create.
+pub(crate) const COUNT_BEFORE_CREATE: usize = 3;
 
 /// What is there once all were asked, however often.
 const AFTERWARDS: &str = r#"
@@ -44,15 +47,26 @@ pub(crate) fn example_charter(alloc: Global) -> Result<Charter, Fail> {
     Ok(Charter::make(operators, pool)?)
 }
 
-/// The reply of the desk to a request, which has its caller before it.
-fn ask<S: Alter>(alloc: Global, desk: &mut Desk<S>, request: &str) -> Result<String, Fail> {
-    let (caller, members) = request.split_once(" {").ok_or("no caller")?;
-    let line = format!(in alloc; "{{\"day\":\"2026-03-01\",\"caller\":\"{caller}\",{members}\n")?;
-    let mut sheet = Sheet {
+/// A writer that takes so many bytes.
+pub(crate) fn sheet_of(alloc: Global, room: usize) -> Sheet {
+    Sheet {
         bytes: Vec::new(alloc),
-        room: usize::MAX,
+        room,
         is_interrupted: false,
-    };
+    }
+}
+
+/// The line of a request that has its caller before it, without its end.
+fn line_of(alloc: Global, request: &str) -> Result<String, Fail> {
+    let (caller, members) = request.split_once(" {").ok_or("no caller")?;
+    let line = format!(in alloc; "{{\"day\":\"2026-03-01\",\"caller\":\"{caller}\",{members}")?;
+    Ok(line)
+}
+
+/// The reply of the desk to a request.
+fn ask<S: Alter>(alloc: Global, desk: &mut Desk<S>, request: &str) -> Result<String, Fail> {
+    let line = line_of(alloc, request)?;
+    let mut sheet = sheet_of(alloc, usize::MAX);
     let mut source = Device::new(line.as_bytes());
     let mut drain = Device::new(&mut sheet);
     run_script(alloc, &mut source, &mut drain, desk)?;
@@ -65,26 +79,43 @@ fn ask<S: Alter>(alloc: Global, desk: &mut Desk<S>, request: &str) -> Result<Str
     Ok(reply)
 }
 
-/// Asks until the desk is unavailable twice. How many requests were answered.
-pub(crate) fn ask_all<S: Alter>(
+/// How the requests of a run were answered.
+#[derive(Clone, Copy)]
+pub(crate) struct Answers {
+    /// How many of them were.
+    pub(crate) count: usize,
+    /// The last of those that were answered only when they were asked again.
+    pub(crate) delayed: Option<usize>,
+}
+
+/// Asks the first of the requests, so many, until the desk is unavailable twice.
+pub(crate) fn ask_first<S: Alter>(
     rt: &impl Abort,
     alloc: Global,
     desk: &mut Desk<S>,
-) -> Result<usize, Fail> {
-    let mut answered = 0usize;
+    count: usize,
+) -> Result<Answers, Fail> {
+    let mut answers = Answers {
+        count: 0,
+        delayed: None,
+    };
     for row in &table_rows(alloc, REQUESTS)? {
+        if answers.count == count {
+            break;
+        }
         let (expected, _) = split_row(row.output)?;
         let mut reply = ask(alloc, desk, row.input)?;
         if reply.as_str() == UNAVAILABLE {
             reply = ask(alloc, desk, row.input)?;
-        }
-        if reply.as_str() == UNAVAILABLE {
-            break;
+            if reply.as_str() == UNAVAILABLE {
+                break;
+            }
+            answers.delayed = Some(answers.count);
         }
         assert_eq!(rt; reply.as_str(), expected, "{}", row.input);
-        answered = answered.saturating_add(1);
+        answers.count = answers.count.saturating_add(1);
     }
-    Ok(answered)
+    Ok(answers)
 }
 
 /// Asks all again. The desk had the first of them, so many as are returned, and none after these.

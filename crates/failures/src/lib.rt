@@ -1,8 +1,14 @@
-//! What a desk over files does where the disk fails: it stops at each call of the disk, and the files
-//! are opened again.
+//! What a desk over files does where the disk fails: it stops at each call of the disk, or one call is
+//! refused, and the files are opened again.
 #![tactic(auto)]
 
 #[cfg(test)]
 mod example_requests;
 #[cfg(test)]
+mod refusals;
+#[cfg(test)]
+mod refusing;
+#[cfg(test)]
 mod stops;
+#[cfg(test)]
+mod sweep;

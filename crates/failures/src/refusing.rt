@@ -1,0 +1,139 @@
+//! A disk that refuses one of its calls, and serves the others.
+ghost use Rattle.std.specs.Prelude.{◌≡◌, ◌+◌, ◌&&◌, not, false};
+ghost use Rattle.sqlite_disk.specs.Disk.{CountsFault};
+ghost use Rattle.sqlite_disk.specs.Refusal.{finds_no_room};
+
+use sqlite_disk::{Crash, Disk, Tally};
+use std::io;
+
+/// Passes so many calls on, refuses the next one, and passes on those after it.
+#[derive(Drop)]
+pub(crate) struct Refusing<D: Disk> {
+    inner: D,
+    /// How many calls come before the one that is refused; none once it was.
+    calls_before: Option<u64>,
+    refused: u64,
+    sync_refused: bool,
+}
+
+impl<D: Disk> Refusing<D> {
+    pub(crate) fn new(inner: D, calls_before: u64) -> Refusing<D> {
+        Refusing {
+            inner,
+            calls_before: Some(calls_before),
+            refused: 0,
+            sync_refused: false,
+        }
+    }
+
+    pub(crate) fn inner(&self) -> &D {
+        &self.inner
+    }
+
+    pub(crate) fn has_refused(&self) -> bool {
+        self.calls_before.is_none()
+    }
+}
+
+/// Counts a call, and refuses it where it is the one.
+fn admit(calls_before: &mut Option<u64>, refused: &mut u64) -> io::Result<()>
+    ensures faults { CountsFault result refused.old refused.new }
+    ensures kind { finds_no_room result ≡ false }
+{
+    match *calls_before {
+        None => Ok(()),
+        Some(0) => {
+            *calls_before = None;
+            *refused = refused.saturating_add(1);
+            Err(io::Error::other("the call is refused"))
+        }
+        Some(calls) => {
+            *calls_before = Some(calls - 1);
+            Ok(())
+        }
+    }
+}
+
+impl<D: Disk> Disk for Refusing<D> {
+    ghost seen = { λ r. D.Disk.seen r.inner };
+
+    ghost may_leave = { λ r. D.Disk.may_leave r.inner };
+
+    ghost is_usable = { λ r. D.Disk.is_usable r.inner && not r.sync_refused };
+
+    ghost faults = { λ r. D.Disk.faults r.inner + r.refused };
+
+    ghost tally_of = { λ r. D.Disk.tally_of r.inner };
+
+    ghost is_rotten = { λ r. D.Disk.is_rotten r.inner };
+
+    ghost key_of = { λ r. D.Disk.key_of r.inner };
+
+    ghost is_clean = { λ r. D.Disk.is_clean r.inner };
+
+    ghost is_fair = { λ r. D.Disk.is_fair r.inner };
+
+    ghost fair_if_clean = { λ r. D.Disk.fair_if_clean r.inner };
+
+    ghost seen_may_stay = { λ r. D.Disk.seen_may_stay r.inner };
+
+    ghost is_mixing = { λ r. D.Disk.is_mixing r.inner };
+
+    fn mixes(&self) -> bool {
+        self.inner.mixes()
+    }
+
+    fn key(&self) -> u64 {
+        self.inner.key()
+    }
+
+    fn tally(&self) -> Tally {
+        self.inner.tally()
+    }
+
+    fn may_be_used(&self) -> bool {
+        self.inner.may_be_used() && !self.sync_refused
+    }
+
+    fn len(&mut self) -> io::Result<usize> {
+        admit(&mut self.calls_before, &mut self.refused)?;
+        self.inner.len()
+    }
+
+    fn read_at(&mut self, at: usize, buf: &mut [u8]) -> io::Result<()> {
+        admit(&mut self.calls_before, &mut self.refused)?;
+        self.inner.read_at(at, buf)
+    }
+
+    fn read_checked(&mut self, key: u64, want: u64, at: usize, buf: &mut [u8]) -> io::Result<()> {
+        admit(&mut self.calls_before, &mut self.refused)?;
+        self.inner.read_checked(key, want, at, buf)
+    }
+
+    fn write_at(&mut self, at: usize, bytes: &[u8]) -> io::Result<()> {
+        admit(&mut self.calls_before, &mut self.refused)?;
+        self.inner.write_at(at, bytes)
+    }
+
+    fn set_len(&mut self, len: usize) -> io::Result<()> {
+        admit(&mut self.calls_before, &mut self.refused)?;
+        self.inner.set_len(len)
+    }
+
+    fn sync(&mut self) -> io::Result<()> {
+        if let Err(error) = admit(&mut self.calls_before, &mut self.refused) {
+            self.sync_refused = true;
+            return Err(error);
+        }
+        self.inner.sync()
+    }
+}
+
+/// The machine comes back with a disk that refuses nothing.
+impl<D: Crash> Crash for Refusing<D> {
+    fn crash(&mut self) {
+        self.inner.crash();
+        self.calls_before = None;
+        self.sync_refused = false;
+    }
+}

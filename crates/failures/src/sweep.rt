@@ -1,0 +1,238 @@
+//! Runs of desks over files of which one fails, and what is found when the files are opened again.
+use crate::example_requests::{REQUEST_COUNT, ask_first, count_found, example_charter};
+use crate::refusing::Refusing;
+use desk::Desk;
+use sqlite::{Connection, FileStore};
+use sqlite_disk::{Crash, Disk, Files, Fuse, Memory};
+use sqlite_pager::Options;
+use std::alloc::Global;
+use std::process::Abort;
+use std::test::Fail;
+
+/// More calls than a run makes of one file.
+const MANY: u64 = 1_000;
+
+/// Each opening fills the cache, so it is small.
+pub(crate) fn small_options() -> Options {
+    let mut options = Options::new(1);
+    options.cache_pages = 16;
+    options
+}
+
+/// A file in memory that fails.
+pub(crate) trait FailingFile: Crash {
+    /// The file passes so many calls on before it fails.
+    fn failing(file: Memory, calls: u64) -> Self;
+
+    fn bytes(&self) -> &[u8];
+
+    /// Whether it failed, or fails at the next call.
+    fn has_failed(&mut self) -> bool;
+}
+
+/// It stops.
+impl FailingFile for Fuse<Memory> {
+    fn failing(file: Memory, calls: u64) -> Fuse<Memory> {
+        Fuse::new(file, calls)
+    }
+
+    fn bytes(&self) -> &[u8] {
+        self.inner().bytes()
+    }
+
+    fn has_failed(&mut self) -> bool {
+        if !self.may_be_used() {
+            return true;
+        }
+        self.len().is_err()
+    }
+}
+
+/// It refuses one call.
+impl FailingFile for Refusing<Memory> {
+    fn failing(file: Memory, calls: u64) -> Refusing<Memory> {
+        Refusing::new(file, calls)
+    }
+
+    fn bytes(&self) -> &[u8] {
+        self.inner().bytes()
+    }
+
+    fn has_failed(&mut self) -> bool {
+        self.has_refused()
+    }
+}
+
+/// Empty files, of which the log or the database fails after so many calls.
+pub(crate) fn failing_files<D: FailingFile>(alloc: Global, is_log: bool, calls: u64) -> Files<D> {
+    let never = u64::MAX;
+    let (log, db) = if is_log {
+        (calls, never)
+    } else {
+        (never, calls)
+    };
+    Files {
+        log: D::failing(Memory::new(alloc), log),
+        db: D::failing(Memory::new(alloc), db),
+    }
+}
+
+/// A file of these bytes, which does not fail.
+fn file_of<D: FailingFile>(alloc: Global, bytes: &[u8]) -> Result<D, Fail> {
+    let mut file = Memory::new(alloc);
+    file.write_at(0, bytes)?;
+    Ok(D::failing(file, u64::MAX))
+}
+
+fn connect<D: Disk + Drop>(
+    alloc: Global,
+    files: Files<D>,
+    options: Options,
+) -> Option<Connection<FileStore<D>>> {
+    if !files.may_be_used() {
+        return None;
+    }
+    match Connection::open_files(alloc, files, options) {
+        Ok(conn) => Some(conn),
+        Err(_) => None,
+    }
+}
+
+/// A new desk; none where the disk failed before there was one.
+pub(crate) fn begin<D: Disk + Drop>(
+    alloc: Global,
+    files: Files<D>,
+    options: Options,
+) -> Result<Option<Desk<FileStore<D>>>, Fail> {
+    let Some(conn) = connect(alloc, files, options) else {
+        return Ok(None);
+    };
+    match Desk::create_on(alloc, conn, &example_charter(alloc)?) {
+        Ok(desk) => Ok(Some(desk)),
+        Err(_) => Ok(None),
+    }
+}
+
+/// How many of the requests the desk of these files has.
+fn found_in<D: Disk + Drop>(
+    rt: &impl Abort,
+    alloc: Global,
+    files: Files<D>,
+    options: Options,
+) -> Result<usize, Fail> {
+    let conn = connect(alloc, files, options).ok_or("files that are refused")?;
+    let Ok(mut desk) = Desk::open_from(alloc, conn) else {
+        return Err("a desk that is refused".into());
+    };
+    count_found(rt, alloc, &mut desk)
+}
+
+/// Runs of desks on disks that fail, and what they met.
+#[derive(Drop)]
+pub(crate) struct Sweep {
+    alloc: Global,
+    options: Options,
+    /// How many runs ended before there was a desk.
+    pub(crate) without_desk: usize,
+    /// The requests that were answered only when they were asked again.
+    pub(crate) delayed: Vec<usize>,
+    /// The requests that were in progress at a stop, and were found.
+    pub(crate) kept: Vec<usize>,
+    /// The requests that were in progress at a stop, and were not found.
+    pub(crate) lost: Vec<usize>,
+}
+
+impl Sweep {
+    pub(crate) fn new(alloc: Global, options: Options) -> Sweep {
+        Sweep {
+            alloc,
+            options,
+            without_desk: 0,
+            delayed: Vec::new(alloc),
+            kept: Vec::new(alloc),
+            lost: Vec::new(alloc),
+        }
+    }
+
+    /// The files have the requests that were answered, and perhaps the one that was in progress.
+    fn assert_found<D: Disk + Drop>(
+        &mut self,
+        rt: &impl Abort,
+        files: Files<D>,
+        answered: usize,
+    ) -> Result<(), Fail> {
+        let found = found_in(rt, self.alloc, files, self.options)?;
+        if found == answered {
+            self.lost.push(answered)?;
+        } else {
+            assert_eq!(rt; found, answered.saturating_add(1));
+            self.kept.push(answered)?;
+        }
+        Ok(())
+    }
+
+    /// Opens the files as a killed process leaves them, and as a power cut does.
+    pub(crate) fn open_both<D: FailingFile + Drop>(
+        &mut self,
+        rt: &impl Abort,
+        mut files: Files<D>,
+        answered: usize,
+    ) -> Result<(), Fail> {
+        let killed: Files<D> = Files {
+            log: file_of(self.alloc, files.log.bytes())?,
+            db: file_of(self.alloc, files.db.bytes())?,
+        };
+        self.assert_found(rt, killed, answered)?;
+        files.log.crash();
+        files.db.crash();
+        self.assert_found(rt, files, answered)
+    }
+
+    /// A new desk is asked until it is unavailable, and stops. Whether a file failed.
+    fn run<D: FailingFile + Drop>(
+        &mut self,
+        rt: &impl Abort,
+        files: Files<D>,
+    ) -> Result<bool, Fail> {
+        let Some(mut desk) = begin(self.alloc, files, self.options)? else {
+            self.without_desk = self.without_desk.saturating_add(1);
+            return Ok(true);
+        };
+        let answers = ask_first(rt, self.alloc, &mut desk, REQUEST_COUNT)?;
+        if let Some(request) = answers.delayed {
+            self.delayed.push(request)?;
+        }
+        let mut files = desk.close().into_store().close();
+        let has_failed = files.log.has_failed() || files.db.has_failed();
+        assert!(rt; has_failed || answers.count == REQUEST_COUNT);
+        self.open_both(rt, files, answers.count)?;
+        Ok(has_failed)
+    }
+
+    /// The file fails at each of its calls, until a run has none that fails.
+    fn fail_each_call<D: FailingFile + Drop>(
+        &mut self,
+        rt: &impl Abort,
+        is_log: bool,
+    ) -> Result<(), Fail> {
+        for calls in 0..MANY {
+            let files: Files<D> = failing_files(self.alloc, is_log, calls);
+            if !self.run(rt, files)? {
+                return Ok(());
+            }
+        }
+        Err("a run that does not end".into())
+    }
+
+    /// Either file fails at each of its calls. Each request was found in some run, and not in another.
+    pub(crate) fn fail_both<D: FailingFile + Drop>(&mut self, rt: &impl Abort) -> Result<(), Fail> {
+        self.fail_each_call::<D>(rt, true)?;
+        self.fail_each_call::<D>(rt, false)?;
+        assert!(rt; self.without_desk > 0);
+        for request in 0..REQUEST_COUNT {
+            assert!(rt; self.kept.contains(&request), "{request} kept");
+            assert!(rt; self.lost.contains(&request), "{request} lost");
+        }
+        Ok(())
+    }
+}
