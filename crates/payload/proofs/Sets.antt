@@ -38,10 +38,10 @@ same_set s t each = maps.same_map vrp_order.total vrp_order.exact s t (λ v. mar
 contains-empty : (v : Vrp) → set.contains set.empty v ≡ false
 contains-empty v = ap is_some (maps.get-empty vrp_cmp v)
 
-contains-insert : (s : set.VrpSet) (v w : Vrp) → set.contains (set.insert s v) w ≡ (is_vrp w v || set.contains s w)
+pub contains-insert : (s : set.VrpSet) (v w : Vrp) → set.contains (set.insert s v) w ≡ (is_vrp w v || set.contains s w)
 contains-insert s v w = ap is_some (maps.get-insert vrp_order.total s v tt w) ∙ some-or (is_vrp w v) _
 
-contains-remove : (s : set.VrpSet) (v w : Vrp) → set.contains (set.remove s v) w ≡ (not (is_vrp w v) && set.contains s w)
+pub contains-remove : (s : set.VrpSet) (v w : Vrp) → set.contains (set.remove s v) w ≡ (not (is_vrp w v) && set.contains s w)
 contains-remove s v w = ap is_some (maps.get-remove vrp_order.total s v w) ∙ none-and (is_vrp w v) _
 
 pub contains-from_list : (vrps : List Vrp) (v : Vrp) → set.contains (set.from_list vrps) v ≡ list_any (is_vrp v) vrps

@@ -1,0 +1,18 @@
+use Rattle.std.proofs.Common.{Contains}
+use Rattle.addr.specs.declared.vrp.Vrp.{Vrp}
+use Rattle.kept.proofs.Keeps.{kept_after}
+use Rattle.kept.proofs.VrpSets.{items_of_list}
+use Rattle.kept.proofs.kept.Kept.of.Goals as goal
+
+pub returns-clause-exceptions : goal.returns-clause-exceptions
+returns-clause-exceptions c = record {
+  filters = c.in_ok-filters.ensures;
+  assertions = λ v. rw (c.from-asserted.ensures, c.in_ok-from_slice.ensures.items) (items_of_list c.args.assertions.now v);
+}
+
+pub returns-clause-kept : goal.returns-clause-kept
+returns-clause-kept c =
+    kept_after (λ (v : Vrp). Contains c.args.given.items v)
+    (record { day = c.args.day; vrps = c.in_ok-vrps.vrps; filters = c.in_ok-filters.filters; asserted = c.from-asserted.result })
+    (record { filters = c.args.filters.now; assertions = c.args.assertions.now }) (returns-clause-exceptions c)
+    (λ v. rw (← c.in_ok-filters.ensures) (c.in_ok-vrps.ensures v))

@@ -1,0 +1,26 @@
+-- What becomes of a day that is kept where an authorization ends or begins.
+use Rattle.std.specs.Prelude.{◌≡◌, ◌⊎◌, Any, Contains}
+use Rattle.addr.specs.declared.vrp.Vrp.{Vrp}
+use Rattle.payload.specs.VrpSet as set
+use Rattle.registry.specs.declared.authorization.Auth.{Auth}
+use Rattle.slurm.specs.Filter.{FilterMatches}
+use Rattle.kept.specs.Giving.{GivesOn}
+use Rattle.kept.specs.KeptDay.{KeptDay}
+
+-- the day is the same, and so are the exceptions
+pub record IsWithSame (old new : KeptDay) : Type 0 where
+  pub day : new.day ≡ old.day
+  pub filters : new.filters ≡ old.filters
+  pub asserted : new.asserted ≡ old.asserted
+
+-- it was there, and the authorization does not give it on the day, or it is asserted
+abbrev pub IsLeft : KeptDay → Auth → Vrp → Type 0
+IsLeft kept auth v =
+    Contains (set.items kept.vrps) v
+    × ((¬ GivesOn auth kept.day v) ⊎ Contains (set.items kept.asserted) v)
+
+-- it was there, or the authorization gives it on the day and no filter matches it
+abbrev pub IsJoined : KeptDay → Auth → Vrp → Type 0
+IsJoined kept auth v =
+    Contains (set.items kept.vrps) v
+    ⊎ (GivesOn auth kept.day v × ¬ Any (λ filter. FilterMatches filter v) kept.filters)

@@ -1,0 +1,37 @@
+//! Local exceptions to VRPs (RFC 8416).
+ghost use Rattle.std.specs.Prelude.{◌↔◌, Any, Contains, IfOk};
+ghost use Rattle.addr.specs.declared.vrp.Vrp.{Vrp};
+ghost use Rattle.payload.specs.VrpSet as set;
+ghost use Rattle.registry.specs.DailyVrps.{IsAfterExceptions};
+ghost use Rattle.slurm.specs.Filter.{FilterMatches};
+
+use addr::Vrp;
+use payload::Trie;
+use slurm::FilterIndex;
+use std::alloc::{AllocError, Global};
+
+/// Takes away the VRPs that some filter matches.
+fn keep_unfiltered(filters: &FilterIndex, vrps: &mut Vec<Vrp>)
+    ensures { (v : Vrp) → Contains vrps.new.items v
+        ↔ (Contains vrps.old.items v × ¬ Any (λ filter. FilterMatches filter v) filters.now) }
+{
+    vrps.retain(|vrp| !filters.matches(vrp));
+}
+
+/// The VRPs after the exceptions: without those that some filter matches, and with the assertions,
+/// which no filter removes.
+pub fn excepted(
+    alloc: Global,
+    filters: &FilterIndex,
+    assertions: &[Vrp],
+    given: Vec<Vrp>,
+) -> Result<Trie, AllocError>
+    ensures { IfOk result (λ vrps. (v : Vrp) → Contains (set.items vrps) v
+        ↔ IsAfterExceptions (record { filters = filters.now; assertions = assertions.now })
+        (Contains given.items v) v) }
+{
+    let mut vrps = given;
+    keep_unfiltered(filters, &mut vrps);
+    vrps.extend_from_slice(assertions)?;
+    Trie::of(alloc, &vrps)
+}

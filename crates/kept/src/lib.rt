@@ -1,0 +1,10 @@
+//! The VRPs of one day, which are kept while authorizations begin and end on it.
+#![tactic(auto)]
+
+mod exceptions;
+mod giving;
+mod kept;
+
+pub use exceptions::excepted;
+pub use giving::vrp_on;
+pub use kept::Kept;
