@@ -30,9 +30,11 @@ exceptions_of kept = record { filters = kept.filters; assertions = set.items kep
 -- its filters are those of the exceptions, and its assertions are the same in any order
 pub record HasExceptions (kept : KeptDay) (exceptions : Exceptions) : Type 0 where
   pub filters : kept.filters ≡ exceptions.filters
-  pub assertions : (v : Vrp) → Contains (set.items kept.asserted) v ↔ Contains exceptions.assertions v
+  pub assertions :
+      (v : Vrp) → Contains (set.items kept.asserted) v ↔ Contains exceptions.assertions v
 
 -- its VRPs are those that are given, after the exceptions that are kept
 abbrev pub IsKept : (Vrp → Type 0) → KeptDay → Type 0
 IsKept given kept =
-    (v : Vrp) → Contains (set.items kept.vrps) v ↔ IsAfterExceptions (exceptions_of kept) (given v) v
+    (v : Vrp) → Contains (set.items kept.vrps) v
+    ↔ IsAfterExceptions (exceptions_of kept) (given v) v

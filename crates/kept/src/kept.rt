@@ -13,8 +13,8 @@ use slurm::{Filter, FilterIndex};
 use std::alloc::{AllocError, Global};
 use std::marker::Model;
 
-/// The VRPs of a day after local exceptions, with the day and the exceptions, so that they can follow
-/// what ends and begins on the day.
+/// The VRPs of a day after local exceptions, with the day and the exceptions, so that they can
+/// follow what ends and begins on the day.
 #[derive(Drop)]
 pub struct Kept {
     day: Day,
@@ -39,8 +39,8 @@ impl Model for Kept {
 }
 
 impl Kept {
-    /// What is kept of a day on which these VRPs are given, in any order, and these exceptions are in
-    /// force.
+    /// What is kept of a day on which these VRPs are given, in any order and also twice, and these
+    /// exceptions are in force.
     pub fn of(
         alloc: Global,
         day: Day,
