@@ -1,7 +1,5 @@
 -- The VRPs of a day: those that the rows of a legal history give are those of the history.
-use Rattle.std.proofs.Common.{◌≡◌, ℕ, zero, suc, ◌<◌, Bool, true, ◌↔◌, ◌⊎◌, inl, inr, List, [], ◌∷◌, Option, Some, None, refl, sym, ◌∙◌, subst, length, get_or, Contains, arith}
-use Rattle.std.specs.List.{list_any}
-use Rattle.std.proofs.lemmas.List.Folds.{Any-from_list_any, list_any-from_Any}
+use Rattle.std.proofs.Common.{◌≡◌, ℕ, ◌↔◌, inl, inr, List, [], ◌∷◌, Option, Some, None, refl, sym, ◌∙◌, subst, Contains}
 use Rattle.addr.specs.declared.vrp.Vrp.{Vrp}
 use Rattle.registry.specs.DailyVrps.{IsVrpInForce}
 use Rattle.registry.specs.History.{History}
@@ -12,32 +10,8 @@ use Rattle.registry.specs.declared.authorization.Auth.{Auth}
 use Rattle.charters.specs.declared.charter.Charter.{Charter}
 use Rattle.registry.proofs.Unregistered.{has_nothing}
 use Rattle.registry.specs.RowsOfAll.{AllRows, HasRows, IsGivenOn}
+use Rattle.kept.proofs.Members.{at_head, head_or_tail, in_tail, none_in_nil}
 use Rattle.desk.proofs.DeskLemmas.{rows_present, rows_absent}
-
-pub at_head : {X : Type 0} (x : X) (xs : List X) → Contains (x ∷ xs) x
-at_head x xs = (0, omega arith, refl)
-
-pub in_tail : {X : Type 0} (x : X) (xs : List X) (y : X) → Contains xs y → Contains (x ∷ xs) y
-in_tail x xs y there = (suc there.0, omega (arith, there.1), there.2)
-
-pub head_or_tail : {X : Type 0} (x : X) (xs : List X) (y : X) → Contains (x ∷ xs) y → (x ≡ y) ⊎ Contains xs y
-head_or_tail x xs y there = at there.0 there.1 there.2
-  where
-    at : (k : ℕ) → k < length (x ∷ xs) → get_or (x ∷ xs) k y ≡ y → (x ≡ y) ⊎ Contains xs y
-    at zero below is = inl is
-    at (suc k) below is = inr (k, omega (arith, below), is)
-
-pub none_in_nil : {X : Type 0} (x : X) → Contains [] x → ⊥
-none_in_nil x there = absurd (omega (arith, there.1))
-
--- an element passes where one that is there does, and the other way round
-pub any_among : {X : Type 0} (p : X → Bool) (xs : List X) (x : X) → Contains xs x → p x ≡ true → list_any p xs ≡ true
-any_among p xs x there passes = list_any-from_Any p xs (there.0, x, there.1, there.2, passes)
-
-pub among_any : {X : Type 0} (p : X → Bool) (xs : List X) → list_any p xs ≡ true → (x : X) × Contains xs x × (p x ≡ true)
-among_any p xs any =
-    let some = Any-from_list_any p xs any in
-    (some.1, (some.0, some.2, some.3), some.4)
 
 -- what is kept was there and meets the fact, and what meets it is kept
 pub kept_was : (P : Auth → Type 0) (xs ys : List Auth) (x : Auth) → Keeps P xs ys → Contains ys x → Contains xs x × P x

@@ -1,12 +1,9 @@
 -- The VRPs that changes at a holder would exchange.
-use Rattle.std.proofs.Common.{◌≡◌, ℕ, ◌≤◌, Bool, true, false, not, ◌↔◌, ◌⊎◌, inl, inr, List, [], ◌∷◌, ◌++◌, Option, Some, None, Err, IfSome, refl, sym, ap, ◌∙◌, subst, length, Contains, filter, arith}
-use Rattle.std.specs.Prelude.{IsSome}
+use Rattle.std.proofs.Common.{◌≡◌, ℕ, Bool, true, false, not, ◌↔◌, ◌⊎◌, inl, inr, List, [], ◌∷◌, ◌++◌, Option, Some, None, Err, refl, sym, ap, ◌∙◌, subst, length, Contains, filter, arith}
 use Rattle.std.specs.List.{list_all, list_any}
 use Rattle.std.specs.Option.{option_to_list}
-use Rattle.std.proofs.lemmas.Bool.{and_from, and_parts, cases_Bool, eqb-true, false≢true, le-leb, not-true, or_parts, true≢false}
+use Rattle.std.proofs.lemmas.Bool.{and_parts, cases_Bool, not-true, or_parts, true≢false}
 use Rattle.std.proofs.lemmas.List.Elements.{Contains-append_left, Contains-append_right, Contains-append_cases}
-use Rattle.addr.proofs.Equality.{equal_prefix}
-use Rattle.addr.specs.Order.{same_vrp}
 use Rattle.addr.specs.declared.route.Route.{Route}
 use Rattle.addr.specs.declared.vrp.Vrp.{Vrp}
 use Rattle.histories.specs.Growth.{HypotheticalIsLegal}
@@ -24,7 +21,7 @@ use Rattle.registry.specs.HypotheticalHistory.{HypotheticalHistory}
 use Rattle.registry.specs.Rows.{Rows, RowsOf, RowsIfAny}
 use Rattle.registry.specs.RowsOfAll.{AllRows, HasRows}
 use Rattle.registry.specs.Terms.{authorization_terms, share_vrp, AreActive, HeldSinceMade, IsActive, IsVrpOf, Keeps}
-use Rattle.registry.specs.Verdict.{terms_fit_length, IsLegal}
+use Rattle.registry.specs.Verdict.{IsLegal}
 use Rattle.registry.specs.declared.authorization.Auth.{Auth}
 use Rattle.charters.specs.Repeats.{has_repeat}
 use Rattle.charters.specs.declared.charter.Charter.{Charter}
@@ -34,42 +31,18 @@ use Rattle.registry.specs.declared.rule.Refusal.TheVariants.{Denied, Memory}
 use Rattle.slurm.specs.Exceptions.{Exceptions}
 use Rattle.store.specs.Loads.{AreFilesOf}
 use Rattle.desk.specs.Answer.{refused_with, AnswersWhatIf}
-use Rattle.desk.specs.steps.WhatIf.{auths_if_any, AreGivingOn, AreInForceOn, AreVrpsOf, Exchanges, GivesOn, IsExchanged, WouldExchange}
-use Rattle.desk.proofs.DailyLemmas.{any_among, at_head, head_or_tail, kept_is, kept_was, none_in_nil}
-use Rattle.desk.proofs.ExceptionLemmas.{kept_or_more}
-use Rattle.desk.proofs.ExportLemmas.{is_among, items_such}
+use Rattle.desk.specs.steps.WhatIf.{auths_if_any, AreGivingOn, AreInForceOn, AreVrpsOf, Exchanges, IsExchanged, WouldExchange}
+use Rattle.kept.specs.Giving.{GivesOn}
+use Rattle.kept.proofs.GivingLemmas.{vrp_parts}
+use Rattle.kept.proofs.Members.{any_among, at_head, head_or_tail, kept_or_more, none_in_nil}
+use Rattle.kept.proofs.VrpSets.{is_among, items_such}
+use Rattle.desk.proofs.DailyLemmas.{kept_is, kept_was}
 
 -- ---- the VRP of an authorization
-
--- its AS, prefix and maxLength are those of the terms
-vrp_parts : (x : Auth) (v : Vrp) → IsVrpOf x v → (x.asn.0 ≡ v.asn.0) × (x.prefix ≡ v.prefix) × (x.max ≡ v.max)
-vrp_parts x v is =
-    let both = and_parts _ _ is in
-    let rest = and_parts _ _ both.1 in
-    (eqb-true x.asn.0 v.asn.0 both.0, equal_prefix x.prefix v.prefix rest.0, eqb-true x.max v.max rest.1)
-
-one_vrp : (x : Auth) (v w : Vrp) → IsVrpOf x v → IsVrpOf x w → v ≡ w
-one_vrp x v w is also =
-    let one = vrp_parts x v is in
-    let other = vrp_parts x w also in
-    same_vrp v w (sym one.1 ∙ other.1) (sym one.2 ∙ other.2) (ap (λ n. record { 0 = n }) (sym one.0 ∙ other.0))
-
--- terms that have a VRP fit it
-vrp_fits : (x : Auth) (v : Vrp) → IsVrpOf x v → terms_fit_length x x.max ≡ true
-vrp_fits x v is =
-    let parts = vrp_parts x v is in
-    rw (parts.1, parts.2) (and_from _ _ (le-leb _ _ v.at_least_length) (le-leb _ _ v.at_most_width))
 
 -- two authorizations that have one VRP share it
 shared_vrp : (x y : Auth) (v : Vrp) → IsVrpOf x v → IsVrpOf y v → share_vrp x y ≡ true
 shared_vrp x y v is also = let parts = vrp_parts y v also in rw (parts.0, parts.1, parts.2) is
-
--- what is found of an authorization in force is its VRP
-pub gives_open : (x : Auth) (day : ℕ) (found : Option Vrp) → (x.from ≤ day) × (day ≤ x.until)
-    → (IsSome found ↔ (terms_fit_length x x.max ≡ true)) → IfSome found (IsVrpOf x) → (v : Vrp) → (found ≡ Some v) ↔ GivesOn x day v
-gives_open x day None days some value v = (λ is. absurd cc, λ gives. absurd (false≢true (some.1 (vrp_fits x v gives.2))))
-gives_open x day (Some w) days some value v =
-    (λ is. let same : w ≡ v = cc in (days.0, days.1, subst (IsVrpOf x) same value), λ gives. ap Some (one_vrp x w v value gives.2))
 
 -- ---- the VRPs of authorizations
 

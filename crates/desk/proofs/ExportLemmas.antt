@@ -1,17 +1,12 @@
 -- The VRPs of an index, and the states of routes over them.
-use Rattle.std.proofs.Common.{◌≡◌, ℕ, Bool, true, false, ◌↔◌, inl, inr, IsTrue, List, [], ◌∷◌, refl, sym, ap, ◌∙◌, subst, map, Contains, if◌then◌else◌}
+use Rattle.std.proofs.Common.{◌≡◌, ℕ, Bool, true, false, ◌↔◌, inl, inr, List, [], ◌∷◌, refl, sym, ◌∙◌, subst, map, Contains, if◌then◌else◌}
 use Rattle.std.specs.List.{list_any}
-use Rattle.std.specs.Ordering.{is_eq}
-use Rattle.std.proofs.lemmas.Cmp.{tied_itself}
 use Rattle.std.proofs.lemmas.Bool.{cases_Bool, true≢false}
 use Rattle.addr.specs.OriginValidation.{covers, matches, Valid, Invalid, NotFound, HasState, validation_state}
 use Rattle.addr.specs.declared.route.Route.{Route}
 use Rattle.addr.specs.declared.vrp.Vrp.{Vrp}
-use Rattle.addr.proofs.OrderLemmas.{vrp_order}
 use Rattle.payload.specs.ValidityState.{state_of}
-use Rattle.payload.specs.VrpSet as set
 use Rattle.payload.specs.declared.validity.Validity.{Validity}
-use Rattle.payload.proofs.Sets.{is_vrp, same_vrp-equal, contains-items, contains-from_list}
 use Rattle.registry.specs.DailyVrps.{IsAfterExceptions, IsVrpOn}
 use Rattle.registry.specs.ExceptionsInForce.{exceptions_in_force}
 use Rattle.registry.specs.History.{History}
@@ -22,37 +17,9 @@ use Rattle.desk.specs.steps.WhatIf.{AreInForceOn}
 use Rattle.registry.specs.Verdict.{IsLegal}
 use Rattle.charters.specs.declared.charter.Charter.{Charter}
 use Rattle.registry.specs.RowsOfAll.{AllRows, HasRows, IsGivenOn}
-use Rattle.desk.proofs.DailyLemmas.{given_on, any_among, among_any}
-use Rattle.desk.proofs.ExceptionLemmas.{after_alike}
-
-is_vrp-itself : (v : Vrp) → is_vrp v v ≡ true
-is_vrp-itself v = ap is_eq (tied_itself vrp_order.total v)
-
--- a list has the VRPs that a test of it finds
-pub is_among : (vrps : List Vrp) (v : Vrp) → Contains vrps v ↔ IsTrue (list_any (is_vrp v) vrps)
-is_among vrps v = (
-  λ there. any_among (is_vrp v) vrps v there (is_vrp-itself v),
-  λ has.
-      let found = among_any (is_vrp v) vrps has in
-      subst (Contains vrps) (sym (same_vrp-equal v found.0 found.2)) found.1,
-)
-
--- the set of a list gives the VRPs of the list
-items_of_list : (vrps : List Vrp) (v : Vrp) → Contains (set.items (set.from_list vrps)) v ↔ Contains vrps v
-items_of_list vrps v =
-    let same : list_any (is_vrp v) (set.items (set.from_list vrps)) ≡ list_any (is_vrp v) vrps =
-    sym (contains-items (set.from_list vrps) v) ∙ contains-from_list vrps v in
-    let set_has = is_among (set.items (set.from_list vrps)) v in
-    let list_has = is_among vrps v in
-    (λ there. list_has.1 (sym same ∙ set_has.0 there), λ there. set_has.1 (same ∙ list_has.0 there))
-
--- and where these are such, so are those of its set
-pub items_such : (P : Vrp → Type 0) (vrps list : List Vrp) (index : set.VrpSet) → index ≡ set.from_list list → list ≡ vrps
-    → ((v : Vrp) → Contains vrps v ↔ P v) → (v : Vrp) → Contains (set.items index) v ↔ P v
-items_such P vrps list index is same are v =
-    let listed = items_of_list vrps v in
-    let made : index ≡ set.from_list vrps = is ∙ ap set.from_list same in
-    subst (λ (s : set.VrpSet). Contains (set.items s) v ↔ P v) (sym made) ((λ there. (are v).0 (listed.0 there)), (λ holds. listed.1 ((are v).1 holds)))
+use Rattle.desk.proofs.DailyLemmas.{given_on}
+use Rattle.kept.proofs.ExceptionLemmas.{after_alike}
+use Rattle.kept.proofs.Members.{any_among, among_any}
 
 -- the state over a list is the state over any set with the same VRPs
 pub state_has : (S : Vrp → Type 0) (items : List Vrp) → ((v : Vrp) → Contains items v ↔ S v) → (r : Route) → HasState S r (validation_state items r)

@@ -8,5 +8,4 @@ pub mod CrashLemmas
 pub mod ResumedLemmas
 pub mod DailyLemmas
 pub mod ExportLemmas
-pub mod ExceptionLemmas
 pub mod ExchangeLemmas

@@ -1,5 +1,5 @@
-//! Local exceptions to VRPs (RFC 8416).
-ghost use Rattle.std.specs.Prelude.{◌↔◌, Contains, IfOk, OnOk};
+//! The local exceptions that are loaded (RFC 8416).
+ghost use Rattle.std.specs.Prelude.{◌≡◌, ◌↔◌, Contains, IfOk};
 ghost use Rattle.addr.specs.declared.vrp.Vrp.{Vrp};
 ghost use Rattle.payload.specs.VrpSet as set;
 ghost use Rattle.registry.specs.DailyVrps.{IsAfterExceptions};
@@ -8,23 +8,18 @@ ghost use Rattle.store.specs.Loads.{AreFilesOf};
 
 use addr::Vrp;
 use payload::Trie;
-use slurm::{FilterIndex, Slurm};
+use slurm::{Filter, FilterIndex, Slurm};
 use std::alloc::{AllocError, Global};
 
-/// Takes away the VRPs that some filter of the SLURM file in force matches, if there is one, and
-/// then adds its assertions, which no filter removes.
-fn except(alloc: Global, files: &[Slurm], vrps: &mut Vec<Vrp>) -> Result<(), AllocError>
-    ensures { OnOk result ((exceptions : Exceptions) → AreFilesOf exceptions files.now
-        → (v : Vrp) → Contains vrps.new.items v
-        ↔ IsAfterExceptions exceptions (Contains vrps.old.items v) v) }
+/// The filters and the assertions of the SLURM file in force; none where there is no file.
+fn entries_of(files: &[Slurm]) -> (&[Filter], &[Vrp])
+    ensures { (exceptions : Exceptions) → AreFilesOf exceptions files.now
+        → record { filters = result.0.now; assertions = result.1.now } ≡ exceptions }
 {
-    let Some(file) = files.first() else {
-        return Ok(());
-    };
-    let filters = FilterIndex::of(alloc, file.filters())?;
-    vrps.retain(|vrp| !filters.matches(vrp));
-    vrps.extend_from_slice(file.assertions())?;
-    Ok(())
+    match files.first() {
+        Some(file) => (file.filters(), file.assertions()),
+        None => (&[], &[]),
+    }
 }
 
 /// The VRPs after the exceptions of the SLURM file in force, if there is one, as an index.
@@ -33,7 +28,7 @@ pub(crate) fn excepted(alloc: Global, files: &[Slurm], vrps: Vec<Vrp>) -> Result
         → (v : Vrp) → Contains (set.items index) v
         ↔ IsAfterExceptions exceptions (Contains vrps.items v) v) }
 {
-    let mut vrps = vrps;
-    except(alloc, files, &mut vrps)?;
-    Trie::of(alloc, &vrps)
+    let (filters, assertions) = entries_of(files);
+    let filters = FilterIndex::of(alloc, filters)?;
+    kept::excepted(alloc, &filters, assertions, vrps)
 }

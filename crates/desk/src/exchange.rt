@@ -1,11 +1,11 @@
 //! Which VRPs changes at a holder would exchange.
-ghost use Rattle.std.specs.Prelude.{◌≡◌, ◌↔◌, ◌++◌, Some, [], IfOk, filter, not, option_copied};
-ghost use Rattle.addr.specs.declared.vrp.Vrp.{Vrp};
+ghost use Rattle.std.specs.Prelude.{◌≡◌, ◌++◌, [], IfOk, filter, not, option_copied};
 ghost use Rattle.payload.specs.VrpSet as set;
 ghost use Rattle.registry.specs.Rows.{rows_if_any};
-ghost use Rattle.desk.specs.steps.WhatIf.{auths_if_any, AreVrpsOf, GivesOn};
+ghost use Rattle.desk.specs.steps.WhatIf.{auths_if_any, AreVrpsOf};
 
 use addr::{Day, Vrp};
+use kept::vrp_on;
 use payload::{PayloadIndex, Trie};
 use registry::{Auth, HolderRows};
 use std::alloc::{AllocError, Global};
@@ -15,17 +15,6 @@ use std::alloc::{AllocError, Global};
 pub(crate) struct Exchange {
     removed: Trie,
     added: Vec<Vrp>,
-}
-
-/// The VRP of the authorization, where it is in force on the day.
-fn vrp_on(auth: &Auth, day: Day) -> Option<Vrp>
-    ensures { (v : Vrp) → (result ≡ Some v) ↔ GivesOn auth.now day v }
-{
-    if auth.is_in_force(day) {
-        auth.vrp()
-    } else {
-        None
-    }
 }
 
 /// The VRPs of the authorizations that are in force on the day.

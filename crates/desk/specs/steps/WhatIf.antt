@@ -1,5 +1,5 @@
 -- Steps of a what-if: which VRPs its changes would exchange.
-use Rattle.std.specs.Prelude.{◌≡◌, ℕ, ◌≤◌, List, [], Option, Some, None, ◌↔◌, ◌⊎◌, Contains}
+use Rattle.std.specs.Prelude.{◌≡◌, ℕ, List, [], Option, Some, None, ◌↔◌, ◌⊎◌, Contains}
 use Rattle.addr.specs.declared.vrp.Vrp.{Vrp}
 use Rattle.slurm.specs.Exceptions.{Exceptions}
 use Rattle.registry.specs.DailyVrps.{IsVrpInForce}
@@ -7,10 +7,10 @@ use Rattle.registry.specs.ExceptionsInForce.{exceptions_in_force}
 use Rattle.registry.specs.History.{History}
 use Rattle.registry.specs.HypotheticalHistory.{HypotheticalHistory}
 use Rattle.registry.specs.Rows.{Rows}
-use Rattle.registry.specs.Terms.{IsVrpOf}
 use Rattle.registry.specs.declared.authorization.Auth.{Auth}
 use Rattle.charters.specs.declared.charter.Charter.{Charter}
 use Rattle.registry.specs.declared.command.Proposed.{Proposed}
+use Rattle.kept.specs.Giving.{GivesOn}
 use Rattle.store.specs.Loads.{AreFilesOf}
 
 -- the authorizations of rows; none where there are no rows
@@ -18,11 +18,7 @@ abbrev pub auths_if_any : Option Rows → List Auth
 auths_if_any None = []
 auths_if_any (Some rows) = rows.auths
 
--- by its days and its terms the authorization gives the VRP on the day
-abbrev pub GivesOn : Auth → ℕ → Vrp → Type 0
-GivesOn x day v = (x.from ≤ day) × (day ≤ x.until) × IsVrpOf x v
-
--- one of the authorizations does
+-- one of the authorizations gives the VRP on the day
 abbrev pub AreGivingOn : List Auth → ℕ → Vrp → Type 0
 AreGivingOn auths day v = (x : Auth) × Contains auths x × GivesOn x day v
 

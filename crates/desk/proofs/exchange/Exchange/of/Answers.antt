@@ -1,7 +1,7 @@
 use Rattle.std.specs.Option.{option_copied}
 use Rattle.registry.specs.Rows.{rows_if_any}
 use Rattle.desk.specs.steps.WhatIf.{auths_if_any, AreGivingOn}
-use Rattle.desk.proofs.ExportLemmas.{items_such}
+use Rattle.kept.proofs.VrpSets.{items_such}
 use Rattle.desk.proofs.exchange.Exchange.of.Goals as goal
 
 pub returns-clause-removed : goal.returns-clause-removed
