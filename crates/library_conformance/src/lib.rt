@@ -10,6 +10,8 @@ mod checks;
 #[cfg(test)]
 mod contents;
 #[cfg(test)]
+mod kept_days;
+#[cfg(test)]
 mod memory;
 #[cfg(test)]
 mod prefixes;

@@ -144,7 +144,7 @@ const MAX_LENGTH_ROUTES: &str = r#"
 const EMPTY_ROUTES: &str = "\n198.51.100.0/24 AS64496 => NotFound 1";
 
 /// What a visit hands out.
-fn listed<I: PayloadIndex>(alloc: Global, index: &I) -> Result<Vec<Vrp>, Fail> {
+pub(crate) fn listed<I: PayloadIndex>(alloc: Global, index: &I) -> Result<Vec<Vrp>, Fail> {
     let mut all = FirstVrps {
         vrps: Vec::new(alloc),
         most: usize::MAX,

@@ -53,7 +53,7 @@ const VISITS: [(usize, usize, Result<(), Stop>); 3] = [
     (0, 0, Err(Stop)),
 ];
 
-fn parse_asn(text: &str) -> Result<Asn, Fail> {
+pub(crate) fn parse_asn(text: &str) -> Result<Asn, Fail> {
     Ok(Asn::from_text(text.as_bytes()).ok_or("no AS number")?)
 }
 
