@@ -1,3 +1,4 @@
 mod ConnectionLemmas
 pub mod ServingLemmas
 pub mod HistoryLemmas
+pub mod ServedFileLemmas

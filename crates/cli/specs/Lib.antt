@@ -1,5 +1,6 @@
 pub mod ConnectionTime
 pub mod Connections
+pub mod ServedFiles
 pub mod ServedHistories
 pub mod Serving
 pub mod TaskFaults

@@ -1,5 +1,5 @@
 //! Clients on the loopback for tests.
-use crate::serve::{Incoming, Printed, serve_on};
+use crate::serve::{Connections, Incoming, Network, Printed, serve_on};
 use addr::Day;
 use desk::Desk;
 use sqlite::Alter;
@@ -58,25 +58,53 @@ pub(crate) enum AfterText {
     StaysOpen,
 }
 
-/// Binds the address; then each client connects, and sends its text and no more.
-pub(crate) fn bind_for(
-    rt: &HostRuntime,
-    address: &str,
-    texts: &[String],
+/// Once the address is bound, a client for each text connects, and sends it and no more.
+#[derive(Drop)]
+pub(crate) struct Callers<'a> {
+    rt: &'a HostRuntime,
+    texts: &'a [String],
     after: AfterText,
-    clients: &mut Vec<TcpStream>,
-) -> io::Result<TcpListener> {
-    let listener = TcpListener::bind(rt, address)?;
-    let address = listener.local_addr()?;
-    for text in texts {
-        let mut client = TcpStream::connect(rt, address)?;
-        client.write_all(text.as_bytes())?;
-        if let AfterText::ShutsWriting = after {
-            client.shutdown(Shutdown::Write)?;
+    pub(crate) clients: Vec<TcpStream>,
+}
+
+impl<'a> Callers<'a> {
+    pub(crate) fn new(rt: &'a HostRuntime, texts: &'a [String], after: AfterText) -> Callers<'a> {
+        Callers {
+            rt,
+            texts,
+            after,
+            clients: Vec::new(rt.alloc()),
         }
-        clients.push(client)?;
     }
-    Ok(listener)
+}
+
+impl Network for Callers<'_> {
+    fn bind(&mut self, address: &str) -> io::Result<TcpListener> {
+        let listener = TcpListener::bind(self.rt, address)?;
+        let address = listener.local_addr()?;
+        for text in self.texts {
+            let mut client = TcpStream::connect(self.rt, address)?;
+            client.write_all(text.as_bytes())?;
+            if let AfterText::ShutsWriting = self.after {
+                client.shutdown(Shutdown::Write)?;
+            }
+            self.clients.push(client)?;
+        }
+        Ok(listener)
+    }
+}
+
+/// A network that has this one socket, which is bound already.
+#[derive(Drop)]
+pub(crate) struct Bound(pub(crate) Option<TcpListener>);
+
+impl Network for Bound {
+    fn bind(&mut self, _address: &str) -> io::Result<TcpListener> {
+        match self.0.take() {
+            Some(listener) => Ok(listener),
+            None => Err(ErrorKind::AddrInUse.into()),
+        }
+    }
 }
 
 /// What each client is answered.
@@ -102,15 +130,16 @@ pub(crate) fn serve<R: Clock, S: Alter>(
     texts: &[String],
     after: AfterText,
 ) -> Result<Served, Fail> {
-    let mut clients = Vec::new(rt.alloc());
-    let listener = bind_for(rt, "127.0.0.1:0", texts, after, &mut clients)?;
+    let mut callers = Callers::new(rt, texts, after);
     let mut errors = Vec::new(rt.alloc());
-    let count = u32::try_from(clients.len()).unwrap_or(u32::MAX);
-    let mut connections = Incoming::new(clock, &listener);
+    let count = u32::try_from(texts.len()).unwrap_or(u32::MAX);
+    let mut connections = Incoming::new(clock, &mut callers, "127.0.0.1:0");
     let mut log = Printed::new(&mut errors);
+    connections.listen()?;
     let Ok(()) = serve_on(rt.alloc(), &mut connections, count, desk, day, &mut log) else {
         return Err(io::Error::from(ErrorKind::Other).into());
     };
-    let answers = answers_to(rt, &mut clients)?;
+    drop(connections);
+    let answers = answers_to(rt, &mut callers.clients)?;
     Ok(Served { answers, errors })
 }

@@ -1,11 +1,13 @@
-//! How the faults of a script, of the store and of an open become the program's.
+//! How the faults of a script, of the store, of an open and of serving become the program's.
 ghost use Rattle.std.specs.Prelude.{◌≡◌, ◌≢◌};
 ghost use Rattle.std.specs.IoError.{error_kind};
-ghost use Rattle.cli.specs.TaskFaults.{fault_of_open, fault_of_script, fault_of_store};
+ghost use Rattle.cli.specs.TaskFaults.{fault_of_open, fault_of_script, fault_of_serve, fault_of_store};
 
+use crate::serve_desk::ServeFault;
 use command_line::ProgramFault;
 use desk_files::OpenFault;
 use sqlite::Alter;
+use sqlite_disk::Disk;
 use std::io::{self, ErrorKind};
 use store::StoreFault;
 use web::ScriptFault;
@@ -37,6 +39,18 @@ pub fn fault_of_open<S: Alter>(fault: &OpenFault<S>) -> ProgramFault
     match fault {
         OpenFault::File(fault) => *fault,
         OpenFault::Store(fault, _) => fault_of_store(*fault),
+    }
+}
+
+/// The program's fault where serving ended early.
+pub fn fault_of_serve<D: Disk>(fault: &ServeFault<D>) -> ProgramFault
+    ensures { result ≡ fault_of_serve fault.now }
+{
+    match fault {
+        ServeFault::Open(fault) => fault_of_open(fault),
+        ServeFault::Bind(fault, _) => *fault,
+        ServeFault::Accept(_) => ProgramFault::Socket,
+        ServeFault::Close => ProgramFault::Database,
     }
 }
 

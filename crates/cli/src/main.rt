@@ -13,11 +13,11 @@ use addr::Day;
 use check_files::{PayloadFile, RouteFile, check_files};
 pub use command_line::{ProgramFault, Task, WordsFault, charter_from, check_on, read_words};
 use desk::Desk;
-use desk_files::{close_desk, connect, make_desk, open_desk};
-use fault::{fault_of_error, fault_of_open, fault_of_script};
+use desk_files::{connect, files_at, make_desk};
+use fault::{fault_of_error, fault_of_script, fault_of_serve};
 use help::help_text;
-use serve::{Incoming, Printed};
-use serve_desk::serve_desk;
+use serve::{Connections, Incoming, Network, Printed};
+use serve_desk::serve_files;
 use sqlite_std_file::Unknown;
 use std::io::{self, ErrorKind};
 use std::net::TcpListener;
@@ -48,19 +48,27 @@ fn run(rt: &HostRuntime) -> Result<(), ProgramFault> {
         words.push(arg.as_str()).map_err(|_| ProgramFault::Memory)?;
     }
     match read_words(&words) {
-        Ok(task) => run_task(rt, &task, |address| TcpListener::bind(rt, address)),
+        Ok(task) => run_task(rt, &task, &mut Host(rt)),
         Err(fault) => Err(ProgramFault::from(fault)),
     }
 }
 
+/// The network of this machine.
+#[derive(Drop)]
+struct Host<'a>(&'a HostRuntime);
+
+impl Network for Host<'_> {
+    fn bind(&mut self, address: &str) -> io::Result<TcpListener> {
+        TcpListener::bind(self.0, address)
+    }
+}
+
 /// Does the task. A task that serves is lent what binds its socket.
-fn run_task<B: FnOnce(&str) -> io::Result<TcpListener>>(
+fn run_task<N: Network>(
     rt: &HostRuntime,
     task: &Task<'_>,
-    bind: B,
-) -> Result<(), ProgramFault>
-    requires { B.IsAlwaysCallable bind }
-{
+    network: &mut N,
+) -> Result<(), ProgramFault> {
     match task {
         Task::Script { charter } => run_script_task(rt, charter),
         Task::Init { database, charter } => run_init_task(rt, database, charter),
@@ -69,7 +77,10 @@ fn run_task<B: FnOnce(&str) -> io::Result<TcpListener>>(
             address,
             count,
             day,
-        } => run_serve_task(rt, database, *count, *day, || bind(address)),
+        } => {
+            let mut connections = Incoming::new(rt, network, address);
+            run_serve_task(rt, database, &mut connections, *count, *day)
+        }
         Task::Check { payloads, routes } => run_check_task(rt, payloads, routes),
         Task::Help => run_help_task(rt),
     }
@@ -98,37 +109,25 @@ fn run_init_task(rt: &HostRuntime, database: &str, charter: &str) -> Result<(), 
     Ok(())
 }
 
-fn run_serve_task<B: FnOnce() -> io::Result<TcpListener>>(
+fn run_serve_task<C: Connections>(
     rt: &HostRuntime,
     database: &str,
+    connections: &mut C,
     count: u32,
     day: Day,
-    bind: B,
-) -> Result<(), ProgramFault>
-    requires { B.IsAlwaysCallable bind }
-{
+) -> Result<(), ProgramFault> {
     // An open would make a database where there is none.
     match size_of(rt, database)? {
         None => return Err(ProgramFault::Database),
         Some(0) => return Err(ProgramFault::Schema),
         Some(_) => {}
     }
-    let desk = match open_desk(rt, database, Unknown) {
-        Ok(desk) => desk,
-        Err(fault) => return Err(fault_of_open(&fault)),
-    };
-    match bind() {
-        Ok(listener) => {
-            let mut errors = rt.stderr();
-            let mut connections = Incoming::new(rt, &listener);
-            let mut log = Printed::new(&mut errors);
-            serve_desk(rt.alloc(), desk, &mut connections, count, day, &mut log)?;
-            Ok(())
-        }
-        Err(error) => {
-            let _ = close_desk(desk);
-            Err(fault_of_error(&error, ProgramFault::Socket))
-        }
+    let (files, options) = files_at(rt, database, Unknown)?;
+    let mut errors = rt.stderr();
+    let mut log = Printed::new(&mut errors);
+    match serve_files(rt.alloc(), files, options, connections, count, day, &mut log) {
+        Ok(_) => Ok(()),
+        Err(fault) => Err(fault_of_serve(&fault)),
     }
 }
 

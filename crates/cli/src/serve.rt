@@ -10,7 +10,7 @@ mod peer;
 mod timed;
 
 use addr::Day;
-pub use connections::{AnswerConnections, Connections, Incoming};
+pub use connections::{AnswerConnections, Connections, Incoming, Network};
 use desk::Desk;
 use log::log_fault;
 pub use log::{Log, Printed};

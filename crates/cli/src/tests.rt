@@ -1,6 +1,6 @@
 //! Runs of the program's tasks.
-use super::run_task;
-use crate::clients::{AfterText, CHARTER, SETUP, answers_to, bind_for, request, serve};
+use super::{Host, run_task};
+use crate::clients::{AfterText, CHARTER, Callers, SETUP, answers_to, request, serve};
 use crate::help::help_text;
 use addr::Day;
 use command_line::{ProgramFault, Task};
@@ -12,7 +12,6 @@ use sqlite_store::FileStore;
 use std::alloc::AllocError;
 use std::fs;
 use std::io::{self, ErrorKind};
-use std::net::TcpListener;
 use std::rt::HostRuntime;
 use std::test::Fail;
 
@@ -27,7 +26,7 @@ const PAYLOADS: &str = "roadesk_test/payloads.csv";
 const ROUTES: &str = "roadesk_test/routes.csv";
 
 fn run(rt: &HostRuntime, task: &Task<'_>) -> Result<(), ProgramFault> {
-    run_task(rt, task, |address| TcpListener::bind(rt, address))
+    run_task(rt, task, &mut Host(rt))
 }
 
 fn init(rt: &HostRuntime, database: &str) -> Result<(), ProgramFault> {
@@ -172,18 +171,15 @@ fn serve_requests(
     parts: &[(&str, &str, &str, &str)],
 ) -> Result<Vec<String>, Fail> {
     let texts = requests(rt, parts)?;
-    let mut clients = Vec::new(rt.alloc());
+    let mut callers = Callers::new(rt, &texts, AfterText::ShutsWriting);
     let task = Task::Serve {
         database: DATABASE,
         address: "127.0.0.1:0",
         count: u32::try_from(texts.len()).unwrap_or(u32::MAX),
         day,
     };
-    let ran = run_task(rt, &task, |address| {
-        bind_for(rt, address, &texts, AfterText::ShutsWriting, &mut clients)
-    });
-    match ran {
-        Ok(()) => answers_to(rt, &mut clients),
+    match run_task(rt, &task, &mut callers) {
+        Ok(()) => answers_to(rt, &mut callers.clients),
         Err(_) => Err(io::Error::from(ErrorKind::Other).into()),
     }
 }

@@ -13,6 +13,7 @@ use addr::Day;
 use desk::Desk;
 use sqlite::Alter;
 use std::alloc::Global;
+use std::io::{self, ErrorKind};
 use std::net::{Shutdown, TcpListener, TcpStream};
 use std::time::{Clock, Instant};
 use web::{Device, Drain, Extent, Failed, Source, WebFault, serve_request};
@@ -63,6 +64,10 @@ pub trait Connections {
     // Whether the last one could not be accepted.
     ghost has_failed: { Self → Bool };
 
+    /// Binds the socket, so that clients can connect.
+    fn listen(&mut self) -> io::Result<()>
+        ensures none { Accepts (accepted self.old) (accepted self.new) [] };
+
     /// Accepts a connection, and has it answered. It has ended when the call returns.
     fn answer_next<E: AnswerConnections>(
         &mut self,
@@ -78,27 +83,41 @@ pub trait Connections {
         ensures failed { OnErr result (has_failed self.new ≡ true) };
 }
 
-/// The connections to a listener.
+/// What binds a socket to an address.
+pub trait Network {
+    fn bind(&mut self, address: &str) -> io::Result<TcpListener>;
+}
+
+/// The connections to an address, once it is bound.
 #[derive(Drop)]
-pub struct Incoming<'a, R> {
+pub struct Incoming<'a, R, N> {
     clock: &'a R,
-    listener: &'a TcpListener,
+    network: &'a mut N,
+    address: &'a str,
+    listener: Option<TcpListener>,
     // Kept for proofs.
     has_failed: bool,
 }
 
-impl<'a, R: Clock> Incoming<'a, R> {
-    pub(crate) fn new(clock: &'a R, listener: &'a TcpListener) -> Incoming<'a, R> {
+impl<'a, R: Clock, N: Network> Incoming<'a, R, N> {
+    pub(crate) fn new(clock: &'a R, network: &'a mut N, address: &'a str) -> Incoming<'a, R, N> {
         Incoming {
             clock,
-            listener,
+            network,
+            address,
+            listener: None,
             has_failed: false,
         }
     }
 }
 
-impl<R: Clock> Connections for Incoming<'_, R> {
+impl<R: Clock, N: Network> Connections for Incoming<'_, R, N> {
     ghost has_failed = { λ incoming. incoming.has_failed };
+
+    fn listen(&mut self) -> io::Result<()> {
+        self.listener = Some(self.network.bind(self.address)?);
+        Ok(())
+    }
 
     fn answer_next<E: AnswerConnections>(
         &mut self,
@@ -106,7 +125,11 @@ impl<R: Clock> Connections for Incoming<'_, R> {
         engine: &mut E,
         day: Day,
     ) -> Result<Result<Extent, WebFault>, Failed> {
-        let Ok((stream, _)) = self.listener.accept() else {
+        let accepted = match &self.listener {
+            Some(listener) => listener.accept(),
+            None => Err(ErrorKind::NotConnected.into()),
+        };
+        let Ok((stream, _)) = accepted else {
             self.has_failed = true;
             return Err(Failed);
         };
@@ -115,20 +138,18 @@ impl<R: Clock> Connections for Incoming<'_, R> {
         let to = Socket::new(self.clock, &stream, began);
         let ended = answer_in_time(alloc, from, to, engine, day);
         if let Ok(Extent::Part) = ended {
-            self.let_response_arrive(&stream, began);
+            let_response_arrive(self.clock, &stream, began);
         }
         Ok(ended)
     }
 }
 
-impl<R: Clock> Incoming<'_, R> {
-    /// Ends the response, and discards what the client still sends of its request: a stream that is
-    /// closed with bytes unread is reset, and the client may lose the response.
-    fn let_response_arrive(&self, stream: &TcpStream, began: Option<Instant>) {
-        if stream.shutdown(Shutdown::Write).is_ok() {
-            let rest = Socket::new(self.clock, stream, began);
-            discard(&mut Device::new(Timed::new(rest)));
-        }
+/// Ends the response, and discards what the client still sends of its request: a stream that is
+/// closed with bytes unread is reset, and the client may lose the response.
+fn let_response_arrive<R: Clock>(clock: &R, stream: &TcpStream, began: Option<Instant>) {
+    if stream.shutdown(Shutdown::Write).is_ok() {
+        let rest = Socket::new(clock, stream, began);
+        discard(&mut Device::new(Timed::new(rest)));
     }
 }
 

@@ -7,7 +7,7 @@ mod clocks;
 mod sockets;
 
 use super::{answer_each, serve_on};
-use crate::clients::{AfterText, CHARTER, CREATE, SETUP, request, serve};
+use crate::clients::{AfterText, Bound, CHARTER, CREATE, SETUP, request, serve};
 use crate::serve::connections::{AnswerConnections, Connections, Incoming, answer_in_time};
 use crate::serve::log::Printed;
 use crate::serve::peer::Peer;
@@ -148,8 +148,10 @@ fn a_response_arrives_whose_request_is_long(rt: HostRuntime) -> Result<(), Fail>
         }
         let clock = Sending::new(&client, text.as_bytes())?;
         let mut errors = Vec::new(rt.alloc());
-        let mut connections = Incoming::new(&clock, &listener);
+        let mut network = Bound(Some(listener));
+        let mut connections = Incoming::new(&clock, &mut network, "");
         let mut log = Printed::new(&mut errors);
+        connections.listen()?;
         assert_eq!(rt;
             serve_on(rt.alloc(), &mut connections, 1, &mut desk, day, &mut log),
             Ok(())
@@ -295,6 +297,10 @@ struct Clients<'a> {
 
 impl Connections for Clients<'_> {
     ghost has_failed = { λ clients. clients.has_failed };
+
+    fn listen(&mut self) -> io::Result<()> {
+        Ok(())
+    }
 
     fn answer_next<E: AnswerConnections>(
         &mut self,

@@ -2,7 +2,7 @@
 ghost use Rattle.std.specs.Prelude.{⊤};
 
 use super::clocks::Slow;
-use crate::clients::{AfterText, bind_for};
+use crate::clients::{AfterText, Bound, Callers};
 use crate::serve::connections::{AnswerConnections, Connections, Incoming};
 use crate::serve::peer::Socket;
 use crate::serve::timed::Timed;
@@ -148,28 +148,24 @@ fn a_silent_client_does_not_hold_the_desk(rt: HostRuntime) -> Result<(), Fail> {
     let mut texts = Vec::new(rt.alloc());
     texts.push(String::new(rt.alloc()))?;
     for (name, action, result, readings) in SILENT {
-        let mut clients = Vec::new(rt.alloc());
-        let listener = bind_for(
-            &rt,
-            "127.0.0.1:0",
-            &texts,
-            AfterText::StaysOpen,
-            &mut clients,
-        )?;
+        let mut callers = Callers::new(&rt, &texts, AfterText::StaysOpen);
         let clock = Slow::by(Duration::ZERO);
         let mut late = Late {
             clock: &clock,
             action,
             written: 0,
         };
+        let mut connections = Incoming::new(&clock, &mut callers, "127.0.0.1:0");
+        connections.listen()?;
         let start = Instant::now(&rt)?;
-        let ended = Incoming::new(&clock, &listener).answer_next(rt.alloc(), &mut late, day);
+        let ended = connections.answer_next(rt.alloc(), &mut late, day);
         assert!(rt; start.elapsed(&rt)? < Duration::from_secs(10), "{name}");
         assert_eq!(rt; ended, Ok(result), "{name}");
         if let Some(count) = readings {
             assert_eq!(rt; clock.readings(), count, "{name}");
         }
-        for client in clients {
+        drop(connections);
+        for client in callers.clients {
             assert_eq!(rt; bytes_left(client)?, late.written, "{name}");
         }
     }
@@ -202,7 +198,10 @@ fn time_begins_once_a_connection_is_accepted(rt: HostRuntime) -> Result<(), Fail
         action: Action::AnswerWhole,
         written: 0,
     };
-    let ended = Incoming::new(&clock, &listener).answer_next(rt.alloc(), &mut late, day);
+    let mut network = Bound(Some(listener));
+    let mut connections = Incoming::new(&clock, &mut network, "");
+    connections.listen()?;
+    let ended = connections.answer_next(rt.alloc(), &mut late, day);
     assert_eq!(rt; ended, Err(Failed));
     assert_eq!(rt; clock.readings(), 0);
     Ok(())

@@ -1,0 +1,42 @@
+-- What `serve` leaves of the files of a desk, and why it ended early.
+use Rattle.std.specs.Prelude.{◌≡◌, ◌⊎◌, ℕ, Bool, true, List, Result, Ok, Err, IfSome, ⊤}
+use Rattle.sqlite_disk.specs.declared.Disk.{Ghosts}
+use Rattle.sqlite_disk.specs.declared.Files.{Files}
+use Rattle.sqlite_wal.specs.Recovery.{Image}
+use Rattle.charters.specs.CharterSets.{IsCharter}
+use Rattle.charters.specs.declared.charter.Charter.{Charter}
+use Rattle.registry.specs.History.{History}
+use Rattle.registry.specs.Verdict.{IsLegal}
+use Rattle.registry.specs.declared.asked.Asked.{Asked}
+use Rattle.command_line.specs.declared.fault.ProgramFault.TheVariants.{Memory, Socket}
+use Rattle.desk.specs.Resumed.{IsAtMostOneMore}
+use Rattle.desk_files.specs.DeskFiles.{AreLeftFiles, RefusesFiles, RefusesNoLeft}
+use Rattle.cli.specs.ServedHistories.{KeepServed}
+use Rattle.cli.specs.Serving.{Transcript}
+use Rattle.cli.specs.declared.serve_desk.ServeFault.{ServeFault}
+use Rattle.cli.specs.declared.serve_desk.ServeFault.TheVariants.{Accept, Bind, Close, Open}
+
+-- this holds of the files, where the desk in them was opened and they were closed
+abbrev pub IfClosed : {D : Type 0} {g : Ghosts D} → Result (Files D) (ServeFault D g) → (Files D → Type 0) → Type 0
+IfClosed (Ok files) Holds = Holds files
+IfClosed (Err (Open fault)) Holds = ⊤
+IfClosed (Err (Bind fault closed)) Holds = IfSome closed Holds
+IfClosed (Err (Accept closed)) Holds = IfSome closed Holds
+IfClosed (Err Close) Holds = ⊤
+
+-- From files that may be left of a legal history with requests pending, to files of a history to which these connections
+-- on the day lead: from that history, or from it with one of the requests. Where none is pending, it is from that history.
+abbrev pub KeepsFiles : {D : Type 0} (g : Ghosts D) → Image → ℕ → List Transcript → Files D → Type 0
+KeepsFiles g image day passed files =
+    (charter : Charter) (before : History) (pending : List Asked)
+    → IsCharter charter → IsLegal charter before → AreLeftFiles image charter before pending
+    → (history : History) × IsAtMostOneMore charter before pending history
+    × KeepServed g charter day passed history files
+
+-- Each fault with its cause: the desk in the files was not opened, which is not for its schema where they may be left of
+-- a legal history; the socket was not bound; or the last connection could not be accepted.
+abbrev pub IsCauseOf : {D : Type 0} {g : Ghosts D} → Image → Bool → ServeFault D g → Type 0
+IsCauseOf image not_accepted (Open fault) = RefusesFiles image fault × RefusesNoLeft image fault
+IsCauseOf image not_accepted (Bind fault closed) = (fault ≡ Socket) ⊎ (fault ≡ Memory)
+IsCauseOf image not_accepted (Accept closed) = not_accepted ≡ true
+IsCauseOf image not_accepted Close = ⊤
