@@ -1,10 +1,12 @@
 -- What the queries of the entries of a SLURM file answer.
-use Rattle.std.proofs.Common.{◌≡◌, ℕ, pos, ◌<◌, Bool, true, false, List, [], ◌∷◌, ◌++◌, map, filter, codes, append-nil, Less, int_cmp, refl, sym, ap, ap₂, subst, ◌∙◌, arith, drop, IsPermutation, IsSorted}
+use Rattle.std.proofs.Common.{◌≡◌, ℕ, zero, suc, add-one, pos, ◌<◌, Bool, true, false, List, [], ◌∷◌, ◌++◌, map, filter, codes, append-nil, Ordering, Less, int_cmp, is_lt, refl, sym, ap, ap₂, subst, ◌∙◌, arith, drop, IsPermutation, IsSorted}
 use Rattle.std.specs.List.{AllByRecursion}
+use Rattle.std.specs.Cmp.{IsTotalOrder}
+use Rattle.std.specs.Ordering.{ordering_reverse}
 use Rattle.std.proofs.lemmas.Cmp.{on_total}
 use Rattle.std.proofs.lemmas.Int.{ints}
 use Rattle.std.proofs.lemmas.List.Elements.{filter-append}
-use Rattle.std.proofs.lemmas.List.Sorted.{IsPermutation-map, IsPermutation-trans}
+use Rattle.std.proofs.lemmas.List.Sorted.{IsPermutation-map, IsPermutation-sym, IsPermutation-trans}
 use Rattle.sqlite.specs.Effect.{Database, Reads}
 use Rattle.sqlite_keyed.proofs.SortLemmas.{sorted_unique}
 use Rattle.sqlite_value.specs.declared.value.Value.TheVariants.{Null}
@@ -36,7 +38,7 @@ use Rattle.tables.specs.declared.exception.TheConstants.{SELECT_ASSERTIONS, SELE
 use Rattle.database.specs.steps.Numbered.{AnswersSelect}
 use Rattle.store.specs.steps.Queries.{by_column, SelectsEntries}
 use Rattle.tables.proofs.CellLemmas.{is_number_cell, number_of_number}
-use Rattle.tables.proofs.CellsOnce.{one_prefix}
+use Rattle.tables.proofs.CellsOnce.{one_prefix, same_values}
 use Rattle.tables.proofs.Selecting.{from_table, no_limit, picks, permuted, sorted}
 use Rattle.tables.proofs.Texts.{Means, upwards, kind_tests, filters_is, assertions_is}
 use Rattle.database.proofs.Columns.{column_after, shown_at, shown_columns}
@@ -46,6 +48,13 @@ use Rattle.store.proofs.StepLemmas.{equals_int}
 
 numbers_less : (m n : ℕ) → m < n → int_cmp (pos m) (pos n) ≡ Less
 numbers_less m n less = grind (arith, ints, less)
+
+-- what rises is sorted
+sorted_from_rising : {X : Type 0} (cmp : X → X → Ordering) → IsTotalOrder cmp → (xs : List X) → IsAscending (λ a b. cmp a b ≡ Less) xs → IsSorted cmp xs
+sorted_from_rising cmp total [] up k d p q = absurd (omega arith)
+sorted_from_rising cmp total (x ∷ []) up k d p q = absurd (omega arith)
+sorted_from_rising cmp total (x ∷ y ∷ xs) up zero d p q = ap is_lt (total.antisymm y x ∙ ap ordering_reverse up.0.0)
+sorted_from_rising cmp total (x ∷ y ∷ xs) up (suc k) d p q = rw add-one (rw add-one at (sorted_from_rising cmp total (y ∷ xs) up.1 k d (omega arith) (omega arith)))
 
 -- the exception of a row
 abbrev brings : ExceptionRow → Exception
@@ -115,6 +124,23 @@ module _ {X : Type 0} (cells : X → Row) (items : Exceptions → List X) (q : E
   abbrev shown : ExceptionRow → Row
   shown r = columns q.places (exception_row r)
 
+  -- the rows of exceptions at rising positions rise
+  rising_rows : (placed : List ExceptionRow) → IsAscending (λ (a b : ExceptionRow). a.position < b.position) placed → IsAscending (λ a b. by_column 5 a b ≡ Less) (map shown placed)
+  rising_rows placed rise = ascending-map (λ a b. by_column 5 a b ≡ Less) shown placed (ascending_weaker (λ (a b : ExceptionRow). a.position < b.position) _ (λ a b less. below a b less) placed rise)
+    where
+      below : (a b : ExceptionRow) → a.position < b.position → by_column 5 (shown a) (shown b) ≡ Less
+      below a b less = ap₂ value_cmp (q.position a) (q.position b) ∙ value_cmp-Int (pos a.position) (pos b.position) ∙ numbers_less a.position b.position less
+
+  in_order : (placed : List ExceptionRow) (rows : List Row) → IsAscending (λ (a b : ExceptionRow). a.position < b.position) placed → IsPermutation (map shown placed) rows → IsSorted (by_column 5) rows → rows ≡ map shown placed
+  in_order placed rows rise same rises = sorted_unique (by_column 5) (on_total (λ c. column c 5) value_cmp_total) (map shown placed) rows (rising_rows placed rise) same rises
+
+  -- rows of this kind, in whatever order, show the entries of the exceptions in theirs
+  shows_entries : (exceptions : Exceptions) (placed : List ExceptionRow) → ArePlaced (map q.of_kind (items exceptions)) placed → map (first_columns 5) (map shown placed) ≡ map cells (items exceptions)
+  shows_entries exceptions placed are =
+      let of : Exception → Row = λ e. columns q.of_exception (exception_cells e) in
+      map-map (first_columns 5) shown placed ∙ (λ i. map (λ r. q.shows r i) placed)
+      ∙ sym (map-map of brings placed) ∙ ap (map of) are.brought ∙ map-map of q.of_kind (items exceptions) ∙ (λ i. map (λ x. q.cells_are x i) (items exceptions))
+
   of_test : (r : Row) → picks [] (kind_tests q.kind) r ≡ is_number_cell q.kind (column (drop 1 r) 1)
   of_test r = last_term (equals_int (column r 2) (pos q.kind) ∙ ap (is_number_cell q.kind) (column_after r 1))
 
@@ -137,23 +163,25 @@ module _ {X : Type 0} (cells : X → Row) (items : Exceptions → List X) (q : E
         ap (map (columns q.places)) (filter-map (λ c. is_number_cell q.kind (column c 1)) exception_columns table)
         ∙ map-map (columns q.places) exception_columns _ ∙ (λ i. map (λ c. sym (q.whole c) i) (filter (λ c. is_number_cell q.kind (column c 1)) table))
 
-    in_order : (placed : List ExceptionRow) → IsAscending (λ (a b : ExceptionRow). a.position < b.position) placed → IsPermutation (map shown placed) rows → rows ≡ map shown placed
-    in_order placed rise same =
-        sorted_unique (by_column 5) (on_total (λ c. column c 5) value_cmp_total) (map shown placed) rows
-        (ascending-map (λ a b. by_column 5 a b ≡ Less) shown placed (ascending_weaker (λ (a b : ExceptionRow). a.position < b.position) _ (λ a b less. below a b less) placed rise)) same rises
-      where
-        below : (a b : ExceptionRow) → a.position < b.position → by_column 5 (shown a) (shown b) ≡ Less
-        below a b less = ap₂ value_cmp (q.position a) (q.position b) ∙ value_cmp-Int (pos a.position) (pos b.position) ∙ numbers_less a.position b.position less
-
     found : (charter : CharterSets) (all : AllRows) → TablesHold charter all db.trees → map (first_columns 5) rows ≡ map cells (items all.exceptions)
     found charter all holds =
         let mine = q.rows all.exceptions (contents (db.trees slurm.tree)) holds.exceptions in
         let show = subst (λ l. IsPermutation l (map (columns q.places) (filter (λ c. is_number_cell q.kind (column c 1)) (map exception_columns (contents (db.trees slurm.tree))))))
         (map-map (columns q.places) exception_row mine.0) (IsPermutation-map (columns q.places) _ _ mine.2) in
-        let same = in_order mine.0 mine.1.rise (IsPermutation-trans _ _ _ show (subst (λ l. IsPermutation l rows) (sym (seen (contents (db.trees slurm.tree)))) finds)) in
-        let of : Exception → Row = λ e. columns q.of_exception (exception_cells e) in
-        ap (map (first_columns 5)) same ∙ map-map (first_columns 5) shown mine.0 ∙ (λ i. map (λ r. q.shows r i) mine.0)
-        ∙ sym (map-map of brings mine.0) ∙ ap (map of) mine.1.brought ∙ map-map of q.of_kind (items all.exceptions) ∙ (λ i. map (λ x. q.cells_are x i) (items all.exceptions))
+        let same = in_order mine.0 rows mine.1.rise (IsPermutation-trans _ _ _ show (subst (λ l. IsPermutation l rows) (sym (seen (contents (db.trees slurm.tree)))) finds)) rises in
+        ap (map (first_columns 5)) same ∙ shows_entries all.exceptions mine.0 mine.1
+
+  -- a table holds the entries of this kind of one SLURM file at most
+  pub entries_alike : (a b : Exceptions) (table : List Row) → HoldsExceptions a table → HoldsExceptions b table → items a ≡ items b
+  entries_alike a b table one other =
+      let first = q.rows a table one in
+      let second = q.rows b table other in
+      let whole = λ (rows : List ExceptionRow). map-map (columns q.places) exception_row rows in
+      let same = IsPermutation-map (columns q.places) _ _ (IsPermutation-trans _ _ _ first.2 (IsPermutation-sym _ _ second.2)) in
+      let moved : IsPermutation (map shown first.0) (map shown second.0) = subst (λ l. IsPermutation l (map shown second.0)) (whole first.0) (subst (IsPermutation (map (columns q.places) (map exception_row first.0))) (whole second.0) same) in
+      let order = on_total (λ c. column c 5) value_cmp_total in
+      let ordered = in_order first.0 (map shown second.0) first.1.rise moved (sorted_from_rising (by_column 5) order (map shown second.0) (rising_rows second.0 second.1.rise)) in
+      same_values cells q.once (items a) (items b) (sym (shows_entries a first.0 first.1) ∙ ap (map (first_columns 5)) (sym ordered) ∙ shows_entries b second.0 second.1)
 
   pub selects_entries : SelectsEntries cells 5 items q.text
   selects_entries = record { plain = q.means.plain; unlisted = q.means.unlisted; found = found; once = q.once }

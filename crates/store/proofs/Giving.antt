@@ -23,7 +23,7 @@ use Rattle.store.specs.Loads.{AllGiveOn}
 use Rattle.tables.proofs.CellsOnce.{one_prefix}
 
 -- a VRP of the terms is shown as they are
-cells_of_vrp : (x : Auth) (v : Vrp) → IsVrpOf x v → vrp_cells v ≡ payload_cells x
+pub cells_of_vrp : (x : Auth) (v : Vrp) → IsVrpOf x v → vrp_cells v ≡ payload_cells x
 cells_of_vrp x v is =
     let one = and_parts (x.asn.0 == v.asn.0) (prefix_eq x.prefix v.prefix && (x.max == v.max)) is in
     let two = and_parts (prefix_eq x.prefix v.prefix) (x.max == v.max) one.1 in

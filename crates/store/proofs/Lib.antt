@@ -15,3 +15,5 @@ mod HistoryRows
 mod HeldRead
 mod OpenedStore
 mod ReadRows
+pub mod HeldAlike
+pub mod HeldOnce

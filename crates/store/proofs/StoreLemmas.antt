@@ -11,7 +11,10 @@ use Rattle.sqlite_trees.specs.Tree.{Trees}
 use Rattle.charters.specs.CharterSets.{CharterSets}
 use Rattle.registry.specs.declared.change.Change.{Change}
 use Rattle.registry.specs.RowsOfAll.{AllRows, blank_rows, changed_rows}
+use Rattle.database.specs.Laws.{AuthsDiffer}
 use Rattle.database.specs.Queries.{IsAsBefore}
+use Rattle.store.proofs.HeldOnce.{held_once}
+use Rattle.store.specs.Given.{GivenOnce}
 use Rattle.store.specs.steps.Queries.{IsOfAll}
 use Rattle.store.specs.StoreRows.{StoreView, Holds, IsRead, MayLeave, LeavesOnly, PlacesExceptions, LeavesPlaced}
 use Rattle.database.specs.Databases.{HasDeskTables, IsNew, IsDeskTrees, IsDeskWhileOpen, LeavesNew}
@@ -75,6 +78,16 @@ module _ {S X E : Type 0} (g : Ghosts S) (r : Result X E) (change : Change) (cha
             shown = placed;
             left = λ trees left. subst (PlacesExceptions change (state g old).now.trees) (sym (settled trees made.is_open left ∙ ap (λ (d : Database). d.trees) made.committed)) placed;
           }
+      go (Err e) made = tt
+
+  -- the rows before it give no VRP twice
+  pub once_before : AuthsDiffer → IsLive (state g old) → IsDeskWhileOpen (state g old) → OnOk r (CommitsChange change (state g old) (state g new)) → OnOk r ((rows : AllRows) → Holds g (over charter old) rows → GivenOnce rows)
+  once_before differ live desk = go r
+    where
+      go : (r : Result X E) → OnOk r (CommitsChange change (state g old) (state g new)) → OnOk r ((rows : AllRows) → Holds g (over charter old) rows → GivenOnce rows)
+      go (Ok a) made = λ rows holds.
+          let opened = made.was_open in
+          held_once differ charter rows (state g old).now (live opened).0 (desk (before clean) opened).tables (holds (before clean) opened)
       go (Err e) made = tt
 
 -- a new store leaves its charter and no holder

@@ -147,6 +147,7 @@ impl<S: Alter> Store<S> {
     ghost use Rattle.addr.specs.declared.vrp.Vrp.{Vrp};
     ghost use Rattle.registry.specs.RowsOfAll.{IsTaken, IsGivenOn};
     ghost use Rattle.registry.specs.Values.{FitIfAny, ExceptionsFit};
+    ghost use Rattle.store.specs.Given.{GivenOnce};
     ghost use Rattle.store.specs.Loads.{OfHeldRows, AreLoaded, AllGiveOn, AreFilesOf};
     ghost use Rattle.store.specs.StoreRows.{connection_state, Holds, IsRead};
     ghost use Rattle.database.specs.Databases.{IsDeskWhileOpen};
@@ -232,7 +233,8 @@ impl<S: Alter> Store<S> {
         load_files(&mut self.conn, alloc)
     }
 
-    /// Makes the change in one transaction: all of it, or after a fault nothing.
+    /// Makes the change in one transaction: all of it, or after a fault nothing. Where it is made,
+    /// the rows before it give no VRP twice.
     pub fn apply(&mut self, change: &Change) -> Result<(), StoreFault>
         ensures charter { self.new.charter ≡ self.old.charter }
         ensures limit { self.new.connection.step_limit ≡ self.old.connection.step_limit }
@@ -247,6 +249,8 @@ impl<S: Alter> Store<S> {
         ensures positions { IfClean S.Store self.new
             (OnOk result (OfHeldRows S.Store self.old (λ _.
             LeavesPlaced S.Store change.now self.old self.new))) }
+        ensures once { IfClean S.Store self.new
+            (OnOk result (OfHeldRows S.Store self.old GivenOnce)) }
         ensures beside { IfClean S.Store self.new (KeepsSchema S.Store self.old self.new) }
         ensures clean { IfClean S.Store self.new
             (HasCleanDisk (connection_state S.Store self.old)) }
@@ -254,6 +258,9 @@ impl<S: Alter> Store<S> {
             (OnOk result (IsTrue (connection_state S.Store self.new).is_open)) }
         ensures no_schema { result ≢ Err StoreFault.Schema }
     {
+        // Its clause `live` is for the proof: the rows obey the schema.
+        let _schema = self.conn.schema();
+        database::laws::auths_differ();
         commit_change(&mut self.conn, change)
     }
 
