@@ -1,5 +1,5 @@
 -- All rows that the same tables hold give the same VRPs, and have the same exceptions.
-use Rattle.std.proofs.Common.{◌≡◌, ◌≤◌, ℕ, List, drop, sym, ap, subst, ◌∙◌}
+use Rattle.std.proofs.Common.{◌≡◌, ◌≤◌, ℕ, List, drop, ap, subst}
 use Rattle.sqlite_rules.proofs.ListLemmas.{has_contained, contains_had}
 use Rattle.sqlite_rules.proofs.ProbeLemmas.{mapped_has, has_mapped}
 use Rattle.sqlite_trees.specs.Tree.{Trees}

@@ -1,5 +1,5 @@
 -- The rows that tables hold give no VRP twice.
-use Rattle.std.proofs.Common.{◌≡◌, ◌≢◌, zero, suc, true, List, [], ◌∷◌, map, filter, Some, Contains, inl, inr, refl, sym, ap, ◌∙◌, arith}
+use Rattle.std.proofs.Common.{◌≡◌, ◌≢◌, suc, true, List, [], ◌∷◌, map, filter, Some, Contains, inl, inr, refl, sym, ap, ◌∙◌, arith}
 use Rattle.std.specs.Prelude.{ℕ, AllPairs}
 use Rattle.sqlite.specs.Effect.{Database, IsDatabase}
 use Rattle.sqlite_rules.specs.Lists.{Has}

@@ -17,3 +17,4 @@ mod OpenedStore
 mod ReadRows
 pub mod HeldAlike
 pub mod HeldOnce
+pub mod GivenEdits
