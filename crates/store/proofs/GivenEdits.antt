@@ -20,7 +20,7 @@ use Rattle.registry.specs.RowsOfAll.{AllRows, IsGivenOn, changed_rows}
 use Rattle.registry.specs.Terms.{IsVrpOf}
 use Rattle.tables.proofs.SomeRow.{has_permuted}
 use Rattle.registry.proofs.Names.{same_name-same, same_name-true}
-use Rattle.store.specs.Given.{GivenOnce, AreGivingOn, ends, ended, begun, IsGivenAfter, EditsGiven, EditsGivenAsLoaded, EditsNothing, EndingKeepsOnce}
+use Rattle.store.specs.Given.{GivenOnce, AreGivingOn, ends, ended, begun, IsGivenAfter, EditsGiven, EditsGivenAsLoaded, EditsNothing, EndingKeepsOnce, BothEditsGiven}
 use Rattle.store.specs.Loads.{AreLoaded, IsLoaded}
 
 -- ---- the authorizations of a holder
@@ -260,3 +260,19 @@ ending_keeps_once rows change none once h k r s x y v now also in_r in_s is too 
       | inl it ↦ (it.0, it.1, it.2)
       | inr new ↦ absurd (subst (λ (l : List Auth). Has l x) (none new.0.auths) new.3)
     ]
+
+-- ---- an edit of each of two holders
+
+after_alike : {P Q : Type 0} (edit : Edit) (auths : List Auth) (day : ℕ) (v : Vrp) → (P → Q) → IsGivenAfter edit auths day P v → IsGivenAfter edit auths day Q v
+after_alike edit auths day v to (inl still) = inl (to still.0, still.1)
+after_alike edit auths day v to (inr new) = inr new
+
+pub both_edits_given : BothEditsGiven
+both_edits_given rows first second one other day v once differ none of_one of_other =
+    let middle = changed_rows (Holders first None) rows in
+    let still : AreLoaded (middle.of_holder second.holder) (Some other) = subst (λ (was : Option Rows). AreLoaded was (Some other)) (sym (rows_stay rows first second.holder differ)) of_other in
+    let early = edits_given_as_loaded rows first one day v once of_one in
+    let late = edits_given_as_loaded middle second other day v (ending_keeps_once rows first none once) still in (
+      λ given. after_alike second.edit other.auths.items day v early.0 (late.0 given),
+      λ given. late.1 (after_alike second.edit other.auths.items day v early.1 given),
+    )

@@ -9,6 +9,7 @@ use Rattle.registry.specs.declared.change.Edit.{Edit}
 use Rattle.registry.specs.declared.change.Edit.TheVariants.{Register, Hold, Create, Import, Amend, Withdraw}
 use Rattle.registry.specs.declared.change.HolderChange.{HolderChange}
 use Rattle.registry.specs.declared.rows.HolderRows.{HolderRows}
+use Rattle.registry.specs.History.{same_name}
 use Rattle.registry.specs.Rows.{Rows}
 use Rattle.registry.specs.RowsOfAll.{AllRows, IsGivenOn, changed_rows}
 use Rattle.registry.specs.Terms.{IsVrpOf}
@@ -53,8 +54,7 @@ abbrev pub IsGivenAfter : Edit → List Auth → ℕ → Type 0 → Vrp → Type
 IsGivenAfter edit auths day given v =
     (given × ¬ AreGivingOn (ended edit auths) day v) ⊎ AreGivingOn (begun edit auths) day v
 
--- Where no VRP is given twice, the rows give this after the edit of a holder's. A change of two holders is
--- the edit of the first, and then that of the second.
+-- where no VRP is given twice, the rows give this after the edit of a holder's
 abbrev pub EditsGiven : Type 0
 EditsGiven =
     (rows : AllRows) (change : HolderChange) (mine : Rows) (day : ℕ) (v : Vrp)
@@ -82,3 +82,16 @@ abbrev pub EndingKeepsOnce : Type 0
 EndingKeepsOnce =
     (rows : AllRows) (change : HolderChange) → ((auths : List Auth) → begun change.edit auths ≡ [])
     → GivenOnce rows → GivenOnce (changed_rows (Holders change None) rows)
+
+-- A change of two holders is the edit of the first and then that of the second, where the first begins no
+-- authorization, as a transfer.
+abbrev pub BothEditsGiven : Type 0
+BothEditsGiven =
+    (rows : AllRows) (first second : HolderChange) (one other : HolderRows) (day : ℕ) (v : Vrp)
+    → GivenOnce rows → same_name first.holder second.holder ≡ false
+    → ((auths : List Auth) → begun first.edit auths ≡ [])
+    → AreLoaded (rows.of_holder first.holder) (Some one)
+    → AreLoaded (rows.of_holder second.holder) (Some other)
+    → IsGivenOn (changed_rows (Holders first (Some second)) rows) day v
+    ↔ IsGivenAfter second.edit other.auths.items day
+    (IsGivenAfter first.edit one.auths.items day (IsGivenOn rows day v) v) v
