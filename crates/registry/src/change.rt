@@ -1,8 +1,12 @@
 //! What accepted commands do to rows.
 
+ghost use Rattle.std.specs.Prelude.{◌≡◌, ◌==◌};
+ghost use Rattle.std.specs.List.{list_any};
+
 use crate::{Auth, Granted};
 use addr::{Name, Span};
 use slurm::Slurm;
+use std::slice;
 
 /// What an accepted command does to the rows of one resource holder.
 #[derive(Drop)]
@@ -52,9 +56,16 @@ pub enum Change {
     Exceptions(Slurm),
 }
 
+/// Whether the number is one of these.
+fn is_among(numbers: &[u32], number: u32) -> bool
+    ensures { result ≡ list_any (λ other. number == other) numbers.now }
+{
+    numbers.iter().any(|other| number == *other)
+}
+
 impl Edit {
-    ghost use Rattle.std.specs.Prelude.{◌≡◌};
     ghost use Rattle.registry.specs.Answer.{edit_imported, edit_number};
+    ghost use Rattle.registry.specs.Edits.{begun, ends};
 
     /// The number of the grant or authorization that the edit makes; other edits make none.
     fn number(&self) -> Option<u32>
@@ -81,10 +92,40 @@ impl Edit {
             _ => 0,
         }
     }
+
+    /// Whether the edit ends the authorization of this number: takes it away, or puts another in
+    /// its place. A registration ends all, of which a holder that was not registered has none.
+    pub fn ends(&self, number: u32) -> bool
+        ensures { result ≡ ends self.now number }
+    {
+        match self {
+            Edit::Register => true,
+            Edit::Hold { ended, .. } => is_among(ended, number),
+            Edit::Amend(auth) => number == auth.number,
+            Edit::Withdraw(other) => number == *other,
+            Edit::Grant(_) | Edit::Revoke(_) | Edit::Create(_) | Edit::Import { .. } => false,
+        }
+    }
+
+    /// The authorizations that the edit begins. An amendment begins its own only where the holder
+    /// has one of its number, and that the caller asks.
+    pub fn begun(&self) -> &[Auth]
+        ensures { result.now ≡ begun self.now }
+    {
+        match self {
+            Edit::Create(auth) => slice::from_ref(auth),
+            Edit::Import { auths, .. } => auths,
+            Edit::Amend(auth) => slice::from_ref(auth),
+            Edit::Register
+            | Edit::Hold { .. }
+            | Edit::Grant(_)
+            | Edit::Revoke(_)
+            | Edit::Withdraw(_) => &[],
+        }
+    }
 }
 
 impl Change {
-    ghost use Rattle.std.specs.Prelude.{◌≡◌};
     ghost use Rattle.registry.specs.Answer.{imported, number_made};
 
     /// The number of the grant or authorization that the change makes; other changes make none.

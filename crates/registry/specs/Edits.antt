@@ -1,0 +1,72 @@
+-- Which authorizations an edit ends and begins, and which edits a command makes.
+use Rattle.std.specs.Prelude.{◌≡◌, ℕ, ◌==◌, Bool, true, false, List, [], ◌∷◌, Some, None, IsSomeAnd}
+use Rattle.std.specs.List.{list_any}
+use Rattle.registry.specs.declared.authorization.Auth.{Auth}
+use Rattle.registry.specs.declared.command.Command.{Command}
+use Rattle.registry.specs.declared.command.Command.TheVariants.{Register, Delegate, Transfer, Reclaim, Grant, Revoke, Create, Amend, Withdraw, Import, Slurm}
+use Rattle.registry.specs.declared.change.Change.{Change}
+use Rattle.registry.specs.declared.change.Change.TheVariants.{Holders, Exceptions}
+use Rattle.registry.specs.declared.change.HolderChange.{HolderChange}
+use Rattle.registry.specs.declared.change.Edit.{Edit}
+use Rattle.registry.specs.declared.change.Edit.TheVariants.{Register as RegisterEdit, Hold, Grant as GrantEdit, Revoke as RevokeEdit, Create as CreateEdit, Import as ImportEdit, Amend as AmendEdit, Withdraw as WithdrawEdit}
+use Rattle.registry.specs.Answer.{holder_of}
+
+-- the edit takes away the authorization of this number, or puts another in its place
+abbrev pub ends : Edit → ℕ → Bool
+ends RegisterEdit n = true
+ends (Hold removed added ended) n = list_any (λ m. n == m) ended.items
+ends (AmendEdit x) n = n == x.number
+ends (WithdrawEdit m) n = n == m
+ends _ n = false
+
+-- the authorizations that the edit puts; that of an amendment only where there is one of its number
+abbrev pub begun : Edit → List Auth
+begun (CreateEdit x) = x ∷ []
+begun (ImportEdit auths created) = auths.items
+begun (AmendEdit x) = x ∷ []
+begun _ = []
+
+-- the edit exchanges runs of addresses
+abbrev pub IsHold : Edit → Type 0
+IsHold (Hold removed added ended) = Unit {0}
+IsHold _ = ⊥
+
+-- and ends no authorization
+abbrev pub IsHoldEndingNone : Edit → Type 0
+IsHoldEndingNone (Hold removed added ended) = ended.items ≡ []
+IsHoldEndingNone _ = ⊥
+
+-- the edit puts any number of authorizations
+abbrev pub IsImportEdit : Edit → Type 0
+IsImportEdit (ImportEdit auths created) = Unit {0}
+IsImportEdit _ = ⊥
+
+-- the edit is one that the command makes of its one holder's rows; a transfer and a SLURM file make none
+abbrev pub IsEditOf : Command → Edit → Type 0
+IsEditOf (Register holder) edit = edit ≡ RegisterEdit
+IsEditOf (Delegate holder p) edit = IsHoldEndingNone edit
+IsEditOf (Reclaim holder p) edit = IsHold edit
+IsEditOf (Grant holder name role scope until) (GrantEdit g) = Unit {0}
+IsEditOf (Revoke holder n) edit = edit ≡ RevokeEdit n
+IsEditOf (Create holder terms) (CreateEdit x) = Unit {0}
+IsEditOf (Amend holder n max until) (AmendEdit x) = Unit {0}
+IsEditOf (Withdraw holder n) edit = edit ≡ WithdrawEdit n
+IsEditOf (Import holder rows) edit = IsImportEdit edit
+IsEditOf _ _ = ⊥
+
+-- the change of a holder is an exchange of runs by the giver
+abbrev pub IsGivenBy : List ℕ → HolderChange → Type 0
+IsGivenBy giver c = (c.holder ≡ giver) × IsHold c.edit
+
+-- or by the taker, of whom no authorization ends
+abbrev pub IsTakenBy : List ℕ → HolderChange → Type 0
+IsTakenBy taker c = (c.holder ≡ taker) × IsHoldEndingNone c.edit
+
+-- The change has the edits of the command and no others: of a transfer the giver's and the taker's, of a SLURM
+-- file none, and of any other command one.
+abbrev pub HasEditsOf : Command → Change → Type 0
+HasEditsOf (Transfer p giver taker) (Holders first second) =
+    IsGivenBy giver first × IsSomeAnd second (IsTakenBy taker)
+HasEditsOf command (Holders first second) =
+    (holder_of command ≡ Some first.holder) × IsEditOf command first.edit × (second ≡ None)
+HasEditsOf command (Exceptions file) = command ≡ Slurm file
