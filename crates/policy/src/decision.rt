@@ -11,6 +11,7 @@ ghost use Rattle.registry.specs.Rows.{rows_of, rows_if_any, RowsOf, RowsIfAny};
 ghost use Rattle.policy.specs.steps.Exchange.{Exchanges};
 ghost use Rattle.policy.specs.steps.Admission.{IsAdmitted};
 ghost use Rattle.registry.specs.Answer.{AnswersRows, JudgesRows, RowsOfNamed, IsAnswer, IsViewOf, is_transfer, takes_memory, holder_of, taker_of};
+ghost use Rattle.registry.specs.Edits.{HasEditsOf};
 
 mod import;
 mod terms;
@@ -107,9 +108,10 @@ fn numbers_overlapping(
 
 /// Decides a registration.
 fn decide_register(basis: Basis<'_>, holder: Holder<'_>) -> Result<Change, Rule>
-    ensures { JudgesRows basis.entry.charter.now (rows_if_any (option_copied holder.entry.rows))
-        basis.entry.day basis.entry.caller.now
+    ensures answer { JudgesRows basis.entry.charter.now
+        (rows_if_any (option_copied holder.entry.rows)) basis.entry.day basis.entry.caller.now
         (Command.Register holder.entry.name.now) result }
+    ensures shape { IfOk result (HasEditsOf (Command.Register holder.entry.name.now)) }
 {
     require(basis.charter.is_operator(basis.caller), Rule::Operator)?;
     require(holder.rows.is_none(), Rule::Fresh)?;
@@ -146,11 +148,12 @@ fn decide_delegate(
     taken: bool,
     prefix: &Prefix,
 ) -> Result<Change, Refusal>
-    ensures { (history : History) → IsLegal basis.entry.charter.now history
+    ensures answer { (history : History) → IsLegal basis.entry.charter.now history
         → RowsIfAny history holder.entry.name.now (rows_if_any (option_copied holder.entry.rows))
         → MatchBool taken (IsFree history prefix.now → ⊥) (IsFree history prefix.now)
         → IsAnswer basis.entry.charter.now history basis.entry.day basis.entry.caller.now
         (Command.Delegate holder.entry.name.now prefix.now) result }
+    ensures shape { IfOk result (HasEditsOf (Command.Delegate holder.entry.name.now prefix.now)) }
 {
     let rows = rows_for_delegation(basis.charter, basis.caller, holder, taken, prefix)?;
     let more = with_prefix(&rows.holdings, prefix)?;
@@ -184,9 +187,10 @@ fn decide_reclaim(
     holder: Holder<'_>,
     prefix: &Prefix,
 ) -> Result<Change, Refusal>
-    ensures { AnswersRows basis.entry.charter.now (rows_if_any (option_copied holder.entry.rows))
-        basis.entry.day basis.entry.caller.now
+    ensures answer { AnswersRows basis.entry.charter.now
+        (rows_if_any (option_copied holder.entry.rows)) basis.entry.day basis.entry.caller.now
         (Command.Reclaim holder.entry.name.now prefix.now) result }
+    ensures shape { IfOk result (HasEditsOf (Command.Reclaim holder.entry.name.now prefix.now)) }
 {
     let rows = rows_for_reclaim(basis.charter, basis.caller, holder, prefix)?;
     let less = without_prefix(&rows.holdings, prefix)?;
@@ -197,10 +201,13 @@ fn decide_reclaim(
 
 /// Decides a grant.
 fn decide_grant(basis: Basis<'_>, holder: Holder<'_>, terms: &GrantTerms) -> Result<Change, Rule>
-    ensures { JudgesRows basis.entry.charter.now (rows_if_any (option_copied holder.entry.rows))
-        basis.entry.day basis.entry.caller.now
+    ensures answer { JudgesRows basis.entry.charter.now
+        (rows_if_any (option_copied holder.entry.rows)) basis.entry.day basis.entry.caller.now
         (Command.Grant holder.entry.name.now terms.now.caller terms.now.role
         terms.now.scope terms.now.until) result }
+    ensures shape { IfOk result (HasEditsOf
+        (Command.Grant holder.entry.name.now terms.now.caller
+        terms.now.role terms.now.scope terms.now.until)) }
 {
     let Basis {
         charter,
@@ -217,9 +224,10 @@ fn decide_grant(basis: Basis<'_>, holder: Holder<'_>, terms: &GrantTerms) -> Res
 
 /// Decides a revocation.
 fn decide_revoke(basis: Basis<'_>, holder: Holder<'_>, number: u32) -> Result<Change, Rule>
-    ensures { JudgesRows basis.entry.charter.now (rows_if_any (option_copied holder.entry.rows))
-        basis.entry.day basis.entry.caller.now
+    ensures answer { JudgesRows basis.entry.charter.now
+        (rows_if_any (option_copied holder.entry.rows)) basis.entry.day basis.entry.caller.now
         (Command.Revoke holder.entry.name.now number) result }
+    ensures shape { IfOk result (HasEditsOf (Command.Revoke holder.entry.name.now number)) }
 {
     require(
         is_steward(basis.charter, holder.rows, basis.day, basis.caller),
@@ -231,9 +239,10 @@ fn decide_revoke(basis: Basis<'_>, holder: Holder<'_>, number: u32) -> Result<Ch
 
 /// Decides a create.
 fn decide_create(basis: Basis<'_>, holder: Holder<'_>, terms: &AuthTerms) -> Result<Change, Rule>
-    ensures { JudgesRows basis.entry.charter.now (rows_if_any (option_copied holder.entry.rows))
-        basis.entry.day basis.entry.caller.now
+    ensures answer { JudgesRows basis.entry.charter.now
+        (rows_if_any (option_copied holder.entry.rows)) basis.entry.day basis.entry.caller.now
         (Command.Create holder.entry.name.now terms.now) result }
+    ensures shape { IfOk result (HasEditsOf (Command.Create holder.entry.name.now terms.now)) }
 {
     let auth = new_auth(holder.rows, basis.day, basis.caller, terms)?;
     Ok(change_of(holder.name, Edit::Create(auth)))
@@ -247,9 +256,11 @@ fn decide_amend(
     max: u8,
     until: Day,
 ) -> Result<Change, Rule>
-    ensures { JudgesRows basis.entry.charter.now (rows_if_any (option_copied holder.entry.rows))
-        basis.entry.day basis.entry.caller.now
+    ensures answer { JudgesRows basis.entry.charter.now
+        (rows_if_any (option_copied holder.entry.rows)) basis.entry.day basis.entry.caller.now
         (Command.Amend holder.entry.name.now number max until) result }
+    ensures shape { IfOk result (HasEditsOf
+        (Command.Amend holder.entry.name.now number max until)) }
 {
     let rows = rows_with_access(holder.rows, basis.day, basis.caller, Access::Alter)?;
     let auth = auth_with_access(rows, basis.day, basis.caller, Access::Alter, number)?;
@@ -266,9 +277,10 @@ fn decide_amend(
 
 /// Decides a withdrawal.
 fn decide_withdraw(basis: Basis<'_>, holder: Holder<'_>, number: u32) -> Result<Change, Rule>
-    ensures { JudgesRows basis.entry.charter.now (rows_if_any (option_copied holder.entry.rows))
-        basis.entry.day basis.entry.caller.now
+    ensures answer { JudgesRows basis.entry.charter.now
+        (rows_if_any (option_copied holder.entry.rows)) basis.entry.day basis.entry.caller.now
         (Command.Withdraw holder.entry.name.now number) result }
+    ensures shape { IfOk result (HasEditsOf (Command.Withdraw holder.entry.name.now number)) }
 {
     may_withdraw(holder.rows, basis.day, basis.caller, number)?;
     Ok(change_of(holder.name, Edit::Withdraw(number)))
@@ -307,11 +319,13 @@ fn decide_transfer(
     giver: Holder<'_>,
     taker: Holder<'_>,
 ) -> Result<Change, Refusal>
-    ensures { (history : History) (day : ℕ) → IsLegal charter.now history
+    ensures answer { (history : History) (day : ℕ) → IsLegal charter.now history
         → RowsIfAny history giver.entry.name.now (rows_if_any (option_copied giver.entry.rows))
         → RowsIfAny history taker.entry.name.now (rows_if_any (option_copied taker.entry.rows))
         → IsAnswer charter.now history day caller.now
         (Command.Transfer prefix.now giver.entry.name.now taker.entry.name.now) result }
+    ensures shape { IfOk result (HasEditsOf
+        (Command.Transfer prefix.now giver.entry.name.now taker.entry.name.now)) }
 {
     let (giving, taking) = rows_for_transfer(charter, caller, prefix, giver, taker)?;
     let less = without_prefix(&giving.holdings, prefix)?;
@@ -333,9 +347,10 @@ fn decide_transfer(
 
 /// Decides a SLURM file. It is taken whole, whatever the last one was.
 fn decide_slurm(basis: Basis<'_>, file: &Slurm) -> Result<Change, Refusal>
-    ensures { (history : History) → IsLegal basis.entry.charter.now history
+    ensures answer { (history : History) → IsLegal basis.entry.charter.now history
         → IsAnswer basis.entry.charter.now history basis.entry.day basis.entry.caller.now
         (Command.Slurm file.now) result }
+    ensures shape { IfOk result (HasEditsOf (Command.Slurm file.now)) }
 {
     require(basis.charter.is_operator(basis.caller), Rule::Operator)?;
     Ok(Change::Exceptions(file.clone()?))
@@ -358,6 +373,7 @@ pub fn decide(
         → IsViewOf history command.now view.now
         → IsAnswer charter.now history day caller.now command.now result }
     ensures memory { result ≡ Err Refusal.Memory → IsTrue (takes_memory command.now) }
+    ensures shape { IfOk result (HasEditsOf command.now) }
 {
     let basis = Basis {
         charter,
@@ -427,10 +443,11 @@ pub fn decide_two(
     command: &Command,
 ) -> Result<Change, Refusal>
     requires { is_transfer command.now ≡ true }
-    ensures { (history : History) (day : ℕ) → IsLegal charter.now history
+    ensures answer { (history : History) (day : ℕ) → IsLegal charter.now history
         → RowsOfNamed history (holder_of command.now) (rows_if_any (option_copied giver.entry))
         → RowsOfNamed history (taker_of command.now) (rows_if_any (option_copied taker.entry))
         → IsAnswer charter.now history day caller.now command.now result }
+    ensures shape { IfOk result (HasEditsOf command.now) }
 {
     match command {
         Command::Transfer {

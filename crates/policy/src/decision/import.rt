@@ -1,6 +1,6 @@
 //! Imports: each row is judged on the rows that those before it left.
 
-ghost use Rattle.std.specs.Prelude.{◌≡◌, Some, Err, option_copied};
+ghost use Rattle.std.specs.Prelude.{◌≡◌, Some, Err, option_copied, IfOk};
 ghost use Rattle.std.specs.Global.{Vec};
 ghost use Rattle.registry.specs.declared.authorization.ImportRow.{ImportRow as ImportRowValue};
 ghost use Rattle.charters.specs.declared.charter.Charter.{Charter as CharterValue};
@@ -10,6 +10,7 @@ ghost use Rattle.registry.specs.Import.{JudgesRow};
 ghost use Rattle.registry.specs.Verdict.{IsLegal};
 ghost use Rattle.registry.specs.Rows.{rows_of, rows_if_any, RowsIfAny};
 ghost use Rattle.registry.specs.Answer.{OfRows, IsAnswer};
+ghost use Rattle.registry.specs.Edits.{HasEditsOf, IsImportEdit};
 ghost use Rattle.policy.specs.steps.Import.{AnswersImport, IsRowDone};
 ghost use Rattle.policy.specs.steps.Part.{Judged};
 
@@ -52,8 +53,9 @@ fn import_rows(
     caller: &Name,
     listed: &[ImportRow],
 ) -> Result<Edit, Refusal>
-    ensures { (charter : CharterValue) → OfRows charter (Some (rows_of before.now))
+    ensures answer { (charter : CharterValue) → OfRows charter (Some (rows_of before.now))
         (λ history h. AnswersImport charter history h day caller.now listed.now result) }
+    ensures shape { IfOk result IsImportEdit }
 {
     let mut rows = before.clone()?;
     let mut auths = Vec::new(alloc);
@@ -80,8 +82,10 @@ fn import_edit(
     caller: &Name,
     listed: &[ImportRow],
 ) -> Result<Edit, Refusal>
-    ensures { (charter : CharterValue) → OfRows charter (rows_if_any (option_copied rows.entry))
+    ensures answer { (charter : CharterValue)
+        → OfRows charter (rows_if_any (option_copied rows.entry))
         (λ history h. AnswersImport charter history h day caller.now listed.now result) }
+    ensures shape { IfOk result IsImportEdit }
 {
     match rows {
         Some(before) => import_rows(alloc, before, day, caller, listed),
@@ -100,11 +104,13 @@ pub(super) fn decide_import(
     holder: Holder<'_>,
     listed: &[ImportRow],
 ) -> Result<Change, Refusal>
-    ensures { (history : History) (rows : Vec ImportRowValue) → rows.items ≡ listed.now
+    ensures answer { (history : History) (rows : Vec ImportRowValue) → rows.items ≡ listed.now
         → IsLegal basis.entry.charter.now history
         → RowsIfAny history holder.entry.name.now (rows_if_any (option_copied holder.entry.rows))
         → IsAnswer basis.entry.charter.now history basis.entry.day basis.entry.caller.now
         (Command.Import holder.entry.name.now rows) result }
+    ensures shape { (rows : Vec ImportRowValue)
+        → IfOk result (HasEditsOf (Command.Import holder.entry.name.now rows)) }
 {
     let edit = import_edit(alloc, holder.rows, basis.day, basis.caller, listed)?;
     Ok(change_of(holder.name, edit))

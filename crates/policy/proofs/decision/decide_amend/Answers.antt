@@ -11,8 +11,8 @@ use Rattle.policy.proofs.AmendLemmas.{SharesWithNoOther, only-to, only-from}
 use Rattle.policy.proofs.CarryTerms.{carries-amend}
 use Rattle.policy.proofs.decision.decide_amend.Goals as goal
 
-pub returns-in_err-require : goal.returns-in_err-require
-returns-in_err-require c history legal are =
+pub returns-in_err-require-clause-answer : goal.returns-in_err-require-clause-answer
+returns-in_err-require-clause-answer c history legal are =
     let a = c.args in
     let h = a.holder.name.now in
     let p = err_from_is_err_and c.from_residual-in_err-require.result c.from_residual-in_err-require.ensures.1 in
@@ -24,8 +24,8 @@ returns-in_err-require c history legal are =
     false≢true (sym c.in_err-require.ensures.0 ∙ c.are_dates.ensures.1 dates) in
     rw (p.1, p.2) (inr (had.0, inr (number.1, inl (no_dates, c.in_err-require.ensures.1))))
 
-pub returns-in_err-require-2 : goal.returns-in_err-require-2
-returns-in_err-require-2 c history legal are =
+pub returns-in_err-require-2-clause-answer : goal.returns-in_err-require-2-clause-answer
+returns-in_err-require-2-clause-answer c history legal are =
     let a = c.args in
     let h = a.holder.name.now in
     let p = err_from_is_err_and c.from_residual-in_err-require-2.result c.from_residual-in_err-require-2.ensures.1 in
@@ -39,8 +39,8 @@ returns-in_err-require-2 c history legal are =
     false≢true (sym c.in_err-require-2.ensures.0 ∙ c.fits_length.ensures ∙ length) in
     rw (p.1, p.2) (inr (had.0, inr (number.1, inr (dates, inl (no_length, c.in_err-require-2.ensures.1)))))
 
-pub returns-in_err-require-3 : goal.returns-in_err-require-3
-returns-in_err-require-3 c history legal are =
+pub returns-in_err-require-3-clause-answer : goal.returns-in_err-require-3-clause-answer
+returns-in_err-require-3-clause-answer c history legal are =
     let a = c.args in
     let h = a.holder.name.now in
     let p = err_from_is_err_and c.from_residual-in_err-require-3.result c.from_residual-in_err-require-3.ensures.1 in
@@ -56,8 +56,8 @@ returns-in_err-require-3 c history legal are =
     false≢true (sym c.in_err-require-3.ensures.0 ∙ ap not (sym shared ∙ only)) in
     rw (p.1, p.2) (inr (had.0, inr (number.1, inr (dates, inr (length, inl (not_only, c.in_err-require-3.ensures.1))))))
 
-pub returns : goal.returns
-returns c history legal are =
+pub returns-clause-answer : goal.returns-clause-answer
+returns-clause-answer c history legal are =
     let a = c.args in
     let h = a.holder.name.now in
     let had = c.in_ok-rows.ensures a.basis.charter.now history h legal are in

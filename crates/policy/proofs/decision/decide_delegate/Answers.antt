@@ -6,23 +6,23 @@ use Rattle.registry.specs.Rows.{rows_of}
 use Rattle.policy.proofs.CarrySpace.{sparing, carries-delegate}
 use Rattle.policy.proofs.decision.decide_delegate.Goals as goal
 
-pub returns-in_err-rows : goal.returns-in_err-rows
-returns-in_err-rows c history legal are taken =
+pub returns-in_err-rows-clause-answer : goal.returns-in_err-rows-clause-answer
+returns-in_err-rows-clause-answer c history legal are taken =
     let refused = err_from_is_err_and c.from_residual.result c.from_residual.ensures.1 in
     rw (refused.1, refused.2) (c.in_err-rows.ensures history c.args.basis.day are taken, refl)
 
-pub returns-in_err-more : goal.returns-in_err-more
-returns-in_err-more c history legal are taken =
+pub returns-in_err-more-clause-answer : goal.returns-in_err-more-clause-answer
+returns-in_err-more-clause-answer c history legal are taken =
     let refused = err_from_is_err_and c.from_residual-in_err-more.result c.from_residual-in_err-more.ensures.1 in
     rw (refused.1, refused.2) (c.in_ok-rows.ensures history c.args.basis.day are taken).0
 
-pub returns-in_err-edit : goal.returns-in_err-edit
-returns-in_err-edit c history legal are taken =
+pub returns-in_err-edit-clause-answer : goal.returns-in_err-edit-clause-answer
+returns-in_err-edit-clause-answer c history legal are taken =
     let refused = err_from_is_err_and c.from_residual-in_err-edit.result c.from_residual-in_err-edit.ensures.1 in
     rw (refused.1, refused.2) (c.in_ok-rows.ensures history c.args.basis.day are taken).0
 
-pub returns : goal.returns
-returns c history legal are taken =
+pub returns-clause-answer : goal.returns-clause-answer
+returns-clause-answer c history legal are taken =
     let a = c.args in
     let h = a.holder.name.now in
     let p = a.prefix.now in
@@ -37,3 +37,7 @@ returns c history legal are taken =
       sparing = (sparing _ _ _ _ c.in_ok-edit.ensures, tt);
       of_command = (refl, tt);
     })
+
+pub returns-clause-shape : goal.returns-clause-shape
+returns-clause-shape c =
+    rw (c.change_of.ensures, c.in_ok-edit.ensures.is) (refl, c.new.ensures.items, refl)

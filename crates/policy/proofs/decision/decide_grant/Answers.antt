@@ -8,8 +8,8 @@ use Rattle.registry.specs.Terms.{grant_terms, grants_made}
 use Rattle.policy.proofs.CarryGrants.{carries-grant}
 use Rattle.policy.proofs.decision.decide_grant.Goals as goal
 
-pub returns : goal.returns
-returns c history legal are =
+pub returns-clause-answer : goal.returns-clause-answer
+returns-clause-answer c history legal are =
     let a = c.args in
     let h = a.holder.name.now in
     let t = a.terms.now in

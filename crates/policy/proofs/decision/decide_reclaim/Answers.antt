@@ -8,28 +8,28 @@ use Rattle.registry.proofs.Ended.{numbers_where}
 use Rattle.policy.proofs.CarrySpace.{sparing, carries-reclaim}
 use Rattle.policy.proofs.decision.decide_reclaim.Goals as goal
 
-pub returns-in_err-rows : goal.returns-in_err-rows
-returns-in_err-rows c history legal are =
+pub returns-in_err-rows-clause-answer : goal.returns-in_err-rows-clause-answer
+returns-in_err-rows-clause-answer c history legal are =
     let refused = err_from_is_err_and c.from_residual.result c.from_residual.ensures.1 in
     rw (refused.1, refused.2) (c.in_err-rows.ensures history c.args.basis.day are, refl)
 
-pub returns-in_err-less : goal.returns-in_err-less
-returns-in_err-less c history legal are =
+pub returns-in_err-less-clause-answer : goal.returns-in_err-less-clause-answer
+returns-in_err-less-clause-answer c history legal are =
     let refused = err_from_is_err_and c.from_residual-in_err-less.result c.from_residual-in_err-less.ensures.1 in
     rw (refused.1, refused.2) (c.in_ok-rows.ensures history c.args.basis.day are).0
 
-pub returns-in_err-ended : goal.returns-in_err-ended
-returns-in_err-ended c history legal are =
+pub returns-in_err-ended-clause-answer : goal.returns-in_err-ended-clause-answer
+returns-in_err-ended-clause-answer c history legal are =
     let refused = err_from_is_err_and c.from_residual-in_err-ended.result c.from_residual-in_err-ended.ensures.1 in
     rw (refused.1, refused.2) (c.in_ok-rows.ensures history c.args.basis.day are).0
 
-pub returns-in_err-edit : goal.returns-in_err-edit
-returns-in_err-edit c history legal are =
+pub returns-in_err-edit-clause-answer : goal.returns-in_err-edit-clause-answer
+returns-in_err-edit-clause-answer c history legal are =
     let refused = err_from_is_err_and c.from_residual-in_err-edit.result c.from_residual-in_err-edit.ensures.1 in
     rw (refused.1, refused.2) (c.in_ok-rows.ensures history c.args.basis.day are).0
 
-pub returns : goal.returns
-returns c history legal are =
+pub returns-clause-answer : goal.returns-clause-answer
+returns-clause-answer c history legal are =
     let a = c.args in
     let h = a.holder.name.now in
     let p = a.prefix.now in
@@ -45,3 +45,6 @@ returns c history legal are =
       sparing = (sparing _ _ _ _ c.in_ok-edit.ensures, tt);
       of_command = (refl, tt);
     })
+
+pub returns-clause-shape : goal.returns-clause-shape
+returns-clause-shape c = rw (c.change_of.ensures, c.in_ok-edit.ensures.is) (refl, tt, refl)

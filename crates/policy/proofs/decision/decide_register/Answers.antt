@@ -5,8 +5,8 @@ use Rattle.policy.proofs.RowsLemmas.{unregistered}
 use Rattle.policy.proofs.CarrySpace.{carries-register}
 use Rattle.policy.proofs.decision.decide_register.Goals as goal
 
-pub returns : goal.returns
-returns c history legal are =
+pub returns-clause-answer : goal.returns-clause-answer
+returns-clause-answer c history legal are =
     let a = c.args in
     let fresh = unregistered history a.holder.name.now a.holder.rows (c.is_none.ensures ∙ ap not c.in_ok-require-2.ensures) are in
     subst (IsAccepted a.basis.charter.now history a.basis.day a.basis.caller.now (Register a.holder.name.now)) (sym c.change_of.ensures) (record {

@@ -7,8 +7,8 @@ use Rattle.policy.proofs.RowsLemmas.{registered-by_grant}
 use Rattle.policy.proofs.CarryGrants.{carries-revoke}
 use Rattle.policy.proofs.decision.decide_revoke.Goals as goal
 
-pub returns : goal.returns
-returns c history legal are =
+pub returns-clause-answer : goal.returns-clause-answer
+returns-clause-answer c history legal are =
     let a = c.args in
     let h = a.holder.name.now in
     let has = sym (c.has_grant.ensures a.basis.charter.now history h legal are) ∙ c.in_ok-require-2.ensures in
@@ -22,8 +22,8 @@ returns c history legal are =
       of_command = (refl, tt);
     })
 
-pub returns-in_err-require-2 : goal.returns-in_err-require-2
-returns-in_err-require-2 c history legal are =
+pub returns-in_err-require-2-clause-answer : goal.returns-in_err-require-2-clause-answer
+returns-in_err-require-2-clause-answer c history legal are =
     let a = c.args in
     let p = err_from_is_err_and c.from_residual-in_err-require-2.result c.from_residual-in_err-require-2.ensures.1 in
     let lacks = sym (c.has_grant.ensures a.basis.charter.now history a.holder.name.now legal are) ∙ c.in_err-require-2.ensures.0 in

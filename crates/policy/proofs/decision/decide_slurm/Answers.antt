@@ -6,8 +6,8 @@ use Rattle.registry.specs.Answer.{IsAccepted}
 use Rattle.registry.proofs.Carry.{carries-exceptions}
 use Rattle.policy.proofs.decision.decide_slurm.Goals as goal
 
-pub returns : goal.returns
-returns c history legal =
+pub returns-clause-answer : goal.returns-clause-answer
+returns-clause-answer c history legal =
     let b = c.args.basis in
     let file = c.args.file.now in
     let Accepted : Exceptions → Type 0 = λ copy. IsAccepted b.charter.now history b.day b.caller.now (Slurm file) (Replace copy) in

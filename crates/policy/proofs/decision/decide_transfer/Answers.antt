@@ -8,38 +8,38 @@ use Rattle.registry.proofs.Ended.{numbers_where}
 use Rattle.policy.proofs.CarrySpace.{sparing, carries-transfer}
 use Rattle.policy.proofs.decision.decide_transfer.Goals as goal
 
-pub returns-in_err-giving : goal.returns-in_err-giving
-returns-in_err-giving c history day legal giver_are taker_are =
+pub returns-in_err-giving-clause-answer : goal.returns-in_err-giving-clause-answer
+returns-in_err-giving-clause-answer c history day legal giver_are taker_are =
     let refused = err_from_is_err_and c.from_residual.result c.from_residual.ensures.1 in
     rw (refused.1, refused.2) (c.in_err-giving.ensures history day giver_are taker_are, refl)
 
-pub returns-in_err-less : goal.returns-in_err-less
-returns-in_err-less c history day legal giver_are taker_are =
+pub returns-in_err-less-clause-answer : goal.returns-in_err-less-clause-answer
+returns-in_err-less-clause-answer c history day legal giver_are taker_are =
     let refused = err_from_is_err_and c.from_residual-in_err-less.result c.from_residual-in_err-less.ensures.1 in
     rw (refused.1, refused.2) (c.in_ok-giving.ensures history day giver_are taker_are).0
 
-pub returns-in_err-more : goal.returns-in_err-more
-returns-in_err-more c history day legal giver_are taker_are =
+pub returns-in_err-more-clause-answer : goal.returns-in_err-more-clause-answer
+returns-in_err-more-clause-answer c history day legal giver_are taker_are =
     let refused = err_from_is_err_and c.from_residual-in_err-more.result c.from_residual-in_err-more.ensures.1 in
     rw (refused.1, refused.2) (c.in_ok-giving.ensures history day giver_are taker_are).0
 
-pub returns-in_err-ended : goal.returns-in_err-ended
-returns-in_err-ended c history day legal giver_are taker_are =
+pub returns-in_err-ended-clause-answer : goal.returns-in_err-ended-clause-answer
+returns-in_err-ended-clause-answer c history day legal giver_are taker_are =
     let refused = err_from_is_err_and c.from_residual-in_err-ended.result c.from_residual-in_err-ended.ensures.1 in
     rw (refused.1, refused.2) (c.in_ok-giving.ensures history day giver_are taker_are).0
 
-pub returns-in_err-from_giver : goal.returns-in_err-from_giver
-returns-in_err-from_giver c history day legal giver_are taker_are =
+pub returns-in_err-from_giver-clause-answer : goal.returns-in_err-from_giver-clause-answer
+returns-in_err-from_giver-clause-answer c history day legal giver_are taker_are =
     let refused = err_from_is_err_and c.from_residual-in_err-from_giver.result c.from_residual-in_err-from_giver.ensures.1 in
     rw (refused.1, refused.2) (c.in_ok-giving.ensures history day giver_are taker_are).0
 
-pub returns-in_err-to_taker : goal.returns-in_err-to_taker
-returns-in_err-to_taker c history day legal giver_are taker_are =
+pub returns-in_err-to_taker-clause-answer : goal.returns-in_err-to_taker-clause-answer
+returns-in_err-to_taker-clause-answer c history day legal giver_are taker_are =
     let refused = err_from_is_err_and c.from_residual-in_err-to_taker.result c.from_residual-in_err-to_taker.ensures.1 in
     rw (refused.1, refused.2) (c.in_ok-giving.ensures history day giver_are taker_are).0
 
-pub returns : goal.returns
-returns c history day legal giver_are taker_are =
+pub returns-clause-answer : goal.returns-clause-answer
+returns-clause-answer c history day legal giver_are taker_are =
     let a = c.args in
     let p = a.prefix.now in
     let had = c.in_ok-giving.ensures history day giver_are taker_are in
@@ -55,3 +55,7 @@ returns c history day legal giver_are taker_are =
       sparing = (sparing _ _ _ _ c.in_ok-from_giver.ensures, sparing _ _ _ _ c.in_ok-to_taker.ensures);
       of_command = (refl, refl);
     }
+
+pub returns-clause-shape : goal.returns-clause-shape
+returns-clause-shape c =
+    rw (c.in_ok-from_giver.ensures.is, c.in_ok-to_taker.ensures.is) ((refl, tt), (refl, c.new.ensures.items))

@@ -3,8 +3,8 @@ use Rattle.registry.specs.declared.command.Command.TheVariants.{Withdraw}
 use Rattle.registry.specs.Answer.{IsAccepted}
 use Rattle.policy.proofs.decision.decide_withdraw.Goals as goal
 
-pub returns : goal.returns
-returns c history legal are =
+pub returns-clause-answer : goal.returns-clause-answer
+returns-clause-answer c history legal are =
     let a = c.args in
     let h = a.holder.name.now in
     let done = c.in_ok-may_withdraw.ensures a.basis.charter.now history h legal are in

@@ -7,18 +7,18 @@ use Rattle.registry.specs.Import.{ImportGrows}
 use Rattle.policy.proofs.Imports.{answers-denied}
 use Rattle.policy.proofs.decision.import.decide_import.Goals as goal
 
-pub returns-in_err-edit : goal.returns-in_err-edit
-returns-in_err-edit c history rows listed legal are =
+pub returns-in_err-edit-clause-answer : goal.returns-in_err-edit-clause-answer
+returns-in_err-edit-clause-answer c history rows listed legal are =
     let b = c.args.basis in
     let h = c.args.holder.name.now in
     let p = err_from_is_err_and c.from_residual.result c.from_residual.ensures.1 in
-    rw (p.1, p.2) (answers-denied b.charter.now history h b.day b.caller.now rows c.args.listed.now _ listed (c.in_err-edit.ensures b.charter.now history h legal are))
+    rw (p.1, p.2) (answers-denied b.charter.now history h b.day b.caller.now rows c.args.listed.now _ listed (c.in_err-edit.ensures.answer b.charter.now history h legal are))
 
-pub returns : goal.returns
-returns c history rows listed legal are =
+pub returns-clause-answer : goal.returns-clause-answer
+returns-clause-answer c history rows listed legal are =
     let b = c.args.basis in
     let h = c.args.holder.name.now in
-    let done = c.in_ok-edit.ensures b.charter.now history h legal are in
+    let done = c.in_ok-edit.ensures.answer b.charter.now history h legal are in
     subst (IsAccepted b.charter.now history b.day b.caller.now (Import h rows)) (sym c.change_of.ensures) (record {
       after = done.after;
       leaves = subst (λ (xs : List ImportRow). ImportGrows b.charter.now b.day b.caller.now h history xs done.after) (sym listed) done.grows;
@@ -27,3 +27,6 @@ returns c history rows listed legal are =
       sparing = (done.sparing, tt);
       of_command = (refl, tt);
     })
+
+pub returns-clause-shape : goal.returns-clause-shape
+returns-clause-shape c rows = rw c.change_of.ensures (refl, c.in_ok-edit.ensures.shape, refl)

@@ -10,8 +10,8 @@ loop-row-init c = (
   λ charter history h legal are. so_far-start charter history h c.args.day c.args.caller.now c.new-auths.result (rows_of c.in_ok-rows.rows) c.new-auths.ensures.items legal are,
 )
 
-pub returns-in-Err : goal.returns-in-Err
-returns-in-Err c charter history h legal are =
+pub returns-in-Err-clause-answer : goal.returns-in-Err-clause-answer
+returns-in-Err-clause-answer c charter history h legal are =
     let a = c.args in
     let start = subst (λ (r : Rows). RowsIfAny history h (Some r)) (sym c.in_ok-rows.ensures.cases) are in
     let so_far = c.loop-row.invariant.1 charter history h legal start in
@@ -29,8 +29,8 @@ loop-row-preserved c = (
       c.loop-row.auths c.import_row-done.new.auths (rows_of c.loop-row.rows) (rows_of c.import_row-done.new.rows) so_far (omega arith) c.row-item.is done,
 )
 
-pub returns : goal.returns
-returns c charter history h legal are =
+pub returns-clause-answer : goal.returns-clause-answer
+returns-clause-answer c charter history h legal are =
     let start = subst (λ (r : Rows). RowsIfAny history h (Some r)) (sym c.in_ok-rows.ensures.cases) are in
     let so_far = rw (take_all c.loop-row.row-index c.args.listed.now (omega arith)) at c.loop-row.invariant.1 charter history h legal start in
     so_far.edit
