@@ -19,6 +19,11 @@ returns-in_ok-decide_amend-in-Amend-clause-answer c = λ history legal view.
     let accepted = c.in_ok-decide_amend-in-Amend.ensures.answer history legal (rw c.as_ref-rows.ensures.value (rw c.in-Amend.is at view.rows)) in
     rw c.in-Amend.is accepted
 
+pub returns-in-Delegate-clause-answer : goal.returns-in-Delegate-clause-answer
+returns-in-Delegate-clause-answer c = λ history legal view.
+    let answer = c.decide_delegate.ensures.answer history legal (rw c.as_ref-rows.ensures.value (rw c.in-Delegate.is at view.rows)) (rw c.in-Delegate.is at view.taken) in
+    rw c.in-Delegate.is answer
+
 pub returns-in-Import-clause-answer : goal.returns-in-Import-clause-answer
 returns-in-Import-clause-answer c = λ history legal view.
     let answer = c.decide_import.ensures.answer history c.in-Import.listed (sym c.deref.ensures.value) legal (rw c.as_ref-rows.ensures.value (rw c.in-Import.is at view.rows)) in

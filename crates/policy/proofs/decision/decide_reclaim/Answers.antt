@@ -45,6 +45,3 @@ returns-clause-answer c history legal are =
       sparing = (sparing _ _ _ _ c.in_ok-edit.ensures, tt);
       of_command = (refl, tt);
     })
-
-pub returns-clause-shape : goal.returns-clause-shape
-returns-clause-shape c = rw (c.change_of.ensures, c.in_ok-edit.ensures.is) (refl, tt, refl)

@@ -55,7 +55,3 @@ returns-clause-answer c history day legal giver_are taker_are =
       sparing = (sparing _ _ _ _ c.in_ok-from_giver.ensures, sparing _ _ _ _ c.in_ok-to_taker.ensures);
       of_command = (refl, refl);
     }
-
-pub returns-clause-shape : goal.returns-clause-shape
-returns-clause-shape c =
-    rw (c.in_ok-from_giver.ensures.is, c.in_ok-to_taker.ensures.is) ((refl, tt), (refl, c.new.ensures.items))

@@ -12,7 +12,7 @@ returns-in_err-decide_two-clause-answer g c clean history legal held =
     let same : c.charter-charter.result.now ≡ charter = c.charter-charter.ensures ∙ c.load_two.ensures.read.charter in
     let rows = c.in_ok-giver.ensures.rows clean history legal held in
     let refused = err_from_is_err_and c.from_residual-in_err-decide_two.result c.from_residual-in_err-decide_two.ensures.1 in
-    let answer = c.in_err-decide_two.ensures history c.args.day (rw same legal) (rw (c.in-Transfer.is, c.as_ref.ensures.value) rows.0) (rw (c.in-Transfer.is, c.as_ref-in-Transfer.ensures.value) rows.1) in
+    let answer = c.in_err-decide_two.ensures.answer history c.args.day (rw same legal) (rw (c.in-Transfer.is, c.as_ref.ensures.value) rows.0) (rw (c.in-Transfer.is, c.as_ref-in-Transfer.ensures.value) rows.1) in
     rw (refused.1, refused.2) (refused_answers charter history c.args.day c.args.caller.now c.args.command.now c.in_err-decide_two.field-0.0
     (subst (λ (k : Charter). IsAnswer k history c.args.day c.args.caller.now c.args.command.now (Err c.in_err-decide_two.field-0.0)) same answer))
 
@@ -20,4 +20,4 @@ pub returns-in_ok-decide_two-clause-answer : goal.returns-in_ok-decide_two-claus
 returns-in_ok-decide_two-clause-answer g c clean history legal held =
     let same : c.charter-charter.result.now ≡ charter_of c.args.self.now = c.charter-charter.ensures ∙ c.load_two.ensures.read.charter in
     let rows = c.in_ok-giver.ensures.rows clean history legal held in
-    rw same at (c.in_ok-decide_two.ensures history c.args.day (rw same legal) (rw (c.in-Transfer.is, c.as_ref.ensures.value) rows.0) (rw (c.in-Transfer.is, c.as_ref-in-Transfer.ensures.value) rows.1))
+    rw same at (c.in_ok-decide_two.ensures.answer history c.args.day (rw same legal) (rw (c.in-Transfer.is, c.as_ref.ensures.value) rows.0) (rw (c.in-Transfer.is, c.as_ref-in-Transfer.ensures.value) rows.1))

@@ -27,6 +27,3 @@ returns-clause-answer c history rows listed legal are =
       sparing = (done.sparing, tt);
       of_command = (refl, tt);
     })
-
-pub returns-clause-shape : goal.returns-clause-shape
-returns-clause-shape c rows = rw c.change_of.ensures (refl, c.in_ok-edit.ensures.shape, refl)
