@@ -1,12 +1,11 @@
 -- Which authorizations an edit ends and begins, and which edits a command makes.
-use Rattle.std.specs.Prelude.{◌≡◌, ℕ, ◌==◌, Bool, true, false, List, [], ◌∷◌, Some, None, IsSomeAnd}
+use Rattle.std.specs.Prelude.{◌≡◌, ℕ, ◌==◌, Bool, true, false, List, [], ◌∷◌, Some, None}
 use Rattle.std.specs.List.{list_any}
 use Rattle.registry.specs.declared.authorization.Auth.{Auth}
 use Rattle.registry.specs.declared.command.Command.{Command}
 use Rattle.registry.specs.declared.command.Command.TheVariants.{Register, Delegate, Transfer, Reclaim, Grant, Revoke, Create, Amend, Withdraw, Import, Slurm}
 use Rattle.registry.specs.declared.change.Change.{Change}
 use Rattle.registry.specs.declared.change.Change.TheVariants.{Holders, Exceptions}
-use Rattle.registry.specs.declared.change.HolderChange.{HolderChange}
 use Rattle.registry.specs.declared.change.Edit.{Edit}
 use Rattle.registry.specs.declared.change.Edit.TheVariants.{Register as RegisterEdit, Hold, Grant as GrantEdit, Revoke as RevokeEdit, Create as CreateEdit, Import as ImportEdit, Amend as AmendEdit, Withdraw as WithdrawEdit}
 use Rattle.registry.specs.Answer.{holder_of}
@@ -54,19 +53,11 @@ IsEditOf (Withdraw holder n) edit = edit ≡ WithdrawEdit n
 IsEditOf (Import holder rows) edit = IsImportEdit edit
 IsEditOf _ _ = ⊥
 
--- the change of a holder is an exchange of runs by the giver
-abbrev pub IsGivenBy : List ℕ → HolderChange → Type 0
-IsGivenBy giver c = (c.holder ≡ giver) × IsHold c.edit
-
--- or by the taker, of whom no authorization ends
-abbrev pub IsTakenBy : List ℕ → HolderChange → Type 0
-IsTakenBy taker c = (c.holder ≡ taker) × IsHoldEndingNone c.edit
-
--- The change has the edits of the command and no others: of a transfer the giver's and the taker's, of a SLURM
--- file none, and of any other command one.
+-- The change has the edits of the command and no others: of a transfer that of the giver and that of the taker,
+-- of whom no authorization ends; of a SLURM file none; and of any other command one.
 abbrev pub HasEditsOf : Command → Change → Type 0
-HasEditsOf (Transfer p giver taker) (Holders first second) =
-    IsGivenBy giver first × IsSomeAnd second (IsTakenBy taker)
-HasEditsOf command (Holders first second) =
-    (holder_of command ≡ Some first.holder) × IsEditOf command first.edit × (second ≡ None)
-HasEditsOf command (Exceptions file) = command ≡ Slurm file
+HasEditsOf (Transfer p giver taker) (Holders first (Some second)) =
+    (first.holder ≡ giver) × IsHold first.edit × (second.holder ≡ taker) × IsHoldEndingNone second.edit
+HasEditsOf (Slurm file) (Exceptions more) = more ≡ file
+HasEditsOf command (Holders first None) = (holder_of command ≡ Some first.holder) × IsEditOf command first.edit
+HasEditsOf _ _ = ⊥
