@@ -9,3 +9,4 @@ pub mod ResumedLemmas
 pub mod DailyLemmas
 pub mod ExportLemmas
 pub mod ExchangeLemmas
+pub mod GivenEdits

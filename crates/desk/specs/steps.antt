@@ -1,4 +1,5 @@
 -- Steps of the code, which no public contract cites.
 pub mod Accepting
+pub mod EditsGiven
 pub mod Gathering
 pub mod WhatIf

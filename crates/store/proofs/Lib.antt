@@ -17,4 +17,3 @@ mod OpenedStore
 mod ReadRows
 pub mod HeldAlike
 pub mod HeldOnce
-pub mod GivenEdits
