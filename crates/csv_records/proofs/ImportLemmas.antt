@@ -17,19 +17,19 @@ use Rattle.json_values.specs.Faults.{fault_unless, lower_of, lowest}
 use Rattle.json_values.specs.Parts.{and_then, each, lower, mapped}
 use Rattle.csv_records.specs.CsvRecords.{csv_records}
 use Rattle.csv_records.specs.Fields.{Fields, field_in, fields_eq, rows_after}
-use Rattle.csv_records.specs.Imports.{import_fault, import_fault_number, import_faults, import_header, is_row_count, IsImport, max_in, named_asn, row_faults, SaysRow}
+use Rattle.csv_records.specs.Imports.{import_fault, import_fault_number, import_faults, import_header, is_row_count, IsImportText, max_in, named_asn, row_faults, SaysRow}
 use Rattle.csv_records.specs.declared.imports.ImportFault.{ImportFault}
 use Rattle.csv_records.specs.declared.imports.ImportFault.TheVariants.{Form, Prefix, Asn, Max, Day, Count}
-use Rattle.csv_records.specs.steps.Importing.{counted, import_in, import_row, row_in, row_of, rows_in}
+use Rattle.csv_records.specs.steps.Importing.{counted, import_in, row_of_parts, row_in_fields, row_of, rows_in}
 use Rattle.csv_records.proofs.FieldLemmas.{same_fields}
 
 -- ---- rows
 
-pub row_in-five : (xs : Fields) → length xs ≡ 5
-    → row_in xs ≡ row_of (named_asn (field_in 0 xs)) (spelled_prefix (field_in 1 xs)) (max_in (field_in 2 xs))
+pub row_in_fields-five : (xs : Fields) → length xs ≡ 5
+    → row_in_fields xs ≡ row_of (named_asn (field_in 0 xs)) (spelled_prefix (field_in 1 xs)) (max_in (field_in 2 xs))
     (day_in (field_in 3 xs)) (day_in (field_in 4 xs))
-row_in-five (a ∷ b ∷ c ∷ d ∷ e ∷ []) five = refl
-row_in-five other five = cc
+row_in_fields-five (a ∷ b ∷ c ∷ d ∷ e ∷ []) five = refl
+row_in_fields-five other five = cc
 
 module _ (asn : Option AsnNumber) (prefix : Option PrefixValue) (max from until : Option ℕ) where
   -- of a row with these fields
@@ -41,20 +41,20 @@ module _ (asn : Option AsnNumber) (prefix : Option PrefixValue) (max from until 
   reads-of : Reads import_fault_number (row_of asn prefix max from until) of_fields
       (λ t. (asn ≡ Some t.asn) × (prefix ≡ Some t.prefix) × (max ≡ Some t.max) × (from ≡ Some t.from) × (until ≡ Some t.until))
   reads-of =
-      reads-mapped import_row (λ p says. (says.0.0.0.0, says.0.0.0.1, says.0.0.1, says.0.1, says.1))
+      reads-mapped row_of_parts (λ p says. (says.0.0.0.0, says.0.0.0.1, says.0.0.1, says.0.1, says.1))
       (reads-both
       (reads-both
       (reads-both
       (reads-both (reads-ok_or asn Asn) (reads-ok_or prefix Prefix))
       (reads-ok_or max Max)) (reads-ok_or from Day)) (reads-ok_or until Day))
 
-reads-row : (fields : Fields) → Reads import_fault_number (row_in fields) (row_faults fields) (SaysRow fields)
+reads-row : (fields : Fields) → Reads import_fault_number (row_in_fields fields) (row_faults fields) (SaysRow fields)
 reads-row (a ∷ b ∷ c ∷ d ∷ e ∷ []) = reads-of (named_asn a) (spelled_prefix b) (max_in c) (day_in d) (day_in e)
 reads-row other = record { reported = record { is = refl }; value = tt }
 
 reads-rows : (rows : List Fields)
-    → Reads import_fault_number (each import_fault_number row_in rows) (flat_map row_faults rows) (AllZip SaysRow rows)
-reads-rows rows = reads-each row_in row_faults SaysRow rows reads-row
+    → Reads import_fault_number (each import_fault_number row_in_fields rows) (flat_map row_faults rows) (AllZip SaysRow rows)
+reads-rows rows = reads-each row_in_fields row_faults SaysRow rows reads-row
 
 -- ---- the count of rows
 
@@ -126,7 +126,7 @@ abbrev below_header : List Fields → List Fields
 below_header [] = []
 below_header (_ ∷ rows) = rows
 
-same-import : (text : List ℕ) (xs ys : List ImportRow) → IsImport text xs → IsImport text ys → xs ≡ ys
+same-import : (text : List ℕ) (xs ys : List ImportRow) → IsImportText text xs → IsImportText text ys → xs ≡ ys
 same-import text xs ys (records, is, says) (others, is_too, says_too) =
     let same : others ≡ records = ap below_header (sym is_too ∙ is) in
     same-rows records xs ys says (subst (λ (rows : List Fields). AllZip SaysRow rows ys) same says_too)
@@ -150,7 +150,7 @@ form-first (Some fault) = ap Some (sym (lower-form fault))
 err-rows : (records : List Fields) → result_err (rows_in (rows_after import_header records)) ≡ lowest import_fault_number (import_faults records)
 err-rows [] = refl
 err-rows (first ∷ rows) = elim (cases_Bool (fields_eq first import_header)) [
-  | inl same ↦ rw same (err-counted rows (flat_map row_faults rows) (each import_fault_number row_in rows)
+  | inl same ↦ rw same (err-counted rows (flat_map row_faults rows) (each import_fault_number row_in_fields rows)
       (reads-rows rows).reported.is (reads-rows rows).value)
   | inr other ↦ rw other (form-first (lowest import_fault_number
       (flat_map row_faults rows ++ fault_unless (is_row_count (length rows)) Count)))
@@ -160,8 +160,8 @@ says-rows : (records : List Fields) → IfOk (rows_in (rows_after import_header 
     (λ terms. (rows : List Fields) × (records ≡ import_header ∷ rows) × AllZip SaysRow rows terms)
 says-rows [] = tt
 says-rows (first ∷ rows) = elim (cases_Bool (fields_eq first import_header)) [
-  | inl same ↦ rw same (said (and_then counted (each import_fault_number row_in rows)) (same_fields first import_header same)
-      (says-counted rows (each import_fault_number row_in rows) (reads-rows rows).value))
+  | inl same ↦ rw same (said (and_then counted (each import_fault_number row_in_fields rows)) (same_fields first import_header same)
+      (says-counted rows (each import_fault_number row_in_fields rows) (reads-rows rows).value))
   | inr other ↦ rw other tt
 ]
   where
@@ -180,24 +180,24 @@ import-reported text (Ok rows) is = ap result_err is ∙ import_in-reported text
 import-reported text (Err fault) is = ap result_err is ∙ import_in-reported text
 
 -- its rows
-pub import_in-said : (text : List ℕ) → IfOk (import_in text) (IsImport text)
+pub import_in-said : (text : List ℕ) → IfOk (import_in text) (IsImportText text)
 import_in-said text = says-rows (csv_records text)
 
 pub import-said : (text : List ℕ) (read : Result (Vec ImportRow) ImportFault) → mapped (λ v. v.items) read ≡ import_in text
-    → IfOk read (λ rows. IsImport text rows.items)
+    → IfOk read (λ rows. IsImportText text rows.items)
 import-said text (Ok rows) is = rw (← is) at (import_in-said text)
 import-said text (Err fault) is = tt
 
 -- what says the rows of a text, or its fault, was read of it
 pub import-read : (text : List ℕ) (read : Result (Vec ImportRow) ImportFault)
-    → IfOk read (λ rows. IsImport text rows.items) → result_err read ≡ import_fault text
+    → IfOk read (λ rows. IsImportText text rows.items) → result_err read ≡ import_fault text
     → mapped (λ v. v.items) read ≡ import_in text
 import-read text (Ok rows) says reported = go (import_in text) refl
   where
     go : (r : Result (List ImportRow) ImportFault) → import_in text ≡ r → Ok rows.items ≡ r
     go (Ok others) is =
         ap (λ (xs : List ImportRow). Ok xs) (same-import text rows.items others says
-        (subst (λ (r : Result (List ImportRow) ImportFault). IfOk r (IsImport text)) is (import_in-said text)))
+        (subst (λ (r : Result (List ImportRow) ImportFault). IfOk r (IsImportText text)) is (import_in-said text)))
     go (Err fault) is =
         let none : None ≡ Some fault = reported ∙ sym (import_in-reported text) ∙ ap result_err is in
         absurd (none-some fault none)

@@ -37,8 +37,8 @@ SaysRow (asn ∷ prefix ∷ max ∷ from ∷ until ∷ []) row =
 SaysRow _ row = ⊥
 
 -- the text is the header and a record for each of these rows
-abbrev pub IsImport : List ℕ → List ImportRow → Type 0
-IsImport text rows =
+abbrev pub IsImportText : List ℕ → List ImportRow → Type 0
+IsImportText text rows =
     (records : List Fields) × (csv_records text ≡ import_header ∷ records) × AllZip SaysRow records rows
 
 -- ---- faults

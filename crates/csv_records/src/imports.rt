@@ -5,8 +5,8 @@ ghost use Rattle.addr.specs.PrefixText.{spelled_prefix};
 ghost use Rattle.csv.specs.Records.{fields_of};
 ghost use Rattle.json_values.specs.Parts.{and_then, each, mapped};
 ghost use Rattle.csv_records.specs.CsvRecords.{records_left, IsReading};
-ghost use Rattle.csv_records.specs.Imports.{import_fault, import_fault_number, max_in, named_asn, IsImport};
-ghost use Rattle.csv_records.specs.steps.Importing.{counted, import_in, import_row, row_in, row_of};
+ghost use Rattle.csv_records.specs.Imports.{import_fault, import_fault_number, max_in, named_asn, IsImportText};
+ghost use Rattle.csv_records.specs.steps.Importing.{counted, import_in, row_of_parts, row_in_fields, row_of};
 
 use crate::CsvRecords;
 use crate::fields::field;
@@ -68,7 +68,7 @@ impl json_values::Fault for ImportFault {
 
 /// The rows of the import that a text is.
 pub fn read_import(alloc: Global, text: &[u8]) -> Read<Vec<ImportRow>, ImportFault>
-    ensures rows { IfOk result (λ read. IfOk read (λ rows. IsImport text.now rows.items)) }
+    ensures rows { IfOk result (λ read. IfOk read (λ rows. IsImportText text.now rows.items)) }
     ensures fault { IfOk result (λ read. result_err read ≡ import_fault text.now) }
 {
     let read = import_in(alloc, text)?;
@@ -91,7 +91,7 @@ fn import_in(alloc: Global, text: &[u8]) -> Read<Vec<ImportRow>, ImportFault>
 fn read_rows(alloc: Global, records: &mut CsvRecords<'_>) -> Read<Vec<ImportRow>, ImportFault>
     requires { IsReading records.old }
     ensures { IfOk result (λ read. mapped (λ v. v.items) read
-        ≡ each import_fault_number row_in (records_left records.old)) }
+        ≡ each import_fault_number row_in_fields (records_left records.old)) }
 {
     let mut gathered = Gathered::new(alloc);
     while records.advance()? {
@@ -114,7 +114,7 @@ fn counted(rows: Result<Vec<ImportRow>, ImportFault>) -> Result<Vec<ImportRow>, 
 
 /// The row that a record says, or its lowest fault.
 fn read_row(row: &ByteRecord) -> Result<ImportRow, ImportFault>
-    ensures { result ≡ row_in (fields_of row.now) }
+    ensures { result ≡ row_in_fields (fields_of row.now) }
 {
     if row.len() != 5 {
         return Err(ImportFault::Form);
@@ -146,14 +146,14 @@ fn row_of(
         max.ok_or(ImportFault::Max),
     );
     let first_day = both(vrp, from.ok_or(ImportFault::Day));
-    import_row(both(first_day, until.ok_or(ImportFault::Day)))
+    row_of_parts(both(first_day, until.ok_or(ImportFault::Day)))
 }
 
 /// The row of parts that came as pairs.
-fn import_row(
+fn row_of_parts(
     parts: Result<((((Asn, Prefix), u8), Day), Day), ImportFault>,
 ) -> Result<ImportRow, ImportFault>
-    ensures { result ≡ mapped import_row parts }
+    ensures { result ≡ mapped row_of_parts parts }
 {
     let ((((asn, prefix), max), from), until) = parts?;
     Ok(ImportRow {

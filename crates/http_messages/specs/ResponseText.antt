@@ -6,8 +6,8 @@ use Rattle.http_messages.specs.declared.method.Method.TheVariants.{Get, Put, Pos
 use Rattle.http_messages.specs.declared.method.Methods.{Methods}
 use Rattle.http_messages.specs.declared.status.Status.{Status}
 use Rattle.http_messages.specs.declared.status.Status.TheVariants.{Done, BadRequest, Forbidden, NotFound, MethodNotAllowed, LengthRequired, ContentTooLarge, ServiceUnavailable}
-use Rattle.http_messages.specs.declared.refusal.Refusal.{Refusal}
-use Rattle.http_messages.specs.declared.refusal.Refusal.TheVariants as refusal
+use Rattle.http_messages.specs.declared.refusal.HttpRefusal.{HttpRefusal}
+use Rattle.http_messages.specs.declared.refusal.HttpRefusal.TheVariants as refusal
 use Rattle.http_messages.specs.declared.response.ContentType.{ContentType}
 use Rattle.http_messages.specs.declared.response.ContentType.TheVariants.{Json, Csv}
 
@@ -36,7 +36,7 @@ abbrev pub status_line : Status → List ℕ
 status_line status = decimal (status_code status) ++ codes " " ++ status_reason status
 
 -- the status of a fault of the protocol
-abbrev pub refused_status : Refusal → Status
+abbrev pub refused_status : HttpRefusal → Status
 refused_status refusal.BadRequest = BadRequest
 refused_status refusal.NotFound = NotFound
 refused_status (refusal.MethodNotAllowed methods) = MethodNotAllowed methods

@@ -8,7 +8,7 @@ ghost use Rattle.http_messages.specs.Lengths.{body_length, content_length, is_nu
 
 use crate::body::BODY_LIMIT;
 use crate::field::only_value;
-use crate::refusal::Refusal;
+use crate::refusal::HttpRefusal;
 use httparse::spans::HeaderSpan;
 
 /// The length of the body that follows a head, if the request has a body.
@@ -16,38 +16,38 @@ pub fn body_length(
     head: &[u8],
     fields: &[HeaderSpan],
     has_body: bool,
-) -> Result<Option<usize>, Refusal>
+) -> Result<Option<usize>, HttpRefusal>
     requires { All (IsHeaderWithin (length head.now)) fields.now }
     ensures { result ≡ body_length has_body (map (header_bytes head.now) fields.now) }
 {
     let Ok(None) = only_value(head, fields, b"transfer-encoding") else {
-        return Err(Refusal::LengthRequired);
+        return Err(HttpRefusal::LengthRequired);
     };
     let Ok(value) = only_value(head, fields, b"content-length") else {
-        return Err(Refusal::BadRequest);
+        return Err(HttpRefusal::BadRequest);
     };
     match value {
         Some(text) => length_within(text, has_body),
-        None if has_body => Err(Refusal::LengthRequired),
+        None if has_body => Err(HttpRefusal::LengthRequired),
         None => Ok(None),
     }
 }
 
 /// The length that `Content-Length` gives, within the limit.
-fn length_within(text: &[u8], has_body: bool) -> Result<Option<usize>, Refusal>
+fn length_within(text: &[u8], has_body: bool) -> Result<Option<usize>, HttpRefusal>
     ensures { result ≡ length_within has_body (content_length text.now) }
 {
     let Some(size) = capped_length(text) else {
-        return Err(Refusal::BadRequest);
+        return Err(HttpRefusal::BadRequest);
     };
     if has_body {
         if size > BODY_LIMIT {
-            return Err(Refusal::ContentTooLarge);
+            return Err(HttpRefusal::ContentTooLarge);
         }
         return Ok(Some(size));
     }
     if size > 0 {
-        return Err(Refusal::BadRequest);
+        return Err(HttpRefusal::BadRequest);
     }
     Ok(None)
 }

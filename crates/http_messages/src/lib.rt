@@ -18,6 +18,6 @@ pub use field::{Repeated, only_value};
 pub use head::{HEAD_LIMIT, HeadFault, read_head};
 pub use length::body_length;
 pub use method::{Method, Methods};
-pub use refusal::Refusal;
+pub use refusal::HttpRefusal;
 pub use response::{ContentType, fault_text, response_head, write_response};
 pub use status::Status;

@@ -3,7 +3,7 @@ use crate::method::Methods;
 
 /// The protocol's faults of a request.
 #[derive(Clone, Copy, Debug, PartialEq, Eq)]
-pub enum Refusal {
+pub enum HttpRefusal {
     /// The head does not parse, or its `Content-Length` is repeated, is not a number, or is not zero
     /// where no body is taken.
     BadRequest,

@@ -3,7 +3,7 @@ ghost use Rattle.std.specs.Prelude.{◌≡◌, ◌≤◌, length};
 ghost use Rattle.http_messages.specs.ResponseText.{refused_status, status_code, status_reason};
 
 use crate::method::Methods;
-use crate::refusal::Refusal;
+use crate::refusal::HttpRefusal;
 
 /// The statuses of the desk's responses.
 #[derive(Clone, Copy, Debug, PartialEq, Eq)]
@@ -53,17 +53,17 @@ impl Status {
     }
 }
 
-impl Refusal {
+impl HttpRefusal {
     /// Its status.
     pub fn status(self) -> Status
         ensures { result ≡ refused_status self }
     {
         match self {
-            Refusal::BadRequest => Status::BadRequest,
-            Refusal::NotFound => Status::NotFound,
-            Refusal::MethodNotAllowed(methods) => Status::MethodNotAllowed(methods),
-            Refusal::LengthRequired => Status::LengthRequired,
-            Refusal::ContentTooLarge => Status::ContentTooLarge,
+            HttpRefusal::BadRequest => Status::BadRequest,
+            HttpRefusal::NotFound => Status::NotFound,
+            HttpRefusal::MethodNotAllowed(methods) => Status::MethodNotAllowed(methods),
+            HttpRefusal::LengthRequired => Status::LengthRequired,
+            HttpRefusal::ContentTooLarge => Status::ContentTooLarge,
         }
     }
 }

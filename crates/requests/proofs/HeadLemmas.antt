@@ -4,8 +4,8 @@ use Rattle.httparse.specs.Spans.{name_and_value}
 use Rattle.http_messages.specs.Fields.{Fields, only_value, values_of}
 use Rattle.http_messages.specs.Lengths.{body_length, body_length_after, content_length, length_by, length_within}
 use Rattle.http_messages.specs.declared.body.TheConstants.{BODY_LIMIT}
-use Rattle.http_messages.specs.declared.refusal.Refusal.{Refusal}
-use Rattle.http_messages.specs.declared.refusal.Refusal.TheVariants.{BadRequest, ContentTooLarge}
+use Rattle.http_messages.specs.declared.refusal.HttpRefusal.{HttpRefusal}
+use Rattle.http_messages.specs.declared.refusal.HttpRefusal.TheVariants.{BadRequest, ContentTooLarge}
 use Rattle.requests.specs.Actions.{takes_body}
 use Rattle.requests.specs.Paths.{path_of}
 use Rattle.requests.specs.RequestHeads.{Head, head_as, head_at, head_with, SaysHead}
@@ -14,7 +14,7 @@ use Rattle.requests.specs.declared.action.Action.{Action}
 use Rattle.requests.specs.declared.path.Path.{Path}
 
 -- there is a length if and only if there is a body
-abbrev HasLength : Bool → Result (Option ℕ) Refusal → Type 0
+abbrev HasLength : Bool → Result (Option ℕ) HttpRefusal → Type 0
 HasLength has_body length = IfOk length (λ size. is_some size ≡ has_body)
 
 within-limit : (fits : Bool) (size : ℕ) → HasLength true (if fits then Ok (Some size) else Err ContentTooLarge)
@@ -40,10 +40,10 @@ has-length_after : (codings : List (List ℕ)) (has_body : Bool) (fields : Field
 has-length_after [] has_body fields = has-length_by has_body (only_value (values_of (codes "content-length") fields))
 has-length_after (coding ∷ codings) has_body fields = tt
 
-abbrev IsAnnounced : Result Head Refusal → Type 0
+abbrev IsAnnounced : Result Head HttpRefusal → Type 0
 IsAnnounced said = IfOk said (λ head. is_some head.body_length ≡ takes_body head.action)
 
-announced-with : (action : Action) (target : List ℕ) (fields : Fields) (length : Result (Option ℕ) Refusal)
+announced-with : (action : Action) (target : List ℕ) (fields : Fields) (length : Result (Option ℕ) HttpRefusal)
     → HasLength (takes_body action) length → IsAnnounced (head_with action target fields length)
 announced-with action target fields (Err refusal) has = tt
 announced-with action target fields (Ok size) has = has

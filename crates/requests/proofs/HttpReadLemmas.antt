@@ -14,7 +14,7 @@ use Rattle.json_values.specs.Faults.{fault_unless, lower_of, lowest, name_faults
 use Rattle.json_values.specs.Parts.{lower, mapped}
 use Rattle.json_values.specs.Tree.{tree_of}
 use Rattle.csv_records.proofs.ImportLemmas.{import-read, import_in-said, import_in-reported}
-use Rattle.csv_records.specs.Imports.{import_fault, IsImport}
+use Rattle.csv_records.specs.Imports.{import_fault, IsImportText}
 use Rattle.csv_records.specs.declared.imports.ImportFault.{ImportFault}
 use Rattle.csv_records.specs.steps.Importing.{import_in}
 use Rattle.registry.specs.declared.asked.Asked.{Asked}
@@ -49,7 +49,7 @@ reads-day : (day : ℕ) → ReadsUnlessFaulty (Ok day) [] (λ asked_day. asked_d
 reads-day day = record { reported = record { is = refl }; value = refl }
 
 -- the rows of an import
-reads-text : (text : List ℕ) → ReadsUnlessFaulty (import_rows text) (import_faults text) (IsImport text)
+reads-text : (text : List ℕ) → ReadsUnlessFaulty (import_rows text) (import_faults text) (IsImportText text)
 reads-text text =
     record {
       reported = record { is = reported (import_in text) (import_fault text) (import_in-reported text) };
@@ -62,14 +62,14 @@ reads-text text =
     reported (Ok rows) found is = rw (← is) refl
     reported (Err fault) found is = rw (← is) refl
 
-    said : (read : Result (List ImportRow) ImportFault) → IfOk read (IsImport text)
-        → IfOk (result_map_both (λ rows. rows) fault_of_import read) (IsImport text)
+    said : (read : Result (List ImportRow) ImportFault) → IfOk read (IsImportText text)
+        → IfOk (result_map_both (λ rows. rows) fault_of_import read) (IsImportText text)
     said (Ok rows) is = is
     said (Err fault) is = is
 
 -- what says the rows of a text, or its fault, was read of it
 pub import_rows-read : (text : List ℕ) (read : Result (Vec ImportRow) ImportFault)
-    → IfOk read (λ rows. IsImport text rows.items) → result_err read ≡ import_fault text
+    → IfOk read (λ rows. IsImportText text rows.items) → result_err read ≡ import_fault text
     → result_map_both (λ rows. rows.items) fault_of_import read ≡ import_rows text
 import_rows-read text read says reported = as_fault read (import-read text read says reported)
   where

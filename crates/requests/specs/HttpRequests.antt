@@ -7,8 +7,8 @@ use Rattle.requests.specs.RequestHeads.{Head, SaysHead}
 use Rattle.requests.specs.declared.action.Action.{Action}
 use Rattle.requests.specs.declared.action.Action.TheVariants.{Import}
 use Rattle.http_messages.specs.declared.head.TheConstants.{HEAD_LIMIT}
-use Rattle.http_messages.specs.declared.refusal.Refusal.{Refusal}
-use Rattle.http_messages.specs.declared.refusal.Refusal.TheVariants.{BadRequest}
+use Rattle.http_messages.specs.declared.refusal.HttpRefusal.{HttpRefusal}
+use Rattle.http_messages.specs.declared.refusal.HttpRefusal.TheVariants.{BadRequest}
 use Rattle.http_messages.specs.declared.response.ContentType.{ContentType}
 use Rattle.registry.specs.declared.asked.Asked.{Asked}
 use Rattle.requests.specs.Actions.{list_form}
@@ -69,7 +69,7 @@ IsCutShort bytes =
 
 -- a refusal by the protocol, a malformed request, or a request and the form in which it asks for a list
 pub data HttpRequest : Type 0 where
-  refused : Refusal → HttpRequest
+  refused : HttpRefusal → HttpRequest
   malformed : Malformed → HttpRequest
   asked : ContentType → Asked → HttpRequest
 

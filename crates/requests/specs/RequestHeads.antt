@@ -10,8 +10,8 @@ use Rattle.requests.specs.Paths.{holder_piece, number_piece, path_of}
 use Rattle.requests.specs.Routes.{action_at, methods_of}
 use Rattle.requests.specs.declared.action.Action.{Action}
 use Rattle.requests.specs.declared.path.Path.{Path}
-use Rattle.http_messages.specs.declared.refusal.Refusal.{Refusal}
-use Rattle.http_messages.specs.declared.refusal.Refusal.TheVariants.{BadRequest, MethodNotAllowed, NotFound}
+use Rattle.http_messages.specs.declared.refusal.HttpRefusal.{HttpRefusal}
+use Rattle.http_messages.specs.declared.refusal.HttpRefusal.TheVariants.{BadRequest, MethodNotAllowed, NotFound}
 use Rattle.requests.specs.declared.head.Head.{Head as HeadRead}
 use Rattle.requests.specs.declared.head.TheConstants.{FIELD_LIMIT}
 
@@ -33,7 +33,7 @@ abbrev pub caller_field : Fields → Option (List ℕ)
 caller_field fields = only_of (only_value (values_of (codes "desk-caller") fields))
 
 -- an action with the length of its body
-abbrev pub head_with : Action → List ℕ → Fields → Result (Option ℕ) Refusal → Result Head Refusal
+abbrev pub head_with : Action → List ℕ → Fields → Result (Option ℕ) HttpRefusal → Result Head HttpRefusal
 head_with action target fields (Err refusal) = Err refusal
 head_with action target fields (Ok size) = Ok (record {
   action = action;
@@ -44,17 +44,17 @@ head_with action target fields (Ok size) = Ok (record {
 })
 
 -- what the method asks for at a path
-abbrev pub head_as : Path → List ℕ → Fields → Option Action → Result Head Refusal
+abbrev pub head_as : Path → List ℕ → Fields → Option Action → Result Head HttpRefusal
 head_as path target fields None = Err (MethodNotAllowed (methods_of path))
 head_as path target fields (Some action) =
     head_with action target fields (body_length (takes_body action) fields)
 
-abbrev pub head_at : List ℕ → List ℕ → Fields → Option Path → Result Head Refusal
+abbrev pub head_at : List ℕ → List ℕ → Fields → Option Path → Result Head HttpRefusal
 head_at method target fields None = Err NotFound
 head_at method target fields (Some path) = head_as path target fields (action_at method path)
 
 -- what a method, a target and fields ask for, or their first fault
-abbrev pub head_of : List ℕ → List ℕ → Fields → Result Head Refusal
+abbrev pub head_of : List ℕ → List ℕ → Fields → Result Head HttpRefusal
 head_of method target fields = head_at method target fields (path_of target)
 
 -- the head that was read, as bytes
@@ -68,7 +68,7 @@ head_view head = record {
 }
 
 -- what was read of a head, as bytes
-abbrev pub read_view : Result HeadRead Refusal → Result Head Refusal
+abbrev pub read_view : Result HeadRead HttpRefusal → Result Head HttpRefusal
 read_view (Ok head) = Ok (head_view head)
 read_view (Err refusal) = Err refusal
 
@@ -77,7 +77,7 @@ abbrev pub IsHeadOf : List ℕ → RequestHead → Type 0
 IsHeadOf bytes head = (length head.fields ≤ FIELD_LIMIT) × ReadsRequest bytes head []
 
 -- what the bytes of a head ask for, or why they are refused
-abbrev pub SaysHead : List ℕ → Result Head Refusal → Type 0
+abbrev pub SaysHead : List ℕ → Result Head HttpRefusal → Type 0
 SaysHead bytes said =
     ((head : RequestHead) × IsHeadOf bytes head
     × (head_of head.method head.target (map name_and_value head.fields) ≡ said))

@@ -15,7 +15,7 @@ use Rattle.serde_json.specs.Data.{Data, Items}
 use Rattle.serde_json.specs.Find.{get, as_array}
 use Rattle.json_values.specs.Tree.{tree_of, list_of}
 use Rattle.slurm.specs.SlurmEntries.{SaysExceptions}
-use Rattle.csv_records.specs.Imports.{IsImport}
+use Rattle.csv_records.specs.Imports.{IsImportText}
 use Rattle.registry.specs.declared.asked.Asked.{Asked}
 use Rattle.registry.specs.declared.asked.Request.{Request}
 use Rattle.registry.specs.declared.asked.Request.TheVariants.{Command as CommandRequest, Query as QueryRequest}
@@ -77,7 +77,7 @@ pub data RowsBrought : Type 0 where
 
 abbrev pub SaysRows : RowsBrought → List ImportRow → Type 0
 SaysRows (in_member member) rows = HasItems HasRow member rows
-SaysRows (in_text text) rows = IsImport text rows
+SaysRows (in_text text) rows = IsImportText text rows
 
 -- what a request says outside of the members that lines and bodies have in common: what it asks, the holder and
 -- the number that it names, and the SLURM file or the rows that it brings

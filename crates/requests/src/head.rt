@@ -7,7 +7,7 @@ ghost use Rattle.requests.specs.RequestHeads.{SaysHead, caller_field, head_of, r
 use crate::action::Action;
 use crate::piece::{holder_piece, number_piece};
 use crate::router::Routes;
-use http_messages::{Refusal, body_length, only_value};
+use http_messages::{HttpRefusal, body_length, only_value};
 use httparse::Status;
 use httparse::spans::{EMPTY_HEADER_SPAN, HeaderSpan, RequestSpans, parse_request};
 
@@ -29,12 +29,12 @@ pub struct Head<'a> {
 }
 
 /// What a head asks for, or the first fault of it.
-pub fn read_request_head<'a>(routes: &Routes, head: &'a [u8]) -> Result<Head<'a>, Refusal>
+pub fn read_request_head<'a>(routes: &Routes, head: &'a [u8]) -> Result<Head<'a>, HttpRefusal>
     ensures { SaysHead head.now (read_view result) }
 {
     let mut spans = [EMPTY_HEADER_SPAN; FIELD_LIMIT];
     let Some(request) = parse_head(head, &mut spans) else {
-        return Err(Refusal::BadRequest);
+        return Err(HttpRefusal::BadRequest);
     };
     let method = request.method.of(head);
     let target = request.path.of(head);
@@ -63,16 +63,16 @@ fn head_of<'a>(
     method: &[u8],
     target: &'a [u8],
     fields: &[HeaderSpan],
-) -> Result<Head<'a>, Refusal>
+) -> Result<Head<'a>, HttpRefusal>
     requires { All (IsHeaderWithin (length head.now)) fields.now }
     ensures { read_view result
         ≡ head_of method.now target.now (map (header_bytes head.now) fields.now) }
 {
     let Some(path) = routes.path_of(target) else {
-        return Err(Refusal::NotFound);
+        return Err(HttpRefusal::NotFound);
     };
     let Some(action) = path.action(method) else {
-        return Err(Refusal::MethodNotAllowed(path.methods()));
+        return Err(HttpRefusal::MethodNotAllowed(path.methods()));
     };
     let body_length = body_length(head, fields, action.takes_body())?;
     Ok(Head {

@@ -2,7 +2,7 @@
 -- and exports are sent as CSV, everything else in JSON.
 use Rattle.std.specs.Prelude.{◌≡◌, ◌≢◌, ℕ, List, ◌++◌, codes}
 use Rattle.http_messages.specs.ResponseText.{fault_text, refused_status, response_text, status_line}
-use Rattle.http_messages.specs.declared.refusal.Refusal.{Refusal}
+use Rattle.http_messages.specs.declared.refusal.HttpRefusal.{HttpRefusal}
 use Rattle.http_messages.specs.declared.response.ContentType.{ContentType}
 use Rattle.http_messages.specs.declared.response.ContentType.TheVariants.{Csv, Json}
 use Rattle.http_messages.specs.declared.status.Status.{Status}
@@ -18,7 +18,7 @@ abbrev pub json_response : Status → List ℕ → List ℕ
 json_response status body = response_text status Json body
 
 -- a fault of the protocol
-abbrev pub refusal_response : Refusal → List ℕ
+abbrev pub refusal_response : HttpRefusal → List ℕ
 refusal_response refusal = json_response (refused_status refusal) (fault_text (refused_status refusal))
 
 -- a request with a fault

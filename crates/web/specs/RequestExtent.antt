@@ -1,6 +1,6 @@
 -- How much of a request was read before it was answered.
 use Rattle.std.specs.Prelude.{◌≡◌, ◌⊎◌, ℕ, List, Option}
-use Rattle.http_messages.specs.declared.refusal.Refusal.{Refusal}
+use Rattle.http_messages.specs.declared.refusal.HttpRefusal.{HttpRefusal}
 use Rattle.requests.specs.HttpRequests.{IsMessage, ReadsHttp, refused}
 use Rattle.requests.specs.RequestHeads.{Head}
 use Rattle.web.specs.HttpResponses.{unavailable_response}
@@ -11,4 +11,4 @@ use Rattle.web.specs.declared.http.Extent.TheVariants.{Part, Whole}
 abbrev pub HasExtent : ℕ → List ℕ → List ℕ → Extent → Type 0
 HasExtent day bytes text Whole = (said : Head) × (body : Option (List ℕ)) × IsMessage bytes said body
 HasExtent day bytes text Part =
-    ((refusal : Refusal) × ReadsHttp day bytes (refused refusal)) ⊎ (text ≡ unavailable_response)
+    ((refusal : HttpRefusal) × ReadsHttp day bytes (refused refusal)) ⊎ (text ≡ unavailable_response)

@@ -9,7 +9,7 @@ ghost use Rattle.web.specs.steps.HttpAnswering.{ReadsNext, extent_of};
 
 use super::Extent;
 use addr::Day;
-use http_messages::{BodyFault, ContentType, HeadFault, Refusal, read_body, read_head};
+use http_messages::{BodyFault, ContentType, HeadFault, HttpRefusal, read_body, read_head};
 use registry::Asked;
 use requests::{Head, LineFault, Malformed, Routes, read_http_request, read_request_head};
 use std::alloc::Global;
@@ -18,7 +18,7 @@ use streams::Source;
 /// What a connection asks for. It borrows nothing of the bytes that were read.
 #[derive(Debug, Drop)]
 pub(super) enum Next {
-    Refused(Refusal),
+    Refused(HttpRefusal),
     Malformed(Malformed),
     /// A request, and the form in which it wants a list.
     Asked(ContentType, Asked),
@@ -54,7 +54,7 @@ pub(super) fn read_next<S: Source>(alloc: Global, source: &mut S, day: Day) -> O
     };
     let head = match read_head(source) {
         Ok(head) => head,
-        Err(HeadFault::TooLong) => return Some(Next::Refused(Refusal::BadRequest)),
+        Err(HeadFault::TooLong) => return Some(Next::Refused(HttpRefusal::BadRequest)),
         Err(HeadFault::CutShort) => return None,
     };
     match read_request_head(&routes, head.as_slice()) {

@@ -9,7 +9,7 @@ use super::body::reply_body;
 use super::reading::Next;
 use crate::reply::{short_text, unavailable_text};
 use desk::{Desk, Reply};
-use http_messages::{ContentType, Refusal, Status, fault_text, write_response};
+use http_messages::{ContentType, HttpRefusal, Status, fault_text, write_response};
 use sqlite::Alter;
 use std::alloc::Global;
 use streams::{Drain, Failed};
@@ -58,7 +58,7 @@ fn write_json<D: Drain>(drain: &mut D, status: Status, text: &str) -> Result<(),
 }
 
 /// Writes the response to what the protocol refuses.
-fn write_refusal<D: Drain>(drain: &mut D, refusal: Refusal) -> Result<(), Failed>
+fn write_refusal<D: Drain>(drain: &mut D, refusal: HttpRefusal) -> Result<(), Failed>
     ensures ok { OnOk result
         (D.written drain.new ≡ D.written drain.old ++ refusal_response refusal) }
     ensures err { OnErr result (AppendsBeginning (D.written drain.old) (D.written drain.new)

@@ -1,12 +1,12 @@
 use Rattle.std.proofs.Common.{refl, sym, ◌∙◌}
 use Rattle.csv.specs.Records.{fields_of}
-use Rattle.csv_records.proofs.ImportLemmas.{row_in-five}
+use Rattle.csv_records.proofs.ImportLemmas.{row_in_fields-five}
 use Rattle.csv_records.proofs.imports.read_row.Goals as goal
 
 pub returns : goal.returns
 returns c =
     rw (
-      row_in-five (fields_of c.args.row.now) (sym c.len.ensures ∙ c.if-len-ne5.false),
+      row_in_fields-five (fields_of c.args.row.now) (sym c.len.ensures ∙ c.if-len-ne5.false),
       c.row_of.ensures,
       c.asn_in.ensures,
       c.prefix_in.ensures,

@@ -2,7 +2,7 @@ use Rattle.std.proofs.Common.{◌++◌, ◌∷◌, [], ◌∙◌, ap, sym, appen
 use Rattle.json_values.proofs.PartsLemmas.{each-append}
 use Rattle.csv_records.specs.CsvRecords.{current, records_left}
 use Rattle.csv_records.specs.Imports.{import_fault_number}
-use Rattle.csv_records.specs.steps.Importing.{row_in}
+use Rattle.csv_records.specs.steps.Importing.{row_in_fields}
 use Rattle.csv_records.proofs.imports.read_rows.Goals as goal
 
 pub loop-gathered-preserved : goal.loop-gathered-preserved
@@ -17,5 +17,5 @@ loop-gathered-preserved c =
           ∙ sym (append_assoc done (row ∷ []) (records_left c.advance.new.self));
       read =
           rw (c.in_ok-add.ensures, c.loop-gathered.invariant.read, c.read_row.ensures, c.row.ensures)
-          (sym (each-append import_fault_number row_in done row));
+          (sym (each-append import_fault_number row_in_fields done row));
     }

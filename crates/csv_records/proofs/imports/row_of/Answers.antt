@@ -4,7 +4,7 @@ use Rattle.csv_records.proofs.imports.row_of.Goals as goal
 pub returns : goal.returns
 returns c =
     rw (
-      c.import_row.ensures,
+      c.row_of_parts.ensures,
       c.both-2.ensures,
       c.both-first_day.ensures,
       c.both-vrp.ensures,
