@@ -79,6 +79,43 @@ fn ask<S: Alter>(alloc: Global, desk: &mut Desk<S>, request: &str) -> Result<Str
     Ok(reply)
 }
 
+/// The requests as they are read from their lines.
+pub(crate) fn asked_requests(alloc: Global) -> Result<Vec<Asked>, Fail> {
+    let mut asked = Vec::new(alloc);
+    for row in &table_rows(alloc, REQUESTS)? {
+        let line = line_of(alloc, row.input)?;
+        let Ok(request) = read_line_request(alloc, line.as_bytes()) else {
+            return Err("no request".into());
+        };
+        asked.push(request)?;
+    }
+    Ok(asked)
+}
+
+/// The replies to all requests, a line each.
+pub(crate) fn first_replies(alloc: Global) -> Result<String, Fail> {
+    let mut text = String::new(alloc);
+    for row in &table_rows(alloc, REQUESTS)? {
+        let (first, _) = split_row(row.output)?;
+        text.push_str(first)?;
+        text.push('\n')?;
+    }
+    Ok(text)
+}
+
+/// The replies of each list, a line each.
+pub(crate) fn text_of(alloc: Global, lists: &[Vec<Reply>]) -> Result<String, Fail> {
+    let mut sheet = sheet_of(alloc, usize::MAX);
+    let mut drain = Device::new(&mut sheet);
+    for replies in lists {
+        for reply in replies {
+            write_reply(reply, &mut drain).map_err(|_| "not written")?;
+        }
+    }
+    drop(drain);
+    Ok(String::from_utf8(sheet.bytes)?)
+}
+
 /// How the requests of a run were answered.
 #[derive(Clone, Copy)]
 pub(crate) struct Answers {

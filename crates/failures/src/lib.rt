@@ -5,6 +5,10 @@
 #[cfg(test)]
 mod example_requests;
 #[cfg(test)]
+mod http_creates;
+#[cfg(test)]
+mod lives;
+#[cfg(test)]
 mod refusals;
 #[cfg(test)]
 mod refusing;

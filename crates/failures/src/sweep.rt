@@ -1,8 +1,12 @@
 //! Runs of desks over files of which one fails, and what is found when the files are opened again.
-use crate::example_requests::{REQUEST_COUNT, ask_first, count_found, example_charter};
+use crate::example_requests::{
+    Answers, COUNT_BEFORE_CREATE, REQUEST_COUNT, ask_first, count_found, example_charter,
+};
+use crate::http_creates::ask_until_create;
 use crate::refusing::Refusing;
 use desk::Desk;
-use sqlite::{Connection, FileStore};
+use desk_files::{open_files, stop};
+use sqlite::{Alter, Connection, FileStore};
 use sqlite_disk::{Crash, Disk, Files, Fuse, Memory};
 use sqlite_pager::Options;
 use std::alloc::Global;
@@ -84,28 +88,18 @@ fn file_of<D: FailingFile>(alloc: Global, bytes: &[u8]) -> Result<D, Fail> {
     Ok(D::failing(file, u64::MAX))
 }
 
-fn connect<D: Disk + Drop>(
-    alloc: Global,
-    files: Files<D>,
-    options: Options,
-) -> Option<Connection<FileStore<D>>> {
-    if !files.may_be_used() {
-        return None;
-    }
-    match Connection::open_files(alloc, files, options) {
-        Ok(conn) => Some(conn),
-        Err(_) => None,
-    }
-}
-
 /// A new desk; none where the disk failed before there was one.
 pub(crate) fn begin<D: Disk + Drop>(
     alloc: Global,
     files: Files<D>,
     options: Options,
 ) -> Result<Option<Desk<FileStore<D>>>, Fail> {
-    let Some(conn) = connect(alloc, files, options) else {
+    if !files.may_be_used() {
         return Ok(None);
+    }
+    let conn = match Connection::open_files(alloc, files, options) {
+        Ok(conn) => conn,
+        Err(_) => return Ok(None),
     };
     match Desk::create_on(alloc, conn, &example_charter(alloc)?) {
         Ok(desk) => Ok(Some(desk)),
@@ -120,11 +114,44 @@ fn found_in<D: Disk + Drop>(
     files: Files<D>,
     options: Options,
 ) -> Result<usize, Fail> {
-    let conn = connect(alloc, files, options).ok_or("files that are refused")?;
-    let Ok(mut desk) = Desk::open_from(alloc, conn) else {
+    if !files.may_be_used() {
+        return Err("files that are refused".into());
+    }
+    let Ok(mut desk) = open_files(alloc, files, options) else {
         return Err("a desk that is refused".into());
     };
     count_found(rt, alloc, &mut desk)
+}
+
+/// What a run asks of its desk.
+#[derive(Clone, Copy)]
+pub(crate) enum Course {
+    /// All requests, as lines.
+    Lines,
+    /// Those before the create as lines, and the create over HTTP.
+    HttpCreate,
+}
+
+impl Course {
+    /// How many requests there are.
+    fn count(self) -> usize {
+        match self {
+            Course::Lines => REQUEST_COUNT,
+            Course::HttpCreate => COUNT_BEFORE_CREATE.saturating_add(1),
+        }
+    }
+
+    fn ask<S: Alter>(
+        self,
+        rt: &impl Abort,
+        alloc: Global,
+        desk: &mut Desk<S>,
+    ) -> Result<Answers, Fail> {
+        match self {
+            Course::Lines => ask_first(rt, alloc, desk, REQUEST_COUNT),
+            Course::HttpCreate => ask_until_create(rt, alloc, desk),
+        }
+    }
 }
 
 /// Runs of desks on disks that fail, and what they met.
@@ -132,6 +159,7 @@ fn found_in<D: Disk + Drop>(
 pub(crate) struct Sweep {
     alloc: Global,
     options: Options,
+    course: Course,
     /// How many runs ended before there was a desk.
     pub(crate) without_desk: usize,
     /// The requests that were answered only when they were asked again.
@@ -143,10 +171,11 @@ pub(crate) struct Sweep {
 }
 
 impl Sweep {
-    pub(crate) fn new(alloc: Global, options: Options) -> Sweep {
+    pub(crate) fn new(alloc: Global, options: Options, course: Course) -> Sweep {
         Sweep {
             alloc,
             options,
+            course,
             without_desk: 0,
             delayed: Vec::new(alloc),
             kept: Vec::new(alloc),
@@ -198,13 +227,13 @@ impl Sweep {
             self.without_desk = self.without_desk.saturating_add(1);
             return Ok(true);
         };
-        let answers = ask_first(rt, self.alloc, &mut desk, REQUEST_COUNT)?;
+        let answers = self.course.ask(rt, self.alloc, &mut desk)?;
         if let Some(request) = answers.delayed {
             self.delayed.push(request)?;
         }
-        let mut files = desk.close().into_store().close();
+        let mut files = stop(desk);
         let has_failed = files.log.has_failed() || files.db.has_failed();
-        assert!(rt; has_failed || answers.count == REQUEST_COUNT);
+        assert!(rt; has_failed || answers.count == self.course.count());
         self.open_both(rt, files, answers.count)?;
         Ok(has_failed)
     }
@@ -224,15 +253,17 @@ impl Sweep {
         Err("a run that does not end".into())
     }
 
-    /// Either file fails at each of its calls. Each request was found in some run, and not in another.
+    /// Either file fails at each of its calls.
     pub(crate) fn fail_both<D: FailingFile + Drop>(&mut self, rt: &impl Abort) -> Result<(), Fail> {
         self.fail_each_call::<D>(rt, true)?;
         self.fail_each_call::<D>(rt, false)?;
         assert!(rt; self.without_desk > 0);
-        for request in 0..REQUEST_COUNT {
-            assert!(rt; self.kept.contains(&request), "{request} kept");
-            assert!(rt; self.lost.contains(&request), "{request} lost");
-        }
         Ok(())
+    }
+
+    /// The request was in progress at a stop and found in some run, and not in another.
+    pub(crate) fn assert_stopped_at(&self, rt: &impl Abort, request: usize) {
+        assert!(rt; self.kept.contains(&request), "{request} kept");
+        assert!(rt; self.lost.contains(&request), "{request} lost");
     }
 }
