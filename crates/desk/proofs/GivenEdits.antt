@@ -121,7 +121,7 @@ module _ (rows : AllRows) (change : HolderChange) (mine : Rows) (day : ℕ) (v :
   -- an authorization that gives what an ended one gave is that one
   is_ended : (h : List ℕ) (r : Rows) (x : Auth) → rows.of_holder h ≡ Some r → Contains r.auths x → IsVrpOf x v → AreGivingOn (ended change.edit mine.auths) day v
       → (same_name change.holder h ≡ true) × (ends change.edit x.number ≡ true)
-  is_ended h r x was there is (y, among, from, until, also) =
+  is_ended h r x was there is (y, among, (from, until, also)) =
       let it = has_filtered (λ z. ends change.edit z.number) mine.auths y (has_contained _ y among) in
       let one = once h change.holder r mine x y v was of there (contains_had mine.auths y it.0) is also in
       (ap (same_name change.holder) one.0 ∙ same_name-same change.holder, subst (λ (z : Auth). ends change.edit z.number ≡ true) (sym one.1) it.1)
@@ -137,7 +137,7 @@ module _ (rows : AllRows) (change : HolderChange) (mine : Rows) (day : ℕ) (v :
         let here : Some mine ≡ Some new.0 = sym of ∙ ap rows.of_holder new.2 ∙ new.1 in
         let same : new.0 ≡ mine = cc in
         let among : Has (begun_beside change.edit mine.auths) x = subst (λ (s : Rows). Has (begun_beside change.edit s.auths) x) same new.3 in
-        inr (x, contains_had _ x among, from, until, is)
+        inr (x, contains_had _ x among, (from, until, is))
   ]
 
   -- the rows of the holder after the edit
@@ -156,12 +156,12 @@ module _ (rows : AllRows) (change : HolderChange) (mine : Rows) (day : ℕ) (v :
       go : (same : Bool) → same_name change.holder h ≡ same → (over : Bool) → ends change.edit x.number ≡ over → IsGivenOn (changed_rows (Holders change None) rows) day v
       go false differ over ending = (h, r, x, rows_stay rows change h differ ∙ was, there, from, until, is)
       go true same true ending =
-          absurd (none (x, contains_had _ x (has_kept (λ z. ends change.edit z.number) mine.auths x (in_mine same) ending), from, until, is))
+          absurd (none (x, contains_had _ x (has_kept (λ z. ends change.edit z.number) mine.auths x (in_mine same) ending), (from, until, is)))
       go true same false on =
           (h, edited change.edit mine, x, edited_rows h same, contains_had _ x (stays change.edit mine x (in_mine same) on), from, until, is)
 
   begun_given : AreGivingOn (begun_beside change.edit mine.auths) day v → IsGivenOn (changed_rows (Holders change None) rows) day v
-  begun_given (x, among, from, until, is) = (
+  begun_given (x, among, (from, until, is)) = (
     change.holder,
     edited change.edit mine,
     x,
@@ -202,7 +202,7 @@ begun_moved (Amend y) xs ys same x has = go (list_any (λ w. w.number == y.numbe
 begun_moved _ xs ys same x none = absurd none
 
 giving_moved : (xs ys : List Auth) (day : ℕ) (v : Vrp) → ((x : Auth) → Has xs x → Has ys x) → AreGivingOn xs day v → AreGivingOn ys day v
-giving_moved xs ys day v moved (x, among, from, until, is) = (x, contains_had ys x (moved x (has_contained xs x among)), from, until, is)
+giving_moved xs ys day v moved (x, among, gives) = (x, contains_had ys x (moved x (has_contained xs x among)), gives)
 
 after_moved : (edit : Edit) (xs ys : List Auth) (day : ℕ) (given : Type 0) (v : Vrp) → IsPermutation xs ys → IsGivenAfter edit xs day given v → IsGivenAfter edit ys day given v
 after_moved edit xs ys day given v same (inl still) =
