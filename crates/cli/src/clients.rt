@@ -121,6 +121,25 @@ pub(crate) fn answers_to(
     Ok(answers)
 }
 
+/// The desk serves this many connections over the network. The lines on them.
+pub(crate) fn serve_over<R: Clock, N: Network, S: Alter>(
+    rt: &HostRuntime,
+    clock: &R,
+    network: &mut N,
+    count: u32,
+    desk: &mut Desk<S>,
+    day: Day,
+) -> Result<Vec<u8>, Fail> {
+    let mut errors = Vec::new(rt.alloc());
+    let mut connections = Incoming::new(clock, network, "127.0.0.1:0");
+    let mut log = Printed::new(&mut errors);
+    connections.listen()?;
+    let Ok(()) = serve_on(rt.alloc(), &mut connections, count, desk, day, &mut log) else {
+        return Err(io::Error::from(ErrorKind::Other).into());
+    };
+    Ok(errors)
+}
+
 /// Each client connects and sends its text, the desk serves them all, and each client reads.
 pub(crate) fn serve<R: Clock, S: Alter>(
     rt: &HostRuntime,
@@ -131,15 +150,8 @@ pub(crate) fn serve<R: Clock, S: Alter>(
     after: AfterText,
 ) -> Result<Served, Fail> {
     let mut callers = Callers::new(rt, texts, after);
-    let mut errors = Vec::new(rt.alloc());
     let count = u32::try_from(texts.len()).unwrap_or(u32::MAX);
-    let mut connections = Incoming::new(clock, &mut callers, "127.0.0.1:0");
-    let mut log = Printed::new(&mut errors);
-    connections.listen()?;
-    let Ok(()) = serve_on(rt.alloc(), &mut connections, count, desk, day, &mut log) else {
-        return Err(io::Error::from(ErrorKind::Other).into());
-    };
-    drop(connections);
+    let errors = serve_over(rt, clock, &mut callers, count, desk, day)?;
     let answers = answers_to(rt, &mut callers.clients)?;
     Ok(Served { answers, errors })
 }

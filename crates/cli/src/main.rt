@@ -125,7 +125,15 @@ fn run_serve_task<C: Connections>(
     let (files, options) = files_at(rt, database, Unknown)?;
     let mut errors = rt.stderr();
     let mut log = Printed::new(&mut errors);
-    match serve_files(rt.alloc(), files, options, connections, count, day, &mut log) {
+    match serve_files(
+        rt.alloc(),
+        files,
+        options,
+        connections,
+        count,
+        day,
+        &mut log,
+    ) {
         Ok(_) => Ok(()),
         Err(fault) => Err(fault_of_serve(&fault)),
     }

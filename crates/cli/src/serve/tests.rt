@@ -6,9 +6,9 @@ ghost use Rattle.std.specs.Time.{instant_nanos};
 mod clocks;
 mod sockets;
 
-use super::{answer_each, serve_on};
-use crate::clients::{AfterText, Bound, CHARTER, CREATE, SETUP, request, serve};
-use crate::serve::connections::{AnswerConnections, Connections, Incoming, answer_in_time};
+use super::answer_each;
+use crate::clients::{AfterText, Bound, CHARTER, CREATE, SETUP, request, serve, serve_over};
+use crate::serve::connections::{AnswerConnections, Connections, answer_in_time};
 use crate::serve::log::Printed;
 use crate::serve::peer::Peer;
 use addr::Day;
@@ -147,15 +147,8 @@ fn a_response_arrives_whose_request_is_long(rt: HostRuntime) -> Result<(), Fail>
             text.push('a')?;
         }
         let clock = Sending::new(&client, text.as_bytes())?;
-        let mut errors = Vec::new(rt.alloc());
         let mut network = Bound(Some(listener));
-        let mut connections = Incoming::new(&clock, &mut network, "");
-        let mut log = Printed::new(&mut errors);
-        connections.listen()?;
-        assert_eq!(rt;
-            serve_on(rt.alloc(), &mut connections, 1, &mut desk, day, &mut log),
-            Ok(())
-        );
+        let errors = serve_over(&rt, &clock, &mut network, 1, &mut desk, day)?;
         assert_eq!(rt; errors.len(), 0, "{head}");
         client.set_nonblocking(false)?;
         let mut answer = String::new(rt.alloc());
