@@ -1,6 +1,6 @@
 -- What a crash may leave after a request.
 use Rattle.std.proofs.Common.{◌≡◌, inl, inr, ℕ, ◌+◌, ◌<◌, true, false, List, [], ◌∷◌, ◌++◌, length, get_or, take, arith, refl, sym, subst}
-use Rattle.std.specs.Prelude.{Contains}
+use Rattle.std.specs.Prelude.{Contains, IfSome, Option, None}
 use Rattle.std.proofs.lemmas.Bool.{true≢false}
 use Rattle.std.proofs.lemmas.List.Elements.{Contains-append_right}
 use Rattle.sqlite.specs.Store.{Ghosts}
@@ -22,13 +22,14 @@ use Rattle.database.specs.Databases.{IsDeskTrees}
 use Rattle.store.specs.StoreRows.{HoldsAfter, IsRead, MayLeave, LeavesOnly}
 use Rattle.desk.specs.Answer.{is_accepted, AnswersCommand, AnswersRequest}
 use Rattle.desk.specs.CrashOutcomes.{asked_on, AreKept, IsKept, LeavesAlong, MayBeLeft, pending_after, pending_after_all}
-use Rattle.desk.specs.Desk.{charter_of, HoldsHistory, IsOnCleanDisk}
+use Rattle.desk.specs.Desk.{charter_of, HoldsHistory, HoldsRowsOf, IsDayOf, IsOnCleanDisk}
 use Rattle.desk.specs.Run.{Runs}
 use Rattle.desk.specs.declared.handling.Desk.{Desk}
 use Rattle.desk.specs.declared.reply.Reply.{Reply}
 use Rattle.desk.specs.declared.reply.Reply.TheVariants.{Denied, Done, Imported, Unavailable}
 use Rattle.desk.specs.steps.Accepting.{AnswersAccepted}
-use Rattle.desk.proofs.DeskLemmas.{rows_carried, still_held}
+use Rattle.kept.specs.KeptDay.{KeptDay}
+use Rattle.desk.proofs.DeskLemmas.{rows_carried}
 use Rattle.desk.proofs.RunLemmas.{Runs-append, taken_more}
 
 -- the newest of the pending requests
@@ -107,7 +108,7 @@ module _ {S : Type 0} (g : Ghosts S) where
 
   -- a change that failed may be found made
   failed_leaves : (history : History) (day : ℕ) (caller : List ℕ) (command : Command) (change : Change) (reply : Reply) (old mid new : Desk S)
-      → IsRead g old.store mid.store → IsOnCleanDisk g mid → HoldsHistory g mid history
+      → IsRead g old.store mid.store → IsOnCleanDisk g mid → HoldsRowsOf g mid history
       → IsAccepted (charter_of old) history day caller command change → AnswersAccepted command change reply → is_accepted reply ≡ true
       → MayLeave g mid.store new.store (changed_rows change)
       → LeavesAlong g (charter_of old) old history (λ pending. asked_on day caller (CommandRequest command) ∷ pending) new history
@@ -120,7 +121,7 @@ module _ {S : Type 0} (g : Ghosts S) where
 
   -- a change that was made is left alone
   made_leaves : (history : History) (day : ℕ) (caller : List ℕ) (command : Command) (change : Change) (to : List Asked → List Asked) (old mid new : Desk S)
-      → IsRead g old.store mid.store → HoldsHistory g mid history
+      → IsRead g old.store mid.store → HoldsRowsOf g mid history
       → (accepted : IsAccepted (charter_of old) history day caller command change)
       → LeavesOnly g mid.store new.store (changed_rows change)
       → LeavesAlong g (charter_of old) old history to new accepted.after
@@ -136,7 +137,7 @@ module _ {S : Type 0} (g : Ghosts S) where
   -- a request that was not accepted, after a read
   pub read_kept : (history : History) (asked : Asked) (reply : Reply) (old new : Desk S) → is_accepted reply ≡ false
       → IsRead g old.store new.store → IsOnCleanDisk g new → IsLegal (charter_of old) history
-      → AnswersRequest (charter_of old) history asked.day asked.caller asked.request reply history → HoldsHistory g old history
+      → AnswersRequest (charter_of old) history asked.day asked.caller asked.request reply history → HoldsHistory g new history
       → IsKept g (charter_of old) history asked reply old new
   read_kept history asked reply old new not read clean legal answers held = record {
     answered = record {
@@ -144,14 +145,14 @@ module _ {S : Type 0} (g : Ghosts S) where
       legal = legal;
       values = λ fit. fit;
       answers = answers;
-      rows_after = still_held g old new history read.rows clean held;
+      rows_after = held;
     };
     left = read_leaves old new history asked reply not read clean;
   }
 
   -- a command whose change failed
   pub failed_kept : (history : History) (day : ℕ) (caller : List ℕ) (command : Command) (change : Change) (reply : Reply) (old mid new : Desk S)
-      → IsRead g old.store mid.store → IsOnCleanDisk g mid → IsLegal (charter_of old) history → HoldsHistory g mid history → HoldsHistory g new history
+      → IsRead g old.store mid.store → IsOnCleanDisk g mid → IsLegal (charter_of old) history → HoldsRowsOf g mid history → HoldsHistory g new history
       → IsAccepted (charter_of old) history day caller command change → AnswersAccepted command change reply → is_accepted reply ≡ true
       → MayLeave g mid.store new.store (changed_rows change)
       → IsKept g (charter_of old) history (asked_on day caller (CommandRequest command)) Unavailable old new
@@ -162,17 +163,22 @@ module _ {S : Type 0} (g : Ghosts S) where
 
   -- a command that was accepted, whose change was made
   pub accepted_kept : GrowthIsLegal → GrowthFits → (history : History) (day : ℕ) (caller : List ℕ) (command : Command) (change : Change) (reply : Reply) (old mid new : Desk S)
-      → EntryFits (record { day = day; caller = caller; command = command }) → IsRead g old.store mid.store → IsLegal (charter_of old) history → HoldsHistory g mid history
+      → EntryFits (record { day = day; caller = caller; command = command }) → IsRead g old.store mid.store → IsLegal (charter_of old) history → HoldsRowsOf g mid history
       → IsAccepted (charter_of old) history day caller command change → AnswersAccepted command change reply
-      → HoldsAfter g mid.store new.store (changed_rows change) → LeavesOnly g mid.store new.store (changed_rows change)
+      → HoldsAfter g mid.store new.store (changed_rows change) → LeavesOnly g mid.store new.store (changed_rows change) → new.kept ≡ None
       → IsKept g (charter_of old) history (asked_on day caller (CommandRequest command)) reply old new
-  accepted_kept grown fits history day caller command change reply old mid new values read legal held accepted answers applied only = record {
+  accepted_kept grown fits history day caller command change reply old mid new values read legal held accepted answers applied only none = record {
     answered = record {
       after = accepted.after;
       legal = grown (charter_of old) history day caller command accepted.after legal accepted.leaves;
       values = λ fit. fits (charter_of old) history day caller command accepted.after values fit accepted.leaves;
       answers = answers (charter_of old) history day caller accepted;
-      rows_after = (changed_rows change held.0, rows_carried (charter_of old) history day caller command change held.0 accepted held.1, applied held.0 held.2);
+      rows_after = (
+        changed_rows change held.0,
+        rows_carried (charter_of old) history day caller command change held.0 accepted held.1,
+        applied held.0 held.2,
+        λ _ _. subst (λ (kept : Option KeptDay). IfSome kept (IsDayOf accepted.after)) (sym none) tt,
+      );
     };
     left = made_leaves history day caller command change (pending_after (asked_on day caller (CommandRequest command)) reply) old mid new read held accepted only;
   }

@@ -16,7 +16,7 @@ use Rattle.registry.specs.declared.asked.Request.TheVariants.{Command as Command
 use Rattle.desk.specs.declared.reply.Reply.{Reply}
 use Rattle.desk.specs.declared.reply.Reply.TheVariants.{Denied as DeniedReply, Done, Imported, Unavailable}
 use Rattle.desk.specs.declared.handling.Desk.{Desk}
-use Rattle.desk.specs.Desk.{charter_of, HoldsHistory, IsOnCleanDisk, KeepsRows, OfHistories}
+use Rattle.desk.specs.Desk.{charter_of, HoldsRowsOf, IsOnCleanDisk, KeepsRows, OfHistories, OfRows}
 use Rattle.desk.specs.HolderAnswers.{may_change, may_except, KeepsOthers}
 use Rattle.desk.specs.steps.Accepting.{AnswersAccepted}
 use Rattle.sqlite.specs.Store.{Ghosts}
@@ -84,7 +84,7 @@ rows_carried charter history day caller command change rows accepted has = recor
 
 module _ {S : Type 0} (g : Ghosts S) where
   -- where the rows are kept, those of a history are
-  pub still_held : (old new : Desk S) (history : History) → KeepsRows g old new → IsOnCleanDisk g new → HoldsHistory g old history → HoldsHistory g new history
+  pub still_held : (old new : Desk S) (history : History) → KeepsRows g old new → IsOnCleanDisk g new → HoldsRowsOf g old history → HoldsRowsOf g new history
   still_held old new history keeps clean held = (held.0, held.1, keeps clean held.0 held.2)
 
   pub read_then : (a b c : StoreView S) → IsRead g a b → IsRead g b c → IsRead g a c
@@ -99,12 +99,18 @@ module _ {S : Type 0} (g : Ghosts S) where
   -- what was found of the rows is so of the histories
   pub of_held : {X E : Type 0} (so : X → AllRows → Type 0) (is : X → History → Type 0) (old new : Desk S)
       → ((x : X) (rows : AllRows) (history : History) → IsLegal (charter_of old) history → HasRows rows history → so x rows → is x history)
-      → (r : Result X E) → IfClean g new.store (IfOk r (λ x. OfHeldRows g old.store (so x))) → IfOk r (λ x. OfHistories g old new (is x))
+      → (r : Result X E) → IfClean g new.store (IfOk r (λ x. OfHeldRows g old.store (so x))) → IfOk r (λ x. OfRows g old new (is x))
   of_held so is old new turn (Ok x) found = λ clean history legal held. turn x held.0 history legal held.1 (found clean held.0 held.2)
   of_held so is old new turn (Err e) found = tt
 
+  -- what is so of the histories of the rows is so of those that the desk held
+  pub of_rows : {X E : Type 0} (is : X → History → Type 0) (old new : Desk S) (r : Result X E)
+      → IfOk r (λ x. OfRows g old new (is x)) → IfOk r (λ x. OfHistories g old new (is x))
+  of_rows is old new (Ok x) found = λ clean history legal held. found clean history legal (held.0, held.1, held.2)
+  of_rows is old new (Err e) found = tt
+
   -- what is found after a first read is so of the histories before it
-  pub found_later : (so : History → Type 0) (old mid new : Desk S) → IsRead g old.store mid.store → IsRead g mid.store new.store → OfHistories g mid new so → OfHistories g old new so
+  pub found_later : (so : History → Type 0) (old mid new : Desk S) → IsRead g old.store mid.store → IsRead g mid.store new.store → OfRows g mid new so → OfRows g old new so
   found_later so old mid new first second found clean history legal held =
       found clean history (subst (λ (k : Charter). IsLegal k history) (sym first.charter) legal) (still_held old mid history first.rows (second.clean clean) held)
 

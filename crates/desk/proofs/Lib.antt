@@ -7,6 +7,7 @@ pub mod RunLemmas
 pub mod CrashLemmas
 pub mod ResumedLemmas
 pub mod DailyLemmas
+pub mod KeptLemmas
 pub mod ExportLemmas
 pub mod ExchangeLemmas
 pub mod GivenEdits

@@ -1,9 +1,13 @@
--- What a desk keeps: its charter, and in the tables of its store the rows of each holder and the
--- exceptions.
-use Rattle.std.specs.Prelude.{◌≡◌}
+-- What a desk keeps: its charter, in the tables of its store the rows of each holder and the exceptions,
+-- and beside them the VRPs of a day.
+use Rattle.std.specs.Prelude.{◌≡◌, ◌↔◌, false, Contains, IfSome}
+use Rattle.addr.specs.declared.vrp.Vrp.{Vrp}
+use Rattle.kept.specs.KeptDay.{KeptDay}
+use Rattle.payload.specs.VrpSet as set
 use Rattle.sqlite.specs.State.{State, HasCleanDisk}
 use Rattle.sqlite.specs.Store.{Ghosts}
 use Rattle.charters.specs.CharterSets.{IsCharter}
+use Rattle.registry.specs.DailyVrps.{IsVrpOn}
 use Rattle.registry.specs.History.{History}
 use Rattle.registry.specs.RowsOfAll.{AllRows, HasRows}
 use Rattle.registry.specs.Verdict.{IsLegal}
@@ -25,15 +29,36 @@ abbrev pub IsOnCleanDisk : {S : Type 0} → Ghosts S → Desk S → Type 0
 IsOnCleanDisk g desk = HasCleanDisk (connection_state g (store_of desk))
 
 -- the tables of the desk hold the rows of the history
-abbrev pub HoldsHistory : {S : Type 0} → Ghosts S → Desk S → History → Type 0
-HoldsHistory g desk history = (rows : AllRows) × HasRows rows history × Holds g (store_of desk) rows
+abbrev pub HoldsRowsOf : {S : Type 0} → Ghosts S → Desk S → History → Type 0
+HoldsRowsOf g desk history = (rows : AllRows) × HasRows rows history × Holds g (store_of desk) rows
 
--- it is so of each legal history whose rows the tables held before, where the disk returned what was
--- written
+-- the VRPs that are kept of a day are those of the history
+abbrev pub IsDayOf : History → KeptDay → Type 0
+IsDayOf history kept = (v : Vrp) → Contains (set.items kept.vrps) v ↔ IsVrpOn history kept.day v
+
+-- Of a shut connection the tables say nothing any more. There what is kept of a day is that of the history.
+abbrev pub KeepsWhileShut : {S : Type 0} → Ghosts S → Desk S → History → Type 0
+KeepsWhileShut g desk history =
+    IsOnCleanDisk g desk → (connection_state g (store_of desk)).is_open ≡ false
+    → IfSome desk.kept (IsDayOf history)
+
+-- the tables of the desk hold the rows of the history, and what is kept while they say nothing is of it too
+abbrev pub HoldsHistory : {S : Type 0} → Ghosts S → Desk S → History → Type 0
+HoldsHistory g desk history =
+    (rows : AllRows) × HasRows rows history × Holds g (store_of desk) rows × KeepsWhileShut g desk history
+
+-- it is so of each legal history that the desk held before, where the disk returned what was written
 abbrev pub OfHistories : {S : Type 0} → Ghosts S → Desk S → Desk S → (History → Type 0) → Type 0
 OfHistories g old new so =
     IsOnCleanDisk g new → (history : History) → IsLegal (charter_of old) history
     → HoldsHistory g old history → so history
+
+-- it is so of each legal history whose rows the tables held before, where the disk returned what was
+-- written
+abbrev pub OfRows : {S : Type 0} → Ghosts S → Desk S → Desk S → (History → Type 0) → Type 0
+OfRows g old new so =
+    IsOnCleanDisk g new → (history : History) → IsLegal (charter_of old) history
+    → HoldsRowsOf g old history → so history
 
 -- the tables hold the rows that they held
 abbrev pub KeepsRows : {S : Type 0} → Ghosts S → Desk S → Desk S → Type 0

@@ -5,5 +5,6 @@ pub mod Run
 pub mod AsDone
 pub mod HolderAnswers
 pub mod ContentText
+pub mod DeskView
 pub mod Desk
 pub mod steps

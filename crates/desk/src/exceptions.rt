@@ -12,7 +12,7 @@ use slurm::{Filter, FilterIndex, Slurm};
 use std::alloc::{AllocError, Global};
 
 /// The filters and the assertions of the SLURM file in force; none where there is no file.
-fn entries_of(files: &[Slurm]) -> (&[Filter], &[Vrp])
+pub(crate) fn entries_of(files: &[Slurm]) -> (&[Filter], &[Vrp])
     ensures { (exceptions : Exceptions) → AreFilesOf exceptions files.now
         → record { filters = result.0.now; assertions = result.1.now } ≡ exceptions }
 {

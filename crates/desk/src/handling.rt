@@ -18,7 +18,8 @@ ghost use Rattle.desk.specs.Run.{AreAnswered};
 ghost use Rattle.desk.specs.HolderAnswers.{may_change, may_change_any, may_except, may_except_any};
 ghost use Rattle.desk.specs.HolderAnswers.{IsAnswerByEntries, KeepsOthers, RunsByEntries};
 ghost use Rattle.desk.specs.Desk.{charter_of, store_of, ContinuesHistories, HoldsHistory};
-ghost use Rattle.desk.specs.Desk.{IsOnCleanDisk, KeepsRows, OfHistories};
+ghost use Rattle.desk.specs.Desk.{IsOnCleanDisk, KeepsRows, OfHistories, OfRows};
+ghost use Rattle.desk.specs.DeskView.{HoldsKept};
 
 mod commands;
 mod queries;
@@ -26,17 +27,32 @@ mod what_if;
 
 use crate::{Asked, Reply, Request};
 use addr::{Day, Name};
+use kept::Kept;
 use registry::{Charter, HolderRows};
 use sqlite::{Alter, Connection, MemStore};
 use std::alloc::{AllocError, Global};
+use std::marker::Model;
 use store::{Store, StoreFault};
 
 /// A route origin authorization desk over the tables of a store, with the charter that they were
-/// made with.
+/// made with. Beside the tables it may keep the VRPs of one day.
 #[derive(Drop)]
 pub struct Desk<S: Alter> {
     alloc: Global,
     store: Store<S>,
+    kept: Option<Kept>,
+}
+
+impl<S: Alter> Model for Desk<S> {
+    ghost use Rattle.desk.specs.DeskView.{desk_code, DeskView, HoldsKept};
+
+    ghost Value = { DeskView S };
+
+    ghost coded = { desk_code S.code };
+
+    ghost view = { λ desk. record { store = desk.store; kept = desk.kept } };
+
+    ghost invariant = { λ desk. HoldsKept S.Store desk.store desk.kept };
 }
 
 impl<S: Alter + Drop> Desk<S> {
@@ -63,7 +79,8 @@ impl<S: Alter + Drop> Desk<S> {
         ensures no_schema { result ≢ Err StoreFault.Schema }
     {
         let store = Store::create_on(conn, charter)?;
-        Ok(Desk { alloc, store })
+        let kept = None;
+        Ok(Desk { alloc, store, kept })
     }
 
     /// A desk over a database that has the tables of one, with the charter and the rows that they
@@ -118,7 +135,10 @@ impl<S: Alter + Drop> Desk<S> {
         // Its clause `live` is for the proof: what is shown obeys the schema.
         let _schema = conn.schema();
         match Store::open_or_return(alloc, conn) {
-            Ok(store) => Ok(Desk { alloc, store }),
+            Ok(store) => {
+                let kept = None;
+                Ok(Desk { alloc, store, kept })
+            }
             Err(refused) => Err(refused),
         }
     }
@@ -189,10 +209,18 @@ impl<S: Alter> Desk<S> {
         Ok(replies)
     }
 
+    /// For the proof alone: what is kept is of the rows that the tables hold.
+    fn keeps_its_rows(&self)
+        ensures { HoldsKept S.Store self.now.store self.now.kept }
+    {
+        let _kept = &self.kept;
+    }
+
     /// The rows of the holder; none where it is not registered.
     fn load(&mut self, holder: &Name) -> Result<Option<HolderRows>, StoreFault>
         ensures read { IsRead S.Store self.old.store self.new.store }
-        ensures rows { IfOk result (λ rows. OfHistories S.Store self.old self.new (λ history.
+        ensures same { self.new.kept ≡ self.old.kept }
+        ensures rows { IfOk result (λ rows. OfRows S.Store self.old self.new (λ history.
             RowsIfAny history holder.now (rows_if_any rows))) }
     {
         store::laws::rows_of_a_history();
@@ -219,6 +247,7 @@ impl Desk<MemStore> {
         ensures no_schema { result ≢ Err StoreFault.Schema }
     {
         let store = Store::open_memory(alloc, charter)?;
-        Ok(Desk { alloc, store })
+        let kept = None;
+        Ok(Desk { alloc, store, kept })
     }
 }

@@ -1,11 +1,12 @@
 //! Commands: judged on the rows, then made.
-ghost use Rattle.std.specs.Prelude.{◌≡◌, true, false, option_copied, IfOk, IfErr, MatchResult};
+ghost use Rattle.std.specs.Prelude.{◌≡◌, true, false, option_copied, None, IfOk, IfErr, MatchResult, OnOk, OnErr};
 ghost use Rattle.registry.specs.Answer.{IsAccepted, IsViewOf, RowsOfNamed, ReportsTaken};
 ghost use Rattle.registry.specs.Rows.{rows_if_any, RowsIfAny};
-ghost use Rattle.store.specs.StoreRows.{IsRead};
+ghost use Rattle.registry.specs.RowsOfAll.{changed_rows};
+ghost use Rattle.store.specs.StoreRows.{HoldsAfter, IsRead, LeavesOnly, MayLeave};
 ghost use Rattle.desk.specs.Answer.{is_accepted, only_reads, AnswersCommand};
 ghost use Rattle.desk.specs.CrashOutcomes.{asked_on, IsKept, StaysOpen};
-ghost use Rattle.desk.specs.Desk.{charter_of, IsOnCleanDisk, KeepsRows, OfHistories};
+ghost use Rattle.desk.specs.Desk.{charter_of, IsOnCleanDisk, KeepsRows, OfHistories, OfRows};
 ghost use Rattle.desk.specs.HolderAnswers.{may_change, may_except, KeepsOthers};
 ghost use Rattle.desk.specs.steps.Accepting.{AnswersAccepted};
 
@@ -56,21 +57,46 @@ impl<S: Alter> Desk<S> {
         registry::laws::entry_fits(day, caller, command);
         histories::laws::growth_is_legal();
         histories::laws::growth_fits();
+        self.keeps_its_rows();
         let change = match self.decide(day, caller, command) {
             Ok(change) => change,
             Err(refused) => return refused,
         };
         let reply = accepted(command, &change);
-        match self.store.apply(&change) {
+        match self.apply(&change) {
             Ok(()) => reply,
             Err(_) => Reply::Unavailable,
         }
     }
 
+    /// Makes the change: all of it, or after a fault nothing. Where it is made, no day is kept any
+    /// more.
+    fn apply(&mut self, change: &Change) -> Result<(), StoreFault>
+        ensures charter { charter_of self.new ≡ charter_of self.old }
+        ensures limit { self.new.store.connection.step_limit
+            ≡ self.old.store.connection.step_limit }
+        ensures clean { IsOnCleanDisk S.Store self.new → IsOnCleanDisk S.Store self.old }
+        ensures ok { IsOnCleanDisk S.Store self.new → OnOk result
+            (HoldsAfter S.Store self.old.store self.new.store (changed_rows change.now)) }
+        ensures left { IsOnCleanDisk S.Store self.new → OnOk result
+            (LeavesOnly S.Store self.old.store self.new.store (changed_rows change.now)) }
+        ensures is_open { OnOk result (StaysOpen S.Store self.new) }
+        ensures dropped { OnOk result (self.new.kept ≡ None) }
+        ensures err { OnErr result (KeepsRows S.Store self.old self.new) }
+        ensures crash { IsOnCleanDisk S.Store self.new
+            → MayLeave S.Store self.old.store self.new.store (changed_rows change.now) }
+        ensures same { OnErr result (self.new.kept ≡ self.old.kept) }
+    {
+        self.store.apply(change)?;
+        self.kept.take();
+        Ok(())
+    }
+
     /// What the command does, or the reply that refuses it.
     fn decide(&mut self, day: Day, caller: &Name, command: &Command) -> Result<Change, Reply>
         ensures read { IsRead S.Store self.old.store self.new.store }
-        ensures answer { OfHistories S.Store self.old self.new (λ history. MatchResult result
+        ensures same { self.new.kept ≡ self.old.kept }
+        ensures answer { OfRows S.Store self.old self.new (λ history. MatchResult result
             (IsAccepted (charter_of self.old) history day caller.now command.now)
             (λ reply. AnswersCommand (charter_of self.old) history day caller.now command.now
             reply history)) }
@@ -101,7 +127,8 @@ impl<S: Alter> Desk<S> {
         taker: &Name,
     ) -> Result<(Option<HolderRows>, Option<HolderRows>), StoreFault>
         ensures read { IsRead S.Store self.old.store self.new.store }
-        ensures rows { IfOk result (λ both. OfHistories S.Store self.old self.new (λ history.
+        ensures same { self.new.kept ≡ self.old.kept }
+        ensures rows { IfOk result (λ both. OfRows S.Store self.old self.new (λ history.
             RowsIfAny history giver.now (rows_if_any both.0)
             × RowsIfAny history taker.now (rows_if_any both.1))) }
     {
@@ -112,7 +139,8 @@ impl<S: Alter> Desk<S> {
     /// What the command is judged on.
     fn view(&mut self, command: &Command) -> Result<View, StoreFault>
         ensures read { IsRead S.Store self.old.store self.new.store }
-        ensures view { IfOk result (λ view. OfHistories S.Store self.old self.new (λ history.
+        ensures same { self.new.kept ≡ self.old.kept }
+        ensures view { IfOk result (λ view. OfRows S.Store self.old self.new (λ history.
             IsViewOf history command.now view)) }
     {
         let holder = self.load_named(command.holder())?;
@@ -123,7 +151,8 @@ impl<S: Alter> Desk<S> {
     /// The rows of the holder, where the command names one.
     fn load_named(&mut self, holder: Option<&Name>) -> Result<Option<HolderRows>, StoreFault>
         ensures read { IsRead S.Store self.old.store self.new.store }
-        ensures rows { IfOk result (λ rows. OfHistories S.Store self.old self.new (λ history.
+        ensures same { self.new.kept ≡ self.old.kept }
+        ensures rows { IfOk result (λ rows. OfRows S.Store self.old self.new (λ history.
             RowsOfNamed history (option_copied holder.entry) (rows_if_any rows))) }
     {
         match holder {
@@ -135,7 +164,8 @@ impl<S: Alter> Desk<S> {
     /// Whether some address of a delegation's prefix is held; not looked up for another command.
     fn is_taken(&mut self, command: &Command) -> Result<bool, StoreFault>
         ensures read { IsRead S.Store self.old.store self.new.store }
-        ensures taken { IfOk result (λ taken. OfHistories S.Store self.old self.new (λ history.
+        ensures same { self.new.kept ≡ self.old.kept }
+        ensures taken { IfOk result (λ taken. OfRows S.Store self.old self.new (λ history.
             ReportsTaken history command.now taken)) }
     {
         match command {

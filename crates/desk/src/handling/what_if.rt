@@ -5,7 +5,7 @@ ghost use Rattle.payload.specs.VrpSet as set;
 ghost use Rattle.registry.specs.History.{History};
 ghost use Rattle.store.specs.StoreRows.{IsRead};
 ghost use Rattle.desk.specs.Answer.{is_accepted, states_now, states_after, AnswersWhatIf, AreStatesOn};
-ghost use Rattle.desk.specs.Desk.{charter_of, OfHistories};
+ghost use Rattle.desk.specs.Desk.{charter_of, OfRows};
 ghost use Rattle.desk.specs.steps.WhatIf.{Exchanges, WouldExchange};
 
 use super::Desk;
@@ -31,7 +31,8 @@ impl<S: Alter> Desk<S> {
         routes: &[Route],
     ) -> Result<Reply, StoreFault>
         ensures read { IsRead S.Store self.old.store self.new.store }
-        ensures answered { IfOk result (λ reply. OfHistories S.Store self.old self.new (λ history.
+        ensures same { self.new.kept ≡ self.old.kept }
+        ensures answered { IfOk result (λ reply. OfRows S.Store self.old self.new (λ history.
             AnswersWhatIf (charter_of self.old) history day caller.now holder.now changes.now
             routes.now reply)) }
         ensures never_done { IfOk result (λ reply. is_accepted reply ≡ false) }
@@ -56,7 +57,8 @@ impl<S: Alter> Desk<S> {
         changes: &[Proposed],
     ) -> Result<Exchange, Reply>
         ensures read { IsRead S.Store self.old.store self.new.store }
-        ensures found { OfHistories S.Store self.old self.new (λ history. MatchResult result
+        ensures same { self.new.kept ≡ self.old.kept }
+        ensures found { OfRows S.Store self.old self.new (λ history. MatchResult result
             (λ exchange. WouldExchange (charter_of self.old) history day caller.now holder.now
             changes.now (set.items exchange.removed) exchange.added.items)
             (λ reply. (routes : List Route) → AnswersWhatIf (charter_of self.old) history day
@@ -86,9 +88,10 @@ impl<S: Alter> Desk<S> {
         routes: &[Route],
     ) -> Result<Vec<(Validity, Validity)>, StoreFault>
         ensures read { IsRead S.Store self.old.store self.new.store }
-        ensures now { IfOk result (λ states. OfHistories S.Store self.old self.new (λ history.
+        ensures same { self.new.kept ≡ self.old.kept }
+        ensures now { IfOk result (λ states. OfRows S.Store self.old self.new (λ history.
             AreStatesOn history day routes.now (states_now states.items))) }
-        ensures after { IfOk result (λ states. OfHistories S.Store self.old self.new (λ history.
+        ensures after { IfOk result (λ states. OfRows S.Store self.old self.new (λ history.
             (after : History) → Exchanges history after day (set.items exchange.now.removed)
             exchange.now.added.items
             → AreStatesOn after day routes.now (states_after states.items))) }

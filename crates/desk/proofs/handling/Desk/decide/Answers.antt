@@ -1,4 +1,4 @@
-use Rattle.std.proofs.Common.{◌≡◌, ◌∙◌, Err, subst}
+use Rattle.std.proofs.Common.{◌≡◌, ap, ◌∙◌, Err, subst}
 use Rattle.std.proofs.lemmas.Result.{err_from_is_err_and}
 use Rattle.registry.specs.Answer.{IsAnswer}
 use Rattle.charters.specs.declared.charter.Charter.{Charter}
@@ -9,7 +9,7 @@ use Rattle.desk.proofs.handling.Desk.decide.Goals as goal
 pub returns-in_err-decide_two-clause-answer : goal.returns-in_err-decide_two-clause-answer
 returns-in_err-decide_two-clause-answer g c clean history legal held =
     let charter = charter_of c.args.self.now in
-    let same : c.charter-charter.result.now ≡ charter = c.charter-charter.ensures ∙ c.load_two.ensures.read.charter in
+    let same : c.charter-charter.result.now ≡ charter = c.charter-charter.ensures ∙ ap charter_of c.self.view_is ∙ c.load_two.ensures.read.charter in
     let rows = c.in_ok-giver.ensures.rows clean history legal held in
     let refused = err_from_is_err_and c.from_residual-in_err-decide_two.result c.from_residual-in_err-decide_two.ensures.1 in
     let answer = c.in_err-decide_two.ensures.answer history c.args.day (rw same legal) (rw (c.in-Transfer.is, c.as_ref.ensures.value) rows.0) (rw (c.in-Transfer.is, c.as_ref-in-Transfer.ensures.value) rows.1) in
@@ -18,6 +18,6 @@ returns-in_err-decide_two-clause-answer g c clean history legal held =
 
 pub returns-in_ok-decide_two-clause-answer : goal.returns-in_ok-decide_two-clause-answer
 returns-in_ok-decide_two-clause-answer g c clean history legal held =
-    let same : c.charter-charter.result.now ≡ charter_of c.args.self.now = c.charter-charter.ensures ∙ c.load_two.ensures.read.charter in
+    let same : c.charter-charter.result.now ≡ charter_of c.args.self.now = c.charter-charter.ensures ∙ ap charter_of c.self.view_is ∙ c.load_two.ensures.read.charter in
     let rows = c.in_ok-giver.ensures.rows clean history legal held in
     rw same at (c.in_ok-decide_two.ensures.answer history c.args.day (rw same legal) (rw (c.in-Transfer.is, c.as_ref.ensures.value) rows.0) (rw (c.in-Transfer.is, c.as_ref-in-Transfer.ensures.value) rows.1))

@@ -10,7 +10,8 @@ use Rattle.desk.proofs.handling.Desk.handle.Goals as goal
 pub returns-in-Query-clause-left : goal.returns-in-Query-clause-left
 returns-in-Query-clause-left g c clean history legal held =
     read_kept g.S.Store history (asked_on c.args.day c.args.caller.now c.args.request.now) c.answer.result c.args.self.now c.answer.new.self
-    c.answer.ensures.never_done c.answer.ensures.read clean legal (rw c.in-Query.is (c.answer.ensures.answered clean history legal held, refl)) held
+    c.answer.ensures.never_done c.answer.ensures.read clean legal (rw c.in-Query.is (c.answer.ensures.answered clean history legal held, refl))
+    (c.answer.ensures.held clean history legal held)
 
 pub returns-in-Query-clause-answered : goal.returns-in-Query-clause-answered
 returns-in-Query-clause-answered g c clean history legal held = (returns-in-Query-clause-left g c clean history legal held).answered

@@ -1,4 +1,4 @@
-use Rattle.std.proofs.Common.{◌≡◌, Err, sym, ◌∙◌, subst}
+use Rattle.std.proofs.Common.{◌≡◌, Err, sym, ap, ◌∙◌, subst}
 use Rattle.std.proofs.lemmas.Bool.{eqb-true}
 use Rattle.std.proofs.lemmas.Result.{err_from_is_err_and}
 use Rattle.payload.specs.VrpSet as set
@@ -17,7 +17,7 @@ returns-then-is_empty-clause-found g c clean history legal held =
 pub returns-in_err-rows-clause-found : goal.returns-in_err-rows-clause-found
 returns-in_err-rows-clause-found g c clean history legal held =
     let charter = charter_of c.args.self.now in
-    let same : c.charter-charter.result.now ≡ charter = c.charter-charter.ensures ∙ c.load.ensures.read.charter in
+    let same : c.charter-charter.result.now ≡ charter = c.charter-charter.ensures ∙ ap charter_of c.self-2.view_is ∙ c.load.ensures.read.charter in
     let rows = c.in_ok-load.ensures.rows clean history legal held in
     let refused = err_from_is_err_and c.from_residual-in_err-rows.result c.from_residual-in_err-rows.ensures.1 in
     let answer = c.in_err-rows.ensures history c.args.holder.now (rw same legal) rows in
@@ -26,7 +26,7 @@ returns-in_err-rows-clause-found g c clean history legal held =
 
 pub returns-clause-found : goal.returns-clause-found
 returns-clause-found g c clean history legal held =
-    let same : c.charter-charter.result.now ≡ charter_of c.args.self.now = c.charter-charter.ensures ∙ c.load.ensures.read.charter in
+    let same : c.charter-charter.result.now ≡ charter_of c.args.self.now = c.charter-charter.ensures ∙ ap charter_of c.self-2.view_is ∙ c.load.ensures.read.charter in
     let rows = c.in_ok-load.ensures.rows clean history legal held in
     let answer = rw same at (c.in_ok-rows.ensures history c.args.holder.now (rw same legal) rows) in
     would_exchange c.no_shared_vrp.ensures c.hypothetical_is_legal.ensures c.hypothetical_keeps_others.ensures (charter_of c.args.self.now)

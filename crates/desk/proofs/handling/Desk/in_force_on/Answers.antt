@@ -1,17 +1,12 @@
-use Rattle.desk.specs.Desk.{charter_of}
-use Rattle.desk.proofs.DeskLemmas.{read_then}
-use Rattle.desk.proofs.ExportLemmas.{in_force_on}
+use Rattle.desk.proofs.ExportLemmas.{found_in_force}
+use Rattle.desk.proofs.KeptLemmas.{kept_read}
 use Rattle.desk.proofs.handling.Desk.in_force_on.Goals as goal
 
-pub returns-in_err-files-clause-read : goal.returns-in_err-files-clause-read
-returns-in_err-files-clause-read g c = read_then g.S.Store c.args.self.now.store c.all_auths_on.new.self c.slurm_files.new.self c.all_auths_on.ensures.read c.slurm_files.ensures.read
-
-pub returns-clause-read : goal.returns-clause-read
-returns-clause-read g c = read_then g.S.Store c.args.self.now.store c.all_auths_on.new.self c.slurm_files.new.self c.all_auths_on.ensures.read c.slurm_files.ensures.read
+pub invariant_of-self : goal.invariant_of-self
+invariant_of-self g c = kept_read g.S.Store c.self.inside.store c.read_day.new.store c.self.inside.kept c.self.invariant c.read_day.ensures.read
 
 pub returns-clause-given : goal.returns-clause-given
-returns-clause-given g c clean history legal held =
-    let rows = held.0 in
-    let before = c.slurm_files.ensures.read.clean clean in
-    in_force_on (charter_of c.args.self.now) rows history legal held.1 c.args.day c.in_ok-vrps.vrps.items c.in_ok-files.files.items
-    (c.in_ok-vrps.ensures.found before rows held.2) (c.in_ok-files.ensures.found clean rows (c.all_auths_on.ensures.read.rows before rows held.2))
+returns-clause-given g c =
+    rw (← c.self.view_is)
+    (found_in_force g.S.Store (record { store = c.self.inside.store; kept = c.self.inside.kept }) (record { store = c.read_day.new.store; kept = c.self.inside.kept })
+    c.args.day c.read_day.result c.read_day.ensures.found)

@@ -1,14 +1,53 @@
+use Rattle.desk.specs.Answer.{AnswersContent, AnswersList, AnswersPayloads, AnswersShow, AnswersValidity, AnswersWhatIf}
+use Rattle.desk.specs.Desk.{charter_of}
+use Rattle.desk.proofs.DeskLemmas.{of_rows}
+use Rattle.desk.proofs.KeptLemmas.{held_read}
 use Rattle.desk.proofs.handling.Desk.look_up.Goals as goal
 
+pub returns-in-Show-clause-held : goal.returns-in-Show-clause-held
+returns-in-Show-clause-held g c = held_read g.S.Store c.args.self.now c.show.new.self c.keeps_its_rows.ensures c.show.ensures.read c.show.ensures.same
+
+pub returns-in-Show-clause-answered : goal.returns-in-Show-clause-answered
+returns-in-Show-clause-answered g c =
+    rw c.in-Show.is (of_rows g.S.Store (λ reply history. AnswersShow history c.in-Show.holder c.args.day c.args.caller.now c.in-Show.number reply)
+    c.args.self.now c.show.new.self c.show.result c.show.ensures.answered)
+
+pub returns-in-Content-clause-held : goal.returns-in-Content-clause-held
+returns-in-Content-clause-held g c = held_read g.S.Store c.args.self.now c.content.new.self c.keeps_its_rows.ensures c.content.ensures.read c.content.ensures.same
+
 pub returns-in-Content-clause-answered : goal.returns-in-Content-clause-answered
-returns-in-Content-clause-answered g c = rw c.in-Content.is c.content.ensures.answered
+returns-in-Content-clause-answered g c =
+    rw c.in-Content.is (of_rows g.S.Store (λ reply history. AnswersContent history c.in-Content.holder c.args.day c.args.caller.now c.in-Content.number reply)
+    c.args.self.now c.content.new.self c.content.result c.content.ensures.answered)
+
+pub returns-in-List-clause-held : goal.returns-in-List-clause-held
+returns-in-List-clause-held g c = held_read g.S.Store c.args.self.now c.list.new.self c.keeps_its_rows.ensures c.list.ensures.read c.list.ensures.same
+
+pub returns-in-List-clause-answered : goal.returns-in-List-clause-answered
+returns-in-List-clause-answered g c =
+    rw c.in-List.is (of_rows g.S.Store (λ reply history. AnswersList history c.in-List.holder c.args.day c.args.caller.now reply)
+    c.args.self.now c.list.new.self c.list.result c.list.ensures.answered)
+
+pub returns-in-Payloads-clause-held : goal.returns-in-Payloads-clause-held
+returns-in-Payloads-clause-held g c = held_read g.S.Store c.args.self.now c.payloads.new.self c.keeps_its_rows.ensures c.payloads.ensures.read c.payloads.ensures.same
 
 pub returns-in-Payloads-clause-answered : goal.returns-in-Payloads-clause-answered
-returns-in-Payloads-clause-answered g c = rw c.in-Payloads.is c.payloads.ensures.answered
+returns-in-Payloads-clause-answered g c =
+    rw c.in-Payloads.is (of_rows g.S.Store (λ reply history. AnswersPayloads history c.args.day reply)
+    c.args.self.now c.payloads.new.self c.payloads.result c.payloads.ensures.answered)
+
+pub returns-in-Validity-clause-held : goal.returns-in-Validity-clause-held
+returns-in-Validity-clause-held g c = held_read g.S.Store c.args.self.now c.validity.new.self c.keeps_its_rows.ensures c.validity.ensures.read c.validity.ensures.same
 
 pub returns-in-Validity-clause-answered : goal.returns-in-Validity-clause-answered
-returns-in-Validity-clause-answered g c = rw c.in-Validity.is (rw c.deref.ensures.value at c.validity.ensures.answered)
+returns-in-Validity-clause-answered g c =
+    rw c.in-Validity.is (of_rows g.S.Store (λ reply history. AnswersValidity history c.args.day c.in-Validity.routes.items reply)
+    c.args.self.now c.validity.new.self c.validity.result (rw c.deref.ensures.value at c.validity.ensures.answered))
+
+pub returns-in-WhatIf-clause-held : goal.returns-in-WhatIf-clause-held
+returns-in-WhatIf-clause-held g c = held_read g.S.Store c.args.self.now c.what_if.new.self c.keeps_its_rows.ensures c.what_if.ensures.read c.what_if.ensures.same
 
 pub returns-in-WhatIf-clause-answered : goal.returns-in-WhatIf-clause-answered
 returns-in-WhatIf-clause-answered g c =
-    rw c.in-WhatIf.is (rw (c.deref-in-WhatIf.ensures.value, c.deref-in-WhatIf-2.ensures.value) at c.what_if.ensures.answered)
+    rw c.in-WhatIf.is (of_rows g.S.Store (λ reply history. AnswersWhatIf (charter_of c.args.self.now) history c.args.day c.args.caller.now c.in-WhatIf.holder c.in-WhatIf.changes.items c.in-WhatIf.routes.items reply)
+    c.args.self.now c.what_if.new.self c.what_if.result (rw (c.deref-in-WhatIf.ensures.value, c.deref-in-WhatIf-2.ensures.value) at c.what_if.ensures.answered))

@@ -1,0 +1,126 @@
+-- What a desk keeps of a day is what its tables give, and what a history gives that it holds.
+use Rattle.std.proofs.Common.{◌≡◌, ℕ, List, Bool, true, false, ◌↔◌, inl, inr, Option, Some, None, Result, Ok, Err, refl, sym, subst, Contains}
+use Rattle.std.specs.Prelude.{IfSome, OnErr}
+use Rattle.addr.specs.declared.vrp.Vrp.{Vrp}
+use Rattle.charters.specs.declared.charter.Charter.{Charter}
+use Rattle.charters.specs.CharterSets.{CharterSets}
+use Rattle.kept.proofs.ExceptionLemmas.{after_alike}
+use Rattle.kept.specs.KeptDay.{exceptions_of, HasExceptions, IsKept, KeptDay}
+use Rattle.registry.specs.DailyVrps.{IsAfterExceptions, IsVrpInForce}
+use Rattle.registry.specs.History.{History}
+use Rattle.registry.specs.RowsOfAll.{AllRows, HasRows, IsGivenOn}
+use Rattle.registry.specs.Verdict.{IsLegal}
+use Rattle.slurm.specs.Exceptions.{Exceptions}
+use Rattle.slurm.specs.declared.filter.Filter.{Filter}
+use Rattle.sqlite.specs.Store.{Ghosts}
+use Rattle.sqlite.specs.State.{HasCleanDisk}
+use Rattle.sqlite_trees.specs.Tree.{Trees}
+use Rattle.tables.specs.TablesHold.{TablesHold}
+use Rattle.store.proofs.HeldAlike.{exceptions_alike, given_alike}
+use Rattle.store.specs.StoreRows.{connection_state, Holds, HoldsAfter, IsRead, RowChange, StoreView}
+use Rattle.desk.proofs.DailyLemmas.{given_on}
+use Rattle.desk.specs.Desk.{charter_of, HoldsHistory, IsDayOf, IsOnCleanDisk, KeepsRows, OfHistories}
+use Rattle.desk.specs.DeskView.{HoldsKept, IsDayOfRows}
+use Rattle.desk.specs.declared.handling.Desk.{Desk}
+
+-- what is so is so where a result is an error
+pub on_err : {T E P : Type 0} (r : Result T E) → P → OnErr r P
+on_err (Ok x) is = tt
+on_err (Err e) is = is
+
+-- ---- rows, and histories of them
+
+-- what is after the exceptions that are kept is after these
+after_same : (k : KeptDay) (exceptions : Exceptions) → HasExceptions k exceptions → (P : Type 0) (v : Vrp)
+    → IsAfterExceptions (exceptions_of k) P v ↔ IsAfterExceptions exceptions P v
+after_same k exceptions has P v = rw has.filters (
+  λ is. elim is [ inl given ↦ inl given | inr asserted ↦ inr ((has.assertions v).0 asserted) ],
+  λ is. elim is [ inl given ↦ inl given | inr asserted ↦ inr ((has.assertions v).1 asserted) ],
+)
+
+-- what is kept of the rows of a legal history is of the history
+pub day_of_history : (charter : Charter) (rows : AllRows) (history : History) → IsLegal charter history → HasRows rows history
+    → (k : KeptDay) → IsDayOfRows rows k → IsDayOf history k
+day_of_history charter rows history legal has k is v =
+    let on = given_on charter rows history legal has k.day v in
+    let alike = after_alike (exceptions_of k) v on.0 on.1 in
+    let same = subst (λ (e : Exceptions). IsAfterExceptions (exceptions_of k) (IsVrpInForce history k.day v) v ↔ IsAfterExceptions e (IsVrpInForce history k.day v) v) has.exceptions
+    (after_same k rows.exceptions is.exceptions (IsVrpInForce history k.day v) v) in
+    (λ there. same.0 (alike.0 ((is.given v).0 there)), λ on_day. (is.given v).1 (alike.1 (same.1 on_day)))
+
+-- what is kept of the VRPs that the rows give, with their exceptions, is of the rows
+pub day_of_found : (rows : AllRows) (day : ℕ) (vrps : List Vrp) (k : KeptDay) (filters : List Filter) (assertions : List Vrp)
+    → k.day ≡ day → IsKept (λ v. Contains vrps v) k → HasExceptions k (record { filters = filters; assertions = assertions })
+    → ((v : Vrp) → Contains vrps v ↔ IsGivenOn rows day v) → record { filters = filters; assertions = assertions } ≡ rows.exceptions
+    → IsDayOfRows rows k
+day_of_found rows day vrps k filters assertions on kept has found are = record {
+  exceptions = subst (HasExceptions k) are has;
+  given = λ v.
+      let given = subst (λ (n : ℕ). Contains vrps v ↔ IsGivenOn rows n v) (sym on) (found v) in
+      let alike = after_alike (exceptions_of k) v given.0 given.1 in
+      (λ there. alike.0 ((kept v).0 there), λ after. (kept v).1 (alike.1 after));
+}
+
+-- whatever rows tables hold, what is kept of the ones is kept of the others
+pub day_alike : (c d : CharterSets) (a b : AllRows) (trees : Trees) → TablesHold c a trees → TablesHold d b trees
+    → (k : KeptDay) → IsDayOfRows a k → IsDayOfRows b k
+day_alike c d a b trees one other k is = record {
+  exceptions = subst (HasExceptions k) (exceptions_alike a.exceptions b.exceptions _ one.exceptions other.exceptions) is.exceptions;
+  given = λ v.
+      let alike = after_alike (exceptions_of k) v (given_alike c d a b trees one other k.day v) (given_alike d c b a trees other one k.day v) in
+      (λ there. alike.0 ((is.given v).0 there), λ after. (is.given v).1 (alike.1 after));
+}
+
+module _ {S : Type 0} (g : Ghosts S) where
+  -- ---- the invariant of a desk
+
+  -- where the rows stay, what is kept of them stays so
+  pub kept_where : (old new : StoreView S) (kept : Option KeptDay) → HoldsKept g old kept
+      → (HasCleanDisk (connection_state g new) → HasCleanDisk (connection_state g old))
+      → (HasCleanDisk (connection_state g new) → (rows : AllRows) → Holds g old rows → Holds g new rows) → HoldsKept g new kept
+  kept_where old new kept holds before stay clean =
+      let was = holds (before clean) in
+      (was.0, stay clean was.0 was.1, was.2)
+
+  pub kept_read : (old new : StoreView S) (kept : Option KeptDay) → HoldsKept g old kept → IsRead g old new → HoldsKept g new kept
+  kept_read old new kept holds read = kept_where old new kept holds read.clean read.rows
+
+  -- of other rows nothing is kept
+  pub none_kept : (old new : StoreView S) (kept : Option KeptDay) (to : RowChange) → HoldsKept g old kept
+      → (HasCleanDisk (connection_state g new) → HasCleanDisk (connection_state g old))
+      → (HasCleanDisk (connection_state g new) → HoldsAfter g old new to) → HoldsKept g new None
+  none_kept old new kept to holds before after clean =
+      let was = holds (before clean) in
+      (to was.0, after clean was.0 was.1, tt)
+
+  -- ---- a desk that holds a history
+
+  -- what it keeps is of the history
+  pub kept_of : (desk : Desk S) (history : History) → HoldsKept g desk.store desk.kept → IsOnCleanDisk g desk
+      → IsLegal (charter_of desk) history → HoldsHistory g desk history → IfSome desk.kept (IsDayOf history)
+  kept_of desk history keeps clean legal held = go (connection_state g desk.store).is_open refl
+    where
+      some : (kept : Option KeptDay) (a : AllRows) → TablesHold desk.store.charter a (connection_state g desk.store).now.trees
+          → TablesHold desk.store.charter held.0 (connection_state g desk.store).now.trees
+          → IfSome kept (IsDayOfRows a) → IfSome kept (IsDayOf history)
+      some None a one other is = tt
+      some (Some k) a one other is =
+          day_of_history (charter_of desk) held.0 history legal held.1 k
+          (day_alike desk.store.charter desk.store.charter a held.0 _ one other k is)
+
+      go : (opened : Bool) → (connection_state g desk.store).is_open ≡ opened → IfSome desk.kept (IsDayOf history)
+      go true opened =
+          let of = keeps clean in
+          some desk.kept of.0 (of.1 clean opened) (held.2 clean opened) of.2
+      go false shut = held.3 clean shut
+
+  -- where the rows stay, and what is kept of a day, each history is held still
+  pub held_where : (old new : Desk S) → HoldsKept g old.store old.kept → (IsOnCleanDisk g new → IsOnCleanDisk g old)
+      → KeepsRows g old new → new.kept ≡ old.kept → OfHistories g old new (HoldsHistory g new)
+  held_where old new keeps before stay same clean history legal held =
+      let is = kept_of old history keeps (before clean) legal held in
+      (held.0, held.1, stay clean held.0 held.2, λ _ _. subst (λ (kept : Option KeptDay). IfSome kept (IsDayOf history)) (sym same) is)
+
+  pub held_read : (old new : Desk S) → HoldsKept g old.store old.kept → IsRead g old.store new.store → new.kept ≡ old.kept
+      → OfHistories g old new (HoldsHistory g new)
+  held_read old new keeps read same = held_where old new keeps read.clean read.rows same
