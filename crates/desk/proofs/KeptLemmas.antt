@@ -19,7 +19,7 @@ use Rattle.tables.specs.TablesHold.{TablesHold}
 use Rattle.store.proofs.HeldAlike.{exceptions_alike, given_alike}
 use Rattle.store.specs.StoreRows.{connection_state, Holds, HoldsAfter, IsRead, RowChange, StoreView}
 use Rattle.desk.proofs.DailyLemmas.{given_on}
-use Rattle.desk.specs.Desk.{charter_of, HoldsHistory, IsDayOf, IsOnCleanDisk, KeepsRows, OfHistories}
+use Rattle.desk.specs.Desk.{charter_of, HoldsHistory, IsDayOf, IsOnCleanDisk, KeepsRows, OfHistories, OfRows}
 use Rattle.desk.specs.DeskView.{HoldsKept, IsDayOfRows}
 use Rattle.desk.specs.declared.handling.Desk.{Desk}
 
@@ -85,6 +85,19 @@ module _ {S : Type 0} (g : Ghosts S) where
   pub kept_read : (old new : StoreView S) (kept : Option KeptDay) → HoldsKept g old kept → IsRead g old new → HoldsKept g new kept
   kept_read old new kept holds read = kept_where old new kept holds read.clean read.rows
 
+  -- nothing is kept after a read
+  pub none_read : (old new : StoreView S) (kept : Option KeptDay) → HoldsKept g old kept → IsRead g old new → HoldsKept g new None
+  none_read old new kept holds read clean =
+      let was = holds (read.clean clean) in
+      (was.0, read.rows clean was.0 was.1, tt)
+
+  -- or a day that was read
+  pub kept_anew : (old new : StoreView S) (kept : Option KeptDay) (k : KeptDay) → HoldsKept g old kept → IsRead g old new
+      → (HasCleanDisk (connection_state g new) → (rows : AllRows) → Holds g old rows → IsDayOfRows rows k) → HoldsKept g new (Some k)
+  kept_anew old new kept k holds read found clean =
+      let was = holds (read.clean clean) in
+      (was.0, read.rows clean was.0 was.1, found clean was.0 was.1)
+
   -- of other rows nothing is kept
   pub none_kept : (old new : StoreView S) (kept : Option KeptDay) (to : RowChange) → HoldsKept g old kept
       → (HasCleanDisk (connection_state g new) → HasCleanDisk (connection_state g old))
@@ -113,6 +126,12 @@ module _ {S : Type 0} (g : Ghosts S) where
           let of = keeps clean in
           some desk.kept of.0 (of.1 clean opened) (held.2 clean opened) of.2
       go false shut = held.3 clean shut
+
+  -- a day that was read is of each history of the rows
+  pub day_read : (old new : Desk S) (k : KeptDay) → (IsOnCleanDisk g new → (rows : AllRows) → Holds g old.store rows → IsDayOfRows rows k)
+      → OfRows g old new (λ history. IsDayOf history k)
+  day_read old new k found clean history legal held =
+      day_of_history (charter_of old) held.0 history legal held.1 k (found clean held.0 held.2)
 
   -- where the rows stay, and what is kept of a day, each history is held still
   pub held_where : (old new : Desk S) → HoldsKept g old.store old.kept → (IsOnCleanDisk g new → IsOnCleanDisk g old)

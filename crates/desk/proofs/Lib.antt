@@ -8,6 +8,7 @@ pub mod CrashLemmas
 pub mod ResumedLemmas
 pub mod DailyLemmas
 pub mod KeptLemmas
+pub mod LentLemmas
 pub mod ExportLemmas
 pub mod ExchangeLemmas
 pub mod GivenEdits

@@ -7,4 +7,6 @@ pub mod HolderAnswers
 pub mod ContentText
 pub mod DeskView
 pub mod Desk
+pub mod Prepared
+pub mod Lent
 pub mod steps

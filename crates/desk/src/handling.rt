@@ -22,6 +22,7 @@ ghost use Rattle.desk.specs.Desk.{IsOnCleanDisk, KeepsRows, OfHistories, OfRows}
 ghost use Rattle.desk.specs.DeskView.{HoldsKept};
 
 mod commands;
+mod daily;
 mod queries;
 mod what_if;
 

@@ -1,58 +1,20 @@
 //! Queries: answered from the rows.
-ghost use Rattle.std.specs.Prelude.{◌≡◌, ◌↔◌, Contains, false, IfOk};
-ghost use Rattle.addr.specs.declared.vrp.Vrp.{Vrp};
-ghost use Rattle.payload.specs.VrpSet as set;
-ghost use Rattle.registry.specs.DailyVrps.{IsVrpOn};
-ghost use Rattle.registry.specs.RowsOfAll.{IsGivenOn};
-ghost use Rattle.store.specs.Loads.{AreFilesOf, OfHeldRows};
-ghost use Rattle.store.specs.StoreRows.{IfClean, IsRead};
+ghost use Rattle.std.specs.Prelude.{◌≡◌, false, IfOk};
+ghost use Rattle.store.specs.StoreRows.{IsRead};
 ghost use Rattle.desk.specs.Answer.{is_accepted, AnswersQuery, AnswersShow, AnswersContent, AnswersList, AnswersPayloads, AnswersValidity};
 ghost use Rattle.desk.specs.Desk.{charter_of, HoldsHistory, OfHistories, OfRows};
-ghost use Rattle.desk.specs.DeskView.{IsDayOfRows};
 ghost use Rattle.desk.specs.steps.WhatIf.{AreInForceOn};
 
 use super::Desk;
+use super::daily::read_day;
 use crate::content::content_text;
-use crate::exceptions::{entries_of, excepted};
 use crate::gathering::{gather, judge};
 use crate::{Reply, Vrps};
 use addr::{Day, Name, Route, Vrp};
-use kept::Kept;
-use payload::Trie;
 use registry::Query;
 use slurm::Slurm;
 use sqlite::Alter;
-use std::alloc::Global;
-use store::{Store, StoreFault};
-
-/// The VRPs that the authorizations of all holders give on the day, and the SLURM files in force.
-fn read_day<S: Alter>(
-    store: &mut Store<S>,
-    alloc: Global,
-    day: Day,
-) -> Result<(Vec<Vrp>, Vec<Slurm>), StoreFault>
-    ensures read { IsRead S.Store store.old store.new }
-    ensures found { IfClean S.Store store.new (IfOk result (λ found.
-        OfHeldRows S.Store store.old (λ rows.
-        ((v : Vrp) → Contains found.0.items v ↔ IsGivenOn rows day v)
-        × AreFilesOf rows.exceptions found.1.items))) }
-{
-    let vrps = store.all_auths_on(alloc, day)?;
-    let files = store.slurm_files(alloc)?;
-    Ok((vrps, files))
-}
-
-/// What is kept of the day.
-fn kept_on<S: Alter>(store: &mut Store<S>, alloc: Global, day: Day) -> Result<Kept, StoreFault>
-    ensures read { IsRead S.Store store.old store.new }
-    ensures day { IfOk result (λ kept. kept.day ≡ day) }
-    ensures kept { IfClean S.Store store.new (IfOk result (λ kept.
-        OfHeldRows S.Store store.old (λ rows. IsDayOfRows rows kept))) }
-{
-    let (vrps, files) = read_day(store, alloc, day)?;
-    let (filters, assertions) = entries_of(&files);
-    Ok(Kept::of(alloc, day, vrps, filters, assertions)?)
-}
+use store::StoreFault;
 
 impl<S: Alter> Desk<S> {
     /// Answers the query from the rows as they are now.
@@ -82,7 +44,7 @@ impl<S: Alter> Desk<S> {
             Query::Show { holder, number } => self.show(holder, day, caller, *number),
             Query::Content { holder, number } => self.content(holder, day, caller, *number),
             Query::List { holder } => self.list(holder, day, caller),
-            Query::Payloads => self.payloads(day),
+            Query::Payloads => self.export(day),
             Query::Validity { routes } => self.validity(day, routes),
             Query::WhatIf {
                 holder,
@@ -155,39 +117,35 @@ impl<S: Alter> Desk<S> {
     }
 
     /// The VRPs of the day, rising.
-    fn payloads(&mut self, day: Day) -> Result<Reply, StoreFault>
+    fn export(&mut self, day: Day) -> Result<Reply, StoreFault>
         ensures read { IsRead S.Store self.old.store self.new.store }
-        ensures same { self.new.kept ≡ self.old.kept }
-        ensures answered { IfOk result (λ reply. OfRows S.Store self.old self.new (λ history.
+        ensures held { OfHistories S.Store self.old self.new (HoldsHistory S.Store self.new) }
+        ensures answered { IfOk result (λ reply. OfHistories S.Store self.old self.new (λ history.
             AnswersPayloads history day reply)) }
         ensures never_done { IfOk result (λ reply. is_accepted reply ≡ false) }
     {
-        let index = self.index_on(day)?;
-        let vrps = gather(self.alloc, &index)?;
-        Ok(Reply::Payloads(Vrps::from(vrps)))
+        let alloc = self.alloc;
+        self.prepare(day);
+        match self.kept_vrps() {
+            Some(index) => Ok(Reply::Payloads(Vrps::from(gather(alloc, index)?))),
+            None => Ok(Reply::Unavailable),
+        }
     }
 
     /// The state of each route on the day.
     fn validity(&mut self, day: Day, routes: &[Route]) -> Result<Reply, StoreFault>
         ensures read { IsRead S.Store self.old.store self.new.store }
-        ensures same { self.new.kept ≡ self.old.kept }
-        ensures answered { IfOk result (λ reply. OfRows S.Store self.old self.new (λ history.
+        ensures held { OfHistories S.Store self.old self.new (HoldsHistory S.Store self.new) }
+        ensures answered { IfOk result (λ reply. OfHistories S.Store self.old self.new (λ history.
             AnswersValidity history day routes.now reply)) }
         ensures never_done { IfOk result (λ reply. is_accepted reply ≡ false) }
     {
-        let index = self.index_on(day)?;
-        Ok(Reply::Answers(judge(self.alloc, &index, routes)?))
-    }
-
-    /// The VRPs of the day, with the exceptions in force.
-    fn index_on(&mut self, day: Day) -> Result<Trie, StoreFault>
-        ensures read { IsRead S.Store self.old.store self.new.store }
-        ensures same { self.new.kept ≡ self.old.kept }
-        ensures given { IfOk result (λ index. OfRows S.Store self.old self.new (λ history.
-            (v : Vrp) → Contains (set.items index) v ↔ IsVrpOn history day v)) }
-    {
-        let (vrps, files) = self.in_force_on(day)?;
-        Ok(excepted(self.alloc, &files, vrps)?)
+        let alloc = self.alloc;
+        self.prepare(day);
+        match self.kept_vrps() {
+            Some(index) => Ok(Reply::Answers(judge(alloc, index, routes)?)),
+            None => Ok(Reply::Unavailable),
+        }
     }
 
     /// The VRPs that the authorizations of all holders give on the day, and the SLURM files in

@@ -1,4 +1,4 @@
-use Rattle.desk.specs.Answer.{AnswersContent, AnswersList, AnswersPayloads, AnswersShow, AnswersValidity, AnswersWhatIf}
+use Rattle.desk.specs.Answer.{AnswersContent, AnswersList, AnswersShow, AnswersWhatIf}
 use Rattle.desk.specs.Desk.{charter_of}
 use Rattle.desk.proofs.DeskLemmas.{of_rows}
 use Rattle.desk.proofs.KeptLemmas.{held_read}
@@ -28,21 +28,11 @@ returns-in-List-clause-answered g c =
     rw c.in-List.is (of_rows g.S.Store (λ reply history. AnswersList history c.in-List.holder c.args.day c.args.caller.now reply)
     c.args.self.now c.list.new.self c.list.result c.list.ensures.answered)
 
-pub returns-in-Payloads-clause-held : goal.returns-in-Payloads-clause-held
-returns-in-Payloads-clause-held g c = held_read g.S.Store c.args.self.now c.payloads.new.self c.keeps_its_rows.ensures c.payloads.ensures.read c.payloads.ensures.same
-
 pub returns-in-Payloads-clause-answered : goal.returns-in-Payloads-clause-answered
-returns-in-Payloads-clause-answered g c =
-    rw c.in-Payloads.is (of_rows g.S.Store (λ reply history. AnswersPayloads history c.args.day reply)
-    c.args.self.now c.payloads.new.self c.payloads.result c.payloads.ensures.answered)
-
-pub returns-in-Validity-clause-held : goal.returns-in-Validity-clause-held
-returns-in-Validity-clause-held g c = held_read g.S.Store c.args.self.now c.validity.new.self c.keeps_its_rows.ensures c.validity.ensures.read c.validity.ensures.same
+returns-in-Payloads-clause-answered g c = rw c.in-Payloads.is c.export.ensures.answered
 
 pub returns-in-Validity-clause-answered : goal.returns-in-Validity-clause-answered
-returns-in-Validity-clause-answered g c =
-    rw c.in-Validity.is (of_rows g.S.Store (λ reply history. AnswersValidity history c.args.day c.in-Validity.routes.items reply)
-    c.args.self.now c.validity.new.self c.validity.result (rw c.deref.ensures.value at c.validity.ensures.answered))
+returns-in-Validity-clause-answered g c = rw c.in-Validity.is (rw c.deref.ensures.value at c.validity.ensures.answered)
 
 pub returns-in-WhatIf-clause-held : goal.returns-in-WhatIf-clause-held
 returns-in-WhatIf-clause-held g c = held_read g.S.Store c.args.self.now c.what_if.new.self c.keeps_its_rows.ensures c.what_if.ensures.read c.what_if.ensures.same

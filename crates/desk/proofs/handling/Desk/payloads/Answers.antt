@@ -1,5 +1,7 @@
+use Rattle.std.proofs.Common.{refl}
+use Rattle.desk.proofs.LentLemmas.{has_lent}
 use Rattle.desk.proofs.handling.Desk.payloads.Goals as goal
 
-pub returns-clause-answered : goal.returns-clause-answered
-returns-clause-answered g c clean history legal held =
-    rw c.from.ensures (c.in_ok-vrps.ensures.rising, λ v. rw c.in_ok-vrps.ensures.items (c.in_ok-index.ensures.given clean history legal held v))
+pub returns-then-prepare : goal.returns-then-prepare
+returns-then-prepare g c =
+    ((refl, λ _. tt, has_lent g.S.Store c.args.self.now c.prepare.new.self c.args.day c.kept_vrps.result (rw c.if-prepare.true at c.prepare.ensures) c.kept_vrps.ensures), tt)

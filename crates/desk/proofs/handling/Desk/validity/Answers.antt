@@ -1,7 +1,10 @@
 use Rattle.payload.specs.VrpSet as set
 use Rattle.desk.proofs.ExportLemmas.{states_on}
+use Rattle.desk.proofs.LentLemmas.{lent_kept}
 use Rattle.desk.proofs.handling.Desk.validity.Goals as goal
 
-pub returns-clause-answered : goal.returns-clause-answered
-returns-clause-answered g c clean history legal held =
-    states_on history c.args.day (set.items c.in_ok-index.index) (c.in_ok-index.ensures.given clean history legal held) c.args.routes.now c.in_ok-judge.field-0.items c.in_ok-judge.ensures
+pub returns-in_ok-judge-in-Some-clause-answered : goal.returns-in_ok-judge-in-Some-clause-answered
+returns-in_ok-judge-in-Some-clause-answered g c clean history legal held =
+    states_on history c.args.day (set.items c.in-Some.index.now)
+    (lent_kept g.S.Store c.args.self.now c.prepare.new.self c.args.day c.prepare.result c.in-Some.index.now c.prepare.ensures (rw c.in-Some.is at c.kept_vrps.ensures) clean history legal held).1
+    c.args.routes.now c.in_ok-judge-in-Some.field-0.items c.in_ok-judge-in-Some.ensures

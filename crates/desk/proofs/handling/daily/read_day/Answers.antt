@@ -1,5 +1,5 @@
 use Rattle.desk.proofs.DeskLemmas.{read_then}
-use Rattle.desk.proofs.handling.queries.read_day.Goals as goal
+use Rattle.desk.proofs.handling.daily.read_day.Goals as goal
 
 pub returns-in_err-files-clause-read : goal.returns-in_err-files-clause-read
 returns-in_err-files-clause-read g c = read_then g.S.Store c.args.store.now c.all_auths_on.new.self c.slurm_files.new.self c.all_auths_on.ensures.read c.slurm_files.ensures.read

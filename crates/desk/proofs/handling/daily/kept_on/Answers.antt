@@ -1,5 +1,5 @@
 use Rattle.desk.proofs.KeptLemmas.{day_of_found}
-use Rattle.desk.proofs.handling.queries.kept_on.Goals as goal
+use Rattle.desk.proofs.handling.daily.kept_on.Goals as goal
 
 pub returns-clause-kept : goal.returns-clause-kept
 returns-clause-kept g c clean rows holds =
