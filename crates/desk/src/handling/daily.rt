@@ -6,7 +6,7 @@ ghost use Rattle.registry.specs.RowsOfAll.{IsGivenOn};
 ghost use Rattle.store.specs.Loads.{AreFilesOf, OfHeldRows};
 ghost use Rattle.store.specs.StoreRows.{IfClean, IsRead};
 ghost use Rattle.desk.specs.Desk.{IsDayOf, OfRows};
-ghost use Rattle.desk.specs.DeskView.{HoldsKept, IsDayOfRows};
+ghost use Rattle.desk.specs.DeskView.{IsDayOfRows};
 ghost use Rattle.desk.specs.Lent.{Lends};
 ghost use Rattle.desk.specs.Prepared.{day_of, IsPrepared};
 
