@@ -10,7 +10,7 @@ use registry::Auth;
 use std::alloc::{AllocError, Global};
 
 /// What is exported as a line.
-trait CsvRow {
+pub trait CsvRow {
     ghost use Rattle.csv_records.specs.Fields.{Fields};
 
     ghost fields: { Self → Fields };
