@@ -5,3 +5,4 @@ pub mod ReplyLemmas
 pub mod ScriptAlong
 pub mod ScriptLemmas
 pub mod SessionLemmas
+pub mod VrpLemmas

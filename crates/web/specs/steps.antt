@@ -2,3 +2,5 @@
 pub mod HttpAnswering
 pub mod LineSplitting
 pub mod ReplyItems
+pub mod VrpCounting
+pub mod VrpWriting

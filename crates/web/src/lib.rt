@@ -6,6 +6,7 @@ mod lines;
 mod reply;
 mod script;
 mod session;
+mod vrps;
 
 pub use http::{Extent, WebFault, serve_one, serve_request};
 pub use reply::{short_text, write_reply};

@@ -1,0 +1,117 @@
+//! The VRPs of an index, written as it gives them: no list and no body is collected.
+ghost use Rattle.std.specs.Prelude.{◌≡◌, ◌++◌, ◌<◌, ◌^◌, false, true, length, OnOk, OnErr};
+ghost use Rattle.std.specs.Option.{SomeIff};
+ghost use Rattle.csv_records.specs.Lines.{csv_line, csv_text, payload_header, payload_row};
+ghost use Rattle.payload.specs.VrpSet as set;
+ghost use Rattle.streams.specs.Streams.{AppendsBeginning};
+ghost use Rattle.web.specs.steps.VrpCounting.{counted_none, counted_then, HasCounted};
+ghost use Rattle.web.specs.steps.VrpWriting.{csv_lines, lines_none, lines_then, HasAdded};
+
+mod pieces;
+
+use addr::Vrp;
+use arrayvec::ArrayString;
+use csv_records::CsvRow;
+use payload::{PayloadIndex, Sink, Stop};
+use pieces::Pieces;
+use streams::{Drain, Failed};
+
+/// The length of CSV lines, until it is over what a `u64` counts.
+#[derive(Drop)]
+struct Counting {
+    count: u64,
+    is_over: bool,
+}
+
+impl Sink for Counting {
+    ghost took = { λ a vrps b. HasCounted a.is_over b.is_over a.count vrps b.count };
+
+    ghost has_stopped = { λ c. c.is_over };
+
+    fn take(&mut self, vrp: &Vrp) -> Result<(), Stop> {
+        let length = vrp.line().len() as u64;
+        let Some(count) = self.count.checked_add(length) else {
+            self.is_over = true;
+            return Err(Stop);
+        };
+        self.count = count;
+        self.is_over = false;
+        Ok(())
+    }
+
+    ghost took_none = { λ c. counted_none c.is_over c.count };
+
+    ghost took_then = { λ a b c. counted_then a.is_over b.is_over c.is_over
+        a.count b.count c.count };
+}
+
+/// The length of the CSV of an index's VRPs; `None` where a `u64` does not count it.
+pub(crate) fn csv_length<I: PayloadIndex>(index: &I) -> Option<u64>
+    ensures { let text = csv_text payload_header payload_row (set.items (I.vrps index.now)) in
+        SomeIff result (length text < 2 ^ 64) (length text) }
+{
+    let mut counting = Counting {
+        count: header().len() as u64,
+        is_over: false,
+    };
+    match index.visit(&mut counting) {
+        Ok(()) => Some(counting.count),
+        Err(Stop) => None,
+    }
+}
+
+/// Writes VRPs as lines of a CSV.
+#[derive(Drop)]
+struct Lines<'a, D> {
+    pieces: Pieces<'a, D>,
+}
+
+impl<D: Drain> Sink for Lines<'_, D> {
+    ghost took = { λ a vrps b.
+        HasAdded D.written D.has_failed a.pieces (csv_lines vrps) b.pieces };
+
+    ghost has_stopped = { λ l. l.pieces.has_failed };
+
+    fn take(&mut self, vrp: &Vrp) -> Result<(), Stop> {
+        self.pieces.add(vrp.line().as_str());
+        if self.pieces.has_failed {
+            return Err(Stop);
+        }
+        Ok(())
+    }
+
+    ghost took_none = { λ l. lines_none D.written D.has_failed l.pieces };
+
+    ghost took_then = { λ a b c. lines_then D.written D.has_failed a.pieces b.pieces c.pieces };
+}
+
+/// Writes the CSV of an index's VRPs, in pieces of some kilobytes.
+pub(crate) fn write_csv<I: PayloadIndex, D: Drain>(index: &I, drain: &mut D) -> Result<(), Failed>
+    ensures ok { OnOk result (D.written drain.new ≡ D.written drain.old
+        ++ csv_text payload_header payload_row (set.items (I.vrps index.now))) }
+    ensures err { OnErr result (AppendsBeginning (D.written drain.old) (D.written drain.new)
+        (csv_text payload_header payload_row (set.items (I.vrps index.now)))) }
+    ensures failed { OnErr result (D.has_failed drain.new ≡ true) }
+{
+    let mut piece = ArrayString::new();
+    piece.push_str(header());
+    let mut lines = Lines {
+        pieces: Pieces {
+            drain,
+            piece,
+            has_failed: false,
+        },
+    };
+    match index.visit(&mut lines) {
+        Ok(()) => lines.pieces.close(""),
+        Err(Stop) => Err(Failed),
+    }
+}
+
+/// The first line of the CSV.
+fn header() -> &'static str
+    ensures text { result.now ≡ csv_line payload_header }
+    ensures bound { length result.now < 100 }
+{
+    "asn,prefix,maxlength\n"
+}
