@@ -4,14 +4,17 @@ use Rattle.std.proofs.lemmas.Bool.{false≢true}
 use Rattle.std.proofs.lemmas.Grind.{flat_map-append}
 use Rattle.std.proofs.lemmas.List.{append-nil, length-append, take-append-drop}
 use Rattle.std.specs.Option.{SomeIff}
-use Rattle.std.specs.Result.{OnErr}
+use Rattle.std.specs.Result.{OnErr, OnOk}
 use Rattle.addr.specs.declared.vrp.Vrp.{Vrp}
 use Rattle.csv_records.specs.Lines.{csv_line, csv_text, payload_header, payload_row}
 use Rattle.streams.specs.Streams.{AppendsBeginning}
 use Rattle.web.proofs.ReplyLemmas.{AppendsBeginning-longer}
 use Rattle.web.specs.declared.vrps.pieces.Pieces.{Pieces}
 use Rattle.web.specs.steps.VrpCounting.{HasCounted}
-use Rattle.web.specs.steps.VrpWriting.{csv_lines, HasAdded}
+use Rattle.std.specs.Prelude.{codes}
+use Rattle.desk.specs.declared.reply.Reply.TheVariants.{Payloads}
+use Rattle.web.specs.ReplyText.{line_text}
+use Rattle.web.specs.steps.VrpWriting.{all_items, csv_lines, first_after, HasAdded, items_text}
 
 -- ---- the length
 
@@ -62,16 +65,6 @@ added-whole written fails a b text name same flag piece well = record {
   broke = λ still has. absurd (false≢true (sym well ∙ sym flag ∙ has));
 }
 
--- what waits was written too
-pub added-out : {D : Type 0} (written : D → List ℕ) (fails : D → Bool) (a b : Pieces D) (text new : List ℕ)
-    → HasAdded written fails a text b → b.has_failed ≡ false → new ≡ written b.drain.now ++ b.piece.bytes
-    → new ≡ written a.drain.now ++ (a.piece.bytes ++ text)
-added-out written fails a b text new added well sent =
-    sent ∙ ap (λ u. u ++ b.piece.bytes) added.passed
-    ∙ append_assoc (written a.drain.now) added.out b.piece.bytes
-    ∙ ap (λ u. written a.drain.now ++ (added.out ++ u)) (sym (added.waits well))
-    ∙ ap (λ u. written a.drain.now ++ u) (sym added.whole)
-
 -- of what waits a beginning was written
 pub added-begun : {D : Type 0} (written : D → List ℕ) (fails : D → Bool) (a b : Pieces D) (text new : List ℕ)
     → HasAdded written fails a text b → b.has_failed ≡ false → AppendsBeginning (written b.drain.now) new b.piece.bytes
@@ -87,6 +80,11 @@ added-begun written fails a b text new added well begins = (
 pub added-broken : {D : Type 0} (written : D → List ℕ) (fails : D → Bool) (a b : Pieces D) (text : List ℕ)
     → HasAdded written fails a text b → AppendsBeginning (written a.drain.now) (written b.drain.now) (a.piece.bytes ++ text)
 added-broken written fails a b text added = (added.out, added.more, added.passed, added.whole)
+
+-- what follows in each case
+pub on-ok-then : {T E : Type 0} (r : Result T E) (P Q : Type 0) → (P → Q) → OnOk r P → OnOk r Q
+on-ok-then (Ok x) P Q f p = f p
+on-ok-then (Err e) P Q f p = tt
 
 pub on-err-then : {T E : Type 0} (r : Result T E) (P Q : Type 0) → (P → Q) → OnErr r P → OnErr r Q
 on-err-then (Ok x) P Q f p = tt
@@ -117,15 +115,6 @@ lines-broken written fails a b vrps n header added =
     (added-broken written fails a b some added) in
     (begins.0, begins.1, begins.2, whole ∙ begins.3)
 
-pub lines-out : {D : Type 0} (written : D → List ℕ) (fails : D → Bool) (a b : Pieces D) (vrps : List Vrp) (new : List ℕ)
-    → a.piece.bytes ≡ csv_line payload_header → HasAdded written fails a (csv_lines vrps) b → b.has_failed ≡ false
-    → new ≡ written b.drain.now ++ (b.piece.bytes ++ [])
-    → new ≡ written a.drain.now ++ csv_text payload_header payload_row vrps
-lines-out written fails a b vrps new header added well sent =
-    added-out written fails a b (csv_lines vrps) new added well
-    (sent ∙ ap (λ u. written b.drain.now ++ u) (append-nil b.piece.bytes))
-    ∙ ap (λ u. written a.drain.now ++ (u ++ csv_lines vrps)) header
-
 pub lines-begun : {D : Type 0} (written : D → List ℕ) (fails : D → Bool) (a b : Pieces D) (vrps : List Vrp) (new : List ℕ)
     → a.piece.bytes ≡ csv_line payload_header → HasAdded written fails a (csv_lines vrps) b → b.has_failed ≡ false
     → AppendsBeginning (written b.drain.now) new (b.piece.bytes ++ [])
@@ -134,3 +123,56 @@ lines-begun written fails a b vrps new header added well begins =
     let whole : csv_text payload_header payload_row vrps ≡ a.piece.bytes ++ csv_lines vrps = ap (λ u. u ++ csv_lines vrps) (sym header) in
     rw whole (added-begun written fails a b (csv_lines vrps) new added well
     (begins.0, begins.1, begins.2, sym (append-nil b.piece.bytes) ∙ begins.3))
+
+-- ---- items of a JSON list
+
+-- the line of these VRPs, which begin what was first written
+line-split : (head : List ℕ) (vrps : List Vrp) (n : ℕ) → head ≡ codes "{\"payloads\":["
+    → line_text (Payloads vrps)
+    ≡ ((head ++ items_text true (take n vrps)) ++ items_text (first_after true (take n vrps)) (drop n vrps)) ++ codes "]}\n"
+line-split head vrps n is =
+    let some = items_text true (take n vrps) in
+    let rest = items_text (first_after true (take n vrps)) (drop n vrps) in
+    let split : items_text true vrps ≡ some ++ rest =
+    ap (items_text true) (sym (take-append-drop n vrps)) ∙ all_items true (take n vrps) (drop n vrps) in
+    ap (λ u. (u ++ items_text true vrps) ++ codes "]}\n") (sym is)
+    ∙ ap (λ u. u ++ codes "]}\n") (ap (λ u. head ++ u) split ∙ sym (append_assoc head some rest))
+
+-- the visit stopped after some items
+pub items-broken : {D : Type 0} (written : D → List ℕ) (fails : D → Bool) (a b : Pieces D) (vrps : List Vrp) (n : ℕ)
+    → a.piece.bytes ≡ codes "{\"payloads\":[" → HasAdded written fails a (items_text true (take n vrps)) b
+    → AppendsBeginning (written a.drain.now) (written b.drain.now) (line_text (Payloads vrps))
+items-broken written fails a b vrps n head added =
+    let some = items_text true (take n vrps) in
+    let rest = items_text (first_after true (take n vrps)) (drop n vrps) in
+    let begins =
+    AppendsBeginning-longer (written a.drain.now) (written b.drain.now) ((a.piece.bytes ++ some) ++ rest) (codes "]}\n")
+    (AppendsBeginning-longer (written a.drain.now) (written b.drain.now) (a.piece.bytes ++ some) rest
+    (added-broken written fails a b some added)) in
+    (begins.0, begins.1, begins.2, line-split a.piece.bytes vrps n head ∙ begins.3)
+
+pub items-out : {D : Type 0} (written : D → List ℕ) (fails : D → Bool) (a b : Pieces D) (vrps : List Vrp) (new : List ℕ)
+    → a.piece.bytes ≡ codes "{\"payloads\":[" → HasAdded written fails a (items_text true vrps) b → b.has_failed ≡ false
+    → new ≡ written b.drain.now ++ (b.piece.bytes ++ codes "]}\n")
+    → new ≡ written a.drain.now ++ line_text (Payloads vrps)
+items-out written fails a b vrps new head added well sent =
+    sent ∙ ap (λ u. u ++ (b.piece.bytes ++ codes "]}\n")) added.passed
+    ∙ append_assoc (written a.drain.now) added.out (b.piece.bytes ++ codes "]}\n")
+    ∙ ap (λ u. written a.drain.now ++ u)
+    (sym (append_assoc added.out b.piece.bytes (codes "]}\n"))
+    ∙ ap (λ u. u ++ codes "]}\n") (ap (λ u. added.out ++ u) (sym (added.waits well)) ∙ sym added.whole)
+    ∙ ap (λ u. (u ++ items_text true vrps) ++ codes "]}\n") head)
+
+pub items-begun : {D : Type 0} (written : D → List ℕ) (fails : D → Bool) (a b : Pieces D) (vrps : List Vrp) (new : List ℕ)
+    → a.piece.bytes ≡ codes "{\"payloads\":[" → HasAdded written fails a (items_text true vrps) b → b.has_failed ≡ false
+    → AppendsBeginning (written b.drain.now) new (b.piece.bytes ++ codes "]}\n")
+    → AppendsBeginning (written a.drain.now) new (line_text (Payloads vrps))
+items-begun written fails a b vrps new head added well begins = (
+  added.out ++ begins.0,
+  begins.1,
+  begins.2 ∙ ap (λ u. u ++ begins.0) added.passed ∙ append_assoc (written a.drain.now) added.out begins.0,
+  ap (λ u. (u ++ items_text true vrps) ++ codes "]}\n") (sym head)
+      ∙ ap (λ u. u ++ codes "]}\n") (added.whole ∙ ap (λ u. added.out ++ u) (added.waits well))
+      ∙ append_assoc added.out b.piece.bytes (codes "]}\n")
+      ∙ ap (λ u. added.out ++ u) begins.3 ∙ sym (append_assoc added.out begins.0 begins.1),
+)

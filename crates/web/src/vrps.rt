@@ -2,13 +2,16 @@
 ghost use Rattle.std.specs.Prelude.{◌≡◌, ◌++◌, ◌<◌, ◌^◌, false, true, length, OnOk, OnErr};
 ghost use Rattle.std.specs.Option.{SomeIff};
 ghost use Rattle.csv_records.specs.Lines.{csv_line, csv_text, payload_header, payload_row};
+ghost use Rattle.desk.specs.declared.reply.Reply.TheVariants.{Payloads};
 ghost use Rattle.payload.specs.VrpSet as set;
 ghost use Rattle.streams.specs.Streams.{AppendsBeginning};
+ghost use Rattle.web.specs.ReplyText.{line_text};
 ghost use Rattle.web.specs.steps.VrpCounting.{counted_none, counted_then, HasCounted};
-ghost use Rattle.web.specs.steps.VrpWriting.{csv_lines, lines_none, lines_then, HasAdded};
+ghost use Rattle.web.specs.steps.VrpWriting.{csv_lines, items_none, items_then, lines_none, lines_then, HasAdded, HasListed};
 
 mod pieces;
 
+use crate::reply::items::vrp_item;
 use addr::Vrp;
 use arrayvec::ArrayString;
 use csv_records::CsvRow;
@@ -104,6 +107,59 @@ pub(crate) fn write_csv<I: PayloadIndex, D: Drain>(index: &I, drain: &mut D) -> 
     };
     match index.visit(&mut lines) {
         Ok(()) => lines.pieces.close(""),
+        Err(Stop) => Err(Failed),
+    }
+}
+
+/// Writes VRPs as items of a JSON list.
+#[derive(Drop)]
+struct Items<'a, D> {
+    pieces: Pieces<'a, D>,
+    is_first: bool,
+}
+
+impl<D: Drain> Sink for Items<'_, D> {
+    ghost took = { λ a vrps b.
+        HasListed D.written D.has_failed a.pieces a.is_first vrps b.pieces b.is_first };
+
+    ghost has_stopped = { λ i. i.pieces.has_failed };
+
+    fn take(&mut self, vrp: &Vrp) -> Result<(), Stop> {
+        self.pieces.add(vrp_item(self.is_first, vrp).as_str());
+        self.is_first = false;
+        if self.pieces.has_failed {
+            return Err(Stop);
+        }
+        Ok(())
+    }
+
+    ghost took_none = { λ i. items_none D.written D.has_failed i.pieces i.is_first };
+
+    ghost took_then = { λ a b c. items_then D.written D.has_failed a.pieces b.pieces c.pieces
+        a.is_first b.is_first c.is_first };
+}
+
+/// Writes the reply's text that lists an index's VRPs, with its line feed, in pieces of some
+/// kilobytes.
+pub(crate) fn write_line<I: PayloadIndex, D: Drain>(index: &I, drain: &mut D) -> Result<(), Failed>
+    ensures ok { OnOk result (D.written drain.new
+        ≡ D.written drain.old ++ line_text (Payloads (set.items (I.vrps index.now)))) }
+    ensures err { OnErr result (AppendsBeginning (D.written drain.old) (D.written drain.new)
+        (line_text (Payloads (set.items (I.vrps index.now))))) }
+    ensures failed { OnErr result (D.has_failed drain.new ≡ true) }
+{
+    let mut piece = ArrayString::new();
+    piece.push_str("{\"payloads\":[");
+    let mut items = Items {
+        pieces: Pieces {
+            drain,
+            piece,
+            has_failed: false,
+        },
+        is_first: true,
+    };
+    match index.visit(&mut items) {
+        Ok(()) => items.pieces.close("]}\n"),
         Err(Stop) => Err(Failed),
     }
 }

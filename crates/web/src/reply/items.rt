@@ -49,12 +49,7 @@ impl Item for Vrp {
     ghost text = { vrp_text };
 
     fn write<D: Drain>(&self, is_first: bool, drain: &mut D) -> Result<(), Failed> {
-        let mut text: ArrayString<256> = ArrayString::new();
-        text.push_str(separator(is_first));
-        text.push_str("{");
-        text.push_str(terms_text(self.asn, &self.prefix, self.max).as_str());
-        text.push_str("}");
-        write_all(drain, text.as_str().as_bytes())
+        write_all(drain, vrp_item(is_first, self).as_str().as_bytes())
     }
 }
 
@@ -84,6 +79,18 @@ impl Item for (Validity, Validity) {
         text.push_str("]");
         write_all(drain, text.as_str().as_bytes())
     }
+}
+
+/// A VRP, behind a comma where it is not the first of its list.
+pub(crate) fn vrp_item(is_first: bool, vrp: &Vrp) -> ArrayString<256>
+    ensures { result.bytes ≡ item_after is_first (vrp_text vrp.now) }
+{
+    let mut text = ArrayString::new();
+    text.push_str(separator(is_first));
+    text.push_str("{");
+    text.push_str(terms_text(vrp.asn, &vrp.prefix, vrp.max).as_str());
+    text.push_str("}");
+    text
 }
 
 /// What stands before an item.
