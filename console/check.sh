@@ -1,0 +1,48 @@
+#!/usr/bin/env bash
+# Clicks through the console as an operator and as a holder's manager, in Chromium, on the built program behind the
+# nginx of examples/nginx.conf, and checks what the desk then lists. check.py has the tasks.
+#
+#     check.sh [FOLDER]
+#
+# FOLDER, as docs/pictures, gets the pictures. PROGRAM may name another program than that of the repository. Debian's
+# packages: chromium chromium-driver python3-selenium nginx openssl curl. Ends with 1 where a check failed.
+set -u
+. "$(dirname "${BASH_SOURCE[0]}")/../checks/common.sh"
+need chromium chromedriver nginx openssl curl /usr/bin/python3
+/usr/bin/python3 -c 'import selenium' 2>/dev/null || skip "no python3-selenium"
+find_program
+pictures=$(realpath "${1:-/nonexistent}" 2>/dev/null)
+work=$(mktemp -d) || exit 2
+# The workers of an nginx that root starts are another user.
+chmod 711 "$work"
+clicks=
+# A check that is ended ends its servers and browsers before its folder goes.
+trap '[ -z "$clicks" ] || { kill "$clicks" && wait "$clicks"; } 2>/dev/null; rm -rf "$work"' EXIT
+trap 'exit 1' HUP INT TERM
+
+mkdir "$work/front" "$work/pictures" "$work/downloads"
+cp -r "$top/console" "$work/front/"
+desk=$(free_port)
+front=$(free_port)
+# A late reply is 504 after two seconds, so that the check need not wait for a minute.
+sed "s/127.0.0.1:8443/127.0.0.1:$front/; s/127.0.0.1:8080/127.0.0.1:$desk/
+    s/proxy_read_timeout 60s/proxy_read_timeout 2s/" "$top/examples/nginx.conf" >"$work/front/nginx.conf"
+openssl req -x509 -newkey ec -pkeyopt ec_paramgen_curve:prime256v1 -nodes -days 2 -subj /CN=localhost \
+    -addext subjectAltName=DNS:localhost -keyout "$work/front/key.pem" -out "$work/front/cert.pem" 2>/dev/null || exit 2
+for user in reg ann; do
+    printf '%s:%s\n' "$user" "$(openssl passwd -apr1 "secret-of-$user")"
+done >"$work/front/callers"
+"$program" init --db "$work/desk.db" --charter "$top/examples/charter.csv" || exit 2
+
+# Browsers leave files in the folder for temporary ones.
+TMPDIR=$work /usr/bin/python3 "$top/console/check.py" "$top" "$work" "$program" "$desk" "$front" &
+clicks=$!
+wait "$clicks" || failed=1
+clicks=
+size=$(cat "$top"/console/{index.html,style.css,console.js} | wc -c)
+expect 'the page is below 60 KB' "$((size < 60000))" 1
+expect 'each picture is below 150 KB' "$(find "$work/pictures" -name '*.png' -size +149k)" ''
+if [ -d "$pictures" ]; then
+    cp "$work"/pictures/*.png "$pictures"
+fi
+exit "$failed"
