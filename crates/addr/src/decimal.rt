@@ -4,21 +4,17 @@ ghost use Rattle.std.specs.Fmt.{decimal};
 ghost use Rattle.arrayvec.specs.ArrayString.{array_string_len};
 ghost use Rattle.addr.specs.Digits.{number_in};
 
-use crate::ascii::push_ascii;
 use arrayvec::ArrayString;
+use itoa::Buffer;
 
 /// The decimal digits of `number`, without leading zeros.
 pub fn digits(number: u64) -> ArrayString<20>
     ensures text { result.bytes ≡ decimal number }
     ensures len { array_string_len result ≤ 20 }
 {
-    if number < 10 {
-        let mut text = ArrayString::new();
-        push_ascii(&mut text, b'0' + number as u8);
-        return text;
-    }
-    let mut text = digits(number / 10);
-    push_ascii(&mut text, b'0' + (number % 10) as u8);
+    let mut buffer = Buffer::new();
+    let mut text = ArrayString::new();
+    text.push_str(buffer.format(number));
     text
 }
 

@@ -6,7 +6,7 @@ use Rattle.registry.specs.History.{History}
 use Rattle.registry.specs.Values.{HistoryFits}
 use Rattle.requests.specs.HttpRequests.{asked, HttpRequest, IsRequest, malformed, NeedsMemory, ReadsHttp, refused}
 use Rattle.desk.specs.Desk.{charter_of, IsOnCleanDisk, Represents}
-use Rattle.desk.specs.declared.handling.Desk.{Desk}
+use Rattle.desk.specs.declared.desk.Desk.{Desk}
 use Rattle.web.specs.HttpAnswers.{AnswersHttp, RespondsTo}
 use Rattle.web.specs.declared.http.WebFault.{WebFault}
 use Rattle.web.specs.declared.http.WebFault.TheVariants.{Read, Write}

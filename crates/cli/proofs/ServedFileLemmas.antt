@@ -10,7 +10,7 @@ use Rattle.sqlite_wal.specs.Recovery.{Image}
 use Rattle.charters.specs.declared.charter.Charter.{Charter}
 use Rattle.registry.specs.History.{History}
 use Rattle.desk.specs.Desk.{charter_of, HoldsHistory, IsOnCleanDisk, Represents}
-use Rattle.desk.specs.declared.handling.Desk.{Desk}
+use Rattle.desk.specs.declared.desk.Desk.{Desk}
 use Rattle.desk_files.specs.DeskFiles.{KeepDesk, ResumesFiles}
 use Rattle.cli.specs.Connections.{Accepts}
 use Rattle.cli.specs.ServedFiles.{IfClosed, KeepsFiles}

@@ -2,7 +2,7 @@
 use Rattle.std.proofs.Common.{◌≡◌, ◌∙◌, ℕ, Bool, true, List, [], ◌∷◌, ◌++◌, Result, Ok, Err, IfOk, ap, refl, subst, sym}
 use Rattle.std.specs.Result.{result_err}
 use Rattle.sqlite.specs.Store.{Ghosts}
-use Rattle.desk.specs.declared.handling.Desk.{Desk}
+use Rattle.desk.specs.declared.desk.Desk.{Desk}
 use Rattle.streams.specs.Streams.{AppendsBeginning}
 use Rattle.http_messages.specs.Input.{Gives, IsOver}
 use Rattle.requests.specs.HttpRequests.{IsCutShort}

@@ -1,7 +1,7 @@
 -- What `roadesk serve` does on its connections, and the line that it prints for one that failed.
 use Rattle.std.specs.Prelude.{◌≡◌, ℕ, suc, Bool, true, List, [], ◌∷◌, ◌++◌, Option, Some, None, codes, decimal}
 use Rattle.sqlite.specs.Store.{Ghosts}
-use Rattle.desk.specs.declared.handling.Desk.{Desk}
+use Rattle.desk.specs.declared.desk.Desk.{Desk}
 use Rattle.http_messages.specs.Input.{IsOver}
 use Rattle.requests.specs.HttpRequests.{IsCutShort}
 use Rattle.web.specs.HttpAnswers.{RespondsTo}

@@ -25,7 +25,7 @@ const TASKS: [(&str, &str); 5] = [
 ];
 
 /// The text that names the tasks and their words.
-pub fn help_text(alloc: Global) -> Result<String, AllocError> {
+pub(crate) fn help_text(alloc: Global) -> Result<String, AllocError> {
     let mut command = Command::new(alloc, "roadesk")
         .about("A desk for route origin authorizations")
         .override_usage(USAGE)

@@ -27,7 +27,7 @@ use std::{env, fs};
 use web::{Device, Failed, run_script, write_all};
 
 fn main(rt: HostRuntime) -> ExitCode {
-    match run(&rt) {
+    match run_program(&rt) {
         Ok(()) => ExitCode::SUCCESS,
         Err(fault) => {
             // Where standard error fails too, the status is all that is left.
@@ -37,7 +37,7 @@ fn main(rt: HostRuntime) -> ExitCode {
     }
 }
 
-fn run(rt: &HostRuntime) -> Result<(), ProgramFault> {
+fn run_program(rt: &HostRuntime) -> Result<(), ProgramFault> {
     let args = match env::args(rt) {
         Ok(args) => args,
         Err(error) => return Err(fault_of_error(&error, ProgramFault::Words)),

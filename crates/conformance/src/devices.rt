@@ -1,6 +1,6 @@
 //! How a script is read and its replies are written: pieces, ends, failures and the limit of a line.
+use crate::desks::example_desk;
 use crate::fakes::{Drip, Peer, Tape};
-use crate::scripts::example_desk;
 use desk::Desk;
 use library_conformance::sheet::Sheet;
 use sqlite::MemStore;
@@ -105,8 +105,26 @@ const REGISTER_THREE: &str = r#"{"day":"2026-03-01","caller":"reg","do":"registe
 
 const DONE_THREE: &str = "{\"done\":null}\n{\"done\":null}\n{\"done\":null}\n";
 
-/// Asked again, the commands that were acted on are denied: the one whose reply was cut short, and
-/// none after it.
+/// How many of these commands are denied where they are asked again, since they were acted on.
+fn count_denied(alloc: Global, desk: &mut Desk<MemStore>) -> Result<usize, Fail> {
+    let again = run(
+        alloc,
+        desk,
+        REGISTER_THREE.as_bytes(),
+        false,
+        10_000,
+        usize::MAX,
+    );
+    let again = String::from_utf8(again.written)?;
+    Ok(
+        again
+            .lines()
+            .filter(|line| *line == "{\"denied\":\"fresh\"}")
+            .count(),
+    )
+}
+
+/// The command whose reply was cut short was acted on, and none after it.
 #[test]
 fn write_that_fails_cuts_the_replies_short(rt: HostRuntime) -> Result<(), Fail> {
     let alloc = rt.alloc();
@@ -124,13 +142,34 @@ fn write_that_fails_cuts_the_replies_short(rt: HostRuntime) -> Result<(), Fail> 
             &DONE_THREE.as_bytes()[..room],
             "after {room} bytes"
         );
-        let again = run(alloc, &mut desk, script, false, 10_000, usize::MAX);
-        let again = String::from_utf8(again.written)?;
-        let denied = again
-            .lines()
-            .filter(|line| *line == "{\"denied\":\"fresh\"}")
-            .count();
+        let denied = count_denied(alloc, &mut desk)?;
         assert_eq!(rt; denied, room / 14 + 1, "after {room} bytes");
+    }
+    Ok(())
+}
+
+/// The commands whose lines came whole were acted on and answered, and no others.
+#[test]
+fn read_that_fails_ends_the_script_after_whole_lines(rt: HostRuntime) -> Result<(), Fail> {
+    let alloc = rt.alloc();
+    let script = REGISTER_THREE.as_bytes();
+    for count in 0..=script.len() {
+        let read = &script[..count];
+        let whole = read.iter().filter(|byte| **byte == b'\n').count();
+        let mut desk = example_desk(alloc)?;
+        let outcome = run(alloc, &mut desk, read, true, 10_000, usize::MAX);
+        assert_eq!(rt;
+            outcome.result,
+            Err(ScriptFault::Read),
+            "after {count} bytes"
+        );
+        assert_eq!(rt;
+            Some(outcome.written.as_slice()),
+            DONE_THREE.as_bytes().get(..whole.saturating_mul(14)),
+            "after {count} bytes"
+        );
+        let denied = count_denied(alloc, &mut desk)?;
+        assert_eq!(rt; denied, whole, "after {count} bytes");
     }
     Ok(())
 }

@@ -5,11 +5,11 @@ use std::io::{Error, ErrorKind, Read, Result, Write};
 /// Gives its bytes, at most `piece` of them a read, and then ends or fails. Every second call is
 /// interrupted.
 #[derive(Drop)]
-pub(crate) struct Tape<'a> {
-    pub(crate) bytes: &'a [u8],
-    pub(crate) piece: usize,
-    pub(crate) fails: bool,
-    pub(crate) is_interrupted: bool,
+pub struct Tape<'a> {
+    pub bytes: &'a [u8],
+    pub piece: usize,
+    pub fails: bool,
+    pub is_interrupted: bool,
 }
 
 impl Read for Tape<'_> {
@@ -30,10 +30,10 @@ impl Read for Tape<'_> {
 
 /// A peer that sends its next line, which is empty, only when it has the reply to the one before.
 #[derive(Drop)]
-pub(crate) struct Peer {
-    pub(crate) lines: Cell<usize>,
-    pub(crate) sent: Cell<usize>,
-    pub(crate) replies: Cell<usize>,
+pub struct Peer {
+    pub lines: Cell<usize>,
+    pub sent: Cell<usize>,
+    pub replies: Cell<usize>,
 }
 
 impl Read for &Peer {
@@ -65,10 +65,10 @@ impl Write for &Peer {
 
 /// Passes at most `piece` bytes a call, and keeps those that were written.
 #[derive(Drop)]
-pub(crate) struct Drip {
-    pub(crate) piece: usize,
-    pub(crate) calls: usize,
-    pub(crate) written: Vec<u8>,
+pub struct Drip {
+    pub piece: usize,
+    pub calls: usize,
+    pub written: Vec<u8>,
 }
 
 impl Read for Drip {

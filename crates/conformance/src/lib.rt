@@ -2,12 +2,14 @@
 //! named rows, and one small function goes over it.
 #![tactic(auto)]
 
+pub mod desks;
 #[cfg(test)]
 mod devices;
+pub mod fakes;
 #[cfg(test)]
-mod fakes;
+mod followed_days;
 #[cfg(test)]
-mod http;
+mod kept_days;
 #[cfg(test)]
 mod many_vrps;
 #[cfg(test)]

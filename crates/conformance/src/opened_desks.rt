@@ -1,6 +1,7 @@
 //! Desks that go on where another one ended.
+use crate::desks::example_desk;
 use crate::scripts::exceptions::FILTER_AND_ASSERTION;
-use crate::scripts::{ALPHA, AUTHORIZATION, Dialogue, example_desk};
+use crate::scripts::{ALPHA, AUTHORIZATION, Dialogue};
 use desk::Desk;
 use sqlite::{Connection, MemStore};
 use std::alloc::Global;
@@ -71,4 +72,29 @@ fn opened_desk_has_its_exceptions(rt: HostRuntime) -> Result<(), Fail> {
     };
     let afterwards = Dialogue::of(rt.alloc(), &[EXCEPTIONS_AFTERWARDS])?;
     afterwards.assert_replies_of_lines(&rt, name, &mut opened)
+}
+
+/// All numbers of authorizations but the last were given.
+const ALL_BUT_ONE_MADE: &str = "UPDATE holder SET auths = 999998 WHERE name = 'alpha';";
+
+const LAST_NUMBER: &str = r#"
+ann {"do":"import","holder":"alpha","rows":[{"asn":64497,"prefix":"192.0.2.0/24","max":24,"from":"2026-01-01","until":"2026-12-31"},{"asn":64498,"prefix":"192.0.2.0/24","max":24,"from":"2026-01-01","until":"2026-12-31"}]} => {"denied":"room","row":2}
+ann {"do":"create","holder":"alpha","asn":64497,"prefix":"192.0.2.0/24","max":24,"from":"2026-01-01","until":"2026-12-31"} => {"done":999999}
+ann {"do":"show","holder":"alpha","number":999999} => {"shown":{"number":999999,"asn":64497,"prefix":"192.0.2.0/24","max":24,"from":"2026-01-01","until":"2026-12-31"}}
+ann {"do":"create","holder":"alpha","asn":64498,"prefix":"192.0.2.0/24","max":24,"from":"2026-01-01","until":"2026-12-31"} => {"denied":"room"}
+ann {"do":"withdraw","holder":"alpha","number":999999} => {"done":null}
+ann {"do":"create","holder":"alpha","asn":64497,"prefix":"192.0.2.0/24","max":24,"from":"2026-01-01","until":"2026-12-31"} => {"denied":"room"}
+ann {"do":"list","holder":"alpha"} => {"listed":[{"number":1,"asn":64496,"prefix":"192.0.2.0/24","max":24,"from":"2026-01-01","until":"2026-12-31"}]}
+"#;
+
+/// The last number is kept by the tables, and is given once.
+#[test]
+fn last_number_of_a_holder(rt: HostRuntime) -> Result<(), Fail> {
+    let mut conn = made(rt.alloc(), TABLES)?;
+    conn.execute_batch(ALL_BUT_ONE_MADE)?;
+    let Ok(mut desk) = Desk::open_from(rt.alloc(), conn) else {
+        return Err("not opened".into());
+    };
+    let dialogue = Dialogue::of(rt.alloc(), &[LAST_NUMBER])?;
+    dialogue.assert_replies_of_lines(&rt, "last_number_of_a_holder", &mut desk)
 }

@@ -1,5 +1,6 @@
 //! Requests that no line brings, and rows that no short script leaves.
-use crate::scripts::{ALPHA, Dialogue, example_charter, example_desk};
+use crate::desks::{example_charter, example_desk};
+use crate::scripts::{ALPHA, Dialogue};
 use addr::{Asn, Day, Holdings, Name, Prefix};
 use desk::{Reply, Request};
 use policy::{

@@ -4,12 +4,11 @@
 //! Each script begins with a line `# NAME`, or `# NAME after SETUP, SETUP, ..` where other lines
 //! come before its own. A line is `CALLER {"do":..} => REPLY`, sent on the first of March, or
 //! `day DAY`, the day of the lines that follow it.
+use crate::desks::{EXAMPLE_POOL, desk_of};
 use crate::fakes::Tape;
-use addr::{Name, Prefix};
-use desk::Desk;
+use desk::{Desk, Reply};
 use library_conformance::rows::split_row;
 use library_conformance::sheet::Sheet;
-use policy::Charter;
 use sqlite::MemStore;
 use std::alloc::Global;
 use std::process::Abort;
@@ -66,43 +65,65 @@ reg {"do":"delegate","holder":"beta","prefix":"198.51.100.0/24"} => {"done":null
 reg {"do":"grant","holder":"beta","name":"bea","role":"manager","scope":"all","until":"2026-12-31"} => {"done":1}
 "#;
 
-/// The pool of the scripts that name no other.
-const EXAMPLE_POOL: &[&str] = &["192.0.2.0/24", "198.51.100.0/24", "2001:db8::/32"];
-
 const HALVES: &[&str] = &["192.0.2.0/25", "192.0.2.128/25"];
-
-/// The charter of the operator `reg` and this pool.
-fn charter_with_pool(alloc: Global, pool: &[&str]) -> Result<Charter, Fail> {
-    let mut operators = Vec::new(alloc);
-    operators.push(Name::read(b"reg").ok_or("a name")?)?;
-    let mut prefixes = Vec::new(alloc);
-    for text in pool {
-        prefixes.push(Prefix::read(text.as_bytes())?)?;
-    }
-    Ok(Charter::make(operators, prefixes)?)
-}
-
-/// A new desk with the operator `reg` and this pool.
-pub(crate) fn desk_of(alloc: Global, pool: &[&str]) -> Result<Desk<MemStore>, Fail> {
-    let charter = charter_with_pool(alloc, pool)?;
-    let Ok(desk) = Desk::open_memory(alloc, &charter) else {
-        return Err("no desk".into());
-    };
-    Ok(desk)
-}
-
-pub(crate) fn example_charter(alloc: Global) -> Result<Charter, Fail> {
-    charter_with_pool(alloc, EXAMPLE_POOL)
-}
-
-pub(crate) fn example_desk(alloc: Global) -> Result<Desk<MemStore>, Fail> {
-    desk_of(alloc, EXAMPLE_POOL)
-}
 
 /// The line of a script on a day, of a request with its caller before it.
 pub(crate) fn line_of(alloc: Global, day: &str, request: &str) -> Result<String, Fail> {
     let (caller, members) = request.split_once(" {").ok_or("no caller")?;
     Ok(format!(in alloc; "{{\"day\":\"{day}\",\"caller\":\"{caller}\",{members}")?)
+}
+
+/// What the desk writes to a script, which a source gives few bytes at a time.
+pub(crate) fn replies_to(
+    alloc: Global,
+    desk: &mut Desk<MemStore>,
+    script: &str,
+) -> Result<String, Fail> {
+    let mut source = Device::new(Tape {
+        bytes: script.as_bytes(),
+        piece: 7,
+        fails: false,
+        is_interrupted: false,
+    });
+    let mut sheet = Sheet {
+        bytes: Vec::new(alloc),
+        room: usize::MAX,
+        is_interrupted: false,
+    };
+    let result = {
+        let mut drain = Device::new(&mut sheet);
+        run_script(alloc, &mut source, &mut drain, desk)
+    };
+    result?;
+    Ok(String::from_utf8(sheet.bytes)?)
+}
+
+/// The reply of the desk to the request of a row on a day.
+pub(crate) fn reply_to(
+    alloc: Global,
+    desk: &mut Desk<MemStore>,
+    day: &str,
+    request: &str,
+) -> Result<String, Fail> {
+    let request = exceptions::request_line(alloc, request)?;
+    let line = line_of(alloc, day, &request)?;
+    replies_to(alloc, desk, &line)
+}
+
+/// The texts of these replies, a line each.
+pub(crate) fn text_of(alloc: Global, replies: &[Reply]) -> Result<String, Fail> {
+    let mut sheet = Sheet {
+        bytes: Vec::new(alloc),
+        room: usize::MAX,
+        is_interrupted: false,
+    };
+    for reply in replies {
+        let mut drain = Device::new(&mut sheet);
+        let Ok(()) = write_reply(reply, &mut drain) else {
+            return Err("a reply was not written".into());
+        };
+    }
+    Ok(String::from_utf8(sheet.bytes)?)
 }
 
 /// The lines of a script, and the replies that are expected.
@@ -151,27 +172,6 @@ impl Dialogue {
         Ok(())
     }
 
-    /// What the desk writes to the script, which a source gives few bytes at a time.
-    fn replies(&self, desk: &mut Desk<MemStore>) -> Result<Vec<u8>, Fail> {
-        let mut source = Device::new(Tape {
-            bytes: self.script.as_bytes(),
-            piece: 7,
-            fails: false,
-            is_interrupted: false,
-        });
-        let mut sheet = Sheet {
-            bytes: Vec::new(self.alloc),
-            room: usize::MAX,
-            is_interrupted: false,
-        };
-        let result = {
-            let mut drain = Device::new(&mut sheet);
-            run_script(self.alloc, &mut source, &mut drain, desk)
-        };
-        result?;
-        Ok(sheet.bytes)
-    }
-
     /// The lines, sent to the desk one by one, have their replies.
     pub(crate) fn assert_replies_of_lines(
         &self,
@@ -179,9 +179,15 @@ impl Dialogue {
         name: &str,
         desk: &mut Desk<MemStore>,
     ) -> Result<(), Fail> {
-        let written = String::from_utf8(self.replies(desk)?)?;
+        let written = replies_to(self.alloc, desk, &self.script)?;
         assert_eq!(rt; written.as_str(), self.expected.as_str(), "{name}");
         Ok(())
+    }
+
+    /// Each way of sending the lines has its own new desk.
+    fn assert_on_new_desks(&self, rt: &impl Abort, name: &str, pool: &[&str]) -> Result<(), Fail> {
+        self.assert_replies_of_lines(rt, name, &mut desk_of(self.alloc, pool)?)?;
+        self.assert_replies_of_run(rt, name, &mut desk_of(self.alloc, pool)?)
     }
 
     /// The lines that are requests, sent as one list, have the same replies.
@@ -201,18 +207,7 @@ impl Dialogue {
             }
         }
         let replies = desk.run(asked.as_slice())?;
-        let mut sheet = Sheet {
-            bytes: Vec::new(self.alloc),
-            room: usize::MAX,
-            is_interrupted: false,
-        };
-        for reply in &replies {
-            let mut drain = Device::new(&mut sheet);
-            let Ok(()) = write_reply(reply, &mut drain) else {
-                return Err("a reply was not written".into());
-            };
-        }
-        let written = String::from_utf8(sheet.bytes)?;
+        let written = text_of(self.alloc, &replies)?;
         assert_eq!(rt; written.as_str(), expected.as_str(), "{name} as one list");
         Ok(())
     }
@@ -229,8 +224,7 @@ fn assert_replies(
 ) -> Result<(), Fail> {
     let mut dialogue = Dialogue::of(alloc, texts)?;
     dialogue.add(lines)?;
-    dialogue.assert_replies_of_lines(rt, name, &mut desk_of(alloc, pool)?)?;
-    dialogue.assert_replies_of_run(rt, name, &mut desk_of(alloc, pool)?)
+    dialogue.assert_on_new_desks(rt, name, pool)
 }
 
 /// The lines of a set-up.
@@ -248,18 +242,22 @@ fn setup_of(name: &str) -> Result<&'static str, Fail> {
     }
 }
 
-/// The script of a heading and lines has its replies.
-fn assert_script(rt: &impl Abort, alloc: Global, script: &str) -> Result<(), Fail> {
-    let (heading, lines) = script.split_once('\n').unwrap_or((script, ""));
+/// The lines of the set-ups that a heading names.
+pub(crate) fn setups_of(alloc: Global, heading: &str) -> Result<Vec<&'static str>, Fail> {
     let mut texts = Vec::new(alloc);
-    let mut name = heading;
-    if let Some((before, setups)) = heading.split_once(" after ") {
-        name = before;
+    if let Some((_, setups)) = heading.split_once(" after ") {
         for setup in setups.split(',') {
             texts.push(setup_of(setup.trim())?)?;
         }
     }
-    assert_replies(rt, alloc, EXAMPLE_POOL, name, &texts, lines)
+    Ok(texts)
+}
+
+/// The script of a heading and lines has its replies.
+pub(crate) fn assert_script(rt: &impl Abort, alloc: Global, script: &str) -> Result<(), Fail> {
+    let (heading, lines) = script.split_once('\n').unwrap_or((script, ""));
+    let texts = setups_of(alloc, heading)?;
+    assert_replies(rt, alloc, EXAMPLE_POOL, heading, &texts, lines)
 }
 
 fn assert_all(rt: &impl Abort, alloc: Global, scripts: &str) -> Result<(), Fail> {

@@ -1,6 +1,6 @@
 -- The rows that the desk shows as CSV (RFC 4180, each line ended by a line feed). No field has a comma, a quotation mark
 -- or a line feed in it, so that none is quoted.
-use Rattle.std.specs.Prelude.{ℕ, List, [], ◌∷◌, ◌++◌, codes, decimal}
+use Rattle.std.specs.Prelude.{ℕ, List, [], ◌∷◌, ◌++◌, map, codes, decimal}
 use Rattle.std.specs.List.{flat_map, join_with_byte}
 use Rattle.addr.specs.Day.{day_text}
 use Rattle.addr.specs.Digits.{asn_text}
@@ -9,6 +9,8 @@ use Rattle.addr.specs.declared.asn.Asn.{Asn}
 use Rattle.addr.specs.declared.prefix.Prefix.{Prefix}
 use Rattle.addr.specs.declared.vrp.Vrp.{Vrp}
 use Rattle.registry.specs.declared.authorization.Auth.{Auth}
+use Rattle.registry.specs.declared.authorization.RoaPrefix.{RoaPrefix}
+use Rattle.registry.specs.Terms.{entries_of}
 use Rattle.csv_records.specs.Fields.{Fields}
 use Rattle.csv_records.specs.Imports.{import_header}
 
@@ -42,7 +44,12 @@ payload_row v = vrp_fields v.asn v.prefix v.max
 abbrev pub list_header : Fields
 list_header = codes "number" ∷ import_header
 
-abbrev pub list_row : Auth → Fields
-list_row auth =
-    decimal auth.number ∷ vrp_fields auth.asn auth.prefix auth.max
+-- of an authorization and one of its entries
+abbrev pub entry_row : Auth → RoaPrefix → Fields
+entry_row auth e =
+    decimal auth.number ∷ vrp_fields auth.asn e.prefix e.max
     ++ day_text auth.from ∷ day_text auth.until ∷ []
+
+-- a row for each entry of the authorization
+abbrev pub list_rows : Auth → List Fields
+list_rows auth = map (entry_row auth) (entries_of auth)

@@ -1,78 +1,74 @@
 //! The rows that the desk exports as CSV: a header and a line for each.
-ghost use Rattle.std.specs.Prelude.{◌≡◌, ◌++◌, IfOk};
+ghost use Rattle.std.specs.Prelude.{◌≡◌, ◌++◌, map, IfOk, OnOk};
 ghost use Rattle.std.specs.List.{flat_map};
 ghost use Rattle.addr.specs.Day.{day_text};
-ghost use Rattle.csv_records.specs.Lines.{csv_line, csv_text, fields_text, list_header, list_row, payload_header, payload_row, vrp_fields};
+ghost use Rattle.csv_records.specs.Lines.{csv_line, csv_text, entry_row, fields_text, list_header, list_rows, payload_header, payload_row, vrp_fields};
 
 use addr::{Asn, Day, Prefix, Vrp, digits};
 use arrayvec::ArrayString;
-use registry::Auth;
+use registry::{Auth, RoaPrefix};
 use std::alloc::{AllocError, Global};
 
-/// What is exported as a line.
-pub trait CsvRow {
-    ghost use Rattle.csv_records.specs.Fields.{Fields};
-
-    ghost fields: { Self → Fields };
-
-    /// The line with its line feed.
-    fn line(&self) -> ArrayString<160>
-        ensures { result.bytes ≡ csv_line (fields self.now) };
-}
-
-impl CsvRow for Vrp {
-    ghost fields = { payload_row };
-
-    fn line(&self) -> ArrayString<160> {
-        let mut text = ArrayString::new();
-        text.push_str(vrp_fields(self.asn, &self.prefix, self.max).as_str());
-        text.push_str("\n");
-        text
-    }
-}
-
-impl CsvRow for Auth {
-    ghost fields = { list_row };
-
-    fn line(&self) -> ArrayString<160> {
-        let mut text = ArrayString::new();
-        text.push_str(digits(u64::from(self.number)).as_str());
-        text.push_str(",");
-        text.push_str(vrp_fields(self.asn, &self.prefix, self.max).as_str());
-        text.push_str(",");
-        text.push_str(day_text(self.from).as_str());
-        text.push_str(",");
-        text.push_str(day_text(self.until).as_str());
-        text.push_str("\n");
-        text
-    }
+/// The line of a VRP, with its line feed.
+pub fn payload_line(vrp: &Vrp) -> ArrayString<160>
+    ensures { result.bytes ≡ csv_line (payload_row vrp.now) }
+{
+    let mut text = ArrayString::new();
+    text.push_str(vrp_fields(vrp.asn, &vrp.prefix, vrp.max).as_str());
+    text.push_str("\n");
+    text
 }
 
 /// VRPs with their header.
 pub fn payload_lines(alloc: Global, vrps: &[Vrp]) -> Result<Vec<u8>, AllocError>
     ensures { IfOk result (λ text. text.items ≡ csv_text payload_header payload_row vrps.now) }
 {
-    lines(alloc, "asn,prefix,maxlength\n", vrps)
-}
-
-/// Authorizations with their header.
-pub fn list_lines(alloc: Global, auths: &[Auth]) -> Result<Vec<u8>, AllocError>
-    ensures { IfOk result (λ text. text.items ≡ csv_text list_header list_row auths.now) }
-{
-    lines(alloc, "number,asn,prefix,maxlength,from,until\n", auths)
-}
-
-/// The header, which has its line feed, and a line for each row.
-fn lines<R: CsvRow>(alloc: Global, header: &str, rows: &[R]) -> Result<Vec<u8>, AllocError>
-    ensures { IfOk result (λ text. text.items
-        ≡ header.now ++ flat_map (λ row. csv_line (R.fields row)) rows.now) }
-{
     let mut text = Vec::new(alloc);
-    text.extend_from_slice(header.as_bytes())?;
-    for row in rows {
-        text.extend_from_slice(row.line().as_str().as_bytes())?;
+    text.extend_from_slice(b"asn,prefix,maxlength\n")?;
+    for vrp in vrps {
+        text.extend_from_slice(payload_line(vrp).as_str().as_bytes())?;
     }
     Ok(text)
+}
+
+/// Authorizations with their header, a line for each entry.
+pub fn list_lines(alloc: Global, auths: &[Auth]) -> Result<Vec<u8>, AllocError>
+    ensures { IfOk result (λ text. text.items
+        ≡ csv_text list_header (λ row. row) (flat_map list_rows auths.now)) }
+{
+    let mut text = Vec::new(alloc);
+    text.extend_from_slice(b"number,asn,prefix,maxlength,from,until\n")?;
+    for auth in auths {
+        push_lines(&mut text, auth, &auth.entries())?;
+    }
+    Ok(text)
+}
+
+/// Adds a line of the authorization for each of these entries.
+fn push_lines(text: &mut Vec<u8>, auth: &Auth, entries: &[RoaPrefix]) -> Result<(), AllocError>
+    ensures { OnOk result (text.new.items
+        ≡ text.old.items ++ flat_map csv_line (map (entry_row auth.now) entries.now)) }
+{
+    for entry in entries {
+        text.extend_from_slice(entry_line(auth, entry).as_str().as_bytes())?;
+    }
+    Ok(())
+}
+
+/// The line of an authorization and this entry, with its line feed.
+fn entry_line(auth: &Auth, entry: &RoaPrefix) -> ArrayString<160>
+    ensures { result.bytes ≡ csv_line (entry_row auth.now entry.now) }
+{
+    let mut text = ArrayString::new();
+    text.push_str(digits(u64::from(auth.number)).as_str());
+    text.push_str(",");
+    text.push_str(vrp_fields(auth.asn, &entry.prefix, entry.max).as_str());
+    text.push_str(",");
+    text.push_str(day_text(auth.from).as_str());
+    text.push_str(",");
+    text.push_str(day_text(auth.until).as_str());
+    text.push_str("\n");
+    text
 }
 
 /// The fields that VRPs and authorizations share.

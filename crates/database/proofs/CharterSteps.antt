@@ -14,13 +14,14 @@ use Rattle.database.specs.Databases.{IsNew}
 use Rattle.tables.specs.Tables.{meta, operator, pool, desk_tables, contents, is_table, IsTree, AreTrees}
 use Rattle.tables.specs.Cells.{schema_row, operator_row, prefix_cells}
 use Rattle.tables.specs.steps.Edits.{Edits}
-use Rattle.tables.specs.TablesHold.{holder_part, holding_part, granted_part, auth_part, TablesHold}
+use Rattle.tables.specs.TablesHold.{holder_part, holding_part, granted_part, claim_part, entry_part, TablesHold}
 use Rattle.tables.specs.declared.meta.TheConstants.{INSERT_SCHEMA}
 use Rattle.tables.specs.declared.operator.TheConstants.{INSERT_OPERATOR}
 use Rattle.tables.specs.declared.pool.TheConstants.{INSERT_PREFIX}
 use Rattle.database.specs.Statements.{IsReady, IsExecuted}
 use Rattle.database.specs.steps.Making.{IsMadeTo, PutsRows, HasCharter}
 use Rattle.tables.proofs.CellLemmas.{cast_schema, cast_prefix}
+use Rattle.tables.proofs.HaveEntries.{all_have_entries}
 use Rattle.database.proofs.StatementLemmas.{sound_still, puts_row, taken_more}
 use Rattle.tables.proofs.Inserting.{each_table}
 use Rattle.database.proofs.MakingSteps.{none_held, no_exceptions_held}
@@ -28,7 +29,7 @@ use Rattle.tables.proofs.Texts.{put_terms, put_schema_is, put_operator_is, put_p
 
 module _ (old new : State) where
   pub puts_schema : IsReady old → IsExecuted INSERT_SCHEMA.now [] old new → PutsRows meta.tree (schema_row ∷ []) old new
-  puts_schema = puts_row 0 meta refl old new [] (lit Null ∷ lit (Text (codes "schema")) ∷ lit (Int (pos 1)) ∷ []) 3 schema_row put_schema_is refl cast_schema
+  puts_schema = puts_row 0 meta refl old new [] (lit Null ∷ lit (Text (codes "schema")) ∷ lit (Int (pos 2)) ∷ []) 3 schema_row put_schema_is refl cast_schema
 
   pub puts_operator : (name : List ℕ) → IsReady old → IsExecuted INSERT_OPERATOR.now (operator_row name) old new → PutsRows operator.tree (operator_row name ∷ []) old new
   puts_operator name = puts_row 1 operator refl old new (operator_row name) (put_terms 1) 2 (operator_row name) put_operator_is refl refl
@@ -70,7 +71,7 @@ module _ (tree : ℕ) where
   first_rows : (rows : List Row) (a b : Database) → Edits tree (λ table. rows ++ table) a b → a.trees tree ≡ [] → IsPermutation rows (contents (b.trees tree))
   first_rows rows a b e none = subst (λ l. IsPermutation l (contents (b.trees tree))) (ap (λ t. rows ++ contents t) none ∙ append-nil rows) e.rows
 
-pub has_charter : (charter : CharterSets) (a b c d : State) → IsMadeTo 9 a → PutsRows meta.tree (schema_row ∷ []) a b → PutsRows operator.tree (map operator_row charter.operators) b c → PutsRows pool.tree (map prefix_cells charter.pool) c d → HasCharter charter d
+pub has_charter : (charter : CharterSets) (a b c d : State) → IsMadeTo 11 a → PutsRows meta.tree (schema_row ∷ []) a b → PutsRows operator.tree (map operator_row charter.operators) b c → PutsRows pool.tree (map prefix_cells charter.pool) c d → HasCharter charter d
 has_charter charter a b c d made schema operators prefixes =
     let at = each_table (λ t. a.now.trees t ≡ []) desk_tables made.empty in
     let first = schema.edits in
@@ -92,7 +93,10 @@ has_charter charter a b c d made schema operators prefixes =
         holders = none_held holder_part (d.now.trees 6) (still 6 refl (λ same. cc) (λ same. cc) (λ same. cc));
         holdings = none_held holding_part (d.now.trees 8) (still 8 refl (λ same. cc) (λ same. cc) (λ same. cc));
         grants = none_held granted_part (d.now.trees 10) (still 10 refl (λ same. cc) (λ same. cc) (λ same. cc));
-        auths = none_held auth_part (d.now.trees 12) (still 12 refl (λ same. cc) (λ same. cc) (λ same. cc));
+        claims = none_held claim_part (d.now.trees 17) (still 17 refl (λ same. cc) (λ same. cc) (λ same. cc));
+        entries = none_held entry_part (d.now.trees 19) (still 19 refl (λ same. cc) (λ same. cc) (λ same. cc));
+        have_entries = all_have_entries blank_rows.of_holder;
+        unused = ap contents (still 12 refl (λ same. cc) (λ same. cc) (λ same. cc));
         exceptions = no_exceptions_held (d.now.trees 15) (still 15 refl (λ same. cc) (λ same. cc) (λ same. cc));
         whole = sound_still 4 _ c.now d.now third (sound_still 2 _ b.now c.now second (sound_still 0 _ a.now b.now first sound));
       };

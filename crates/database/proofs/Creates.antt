@@ -10,8 +10,10 @@ use Rattle.sqlite_schema.specs.declared.schema.Schema.{Schema}
 use Rattle.sqlite_schema.specs.declared.schema.Table.{Table}
 use Rattle.sqlite_tied.specs.Compute.{everything}
 use Rattle.std.specs.Fmt.{digits}
-use Rattle.tables.specs.Tables.{meta, operator, pool, holder, holding, granted, auth, slurm, holding_of, desk_schema, unindexed_schema}
+use Rattle.tables.specs.Tables.{meta, operator, pool, holder, holding, granted, auth, slurm, claim, entry, holding_of}
 use Rattle.tables.specs.declared.auth.TheConstants.{CREATE_AUTH}
+use Rattle.tables.specs.declared.claim.TheConstants.{CREATE_CLAIM}
+use Rattle.tables.specs.declared.entry.TheConstants.{CREATE_ENTRY}
 use Rattle.tables.specs.declared.exception.TheConstants.{CREATE_SLURM}
 use Rattle.tables.specs.declared.granted.TheConstants.{CREATE_GRANTED}
 use Rattle.tables.specs.declared.holder.TheConstants.{CREATE_HOLDER}
@@ -31,13 +33,13 @@ pub record Defines (sql : List ℕ) (table : Table) (before after : Schema) : Ty
   pub place : next_tree before ≡ table.tree
   pub uncounted : lacks_sequence after ≡ false
 
--- over a desk without it, the text defines the index of a holder's runs
-pub record DefinesIndex (sql : List ℕ) : Type 0 where
-  pub is : command_of (understood unindexed_schema sql) ≡ CreateIndex 4
-  pub text : statement_of sql (understood unindexed_schema sql) ≡ sql
-  pub plain : IsPlain (understood unindexed_schema sql)
+-- over the first tables, the text defines the index of a holder's runs, and makes the next schema
+pub record DefinesIndex (sql : List ℕ) (before after : Schema) : Type 0 where
+  pub is : command_of (understood before sql) ≡ CreateIndex 4
+  pub text : statement_of sql (understood before sql) ≡ sql
+  pub plain : IsPlain (understood before sql)
   pub defined : index_defined_by holding sql ≡ Ok (record holding_of { tree = 0 })
-  pub made : indexed unindexed_schema holding (record holding_of { tree = 0 }) ≡ desk_schema
+  pub made : indexed before holding (record holding_of { tree = 0 }) ≡ after
 
 pub meta_defined : Defines CREATE_META.now meta (schema_so_far 0) (schema_so_far 1)
 unfolding understood everything digits
@@ -71,6 +73,14 @@ pub slurm_defined : Defines CREATE_SLURM.now slurm (schema_so_far 7) (schema_so_
 unfolding understood everything digits
 slurm_defined = record { is = refl; text = refl; plain = (refl, refl); defined = refl; made = refl; place = refl; uncounted = refl }
 
-pub index_defined : DefinesIndex CREATE_HOLDING_INDEX.now
+pub claim_defined : Defines CREATE_CLAIM.now claim (schema_so_far 8) (schema_so_far 9)
+unfolding understood everything digits
+claim_defined = record { is = refl; text = refl; plain = (refl, refl); defined = refl; made = refl; place = refl; uncounted = refl }
+
+pub entry_defined : Defines CREATE_ENTRY.now entry (schema_so_far 9) (schema_so_far 10)
+unfolding understood everything digits
+entry_defined = record { is = refl; text = refl; plain = (refl, refl); defined = refl; made = refl; place = refl; uncounted = refl }
+
+pub index_defined : DefinesIndex CREATE_HOLDING_INDEX.now (schema_so_far 10) (schema_so_far 11)
 unfolding understood everything digits
 index_defined = record { is = refl; text = refl; plain = (refl, refl); defined = refl; made = refl }

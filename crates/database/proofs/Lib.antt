@@ -6,10 +6,13 @@ mod Creates
 mod MakingSteps
 pub mod CharterSteps
 mod Rowids
+mod InOrder
 mod AllTexts
 mod Obeyed
 mod Moved
-mod Payloads
+mod KeyedRows
+mod Grouped
+pub mod SomeAuths
 mod SomeRows
 mod SomeExceptions
 mod Unread

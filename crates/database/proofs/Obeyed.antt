@@ -27,11 +27,11 @@ use Rattle.sqlite_schema.specs.Rules.{are_typed, are_present, passes, agree, equ
 use Rattle.sqlite_rules.specs.Lists.{Has}
 use Rattle.sqlite_rules.proofs.ListLemmas.{all_has, test_has, some_has, some_from}
 use Rattle.sqlite_catalog.specs.Listing.{IsSound, IsGuarded, automatic}
-use Rattle.sqlite_schema.specs.declared.schema.Kind.TheVariants.{Integer as OfInteger, Blob as OfBlob}
-use Rattle.tables.specs.Tables.{desk_tables, holder_reference, required_column, rising, holder, auth}
+use Rattle.sqlite_schema.specs.declared.schema.Kind.TheVariants.{Integer as OfInteger, Blob as OfBlob, Text as OfText}
+use Rattle.tables.specs.Tables.{desk_tables, holder_reference, required_column, rising, holder, claim, entry}
 use Rattle.tables.specs.TablesHold.{is_name_of}
 use Rattle.tables.proofs.TreeRows.{alike_flip}
-use Rattle.database.specs.Laws.{payload_columns}
+use Rattle.database.specs.Laws.{payload_columns, number_columns}
 use Rattle.database.proofs.Columns.{column_after}
 
 -- ---- the number of columns
@@ -135,18 +135,39 @@ payload_key_is : (a b : Row) → agree rising payload_key a payload_key b ≡ (s
 unfolding first_key
 payload_key_is a b = refl
 
--- rows of the table `auth` that have the same VRP agree in its second key
-pub agree_in_payload : (a b : Row) → are_present None 0 auth.columns b ≡ true → payload_columns (drop 1 a) ≡ payload_columns (drop 1 b) → agree rising payload_key a payload_key b ≡ true
+-- two rows show the same in a column, which is NOT NULL
+same_cell :
+    (t : Table) (a b : Row) → are_present None 0 t.columns b ≡ true → (k : ℕ) (c : Column) → slice_get t.columns k ≡ Some c → c.not_null ≡ true
+    → column (drop 1 a) k ≡ column (drop 1 b) k → same_at (suc k) a b ≡ true
+same_cell t a b filled k c is required equal =
+    let some : is_null (column b (suc k)) ≡ false = subst (λ n. is_null (column b n) ≡ false) (omega arith) (present t.columns k c 0 b is required filled) in
+    have_same (suc k) (column b (suc k)) a b (column_after a k ∙ equal ∙ sym (column_after b k), some) (refl, some)
+
+-- rows of the table `entry` that have the same VRP agree in its second key
+pub agree_in_payload : (a b : Row) → are_present None 0 entry.columns b ≡ true → payload_columns (drop 1 a) ≡ payload_columns (drop 1 b) → agree rising payload_key a payload_key b ≡ true
 agree_in_payload a b filled same =
-    let cell = λ (k : ℕ) (c : Column) (is : slice_get auth.columns k ≡ Some c) (required : c.not_null ≡ true) (equal : column (drop 1 a) k ≡ column (drop 1 b) k).
-    let some : is_null (column b (suc k)) ≡ false = subst (λ n. is_null (column b n) ≡ false) (omega arith) (present auth.columns k c 0 b is required filled) in
-    have_same (suc k) (column b (suc k)) a b (column_after a k ∙ equal ∙ sym (column_after b k), some) (refl, some) in
+    let cell = same_cell entry a b filled in
     payload_key_is a b
     ∙ and_from _ _ (cell 2 (required_column (codes "asn") OfInteger) refl refl (ap (λ c. column c 0) same))
     (and_from _ _ (cell 3 (required_column (codes "family") OfInteger) refl refl (ap (λ c. column c 1) same))
     (and_from _ _ (cell 4 (required_column (codes "lo") OfBlob) refl refl (ap (λ c. column c 2) same))
     (and_from _ _ (cell 5 (required_column (codes "len") OfInteger) refl refl (ap (λ c. column c 3) same))
     (and_from _ _ (cell 6 (required_column (codes "max") OfInteger) refl refl (ap (λ c. column c 4) same)) refl))))
+
+abbrev pub number_key : List ℕ
+number_key = 1 ∷ 2 ∷ []
+
+number_key_is : (a b : Row) → agree rising number_key a number_key b ≡ (same_at 1 a b && (same_at 2 a b && true))
+unfolding first_key
+number_key_is a b = refl
+
+-- rows of the table `claim` that have the same holder and number agree in its key
+pub agree_in_number : (a b : Row) → are_present None 0 claim.columns b ≡ true → number_columns (drop 1 a) ≡ number_columns (drop 1 b) → agree rising number_key a number_key b ≡ true
+agree_in_number a b filled same =
+    let cell = same_cell claim a b filled in
+    number_key_is a b
+    ∙ and_from _ _ (cell 0 (required_column (codes "holder") OfText) refl refl (ap (λ c. column c 0) same))
+    (and_from _ _ (cell 1 (required_column (codes "number") OfInteger) refl refl (ap (λ c. column c 1) same)) refl)
 
 pub agree_in_key : (u v w : Value) (a b : Row) → HasAt 1 u a → HasAt 1 u b → HasAt 2 v a → HasAt 2 v b → HasAt 3 w a → HasAt 3 w b → agree rising slurm_key a slurm_key b ≡ true
 agree_in_key u v w a b u_a u_b v_a v_b w_a w_b =

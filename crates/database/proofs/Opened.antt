@@ -4,14 +4,15 @@ use Rattle.std.specs.Prelude.{⊤}
 use Rattle.std.specs.List.{AllByRecursion}
 use Rattle.std.proofs.lemmas.Bool.{both_ways}
 use Rattle.std.proofs.lemmas.List.{length-map}
-use Rattle.std.proofs.lemmas.List.Sorted.{Contains-permutation}
+use Rattle.std.proofs.lemmas.List.Sorted.{Contains-permutation, IsPermutation-sym}
 use Rattle.sqlite.specs.Effect.{Database}
 use Rattle.sqlite_value.specs.declared.keys.Collation.TheVariants.{Binary}
+use Rattle.sqlite_value.specs.declared.value.Value.{Value}
 use Rattle.sqlite_value.specs.declared.value.Value.TheVariants.{Text}
 use Rattle.sqlite_value.specs.Order.{Row, column, value_cmp}
 use Rattle.sqlite_trees.specs.Tree.{rowid, IsAscending}
 use Rattle.sqlite_trees.specs.View.{is_int}
-use Rattle.sqlite_trees.proofs.ListLemmas.{all_weaker, all_both, all-map, all_from_map, ascending-filter, ascending-map, ascending_from_map, ascending_weaker, filter-map}
+use Rattle.sqlite_trees.proofs.ListLemmas.{all_weaker, all_both, all-map, all-permutation, all_from_map, ascending-filter, ascending-map, ascending_from_map, ascending_weaker, filter-map}
 use Rattle.sqlite_schema.specs.declared.schema.Column.{Column}
 use Rattle.sqlite_schema.specs.declared.schema.Kind.TheVariants.{Integer, Text as OfText}
 use Rattle.sqlite_schema.specs.declared.schema.Table.{Table}
@@ -24,20 +25,24 @@ use Rattle.addr.specs.declared.span.Span.{Span}
 use Rattle.charters.specs.CharterSets.{CharterSets, IsCharter}
 use Rattle.registry.specs.declared.authorization.Auth.{Auth}
 use Rattle.registry.specs.declared.grant.Granted.{Granted}
-use Rattle.registry.specs.Values.{AuthFits, GrantFits, ExceptionsFit}
+use Rattle.registry.specs.Values.{GrantFits, ExceptionsFit}
 use Rattle.slurm.specs.Exceptions.{Exceptions}
 use Rattle.tables.specs.declared.exception.ExceptionRow.{ExceptionRow}
-use Rattle.tables.specs.Cells.{schema_row, operator_row, prefix_cells, number_cell, kind_number, exception_row, span_cells, grant_cells, auth_cells, holder_row, holding_row, granted_row, auth_row}
+use Rattle.tables.specs.Cells.{schema_row, operator_row, prefix_cells, number_cell, kind_number, exception_row, span_cells, grant_cells, holder_row, holding_row, granted_row}
 use Rattle.tables.specs.Decode.{first_columns, exception_columns}
-use Rattle.tables.specs.Tables.{desk_tables, holder_reference, required_column, meta, operator, pool, holder, holding, granted, auth, slurm, contents, columns, IsTree, AreTrees}
+use Rattle.tables.specs.Tables.{desk_tables, holder_reference, required_column, meta, operator, pool, holder, holding, granted, slurm, claim, entry, contents, columns, IsTree, AreTrees}
 use Rattle.tables.specs.TablesHold.{HoldsExceptions}
 use Rattle.tables.proofs.Inserting.{each_table}
 use Rattle.tables.proofs.PartLemmas.{names, name_of-true, name_of_itself}
 use Rattle.tables.proofs.ReadLemmas.{all_columns, first_of_all}
-use Rattle.database.specs.TablesRead.{ShowsSome, ShowsHolder, ShowsOfHolder, HoldSomeRows, TablesRead}
+use Rattle.tables.specs.declared.groups.OfHolder.{OfHolder}
+use Rattle.tables.proofs.HaveEntries.{all_have_entries}
+use Rattle.database.specs.TablesRead.{ShowsSome, ShowsHolder, ShowsOfHolder, HoldSomeRows, TablesRead, HasSomeAuths, row_of_claim}
 use Rattle.database.specs.steps.Numbered.{shown_in}
-use Rattle.database.specs.steps.Opened.{ShowsSchema, ShowsCharter, ShowExceptions, ShowHolders}
+use Rattle.database.specs.steps.Opened.{ShowsSchema, ShowsCharter, ShowExceptions, ShowHolders, ShowAuths}
 use Rattle.database.proofs.Obeyed.{slurm_key, agree_in_key, all_whole, all_referred, once_by_key, once, equal_texts}
+use Rattle.database.proofs.KeyedRows.{at_claim}
+use Rattle.database.proofs.SomeAuths.{auths_read}
 use Rattle.database.proofs.SomeRows.{IsPartRow, rows_in, holds_parts}
 use Rattle.database.proofs.SomeExceptions.{AreElsewhere, ascending_where, some_exceptions}
 use Rattle.database.proofs.Columns.{column_after}
@@ -187,22 +192,62 @@ module _ (db : Database) (tables : db.schema.tables ≡ desk_tables) (sound : Is
     given : AllByRecursion (IsPartRow Granted 0 granted_row holders) (contents (db.trees granted.tree))
     given = all_weaker _ _ (λ c both. both.0) (contents (db.trees granted.tree)) given_read
 
-    active_read : AllByRecursion (λ c. IsPartRow Auth 0 auth_row holders c × ShowsOfHolder auth_row AuthFits c) (contents (db.trees auth.tree))
-    active_read =
-        part_rows_of auth (inr (inr (inr (inr (inr (inr (inl refl))))))) refl 8 (required_column (codes "ends") Integer) refl refl refl 0 (required_column (codes "holder") OfText) refl refl refl
-        (1 ∷ 2 ∷ 3 ∷ 4 ∷ 5 ∷ 6 ∷ 7 ∷ 8 ∷ []) auth_cells AuthFits auth_row
-        (λ c h x whole name shows. all_columns 9 c whole ∙ (λ i. name i ∷ shows i)) shown.auths.each
+    -- ---- authorizations
 
-    active : AllByRecursion (IsPartRow Auth 0 auth_row holders) (contents (db.trees auth.tree))
-    active = all_weaker _ _ (λ c both. both.0) (contents (db.trees auth.tree)) active_read
+    module _ (authorized : ShowAuths db) where
+      have_auths : HasSomeAuths db.trees
+      have_auths = auths_read db tables sound authorized
+
+      -- the holder of a row of a claim is registered
+      abbrev IsOfHolder : Row → Type 0
+      IsOfHolder c = (p : Row) × Has holders p × (equal Binary (column p 0) (column c 0) ≡ true)
+
+      referred : (r : Row) → (p : Row) × Has (db.trees holder.tree) p × (equal Binary (column p 1) (column r 1) ≡ true) → IsOfHolder (drop 1 r)
+      referred r it =
+          (drop 1 it.0, mapped_has (drop 1) (db.trees holder.tree) it.0 it.1, subst (λ (v : Value). equal Binary v (column (drop 1 r) 0) ≡ true) (column_after it.0 0) (subst (λ (v : Value). equal Binary (column it.0 1) v ≡ true) (column_after r 0) it.2))
+
+      claims_referred : AllByRecursion IsOfHolder (contents (db.trees claim.tree))
+      claims_referred =
+          all-map IsOfHolder (drop 1) (db.trees claim.tree)
+          (all_weaker _ _ referred (db.trees claim.tree) (all_referred db.schema db.trees tables sound claim at_claim refl 0 (required_column (codes "holder") OfText) refl refl refl))
+
+      -- so is that of an authorization
+      registered : AllByRecursion (λ (x : OfHolder Auth). (p : Row) × Has holders p × (column p 0 ≡ Text x.holder)) have_auths.auths
+      registered =
+          all_weaker _ _ (λ x it.
+          let name = all_has Makes holders it.0 made it.1 in
+          let texts : column it.0 0 ≡ Text name.0 = ap (λ c. column c 0) name.2 in
+          let same = subst (λ (v : Value). equal Binary v (Text x.holder) ≡ true) texts it.2 in
+          (it.0, it.1, texts ∙ sym (name_of-true name.0 (Text x.holder) (sym (equal_texts name.0 (Text x.holder)) ∙ same)))) have_auths.auths
+          (all_from_map IsOfHolder row_of_claim have_auths.auths (all-permutation IsOfHolder _ _ (IsPermutation-sym _ _ have_auths.claims_shown) claims_referred))
 
     -- ---- all of them
 
-    module _ (charter : CharterSets) (schema : ShowsSchema db) (chartered : ShowsCharter charter db) (excepted : ShowExceptions db) where
+    module _ (authorized : ShowAuths db) (charter : CharterSets) (schema : ShowsSchema db) (chartered : ShowsCharter charter db) (excepted : ShowExceptions db) where
       trees_whole : AreTrees db.trees
       trees_whole =
-          each_table (λ t. IsTree (db.trees t)) desk_tables
-          (schema.whole, (chartered.operators.whole, (chartered.pool.whole, (shown.holders.whole, (shown.holdings.whole, (shown.grants.whole, (shown.auths.whole, (excepted.rows.whole, tt))))))))
+          each_table (λ t. IsTree (db.trees t)) desk_tables (
+            schema.whole,
+            (
+              chartered.operators.whole,
+              (
+                chartered.pool.whole,
+                (
+                  shown.holders.whole,
+                  (
+                    shown.holdings.whole,
+                    (
+                      shown.grants.whole,
+                      (
+                        subst IsTree (sym authorized.unused) (tt, tt),
+                        (excepted.rows.whole, (authorized.claims_whole, (authorized.entries_whole, tt))),
+                      ),
+                    ),
+                  ),
+                ),
+              ),
+            ),
+          )
 
       schema_only : IsPermutation (schema_row ∷ []) (contents (db.trees meta.tree))
       schema_only = subst (IsPermutation _) (all_shown meta 1 (required_column (codes "value") Integer) (inl refl) refl refl refl refl) schema.shown
@@ -229,17 +274,19 @@ module _ (db : Database) (tables : db.schema.tables ≡ desk_tables) (sound : Is
         holders = holders_read;
         holdings = all_weaker _ _ (λ c both. both.1) (contents (db.trees holding.tree)) held_read;
         grants = all_weaker _ _ (λ c both. both.1) (contents (db.trees granted.tree)) given_read;
-        auths = all_weaker _ _ (λ c both. both.1) (contents (db.trees auth.tree)) active_read;
+        authorizations = have_auths authorized;
         exceptions = excepted.rows.each;
         exceptions_number = excepted.number;
       }
 
       pub some_rows : HoldSomeRows charter db.trees
       some_rows =
-          let parts = holds_parts holders made one_counter (contents (db.trees holding.tree)) (contents (db.trees granted.tree)) (contents (db.trees auth.tree)) held given active in
-          let exceptions = exceptions_held excepted in (
+          let auths = have_auths authorized in
+          let parts = holds_parts holders made one_counter (contents (db.trees holding.tree)) (contents (db.trees granted.tree)) (contents (db.trees claim.tree)) (contents (db.trees entry.tree)) held given auths.auths (registered authorized) auths.claims_shown auths.entries_shown in
+          let exceptions = exceptions_held excepted in
+          let of_holder = rows_in holders made one_counter (contents (db.trees holding.tree)) (contents (db.trees granted.tree)) (contents (db.trees claim.tree)) (contents (db.trees entry.tree)) held given auths.auths (registered authorized) auths.claims_shown auths.entries_shown in (
             record {
-              of_holder = rows_in holders made one_counter (contents (db.trees holding.tree)) (contents (db.trees granted.tree)) (contents (db.trees auth.tree)) held given active;
+              of_holder = of_holder;
               exceptions = exceptions.0;
             },
             record {
@@ -251,7 +298,10 @@ module _ (db : Database) (tables : db.schema.tables ≡ desk_tables) (sound : Is
               holders = parts.holders_held;
               holdings = parts.holdings_held;
               grants = parts.grants_held;
-              auths = parts.auths_held;
+              claims = parts.claims_held;
+              entries = parts.entries_held;
+              have_entries = all_have_entries of_holder;
+              unused = auths.unused;
               exceptions = exceptions.1;
               whole = trees_whole;
             },

@@ -1,5 +1,5 @@
 -- Tables that read show values of the types that each query asks for.
-use Rattle.std.proofs.Common.{◌≡◌, inl, inr, ℕ, true, ◌||◌, List, [], ◌∷◌, map, length, Result, Ok, Err, IfOk, OnErr, nat_eq, refl, sym, ap, subst, ◌∙◌, arith, IsPermutation, IsTrue}
+use Rattle.std.proofs.Common.{◌≡◌, inl, inr, ℕ, true, ◌||◌, List, [], ◌∷◌, map, drop, length, Result, Ok, Err, IfOk, OnErr, nat_eq, refl, sym, ap, subst, ◌∙◌, arith, IsPermutation, IsTrue}
 use Rattle.std.specs.Prelude.{⊤, Any}
 use Rattle.std.specs.Cmp.Lexicographic.{pointwise}
 use Rattle.std.specs.List.{AllByRecursion}
@@ -20,17 +20,17 @@ use Rattle.addr.specs.Name.{is_name}
 use Rattle.addr.specs.declared.prefix.Prefix.{Prefix}
 use Rattle.charters.specs.CharterSets.{AreInNumber, CharterSets}
 use Rattle.charters.specs.Repeats.{has_repeat}
-use Rattle.registry.specs.Values.{IsCount, AuthFits, GrantFits}
+use Rattle.registry.specs.Values.{IsCount, GrantFits}
 use Rattle.charters.proofs.Repeats.{has_repeat-moved, prefix_eq-flips}
 use Rattle.tables.specs.declared.holder.Registered.{Registered}
-use Rattle.tables.specs.Cells.{schema_row, operator_row, prefix_cells, span_cells, grant_cells, auth_cells, holder_row, holding_row, granted_row, auth_row, exception_row}
+use Rattle.tables.specs.Cells.{schema_row, operator_row, prefix_cells, span_cells, grant_cells, holder_row, holding_row, granted_row, exception_row}
 use Rattle.tables.specs.Decode.{ExceptionRowFits}
-use Rattle.tables.specs.Tables.{meta, operator, pool, holder, holding, granted, auth, slurm, contents, columns}
+use Rattle.tables.specs.Tables.{meta, operator, pool, holder, holding, granted, slurm, contents, columns}
 use Rattle.tables.proofs.CellsOnce.{one_prefix, values_shown}
 use Rattle.database.specs.declared.fault.StoreFault.{StoreFault}
 use Rattle.database.specs.declared.fault.StoreFault.TheVariants.{Schema}
 use Rattle.database.specs.TablesRead.{ShowsSome, ShowsHolder, ShowsOfHolder, TablesRead}
-use Rattle.database.specs.steps.Numbered.{shown_in, AreRead}
+use Rattle.database.specs.steps.Numbered.{columns_and_rowid, shown_in, AreRead}
 use Rattle.database.specs.steps.Opened.{ShowsRows, ShowsCharter}
 use Rattle.database.proofs.Columns.{grant_shown, exception_places}
 
@@ -65,6 +65,24 @@ pub as_many : {X : Type 0} (cells : X → Row) (fits : X → Type 0) (tree : ℕ
 as_many cells fits tree places db values read =
     let rows = contents (db.trees tree) in
     omega (arith, length_permutation _ _ read.same, length-map rows (columns places), length-map values cells)
+
+-- a tree of which nothing is shown has no row
+pub no_rows_in : (places : List ℕ) (tree rows : List Row) → IsPermutation (map (columns_and_rowid places) tree) rows → rows ≡ [] → tree ≡ []
+no_rows_in places [] rows same none = refl
+no_rows_in places (r ∷ tree) rows same none =
+    let many = length_permutation _ _ same in
+    let few = ap length none in
+    absurd (omega (arith, many, few))
+
+-- and of one that has no row nothing is shown
+pub rows_of_none : (places : List ℕ) (tree rows : List Row) → IsPermutation (map (columns_and_rowid places) tree) rows → contents tree ≡ [] → rows ≡ []
+rows_of_none places tree [] same none = refl
+rows_of_none places tree (r ∷ rows) same none =
+    let many = length_permutation _ _ same in
+    let shown = length-map tree (columns_and_rowid places) in
+    let whole : length (contents tree) ≡ length tree = length-map tree (drop 1) in
+    let few = ap length none in
+    absurd (omega (arith, many, shown, whole, few))
 
 -- ---- tables that read
 
@@ -120,12 +138,6 @@ module _ (db : Database) (read : TablesRead db.trees) where
 
   pub grants_in : AllByRecursion (ShowsSome grant_cells GrantFits) (shown_in granted.tree grant_places db)
   grants_in = shows_in granted.tree grant_places (ShowsOfHolder granted_row GrantFits) _ (λ c it. (it.1, it.2, ap (columns grant_places) it.3 ∙ grant_shown it.0 it.1)) db read.grants
-
-  abbrev auth_places : List ℕ
-  auth_places = 1 ∷ 2 ∷ 3 ∷ 4 ∷ 5 ∷ 6 ∷ 7 ∷ 8 ∷ []
-
-  pub auths_in : AllByRecursion (ShowsSome auth_cells AuthFits) (shown_in auth.tree auth_places db)
-  auths_in = shows_in auth.tree auth_places (ShowsOfHolder auth_row AuthFits) _ (λ c it. (it.1, it.2, ap (columns auth_places) it.3)) db read.auths
 
   pub exceptions_in : AllByRecursion (ShowsSome exception_row ExceptionRowFits) (shown_in slurm.tree exception_places db)
   exceptions_in = read.exceptions

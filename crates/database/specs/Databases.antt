@@ -1,5 +1,5 @@
 -- Databases that have the tables of a desk.
-use Rattle.std.specs.Prelude.{◌≡◌, ◌≢◌, ◌⊎◌, false, IsTrue}
+use Rattle.std.specs.Prelude.{◌≡◌, ◌⊎◌, false, IsTrue}
 use Rattle.sqlite.specs.Effect.{Database, IsDatabase}
 use Rattle.sqlite.specs.Held.{Held, state}
 use Rattle.sqlite.specs.State.{State, HasCleanDisk}
@@ -9,7 +9,7 @@ use Rattle.sqlite_schema.specs.declared.schema.Schema.{Schema}
 use Rattle.sqlite_trees.specs.Tree.{Trees}
 use Rattle.charters.specs.CharterSets.{CharterSets}
 use Rattle.registry.specs.RowsOfAll.{blank_rows}
-use Rattle.tables.specs.Tables.{blank_schema, desk_schema, desk_tables, unindexed_schema, SameRows}
+use Rattle.tables.specs.Tables.{blank_schema, desk_schema, desk_tables, SameRows}
 use Rattle.tables.specs.Schemas.{has_names}
 use Rattle.tables.specs.TablesHold.{TablesHold}
 use Rattle.database.specs.TablesRead.{TablesRead, HoldSomeRows}
@@ -65,31 +65,21 @@ LeavesOldOrNew charter old new =
 
 -- ---- an opened database
 
--- Where there is nothing beside the tables of a desk, the index of a holder's runs is made. Every other schema
--- stays as it is: no index, view or table is made or dropped.
-abbrev pub AddsMissingIndex : Schema → Schema → Type 0
-AddsMissingIndex old new =
-    ((old ≡ unindexed_schema) × (new ≡ desk_schema)) ⊎ ((old ≢ unindexed_schema) × (new ≡ old))
-
--- The database is a desk, and no row of it changed. Its tables hold the charter and some rows, and each row is in
--- the range of its type.
+-- The database is a desk, and nothing of it changed: no table, index or view was made or dropped, and no row. Its
+-- tables hold the charter and some rows, and each row is in the range of its type.
 pub record OpensDesk (charter : CharterSets) (old new : State) : Type 0 where
   pub idle : old.in_transaction ≡ false
   pub tables : old.now.schema.tables ≡ desk_tables
   pub is_open : IsTrue new.is_open
   pub desk : IsDesk new
-  pub schema : AddsMissingIndex old.now.schema new.now.schema
+  pub schema : new.now.schema ≡ old.now.schema
   pub rows : SameRows old.now.trees new.now.trees
   pub some : HoldSomeRows charter old.now.trees
   pub reads : TablesRead old.now.trees
 
--- what the commit of an added index may put on the disk: the trees of a desk with the same rows
-abbrev pub MayCommitIndex : State → Trees → Type 0
-MayCommitIndex old trees = IsTrue old.is_open × SameRows old.now.trees trees × IsDeskTrees trees
-
--- a crash leaves what it left before, or tables with the same rows
-abbrev pub LeavesSameRows : State → State → Type 0
-LeavesSameRows old new = (trees : Trees) → new.may_leave trees → old.may_leave trees ⊎ MayCommitIndex old trees
+-- a crash leaves nothing else than before
+abbrev pub LeavesAsBefore : State → State → Type 0
+LeavesAsBefore old new = (trees : Trees) → new.may_leave trees → old.may_leave trees
 
 -- A name of a table or a column of a desk is missing, or the tables are there and do not read.
 abbrev pub IsOfAnotherSchema : Database → Type 0

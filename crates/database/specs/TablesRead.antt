@@ -1,5 +1,5 @@
 -- What it is for the tables of a database to read.
-use Rattle.std.specs.Prelude.{◌≡◌, ◌≤◌, ℕ, false, List, length, map, nat_eq, Contains, IsPermutation, IsTrue, ⊤}
+use Rattle.std.specs.Prelude.{◌≡◌, ◌≤◌, ℕ, false, List, [], length, map, flat_map, nat_eq, Contains, IsPermutation, IsTrue, ⊤}
 use Rattle.std.specs.Cmp.Lexicographic.{pointwise}
 use Rattle.std.specs.List.{AllByRecursion}
 use Rattle.sqlite_value.specs.Order.{Row}
@@ -9,12 +9,15 @@ use Rattle.addr.specs.Name.{is_name}
 use Rattle.addr.specs.declared.prefix.Prefix.{Prefix}
 use Rattle.charters.specs.CharterSets.{AreInNumber, CharterSets}
 use Rattle.charters.specs.Repeats.{has_repeat}
+use Rattle.registry.specs.declared.authorization.Auth.{Auth}
 use Rattle.registry.specs.RowsOfAll.{AllRows}
 use Rattle.registry.specs.Values.{IsCount, AuthFits, GrantFits, ExceptionsFit}
 use Rattle.slurm.specs.declared.exceptions.TheConstants.{MOST_ENTRIES}
-use Rattle.tables.specs.Cells.{schema_row, operator_row, prefix_cells, holder_row, holding_row, granted_row, auth_row, exception_row}
+use Rattle.tables.specs.declared.groups.OfHolder.{OfHolder}
+use Rattle.tables.specs.Authorizations.{claim_of, entry_rows_of}
+use Rattle.tables.specs.Cells.{schema_row, operator_row, prefix_cells, holder_row, holding_row, granted_row, claim_row, entry_row, exception_row}
 use Rattle.tables.specs.Decode.{ExceptionRowFits, exception_columns}
-use Rattle.tables.specs.Tables.{meta, operator, pool, holder, holding, granted, auth, slurm, contents}
+use Rattle.tables.specs.Tables.{meta, operator, pool, holder, holding, granted, auth, slurm, claim, entry, contents}
 use Rattle.tables.specs.TablesHold.{TablesHold}
 
 -- the row shows some value of the type
@@ -46,15 +49,31 @@ pub record HasSomeCharter (trees : Trees) : Type 0 where
   pub operators_shown : IsPermutation (map operator_row operators) (contents (trees operator.tree))
   pub prefixes_shown : IsPermutation (map prefix_cells prefixes) (contents (trees pool.tree))
 
--- The number of the schema is there, the operators and the pool make a charter, and each row of each
--- table shows a value of its type. Exceptions are no more than those of one SLURM file.
+-- the row of an authorization in the table `claim`, and those of its entries in the table `entry`
+abbrev pub row_of_claim : OfHolder Auth → Row
+row_of_claim x = claim_row x.holder (claim_of x.row)
+
+abbrev pub rows_of_entries : OfHolder Auth → List Row
+rows_of_entries x = map (entry_row x.holder) (entry_rows_of x.row)
+
+-- The tables have authorizations, each value of which is in its range, with 1 to 64 entries that rise by prefix: their
+-- claims and their entries are the rows, in some order, and there is no other row. Nothing is in the table of schema 1.
+pub record HasSomeAuths (trees : Trees) : Type 0 where
+  pub auths : List (OfHolder Auth)
+  pub fit : AllByRecursion (λ (x : OfHolder Auth). IsTrue (is_name x.holder) × AuthFits x.row) auths
+  pub claims_shown : IsPermutation (map row_of_claim auths) (contents (trees claim.tree))
+  pub entries_shown : IsPermutation (flat_map rows_of_entries auths) (contents (trees entry.tree))
+  pub unused : contents (trees auth.tree) ≡ []
+
+-- The number of the schema is there, the operators and the pool make a charter, each row of each table shows a value
+-- of its type, and claims and entries make authorizations. Exceptions are no more than those of one SLURM file.
 pub record TablesRead (trees : Trees) : Type 0 where
   pub schema : Contains (contents (trees meta.tree)) schema_row
   pub charter : HasSomeCharter trees
   pub holders : AllByRecursion ShowsHolder (contents (trees holder.tree))
   pub holdings : AllByRecursion (ShowsOfHolder holding_row (λ _. ⊤)) (contents (trees holding.tree))
   pub grants : AllByRecursion (ShowsOfHolder granted_row GrantFits) (contents (trees granted.tree))
-  pub auths : AllByRecursion (ShowsOfHolder auth_row AuthFits) (contents (trees auth.tree))
+  pub authorizations : HasSomeAuths trees
   pub exceptions : AllByRecursion ShowsException (map exception_columns (contents (trees slurm.tree)))
   pub exceptions_number : length (contents (trees slurm.tree)) ≤ MOST_ENTRIES
 

@@ -2,4 +2,3 @@
 pub mod Making
 pub mod Numbered
 pub mod Opened
-pub mod OpenedDesk

@@ -5,7 +5,7 @@ ghost use Rattle.tables.specs.Tables.{meta, operator, pool};
 ghost use Rattle.database.specs.Statements.{IsReady, WhenClean, IfDone, StaysInside};
 ghost use Rattle.database.specs.steps.Making.{IsMadeTo, PutsRows, HasCharter};
 
-use crate::statement::run;
+use crate::statement::execute;
 use addr::{Name, Prefix};
 use registry::Charter;
 use sqlite::{Alter, Error, Transaction};
@@ -19,7 +19,7 @@ fn put_schema<S: Alter>(tx: &mut Transaction<'_, S>) -> Result<(), Error>
     ensures put { IfDone S.Store result (PutsRows meta.tree (schema_row ∷ [])) tx.old tx.new }
     ensures inside { StaysInside S.Store tx.old tx.new }
 {
-    run(tx, INSERT_SCHEMA, &[])
+    execute(tx, INSERT_SCHEMA, &[])
 }
 
 /// Puts an operator.
@@ -29,7 +29,7 @@ fn put_operator<S: Alter>(tx: &mut Transaction<'_, S>, name: &Name) -> Result<()
         (PutsRows operator.tree (operator_row name.now ∷ [])) tx.old tx.new }
     ensures inside { StaysInside S.Store tx.old tx.new }
 {
-    run(tx, INSERT_OPERATOR, &name_values(name))
+    execute(tx, INSERT_OPERATOR, &name_values(name))
 }
 
 /// Puts operators.
@@ -53,7 +53,7 @@ fn put_prefix<S: Alter>(tx: &mut Transaction<'_, S>, prefix: &Prefix) -> Result<
     ensures inside { StaysInside S.Store tx.old tx.new }
 {
     let first = address_bytes(prefix.first);
-    run(tx, INSERT_PREFIX, &prefix_values(prefix, &first))
+    execute(tx, INSERT_PREFIX, &prefix_values(prefix, &first))
 }
 
 /// Puts prefixes of the pool.
@@ -74,7 +74,7 @@ pub(crate) fn put_charter<S: Alter>(
     tx: &mut Transaction<'_, S>,
     charter: &Charter,
 ) -> Result<(), Error>
-    requires { WhenClean S.Store (IsMadeTo 9) tx.old }
+    requires { WhenClean S.Store (IsMadeTo 11) tx.old }
     ensures put { IfDone S.Store result (λ _. HasCharter charter.now) tx.old tx.new }
     ensures inside { StaysInside S.Store tx.old tx.new }
 {

@@ -1,9 +1,14 @@
 //! Laws of the definitions. Each function does nothing: what it ensures is the law.
-ghost use Rattle.database.specs.Laws.{AuthsDiffer, DeskTreesHaveTables};
+ghost use Rattle.database.specs.Laws.{ClaimsDiffer, DeskTreesHaveTables, EntriesDiffer};
 
-/// No two authorizations of a desk, of whatever holders, have the same AS, prefix and maxLength.
-pub fn auths_differ()
-    ensures { AuthsDiffer }
+/// No two entries of a desk, of whatever authorizations, have the same AS, prefix and maxLength.
+pub fn entries_differ()
+    ensures { EntriesDiffer }
+{}
+
+/// No two authorizations of a desk have the same holder and number.
+pub fn claims_differ()
+    ensures { ClaimsDiffer }
 {}
 
 /// A database over the trees of a desk has its tables.

@@ -3,7 +3,6 @@
 
 mod charter;
 mod fault;
-mod index;
 pub mod laws;
 mod making;
 mod opening;
@@ -17,5 +16,5 @@ pub use fault::StoreFault;
 pub use making::make_tables;
 pub use opening::open_tables;
 pub use query::ask;
-pub use statement::run;
+pub use statement::execute;
 pub use values::read_all;

@@ -12,14 +12,13 @@ ghost use Rattle.database.specs.steps.Making.{IsMadeTo};
 
 use crate::StoreFault;
 use crate::charter::put_charter;
-use crate::index::make_index;
-use crate::statement::run;
+use crate::statement::execute;
 use registry::Charter;
 use sqlite::{Alter, Connection, Error, Transaction};
 use sqlite_schema::schema::Schema;
 use tables::{
-    CREATE_AUTH, CREATE_GRANTED, CREATE_HOLDER, CREATE_HOLDING, CREATE_META, CREATE_OPERATOR,
-    CREATE_POOL, CREATE_SLURM,
+    CREATE_AUTH, CREATE_CLAIM, CREATE_ENTRY, CREATE_GRANTED, CREATE_HOLDER, CREATE_HOLDING,
+    CREATE_HOLDING_INDEX, CREATE_META, CREATE_OPERATOR, CREATE_POOL, CREATE_SLURM,
 };
 
 /// Makes the tables `meta`, `operator`, `pool` and `holder` in a database that has no table.
@@ -28,10 +27,10 @@ fn make_first_tables<S: Alter>(tx: &mut Transaction<'_, S>) -> Result<(), Error>
     ensures made { IfDone S.Store result (λ _. IsMadeTo 4) tx.old tx.new }
     ensures inside { StaysInside S.Store tx.old tx.new }
 {
-    run(tx, CREATE_META, &[])?;
-    run(tx, CREATE_OPERATOR, &[])?;
-    run(tx, CREATE_POOL, &[])?;
-    run(tx, CREATE_HOLDER, &[])
+    execute(tx, CREATE_META, &[])?;
+    execute(tx, CREATE_OPERATOR, &[])?;
+    execute(tx, CREATE_POOL, &[])?;
+    execute(tx, CREATE_HOLDER, &[])
 }
 
 /// Makes the tables `holding`, `granted`, `auth` and `slurm` after those.
@@ -40,30 +39,32 @@ fn make_other_tables<S: Alter>(tx: &mut Transaction<'_, S>) -> Result<(), Error>
     ensures made { IfDone S.Store result (λ _. IsMadeTo 8) tx.old tx.new }
     ensures inside { StaysInside S.Store tx.old tx.new }
 {
-    run(tx, CREATE_HOLDING, &[])?;
-    run(tx, CREATE_GRANTED, &[])?;
-    run(tx, CREATE_AUTH, &[])?;
-    run(tx, CREATE_SLURM, &[])
+    execute(tx, CREATE_HOLDING, &[])?;
+    execute(tx, CREATE_GRANTED, &[])?;
+    execute(tx, CREATE_AUTH, &[])?;
+    execute(tx, CREATE_SLURM, &[])
 }
 
-/// Makes the tables of a desk in a database that has no table.
-pub(crate) fn make_all_tables<S: Alter>(tx: &mut Transaction<'_, S>) -> Result<(), Error>
+/// Makes the tables `claim` and `entry` after those, and then the index of a holder's runs.
+fn make_last_tables<S: Alter>(tx: &mut Transaction<'_, S>) -> Result<(), Error>
+    requires { WhenClean S.Store (IsMadeTo 8) tx.old }
+    ensures made { IfDone S.Store result (λ _. IsMadeTo 11) tx.old tx.new }
+    ensures inside { StaysInside S.Store tx.old tx.new }
+{
+    execute(tx, CREATE_CLAIM, &[])?;
+    execute(tx, CREATE_ENTRY, &[])?;
+    execute(tx, CREATE_HOLDING_INDEX, &[])
+}
+
+/// Makes the tables of a desk and the index in a database that has no table.
+pub(crate) fn make_schema<S: Alter>(tx: &mut Transaction<'_, S>) -> Result<(), Error>
     requires { WhenClean S.Store (IsMadeTo 0) tx.old }
-    ensures made { IfDone S.Store result (λ _. IsMadeTo 8) tx.old tx.new }
+    ensures made { IfDone S.Store result (λ _. IsMadeTo 11) tx.old tx.new }
     ensures inside { StaysInside S.Store tx.old tx.new }
 {
     make_first_tables(tx)?;
-    make_other_tables(tx)
-}
-
-/// Makes those tables and the index of a holder's runs.
-fn make_schema<S: Alter>(tx: &mut Transaction<'_, S>) -> Result<(), Error>
-    requires { WhenClean S.Store (IsMadeTo 0) tx.old }
-    ensures made { IfDone S.Store result (λ _. IsMadeTo 9) tx.old tx.new }
-    ensures inside { StaysInside S.Store tx.old tx.new }
-{
-    make_all_tables(tx)?;
-    make_index(tx)
+    make_other_tables(tx)?;
+    make_last_tables(tx)
 }
 
 /// Whether the database has no table, index or view.

@@ -1,33 +1,28 @@
 //! Whether a database that is opened has the tables of a desk.
-ghost use Rattle.std.specs.Prelude.{◌≡◌, ◌≢◌, ◌↔◌, false, None, Err, OnOk, IfOk, IsTrue};
+ghost use Rattle.std.specs.Prelude.{◌≡◌, ◌↔◌, false, None, Err, OnOk, IfOk, IsTrue};
 ghost use Rattle.sqlite.specs.Held.{state};
 ghost use Rattle.tables.specs.Schemas.{has_names, HasPlainTables};
-ghost use Rattle.tables.specs.Tables.{desk_tables, unindexed_schema};
-ghost use Rattle.database.specs.Databases.{IsOfAnotherSchema, MayCommitIndex};
-ghost use Rattle.database.specs.steps.Making.{StaysDesk};
-ghost use Rattle.database.specs.steps.OpenedDesk.{IsOpenDesk};
-ghost use Rattle.database.specs.Databases.{LeavesSameRows, OpensDesk};
+ghost use Rattle.tables.specs.Tables.{desk_schema, desk_tables};
+ghost use Rattle.database.specs.Databases.{IsOfAnotherSchema, LeavesAsBefore, OpensDesk};
 ghost use Rattle.database.specs.Queries.{IsClean};
-ghost use Rattle.database.specs.Statements.{IfCommitted, IfRolledBack, CommitsAtMost};
+ghost use Rattle.database.specs.Statements.{IfRolledBack};
 
 use crate::StoreFault;
-use crate::index::add_index;
-use crate::making::make_all_tables;
+use crate::making::make_schema;
 use crate::reading::read_tables;
 use registry::Charter;
 use sqlite::{Alter, Connection, Error, MemStore};
 use sqlite_schema::schema::Schema;
 use std::alloc::Global;
-use tables::{has_names, same_schema, same_tables};
+use tables::{has_names, same_tables};
 
-/// A database in memory with the tables of a desk and nothing else, with which others are
-/// compared.
+/// A database in memory that has the tables of a desk, with which others are compared.
 fn tables_in_memory(alloc: Global) -> Result<Connection<MemStore>, Error>
-    ensures { IfOk result (λ conn. conn.schema ≡ unindexed_schema) }
+    ensures { IfOk result (λ conn. conn.schema ≡ desk_schema) }
 {
     let mut conn = Connection::open_in_memory(alloc)?;
     let mut tx = conn.transaction();
-    make_all_tables(&mut tx)?;
+    make_schema(&mut tx)?;
     tx.commit()?;
     Ok(conn)
 }
@@ -50,30 +45,24 @@ fn compare_tables(schema: &Schema, desk: &Schema) -> Result<(), StoreFault>
     Ok(())
 }
 
-/// Checks that a schema has the tables of a desk, and returns whether it has nothing beside them.
-fn check_schema(alloc: Global, schema: &Schema) -> Result<bool, StoreFault>
+/// Checks that a schema has the tables of a desk. Other tables, indexes and views are not compared.
+fn check_schema(alloc: Global, schema: &Schema) -> Result<(), StoreFault>
     ensures tables { OnOk result (schema.now.tables ≡ desk_tables) }
-    ensures unindexed { IfOk result
-        (λ unindexed. IsTrue unindexed ↔ (schema.now ≡ unindexed_schema)) }
     ensures names { result ≡ Err StoreFault.Schema → has_names schema.now desk_tables ≡ false }
 {
     let desk = tables_in_memory(alloc)?;
-    compare_tables(schema, desk.schema())?;
-    Ok(same_schema(schema, desk.schema()))
+    compare_tables(schema, desk.schema())
 }
 
-/// Checks that a database has the tables of a desk, and returns whether it has nothing beside them,
-/// so that the index of a holder's runs may be added. A connection in a transaction is refused, and
-/// a limit of its steps is lifted.
-fn check_database<S: Alter>(conn: &mut Connection<S>, alloc: Global) -> Result<bool, StoreFault>
+/// Checks that a database has the tables of a desk. A connection in a transaction is refused, and a
+/// limit of its steps is lifted.
+fn check_database<S: Alter>(conn: &mut Connection<S>, alloc: Global) -> Result<(), StoreFault>
     ensures same { conn.new ≡ record conn.old { step_limit = conn.new.step_limit } }
     ensures idle { OnOk result (conn.new.in_transaction ≡ false) }
     ensures unlimited { OnOk result (conn.new.step_limit ≡ None) }
     ensures settled { OnOk result (IsTrue (state S.Store conn.new).is_open
         → (state S.Store conn.new).committed ≡ (state S.Store conn.new).now) }
     ensures tables { OnOk result (conn.new.schema.tables ≡ desk_tables) }
-    ensures unindexed { IfOk result
-        (λ unindexed. IsTrue unindexed ↔ (conn.new.schema ≡ unindexed_schema)) }
     ensures names { result ≡ Err StoreFault.Schema
         → has_names conn.new.schema desk_tables ≡ false }
 {
@@ -81,33 +70,12 @@ fn check_database<S: Alter>(conn: &mut Connection<S>, alloc: Global) -> Result<b
         return Err(StoreFault::Database);
     }
     conn.set_step_limit(None);
-    let is_unindexed = check_schema(alloc, conn.schema())?;
-    Ok(is_unindexed)
-}
-
-/// Adds the index of a holder's runs to a desk that has nothing beside its tables.
-fn add_missing_index<S: Alter>(
-    conn: &mut Connection<S>,
-    is_unindexed: bool,
-) -> Result<(), StoreFault>
-    requires idle { conn.old.in_transaction ≡ false }
-    requires desk { IsClean S.Store conn.old
-        → IsOpenDesk is_unindexed (state S.Store conn.old) }
-    ensures idle { conn.new.in_transaction ≡ false }
-    ensures kept { IfCommitted S.Store result (StaysDesk is_unindexed) conn.old conn.new }
-    ensures err { IfRolledBack S.Store result conn.old conn.new }
-    ensures crash { CommitsAtMost S.Store MayCommitIndex conn.old conn.new }
-    ensures no_schema { result ≢ Err StoreFault.Schema }
-{
-    if is_unindexed {
-        add_index(conn)?;
-    }
+    check_schema(alloc, conn.schema())?;
     Ok(())
 }
 
-/// Reads every row of a desk and returns its charter. The index of a holder's runs is added where
-/// the database has nothing but the tables. A connection in a transaction is refused, and a limit
-/// of its steps is lifted.
+/// Reads every row of a desk and returns its charter. Nothing is written. A connection in a
+/// transaction is refused, and a limit of its steps is lifted.
 pub fn open_tables<S: Alter>(conn: &mut Connection<S>, alloc: Global) -> Result<Charter, StoreFault>
     ensures idle { OnOk result (conn.new.in_transaction ≡ false) }
     ensures unlimited { OnOk result (conn.new.step_limit ≡ None) }
@@ -116,12 +84,10 @@ pub fn open_tables<S: Alter>(conn: &mut Connection<S>, alloc: Global) -> Result<
         (λ charter. OpensDesk charter (state S.Store conn.old) (state S.Store conn.new)) }
     ensures err { IfRolledBack S.Store result conn.old conn.new }
     ensures crash { IsClean S.Store conn.new
-        → LeavesSameRows (state S.Store conn.old) (state S.Store conn.new) }
+        → LeavesAsBefore (state S.Store conn.old) (state S.Store conn.new) }
     ensures schema { IsClean S.Store conn.new → result ≡ Err StoreFault.Schema
         → IsOfAnotherSchema (state S.Store conn.old).now }
 {
-    let is_unindexed = check_database(conn, alloc)?;
-    let charter = read_tables(conn, alloc)?;
-    add_missing_index(conn, is_unindexed)?;
-    Ok(charter)
+    check_database(conn, alloc)?;
+    read_tables(conn, alloc)
 }

@@ -1,5 +1,6 @@
 //! Reading all rows of a database that has the tables of a desk.
-ghost use Rattle.std.specs.Prelude.{◌≡◌, ◌≢◌, ◌≤◌, ◌↔◌, true, false, ◌||◌, nat_eq, ℕ, List, [], ◌∷◌, length, Any, Err, OnOk, OnErr, IfOk, IsPermutation, IsTrue};
+ghost use Rattle.std.specs.Prelude.{◌≡◌, ◌≢◌, ◌≤◌, ◌↔◌, true, false, ◌||◌, nat_eq, ℕ, List, [], ◌∷◌, length, All, Any, Err, OnOk, OnErr, IfOk, IsPermutation, IsSorted, IsTrue};
+ghost use Rattle.std.specs.declared.cmp.Ordering.{Ordering};
 ghost use Rattle.std.specs.Cmp.Lexicographic.{pointwise};
 ghost use Rattle.std.specs.List.{AllByRecursion};
 ghost use Rattle.sqlite.specs.Given.{IsPlain};
@@ -12,10 +13,12 @@ ghost use Rattle.charters.specs.Repeats.{has_repeat};
 ghost use Rattle.slurm.specs.declared.exceptions.TheConstants.{MOST_ENTRIES};
 ghost use Rattle.tables.specs.Cells.{schema_row};
 ghost use Rattle.tables.specs.Decode.{first_columns};
-ghost use Rattle.tables.specs.Tables.{operator, pool, holder, holding, granted, auth, slurm, IsTree, OverDesk};
+ghost use Rattle.tables.specs.Groups.{AllApart, claim_entry, holder_entry};
+ghost use Rattle.tables.specs.Tables.{operator, pool, holder, holding, granted, auth, slurm, claim, entry, IsTree, OverDesk};
+ghost use Rattle.tables.proofs.GroupOrder.{claim_cmp, entry_row_cmp, of_holder_cmp};
 ghost use Rattle.database.specs.TablesRead.{HoldSomeRows, ShowsSome, TablesRead};
-ghost use Rattle.database.specs.steps.Numbered.{AnswersSelect, AreRead, Rise, SelectsAll, shown_in};
-ghost use Rattle.database.specs.steps.Opened.{ShowExceptions, ShowHolders, ShowsCharter, ShowsSchema};
+ghost use Rattle.database.specs.steps.Numbered.{AnswersSelect, AreRead, Rise, SelectsAll, SelectsInOrder, shown_in};
+ghost use Rattle.database.specs.steps.Opened.{MakeAuths, ShowAuths, ShowExceptions, ShowHolders, ShowsCharter, ShowsSchema, HasOneEntry, claim_places, entry_places};
 ghost use Rattle.database.specs.Queries.{IsAsked, IsClean, IsReadyToAsk};
 
 use crate::StoreFault;
@@ -23,14 +26,15 @@ use crate::query::ask;
 use crate::rise::rise;
 use crate::values::read_all;
 use addr::{Name, Prefix, Span};
-use registry::{Auth, Charter, Granted};
+use registry::{Charter, Granted};
 use slurm::MOST_ENTRIES;
 use sqlite::{Alter, Connection, Row};
 use std::alloc::Global;
 use tables::{
-    ExceptionRow, FromRow, Registered, SELECT_ALL_AUTHS, SELECT_ALL_EXCEPTIONS, SELECT_ALL_GRANTS,
-    SELECT_ALL_HOLDERS, SELECT_ALL_OPERATORS, SELECT_ALL_PREFIXES, SELECT_ALL_SPANS, SELECT_SCHEMA,
-    shows_schema,
+    Claim, EntryRow, ExceptionRow, FromRow, Group, OfHolder, Registered, SELECT_ALL_AUTHS,
+    SELECT_ALL_CLAIMS, SELECT_ALL_ENTRIES, SELECT_ALL_EXCEPTIONS, SELECT_ALL_GRANTS,
+    SELECT_ALL_HOLDERS, SELECT_ALL_OPERATORS, SELECT_ALL_PREFIXES, SELECT_ALL_SPANS,
+    SELECT_CLAIMS_BY_HOLDER, SELECT_ENTRIES_BY_HOLDER, SELECT_SCHEMA, group_entries, shows_schema,
 };
 
 /// A value that each row of one table shows.
@@ -45,6 +49,41 @@ trait InTable: FromRow {
         ensures { SelectsAll Self.width tree places result.now };
 }
 
+/// A value that each row of one table shows, and that a query shows in an order of the values.
+trait InOrder: FromRow {
+    // The tree of the table, the columns that show the value, and others that a query of numbered
+    // rows shows.
+    ghost tree: { ℕ };
+
+    ghost places: { List ℕ };
+
+    ghost numbered: { List ℕ };
+
+    ghost order: { Self → Self → Ordering };
+
+    /// The query of the other columns of all rows, and of their rowids after them.
+    fn select_numbered() -> &'static str
+        ensures { SelectsAll (length numbered) tree numbered result.now };
+
+    /// The query of the values of all rows.
+    fn select_in_order() -> &'static str
+        ensures { SelectsInOrder Self.width tree places Self.cells order result.now };
+}
+
+/// All rows that a query answers.
+fn ask_rows<S: Alter>(conn: &mut Connection<S>, sql: &str) -> Result<Vec<Row>, StoreFault>
+    requires ready { IsReadyToAsk S.Store conn.old }
+    requires plain { OverDesk (λ s. IsPlain (understood s sql.now)) }
+    requires unlisted { OverDesk (λ s. reads_listing s sql.now ≡ false) }
+    ensures asked { IsAsked S.Store conn.old conn.new result }
+    ensures answered { IsClean S.Store conn.new → IfOk result (λ rows.
+        AnswersSelect sql.now (state S.Store conn.old).now rows.items) }
+    ensures no_schema { result ≢ Err StoreFault.Schema }
+{
+    let rows = ask(conn, sql, &[])?;
+    Ok(rows)
+}
+
 /// All rows that a query of numbered rows answers.
 fn ask_all<S: Alter>(conn: &mut Connection<S>, sql: &str) -> Result<Vec<Row>, StoreFault>
     requires ready { IsReadyToAsk S.Store conn.old }
@@ -56,7 +95,7 @@ fn ask_all<S: Alter>(conn: &mut Connection<S>, sql: &str) -> Result<Vec<Row>, St
     ensures rise { IfOk result (λ rows. Rise rows.items) }
     ensures no_schema { result ≢ Err StoreFault.Schema }
 {
-    let rows = ask(conn, sql, &[])?;
+    let rows = ask_rows(conn, sql)?;
     if !rise(&rows) {
         return Err(StoreFault::Database);
     }
@@ -80,6 +119,29 @@ fn read_table<T: InTable, S: Alter>(
         (shown_in T.tree T.places (state S.Store conn.old).now) }
 {
     let rows = ask_all(conn, T::select_all())?;
+    read_all(alloc, &rows)
+}
+
+/// The values of all rows of a table, in their order.
+fn read_in_order<T: InOrder, S: Alter>(
+    conn: &mut Connection<S>,
+    alloc: Global,
+) -> Result<Vec<T>, StoreFault>
+    requires { IsReadyToAsk S.Store conn.old }
+    ensures asked { IsAsked S.Store conn.old conn.new result }
+    ensures tree { IsClean S.Store conn.new
+        → OnOk result (IsTree ((state S.Store conn.old).now.trees T.tree)) }
+    ensures read { IsClean S.Store conn.new → IfOk result (λ values.
+        AreRead T.cells T.fits (shown_in T.tree T.places (state S.Store conn.old).now)
+        values.items) }
+    ensures sorted { IsClean S.Store conn.new
+        → IfOk result (λ values. IsSorted T.order values.items) }
+    ensures schema { IsClean S.Store conn.new → result ≡ Err StoreFault.Schema
+        → ¬ AllByRecursion (ShowsSome T.cells T.fits)
+        (shown_in T.tree T.places (state S.Store conn.old).now) }
+{
+    let _numbered = ask_all(conn, T::select_numbered())?;
+    let rows = ask_rows(conn, T::select_in_order())?;
     read_all(alloc, &rows)
 }
 
@@ -133,16 +195,6 @@ impl InTable for Granted {
     }
 }
 
-impl InTable for Auth {
-    ghost tree = { auth.tree };
-
-    ghost places = { 1 ∷ 2 ∷ 3 ∷ 4 ∷ 5 ∷ 6 ∷ 7 ∷ 8 ∷ [] };
-
-    fn select_all() -> &'static str {
-        SELECT_ALL_AUTHS
-    }
-}
-
 impl InTable for ExceptionRow {
     ghost tree = { slurm.tree };
 
@@ -150,6 +202,42 @@ impl InTable for ExceptionRow {
 
     fn select_all() -> &'static str {
         SELECT_ALL_EXCEPTIONS
+    }
+}
+
+impl InOrder for OfHolder<Claim> {
+    ghost tree = { claim.tree };
+
+    ghost places = { claim_places };
+
+    ghost numbered = { 1 ∷ 2 ∷ 3 ∷ 4 ∷ [] };
+
+    ghost order = { of_holder_cmp claim_cmp };
+
+    fn select_numbered() -> &'static str {
+        SELECT_ALL_CLAIMS
+    }
+
+    fn select_in_order() -> &'static str {
+        SELECT_CLAIMS_BY_HOLDER
+    }
+}
+
+impl InOrder for OfHolder<EntryRow> {
+    ghost tree = { entry.tree };
+
+    ghost places = { entry_places };
+
+    ghost numbered = { 1 ∷ 2 ∷ 3 ∷ 4 ∷ 5 ∷ 6 ∷ [] };
+
+    ghost order = { of_holder_cmp entry_row_cmp };
+
+    fn select_numbered() -> &'static str {
+        SELECT_ALL_ENTRIES
+    }
+
+    fn select_in_order() -> &'static str {
+        SELECT_ENTRIES_BY_HOLDER
     }
 }
 
@@ -205,7 +293,7 @@ fn read_charter<S: Alter>(conn: &mut Connection<S>, alloc: Global) -> Result<Cha
     make_charter(operators, pool)
 }
 
-/// Checks that each row of a table of holders reads.
+/// Checks that each row of the tables of holders, of what they hold and of grants reads.
 fn read_holders<S: Alter>(conn: &mut Connection<S>, alloc: Global) -> Result<(), StoreFault>
     requires { IsReadyToAsk S.Store conn.old }
     ensures asked { IsAsked S.Store conn.old conn.new result }
@@ -217,8 +305,68 @@ fn read_holders<S: Alter>(conn: &mut Connection<S>, alloc: Global) -> Result<(),
     let _holders: Vec<Registered> = read_table(conn, alloc)?;
     let _holdings: Vec<Span> = read_table(conn, alloc)?;
     let _grants: Vec<Granted> = read_table(conn, alloc)?;
-    let _auths: Vec<Auth> = read_table(conn, alloc)?;
     Ok(())
+}
+
+/// Checks that the table of authorizations of schema 1 has no row.
+fn read_unused<S: Alter>(conn: &mut Connection<S>) -> Result<(), StoreFault>
+    requires { IsReadyToAsk S.Store conn.old }
+    ensures asked { IsAsked S.Store conn.old conn.new result }
+    ensures found { IsClean S.Store conn.new
+        → OnOk result ((state S.Store conn.old).now.trees auth.tree ≡ []) }
+    ensures schema { IsClean S.Store conn.new → result ≡ Err StoreFault.Schema
+        → ¬ TablesRead (state S.Store conn.old).now.trees }
+{
+    let rows = ask_all(conn, SELECT_ALL_AUTHS)?;
+    if !rows.is_empty() {
+        return Err(StoreFault::Schema);
+    }
+    Ok(())
+}
+
+/// Whether each claim has one entry, as an authorization has.
+fn have_one_entry(groups: &[Group<OfHolder<Claim>>]) -> bool
+    ensures { IsTrue result ↔ All HasOneEntry groups.now }
+{
+    groups
+        .iter()
+        .all(|group| group.entries.entries().len() == 1)
+}
+
+/// Checks that claims and entries, both in order, make authorizations.
+fn check_auths(
+    alloc: Global,
+    claims: &[OfHolder<Claim>],
+    entries: &[OfHolder<EntryRow>],
+) -> Result<(), StoreFault>
+    ensures found { OnOk result (MakeAuths claims.now entries.now) }
+    ensures schema { result ≡ Err StoreFault.Schema
+        → AllApart (holder_entry claim_entry) claims.now → ¬ MakeAuths claims.now entries.now }
+{
+    let Some(groups) = group_entries(alloc, claims, entries)? else {
+        return Err(StoreFault::Schema);
+    };
+    if !have_one_entry(&groups) {
+        return Err(StoreFault::Schema);
+    }
+    Ok(())
+}
+
+/// Checks that the rows of claims and of entries read, and that they make authorizations.
+fn read_auths<S: Alter>(conn: &mut Connection<S>, alloc: Global) -> Result<(), StoreFault>
+    requires { IsReadyToAsk S.Store conn.old }
+    ensures asked { IsAsked S.Store conn.old conn.new result }
+    ensures found { IsClean S.Store conn.new
+        → OnOk result (ShowAuths (state S.Store conn.old).now) }
+    ensures schema { IsClean S.Store conn.new → result ≡ Err StoreFault.Schema
+        → ¬ TablesRead (state S.Store conn.old).now.trees }
+{
+    // Its clause `live` is for the proof: no two claims have the same holder and number.
+    let _schema = conn.schema();
+    read_unused(conn)?;
+    let claims: Vec<OfHolder<Claim>> = read_in_order(conn, alloc)?;
+    let entries: Vec<OfHolder<EntryRow>> = read_in_order(conn, alloc)?;
+    check_auths(alloc, &claims, &entries)
 }
 
 /// Whether a SLURM file may have so many exceptions.
@@ -267,6 +415,7 @@ pub(crate) fn read_tables<S: Alter>(
     // Its clause `valid` is for the proof: the operators and the pool make a charter.
     let _operators = charter.operators();
     read_holders(conn, alloc)?;
+    read_auths(conn, alloc)?;
     read_exceptions(conn, alloc)?;
     Ok(charter)
 }

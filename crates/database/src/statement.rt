@@ -7,7 +7,7 @@ use sqlite::types::ValueRef;
 use sqlite::{Alter, Error, Transaction};
 
 /// Executes a statement that shows no rows.
-pub fn run<S: Alter>(
+pub fn execute<S: Alter>(
     tx: &mut Transaction<'_, S>,
     sql: &str,
     values: &[ValueRef<'_>],

@@ -1,6 +1,6 @@
 -- What a crash may leave after a request.
-use Rattle.std.proofs.Common.{◌≡◌, inl, inr, ℕ, ◌+◌, ◌<◌, true, false, List, [], ◌∷◌, ◌++◌, length, get_or, take, arith, refl, sym, subst}
-use Rattle.std.specs.Prelude.{Contains, IfSome, Option, None}
+use Rattle.std.proofs.Common.{◌≡◌, inl, inr, ℕ, ◌+◌, ◌<◌, true, false, List, [], ◌∷◌, ◌++◌, length, get_or, take, arith, refl, sym, ◌∙◌, subst}
+use Rattle.std.specs.Prelude.{Contains}
 use Rattle.std.proofs.lemmas.Bool.{true≢false}
 use Rattle.std.proofs.lemmas.List.Elements.{Contains-append_right}
 use Rattle.sqlite.specs.Store.{Ghosts}
@@ -21,14 +21,13 @@ use Rattle.tables.specs.TablesHold.{TablesHold}
 use Rattle.database.specs.Databases.{IsDeskTrees}
 use Rattle.store.specs.StoreRows.{HoldsAfter, IsRead, MayLeave, LeavesOnly}
 use Rattle.desk.specs.Answer.{is_accepted, AnswersCommand, AnswersRequest}
-use Rattle.desk.specs.CrashOutcomes.{asked_on, AreKept, IsKept, LeavesAlong, MayBeLeft, pending_after, pending_after_all}
-use Rattle.desk.specs.Desk.{charter_of, HoldsHistory, HoldsRowsOf, IsDayOf, IsOnCleanDisk}
+use Rattle.desk.specs.CrashOutcomes.{asked_on, AreKept, IsKept, LeavesAlong, MayBeLeft, StaysOpen, pending_after, pending_after_all}
+use Rattle.desk.specs.Desk.{charter_of, HoldsHistory, HoldsRowsOf, IsOnCleanDisk}
 use Rattle.desk.specs.Run.{Runs}
-use Rattle.desk.specs.declared.handling.Desk.{Desk}
+use Rattle.desk.specs.declared.desk.Desk.{Desk}
 use Rattle.desk.specs.declared.reply.Reply.{Reply}
 use Rattle.desk.specs.declared.reply.Reply.TheVariants.{Denied, Done, Imported, Unavailable}
 use Rattle.desk.specs.steps.Accepting.{AnswersAccepted}
-use Rattle.kept.specs.KeptDay.{KeptDay}
 use Rattle.desk.proofs.DeskLemmas.{rows_carried}
 use Rattle.desk.proofs.RunLemmas.{Runs-append, taken_more}
 
@@ -165,9 +164,9 @@ module _ {S : Type 0} (g : Ghosts S) where
   pub accepted_kept : GrowthIsLegal → GrowthFits → (history : History) (day : ℕ) (caller : List ℕ) (command : Command) (change : Change) (reply : Reply) (old mid new : Desk S)
       → EntryFits (record { day = day; caller = caller; command = command }) → IsRead g old.store mid.store → IsLegal (charter_of old) history → HoldsRowsOf g mid history
       → IsAccepted (charter_of old) history day caller command change → AnswersAccepted command change reply
-      → HoldsAfter g mid.store new.store (changed_rows change) → LeavesOnly g mid.store new.store (changed_rows change) → new.kept ≡ None
+      → HoldsAfter g mid.store new.store (changed_rows change) → LeavesOnly g mid.store new.store (changed_rows change) → IsOnCleanDisk g new → StaysOpen g new
       → IsKept g (charter_of old) history (asked_on day caller (CommandRequest command)) reply old new
-  accepted_kept grown fits history day caller command change reply old mid new values read legal held accepted answers applied only none = record {
+  accepted_kept grown fits history day caller command change reply old mid new values read legal held accepted answers applied only clean opened = record {
     answered = record {
       after = accepted.after;
       legal = grown (charter_of old) history day caller command accepted.after legal accepted.leaves;
@@ -177,7 +176,7 @@ module _ {S : Type 0} (g : Ghosts S) where
         changed_rows change held.0,
         rows_carried (charter_of old) history day caller command change held.0 accepted held.1,
         applied held.0 held.2,
-        λ _ _. subst (λ (kept : Option KeptDay). IfSome kept (IsDayOf accepted.after)) (sym none) tt,
+        λ _ shut. absurd (true≢false (sym (opened clean) ∙ shut)),
       );
     };
     left = made_leaves history day caller command change (pending_after (asked_on day caller (CommandRequest command)) reply) old mid new read held accepted only;

@@ -15,7 +15,7 @@ use Rattle.desk.specs.Answer.{is_accepted, is_import, only_reads, refused_with, 
 use Rattle.registry.specs.declared.asked.Request.TheVariants.{Command as CommandRequest}
 use Rattle.desk.specs.declared.reply.Reply.{Reply}
 use Rattle.desk.specs.declared.reply.Reply.TheVariants.{Denied as DeniedReply, Done, Imported, Unavailable}
-use Rattle.desk.specs.declared.handling.Desk.{Desk}
+use Rattle.desk.specs.declared.desk.Desk.{Desk}
 use Rattle.desk.specs.Desk.{charter_of, HoldsRowsOf, IsOnCleanDisk, KeepsRows, OfHistories, OfRows}
 use Rattle.desk.specs.HolderAnswers.{may_change, may_except, KeepsOthers}
 use Rattle.desk.specs.steps.Accepting.{AnswersAccepted}

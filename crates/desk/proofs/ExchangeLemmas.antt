@@ -1,26 +1,27 @@
--- The VRPs that changes at a holder would exchange.
-use Rattle.std.proofs.Common.{◌≡◌, ℕ, Bool, true, false, not, ◌↔◌, ◌⊎◌, inl, inr, List, [], ◌∷◌, ◌++◌, Option, Some, None, Err, refl, sym, ap, ◌∙◌, subst, length, Contains, filter, arith}
-use Rattle.std.specs.List.{list_all, list_any}
-use Rattle.std.specs.Option.{option_to_list}
-use Rattle.std.proofs.lemmas.Bool.{and_parts, cases_Bool, not-true, or_parts, true≢false}
-use Rattle.std.proofs.lemmas.List.Elements.{Contains-append_left, Contains-append_right, Contains-append_cases}
+-- The authorizations that changes at a holder would exchange.
+use Rattle.std.proofs.Common.{◌≡◌, ℕ, Bool, true, false, not, ◌==◌, ◌↔◌, ◌⊎◌, inl, inr, List, [], ◌∷◌, Option, Some, None, Err, refl, sym, ap, ◌∙◌, subst, length, map, Contains, arith}
+use Rattle.std.specs.List.{list_all, list_any, zip}
+use Rattle.std.proofs.lemmas.Bool.{and_from, and_parts, cases_Bool, eq-eqb, eqb-true, not-true, or_parts, true≢false}
+use Rattle.std.proofs.lemmas.List.{length-map}
+use Rattle.std.proofs.lemmas.Slice.Zip.{firsts-zip, seconds-zip}
 use Rattle.addr.specs.declared.route.Route.{Route}
 use Rattle.addr.specs.declared.vrp.Vrp.{Vrp}
 use Rattle.histories.specs.Growth.{HypotheticalIsLegal}
 use Rattle.histories.specs.SharedVrps.{share_none, NoSharedVrp}
 use Rattle.isolation.specs.Isolation.{DifferAtMostAt, HypotheticalKeepsOthers}
-use Rattle.payload.proofs.Sets.{contains-items}
 use Rattle.payload.specs.VrpSet as set
+use Rattle.payload.specs.declared.validity.Validity.{Validity}
+use Rattle.registry.proofs.Entries.{both_share}
 use Rattle.registry.proofs.Names.{same_name-true}
 use Rattle.registry.proofs.Unregistered.{has_nothing}
 use Rattle.registry.specs.Answer.{IsHypotheticalAnswer}
-use Rattle.registry.specs.DailyVrps.{IsVrpInForce}
+use Rattle.registry.specs.DailyVrps.{IsAfterExceptions, IsVrpInForce, IsVrpOn}
 use Rattle.registry.specs.ExceptionsInForce.{exceptions_in_force}
 use Rattle.registry.specs.History.{History, same_name}
 use Rattle.registry.specs.HypotheticalHistory.{HypotheticalHistory}
 use Rattle.registry.specs.Rows.{Rows, RowsOf, RowsIfAny}
-use Rattle.registry.specs.RowsOfAll.{AllRows, HasRows}
-use Rattle.registry.specs.Terms.{authorization_terms, share_vrp, AreActive, HeldSinceMade, IsActive, IsVrpOf, Keeps}
+use Rattle.registry.specs.RowsOfAll.{AllRows, HasRows, IsGivenOn}
+use Rattle.registry.specs.Terms.{authorization_terms, entries_of, is_entry, share_vrp, AreActive, HeldSinceMade, IsActive, IsVrpOf, Keeps}
 use Rattle.registry.specs.Verdict.{IsLegal}
 use Rattle.registry.specs.declared.authorization.Auth.{Auth}
 use Rattle.charters.specs.Repeats.{has_repeat}
@@ -28,92 +29,28 @@ use Rattle.charters.specs.declared.charter.Charter.{Charter}
 use Rattle.registry.specs.declared.command.Proposed.{Proposed}
 use Rattle.registry.specs.declared.rule.Refusal.{Refusal}
 use Rattle.registry.specs.declared.rule.Refusal.TheVariants.{Denied, Memory}
-use Rattle.slurm.specs.Exceptions.{Exceptions}
-use Rattle.store.specs.Loads.{AreFilesOf}
-use Rattle.desk.specs.Answer.{refused_with, AnswersWhatIf}
-use Rattle.desk.specs.steps.WhatIf.{auths_if_any, AreGivingOn, AreInForceOn, AreVrpsOf, Exchanges, IsExchanged, WouldExchange}
-use Rattle.kept.specs.Giving.{GivesOn}
-use Rattle.kept.proofs.GivingLemmas.{vrp_parts}
-use Rattle.kept.proofs.Members.{any_among, at_head, head_or_tail, kept_or_more, none_in_nil}
-use Rattle.kept.proofs.VrpSets.{is_among, items_such}
-use Rattle.desk.proofs.DailyLemmas.{kept_is, kept_was}
+use Rattle.desk.specs.Answer.{refused_with, states_now, states_after, AnswersWhatIf}
+use Rattle.desk.specs.DeskView.{IsDayOfRows}
+use Rattle.desk.specs.steps.WhatIf.{auths_if_any, ExchangesVrps, WouldExchange}
+use Rattle.kept.specs.Changes.{AreExchanged, IsWithSame}
+use Rattle.kept.specs.Giving.{AreGivingOn}
+use Rattle.kept.specs.KeptDay.{exceptions_of, HasExceptions, KeptDay}
+use Rattle.kept.proofs.ExceptionLemmas.{after_alike}
+use Rattle.kept.proofs.Follows.{exchange_keeps}
+use Rattle.kept.proofs.Members.{any_among, head_or_tail, none_in_nil}
+use Rattle.desk.proofs.DailyLemmas.{given_on, kept_is, kept_was}
+use Rattle.desk.proofs.FollowLemmas.{has_same}
+use Rattle.desk.proofs.KeptLemmas.{after_same}
 
 -- ---- the VRP of an authorization
 
 -- two authorizations that have one VRP share it
 shared_vrp : (x y : Auth) (v : Vrp) → IsVrpOf x v → IsVrpOf y v → share_vrp x y ≡ true
-shared_vrp x y v is also = let parts = vrp_parts y v also in rw (parts.0, parts.1, parts.2) is
-
--- ---- the VRPs of authorizations
-
--- those of one authorization more are added
-added : (auths : List Auth) (day : ℕ) (vrps : List Vrp) (x : Auth) (found : Option Vrp) → AreVrpsOf auths day vrps
-    → ((v : Vrp) → (found ≡ Some v) ↔ GivesOn x day v) → AreVrpsOf (auths ++ x ∷ []) day (vrps ++ option_to_list found)
-added auths day vrps x found are gives v = (
-  λ there. elim (Contains-append_cases vrps (option_to_list found) v there) [
-    | inl given ↦ let giving = (are v).0 given in (giving.0, Contains-append_left auths (x ∷ []) giving.0 giving.1, giving.2)
-    | inr new ↦ (x, Contains-append_right auths (x ∷ []) x (at_head x []), (gives v).0 (only found new))
-  ],
-  λ giving. elim (Contains-append_cases auths (x ∷ []) giving.0 giving.1) [
-    | inl given ↦ Contains-append_left vrps (option_to_list found) v ((are v).1 (giving.0, given, giving.2))
-    | inr new ↦
-        elim (head_or_tail x [] giving.0 new) [
-          | inl same ↦ Contains-append_right vrps (option_to_list found) v (it found ((gives v).1 (subst (λ (y : Auth). GivesOn y day v) (sym same) giving.2)))
-          | inr later ↦ absurd (none_in_nil giving.0 later)
-        ]
-  ],
-)
-  where
-    only : (some : Option Vrp) → Contains (option_to_list some) v → some ≡ Some v
-    only None there = absurd (none_in_nil v there)
-    only (Some w) there = elim (head_or_tail w [] v there) [ inl same ↦ ap Some same | inr later ↦ absurd (none_in_nil v later) ]
-
-    it : (some : Option Vrp) → some ≡ Some v → Contains (option_to_list some) v
-    it some is = subst (λ (o : Option Vrp). Contains (option_to_list o) v) (sym is) (at_head v [])
-
-pub more_given : (auths all : List Auth) (day : ℕ) (vrps now : List Vrp) (x : Auth) (found : Option Vrp) → all ≡ auths ++ x ∷ [] → now ≡ vrps ++ option_to_list found
-    → AreVrpsOf auths day vrps → ((v : Vrp) → (found ≡ Some v) ↔ GivesOn x day v) → AreVrpsOf all day now
-more_given auths all day vrps now x found grown pushed are gives = rw (grown, pushed) (added auths day vrps x found are gives)
-
--- ---- the exchange of VRPs
-
--- a VRP is not in the set
-not_in : (s : set.VrpSet) (v : Vrp) → (not (set.contains s v) ≡ true) ↔ (¬ Contains (set.items s) v)
-not_in s v =
-    let among = is_among (set.items s) v in (
-      λ is there. true≢false (sym (contains-items s v ∙ among.0 there) ∙ not-true _ is),
-      λ none. elim (cases_Bool (set.contains s v)) [
-        | inl t ↦ absurd (none (among.1 (sym (contains-items s v) ∙ t)))
-        | inr f ↦ ap not f
-      ],
-    )
-
-exchanged : (removed : set.VrpSet) (added vrps : List Vrp) (v : Vrp)
-    → Contains (filter (λ w. not (set.contains removed w)) vrps ++ added) v ↔ IsExchanged (set.items removed) added (Contains vrps v) v
-exchanged removed added vrps v =
-    let is = kept_or_more (λ w. not (set.contains removed w)) vrps added v in (
-      λ there. elim (is.0 there) [ inl given ↦ inl (given.0, (not_in removed v).0 given.1) | inr new ↦ inr new ],
-      λ given. elim given [ inl kept ↦ is.1 (inl (kept.0, (not_in removed v).1 kept.1)) | inr new ↦ is.1 (inr new) ],
-    )
-
-exchanged_alike : {P Q : Type 0} (removed added : List Vrp) (v : Vrp) → (P → Q) → IsExchanged removed added P v → IsExchanged removed added Q v
-exchanged_alike removed added v to (inl given) = inl (to given.0, given.1)
-exchanged_alike removed added v to (inr new) = inr new
-
--- after the exchange the VRPs are those in force after the other history
-pub in_force_after : (before after : History) (day : ℕ) (removed : set.VrpSet) (added vrps later : List Vrp) (files : List Exceptions)
-    → AreInForceOn before day vrps files → later ≡ filter (λ v. not (set.contains removed v)) vrps ++ added
-    → Exchanges before after day (set.items removed) added → AreInForceOn after day later files
-in_force_after before after day removed added vrps later files are made exchanges = record {
-  given = λ v.
-      let here = exchanged removed added vrps v in
-      let is = exchanges.vrps v in
-      rw made (
-        (λ there. is.1 (exchanged_alike (set.items removed) added v (are.given v).0 (here.0 there))),
-        (λ given. here.1 (exchanged_alike (set.items removed) added v (are.given v).1 (is.0 given))),
-      );
-  loaded = subst (λ (exceptions : Exceptions). AreFilesOf exceptions files) (sym exchanges.exceptions) are.loaded;
-}
+shared_vrp x y v is also =
+    let of_x = and_parts (x.asn.0 == v.asn.0) (list_any (is_entry v.prefix v.max) (entries_of x)) is in
+    let of_y = and_parts (y.asn.0 == v.asn.0) (list_any (is_entry v.prefix v.max) (entries_of y)) also in
+    let asn : (x.asn.0 == y.asn.0) ≡ true = eq-eqb _ _ (eqb-true _ _ of_x.0 ∙ sym (eqb-true _ _ of_y.0)) in
+    and_from _ _ asn (both_share v.prefix v.max (entries_of x) (entries_of y) of_x.1 of_y.1)
 
 -- ---- the exchange that changes would make
 
@@ -125,21 +62,20 @@ hypothetical_refused charter history holder day caller changes (Denied rule row)
 hypothetical_refused charter history holder day caller changes Memory answer routes = tt
 
 -- no change exchanges nothing
-pub exchanges_nothing : (charter : Charter) (history : History) (day : ℕ) (caller holder : List ℕ) (changes : List Proposed) (removed : set.VrpSet) (added : List Vrp)
-    → length changes ≡ 0 → removed ≡ set.empty → added ≡ [] → WouldExchange charter history day caller holder changes (set.items removed) added
-exchanges_nothing charter history day caller holder (change ∷ changes) removed added none is also = absurd (omega (arith, none))
-exchanges_nothing charter history day caller holder [] removed added none is also =
-    let in_none = items_such (λ (v : Vrp). Contains [] v) [] [] removed is refl (λ v. ((λ there. there), (λ there. there))) in (
-      history,
-      refl,
-      record {
-        vrps = λ v. (
-          λ given. inl (given, λ there. none_in_nil v ((in_none v).0 there)),
-          λ given. elim given [ inl kept ↦ kept.0 | inr new ↦ absurd (none_in_nil v (subst (λ (vs : List Vrp). Contains vs v) also new)) ],
-        );
-        exceptions = refl;
-      },
-    )
+pub exchanges_nothing : (charter : Charter) (history : History) (day : ℕ) (caller holder : List ℕ) (changes : List Proposed)
+    → length changes ≡ 0 → WouldExchange charter history day caller holder changes [] []
+exchanges_nothing charter history day caller holder (change ∷ changes) none = absurd (omega (arith, none))
+exchanges_nothing charter history day caller holder [] none = (
+  history,
+  refl,
+  record {
+    vrps = λ v. (
+      λ given. inl (given, λ giving. none_in_nil giving.0 giving.1),
+      λ given. elim given [ inl kept ↦ kept.0 | inr giving ↦ absurd (none_in_nil giving.0 giving.1) ],
+    );
+    exceptions = refl;
+  },
+)
 
 -- the authorizations of rows are the active ones
 active_rows : (charter : Charter) (history : History) (h : List ℕ) (rows : Option Rows) → IsLegal charter history → RowsIfAny history h rows → AreActive history h (auths_if_any rows)
@@ -250,23 +186,6 @@ module _ (shared : NoSharedVrp) (charter : Charter) (before : History) (all : Al
     pub in_force_then : (v : Vrp) → IsVrpInForce after day v ↔ ((IsVrpInForce before day v × ¬ AreGivingOn ended day v) ⊎ AreGivingOn begun day v)
     in_force_then v = (goes v, comes v)
 
-    -- so they are exchanged
-    pub exchanges : (removed added : List Vrp) → AreVrpsOf ended day removed → AreVrpsOf begun day added → exceptions_in_force after ≡ exceptions_in_force before
-        → Exchanges before after day removed added
-    exchanges removed added are_removed are_added same = record {
-      vrps = λ v. (
-        λ is. elim ((in_force_then v).0 is) [
-          | inl kept ↦ inl (kept.0, λ there. kept.1 ((are_removed v).0 there))
-          | inr new ↦ inr ((are_added v).1 new)
-        ],
-        λ is. elim is [
-          | inl kept ↦ (in_force_then v).1 (inl (kept.0, λ gone. kept.1 ((are_removed v).1 gone)))
-          | inr new ↦ (in_force_then v).1 (inr ((are_added v).0 new))
-        ],
-      );
-      exceptions = same;
-    }
-
 -- ---- the exchange that a what-if makes
 
 -- all active authorizations of the holder end, and all of its hypothetical ones begin
@@ -292,17 +211,59 @@ all_turn charter before after holder all legal legal_after has differ mine later
       );
 }
 
--- the changes exchange what the holder's authorizations give for what those give that they would leave
+-- the changes exchange the holder's authorizations for those that they would leave
 pub would_exchange : NoSharedVrp → HypotheticalIsLegal → HypotheticalKeepsOthers → (charter : Charter) (history after : History) (day : ℕ) (caller holder : List ℕ) (changes : List Proposed)
     (all : AllRows) → IsLegal charter history → HasRows all history → (rows : Option Rows) (later : Rows) → RowsIfAny history holder rows
     → HypotheticalHistory charter day caller holder history changes after → RowsOf after holder later
-    → (removed added : List Vrp) → AreVrpsOf (auths_if_any rows) day removed → AreVrpsOf later.auths day added
-    → WouldExchange charter history day caller holder changes removed added
-would_exchange shared legally others_keep charter history after day caller holder changes all legal has rows later of would of_later removed added are_removed are_added =
+    → WouldExchange charter history day caller holder changes (auths_if_any rows) later.auths
+would_exchange shared legally others_keep charter history after day caller holder changes all legal has rows later of would of_later =
     let differ = others_keep charter day caller holder history changes after legal would in
     let turns = all_turn charter history after holder all legal (legally charter day caller holder history changes after legal would) has differ
     (auths_if_any rows) later.auths (active_rows charter history holder rows legal of) of_later.auths in (
       after,
       would,
-      exchanges shared charter history all legal has after holder (auths_if_any rows) later.auths turns day removed added are_removed are_added (sym differ.exceptions),
+      record {
+        vrps = in_force_then shared charter history all legal has after holder (auths_if_any rows) later.auths turns day;
+        exceptions = sym differ.exceptions;
+      },
+    )
+
+-- ---- a day that is kept
+
+-- what is kept of the rows of the one history is after the exchange of the other
+pub exchanged_day : (charter : Charter) (rows : AllRows) (before after : History) → IsLegal charter before → HasRows rows before
+    → (day : ℕ) (ended begun : List Auth) (old new : KeptDay) → old.day ≡ day → IsDayOfRows rows old → IsWithSame old new
+    → ((v : Vrp) → Contains (set.items new.vrps) v ↔ AreExchanged old ended begun v)
+    → ExchangesVrps before after day ended begun → (v : Vrp) → Contains (set.items new.vrps) v ↔ IsVrpOn after day v
+exchanged_day charter rows before after legal has day ended begun old new on is same are exchanges v =
+    let kept = exchange_keeps (λ (w : Vrp). IsGivenOn rows old.day w) ended begun old new same are is.given v in
+    let given = given_on charter rows before legal has day v in
+    let then = exchanges.vrps v in
+    let stays_or_begins : Type 0 = (IsGivenOn rows day v × ¬ AreGivingOn ended day v) ⊎ AreGivingOn begun day v in
+    let to : stays_or_begins → IsVrpInForce after day v =
+    λ giving. then.1 (elim giving [ inl stays ↦ inl (given.0 stays.0, stays.1) | inr begins ↦ inr begins ]) in
+    let from : IsVrpInForce after day v → stays_or_begins =
+    λ in_force. elim (then.0 in_force) [ inl stays ↦ inl (given.1 stays.0, stays.1) | inr begins ↦ inr begins ] in
+    let alike = after_alike (exceptions_of new) v to from in
+    let left : Contains (set.items new.vrps) v
+    ↔ IsAfterExceptions (exceptions_of new) stays_or_begins v =
+    rw on at kept in
+    let has_these = subst (HasExceptions new) (has.exceptions ∙ sym exchanges.exceptions) (has_same old new rows.exceptions same is.exceptions) in
+    let after_these = after_same new (exceptions_in_force after) has_these (IsVrpInForce after day v) v in
+    (λ there. after_these.0 (alike.0 (left.0 there)), λ on_day. left.1 (alike.1 (after_these.1 on_day)))
+
+-- ---- two states of each route
+
+same_long : {P : Type 0} (states : List Validity) (so : Route → P) (state : Validity → P) (routes : List Route)
+    → map state states ≡ map so routes → length states ≡ length routes
+same_long states so state routes same = sym (length-map states state) ∙ ap length same ∙ length-map routes so
+
+-- in pairs they are those of before and those of after
+pub paired : {P : Type 0} (ones others : List Validity) (state : Validity → P) (so then : Route → P) (routes : List Route)
+    → map state ones ≡ map so routes → map state others ≡ map then routes → (pairs : List (Validity × Validity)) → pairs ≡ zip ones others
+    → (map state (states_now pairs) ≡ map so routes) × (map state (states_after pairs) ≡ map then routes)
+paired ones others state so then routes one other pairs are =
+    let long = same_long others then state routes other ∙ sym (same_long ones so state routes one) in (
+      ap (map state) (ap states_now are ∙ firsts-zip ones others long) ∙ one,
+      ap (map state) (ap states_after are ∙ seconds-zip ones others long) ∙ other,
     )

@@ -22,25 +22,25 @@ use Rattle.tables.proofs.SomeRow.{has_permuted}
 use Rattle.registry.proofs.Names.{same_name-same, same_name-true}
 use Rattle.store.specs.Given.{GivenOnce}
 use Rattle.store.specs.Loads.{AreLoaded, IsLoaded}
-use Rattle.registry.specs.Edits.{ends}
-use Rattle.desk.specs.steps.EditsGiven.{ended, begun_beside, IsGivenAfter, EditsGiven, EditsGivenAsLoaded, EditsNothing, EndingKeepsOnce, BothEditsGiven}
-use Rattle.desk.specs.steps.WhatIf.{AreGivingOn}
+use Rattle.registry.specs.Edits.{begun, ended, ends}
+use Rattle.desk.specs.steps.EditsGiven.{IsGivenAfter, EditsGiven, EditsGivenAsLoaded, EditsNothing, EndingKeepsOnce}
+use Rattle.kept.specs.Giving.{AreGivingOn}
 
 -- ---- the authorizations of a holder
 
-amended_or_kept : (auths : List Auth) (y z x : Auth) → x ≡ replaced_by y z → Has auths z → (Has auths x × ((x.number == y.number) ≡ false)) ⊎ Has (begun_beside (Amend y) auths) x
+amended_or_kept : (auths : List Auth) (y z x : Auth) → x ≡ replaced_by y z → Has auths z → (Has auths x × ((x.number == y.number) ≡ false)) ⊎ Has (begun (Amend y) auths) x
 amended_or_kept auths y z x is has = go (z.number == y.number) refl
   where
-    go : (same : Bool) → (z.number == y.number) ≡ same → (Has auths x × ((x.number == y.number) ≡ false)) ⊎ Has (begun_beside (Amend y) auths) x
+    go : (same : Bool) → (z.number == y.number) ≡ same → (Has auths x × ((x.number == y.number) ≡ false)) ⊎ Has (begun (Amend y) auths) x
     go true same =
         let some = some_from (λ w. w.number == y.number) auths z has same in
-        let there : Has (begun_beside (Amend y) auths) y = subst (λ b. Has (if b then y ∷ [] else []) y) (sym some) (inl refl) in
-        inr (subst (Has (begun_beside (Amend y) auths)) (sym (is ∙ ap (λ b. if b then y else z) same)) there)
+        let there : Has (begun (Amend y) auths) y = subst (λ b. Has (if b then y ∷ [] else []) y) (sym some) (inl refl) in
+        inr (subst (Has (begun (Amend y) auths)) (sym (is ∙ ap (λ b. if b then y else z) same)) there)
     go false differs =
         inl (subst (λ w. Has auths w × ((w.number == y.number) ≡ false)) (sym (is ∙ ap (λ b. if b then y else z) differs)) (has, differs))
 
 -- an authorization after an edit was there and does not end, or it is begun
-kept_or_begun : (edit : Edit) (rows : Rows) (x : Auth) → Has (edited edit rows).auths x → (Has rows.auths x × (ends edit x.number ≡ false)) ⊎ Has (begun_beside edit rows.auths) x
+kept_or_begun : (edit : Edit) (rows : Rows) (x : Auth) → Has (edited edit rows).auths x → (Has rows.auths x × (ends edit x.number ≡ false)) ⊎ Has (begun edit rows.auths) x
 kept_or_begun Register rows x none = absurd none
 kept_or_begun (Hold removed added gone) rows x has = let it = has_filtered _ rows.auths x has in inl (it.0, not-true _ it.1)
 kept_or_begun (Grant g) rows x has = inl (has, refl)
@@ -62,7 +62,7 @@ stays (Amend y) rows x has on = subst (Has (map (replaced_by y) rows.auths)) (ap
 stays (Withdraw n) rows x has on = has_kept _ rows.auths x has (ap not on)
 
 -- and one that is begun is there
-begins : (edit : Edit) (rows : Rows) (x : Auth) → Has (begun_beside edit rows.auths) x → Has (edited edit rows).auths x
+begins : (edit : Edit) (rows : Rows) (x : Auth) → Has (begun edit rows.auths) x → Has (edited edit rows).auths x
 begins Register rows x none = absurd none
 begins (Hold removed added gone) rows x none = absurd none
 begins (Grant g) rows x none = absurd none
@@ -100,12 +100,12 @@ module _ (rows : AllRows) (change : HolderChange) where
   -- an authorization of the rows after the edit was there and does not end, or it is begun
   was_or_begun : (h : List ℕ) (r : Rows) (x : Auth) → after.of_holder h ≡ Some r → Contains r.auths x
       → ((s : Rows) × (rows.of_holder h ≡ Some s) × Contains s.auths x × (same_name change.holder h ≡ true → ends change.edit x.number ≡ false))
-      ⊎ ((s : Rows) × (rows.of_holder h ≡ Some s) × (change.holder ≡ h) × Has (begun_beside change.edit s.auths) x)
+      ⊎ ((s : Rows) × (rows.of_holder h ≡ Some s) × (change.holder ≡ h) × Has (begun change.edit s.auths) x)
   was_or_begun h r x now there = go (same_name change.holder h) refl (rows.of_holder h) refl
     where
       go : (same : Bool) → same_name change.holder h ≡ same → (was : Option Rows) → rows.of_holder h ≡ was
           → ((s : Rows) × (rows.of_holder h ≡ Some s) × Contains s.auths x × (same_name change.holder h ≡ true → ends change.edit x.number ≡ false))
-          ⊎ ((s : Rows) × (rows.of_holder h ≡ Some s) × (change.holder ≡ h) × Has (begun_beside change.edit s.auths) x)
+          ⊎ ((s : Rows) × (rows.of_holder h ≡ Some s) × (change.holder ≡ h) × Has (begun change.edit s.auths) x)
       go false differ was is = inl (r, sym (rows_stay h differ) ∙ now, there, λ same. absurd (true≢false (sym same ∙ differ)))
       go true same None none =
           absurd (begins_none change.edit r x (ap (edited_if_any change.edit) (sym none) ∙ sym (rows_edited h same) ∙ now) (has_contained r.auths x there))
@@ -136,7 +136,7 @@ module _ (rows : AllRows) (change : HolderChange) (mine : Rows) (day : ℕ) (v :
     | inr new ↦
         let here : Some mine ≡ Some new.0 = sym of ∙ ap rows.of_holder new.2 ∙ new.1 in
         let same : new.0 ≡ mine = cc in
-        let among : Has (begun_beside change.edit mine.auths) x = subst (λ (s : Rows). Has (begun_beside change.edit s.auths) x) same new.3 in
+        let among : Has (begun change.edit mine.auths) x = subst (λ (s : Rows). Has (begun change.edit s.auths) x) same new.3 in
         inr (x, contains_had _ x among, (from, until, is))
   ]
 
@@ -160,7 +160,7 @@ module _ (rows : AllRows) (change : HolderChange) (mine : Rows) (day : ℕ) (v :
       go true same false on =
           (h, edited change.edit mine, x, edited_rows h same, contains_had _ x (stays change.edit mine x (in_mine same) on), from, until, is)
 
-  begun_given : AreGivingOn (begun_beside change.edit mine.auths) day v → IsGivenOn (changed_rows (Holders change None) rows) day v
+  begun_given : AreGivingOn (begun change.edit mine.auths) day v → IsGivenOn (changed_rows (Holders change None) rows) day v
   begun_given (x, among, (from, until, is)) = (
     change.holder,
     edited change.edit mine,
@@ -188,12 +188,12 @@ ended_moved edit xs ys same x has =
     let it = has_filtered (λ z. ends edit z.number) xs x has in
     has_kept (λ z. ends edit z.number) ys x (has_permuted xs ys x same it.0) it.1
 
-begun_moved : (edit : Edit) (xs ys : List Auth) → IsPermutation xs ys → (x : Auth) → Has (begun_beside edit xs) x → Has (begun_beside edit ys) x
+begun_moved : (edit : Edit) (xs ys : List Auth) → IsPermutation xs ys → (x : Auth) → Has (begun edit xs) x → Has (begun edit ys) x
 begun_moved (Create y) xs ys same x has = has
 begun_moved (Import more created) xs ys same x has = has
 begun_moved (Amend y) xs ys same x has = go (list_any (λ w. w.number == y.number) xs) refl has
   where
-    go : (some : Bool) → list_any (λ w. w.number == y.number) xs ≡ some → Has (if some then y ∷ [] else []) x → Has (begun_beside (Amend y) ys) x
+    go : (some : Bool) → list_any (λ w. w.number == y.number) xs ≡ some → Has (if some then y ∷ [] else []) x → Has (begun (Amend y) ys) x
     go true some there =
         let old = some_has (λ w. w.number == y.number) xs some in
         let still = some_from (λ w. w.number == y.number) ys old.0 (has_permuted xs ys old.0 same old.1) old.2 in
@@ -207,7 +207,7 @@ giving_moved xs ys day v moved (x, among, gives) = (x, contains_had ys x (moved 
 after_moved : (edit : Edit) (xs ys : List Auth) (day : ℕ) (given : Type 0) (v : Vrp) → IsPermutation xs ys → IsGivenAfter edit xs day given v → IsGivenAfter edit ys day given v
 after_moved edit xs ys day given v same (inl still) =
     inl (still.0, λ ending. still.1 (giving_moved (ended edit ys) (ended edit xs) day v (ended_moved edit ys xs (IsPermutation-sym _ _ same)) ending))
-after_moved edit xs ys day given v same (inr new) = inr (giving_moved (begun_beside edit xs) (begun_beside edit ys) day v (begun_moved edit xs ys same) new)
+after_moved edit xs ys day given v same (inr new) = inr (giving_moved (begun edit xs) (begun edit ys) day v (begun_moved edit xs ys same) new)
 
 loaded_rows : (was : Option Rows) (loaded : HolderRows) → AreLoaded was (Some loaded) → (r : Rows) × (was ≡ Some r) × IsLoaded r loaded
 loaded_rows None loaded none = absurd none
@@ -263,19 +263,3 @@ ending_keeps_once rows change none once h k r s x y v now also in_r in_s is too 
       | inl it ↦ (it.0, it.1, it.2)
       | inr new ↦ absurd (subst (λ (l : List Auth). Has l x) (none new.0.auths) new.3)
     ]
-
--- ---- an edit of each of two holders
-
-after_alike : {P Q : Type 0} (edit : Edit) (auths : List Auth) (day : ℕ) (v : Vrp) → (P → Q) → IsGivenAfter edit auths day P v → IsGivenAfter edit auths day Q v
-after_alike edit auths day v to (inl still) = inl (to still.0, still.1)
-after_alike edit auths day v to (inr new) = inr new
-
-pub both_edits_given : BothEditsGiven
-both_edits_given rows first second one other day v once differ none of_one of_other =
-    let middle = changed_rows (Holders first None) rows in
-    let still : AreLoaded (middle.of_holder second.holder) (Some other) = subst (λ (was : Option Rows). AreLoaded was (Some other)) (sym (rows_stay rows first second.holder differ)) of_other in
-    let early = edits_given_as_loaded rows first one day v once of_one in
-    let late = edits_given_as_loaded middle second other day v (ending_keeps_once rows first none once) still in (
-      λ given. after_alike second.edit other.auths.items day v early.0 (late.0 given),
-      λ given. late.1 (after_alike second.edit other.auths.items day v early.1 given),
-    )

@@ -1,5 +1,5 @@
 -- What a desk keeps of a day is what its tables give, and what a history gives that it holds.
-use Rattle.std.proofs.Common.{◌≡◌, ℕ, List, Bool, true, false, ◌↔◌, inl, inr, Option, Some, None, Result, Ok, Err, refl, sym, subst, Contains}
+use Rattle.std.proofs.Common.{◌≡◌, ℕ, ◌<◌, List, [], ◌∷◌, Bool, true, false, ◌↔◌, inl, inr, Option, Some, None, Result, Ok, Err, refl, sym, ap, subst, ◌∙◌, arith, Contains}
 use Rattle.std.specs.Prelude.{IfSome, OnErr}
 use Rattle.addr.specs.declared.vrp.Vrp.{Vrp}
 use Rattle.charters.specs.declared.charter.Charter.{Charter}
@@ -8,20 +8,32 @@ use Rattle.kept.proofs.ExceptionLemmas.{after_alike}
 use Rattle.kept.specs.KeptDay.{exceptions_of, HasExceptions, IsKept, KeptDay}
 use Rattle.registry.specs.DailyVrps.{IsAfterExceptions, IsVrpInForce}
 use Rattle.registry.specs.History.{History}
-use Rattle.registry.specs.RowsOfAll.{AllRows, HasRows, IsGivenOn}
+use Rattle.registry.specs.RowsOfAll.{AllRows, HasRows, IsGivenOn, changed_rows}
+use Rattle.registry.specs.Rows.{Rows, RowsIfAny}
+use Rattle.registry.specs.Terms.{authorizations_made}
+use Rattle.registry.specs.declared.authorization.Auth.{Auth}
+use Rattle.registry.specs.declared.change.Change.{Change}
+use Rattle.registry.specs.declared.rows.HolderRows.{HolderRows}
 use Rattle.registry.specs.Verdict.{IsLegal}
+use Rattle.registry.proofs.Held.{active-numbered}
+use Rattle.registry.proofs.Numbers.{Numbered, later}
 use Rattle.slurm.specs.Exceptions.{Exceptions}
 use Rattle.slurm.specs.declared.filter.Filter.{Filter}
 use Rattle.sqlite.specs.Store.{Ghosts}
 use Rattle.sqlite.specs.State.{HasCleanDisk}
+use Rattle.sqlite_rules.specs.Lists.{Has}
 use Rattle.sqlite_trees.specs.Tree.{Trees}
 use Rattle.tables.specs.TablesHold.{TablesHold}
-use Rattle.store.proofs.HeldAlike.{exceptions_alike, given_alike}
-use Rattle.store.specs.StoreRows.{connection_state, Holds, HoldsAfter, IsRead, RowChange, StoreView}
+use Rattle.store.proofs.HeldAlike.{exceptions_alike}
+use Rattle.tables.proofs.Once.{AreNumberedOnce, given_alike, once_by_numbers}
+use Rattle.store.specs.Given.{GivenOnce}
+use Rattle.store.specs.Loads.{OfHeldRows}
+use Rattle.store.specs.StoreRows.{connection_state, Holds, HoldsAfter, IsRead, StoreView}
 use Rattle.desk.proofs.DailyLemmas.{given_on}
 use Rattle.desk.specs.Desk.{charter_of, HoldsHistory, IsDayOf, IsOnCleanDisk, KeepsRows, OfHistories, OfRows}
 use Rattle.desk.specs.DeskView.{HoldsKept, IsDayOfRows}
-use Rattle.desk.specs.declared.handling.Desk.{Desk}
+use Rattle.desk.specs.declared.desk.Desk.{Desk}
+use Rattle.desk.specs.steps.Following.{AreLoadedFor, Follows}
 
 -- what is so is so where a result is an error
 pub on_err : {T E P : Type 0} (r : Result T E) → P → OnErr r P
@@ -31,7 +43,7 @@ on_err (Err e) is = is
 -- ---- rows, and histories of them
 
 -- what is after the exceptions that are kept is after these
-after_same : (k : KeptDay) (exceptions : Exceptions) → HasExceptions k exceptions → (P : Type 0) (v : Vrp)
+pub after_same : (k : KeptDay) (exceptions : Exceptions) → HasExceptions k exceptions → (P : Type 0) (v : Vrp)
     → IsAfterExceptions (exceptions_of k) P v ↔ IsAfterExceptions exceptions P v
 after_same k exceptions has P v = rw has.filters (
   λ is. elim is [ inl given ↦ inl given | inr asserted ↦ inr ((has.assertions v).0 asserted) ],
@@ -61,13 +73,40 @@ day_of_found rows day vrps k filters assertions on kept has found are = record {
       (λ there. alike.0 ((kept v).0 there), λ after. (kept v).1 (alike.1 after));
 }
 
+-- ---- authorizations by their numbers
+
+above : (low : ℕ) (xs : List Auth) (high : ℕ) → Numbered low xs high → (y : Auth) → Has xs y → low < y.number
+above low [] high n y has = absurd has
+above low (x ∷ xs) high n y (inl is) = subst (λ (z : Auth). low < z.number) (sym is) n.0
+above low (x ∷ xs) high n y (inr has) = later n.0 (above x.number xs high n.1 y has)
+
+one_numbered : (low : ℕ) (xs : List Auth) (high : ℕ) → Numbered low xs high → (x y : Auth) → Has xs x → Has xs y → x.number ≡ y.number → x ≡ y
+one_numbered low [] high n x y has also same = absurd has
+one_numbered low (z ∷ xs) high n x y (inl is) (inl too) same = is ∙ sym too
+one_numbered low (z ∷ xs) high n x y (inl is) (inr also) same =
+    let less = above z.number xs high n.1 y also in
+    let of_x = ap (λ (a : Auth). a.number) is in
+    absurd (omega (arith, less, of_x, same))
+one_numbered low (z ∷ xs) high n x y (inr has) (inl too) same =
+    let less = above z.number xs high n.1 x has in
+    let of_y = ap (λ (a : Auth). a.number) too in
+    absurd (omega (arith, less, of_y, same))
+one_numbered low (z ∷ xs) high n x y (inr has) (inr also) same = one_numbered z.number xs high n.1 x y has also same
+
+-- no two authorizations of a holder have one number, in the rows of a history
+numbers_once : (history : History) (rows : AllRows) → HasRows rows history → (h : List ℕ) (r : Rows) → rows.of_holder h ≡ Some r
+    → (x y : Auth) → Has r.auths x → Has r.auths y → x.number ≡ y.number → x ≡ y
+numbers_once history rows has h r of =
+    let are : RowsIfAny history h (Some r) = subst (RowsIfAny history h) of (has.holders h) in
+    one_numbered 0 r.auths (authorizations_made history h) (active-numbered history h r.auths are.1.auths)
+
 -- whatever rows tables hold, what is kept of the ones is kept of the others
-pub day_alike : (c d : CharterSets) (a b : AllRows) (trees : Trees) → TablesHold c a trees → TablesHold d b trees
+pub day_alike : (c d : CharterSets) (a b : AllRows) (trees : Trees) → AreNumberedOnce trees → TablesHold c a trees → TablesHold d b trees
     → (k : KeptDay) → IsDayOfRows a k → IsDayOfRows b k
-day_alike c d a b trees one other k is = record {
+day_alike c d a b trees once one other k is = record {
   exceptions = subst (HasExceptions k) (exceptions_alike a.exceptions b.exceptions _ one.exceptions other.exceptions) is.exceptions;
   given = λ v.
-      let alike = after_alike (exceptions_of k) v (given_alike c d a b trees one other k.day v) (given_alike d c b a trees other one k.day v) in
+      let alike = after_alike (exceptions_of k) v (given_alike c d a b trees once one other k.day v) (given_alike d c b a trees once other one k.day v) in
       (λ there. alike.0 ((is.given v).0 there), λ after. (is.given v).1 (alike.1 after));
 }
 
@@ -98,13 +137,19 @@ module _ {S : Type 0} (g : Ghosts S) where
       let was = holds (read.clean clean) in
       (was.0, read.rows clean was.0 was.1, found clean was.0 was.1)
 
-  -- of other rows nothing is kept
-  pub none_kept : (old new : StoreView S) (kept : Option KeptDay) (to : RowChange) → HoldsKept g old kept
-      → (HasCleanDisk (connection_state g new) → HasCleanDisk (connection_state g old))
-      → (HasCleanDisk (connection_state g new) → HoldsAfter g old new to) → HoldsKept g new None
-  none_kept old new kept to holds before after clean =
-      let was = holds (before clean) in
-      (to was.0, after clean was.0 was.1, tt)
+  -- after a change that was made, what is kept follows it
+  pub kept_followed : (old mid new : StoreView S) (was kept : Option KeptDay) (change : Change) (one other : Option HolderRows) → HoldsKept g old was → IsRead g old mid
+      → (HasCleanDisk (connection_state g new) → HasCleanDisk (connection_state g mid))
+      → (HasCleanDisk (connection_state g new) → HoldsAfter g mid new (changed_rows change))
+      → (HasCleanDisk (connection_state g mid) → OfHeldRows g old (AreLoadedFor change one other))
+      → (HasCleanDisk (connection_state g new) → OfHeldRows g mid GivenOnce)
+      → Follows change one other was kept → HoldsKept g new kept
+  kept_followed old mid new was kept change one other holds read before after loaded once follows clean =
+      let in_mid = before clean in
+      let of = holds (read.clean in_mid) in
+      let rows = of.0 in
+      let held = read.rows in_mid rows of.1 in
+      (changed_rows change rows, after clean rows held, follows rows (once clean rows held) (loaded in_mid rows of.1) of.2)
 
   -- ---- a desk that holds a history
 
@@ -119,7 +164,7 @@ module _ {S : Type 0} (g : Ghosts S) where
       some None a one other is = tt
       some (Some k) a one other is =
           day_of_history (charter_of desk) held.0 history legal held.1 k
-          (day_alike desk.store.charter desk.store.charter a held.0 _ one other k is)
+          (day_alike desk.store.charter desk.store.charter a held.0 _ (once_by_numbers _ held.0 _ other (numbers_once history held.0 held.1)) one other k is)
 
       go : (opened : Bool) → (connection_state g desk.store).is_open ≡ opened → IfSome desk.kept (IsDayOf history)
       go true opened =

@@ -15,7 +15,7 @@ use Rattle.desk.specs.Desk.{IsDayOf, OfHistories, OfRows}
 use Rattle.desk.specs.DeskView.{HoldsKept}
 use Rattle.desk.specs.Lent.{HasLent}
 use Rattle.desk.specs.Prepared.{day_of, IsPrepared}
-use Rattle.desk.specs.declared.handling.Desk.{Desk}
+use Rattle.desk.specs.declared.desk.Desk.{Desk}
 use denote.Ref.{Bor}
 
 abbrev vrps_of : Option KeptDay → Option set.VrpSet

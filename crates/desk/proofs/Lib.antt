@@ -1,3 +1,4 @@
+pub mod RisingEntries
 pub mod ContentLemmas
 pub mod HolderLemmas
 pub mod OneReply
@@ -10,5 +11,7 @@ pub mod DailyLemmas
 pub mod KeptLemmas
 pub mod LentLemmas
 pub mod ExportLemmas
-pub mod ExchangeLemmas
 pub mod GivenEdits
+pub mod FollowLemmas
+pub mod ExchangeLemmas
+pub mod DayLemmas

@@ -15,7 +15,7 @@ use Rattle.store.specs.StoreRows.{IsOpened}
 use Rattle.desk.specs.CrashOutcomes.{HasNonePending, HoldDesk, LeavesAtMost, MayBeLeft}
 use Rattle.desk.specs.Desk.{store_of, ContinuesHistories, Represents}
 use Rattle.desk.specs.Resumed.{FindsLeft, ResumesHistories}
-use Rattle.desk.specs.declared.handling.Desk.{Desk}
+use Rattle.desk.specs.declared.desk.Desk.{Desk}
 use Rattle.desk.proofs.HolderLemmas.{legal_after}
 
 module _ {S : Type 0} (g : Ghosts S) where

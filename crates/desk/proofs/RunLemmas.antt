@@ -9,7 +9,7 @@ use Rattle.charters.specs.declared.charter.Charter.{Charter}
 use Rattle.desk.specs.Answer.{is_accepted, AnswersRequest}
 use Rattle.sqlite.specs.Store.{Ghosts}
 use Rattle.desk.specs.Desk.{IsOnCleanDisk, KeepsRows}
-use Rattle.desk.specs.declared.handling.Desk.{Desk}
+use Rattle.desk.specs.declared.desk.Desk.{Desk}
 use Rattle.desk.specs.HolderAnswers.{may_change, may_change_any, may_except, may_except_any, KeepsOthers}
 use Rattle.desk.specs.Run.{Runs}
 use Rattle.registry.specs.declared.asked.Asked.{Asked}

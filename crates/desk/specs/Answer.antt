@@ -30,7 +30,7 @@ use Rattle.registry.specs.declared.rule.Refusal.TheVariants.{Denied as Refused, 
 use Rattle.desk.specs.ContentText.{IsContentText}
 use Rattle.sqlite.specs.Store.{Ghosts}
 use Rattle.desk.specs.Desk.{HoldsHistory}
-use Rattle.desk.specs.declared.handling.Desk.{Desk}
+use Rattle.desk.specs.declared.desk.Desk.{Desk}
 use Rattle.registry.specs.declared.asked.Request.{Request}
 use Rattle.registry.specs.declared.asked.Request.TheVariants.{Command as CommandRequest, Query as QueryRequest}
 use Rattle.desk.specs.declared.reply.Reply.{Reply}

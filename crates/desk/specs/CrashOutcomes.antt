@@ -15,7 +15,7 @@ use Rattle.store.specs.StoreRows.{connection_state}
 use Rattle.desk.specs.Answer.{is_accepted, AnswersRequest, IsAnswered}
 use Rattle.desk.specs.Desk.{charter_of, store_of, HoldsHistory, IsOnCleanDisk}
 use Rattle.desk.specs.Run.{AreAnswered}
-use Rattle.desk.specs.declared.handling.Desk.{Desk}
+use Rattle.desk.specs.declared.desk.Desk.{Desk}
 use Rattle.desk.specs.declared.reply.Reply.{Reply}
 use Rattle.desk.specs.declared.reply.Reply.TheVariants.{Done, Imported, Unavailable}
 

@@ -14,7 +14,7 @@ use Rattle.registry.specs.Verdict.{IsLegal}
 use Rattle.charters.specs.declared.charter.Charter.{Charter}
 use Rattle.tables.specs.TablesHold.{TablesHold}
 use Rattle.store.specs.StoreRows.{connection_state, Holds, StoreView}
-use Rattle.desk.specs.declared.handling.Desk.{Desk}
+use Rattle.desk.specs.declared.desk.Desk.{Desk}
 
 -- what a desk shows: its store
 abbrev pub store_of : {S : Type 0} → Desk S → StoreView S

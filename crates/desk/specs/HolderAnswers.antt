@@ -19,7 +19,7 @@ use Rattle.desk.specs.Desk.{store_of}
 use Rattle.registry.specs.declared.asked.Asked.{Asked}
 use Rattle.registry.specs.declared.asked.Request.{Request}
 use Rattle.registry.specs.declared.asked.Request.TheVariants.{Command as CommandRequest, Query as QueryRequest}
-use Rattle.desk.specs.declared.handling.Desk.{Desk}
+use Rattle.desk.specs.declared.desk.Desk.{Desk}
 use Rattle.desk.specs.declared.reply.Reply.{Reply}
 use Rattle.desk.specs.declared.reply.Reply.TheVariants.{Content, Listed, Report, Unavailable}
 

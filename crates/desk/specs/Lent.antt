@@ -7,8 +7,8 @@ use Rattle.sqlite.specs.Store.{Ghosts}
 use Rattle.desk.specs.Answer.{AreVrpsOn}
 use Rattle.desk.specs.Desk.{OfHistories}
 use Rattle.desk.specs.Prepared.{IsPrepared}
-use Rattle.desk.specs.contracts.handling.Desk.{the_row}
-use Rattle.desk.specs.declared.handling.Desk.{Desk}
+use Rattle.desk.specs.contracts.desk.Desk.{the_row}
+use Rattle.desk.specs.declared.desk.Desk.{Desk}
 use denote.Ref.{Bor}
 
 -- The day was kept, or was not and nothing is lent. What is lent are the VRPs that are kept, which are those of the day,

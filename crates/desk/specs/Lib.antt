@@ -9,4 +9,5 @@ pub mod DeskView
 pub mod Desk
 pub mod Prepared
 pub mod Lent
+pub mod DayAfter
 pub mod steps

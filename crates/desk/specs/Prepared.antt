@@ -4,7 +4,7 @@ use Rattle.kept.specs.KeptDay.{KeptDay}
 use Rattle.sqlite.specs.Store.{Ghosts}
 use Rattle.store.specs.StoreRows.{IsRead}
 use Rattle.desk.specs.Desk.{store_of, HoldsHistory, IsDayOf, OfHistories}
-use Rattle.desk.specs.declared.handling.Desk.{Desk}
+use Rattle.desk.specs.declared.desk.Desk.{Desk}
 
 abbrev pub day_of : Option KeptDay → Option ℕ
 day_of kept = option_map (λ day. day.day) kept

@@ -12,7 +12,7 @@ use Rattle.registry.specs.Verdict.{IsLegal}
 use Rattle.registry.specs.declared.asked.Asked.{Asked}
 use Rattle.desk.specs.CrashOutcomes.{IsAcceptedOn, LeavesAtMost, MayBeLeft}
 use Rattle.desk.specs.Desk.{Represents}
-use Rattle.desk.specs.declared.handling.Desk.{Desk}
+use Rattle.desk.specs.declared.desk.Desk.{Desk}
 
 -- the history before, or that history with one of the pending requests accepted
 abbrev pub IsAtMostOneMore : Charter → History → List Asked → History → Type 0

@@ -1,33 +1,50 @@
 //! The ROA content of an authorization (RFC 9582).
-ghost use Rattle.std.specs.Prelude.{◌≡◌, ◌↔◌, true, IsSome, IfSome, IfOk};
+ghost use Rattle.std.specs.Prelude.{◌≡◌, ◌↔◌, true, map, IsSome, IfSome, IfOk};
 ghost use Rattle.std.specs.String.{string_bytes};
-ghost use Rattle.registry.specs.Verdict.{terms_fit_length};
-ghost use Rattle.desk.specs.ContentText.{content_of, IsContentText};
+ghost use Rattle.registry.specs.Terms.{entries_of};
+ghost use Rattle.registry.specs.Verdict.{fit_lengths};
+ghost use Rattle.desk.specs.ContentText.{content_entry, content_of, IsContentText};
 
-use registry::Auth;
+use registry::{Auth, RoaPrefix};
 use roa::{Content, Entry, encode};
 use std::alloc::{AllocError, Global};
 
-/// The ROA content of the authorization; `None` where its maxLength is out of range, which no
+fn content_entry(entry: &RoaPrefix) -> Entry
+    ensures { result ≡ content_entry entry.now }
+{
+    Entry {
+        prefix: entry.prefix,
+        max: entry.max,
+    }
+}
+
+/// The entries as those of a content, in their order.
+fn content_entries(alloc: Global, entries: &[RoaPrefix]) -> Result<Vec<Entry>, AllocError>
+    ensures { IfOk result (λ all. all.items ≡ map content_entry entries.now) }
+{
+    let mut all = Vec::new(alloc);
+    for entry in entries {
+        all.push(content_entry(entry))?;
+    }
+    Ok(all)
+}
+
+/// The ROA content of the authorization; `None` where a maxLength is out of range, which no
 /// history has.
 fn content_of(alloc: Global, auth: &Auth) -> Result<Option<Content>, AllocError>
     ensures some { IfOk result (λ found.
-        IsSome found ↔ (terms_fit_length auth.now auth.now.max ≡ true)) }
+        IsSome found ↔ (fit_lengths (entries_of auth.now) ≡ true)) }
     ensures value { IfOk result (λ found. IfSome found (λ content. content ≡ content_of auth.now)) }
 {
-    let entry = Entry {
-        prefix: auth.prefix,
-        max: auth.max,
-    };
-    let entries = vec![in alloc; entry]?;
+    let entries = content_entries(alloc, &auth.entries())?;
     Ok(Content::make(auth.asn, entries).ok())
 }
 
-/// The octets of the authorization's ROA content in lower-case hex; `None` where its maxLength is
-/// out of range, which no history has.
+/// The octets of the authorization's ROA content in lower-case hex; `None` where a maxLength is out
+/// of range, which no history has.
 pub(crate) fn content_text(alloc: Global, auth: &Auth) -> Result<Option<String>, AllocError>
     ensures some { IfOk result (λ found.
-        IsSome found ↔ (terms_fit_length auth.now auth.now.max ≡ true)) }
+        IsSome found ↔ (fit_lengths (entries_of auth.now) ≡ true)) }
     ensures text { IfOk result (λ found.
         IfSome found (λ text. IsContentText auth.now (string_bytes text))) }
 {

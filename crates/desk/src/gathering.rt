@@ -1,5 +1,6 @@
 //! What is read from an index: its VRPs, and the states of routes.
 ghost use Rattle.std.specs.Prelude.{◌≡◌, map, IfOk};
+ghost use Rattle.std.specs.List.{zip};
 ghost use Rattle.addr.specs.OriginValidation.{validation_state};
 ghost use Rattle.payload.specs.Rising.{AreRising};
 ghost use Rattle.payload.specs.ValidityState.{state_of};
@@ -68,21 +69,16 @@ pub(crate) fn judge<I: PayloadIndex>(
     Ok(states)
 }
 
-/// The validation states of each route over the VRPs of one index and over those of another.
-pub(crate) fn compare<I: PayloadIndex>(
+/// The states, each with the other of its place, as far as both go.
+pub(crate) fn pair(
     alloc: Global,
-    one: &I,
-    other: &I,
-    routes: &[Route],
+    ones: &[Validity],
+    others: &[Validity],
 ) -> Result<Vec<(Validity, Validity)>, AllocError>
-    ensures one { IfOk result (λ states. map (λ both. state_of both.0) states.items
-        ≡ map (λ r. validation_state (set.items (I.vrps one.now)) r) routes.now) }
-    ensures other { IfOk result (λ states. map (λ both. state_of both.1) states.items
-        ≡ map (λ r. validation_state (set.items (I.vrps other.now)) r) routes.now) }
+    ensures { IfOk result (λ pairs. pairs.items ≡ zip ones.now others.now) }
 {
-    let mut states = Vec::with_capacity(alloc, routes.len())?;
-    for route in routes {
-        states.push((one.validity(route), other.validity(route)))?;
-    }
-    Ok(states)
+    ones.iter()
+        .copied()
+        .zip(others.iter().copied())
+        .collect(alloc)
 }

@@ -2,15 +2,14 @@
 #![tactic(auto)]
 
 mod content;
+mod desk;
 mod exceptions;
-mod exchange;
 mod gathering;
-mod handling;
 pub mod laws;
 mod reply;
 mod vrps;
 
-pub use handling::Desk;
+pub use desk::Desk;
 pub use registry::{Asked, Request};
 pub use reply::Reply;
 pub use vrps::Vrps;

@@ -28,7 +28,7 @@ use Rattle.database.specs.Databases.{IsDeskTrees, IsDeskWhileOpen}
 use Rattle.desk.specs.CrashOutcomes.{LeavesAtMost, MayBeLeft}
 use Rattle.desk.specs.Desk.{charter_of, ContinuesHistories, HoldsHistory, IsOnCleanDisk, Represents}
 use Rattle.desk.specs.Resumed.{FindsLeft, ResumesHistories}
-use Rattle.desk.specs.declared.handling.Desk.{Desk}
+use Rattle.desk.specs.declared.desk.Desk.{Desk}
 use Rattle.desk_files.specs.DeskFiles.{AreLeftFiles, AreLeftOfLegal, ContinuesFiles, IsOver, KeepDesk, ResumesFiles}
 
 -- a disk that returned what was written until the close did so before

@@ -14,7 +14,7 @@ use Rattle.desk.specs.CrashOutcomes.{pending_after_all, AreKept, MayBeLeft}
 use Rattle.desk.specs.Desk.{charter_of, HoldsHistory}
 use Rattle.desk.specs.Resumed.{IsAtMostOneMore, ResumesHistories}
 use Rattle.desk.specs.Run.{Runs}
-use Rattle.desk.specs.declared.handling.Desk.{Desk}
+use Rattle.desk.specs.declared.desk.Desk.{Desk}
 use Rattle.desk.specs.declared.reply.Reply.{Reply}
 use Rattle.desk_files.specs.Lives.{Lives, LivesOn, ResumesAfter}
 

@@ -30,7 +30,7 @@ use Rattle.store.specs.RefusedOpening.{IsGivenBack}
 use Rattle.desk.specs.CrashOutcomes.{HoldDesk, LeavesAtMost, MayBeLeft}
 use Rattle.desk.specs.Desk.{Represents}
 use Rattle.desk.specs.Resumed.{IsAtMostOneMore, Resumes}
-use Rattle.desk.specs.declared.handling.Desk.{Desk}
+use Rattle.desk.specs.declared.desk.Desk.{Desk}
 use Rattle.desk_files.specs.declared.file.OpenFault.{OpenFault}
 use Rattle.desk_files.specs.declared.file.OpenFault.TheVariants.{File, Store}
 use Rattle.command_line.specs.declared.fault.ProgramFault.{ProgramFault}

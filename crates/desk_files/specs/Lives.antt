@@ -10,7 +10,7 @@ use Rattle.desk.specs.CrashOutcomes.{pending_after_all, LeavesAtMost}
 use Rattle.desk.specs.Desk.{Represents}
 use Rattle.desk.specs.Resumed.{IsAtMostOneMore, Resumes}
 use Rattle.desk.specs.Run.{Runs}
-use Rattle.desk.specs.declared.handling.Desk.{Desk}
+use Rattle.desk.specs.declared.desk.Desk.{Desk}
 use Rattle.desk.specs.declared.reply.Reply.{Reply}
 
 -- where a crash of the desk leaves at most a legal history with requests pending, the desk that is opened next

@@ -34,7 +34,7 @@ ann {"do":"list","holder":"alpha"} => {"listed":[{"number":1,"asn":64496,"prefix
 reg {"do":"reclaim","holder":"beta","prefix":"198.51.100.0/24"} => {"done":null}
 "#;
 
-const UNAVAILABLE: &str = r#"{"unavailable":true}"#;
+pub(crate) const UNAVAILABLE: &str = r#"{"unavailable":true}"#;
 
 /// The operator `reg`, and a pool of two prefixes.
 pub(crate) fn example_charter(alloc: Global) -> Result<Charter, Fail> {
@@ -64,7 +64,11 @@ fn line_of(alloc: Global, request: &str) -> Result<String, Fail> {
 }
 
 /// The reply of the desk to a request.
-fn ask<S: Alter>(alloc: Global, desk: &mut Desk<S>, request: &str) -> Result<String, Fail> {
+pub(crate) fn ask<S: Alter>(
+    alloc: Global,
+    desk: &mut Desk<S>,
+    request: &str,
+) -> Result<String, Fail> {
     let line = line_of(alloc, request)?;
     let mut sheet = sheet_of(alloc, usize::MAX);
     let mut source = Device::new(line.as_bytes());

@@ -1,5 +1,5 @@
 //! What a desk over files does where the disk fails: it stops at each call of the disk, or one call is
-//! refused, and the files are opened again.
+//! refused, and the files are opened again. And what is answered where an allocation is refused.
 #![tactic(auto)]
 
 #[cfg(test)]
@@ -7,9 +7,13 @@ mod example_requests;
 #[cfg(test)]
 mod http_creates;
 #[cfg(test)]
+mod kept_days;
+#[cfg(test)]
 mod lives;
 #[cfg(test)]
 mod refusals;
+#[cfg(test)]
+mod refused_memory;
 #[cfg(test)]
 mod refusing;
 #[cfg(test)]

@@ -14,7 +14,7 @@ use std::process::Abort;
 use std::test::Fail;
 
 /// More calls than a run makes of one file.
-const MANY: u64 = 1_000;
+pub(crate) const MANY: u64 = 1_000;
 
 /// Each opening fills the cache, so it is small.
 pub(crate) fn small_options() -> Options {

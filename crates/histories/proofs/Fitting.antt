@@ -1,12 +1,9 @@
 -- The rows of a legal history whose values are those of their types are in their ranges.
-use Rattle.std.proofs.Common.{◌≡◌, ℕ, ◌+◌, ◌<◌, ◌≤◌, true, false, not, cond, eqb, List, [], ◌∷◌, inl, inr, Option, Some, None, IsSomeAnd, refl, sym, subst, arith, filter}
+use Rattle.std.proofs.Common.{◌≡◌, ℕ, ◌+◌, ◌<◌, ◌≤◌, true, false, not, cond, eqb, List, [], ◌∷◌, inl, inr, Option, Some, None, IsSomeAnd, refl, sym, ap, ◌∙◌, subst, arith, filter}
 use Rattle.std.specs.List.{All}
 use Rattle.std.proofs.lemmas.Bool.{cases_Bool}
-use Rattle.std.proofs.lemmas.Bool.Decides.{nat_tests}
 use Rattle.std.proofs.lemmas.List.Elements.{All-nil, All-cons, All-head, All-tail, All-push, All-filter, All-map, All-weaker}
-use Rattle.addr.specs.Address.{FitsMaxLength, fits_max_length}
 use Rattle.addr.specs.Day.{IsDay}
-use Rattle.addr.specs.declared.prefix.Prefix.{Prefix}
 use Rattle.registry.specs.declared.limits.TheConstants.{LAST_NUMBER}
 use Rattle.registry.specs.declared.authorization.Auth.{Auth}
 use Rattle.charters.specs.declared.charter.Charter.{Charter}
@@ -17,11 +14,13 @@ use Rattle.slurm.specs.Exceptions.{Exceptions}
 use Rattle.registry.specs.ExceptionsInForce.{exceptions_after, exceptions_in_force}
 use Rattle.registry.specs.History.{Entry, History, same_name}
 use Rattle.registry.specs.Terms.{numbered_terms, granted_after, grants_after, grants_made, grant_terms, created_after, terms_after, authorizations_made, authorization_terms, amended, HeldSinceMade}
+use Rattle.registry.specs.RoaPrefixes.{AreEntries}
 use Rattle.registry.specs.Values.{CommandFits, ExceptionsFit, FilterFits, HistoryFits, AuthFits, GrantFits, VrpFits}
-use Rattle.registry.specs.Verdict.{Verdict, IsLegal, auth_of_number, terms_fit_length, OfNumber}
+use Rattle.registry.specs.Verdict.{Verdict, IsLegal, auth_of_number, fit_lengths, terms_fit_length, OfNumber}
+use Rattle.registry.proofs.Entries.{numbered-entries, amended-are, amended-lengths}
 use Rattle.registry.proofs.Names.{same_name-true}
 use Rattle.registry.proofs.Kept.{Keeps-all}
-use Rattle.registry.proofs.Held.{authorization_terms-numbered, since_same, amended-number, amended-prefix}
+use Rattle.registry.proofs.Held.{authorization_terms-numbered, since_same, amended-number, amended-addresses}
 use Rattle.histories.specs.Ranges.{ExceptionsInForceFit, LegalRowsFit}
 use Rattle.histories.proofs.SharedVrps.{Each, found_one, amended-other, amended-it}
 
@@ -67,13 +66,10 @@ record AuthsFit (history : History) (h : List ℕ) (created : ℕ) (auths : List
   made : created ≤ LAST_NUMBER
   terms : All (FitsWhereHeld history h) auths
 
-in_range : (p : Prefix) (max : ℕ) → fits_max_length p max ≡ true → FitsMaxLength p max
-in_range p max fits = (grind (arith, nat_tests), grind (arith, nat_tests))
-
 -- the one authorization of the number, for which the maxLength is in range
 record Found (before : History) (h : List ℕ) (n max : ℕ) : Type 0 where
   one : Auth
-  fits : FitsMaxLength one.prefix max
+  fits : terms_fit_length one max ≡ true
   only : Each (λ x. HeldSinceMade before h x → eqb x.number n ≡ true → x ≡ one) (authorization_terms before h)
 
 found : (before : History) (h : List ℕ) (n max : ℕ) → OfNumber before h n (λ x. terms_fit_length x max ≡ true) → Found before h n max
@@ -83,12 +79,12 @@ found before h n max of = by_case (auth_of_number n of.0) refl of.2
     by_case None is none = absurd none
     by_case (Some z) is fits = record {
       one = z;
-      fits = in_range z.prefix max fits;
+      fits = fits;
       only = found_one (HeldSinceMade before h) n 0 (authorization_terms before h) of.0 (authorizations_made before h) z
           (authorization_terms-numbered before h) of.1 is;
     }
 
-amended_fit : (e : Entry) (before : History) (h : List ℕ) (n max until : ℕ) (z : Auth) → FitsMaxLength z.prefix max → IsDay until → (xs : List Auth)
+amended_fit : (e : Entry) (before : History) (h : List ℕ) (n max until : ℕ) (z : Auth) → terms_fit_length z max ≡ true → IsDay until → (xs : List Auth)
     → Each (λ x. HeldSinceMade before h x → eqb x.number n ≡ true → x ≡ z) xs → All (FitsWhereHeld (e ∷ before) h) xs
     → All (λ x. FitsWhereHeld (e ∷ before) h (amended n max until x)) xs
 amended_fit e before h n max until z range day [] only all = All-nil (λ x. FitsWhereHeld (e ∷ before) h (amended n max until x))
@@ -99,14 +95,21 @@ amended_fit e before h n max until z range day (x ∷ xs) only all =
     first : FitsWhereHeld (e ∷ before) h (amended n max until x)
     first since =
         let number = sym (amended-number n max until x) in
-        let held = since_same (e ∷ before) h (amended n max until x) x number (sym (amended-prefix n max until x)) since in
+        let held = since_same (e ∷ before) h (amended n max until x) x number (λ a. sym (amended-addresses n max until x a)) since in
         let had = All-head (FitsWhereHeld (e ∷ before) h) x xs all held in
         elim (cases_Bool (eqb x.number n)) [
           | inl t ↦
               let one = only.0 held.1 t in
               let fits = subst AuthFits one had in
               subst AuthFits (sym (amended-it n max until x z t one))
-              (record { number = fits.number; asn = fits.asn; max = range; from = fits.from; until = day })
+              (record {
+                number = fits.number;
+                asn = fits.asn;
+                entries = amended-are z max until fits.entries;
+                lengths = amended-lengths z max until ∙ range;
+                from = fits.from;
+                until = day;
+              })
           | inr f ↦ subst AuthFits (sym (amended-other n max until x f)) had
         ]
 
@@ -126,10 +129,11 @@ auths_after-fit charter before day caller (Create holder terms) h accepted value
           subst (λ (k : List ℕ). authorizations_made before k < LAST_NUMBER) (same_name-true holder h t) accepted.1.1.1.1.1.1.0.1 in
           let fits : AuthFits x = record {
             number = (omega arith, omega (arith, room));
-            asn = values.1.0;
-            max = in_range terms.prefix terms.max accepted.1.1.1.0;
-            from = values.1.2;
-            until = values.1.3;
+            asn = values.1.asn;
+            entries = subst AreEntries (sym (numbered-entries terms (made + 1))) values.1.entries;
+            lengths = ap fit_lengths (numbered-entries terms (made + 1)) ∙ accepted.1.1.1.0;
+            from = values.1.from;
+            until = values.1.until;
           } in
           rw t (record { made = omega (arith, room); terms = All-push F auths x fit.terms (λ _. fits) })
       | inr f ↦ rw f fit

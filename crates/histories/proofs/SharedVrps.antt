@@ -1,28 +1,30 @@
 -- No two active authorizations share a VRP.
 use Rattle.std.proofs.Common.{◌≡◌, ℕ, ◌+◌, ◌<◌, ◌≤◌, Bool, true, false, not, ◌&&◌, ◌||◌, cond, eqb, nat_le, List, [], ◌∷◌, ◌++◌, inl, inr, Option, Some, None, IsSomeAnd, refl, sym, ap, ◌∙◌, subst, arith, map, filter}
 use Rattle.std.specs.List.{list_any}
-use Rattle.std.proofs.lemmas.Bool.{cases_Bool, cond-true, cond-false, false≢true, and_parts, or_parts}
+use Rattle.std.proofs.lemmas.Bool.{cases_Bool, cond-true, cond-false, false≢true, and_parts, or_parts, or_cases, or_left, or_right}
 use Rattle.std.proofs.lemmas.Option.{same_Some}
 use Rattle.std.proofs.lemmas.Bool.Decides.{nat_tests}
 use Rattle.addr.specs.Family.{family_eq}
-use Rattle.addr.specs.Address.{last_of, Overlaps, prefix_eq}
+use Rattle.addr.specs.Address.{Address, has_address, last_of, Overlaps, prefix_eq}
 use Rattle.addr.specs.declared.family.Family.{Family}
 use Rattle.addr.specs.declared.family.Family.TheVariants.{V4, V6}
 use Rattle.addr.specs.declared.prefix.Prefix.{Prefix}
 use Rattle.addr.proofs.AddressLemmas.{overlaps_some, first-last}
 use Rattle.registry.specs.declared.authorization.Auth.{Auth}
+use Rattle.registry.specs.declared.authorization.RoaPrefix.{RoaPrefix}
 use Rattle.charters.specs.declared.charter.Charter.{Charter}
 use Rattle.registry.specs.declared.command.Command.{Command}
 use Rattle.registry.specs.declared.command.Command.TheVariants.{Create, Amend, Withdraw, Import}
 use Rattle.registry.specs.History.{Entry, History, same_name}
 use Rattle.charters.specs.Repeats.{has_repeat}
-use Rattle.registry.specs.Terms.{numbered_terms, gives_vrp, share_vrp, authorizations_made, authorization_terms, amended, HeldSinceMade, HoldsTerms, Keeps, AreActive}
+use Rattle.registry.specs.Terms.{entries_of, entries_asked, entries_have, is_entry, are_shared, numbered_terms, gives_some, share_vrp, authorizations_made, authorization_terms, amended, HeldSinceMade, HoldsTerms, Keeps, AreActive}
 use Rattle.registry.specs.Verdict.{Verdict, IsLegal, auth_of_number}
 use Rattle.histories.specs.SharedVrps.{share_none, NoSharedVrp}
 use Rattle.registry.proofs.Names.{same_name-same, same_name-true}
 use Rattle.registry.proofs.Numbers.{Numbered, Numbered-high, later}
-use Rattle.registry.proofs.Held.{authorization_terms-numbered, held_now, since_same, amended-number, amended-prefix}
-use Rattle.charters.proofs.Repeats.{eqb-flips, prefix_eq-flips}
+use Rattle.registry.proofs.Held.{authorization_terms-numbered, held_now, since_same, amended-number, amended-addresses}
+use Rattle.charters.proofs.Repeats.{eqb-flips}
+use Rattle.registry.proofs.Entries.{are_shared-flips, numbered-entries}
 use Rattle.registry.proofs.Amended.{new_terms, shares_with_other}
 
 abbrev pub Each : (Auth → Type 0) → List Auth → Type 0
@@ -43,19 +45,43 @@ shared_address p q same =
 
 share_vrp-flips : (x y : Auth) → share_vrp x y ≡ share_vrp y x
 share_vrp-flips x y =
-    let asn = eqb-flips x.asn.0 y.asn.0 in
-    let prefix = prefix_eq-flips x.prefix y.prefix in
-    let max = eqb-flips x.max y.max in
-    cc
+    ap (λ b. b && are_shared (entries_of x) (entries_of y)) (eqb-flips x.asn.0 y.asn.0)
+    ∙ ap (λ b. eqb y.asn.0 x.asn.0 && b) (are_shared-flips (entries_of x) (entries_of y))
+
+-- a list that has an entry shares an address with it
+shared_with_one : (d : RoaPrefix) (es : List RoaPrefix) → list_any (is_entry d.prefix d.max) es ≡ true
+    → (a : Address) × (entries_have es a ≡ true) × (has_address d.prefix a ≡ true)
+shared_with_one d [] some = absurd (false≢true some)
+shared_with_one d (e ∷ es) some =
+    elim (or_cases (is_entry d.prefix d.max e) (list_any (is_entry d.prefix d.max) es) some) [
+      | inl here ↦
+          let shared = shared_address e.prefix d.prefix (and_parts (prefix_eq e.prefix d.prefix) (eqb e.max d.max) here).0 in
+          (shared.0, or_left (has_address e.prefix shared.0) (entries_have es shared.0) shared.1, shared.2)
+      | inr later ↦
+          let rest = shared_with_one d es later in
+          (rest.0, or_right (has_address e.prefix rest.0) (entries_have es rest.0) rest.1, rest.2)
+    ]
+
+-- lists that share an entry have a common address
+shared_entries : (es ds : List RoaPrefix) → are_shared es ds ≡ true → (a : Address) × (entries_have es a ≡ true) × (entries_have ds a ≡ true)
+shared_entries es [] some = absurd (false≢true some)
+shared_entries es (d ∷ ds) some =
+    elim (or_cases (list_any (is_entry d.prefix d.max) es) (are_shared es ds) some) [
+      | inl here ↦
+          let shared = shared_with_one d es here in
+          (shared.0, shared.1, or_left (has_address d.prefix shared.0) (entries_have ds shared.0) shared.2)
+      | inr later ↦
+          let rest = shared_entries es ds later in
+          (rest.0, rest.1, or_right (has_address d.prefix rest.0) (entries_have ds rest.0) rest.2)
+    ]
 
 -- two holders do not hold one address
 two_holders : (history : History) (g h : List ℕ) (x y : Auth) → same_name g h ≡ false → HoldsTerms history g x → HoldsTerms history h y → share_vrp x y ≡ false
 two_holders history g h x y differ holds_x holds_y =
     elim (cases_Bool (share_vrp x y)) [
       | inl t ↦
-          let same = (and_parts (prefix_eq x.prefix y.prefix) (eqb x.max y.max) (and_parts (eqb x.asn.0 y.asn.0) (prefix_eq x.prefix y.prefix && eqb x.max y.max) t).1).0 in
-          let a = shared_address x.prefix y.prefix same in
-          let one : g ≡ h = same_Some g h (sym (holds_x x.prefix refl a.0 a.1) ∙ holds_y y.prefix refl a.0 a.2) in
+          let a = shared_entries (entries_of x) (entries_of y) (and_parts (eqb x.asn.0 y.asn.0) (are_shared (entries_of x) (entries_of y)) t).1 in
+          let one : g ≡ h = same_Some g h (sym (holds_x a.0 a.1) ∙ holds_y a.0 a.2) in
           absurd (false≢true (sym differ ∙ ap (same_name g) (sym one) ∙ same_name-same g))
       | inr f ↦ f
     ]
@@ -288,11 +314,14 @@ apart-after charter before day caller (Create holder terms) h accepted pairs =
     elim (cases_Bool (same_name holder h)) [
       | inl t ↦
           let of = accepted.1.1.1.1.1.0 in
-          let at_holder = each_of_kept (HeldSinceMade before holder) (λ y. gives_vrp y terms.asn terms.prefix terms.max) (authorization_terms before holder) of.0 of.1 of.2 in
-          let Q : List ℕ → Type 0 = λ g. Each (λ y. HeldSinceMade before g y → gives_vrp y terms.asn terms.prefix terms.max ≡ false) (authorization_terms before g) in
+          let at_holder = each_of_kept (HeldSinceMade before holder) (λ y. gives_some y terms.asn (entries_asked terms)) (authorization_terms before holder) of.0 of.1 of.2 in
+          let Q : List ℕ → Type 0 = λ g. Each (λ y. HeldSinceMade before g y → gives_some y terms.asn (entries_asked terms) ≡ false) (authorization_terms before g) in
           let none = subst Q (same_name-true holder h t) at_holder in
-          let later_on = Each-weaker (HeldSinceMade before h) (HeldSinceMade (e ∷ before) h) (λ y. gives_vrp y terms.asn terms.prefix terms.max) (authorization_terms before h) (λ y since. since.1) none in
-          subst G (sym t) (PairsApart-append (HeldSinceMade (e ∷ before) h) (authorization_terms before h) x later_on old)
+          let later_on = Each-weaker (HeldSinceMade before h) (HeldSinceMade (e ∷ before) h) (λ y. gives_some y terms.asn (entries_asked terms)) (authorization_terms before h) (λ y since. since.1) none in
+          let apart : Each (λ y. HeldSinceMade (e ∷ before) h y → share_vrp y x ≡ false) (authorization_terms before h) =
+          subst (λ es. Each (λ y. HeldSinceMade (e ∷ before) h y → gives_some y terms.asn es ≡ false) (authorization_terms before h))
+          (sym (numbered-entries terms (authorizations_made before h + 1))) later_on in
+          subst G (sym t) (PairsApart-append (HeldSinceMade (e ∷ before) h) (authorization_terms before h) x apart old)
       | inr f ↦ subst G (sym f) old
     ]
 apart-after charter before day caller (Amend holder n max until) h accepted pairs =
@@ -300,7 +329,7 @@ apart-after charter before day caller (Amend holder n max until) h accepted pair
     let f = amended n max until in
     let old = PairsApart-weaker (HeldSinceMade before h) (HeldSinceMade (e ∷ before) h) (authorization_terms before h) (λ y since. since.1) pairs in
     let G : Bool → Type 0 = λ b. PairsApart (HeldSinceMade (e ∷ before) h) (cond b (map f (authorization_terms before h)) (authorization_terms before h)) in
-    let back = λ (y : Auth) (since : HeldSinceMade (e ∷ before) h (f y)). since_same before h (f y) y (sym (amended-number n max until y)) (sym (amended-prefix n max until y)) since.1 in
+    let back = λ (y : Auth) (since : HeldSinceMade (e ∷ before) h (f y)). since_same before h (f y) y (sym (amended-number n max until y)) (λ a. sym (amended-addresses n max until y a)) since.1 in
     elim (cases_Bool (same_name holder h)) [
       | inl t ↦
           let of = accepted.1.1.1.1.0 in

@@ -21,6 +21,7 @@ use Rattle.registry.specs.HolderEntries.{names_holder}
 use Rattle.registry.specs.Permission.{is_permitted_terms}
 use Rattle.registry.specs.Resources.{resource_holder, is_held_by}
 use Rattle.registry.specs.Terms.{grant_terms, authorization_terms, amended, HeldSinceMade, Keeps}
+use Rattle.registry.specs.Values.{CommandFits}
 use Rattle.registry.specs.Verdict.{Verdict, HasAccessTo, IsLegal, auth_of_number}
 use Rattle.registry.proofs.Names.{same_name-same, same_name-true, same_name-false}
 use Rattle.isolation.specs.RepeatedRequests.{is_grant, has_slurm_file, NoneNames, HaveSameRows, RepeatsLeaveRows}
@@ -123,35 +124,35 @@ withdrawn_again history before then day by caller holder n same has =
     (any_kept (HeldSinceMade made holder) test _ has.0 kept (any_filtered test (authorization_terms before holder))) has.2
 
 agree-again : (charter : Charter) (history before : History) (then day : ℕ) (by caller : List ℕ) (c : Command)
-    → Verdict charter before then by c None → AgreeIfNamed history (entry then by c ∷ before) (holder_of c) → is_grant c ≡ false
+    → CommandFits c → Verdict charter before then by c None → AgreeIfNamed history (entry then by c ∷ before) (holder_of c) → is_grant c ≡ false
     → Verdict charter history day caller c None → (h : List ℕ) → Agree (entry day caller c ∷ history) history h
-agree-again charter history before then day by caller (Register holder) first same other accepted h =
+agree-again charter history before then day by caller (Register holder) fits first same other accepted h =
     let registered : is_registered (entry then by (Register holder) ∷ before) holder ≡ true = ap (λ b. b || is_registered before holder) (same_name-same holder) in
     absurd (false≢true (sym accepted.1.0 ∙ same.registered ∙ registered))
-agree-again charter history before then day by caller (Delegate holder p) first same other accepted h =
+agree-again charter history before then day by caller (Delegate holder p) fits first same other accepted h =
     absurd (false≢true (still_held history _ holder p (Some holder) None same (λ a has. cond-true _ _ _ has) accepted.1.1.1.0 ∙ same_name-same holder))
-agree-again charter history before then day by caller (Transfer p giver taker) first same other accepted h =
+agree-again charter history before then day by caller (Transfer p giver taker) fits first same other accepted h =
     absurd (false≢true (sym (same_name-false giver taker first.1.1.0) ∙ sym (still_held history _ giver p (Some taker) (Some giver) same (λ a has. cond-true _ _ _ has) accepted.1.1.1.0) ∙ same_name-same giver))
-agree-again charter history before then day by caller (Reclaim holder p) first same other accepted h =
+agree-again charter history before then day by caller (Reclaim holder p) fits first same other accepted h =
     absurd (false≢true (sym (still_held history _ holder p None (Some holder) same (λ a has. cond-true _ _ _ has) accepted.1.1.0) ∙ same_name-same holder))
-agree-again charter history before then day by caller (Grant holder name role scope until) first same other accepted h = cc
-agree-again charter history before then day by caller (Revoke holder n) first same other accepted h =
+agree-again charter history before then day by caller (Grant holder name role scope until) fits first same other accepted h = cc
+agree-again charter history before then day by caller (Revoke holder n) fits first same other accepted h =
     let test = list_any (λ (g : Granted). eqb g.number n) in
     absurd (false≢true (sym (any_filtered (λ g. eqb g.number n) (grant_terms before holder)) ∙ sym (ap test (same.grants ∙ cond-true _ _ _ (same_name-same holder))) ∙ accepted.1.0))
-agree-again charter history before then day by caller (Create holder t) first same other accepted h =
+agree-again charter history before then day by caller (Create holder t) fits first same other accepted h =
     let has = (active_alike (agree-sym same) _).0 (created_has charter before then by holder t first) in
-    absurd (not_made_again charter history day caller holder t has accepted)
-agree-again charter history before then day by caller (Amend holder n max until) first same other accepted h =
+    absurd (not_made_again charter history day caller holder t fits.1.entries has accepted)
+agree-again charter history before then day by caller (Amend holder n max until) fits first same other accepted h =
     let e = entry day caller (Amend holder n max until) in
     elim (cases_Bool (names_holder h e.command)) [
       | inl t ↦ subst (λ (g : List ℕ). Agree (e ∷ history) history g) (same_name-true holder h (or_itself (same_name holder h) t))
           (amended_again history before then day by caller holder n max until same)
       | inr f ↦ agree-unnamed charter e history h accepted f
     ]
-agree-again charter history before then day by caller (Withdraw holder n) first same other accepted h =
+agree-again charter history before then day by caller (Withdraw holder n) fits first same other accepted h =
     absurd (withdrawn_again history before then day by caller holder n same accepted.1.0)
-agree-again charter history before then day by caller (Import holder rows) first same other accepted h = absurd accepted
-agree-again charter history before then day by caller (Slurm file) first same other accepted h =
+agree-again charter history before then day by caller (Import holder rows) fits first same other accepted h = absurd accepted
+agree-again charter history before then day by caller (Slurm file) fits first same other accepted h =
     agree-unnamed charter (entry day caller (Slurm file)) history h accepted refl
 
 exceptions_later : (later before : History) → has_slurm_file later ≡ false
@@ -170,16 +171,16 @@ exceptions_again _ later before then by none = refl
 
 -- of a command that makes an entry
 entries_again : (charter : Charter) (before : History) (first : Entry) (later : History) (day : ℕ) (caller : List ℕ)
-    → Verdict charter before first.day first.caller first.command None → IsLegal charter (later ++ first ∷ before)
+    → CommandFits first.command → Verdict charter before first.day first.caller first.command None → IsLegal charter (later ++ first ∷ before)
     → is_grant first.command ≡ false → NoneNames first.command later
     → Verdict charter (later ++ first ∷ before) day caller first.command None
     → HaveSameRows (later ++ first ∷ before) (entry day caller first.command ∷ later ++ first ∷ before)
-entries_again charter before first later day caller accepted_first legal other none accepted =
+entries_again charter before first later day caller fits accepted_first legal other none accepted =
     let c = first.command in
     let history = later ++ first ∷ before in
     let same : AgreeIfNamed history (first ∷ before) (holder_of c) =
     IfSome_then (holder_of c) none.holder (λ h unnamed. agree-later charter h later (first ∷ before) legal unnamed) in
-    let again = agree-again charter history before first.day day first.caller caller c accepted_first same other accepted in
+    let again = agree-again charter history before first.day day first.caller caller c fits accepted_first same other accepted in
     record {
       holders = λ h rows. (agree-rows (agree-sym (again h)) rows, agree-rows (again h) rows);
       exceptions = exceptions_again c later before first.day first.caller none.file;
@@ -189,12 +190,12 @@ same_rows : (history : History) → HaveSameRows history history
 same_rows history = record { holders = λ h rows. (λ are. are, λ are. are); exceptions = refl }
 
 pub repeats_leave_rows : RepeatsLeaveRows
-repeats_leave_rows charter before then by (Import holder rows) left later day caller again leaves legal other none accepted =
+repeats_leave_rows charter before then by (Import holder rows) left later day caller again fits leaves legal other none accepted =
     let repeats = imports_repeat charter before then by holder rows.items left later leaves legal none.holder in
     subst (HaveSameRows (later ++ left)) (sym (repeats.nothing day caller again accepted)) (same_rows (later ++ left))
-repeats_leave_rows charter before then by c left later day caller again leaves legal other none accepted =
+repeats_leave_rows charter before then by c left later day caller again fits leaves legal other none accepted =
     let first = entry then by c in
     let P : History → Type 0 = λ from. IsLegal charter (later ++ from) → Leaves charter (later ++ from) day caller c again → HaveSameRows (later ++ from) again in
     let made : P (first ∷ before) = λ legal accepted.
-    subst (HaveSameRows (later ++ first ∷ before)) (sym accepted.1) (entries_again charter before first later day caller leaves.0 legal other none accepted.0) in
+    subst (HaveSameRows (later ++ first ∷ before)) (sym accepted.1) (entries_again charter before first later day caller fits leaves.0 legal other none accepted.0) in
     subst P (sym leaves.1) made legal accepted

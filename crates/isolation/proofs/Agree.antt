@@ -4,12 +4,13 @@ use Rattle.std.specs.Option.{IfSome}
 use Rattle.std.proofs.lemmas.Option.{IfSome_then}
 use Rattle.addr.specs.Address.{Address, has_address}
 use Rattle.addr.specs.declared.prefix.Prefix.{Prefix}
+use Rattle.registry.specs.declared.authorization.RoaPrefix.{RoaPrefix}
 use Rattle.registry.specs.declared.authorization.Auth.{Auth}
 use Rattle.registry.specs.declared.command.Command.{Command}
 use Rattle.registry.specs.declared.command.Command.TheVariants.{Delegate, Transfer, Reclaim}
 use Rattle.registry.specs.History.{Entry, History, registers, is_registered}
 use Rattle.registry.specs.Resources.{holder_after, resource_holder, is_held_by, HoldsPrefix}
-use Rattle.registry.specs.Terms.{granted_after, grants_after, grants_made, grant_terms, created_after, terms_after, authorizations_made, authorization_terms, HeldSinceMade, Keeps, AreActive}
+use Rattle.registry.specs.Terms.{HoldsEntries, granted_after, grants_after, grants_made, grant_terms, created_after, terms_after, authorizations_made, authorization_terms, HeldSinceMade, Keeps, AreActive}
 use Rattle.registry.specs.Rows.{Rows, RowsIfAny}
 use Rattle.registry.proofs.Names.{held_by_same}
 use Rattle.registry.proofs.Kept.{Keeps-same}
@@ -69,6 +70,9 @@ agree-sym-named one other named same = IfSome_then named same (λ h is. agree-sy
 pub agree-holds : {one other : History} {h : List ℕ} → Agree one other h → (p : Prefix) → HoldsPrefix one h p → HoldsPrefix other h p
 agree-holds {one} {other} {h} same p holds a has = held_by_same h (resource_holder one a) (resource_holder other a) (sym (same.holders a)) (holds a has)
 
+pub agree-holds_entries : {one other : History} {h : List ℕ} → Agree one other h → (es : List RoaPrefix) → HoldsEntries one h es → HoldsEntries other h es
+agree-holds_entries {one} {other} {h} same es holds a has = held_by_same h (resource_holder one a) (resource_holder other a) (sym (same.holders a)) (holds a has)
+
 pub agree-active : {one other : History} {h : List ℕ} → Agree one other h → (active : List Auth) → AreActive one h active → AreActive other h active
 agree-active {one} {other} {h} same active are =
     subst (λ (xs : List Auth). Keeps (HeldSinceMade other h) xs active) same.terms
@@ -106,8 +110,8 @@ since_after : (e : Entry) (one other : History) (h : List ℕ) (x : Auth)
     → authorizations_made (e ∷ other) h ≡ authorizations_made (e ∷ one) h
     → (HeldSinceMade one h x → HeldSinceMade other h x) → HeldSinceMade (e ∷ one) h x → HeldSinceMade (e ∷ other) h x
 since_after e one other h x holders created since had = (
-  λ made. λ p is a has. held_by_same h (resource_holder (e ∷ one) a) (resource_holder (e ∷ other) a) (holders a)
-      (had.0 (subst (λ (k : ℕ). x.number ≤ k) created made) p is a has),
+  λ made. λ a has. held_by_same h (resource_holder (e ∷ one) a) (resource_holder (e ∷ other) a) (holders a)
+      (had.0 (subst (λ (k : ℕ). x.number ≤ k) created made) a has),
   since had.1,
 )
 

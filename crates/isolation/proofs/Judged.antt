@@ -2,6 +2,7 @@
 use Rattle.std.proofs.Common.{◌≡◌, ℕ, ◌+◌, ◌<◌, Bool, true, false, ◌||◌, eqb, List, length, ◌↔◌, inl, inr, Option, Some, None, refl, sym, ap, subst, filter, IsSomeAnd}
 use Rattle.std.specs.List.{list_any}
 use Rattle.registry.specs.declared.authorization.Auth.{Auth}
+use Rattle.registry.specs.declared.authorization.RoaPrefix.{RoaPrefix}
 use Rattle.charters.specs.declared.charter.Charter.{Charter}
 use Rattle.registry.specs.declared.command.Command.{Command}
 use Rattle.registry.specs.declared.command.Command.TheVariants.{Register, Delegate, Transfer, Reclaim, Grant, Revoke, Create, Amend, Withdraw, Import, Slurm}
@@ -12,13 +13,13 @@ use Rattle.registry.specs.declared.rule.Rule.{Rule}
 use Rattle.registry.specs.Answer.{holder_of, taker_of, number_given}
 use Rattle.charters.specs.Charter.{is_operator}
 use Rattle.registry.specs.History.{History, is_registered}
-use Rattle.registry.specs.Permission.{has_access, is_permitted, is_permitted_terms}
+use Rattle.registry.specs.Permission.{has_access, are_permitted, is_permitted_terms}
 use Rattle.registry.specs.Resources.{HoldsPrefix}
-use Rattle.registry.specs.Terms.{grant_terms, OfActive}
+use Rattle.registry.specs.Terms.{entries_asked, HoldsEntries, grant_terms, OfActive}
 use Rattle.registry.specs.Verdict.{check, accept, auth_of_number, HasAccessTo, Verdict, ShowVerdict, ListVerdict}
 use Rattle.addr.specs.declared.prefix.Prefix.{Prefix}
 use Rattle.isolation.specs.Isolation.{concerns_all_holders, AreJudgedAlike, AreSeenAlike}
-use Rattle.isolation.proofs.Agree.{Agree, AgreeIfNamed, agree-sym, agree-sym-named, agree-holds, agree-active}
+use Rattle.isolation.proofs.Agree.{Agree, AgreeIfNamed, agree-sym, agree-sym-named, agree-holds, agree-holds_entries, agree-active}
 
 -- equal values have equal facts
 by_value : {A : Type 0} {x y : A} (P : A → Type 0) → x ≡ y → P x ↔ P y
@@ -58,6 +59,9 @@ of_grants same test = by_value (λ grants. test grants ≡ true) same.grants
 of_holds : {one other : History} {h : List ℕ} → Agree one other h → (p : Prefix) → HoldsPrefix one h p ↔ HoldsPrefix other h p
 of_holds same p = (agree-holds same p, agree-holds (agree-sym same) p)
 
+of_holds_entries : {one other : History} {h : List ℕ} → Agree one other h → (es : List RoaPrefix) → HoldsEntries one h es ↔ HoldsEntries other h es
+of_holds_entries same es = (agree-holds_entries same es, agree-holds_entries (agree-sym same) es)
+
 -- of the active authorizations, where a fact about them does too
 of_active : {one other : History} {h : List ℕ} → Agree one other h → (P Q : List Auth → Type 0) → ((active : List Auth) → P active ↔ Q active)
     → OfActive one h P ↔ OfActive other h Q
@@ -96,10 +100,10 @@ judged charter one other day caller (Revoke holder n) same taker own =
     checked (of_grants same (list_any (λ g. eqb g.number n))) accepted)
 judged charter one other day caller (Create holder terms) same taker own =
     checked (of_grants same (λ grants. has_access grants day caller Alter)) (
-    checked (of_grants same (λ grants. is_permitted grants day caller Alter terms.prefix)) (
+    checked (of_grants same (λ grants. are_permitted grants day caller Alter (entries_asked terms))) (
     checked itself (
     checked itself (
-    checked (of_holds same terms.prefix) (
+    checked (of_holds_entries same (entries_asked terms)) (
     checked (active_alike same _) (
     checked (both (active_alike same _) (fewer same.created))
     accepted))))))

@@ -50,8 +50,8 @@ pub since_unchanged : (e : Entry) (before : History) (h : List ℕ) → LeavesHe
 since_unchanged e before h holders created x positive = (
   λ since. since.1,
   λ since. (
-    λ made. λ p is a has. held_by_same h (resource_holder before a) (resource_holder (e ∷ before) a) (holders a)
-        (held_now before h x positive (subst (λ (k : ℕ). x.number ≤ k) created made) since p is a has),
+    λ made. λ a has. held_by_same h (resource_holder before a) (resource_holder (e ∷ before) a) (holders a)
+        (held_now before h x positive (subst (λ (k : ℕ). x.number ≤ k) created made) since a has),
     since,
   ),
 )

@@ -1,26 +1,26 @@
 -- What an import or a create made is present from then on, so that neither is made again.
-use Rattle.std.proofs.Common.{◌≡◌, ℕ, ◌+◌, true, ◌||◌, ◌&&◌, eqb, List, [], ◌∷◌, ◌++◌, Option, Some, None, Ok, inl, inr, refl, sym, ap, ◌∙◌, subst, arith}
+use Rattle.std.proofs.Common.{◌≡◌, ℕ, ◌+◌, ◌<◌, true, ◌||◌, ◌&&◌, eqb, List, [], ◌∷◌, ◌++◌, length, Option, Some, None, Ok, inl, inr, refl, sym, ap, ◌∙◌, subst, arith}
 use Rattle.std.specs.List.{list_any, All}
-use Rattle.std.proofs.lemmas.Bool.{cases_Bool, cond-true, false≢true, and_from, and_parts}
+use Rattle.std.proofs.lemmas.Bool.{cases_Bool, cond-true, false≢true, and_from, and_parts, or_left}
 use Rattle.std.proofs.lemmas.Bool.Decides.{nat_tests}
 use Rattle.std.proofs.lemmas.List.Elements.{All-nil, All-cons, All-head, All-tail, All-weaker}
 use Rattle.std.proofs.lemmas.List.Folds.{list_any-append}
 use Rattle.std.proofs.Math.Bool.{or-true}
-use Rattle.addr.specs.Address.{has_address}
-use Rattle.addr.specs.declared.prefix.Prefix.{Prefix}
 use Rattle.addr.proofs.Equality.{prefix_itself}
 use Rattle.registry.specs.declared.authorization.Auth.{Auth}
 use Rattle.registry.specs.declared.authorization.AuthTerms.{AuthTerms}
 use Rattle.registry.specs.declared.authorization.ImportRow.{ImportRow}
+use Rattle.registry.specs.declared.authorization.RoaPrefix.{RoaPrefix}
 use Rattle.charters.specs.declared.charter.Charter.{Charter}
 use Rattle.registry.specs.declared.command.Command.{Command}
 use Rattle.registry.specs.declared.command.Command.TheVariants.{Create}
 use Rattle.registry.specs.GrowingHistory.{grown_by}
 use Rattle.registry.specs.History.{Entry, History}
-use Rattle.registry.specs.Import.{IsPresent, JudgesRow, ImportGrows, has_terms}
-use Rattle.registry.specs.Resources.{HoldsPrefix}
-use Rattle.registry.specs.Terms.{numbered_terms, row_terms, gives_vrp, authorizations_made, authorization_terms, HeldSinceMade, Keeps, AreActive, OfActive}
+use Rattle.registry.specs.Import.{IsPresent, JudgesRow, ImportGrows, has_terms, are_same}
+use Rattle.registry.specs.Terms.{HoldsEntries, entries_of, entries_asked, entries_have, is_entry, numbered_terms, row_terms, gives_some, authorizations_made, authorization_terms, HeldSinceMade, Keeps, AreActive, OfActive, are_shared}
+use Rattle.registry.specs.RoaPrefixes.{AreEntries}
 use Rattle.registry.specs.Verdict.{Verdict}
+use Rattle.registry.proofs.Entries.{numbered-entries, row-are}
 use Rattle.registry.proofs.Names.{same_name-same}
 use Rattle.registry.proofs.Held.{active-kept, not_yet_made}
 use Rattle.registry.proofs.Kept.{Keeps-append, Keeps-unique}
@@ -35,28 +35,49 @@ use Rattle.isolation.proofs.GrownAlike.{present_alike}
 abbrev pub HasTerms : History → List ℕ → AuthTerms → Type 0
 HasTerms history holder t = OfActive history holder (λ active. list_any (has_terms t) active ≡ true)
 
+-- a list of entries is the same as itself
+same_itself : (es : List RoaPrefix) → are_same es es ≡ true
+same_itself [] = refl
+same_itself (e ∷ es) =
+    let max : eqb e.max e.max ≡ true = grind (arith, nat_tests) in
+    and_from _ _ (and_from _ _ (prefix_itself e.prefix) max) (same_itself es)
+
+-- a list that is the same as one with some entry shares its first with it
+same_shares : (ds es : List RoaPrefix) → 0 < length ds → are_same ds es ≡ true → are_shared es ds ≡ true
+same_shares [] es some same = absurd (omega (arith, some))
+same_shares (d ∷ ds) [] some same = absurd (false≢true same)
+same_shares (d ∷ ds) (e ∷ es) some same =
+    let here = (and_parts (is_entry d.prefix d.max e) (are_same ds es) same).0 in
+    or_left _ _ (or_left _ _ here)
+
 has_its_terms : (n : ℕ) (t : AuthTerms) → has_terms t (numbered_terms t n) ≡ true
 has_its_terms n t =
     let asn : eqb t.asn.0 t.asn.0 ≡ true = grind (arith, nat_tests) in
-    let max : eqb t.max t.max ≡ true = grind (arith, nat_tests) in
     let from : eqb t.from t.from ≡ true = grind (arith, nat_tests) in
     let until : eqb t.until t.until ≡ true = grind (arith, nat_tests) in
-    and_from _ _ (and_from _ _ asn (and_from _ _ (prefix_itself t.prefix) max)) (and_from _ _ from until)
+    let same : are_same (entries_asked t) (entries_of (numbered_terms t n)) ≡ true =
+    ap (are_same (entries_asked t)) (numbered-entries t n) ∙ same_itself (entries_asked t) in
+    and_from _ _ (and_from _ _ asn same) (and_from _ _ from until)
 
--- what has the terms gives their VRP
-any_gives : (t : AuthTerms) (xs : List Auth) → list_any (has_terms t) xs ≡ true → list_any (λ y. gives_vrp y t.asn t.prefix t.max) xs ≡ true
-any_gives t [] any = any
-any_gives t (x ∷ xs) any = elim (cases_Bool (has_terms t x)) [
-  | inl has ↦
-      let vrp = (and_parts (gives_vrp x t.asn t.prefix t.max) (eqb x.from t.from && eqb x.until t.until) has).0 in
-      ap (λ b. b || list_any (λ y. gives_vrp y t.asn t.prefix t.max) xs) vrp
+-- what has the terms gives some of their entries, where there are any
+gives_of_terms : (t : AuthTerms) (x : Auth) → 0 < length (entries_asked t) → has_terms t x ≡ true → gives_some x t.asn (entries_asked t) ≡ true
+gives_of_terms t x some has =
+    let asn = eqb x.asn.0 t.asn.0 in
+    let same = are_same (entries_asked t) (entries_of x) in
+    let parts = and_parts asn same (and_parts (asn && same) (eqb x.from t.from && eqb x.until t.until) has).0 in
+    and_from _ _ parts.0 (same_shares (entries_asked t) (entries_of x) some parts.1)
+
+any_gives : (t : AuthTerms) (xs : List Auth) → 0 < length (entries_asked t) → list_any (has_terms t) xs ≡ true → list_any (λ y. gives_some y t.asn (entries_asked t)) xs ≡ true
+any_gives t [] some any = any
+any_gives t (x ∷ xs) some any = elim (cases_Bool (has_terms t x)) [
+  | inl has ↦ ap (λ b. b || list_any (λ y. gives_some y t.asn (entries_asked t)) xs) (gives_of_terms t x some has)
   | inr lacks ↦
-      let rest = any_gives t xs (sym (ap (λ b. b || list_any (has_terms t) xs) lacks) ∙ any) in
-      ap (λ b. gives_vrp x t.asn t.prefix t.max || b) rest ∙ or-true (gives_vrp x t.asn t.prefix t.max)
+      let rest = any_gives t xs some (sym (ap (λ b. b || list_any (has_terms t) xs) lacks) ∙ any) in
+      ap (λ b. gives_some x t.asn (entries_asked t) || b) rest ∙ or-true (gives_some x t.asn (entries_asked t))
 ]
 
 -- the active authorizations with the new one
-active-created : (history : History) (day : ℕ) (caller holder : List ℕ) (t : AuthTerms) → HoldsPrefix history holder t.prefix
+active-created : (history : History) (day : ℕ) (caller holder : List ℕ) (t : AuthTerms) → HoldsEntries history holder (entries_asked t)
     → (active : List Auth) → AreActive history holder active
     → AreActive (record { day = day; caller = caller; command = Create holder t } ∷ history) holder
     (active ++ numbered_terms t (authorizations_made history holder + 1) ∷ [])
@@ -64,7 +85,7 @@ active-created history day caller holder t holds active are =
     let e : Entry = record { day = day; caller = caller; command = Create holder t } in
     let x = numbered_terms t (authorizations_made history holder + 1) in
     let since : HeldSinceMade (e ∷ history) holder x = (
-      λ _. λ p is a has. holds a (subst (λ (q : Prefix). has_address q a ≡ true) is has),
+      λ _. λ a has. holds a (ap (λ es. entries_have es a) (sym (numbered-entries t (authorizations_made history holder + 1))) ∙ has),
       not_yet_made history holder x (omega arith),
     ) in
     subst (λ (xs : List Auth). Keeps (HeldSinceMade (e ∷ history) holder) xs (active ++ x ∷ [])) (sym (cond-true _ _ _ (same_name-same holder)))
@@ -96,14 +117,14 @@ create_keeps charter history day caller holder t u accepted has =
       list_any-append (has_terms t) has.0 (x ∷ []) ∙ ap (λ b. b || list_any (has_terms t) (x ∷ [])) has.2,
     )
 
--- terms that one has are not made again, by rule `same`
+-- terms that one has are not made again where they have any entry, by rule `same`
 pub not_made_again : (charter : Charter) (history : History) (day : ℕ) (caller holder : List ℕ) (t : AuthTerms)
-    → HasTerms history holder t → Verdict charter history day caller (Create holder t) None → ⊥
-not_made_again charter history day caller holder t has accepted =
+    → AreEntries (entries_asked t) → HasTerms history holder t → Verdict charter history day caller (Create holder t) None → ⊥
+not_made_again charter history day caller holder t are has accepted =
     let new = accepted.1.1.1.1.1.0 in
     let one = Keeps-unique (HeldSinceMade history holder) (authorization_terms history holder) has.0 new.0 has.1 new.1 in
-    let test = list_any (λ (y : Auth). gives_vrp y t.asn t.prefix t.max) in
-    false≢true (sym new.2 ∙ ap test (sym one) ∙ any_gives t has.0 has.2)
+    let test = list_any (λ (y : Auth). gives_some y t.asn (entries_asked t)) in
+    false≢true (sym new.2 ∙ ap test (sym one) ∙ any_gives t has.0 (omega (arith, are.number.0)) has.2)
 
 -- a row of an import is present once it was judged
 row_present : (charter : Charter) (day : ℕ) (caller holder : List ℕ) (history : History) (t : ImportRow) (made : Option Command)
@@ -152,7 +173,7 @@ had_makes_none : (charter : Charter) (day : ℕ) (caller holder : List ℕ) (his
     → HasTerms history holder (row_terms t) → JudgesRow charter day caller holder history t (Ok made) → grown_by day caller made history ≡ history
 had_makes_none charter day caller holder history t None has is = refl
 had_makes_none charter day caller holder history t (Some c) has is =
-    absurd (not_made_again charter history day caller holder (row_terms t) has (subst (λ (d : Command). Verdict charter history day caller d None) is.1 is.2))
+    absurd (not_made_again charter history day caller holder (row_terms t) (row-are t) has (subst (λ (d : Command). Verdict charter history day caller d None) is.1 is.2))
 
 had_grows : (charter : Charter) (day : ℕ) (caller holder : List ℕ) (history : History) (rows : List ImportRow) (again : History)
     → All (HasRow history holder) rows → ImportGrows charter day caller holder history rows again → again ≡ history

@@ -14,6 +14,7 @@ use Rattle.registry.specs.History.{History}
 use Rattle.registry.specs.HolderEntries.{names_holder}
 use Rattle.registry.specs.Import.{ImportGrows, IsImportDenied}
 use Rattle.registry.specs.Rows.{Rows, RowsIfAny}
+use Rattle.registry.specs.Values.{CommandFits}
 use Rattle.registry.specs.Verdict.{IsLegal}
 
 -- each grant is another one
@@ -40,13 +41,16 @@ pub record HaveSameRows (one other : History) : Type 0 where
   pub holders : (h : List ℕ) (rows : Option Rows) → RowsIfAny one h rows ↔ RowsIfAny other h rows
   pub exceptions : exceptions_in_force one ≡ exceptions_in_force other
 
--- after a command other than a grant was accepted, and no later entry names one of its holders or, where
--- it brought a SLURM file, brings another, the same command of any caller on any day, accepted again,
--- leaves the rows of every holder and the exceptions in force
+-- after a command other than a grant was accepted, whose values are those of their types, and no later
+-- entry names one of its holders or, where it brought a SLURM file, brings another, the same command of
+-- any caller on any day, accepted again, leaves the rows of every holder and the exceptions in force. The
+-- types matter to a create alone: no two authorizations share an entry, so one of no entries could be made
+-- again
 abbrev pub RepeatsLeaveRows : Type 0
 RepeatsLeaveRows =
     (charter : Charter) (before : History) (first_day : ℕ) (first_caller : List ℕ)
     (command : Command) (left later : History) (day : ℕ) (caller : List ℕ) (again : History)
+    → CommandFits command
     → Leaves charter before first_day first_caller command left → IsLegal charter (later ++ left)
     → is_grant command ≡ false → NoneNames command later
     → Leaves charter (later ++ left) day caller command again

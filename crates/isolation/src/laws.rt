@@ -59,9 +59,10 @@ pub fn hypothetical_by_entries()
     ensures { HypotheticalByEntries }
 {}
 
-/// Where a command other than a grant was accepted, and no later entry of a legal history names one
-/// of its holders or, where it brought a SLURM file, brings another, the same command by any caller on
-/// any day, if it is accepted again, leaves the rows of every holder and the exceptions in force.
+/// Where a command other than a grant was accepted, whose values are those of their types, and no later
+/// entry of a legal history names one of its holders or, where it brought a SLURM file, brings another,
+/// the same command by any caller on any day, if it is accepted again, leaves the rows of every holder
+/// and the exceptions in force.
 pub fn again()
     ensures { RepeatsLeaveRows }
 {}

@@ -1,16 +1,21 @@
 -- A day that is kept stays so where an authorization ends or begins.
-use Rattle.std.proofs.Common.{◌≡◌, ◌↔◌, ◌⊎◌, inl, inr, Some, None, refl, sym, subst, Contains}
+use Rattle.std.proofs.Common.{◌↔◌, ◌⊎◌, inl, inr, List, [], sym, subst, Contains}
 use Rattle.std.specs.Prelude.{Any}
-use Rattle.std.proofs.lemmas.Option.{none-some, same_Some}
+use Rattle.addr.specs.declared.asn.Asn.{Asn}
 use Rattle.addr.specs.declared.vrp.Vrp.{Vrp}
 use Rattle.payload.specs.VrpSet as set
 use Rattle.registry.specs.DailyVrps.{IsAfterExceptions}
 use Rattle.registry.specs.declared.authorization.Auth.{Auth}
+use Rattle.registry.specs.declared.authorization.RoaPrefix.{RoaPrefix}
+use Rattle.registry.specs.Terms.{IsVrpOfEntry}
+use Rattle.registry.proofs.EntryVrps.{one_of_entry}
 use Rattle.slurm.specs.Exceptions.{Exceptions}
 use Rattle.slurm.specs.Filter.{FilterMatches}
 use Rattle.kept.specs.Changes.{IsJoined, IsLeft, IsWithSame}
-use Rattle.kept.specs.Giving.{GivesOn}
+use Rattle.kept.specs.Giving.{AreGivingOn, GivesOn}
 use Rattle.kept.specs.KeptDay.{exceptions_of, HasExceptions, IsKept, KeptDay}
+use Rattle.kept.specs.steps.Entries.{IsJoinedBy, IsLeftWithout}
+use Rattle.kept.proofs.Members.{none_such}
 use Rattle.kept.proofs.VrpSets.{items_inserted, items_removed, one_or_two}
 
 -- ---- a day that is made
@@ -30,38 +35,52 @@ kept_after given kept exceptions has are v =
     let same = after_same kept exceptions has (given v) v in
     (λ there. same.0 ((are v).0 there), λ after. (are v).1 (same.1 after))
 
--- ---- an authorization ends
+-- ---- an entry ends
 
--- where it gives nothing on the day, all that was there is left
-pub none_left : (old : KeptDay) (auth : Auth) → ((v : Vrp) → (None ≡ Some v) ↔ GivesOn auth old.day v)
-    → (v : Vrp) → Contains (set.items old.vrps) v ↔ IsLeft old auth v
-none_left old auth gives v = (λ there. (there, inl (λ given. none-some v ((gives v).1 given))), λ left. left.0)
-
--- where it gives what is asserted, too
-pub asserted_left : (old : KeptDay) (auth : Auth) (w : Vrp) → ((v : Vrp) → (Some w ≡ Some v) ↔ GivesOn auth old.day v)
-    → Contains (set.items old.asserted) w → (v : Vrp) → Contains (set.items old.vrps) v ↔ IsLeft old auth v
-asserted_left old auth w gives asserted v = (λ there. (there, it), λ left. left.0)
+-- where its VRP for the AS is spared, all that was there is left
+pub spared_left : (old : KeptDay) (begun : List Auth) (e : RoaPrefix) (asn : Asn) (w : Vrp) → IsVrpOfEntry e asn w
+    → AreGivingOn begun old.day w ⊎ Contains (set.items old.asserted) w
+    → (v : Vrp) → Contains (set.items old.vrps) v ↔ IsLeftWithout old (IsVrpOfEntry e asn) begun v
+spared_left old begun e asn w of_entry spared v = (λ there. (there, it), λ left. left.0)
   where
-    it : (¬ GivesOn auth old.day v) ⊎ Contains (set.items old.asserted) v
+    IsSparedOne : Vrp → Type 0
+    IsSparedOne u = AreGivingOn begun old.day u ⊎ Contains (set.items old.asserted) u
+
+    it : (¬ IsVrpOfEntry e asn v) ⊎ IsSparedOne v
     it = elim (one_or_two w v) [
-      | inl same ↦ inr (subst (Contains (set.items old.asserted)) same asserted)
-      | inr differ ↦ inl (λ given. differ (same_Some w v ((gives v).1 given)))
+      | inl same ↦ inr (subst IsSparedOne same spared)
+      | inr differ ↦ inl (λ is. differ (one_of_entry e asn w v of_entry is))
     ]
 
--- where it gives another VRP, that one is taken out
-pub removed_left : (old : KeptDay) (auth : Auth) (w : Vrp) → ((v : Vrp) → (Some w ≡ Some v) ↔ GivesOn auth old.day v)
-    → ¬ Contains (set.items old.asserted) w → (v : Vrp) → Contains (set.items (set.remove old.vrps w)) v ↔ IsLeft old auth v
-removed_left old auth w gives other v =
+-- where it is not, it is taken out
+pub removed_left : (old : KeptDay) (begun : List Auth) (e : RoaPrefix) (asn : Asn) (w : Vrp) → IsVrpOfEntry e asn w
+    → ¬ (AreGivingOn begun old.day w ⊎ Contains (set.items old.asserted) w)
+    → (v : Vrp) → Contains (set.items (set.remove old.vrps w)) v ↔ IsLeftWithout old (IsVrpOfEntry e asn) begun v
+removed_left old begun e asn w of_entry other v =
     let is = items_removed old.vrps w v in (
-      λ there. let kept = is.0 there in (kept.0, inl (λ given. kept.1 (sym (same_Some w v ((gives v).1 given))))),
+      λ there. let kept = is.0 there in (kept.0, inl (λ also. kept.1 (one_of_entry e asn v w also of_entry))),
       λ left. is.1 (
         left.0,
         λ same. elim left.1 [
-          | inl none ↦ none ((gives v).0 (subst (λ (u : Vrp). Some w ≡ Some u) (sym same) refl))
-          | inr asserted ↦ other (subst (Contains (set.items old.asserted)) same asserted)
+          | inl none ↦ none (subst (IsVrpOfEntry e asn) (sym same) of_entry)
+          | inr spared ↦ other (subst (λ (u : Vrp). AreGivingOn begun old.day u ⊎ Contains (set.items old.asserted) u) same spared)
         ],
       ),
     )
+
+-- where nothing begins, what is left without what the authorization gives is left
+pub left_alone : (old new : KeptDay) (auth : Auth) → ((v : Vrp) → Contains (set.items new.vrps) v ↔ IsLeftWithout old (GivesOn auth old.day) [] v)
+    → (v : Vrp) → Contains (set.items new.vrps) v ↔ IsLeft old auth v
+left_alone old new auth is v = (
+  λ there. let left = (is v).0 there in (
+    left.0,
+    elim left.1 [
+      | inl none ↦ inl none
+      | inr spared ↦ elim spared [ inl given ↦ absurd (none_such (λ (x : Auth). GivesOn x old.day v) given) | inr asserted ↦ inr asserted ]
+    ],
+  ),
+  λ left. (is v).1 (left.0, elim left.1 [ inl none ↦ inl none | inr asserted ↦ inr (inr asserted) ]),
+)
 
 -- a day that is kept is so without what the authorization gives
 pub end_keeps : (given : Vrp → Type 0) (auth : Auth) (old new : KeptDay) → IsWithSame old new
@@ -80,40 +99,33 @@ end_keeps given auth old new same left kept v = rw (same.filters, same.asserted)
   ]),
 )
 
--- ---- an authorization begins
+-- ---- an entry begins
 
--- where it gives nothing on the day, what was there has joined
-pub none_joined : (old : KeptDay) (auth : Auth) → ((v : Vrp) → (None ≡ Some v) ↔ GivesOn auth old.day v)
-    → (v : Vrp) → Contains (set.items old.vrps) v ↔ IsJoined old auth v
-none_joined old auth gives v = (
-  λ there. inl there,
-  λ joined. elim joined [ inl there ↦ there | inr given ↦ absurd (none-some v ((gives v).1 given.0)) ],
-)
-
--- where it gives what some filter matches, too
-pub filtered_joined : (old : KeptDay) (auth : Auth) (w : Vrp) → ((v : Vrp) → (Some w ≡ Some v) ↔ GivesOn auth old.day v)
-    → Any (λ f. FilterMatches f w) old.filters → (v : Vrp) → Contains (set.items old.vrps) v ↔ IsJoined old auth v
-filtered_joined old auth w gives some v = (
+-- where some filter matches its VRP for the AS, what was there has joined
+pub filtered_joined : (old : KeptDay) (e : RoaPrefix) (asn : Asn) (w : Vrp) → IsVrpOfEntry e asn w
+    → Any (λ f. FilterMatches f w) old.filters → (v : Vrp) → Contains (set.items old.vrps) v ↔ IsJoinedBy old (IsVrpOfEntry e asn) v
+filtered_joined old e asn w of_entry some v = (
   λ there. inl there,
   λ joined. elim joined [
     | inl there ↦ there
-    | inr given ↦ absurd (given.1 (subst (λ (u : Vrp). Any (λ f. FilterMatches f u) old.filters) (same_Some w v ((gives v).1 given.0)) some))
+    | inr is ↦ absurd (is.1 (subst (λ (u : Vrp). Any (λ f. FilterMatches f u) old.filters) (one_of_entry e asn w v of_entry is.0) some))
   ],
 )
 
--- where it gives another VRP, that one is put in
-pub inserted_joined : (old : KeptDay) (auth : Auth) (w : Vrp) → ((v : Vrp) → (Some w ≡ Some v) ↔ GivesOn auth old.day v)
-    → (¬ Any (λ f. FilterMatches f w) old.filters) → (v : Vrp) → Contains (set.items (set.insert old.vrps w)) v ↔ IsJoined old auth v
-inserted_joined old auth w gives none v =
+-- where none does, it is put in
+pub inserted_joined : (old : KeptDay) (e : RoaPrefix) (asn : Asn) (w : Vrp) → IsVrpOfEntry e asn w
+    → (¬ Any (λ f. FilterMatches f w) old.filters)
+    → (v : Vrp) → Contains (set.items (set.insert old.vrps w)) v ↔ IsJoinedBy old (IsVrpOfEntry e asn) v
+inserted_joined old e asn w of_entry none v =
     let is = items_inserted old.vrps w v in (
       λ there. elim (is.0 there) [
         | inl was ↦ inl was
         | inr same ↦ inr (
-          (gives v).0 (subst (λ (u : Vrp). Some w ≡ Some u) (sym same) refl),
+          subst (IsVrpOfEntry e asn) (sym same) of_entry,
           subst (λ (u : Vrp). ¬ Any (λ f. FilterMatches f u) old.filters) (sym same) none,
         )
       ],
-      λ joined. is.1 (elim joined [ inl was ↦ inl was | inr given ↦ inr (sym (same_Some w v ((gives v).1 given.0))) ]),
+      λ joined. is.1 (elim joined [ inl was ↦ inl was | inr given ↦ inr (one_of_entry e asn v w given.0 of_entry) ]),
     )
 
 -- a day that is kept is so with what the authorization gives

@@ -1,5 +1,6 @@
 pub mod Members
 pub mod VrpSets
 pub mod ExceptionLemmas
-pub mod GivingLemmas
+pub mod Steps
 pub mod Keeps
+pub mod Follows

@@ -67,12 +67,24 @@ in_both xs ys x = (
   λ is. elim is [ inl one ↦ Contains-append_left xs ys x one | inr other ↦ Contains-append_right xs ys x other ],
 )
 
--- what passes, with more after it, is what was there and passes, or of that more
-pub kept_or_more : {X : Type 0} (p : X → Bool) (xs more : List X) (x : X) → Contains (filter p xs ++ more) x ↔ ((Contains xs x × (p x ≡ true)) ⊎ Contains more x)
-kept_or_more p xs more x = (
-  λ there. elim ((in_both (filter p xs) more x).0 there) [ inl given ↦ inl (passed p xs x given) | inr later ↦ inr later ],
-  λ is. elim is [
-    | inl given ↦ Contains-append_left (filter p xs) more x (passes_on p xs x given.0 given.1)
-    | inr later ↦ Contains-append_right (filter p xs) more x later
+-- ---- one such that a fact holds
+
+pub none_such : {X : Type 0} (P : X → Type 0) → ¬ ((x : X) × Contains [] x × P x)
+none_such P some = none_in_nil some.0 some.1
+
+-- among more there is one where there was one before or the last is one
+pub such_among_more : {X : Type 0} (P : X → Type 0) (xs ys : List X) (x : X) → ys ≡ xs ++ x ∷ []
+    → ((y : X) × Contains ys y × P y) ↔ (((y : X) × Contains xs y × P y) ⊎ P x)
+such_among_more P xs ys x grown = rw grown (
+  λ some. elim (Contains-append_cases xs (x ∷ []) some.0 some.1) [
+    | inl before ↦ inl (some.0, before, some.2)
+    | inr last ↦ elim (head_or_tail x [] some.0 last) [
+      | inl same ↦ inr (subst P (sym same) some.2)
+      | inr none ↦ absurd (none_in_nil some.0 none)
+    ]
+  ],
+  λ some. elim some [
+    | inl before ↦ (before.0, Contains-append_left xs (x ∷ []) before.0 before.1, before.2)
+    | inr last ↦ (x, Contains-append_right xs (x ∷ []) x (at_head x []), last)
   ],
 )

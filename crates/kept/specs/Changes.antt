@@ -1,10 +1,10 @@
--- What becomes of a day that is kept where an authorization ends or begins.
-use Rattle.std.specs.Prelude.{◌≡◌, ◌⊎◌, Any, Contains}
+-- What becomes of a day that is kept where authorizations end and begin.
+use Rattle.std.specs.Prelude.{◌≡◌, ◌⊎◌, List, Any, Contains}
 use Rattle.addr.specs.declared.vrp.Vrp.{Vrp}
 use Rattle.payload.specs.VrpSet as set
 use Rattle.registry.specs.declared.authorization.Auth.{Auth}
 use Rattle.slurm.specs.Filter.{FilterMatches}
-use Rattle.kept.specs.Giving.{GivesOn}
+use Rattle.kept.specs.Giving.{AreGivingOn, GivesOn}
 use Rattle.kept.specs.KeptDay.{KeptDay}
 
 -- the day is the same, and so are the exceptions
@@ -19,8 +19,33 @@ IsLeft kept auth v =
     Contains (set.items kept.vrps) v
     × ((¬ GivesOn auth kept.day v) ⊎ Contains (set.items kept.asserted) v)
 
+-- it was there, and none of the authorizations gives it on the day, or it is asserted
+abbrev pub AreLeft : KeptDay → List Auth → Vrp → Type 0
+AreLeft kept auths v =
+    Contains (set.items kept.vrps) v
+    × ((¬ AreGivingOn auths kept.day v) ⊎ Contains (set.items kept.asserted) v)
+
 -- it was there, or the authorization gives it on the day and no filter matches it
 abbrev pub IsJoined : KeptDay → Auth → Vrp → Type 0
 IsJoined kept auth v =
     Contains (set.items kept.vrps) v
     ⊎ (GivesOn auth kept.day v × ¬ Any (λ filter. FilterMatches filter v) kept.filters)
+
+-- it was there, or one of the authorizations gives it on the day and no filter matches it
+abbrev pub AreJoined : KeptDay → List Auth → Vrp → Type 0
+AreJoined kept auths v =
+    Contains (set.items kept.vrps) v
+    ⊎ (AreGivingOn auths kept.day v × ¬ Any (λ filter. FilterMatches filter v) kept.filters)
+
+-- it was there, and no authorization that ends gives it on the day, or it is asserted; or one that
+-- begins gives it on the day and no filter matches it
+abbrev pub AreExchanged : KeptDay → List Auth → List Auth → Vrp → Type 0
+AreExchanged kept ended begun v =
+    AreLeft kept ended v
+    ⊎ (AreGivingOn begun kept.day v × ¬ Any (λ filter. FilterMatches filter v) kept.filters)
+
+-- no authorization that ends gives it on the day, or one that begins gives it too, or it is asserted
+abbrev pub IsSpared : KeptDay → List Auth → List Auth → Vrp → Type 0
+IsSpared kept ended begun v =
+    (¬ AreGivingOn ended kept.day v)
+    ⊎ (AreGivingOn begun kept.day v ⊎ Contains (set.items kept.asserted) v)

@@ -1,5 +1,5 @@
 -- What an authorization gives on a day.
-use Rattle.std.specs.Prelude.{ℕ, ◌≤◌}
+use Rattle.std.specs.Prelude.{ℕ, ◌≤◌, List, Contains}
 use Rattle.addr.specs.declared.vrp.Vrp.{Vrp}
 use Rattle.registry.specs.Terms.{IsVrpOf}
 use Rattle.registry.specs.declared.authorization.Auth.{Auth}
@@ -7,3 +7,7 @@ use Rattle.registry.specs.declared.authorization.Auth.{Auth}
 -- by its days and its terms the authorization gives the VRP on the day
 abbrev pub GivesOn : Auth → ℕ → Vrp → Type 0
 GivesOn x day v = (x.from ≤ day) × (day ≤ x.until) × IsVrpOf x v
+
+-- one of these authorizations gives the VRP on the day
+abbrev pub AreGivingOn : List Auth → ℕ → Vrp → Type 0
+AreGivingOn auths day v = (x : Auth) × Contains auths x × GivesOn x day v

@@ -1,3 +1,4 @@
 pub mod Giving
 pub mod KeptDay
 pub mod Changes
+pub mod steps

@@ -20,7 +20,7 @@ fn keep_unfiltered(filters: &FilterIndex, vrps: &mut Vec<Vrp>)
 
 /// The VRPs after the exceptions: without those that some filter matches, and with the assertions,
 /// which no filter removes.
-pub fn excepted(
+pub(crate) fn excepted(
     alloc: Global,
     filters: &FilterIndex,
     assertions: &[Vrp],

@@ -1,14 +1,19 @@
 //! The VRPs of a day with the exceptions that they are after.
-ghost use Rattle.std.specs.Prelude.{◌≡◌, ◌↔◌, Contains, IfOk, OnOk, OnErr};
+ghost use Rattle.std.specs.Prelude.{◌≡◌, ◌≢◌, ◌↔◌, ◌⊎◌, [], Contains, IfOk, IsTrue, OnOk, OnErr};
 ghost use Rattle.addr.specs.declared.vrp.Vrp.{Vrp};
 ghost use Rattle.payload.specs.VrpSet as set;
-ghost use Rattle.kept.specs.Changes.{IsJoined, IsLeft, IsWithSame};
+ghost use Rattle.registry.specs.Edits.{begun, ended};
+ghost use Rattle.registry.specs.Terms.{IsVrpOfEntry};
+ghost use Rattle.kept.specs.Changes.{AreExchanged, AreJoined, AreLeft, IsJoined, IsLeft, IsSpared, IsWithSame};
+ghost use Rattle.kept.specs.Giving.{AreGivingOn, GivesOn};
 ghost use Rattle.kept.specs.KeptDay.{HasExceptions, IsKept};
+ghost use Rattle.kept.specs.steps.Entries.{IsJoinedBy, IsLeftWithout, IsVrpOfSome};
 
-use crate::{excepted, vrp_on};
-use addr::{Day, Vrp};
+use crate::exceptions::excepted;
+use crate::giving::is_given;
+use addr::{Asn, Day, Vrp};
 use payload::{ListIndex, PayloadIndex, Trie};
-use registry::Auth;
+use registry::{Auth, Edit, RoaPrefix};
 use slurm::{Filter, FilterIndex};
 use std::alloc::{AllocError, Global};
 use std::marker::Model;
@@ -87,21 +92,154 @@ impl Kept {
             → Contains (set.items self.new.vrps) v ↔ IsLeft self.old auth.now v }
         ensures same { IsWithSame self.old self.new }
     {
-        if let Some(vrp) = vrp_on(auth, self.day) {
-            if !self.asserted.contains(&vrp) {
+        self.end_unless_given(auth, &[]);
+    }
+
+    /// Puts in what the authorization gives on the day, unless a filter matches it. Where no memory
+    /// is found for it, the VRPs are of no day any more.
+    pub fn begin(&mut self, auth: &Auth) -> Result<(), AllocError>
+        ensures ok { OnOk result ((v : Vrp)
+            → Contains (set.items self.new.vrps) v ↔ IsJoined self.old auth.now v) }
+        ensures err { OnErr result ((v : Vrp) × GivesOn auth.now self.old.day v) }
+        ensures same { IsWithSame self.old self.new }
+    {
+        if auth.is_in_force(self.day) {
+            self.begin_entries(&auth.entries(), auth.asn)?;
+        }
+        Ok(())
+    }
+
+    /// Follows an edit of the rows of a holder that has these authorizations. Only what begins
+    /// allocates; where that fails, the VRPs are of no day any more. What ends and begins again, as
+    /// in an amendment, stays in its place.
+    pub fn follow(&mut self, edit: &Edit, auths: &[Auth]) -> Result<(), AllocError>
+        ensures ok { OnOk result ((v : Vrp) → Contains (set.items self.new.vrps) v
+            ↔ (AreJoined self.old (begun edit.now auths.now) v
+            × IsSpared self.old (ended edit.now auths.now) (begun edit.now auths.now) v)) }
+        ensures err { OnErr result (begun edit.now auths.now ≢ []) }
+        ensures same { IsWithSame self.old self.new }
+    {
+        let begun = edit.begun(auths);
+        self.begin_all(begun)?;
+        self.end_all(edit, auths, begun);
+        Ok(())
+    }
+
+    /// Takes out what each of the ended authorizations gives on the day, unless it is asserted, and
+    /// then puts in what each of the begun ones gives, unless a filter matches it. Only what begins
+    /// allocates; where that fails, the VRPs are of no day any more.
+    ///
+    /// What ends and begins again is taken out and put in: so this takes a step for each
+    /// authorization, where `follow` compares each that ends with each that begins.
+    pub fn exchange(&mut self, ended: &[Auth], begun: &[Auth]) -> Result<(), AllocError>
+        ensures ok { OnOk result ((v : Vrp) → Contains (set.items self.new.vrps) v
+            ↔ AreExchanged self.old ended.now begun.now v) }
+        ensures err { OnErr result (begun.now ≢ []) }
+        ensures same { IsWithSame self.old self.new }
+    {
+        self.end_each(ended);
+        self.begin_all(begun)
+    }
+
+    fn begin_all(&mut self, auths: &[Auth]) -> Result<(), AllocError>
+        ensures ok { OnOk result ((v : Vrp)
+            → Contains (set.items self.new.vrps) v ↔ AreJoined self.old auths.now v) }
+        ensures err { OnErr result (auths.now ≢ []) }
+        ensures same { IsWithSame self.old self.new }
+    {
+        for auth in auths {
+            self.begin(auth)?;
+        }
+        Ok(())
+    }
+
+    fn end_each(&mut self, auths: &[Auth])
+        ensures left { (v : Vrp)
+            → Contains (set.items self.new.vrps) v ↔ AreLeft self.old auths.now v }
+        ensures same { IsWithSame self.old self.new }
+    {
+        for auth in auths {
+            self.end(auth);
+        }
+    }
+
+    /// Takes out what the authorizations give that the edit ends, and none of the begun ones.
+    fn end_all(&mut self, edit: &Edit, auths: &[Auth], begun: &[Auth])
+        ensures left { (v : Vrp) → Contains (set.items self.new.vrps) v
+            ↔ (Contains (set.items self.old.vrps) v
+            × IsSpared self.old (ended edit.now auths.now) begun.now v) }
+        ensures same { IsWithSame self.old self.new }
+    {
+        for auth in auths {
+            if edit.ends(auth.number) {
+                self.end_unless_given(auth, begun);
+            }
+        }
+    }
+
+    /// Takes out what the authorization gives on the day, unless one of the begun ones gives it too
+    /// or it is asserted.
+    fn end_unless_given(&mut self, auth: &Auth, begun: &[Auth])
+        ensures left { (v : Vrp) → Contains (set.items self.new.vrps) v
+            ↔ IsLeftWithout self.old (GivesOn auth.now self.old.day) begun.now v }
+        ensures same { IsWithSame self.old self.new }
+    {
+        if auth.is_in_force(self.day) {
+            self.end_entries(&auth.entries(), auth.asn, begun);
+        }
+    }
+
+    fn end_entries(&mut self, entries: &[RoaPrefix], asn: Asn, begun: &[Auth])
+        ensures left { (v : Vrp) → Contains (set.items self.new.vrps) v
+            ↔ IsLeftWithout self.old (IsVrpOfSome entries.now asn) begun.now v }
+        ensures same { IsWithSame self.old self.new }
+    {
+        for entry in entries {
+            self.end_entry(entry, asn, begun);
+        }
+    }
+
+    /// Takes out the VRP of the entry, unless one of the begun authorizations gives it on the day
+    /// or it is asserted.
+    fn end_entry(&mut self, entry: &RoaPrefix, asn: Asn, begun: &[Auth])
+        ensures left { (v : Vrp) → Contains (set.items self.new.vrps) v
+            ↔ IsLeftWithout self.old (IsVrpOfEntry entry.now asn) begun.now v }
+        ensures same { IsWithSame self.old self.new }
+    {
+        if let Some(vrp) = entry.vrp(asn) {
+            if !self.is_spared(&vrp, begun) {
                 self.vrps.remove(&vrp);
             }
         }
     }
 
-    /// Puts in what the authorization gives on the day, unless a filter matches it.
-    pub fn begin(&mut self, auth: &Auth) -> Result<(), AllocError>
-        ensures ok { OnOk result ((v : Vrp)
-            → Contains (set.items self.new.vrps) v ↔ IsJoined self.old auth.now v) }
-        ensures err { OnErr result (self.new ≡ self.old) }
+    fn is_spared(&self, vrp: &Vrp, begun: &[Auth]) -> bool
+        ensures { IsTrue result ↔ (AreGivingOn begun.now self.now.day vrp.now
+            ⊎ Contains (set.items self.now.asserted) vrp.now) }
+    {
+        self.asserted.contains(vrp) || is_given(vrp, begun, self.day)
+    }
+
+    fn begin_entries(&mut self, entries: &[RoaPrefix], asn: Asn) -> Result<(), AllocError>
+        ensures ok { OnOk result ((v : Vrp) → Contains (set.items self.new.vrps) v
+            ↔ IsJoinedBy self.old (IsVrpOfSome entries.now asn) v) }
+        ensures err { OnErr result ((v : Vrp) × IsVrpOfSome entries.now asn v) }
         ensures same { IsWithSame self.old self.new }
     {
-        if let Some(vrp) = vrp_on(auth, self.day) {
+        for entry in entries {
+            self.begin_entry(entry, asn)?;
+        }
+        Ok(())
+    }
+
+    /// Puts in the VRP of the entry, unless a filter matches it.
+    fn begin_entry(&mut self, entry: &RoaPrefix, asn: Asn) -> Result<(), AllocError>
+        ensures ok { OnOk result ((v : Vrp) → Contains (set.items self.new.vrps) v
+            ↔ IsJoinedBy self.old (IsVrpOfEntry entry.now asn) v) }
+        ensures err { OnErr result ((v : Vrp) × IsVrpOfEntry entry.now asn v) }
+        ensures same { IsWithSame self.old self.new }
+    {
+        if let Some(vrp) = entry.vrp(asn) {
             if !self.filters.matches(&vrp) {
                 self.vrps.insert(vrp)?;
             }

@@ -5,6 +5,4 @@ mod exceptions;
 mod giving;
 mod kept;
 
-pub use exceptions::excepted;
-pub use giving::vrp_on;
 pub use kept::Kept;

@@ -294,13 +294,22 @@ fn check_refuses_bad_files(rt: HostRuntime) -> Result<(), Fail> {
 #[test]
 fn failing_drain(rt: HostRuntime) -> Result<(), Fail> {
     let routes = "prefix,origin\n198.51.100.0/24,AS64496\n198.51.104.0/24,AS64496\n";
-    let ended = checked(rt.alloc(), VRPS.as_bytes(), routes.as_bytes(), 40)?;
-    assert_eq!(rt; ended.line.as_str(), "roadesk: stream");
-    assert_eq!(rt; ended.status, 3);
-    assert_eq!(rt;
-        ended.written.as_slice(),
-        "198.51.100.0/24,AS64496,Valid\n198.51.104".as_bytes()
-    );
+    let states = "198.51.100.0/24,AS64496,Valid\n198.51.104.0/24,AS64496,NotFound\n";
+    assert_prints(&rt, rt.alloc(), VRPS, routes, states)?;
+    for room in 0..states.len() {
+        let ended = checked(rt.alloc(), VRPS.as_bytes(), routes.as_bytes(), room)?;
+        assert_eq!(rt;
+            ended.line.as_str(),
+            "roadesk: stream",
+            "after {room} bytes"
+        );
+        assert_eq!(rt; ended.status, 3, "after {room} bytes");
+        assert_eq!(rt;
+            ended.written.as_slice(),
+            &states.as_bytes()[..room],
+            "after {room} bytes"
+        );
+    }
     Ok(())
 }
 

@@ -11,17 +11,24 @@ mod checks;
 mod contents;
 #[cfg(test)]
 mod kept_days;
+pub mod listing;
 #[cfg(test)]
 mod memory;
 #[cfg(test)]
 mod prefixes;
 #[cfg(test)]
 mod program_faults;
+#[cfg(test)]
+mod refused_calls;
+#[cfg(test)]
+mod roa_prefixes;
 pub mod rows;
 pub mod sheet;
 #[cfg(test)]
 mod slurm_files;
 pub mod slurm_sample;
+#[cfg(test)]
+mod slurm_sets;
 #[cfg(test)]
 mod tries;
 #[cfg(test)]

@@ -134,7 +134,7 @@ fn fault(alloc: Global, text: &str) -> u8 {
 }
 
 /// A file of these entries; `more` follows the other members of the outermost object.
-fn file(
+pub(crate) fn file(
     alloc: Global,
     version: &str,
     filters: &str,

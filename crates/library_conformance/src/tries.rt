@@ -1,6 +1,7 @@
 //! The two representations of a set of VRPs, beside one another, and what a trie counts.
+use crate::listing::listed;
 use crate::rows::table_rows;
-use crate::vrps::{FirstVrps, fill, parse_route, parse_vrp, vrps_of};
+use crate::vrps::{fill, parse_route, parse_vrp, vrps_of};
 use addr::{Asn, Family, Prefix, Vrp};
 use payload::{ListIndex, PayloadIndex, Trie, Validity};
 use std::alloc::Global;
@@ -143,19 +144,6 @@ const MAX_LENGTH_ROUTES: &str = r#"
 /// What is said when nothing is left.
 const EMPTY_ROUTES: &str = "\n198.51.100.0/24 AS64496 => NotFound 1";
 
-/// What a visit hands out.
-pub(crate) fn listed<I: PayloadIndex>(alloc: Global, index: &I) -> Result<Vec<Vrp>, Fail> {
-    let mut all = FirstVrps {
-        vrps: Vec::new(alloc),
-        most: usize::MAX,
-        refused: None,
-    };
-    if index.visit(&mut all).is_err() {
-        return Err("a visit stopped".into());
-    }
-    Ok(all.vrps)
-}
-
 fn assert_rows(
     rt: &impl Abort,
     alloc: Global,
@@ -189,15 +177,20 @@ fn search_depths_of_nested_prefixes(rt: HostRuntime) -> Result<(), Fail> {
     Ok(())
 }
 
+/// The first three VRPs are removed, each once.
+fn assert_removes(rt: &impl Abort, trie: &mut Trie, vrps: &[Vrp]) {
+    for vrp in vrps.iter().take(3) {
+        assert!(rt; trie.remove(vrp) && !trie.remove(vrp));
+    }
+}
+
 #[test]
 fn pruned_trie_is_empty(rt: HostRuntime) -> Result<(), Fail> {
     let alloc = rt.alloc();
     let vrps = vrps_of(alloc, NESTED)?;
     let mut trie = Trie::new(alloc);
     fill(&mut trie, &vrps)?;
-    for vrp in vrps.iter().take(3) {
-        assert!(rt; trie.remove(vrp) && !trie.remove(vrp));
-    }
+    assert_removes(&rt, &mut trie, &vrps);
     assert!(rt; listed(alloc, &trie)?.is_empty());
     assert_rows(&rt, alloc, &ListIndex::new(alloc), &trie, EMPTY_ROUTES)
 }
@@ -212,28 +205,37 @@ fn chain(alloc: Global) -> Result<Vec<Vrp>, Fail> {
     Ok(vrps)
 }
 
-#[test]
-fn chain_of_nested_prefixes(rt: HostRuntime) -> Result<(), Fail> {
-    let alloc = rt.alloc();
-    let vrps = chain(alloc)?;
-    let host = parse_route("::/128 AS64496")?;
-    let mut trie = Trie::new(alloc);
+/// The VRPs are inserted, the last first.
+fn assert_inserts(rt: &impl Abort, trie: &mut Trie, vrps: &[Vrp]) -> Result<(), Fail> {
     for vrp in vrps.iter().rev() {
         assert!(rt; trie.insert(*vrp)?);
     }
-    assert!(rt; listed(alloc, &trie)? == vrps);
-    assert_eq!(rt;
-        trie.validity_counted(&parse_route("::/128 AS64497")?),
-        (Validity::Invalid, 129)
-    );
+    Ok(())
+}
+
+/// The host is found at a node more after each VRP is removed, and nowhere after the last.
+fn assert_each_is_found(rt: &impl Abort, trie: &mut Trie, vrps: &[Vrp]) -> Result<(), Fail> {
+    let host = parse_route("::/128 AS64496")?;
     let mut nodes = 0u32;
-    for vrp in &vrps {
+    for vrp in vrps {
         nodes = nodes.saturating_add(1);
         assert_eq!(rt; trie.validity_counted(&host), (Validity::Valid, nodes));
         assert!(rt; trie.remove(vrp));
     }
     assert_eq!(rt; trie.validity_counted(&host), (Validity::NotFound, 1));
     Ok(())
+}
+
+#[test]
+fn chain_of_nested_prefixes(rt: HostRuntime) -> Result<(), Fail> {
+    let alloc = rt.alloc();
+    let vrps = chain(alloc)?;
+    let mut trie = Trie::new(alloc);
+    assert_inserts(&rt, &mut trie, &vrps)?;
+    assert!(rt; listed(alloc, &trie)? == vrps);
+    let other = parse_route("::/128 AS64497")?;
+    assert_eq!(rt; trie.validity_counted(&other), (Validity::Invalid, 129));
+    assert_each_is_found(&rt, &mut trie, &vrps)
 }
 
 #[test]

@@ -1,11 +1,8 @@
 //! Sets of VRPs, and the validation states of routes on them.
-ghost use Rattle.std.specs.Prelude.{◌≡◌, ◌++◌, is_some, option_to_list};
-ghost use Rattle.std.proofs.Common.{ap, append_assoc, sym, ◌∙◌};
-ghost use Rattle.std.proofs.lemmas.List.{append-nil};
-
+use crate::listing::FirstVrps;
 use crate::rows::table_rows;
 use addr::{Asn, Origin, Prefix, Route, Vrp};
-use payload::{ListIndex, PayloadIndex, Sink, Stop};
+use payload::{ListIndex, PayloadIndex, Stop};
 use std::alloc::Global;
 use std::process::Abort;
 use std::test::Fail;
@@ -89,34 +86,6 @@ pub(crate) fn fill<I: PayloadIndex>(index: &mut I, vrps: &[Vrp]) -> Result<usize
         }
     }
     Ok(count)
-}
-
-/// Keeps the first VRPs that it is given, and stops at the next.
-#[derive(Drop)]
-pub(crate) struct FirstVrps {
-    pub(crate) vrps: Vec<Vrp>,
-    pub(crate) most: usize,
-    pub(crate) refused: Option<Vrp>,
-}
-
-impl Sink for FirstVrps {
-    ghost took = { λ a vrps b. b.vrps.items ++ option_to_list b.refused
-        ≡ (a.vrps.items ++ option_to_list a.refused) ++ vrps };
-
-    ghost has_stopped = { λ s. is_some s.refused };
-
-    fn take(&mut self, vrp: &Vrp) -> Result<(), Stop> {
-        if self.vrps.len() < self.most && self.refused.is_none() && self.vrps.push(*vrp).is_ok() {
-            return Ok(());
-        }
-        self.refused = Some(*vrp);
-        Err(Stop)
-    }
-
-    ghost took_none = { λ a. sym (append-nil (a.vrps.items ++ option_to_list a.refused)) };
-
-    ghost took_then = { λ a _ _ vs ws first later. later ∙ ap (λ l. l ++ ws) first
-        ∙ append_assoc (a.vrps.items ++ option_to_list a.refused) vs ws };
 }
 
 /// A route by its prefix and origin.

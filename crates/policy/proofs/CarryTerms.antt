@@ -3,34 +3,33 @@ use Rattle.std.proofs.Common.{◌≡◌, ℕ, ◌+◌, ◌<◌, ◌≤◌, true,
 use Rattle.std.proofs.lemmas.Bool.{cases_Bool, cond-true, cond-false}
 use Rattle.std.proofs.lemmas.Option.{same_Some, none-some}
 use Rattle.std.proofs.lemmas.Bool.Decides.{nat_tests}
-use Rattle.addr.specs.Address.{has_address}
-use Rattle.addr.specs.declared.prefix.Prefix.{Prefix}
 use Rattle.registry.specs.declared.authorization.Auth.{Auth}
 use Rattle.registry.specs.declared.authorization.AuthTerms.{AuthTerms}
 use Rattle.registry.specs.declared.change.Change.TheVariants.{Holders}
 use Rattle.registry.specs.declared.change.Edit.TheVariants.{Create as CreateEdit, Amend as AmendEdit, Withdraw as WithdrawEdit}
 use Rattle.registry.specs.declared.command.Command.TheVariants.{Create, Amend, Withdraw}
 use Rattle.registry.specs.History.{Entry, History, is_registered}
-use Rattle.registry.specs.Resources.{HoldsPrefix}
-use Rattle.registry.specs.Terms.{numbered_terms, authorizations_made, authorization_terms, amended, HeldSinceMade, Keeps}
+use Rattle.registry.specs.Terms.{entries_of, entries_asked, entries_have, HoldsEntries, numbered_terms, authorizations_made, authorization_terms, amended, HeldSinceMade, Keeps}
 use Rattle.registry.specs.Verdict.{auth_of_number}
 use Rattle.registry.specs.Rows.{Rows, RowsOf, replaced_by, Carries}
+use Rattle.registry.proofs.Entries.{numbered-entries}
 use Rattle.registry.proofs.Names.{same_name-same}
 use Rattle.registry.proofs.Numbers.{Numbered}
 use Rattle.registry.proofs.Kept.{Keeps-unique, Keeps-append, Keeps-filtered, Keeps-map}
-use Rattle.registry.proofs.Held.{active-kept, active-numbered, not_yet_made, since_same, amended-number, amended-prefix}
+use Rattle.registry.proofs.Held.{active-kept, active-numbered, not_yet_made, since_same, amended-number, amended-addresses}
 use Rattle.registry.proofs.Carry.{carries-edit}
 
 pub carries-create : (before : History) (day : ℕ) (caller holder : List ℕ) (t : AuthTerms) (x : Auth)
-    → is_registered before holder ≡ true → HoldsPrefix before holder t.prefix
+    → is_registered before holder ≡ true → HoldsEntries before holder (entries_asked t)
     → x ≡ numbered_terms t (authorizations_made before holder + 1)
     → Carries (Holders (record { holder = holder; edit = CreateEdit x }) None) before
     (record { day = day; caller = caller; command = Create holder t } ∷ before)
 carries-create before day caller holder t x registered holds is =
     let e : Entry = record { day = day; caller = caller; command = Create holder t } in
     let number : x.number ≡ authorizations_made before holder + 1 = ap (λ y. y.number) is in
+    let entries : entries_of x ≡ entries_asked t = ap entries_of is ∙ numbered-entries t (authorizations_made before holder + 1) in
     let since : HeldSinceMade (e ∷ before) holder x = (
-      λ made. λ q same a has. holds a (subst (λ (r : Prefix). has_address r a ≡ true) (same ∙ ap (λ y. y.prefix) is) has),
+      λ made. λ a has. holds a (ap (λ es. entries_have es a) (sym entries) ∙ has),
       not_yet_made before holder x (omega arith),
     ) in
     let terms : authorization_terms before holder ++ x ∷ [] ≡ authorization_terms (e ∷ before) holder =
@@ -130,8 +129,8 @@ carries-amend before day caller holder n max until v x y registered had_v found 
     let f = amended n max until in
     let terms : map f (authorization_terms before holder) ≡ authorization_terms (e ∷ before) holder =
     sym (cond-true _ _ _ (same_name-same holder)) in
-    let to = λ (z : Auth) (since : HeldSinceMade (e ∷ before) holder z). since_same (e ∷ before) holder z (f z) (amended-number n max until z) (amended-prefix n max until z) since in
-    let back = λ (z : Auth) (since : HeldSinceMade (e ∷ before) holder (f z)). since_same (e ∷ before) holder (f z) z (sym (amended-number n max until z)) (sym (amended-prefix n max until z)) since in
+    let to = λ (z : Auth) (since : HeldSinceMade (e ∷ before) holder z). since_same (e ∷ before) holder z (f z) (amended-number n max until z) (amended-addresses n max until z) since in
+    let back = λ (z : Auth) (since : HeldSinceMade (e ∷ before) holder (f z)). since_same (e ∷ before) holder (f z) z (sym (amended-number n max until z)) (λ a. sym (amended-addresses n max until z a)) since in
     carries-edit e before holder (AmendEdit y) (record { named = refl; exceptions = refl }) registered
     (λ rows had.
     let same_auths : v.auths ≡ rows.auths = Keeps-unique (HeldSinceMade before holder) (authorization_terms before holder) v.auths rows.auths had_v.auths had.auths in

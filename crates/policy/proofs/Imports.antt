@@ -5,6 +5,7 @@ use Rattle.std.proofs.lemmas.List.{length-take-le}
 use Rattle.std.proofs.lemmas.Bool.{cases_Bool, false≢true, cond-true}
 use Rattle.registry.specs.declared.authorization.Auth.{Auth}
 use Rattle.registry.specs.declared.authorization.ImportRow.{ImportRow}
+use Rattle.registry.specs.declared.authorization.RoaPrefix.{RoaPrefix}
 use Rattle.registry.specs.declared.change.Change.TheVariants.{Holders}
 use Rattle.registry.specs.declared.change.Edit.TheVariants.{Create as CreateEdit, Import as ImportEdit}
 use Rattle.charters.specs.declared.charter.Charter.{Charter}
@@ -16,14 +17,15 @@ use Rattle.registry.specs.declared.command.Command.TheVariants.{Import}
 use Rattle.registry.specs.Answer.{IsAnswer}
 use Rattle.registry.specs.History.{Entry, History, same_name, is_registered}
 use Rattle.registry.specs.Import.{row_command, JudgesRow, IsImportDenied}
-use Rattle.registry.specs.Permission.{has_access, is_permitted}
+use Rattle.registry.specs.Permission.{has_access, are_permitted}
 use Rattle.registry.specs.Rows.{Rows, RowsIfAny, edited, edited_if_any, changed, Carries}
-use Rattle.registry.specs.Terms.{grant_terms, authorizations_made}
+use Rattle.registry.specs.Terms.{grant_terms, authorizations_made, entries_asked, row_terms}
 use Rattle.registry.specs.Verdict.{IsLegal}
 use Rattle.policy.specs.steps.Import.{IsImport, AnswersImport, FindsRow, MakesRow, IsRowDone}
 use Rattle.policy.specs.steps.Part.{IsRefusedBy, refusal_at}
 use Rattle.registry.proofs.Carry.{carried}
 use Rattle.policy.proofs.Growth.{Grows-more, Grows-denied}
+use Rattle.registry.proofs.Entries.{row-are}
 use Rattle.registry.proofs.Names.{same_name-same, same_name-true}
 use Rattle.registry.proofs.Unregistered.{has_nothing}
 
@@ -175,6 +177,11 @@ so_far-denied charter history h day caller rows i t made before so_far within he
     (Grows-denied (JudgesRow charter day caller h) day caller history rows i t so_far.edit.after rule within here so_far.edit.grows denied)
 so_far-denied charter history h day caller rows i t made before so_far within here place same Memory denied = tt
 
+-- without grants nobody is permitted any entry
+none_permitted : (day : ℕ) (caller : List ℕ) (es : List RoaPrefix) → 0 < length es → are_permitted [] day caller Alter es ≡ false
+none_permitted day caller [] some = absurd (omega (arith, some))
+none_permitted day caller (e ∷ es) some = refl
+
 -- without a registered holder there are no grants, and the first row is denied
 pub denied-unregistered : (charter : Charter) (history : History) (h : List ℕ) (day : ℕ) (caller : List ℕ) (rows : List ImportRow)
     → 0 < length rows → IsLegal charter history → is_registered history h ≡ false → IsImportDenied charter day caller h history rows GrantRule 1
@@ -182,7 +189,9 @@ denied-unregistered charter history h day caller [] some legal missing = absurd 
 denied-unregistered charter history h day caller (t ∷ rest) some legal missing =
     let none = (has_nothing charter history h legal missing).grants in
     let no_access : has_access (grant_terms history h) day caller Alter ≡ false = ap (λ gs. has_access gs day caller Alter) none in
-    let not_permitted : is_permitted (grant_terms history h) day caller Alter t.prefix ≡ false = ap (λ gs. is_permitted gs day caller Alter t.prefix) none in
+    let not_permitted : are_permitted (grant_terms history h) day caller Alter (entries_asked (row_terms t)) ≡ false =
+    ap (λ gs. are_permitted gs day caller Alter (entries_asked (row_terms t))) none
+    ∙ none_permitted day caller (entries_asked (row_terms t)) (omega (arith, (row-are t).number.0)) in
     inl ((λ present. false≢true (sym not_permitted ∙ present.0), inl (λ has. false≢true (sym no_access ∙ has), refl)), refl)
 
 -- and an import without rows makes nothing

@@ -2,6 +2,7 @@ pub mod CarrySpace
 pub mod CarryGrants
 pub mod CarryTerms
 pub mod RowsLemmas
+pub mod HeldEntries
 pub mod AmendLemmas
 pub mod Growth
 pub mod Imports

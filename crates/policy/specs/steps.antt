@@ -1,5 +1,6 @@
 -- The steps of the code, which no public contract cites.
 pub mod Admission
+pub mod Amendment
 pub mod Creation
 pub mod Exchange
 pub mod Part

@@ -1,12 +1,13 @@
 //! Parts of rules, each a test of the rows.
 
 ghost use Rattle.std.specs.Prelude.{◌≡◌, ℕ, ◌<◌, ◌==◌, ◌&&◌, not, length, List, true, false, ◌↔◌, IsTrue, Some, ◌≤◌, option_copied, MatchResult};
-ghost use Rattle.std.specs.List.{list_any};
+ghost use Rattle.std.specs.List.{list_all, list_any};
 ghost use Rattle.registry.specs.declared.limits.TheConstants.{MOST_GRANTS, MOST_AUTHORIZATIONS, LAST_NUMBER};
+ghost use Rattle.addr.specs.Spans.{span_covers};
 ghost use Rattle.charters.specs.declared.charter.Charter.{Charter as CharterValue};
 ghost use Rattle.registry.specs.History.{History, is_registered};
 ghost use Rattle.registry.specs.Resources.{HoldsPrefix};
-ghost use Rattle.registry.specs.Terms.{grant_terms, authorizations_made, OfActive, gives_vrp, share_vrp};
+ghost use Rattle.registry.specs.Terms.{grant_terms, authorizations_made, HoldsEntries, OfActive, entries_asked, gives_some, share_vrp};
 ghost use Rattle.registry.specs.Import.{has_terms, IsPresent};
 ghost use Rattle.registry.specs.Permission.{has_access};
 ghost use Rattle.registry.specs.Answer.{OfRows};
@@ -14,8 +15,8 @@ ghost use Rattle.registry.specs.Verdict.{is_steward, auth_of_number, HasAccessTo
 ghost use Rattle.registry.specs.Rows.{rows_of, rows_if_any, RowsOf, RowsIfAny, grants_if_any};
 
 use crate::{Access, Auth, AuthTerms, Charter, Granted, HolderRows, ImportRow, LAST_NUMBER, Rule};
-use addr::{Day, Name, Prefix};
-use registry::{MOST_AUTHORIZATIONS, MOST_GRANTS, has_access, is_permitted};
+use addr::{Asn, Day, Holdings, Name, Prefix};
+use registry::{MOST_AUTHORIZATIONS, MOST_GRANTS, RoaPrefix, are_permitted, has_access};
 
 /// The rule where it does not hold.
 pub(crate) fn require(holds: bool, rule: Rule) -> Result<(), Rule>
@@ -87,6 +88,24 @@ pub(crate) fn holds(rows: &HolderRows, prefix: &Prefix) -> bool
     rows.holdings.holds(prefix)
 }
 
+/// Whether every address of the entries is held by the holder of the rows.
+pub(crate) fn holds_entries(rows: &HolderRows, entries: &[RoaPrefix]) -> bool
+    ensures { (history : History) (h : List ℕ) → RowsOf history h (rows_of rows.now)
+        → (IsTrue result ↔ HoldsEntries history h entries.now) }
+{
+    // one run covers a prefix whose addresses are all held, since the runs are maximal
+    let _ = rows.holdings.spans();
+    are_covered(&rows.holdings, entries)
+}
+
+/// Whether some run of the addresses covers each prefix of the entries.
+fn are_covered(holdings: &Holdings, entries: &[RoaPrefix]) -> bool
+    ensures { result
+        ≡ list_all (λ e. list_any (λ s. span_covers s e.prefix) holdings.now) entries.now }
+{
+    entries.iter().all(|entry| holdings.holds(&entry.prefix))
+}
+
 /// The authorization of the number.
 fn auth_of_number(auths: &[Auth], number: u32) -> Option<&Auth>
     ensures { option_copied result ≡ auth_of_number number auths.now }
@@ -111,7 +130,7 @@ pub(crate) fn auth_with_access<'a>(
 {
     match auth_of_number(&rows.auths, number) {
         Some(auth) => {
-            if is_permitted(&rows.grants, day, caller, access, &auth.prefix) {
+            if are_permitted(&rows.grants, day, caller, access, &auth.entries()) {
                 Ok(auth)
             } else {
                 Err(Rule::Number)
@@ -143,25 +162,22 @@ fn is_among(grants: &[Granted], number: u32) -> bool
     grants.iter().any(|grant| grant.number == number)
 }
 
-/// Whether some authorization gives the AS, prefix and maxLength of the terms.
-fn some_gives(auths: &[Auth], terms: &AuthTerms) -> bool
-    ensures { result
-        ≡ list_any (λ y. gives_vrp y terms.now.asn terms.now.prefix terms.now.max) auths.now }
+/// Whether some authorization gives the AS with some entry of the list.
+fn some_gives(auths: &[Auth], asn: Asn, entries: &[RoaPrefix]) -> bool
+    ensures { result ≡ list_any (λ y. gives_some y asn entries.now) auths.now }
 {
-    auths
-        .iter()
-        .any(|auth| auth.gives_vrp(terms.asn, &terms.prefix, terms.max))
+    auths.iter().any(|auth| auth.gives_some(asn, entries))
 }
 
-/// Whether no active authorization gives the AS, prefix and maxLength of the terms.
+/// Whether no active authorization gives the AS of the terms with some entry of theirs.
 pub(crate) fn is_new(rows: &HolderRows, terms: &AuthTerms) -> bool
     ensures { (history : History) (h : List ℕ) → RowsOf history h (rows_of rows.now)
         → (IsTrue result
         ↔ OfActive history h
         (λ active.
-        list_any (λ y. gives_vrp y terms.now.asn terms.now.prefix terms.now.max) active ≡ false)) }
+        list_any (λ y. gives_some y terms.now.asn (entries_asked terms.now)) active ≡ false)) }
 {
-    !some_gives(&rows.auths, terms)
+    !some_gives(&rows.auths, terms.asn, &terms.entries())
 }
 
 /// Whether some authorization has the terms.
@@ -171,14 +187,15 @@ fn some_has_terms(auths: &[Auth], terms: &AuthTerms) -> bool
     auths.iter().any(|auth| auth.has_terms(terms))
 }
 
-/// Whether a row of an import is already authorized: the caller may alter authorizations of its
-/// prefix, and an active one has its terms.
+/// Whether a row of an import is already authorized: the caller may alter authorizations of each
+/// prefix of its terms, and an active one has its terms.
 pub(crate) fn is_present(rows: &HolderRows, day: Day, caller: &Name, row: &ImportRow) -> bool
     ensures { (history : History) (h : List ℕ) → RowsOf history h (rows_of rows.now)
         → (IsTrue result ↔ IsPresent day caller.now h history row.now) }
 {
-    is_permitted(&rows.grants, day, caller, Access::Alter, &row.prefix)
-        && some_has_terms(&rows.auths, &row.terms())
+    let terms = row.terms();
+    are_permitted(&rows.grants, day, caller, Access::Alter, &terms.entries())
+        && some_has_terms(&rows.auths, &terms)
 }
 
 /// Whether another grant may be made: neither too many are unrevoked, nor were too many made.
@@ -200,17 +217,20 @@ pub(crate) fn has_room_for_authorization(rows: &HolderRows) -> bool
     rows.auths.len() < MOST_AUTHORIZATIONS && rows.created < LAST_NUMBER
 }
 
-/// Whether the other has another number and shares an AS, prefix and maxLength.
-fn is_other_sharing(auth: &Auth, other: &Auth) -> bool
-    ensures { result ≡ (not (other.now.number == auth.now.number) && share_vrp auth.now other.now) }
+/// Whether the other has another number, and shares an AS, prefix and maxLength with these terms
+/// once they have this maxLength.
+fn is_other_sharing(auth: &Auth, max: u8, other: &Auth) -> bool
+    ensures { result ≡ (not (other.now.number == auth.now.number)
+        && share_vrp (record auth.now { max = max }) other.now) }
 {
-    other.number != auth.number && auth.shares_vrp(other)
+    other.number != auth.number && auth.shares_vrp_amended(max, other)
 }
 
-/// Whether an authorization of another number shares an AS, prefix and maxLength with these terms.
-pub(crate) fn shares_with_other(auths: &[Auth], auth: &Auth) -> bool
-    ensures { result
-        ≡ list_any (λ y. not (y.number == auth.now.number) && share_vrp auth.now y) auths.now }
+/// Whether an authorization of another number shares an AS, prefix and maxLength with these terms
+/// once they have this maxLength.
+pub(crate) fn shares_with_other(auths: &[Auth], auth: &Auth, max: u8) -> bool
+    ensures { result ≡ list_any (λ y. not (y.number == auth.now.number)
+        && share_vrp (record auth.now { max = max }) y) auths.now }
 {
-    auths.iter().any(|other| is_other_sharing(auth, other))
+    auths.iter().any(|other| is_other_sharing(auth, max, other))
 }

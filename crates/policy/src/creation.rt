@@ -6,47 +6,49 @@ ghost use Rattle.registry.specs.declared.change.Edit.{Edit};
 ghost use Rattle.registry.specs.declared.command.Command.{Command};
 ghost use Rattle.registry.specs.Rows.{rows_of, rows_if_any, edited};
 ghost use Rattle.registry.specs.Answer.{OfRows};
+ghost use Rattle.registry.specs.Terms.{numbered_terms};
 ghost use Rattle.registry.specs.Verdict.{Verdict};
 ghost use Rattle.policy.specs.steps.Creation.{IsCreated};
 ghost use Rattle.policy.specs.steps.Part.{Judged};
 
 use crate::admission::{
-    are_dates, has_room_for_authorization, holds, is_new, require, rows_with_access,
+    are_dates, has_room_for_authorization, holds_entries, is_new, require, rows_with_access,
 };
 use crate::{Access, Auth, AuthTerms, HolderRows, Refusal, Rule};
 use addr::{Day, Name};
-use registry::is_permitted;
+use registry::{are_permitted, fit_lengths};
 use std::alloc::AllocError;
 
-/// The authorization that a create of the terms makes, or the first rule of its line that does not
-/// hold.
-pub(crate) fn new_auth(
+/// The number of the authorization that a create of the terms makes, or the first rule of its line
+/// that does not hold.
+pub(crate) fn new_number(
     rows: Option<&HolderRows>,
     day: Day,
     caller: &Name,
     terms: &AuthTerms,
-) -> Result<Auth, Rule>
+) -> Result<u32, Rule>
     ensures { (charter : CharterValue) → OfRows charter (rows_if_any (option_copied rows.entry))
         (λ history h. MatchResult result
-        (IsCreated charter history h day caller.now terms.now)
+        (λ n. IsCreated charter history h day caller.now terms.now (numbered_terms terms.now n))
         (λ rule. Verdict charter history day caller.now (Command.Create h terms.now) (Some rule))) }
 {
     let rows = rows_with_access(rows, day, caller, Access::Alter)?;
-    let permitted = is_permitted(&rows.grants, day, caller, Access::Alter, &terms.prefix);
+    let entries = terms.entries();
+    let permitted = are_permitted(&rows.grants, day, caller, Access::Alter, &entries);
     require(permitted, Rule::Scope)?;
     require(are_dates(day, terms.from, terms.until), Rule::Dates)?;
-    require(terms.prefix.fits_max_length(terms.max), Rule::Length)?;
-    require(holds(rows, &terms.prefix), Rule::Held)?;
+    require(fit_lengths(&entries), Rule::Length)?;
+    require(holds_entries(rows, &entries), Rule::Held)?;
     require(is_new(rows, terms), Rule::Same)?;
     require(has_room_for_authorization(rows), Rule::Room)?;
-    Ok(terms.numbered(rows.created + 1))
+    Ok(rows.created + 1)
 }
 
 /// Puts the authorization among the rows, and sets the counter to its number.
 fn put(rows: &mut HolderRows, auth: &Auth) -> Result<(), AllocError>
     ensures { OnOk result (rows_of rows.new ≡ edited (Edit.Create auth.now) (rows_of rows.old)) }
 {
-    rows.auths.push(*auth)?;
+    rows.auths.push(auth.clone()?)?;
     rows.created = auth.number;
     Ok(())
 }
@@ -65,7 +67,8 @@ pub(crate) fn create(
         (λ rule. Verdict charter history day caller.now (Command.Create h terms.now) (Some rule))
         result) }
 {
-    let auth = new_auth(Some(rows), day, caller, terms)?;
+    let number = new_number(Some(rows), day, caller, terms)?;
+    let auth = terms.numbered(number)?;
     put(rows, &auth)?;
     Ok(auth)
 }

@@ -3,13 +3,15 @@
 ghost use Rattle.std.specs.Prelude.{◌≡◌, ℕ, true, false, None, Err, IsTrue, option_copied, MatchBool, IfOk, map, filter};
 ghost use Rattle.addr.specs.Address.{has_address};
 ghost use Rattle.addr.specs.Spans.{AddsAddresses, TakesAddresses};
-ghost use Rattle.registry.specs.History.{History};
+ghost use Rattle.charters.specs.declared.charter.Charter.{Charter as CharterValue};
+ghost use Rattle.registry.specs.History.{History, same_name};
 ghost use Rattle.registry.specs.Resources.{IsFree};
 ghost use Rattle.registry.specs.Terms.{terms_overlap};
 ghost use Rattle.registry.specs.Verdict.{IsLegal};
 ghost use Rattle.registry.specs.Rows.{rows_of, rows_if_any, RowsOf, RowsIfAny};
 ghost use Rattle.policy.specs.steps.Exchange.{Exchanges};
 ghost use Rattle.policy.specs.steps.Admission.{IsAdmitted};
+ghost use Rattle.policy.specs.steps.Amendment.{IsAmended};
 ghost use Rattle.registry.specs.Answer.{AnswersRows, JudgesRows, RowsOfNamed, IsAnswer, IsViewOf, is_transfer, takes_memory, holder_of, taker_of};
 ghost use Rattle.registry.specs.Edits.{HasEditsOf};
 
@@ -20,7 +22,7 @@ use crate::admission::{
     are_dates, auth_with_access, has_grant, has_room_for_grant, holds, is_steward, registered,
     require, rows_with_access, shares_with_other,
 };
-use crate::creation::new_auth;
+use crate::creation::new_number;
 use crate::withdrawal::may_withdraw;
 use crate::{
     Access, Auth, AuthTerms, Change, Charter, Command, Edit, HolderChange, HolderRows, Refusal,
@@ -238,14 +240,39 @@ fn decide_revoke(basis: Basis<'_>, holder: Holder<'_>, number: u32) -> Result<Ch
 }
 
 /// Decides a create.
-fn decide_create(basis: Basis<'_>, holder: Holder<'_>, terms: &AuthTerms) -> Result<Change, Rule>
-    ensures answer { JudgesRows basis.entry.charter.now
+fn decide_create(basis: Basis<'_>, holder: Holder<'_>, terms: &AuthTerms) -> Result<Change, Refusal>
+    ensures answer { AnswersRows basis.entry.charter.now
         (rows_if_any (option_copied holder.entry.rows)) basis.entry.day basis.entry.caller.now
         (Command.Create holder.entry.name.now terms.now) result }
     ensures shape { IfOk result (HasEditsOf (Command.Create holder.entry.name.now terms.now)) }
 {
-    let auth = new_auth(holder.rows, basis.day, basis.caller, terms)?;
+    let number = new_number(holder.rows, basis.day, basis.caller, terms)?;
+    let auth = terms.numbered(number)?;
     Ok(change_of(holder.name, Edit::Create(auth)))
+}
+
+/// The authorization of the number, where all rules of an amendment of it hold.
+fn auth_to_amend<'a>(
+    day: Day,
+    caller: &Name,
+    holder: Holder<'a>,
+    number: u32,
+    max: u8,
+    until: Day,
+) -> Result<&'a Auth, Rule>
+    ensures { (charter : CharterValue) (history : History) → IsLegal charter history
+        → RowsIfAny history holder.entry.name.now (rows_if_any (option_copied holder.entry.rows))
+        → IsAdmitted charter history day caller.now
+        (Command.Amend holder.entry.name.now number max until)
+        (λ x. IsAmended history holder.entry.name.now day caller.now number max until x.now)
+        result }
+{
+    let rows = rows_with_access(holder.rows, day, caller, Access::Alter)?;
+    let auth = auth_with_access(rows, day, caller, Access::Alter, number)?;
+    require(are_dates(day, auth.from, until), Rule::Dates)?;
+    require(auth.fits_length(max), Rule::Length)?;
+    require(!shares_with_other(&rows.auths, auth, max), Rule::Same)?;
+    Ok(auth)
 }
 
 /// Decides an amendment.
@@ -255,23 +282,17 @@ fn decide_amend(
     number: u32,
     max: u8,
     until: Day,
-) -> Result<Change, Rule>
-    ensures answer { JudgesRows basis.entry.charter.now
+) -> Result<Change, Refusal>
+    ensures answer { AnswersRows basis.entry.charter.now
         (rows_if_any (option_copied holder.entry.rows)) basis.entry.day basis.entry.caller.now
         (Command.Amend holder.entry.name.now number max until) result }
     ensures shape { IfOk result (HasEditsOf
         (Command.Amend holder.entry.name.now number max until)) }
 {
-    let rows = rows_with_access(holder.rows, basis.day, basis.caller, Access::Alter)?;
-    let auth = auth_with_access(rows, basis.day, basis.caller, Access::Alter, number)?;
-    require(are_dates(basis.day, auth.from, until), Rule::Dates)?;
-    require(auth.fits_length(max), Rule::Length)?;
-    let amended = Auth {
-        max,
-        until,
-        ..*auth
-    };
-    require(!shares_with_other(&rows.auths, &amended), Rule::Same)?;
+    let auth = auth_to_amend(basis.day, basis.caller, holder, number, max, until)?;
+    let mut amended = auth.clone()?;
+    amended.max = max;
+    amended.until = until;
     Ok(change_of(holder.name, Edit::Amend(amended)))
 }
 
@@ -294,13 +315,15 @@ fn rows_for_transfer<'a>(
     giver: Holder<'a>,
     taker: Holder<'a>,
 ) -> Result<(&'a HolderRows, &'a HolderRows), Rule>
-    ensures { (history : History) (day : ℕ)
+    ensures admitted { (history : History) (day : ℕ)
         → RowsIfAny history giver.entry.name.now (rows_if_any (option_copied giver.entry.rows))
         → RowsIfAny history taker.entry.name.now (rows_if_any (option_copied taker.entry.rows))
         → IsAdmitted charter.now history day caller.now
         (Command.Transfer prefix.now giver.entry.name.now taker.entry.name.now)
         (λ both. RowsOf history giver.entry.name.now (rows_of both.0.now)
         × RowsOf history taker.entry.name.now (rows_of both.1.now)) result }
+    ensures distinct { IfOk result (λ _.
+        same_name giver.entry.name.now taker.entry.name.now ≡ false) }
 {
     require(charter.is_operator(caller), Rule::Operator)?;
     let giving = registered(giver.rows)?;
@@ -359,7 +382,8 @@ fn decide_slurm(basis: Basis<'_>, file: &Slurm) -> Result<Change, Refusal>
 /// What a command of the caller on the day does, or the first rule of its line that does not hold.
 ///
 /// Of a history whose rows the view has it gives that history's answer; of other rows it gives
-/// some answer. It allocates only to delegate, to reclaim, to import and to take a SLURM file.
+/// some answer. It allocates only to delegate, to reclaim, to create, to amend, to import and to take a
+/// SLURM file.
 pub fn decide(
     alloc: Global,
     charter: &Charter,
@@ -413,14 +437,14 @@ pub fn decide(
             Ok(decide_revoke(basis, Holder { name: holder, rows }, *number)?)
         }
         Command::Create { holder, terms } => {
-            Ok(decide_create(basis, Holder { name: holder, rows }, terms)?)
+            decide_create(basis, Holder { name: holder, rows }, terms)
         }
         Command::Amend {
             holder,
             number,
             max,
             until,
-        } => Ok(decide_amend(basis, Holder { name: holder, rows }, *number, *max, *until)?),
+        } => decide_amend(basis, Holder { name: holder, rows }, *number, *max, *until),
         Command::Withdraw { holder, number } => {
             Ok(decide_withdraw(basis, Holder { name: holder, rows }, *number)?)
         }

@@ -10,7 +10,7 @@ ghost use Rattle.registry.specs.Answer.{OfRows, IsShown, IsListed, IsListRefusal
 use crate::admission::{auth_with_access, rows_with_access};
 use crate::{Access, Auth, Granted, HolderRows, Refusal, Rule};
 use addr::{Day, Name};
-use registry::is_permitted;
+use registry::are_permitted;
 use std::alloc::{AllocError, Global};
 
 /// The authorization of the number, where the caller may see it on the day. A hidden authorization
@@ -41,11 +41,13 @@ fn permitted_auths(
     ensures { IfOk result (λ seen. seen.items
         ≡ filter (λ x. is_permitted_terms grants.now day caller.now Access.Look x) auths.now) }
 {
-    auths
-        .iter()
-        .filter(|auth| is_permitted(grants, day, caller, Access::Look, &auth.prefix))
-        .copied()
-        .collect(alloc)
+    let mut seen = Vec::new(alloc);
+    for auth in auths {
+        if are_permitted(grants, day, caller, Access::Look, &auth.entries()) {
+            seen.push(auth.clone()?)?;
+        }
+    }
+    Ok(seen)
 }
 
 /// The active authorizations that the caller may see on the day, by rising number.

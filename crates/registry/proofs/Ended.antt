@@ -1,15 +1,17 @@
 -- Authorizations that end where a prefix of their terms shares an address with a prefix that moves.
 use Rattle.std.proofs.Common.{◌≡◌, ℕ, ◌<◌, ◌≤◌, Bool, true, false, not, ◌||◌, cond, eqb, List, [], ◌∷◌, ◌↔◌, inl, inr, Some, refl, sym, ap, ◌∙◌, subst, arith, map, filter}
 use Rattle.std.specs.List.{list_any}
-use Rattle.std.proofs.lemmas.Bool.{cases_Bool, false≢true}
+use Rattle.std.proofs.lemmas.Bool.{cases_Bool, false≢true, or_parts}
+use Rattle.std.proofs.Math.Bool.{or-true}
 use Rattle.std.proofs.lemmas.Bool.Decides.{nat_tests}
 use Rattle.addr.specs.Address.{Address, has_address, overlaps}
 use Rattle.addr.specs.declared.prefix.Prefix.{Prefix}
 use Rattle.addr.proofs.AddressLemmas.{overlaps_some}
 use Rattle.registry.specs.declared.authorization.Auth.{Auth}
+use Rattle.registry.specs.declared.authorization.RoaPrefix.{RoaPrefix}
 use Rattle.registry.specs.History.{Entry, History}
 use Rattle.registry.specs.Resources.{resource_holder}
-use Rattle.registry.specs.Terms.{terms_overlap, authorizations_made, authorization_terms, HeldSinceMade, Keeps, AreActive}
+use Rattle.registry.specs.Terms.{entries_of, entries_have, terms_overlap, authorizations_made, authorization_terms, HeldSinceMade, Keeps, AreActive}
 use Rattle.registry.proofs.Numbers.{Numbered}
 use Rattle.registry.proofs.Kept.{Keeps-filter}
 use Rattle.registry.proofs.Held.{authorization_terms-numbered, held_now}
@@ -20,6 +22,31 @@ apart p q a none has =
     elim (cases_Bool (has_address q a)) [
       | inl t ↦ absurd (false≢true (sym none ∙ (overlaps_some p q).1 (a, has, t)))
       | inr f ↦ f
+    ]
+
+-- entries of which one overlaps p share an address with it
+pub shared_entry : (p : Prefix) (es : List RoaPrefix) → list_any (λ e. overlaps e.prefix p) es ≡ true
+    → (a : Address) × (entries_have es a ≡ true) × (has_address p a ≡ true)
+shared_entry p [] some = absurd (false≢true some)
+shared_entry p (e ∷ es) some =
+    elim (cases_Bool (overlaps e.prefix p)) [
+      | inl t ↦
+          let shared = (overlaps_some e.prefix p).0 t in
+          (shared.0, ap (λ b. b || entries_have es shared.0) shared.1, shared.2)
+      | inr f ↦
+          let rest = shared_entry p es (sym (ap (λ b. b || list_any (λ d. overlaps d.prefix p) es) f) ∙ some) in
+          (rest.0, ap (λ b. has_address e.prefix rest.0 || b) rest.1 ∙ or-true (has_address e.prefix rest.0), rest.2)
+    ]
+
+-- entries of which none overlaps p share no address with it
+pub apart_entries : (p : Prefix) (es : List RoaPrefix) (a : Address) → list_any (λ e. overlaps e.prefix p) es ≡ false
+    → entries_have es a ≡ true → has_address p a ≡ false
+apart_entries p [] a none has = absurd (false≢true has)
+apart_entries p (e ∷ es) a none has =
+    let parts = or_parts (overlaps e.prefix p) (list_any (λ d. overlaps d.prefix p) es) none in
+    elim (cases_Bool (has_address e.prefix a)) [
+      | inl t ↦ apart e.prefix p a parts.0 t
+      | inr f ↦ apart_entries p es a parts.1 (sym (ap (λ b. b || entries_have es a) f) ∙ has)
     ]
 
 -- the holder loses the addresses of p, which somebody else or nobody holds then, and no others
@@ -36,15 +63,13 @@ since_ended e before h p x loses made positive bound = (
     since.1,
     elim (cases_Bool (terms_overlap x p)) [
       | inl t ↦
-          let shared = (overlaps_some x.prefix p).0 t in
-          absurd (loses.lost shared.0 shared.2 (since.0 (subst (λ (k : ℕ). x.number ≤ k) (sym made) bound) x.prefix refl shared.0 shared.1))
+          let shared = shared_entry p (entries_of x) t in
+          absurd (loses.lost shared.0 shared.2 (since.0 (subst (λ (k : ℕ). x.number ≤ k) (sym made) bound) shared.0 shared.1))
       | inr f ↦ f
     ],
   ),
   λ kept. (
-    λ _. λ q is a has.
-        let in_x : has_address x.prefix a ≡ true = subst (λ (r : Prefix). has_address r a ≡ true) is has in
-        loses.others a (apart x.prefix p a kept.1 in_x) ∙ held_now before h x positive bound kept.0 q is a has,
+    λ _. λ a has. loses.others a (apart_entries p (entries_of x) a kept.1 has) ∙ held_now before h x positive bound kept.0 a has,
     kept.0,
   ),
 )

@@ -1,5 +1,5 @@
 -- The active authorizations after a command, from those before it.
-use Rattle.std.proofs.Common.{◌≡◌, ℕ, ◌+◌, ◌<◌, ◌≤◌, true, false, not, cond, eqb, List, [], ◌∷◌, ◌++◌, Some, refl, ◌∙◌, subst, arith, map, filter}
+use Rattle.std.proofs.Common.{◌≡◌, ℕ, ◌+◌, ◌<◌, ◌≤◌, true, false, not, cond, eqb, List, [], ◌∷◌, ◌++◌, Some, refl, sym, ◌∙◌, subst, arith, map, filter}
 use Rattle.std.specs.List.{All, Contains}
 use Rattle.std.proofs.lemmas.List.Elements.{All-nil, All-cons, All-contains}
 use Rattle.addr.specs.Address.{Address}
@@ -8,7 +8,7 @@ use Rattle.registry.specs.declared.command.Command.{Command}
 use Rattle.registry.specs.declared.command.Command.TheVariants.{Create, Amend, Withdraw}
 use Rattle.registry.specs.History.{Entry, History, same_name}
 use Rattle.registry.specs.Resources.{resource_holder}
-use Rattle.registry.specs.Terms.{numbered_terms, HoldsTerms, created_after, terms_after, authorizations_made, authorization_terms, amended, HeldSinceMade, Keeps, AreActive}
+use Rattle.registry.specs.Terms.{entries_of, entries_have, numbered_terms, HoldsTerms, created_after, terms_after, authorizations_made, authorization_terms, amended, HeldSinceMade, Keeps, AreActive}
 use Rattle.registry.proofs.Numbers.{Numbered, Numbered-high, Numbered-append, Numbered-filter, Numbered-map}
 use Rattle.registry.proofs.Kept.{Keeps-numbered, Keeps-same}
 
@@ -22,9 +22,11 @@ pub amended-number : (n max until : ℕ) (x : Auth) → (amended n max until x).
 amended-number n max until x =
     elim (eqb x.number n) as (λ b. (cond b (record x { max = max; until = until }) x).number ≡ x.number) [ true ↦ refl | false ↦ refl ]
 
-pub amended-prefix : (n max until : ℕ) (x : Auth) → (amended n max until x).prefix ≡ x.prefix
-amended-prefix n max until x =
-    elim (eqb x.number n) as (λ b. (cond b (record x { max = max; until = until }) x).prefix ≡ x.prefix) [ true ↦ refl | false ↦ refl ]
+-- an amendment keeps the addresses
+pub amended-addresses : (n max until : ℕ) (x : Auth) (a : Address) → entries_have (entries_of (amended n max until x)) a ≡ entries_have (entries_of x) a
+unfolding entries_of
+amended-addresses n max until x a =
+    elim (eqb x.number n) as (λ b. entries_have (entries_of (cond b (record x { max = max; until = until }) x)) a ≡ entries_have (entries_of x) a) [ true ↦ refl | false ↦ refl ]
 
 -- the numbers rise from 1, up to how many were made
 pub terms_after-numbered : (c : Command) (h : List ℕ) (made : ℕ) (xs : List Auth) → Numbered 0 xs made → Numbered 0 (terms_after c h made xs) (created_after c h made)
@@ -87,7 +89,7 @@ LosesNothing e before h = (a : Address) → resource_holder before a ≡ Some h 
 pub since_more : (e : Entry) (before : History) (h : List ℕ) → LosesNothing e before h → (x : Auth) → 0 < x.number → x.number ≤ authorizations_made before h
     → HeldSinceMade before h x → HeldSinceMade (e ∷ before) h x
 since_more e before h keeps x positive made since =
-    (λ _. λ p is a has. keeps a (held_now before h x positive made since p is a has), since)
+    (λ _. λ a has. keeps a (held_now before h x positive made since a has), since)
 
 -- where the holder loses nothing, those that were active stay so
 pub active-kept : (e : Entry) (before : History) (h : List ℕ) (active : List Auth) → LosesNothing e before h
@@ -96,8 +98,11 @@ active-kept e before h active keeps are =
     Keeps-same (HeldSinceMade before h) (HeldSinceMade (e ∷ before) h) 0 (authorization_terms before h) active (authorizations_made before h)
     (authorization_terms-numbered before h) (λ x positive made. (since_more e before h keeps x positive made, λ since. since.1)) are
 
--- equal prefixes and numbers, equally held
-pub since_same : (history : History) (h : List ℕ) (x y : Auth) → y.number ≡ x.number → y.prefix ≡ x.prefix → HeldSinceMade history h x → HeldSinceMade history h y
-since_same [] h x y n q since = tt
-since_same (e ∷ before) h x y n q since =
-    (λ made. λ p is a has. since.0 (subst (λ (k : ℕ). k ≤ authorizations_made (e ∷ before) h) n made) p (is ∙ q) a has, since_same before h x y n q since.1)
+-- equal addresses and numbers, equally held
+pub since_same : (history : History) (h : List ℕ) (x y : Auth) → y.number ≡ x.number
+    → ((a : Address) → entries_have (entries_of y) a ≡ entries_have (entries_of x) a) → HeldSinceMade history h x → HeldSinceMade history h y
+since_same [] h x y n same since = tt
+since_same (e ∷ before) h x y n same since = (
+  λ made. λ a has. since.0 (subst (λ (k : ℕ). k ≤ authorizations_made (e ∷ before) h) n made) a (sym (same a) ∙ has),
+  since_same before h x y n same since.1,
+)

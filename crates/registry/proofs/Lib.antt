@@ -6,3 +6,6 @@ pub mod Ended
 pub mod Carry
 pub mod Unregistered
 pub mod Amended
+pub mod Entries
+pub mod EntryVrps
+pub mod Rising

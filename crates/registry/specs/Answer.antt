@@ -170,11 +170,13 @@ IsHypotheticalAnswer charter history holder day caller changes (Ok rows) =
     (after : History) × HypotheticalHistory charter day caller holder history changes after
     × RowsOf after holder (rows_of rows)
 
--- the command moves addresses, has rows or brings a SLURM file; no other takes memory to decide
+-- the command moves addresses, makes or changes authorizations, or brings a SLURM file; no other takes memory to decide
 abbrev pub takes_memory : Command → Bool
 takes_memory (Delegate holder p) = true
 takes_memory (Transfer p giver taker) = true
 takes_memory (Reclaim holder p) = true
+takes_memory (Create holder terms) = true
+takes_memory (Amend holder n max until) = true
 takes_memory (Import holder rows) = true
 takes_memory (Slurm file) = true
 takes_memory _ = false

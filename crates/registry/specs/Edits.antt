@@ -1,5 +1,5 @@
 -- Which authorizations an edit ends and begins, and which edits a command makes.
-use Rattle.std.specs.Prelude.{◌≡◌, ℕ, ◌==◌, Bool, true, false, List, [], ◌∷◌, Some, None}
+use Rattle.std.specs.Prelude.{◌≡◌, ℕ, ◌==◌, Bool, true, false, List, [], ◌∷◌, filter, Some, None, if◌then◌else◌}
 use Rattle.std.specs.List.{list_any}
 use Rattle.registry.specs.declared.authorization.Auth.{Auth}
 use Rattle.registry.specs.declared.command.Command.{Command}
@@ -9,6 +9,7 @@ use Rattle.registry.specs.declared.change.Change.TheVariants.{Holders, Exception
 use Rattle.registry.specs.declared.change.Edit.{Edit}
 use Rattle.registry.specs.declared.change.Edit.TheVariants.{Register as RegisterEdit, Hold, Grant as GrantEdit, Revoke as RevokeEdit, Create as CreateEdit, Import as ImportEdit, Amend as AmendEdit, Withdraw as WithdrawEdit}
 use Rattle.registry.specs.Answer.{holder_of}
+use Rattle.registry.specs.History.{same_name}
 
 -- the edit takes away the authorization of this number, or puts another in its place
 abbrev pub ends : Edit → ℕ → Bool
@@ -18,12 +19,16 @@ ends (AmendEdit x) n = n == x.number
 ends (WithdrawEdit m) n = n == m
 ends _ n = false
 
--- the authorizations that the edit puts; that of an amendment only where there is one of its number
-abbrev pub begun : Edit → List Auth
-begun (CreateEdit x) = x ∷ []
-begun (ImportEdit auths created) = auths.items
-begun (AmendEdit x) = x ∷ []
-begun _ = []
+-- of these authorizations of the holder, those that the edit ends
+abbrev pub ended : Edit → List Auth → List Auth
+ended edit auths = filter (λ x. ends edit x.number) auths
+
+-- the authorizations that the edit puts, where the holder has these; that of an amendment only where one has its number
+abbrev pub begun : Edit → List Auth → List Auth
+begun (CreateEdit x) auths = x ∷ []
+begun (ImportEdit more created) auths = more.items
+begun (AmendEdit x) auths = if list_any (λ y. y.number == x.number) auths then x ∷ [] else []
+begun _ auths = []
 
 -- the edit exchanges runs of addresses
 abbrev pub IsHold : Edit → Type 0
@@ -53,11 +58,12 @@ IsEditOf (Withdraw holder n) edit = edit ≡ WithdrawEdit n
 IsEditOf (Import holder rows) edit = IsImportEdit edit
 IsEditOf _ _ = ⊥
 
--- The change has the edits of the command and no others: of a transfer that of the giver and that of the taker,
+-- The change has the edits of the command and no others: of a transfer that of the giver and that of another taker,
 -- of whom no authorization ends; of a SLURM file none; and of any other command one.
 abbrev pub HasEditsOf : Command → Change → Type 0
 HasEditsOf (Transfer p giver taker) (Holders first (Some second)) =
     (first.holder ≡ giver) × IsHold first.edit × (second.holder ≡ taker) × IsHoldEndingNone second.edit
+    × (same_name giver taker ≡ false)
 HasEditsOf (Slurm file) (Exceptions more) = more ≡ file
 HasEditsOf command (Holders first None) = (holder_of command ≡ Some first.holder) × IsEditOf command first.edit
 HasEditsOf _ _ = ⊥

@@ -2,9 +2,11 @@
 -- entry of a history; it leaves the creates of the rows that made one, in their order.
 use Rattle.std.specs.Prelude.{◌≡◌, ℕ, Bool, true, ◌&&◌, ◌==◌, List, Option, Some, None, Result, Ok, Err}
 use Rattle.std.specs.List.{list_any}
+use Rattle.std.specs.Cmp.Lexicographic.{pointwise}
 use Rattle.registry.specs.declared.authorization.Auth.{Auth}
 use Rattle.registry.specs.declared.authorization.AuthTerms.{AuthTerms}
 use Rattle.registry.specs.declared.authorization.ImportRow.{ImportRow}
+use Rattle.registry.specs.declared.authorization.RoaPrefix.{RoaPrefix}
 use Rattle.charters.specs.declared.charter.Charter.{Charter}
 use Rattle.registry.specs.declared.command.Command.{Command}
 use Rattle.registry.specs.declared.command.Command.TheVariants.{Create}
@@ -12,23 +14,29 @@ use Rattle.registry.specs.declared.grant.Access.TheVariants.{Alter}
 use Rattle.registry.specs.declared.rule.Rule.{Rule}
 use Rattle.registry.specs.GrowingHistory.{Grows, IsDeniedAt}
 use Rattle.registry.specs.History.{History}
-use Rattle.registry.specs.Permission.{is_permitted}
-use Rattle.registry.specs.Terms.{gives_vrp, grant_terms, row_terms, OfActive}
+use Rattle.registry.specs.Permission.{are_permitted}
+use Rattle.registry.specs.Terms.{entries_of, entries_asked, is_entry, grant_terms, row_terms, OfActive}
 use Rattle.registry.specs.Verdict.{Verdict}
 
 -- the command that makes the authorization of a row at a holder
 abbrev pub row_command : List ℕ → ImportRow → Command
 row_command holder row = Create holder (row_terms row)
 
--- the authorization has these terms, all five of them
+-- each entry of the one list has the prefix and maxLength of the entry in its place in the other
+abbrev pub are_same : List RoaPrefix → List RoaPrefix → Bool
+are_same es ds = pointwise (λ e d. is_entry e.prefix e.max d) es ds
+
+-- the authorization has these terms: the AS, the entries and both days
 abbrev pub has_terms : AuthTerms → Auth → Bool
-has_terms t x = gives_vrp x t.asn t.prefix t.max && ((x.from == t.from) && (x.until == t.until))
+has_terms t x =
+    ((x.asn.0 == t.asn.0) && are_same (entries_asked t) (entries_of x))
+    && ((x.from == t.from) && (x.until == t.until))
 
 -- Already authorized: rule `scope` holds, and with it `grant`; and an active authorization has the terms. Its
 -- days do not matter, nor does any other rule.
 abbrev pub IsPresent : ℕ → List ℕ → List ℕ → History → ImportRow → Type 0
 IsPresent day caller holder history row =
-    (is_permitted (grant_terms history holder) day caller Alter row.prefix ≡ true)
+    (are_permitted (grant_terms history holder) day caller Alter (entries_asked (row_terms row)) ≡ true)
     × OfActive history holder (λ active. list_any (has_terms (row_terms row)) active ≡ true)
 
 -- a row that is not already authorized is judged as the create of it

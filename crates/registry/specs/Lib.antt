@@ -16,3 +16,4 @@ pub mod Edits
 pub mod DailyVrps
 pub mod Unregistered
 pub mod HolderEntries
+pub mod RoaPrefixes

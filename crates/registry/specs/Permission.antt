@@ -1,9 +1,10 @@
 -- Which caller may do what. A permission for a prefix comes from one grant.
 use Rattle.std.specs.Prelude.{ℕ, Bool, true, false, ◌&&◌, nat_le, List}
-use Rattle.std.specs.List.{list_any}
+use Rattle.std.specs.List.{list_all, list_any}
 use Rattle.addr.specs.Address.{contains}
 use Rattle.addr.specs.declared.prefix.Prefix.{Prefix}
 use Rattle.registry.specs.declared.authorization.Auth.{Auth}
+use Rattle.registry.specs.declared.authorization.RoaPrefix.{RoaPrefix}
 use Rattle.registry.specs.declared.grant.Granted.{Granted}
 use Rattle.registry.specs.declared.grant.Role.{Role}
 use Rattle.registry.specs.declared.grant.Role.TheVariants.{Manager, Clerk, Auditor}
@@ -12,6 +13,7 @@ use Rattle.registry.specs.declared.grant.Scope.TheVariants.{All, Only}
 use Rattle.registry.specs.declared.grant.Access.{Access}
 use Rattle.registry.specs.declared.grant.Access.TheVariants.{Manage, Alter, Look}
 use Rattle.registry.specs.History.{same_name}
+use Rattle.registry.specs.Terms.{entries_of}
 
 -- the roles that give an access: managers manage grants, managers and clerks alter authorizations,
 -- and all three look at them
@@ -48,6 +50,10 @@ abbrev pub is_permitted : List Granted → ℕ → List ℕ → Access → Prefi
 is_permitted grants day caller access p =
     list_any (λ g. gives_access day caller access g && scope_has g.scope p) grants
 
+-- the caller is permitted each prefix of the entries
+abbrev pub are_permitted : List Granted → ℕ → List ℕ → Access → List RoaPrefix → Bool
+are_permitted grants day caller access es = list_all (λ e. is_permitted grants day caller access e.prefix) es
+
 -- the caller is permitted each prefix of the terms
 abbrev pub is_permitted_terms : List Granted → ℕ → List ℕ → Access → Auth → Bool
-is_permitted_terms grants day caller access x = is_permitted grants day caller access x.prefix
+is_permitted_terms grants day caller access x = are_permitted grants day caller access (entries_of x)

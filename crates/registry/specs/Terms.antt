@@ -1,7 +1,8 @@
 -- The grants and the authorizations of a holder. Each are numbered 1, 2, .. in the order in which
 -- they were made, no number twice.
-use Rattle.std.specs.Prelude.{◌≡◌, ℕ, ◌+◌, ◌≤◌, Bool, true, not, ◌&&◌, ◌==◌, List, [], ◌∷◌, ◌++◌, map, filter, if◌then◌else◌, ◌⊎◌, Contains}
-use Rattle.addr.specs.Address.{overlaps, prefix_eq}
+use Rattle.std.specs.Prelude.{◌≡◌, ℕ, ◌+◌, ◌≤◌, Bool, true, not, ◌&&◌, ◌==◌, List, [], ◌∷◌, ◌++◌, map, filter, if◌then◌else◌, ◌⊎◌, Contains, Some}
+use Rattle.std.specs.List.{list_any}
+use Rattle.addr.specs.Address.{Address, has_address, overlaps, prefix_eq}
 use Rattle.addr.specs.declared.asn.Asn.{Asn}
 use Rattle.addr.specs.declared.prefix.Prefix.{Prefix}
 use Rattle.addr.specs.declared.vrp.Vrp.{Vrp}
@@ -10,33 +11,63 @@ use Rattle.registry.specs.declared.command.Command.TheVariants.{Grant, Revoke, C
 use Rattle.registry.specs.declared.authorization.Auth.{Auth}
 use Rattle.registry.specs.declared.authorization.AuthTerms.{AuthTerms}
 use Rattle.registry.specs.declared.authorization.ImportRow.{ImportRow}
+use Rattle.registry.specs.declared.authorization.RoaPrefix.{RoaPrefix}
 use Rattle.registry.specs.declared.grant.Granted.{Granted}
 use Rattle.registry.specs.History.{History, same_name}
-use Rattle.registry.specs.Resources.{HoldsPrefix}
+use Rattle.registry.specs.Resources.{resource_holder}
 
--- p is a prefix of the terms
-abbrev pub IsPrefixOf : Auth → Prefix → Type 0
-IsPrefixOf x p = p ≡ x.prefix
+-- the entries of the terms, each a prefix with its maxLength (RFC 9582 section 4.3.2); proofs see no
+-- more of them than their lemmas say
+unfoldable pub entries_of : Auth → List RoaPrefix
+entries_of x = record { prefix = x.prefix; max = x.max } ∷ []
+
+-- the entries of terms as they are requested
+unfoldable pub entries_asked : AuthTerms → List RoaPrefix
+entries_asked t = record { prefix = t.prefix; max = t.max } ∷ []
+
+-- the address lies in a prefix of the entries
+abbrev pub entries_have : List RoaPrefix → Address → Bool
+entries_have es a = list_any (λ e. has_address e.prefix a) es
 
 -- a prefix of the terms shares an address with p
 abbrev pub terms_overlap : Auth → Prefix → Bool
-terms_overlap x p = overlaps x.prefix p
+terms_overlap x p = list_any (λ e. overlaps e.prefix p) (entries_of x)
+
+-- the entry has this prefix and maxLength
+abbrev pub is_entry : Prefix → ℕ → RoaPrefix → Bool
+is_entry p max e = prefix_eq e.prefix p && (e.max == max)
+
+-- v is the VRP of the entry for this AS
+abbrev pub IsVrpOfEntry : RoaPrefix → Asn → Vrp → Type 0
+IsVrpOfEntry e asn v = (v.prefix ≡ e.prefix) × (v.max ≡ e.max) × (v.asn ≡ asn)
 
 -- the terms give this AS, prefix and maxLength
 abbrev pub gives_vrp : Auth → Asn → Prefix → ℕ → Bool
-gives_vrp x asn p max = (x.asn.0 == asn.0) && (prefix_eq x.prefix p && (x.max == max))
+gives_vrp x asn p max = (x.asn.0 == asn.0) && list_any (is_entry p max) (entries_of x)
+
+-- some prefix and maxLength is an entry of both lists
+abbrev pub are_shared : List RoaPrefix → List RoaPrefix → Bool
+are_shared es ds = list_any (λ d. list_any (is_entry d.prefix d.max) es) ds
+
+-- the terms give this AS with some entry of the list
+abbrev pub gives_some : Auth → Asn → List RoaPrefix → Bool
+gives_some x asn es = (x.asn.0 == asn.0) && are_shared (entries_of x) es
 
 -- some AS, prefix and maxLength is given by both
 abbrev pub share_vrp : Auth → Auth → Bool
-share_vrp x y = gives_vrp x y.asn y.prefix y.max
+share_vrp x y = gives_some x y.asn (entries_of y)
 
 -- v is a VRP of the terms
 abbrev pub IsVrpOf : Auth → Vrp → Type 0
 IsVrpOf x v = gives_vrp x v.asn v.prefix v.max ≡ true
 
+-- every address of the entries is held by the holder
+abbrev pub HoldsEntries : History → List ℕ → List RoaPrefix → Type 0
+HoldsEntries history h es = (a : Address) → entries_have es a ≡ true → resource_holder history a ≡ Some h
+
 -- every address of the terms is held by the holder
 abbrev pub HoldsTerms : History → List ℕ → Auth → Type 0
-HoldsTerms history h x = (p : Prefix) → IsPrefixOf x p → HoldsPrefix history h p
+HoldsTerms history h x = HoldsEntries history h (entries_of x)
 
 -- how many grants were made at the holder
 abbrev pub granted_after : Command → List ℕ → ℕ → ℕ

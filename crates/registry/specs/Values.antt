@@ -1,8 +1,8 @@
 -- What the types of the values of a history promise, and the ranges of the values of rows. Elsewhere a
 -- history ranges over all numbers and texts: a day, a number of a `u32` and a name are seen as any
 -- number and any text there.
-use Rattle.std.specs.Prelude.{ℕ, ◌+◌, ◌^◌, ◌<◌, ◌≤◌, IsTrue, [], ◌∷◌, length, Option, Some, None, All, ⊤}
-use Rattle.addr.specs.Address.{FitsMaxLength}
+use Rattle.std.specs.Prelude.{◌≡◌, ℕ, ◌+◌, ◌^◌, ◌<◌, ◌≤◌, true, IsTrue, List, [], ◌∷◌, length, Option, Some, None, All, ⊤}
+use Rattle.std.specs.List.{AllByRecursion}
 use Rattle.addr.specs.Day.{IsDay}
 use Rattle.addr.specs.Name.{is_name}
 use Rattle.addr.specs.declared.vrp.Vrp.{Vrp}
@@ -18,7 +18,9 @@ use Rattle.registry.specs.declared.command.Command.{Command}
 use Rattle.registry.specs.declared.command.Command.TheVariants.{Register, Delegate, Transfer, Reclaim, Grant, Revoke, Create, Amend, Withdraw, Import, Slurm}
 use Rattle.registry.specs.declared.grant.Granted.{Granted}
 use Rattle.registry.specs.History.{Entry, History}
-use Rattle.registry.specs.Terms.{row_terms}
+use Rattle.registry.specs.RoaPrefixes.{AreEntries}
+use Rattle.registry.specs.Terms.{entries_of, entries_asked, row_terms}
+use Rattle.registry.specs.Verdict.{fit_lengths}
 use Rattle.registry.specs.Rows.{Rows}
 
 abbrev pub IsU8 : ℕ → Type 0
@@ -52,8 +54,12 @@ pub record ExceptionsFit (exceptions : Exceptions) : Type 0 where
   pub assertions : All VrpFits exceptions.assertions
 
 -- the terms of an authorization, as they are requested
-abbrev pub TermsFit : AuthTerms → Type 0
-TermsFit t = IsU32 t.asn.0 × IsU8 t.max × IsDay t.from × IsDay t.until
+pub record TermsFit (t : AuthTerms) : Type 0 where
+  pub asn : IsU32 t.asn.0
+  pub entries : AreEntries (entries_asked t)
+  pub maxes : AllByRecursion (λ e. IsU8 e.max) (entries_asked t)
+  pub from : IsDay t.from
+  pub until : IsDay t.until
 
 -- a row of an import
 abbrev pub ImportRowFits : ImportRow → Type 0
@@ -86,7 +92,8 @@ HistoryFits (e ∷ before) = EntryFits e × HistoryFits before
 pub record AuthFits (x : Auth) : Type 0 where
   pub number : IsNumber x.number
   pub asn : IsU32 x.asn.0
-  pub max : FitsMaxLength x.prefix x.max
+  pub entries : AreEntries (entries_of x)
+  pub lengths : fit_lengths (entries_of x) ≡ true
   pub from : IsDay x.from
   pub until : IsDay x.until
 

@@ -1,10 +1,11 @@
 -- The rules of each command in their order, and the verdict: the first rule that does not hold, or
 -- none where all hold.
 use Rattle.std.specs.Prelude.{◌≡◌, ℕ, ◌<◌, ◌≤◌, Bool, true, false, not, ◌&&◌, ◌||◌, ◌==◌, List, [], ◌∷◌, length, Option, Some, None, find, IsSomeAnd, ◌⊎◌}
-use Rattle.std.specs.List.{list_any}
+use Rattle.std.specs.List.{list_all, list_any}
 use Rattle.addr.specs.Address.{fits_max_length}
 use Rattle.registry.specs.declared.limits.TheConstants.{MOST_GRANTS, MOST_AUTHORIZATIONS, LAST_NUMBER}
 use Rattle.registry.specs.declared.authorization.Auth.{Auth}
+use Rattle.registry.specs.declared.authorization.RoaPrefix.{RoaPrefix}
 use Rattle.charters.specs.declared.charter.Charter.{Charter}
 use Rattle.registry.specs.declared.command.Command.{Command}
 use Rattle.registry.specs.declared.command.Command.TheVariants.{Register, Delegate, Transfer, Reclaim, Grant, Revoke, Create, Amend, Withdraw, Import, Slurm}
@@ -16,8 +17,8 @@ use Rattle.charters.specs.Charter.{is_operator, pool_of}
 use Rattle.charters.specs.Pool.{IsInPool}
 use Rattle.registry.specs.History.{History, same_name, is_registered}
 use Rattle.registry.specs.Resources.{HoldsPrefix, IsFree}
-use Rattle.registry.specs.Terms.{gives_vrp, share_vrp, grant_terms, grants_made, authorizations_made, OfActive}
-use Rattle.registry.specs.Permission.{has_access, is_permitted, is_permitted_terms}
+use Rattle.registry.specs.Terms.{entries_of, entries_asked, HoldsEntries, gives_some, share_vrp, grant_terms, grants_made, authorizations_made, OfActive}
+use Rattle.registry.specs.Permission.{has_access, are_permitted, is_permitted_terms}
 
 -- a rule before others: all hold where this one does and the others do; and the first that does not
 -- hold is this one where it does not, else the first of the others
@@ -30,9 +31,13 @@ abbrev pub accept : Option Rule → Type 0
 accept None = Unit {0}
 accept (Some first) = ⊥
 
+-- each maxLength of the entries is one for its prefix
+abbrev pub fit_lengths : List RoaPrefix → Bool
+fit_lengths es = list_all (λ e. fits_max_length e.prefix e.max) es
+
 -- the maxLength is one for all prefixes of the terms
 abbrev pub terms_fit_length : Auth → ℕ → Bool
-terms_fit_length x max = fits_max_length x.prefix max
+terms_fit_length x max = list_all (λ e. fits_max_length e.prefix max) (entries_of x)
 
 -- an operator, or a manager at the holder
 abbrev pub is_steward : Charter → History → ℕ → List ℕ → List ℕ → Bool
@@ -87,12 +92,12 @@ Verdict charter history day caller (Revoke holder n) =
     accept)
 Verdict charter history day caller (Create holder terms) =
     check GrantRule (has_access (grant_terms history holder) day caller Alter ≡ true) (
-    check Scope (is_permitted (grant_terms history holder) day caller Alter terms.prefix ≡ true) (
+    check Scope (are_permitted (grant_terms history holder) day caller Alter (entries_asked terms) ≡ true) (
     check Dates ((terms.from ≤ terms.until) × (day ≤ terms.until)) (
-    check Length (fits_max_length terms.prefix terms.max ≡ true) (
-    check Held (HoldsPrefix history holder terms.prefix) (
+    check Length (fit_lengths (entries_asked terms) ≡ true) (
+    check Held (HoldsEntries history holder (entries_asked terms)) (
     check Same (OfActive history holder (λ active.
-    list_any (λ y. gives_vrp y terms.asn terms.prefix terms.max) active ≡ false)) (
+    list_any (λ y. gives_some y terms.asn (entries_asked terms)) active ≡ false)) (
     check Room (OfActive history holder (λ active. length active < MOST_AUTHORIZATIONS)
     × (authorizations_made history holder < LAST_NUMBER))
     accept))))))

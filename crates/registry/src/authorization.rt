@@ -1,14 +1,81 @@
 //! Authorizations and their terms.
 
-ghost use Rattle.std.specs.Prelude.{◌≡◌, ◌≤◌, ◌↔◌, ◌&&◌, true, IsTrue, IsSome, IfSome};
-ghost use Rattle.registry.specs.Import.{has_terms};
-ghost use Rattle.registry.specs.Terms.{numbered_terms, row_terms, terms_overlap, gives_vrp, share_vrp, IsVrpOf};
-ghost use Rattle.registry.specs.Verdict.{terms_fit_length};
+ghost use Rattle.std.specs.Prelude.{◌≡◌, ◌≤◌, ◌↔◌, ◌&&◌, true, IsTrue, IsSome, IfSome, IfOk};
+ghost use Rattle.std.specs.List.{list_any};
+ghost use Rattle.addr.specs.Address.{FitsMaxLength};
+ghost use Rattle.registry.specs.Import.{are_same, has_terms};
+ghost use Rattle.registry.specs.Terms.{entries_asked, entries_of, numbered_terms, row_terms, terms_overlap, is_entry, are_shared, gives_some, share_vrp, IsVrpOf, IsVrpOfEntry};
+ghost use Rattle.registry.specs.Verdict.{fit_lengths, terms_fit_length};
 
 use addr::{Asn, Day, Prefix, Vrp};
+use std::alloc::AllocError;
+
+/// An entry of an authorization: a prefix and its maxLength (RFC 9582 section 4.3.2).
+#[derive(Clone, Copy, Debug, PartialEq, Eq)]
+pub struct RoaPrefix {
+    pub prefix: Prefix,
+    /// The maxLength as it was requested; the rule `length` judges it.
+    pub max: u8,
+}
+
+impl RoaPrefix {
+    /// Whether the entry has this prefix and maxLength.
+    fn is(&self, prefix: &Prefix, max: u8) -> bool
+        ensures { result ≡ is_entry prefix.now max self.now }
+    {
+        self.prefix.is(prefix) && self.max == max
+    }
+
+    /// The VRP of the entry for the AS; `None` where the maxLength is out of range, as in no history.
+    pub fn vrp(&self, asn: Asn) -> Option<Vrp>
+        ensures some { IsSome result ↔ FitsMaxLength self.now.prefix self.now.max }
+        ensures value { IfSome result (IsVrpOfEntry self.now asn) }
+    {
+        Vrp::from_parts(self.prefix, self.max, asn)
+    }
+}
+
+/// Whether each maxLength of the entries is one for its prefix.
+pub fn fit_lengths(entries: &[RoaPrefix]) -> bool
+    ensures { result ≡ fit_lengths entries.now }
+{
+    entries
+        .iter()
+        .all(|entry| entry.prefix.fits_max_length(entry.max))
+}
+
+/// Whether some entry has this prefix and maxLength.
+fn has_entry(entries: &[RoaPrefix], prefix: &Prefix, max: u8) -> bool
+    ensures { result ≡ list_any (is_entry prefix.now max) entries.now }
+{
+    entries.iter().any(|entry| entry.is(prefix, max))
+}
+
+/// Whether each entry of the one list has the prefix and maxLength of the entry in its place in the
+/// other.
+fn are_same(entries: &[RoaPrefix], others: &[RoaPrefix]) -> bool
+    ensures { result ≡ are_same entries.now others.now }
+{
+    match (entries, others) {
+        ([], []) => true,
+        ([entry, entries @ ..], [other, others @ ..]) => {
+            other.is(&entry.prefix, entry.max) && are_same(entries, others)
+        }
+        _ => false,
+    }
+}
+
+/// Whether some prefix and maxLength is an entry of both lists.
+fn are_shared(entries: &[RoaPrefix], others: &[RoaPrefix]) -> bool
+    ensures { result ≡ are_shared entries.now others.now }
+{
+    others
+        .iter()
+        .any(|other| has_entry(entries, &other.prefix, other.max))
+}
 
 /// A route origin authorization with its terms.
-#[derive(Clone, Copy, Debug, PartialEq, Eq)]
+#[derive(Clone, Debug, Drop, PartialEq, Eq)]
 pub struct Auth {
     /// Counts the holder's authorizations from 1, in the order in which they were made.
     pub number: u32,
@@ -23,7 +90,7 @@ pub struct Auth {
 }
 
 /// What an authorization is to say, before it has a number.
-#[derive(Clone, Copy, Debug, PartialEq, Eq)]
+#[derive(Clone, Debug, Drop, PartialEq, Eq)]
 pub struct AuthTerms {
     pub asn: Asn,
     pub prefix: Prefix,
@@ -64,57 +131,91 @@ impl ImportRow {
 }
 
 impl AuthTerms {
-    /// The authorization of these terms and of this number.
-    pub fn numbered(&self, number: u32) -> Auth
-        ensures { result ≡ numbered_terms self.now number }
+    /// The entries that are asked for.
+    #[tactic(auto, unfolding(crate::specs::Terms::entries_asked))]
+    pub fn entries(&self) -> [RoaPrefix; 1]
+        ensures { result ≡ entries_asked self.now }
     {
-        Auth {
-            number,
-            asn: self.asn,
+        [RoaPrefix {
             prefix: self.prefix,
             max: self.max,
-            from: self.from,
-            until: self.until,
-        }
+        }]
+    }
+
+    /// The authorization of these terms and of this number.
+    pub fn numbered(&self, number: u32) -> Result<Auth, AllocError>
+        ensures { IfOk result (λ x. x ≡ numbered_terms self.now number) }
+    {
+        let terms = self.clone()?;
+        Ok(Auth {
+            number,
+            asn: terms.asn,
+            prefix: terms.prefix,
+            max: terms.max,
+            from: terms.from,
+            until: terms.until,
+        })
     }
 }
 
 impl Auth {
+    /// The entries of the terms.
+    #[tactic(auto, unfolding(crate::specs::Terms::entries_of))]
+    pub fn entries(&self) -> [RoaPrefix; 1]
+        ensures { result ≡ entries_of self.now }
+    {
+        [RoaPrefix {
+            prefix: self.prefix,
+            max: self.max,
+        }]
+    }
+
     /// Whether a prefix of the terms shares an address with `prefix`.
     pub fn overlaps(&self, prefix: &Prefix) -> bool
         ensures { result ≡ terms_overlap self.now prefix.now }
     {
-        self.prefix.overlaps(prefix)
+        self.entries()
+            .iter()
+            .any(|entry| entry.prefix.overlaps(prefix))
     }
 
-    /// Whether the terms give this AS, prefix and maxLength.
-    pub fn gives_vrp(&self, asn: Asn, prefix: &Prefix, max: u8) -> bool
-        ensures { result ≡ gives_vrp self.now asn prefix.now max }
+    /// Whether the terms give this AS with some entry of the list.
+    pub fn gives_some(&self, asn: Asn, entries: &[RoaPrefix]) -> bool
+        ensures { result ≡ gives_some self.now asn entries.now }
     {
-        self.asn.0 == asn.0 && self.prefix.is(prefix) && self.max == max
+        self.asn.0 == asn.0 && are_shared(&self.entries(), entries)
     }
 
-    /// Whether the authorization has these terms, all five of them.
+    /// Whether the authorization has these terms: the AS, the entries and both days.
     pub fn has_terms(&self, terms: &AuthTerms) -> bool
         ensures { result ≡ has_terms terms.now self.now }
     {
-        self.gives_vrp(terms.asn, &terms.prefix, terms.max)
+        self.asn.0 == terms.asn.0
+            && are_same(&terms.entries(), &self.entries())
             && self.from.number() == terms.from.number()
             && self.until.number() == terms.until.number()
     }
 
-    /// Whether some AS, prefix and maxLength is given by the terms of both.
-    pub fn shares_vrp(&self, other: &Auth) -> bool
-        ensures { result ≡ share_vrp self.now other.now }
+    /// Whether some AS, prefix and maxLength is given by the terms of the other, and by these with
+    /// this maxLength.
+    #[tactic(auto, unfolding(crate::specs::Terms::entries_of))]
+    pub fn shares_vrp_amended(&self, max: u8, other: &Auth) -> bool
+        ensures { result ≡ share_vrp (record self.now { max = max }) other.now }
     {
-        self.gives_vrp(other.asn, &other.prefix, other.max)
+        let amended = [RoaPrefix {
+            prefix: self.prefix,
+            max,
+        }];
+        self.asn.0 == other.asn.0 && are_shared(&amended, &other.entries())
     }
 
     /// Whether the maxLength is one for all prefixes of the terms.
     pub fn fits_length(&self, max: u8) -> bool
         ensures { result ≡ terms_fit_length self.now max }
     {
-        self.prefix.fits_max_length(max)
+        self.entries()
+            .iter()
+            .all(|entry| entry.prefix.fits_max_length(max))
     }
 
     /// Whether the day lies from the first to the last day in force.
@@ -124,11 +225,10 @@ impl Auth {
         self.from.number() <= day.number() && day.number() <= self.until.number()
     }
 
-    /// The VRP of the terms; `None` where the maxLength is out of range, as in no history.
-    pub fn vrp(&self) -> Option<Vrp>
-        ensures some { IsSome result ↔ (terms_fit_length self.now self.now.max ≡ true) }
-        ensures value { IfSome result (IsVrpOf self.now) }
+    /// Whether the VRP is one of the terms.
+    pub fn gives_vrp(&self, vrp: &Vrp) -> bool
+        ensures { IsTrue result ↔ IsVrpOf self.now vrp.now }
     {
-        Vrp::from_parts(self.prefix, self.max, self.asn)
+        self.asn.0 == vrp.asn.0 && has_entry(&self.entries(), &vrp.prefix, vrp.max)
     }
 }

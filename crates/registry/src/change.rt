@@ -63,6 +63,13 @@ fn is_among(numbers: &[u32], number: u32) -> bool
     numbers.iter().any(|other| number == *other)
 }
 
+/// Whether one of the authorizations has the number.
+fn has_number(auths: &[Auth], number: u32) -> bool
+    ensures { result ≡ list_any (λ auth. auth.number == number) auths.now }
+{
+    auths.iter().any(|auth| auth.number == number)
+}
+
 impl Edit {
     ghost use Rattle.registry.specs.Answer.{edit_imported, edit_number};
     ghost use Rattle.registry.specs.Edits.{begun, ends};
@@ -107,16 +114,17 @@ impl Edit {
         }
     }
 
-    /// The authorizations that the edit begins. An amendment begins its own only where the holder
-    /// has one of its number, and that the caller asks.
-    pub fn begun(&self) -> &[Auth]
-        ensures { result.now ≡ begun self.now }
+    /// The authorizations that the edit begins, where the holder has these. An amendment begins
+    /// its own only where one of them has its number.
+    pub fn begun(&self, beside: &[Auth]) -> &[Auth]
+        ensures { result.now ≡ begun self.now beside.now }
     {
         match self {
             Edit::Create(auth) => slice::from_ref(auth),
             Edit::Import { auths, .. } => auths,
-            Edit::Amend(auth) => slice::from_ref(auth),
-            Edit::Register
+            Edit::Amend(auth) if has_number(beside, auth.number) => slice::from_ref(auth),
+            Edit::Amend(_)
+            | Edit::Register
             | Edit::Hold { .. }
             | Edit::Grant(_)
             | Edit::Revoke(_)

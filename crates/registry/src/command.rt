@@ -104,7 +104,7 @@ pub enum Query {
 }
 
 /// A hypothetical change of a holder's authorizations, as a what-if request names it.
-#[derive(Clone, Copy, Debug)]
+#[derive(Clone, Debug, Drop)]
 pub enum Proposed {
     /// Authorizes what the terms say.
     Create(AuthTerms),

@@ -1,8 +1,9 @@
 //! Grants, and the access that they give.
 
 ghost use Rattle.std.specs.Prelude.{◌≡◌};
-ghost use Rattle.registry.specs.Permission.{allowed_roles, scope_has, is_current, gives_access, has_access, is_permitted};
+ghost use Rattle.registry.specs.Permission.{allowed_roles, scope_has, is_current, gives_access, has_access, is_permitted, are_permitted};
 
+use crate::RoaPrefix;
 use addr::{Day, Name, Prefix};
 
 /// What a caller may do at a resource holder.
@@ -94,7 +95,7 @@ pub fn has_access(grants: &[Granted], day: Day, caller: &Name, access: Access) -
 }
 
 /// Whether some one grant gives the caller the access on the day and has the prefix in its scope.
-pub fn is_permitted(
+fn is_permitted(
     grants: &[Granted],
     day: Day,
     caller: &Name,
@@ -104,4 +105,17 @@ pub fn is_permitted(
     ensures { result ≡ is_permitted grants.now day caller.now access prefix.now }
 {
     grants.iter().any(|grant| grant.gives(day, caller, access) && grant.scope.has(prefix))
+}
+
+/// Whether the caller is permitted each prefix of the entries.
+pub fn are_permitted(
+    grants: &[Granted],
+    day: Day,
+    caller: &Name,
+    access: Access,
+    entries: &[RoaPrefix],
+) -> bool
+    ensures { result ≡ are_permitted grants.now day caller.now access entries.now }
+{
+    entries.iter().all(|entry| is_permitted(grants, day, caller, access, &entry.prefix))
 }

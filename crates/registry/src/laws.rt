@@ -6,6 +6,7 @@ ghost use Rattle.std.specs.List.{AllByRecursion};
 ghost use Rattle.addr.specs.Name.{is_name};
 ghost use Rattle.charters.specs.Charter.{operators_of};
 ghost use Rattle.registry.specs.declared.limits.TheConstants.{MOST_GRANTS, MOST_AUTHORIZATIONS, LAST_NUMBER};
+ghost use Rattle.registry.specs.declared.roa_prefixes.TheConstants.{MOST_ENTRIES};
 ghost use Rattle.registry.specs.Unregistered.{UnregisteredHaveNothing};
 ghost use Rattle.registry.specs.Values.{EntryFits};
 
@@ -35,9 +36,11 @@ pub fn operators_fit(charter: &Charter)
     names_fit(charter.operators());
 }
 
-/// The limits of the rule `room` in numbers, so that a changed constant is not proved.
+/// The limits of the rule `room` and of the entries of an authorization in numbers, so that a
+/// changed constant is not proved.
 pub fn limits()
     ensures grants { MOST_GRANTS ≡ 64 }
     ensures authorizations { MOST_AUTHORIZATIONS ≡ 1000 }
     ensures numbers { LAST_NUMBER ≡ 999999 }
+    ensures entries { MOST_ENTRIES ≡ 64 }
 {}

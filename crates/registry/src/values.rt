@@ -111,6 +111,7 @@ fn row_fits(row: &ImportRow)
 }
 
 /// The values of the terms are those of their types.
+#[tactic(auto, unfolding(crate::specs::Terms::entries_asked))]
 fn terms_fit(terms: &AuthTerms)
     ensures { TermsFit terms.now }
 {

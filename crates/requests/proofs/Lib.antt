@@ -1,4 +1,6 @@
 pub mod AskedLemmas
+pub mod EntryOrder
+pub mod EntryReadLemmas
 pub mod HeadLemmas
 pub mod HttpReadLemmas
 pub mod PathLemmas

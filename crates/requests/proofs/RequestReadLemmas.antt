@@ -109,7 +109,7 @@ module _ {A : Type 0} (reading : Data → Result A Fault) (faults : Data → Lis
       (reported-if malformed_number (is_count least most (length (list_of items))) tt Count)
 
   -- the items of a member
-  reads-list : (member : Option Data) → ReadsUnlessFaulty (items_of reading least most (option_and_then as_array member))
+  pub reads-list : (member : Option Data) → ReadsUnlessFaulty (items_of reading least most (option_and_then as_array member))
       (required_faults Members (λ value. list_faults faults least most (as_array value)) member) (HasItems Says member)
   reads-list None = record { reported = record { is = refl }; value = tt }
   reads-list (Some value) = reads-items (as_array value)

@@ -1,11 +1,15 @@
 -- The table of requests, and every fault of a line as one of them, wherever it is in the line: the lowest of all is
 -- reported.
 -- A line is judged by the tree that the JSON reader gives: of a repeated member it has the last value.
-use Rattle.std.specs.Prelude.{ℕ, nat_le, nat_lt, ◌&&◌, Bool, false, List, [], ◌∷◌, ◌++◌, map, length, codes, if◌then◌else◌, Option, Some, None, option_map, option_and_then, find}
-use Rattle.std.specs.List.{flat_map}
+use Rattle.std.specs.Prelude.{ℕ, nat_le, nat_lt, ◌&&◌, Bool, true, false, not, List, [], ◌∷◌, ◌++◌, map, length, codes, if◌then◌else◌, Option, Some, None, option_map, option_and_then, is_some, find}
+use Rattle.std.specs.List.{flat_map, list_any}
 use Rattle.std.specs.Option.{option_to_list}
 use Rattle.std.specs.Str.{bytes_eq}
+use Rattle.addr.specs.Address.{prefix_eq}
+use Rattle.addr.specs.declared.prefix.Prefix.{Prefix as PrefixValue}
+use Rattle.charters.specs.Repeats.{has_repeat}
 use Rattle.registry.specs.declared.grant.Role.{Role}
+use Rattle.requests.specs.declared.request.entries.TheConstants.{MOST_ENTRIES}
 use Rattle.serde_json.specs.Data.{Data, Items}
 use Rattle.serde_json.specs.Find.{get, as_array, as_str}
 use Rattle.json_values.specs.Faults.{fault_unless, lowest, name_faults, reading_faults, required_faults}
@@ -25,7 +29,7 @@ use Rattle.requests.specs.declared.malformed.Malformed.{Malformed}
 use Rattle.requests.specs.declared.action.Action.{Action}
 use Rattle.requests.specs.declared.action.Action.TheVariants.{Register, Delegate, Transfer, Reclaim, Grant, Revoke, Create, Amend, Withdraw, Slurm, Show, Content, List as ListAction, Export, Import, WhatIf, Payloads, Validity}
 use Rattle.requests.specs.declared.request.fault.Fault.{Fault}
-use Rattle.requests.specs.declared.request.fault.Fault.TheVariants.{Json, Members, Holder, Caller, Prefix, Asn, Max, Day, Role as RoleFault, Number, File, Count, TooLong}
+use Rattle.requests.specs.declared.request.fault.Fault.TheVariants.{Json, Members, Holder, Caller, Prefix, Asn, Max, Day, Role as RoleFault, Number, File, Count, TooLong, Repeated}
 use Rattle.requests.specs.declared.request.lists.TheConstants.{MOST_ITEMS, MOST_CHANGES}
 
 -- where several faults apply, the one of the lowest number is reported
@@ -43,6 +47,7 @@ malformed_number Number = 10
 malformed_number (File fault) = 11
 malformed_number Count = 12
 malformed_number TooLong = 13
+malformed_number Repeated = 14
 
 -- of a SLURM file that is refused, the number of its own fault
 abbrev pub slurm_number : Fault → Option ℕ
@@ -127,6 +132,63 @@ list_faults item_faults least most None = Members ∷ []
 list_faults item_faults least most (Some items) =
     flat_map item_faults (list_of items)
     ++ fault_unless (is_count least most (length (list_of items))) Count
+
+-- ---- a choice of members
+
+-- some member of one of these names is there
+abbrev pub has_some : List (List ℕ) → Data → Bool
+has_some names d = list_any (λ name. is_some (get name d)) names
+
+-- where a member of the one list is there and none of the other, the faults of the one
+abbrev pub chosen_faults : Bool → Bool → List Fault → List Fault → List Fault
+chosen_faults true false one other = one
+chosen_faults false true one other = other
+chosen_faults has_one has_other one other = Members ∷ []
+
+-- of the members of one of two lists, told by which names are there
+abbrev pub choice_faults : List (List ℕ × Kind) → List (List ℕ × Kind) → Data → List Fault
+choice_faults one other d =
+    chosen_faults (has_some (names_of one) d) (has_some (names_of other) d)
+    (member_faults one d) (member_faults other d)
+
+-- of what is to be an object with each of these members, with those of one of two lists and with no other
+abbrev pub object_faults_by_choice :
+    List (List ℕ × Kind) → List (List ℕ × Kind) → List (List ℕ × Kind) → Data → List Fault
+object_faults_by_choice members one other d =
+    member_faults members d ++ choice_faults one other d
+    ++ name_faults Members (names_of (members ++ one ++ other)) d
+
+-- ---- entries and their maxLengths
+
+-- an entry is a prefix with its maxLength
+abbrev pub entry_members : List (List ℕ × Kind)
+entry_members = (codes "prefix", prefix) ∷ (codes "max", max_length) ∷ []
+
+-- the prefixes that entries name
+abbrev pub named_prefixes : List Data → List PrefixValue
+named_prefixes entries =
+    flat_map (λ entry. option_to_list (option_and_then as_prefix (get (codes "prefix") entry))) entries
+
+-- of entries, two of which name the same prefix
+abbrev pub repeat_faults : Option Items → List Fault
+repeat_faults None = []
+repeat_faults (Some items) =
+    fault_unless (not (has_repeat prefix_eq (named_prefixes (list_of items)))) Repeated
+
+abbrev pub entry_list : Kind
+entry_list d value =
+    list_faults (object_faults entry_members) 1 MOST_ENTRIES (as_array value) ++ repeat_faults (as_array value)
+
+-- of the entries of a create: the members of one entry, or a list
+abbrev pub entries_faults : Data → List Fault
+entries_faults d = choice_faults entry_members ((codes "entries", entry_list) ∷ []) d
+
+abbrev pub max_lengths : Kind
+max_lengths d value = list_faults (reading_faults as_max Max) 1 MOST_ENTRIES (as_array value)
+
+-- of the maxLengths of an amendment: one, or a list
+abbrev pub maxes_faults : Data → List Fault
+maxes_faults d = choice_faults ((codes "max", max_length) ∷ []) ((codes "maxes", max_lengths) ∷ []) d
 
 -- ---- what is asked
 

@@ -1,10 +1,12 @@
 -- Which request a line is: the values that its members read as.
-use Rattle.std.specs.Prelude.{◌≡◌, ◌⊎◌, ℕ, List, [], codes, Option, Some, option_and_then}
+use Rattle.std.specs.Prelude.{◌≡◌, ◌⊎◌, ℕ, List, [], ◌∷◌, IsPermutation, codes, Option, Some, option_and_then}
 use Rattle.std.specs.List.{AllZip}
 use Rattle.addr.specs.declared.prefix.Prefix.{Prefix}
 use Rattle.addr.specs.declared.route.Route.{Route}
 use Rattle.registry.specs.declared.authorization.AuthTerms.{AuthTerms}
 use Rattle.registry.specs.declared.authorization.ImportRow.{ImportRow}
+use Rattle.registry.specs.declared.authorization.RoaPrefix.{RoaPrefix}
+use Rattle.registry.specs.RoaPrefixes.{Rise}
 use Rattle.registry.specs.declared.command.Command.{Command}
 use Rattle.registry.specs.declared.command.Command.TheVariants.{Register, Delegate, Transfer, Reclaim, Grant, Revoke, Create, Amend, Withdraw, Import, Slurm}
 use Rattle.registry.specs.declared.command.Proposed.{Proposed}
@@ -66,6 +68,27 @@ abbrev pub HasItems : {A : Type 0} → (Data → A → Type 0) → Option Data �
 HasItems Says member values = (items : Items)
     × (option_and_then as_array member ≡ Some items)
     × AllZip Says (list_of items) values
+
+-- an entry: a prefix with its maxLength
+abbrev pub HasEntry : Data → RoaPrefix → Type 0
+HasEntry d entry = HasPrefix d entry.prefix × HasMax d entry.max
+
+-- a list of these entries, in any order
+abbrev pub HasEntryList : Option Data → List RoaPrefix → Type 0
+HasEntryList member entries = (listed : List RoaPrefix)
+    × HasItems HasEntry member listed × IsPermutation listed entries × Rise entries
+
+-- the entries of a create: one, or a list
+abbrev pub HasEntries : Data → List RoaPrefix → Type 0
+HasEntries d entries =
+    ((entry : RoaPrefix) × HasEntry d entry × (entries ≡ entry ∷ []))
+    ⊎ HasEntryList (get (codes "entries") d) entries
+
+-- the maxLengths of an amendment, in the order of the entries: one, or a list
+abbrev pub HasMaxes : Data → List ℕ → Type 0
+HasMaxes d maxes =
+    ((max : ℕ) × HasMax d max × (maxes ≡ max ∷ []))
+    ⊎ HasItems (λ value max. as_max value ≡ Some max) (get (codes "maxes") d) maxes
 
 abbrev pub HasRoutes : Data → List Route → Type 0
 HasRoutes d = HasItems SaysRoute (get (codes "routes") d)

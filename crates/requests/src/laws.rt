@@ -2,6 +2,7 @@
 ghost use Rattle.std.specs.Prelude.{◌≡◌};
 ghost use Rattle.requests.specs.declared.head.TheConstants.{FIELD_LIMIT};
 ghost use Rattle.requests.specs.declared.request.TheConstants.{LINE_LENGTH_LIMIT};
+ghost use Rattle.requests.specs.declared.request.entries.TheConstants.{MOST_ENTRIES};
 ghost use Rattle.requests.specs.declared.request.lists.TheConstants.{MOST_ITEMS, MOST_CHANGES};
 ghost use Rattle.requests.specs.declared.request.members.TheConstants.{GREATEST_MAX};
 
@@ -11,5 +12,6 @@ pub fn limits()
     ensures fields { FIELD_LIMIT ≡ 32 }
     ensures items { MOST_ITEMS ≡ 10000 }
     ensures changes { MOST_CHANGES ≡ 1000 }
+    ensures entries { MOST_ENTRIES ≡ 64 }
     ensures greatest_max { GREATEST_MAX ≡ 255 }
 {}

@@ -27,6 +27,10 @@ pub(crate) const ASN: &str = "asn";
 
 pub(crate) const MAX: &str = "max";
 
+pub(crate) const ENTRIES: &str = "entries";
+
+pub(crate) const MAXES: &str = "maxes";
+
 pub(crate) const FROM: &str = "from";
 
 pub(crate) const UNTIL: &str = "until";

@@ -9,6 +9,7 @@ ghost use Rattle.requests.specs.RequestText.{ReadsLine};
 ghost use Rattle.requests.specs.steps.RequestReading.{asked_as, asked_by, asked_in, asked_terms, line_subject, request_in, request_terms};
 
 mod commands;
+mod entries;
 mod exceptions;
 pub(crate) mod fault;
 pub(crate) mod form;

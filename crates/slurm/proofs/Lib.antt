@@ -1,5 +1,11 @@
 pub mod FilterLemmas
 pub mod ReachLemmas
+pub mod OverlapLemmas
+pub mod RisingNames
+pub mod PassingItems
+pub mod WalkLemmas
+pub mod SetOverlapLemmas
+pub mod Pushed
 pub mod FileLemmas
 pub mod VrpLemmas
 pub mod SlurmFaultLemmas

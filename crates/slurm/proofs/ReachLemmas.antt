@@ -175,7 +175,7 @@ goes r kept = encloses kept r
 abbrev AreInOrder : List Reach → Type 0
 AreInOrder reaches = AllPairs (λ r s. is_le (reach_cmp r s) ≡ true) reaches
 
-upwards : (o : Ordering) → is_lt o ≡ false → is_le (ordering_reverse o) ≡ true
+pub upwards : (o : Ordering) → is_lt o ≡ false → is_le (ordering_reverse o) ≡ true
 upwards Less h = cc
 upwards Equal h = refl
 upwards Greater h = refl

@@ -11,9 +11,13 @@ mod index;
 pub mod laws;
 mod lists;
 mod members;
+mod overlap;
 mod reach;
+mod set;
+mod walk;
 
 pub use exceptions::{MOST_ENTRIES, Slurm};
 pub use fault::SlurmFault;
 pub use filter::Filter;
 pub use index::FilterIndex;
+pub use set::{MOST_FILES, NamedSlurm, SlurmSet, SlurmSetFault};

@@ -44,7 +44,7 @@ use Rattle.tables.proofs.Texts.{Means, upwards, kind_tests, filters_is, assertio
 use Rattle.database.proofs.Columns.{column_after, shown_at, shown_columns}
 use Rattle.store.proofs.Finding.{of_contents}
 use Rattle.store.proofs.Giving.{one_vrp}
-use Rattle.store.proofs.StepLemmas.{equals_int}
+use Rattle.edits.proofs.StepLemmas.{equals_int}
 
 numbers_less : (m n : ℕ) → m < n → int_cmp (pos m) (pos n) ≡ Less
 numbers_less m n less = grind (arith, ints, less)

@@ -1,5 +1,5 @@
 -- What the queries of the values of one holder answer.
-use Rattle.std.proofs.Common.{◌≡◌, ℕ, suc, Bool, List, [], ◌∷◌, map, filter, drop, length, Option, Some, None, Ordering, Equal, refl, sym, ap, subst, ◌∙◌, IsPermutation, IsSorted, IsTrue, false}
+use Rattle.std.proofs.Common.{◌≡◌, ℕ, suc, Bool, List, [], ◌∷◌, map, flat_map, filter, drop, length, Option, Some, None, Ordering, Equal, refl, sym, ap, subst, ◌∙◌, IsPermutation, IsSorted, IsTrue, false}
 use Rattle.std.specs.Ordering.{then_cmp, ordering_then}
 use Rattle.std.proofs.lemmas.List.Sorted.{IsPermutation-trans, IsPermutation-map}
 use Rattle.sqlite.specs.Effect.{Database, Reads}
@@ -8,7 +8,7 @@ use Rattle.sqlite_value.specs.declared.value.Value.TheVariants.{Null, Text}
 use Rattle.sqlite_value.specs.Order.{Row, column, value_cmp}
 use Rattle.sqlite_value.proofs.OrderLemmas.{then-Equal}
 use Rattle.sqlite_trees.specs.Tree.{Trees}
-use Rattle.sqlite_trees.proofs.ListLemmas.{map-map, filter-map}
+use Rattle.sqlite_trees.proofs.ListLemmas.{map-map, map-flat_map, filter-map}
 use Rattle.sqlite_sql.specs.Term.{Term, eval_all}
 use Rattle.sqlite_sql.specs.Query.{IsAnswer, key_cmp}
 use Rattle.sqlite_sql.specs.Program.{overlay}
@@ -17,11 +17,13 @@ use Rattle.sqlite_schema.specs.declared.command.Command.TheVariants.{Select}
 use Rattle.charters.specs.CharterSets.{CharterSets}
 use Rattle.registry.specs.Rows.{Rows}
 use Rattle.registry.specs.RowsOfAll.{AllRows}
-use Rattle.tables.specs.Cells.{span_cells, grant_cells, auth_cells, holding_row, granted_row, auth_row}
+use Rattle.tables.specs.Authorizations.{claim_of, entry_rows_of}
+use Rattle.tables.specs.Cells.{span_cells, grant_cells, claim_cells, entry_cells, holding_row, granted_row, claim_row, entry_row}
 use Rattle.tables.specs.Tables.{contents, columns, desk_tables, OverDesk}
-use Rattle.tables.specs.TablesHold.{Part, TablesHold, items_if_any, HoldsPart, part_rows, holder_part, holding_part, granted_part, auth_part}
+use Rattle.tables.specs.TablesHold.{Part, TablesHold, items_if_any, HoldsPart, part_rows, holder_part, holding_part, granted_part, claim_part, entry_part}
 use Rattle.tables.specs.Decode.{first_columns}
-use Rattle.tables.specs.declared.auth.TheConstants.{SELECT_HOLDER_AUTHS}
+use Rattle.tables.specs.declared.claim.TheConstants.{SELECT_HOLDER_CLAIMS}
+use Rattle.tables.specs.declared.entry.TheConstants.{SELECT_HOLDER_ENTRIES}
 use Rattle.tables.specs.declared.granted.TheConstants.{SELECT_HOLDER_GRANTS}
 use Rattle.tables.specs.declared.holder.TheConstants.{SELECT_COUNTERS}
 use Rattle.tables.specs.declared.holding.TheConstants.{SELECT_HOLDER_SPANS}
@@ -29,10 +31,11 @@ use Rattle.tables.proofs.ReadLemmas.{are_whole}
 use Rattle.store.specs.steps.Queries.{by_column, AreSelected, Selects}
 use Rattle.tables.proofs.Selecting.{from_table, no_limit, picks, permuted, sorted}
 use Rattle.database.proofs.Columns.{shown_at, shown_columns, grant_places, grant_shown}
-use Rattle.store.proofs.StepLemmas.{holder_test}
+use Rattle.edits.proofs.StepLemmas.{holder_test}
 use Rattle.tables.proofs.PartLemmas.{names}
-use Rattle.tables.proofs.CellsOnce.{cells_of_counters, counters_of_rows, one_counters, one_span, one_grant, one_auth}
-use Rattle.tables.proofs.Texts.{Means, equals, upwards, counters_is, spans_is, grants_is, auths_is}
+use Rattle.tables.proofs.CellsOnce.{cells_of_counters, counters_of_rows, one_counters, one_span, one_grant, one_claim, one_entry_row}
+use Rattle.tables.proofs.ClaimTexts.{claims_is, entries_is}
+use Rattle.tables.proofs.Texts.{Means, equals, upwards, counters_is, spans_is, grants_is}
 use Rattle.sqlite.specs.Listing.{understood, reads_listing}
 use Rattle.sqlite.specs.State.{State, Shown}
 use Rattle.sqlite.proofs.Callers.{IsPlain}
@@ -114,7 +117,7 @@ module _ {X : Type 0} (cells : X → Row) (width : ℕ) (items : Rows → List X
   pub selects : Selects cells width items cmp q.text
   selects = record { plain = q.means.plain; unlisted = q.means.unlisted; found = found; rising = rises; whole = whole; once = q.once }
 
--- ---- the four queries
+-- ---- the five queries
 
 abbrev pub counters_query : HolderQuery cells_of_counters 2 counters_of_rows (λ _ _. Equal)
 counters_query = record {
@@ -167,22 +170,44 @@ grants_query = record {
   once = one_grant;
 }
 
-abbrev auth_places : List ℕ
-auth_places = 1 ∷ 2 ∷ 3 ∷ 4 ∷ 5 ∷ 6 ∷ 7 ∷ 8 ∷ []
+abbrev claim_places : List ℕ
+claim_places = 1 ∷ 2 ∷ 3 ∷ 4 ∷ []
 
-abbrev pub auths_query : HolderQuery auth_cells 8 (λ (r : Rows). r.auths) (by_column 0)
-auths_query = record {
-  part = auth_part;
-  places = auth_places;
+abbrev pub claims_query : HolderQuery claim_cells 4 (λ (r : Rows). map claim_of r.auths) (by_column 0)
+claims_query = record {
+  part = claim_part;
+  places = claim_places;
   counted = refl;
-  text = SELECT_HOLDER_AUTHS.now;
+  text = SELECT_HOLDER_CLAIMS.now;
   order = upwards 2 ∷ [];
   titles = _;
-  means = auths_is;
-  held = λ _ _ _ holds. holds.auths;
-  shows = λ h r. map-map (columns auth_places) (auth_row h) r.auths;
+  means = claims_is;
+  held = λ _ _ _ holds. holds.claims;
+  shows = λ h r. map-map (columns claim_places) (λ x. claim_row h (claim_of x)) r.auths ∙ sym (map-map claim_cells claim_of r.auths);
   keys = 0 ∷ [];
   keyed = λ _ _. refl;
   ranked = λ x y. then-Equal _;
-  once = one_auth;
+  once = one_claim;
+}
+
+abbrev entry_places : List ℕ
+entry_places = 1 ∷ 2 ∷ 3 ∷ 4 ∷ 5 ∷ 6 ∷ []
+
+abbrev pub entries_query : HolderQuery entry_cells 6 (λ (r : Rows). flat_map entry_rows_of r.auths) (then_cmp (by_column 0) (then_cmp (by_column 2) (then_cmp (by_column 3) (by_column 4))))
+entries_query = record {
+  part = entry_part;
+  places = entry_places;
+  counted = refl;
+  text = SELECT_HOLDER_ENTRIES.now;
+  order = upwards 2 ∷ upwards 4 ∷ upwards 5 ∷ upwards 6 ∷ [];
+  titles = _;
+  means = entries_is;
+  held = λ _ _ _ holds. holds.entries;
+  shows = λ h r. ap (map (columns entry_places)) (sym (map-flat_map (entry_row h) entry_rows_of r.auths)) ∙ map-map (columns entry_places) (entry_row h) (flat_map entry_rows_of r.auths);
+  keys = 0 ∷ 2 ∷ 3 ∷ 4 ∷ [];
+  keyed = λ _ _. refl;
+  ranked = λ x y.
+      ap (λ o. ordering_then (value_cmp (column x 0) (column y 0)) (ordering_then (value_cmp (column x 2) (column y 2)) (ordering_then (value_cmp (column x 3) (column y 3)) o)))
+      (then-Equal _);
+  once = one_entry_row;
 }

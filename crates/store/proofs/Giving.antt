@@ -1,49 +1,67 @@
 -- The VRPs that the authorizations in force give, and the prefixes that are taken.
-use Rattle.std.proofs.Common.{◌≡◌, ◌↔◌, ◌≢◌, ℕ, true, ◌&&◌, ◌==◌, List, map, Any, Contains, arith, refl, sym, ap, subst, ◌∙◌}
+use Rattle.std.proofs.Common.{◌≡◌, ◌↔◌, ◌≢◌, ℕ, ◌<◌, true, ◌==◌, List, [], ◌∷◌, ◌++◌, length, map, inl, inr, Any, Contains, arith, refl, sym, ap, subst, ◌∙◌}
 use Rattle.std.specs.Prelude.{AllPairs}
 use Rattle.std.proofs.lemmas.List.{get_or-map, length-map}
-use Rattle.std.proofs.lemmas.Bool.{and_parts, and_from, eqb-true, eq-eqb}
+use Rattle.std.proofs.lemmas.Bool.{and_parts, and_from, or_left, eqb-true, eq-eqb}
+use Rattle.std.proofs.lemmas.Bool.Decides.{nat_tests}
+use Rattle.std.specs.List.{list_any}
 use Rattle.sqlite_value.specs.Order.{Row}
-use Rattle.sqlite_rules.proofs.ListLemmas.{has_contained, contains_had}
+use Rattle.sqlite_rules.specs.Lists.{Has}
+use Rattle.sqlite_rules.proofs.ListLemmas.{has_contained, contains_had, some_has, some_from}
 use Rattle.sqlite_rules.proofs.ProbeLemmas.{mapped_has, has_mapped}
-use Rattle.addr.specs.Address.{prefix_eq}
+use Rattle.addr.specs.Address.{prefix_eq, FitsMaxLength, fits_max_length}
 use Rattle.addr.specs.Order.{same_vrp}
 use Rattle.addr.specs.declared.asn.Asn.{Asn}
 use Rattle.addr.specs.declared.prefix.Prefix.{Prefix}
 use Rattle.addr.specs.declared.vrp.Vrp.{Vrp}
 use Rattle.registry.specs.declared.authorization.Auth.{Auth}
-use Rattle.registry.specs.Terms.{IsVrpOf}
+use Rattle.registry.specs.declared.authorization.RoaPrefix.{RoaPrefix}
+use Rattle.registry.specs.Terms.{entries_of, is_entry, IsVrpOf}
 use Rattle.registry.specs.Values.{AuthFits, VrpFits}
-use Rattle.tables.specs.Cells.{vrp_cells}
+use Rattle.registry.specs.Verdict.{fit_lengths}
+use Rattle.tables.specs.Cells.{vrp_cells, number_cell, prefix_cells}
 use Rattle.addr.proofs.Equality.{equal_prefix, prefix_itself}
 use Rattle.addr.proofs.SpanLemmas.{met_iff}
-use Rattle.store.specs.steps.Queries.{payload_cells, IsPayloadOn, MeetsSome}
+use Rattle.store.specs.steps.InForce.{payload_cells, IsPayloadOn}
+use Rattle.store.specs.steps.Queries.{MeetsSome}
 use Rattle.registry.specs.RowsOfAll.{AllRows, IsGivenOn, IsTaken}
 use Rattle.store.specs.Loads.{AllGiveOn}
 use Rattle.tables.proofs.CellsOnce.{one_prefix}
 
--- a VRP of the terms is shown as they are
-pub cells_of_vrp : (x : Auth) (v : Vrp) → IsVrpOf x v → vrp_cells v ≡ payload_cells x
+-- a VRP of the terms is shown as an entry of them
+pub cells_of_vrp : (x : Auth) (v : Vrp) → IsVrpOf x v → (e : RoaPrefix) × Has (entries_of x) e × (vrp_cells v ≡ payload_cells x e)
 cells_of_vrp x v is =
-    let one = and_parts (x.asn.0 == v.asn.0) (prefix_eq x.prefix v.prefix && (x.max == v.max)) is in
-    let two = and_parts (prefix_eq x.prefix v.prefix) (x.max == v.max) one.1 in
+    let one = and_parts (x.asn.0 == v.asn.0) (list_any (is_entry v.prefix v.max) (entries_of x)) is in
+    let (e, has, fits) = some_has (is_entry v.prefix v.max) (entries_of x) one.1 in
+    let two = and_parts (prefix_eq e.prefix v.prefix) (e.max == v.max) fits in
     let asn = eqb-true x.asn.0 v.asn.0 one.0 in
-    let prefix = equal_prefix x.prefix v.prefix two.0 in
-    let max = eqb-true x.max v.max two.1 in
-    rw (← asn, ← prefix, ← max) refl
+    let prefix = equal_prefix e.prefix v.prefix two.0 in
+    let max = eqb-true e.max v.max two.1 in
+    (e, has, λ i. number_cell (sym asn i) ∷ prefix_cells (sym prefix i) ++ number_cell (sym max i) ∷ [])
 
-vrp_of_cells : (x : Auth) (v : Vrp) → vrp_cells v ≡ payload_cells x → IsVrpOf x v
-vrp_of_cells x v is =
+vrp_of_cells : (x : Auth) (e : RoaPrefix) (v : Vrp) → Has (entries_of x) e → vrp_cells v ≡ payload_cells x e → IsVrpOf x v
+vrp_of_cells x e v has is =
     let asn : x.asn.0 ≡ v.asn.0 = cc in
-    let max : x.max ≡ v.max = cc in
-    let prefix : v.prefix ≡ x.prefix = one_prefix v.prefix x.prefix cc in
-    and_from _ _ (eq-eqb x.asn.0 v.asn.0 asn) (and_from _ _ (subst (λ p. prefix_eq x.prefix p ≡ true) (sym prefix) (prefix_itself x.prefix)) (eq-eqb x.max v.max max))
+    let max : e.max ≡ v.max = cc in
+    let prefix : v.prefix ≡ e.prefix = one_prefix v.prefix e.prefix cc in
+    let fits : is_entry v.prefix v.max e ≡ true = and_from _ _ (subst (λ p. prefix_eq e.prefix p ≡ true) (sym prefix) (prefix_itself e.prefix)) (eq-eqb e.max v.max max) in
+    and_from _ _ (eq-eqb x.asn.0 v.asn.0 asn) (some_from (is_entry v.prefix v.max) (entries_of x) e has fits)
+
+-- two entries of one authorization are one, since it has one
+one_entry : (x : Auth) (d e : RoaPrefix) → Has (entries_of x) d → Has (entries_of x) e → d ≡ e
+unfolding entries_of
+one_entry x d e (inl first) (inl second) = first ∙ sym second
+one_entry x d e (inl first) (inr none) = absurd none
+one_entry x d e (inr none) other = absurd none
 
 pub one_vrp : (v w : Vrp) → vrp_cells v ≡ vrp_cells w → v ≡ w
 one_vrp v w is =
     let asn : v.asn.0 ≡ w.asn.0 = cc in
     let max : v.max ≡ w.max = cc in
     same_vrp v w (one_prefix v.prefix w.prefix cc) max (ap (λ (n : ℕ). let a : Asn = record { 0 = n } in a) asn)
+
+max_in_range : (p : Prefix) (max : ℕ) → fits_max_length p max ≡ true → FitsMaxLength p max
+max_in_range p max fits = (grind (arith, nat_tests), grind (arith, nat_tests))
 
 -- VRPs that are shown by rows of which no two are equal
 pub given_once : (vrps : List Vrp) (rows : List Row) → rows ≡ map vrp_cells vrps → AllPairs ◌≢◌ rows → AllPairs ◌≢◌ vrps
@@ -56,30 +74,40 @@ module _ (day : ℕ) (all : AllRows) (rows : List Row) (each : (row : Row) → C
   is_given : (vrps : List Vrp) → rows ≡ map vrp_cells vrps → (v : Vrp) → Contains vrps v → IsGivenOn all day v
   is_given vrps shown v there =
       let row = subst (λ l. Contains l (vrp_cells v)) (sym shown) (contains_had (map vrp_cells vrps) (vrp_cells v) (mapped_has vrp_cells vrps v (has_contained vrps v there))) in
-      let it = (each (vrp_cells v)).0 row in
-      (it.0, it.1, it.2, it.3, it.4, it.5, it.6, vrp_of_cells it.2 v it.7)
+      let (h, r, x, e, of, in_r, in_x, from, until, is) = (each (vrp_cells v)).0 row in
+      (h, r, x, of, in_r, from, until, vrp_of_cells x e v (has_contained (entries_of x) e in_x) is)
 
   has_given : (vrps : List Vrp) → rows ≡ map vrp_cells vrps → (v : Vrp) → IsGivenOn all day v → Contains vrps v
-  has_given vrps shown v it =
-      let row = (each (vrp_cells v)).1 (it.0, it.1, it.2, it.3, it.4, it.5, it.6, cells_of_vrp it.2 v it.7) in
-      let from = has_mapped vrp_cells vrps (vrp_cells v) (has_contained (map vrp_cells vrps) (vrp_cells v) (subst (λ l. Contains l (vrp_cells v)) shown row)) in
-      subst (Contains vrps) (sym (one_vrp v from.0 from.2)) (contains_had vrps from.0 from.1)
+  has_given vrps shown v (h, r, x, of, in_r, from, until, is) =
+      let (e, in_x, cells) = cells_of_vrp x v is in
+      let row = (each (vrp_cells v)).1 (h, r, x, e, of, in_r, contains_had (entries_of x) e in_x, from, until, cells) in
+      let its = has_mapped vrp_cells vrps (vrp_cells v) (has_contained (map vrp_cells vrps) (vrp_cells v) (subst (λ l. Contains l (vrp_cells v)) shown row)) in
+      subst (Contains vrps) (sym (one_vrp v its.0 its.2)) (contains_had vrps its.0 its.1)
 
   pub each_given : (vrps : List Vrp) → rows ≡ map vrp_cells vrps → (v : Vrp) → Contains vrps v ↔ IsGivenOn all day v
   each_given vrps shown v = (is_given vrps shown v, has_given vrps shown v)
 
   -- rows of authorizations that give VRPs are read
   pub given_read : AllGiveOn all day → ¬ Any (λ row. (v : Vrp) → VrpFits v → vrp_cells v ≢ row) rows
-  given_read give (k, row, low, is, none) =
-      let it = (each row).0 (k, low, is) in
-      let v = give it.0 it.1 it.2 it.3 it.4 it.5 it.6 in
-      none v.0 v.2 (cells_of_vrp it.2 v.0 v.1 ∙ sym it.7)
+  given_read give (at, row, low, is, none) =
+      let (h, r, x, e, of, in_r, in_x, from, until, shows) = (each row).0 (at, low, is) in
+      let (v, given, fits) = give h r x of in_r from until in
+      let (d, has, cells) = cells_of_vrp x v given in
+      none v fits (cells ∙ ap (payload_cells x) (one_entry x d e has (has_contained (entries_of x) e in_x)) ∙ sym shows)
 
--- an authorization in its ranges gives a VRP
+-- an authorization in its ranges gives a VRP: that of its first entry
 pub gives_one : (x : Auth) → AuthFits x → (v : Vrp) × IsVrpOf x v × VrpFits v
-gives_one x fits =
-    let v : Vrp = record { prefix = x.prefix; max = x.max; asn = x.asn; at_least_length = fits.max.0; at_most_width = fits.max.1 } in
-    (v, vrp_of_cells x v refl, fits.asn)
+gives_one x fits = of_first (entries_of x) refl (omega (arith, fits.entries.number.0)) fits.lengths
+  where
+    of_first : (es : List RoaPrefix) → entries_of x ≡ es → 0 < length es → fit_lengths es ≡ true → (v : Vrp) × IsVrpOf x v × VrpFits v
+    of_first [] are some fit = absurd (omega (arith, some))
+    of_first (e ∷ es) are some fit =
+        let range = max_in_range e.prefix e.max (and_parts (fits_max_length e.prefix e.max) (fit_lengths es) fit).0 in
+        let v : Vrp = record { prefix = e.prefix; max = e.max; asn = x.asn; at_least_length = range.0; at_most_width = range.1 } in
+        let has : list_any (is_entry e.prefix e.max) (entries_of x) ≡ true =
+        ap (list_any (is_entry e.prefix e.max)) are
+        ∙ or_left _ _ (and_from _ _ (prefix_itself e.prefix) (eq-eqb e.max e.max refl)) in
+        (v, and_from _ _ (eq-eqb x.asn.0 x.asn.0 refl) has, fits.asn)
 
 -- ---- what is held
 

@@ -1,48 +1,65 @@
 -- The rows that tables hold give no VRP twice.
-use Rattle.std.proofs.Common.{◌≡◌, ◌≢◌, suc, true, List, [], ◌∷◌, map, filter, Some, Contains, inl, inr, refl, sym, ap, ◌∙◌, arith}
-use Rattle.std.specs.Prelude.{ℕ, AllPairs}
+use Rattle.std.proofs.Common.{◌≡◌, ℕ, true, List, map, filter, Some, Contains, refl, sym, ap, subst, ◌∙◌, IsPermutation}
+use Rattle.std.proofs.lemmas.List.Sorted.{IsPermutation-sym, IsPermutation-map}
 use Rattle.sqlite.specs.Effect.{Database, IsDatabase}
+use Rattle.sqlite_value.specs.Order.{Row}
 use Rattle.sqlite_rules.specs.Lists.{Has}
-use Rattle.sqlite_rules.proofs.ListLemmas.{all_from, has_contained, contains_had}
-use Rattle.sqlite_rules.proofs.ProbeLemmas.{mapped_has}
-use Rattle.sqlite_trees.proofs.ListLemmas.{filter_all, IsPermutation-same}
+use Rattle.sqlite_rules.proofs.ListLemmas.{all_from, has_contained}
+use Rattle.sqlite_trees.proofs.ListLemmas.{filter_all, map-map, IsPermutation-same}
 use Rattle.charters.specs.CharterSets.{CharterSets}
 use Rattle.registry.specs.declared.authorization.Auth.{Auth}
+use Rattle.registry.specs.declared.authorization.RoaPrefix.{RoaPrefix}
 use Rattle.registry.specs.Rows.{Rows}
 use Rattle.registry.specs.RowsOfAll.{AllRows}
-use Rattle.tables.specs.Cells.{auth_row}
-use Rattle.tables.specs.Tables.{desk_tables, auth, contents}
-use Rattle.tables.specs.TablesHold.{TablesHold, auth_part}
-use Rattle.tables.proofs.SomeRow.{in_table}
-use Rattle.database.specs.Laws.{payload_columns, AuthsDiffer}
+use Rattle.registry.specs.Terms.{entries_of}
+use Rattle.tables.specs.declared.entry.EntryRow.{EntryRow}
+use Rattle.tables.specs.Authorizations.{claim_of}
+use Rattle.tables.specs.Cells.{claim_row, entry_row}
+use Rattle.tables.specs.Groups.{claim_entry}
+use Rattle.tables.specs.Tables.{desk_tables, claim, entry, contents}
+use Rattle.tables.specs.TablesHold.{TablesHold, claim_part, entry_part, part_rows}
+use Rattle.tables.proofs.Once.{two_are_one, entry_row_once}
+use Rattle.tables.proofs.PartLemmas.{names}
+use Rattle.tables.proofs.SomeRow.{in_table, has_entry_row}
+use Rattle.database.specs.Laws.{payload_columns, number_columns, ClaimsDiffer, EntriesDiffer}
 use Rattle.store.specs.Given.{GivenOnce}
 use Rattle.store.proofs.Giving.{cells_of_vrp}
-use Rattle.store.proofs.HeldAlike.{auth_row_once}
 
--- two of a list that have one value are one, where the values of any two differ
-module _ {X Y : Type 0} (f : X → Y) where
-  differs : (z : X) (zs : List X) → AllPairs ◌≢◌ (map f (z ∷ zs)) → (y : X) → Has zs y → f z ≢ f y
-  differs z zs apart y has same =
-      let later = contains_had (map f zs) (f y) (mapped_has f zs y has) in
-      apart 0 (suc later.0) (f y) (omega arith) (omega (arith, later.1)) (same ∙ sym later.2)
+module _ (entries_differ : EntriesDiffer) (claims_differ : ClaimsDiffer) (charter : CharterSets) (rows : AllRows) (db : Database) (sound : IsDatabase db) (tables : db.schema.tables ≡ desk_tables) (holds : TablesHold charter rows db.trees) where
+  abbrev row_of : List ℕ → Auth → RoaPrefix → Row
+  row_of h x e = entry_row h (claim_entry (claim_of x) e)
 
-  two_are_one : (xs : List X) → AllPairs ◌≢◌ (map f xs) → (x y : X) → Has xs x → Has xs y → f x ≡ f y → x ≡ y
-  two_are_one [] apart x y none also same = absurd none
-  two_are_one (z ∷ zs) apart x y (inl first) (inl second) same = first ∙ sym second
-  two_are_one (z ∷ zs) apart x y (inl first) (inr later) same = absurd (differs z zs apart y later (ap f (sym first) ∙ same))
-  two_are_one (z ∷ zs) apart x y (inr later) (inl first) same = absurd (differs z zs apart x later (ap f (sym first) ∙ sym same))
-  two_are_one (z ∷ zs) apart x y (inr one) (inr other) same =
-      two_are_one zs (λ i j d below within. apart (suc i) (suc j) d (omega (arith, below)) (omega (arith, within))) x y one other same
+  has_row : (h : List ℕ) (r : Rows) (x : Auth) (e : RoaPrefix) → rows.of_holder h ≡ Some r → Contains r.auths x → Has (entries_of x) e → Has (contents (db.trees entry.tree)) (row_of h x e)
+  has_row h r x e of there has = in_table entry_part rows.of_holder _ holds.entries (row_of h x e) h r of (has_entry_row h r x e (has_contained r.auths x there) has)
 
-module _ (rows : AllRows) (charter : CharterSets) (db : Database) (holds : TablesHold charter rows db.trees) where
-  has_row : (h : List ℕ) (r : Rows) (x : Auth) → rows.of_holder h ≡ Some r → Contains r.auths x → Has (contents (db.trees auth.tree)) (auth_row h x)
-  has_row h r x of there = in_table auth_part rows.of_holder _ holds.auths (auth_row h x) h r of (mapped_has (auth_row h) r.auths x (has_contained r.auths x there))
+  -- no two rows of the table `entry` have one payload
+  one_row : (c d : Row) → Has (contents (db.trees entry.tree)) c → Has (contents (db.trees entry.tree)) d → payload_columns c ≡ payload_columns d → c ≡ d
+  one_row c d has_c has_d same =
+      let table = contents (db.trees entry.tree) in
+      let every : filter (λ _. true) table ≡ table = filter_all _ table (all_from _ table (λ _ _. refl)) in
+      let apart = entries_differ db sound tables (holds.whole entry.tree refl) (λ _. true) (map payload_columns table) (IsPermutation-same _ _ (ap (map payload_columns) every)) in
+      two_are_one payload_columns table apart c d has_c has_d same
 
-pub held_once : AuthsDiffer → (charter : CharterSets) (rows : AllRows) (db : Database) → IsDatabase db → db.schema.tables ≡ desk_tables → TablesHold charter rows db.trees → GivenOnce rows
-held_once differ charter rows db sound tables holds h k r s x y v of also in_r in_s is too =
-    let table = contents (db.trees auth.tree) in
-    let every : filter (λ _. true) table ≡ table = filter_all _ table (all_from _ table (λ _ _. refl)) in
-    let apart = differ db sound tables (holds.whole auth.tree refl) (λ _. true) (map payload_columns table) (IsPermutation-same _ _ (ap (map payload_columns) every)) in
-    let same : payload_columns (auth_row h x) ≡ payload_columns (auth_row k y) = sym (cells_of_vrp x v is) ∙ cells_of_vrp y v too in
-    auth_row_once h k x y
-    (two_are_one payload_columns table apart (auth_row h x) (auth_row k y) (has_row rows charter db holds h r x of in_r) (has_row rows charter db holds k s y also in_s) same)
+  -- no two authorizations of a holder have one number
+  one_of_number : (h : List ℕ) (r : Rows) (x y : Auth) → rows.of_holder h ≡ Some r → Has r.auths x → Has r.auths y → x.number ≡ y.number → x ≡ y
+  one_of_number h r x y of in_r in_s number =
+      let shows = λ (z : Auth). claim_row h (claim_of z) in
+      let table = contents (db.trees claim.tree) in
+      let mine : IsPermutation (map shows r.auths) (filter (names claim_part.place h) table) = subst (λ o. IsPermutation (part_rows claim_part h o) (filter (names claim_part.place h) table)) of (holds.claims.each h) in
+      let shown = subst (IsPermutation (map number_columns (filter (names claim_part.place h) table))) (map-map number_columns shows r.auths) (IsPermutation-map number_columns _ _ (IsPermutation-sym _ _ mine)) in
+      let apart = claims_differ db sound tables (holds.whole claim.tree refl) (names claim_part.place h) _ shown in
+      two_are_one (λ z. number_columns (shows z)) r.auths apart x y in_r in_s (ap (λ n. number_columns (claim_row h (record (claim_of x) { number = n }))) number)
+
+  one_holder : (h k : List ℕ) (r s : Rows) (x y : Auth) → h ≡ k → rows.of_holder h ≡ Some r → rows.of_holder k ≡ Some s → Contains r.auths x → Contains s.auths y → x.number ≡ y.number → x ≡ y
+  one_holder h k r s x y name of also in_r in_s number =
+      let again : rows.of_holder h ≡ Some s = ap rows.of_holder name ∙ also in
+      let same : s ≡ r = cc in
+      one_of_number h r x y of (has_contained r.auths x in_r) (has_contained r.auths y (subst (λ (t : Rows). Contains t.auths y) same in_s)) number
+
+  pub held_once : GivenOnce rows
+  held_once h k r s x y v of also in_r in_s is too =
+      let (e, in_x, cells) = cells_of_vrp x v is in
+      let (f, in_y, others) = cells_of_vrp y v too in
+      let same = one_row (row_of h x e) (row_of k y f) (has_row h r x e of in_r in_x) (has_row k s y f also in_s in_y) (sym cells ∙ others) in
+      let one = entry_row_once h k (claim_entry (claim_of x) e) (claim_entry (claim_of y) f) same in
+      (one.0, one_holder h k r s x y one.0 of also in_r in_s (ap (λ (d : EntryRow). d.number) one.1))

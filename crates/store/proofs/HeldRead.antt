@@ -19,16 +19,17 @@ use Rattle.registry.specs.Values.{RowsFit, AuthFits, GrantFits, CommandFits, His
 use Rattle.histories.specs.Ranges.{LegalRowsFit, ExceptionsInForceFit}
 use Rattle.registry.specs.RowsOfAll.{AllRows}
 use Rattle.registry.proofs.Names.{same_name-true}
-use Rattle.tables.specs.Cells.{schema_row, holder_row, holding_row, granted_row, auth_row, exception_row}
+use Rattle.tables.specs.Cells.{schema_row, holder_row, holding_row, granted_row, exception_row}
 use Rattle.tables.specs.Laws.{ExceptionsAreCounted}
-use Rattle.tables.specs.Tables.{meta, holder, contents}
-use Rattle.tables.specs.TablesHold.{Part, TablesHold, HoldsPart, holder_part, holding_part, granted_part, auth_part, ArePlaced, HoldsExceptions}
+use Rattle.tables.specs.Tables.{meta, holder, claim, entry, contents}
+use Rattle.tables.specs.TablesHold.{Part, TablesHold, HoldsPart, holder_part, holding_part, granted_part, ArePlaced, HoldsExceptions}
 use Rattle.tables.specs.declared.exception.Exception.{Exception}
 use Rattle.tables.specs.declared.exception.Exception.TheVariants.{Filter as FilterOf, Assertion}
 use Rattle.tables.specs.declared.exception.ExceptionRow.{ExceptionRow}
 use Rattle.tables.specs.Decode.{IsPosition, ExceptionFits, ExceptionRowFits, exception_columns}
 use Rattle.tables.proofs.SomeRow.{has_permuted, of_some}
 use Rattle.store.specs.Laws.{HistoriesRead}
+use Rattle.store.proofs.Gathering.{AreOfAll, NamedFit, some_auths}
 use Rattle.database.specs.TablesRead.{ShowsHolder, ShowsOfHolder, ShowsException, TablesRead}
 use Rattle.slurm.specs.Exceptions.{Exceptions}
 
@@ -78,15 +79,21 @@ held_read counted charter rows trees is named fit exceptions_fit holds = record 
       (λ h r c there has.
       let it = has_mapped (granted_row h) r.grants c has in
       (h, it.0, all_has GrantFits r.grants it.0 (recursion_from_All GrantFits r.grants (fit h r there).1.grants) it.1, it.2));
-  auths =
-      of_part auth_part rows.of_holder _ (ShowsOfHolder auth_row AuthFits) holds.auths
-      (λ h r c there has.
-      let it = has_mapped (auth_row h) r.auths c has in
-      (h, it.0, all_has AuthFits r.auths it.0 (recursion_from_All AuthFits r.auths (fit h r there).1.auths) it.1, it.2));
+  authorizations = record {
+    auths = authorized.auths;
+    fit = authorized.fit;
+    claims_shown = authorized.claims_shown;
+    entries_shown = authorized.entries_shown;
+    unused = holds.unused;
+  };
   exceptions = exceptions_read rows.exceptions _ holds.exceptions exceptions_fit;
   exceptions_number = omega (arith, exceptions_fit.number, counted rows.exceptions _ holds.exceptions);
 }
   where
+    authorized : AreOfAll NamedFit (contents (trees claim.tree)) (contents (trees entry.tree))
+    authorized = some_auths rows.of_holder (contents (trees claim.tree)) (contents (trees entry.tree)) holds.claims holds.entries
+        (λ h r there. let it = fit h r there in (it.0, recursion_from_All AuthFits r.auths it.1.auths))
+
     one_row : (row c : Row) → Has (row ∷ []) c → c ≡ row
     one_row row c (inl is) = is
     one_row row c (inr none) = absurd none

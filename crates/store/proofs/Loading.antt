@@ -1,26 +1,35 @@
 -- What is loaded from the rows that queries found.
-use Rattle.std.proofs.Common.{◌≡◌, ℕ, ◌+◌, ◌<◌, pos, ◌||◌, List, [], ◌∷◌, map, take, length, get_or, slice_get, All, Option, Some, None, IsTrue, refl, sym, ap, subst, ◌∙◌, arith, is_lt, nat_cmp, int_cmp, IsPermutation, IsSorted, IsSortedByKey}
+use Rattle.std.proofs.Common.{◌≡◌, ℕ, ◌+◌, ◌<◌, pos, ◌||◌, true, List, [], ◌∷◌, map, flat_map, take, length, get_or, slice_get, All, Option, Some, None, IsTrue, refl, sym, ap, subst, ◌∙◌, arith, is_lt, nat_cmp, int_cmp, IsPermutation, IsSorted, IsSortedByKey}
 use Rattle.std.specs.Prelude.{⊤}
+use Rattle.std.specs.List.{AllByRecursion}
 use Rattle.std.proofs.Math.Bool.{or-false}
+use Rattle.std.proofs.lemmas.Bool.Decides.{nat_tests}
 use Rattle.std.proofs.lemmas.Int.{ints}
 use Rattle.std.proofs.lemmas.List.{get_or-map, length-map}
-use Rattle.std.proofs.lemmas.List.Elements.{All-nil, All-cons}
+use Rattle.std.proofs.lemmas.List.Elements.{All-nil, All-cons, All-from_recursion, recursion_from_All}
 use Rattle.std.proofs.lemmas.List.Folds.{list_any-append}
 use Rattle.std.proofs.lemmas.List.Sorted.{list_any-IsPermutation, length_permutation}
 use Rattle.sqlite.specs.Effect.{Database}
 use Rattle.sqlite.specs.State.{State}
 use Rattle.sqlite.proofs.Callers.{one_permutation}
+use Rattle.sqlite_rules.proofs.ListLemmas.{all_from, test_has}
+use Rattle.sqlite_trees.proofs.ListLemmas.{all-flat_map, all-map, all_weaker}
 use Rattle.sqlite_value.specs.Order.{Row, column, value_cmp}
 use Rattle.sqlite_value.proofs.OrderLemmas.{value_cmp-Int}
-use Rattle.addr.specs.Address.{Address}
+use Rattle.addr.specs.Address.{Address, FitsMaxLength, fits_max_length}
 use Rattle.addr.specs.Spans.{span_has, spans_have, AreMaximal}
 use Rattle.addr.specs.declared.span.Span.{Span}
 use Rattle.registry.specs.declared.authorization.Auth.{Auth}
+use Rattle.registry.specs.declared.authorization.RoaPrefix.{RoaPrefix}
 use Rattle.registry.specs.declared.grant.Granted.{Granted}
 use Rattle.charters.specs.CharterSets.{CharterSets}
 use Rattle.registry.specs.declared.rows.HolderRows.{HolderRows}
 use Rattle.registry.specs.Rows.{Rows}
+use Rattle.registry.specs.Terms.{entries_of}
+use Rattle.tables.specs.Authorizations.{claim_of, entry_rows_of}
 use Rattle.tables.specs.Cells.{number_cell}
+use Rattle.tables.specs.Decode.{ClaimFits, EntryRowFits}
+use Rattle.tables.specs.Groups.{claim_entry}
 use Rattle.tables.specs.TablesHold.{items_if_any, TablesHold}
 use Rattle.store.specs.steps.Queries.{by_column, IsOpenWith}
 use Rattle.tables.specs.declared.holder.Counters.{Counters}
@@ -63,9 +72,32 @@ pub grants_fit : (o : Option Rows) → FitIfAny o → All GrantFits (items_if_an
 grants_fit None fit = All-nil GrantFits
 grants_fit (Some r) fit = fit.grants
 
-pub auths_fit : (o : Option Rows) → FitIfAny o → All AuthFits (items_if_any (λ r. r.auths) o)
-auths_fit None fit = All-nil AuthFits
-auths_fit (Some r) fit = fit.auths
+pub claim_fits : (x : Auth) → AuthFits x → ClaimFits (claim_of x)
+claim_fits x fits = record { number = fits.number; asn = fits.asn; from = fits.from; until = fits.until }
+
+max_fits : (e : RoaPrefix) → fits_max_length e.prefix e.max ≡ true → FitsMaxLength e.prefix e.max
+max_fits e fits = (grind (arith, nat_tests), grind (arith, nat_tests))
+
+pub entries_of_fit : (x : Auth) → AuthFits x → AllByRecursion EntryRowFits (entry_rows_of x)
+entries_of_fit x fits =
+    all-map EntryRowFits (claim_entry (claim_of x)) (entries_of x)
+    (all_from _ (entries_of x) (λ e has. record {
+      number = fits.number;
+      asn = fits.asn;
+      max = max_fits e (test_has (λ (d : RoaPrefix). fits_max_length d.prefix d.max) (entries_of x) e fits.lengths has);
+    }))
+
+pub claims_fit : (o : Option Rows) → FitIfAny o → All ClaimFits (items_if_any (λ r. map claim_of r.auths) o)
+claims_fit None fit = All-nil ClaimFits
+claims_fit (Some r) fit =
+    All-from_recursion ClaimFits (map claim_of r.auths)
+    (all-map ClaimFits claim_of r.auths (all_weaker AuthFits (λ x. ClaimFits (claim_of x)) claim_fits r.auths (recursion_from_All AuthFits r.auths fit.auths)))
+
+pub entries_fit : (o : Option Rows) → FitIfAny o → All EntryRowFits (items_if_any (λ r. flat_map entry_rows_of r.auths) o)
+entries_fit None fit = All-nil EntryRowFits
+entries_fit (Some r) fit =
+    All-from_recursion EntryRowFits (flat_map entry_rows_of r.auths)
+    (all-flat_map EntryRowFits entry_rows_of r.auths (all_weaker AuthFits (λ x. AllByRecursion EntryRowFits (entry_rows_of x)) entries_of_fit r.auths (recursion_from_All AuthFits r.auths fit.auths)))
 
 -- every span is one
 pub all_spans_fit : (spans : List Span) → All (λ _. ⊤) spans
@@ -103,13 +135,18 @@ pub held_before :
     → TablesHold charter rows old.now.trees → TablesHold charter rows mid.now.trees
 held_before old mid same charter rows holds = subst (λ (d : Database). TablesHold charter rows d.trees) (sym same) holds
 
+-- what is refused after such calls was to be refused before
+pub refused_before :
+    (so : AllRows → Type 0) (old mid : State) → IsTrue old.is_open → mid.now ≡ old.now → IsOpenWith so mid → IsOpenWith so old
+refused_before so old mid opened same refusal = (opened, λ charter rows holds. refusal.1 charter rows (held_before old mid same charter rows holds))
+
 -- rows of which some do not fit after such calls did not fit before
 pub never_fit :
     {X : Type 0} (fits : X → Type 0) (items : Rows → List X) → ((o : Option Rows) → FitIfAny o → All fits (items_if_any items o))
     → (h : List ℕ) (old mid : State) → IsTrue old.is_open → mid.now ≡ old.now
     → IsOpenWith (λ all. ¬ All fits (items_if_any items (all.of_holder h))) mid → IsOpenWith (λ all. ¬ FitIfAny (all.of_holder h)) old
 never_fit fits items each h old mid opened same refusal =
-    (opened, λ charter rows holds fit. refusal.1 charter rows (held_before old mid same charter rows holds) (each (rows.of_holder h) fit))
+    refused_before (λ all. ¬ FitIfAny (all.of_holder h)) old mid opened same (refusal.0, λ charter rows holds fit. refusal.1 charter rows holds (each (rows.of_holder h) fit))
 
 pub none_loaded : (o : Option Rows) → AreCounters o None → AreLoaded o None
 none_loaded None none = tt

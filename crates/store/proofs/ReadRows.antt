@@ -1,37 +1,46 @@
 -- The rows of tables that read are in range.
-use Rattle.std.proofs.Common.{◌≡◌, ℕ, List, [], ◌∷◌, ◌++◌, map, Option, Some, None, IsTrue, refl, sym, subst, ap, arith}
-use Rattle.std.specs.Prelude.{length, ⊤, ◌≤◌}
+use Rattle.std.proofs.Common.{◌≡◌, ℕ, true, List, [], ◌∷◌, ◌++◌, map, flat_map, Option, Some, None, refl, sym, subst, arith}
+use Rattle.std.specs.Prelude.{length, ◌≤◌}
 use Rattle.std.specs.List.{AllByRecursion}
+use Rattle.std.proofs.lemmas.Bool.{and_from, le-leb}
 use Rattle.std.proofs.lemmas.List.Elements.{All-from_recursion, recursion_from_All}
 use Rattle.std.proofs.lemmas.List.Sorted.{IsPermutation-sym}
 use Rattle.sqlite_value.specs.Order.{Row}
 use Rattle.sqlite_trees.specs.Tree.{Trees}
-use Rattle.sqlite_trees.proofs.ListLemmas.{all-permutation}
+use Rattle.sqlite_trees.proofs.ListLemmas.{all-flat_map, all-map, all-permutation, all_weaker}
 use Rattle.sqlite_keyed.proofs.ListLemmas.{all-filter}
-use Rattle.sqlite_rules.proofs.ListLemmas.{all_has, has_contained}
+use Rattle.sqlite_rules.proofs.ListLemmas.{all_has, has_contained, test_from}
+use Rattle.sqlite_rules.proofs.ProbeLemmas.{mapped_has}
+use Rattle.addr.specs.Address.{fits_max_length}
 use Rattle.slurm.specs.Exceptions.{Exceptions}
 use Rattle.slurm.specs.declared.exceptions.TheConstants.{MOST_ENTRIES}
-use Rattle.slurm.specs.declared.filter.Filter.{Filter}
 use Rattle.slurm.specs.declared.filter.Filter.TheVariants.{Under, By, Both}
-use Rattle.charters.specs.CharterSets.{CharterSets}
 use Rattle.registry.specs.declared.authorization.Auth.{Auth}
+use Rattle.registry.specs.declared.authorization.RoaPrefix.{RoaPrefix}
 use Rattle.registry.specs.declared.grant.Granted.{Granted}
+use Rattle.registry.specs.RoaPrefixes.{AreEntries}
 use Rattle.registry.specs.Rows.{Rows}
-use Rattle.registry.specs.RowsOfAll.{AllRows}
+use Rattle.registry.specs.Terms.{entries_of}
 use Rattle.registry.specs.Values.{AuthFits, ExceptionsFit, FilterFits, FitIfAny, GrantFits, IsCount, IsU32, VrpFits}
-use Rattle.tables.specs.Cells.{auth_row, exception_cells, exception_row, granted_row, holder_row, kind_number, number_cell}
-use Rattle.tables.specs.Decode.{ExceptionFits, ExceptionRowFits, exception_columns}
-use Rattle.tables.specs.Tables.{contents, slurm}
-use Rattle.tables.specs.TablesHold.{ArePlaced, HoldsExceptions, HoldsPart, Part, TablesHold, auth_part, granted_part, holder_part, part_rows}
+use Rattle.tables.specs.declared.claim.Claim.{Claim}
+use Rattle.tables.specs.declared.entry.EntryRow.{EntryRow}
+use Rattle.tables.specs.declared.groups.OfHolder.{OfHolder}
+use Rattle.tables.specs.Authorizations.{claim_of, entry_rows_of}
+use Rattle.tables.specs.Groups.{claim_entry}
+use Rattle.tables.specs.Cells.{claim_row, entry_row, exception_cells, exception_row, granted_row, holder_row, kind_number, number_cell}
+use Rattle.tables.specs.Decode.{ClaimFits, EntryRowFits, ExceptionFits, exception_columns}
+use Rattle.tables.specs.Tables.{claim, contents, entry, slurm}
+use Rattle.tables.specs.TablesHold.{ArePlaced, HoldsExceptions, HoldsPart, Part, claim_part, entry_part, granted_part, holder_part, part_rows}
 use Rattle.tables.specs.declared.exception.Exception.{Exception}
 use Rattle.tables.specs.declared.exception.Exception.TheVariants.{Filter as FilterOf, Assertion}
 use Rattle.tables.specs.declared.exception.ExceptionRow.{ExceptionRow}
-use Rattle.tables.proofs.CellsOnce.{one_auth, one_grant}
+use Rattle.tables.proofs.CellsOnce.{one_grant}
+use Rattle.tables.proofs.Once.{claim_row_once, entry_row_once}
 use Rattle.tables.proofs.HeldExceptions.{held_number}
-use Rattle.database.specs.TablesRead.{ShowsException, ShowsHolder, ShowsOfHolder, TablesRead}
-use Rattle.store.specs.Loads.{AllGiveOn}
+use Rattle.database.specs.TablesRead.{HasSomeAuths, ShowsException, ShowsHolder, ShowsOfHolder, row_of_claim, rows_of_entries}
 use Rattle.store.specs.Laws.{RowsInRangeGive, RowsThatReadFit}
 use Rattle.store.proofs.Giving.{gives_one}
+use Rattle.store.proofs.Loading.{claim_fits, entries_of_fit}
 
 -- what is so of each row of a table is so of each row of a holder in it
 part_shows : (part : Part) (rows : List ℕ → Option Rows) (table : List Row) (So : Row → Type 0)
@@ -50,25 +59,71 @@ counters_fit h r (k, granted, created, named, some, more, is) =
 grant_fits : (h : List ℕ) (g : Granted) → ShowsOfHolder granted_row GrantFits (granted_row h g) → GrantFits g
 grant_fits h g (k, shown, fits, is) = subst GrantFits (sym (one_grant g shown cc)) fits
 
-auth_fits : (h : List ℕ) (x : Auth) → ShowsOfHolder auth_row AuthFits (auth_row h x) → AuthFits x
-auth_fits h x (k, shown, fits, is) = subst AuthFits (sym (one_auth x shown cc)) fits
+-- the rows of claims show claims, and those of entries entries
+claims_shown : (trees : Trees) → HasSomeAuths trees → AllByRecursion (ShowsOfHolder claim_row ClaimFits) (contents (trees claim.tree))
+claims_shown trees read =
+    all-permutation (ShowsOfHolder claim_row ClaimFits) _ _ read.claims_shown
+    (all-map (ShowsOfHolder claim_row ClaimFits) row_of_claim read.auths
+    (all_weaker _ (λ (x : OfHolder Auth). ShowsOfHolder claim_row ClaimFits (row_of_claim x)) (λ x fit. (x.holder, claim_of x.row, claim_fits x.row fit.1, refl)) read.auths read.fit))
+
+entries_shown : (trees : Trees) → HasSomeAuths trees → AllByRecursion (ShowsOfHolder entry_row EntryRowFits) (contents (trees entry.tree))
+entries_shown trees read =
+    all-permutation (ShowsOfHolder entry_row EntryRowFits) _ _ read.entries_shown
+    (all-flat_map (ShowsOfHolder entry_row EntryRowFits) rows_of_entries read.auths
+    (all_weaker _ (λ (x : OfHolder Auth). AllByRecursion (ShowsOfHolder entry_row EntryRowFits) (rows_of_entries x)) (λ x fit.
+    all-map (ShowsOfHolder entry_row EntryRowFits) (entry_row x.holder) (entry_rows_of x.row)
+    (all_weaker EntryRowFits (λ r. ShowsOfHolder entry_row EntryRowFits (entry_row x.holder r)) (λ r fits. (x.holder, r, fits, refl)) (entry_rows_of x.row) (entries_of_fit x.row fit.1))) read.auths read.fit))
+
+claim_in_range : (h : List ℕ) (c : Claim) → ShowsOfHolder claim_row ClaimFits (claim_row h c) → ClaimFits c
+claim_in_range h c (k, shown, fits, is) = subst ClaimFits (sym (claim_row_once h k c shown is).1) fits
+
+entry_in_range : (h : List ℕ) (d : EntryRow) → ShowsOfHolder entry_row EntryRowFits (entry_row h d) → EntryRowFits d
+entry_in_range h d (k, shown, fits, is) = subst EntryRowFits (sym (entry_row_once h k d shown is).1) fits
+
+auth_fits : (h : List ℕ) (x : Auth) → AreEntries (entries_of x) → ShowsOfHolder claim_row ClaimFits (claim_row h (claim_of x))
+    → AllByRecursion (ShowsOfHolder entry_row EntryRowFits) (map (entry_row h) (entry_rows_of x)) → AuthFits x
+auth_fits h x are shows rows =
+    let claim = claim_in_range h (claim_of x) shows in
+    record {
+      number = claim.number;
+      asn = claim.asn;
+      entries = are;
+      lengths = test_from (λ (e : RoaPrefix). fits_max_length e.prefix e.max) (entries_of x) (λ e has.
+          let row = mapped_has (entry_row h) (entry_rows_of x) (claim_entry (claim_of x) e) (mapped_has (claim_entry (claim_of x)) (entries_of x) e has) in
+          let range = (entry_in_range h (claim_entry (claim_of x) e) (all_has (ShowsOfHolder entry_row EntryRowFits) _ (entry_row h (claim_entry (claim_of x) e)) rows row)).max in
+          and_from _ _ (le-leb _ _ range.0) (le-leb _ _ range.1));
+      from = claim.from;
+      until = claim.until;
+    }
+
+first_part : {X : Type 0} (P : X → Type 0) (xs ys : List X) → AllByRecursion P (xs ++ ys) → AllByRecursion P xs × AllByRecursion P ys
+first_part P [] ys all = (tt, all)
+first_part P (x ∷ xs) ys all = let rest = first_part P xs ys all.1 in ((all.0, rest.0), rest.1)
+
+auths_fit : (h : List ℕ) (xs : List Auth) → AllByRecursion (λ x. AreEntries (entries_of x)) xs → AllByRecursion (ShowsOfHolder claim_row ClaimFits) (map (λ x. claim_row h (claim_of x)) xs)
+    → AllByRecursion (ShowsOfHolder entry_row EntryRowFits) (flat_map (λ x. map (entry_row h) (entry_rows_of x)) xs) → AllByRecursion AuthFits xs
+auths_fit h [] are claims entries = tt
+auths_fit h (x ∷ xs) are claims entries =
+    let both = first_part (ShowsOfHolder entry_row EntryRowFits) (map (entry_row h) (entry_rows_of x)) (flat_map (λ y. map (entry_row h) (entry_rows_of y)) xs) entries in
+    (auth_fits h x are.0 claims.0 both.0, auths_fit h xs are.1 claims.1 both.1)
 
 each_fits : {X : Type 0} (row : X → Row) (So : Row → Type 0) (fits : X → Type 0) → ((x : X) → So (row x) → fits x)
     → (xs : List X) → AllByRecursion So (map row xs) → AllByRecursion fits xs
 each_fits row So fits one [] all = tt
 each_fits row So fits one (x ∷ xs) all = (one x all.0, each_fits row So fits one xs all.1)
 
-holder_fits : (h : List ℕ) (o : Option Rows) → AllByRecursion ShowsHolder (part_rows holder_part h o)
-    → AllByRecursion (ShowsOfHolder granted_row GrantFits) (part_rows granted_part h o)
-    → AllByRecursion (ShowsOfHolder auth_row AuthFits) (part_rows auth_part h o) → FitIfAny o
-holder_fits h None holders grants auths = tt
-holder_fits h (Some r) holders grants auths =
+holder_fits : (h : List ℕ) (o : Option Rows) → ((r : Rows) → o ≡ Some r → AllByRecursion (λ x. AreEntries (entries_of x)) r.auths)
+    → AllByRecursion ShowsHolder (part_rows holder_part h o) → AllByRecursion (ShowsOfHolder granted_row GrantFits) (part_rows granted_part h o)
+    → AllByRecursion (ShowsOfHolder claim_row ClaimFits) (part_rows claim_part h o) → AllByRecursion (ShowsOfHolder entry_row EntryRowFits) (part_rows entry_part h o)
+    → FitIfAny o
+holder_fits h None are holders grants claims entries = tt
+holder_fits h (Some r) are holders grants claims entries =
     let counters = counters_fit h r holders.0 in
     record {
       granted = counters.0;
       created = counters.1;
       grants = All-from_recursion GrantFits r.grants (each_fits (granted_row h) _ GrantFits (grant_fits h) r.grants grants);
-      auths = All-from_recursion AuthFits r.auths (each_fits (auth_row h) _ AuthFits (auth_fits h) r.auths auths);
+      auths = All-from_recursion AuthFits r.auths (auths_fit h r.auths (are r refl) claims entries);
     }
 
 -- ---- exceptions
@@ -92,10 +147,6 @@ exception_fits r (shown, fits, is) =
     let kind : number_cell (kind_number r.exception) ≡ number_cell (kind_number shown.exception) = cc in
     let cells : exception_cells r.exception ≡ exception_cells shown.exception = cc in
     same_exception r.exception shown.exception kind cells fits.exception
-
-first_part : {X : Type 0} (P : X → Type 0) (xs ys : List X) → AllByRecursion P (xs ++ ys) → AllByRecursion P xs × AllByRecursion P ys
-first_part P [] ys all = (tt, all)
-first_part P (x ∷ xs) ys all = let rest = first_part P xs ys all.1 in ((all.0, rest.0), rest.1)
 
 -- the exceptions that such rows bring fit
 brought_fit : {X : Type 0} (of : X → Exception) (fits : X → Type 0) → ((x : X) → ExceptionFits (of x) → fits x)
@@ -126,10 +177,11 @@ exceptions_fit exceptions table holds all few =
 
 pub rows_fit : RowsThatReadFit
 rows_fit charter rows trees holds read = (
-  (λ h. holder_fits h (rows.of_holder h)
+  (λ h. holder_fits h (rows.of_holder h) (λ r of. holds.have_entries h r of)
       (part_shows holder_part rows.of_holder _ ShowsHolder holds.holders read.holders h)
       (part_shows granted_part rows.of_holder _ (ShowsOfHolder granted_row GrantFits) holds.grants read.grants h)
-      (part_shows auth_part rows.of_holder _ (ShowsOfHolder auth_row AuthFits) holds.auths read.auths h)),
+      (part_shows claim_part rows.of_holder _ (ShowsOfHolder claim_row ClaimFits) holds.claims (claims_shown trees read.authorizations) h)
+      (part_shows entry_part rows.of_holder _ (ShowsOfHolder entry_row EntryRowFits) holds.entries (entries_shown trees read.authorizations) h)),
   exceptions_fit rows.exceptions (contents (trees slurm.tree)) holds.exceptions read.exceptions read.exceptions_number,
 )
 

@@ -11,14 +11,15 @@ use Rattle.sqlite_trees.specs.Tree.{Trees}
 use Rattle.charters.specs.CharterSets.{CharterSets}
 use Rattle.registry.specs.declared.change.Change.{Change}
 use Rattle.registry.specs.RowsOfAll.{AllRows, blank_rows, changed_rows}
-use Rattle.database.specs.Laws.{AuthsDiffer}
+use Rattle.database.specs.Laws.{ClaimsDiffer, EntriesDiffer}
 use Rattle.database.specs.Queries.{IsAsBefore}
 use Rattle.store.proofs.HeldOnce.{held_once}
 use Rattle.store.specs.Given.{GivenOnce}
 use Rattle.store.specs.steps.Queries.{IsOfAll}
-use Rattle.store.specs.StoreRows.{StoreView, Holds, IsRead, MayLeave, LeavesOnly, PlacesExceptions, LeavesPlaced}
+use Rattle.store.specs.StoreRows.{StoreView, Holds, IsRead, MayLeave, LeavesOnly, LeavesPlaced}
+use Rattle.edits.specs.Changes.{PlacesExceptions, MakesChange, RowsBecome}
 use Rattle.database.specs.Databases.{HasDeskTables, IsNew, IsDeskTrees, IsDeskWhileOpen, LeavesNew}
-use Rattle.store.specs.steps.Statements.{CommitsChange, MayCommit, MakesChange, RowsBecome}
+use Rattle.store.specs.steps.Commits.{CommitsChange, MayCommit}
 use Rattle.tables.specs.TablesHold.{TablesHold}
 
 pub kept_still : (old new : State) → (HasCleanDisk new → HasCleanDisk old) → (HasCleanDisk new → IsTrue new.is_open → IsAsBefore old new) → IsDeskWhileOpen old → IsDeskWhileOpen new
@@ -81,13 +82,13 @@ module _ {S X E : Type 0} (g : Ghosts S) (r : Result X E) (change : Change) (cha
       go (Err e) made = tt
 
   -- the rows before it give no VRP twice
-  pub once_before : AuthsDiffer → IsLive (state g old) → IsDeskWhileOpen (state g old) → OnOk r (CommitsChange change (state g old) (state g new)) → OnOk r ((rows : AllRows) → Holds g (over charter old) rows → GivenOnce rows)
-  once_before differ live desk = go r
+  pub once_before : EntriesDiffer → ClaimsDiffer → IsLive (state g old) → IsDeskWhileOpen (state g old) → OnOk r (CommitsChange change (state g old) (state g new)) → OnOk r ((rows : AllRows) → Holds g (over charter old) rows → GivenOnce rows)
+  once_before entries claims live desk = go r
     where
       go : (r : Result X E) → OnOk r (CommitsChange change (state g old) (state g new)) → OnOk r ((rows : AllRows) → Holds g (over charter old) rows → GivenOnce rows)
       go (Ok a) made = λ rows holds.
           let opened = made.was_open in
-          held_once differ charter rows (state g old).now (live opened).0 (desk (before clean) opened).tables (holds (before clean) opened)
+          held_once entries claims charter rows (state g old).now (live opened).0 (desk (before clean) opened).tables (holds (before clean) opened)
       go (Err e) made = tt
 
 -- a new store leaves its charter and no holder

@@ -8,13 +8,13 @@ use Rattle.sqlite_trees.specs.Tree.{Trees}
 use Rattle.charters.specs.contracts.charter.Charter as charter
 use Rattle.charters.specs.CharterSets.{CharterSets, IsCharter}
 use Rattle.registry.specs.declared.change.Change.{Change}
-use Rattle.registry.specs.declared.change.Change.TheVariants.{Holders, Exceptions}
 use Rattle.registry.specs.RowsOfAll.{AllRows}
 use Rattle.registry.specs.Values.{ExceptionsFit, FitIfAny}
-use Rattle.tables.specs.Tables.{desk_tables, slurm, contents}
-use Rattle.tables.specs.TablesHold.{TablesHold, HoldsFile}
-use Rattle.database.specs.Databases.{AddsMissingIndex, IsDeskTrees}
+use Rattle.tables.specs.Tables.{desk_tables}
+use Rattle.tables.specs.TablesHold.{TablesHold}
+use Rattle.database.specs.Databases.{IsDeskTrees}
 use Rattle.database.specs.TablesRead.{TablesRead}
+use Rattle.edits.specs.Changes.{RowChange, PlacesExceptions}
 
 -- a store as its connection and its charter
 pub record StoreView (S : Type 0) : Type 0 where
@@ -28,10 +28,6 @@ view_code {S} store =
 
 abbrev pub connection_state : {S : Type 0} → Ghosts S → StoreView S → State
 connection_state g store = state g store.connection
-
--- all rows after a change, from those before it
-abbrev pub RowChange : Type 0
-RowChange = AllRows → AllRows
 
 -- The tables hold the store's charter and these rows. Nothing is said where the disk returned what was not written, or where a
 -- failure of the disk shut the connection, which then answers nothing more.
@@ -61,12 +57,6 @@ LeavesOnly g old new to =
     (rows : AllRows) → Holds g old rows → (trees : Trees)
     → (connection_state g new).may_leave trees → TablesHold old.charter (to rows) trees × IsDeskTrees trees
 
--- What a change does to the table of exceptions: one of the SLURM file puts those of the file, each kind at the
--- positions 1, 2, 3 and so on, and any other leaves the table as it was.
-abbrev pub PlacesExceptions : Change → Trees → Trees → Type 0
-PlacesExceptions (Holders first second) old new = new slurm.tree ≡ old slurm.tree
-PlacesExceptions (Exceptions file) old new = HoldsFile file (contents (new slurm.tree))
-
 -- the tables are so after the change, and a crash leaves them so
 pub record LeavesPlaced {S : Type 0} (g : Ghosts S) (change : Change) (old new : StoreView S) : Type 0 where
   pub shown : PlacesExceptions change (connection_state g old).now.trees (connection_state g new).now.trees
@@ -95,14 +85,14 @@ pub record IsRead {S : Type 0} (g : Ghosts S) (old new : StoreView S) : Type 0 w
 abbrev pub AreInRange : AllRows → Type 0
 AreInRange rows = ((h : List ℕ) → FitIfAny (rows.of_holder h)) × ExceptionsFit rows.exceptions
 
--- A store over a database that was found, to which at most the index of a holder's runs was added. It holds some
--- rows, each value of which is in the range of its type, and what the tables held before, with its charter; each row
--- that was found reads; and a crash leaves the trees of a desk with the rows that it holds.
+-- A store over a database that was found, whose schema stays as it was. It holds some rows, each value of which is in
+-- the range of its type, and what the tables held before, with its charter; each row that was found reads; and a crash
+-- leaves the trees of a desk with the rows that it holds.
 pub record IsOpened {S : Type 0} (g : Ghosts S) (found : State) (store : StoreView S) : Type 0 where
   pub idle : found.in_transaction ≡ false
   pub tables : found.now.schema.tables ≡ desk_tables
   pub is_open : IsTrue (connection_state g store).is_open
-  pub schema : AddsMissingIndex found.now.schema (connection_state g store).now.schema
+  pub schema : (connection_state g store).now.schema ≡ found.now.schema
   pub some : (rows : AllRows) × Holds g store rows × AreInRange rows
   pub reads : TablesRead found.now.trees
   pub same :

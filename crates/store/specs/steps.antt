@@ -1,4 +1,4 @@
 -- The steps of the code, which no public contract cites.
-pub mod RowEdits
-pub mod Statements
+pub mod Commits
 pub mod Queries
+pub mod InForce

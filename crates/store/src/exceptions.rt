@@ -1,40 +1,25 @@
 //! The exceptions of the SLURM file in force: its prefix filters and its prefix assertions.
-ghost use Rattle.std.specs.Prelude.{◌≡◌, ◌+◌, ◌≤◌, List, [], ◌∷◌, map, length, All, Err, IfOk};
+ghost use Rattle.std.specs.Prelude.{◌≡◌, ◌+◌, ◌≤◌, List, length, All, Err, IfOk};
 ghost use Rattle.sqlite.specs.Held.{state};
 ghost use Rattle.registry.specs.Values.{ExceptionsFit};
 ghost use Rattle.slurm.specs.Exceptions.{Exceptions};
 ghost use Rattle.slurm.specs.declared.exceptions.TheConstants.{MOST_ENTRIES};
-ghost use Rattle.tables.specs.Cells.{exception_row};
-ghost use Rattle.tables.specs.Tables.{slurm};
-ghost use Rattle.tables.specs.declared.exception.Exception.{Exception as AnyException};
 ghost use Rattle.database.specs.Queries.{IsAsked, IsClean, IsReadyToAsk};
-ghost use Rattle.database.specs.Statements.{IsReady, WhenClean, IfDone, StaysInside};
-ghost use Rattle.database.specs.steps.Making.{PutsRows};
 ghost use Rattle.store.specs.Loads.{AreFilesOf};
 ghost use Rattle.store.specs.steps.Queries.{IsOfAll, SelectsEntries, IsOpenWith};
-ghost use Rattle.store.specs.steps.Statements.{MakesChange, RowsBecome, TakesRows, entry_rows};
 
 use crate::StoreFault;
 use addr::Vrp;
-use database::{ask, read_all, run};
-use registry::Change;
+use database::{ask, read_all};
 use slurm::{Filter, Slurm};
-use sqlite::{Alter, Connection, Error, Transaction};
+use sqlite::{Alter, Connection};
 use std::alloc::Global;
-use tables::{
-    DELETE_EXCEPTIONS, Exception, ExceptionRow, FromRow, INSERT_EXCEPTION, SELECT_ASSERTIONS,
-    SELECT_FILTERS, address_bytes, exception_first, exception_values,
-};
+use tables::{FromRow, SELECT_ASSERTIONS, SELECT_FILTERS};
 
 /// An entry of a SLURM file, which a row of the table of exceptions shows.
 pub(crate) trait ExceptionEntry: FromRow {
     // Such entries of a file.
     ghost items: { Exceptions → List Self };
-
-    ghost as_exception: { Self → AnyException };
-
-    fn as_exception(&self) -> Exception
-        ensures { result ≡ as_exception self.now };
 
     /// The query of the entries in the file's order.
     fn select() -> &'static str
@@ -42,15 +27,7 @@ pub(crate) trait ExceptionEntry: FromRow {
 }
 
 impl ExceptionEntry for Filter {
-    ghost use Rattle.tables.specs.declared.exception.Exception.TheVariants.{Filter as FilterOf};
-
     ghost items = { λ exceptions. exceptions.filters };
-
-    ghost as_exception = { FilterOf };
-
-    fn as_exception(&self) -> Exception {
-        Exception::Filter(*self)
-    }
 
     fn select() -> &'static str {
         SELECT_FILTERS
@@ -58,77 +35,11 @@ impl ExceptionEntry for Filter {
 }
 
 impl ExceptionEntry for Vrp {
-    ghost use Rattle.tables.specs.declared.exception.Exception.TheVariants.{Assertion};
-
     ghost items = { λ exceptions. exceptions.assertions };
-
-    ghost as_exception = { Assertion };
-
-    fn as_exception(&self) -> Exception {
-        Exception::Assertion(*self)
-    }
 
     fn select() -> &'static str {
         SELECT_ASSERTIONS
     }
-}
-
-/// Takes all exceptions away.
-fn take_exceptions<S: Alter>(tx: &mut Transaction<'_, S>) -> Result<(), Error>
-    requires { WhenClean S.Store IsReady tx.old }
-    ensures done { IfDone S.Store result (TakesRows slurm.tree) tx.old tx.new }
-    ensures inside { StaysInside S.Store tx.old tx.new }
-{
-    run(tx, DELETE_EXCEPTIONS, &[])
-}
-
-/// Puts an exception.
-fn put_exception<S: Alter>(tx: &mut Transaction<'_, S>, row: &ExceptionRow) -> Result<(), Error>
-    requires { WhenClean S.Store IsReady tx.old }
-    ensures done { IfDone S.Store result
-        (PutsRows slurm.tree (exception_row row.now ∷ [])) tx.old tx.new }
-    ensures inside { StaysInside S.Store tx.old tx.new }
-{
-    let first = address_bytes(exception_first(&row.exception));
-    run(tx, INSERT_EXCEPTION, &exception_values(row, &first))
-}
-
-/// Puts the entries of one kind, at the positions from 1 up.
-fn put_entries<T: ExceptionEntry, S: Alter>(
-    tx: &mut Transaction<'_, S>,
-    entries: &[T],
-) -> Result<(), Error>
-    requires ready { WhenClean S.Store IsReady tx.old }
-    requires number { length entries.now ≤ MOST_ENTRIES }
-    ensures done { IfDone S.Store result
-        (PutsRows slurm.tree (entry_rows T.as_exception entries.now)) tx.old tx.new }
-    ensures inside { StaysInside S.Store tx.old tx.new }
-{
-    let mut position = 0;
-    for entry in entries {
-        position += 1;
-        let row = ExceptionRow {
-            position,
-            exception: entry.as_exception(),
-        };
-        put_exception(tx, &row)?;
-    }
-    Ok(())
-}
-
-/// Puts the exceptions of the file in the place of all that there were.
-pub(crate) fn replace_exceptions<S: Alter>(
-    tx: &mut Transaction<'_, S>,
-    file: &Slurm,
-) -> Result<(), Error>
-    requires { WhenClean S.Store IsReady tx.old }
-    ensures done { IfDone S.Store result
-        (MakesChange (RowsBecome (Change.Exceptions file.now))) tx.old tx.new }
-    ensures inside { StaysInside S.Store tx.old tx.new }
-{
-    take_exceptions(tx)?;
-    put_entries(tx, file.filters())?;
-    put_entries(tx, file.assertions())
 }
 
 /// The entries of one kind, in the file's order.

@@ -2,15 +2,9 @@
 #![tactic(auto)]
 
 mod across;
-mod auth;
-mod change;
 mod exceptions;
-mod granted;
-mod holder;
-mod holding;
 pub mod laws;
 mod load;
-mod row;
 mod select;
 mod store;
 

@@ -3,9 +3,10 @@ ghost use Rattle.std.specs.Prelude.{◌≡◌, ◌≢◌, ◌↔◌, map, All, A
 ghost use Rattle.sqlite.specs.Held.{state};
 ghost use Rattle.addr.specs.Spans.{AreMaximal};
 ghost use Rattle.addr.specs.declared.vrp.Vrp.{Vrp};
+ghost use Rattle.registry.specs.declared.authorization.Auth.{Auth};
 ghost use Rattle.registry.specs.RowsOfAll.{IsGivenOn};
 ghost use Rattle.registry.specs.Values.{FitIfAny};
-ghost use Rattle.store.specs.Loads.{HaveSame, AreLoaded, AllGiveOn};
+ghost use Rattle.store.specs.Loads.{HaveSame, AreInOrder, AreLoaded, AllGiveOn};
 ghost use Rattle.tables.specs.TablesHold.{items_if_any};
 ghost use Rattle.database.specs.Queries.{IsAsked, IsClean, IsReadyToAsk};
 ghost use Rattle.store.specs.steps.Queries.{IsOf, IsOfAll, IsOpenWith};
@@ -15,10 +16,10 @@ use crate::across::in_force_rows;
 use crate::select::OfHolder;
 use addr::{Day, Holdings, Name, Span, Vrp};
 use database::{ask, read_all};
-use registry::HolderRows;
+use registry::{Auth, HolderRows};
 use sqlite::{Alter, Connection};
 use std::alloc::{AllocError, Global};
-use tables::{Counters, name_values};
+use tables::{Claim, Counters, EntryRow, auths_of, name_values};
 
 /// The addresses of the runs, as maximal runs.
 fn holdings_of(alloc: Global, spans: &[Span]) -> Result<Holdings, AllocError>
@@ -55,6 +56,28 @@ fn load_values<T: OfHolder, S: Alter>(
     read_all(alloc, &rows)
 }
 
+/// The authorizations of the holder, by rising number.
+fn load_auths<S: Alter>(
+    conn: &mut Connection<S>,
+    alloc: Global,
+    holder: &Name,
+) -> Result<Vec<Auth>, StoreFault>
+    requires { IsReadyToAsk S.Store conn.old }
+    ensures asked { IsAsked S.Store conn.old conn.new result }
+    ensures found { IsClean S.Store conn.new → IfOk result (λ auths.
+        IsOf (λ rows. AreInOrder (λ (x : Auth). x.number) (items_if_any (λ r. r.auths) rows)
+        auths.items) holder.now (state S.Store conn.old)) }
+    ensures schema { IsClean S.Store conn.new → result ≡ Err StoreFault.Schema
+        → IsOpenWith (λ all. ¬ FitIfAny (all.of_holder holder.now)) (state S.Store conn.old) }
+{
+    // Its clause `live` is for the proof: the rows obey the schema.
+    let _schema = conn.schema();
+    database::laws::claims_differ();
+    let claims: Vec<Claim> = load_values(conn, alloc, holder)?;
+    let rows: Vec<EntryRow> = load_values(conn, alloc, holder)?;
+    auths_of(alloc, &claims, &rows)?.ok_or(StoreFault::Schema)
+}
+
 /// The rows of the holder, if it is registered.
 pub(crate) fn load_rows<S: Alter>(
     conn: &mut Connection<S>,
@@ -74,7 +97,7 @@ pub(crate) fn load_rows<S: Alter>(
     };
     let spans: Vec<Span> = load_values(conn, alloc, holder)?;
     let grants = load_values(conn, alloc, holder)?;
-    let auths = load_values(conn, alloc, holder)?;
+    let auths = load_auths(conn, alloc, holder)?;
     Ok(Some(HolderRows {
         holdings: holdings_of(alloc, &spans)?,
         grants,
@@ -102,7 +125,7 @@ pub(crate) fn load_vrps<S: Alter>(
 {
     // Its clause `live` is for the proof: the rows obey the schema.
     let _schema = conn.schema();
-    database::laws::auths_differ();
+    database::laws::entries_differ();
     let rows = in_force_rows(conn, day)?;
     read_all(alloc, &rows)
 }

@@ -1,17 +1,18 @@
 //! The values of a holder, and the queries of them.
-ghost use Rattle.std.specs.Prelude.{List, [], ◌∷◌};
+ghost use Rattle.std.specs.Prelude.{List, [], ◌∷◌, map, flat_map};
 ghost use Rattle.std.specs.declared.cmp.Ordering.{Ordering};
 ghost use Rattle.std.specs.declared.cmp.Ordering.TheVariants.{Equal};
 ghost use Rattle.std.specs.Ordering.{then_cmp};
 ghost use Rattle.registry.specs.Rows.{Rows};
 ghost use Rattle.sqlite_value.specs.Order.{Row as Cells};
 ghost use Rattle.store.specs.steps.Queries.{Selects, by_column};
+ghost use Rattle.tables.specs.Authorizations.{claim_of, entry_rows_of};
 
 use addr::Span;
-use registry::{Auth, Granted};
+use registry::Granted;
 use tables::{
-    Counters, FromRow, SELECT_COUNTERS, SELECT_HOLDER_AUTHS, SELECT_HOLDER_GRANTS,
-    SELECT_HOLDER_SPANS,
+    Claim, Counters, EntryRow, FromRow, SELECT_COUNTERS, SELECT_HOLDER_CLAIMS,
+    SELECT_HOLDER_ENTRIES, SELECT_HOLDER_GRANTS, SELECT_HOLDER_SPANS,
 };
 
 /// A value of a holder, which a row of one table shows.
@@ -57,12 +58,23 @@ impl OfHolder for Granted {
     }
 }
 
-impl OfHolder for Auth {
-    ghost items = { λ r. r.auths };
+impl OfHolder for Claim {
+    ghost items = { λ r. map claim_of r.auths };
 
     ghost order = { by_column 0 };
 
     fn select() -> &'static str {
-        SELECT_HOLDER_AUTHS
+        SELECT_HOLDER_CLAIMS
+    }
+}
+
+impl OfHolder for EntryRow {
+    ghost items = { λ r. flat_map entry_rows_of r.auths };
+
+    ghost order = { then_cmp (by_column 0)
+        (then_cmp (by_column 2) (then_cmp (by_column 3) (by_column 4))) };
+
+    fn select() -> &'static str {
+        SELECT_HOLDER_ENTRIES
     }
 }

@@ -7,16 +7,16 @@ ghost use Rattle.store.specs.RefusedOpening.{IsGivenBack};
 ghost use Rattle.store.specs.StoreRows.{IsOpened};
 ghost use Rattle.database.specs.Databases.{HasDeskTables, IsUnused, IsNew, LeavesNew};
 ghost use Rattle.database.specs.Databases.{IsHonest, IsOfAnotherSchema};
-ghost use Rattle.store.specs.steps.Statements.{CommitsChange, MayCommit};
+ghost use Rattle.store.specs.steps.Commits.{CommitsChange, MayCommit};
 ghost use Rattle.database.specs.Statements.{IfCommitted, IfRolledBack, CommitsAtMost};
 
 use crate::StoreFault;
 use crate::across::some_overlap;
-use crate::change::make_change;
 use crate::exceptions::load_files;
 use crate::load::{load_rows, load_vrps};
 use addr::{Day, Name, Prefix, Vrp};
 use database::{make_tables, open_tables};
+use edits::make_change;
 use registry::{Change, Charter, HolderRows};
 use slurm::Slurm;
 use sqlite::{Alter, Connection, MemStore};
@@ -98,8 +98,8 @@ impl<S: Alter + Drop> Store<S> {
     }
 
     /// A store over a database that has the tables of a desk. A connection in a transaction is
-    /// refused, and a limit of its steps is lifted. Where there is nothing beside the tables, the
-    /// index of a holder's runs is added; other indexes and views are left alone.
+    /// refused, and a limit of its steps is lifted. Nothing is written: indexes and views are left
+    /// alone.
     pub fn open_from(alloc: Global, conn: Connection<S>) -> Result<Self, StoreFault>
         ensures opened { IfOk result (λ store. IfClean S.Store store
             (IsOpened S.Store (state S.Store conn) store)) }
@@ -260,7 +260,8 @@ impl<S: Alter> Store<S> {
     {
         // Its clause `live` is for the proof: the rows obey the schema.
         let _schema = self.conn.schema();
-        database::laws::auths_differ();
+        database::laws::claims_differ();
+        database::laws::entries_differ();
         commit_change(&mut self.conn, change)
     }
 

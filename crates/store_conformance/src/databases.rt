@@ -10,18 +10,20 @@ use std::process::Abort;
 use std::test::Fail;
 use store::{Store, StoreFault};
 
-/// Statements over the rows of the example, and what the opening answers then.
+/// Statements over the rows of the example, and what the opening answers then. An authorization has
+/// one prefix for now, so a claim that has two entries does not read.
 const CHANGED_ROWS: &str = r#"
 # number_of_the_schema
-UPDATE meta SET value = 1 => ok
-UPDATE meta SET value = 2 => schema
+UPDATE meta SET value = 2 => ok
+UPDATE meta SET value = 1 => schema
+UPDATE meta SET value = 3 => schema
 UPDATE meta SET value = 0 => schema
 UPDATE meta SET name = 'version' => schema
 DELETE FROM meta => schema
 # further_row_of_meta
 INSERT INTO meta VALUES ('notes', 1) => database
-INSERT INTO meta VALUES ('Schema', 1) => database
-UPDATE meta SET value = 2; INSERT INTO meta VALUES ('notes', 1) => schema
+INSERT INTO meta VALUES ('Schema', 2) => database
+UPDATE meta SET value = 3; INSERT INTO meta VALUES ('notes', 1) => schema
 # charter
 INSERT INTO operator VALUES ('-reg') => schema
 INSERT INTO operator VALUES ('Reg') => schema
@@ -76,59 +78,83 @@ UPDATE granted SET role = 2, family = 4, lo = x'000000000000000000000000c0000201
 UPDATE granted SET until = 2932896 => ok
 UPDATE granted SET until = 2932897 => schema
 UPDATE granted SET until = -1 => schema
-# authorizations
-UPDATE auth SET number = 999999 => ok
-UPDATE auth SET number = 0 => schema
-UPDATE auth SET number = 1000000 => schema
-UPDATE auth SET asn = 4294967295 => ok
-UPDATE auth SET asn = 4294967296 => schema
-UPDATE auth SET asn = -1 => schema
-UPDATE auth SET family = 6, len = 120, max = 128 => ok
-UPDATE auth SET family = 6 => schema
-UPDATE auth SET family = 5 => schema
-UPDATE auth SET lo = x'0000000000000000000000c0000200' => schema
-UPDATE auth SET lo = x'0000000000000000000000000000c0000200' => schema
-UPDATE auth SET lo = x'000000000000000000000000c0000280' => schema
-UPDATE auth SET lo = x'000000000000000000000001c0000200' => schema
-UPDATE auth SET len = 33, max = 33 => schema
-UPDATE auth SET len = 22 => schema
-UPDATE auth SET len = -1 => schema
-UPDATE auth SET max = 32 => ok
-UPDATE auth SET max = 33 => schema
-UPDATE auth SET max = 23 => schema
-UPDATE auth SET family = 6, len = 120, max = 129 => schema
-UPDATE auth SET max = 280 => schema
-UPDATE auth SET opens = 0, ends = 2932896 => ok
-UPDATE auth SET ends = 2932897 => schema
-UPDATE auth SET opens = 2932897 => schema
-UPDATE auth SET opens = -1 => schema
+# claims
+INSERT INTO claim VALUES ('alpha', 999999, 64496, 20454, 20818); UPDATE entry SET number = 999999; DELETE FROM claim WHERE number = 1 => ok
+INSERT INTO claim VALUES ('alpha', 0, 64496, 20454, 20818); UPDATE entry SET number = 0; DELETE FROM claim WHERE number = 1 => schema
+INSERT INTO claim VALUES ('alpha', 1000000, 64496, 20454, 20818); UPDATE entry SET number = 1000000; DELETE FROM claim WHERE number = 1 => schema
+UPDATE claim SET asn = 4294967295; UPDATE entry SET asn = 4294967295 => ok
+UPDATE claim SET asn = 4294967296; UPDATE entry SET asn = 4294967296 => schema
+UPDATE claim SET asn = -1; UPDATE entry SET asn = -1 => schema
+UPDATE claim SET opens = 0, ends = 2932896 => ok
+UPDATE claim SET ends = 2932897 => schema
+UPDATE claim SET opens = 2932897 => schema
+UPDATE claim SET opens = -1 => schema
+# entries
+UPDATE entry SET family = 6, len = 120, max = 128 => ok
+UPDATE entry SET family = 6 => schema
+UPDATE entry SET family = 5 => schema
+UPDATE entry SET lo = x'0000000000000000000000c0000200' => schema
+UPDATE entry SET lo = x'0000000000000000000000000000c0000200' => schema
+UPDATE entry SET lo = x'000000000000000000000000c0000280' => schema
+UPDATE entry SET lo = x'000000000000000000000001c0000200' => schema
+UPDATE entry SET len = 33, max = 33 => schema
+UPDATE entry SET len = 22 => schema
+UPDATE entry SET len = -1 => schema
+UPDATE entry SET max = 32 => ok
+UPDATE entry SET max = 33 => schema
+UPDATE entry SET max = 23 => schema
+UPDATE entry SET family = 6, len = 120, max = 129 => schema
+UPDATE entry SET max = 280 => schema
+# entries_of_each_claim
+DELETE FROM claim => ok
+DELETE FROM entry => schema
+UPDATE entry SET asn = 64497 => schema
+UPDATE claim SET asn = 64497 => schema
+INSERT INTO claim VALUES ('alpha', 2, 64497, 20454, 20818) => schema
+INSERT INTO claim VALUES ('alpha', 2, 64497, 20454, 20818); INSERT INTO entry VALUES ('alpha', 2, 64497, 4, x'000000000000000000000000c0000200', 24, 24) => ok
+INSERT INTO claim VALUES ('alpha', 2, 64497, 20454, 20818); INSERT INTO entry VALUES ('alpha', 2, 64496, 4, x'000000000000000000000000c0000200', 24, 25) => schema
+INSERT INTO claim VALUES ('alpha', 2, 64497, 20454, 20818); UPDATE entry SET number = 2, asn = 64497 => schema
+INSERT INTO holder VALUES ('beta', 0, 1); INSERT INTO claim VALUES ('beta', 1, 64496, 20454, 20818); INSERT INTO entry VALUES ('beta', 1, 64496, 4, x'000000000000000000000000c0000280', 25, 25) => ok
+# one_prefix_each
+INSERT INTO entry VALUES ('alpha', 1, 64496, 4, x'000000000000000000000000c0000200', 25, 25) => schema
+INSERT INTO entry VALUES ('alpha', 1, 64496, 6, x'20010db8000000000000000000000000', 32, 48) => schema
+# table_of_schema_1_is_empty
+INSERT INTO auth VALUES ('alpha', 2, 64497, 4, x'000000000000000000000000c0000200', 24, 24, 20454, 20818) => schema
+INSERT INTO auth VALUES ('alpha', 1, 64496, 4, x'000000000000000000000000c0000200', 24, 24, 20454, 20818) => schema
+INSERT INTO auth VALUES ('alpha', 1, 64496, 4, x'000000000000000000000000c0000200', 24, 24, 20454, 20818); DELETE FROM claim => schema
 # rows_are_asked_one_by_one
 UPDATE holder SET grants = 0, auths = 0 => ok
-UPDATE auth SET opens = 20818, ends = 20454 => ok
+UPDATE claim SET opens = 20818, ends = 20454 => ok
 UPDATE granted SET family = 4, lo = x'000000000000000000000000c0000200', len = 25 => ok
 DELETE FROM holding => ok
 INSERT INTO holding VALUES (4, x'000000000000000000000000c0000300', x'000000000000000000000000c00003ff', 'alpha') => ok
 INSERT INTO holder VALUES ('beta', 0, 0); INSERT INTO holding VALUES (4, x'000000000000000000000000c0000280', x'000000000000000000000000c00002ff', 'beta') => ok
 # indexes_and_views_beside_the_tables
 DROP INDEX holding_of => ok
-CREATE INDEX auth_by_as ON auth (asn, family) => ok
+CREATE INDEX claim_by_as ON claim (asn, opens) => ok
+CREATE INDEX entry_by_prefix ON entry (family, lo) => ok
 CREATE UNIQUE INDEX one_caller ON granted (caller) => ok
-CREATE VIEW in_force AS SELECT holder, number FROM auth WHERE opens <= 20513 AND ends >= 20513 => ok
+DROP INDEX holding_of; CREATE INDEX claim_by_as ON claim (asn, opens); CREATE INDEX holding_of ON holding (holder) => ok
+CREATE VIEW in_force AS SELECT holder, number FROM claim WHERE opens <= 20513 AND ends >= 20513 => ok
+DROP INDEX holding_of; CREATE INDEX entry_by_prefix ON entry (family, lo); CREATE VIEW originated AS SELECT asn, family, lo, len, max FROM entry => ok
 # table_too_few
 DROP TABLE meta => schema
 DROP TABLE operator => schema
 DROP TABLE pool => schema
-DROP TABLE holding; DROP TABLE granted; DROP TABLE auth; DROP TABLE holder => schema
+DROP TABLE entry; DROP TABLE claim; DROP TABLE auth; DROP TABLE granted; DROP TABLE holding; DROP TABLE holder => schema
 DROP TABLE holding => schema
 DROP TABLE granted => schema
 DROP TABLE auth => schema
 DROP TABLE slurm => schema
+DROP TABLE entry => schema
+DROP TABLE entry; DROP TABLE claim => schema
+DROP TABLE entry; DROP TABLE claim; UPDATE meta SET value = 1 => schema
 DROP TABLE slurm; CREATE TABLE exceptions (file TEXT) STRICT => schema
 # table_too_many
 CREATE TABLE notes (text TEXT) STRICT => database
 CREATE TABLE notes (holder TEXT REFERENCES holder (name)) STRICT => database
 # table_made_again
-DROP TABLE meta; CREATE TABLE meta (name TEXT NOT NULL, value INTEGER NOT NULL, PRIMARY KEY (name)) STRICT; INSERT INTO meta VALUES ('schema', 1) => database
+DROP TABLE meta; CREATE TABLE meta (name TEXT NOT NULL, value INTEGER NOT NULL, PRIMARY KEY (name)) STRICT; INSERT INTO meta VALUES ('schema', 2) => database
 "#;
 
 /// Rows of exceptions, and what the opening answers then.
@@ -168,6 +194,7 @@ CREATE TABLE slurm | CREATE TABLE exceptions => schema
 # column_is_missing
 , asn INTEGER, PRIMARY KEY (file | , PRIMARY KEY (file => schema
 max INTEGER, asn INTEGER | greatest INTEGER, asn INTEGER => schema
+ends INTEGER NOT NULL, PRIMARY KEY (holder, number)) STRICT | until INTEGER NOT NULL, PRIMARY KEY (holder, number)) STRICT => schema
 # column_too_many
 , asn INTEGER, PRIMARY KEY (file | , asn INTEGER, comment TEXT, PRIMARY KEY (file => database
 # columns_in_another_order
@@ -184,14 +211,25 @@ max INTEGER, asn INTEGER | max INTEGER, asn INTEGER CHECK (asn > 0) => database
 # key_is_missing
 , PRIMARY KEY (file, kind, position)) STRICT | ) STRICT => database
 , UNIQUE (asn, family, lo, len, max)) STRICT | ) STRICT => database
+, UNIQUE (asn, family, lo, len, max), FOREIGN KEY | , FOREIGN KEY => database
+PRIMARY KEY (holder, number, family, lo, len), UNIQUE | UNIQUE => database
 PRIMARY KEY (file, kind, position)) STRICT | PRIMARY KEY (file, position, kind)) STRICT => database
 PRIMARY KEY (file, kind, position)) STRICT | PRIMARY KEY (file, kind, position)) => database
 # holder_of_a_run_is_not_tested
 holder TEXT NOT NULL REFERENCES holder (name), PRIMARY KEY (family, lo) | holder TEXT NOT NULL, PRIMARY KEY (family, lo) => database
+# entries_are_not_tested_or_do_not_end_with_their_claim
+, FOREIGN KEY (holder, number) REFERENCES claim (holder, number) ON DELETE CASCADE) STRICT | ) STRICT => database
+(holder, number) ON DELETE CASCADE | (holder, number) => database
 # table_before_the_others
 CREATE TABLE meta | CREATE TABLE notes (text TEXT) STRICT; CREATE TABLE meta => database
 # index_of_another_name
 CREATE INDEX holding_of | CREATE INDEX run_of => ok
+# index_was_never_made
+CREATE INDEX holding_of ON holding (holder); | DELETE FROM slurm; => ok
+# index_is_made_before_a_table
+CREATE TABLE claim | CREATE INDEX run_of ON holding (holder); CREATE TABLE claim => database
+CREATE TABLE entry | CREATE INDEX run_of ON holding (holder); CREATE TABLE entry => database
+CREATE TABLE entry | CREATE INDEX claim_by_as ON claim (asn, opens); CREATE TABLE entry => database
 "#;
 
 fn answer_of<S: Alter + Drop>(alloc: Global, conn: Connection<S>) -> &'static str {
@@ -231,6 +269,19 @@ fn opening_asks_the_tables(rt: HostRuntime) -> Result<(), Fail> {
         let answer = answer_of(rt.alloc(), made(rt.alloc(), &tables)?);
         assert_eq!(rt; answer, row.output, "{}: {}", row.name, row.input);
     }
+    Ok(())
+}
+
+/// A desk without its index stays so: what has no index of this name makes one.
+#[test]
+fn opening_makes_no_index(rt: HostRuntime) -> Result<(), Fail> {
+    let mut conn = made(rt.alloc(), TABLES)?;
+    conn.execute_batch("DROP INDEX holding_of")?;
+    let Ok(store) = Store::open_from(rt.alloc(), conn) else {
+        return Err("not opened".into());
+    };
+    let mut conn = store.close();
+    conn.execute_batch("CREATE INDEX holding_of ON holding (holder)")?;
     Ok(())
 }
 

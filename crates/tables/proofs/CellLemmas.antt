@@ -12,16 +12,18 @@ use Rattle.sqlite_schema.specs.declared.schema.Kind.TheVariants.{Integer}
 use Rattle.sqlite_rules.specs.Cast.{cast, cast_all}
 use Rattle.addr.specs.declared.prefix.Prefix.{Prefix}
 use Rattle.addr.specs.declared.span.Span.{Span}
-use Rattle.registry.specs.declared.authorization.Auth.{Auth}
 use Rattle.registry.specs.declared.grant.Granted.{Granted}
 use Rattle.registry.specs.declared.grant.Scope.{Scope}
 use Rattle.registry.specs.declared.grant.Scope.TheVariants.{All, Only}
 use Rattle.slurm.specs.declared.filter.Filter.TheVariants.{Under, By, Both}
+use Rattle.tables.specs.declared.claim.Claim.{Claim}
+use Rattle.tables.specs.declared.entry.EntryRow.{EntryRow}
 use Rattle.tables.specs.declared.exception.Exception.{Exception}
 use Rattle.tables.specs.declared.exception.Exception.TheVariants.{Filter as FilterOf, Assertion}
 use Rattle.tables.specs.declared.exception.ExceptionRow.{ExceptionRow}
-use Rattle.tables.specs.Tables.{meta, pool, holder, holding, granted, auth, slurm}
-use Rattle.tables.specs.Cells.{number_cell, family_number, role_number, address_bytes, schema_row, prefix_cells, scope_cells, holder_row, holding_row, granted_row, auth_row, exception_row}
+use Rattle.tables.specs.declared.meta.TheConstants.{SCHEMA}
+use Rattle.tables.specs.Tables.{meta, pool, holder, holding, granted, claim, entry, slurm}
+use Rattle.tables.specs.Cells.{number_cell, family_number, role_number, address_bytes, schema_row, prefix_cells, scope_cells, holder_row, holding_row, granted_row, claim_row, entry_row, exception_row}
 use Rattle.tables.proofs.Inserting.{either, cast_null}
 
 pub cast_number : (n : ℕ) → cast Integer (number_cell n) ≡ number_cell n
@@ -29,7 +31,7 @@ unfolding unary
 cast_number n = either _ (number_cell n)
 
 pub cast_schema : cast_all meta.columns schema_row ≡ schema_row
-cast_schema = λ i. Text (codes "schema") ∷ cast_number 1 i ∷ []
+cast_schema = λ i. Text (codes "schema") ∷ cast_number SCHEMA i ∷ []
 
 pub cast_prefix : (p : Prefix) → cast_all pool.columns (prefix_cells p) ≡ prefix_cells p
 cast_prefix p = λ i. cast_number (family_number p.family) i ∷ Blob (address_bytes p.first) ∷ cast_number p.length i ∷ []
@@ -47,9 +49,12 @@ cast_granted h g = go g.scope
     go All = λ i. Text h ∷ cast_number g.number i ∷ Text g.caller ∷ cast_number (role_number g.role) i ∷ cast_null i ∷ Null ∷ cast_null i ∷ cast_number g.until i ∷ []
     go (Only p) = λ i. Text h ∷ cast_number g.number i ∷ Text g.caller ∷ cast_number (role_number g.role) i ∷ cast_number (family_number p.family) i ∷ Blob (address_bytes p.first) ∷ cast_number p.length i ∷ cast_number g.until i ∷ []
 
-pub cast_auth : (h : List ℕ) (x : Auth) → cast_all auth.columns (auth_row h x) ≡ auth_row h x
-cast_auth h x = λ i. Text h ∷ cast_number x.number i ∷ cast_number x.asn.0 i ∷ cast_number (family_number x.prefix.family) i ∷ Blob (address_bytes x.prefix.first) ∷ cast_number x.prefix.length i
-    ∷ cast_number x.max i ∷ cast_number x.from i ∷ cast_number x.until i ∷ []
+pub cast_claim : (h : List ℕ) (c : Claim) → cast_all claim.columns (claim_row h c) ≡ claim_row h c
+cast_claim h c = λ i. Text h ∷ cast_number c.number i ∷ cast_number c.asn.0 i ∷ cast_number c.from i ∷ cast_number c.until i ∷ []
+
+pub cast_entry : (h : List ℕ) (e : EntryRow) → cast_all entry.columns (entry_row h e) ≡ entry_row h e
+cast_entry h e = λ i. Text h ∷ cast_number e.number i ∷ cast_number e.asn.0 i ∷ cast_number (family_number e.entry.prefix.family) i ∷ Blob (address_bytes e.entry.prefix.first) ∷ cast_number e.entry.prefix.length i
+    ∷ cast_number e.entry.max i ∷ []
 
 pub cast_exception : (r : ExceptionRow) → cast_all slurm.columns (exception_row r) ≡ exception_row r
 cast_exception r = go r.exception

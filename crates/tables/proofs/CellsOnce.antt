@@ -11,15 +11,16 @@ use Rattle.addr.specs.declared.family.Family.TheVariants.{V4, V6}
 use Rattle.addr.specs.declared.prefix.Prefix.{Prefix}
 use Rattle.addr.specs.declared.span.Span.{Span}
 use Rattle.addr.proofs.AddressLemmas.{below_widest, first_below}
-use Rattle.registry.specs.declared.authorization.Auth.{Auth}
 use Rattle.registry.specs.declared.grant.Granted.{Granted}
 use Rattle.registry.specs.declared.grant.Role.{Role}
 use Rattle.registry.specs.declared.grant.Role.TheVariants.{Manager, Clerk, Auditor}
 use Rattle.registry.specs.declared.grant.Scope.{Scope}
 use Rattle.registry.specs.declared.grant.Scope.TheVariants.{All, Only}
 use Rattle.registry.specs.Rows.{Rows}
+use Rattle.tables.specs.declared.claim.Claim.{Claim}
+use Rattle.tables.specs.declared.entry.EntryRow.{EntryRow}
 use Rattle.tables.specs.declared.holder.Counters.{Counters}
-use Rattle.tables.specs.Cells.{number_cell, family_number, role_number, address_bytes, prefix_cells, scope_cells, span_cells, counter_cells, grant_cells, auth_cells}
+use Rattle.tables.specs.Cells.{number_cell, family_number, role_number, address_bytes, prefix_cells, scope_cells, span_cells, counter_cells, grant_cells, claim_cells, entry_cells}
 use Rattle.tables.proofs.AddressBytes.{address_once}
 
 one_number : (m n : ℕ) → number_cell m ≡ number_cell n → m ≡ n
@@ -55,15 +56,21 @@ one_span s t is =
     let hi = one_address s.family t.family s.hi t.hi s.in_family t.in_family cc in
     same_span s t family lo hi
 
-pub one_auth : (x y : Auth) → auth_cells x ≡ auth_cells y → x ≡ y
-one_auth x y is =
-    let number = one_number x.number y.number cc in
-    let asn = one_number x.asn.0 y.asn.0 cc in
-    let prefix = one_prefix x.prefix y.prefix cc in
-    let max = one_number x.max y.max cc in
-    let from = one_number x.from y.from cc in
-    let until = one_number x.until y.until cc in
-    λ i. record { number = number i; asn = record { 0 = asn i }; prefix = prefix i; max = max i; from = from i; until = until i }
+pub one_claim : (c d : Claim) → claim_cells c ≡ claim_cells d → c ≡ d
+one_claim c d is =
+    let number = one_number c.number d.number cc in
+    let asn = one_number c.asn.0 d.asn.0 cc in
+    let from = one_number c.from d.from cc in
+    let until = one_number c.until d.until cc in
+    λ i. record { number = number i; asn = record { 0 = asn i }; from = from i; until = until i }
+
+pub one_entry_row : (d e : EntryRow) → entry_cells d ≡ entry_cells e → d ≡ e
+one_entry_row d e is =
+    let number = one_number d.number e.number cc in
+    let asn = one_number d.asn.0 e.asn.0 cc in
+    let prefix = one_prefix d.entry.prefix e.entry.prefix cc in
+    let max = one_number d.entry.max e.entry.max cc in
+    λ i. record { number = number i; asn = record { 0 = asn i }; entry = record { prefix = prefix i; max = max i } }
 
 same_grant : (g h : Granted) → g.number ≡ h.number → g.caller ≡ h.caller → g.role ≡ h.role → g.scope ≡ h.scope → g.until ≡ h.until → g ≡ h
 same_grant g h number caller role scope until = λ i. record { number = number i; caller = caller i; role = role i; scope = scope i; until = until i }

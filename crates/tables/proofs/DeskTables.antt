@@ -6,7 +6,7 @@ use Rattle.sqlite_schema.specs.Names.{same_name}
 use Rattle.sqlite_schema.specs.declared.schema.Schema.{Schema}
 use Rattle.sqlite_schema.specs.declared.schema.Table.{Table}
 use Rattle.tables.specs.Schemas.{HasNoDefault, IsPlain, HasPlainTables, has_names}
-use Rattle.tables.specs.Tables.{meta, operator, pool, holder, holding, granted, auth, slurm, desk_tables, desk_schema, desk_beside}
+use Rattle.tables.specs.Tables.{meta, operator, pool, holder, holding, granted, auth, slurm, claim, entry, desk_tables, desk_schema, desk_beside}
 
 plain : (t : Table) → AllByRecursion HasNoDefault t.columns → t.checks ≡ [] → t.stamps.terms ≡ [] → IsPlain t
 plain t columns checks stamps = record { columns = All-from_recursion HasNoDefault t.columns columns; checks = checks; stamps = stamps }
@@ -26,7 +26,13 @@ desk_is_plain = All-from_recursion IsPlain desk_tables (
             plain granted (refl, (refl, (refl, (refl, (refl, (refl, (refl, (refl, tt)))))))) refl refl,
             (
               plain auth (refl, (refl, (refl, (refl, (refl, (refl, (refl, (refl, (refl, tt))))))))) refl refl,
-              (plain slurm (refl, (refl, (refl, (refl, (refl, (refl, (refl, (refl, tt)))))))) refl refl, tt),
+              (
+                plain slurm (refl, (refl, (refl, (refl, (refl, (refl, (refl, (refl, tt)))))))) refl refl,
+                (
+                  plain claim (refl, (refl, (refl, (refl, (refl, tt))))) refl refl,
+                  (plain entry (refl, (refl, (refl, (refl, (refl, (refl, (refl, tt))))))) refl refl, tt),
+                ),
+              ),
             ),
           ),
         ),

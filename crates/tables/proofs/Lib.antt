@@ -1,9 +1,13 @@
 pub mod TreeRows
+pub mod Actions
+pub mod Childless
 pub mod Inserting
 pub mod Selecting
+pub mod Copying
 pub mod Deleting
 pub mod Updating
 pub mod Texts
+pub mod ClaimTexts
 pub mod PartLemmas
 pub mod CellLemmas
 pub mod AddressBytes
@@ -13,4 +17,12 @@ pub mod Addresses
 pub mod SomeRow
 pub mod DeskTables
 pub mod RowsStay
+pub mod HaveEntries
 pub mod HeldExceptions
+pub mod Once
+pub mod Claims
+pub mod Grouping
+pub mod GroupOrder
+pub mod GroupNeeds
+pub mod GroupCells
+pub mod Ungrouping

@@ -6,7 +6,7 @@ use Rattle.charters.specs.CharterSets.{CharterSets}
 use Rattle.registry.specs.RowsOfAll.{AllRows}
 use Rattle.tables.specs.Cells.{schema_row, operator_row, prefix_cells}
 use Rattle.tables.specs.Tables.{contents, is_table, IsTree, SameRows}
-use Rattle.tables.specs.TablesHold.{holder_part, holding_part, granted_part, auth_part, HoldsPart, HoldsExceptions, TablesHold}
+use Rattle.tables.specs.TablesHold.{holder_part, holding_part, granted_part, claim_part, entry_part, HoldsPart, HoldsExceptions, TablesHold}
 
 module _ (old new : Trees) (same : SameRows old new) where
   stays : (so : List Row → Type 0) (t : ℕ) → is_table t ≡ true → so (contents (old t)) → so (contents (new t))
@@ -22,7 +22,10 @@ module _ (old new : Trees) (same : SameRows old new) where
     holders = stays (HoldsPart holder_part rows.of_holder) 6 refl was.holders;
     holdings = stays (HoldsPart holding_part rows.of_holder) 8 refl was.holdings;
     grants = stays (HoldsPart granted_part rows.of_holder) 10 refl was.grants;
-    auths = stays (HoldsPart auth_part rows.of_holder) 12 refl was.auths;
+    claims = stays (HoldsPart claim_part rows.of_holder) 17 refl was.claims;
+    entries = stays (HoldsPart entry_part rows.of_holder) 19 refl was.entries;
+    have_entries = was.have_entries;
+    unused = stays (λ table. table ≡ []) 12 refl was.unused;
     exceptions = stays (HoldsExceptions rows.exceptions) 15 refl was.exceptions;
     whole = λ t is. subst IsTree (sym (same t is)) (was.whole t is);
   }

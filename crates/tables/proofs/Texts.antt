@@ -15,12 +15,11 @@ use Rattle.sqlite.specs.Listing.{understood, reads_listing}
 use Rattle.sqlite.proofs.Callers.{IsPlain, command_of}
 use Rattle.sqlite_tied.specs.Compute.{everything}
 use Rattle.tables.specs.Tables.{desk_tables, desk_beside, OverDesk}
-use Rattle.tables.specs.declared.auth.TheConstants.{DELETE_AUTH, INSERT_AUTH, SELECT_HOLDER_AUTHS, SELECT_IN_FORCE, UPDATE_AUTH}
 use Rattle.tables.specs.declared.exception.TheConstants.{DELETE_EXCEPTIONS, INSERT_EXCEPTION, SELECT_ASSERTIONS, SELECT_FILTERS}
 use Rattle.tables.specs.declared.granted.TheConstants.{DELETE_GRANT, INSERT_GRANT, SELECT_HOLDER_GRANTS}
 use Rattle.tables.specs.declared.holder.TheConstants.{INSERT_HOLDER, SELECT_COUNTERS, UPDATE_CREATED, UPDATE_GRANTED}
 use Rattle.tables.specs.declared.holding.TheConstants.{DELETE_HOLDING, INSERT_HOLDING, SELECT_HOLDER_SPANS, SELECT_OVERLAP}
-use Rattle.tables.specs.declared.meta.TheConstants.{INSERT_SCHEMA}
+use Rattle.tables.specs.declared.meta.TheConstants.{INSERT_SCHEMA, SCHEMA}
 use Rattle.tables.specs.declared.operator.TheConstants.{INSERT_OPERATOR}
 use Rattle.tables.specs.declared.pool.TheConstants.{INSERT_PREFIX}
 use Rattle.tables.proofs.Selecting.{from_table, no_limit}
@@ -54,7 +53,7 @@ put_terms n = lit Null ∷ from n 0
     from zero at = []
     from (suc n) at = col 0 at ∷ from n (suc at)
 
-pub put_schema_is : Means INSERT_SCHEMA.now (Insert 0 (Values (lit Null ∷ lit (Text (codes "schema")) ∷ lit (Int (pos 1)) ∷ []) 3))
+pub put_schema_is : Means INSERT_SCHEMA.now (Insert 0 (Values (lit Null ∷ lit (Text (codes "schema")) ∷ lit (Int (pos SCHEMA)) ∷ []) 3))
 unfolding understood everything
 put_schema_is = record { is = λ s. refl; plain = λ s. (refl, refl); unlisted = λ s. refl }
 
@@ -78,10 +77,6 @@ pub put_granted_is : Means INSERT_GRANT.now (Insert 5 (Values (put_terms 8) 9))
 unfolding understood everything
 put_granted_is = record { is = λ s. refl; plain = λ s. (refl, refl); unlisted = λ s. refl }
 
-pub put_auth_is : Means INSERT_AUTH.now (Insert 6 (Values (put_terms 9) 10))
-unfolding understood everything
-put_auth_is = record { is = λ s. refl; plain = λ s. (refl, refl); unlisted = λ s. refl }
-
 pub take_holding_is : Means DELETE_HOLDING.now (Delete 4 (record { lets = []; body = from_table 8 (equals 1 0 ∷ equals 2 1 ∷ equals 3 2 ∷ equals 4 3 ∷ []) (col 1 0 ∷ []) [] no_limit }))
 unfolding understood everything
 take_holding_is = record { is = λ s. refl; plain = λ s. (refl, refl); unlisted = λ s. refl }
@@ -90,10 +85,6 @@ pub take_granted_is : Means DELETE_GRANT.now (Delete 5 (record { lets = []; body
 unfolding understood everything
 take_granted_is = record { is = λ s. refl; plain = λ s. (refl, refl); unlisted = λ s. refl }
 
-pub take_auth_is : Means DELETE_AUTH.now (Delete 6 (record { lets = []; body = from_table 12 (equals 1 0 ∷ equals 2 1 ∷ []) (col 1 0 ∷ []) [] no_limit }))
-unfolding understood everything
-take_auth_is = record { is = λ s. refl; plain = λ s. (refl, refl); unlisted = λ s. refl }
-
 pub set_grants_is : Means UPDATE_GRANTED.now (Update 3 (record { lets = []; body = from_table 6 (equals 1 0 ∷ []) (col 1 0 ∷ col 1 0 ∷ col 1 1 ∷ col 0 1 ∷ col 1 3 ∷ []) [] no_limit }))
 unfolding understood everything
 set_grants_is = record { is = λ s. refl; plain = λ s. (refl, refl); unlisted = λ s. refl }
@@ -101,13 +92,6 @@ set_grants_is = record { is = λ s. refl; plain = λ s. (refl, refl); unlisted =
 pub set_auths_is : Means UPDATE_CREATED.now (Update 3 (record { lets = []; body = from_table 6 (equals 1 0 ∷ []) (col 1 0 ∷ col 1 0 ∷ col 1 1 ∷ col 1 2 ∷ col 0 1 ∷ []) [] no_limit }))
 unfolding understood everything
 set_auths_is = record { is = λ s. refl; plain = λ s. (refl, refl); unlisted = λ s. refl }
-
-abbrev pub amend_sets : List Term
-amend_sets = col 1 1 ∷ col 1 2 ∷ col 0 2 ∷ col 0 3 ∷ col 0 4 ∷ col 0 5 ∷ col 0 6 ∷ col 0 7 ∷ col 0 8 ∷ []
-
-pub amend_is : Means UPDATE_AUTH.now (Update 6 (record { lets = []; body = from_table 12 (equals 1 0 ∷ equals 2 1 ∷ []) (col 1 0 ∷ col 1 0 ∷ amend_sets) [] no_limit }))
-unfolding understood everything
-amend_is = record { is = λ s. refl; plain = λ s. (refl, refl); unlisted = λ s. refl }
 
 pub counters_is : Means SELECT_COUNTERS.now (Select (record { lets = []; body = from_table 6 (equals 1 0 ∷ []) (col 1 2 ∷ col 1 3 ∷ []) [] no_limit }) (codes "grants" ∷ codes "auths" ∷ []))
 unfolding understood everything
@@ -121,10 +105,6 @@ pub grants_is : Means SELECT_HOLDER_GRANTS.now (Select (record { lets = []; body
 unfolding understood everything
 grants_is = record { is = λ s. refl; plain = λ s. (refl, refl); unlisted = λ s. refl }
 
-pub auths_is : Means SELECT_HOLDER_AUTHS.now (Select (record { lets = []; body = from_table 12 (equals 1 0 ∷ []) (col 1 2 ∷ col 1 3 ∷ col 1 4 ∷ col 1 5 ∷ col 1 6 ∷ col 1 7 ∷ col 1 8 ∷ col 1 9 ∷ []) (upwards 2 ∷ []) no_limit }) (codes "number" ∷ codes "asn" ∷ codes "family" ∷ codes "lo" ∷ codes "len" ∷ codes "max" ∷ codes "opens" ∷ codes "ends" ∷ []))
-unfolding understood everything
-auths_is = record { is = λ s. refl; plain = λ s. (refl, refl); unlisted = λ s. refl }
-
 -- the rows of the runs that share an address with the run from ?2 to ?3
 abbrev pub overlap_tests : List Term
 overlap_tests = equals 1 0 ∷ op2 (Compare Le Binary) (col 1 2) (col 0 2) ∷ op2 (Compare Ge Binary) (col 1 3) (col 0 1) ∷ []
@@ -132,14 +112,6 @@ overlap_tests = equals 1 0 ∷ op2 (Compare Le Binary) (col 1 2) (col 0 2) ∷ o
 pub overlap_is : Means SELECT_OVERLAP.now (Select (record { lets = []; body = from_table 8 overlap_tests (lit (Int (pos 1)) ∷ []) [] (lit (Int (pos 1))) }) (codes "1" ∷ []))
 unfolding understood everything
 overlap_is = record { is = λ s. refl; plain = λ s. (refl, refl); unlisted = λ s. refl }
-
--- the authorizations in force on the day ?1
-abbrev pub in_force_tests : List Term
-in_force_tests = op2 (Compare Le Binary) (col 1 8) (col 0 0) ∷ op2 (Compare Ge Binary) (col 1 9) (col 0 0) ∷ []
-
-pub in_force_is : Means SELECT_IN_FORCE.now (Select (record { lets = []; body = from_table 12 in_force_tests (col 1 3 ∷ col 1 4 ∷ col 1 5 ∷ col 1 6 ∷ col 1 7 ∷ []) [] no_limit }) (codes "asn" ∷ codes "family" ∷ codes "lo" ∷ codes "len" ∷ codes "max" ∷ []))
-unfolding understood everything
-in_force_is = record { is = λ s. refl; plain = λ s. (refl, refl); unlisted = λ s. refl }
 
 pub take_exceptions_is : Means DELETE_EXCEPTIONS.now (Delete 7 (record { lets = []; body = from_table 15 [] (col 1 0 ∷ []) [] no_limit }))
 unfolding understood everything

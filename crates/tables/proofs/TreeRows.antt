@@ -13,7 +13,7 @@ use Rattle.sqlite_trees.specs.Tree.{rowid, has_rowid, put_row, without_rowid, Is
 use Rattle.sqlite_trees.specs.View.{is_int}
 use Rattle.sqlite_trees.proofs.TreeLemmas.{all-put_row}
 use Rattle.sqlite_trees.proofs.ListLemmas.{filter_same}
-use Rattle.sqlite_rules.specs.Edit.{id_in, is_taken, are_fresh, put_all, without_all, have_rowids}
+use Rattle.sqlite_rules.specs.Edit.{id_in, row_at, is_taken, are_fresh, put_all, without_all, have_rowids}
 use Rattle.sqlite_rules.specs.Lists.{Has}
 use Rattle.sqlite_rules.proofs.TableLemmas.{int_is}
 use Rattle.sqlite_rules.proofs.ListLemmas.{all_has, all_from, some_has, some_from, has_filtered, has_kept}
@@ -95,6 +95,19 @@ once (x ∷ xs) tree a b (inl p) (inl q) e = p ∙ sym q
 once (x ∷ xs) tree a b (inl p) (inr q) e = absurd (both_ways _ (rw p (all_has (IsOther x) xs b tree.0.0 q)) e)
 once (x ∷ xs) tree a b (inr p) (inl q) e = absurd (both_ways _ (alike_flip (rowid a) (rowid b) ∙ rw q (all_has (IsOther x) xs a tree.0.0 p)) e)
 once (x ∷ xs) tree a b (inr p) (inr q) e = once xs (tree.0.1, tree.1.1) a b p q e
+
+-- a row of a tree is found by its rowid
+pub found_at : (rows : List Row) → IsTree rows → (x : Row) → Has rows x → row_at rows (id_in (rowid x)) ≡ x
+found_at [] tree x there = absurd there
+found_at (y ∷ ys) tree x (inl same) =
+    let key = int_is (rowid x) (all_has (λ z. is_int (rowid z) ≡ true) (y ∷ ys) x tree.1 (inl same)) in
+    let found : has_rowid (id_in (rowid x)) y ≡ true =
+    ap (λ v. is_eq (value_cmp (rowid y) v)) (sym key) ∙ ap (λ (z : Row). is_eq (value_cmp (rowid y) (rowid z))) same ∙ ap is_eq (tied_itself value_cmp_total (rowid y)) in
+    rw found (sym same)
+found_at (y ∷ ys) tree x (inr later) =
+    let key = int_is (rowid x) (all_has (λ z. is_int (rowid z) ≡ true) (y ∷ ys) x tree.1 (inr later)) in
+    let other : has_rowid (id_in (rowid x)) y ≡ false = ap (λ v. is_eq (value_cmp (rowid y) v)) (sym key) ∙ all_has (IsOther y) ys x tree.0.0 later in
+    rw other (found_at ys (tree.0.1, tree.1.1) x later)
 
 pub list_any-map : {A B : Type 0} (p : B → Bool) (f : A → B) (xs : List A) → list_any p (map f xs) ≡ list_any (λ x. p (f x)) xs
 list_any-map p f [] = refl

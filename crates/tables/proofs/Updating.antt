@@ -19,12 +19,13 @@ use Rattle.sqlite_schema.specs.declared.command.Command.TheVariants.{Update}
 use Rattle.sqlite_rules.specs.declared.error.Rowids.TheVariants.{Given}
 use Rattle.sqlite_rules.specs.Calls.{ids_of}
 use Rattle.sqlite_rules.specs.Cast.{cast_all, cast_row}
-use Rattle.sqlite_rules.specs.Edit.{Applies, edit_of, numbered, put_all, without_all, have_rowids, are_fresh, taken_by}
+use Rattle.sqlite_rules.specs.Edit.{Applies, edit_of, numbered, put_all, without_all, have_rowids, are_fresh}
 use Rattle.sqlite_rules.proofs.PlaceLemmas.{given}
-use Rattle.tables.specs.Tables.{as_strict, desk_beside, desk_tables, contents, IsTree}
-use Rattle.tables.specs.steps.Edits.{Edits}
+use Rattle.tables.specs.Tables.{as_strict, with_tables, desk_beside, desk_tables, contents, IsTree}
+use Rattle.tables.specs.steps.Edits.{EditsAmong, Edits}
+use Rattle.tables.proofs.Actions.{any_acts_at, updates_quietly}
 use Rattle.tables.proofs.TreeRows.{without_picked, put_all_permutes, put_all_tree}
-use Rattle.tables.proofs.Inserting.{went, same_value, quiet, at_table}
+use Rattle.tables.proofs.Inserting.{went, same_value, at_table}
 use Rattle.tables.proofs.Selecting.{from_table, no_limit, picks, permuted}
 use Rattle.tables.proofs.Deleting.{shown_ids}
 
@@ -56,33 +57,34 @@ in_two p f g xs =
     (map-append (λ x. cond (p x) (f x) (g x)) (filter p xs) (filter (λ x. not (p x)) xs) ∙ (λ i. picked_changed p f g xs i ++ passed_kept p f g xs i))
     (IsPermutation-map (λ x. cond (p x) (f x) (g x)) _ _ (IsPermutation-filter_both p (λ x. not (p x)) (λ x. refl) xs))
 
-module _ (at : ℕ) (t : Table) (there : slice_get desk_tables at ≡ Some (as_strict t)) (s : Schema) where
+-- the query shows the rowid twice, and then the new columns
+abbrev pub new_rows : List Term → List Term
+new_rows sets = col 1 0 ∷ col 1 0 ∷ sets
+
+-- UPDATE of the table, WHERE tests
+abbrev pub update_of : Table → List Term → List Term → Program
+update_of t tests sets = record { lets = []; body = from_table t.tree tests (new_rows sets) [] no_limit }
+
+module _ (tables : List Table) (at : ℕ) (t : Table) (there : slice_get tables at ≡ Some (as_strict t)) (s : Schema) where
   abbrev table : Table
   table = as_strict t
 
-  -- the query shows the rowid twice, and then the new columns
-  abbrev pub new_rows : List Term → List Term
-  new_rows sets = col 1 0 ∷ col 1 0 ∷ sets
-
-  abbrev pub update : List Term → List Term → Program
-  update tests sets = record { lets = []; body = from_table t.tree tests (new_rows sets) [] no_limit }
-
-  pub applied : (tests sets : List Term) (old new : State) (text : List ℕ) (params : Row) (count : ℕ) → old.now.schema ≡ desk_beside s
-      → Writes old new None (Update at (update tests sets)) text params count
-      → (rows : List Row) × Answers (record { schema = desk_beside s; trees = old.now.trees }) (update tests sets) params rows × (new.now.schema ≡ desk_beside s)
-      × Applies (desk_beside s) Enforced old.now.trees (edit_of old.now.trees table (ids_of rows) Given 1 rows) new.now.trees
-  applied tests sets old new text params count has w =
+  pub applied_among : (tests sets : List Term) (old new : State) (text : List ℕ) (params : Row) (count : ℕ) → old.now.schema ≡ with_tables tables s → any_acts_at Enforced false tables t.tree ≡ false
+      → Writes old new None (Update at (update_of t tests sets)) text params count
+      → (rows : List Row) × Answers (record { schema = with_tables tables s; trees = old.now.trees }) (update_of t tests sets) params rows × (new.now.schema ≡ with_tables tables s)
+      × Applies (with_tables tables s) Enforced old.now.trees (edit_of old.now.trees table (ids_of rows) Given 1 rows) new.now.trees
+  applied_among tests sets old new text params count has quiet w =
       let db = old.now.trees in
-      let command = Update at (update tests sets) in
+      let command = Update at (update_of t tests sets) in
       let found = subst (λ k. Does old.step_limit (mode_of old) params (record old.now { schema = k }) text None command (Ok (w.tally, new.now))) has w.changed in
-      let done = went (subst (λ o. AtPlace (λ t. OnRows (record { limit = old.step_limit; keys = Enforced; schema = desk_beside s; table = t; params = params }) (mode_of old) None command db) o (Ok (w.tally, new.now))) there found) in
+      let done = went (subst (λ o. AtPlace (λ t. OnRows (record { limit = old.step_limit; keys = Enforced; schema = with_tables tables s; table = t; params = params }) (mode_of old) None command db) o (Ok (w.tally, new.now))) there found) in
       let now = ap (λ (p : Tally × Database). p.1) (same_value (went (went done.2).2).2) in
       let given = went done.1 in
       let written = went given.2 in
       let trees : new.now.trees ≡ written.0 = ap (λ (d : Database). d.trees) now ∙ ap (λ (it : Written). it.trees) (same_value written.2) in
       let edit = edit_of db table (ids_of given.0) Given 1 given.0 in
-      let made = one_step (desk_beside s) Enforced db written.0 edit (quiet s t.tree (taken_by db edit) edit.news) written.1 in
-      (given.0, given.1, ap (λ (d : Database). d.schema) now, subst (Applies (desk_beside s) Enforced db edit) (sym trees) made)
+      let made = one_step (with_tables tables s) Enforced db written.0 edit (updates_quietly (with_tables tables s) db table given.0 quiet) written.1 in
+      (given.0, given.1, ap (λ (d : Database). d.schema) now, subst (Applies (with_tables tables s) Enforced db edit) (sym trees) made)
 
   -- the columns of the new rows
   new_cells : (tests sets : List Term) (change : Row → Row) (params : Row) (rows tree_rows : List Row)
@@ -98,11 +100,11 @@ module _ (at : ℕ) (t : Table) (there : slice_get desk_tables at ≡ Some (as_s
       (sym (map-map (drop 1) (λ s. cast_row table (drop 1 s)) rows))
       (IsPermutation-map (λ s. drop 1 (cast_row table (drop 1 s))) _ _ shown)
 
-  updated : (tests sets : List Term) (goes : Row → Bool) (change : Row → Row) (params : Row) (rows : List Row) (old next : Database) → old.schema ≡ desk_beside s → next.schema ≡ desk_beside s
+  updated : (tests sets : List Term) (goes : Row → Bool) (change : Row → Row) (params : Row) (rows : List Row) (old next : Database) → old.schema ≡ with_tables tables s → next.schema ≡ with_tables tables s
       → ((r : Row) → picks params tests r ≡ goes (drop 1 r)) → ((r : Row) → cast_all t.columns (eval_all sets (params ∷ r ∷ [])) ≡ change (drop 1 r)) → IsTree (old.trees t.tree)
       → IsPermutation (map (λ r. eval_all (new_rows sets) (params ∷ r ∷ [])) (filter (picks params tests) (old.trees t.tree))) rows
-      → Applies (desk_beside s) Enforced old.trees (edit_of old.trees table (ids_of rows) Given 1 rows) next.trees
-      → Edits t.tree (map (changed_if goes change)) old next
+      → Applies (with_tables tables s) Enforced old.trees (edit_of old.trees table (ids_of rows) Given 1 rows) next.trees
+      → EditsAmong tables t.tree (map (changed_if goes change)) old next
   updated tests sets goes change params rows old next has keeps same sets_to sound shown made =
       let was : List Row = old.trees t.tree in
       let news : List Row = map (λ s. cast_row table (drop 1 s)) rows in
@@ -122,14 +124,30 @@ module _ (at : ℕ) (t : Table) (there : slice_get desk_tables at ≡ Some (as_s
       IsPermutation-trans _ _ _ parted (IsPermutation-trans _ _ _ (IsPermutation-append_left (contents rest) _ _ (new_cells tests sets change params rows was sets_to shown)) put) in
       record {
         schema = keeps ∙ sym has;
-        others = at_table (λ t. next.trees t ≡ old.trees t) t.tree desk_tables made.tables;
+        others = at_table (λ t. next.trees t ≡ old.trees t) t.tree tables made.tables;
         rows = subst (λ l. IsPermutation (map (changed_if goes change) (contents was)) (contents l)) (sym now) all;
         whole = λ sound. subst IsTree (sym now) (put_all_tree news rest keyed fresh (ascending-filter _ (λ r. not (picks params tests r)) _ sound.0, all-filter _ (λ r. not (picks params tests r)) _ sound.1));
       }
 
+  pub changes_among : (tests sets : List Term) (goes : Row → Bool) (change : Row → Row) (old new : State) (text : List ℕ) (params : Row) (count : ℕ) → old.now.schema ≡ with_tables tables s
+      → ((r : Row) → picks params tests r ≡ goes (drop 1 r)) → ((r : Row) → cast_all t.columns (eval_all sets (params ∷ r ∷ [])) ≡ change (drop 1 r)) → IsTree (old.now.trees t.tree) → any_acts_at Enforced false tables t.tree ≡ false
+      → Writes old new None (Update at (update_of t tests sets)) text params count → EditsAmong tables t.tree (map (changed_if goes change)) old.now new.now
+  changes_among tests sets goes change old new text params count has same sets_to sound quiet w =
+      let it = applied_among tests sets old new text params count has quiet w in
+      updated tests sets goes change params it.0 old.now new.now has it.2 same sets_to sound (permuted t.tree tests (new_rows sets) [] old.now.trees params it.0 (it.1.answer Null)) it.3
+
+-- so among the tables of a desk
+module _ (at : ℕ) (t : Table) (there : slice_get desk_tables at ≡ Some (as_strict t)) (s : Schema) where
+  abbrev pub update : List Term → List Term → Program
+  update = update_of t
+
+  pub applied : (tests sets : List Term) (old new : State) (text : List ℕ) (params : Row) (count : ℕ) → old.now.schema ≡ desk_beside s
+      → Writes old new None (Update at (update tests sets)) text params count
+      → (rows : List Row) × Answers (record { schema = desk_beside s; trees = old.now.trees }) (update tests sets) params rows × (new.now.schema ≡ desk_beside s)
+      × Applies (desk_beside s) Enforced old.now.trees (edit_of old.now.trees (as_strict t) (ids_of rows) Given 1 rows) new.now.trees
+  applied tests sets old new text params count has w = applied_among desk_tables at t there s tests sets old new text params count has refl w
+
   pub changes : (tests sets : List Term) (goes : Row → Bool) (change : Row → Row) (old new : State) (text : List ℕ) (params : Row) (count : ℕ) → old.now.schema ≡ desk_beside s
       → ((r : Row) → picks params tests r ≡ goes (drop 1 r)) → ((r : Row) → cast_all t.columns (eval_all sets (params ∷ r ∷ [])) ≡ change (drop 1 r)) → IsTree (old.now.trees t.tree)
       → Writes old new None (Update at (update tests sets)) text params count → Edits t.tree (map (changed_if goes change)) old.now new.now
-  changes tests sets goes change old new text params count has same sets_to sound w =
-      let it = applied tests sets old new text params count has w in
-      updated tests sets goes change params it.0 old.now new.now has it.2 same sets_to sound (permuted t.tree tests (new_rows sets) [] old.now.trees params it.0 (it.1.answer Null)) it.3
+  changes tests sets goes change old new text params count has same sets_to sound w = changes_among desk_tables at t there s tests sets goes change old new text params count has same sets_to sound refl w

@@ -17,9 +17,13 @@ use Rattle.registry.specs.declared.grant.Scope.{Scope}
 use Rattle.registry.specs.declared.grant.Scope.TheVariants.{All, Only}
 use Rattle.slurm.specs.declared.filter.Filter.{Filter}
 use Rattle.slurm.specs.declared.filter.Filter.TheVariants.{Under, By, Both}
+use Rattle.tables.specs.declared.claim.Claim.{Claim}
+use Rattle.tables.specs.declared.entry.EntryRow.{EntryRow}
 use Rattle.tables.specs.declared.exception.Exception.{Exception}
 use Rattle.tables.specs.declared.exception.Exception.TheVariants.{Filter as FilterOf, Assertion}
 use Rattle.tables.specs.declared.exception.ExceptionRow.{ExceptionRow}
+use Rattle.tables.specs.declared.groups.OfHolder.{OfHolder}
+use Rattle.tables.specs.declared.meta.TheConstants.{SCHEMA}
 
 abbrev pub number_cell : ℕ → Value
 number_cell n = Int (pos n)
@@ -67,9 +71,16 @@ auth_cells x =
     number_cell x.number ∷ number_cell x.asn.0 ∷ prefix_cells x.prefix
     ++ number_cell x.max ∷ number_cell x.from ∷ number_cell x.until ∷ []
 
+abbrev pub claim_cells : Claim → Row
+claim_cells c = number_cell c.number ∷ number_cell c.asn.0 ∷ number_cell c.from ∷ number_cell c.until ∷ []
+
+abbrev pub entry_cells : EntryRow → Row
+entry_cells e =
+    number_cell e.number ∷ number_cell e.asn.0 ∷ prefix_cells e.entry.prefix ++ number_cell e.entry.max ∷ []
+
 -- the one row of the table `meta`, which has the number of the schema, and a row of the table `operator`
 abbrev pub schema_row : Row
-schema_row = Text (codes "schema") ∷ number_cell 1 ∷ []
+schema_row = Text (codes "schema") ∷ number_cell SCHEMA ∷ []
 
 abbrev pub operator_row : List ℕ → Row
 operator_row name = Text name ∷ []
@@ -77,7 +88,7 @@ operator_row name = Text name ∷ []
 abbrev pub vrp_cells : Vrp → Row
 vrp_cells v = number_cell v.asn.0 ∷ prefix_cells v.prefix ++ number_cell v.max ∷ []
 
--- the rows of the tables `holder`, `holding`, `granted` and `auth`, with the holder's name
+-- the rows of the tables `holder`, `holding`, `granted`, `claim` and `entry`, with the holder's name
 abbrev pub holder_row : List ℕ → ℕ → ℕ → Row
 holder_row h granted created = Text h ∷ counter_cells granted created
 
@@ -87,8 +98,15 @@ holding_row h s = span_cells s ++ Text h ∷ []
 abbrev pub granted_row : List ℕ → Granted → Row
 granted_row h g = Text h ∷ grant_cells g
 
-abbrev pub auth_row : List ℕ → Auth → Row
-auth_row h x = Text h ∷ auth_cells x
+abbrev pub claim_row : List ℕ → Claim → Row
+claim_row h c = Text h ∷ claim_cells c
+
+abbrev pub entry_row : List ℕ → EntryRow → Row
+entry_row h e = Text h ∷ entry_cells e
+
+-- the cells of a row with the name of its holder after them
+abbrev pub named_cells : {X : Type 0} → (X → Row) → OfHolder X → Row
+named_cells cells x = cells x.row ++ Text x.holder ∷ []
 
 -- how the table `slurm` numbers the kinds of exceptions
 abbrev pub kind_number : Exception → ℕ

@@ -1,12 +1,18 @@
 -- What it is to read typed values from the cells that show them.
-use Rattle.std.specs.Prelude.{◌≡◌, ◌≢◌, ◌≤◌, ℕ, List, map, All, Any, Option, MatchOption}
+use Rattle.std.specs.Prelude.{◌≡◌, ◌≢◌, ◌≤◌, ℕ, List, map, All, Any, Option, MatchOption, IsTrue}
 use Rattle.std.specs.Global.{Vec}
 use Rattle.std.specs.List.{range_with_len}
 use Rattle.sqlite_value.specs.Order.{Row}
-use Rattle.registry.specs.Values.{IsU32, FilterFits, VrpFits}
+use Rattle.addr.specs.Address.{FitsMaxLength}
+use Rattle.addr.specs.Day.{IsDay}
+use Rattle.addr.specs.Name.{is_name}
+use Rattle.registry.specs.Values.{IsU32, IsNumber, FilterFits, VrpFits}
+use Rattle.tables.specs.declared.claim.Claim.{Claim}
+use Rattle.tables.specs.declared.entry.EntryRow.{EntryRow}
 use Rattle.tables.specs.declared.exception.Exception.{Exception}
 use Rattle.tables.specs.declared.exception.Exception.TheVariants.{Filter as FilterOf, Assertion}
 use Rattle.tables.specs.declared.exception.ExceptionRow.{ExceptionRow}
+use Rattle.tables.specs.declared.groups.OfHolder.{OfHolder}
 use Rattle.tables.specs.Tables.{columns}
 
 -- No value shows these cells. Only values that fit their Rust type count, since a `u32` is any number
@@ -43,3 +49,19 @@ ExceptionFits (Assertion v) = VrpFits v
 pub record ExceptionRowFits (r : ExceptionRow) : Type 0 where
   pub position : IsPosition r.position
   pub exception : ExceptionFits r.exception
+
+-- each value is of its type and in its range
+pub record ClaimFits (c : Claim) : Type 0 where
+  pub number : IsNumber c.number
+  pub asn : IsU32 c.asn.0
+  pub from : IsDay c.from
+  pub until : IsDay c.until
+
+pub record EntryRowFits (e : EntryRow) : Type 0 where
+  pub number : IsNumber e.number
+  pub asn : IsU32 e.asn.0
+  pub max : FitsMaxLength e.entry.prefix e.entry.max
+
+-- the name is one, and what stands beside it is in its range
+abbrev pub NamedFits : {X : Type 0} → (X → Type 0) → OfHolder X → Type 0
+NamedFits fits x = IsTrue (is_name x.holder) × fits x.row

@@ -2,6 +2,8 @@ pub mod Tables
 pub mod Cells
 pub mod Decode
 pub mod Schemas
+pub mod Authorizations
 pub mod TablesHold
 pub mod Laws
+pub mod Groups
 pub mod steps

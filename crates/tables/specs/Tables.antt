@@ -1,6 +1,6 @@
 -- The tables of a desk, as SQLite keeps them. Each table and each index of a key is a tree, and a row of a
 -- table is its hidden rowid and then its columns.
-use Rattle.std.specs.Prelude.{◌≡◌, ℕ, ◌==◌, Bool, true, false, List, [], ◌∷◌, ◌++◌, map, drop, codes, None}
+use Rattle.std.specs.Prelude.{◌≡◌, ℕ, ◌==◌, Bool, true, false, List, [], ◌∷◌, map, drop, codes, None}
 use Rattle.std.specs.List.{AllByRecursion, list_any}
 use Rattle.std.specs.Ordering.{is_eq}
 use Rattle.sqlite_value.specs.declared.keys.Collation.TheVariants.{Binary}
@@ -9,7 +9,7 @@ use Rattle.sqlite_value.specs.declared.value.Value.TheVariants.{Null}
 use Rattle.sqlite_value.specs.Order.{Row, column, value_cmp}
 use Rattle.sqlite_trees.specs.Tree.{Trees, rowid, IsAscending}
 use Rattle.sqlite_trees.specs.View.{is_int}
-use Rattle.sqlite_schema.specs.declared.schema.Action.TheVariants.{NoAction}
+use Rattle.sqlite_schema.specs.declared.schema.Action.TheVariants.{NoAction, Cascade}
 use Rattle.sqlite_schema.specs.declared.schema.Column.{Column}
 use Rattle.sqlite_schema.specs.declared.schema.Index.{Index}
 use Rattle.sqlite_schema.specs.declared.schema.Kind.{Kind}
@@ -36,6 +36,17 @@ holder_reference place = record {
   parent = codes "holder";
   parent_columns = codes "name" ∷ [];
   on_delete = NoAction;
+  on_update = NoAction;
+  is_deferred = false;
+}
+
+-- these columns are the holder and the number of a claim, with which the row goes
+abbrev pub claim_reference : Reference
+claim_reference = record {
+  columns = 1 ∷ 2 ∷ [];
+  parent = codes "claim";
+  parent_columns = codes "holder" ∷ codes "number" ∷ [];
+  on_delete = Cascade;
   on_update = NoAction;
   is_deferred = false;
 }
@@ -107,16 +118,44 @@ slurm = keyed (codes "slurm") 15
     ∷ optional_column (codes "max") Integer ∷ optional_column (codes "asn") Integer ∷ [])
     (1 ∷ 2 ∷ 3 ∷ []) []
 
+-- an authorization without its entries
+abbrev pub claim : Table
+claim = keyed (codes "claim") 17
+    (required_column (codes "holder") Text ∷ required_column (codes "number") Integer ∷ required_column (codes "asn") Integer
+    ∷ required_column (codes "opens") Integer ∷ required_column (codes "ends") Integer ∷ [])
+    (1 ∷ 2 ∷ []) (holder_reference 1 ∷ [])
+
+abbrev pub entry : Table
+entry = strict (codes "entry") 19
+    (required_column (codes "holder") Text ∷ required_column (codes "number") Integer ∷ required_column (codes "asn") Integer
+    ∷ required_column (codes "family") Integer ∷ required_column (codes "lo") Blob ∷ required_column (codes "len") Integer
+    ∷ required_column (codes "max") Integer ∷ [])
+    (1 ∷ 2 ∷ 4 ∷ 5 ∷ 6 ∷ []) ((1 ∷ 2 ∷ 4 ∷ 5 ∷ 6 ∷ []) ∷ (3 ∷ 4 ∷ 5 ∷ 6 ∷ 7 ∷ []) ∷ []) (rising ∷ rising ∷ []) (claim_reference ∷ [])
+
 -- the index of a key, which SQLite makes
 abbrev pub key_index : List ℕ → ℕ → ℕ → List ℕ → Index
 key_index name table tree places =
     record { name = name; tree = tree; table = table; columns = places; order = rising; is_unique = true }
 
+-- the tables of a desk, in the order in which they are made; `auth` has the authorizations of schema 1 and no row since
 abbrev pub desk_tables : List Table
-desk_tables = meta ∷ operator ∷ pool ∷ holder ∷ holding ∷ granted ∷ auth ∷ slurm ∷ []
+desk_tables = meta ∷ operator ∷ pool ∷ holder ∷ holding ∷ granted ∷ auth ∷ slurm ∷ claim ∷ entry ∷ []
 
-abbrev pub key_indexes : List Index
-key_indexes =
+-- the index by which a holder's runs are found
+abbrev pub holding_of : Index
+holding_of = record {
+  name = codes "holding_of";
+  tree = 22;
+  table = holding.tree;
+  columns = 4 ∷ [];
+  order = rising;
+  is_unique = false;
+}
+
+-- The indexes of the keys of the tables, and `holding_of`, which is made last: so the trees of the tables do not depend
+-- on it, nor change where a VACUUM writes the tables before the indexes.
+abbrev pub desk_indexes : List Index
+desk_indexes =
     key_index (codes "sqlite_autoindex_meta_1") 0 1 (1 ∷ [])
     ∷ key_index (codes "sqlite_autoindex_operator_1") 2 3 (1 ∷ [])
     ∷ key_index (codes "sqlite_autoindex_pool_1") 4 5 (1 ∷ 2 ∷ 3 ∷ [])
@@ -125,32 +164,22 @@ key_indexes =
     ∷ key_index (codes "sqlite_autoindex_granted_1") 10 11 (1 ∷ 2 ∷ [])
     ∷ key_index (codes "sqlite_autoindex_auth_1") 12 13 (1 ∷ 2 ∷ [])
     ∷ key_index (codes "sqlite_autoindex_auth_2") 12 14 (3 ∷ 4 ∷ 5 ∷ 6 ∷ 7 ∷ [])
-    ∷ key_index (codes "sqlite_autoindex_slurm_1") 15 16 (1 ∷ 2 ∷ 3 ∷ []) ∷ []
-
--- the index by which a holder's runs are found
-abbrev pub holding_of : Index
-holding_of = record {
-  name = codes "holding_of";
-  tree = 17;
-  table = holding.tree;
-  columns = 4 ∷ [];
-  order = rising;
-  is_unique = false;
-}
-
-abbrev pub desk_indexes : List Index
-desk_indexes = key_indexes ++ holding_of ∷ []
+    ∷ key_index (codes "sqlite_autoindex_slurm_1") 15 16 (1 ∷ 2 ∷ 3 ∷ [])
+    ∷ key_index (codes "sqlite_autoindex_claim_1") 17 18 (1 ∷ 2 ∷ [])
+    ∷ key_index (codes "sqlite_autoindex_entry_1") 19 20 (1 ∷ 2 ∷ 4 ∷ 5 ∷ 6 ∷ [])
+    ∷ key_index (codes "sqlite_autoindex_entry_2") 19 21 (3 ∷ 4 ∷ 5 ∷ 6 ∷ 7 ∷ [])
+    ∷ holding_of ∷ []
 
 abbrev pub desk_schema : Schema
 desk_schema = record { tables = desk_tables; indexes = desk_indexes; views = [] }
 
--- the same without the index of a holder's runs
-abbrev pub unindexed_schema : Schema
-unindexed_schema = record { tables = desk_tables; indexes = key_indexes; views = [] }
+-- these tables beside the indexes and views of a schema
+abbrev pub with_tables : List Table → Schema → Schema
+with_tables tables s = record s { tables = tables }
 
--- the tables of a desk beside the indexes and views of a schema
+-- the tables of a desk beside them
 abbrev pub desk_beside : Schema → Schema
-desk_beside s = record s { tables = desk_tables }
+desk_beside = with_tables desk_tables
 
 -- it is so of the tables of a desk, whatever indexes and views are beside them
 abbrev pub OverDesk : (Schema → Type 0) → Type 0

@@ -1,5 +1,5 @@
 -- What the tables hold: the charter, the rows of every holder, and the exceptions of the SLURM file in force.
-use Rattle.std.specs.Prelude.{◌≡◌, ℕ, ◌<◌, Bool, true, false, List, [], ◌∷◌, ◌++◌, map, filter, Option, Some, None, IsPermutation}
+use Rattle.std.specs.Prelude.{◌≡◌, ℕ, ◌<◌, Bool, true, false, List, [], ◌∷◌, ◌++◌, map, flat_map, filter, Option, Some, None, IsPermutation}
 use Rattle.std.specs.List.{AllByRecursion, enumerate_from}
 use Rattle.std.specs.Ordering.{is_eq}
 use Rattle.sqlite_value.specs.declared.value.Value.{Value}
@@ -14,8 +14,9 @@ use Rattle.tables.specs.declared.exception.Exception.{Exception}
 use Rattle.tables.specs.declared.exception.Exception.TheVariants.{Filter as FilterOf, Assertion}
 use Rattle.tables.specs.declared.exception.ExceptionRow.{ExceptionRow}
 use Rattle.tables.specs.Decode.{IsPosition, exception_columns}
-use Rattle.tables.specs.Tables.{meta, operator, pool, holder, holding, granted, auth, slurm, contents, AreTrees}
-use Rattle.tables.specs.Cells.{schema_row, operator_row, prefix_cells, holder_row, holding_row, granted_row, auth_row, exception_row}
+use Rattle.tables.specs.Tables.{meta, operator, pool, holder, holding, granted, auth, slurm, claim, entry, contents, AreTrees}
+use Rattle.tables.specs.Cells.{schema_row, operator_row, prefix_cells, holder_row, holding_row, granted_row, claim_row, entry_row, exception_row}
+use Rattle.tables.specs.Authorizations.{claim_of, entry_rows_of, HaveEntries}
 
 -- A table that has rows of holders: its tree, the column that names the holder, and the rows of one holder.
 pub record Part : Type 0 where
@@ -32,8 +33,13 @@ holding_part = record { tree = holding.tree; place = 3; rows = λ h r. map (hold
 abbrev pub granted_part : Part
 granted_part = record { tree = granted.tree; place = 0; rows = λ h r. map (granted_row h) r.grants }
 
-abbrev pub auth_part : Part
-auth_part = record { tree = auth.tree; place = 0; rows = λ h r. map (auth_row h) r.auths }
+-- a row for each authorization
+abbrev pub claim_part : Part
+claim_part = record { tree = claim.tree; place = 0; rows = λ h r. map (λ x. claim_row h (claim_of x)) r.auths }
+
+-- a row for each entry of each authorization
+abbrev pub entry_part : Part
+entry_part = record { tree = entry.tree; place = 0; rows = λ h r. flat_map (λ x. map (entry_row h) (entry_rows_of x)) r.auths }
 
 -- the items of the rows; none where the holder is not registered
 abbrev pub items_if_any : {X : Type 0} → (Rows → List X) → Option Rows → List X
@@ -92,6 +98,9 @@ pub record TablesHold (charter : CharterSets) (rows : AllRows) (trees : Trees) :
   pub holders : HoldsPart holder_part rows.of_holder (contents (trees holder_part.tree))
   pub holdings : HoldsPart holding_part rows.of_holder (contents (trees holding_part.tree))
   pub grants : HoldsPart granted_part rows.of_holder (contents (trees granted_part.tree))
-  pub auths : HoldsPart auth_part rows.of_holder (contents (trees auth_part.tree))
+  pub claims : HoldsPart claim_part rows.of_holder (contents (trees claim_part.tree))
+  pub entries : HoldsPart entry_part rows.of_holder (contents (trees entry_part.tree))
+  pub have_entries : HaveEntries rows.of_holder
+  pub unused : contents (trees auth.tree) ≡ []
   pub exceptions : HoldsExceptions rows.exceptions (contents (trees slurm.tree))
   pub whole : AreTrees trees

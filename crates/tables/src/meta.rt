@@ -7,12 +7,15 @@ use crate::decode::cell;
 use sqlite::Row;
 use sqlite::types::ValueRef;
 
+/// The number of the schema.
+pub const SCHEMA: u32 = 2;
+
 /// Makes the table.
 pub const CREATE_META: &str = "\
     CREATE TABLE meta (name TEXT NOT NULL, value INTEGER NOT NULL, PRIMARY KEY (name)) STRICT";
 
 /// Puts the number of the schema.
-pub const INSERT_SCHEMA: &str = "INSERT INTO meta (name, value) VALUES ('schema', 1)";
+pub const INSERT_SCHEMA: &str = "INSERT INTO meta (name, value) VALUES ('schema', 2)";
 
 /// Its rows, and their rowids.
 pub const SELECT_SCHEMA: &str = "SELECT name, value, rowid FROM meta ORDER BY rowid";
@@ -23,7 +26,7 @@ pub fn shows_schema(row: &Row) -> bool
 {
     match (cell(row, 0), cell(row, 1)) {
         (ValueRef::Text(name), ValueRef::Int(number)) => name == b"schema".as_slice()
-            && number == 1,
+            && number == i64::from(SCHEMA),
         _ => false,
     }
 }

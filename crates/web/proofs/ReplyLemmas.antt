@@ -2,7 +2,8 @@
 use Rattle.std.proofs.Common.{◌≡◌, ℕ, ◌+◌, ◌<◌, Bool, true, false, List, [], ◌∷◌, ◌++◌, length, map, drop, get_or, refl, sym, ap, ◌∙◌, append_assoc, add-one, drop-cons}
 use Rattle.std.proofs.lemmas.List.{append-nil}
 use Rattle.web.specs.steps.ReplyItems.{after_commas, item_after, items_left}
-use Rattle.web.specs.ReplyText.{comma_joined}
+use Rattle.registry.specs.declared.authorization.RoaPrefix.{RoaPrefix}
+use Rattle.web.specs.ReplyText.{comma_joined, entries_list, entries_text}
 use Rattle.streams.specs.Streams.{AppendsBeginning}
 
 -- a beginning of a text is one of a longer text
@@ -54,3 +55,36 @@ pub list-goes_on : (old middle new all done item rest : List ℕ)
     → (more : List ℕ) × (new ≡ old ++ more) × (all ≡ more ++ rest)
 list-goes_on old middle new all done item rest before whole written =
     (done ++ item, written ∙ ap (λ u. u ++ item) before ∙ append_assoc old done item, whole ∙ sym (append_assoc done item rest))
+
+-- ---- three parts, written one after the other
+
+module _ (old first second third whole : List ℕ) (parts : whole ≡ first ++ (second ++ third)) where
+  pub broken_in_first : (new : List ℕ) → AppendsBeginning old new first → AppendsBeginning old new whole
+  broken_in_first new begins = rw parts (AppendsBeginning-longer old new first (second ++ third) begins)
+
+  pub broken_in_second : (one new : List ℕ) → one ≡ old ++ first → AppendsBeginning one new second → AppendsBeginning old new whole
+  broken_in_second one new before begins =
+      rw parts (AppendsBeginning-after old one new first (second ++ third) before (AppendsBeginning-longer one new second third begins))
+
+  pub broken_in_third : (one two new : List ℕ) → one ≡ old ++ first → two ≡ one ++ second → AppendsBeginning two new third
+      → AppendsBeginning old new whole
+  broken_in_third one two new before then begins =
+      rw parts (AppendsBeginning-after old one new first (second ++ third) before (AppendsBeginning-after one two new second third then begins))
+
+  pub three_written : (one two new : List ℕ) → one ≡ old ++ first → two ≡ one ++ second → new ≡ two ++ third → new ≡ old ++ whole
+  three_written one two new before then last =
+      last ∙ ap (λ u. u ++ third) (then ∙ ap (λ u. u ++ second) before)
+      ∙ append_assoc (old ++ first) second third ∙ append_assoc old first (second ++ third) ∙ ap (λ u. old ++ u) (sym parts)
+
+-- ---- authorizations
+
+-- the parts of an authorization with a list of its entries
+pub auth-parts : (separator start opening items closing end : List ℕ)
+    → separator ++ ((start ++ ((opening ++ items) ++ closing)) ++ end) ≡ ((separator ++ start) ++ opening) ++ (items ++ (closing ++ end))
+auth-parts separator start opening items closing end = simp (append_assoc)
+
+-- the text of entries that are not one entry
+pub several_entries : (es : List RoaPrefix) → (length es ≡ 1 → ⊥) → entries_text es ≡ entries_list es
+several_entries [] other = refl
+several_entries (e ∷ []) other = absurd (other refl)
+several_entries (d ∷ e ∷ es) other = refl

@@ -13,7 +13,7 @@ use Rattle.web.specs.Script.{AnswersEach, BreaksOff, Replies}
 use Rattle.web.specs.ScriptAnswer.{AnswersLineAt, AnswersLineOn, AnswersLines, BreaksOffLines, IsLaterDesk, RepliesOn, SaysAccepted}
 use Rattle.web.specs.ScriptLines.{within_limit}
 use Rattle.desk.specs.CrashOutcomes.{LeavesAlong, pending_after}
-use Rattle.desk.specs.declared.handling.Desk.{Desk}
+use Rattle.desk.specs.declared.desk.Desk.{Desk}
 use Rattle.web.specs.declared.script.ScriptFault.{ScriptFault}
 use Rattle.web.specs.declared.script.ScriptFault.TheVariants as script
 use Rattle.web.proofs.ScriptAlong.{AnswersEach-along, AnswersEach-sound, BreaksOff-along, BreaksOff-sound, Replies-sound}

@@ -100,27 +100,47 @@ pub one-line : {D : Type 0} (written : D → List ℕ) (fails : D → Bool) (a b
     → text ≡ csv_line (payload_row vrp) → HasAdded written fails a text b → HasAdded written fails a (csv_lines (vrp ∷ [])) b
 one-line written fails a b vrp text is added = rw (append-nil (csv_line (payload_row vrp)), sym is) added
 
+-- a piece that was empty has what was pushed twice
+pub pushed-twice : (piece middle before first second text : List ℕ) → piece ≡ middle ++ second → middle ≡ before ++ first → before ≡ [] → second ≡ text
+    → piece ≡ first ++ text
+pushed-twice piece middle before first second text last is empty same =
+    last ∙ ap (λ u. u ++ second) (is ∙ ap (λ u. u ++ first) empty) ∙ ap (λ u. first ++ u) same
+
+-- the lines after this beginning and the header
+csv-after : (start : List ℕ) (vrps : List Vrp) → start ++ csv_text payload_header payload_row vrps ≡ (start ++ csv_line payload_header) ++ csv_lines vrps
+csv-after start vrps = sym (append_assoc start (csv_line payload_header) (csv_lines vrps))
+
 -- the visit stopped after some lines
-pub lines-broken : {D : Type 0} (written : D → List ℕ) (fails : D → Bool) (a b : Pieces D) (vrps : List Vrp) (n : ℕ)
-    → a.piece.bytes ≡ csv_line payload_header → HasAdded written fails a (csv_lines (take n vrps)) b
-    → AppendsBeginning (written a.drain.now) (written b.drain.now) (csv_text payload_header payload_row vrps)
-lines-broken written fails a b vrps n header added =
+pub lines-broken : {D : Type 0} (written : D → List ℕ) (fails : D → Bool) (a b : Pieces D) (start : List ℕ) (vrps : List Vrp) (n : ℕ)
+    → a.piece.bytes ≡ start ++ csv_line payload_header → HasAdded written fails a (csv_lines (take n vrps)) b
+    → AppendsBeginning (written a.drain.now) (written b.drain.now) (start ++ csv_text payload_header payload_row vrps)
+lines-broken written fails a b start vrps n header added =
     let some = csv_lines (take n vrps) in
     let rest = csv_lines (drop n vrps) in
-    let whole : csv_text payload_header payload_row vrps ≡ (a.piece.bytes ++ some) ++ rest =
-    ap (λ u. csv_line payload_header ++ u) (lines-split n vrps)
-    ∙ sym (append_assoc (csv_line payload_header) some rest) ∙ ap (λ h. (h ++ some) ++ rest) (sym header) in
+    let whole : start ++ csv_text payload_header payload_row vrps ≡ (a.piece.bytes ++ some) ++ rest =
+    csv-after start vrps ∙ ap (λ u. (start ++ csv_line payload_header) ++ u) (lines-split n vrps)
+    ∙ sym (append_assoc (start ++ csv_line payload_header) some rest) ∙ ap (λ h. (h ++ some) ++ rest) (sym header) in
     let begins =
     AppendsBeginning-longer (written a.drain.now) (written b.drain.now) (a.piece.bytes ++ some) rest
     (added-broken written fails a b some added) in
     (begins.0, begins.1, begins.2, whole ∙ begins.3)
 
-pub lines-begun : {D : Type 0} (written : D → List ℕ) (fails : D → Bool) (a b : Pieces D) (vrps : List Vrp) (new : List ℕ)
-    → a.piece.bytes ≡ csv_line payload_header → HasAdded written fails a (csv_lines vrps) b → b.has_failed ≡ false
+pub lines-out : {D : Type 0} (written : D → List ℕ) (fails : D → Bool) (a b : Pieces D) (start : List ℕ) (vrps : List Vrp) (new : List ℕ)
+    → a.piece.bytes ≡ start ++ csv_line payload_header → HasAdded written fails a (csv_lines vrps) b → b.has_failed ≡ false
+    → new ≡ written b.drain.now ++ (b.piece.bytes ++ []) → new ≡ written a.drain.now ++ (start ++ csv_text payload_header payload_row vrps)
+lines-out written fails a b start vrps new header added well sent =
+    sent ∙ ap (λ u. written b.drain.now ++ u) (append-nil b.piece.bytes) ∙ ap (λ u. u ++ b.piece.bytes) added.passed
+    ∙ append_assoc (written a.drain.now) added.out b.piece.bytes
+    ∙ ap (λ u. written a.drain.now ++ u)
+    (ap (λ u. added.out ++ u) (sym (added.waits well)) ∙ sym added.whole ∙ ap (λ u. u ++ csv_lines vrps) header ∙ sym (csv-after start vrps))
+
+pub lines-begun : {D : Type 0} (written : D → List ℕ) (fails : D → Bool) (a b : Pieces D) (start : List ℕ) (vrps : List Vrp) (new : List ℕ)
+    → a.piece.bytes ≡ start ++ csv_line payload_header → HasAdded written fails a (csv_lines vrps) b → b.has_failed ≡ false
     → AppendsBeginning (written b.drain.now) new (b.piece.bytes ++ [])
-    → AppendsBeginning (written a.drain.now) new (csv_text payload_header payload_row vrps)
-lines-begun written fails a b vrps new header added well begins =
-    let whole : csv_text payload_header payload_row vrps ≡ a.piece.bytes ++ csv_lines vrps = ap (λ u. u ++ csv_lines vrps) (sym header) in
+    → AppendsBeginning (written a.drain.now) new (start ++ csv_text payload_header payload_row vrps)
+lines-begun written fails a b start vrps new header added well begins =
+    let whole : start ++ csv_text payload_header payload_row vrps ≡ a.piece.bytes ++ csv_lines vrps =
+    csv-after start vrps ∙ ap (λ u. u ++ csv_lines vrps) (sym header) in
     rw whole (added-begun written fails a b (csv_lines vrps) new added well
     (begins.0, begins.1, begins.2, sym (append-nil b.piece.bytes) ∙ begins.3))
 

@@ -3,7 +3,7 @@ use Rattle.std.specs.Prelude.{◌≡◌, ◌⊎◌, ℕ, List}
 use Rattle.sqlite.specs.Store.{Ghosts}
 use Rattle.desk.specs.CrashOutcomes.{LeavesAlong}
 use Rattle.desk.specs.Desk.{charter_of, KeepsRows}
-use Rattle.desk.specs.declared.handling.Desk.{Desk}
+use Rattle.desk.specs.declared.desk.Desk.{Desk}
 use Rattle.desk.specs.declared.reply.Reply.{Reply}
 use Rattle.requests.specs.HttpRequests.{asked, HttpRequest, IsRequest, malformed, NeedsMemory, ReadsHttp, refused}
 use Rattle.web.specs.HttpResponses.{malformed_response, refusal_response, reply_response, unavailable_response}

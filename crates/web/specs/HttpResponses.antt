@@ -1,13 +1,14 @@
 -- The texts of responses to HTTP requests: as http_messages defines them, with the text of a reply as their body. VRPs
 -- and exports are sent as CSV, everything else in JSON.
 use Rattle.std.specs.Prelude.{◌≡◌, ◌≢◌, ℕ, List, ◌++◌, codes}
+use Rattle.std.specs.List.{flat_map}
 use Rattle.http_messages.specs.ResponseText.{fault_text, refused_status, response_text, status_line}
 use Rattle.http_messages.specs.declared.refusal.HttpRefusal.{HttpRefusal}
 use Rattle.http_messages.specs.declared.response.ContentType.{ContentType}
 use Rattle.http_messages.specs.declared.response.ContentType.TheVariants.{Csv, Json}
 use Rattle.http_messages.specs.declared.status.Status.{Status}
 use Rattle.http_messages.specs.declared.status.Status.TheVariants.{BadRequest, Done as DoneStatus, Forbidden, ServiceUnavailable}
-use Rattle.csv_records.specs.Lines.{csv_text, list_header, list_row, payload_header, payload_row}
+use Rattle.csv_records.specs.Lines.{csv_text, list_header, list_rows, payload_header, payload_row}
 use Rattle.desk.specs.declared.reply.Reply.{Reply}
 use Rattle.desk.specs.declared.reply.Reply.TheVariants.{Listed, Payloads, Denied, Unavailable}
 use Rattle.requests.specs.MalformedText.{malformed_text}
@@ -37,7 +38,7 @@ reply_type form (Payloads vrps) = Csv
 reply_type form _ = Json
 
 abbrev pub reply_body : ContentType → Reply → List ℕ
-reply_body Csv (Listed auths) = csv_text list_header list_row auths.items
+reply_body Csv (Listed auths) = csv_text list_header (λ row. row) (flat_map list_rows auths.items)
 reply_body Csv (Payloads vrps) = csv_text payload_header payload_row vrps
 reply_body _ reply = line_text reply
 

@@ -1,15 +1,16 @@
 -- The texts of replies: each a JSON object (RFC 8259) without spaces, with its members in the order
 -- of the format, and a line feed.
-use Rattle.std.specs.Prelude.{ℕ, List, ◌++◌, map, codes, decimal, Option, Some, None}
+use Rattle.std.specs.Prelude.{ℕ, List, [], ◌∷◌, ◌++◌, map, codes, decimal, Option, Some, None}
 use Rattle.std.specs.List.{join_with_byte}
 use Rattle.std.specs.String.{string_bytes}
 use Rattle.addr.specs.Day.{day_text}
 use Rattle.addr.specs.OriginValidation.{state_text}
 use Rattle.addr.specs.PrefixText.{spelling}
-use Rattle.addr.specs.declared.asn.Asn.{Asn}
 use Rattle.addr.specs.declared.prefix.Prefix.{Prefix}
 use Rattle.addr.specs.declared.vrp.Vrp.{Vrp}
 use Rattle.registry.specs.declared.authorization.Auth.{Auth}
+use Rattle.registry.specs.declared.authorization.RoaPrefix.{RoaPrefix}
+use Rattle.registry.specs.Terms.{entries_of}
 use Rattle.registry.specs.declared.rule.Rule.{Rule}
 use Rattle.registry.specs.Rule.{rule_name}
 use Rattle.desk.specs.declared.reply.Reply.{Reply}
@@ -19,23 +20,16 @@ use Rattle.payload.specs.ValidityState.{state_of}
 
 -- ---- parts
 
--- the members that authorizations and VRPs share
-abbrev pub terms_text : Asn → Prefix → ℕ → List ℕ
-terms_text asn prefix max =
-    codes "\"asn\":" ++ decimal asn.0
-    ++ codes ",\"prefix\":\"" ++ spelling prefix.family prefix.first prefix.length
+-- the members of a prefix with its maxLength
+abbrev pub prefix_members : Prefix → ℕ → List ℕ
+prefix_members prefix max =
+    codes "\"prefix\":\"" ++ spelling prefix.family prefix.first prefix.length
     ++ codes "\",\"max\":" ++ decimal max
 
-abbrev pub auth_text : Auth → List ℕ
-auth_text auth =
-    codes "{\"number\":" ++ decimal auth.number
-    ++ codes "," ++ terms_text auth.asn auth.prefix auth.max
-    ++ codes ",\"from\":\"" ++ day_text auth.from
-    ++ codes "\",\"until\":\"" ++ day_text auth.until
-    ++ codes "\"}"
-
 abbrev pub vrp_text : Vrp → List ℕ
-vrp_text vrp = codes "{" ++ terms_text vrp.asn vrp.prefix vrp.max ++ codes "}"
+vrp_text vrp =
+    codes "{\"asn\":" ++ decimal vrp.asn.0
+    ++ codes "," ++ prefix_members vrp.prefix vrp.max ++ codes "}"
 
 -- a route origin validation state (RFC 6811 section 2), between quotation marks
 abbrev pub quoted_state : Validity → List ℕ
@@ -48,6 +42,33 @@ states_text states = codes "[" ++ quoted_state states.0 ++ codes "," ++ quoted_s
 -- the texts with a comma between each two
 abbrev pub comma_joined : List (List ℕ) → List ℕ
 comma_joined texts = join_with_byte 44 texts
+
+-- ---- authorizations
+
+abbrev pub entry_text : RoaPrefix → List ℕ
+entry_text e = codes "{" ++ prefix_members e.prefix e.max ++ codes "}"
+
+-- the member that lists entries
+abbrev pub entries_list : List RoaPrefix → List ℕ
+entries_list es = codes "\"entries\":[" ++ comma_joined (map entry_text es) ++ codes "]"
+
+-- of one entry its members, else the list
+abbrev pub entries_text : List RoaPrefix → List ℕ
+entries_text (e ∷ []) = prefix_members e.prefix e.max
+entries_text es = entries_list es
+
+-- what stands before the entries
+abbrev pub auth_start : Auth → List ℕ
+auth_start auth =
+    codes "{\"number\":" ++ decimal auth.number ++ codes ",\"asn\":" ++ decimal auth.asn.0 ++ codes ","
+
+-- what stands after them
+abbrev pub auth_end : Auth → List ℕ
+auth_end auth =
+    codes ",\"from\":\"" ++ day_text auth.from ++ codes "\",\"until\":\"" ++ day_text auth.until ++ codes "\"}"
+
+abbrev pub auth_text : Auth → List ℕ
+auth_text auth = auth_start auth ++ entries_text (entries_of auth) ++ auth_end auth
 
 -- ---- replies
 

@@ -15,11 +15,9 @@ use Rattle.requests.specs.RequestFaults.{request_fault, too_long}
 use Rattle.requests.specs.RequestText.{ReadsLine}
 use Rattle.web.specs.Script.{AnswersEach, BreaksOff}
 use Rattle.registry.specs.declared.asked.Asked.{Asked}
-use Rattle.desk.specs.declared.handling.Desk.{Desk}
+use Rattle.desk.specs.declared.desk.Desk.{Desk}
 use Rattle.desk.specs.declared.reply.Reply.{Reply}
 use Rattle.requests.specs.declared.malformed.Malformed.{Malformed}
-use Rattle.web.specs.declared.session.LineAnswer.{LineAnswer}
-use Rattle.web.specs.declared.session.LineAnswer.TheVariants.{Refused, Replied}
 
 -- ---- replies
 
@@ -100,11 +98,6 @@ BreaksOffLines g old new lines written_old written_new =
     BreaksOff (AnswersLineAt g) old new lines written_old written_new
     × OnHistories g old new (λ before after.
     BreaksOff (AnswersLineOn (charter_of old)) before after lines written_old written_new)
-
--- the text of an answer to a line
-abbrev pub answer_text : LineAnswer → List ℕ
-answer_text (Refused malformed) = malformed_text malformed
-answer_text (Replied reply) = line_text reply
 
 -- the reply to an accepted command stands somewhere in the text
 abbrev pub SaysAccepted : List ℕ → Type 0

@@ -1,59 +1,70 @@
 //! Scripts over a desk.
 ghost use Rattle.std.specs.Prelude.{◌≡◌, ◌≢◌, ◌++◌, true, Err, OnOk, OnErr};
 ghost use Rattle.std.specs.Io.{StartsWith, appended_bytes};
-ghost use Rattle.std.specs.Option.{option_copied};
 ghost use Rattle.desk.specs.Desk.{KeepsRows};
-ghost use Rattle.web.specs.ScriptAnswer.{AnswersLineAt, AnswersLines, BreaksOffLines, IsLaterDesk, SaysAccepted, answer_text};
+ghost use Rattle.requests.specs.MalformedText.{malformed_text};
+ghost use Rattle.web.specs.ReplyText.{line_text};
+ghost use Rattle.web.specs.ScriptAnswer.{AnswersLineAt, AnswersLines, BreaksOffLines, IsLaterDesk, RepliesAt, SaysAccepted};
 ghost use Rattle.web.specs.ScriptLines.{lines_read, script_lines, whole_lines};
 ghost use Rattle.streams.specs.Streams.{AppendsBeginning};
 
 use crate::reply::write_reply;
 use crate::script::{AnswerLines, ScriptFault, run_lines};
+use crate::vrps::write_line;
 use desk::{Desk, Reply};
+use registry::{Asked, Query, Request};
 use requests::{LineFault, Malformed, read_line_request};
 use sqlite::Alter;
 use std::alloc::Global;
 use streams::{Drain, Failed, Source, write_all};
 
-/// What a line of a script is answered with.
-#[derive(Debug, Drop)]
-enum LineAnswer {
-    Refused(Malformed),
-    Replied(Reply),
-}
-
-impl LineAnswer {
-    /// Writes the line that answers.
-    fn write<D: Drain>(&self, drain: &mut D) -> Result<(), Failed>
-        ensures ok { OnOk result
-            (D.written drain.new ≡ D.written drain.old ++ answer_text self.now) }
-        ensures err { OnErr result
-            (AppendsBeginning (D.written drain.old) (D.written drain.new) (answer_text self.now)) }
-        ensures failed { OnErr result (D.has_failed drain.new ≡ true) }
-    {
-        match self {
-            LineAnswer::Refused(malformed) => write_all(
-                drain,
-                malformed.text().as_str().as_bytes(),
-            ),
-            LineAnswer::Replied(reply) => write_reply(reply, drain),
-        }
-    }
-}
-
-/// Asks the desk what a line says; `None` is a line that is over the limit.
-fn answer_to<A: Alter>(alloc: Global, desk: &mut Desk<A>, line: Option<&[u8]>) -> LineAnswer
-    ensures { AnswersLineAt A.Store desk.old (option_copied line.entry)
-        (answer_text result) desk.new }
+/// Writes why a line is no request.
+fn write_malformed<D: Drain>(drain: &mut D, malformed: Malformed) -> Result<(), Failed>
+    ensures ok { OnOk result
+        (D.written drain.new ≡ D.written drain.old ++ malformed_text malformed) }
+    ensures err { OnErr result
+        (AppendsBeginning (D.written drain.old) (D.written drain.new) (malformed_text malformed)) }
+    ensures failed { OnErr result (D.has_failed drain.new ≡ true) }
 {
-    let Some(line) = line else {
-        return LineAnswer::Refused(Malformed::too_long());
-    };
-    match read_line_request(alloc, line) {
-        Ok(asked) => LineAnswer::Replied(desk.handle(asked.day, &asked.caller, &asked.request)),
-        Err(LineFault::Malformed(malformed)) => LineAnswer::Refused(malformed),
-        Err(LineFault::Memory) => LineAnswer::Replied(Reply::Unavailable),
+    write_all(drain, malformed.text().as_str().as_bytes())
+}
+
+/// Answers a request for the VRPs of a day from those that the desk keeps; no list is made.
+fn write_payloads<D: Drain, A: Alter>(
+    desk: &mut Desk<A>,
+    drain: &mut D,
+    asked: &Asked,
+) -> Result<(), Failed>
+    requires { asked.now.request ≡ Request.Query Query.Payloads }
+    ensures ok { OnOk result ((reply : Reply) × RepliesAt A.Store desk.old asked.now reply desk.new
+        × (D.written drain.new ≡ D.written drain.old ++ line_text reply)) }
+    ensures err { OnErr result ((reply : Reply) × RepliesAt A.Store desk.old asked.now reply desk.new
+        × AppendsBeginning (D.written drain.old) (D.written drain.new) (line_text reply)) }
+    ensures failed { OnErr result (D.has_failed drain.new ≡ true) }
+{
+    match desk.payloads(asked.day) {
+        Some(vrps) => write_line(vrps, drain),
+        None => write_reply(&Reply::Unavailable, drain),
     }
+}
+
+/// Acts on the request, and writes the reply's text.
+fn reply_to<D: Drain, A: Alter>(
+    desk: &mut Desk<A>,
+    drain: &mut D,
+    asked: &Asked,
+) -> Result<(), Failed>
+    ensures ok { OnOk result ((reply : Reply) × RepliesAt A.Store desk.old asked.now reply desk.new
+        × (D.written drain.new ≡ D.written drain.old ++ line_text reply)) }
+    ensures err { OnErr result ((reply : Reply) × RepliesAt A.Store desk.old asked.now reply desk.new
+        × AppendsBeginning (D.written drain.old) (D.written drain.new) (line_text reply)) }
+    ensures failed { OnErr result (D.has_failed drain.new ≡ true) }
+{
+    if let Request::Query(Query::Payloads) = &asked.request {
+        return write_payloads(desk, drain, asked);
+    }
+    let reply = desk.handle(asked.day, &asked.caller, &asked.request);
+    write_reply(&reply, drain)
 }
 
 impl<A: Alter> AnswerLines for Desk<A> {
@@ -65,9 +76,14 @@ impl<A: Alter> AnswerLines for Desk<A> {
         drain: &mut D,
         line: Option<&[u8]>,
     ) -> Result<(), Failed> {
-        let answer = answer_to(alloc, self, line);
-        answer.write(drain)?;
-        Ok(())
+        let Some(line) = line else {
+            return write_malformed(drain, Malformed::too_long());
+        };
+        match read_line_request(alloc, line) {
+            Ok(asked) => reply_to(self, drain, &asked),
+            Err(LineFault::Malformed(malformed)) => write_malformed(drain, malformed),
+            Err(LineFault::Memory) => write_reply(&Reply::Unavailable, drain),
+        }
     }
 }
 

@@ -1,5 +1,5 @@
 //! The VRPs of an index, written as it gives them: no list and no body is collected.
-ghost use Rattle.std.specs.Prelude.{◌≡◌, ◌++◌, ◌<◌, ◌^◌, false, true, length, OnOk, OnErr};
+ghost use Rattle.std.specs.Prelude.{◌≡◌, ◌++◌, ◌<◌, ◌≤◌, ◌^◌, false, true, length, OnOk, OnErr};
 ghost use Rattle.std.specs.Option.{SomeIff};
 ghost use Rattle.csv_records.specs.Lines.{csv_line, csv_text, payload_header, payload_row};
 ghost use Rattle.desk.specs.declared.reply.Reply.TheVariants.{Payloads};
@@ -14,7 +14,7 @@ mod pieces;
 use crate::reply::items::vrp_item;
 use addr::Vrp;
 use arrayvec::ArrayString;
-use csv_records::CsvRow;
+use csv_records::payload_line;
 use payload::{PayloadIndex, Sink, Stop};
 use pieces::Pieces;
 use streams::{Drain, Failed};
@@ -32,7 +32,7 @@ impl Sink for Counting {
     ghost has_stopped = { λ c. c.is_over };
 
     fn take(&mut self, vrp: &Vrp) -> Result<(), Stop> {
-        let length = vrp.line().len() as u64;
+        let length = payload_line(vrp).len() as u64;
         let Some(count) = self.count.checked_add(length) else {
             self.is_over = true;
             return Err(Stop);
@@ -76,7 +76,7 @@ impl<D: Drain> Sink for Lines<'_, D> {
     ghost has_stopped = { λ l. l.pieces.has_failed };
 
     fn take(&mut self, vrp: &Vrp) -> Result<(), Stop> {
-        self.pieces.add(vrp.line().as_str());
+        self.pieces.add(payload_line(vrp).as_str());
         if self.pieces.has_failed {
             return Err(Stop);
         }
@@ -88,15 +88,21 @@ impl<D: Drain> Sink for Lines<'_, D> {
     ghost took_then = { λ a b c. lines_then D.written D.has_failed a.pieces b.pieces c.pieces };
 }
 
-/// Writes the CSV of an index's VRPs, in pieces of some kilobytes.
-pub(crate) fn write_csv<I: PayloadIndex, D: Drain>(index: &I, drain: &mut D) -> Result<(), Failed>
+/// Writes this beginning and the CSV of an index's VRPs, in pieces of some kilobytes.
+pub(crate) fn write_csv<I: PayloadIndex, D: Drain>(
+    beginning: &str,
+    index: &I,
+    drain: &mut D,
+) -> Result<(), Failed>
+    requires { length beginning.now ≤ 256 }
     ensures ok { OnOk result (D.written drain.new ≡ D.written drain.old
-        ++ csv_text payload_header payload_row (set.items (I.vrps index.now))) }
+        ++ (beginning.now ++ csv_text payload_header payload_row (set.items (I.vrps index.now)))) }
     ensures err { OnErr result (AppendsBeginning (D.written drain.old) (D.written drain.new)
-        (csv_text payload_header payload_row (set.items (I.vrps index.now)))) }
+        (beginning.now ++ csv_text payload_header payload_row (set.items (I.vrps index.now)))) }
     ensures failed { OnErr result (D.has_failed drain.new ≡ true) }
 {
     let mut piece = ArrayString::new();
+    piece.push_str(beginning);
     piece.push_str(header());
     let mut lines = Lines {
         pieces: Pieces {

@@ -7,7 +7,9 @@ mod clocks;
 mod sockets;
 
 use super::answer_each;
-use crate::clients::{AfterText, Bound, CHARTER, CREATE, SETUP, request, serve, serve_over};
+use crate::clients::{
+    AfterText, Bound, CHARTER, CREATE, SETUP, Served, request, serve, serve_over,
+};
 use crate::serve::connections::{AnswerConnections, Connections, answer_in_time};
 use crate::serve::log::Printed;
 use crate::serve::peer::Peer;
@@ -31,34 +33,54 @@ fn desk_in_memory<R: Abort + AllocGlobal>(rt: &R) -> Desk<MemStore> {
     Desk::open_memory(rt.alloc(), &charter).expect(rt, "memory")
 }
 
+/// Requests after those of the setup.
+const AFTER_SETUP: [(&str, &str, &str, &str); 2] = [
+    ("bob", "POST", "/holders/alpha/auths", CREATE),
+    ("bob", "GET", "/payloads", ""),
+];
+
+/// The responses to the last of the setup and to those after it.
+const LAST_RESPONSES: [&str; 3] = [
+    "HTTP/1.1 200 OK\r\nContent-Type: application/json\r\nContent-Length: 11\r\n\
+    Connection: close\r\n\r\n{\"done\":1}\n",
+    "HTTP/1.1 403 Forbidden\r\nContent-Type: application/json\r\nContent-Length: 19\r\n\
+    Connection: close\r\n\r\n{\"denied\":\"grant\"}\n",
+    "HTTP/1.1 200 OK\r\nContent-Type: text/csv\r\nContent-Length: 45\r\n\
+    Connection: close\r\n\r\nasn,prefix,maxlength\nAS64496,192.0.2.0/24,24\n",
+];
+
+fn requests_of_setup(alloc: Global) -> Result<Vec<String>, Fail> {
+    let mut texts = Vec::new(alloc);
+    for parts in SETUP {
+        texts.push(request(alloc, parts)?)?;
+    }
+    for parts in AFTER_SETUP {
+        texts.push(request(alloc, parts)?)?;
+    }
+    Ok(texts)
+}
+
+/// These are the last of the answers.
+fn assert_last(rt: &impl Abort, answers: &[String], expected: &[&str]) {
+    let skipped = answers.len().saturating_sub(expected.len());
+    assert!(rt; answers.len() >= expected.len());
+    for (answer, response) in answers.iter().skip(skipped).zip(expected) {
+        assert!(rt; answer.as_str() == *response, "{}", answer.as_str());
+    }
+}
+
+fn serve_setup(rt: &HostRuntime, desk: &mut Desk<MemStore>, day: Day) -> Result<Served, Fail> {
+    let texts = requests_of_setup(rt.alloc())?;
+    serve(rt, rt, desk, day, &texts, AfterText::ShutsWriting)
+}
+
 #[test]
 fn denial_is_403_and_payloads_are_csv(rt: HostRuntime) -> Result<(), Fail> {
     let mut desk = desk_in_memory(&rt);
-    let mut texts = Vec::new(rt.alloc());
-    for parts in SETUP {
-        texts.push(request(rt.alloc(), parts)?)?;
-    }
-    texts.push(request(rt.alloc(), ("bob", "POST", "/holders/alpha/auths", CREATE))?)?;
-    texts.push(request(rt.alloc(), ("bob", "GET", "/payloads", ""))?)?;
     let day = Day::read(b"2026-03-01").expect(&rt, "a day");
-    let served = serve(&rt, &rt, &mut desk, day, &texts, AfterText::ShutsWriting)?;
-    assert_eq!(rt; served.errors.len(), 0);
-    assert_eq!(rt; served.answers.len(), 6);
-    assert_eq!(rt;
-        served.answers[3].as_str(),
-        "HTTP/1.1 200 OK\r\nContent-Type: application/json\r\nContent-Length: 11\r\n\
-        Connection: close\r\n\r\n{\"done\":1}\n"
-    );
-    assert_eq!(rt;
-        served.answers[4].as_str(),
-        "HTTP/1.1 403 Forbidden\r\nContent-Type: application/json\r\nContent-Length: 19\r\n\
-        Connection: close\r\n\r\n{\"denied\":\"grant\"}\n"
-    );
-    assert_eq!(rt;
-        served.answers[5].as_str(),
-        "HTTP/1.1 200 OK\r\nContent-Type: text/csv\r\nContent-Length: 45\r\n\
-        Connection: close\r\n\r\nasn,prefix,maxlength\nAS64496,192.0.2.0/24,24\n"
-    );
+    let served = serve_setup(&rt, &mut desk, day)?;
+    assert!(rt; served.errors.is_empty());
+    assert_last(&rt, &served.answers, &LAST_RESPONSES);
     Ok(())
 }
 
@@ -279,11 +301,21 @@ fn peers_that_trickle(rt: HostRuntime) -> Result<(), Fail> {
     Ok(())
 }
 
-/// Connections on which a client sends a text and takes so many bytes. Accepting a further one
-/// fails.
+/// The reads of a connection that its peer reset before it was accepted.
+#[derive(Drop)]
+struct Reset;
+
+impl Read for Reset {
+    fn read(&mut self, _buffer: &mut [u8]) -> io::Result<usize> {
+        Err(ErrorKind::ConnectionReset.into())
+    }
+}
+
+/// Connections on which a client sends a text, or which it has reset, and takes so many bytes.
+/// Accepting a further one fails.
 #[derive(Drop)]
 struct Clients<'a> {
-    clients: &'a [(&'a str, usize)],
+    clients: &'a [(Option<&'a str>, usize)],
     accepted: usize,
     has_failed: bool,
 }
@@ -308,8 +340,11 @@ impl Connections for Clients<'_> {
         self.accepted = self.accepted.saturating_add(1);
         let mut taken = [0; 256];
         let room = (*room).min(taken.len());
-        let mut source = Device::new(text.as_bytes());
         let mut drain = Device::new(&mut taken[..room]);
+        let Some(text) = text else {
+            return Ok(engine.answer(alloc, &mut Device::new(Reset), &mut drain, day));
+        };
+        let mut source = Device::new(text.as_bytes());
         Ok(engine.answer(alloc, &mut source, &mut drain, day))
     }
 }
@@ -318,25 +353,40 @@ const CUT_SHORT: &str = "GET /payloads HTTP/1.1\r\nDesk-Cal";
 
 /// The connections, how many are wanted, what becomes of the run, and the lines on those that
 /// failed.
-const RUNS: [(&[(&str, usize)], u32, Result<(), Failed>, &str); 5] = [
+const RUNS: [(&[(Option<&str>, usize)], u32, Result<(), Failed>, &str); 6] = [
     (&[], 0, Ok(()), ""),
-    (&[(REQUEST, 256), (CUT_SHORT, 256)], 1, Ok(()), ""),
+    (
+        &[(Some(REQUEST), 256), (Some(CUT_SHORT), 256)],
+        1,
+        Ok(()),
+        "",
+    ),
     (
         &[
-            (REQUEST, 256),
-            (CUT_SHORT, 256),
-            (REQUEST, 256),
-            (REQUEST, 100),
-            ("", 0),
+            (Some(REQUEST), 256),
+            (Some(CUT_SHORT), 256),
+            (Some(REQUEST), 256),
+            (Some(REQUEST), 100),
+            (Some(""), 0),
         ],
         5,
         Ok(()),
         "roadesk: connection 2: fault 1\nroadesk: connection 4: fault 2\n\
         roadesk: connection 5: fault 1\n",
     ),
+    (
+        &[(None, 256), (Some(REQUEST), 256), (None, 256)],
+        3,
+        Ok(()),
+        "roadesk: connection 1: fault 1\nroadesk: connection 3: fault 1\n",
+    ),
     (&[], 1, Err(Failed), ""),
     (
-        &[(CUT_SHORT, 256), (REQUEST, 256), (REQUEST, 0)],
+        &[
+            (Some(CUT_SHORT), 256),
+            (Some(REQUEST), 256),
+            (Some(REQUEST), 0),
+        ],
         4,
         Err(Failed),
         "roadesk: connection 1: fault 1\nroadesk: connection 3: fault 2\n",
@@ -397,7 +447,7 @@ fn a_line_that_cannot_be_written_is_lost(rt: HostRuntime) -> Result<(), Fail> {
     let mut desk = desk_in_memory(&rt);
     let day = Day::read(b"2026-03-01").expect(&rt, "a day");
     let mut connections = Clients {
-        clients: &[("", 0), ("", 0)],
+        clients: &[(Some(""), 0), (Some(""), 0)],
         accepted: 0,
         has_failed: false,
     };

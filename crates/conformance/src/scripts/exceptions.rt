@@ -60,11 +60,6 @@ bob {"do":"payloads"} => {"payloads":[{"asn":64496,"prefix":"192.0.2.0/24","max"
 # vrp_that_is_asserted_too_is_given_once after holder, authorization
 slurm ; {"asn":64496,"prefix":"192.0.2.0/24"},{"asn":64496,"prefix":"192.0.2.0/24","maxPrefixLength":24} => {"done":null}
 bob {"do":"payloads"} => {"payloads":[{"asn":64496,"prefix":"192.0.2.0/24","max":24}]}
-# asserted_vrp_stays_after_withdraw after holder, authorization, exceptions
-ann {"do":"withdraw","holder":"alpha","number":1} => {"done":null}
-bob {"do":"payloads"} => {"payloads":[{"asn":64496,"prefix":"192.0.2.0/24","max":24}]}
-slurm ; => {"done":null}
-bob {"do":"payloads"} => {"payloads":[]}
 # exceptions_act_on_every_day after holder, authorization, exceptions
 day 2031-07-01
 bob {"do":"payloads"} => {"payloads":[{"asn":64496,"prefix":"192.0.2.0/24","max":24}]}

@@ -1,16 +1,25 @@
 -- What the queries of all rows of the tables show.
-use Rattle.std.specs.Prelude.{ℕ, ◌≤◌, List, [], ◌∷◌, length, map, IsPermutation, IsTrue, ⊤}
+use Rattle.std.specs.Prelude.{◌≡◌, ℕ, ◌≤◌, List, [], ◌∷◌, length, map, flat_map, IsPermutation, IsTrue, ⊤}
 use Rattle.std.specs.List.{AllByRecursion}
 use Rattle.sqlite.specs.Effect.{Database}
 use Rattle.sqlite_value.specs.Order.{Row}
 use Rattle.addr.specs.Name.{is_name}
 use Rattle.charters.specs.CharterSets.{CharterSets}
-use Rattle.registry.specs.Values.{AuthFits, GrantFits}
+use Rattle.registry.specs.Terms.{entries_of}
+use Rattle.registry.specs.RoaPrefixes.{AreEntries}
+use Rattle.registry.specs.Values.{GrantFits}
+use Rattle.registry.specs.declared.authorization.Auth.{Auth}
 use Rattle.slurm.specs.declared.exceptions.TheConstants.{MOST_ENTRIES}
-use Rattle.tables.specs.Cells.{schema_row, operator_row, prefix_cells, span_cells, grant_cells, auth_cells}
-use Rattle.tables.specs.Tables.{meta, operator, pool, holder, holding, granted, auth, slurm, contents, IsTree}
+use Rattle.tables.specs.declared.claim.Claim.{Claim}
+use Rattle.tables.specs.declared.entry.EntryRow.{EntryRow}
+use Rattle.tables.specs.declared.groups.Group.{Group}
+use Rattle.tables.specs.declared.groups.OfHolder.{OfHolder}
+use Rattle.tables.specs.Authorizations.{claim_of, entry_rows_of}
+use Rattle.tables.specs.Cells.{schema_row, operator_row, prefix_cells, span_cells, grant_cells, claim_cells, entry_cells, named_cells}
+use Rattle.tables.specs.Decode.{ClaimFits, EntryRowFits, NamedFits}
+use Rattle.tables.specs.Tables.{meta, operator, pool, holder, holding, granted, auth, slurm, claim, entry, contents, IsTree}
 use Rattle.database.specs.TablesRead.{ShowsSome, ShowsHolder, ShowsException}
-use Rattle.database.specs.steps.Numbered.{shown_in}
+use Rattle.database.specs.steps.Numbered.{shown_in, AreRead}
 
 -- a table that has rowids shows these rows in some columns
 pub record ShowsRows (tree : ℕ) (places : List ℕ) (rows : List Row) (db : Database) : Type 0 where
@@ -36,7 +45,42 @@ pub record ShowHolders (db : Database) : Type 0 where
   pub holders : ShowsEach holder.tree (0 ∷ 1 ∷ 2 ∷ []) ShowsHolder db
   pub holdings : ShowsEach holding.tree (0 ∷ 1 ∷ 2 ∷ []) (ShowsSome span_cells (λ _. ⊤)) db
   pub grants : ShowsEach granted.tree (1 ∷ 2 ∷ 3 ∷ 4 ∷ 5 ∷ 6 ∷ 7 ∷ []) (ShowsSome grant_cells GrantFits) db
-  pub auths : ShowsEach auth.tree (1 ∷ 2 ∷ 3 ∷ 4 ∷ 5 ∷ 6 ∷ 7 ∷ 8 ∷ []) (ShowsSome auth_cells AuthFits) db
+
+-- the claim of an authorization, and the rows of its entries, with the name of its holder
+abbrev pub named_claim : OfHolder Auth → OfHolder Claim
+named_claim x = record { holder = x.holder; row = claim_of x.row }
+
+abbrev pub named_entries : OfHolder Auth → List (OfHolder EntryRow)
+named_entries x = map (λ r. record { holder = x.holder; row = r }) (entry_rows_of x.row)
+
+-- the authorizations, each with the entries of one, have these claims, and these rows of entries one after the other
+pub record MakeAuths (claims : List (OfHolder Claim)) (entries : List (OfHolder EntryRow)) : Type 0 where
+  pub auths : List (OfHolder Auth)
+  pub are_entries : AllByRecursion (λ (x : OfHolder Auth). AreEntries (entries_of x.row)) auths
+  pub same_claims : map named_claim auths ≡ claims
+  pub same_entries : flat_map named_entries auths ≡ entries
+
+-- the claim has the one entry that an authorization has
+abbrev pub HasOneEntry : Group (OfHolder Claim) → Type 0
+HasOneEntry g = length g.entries ≡ 1
+
+-- where a row of `claim` shows a claim and then the name of its holder, and a row of `entry` so
+abbrev pub claim_places : List ℕ
+claim_places = 1 ∷ 2 ∷ 3 ∷ 4 ∷ 0 ∷ []
+
+abbrev pub entry_places : List ℕ
+entry_places = 1 ∷ 2 ∷ 3 ∷ 4 ∷ 5 ∷ 6 ∷ 0 ∷ []
+
+-- the rows of claims and of entries show values that make authorizations, and the table of schema 1 has no row
+pub record ShowAuths (db : Database) : Type 0 where
+  pub unused : db.trees auth.tree ≡ []
+  pub claims_whole : IsTree (db.trees claim.tree)
+  pub entries_whole : IsTree (db.trees entry.tree)
+  pub claims : List (OfHolder Claim)
+  pub entries : List (OfHolder EntryRow)
+  pub claims_read : AreRead (named_cells claim_cells) (NamedFits ClaimFits) (shown_in claim.tree claim_places db) claims
+  pub entries_read : AreRead (named_cells entry_cells) (NamedFits EntryRowFits) (shown_in entry.tree entry_places db) entries
+  pub made : MakeAuths claims entries
 
 -- each row of the table of exceptions shows one, and they are no more than those of one SLURM file
 pub record ShowExceptions (db : Database) : Type 0 where

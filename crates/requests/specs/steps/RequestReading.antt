@@ -1,14 +1,19 @@
 -- A step of the code, not a definition: how it reads a request, from all of its parts at once, so
 -- that it finds the lowest fault. `RequestFaults` defines which faults a line has, `RequestText` what it
 -- asks.
-use Rattle.std.specs.Prelude.{ℕ, nat_lt, List, length, codes, if◌then◌else◌, Option, Some, None, option_and_then, Result, Ok, Err}
+use Rattle.std.specs.Prelude.{ℕ, nat_lt, Bool, true, false, List, [], ◌∷◌, length, codes, if◌then◌else◌, Option, Some, None, option_and_then, Result, Ok, Err}
 use Rattle.std.specs.Option.{ok_or}
 use Rattle.std.specs.Result.{result_map_both}
+use Rattle.std.specs.Ordering.{is_lt}
+use Rattle.addr.specs.Order.{prefix_cmp}
 use Rattle.addr.specs.declared.asn.Asn.{Asn as AsnValue}
 use Rattle.addr.specs.declared.prefix.Prefix.{Prefix}
 use Rattle.addr.specs.declared.route.Route.{Route}
 use Rattle.registry.specs.declared.authorization.AuthTerms.{AuthTerms}
 use Rattle.registry.specs.declared.authorization.ImportRow.{ImportRow}
+use Rattle.registry.specs.declared.authorization.RoaPrefix.{RoaPrefix}
+use Rattle.requests.specs.declared.request.entries.TheConstants.{MOST_ENTRIES}
+use Rattle.registry.specs.RoaPrefixes.{repeats_prefix}
 use Rattle.registry.specs.declared.command.Command.TheVariants.{Register, Delegate, Transfer, Reclaim, Grant, Revoke, Create, Amend, Withdraw, Import, Slurm}
 use Rattle.registry.specs.declared.command.Proposed.{Proposed}
 use Rattle.registry.specs.declared.grant.Role.{Role as RoleGiven}
@@ -17,7 +22,7 @@ use Rattle.registry.specs.declared.command.Proposed.TheVariants.{Create as Creat
 use Rattle.registry.specs.declared.command.Query.TheVariants.{Show, Content, List as ListQuery, Payloads, Validity, WhatIf}
 use Rattle.serde_json.specs.Data.{Data, Items}
 use Rattle.serde_json.specs.Find.{get, as_array}
-use Rattle.json_values.specs.Parts.{both, mapped, unless, each}
+use Rattle.json_values.specs.Parts.{and_then, both, mapped, unless, each}
 use Rattle.json_values.specs.Tree.{tree_of, required, only, list_of}
 use Rattle.slurm.specs.Exceptions.{Exceptions}
 use Rattle.slurm.specs.declared.fault.SlurmFault.TheVariants.{NotJson}
@@ -25,7 +30,7 @@ use Rattle.slurm.specs.steps.SlurmFile.{slurm_in}
 use Rattle.registry.specs.declared.asked.Asked.{Asked}
 use Rattle.registry.specs.declared.asked.Request.{Request}
 use Rattle.registry.specs.declared.asked.Request.TheVariants.{Command as CommandRequest, Query as QueryRequest}
-use Rattle.requests.specs.RequestFaults.{malformed_number, role_at, terms_members, creation_members, withdrawal_members, route_members, names_of, is_count, action_in, members_of}
+use Rattle.requests.specs.RequestFaults.{malformed_number, role_at, terms_members, creation_members, withdrawal_members, route_members, names_of, is_count, has_some, entry_members, action_in, members_of}
 use Rattle.json_values.specs.Values.{as_name, as_prefix, as_day, as_asn}
 use Rattle.requests.specs.RequestValues.{as_origin, as_max, as_number, as_role, as_scope}
 use Rattle.requests.specs.declared.request.TheConstants.{LINE_LENGTH_LIMIT}
@@ -34,7 +39,7 @@ use Rattle.requests.specs.declared.action.Action.TheVariants.{Register as AskReg
 use Rattle.requests.specs.declared.request.lists.TheConstants.{MOST_ITEMS, MOST_CHANGES}
 use Rattle.requests.specs.declared.request.fault.Fault.{Fault}
 use Rattle.requests.specs.declared.request.commands.Subject.{Subject}
-use Rattle.requests.specs.declared.request.fault.Fault.TheVariants.{Json, Members, Holder, Caller, Prefix as PrefixFault, Asn, Max, Day, Role, Number, File, Count, TooLong}
+use Rattle.requests.specs.declared.request.fault.Fault.TheVariants.{Json, Members, Holder, Caller, Prefix as PrefixFault, Asn, Max, Day, Role, Number, File, Count, TooLong, Repeated}
 
 -- ---- what is asked, with its rows, changes and routes as lists
 
@@ -163,6 +168,61 @@ changes_in = items_in change_in 0 MOST_CHANGES (codes "changes")
 
 abbrev pub routes_in : Data → Result (List Route) Fault
 routes_in = items_in route_in 1 MOST_ITEMS (codes "routes")
+
+-- ---- entries and their maxLengths
+
+-- by which of two lists of members an object has
+abbrev pub chosen : {A : Type 0} → Bool → Bool → Result A Fault → Result A Fault → Result A Fault
+chosen true false one other = one
+chosen false true one other = other
+chosen has_one has_other one other = Err Members
+
+abbrev pub entry_members_in : Data → Result RoaPrefix Fault
+entry_members_in d =
+    mapped (λ p. record { prefix = p.0; max = p.1 }) (both malformed_number (prefix_in d) (max_in d))
+
+abbrev pub entry_in : Data → Result RoaPrefix Fault
+entry_in d = unless malformed_number (entry_members_in d) (only Members (names_of entry_members) d)
+
+-- the entries in order and one more
+abbrev pub with_entry : RoaPrefix → List RoaPrefix → List RoaPrefix
+with_entry new [] = new ∷ []
+with_entry new (e ∷ es) =
+    if is_lt (prefix_cmp new.prefix e.prefix) then new ∷ e ∷ es else e ∷ with_entry new es
+
+abbrev pub in_order : List RoaPrefix → List RoaPrefix
+in_order [] = []
+in_order (e ∷ es) = with_entry e (in_order es)
+
+-- of distinct prefixes, in order
+abbrev pub distinct_in_order : List RoaPrefix → Result (List RoaPrefix) Fault
+distinct_in_order es = if repeats_prefix es then Err Repeated else Ok (in_order es)
+
+-- the entries of an authorization that these are in order
+abbrev pub arranged : List RoaPrefix → Result (List RoaPrefix) Fault
+arranged es = if is_count 1 MOST_ENTRIES (length es) then distinct_in_order es else Err Count
+
+abbrev pub one_entry_in : Data → Result (List RoaPrefix) Fault
+one_entry_in d = mapped (λ entry. entry ∷ []) (entry_members_in d)
+
+abbrev pub entry_list_in : Data → Result (List RoaPrefix) Fault
+entry_list_in d = and_then arranged (items_in entry_in 1 MOST_ENTRIES (codes "entries") d)
+
+abbrev pub entries_in : Data → Result (List RoaPrefix) Fault
+entries_in d =
+    chosen (has_some (names_of entry_members) d) (has_some (codes "entries" ∷ []) d)
+    (one_entry_in d) (entry_list_in d)
+
+abbrev pub max_item_in : Data → Result ℕ Fault
+max_item_in d = ok_or (as_max d) Max
+
+abbrev pub one_max_in : Data → Result (List ℕ) Fault
+one_max_in d = mapped (λ max. max ∷ []) (max_in d)
+
+abbrev pub maxes_in : Data → Result (List ℕ) Fault
+maxes_in d =
+    chosen (has_some (codes "max" ∷ []) d) (has_some (codes "maxes" ∷ []) d)
+    (one_max_in d) (items_in max_item_in 1 MOST_ENTRIES (codes "maxes") d)
 
 -- ---- requests
 

@@ -36,6 +36,8 @@ pub(crate) enum Fault {
     /// A list has no items, or too many.
     Count,
     TooLong,
+    /// Two entries of one create name the same prefix.
+    Repeated,
 }
 
 impl Fault {
@@ -57,6 +59,7 @@ impl Fault {
             Fault::File(_) => 11,
             Fault::Count => 12,
             Fault::TooLong => 13,
+            Fault::Repeated => 14,
         }
     }
 

@@ -87,7 +87,7 @@ fn asked_what_if(
 // ---- lists
 
 /// What the items of the member of that name are read as, of which there may be `least` to `most`.
-fn items_in<T: FromJsonIn<Fault>>(
+pub(crate) fn items_in<T: FromJsonIn<Fault>>(
     alloc: Global,
     value: &Value,
     name: &str,

@@ -27,7 +27,7 @@ fn as_origin(value: &Value) -> Option<Origin>
     }
 }
 
-fn as_max(value: &Value) -> Option<u8>
+pub(crate) fn as_max(value: &Value) -> Option<u8>
     ensures { result ≡ as_max (view value.now) }
 {
     Some(as_number_in(value, 0, GREATEST_MAX)? as u8)

@@ -1,5 +1,5 @@
 -- Steps of reading: what a query answers as raw rows.
-use Rattle.std.specs.Prelude.{◌≡◌, ℕ, ◌≤◌, Bool, true, false, ◌&&◌, List, [], ◌∷◌, ◌++◌, map, filter, Contains, Option, Some, IsTrue, IsPermutation, IsSorted}
+use Rattle.std.specs.Prelude.{◌≡◌, ℕ, true, false, List, [], ◌∷◌, map, Option, Some, IsTrue, IsPermutation, IsSorted}
 use Rattle.std.specs.List.{list_any}
 use Rattle.std.specs.declared.cmp.Ordering.{Ordering}
 use Rattle.std.specs.Ordering.{on}
@@ -8,24 +8,17 @@ use Rattle.sqlite.specs.Given.{IsPlain}
 use Rattle.sqlite.specs.Listing.{understood, reads_listing}
 use Rattle.sqlite.specs.State.{State}
 use Rattle.sqlite.proofs.Callers.{command_of}
-use Rattle.sqlite_value.specs.declared.keys.Collation.TheVariants.{Binary}
 use Rattle.sqlite_value.specs.declared.value.Value.TheVariants.{Text}
 use Rattle.sqlite_value.specs.Order.{Row, column, value_cmp}
-use Rattle.sqlite_sql.specs.declared.ops.CompareOp.TheVariants.{Le, Ge}
-use Rattle.sqlite_sql.specs.declared.ops.BinaryOp.TheVariants.{Compare}
-use Rattle.sqlite_sql.specs.Ops.{binary, is_true}
 use Rattle.addr.specs.Spans.{span_meets}
 use Rattle.addr.specs.declared.prefix.Prefix.{Prefix}
 use Rattle.charters.specs.CharterSets.{CharterSets}
-use Rattle.registry.specs.declared.authorization.Auth.{Auth}
 use Rattle.registry.specs.Rows.{Rows}
 use Rattle.registry.specs.RowsOfAll.{AllRows}
 use Rattle.slurm.specs.Exceptions.{Exceptions}
-use Rattle.tables.specs.Cells.{number_cell, prefix_cells}
 use Rattle.tables.specs.Decode.{first_columns}
-use Rattle.tables.specs.Tables.{desk_beside, OverDesk, contents}
-use Rattle.tables.specs.TablesHold.{TablesHold, items_if_any, auth_part}
-use Rattle.database.specs.Laws.{payload_columns}
+use Rattle.tables.specs.Tables.{desk_beside, OverDesk}
+use Rattle.tables.specs.TablesHold.{TablesHold, items_if_any}
 use Rattle.database.specs.steps.Numbered.{AnswersSelect}
 
 -- it is so of all rows, and of those of one holder, whatever charter and rows the tables hold
@@ -92,24 +85,3 @@ abbrev pub MeetsSome : AllRows → Prefix → Type 0
 MeetsSome rows p =
     (h : List ℕ) × (r : Rows)
     × (rows.of_holder h ≡ Some r) × (list_any (λ s. span_meets s p) r.holdings ≡ true)
-
--- the origin and the prefix of an authorization, with the greatest length
-abbrev pub payload_cells : Auth → Row
-payload_cells x = number_cell x.asn.0 ∷ prefix_cells x.prefix ++ number_cell x.max ∷ []
-
--- the row of an authorization that is in force on the day
-abbrev pub is_open_on : ℕ → Row → Bool
-is_open_on day c =
-    is_true (binary (Compare Le Binary) (column c 7) (number_cell day))
-    && (is_true (binary (Compare Ge Binary) (column c 8) (number_cell day)) && true)
-
-abbrev pub FindsInForce : ℕ → Database → List Row → Type 0
-FindsInForce day db rows =
-    IsPermutation
-    (map payload_columns (filter (is_open_on day) (contents (db.trees auth_part.tree)))) rows
-
--- an authorization of some holder is in force on the day, and this is its payload
-abbrev pub IsPayloadOn : AllRows → ℕ → Row → Type 0
-IsPayloadOn rows day v =
-    (h : List ℕ) × (r : Rows) × (x : Auth)
-    × (rows.of_holder h ≡ Some r) × Contains r.auths x × (x.from ≤ day) × (day ≤ x.until) × (v ≡ payload_cells x)

@@ -1,5 +1,6 @@
 //! Acting on a request, and the response.
 ghost use Rattle.std.specs.Prelude.{◌≡◌, ◌++◌, ℕ, List, true, OnOk, OnErr};
+ghost use Rattle.payload.specs.VrpSet as set;
 ghost use Rattle.streams.specs.Streams.{AppendsBeginning};
 ghost use Rattle.web.specs.HttpResponses.{json_response, refusal_response, reply_status, reply_type, unavailable_response};
 ghost use Rattle.web.specs.ScriptAnswer.{IsLaterDesk};
@@ -8,14 +9,17 @@ ghost use Rattle.web.specs.steps.HttpAnswering.{AnswersNext, IsReplyResponse};
 use super::body::reply_body;
 use super::reading::Next;
 use crate::reply::{short_text, unavailable_text};
+use crate::vrps::{csv_length, write_csv};
 use desk::{Desk, Reply};
-use http_messages::{ContentType, HttpRefusal, Status, fault_text, write_response};
+use http_messages::{ContentType, HttpRefusal, Status, fault_text, response_head, write_response};
+use payload::PayloadIndex;
+use registry::{Asked, Query, Request};
 use sqlite::Alter;
 use std::alloc::Global;
 use streams::{Drain, Failed};
 
-/// Acts on what was asked, and writes the response. What a reply shows is collected first; if an
-/// allocation fails there, the response says so.
+/// Acts on what was asked, and writes the response. What a reply shows is collected first, except
+/// the VRPs of a day; if an allocation fails there, the response says so.
 pub(super) fn respond<D: Drain, A: Alter>(
     alloc: Global,
     drain: &mut D,
@@ -38,11 +42,80 @@ pub(super) fn respond<D: Drain, A: Alter>(
             Status::BadRequest,
             malformed.text().as_str(),
         ),
-        Next::Asked(form, asked) => {
-            let reply = desk.handle(asked.day, &asked.caller, &asked.request);
-            write_reply_response(alloc, drain, *form, &reply)
-        }
+        Next::Asked(form, asked) => answer_to(alloc, drain, desk, *form, asked),
         Next::NotRead => write_unavailable(drain),
+    }
+}
+
+/// Acts on the request, and writes the response to the reply.
+fn answer_to<D: Drain, A: Alter>(
+    alloc: Global,
+    drain: &mut D,
+    desk: &mut Desk<A>,
+    form: ContentType,
+    asked: &Asked,
+) -> Result<(), Failed>
+    ensures ok { OnOk result ((text : List ℕ)
+        × AnswersNext A.Store desk.old (Next.Asked form asked.now) text desk.new
+        × (D.written drain.new ≡ D.written drain.old ++ text)) }
+    ensures err { OnErr result ((text : List ℕ)
+        × AnswersNext A.Store desk.old (Next.Asked form asked.now) text desk.new
+        × AppendsBeginning (D.written drain.old) (D.written drain.new) text) }
+    ensures failed { OnErr result (D.has_failed drain.new ≡ true) }
+    ensures later { IsLaterDesk A.Store desk.old desk.new }
+{
+    if let Request::Query(Query::Payloads) = &asked.request {
+        return write_payloads(drain, desk, form, asked);
+    }
+    let reply = desk.handle(asked.day, &asked.caller, &asked.request);
+    write_reply_response(alloc, drain, form, &reply)
+}
+
+/// Answers a request for the VRPs of a day from those that the desk keeps; no list is made, and
+/// nothing is allocated for a day that is kept.
+fn write_payloads<D: Drain, A: Alter>(
+    drain: &mut D,
+    desk: &mut Desk<A>,
+    form: ContentType,
+    asked: &Asked,
+) -> Result<(), Failed>
+    requires { asked.now.request ≡ Request.Query Query.Payloads }
+    ensures ok { OnOk result ((text : List ℕ)
+        × AnswersNext A.Store desk.old (Next.Asked form asked.now) text desk.new
+        × (D.written drain.new ≡ D.written drain.old ++ text)) }
+    ensures err { OnErr result ((text : List ℕ)
+        × AnswersNext A.Store desk.old (Next.Asked form asked.now) text desk.new
+        × AppendsBeginning (D.written drain.old) (D.written drain.new) text) }
+    ensures failed { OnErr result (D.has_failed drain.new ≡ true) }
+    ensures later { IsLaterDesk A.Store desk.old desk.new }
+{
+    match desk.payloads(asked.day) {
+        Some(vrps) => write_vrps_response(drain, form, vrps),
+        None => write_unavailable(drain),
+    }
+}
+
+/// Writes the response that has the VRPs of an index as CSV. Its head has the length, so a body of
+/// 2^64 bytes or more cannot be sent.
+fn write_vrps_response<I: PayloadIndex, D: Drain>(
+    drain: &mut D,
+    form: ContentType,
+    index: &I,
+) -> Result<(), Failed>
+    ensures ok { OnOk result ((text : List ℕ)
+        × IsReplyResponse form (Reply.Payloads (set.items (I.vrps index.now))) text
+        × (D.written drain.new ≡ D.written drain.old ++ text)) }
+    ensures err { OnErr result ((text : List ℕ)
+        × IsReplyResponse form (Reply.Payloads (set.items (I.vrps index.now))) text
+        × AppendsBeginning (D.written drain.old) (D.written drain.new) text) }
+    ensures failed { OnErr result (D.has_failed drain.new ≡ true) }
+{
+    match csv_length(index) {
+        Some(length) => {
+            let head = response_head(Status::Done, ContentType::Csv, length);
+            write_csv(head.as_str(), index, drain)
+        }
+        None => write_unavailable(drain),
     }
 }
 

@@ -2,14 +2,15 @@
 ghost use Rattle.std.specs.Prelude.{◌≡◌, ◌++◌, ◌≤◌, ℕ, List, true, length, OnOk, OnErr};
 ghost use Rattle.addr.specs.PrefixText.{spelling};
 ghost use Rattle.streams.specs.Streams.{AppendsBeginning};
-ghost use Rattle.web.specs.ReplyText.{auth_text, quoted_state, states_text, terms_text, vrp_text};
-ghost use Rattle.web.specs.steps.ReplyItems.{item_after, separator};
+ghost use Rattle.web.specs.ReplyText.{auth_end, auth_start, auth_text, entries_list, entries_text, entry_text, prefix_members, quoted_state, states_text, vrp_text};
+ghost use Rattle.web.specs.steps.ReplyItems.{auth_item, item_after, list_closing, list_opening, separator};
 
-use addr::{Asn, Prefix, Vrp, digits};
+use super::list::write_items;
+use addr::{Prefix, Vrp, digits};
 use arrayvec::ArrayString;
 use csv_records::day_text;
 use payload::Validity;
-use registry::Auth;
+use registry::{Auth, RoaPrefix};
 use streams::{Drain, Failed, write_all};
 
 /// An item of a list. Each write may be a call of the system, so an item of bounded length is
@@ -30,17 +31,19 @@ impl Item for Auth {
     ghost text = { auth_text };
 
     fn write<D: Drain>(&self, is_first: bool, drain: &mut D) -> Result<(), Failed> {
+        write_auth(is_first, self, &self.entries(), drain)
+    }
+}
+
+impl Item for RoaPrefix {
+    ghost text = { entry_text };
+
+    fn write<D: Drain>(&self, is_first: bool, drain: &mut D) -> Result<(), Failed> {
         let mut text: ArrayString<256> = ArrayString::new();
         text.push_str(separator(is_first));
-        text.push_str("{\"number\":");
-        text.push_str(digits(u64::from(self.number)).as_str());
-        text.push_str(",");
-        text.push_str(terms_text(self.asn, &self.prefix, self.max).as_str());
-        text.push_str(",\"from\":\"");
-        text.push_str(day_text(self.from).as_str());
-        text.push_str("\",\"until\":\"");
-        text.push_str(day_text(self.until).as_str());
-        text.push_str("\"}");
+        text.push_str("{");
+        text.push_str(prefix_members(&self.prefix, self.max).as_str());
+        text.push_str("}");
         write_all(drain, text.as_str().as_bytes())
     }
 }
@@ -81,14 +84,109 @@ impl Item for (Validity, Validity) {
     }
 }
 
+/// Writes an authorization of these entries, behind a comma where it is not the first of its list.
+#[tactic(auto, using(crate::proofs::ReplyLemmas::several_entries))]
+fn write_auth<D: Drain>(
+    is_first: bool,
+    auth: &Auth,
+    entries: &[RoaPrefix],
+    drain: &mut D,
+) -> Result<(), Failed>
+    ensures ok { OnOk result (D.written drain.new ≡ D.written drain.old
+        ++ auth_item is_first auth.now (entries_text entries.now)) }
+    ensures err { OnErr result (AppendsBeginning (D.written drain.old) (D.written drain.new)
+        (auth_item is_first auth.now (entries_text entries.now))) }
+    ensures failed { OnErr result (D.has_failed drain.new ≡ true) }
+{
+    match entries {
+        [entry] => {
+            let mut text: ArrayString<256> = ArrayString::new();
+            text.push_str(auth_start(is_first, auth).as_str());
+            text.push_str(prefix_members(&entry.prefix, entry.max).as_str());
+            text.push_str(auth_end(auth).as_str());
+            write_all(drain, text.as_str().as_bytes())
+        }
+        _ => write_auth_list(is_first, auth, entries, drain),
+    }
+}
+
+/// Writes an authorization with the list of these entries, one by one, since they are too many for
+/// one text of bounded length.
+fn write_auth_list<D: Drain>(
+    is_first: bool,
+    auth: &Auth,
+    entries: &[RoaPrefix],
+    drain: &mut D,
+) -> Result<(), Failed>
+    ensures ok { OnOk result (D.written drain.new ≡ D.written drain.old
+        ++ auth_item is_first auth.now (entries_list entries.now)) }
+    ensures err { OnErr result (AppendsBeginning (D.written drain.old) (D.written drain.new)
+        (auth_item is_first auth.now (entries_list entries.now))) }
+    ensures failed { OnErr result (D.has_failed drain.new ≡ true) }
+{
+    write_all(drain, list_opening(is_first, auth).as_str().as_bytes())?;
+    write_items(entries, drain)?;
+    write_all(drain, list_closing(auth).as_str().as_bytes())?;
+    Ok(())
+}
+
+/// What stands before the list of an authorization's entries.
+fn list_opening(is_first: bool, auth: &Auth) -> ArrayString<128>
+    ensures { result.bytes ≡ list_opening is_first auth.now }
+{
+    let mut text = ArrayString::new();
+    text.push_str(auth_start(is_first, auth).as_str());
+    text.push_str("\"entries\":[");
+    text
+}
+
+/// What stands after it.
+fn list_closing(auth: &Auth) -> ArrayString<128>
+    ensures { result.bytes ≡ list_closing auth.now }
+{
+    let mut text = ArrayString::new();
+    text.push_str("]");
+    text.push_str(auth_end(auth).as_str());
+    text
+}
+
+/// What stands before an authorization's entries.
+fn auth_start(is_first: bool, auth: &Auth) -> ArrayString<64>
+    ensures { result.bytes ≡ item_after is_first (auth_start auth.now) }
+{
+    let mut text = ArrayString::new();
+    text.push_str(separator(is_first));
+    text.push_str("{\"number\":");
+    text.push_str(digits(u64::from(auth.number)).as_str());
+    text.push_str(",\"asn\":");
+    text.push_str(digits(u64::from(auth.asn.0)).as_str());
+    text.push_str(",");
+    text
+}
+
+/// What stands after them.
+fn auth_end(auth: &Auth) -> ArrayString<64>
+    ensures { result.bytes ≡ auth_end auth.now }
+{
+    let mut text = ArrayString::new();
+    text.push_str(",\"from\":\"");
+    text.push_str(day_text(auth.from).as_str());
+    text.push_str("\",\"until\":\"");
+    text.push_str(day_text(auth.until).as_str());
+    text.push_str("\"}");
+    text
+}
+
 /// A VRP, behind a comma where it is not the first of its list.
 pub(crate) fn vrp_item(is_first: bool, vrp: &Vrp) -> ArrayString<256>
     ensures { result.bytes ≡ item_after is_first (vrp_text vrp.now) }
 {
     let mut text = ArrayString::new();
     text.push_str(separator(is_first));
-    text.push_str("{");
-    text.push_str(terms_text(vrp.asn, &vrp.prefix, vrp.max).as_str());
+    text.push_str("{\"asn\":");
+    text.push_str(digits(u64::from(vrp.asn.0)).as_str());
+    text.push_str(",");
+    text.push_str(prefix_members(&vrp.prefix, vrp.max).as_str());
     text.push_str("}");
     text
 }
@@ -112,14 +210,12 @@ fn state_text(validity: &Validity) -> &'static str
     }
 }
 
-/// The members that authorizations and VRPs share.
-fn terms_text(asn: Asn, prefix: &Prefix, max: u8) -> ArrayString<120>
-    ensures { result.bytes ≡ terms_text asn prefix.now max }
+/// The members of a prefix with its maxLength.
+fn prefix_members(prefix: &Prefix, max: u8) -> ArrayString<100>
+    ensures { result.bytes ≡ prefix_members prefix.now max }
 {
     let mut text = ArrayString::new();
-    text.push_str("\"asn\":");
-    text.push_str(digits(u64::from(asn.0)).as_str());
-    text.push_str(",\"prefix\":\"");
+    text.push_str("\"prefix\":\"");
     text.push_str(prefix_text(prefix).as_str());
     text.push_str("\",\"max\":");
     text.push_str(digits(u64::from(max)).as_str());

@@ -25,7 +25,7 @@ pub(super) fn write_list<T: Item, D: Drain>(
 }
 
 /// Writes the items, with a comma between each two.
-fn write_items<T: Item, D: Drain>(items: &[T], drain: &mut D) -> Result<(), Failed>
+pub(super) fn write_items<T: Item, D: Drain>(items: &[T], drain: &mut D) -> Result<(), Failed>
     ensures ok { OnOk result (D.written drain.new
         ≡ D.written drain.old ++ comma_joined (map T.text items.now)) }
     ensures err { OnErr result (AppendsBeginning (D.written drain.old) (D.written drain.new)

@@ -10,7 +10,7 @@ use streams::{Drain, Failed, write_all};
 #[derive(Drop)]
 pub(super) struct Pieces<'a, D> {
     pub(super) drain: &'a mut D,
-    pub(super) piece: ArrayString<4096>,
+    pub(super) piece: ArrayString<32768>,
     pub(super) has_failed: bool,
 }
 

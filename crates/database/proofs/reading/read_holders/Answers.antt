@@ -5,7 +5,7 @@ use Rattle.sqlite.specs.State.{HasCleanDisk}
 use Rattle.database.specs.TablesRead.{TablesRead}
 use Rattle.database.specs.steps.Opened.{ShowsEach}
 use Rattle.database.proofs.QueryLemmas.{refused_by}
-use Rattle.database.proofs.Unread.{each_read, shows_holder, holders_in, holdings_in, grants_in, auths_in}
+use Rattle.database.proofs.Unread.{each_read, shows_holder, holders_in, holdings_in, grants_in}
 use Rattle.sqlite_trees.proofs.ListLemmas.{all_weaker}
 use Rattle.database.proofs.reading.read_holders.Goals as goal
 
@@ -29,26 +29,14 @@ returns-in_err-_grants-clause-schema g c clean is read =
     c.read_table-3.ensures.schema clean (refused_by c.read_table-3.result c.from_residual-in_err-_grants.result c.in_err-_grants.field-0.0 c.in_err-_grants.was c.from_residual-in_err-_grants.ensures.1 is)
     (grants_in (state g.S.Store c.read_table-2.new.conn).now (subst (λ (d : Database). TablesRead d.trees) (sym now) read))
 
-pub returns-in_err-_auths-clause-schema : goal.returns-in_err-_auths-clause-schema
-returns-in_err-_auths-clause-schema g c clean is read =
-    let clean_3 : HasCleanDisk (state g.S.Store c.read_table-3.new.conn) = omega (arith, clean, c.read_table-4.ensures.asked.survives.clean) in
-    let clean_2 : HasCleanDisk (state g.S.Store c.read_table-2.new.conn) = omega (arith, clean_3, c.read_table-3.ensures.asked.survives.clean) in
-    let clean_1 : HasCleanDisk (state g.S.Store c.read_table.new.conn) = omega (arith, clean_2, c.read_table-2.ensures.asked.survives.clean) in
-    let now = (c.in_ok-_grants.ensures.asked.same clean_3).0.now_is ∙ (c.in_ok-_holdings.ensures.asked.same clean_2).0.now_is ∙ (c.in_ok-_holders.ensures.asked.same clean_1).0.now_is in
-    c.read_table-4.ensures.schema clean (refused_by c.read_table-4.result c.from_residual-in_err-_auths.result c.in_err-_auths.field-0.0 c.in_err-_auths.was c.from_residual-in_err-_auths.ensures.1 is)
-    (auths_in (state g.S.Store c.read_table-3.new.conn).now (subst (λ (d : Database). TablesRead d.trees) (sym now) read))
-
 pub returns-clause-found : goal.returns-clause-found
 returns-clause-found g c clean =
-    let clean_3 : HasCleanDisk (state g.S.Store c.read_table-3.new.conn) = omega (arith, clean, c.read_table-4.ensures.asked.survives.clean) in
-    let clean_2 : HasCleanDisk (state g.S.Store c.read_table-2.new.conn) = omega (arith, clean_3, c.read_table-3.ensures.asked.survives.clean) in
+    let clean_2 : HasCleanDisk (state g.S.Store c.read_table-2.new.conn) = omega (arith, clean, c.read_table-3.ensures.asked.survives.clean) in
     let clean_1 : HasCleanDisk (state g.S.Store c.read_table.new.conn) = omega (arith, clean_2, c.read_table-2.ensures.asked.survives.clean) in
     let after_1 = (c.in_ok-_holders.ensures.asked.same clean_1).0.now_is in
     let after_2 = (c.in_ok-_holdings.ensures.asked.same clean_2).0.now_is ∙ after_1 in
-    let after_3 = (c.in_ok-_grants.ensures.asked.same clean_3).0.now_is ∙ after_2 in
     record {
       holders = record { whole = c.in_ok-_holders.ensures.tree clean_1; each = all_weaker _ _ shows_holder _ (each_read _ _ _ _ (c.in_ok-_holders.ensures.read clean_1)) };
       holdings = subst (ShowsEach _ _ _) after_1 (record { whole = c.in_ok-_holdings.ensures.tree clean_2; each = each_read _ _ _ _ (c.in_ok-_holdings.ensures.read clean_2) });
-      grants = subst (ShowsEach _ _ _) after_2 (record { whole = c.in_ok-_grants.ensures.tree clean_3; each = each_read _ _ _ _ (c.in_ok-_grants.ensures.read clean_3) });
-      auths = subst (ShowsEach _ _ _) after_3 (record { whole = c.in_ok-_auths.ensures.tree clean; each = each_read _ _ _ _ (c.in_ok-_auths.ensures.read clean) });
+      grants = subst (ShowsEach _ _ _) after_2 (record { whole = c.in_ok-_grants.ensures.tree clean; each = each_read _ _ _ _ (c.in_ok-_grants.ensures.read clean) });
     }

@@ -1,6 +1,7 @@
-use Rattle.std.proofs.Common.{sym, ap, Some, subst, refl}
+use Rattle.std.proofs.Common.{sym, ap, ◌∙◌, Some, subst, refl}
 use Rattle.registry.specs.declared.command.Command.TheVariants.{Create}
 use Rattle.registry.specs.Answer.{IsAccepted}
+use Rattle.policy.specs.steps.Creation.{IsCreated}
 use Rattle.policy.proofs.decision.decide_create.Goals as goal
 
 pub returns-clause-answer : goal.returns-clause-answer
@@ -8,7 +9,8 @@ returns-clause-answer c history legal are =
     let a = c.args in
     let h = a.holder.name.now in
     let t = a.terms.now in
-    let made = c.in_ok-auth.ensures a.basis.charter.now history h legal are in
+    let made = subst (IsCreated a.basis.charter.now history h a.basis.day a.basis.caller.now t) (sym c.in_ok-auth.ensures)
+    (c.in_ok-number.ensures a.basis.charter.now history h legal are) in
     subst (IsAccepted a.basis.charter.now history a.basis.day a.basis.caller.now (Create h t)) (sym c.change_of.ensures) (record {
       after = _;
       leaves = (made.verdict, refl);

@@ -2,11 +2,11 @@ use Rattle.std.proofs.Common.{◌≡◌, slice_get, arith, refl, sym, subst, ◌
 use Rattle.std.specs.Prelude.{⊤}
 use Rattle.sqlite.specs.Held.{state}
 use Rattle.sqlite.specs.State.{HasCleanDisk}
-use Rattle.tables.specs.Cells.{grant_cells, auth_cells}
-use Rattle.registry.specs.Values.{GrantFits, AuthFits}
+use Rattle.tables.specs.Cells.{grant_cells}
+use Rattle.registry.specs.Values.{GrantFits, FitIfAny}
 use Rattle.tables.specs.TablesHold.{items_if_any}
 use Rattle.tables.proofs.CellsOnce.{counters_of_rows}
-use Rattle.store.proofs.Loading.{AreCounters, CountersFit, counters_fit, all_spans_fit, grants_fit, auths_fit, first_counters, by_number, same-permuted, held_before, never_fit, none_loaded, all_loaded}
+use Rattle.store.proofs.Loading.{AreCounters, CountersFit, counters_fit, all_spans_fit, grants_fit, first_counters, by_number, same-permuted, held_before, never_fit, refused_before, none_loaded, all_loaded}
 use Rattle.database.proofs.QueryLemmas.{refused_by}
 use Rattle.store.proofs.load.load_rows.Goals as goal
 
@@ -43,17 +43,17 @@ pub returns-in_err-auths-clause-schema : goal.returns-in_err-auths-clause-schema
 returns-in_err-auths-clause-schema g c clean is =
     let old = state g.S.Store c.args.conn.now in
     let mid = state g.S.Store c.load_values-3.new.conn in
-    let counted = c.in_ok-counters.ensures.asked.same (omega (arith, clean, c.load_values-2.ensures.asked.survives.clean, c.load_values-3.ensures.asked.survives.clean, c.load_values-4.ensures.asked.survives.clean)) in
-    let held = c.in_ok-spans.ensures.asked.same (omega (arith, clean, c.load_values-3.ensures.asked.survives.clean, c.load_values-4.ensures.asked.survives.clean)) in
-    let granted = c.in_ok-grants.ensures.asked.same (omega (arith, clean, c.load_values-4.ensures.asked.survives.clean)) in
-    never_fit AuthFits (λ r. r.auths) auths_fit c.args.holder.now old mid counted.0.was_open (granted.0.now_is ∙ held.0.now_is ∙ counted.0.now_is)
-    (c.load_values-4.ensures.schema clean (refused_by c.load_values-4.result c.from_residual-in_err-auths.result c.in_err-auths.field-0.0 c.in_err-auths.was c.from_residual-in_err-auths.ensures.1 is))
+    let counted = c.in_ok-counters.ensures.asked.same (omega (arith, clean, c.load_values-2.ensures.asked.survives.clean, c.load_values-3.ensures.asked.survives.clean, c.load_auths.ensures.asked.survives.clean)) in
+    let held = c.in_ok-spans.ensures.asked.same (omega (arith, clean, c.load_values-3.ensures.asked.survives.clean, c.load_auths.ensures.asked.survives.clean)) in
+    let granted = c.in_ok-grants.ensures.asked.same (omega (arith, clean, c.load_auths.ensures.asked.survives.clean)) in
+    refused_before (λ all. ¬ FitIfAny (all.of_holder c.args.holder.now)) old mid counted.0.was_open (granted.0.now_is ∙ held.0.now_is ∙ counted.0.now_is)
+    (c.load_auths.ensures.schema clean (refused_by c.load_auths.result c.from_residual-in_err-auths.result c.in_err-auths.field-0.0 c.in_err-auths.was c.from_residual-in_err-auths.ensures.1 is))
 
 pub returns-clause-found : goal.returns-clause-found
 returns-clause-found g c clean charter all holds =
     let o = all.of_holder c.args.holder.now in
     let old = state g.S.Store c.args.conn.now in
-    let clean_3 : HasCleanDisk (state g.S.Store c.load_values-3.new.conn) = omega (arith, clean, c.load_values-4.ensures.asked.survives.clean) in
+    let clean_3 : HasCleanDisk (state g.S.Store c.load_values-3.new.conn) = omega (arith, clean, c.load_auths.ensures.asked.survives.clean) in
     let clean_2 : HasCleanDisk (state g.S.Store c.load_values-2.new.conn) = omega (arith, clean_3, c.load_values-3.ensures.asked.survives.clean) in
     let clean_1 : HasCleanDisk (state g.S.Store c.load_values.new.conn) = omega (arith, clean_2, c.load_values-2.ensures.asked.survives.clean) in
     let after_counters = (c.in_ok-counters.ensures.asked.same clean_1).0.now_is in
@@ -67,4 +67,4 @@ returns-clause-found g c clean charter all holds =
     all_loaded o c.in-Some.field-0 _ counters refl refl c.in_ok-holdings_of.ensures.maximal
     (λ a. rw c.deref-2.ensures.value at (c.in_ok-holdings_of.ensures.same a) ∙ same-permuted _ c.in_ok-spans.spans.items spans a)
     (grants, by_number grant_cells (λ x. x.number) (λ x. refl) c.in_ok-grants.grants.items (c.in_ok-grants.ensures.rising clean_3))
-    (auths, by_number auth_cells (λ x. x.number) (λ x. refl) c.in_ok-auths.auths.items (c.in_ok-auths.ensures.rising clean))
+    auths

@@ -1,7 +1,7 @@
 use Rattle.std.proofs.Common.{◌≡◌, rules, arith, subst}
 use Rattle.sqlite.specs.Held.{state}
 use Rattle.sqlite.specs.State.{HasCleanDisk, Survives}
-use Rattle.store.specs.steps.Statements.{MayCommit, CommitsChange}
+use Rattle.store.specs.steps.Commits.{MayCommit, CommitsChange}
 use Rattle.store.proofs.StoreLemmas.{commit_ok, commit_crash}
 use Rattle.store.proofs.store.commit_change.Goals as goal
 

@@ -1,17 +1,15 @@
-use Rattle.std.proofs.Common.{sym, ◌∙◌}
-use Rattle.std.proofs.lemmas.Bool.{true≢false}
-use Rattle.kept.specs.KeptDay.{KeptDay}
-use Rattle.kept.proofs.Keeps.{filtered_joined, inserted_joined}
+use Rattle.kept.proofs.Follows.{auth_joined, given_where_fails, in_force_gives}
 use Rattle.kept.proofs.kept.Kept.begin.Goals as goal
 
-pub returns-in_ok-insert-clause-ok : goal.returns-in_ok-insert-clause-ok
-returns-in_ok-insert-clause-ok c =
-    let day : KeptDay = record { day = c.self.inside.day; vrps = c.self.inside.vrps; filters = c.self.inside.filters; asserted = c.self.inside.asserted } in
-    rw (c.in_ok-insert.ensures.ok, ← c.self.view_is)
-    (inserted_joined day c.args.auth.now c.in-Some.vrp c.in-Some.ensures (λ some. true≢false (sym (c.matches.ensures.some.1 some) ∙ c.if-not-matches.true)))
+pub returns-in_ok-begin_entries-clause-ok : goal.returns-in_ok-begin_entries-clause-ok
+returns-in_ok-begin_entries-clause-ok c =
+    auth_joined c.args.self.now c.begin_entries.new.self c.args.auth.now (rw (← c.self.view_is) (c.is_in_force.ensures.0 c.if-is_in_force.true))
+    (rw c.entries.ensures at c.in_ok-begin_entries.ensures.ok)
 
-pub returns-else-not-matches-clause-ok : goal.returns-else-not-matches-clause-ok
-returns-else-not-matches-clause-ok c =
-    let day : KeptDay = record { day = c.self.inside.day; vrps = c.self.inside.vrps; filters = c.self.inside.filters; asserted = c.self.inside.asserted } in
-    rw (← c.self.view_is)
-    (filtered_joined day c.args.auth.now c.in-Some.vrp c.in-Some.ensures (c.matches.ensures.some.0 c.if-not-matches.false))
+pub returns-in_err-begin_entries-clause-err : goal.returns-in_err-begin_entries-clause-err
+returns-in_err-begin_entries-clause-err c =
+    let some = rw c.entries.ensures at c.in_err-begin_entries.ensures.err in
+    given_where_fails c.from_residual.result (
+      some.0,
+      (in_force_gives c.args.auth.now c.args.self.now.day (rw (← c.self.view_is) (c.is_in_force.ensures.0 c.if-is_in_force.true)) some.0).0 some.1,
+    )

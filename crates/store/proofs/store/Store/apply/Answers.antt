@@ -3,7 +3,8 @@ use Rattle.sqlite.specs.Held.{state}
 use Rattle.sqlite.specs.State.{HasCleanDisk}
 use Rattle.registry.specs.RowsOfAll.{AllRows, changed_rows}
 use Rattle.store.specs.Given.{GivenOnce}
-use Rattle.store.specs.StoreRows.{RowChange, Holds, MayLeave, LeavesOnly, LeavesPlaced, connection_state}
+use Rattle.store.specs.StoreRows.{Holds, MayLeave, LeavesOnly, LeavesPlaced, connection_state}
+use Rattle.edits.specs.Changes.{RowChange}
 use Rattle.store.proofs.StoreLemmas.{over, holds_ok, may_leave, leaves_only, leaves_placed, once_before, schema_kept}
 use Rattle.store.proofs.store.Store.apply.Goals as goal
 
@@ -58,7 +59,7 @@ returns-clause-once g c clean =
     let was : over charter old ≡ c.args.self.now = c.self.view_is in
     let before : HasCleanDisk (state g.S.Store new) → HasCleanDisk (state g.S.Store old) = λ clean. omega (arith, c.commit_change.ensures.crash.clean) in
     subst (λ store. OnOk c.commit_change.result ((rows : AllRows) → Holds g.S.Store store rows → GivenOnce rows)) was
-    (once_before g.S.Store c.commit_change.result c.args.change.now charter old new clean before c.auths_differ.ensures c.schema-schema.ensures.live c.self.invariant.1 (c.commit_change.ensures.ok clean))
+    (once_before g.S.Store c.commit_change.result c.args.change.now charter old new clean before c.entries_differ.ensures c.claims_differ.ensures c.schema-schema.ensures.live c.self.invariant.1 (c.commit_change.ensures.ok clean))
 
 pub returns-clause-beside : goal.returns-clause-beside
 returns-clause-beside g c clean opened =

@@ -1,0 +1,40 @@
+//! Desks in memory that tests begin with.
+use addr::{Name, Prefix};
+use desk::Desk;
+use policy::Charter;
+use sqlite::MemStore;
+use std::alloc::Global;
+use std::test::Fail;
+
+/// The pool of the scripts that name no other.
+pub const EXAMPLE_POOL: &[&str] = &["192.0.2.0/24", "198.51.100.0/24", "2001:db8::/32"];
+
+/// The charter of the operator `reg` and this pool.
+fn charter_with_pool(alloc: Global, pool: &[&str]) -> Result<Charter, Fail> {
+    let mut operators = Vec::new(alloc);
+    operators.push(Name::read(b"reg").ok_or("a name")?)?;
+    let mut prefixes = Vec::new(alloc);
+    for text in pool {
+        prefixes.push(Prefix::read(text.as_bytes())?)?;
+    }
+    Ok(Charter::make(operators, prefixes)?)
+}
+
+/// A new desk with the operator `reg` and this pool.
+pub fn desk_of(alloc: Global, pool: &[&str]) -> Result<Desk<MemStore>, Fail> {
+    let charter = charter_with_pool(alloc, pool)?;
+    let Ok(desk) = Desk::open_memory(alloc, &charter) else {
+        return Err("no desk".into());
+    };
+    Ok(desk)
+}
+
+/// The charter of the operator `reg` and `EXAMPLE_POOL`.
+pub fn example_charter(alloc: Global) -> Result<Charter, Fail> {
+    charter_with_pool(alloc, EXAMPLE_POOL)
+}
+
+/// A new desk with this charter.
+pub fn example_desk(alloc: Global) -> Result<Desk<MemStore>, Fail> {
+    desk_of(alloc, EXAMPLE_POOL)
+}

@@ -1,0 +1,9 @@
+use Rattle.std.proofs.Common.{◌≡◌, ◌++◌, drop}
+use Rattle.std.specs.List.{flat_map}
+use Rattle.csv_records.specs.Lines.{csv_line, csv_text, list_header, list_rows}
+use Rattle.csv_records.proofs.lines.list_lines.Given as goal
+
+abbrev pub invariant-loop-auth : goal.invariant-loop-auth
+invariant-loop-auth l =
+    l.text.items ++ flat_map csv_line (flat_map list_rows (drop l.auth-index l.auths))
+    ≡ csv_text list_header (λ row. row) (flat_map list_rows l.auths)

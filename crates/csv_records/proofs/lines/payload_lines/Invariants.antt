@@ -1,0 +1,9 @@
+use Rattle.std.proofs.Common.{◌≡◌, ◌++◌, drop}
+use Rattle.std.specs.List.{flat_map}
+use Rattle.csv_records.specs.Lines.{csv_line, csv_text, payload_header, payload_row}
+use Rattle.csv_records.proofs.lines.payload_lines.Given as goal
+
+abbrev pub invariant-loop-vrp : goal.invariant-loop-vrp
+invariant-loop-vrp l =
+    l.text.items ++ flat_map (λ v. csv_line (payload_row v)) (drop l.vrp-index l.vrps)
+    ≡ csv_text payload_header payload_row l.vrps

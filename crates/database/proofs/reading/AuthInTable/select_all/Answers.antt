@@ -1,5 +1,0 @@
-use Rattle.database.proofs.AllTexts.{selects_auth}
-use Rattle.database.proofs.reading.AuthInTable.select_all.Goals as goal
-
-pub returns : goal.returns
-returns c = selects_auth

@@ -1,0 +1,181 @@
+-- What is kept of a day follows a change of the rows.
+use Rattle.std.proofs.Common.{◌≡◌, ◌⊎◌, inl, inr, ◌↔◌, ℕ, Bool, true, false, ◌||◌, List, [], Option, Some, None, Result, Ok, Err, refl, sym, ap, ◌∙◌, subst, Contains}
+use Rattle.std.specs.Prelude.{IfSome, OnOk, is_ok, is_err}
+use Rattle.std.proofs.lemmas.Bool.{true≢false}
+use Rattle.addr.specs.declared.vrp.Vrp.{Vrp}
+use Rattle.kept.proofs.ExceptionLemmas.{after_alike}
+use Rattle.kept.proofs.Follows.{follow_keeps}
+use Rattle.kept.specs.Changes.{AreJoined, IsSpared, IsWithSame}
+use Rattle.kept.specs.KeptDay.{exceptions_of, HasExceptions, KeptDay}
+use Rattle.addr.specs.declared.prefix.Prefix.{Prefix}
+use Rattle.registry.specs.Answer.{holder_of, is_transfer}
+use Rattle.payload.specs.VrpSet as set
+use Rattle.registry.specs.Edits.{begun, ended, HasEditsOf, IsEditOf, IsHold, IsHoldEndingNone}
+use Rattle.registry.specs.RowsOfAll.{AllRows, IsGivenOn, changed_rows}
+use Rattle.registry.specs.declared.authorization.Auth.{Auth}
+use Rattle.registry.specs.declared.change.Change.{Change}
+use Rattle.registry.specs.declared.change.Change.TheVariants.{Holders, Exceptions}
+use Rattle.registry.specs.declared.change.Edit.{Edit}
+use Rattle.registry.specs.declared.change.Edit.TheVariants.{Hold, Grant as GrantEdit}
+use Rattle.registry.specs.declared.command.Command.{Command}
+use Rattle.registry.specs.declared.command.Command.TheVariants.{Register, Delegate, Transfer, Reclaim, Grant, Revoke, Create, Amend, Withdraw, Import, Slurm as SlurmCommand}
+use Rattle.registry.specs.declared.change.HolderChange.{HolderChange}
+use Rattle.registry.specs.declared.rows.HolderRows.{HolderRows}
+use Rattle.slurm.specs.Exceptions.{Exceptions as ExceptionsOf}
+use Rattle.store.specs.Given.{GivenOnce}
+use Rattle.store.specs.Loads.{AreLoaded}
+use Rattle.desk.proofs.GivenEdits.{edits_given_as_loaded, edits_nothing, ending_keeps_once, none_loaded, rows_stay}
+use Rattle.desk.specs.DeskView.{IsDayOfRows}
+use Rattle.desk.specs.DayAfter.{makes_auths, DayAfterCommand}
+use Rattle.desk.specs.steps.Following.{begins_some, AreLoadedFor, EditsTwoApart, Follows, FollowsChange, FollowsDay, FollowsEdit}
+
+-- ---- an edit of one holder
+
+pub has_same : (old new : KeptDay) (exceptions : ExceptionsOf) → IsWithSame old new → HasExceptions old exceptions → HasExceptions new exceptions
+has_same old new exceptions same has = record {
+  filters = same.filters ∙ has.filters;
+  assertions = rw same.asserted has.assertions;
+}
+
+edit_followed : (rows : AllRows) (change : HolderChange) (loaded : Option HolderRows) (old new : KeptDay) → GivenOnce rows
+    → AreLoaded (rows.of_holder change.holder) loaded → FollowsEdit change.edit loaded old new
+    → IsDayOfRows rows old → IsDayOfRows (changed_rows (Holders change None) rows) new
+edit_followed rows change None old new once of same is =
+    subst (IsDayOfRows (changed_rows (Holders change None) rows)) (sym same) (record {
+      exceptions = is.exceptions;
+      given = λ v.
+          let edits = edits_nothing rows change old.day v (none_loaded (rows.of_holder change.holder) of) in
+          let alike = after_alike (exceptions_of old) v edits.1 edits.0 in
+          (λ there. alike.0 ((is.given v).0 there), λ after. (is.given v).1 (alike.1 after));
+    })
+edit_followed rows change (Some loaded) old new once of (same, are) is = record {
+  exceptions = has_same old new rows.exceptions same is.exceptions;
+  given = λ v.
+      let auths = loaded.auths.items in
+      let kept = follow_keeps (λ (w : Vrp). IsGivenOn rows old.day w) (ended change.edit auths) (begun change.edit auths) old new same are is.given v in
+      let edits = edits_given_as_loaded rows change loaded old.day v once of in
+      let alike = after_alike (exceptions_of new) v edits.1 edits.0 in
+      rw same.day (λ there. alike.0 (kept.0 there), λ after. kept.1 (alike.1 after));
+}
+
+-- where the holder has rows, what was done follows the edit of them
+pub follows_some : {T E : Type 0} (r : Result T E) (edit : Edit) (rows : HolderRows) (auths : List Auth) (old new : KeptDay) → auths ≡ rows.auths.items → IsWithSame old new
+    → OnOk r ((v : Vrp) → Contains (set.items new.vrps) v ↔ (AreJoined old (begun edit auths) v × IsSpared old (ended edit auths) (begun edit auths) v))
+    → OnOk r (FollowsEdit edit (Some rows) old new)
+follows_some (Ok x) edit rows auths old new is same are = (same, rw is at are)
+follows_some (Err e) edit rows auths old new is same are = tt
+
+pub when_ok : {T E P : Type 0} (r : Result T E) → is_ok r ≡ true → OnOk r P → P
+when_ok (Ok x) is so = so
+when_ok (Err e) not so = absurd (true≢false (sym not))
+
+pub when_no_error : {T E P : Type 0} (r : Result T E) → is_err r ≡ false → OnOk r P → P
+when_no_error (Ok x) is so = so
+when_no_error (Err e) not so = absurd (true≢false not)
+
+-- ---- a change
+
+holds_begin_none : (edit : Edit) → IsHold edit → (auths : List Auth) → begun edit auths ≡ []
+holds_begin_none (Hold removed added gone) is auths = refl
+holds_begin_none other is auths = absurd is
+
+change_followed : (change : Change) (one other : Option HolderRows) (old new : KeptDay) → EditsTwoApart change → FollowsChange change one other old new
+    → (rows : AllRows) → GivenOnce rows → AreLoadedFor change one other rows → IsDayOfRows rows old → IsDayOfRows (changed_rows change rows) new
+change_followed (Holders first None) one other old new apart follows rows once of is = edit_followed rows first one old new once of follows is
+change_followed (Holders first (Some second)) one other old new apart (mid, early, late) rows once of is =
+    let begins = holds_begin_none first.edit apart.1 in
+    let middle = changed_rows (Holders first None) rows in
+    let still : AreLoaded (middle.of_holder second.holder) other =
+    subst (λ w. AreLoaded w other) (sym (rows_stay rows first second.holder apart.0)) of.1 in
+    edit_followed middle second other mid new (ending_keeps_once rows first begins once) still late
+    (edit_followed rows first one old mid once of.0 early is)
+change_followed (Exceptions file) one other old new apart none rows once of is = absurd none
+
+-- what is kept follows
+pub followed : (change : Change) (one other : Option HolderRows) (old new : KeptDay) → EditsTwoApart change → FollowsChange change one other old new
+    → Follows change one other (Some old) (Some new)
+followed change one other old new apart follows rows once of is = change_followed change one other old new apart follows rows once of is
+
+-- or is let go
+pub let_go : (change : Change) (one other : Option HolderRows) (old : Option KeptDay) → Follows change one other old None
+let_go change one other old rows once of is = tt
+
+-- ---- the change of a command
+
+pub apart_by : (command : Command) (change : Change) → HasEditsOf command change → EditsTwoApart change
+apart_by (Transfer p giver taker) (Holders first (Some second)) edits = (rw (edits.0, edits.2) edits.4, edits.1)
+apart_by (Transfer p giver taker) (Holders first None) edits = tt
+apart_by (Transfer p giver taker) (Exceptions file) edits = tt
+apart_by (SlurmCommand file) (Holders first (Some second)) edits = absurd edits
+apart_by other (Holders first (Some second)) edits = absurd edits
+apart_by other (Holders first None) edits = tt
+apart_by other (Exceptions file) edits = tt
+
+pub no_transfer : (command : Command) → ((p : Prefix) (giver taker : List ℕ) → ¬ (command ≡ Transfer p giver taker)) → is_transfer command ≡ false
+no_transfer (Transfer p giver taker) not = absurd (not p giver taker refl)
+no_transfer other not = refl
+
+-- the rows that are loaded for a command are those that its change edits
+pub loaded_for_one : (command : Command) (change : Change) (one : Option HolderRows) (rows : AllRows) → is_transfer command ≡ false → HasEditsOf command change
+    → IfSome (holder_of command) (λ h. AreLoaded (rows.of_holder h) one) → AreLoadedFor change one None rows
+loaded_for_one (Transfer p giver taker) change one rows not edits loaded = absurd (true≢false not)
+loaded_for_one command (Exceptions file) one rows not edits loaded = tt
+loaded_for_one command (Holders first None) one rows not edits loaded =
+    subst (λ (h : Option (List ℕ)). IfSome h (λ n. AreLoaded (rows.of_holder n) one)) edits.0 loaded
+loaded_for_one command (Holders first (Some second)) one rows not edits loaded = absurd edits
+
+pub loaded_for_two : (p : Prefix) (giver taker : List ℕ) (change : Change) (one other : Option HolderRows) (rows : AllRows) → HasEditsOf (Transfer p giver taker) change
+    → AreLoaded (rows.of_holder giver) one × AreLoaded (rows.of_holder taker) other → AreLoadedFor change one other rows
+loaded_for_two p giver taker (Holders first None) one other rows edits loaded = absurd edits.1
+loaded_for_two p giver taker (Holders first (Some second)) one other rows edits loaded = (
+  subst (λ (h : List ℕ). AreLoaded (rows.of_holder h) one) (sym edits.0) loaded.0,
+  subst (λ (h : List ℕ). AreLoaded (rows.of_holder h) other) (sym edits.2) loaded.1,
+)
+loaded_for_two p giver taker (Exceptions file) one other rows edits loaded = tt
+
+-- an edit of a command that makes no authorization begins none
+begins_no : (command : Command) (edit : Edit) → IsEditOf command edit → makes_auths command ≡ false → begins_some edit ≡ false
+begins_no (Register h) edit is not = ap begins_some is
+begins_no (Delegate h p) (Hold removed added gone) is not = refl
+begins_no (Delegate h p) other is not = absurd is
+begins_no (Reclaim h p) (Hold removed added gone) is not = refl
+begins_no (Reclaim h p) other is not = absurd is
+begins_no (Grant h name role scope until) (GrantEdit given) is not = refl
+begins_no (Grant h name role scope until) other is not = absurd is
+begins_no (Revoke h n) edit is not = ap begins_some is
+begins_no (Withdraw h n) edit is not = ap begins_some is
+begins_no (Create h terms) edit is not = absurd (true≢false not)
+begins_no (Amend h n max until) edit is not = absurd (true≢false not)
+begins_no (Import h rows) edit is not = absurd (true≢false not)
+begins_no (Transfer p giver taker) edit is not = absurd is
+begins_no (SlurmCommand file) edit is not = absurd is
+
+hold_begins_no : (edit : Edit) → IsHold edit → begins_some edit ≡ false
+hold_begins_no (Hold removed added gone) is = refl
+hold_begins_no other is = absurd is
+
+ending_none_begins_no : (edit : Edit) → IsHoldEndingNone edit → begins_some edit ≡ false
+ending_none_begins_no (Hold removed added gone) is = refl
+ending_none_begins_no other is = absurd is
+
+stays_then : (may : Bool) (old new : Option ℕ) → may ≡ false → (new ≡ old) ⊎ ((new ≡ None) × (may ≡ true)) → new ≡ old
+stays_then may old new not (inl same) = same
+stays_then may old new not (inr gone) = absurd (true≢false (sym gone.1 ∙ not))
+
+stays_or_gone : (P : Type 0) (old new : Option ℕ) → (new ≡ old) ⊎ ((new ≡ None) × P) → (new ≡ old) ⊎ (new ≡ None)
+stays_or_gone P old new (inl same) = inl same
+stays_or_gone P old new (inr gone) = inr gone.0
+
+-- what becomes of the day by a change becomes of it by the command
+pub day_by : (command : Command) (change : Change) (old new : Option ℕ) → HasEditsOf command change → FollowsDay change old new → DayAfterCommand command old new
+day_by (SlurmCommand file) (Exceptions more) old new edits follows = follows
+day_by (Transfer p giver taker) (Holders first (Some second)) old new edits follows =
+    stays_then (begins_some first.edit || begins_some second.edit) old new
+    (rw (hold_begins_no first.edit edits.1, ending_none_begins_no second.edit edits.3) refl) follows
+day_by (Create h terms) (Holders first None) old new edits follows = stays_or_gone _ old new follows
+day_by (Amend h n max until) (Holders first None) old new edits follows = stays_or_gone _ old new follows
+day_by (Import h rows) (Holders first None) old new edits follows = stays_or_gone _ old new follows
+day_by (SlurmCommand file) (Holders first None) old new edits follows = absurd edits.1
+day_by command (Holders first None) old new edits follows =
+    stays_then (begins_some first.edit) old new (begins_no command first.edit edits.1 refl) follows
+day_by command change old new edits follows = absurd edits

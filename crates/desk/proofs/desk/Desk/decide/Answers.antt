@@ -1,0 +1,23 @@
+use Rattle.std.proofs.Common.{◌≡◌, ap, ◌∙◌, Err, subst}
+use Rattle.std.proofs.lemmas.Result.{err_from_is_err_and}
+use Rattle.registry.specs.Answer.{IsAnswer}
+use Rattle.charters.specs.declared.charter.Charter.{Charter}
+use Rattle.desk.specs.Desk.{charter_of}
+use Rattle.desk.proofs.DeskLemmas.{refused_answers}
+use Rattle.desk.proofs.FollowLemmas.{loaded_for_one, no_transfer}
+use Rattle.desk.proofs.desk.Desk.decide.Goals as goal
+
+pub returns-in_err-change-clause-answer : goal.returns-in_err-change-clause-answer
+returns-in_err-change-clause-answer g c clean history legal held =
+    let charter = charter_of c.args.self.now in
+    let same : c.charter-charter.result.now ≡ charter = c.charter-charter.ensures ∙ ap charter_of c.self.view_is ∙ c.load_two.ensures.read.charter in
+    let rows = c.in_ok-first.ensures.rows clean history legal held in
+    let refused = err_from_is_err_and c.from_residual-in_err-change.result c.from_residual-in_err-change.ensures.1 in
+    let answer = c.in_err-change.ensures.answer history c.args.day (rw same legal) (rw (c.in-Transfer.is, c.as_ref.ensures.value) rows.0) (rw (c.in-Transfer.is, c.as_ref-in-Transfer.ensures.value) rows.1) in
+    rw (refused.1, refused.2) (refused_answers charter history c.args.day c.args.caller.now c.args.command.now c.in_err-change.field-0.0
+    (subst (λ (k : Charter). IsAnswer k history c.args.day c.args.caller.now c.args.command.now (Err c.in_err-change.field-0.0)) same answer))
+
+pub returns-in_ok-change-2-clause-loaded : goal.returns-in_ok-change-2-clause-loaded
+returns-in_ok-change-2-clause-loaded g c clean rows holds =
+    loaded_for_one c.args.command.now c.in_ok-change-2.change c.in_ok-view.view.holder rows (no_transfer c.args.command.now c.in_default.not-Transfer) c.in_ok-change-2.ensures.shape
+    (c.in_ok-view.ensures.loaded clean rows holds)

@@ -1,0 +1,23 @@
+use Rattle.std.proofs.Common.{◌≡◌, ◌≤◌, false, take, length}
+use Rattle.std.specs.List.{list_any}
+use Rattle.std.specs.Prelude.{vec_len, vec_capacity}
+use Rattle.desk.specs.Answer.{is_accepted}
+use Rattle.desk.specs.DayAfter.{DayAfterAll}
+use Rattle.desk.specs.Prepared.{day_of}
+use Rattle.desk.specs.Desk.{charter_of, store_of, IsOnCleanDisk, KeepsRows, OfHistories}
+use Rattle.desk.specs.HolderAnswers.{may_change_any, may_except_any, KeepsOthers}
+use Rattle.desk.specs.CrashOutcomes.{AreKept}
+use Rattle.desk.proofs.desk.Desk.run.Given as goal
+
+abbrev pub invariant-loop-one : goal.invariant-loop-one
+invariant-loop-one g l = record {
+  chartered : charter_of l.self ≡ charter_of l.initial.self;
+  limit : (store_of l.self).connection.step_limit ≡ (store_of l.initial.self).connection.step_limit;
+  clean : IsOnCleanDisk g.S.Store l.self → IsOnCleanDisk g.S.Store l.initial.self;
+  room : length l.asked ≤ vec_capacity l.replies;
+  count : vec_len l.replies ≡ l.one-index;
+  kept : list_any is_accepted l.replies.items ≡ false → KeepsRows g.S.Store l.initial.self l.self;
+  left : OfHistories g.S.Store l.initial.self l.self (λ history. AreKept g.S.Store (charter_of l.initial.self) history (take l.one-index l.asked) l.replies.items l.initial.self l.self);
+  others : OfHistories g.S.Store l.initial.self l.self (λ history. KeepsOthers g.S.Store (may_change_any (take l.one-index l.asked)) (may_except_any (take l.one-index l.asked)) l.initial.self l.self);
+  kept_day : DayAfterAll (take l.one-index l.asked) l.replies.items (day_of l.initial.self.kept) (day_of l.self.kept);
+}

@@ -1,0 +1,7 @@
+use Rattle.desk.proofs.FollowLemmas.{follows_some}
+use Rattle.desk.proofs.desk.following.follow_edit.Goals as goal
+
+pub returns-in-Some-clause-ok : goal.returns-in-Some-clause-ok
+returns-in-Some-clause-ok c =
+    rw c.in-Some.is (follows_some c.follow.result c.args.edit.now c.in-Some.rows.now c.deref.result.now c.args.kept.now c.follow.new.self
+    c.deref.ensures.value c.follow.ensures.same c.follow.ensures.ok)

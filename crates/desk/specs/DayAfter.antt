@@ -1,0 +1,54 @@
+-- What a request makes of the day whose VRPs are kept.
+use Rattle.std.specs.Prelude.{◌≡◌, ◌≢◌, ◌⊎◌, ℕ, Bool, true, false, List, [], ◌∷◌, Option, Some, None}
+use Rattle.registry.specs.declared.asked.Asked.{Asked}
+use Rattle.registry.specs.declared.asked.Request.{Request}
+use Rattle.registry.specs.declared.asked.Request.TheVariants.{Command as CommandRequest, Query as QueryRequest}
+use Rattle.registry.specs.declared.command.Command.{Command}
+use Rattle.registry.specs.declared.command.Command.TheVariants.{Create, Amend, Import, Slurm}
+use Rattle.registry.specs.declared.command.Query.{Query}
+use Rattle.registry.specs.declared.command.Query.TheVariants.{Payloads as PayloadsQuery, Validity as ValidityQuery}
+use Rattle.desk.specs.Answer.{is_accepted}
+use Rattle.desk.specs.declared.reply.Reply.{Reply}
+use Rattle.desk.specs.declared.reply.Reply.TheVariants.{Unavailable}
+
+-- the command makes authorizations, or puts one in the place of another
+abbrev pub makes_auths : Command → Bool
+makes_auths (Create holder terms) = true
+makes_auths (Amend holder n max until) = true
+makes_auths (Import holder rows) = true
+makes_auths _ = false
+
+-- An accepted command leaves the day, except that other exceptions let it go, and so may what makes authorizations,
+-- where their VRPs find no memory.
+abbrev pub DayAfterCommand : Command → Option ℕ → Option ℕ → Type 0
+DayAfterCommand (Slurm file) old new = new ≡ None
+DayAfterCommand (Create holder terms) old new = (new ≡ old) ⊎ (new ≡ None)
+DayAfterCommand (Amend holder n max until) old new = (new ≡ old) ⊎ (new ≡ None)
+DayAfterCommand (Import holder rows) old new = (new ≡ old) ⊎ (new ≡ None)
+DayAfterCommand command old new = new ≡ old
+
+-- A question about the VRPs of a day keeps that day. One that was not kept may be unavailable, and then none is kept.
+abbrev pub MovesDay : ℕ → Reply → Option ℕ → Option ℕ → Type 0
+MovesDay day reply old new =
+    (new ≡ Some day) ⊎ ((new ≡ None) × (reply ≡ Unavailable) × (old ≢ Some day))
+
+abbrev pub DayAfterQuery : ℕ → Query → Reply → Option ℕ → Option ℕ → Type 0
+DayAfterQuery day PayloadsQuery reply old new = MovesDay day reply old new
+DayAfterQuery day (ValidityQuery routes) reply old new = MovesDay day reply old new
+DayAfterQuery day query reply old new = new ≡ old
+
+-- A request that is asked on the day leaves the day that is kept, or makes this of it. A command that is not accepted
+-- leaves it.
+abbrev pub DayAfter : ℕ → Request → Reply → Option ℕ → Option ℕ → Type 0
+DayAfter day (CommandRequest command) reply old new =
+    (is_accepted reply ≡ true → DayAfterCommand command old new)
+    × (is_accepted reply ≡ false → new ≡ old)
+DayAfter day (QueryRequest query) reply old new = DayAfterQuery day query reply old new
+
+-- and so each of some requests, one after the other
+abbrev pub DayAfterAll : List Asked → List Reply → Option ℕ → Option ℕ → Type 0
+DayAfterAll [] [] old new = new ≡ old
+DayAfterAll (asked ∷ more) (reply ∷ replies) old new =
+    (mid : Option ℕ) × DayAfter asked.day asked.request reply old mid
+    × DayAfterAll more replies mid new
+DayAfterAll _ _ old new = ⊥

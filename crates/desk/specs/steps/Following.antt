@@ -1,0 +1,78 @@
+-- How what is kept of a day follows a change, by the rows that were loaded to judge it.
+use Rattle.std.specs.Prelude.{◌≡◌, ◌↔◌, ◌⊎◌, ℕ, Bool, true, false, ◌||◌, Option, Some, None, Result, Ok, Err, Contains, IfSome, ⊤}
+use Rattle.addr.specs.declared.vrp.Vrp.{Vrp}
+use Rattle.kept.specs.Changes.{AreJoined, IsSpared, IsWithSame}
+use Rattle.kept.specs.KeptDay.{KeptDay}
+use Rattle.payload.specs.VrpSet as set
+use Rattle.registry.specs.Edits.{begun, ended, IsHold}
+use Rattle.registry.specs.History.{same_name}
+use Rattle.registry.specs.RowsOfAll.{AllRows, changed_rows}
+use Rattle.registry.specs.declared.change.Change.{Change}
+use Rattle.registry.specs.declared.change.Change.TheVariants.{Holders, Exceptions}
+use Rattle.registry.specs.declared.change.Edit.{Edit}
+use Rattle.registry.specs.declared.change.Edit.TheVariants.{Create, Import, Amend}
+use Rattle.registry.specs.declared.rows.HolderRows.{HolderRows}
+use Rattle.store.specs.Given.{GivenOnce}
+use Rattle.store.specs.Loads.{AreLoaded}
+use Rattle.desk.specs.DeskView.{IsDayOfRows}
+use Rattle.desk.specs.declared.reply.Reply.{Reply}
+use Rattle.desk.specs.declared.reply.Reply.TheVariants.{Unavailable}
+
+-- these are the rows of the holders whose rows the change edits, as they were loaded
+abbrev pub AreLoadedFor : Change → Option HolderRows → Option HolderRows → AllRows → Type 0
+AreLoadedFor (Holders first None) one other rows = AreLoaded (rows.of_holder first.holder) one
+AreLoadedFor (Holders first (Some second)) one other rows =
+    AreLoaded (rows.of_holder first.holder) one × AreLoaded (rows.of_holder second.holder) other
+AreLoadedFor (Exceptions file) one other rows = ⊤
+
+-- of two holders, the change edits another second, and begins no authorization of the first
+abbrev pub EditsTwoApart : Change → Type 0
+EditsTwoApart (Holders first (Some second)) =
+    (same_name first.holder second.holder ≡ false) × IsHold first.edit
+EditsTwoApart change = ⊤
+
+-- what is kept follows an edit of the holder's rows, where it has some
+abbrev pub FollowsEdit : Edit → Option HolderRows → KeptDay → KeptDay → Type 0
+FollowsEdit edit None old new = new ≡ old
+FollowsEdit edit (Some rows) old new =
+    IsWithSame old new
+    × ((v : Vrp) → Contains (set.items new.vrps) v
+    ↔ (AreJoined old (begun edit rows.auths.items) v
+    × IsSpared old (ended edit rows.auths.items) (begun edit rows.auths.items) v))
+
+-- and follows the edits of a change, one after the other; other exceptions it does not follow
+abbrev pub FollowsChange : Change → Option HolderRows → Option HolderRows → KeptDay → KeptDay → Type 0
+FollowsChange (Holders first None) one other old new = FollowsEdit first.edit one old new
+FollowsChange (Holders first (Some second)) one other old new =
+    (mid : KeptDay) × FollowsEdit first.edit one old mid × FollowsEdit second.edit other mid new
+FollowsChange (Exceptions file) one other old new = ⊥
+
+-- the edit may begin authorizations
+abbrev pub begins_some : Edit → Bool
+begins_some (Create x) = true
+begins_some (Import auths created) = true
+begins_some (Amend x) = true
+begins_some _ = false
+
+-- what is kept may be let go: where the change may begin authorizations, or is one of the exceptions
+abbrev pub may_drop : Change → Bool
+may_drop (Holders first None) = begins_some first.edit
+may_drop (Holders first (Some second)) = begins_some first.edit || begins_some second.edit
+may_drop (Exceptions file) = true
+
+-- what is kept is of the rows after the change, if it was of the rows before it
+abbrev pub Follows :
+    Change → Option HolderRows → Option HolderRows → Option KeptDay → Option KeptDay → Type 0
+Follows change one other old new =
+    (rows : AllRows) → GivenOnce rows → AreLoadedFor change one other rows
+    → IfSome old (IsDayOfRows rows) → IfSome new (IsDayOfRows (changed_rows change rows))
+
+-- the day that is kept stays, or is let go where it may be; with other exceptions it is let go
+abbrev pub FollowsDay : Change → Option ℕ → Option ℕ → Type 0
+FollowsDay (Exceptions file) old new = new ≡ None
+FollowsDay change old new = (new ≡ old) ⊎ ((new ≡ None) × (may_drop change ≡ true))
+
+-- the reply where there is one; a fault is told as unavailable
+abbrev pub reply_of : {E : Type 0} → Result Reply E → Reply
+reply_of (Ok reply) = reply
+reply_of (Err fault) = Unavailable

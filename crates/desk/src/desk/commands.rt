@@ -1,0 +1,188 @@
+//! Commands: judged on the rows, then made.
+ghost use Rattle.std.specs.Prelude.{◌≡◌, true, false, option_copied, IfOk, IfErr, IfSome, MatchResult};
+ghost use Rattle.registry.specs.Answer.{holder_of, IsAccepted, IsViewOf, RowsOfNamed, ReportsTaken};
+ghost use Rattle.registry.specs.Edits.{HasEditsOf};
+ghost use Rattle.registry.specs.Rows.{rows_if_any, RowsIfAny};
+ghost use Rattle.store.specs.Loads.{AreLoaded, OfHeldRows};
+ghost use Rattle.store.specs.StoreRows.{IfClean, IsRead};
+ghost use Rattle.desk.specs.Answer.{is_accepted, only_reads, AnswersCommand};
+ghost use Rattle.desk.specs.CrashOutcomes.{asked_on, IsKept, StaysOpen};
+ghost use Rattle.desk.specs.DayAfter.{DayAfter};
+ghost use Rattle.desk.specs.Prepared.{day_of};
+ghost use Rattle.desk.specs.Desk.{charter_of, IsOnCleanDisk, KeepsRows, OfHistories, OfRows};
+ghost use Rattle.desk.specs.HolderAnswers.{may_change, may_except, KeepsOthers};
+ghost use Rattle.desk.specs.steps.Accepting.{AnswersAccepted};
+ghost use Rattle.desk.specs.steps.Following.{AreLoadedFor};
+
+use super::Desk;
+use super::following::{Decided, follow};
+use crate::{Reply, Request};
+use addr::{Day, Name};
+use registry::{Change, Command, HolderRows, View};
+use sqlite::Alter;
+use store::StoreFault;
+
+/// The reply to a command that is accepted with this change.
+fn accepted(command: &Command, change: &Change) -> Reply
+    ensures answers { AnswersAccepted command.now change.now result }
+    ensures accepted { is_accepted result ≡ true }
+{
+    match command {
+        Command::Import { rows, .. } => {
+            let made = change.imported();
+            Reply::Imported {
+                made: made as u64,
+                present: rows.len().saturating_sub(made) as u64,
+            }
+        }
+        _ => Reply::Done(change.number()),
+    }
+}
+
+impl<S: Alter> Desk<S> {
+    /// Judges the command, and makes its change where it is accepted. After the commit nothing
+    /// fails: where what is kept cannot follow, it is let go.
+    pub(super) fn carry_out(&mut self, day: Day, caller: &Name, command: &Command) -> Reply
+        ensures left { OfHistories S.Store self.old self.new (λ history.
+            IsKept S.Store (charter_of self.old) history
+            (asked_on day caller.now (Request.Command command.now)) result self.old self.new) }
+        ensures charter { charter_of self.new ≡ charter_of self.old }
+        ensures limit { self.new.store.connection.step_limit
+            ≡ self.old.store.connection.step_limit }
+        ensures clean { IsOnCleanDisk S.Store self.new → IsOnCleanDisk S.Store self.old }
+        ensures kept { is_accepted result ≡ false → KeepsRows S.Store self.old self.new }
+        ensures read { only_reads (Request.Command command.now) result ≡ true
+            → IsRead S.Store self.old.store self.new.store }
+        ensures is_open { is_accepted result ≡ true → StaysOpen S.Store self.new }
+        ensures kept_day { DayAfter day (Request.Command command.now) result
+            (day_of self.old.kept) (day_of self.new.kept) }
+        ensures others { OfHistories S.Store self.old self.new (λ _.
+            KeepsOthers S.Store (may_change (Request.Command command.now))
+            (may_except (Request.Command command.now)) self.old self.new) }
+    {
+        // For the proof alone: the laws that it uses, of which the first reads the values.
+        registry::laws::entry_fits(day, caller, command);
+        histories::laws::growth_is_legal();
+        histories::laws::growth_fits();
+        self.keeps_its_rows();
+        let decided = match self.decide(day, caller, command) {
+            Ok(decided) => decided,
+            Err(refused) => return refused,
+        };
+        let reply = accepted(command, &decided.change);
+        match self.store.apply(&decided.change) {
+            Ok(()) => {
+                follow(&mut self.kept, &decided);
+                reply
+            }
+            Err(_) => Reply::Unavailable,
+        }
+    }
+
+    /// What the command does, or the reply that refuses it.
+    fn decide(&mut self, day: Day, caller: &Name, command: &Command) -> Result<Decided, Reply>
+        ensures read { IsRead S.Store self.old.store self.new.store }
+        ensures same { self.new.kept ≡ self.old.kept }
+        ensures shape { IfOk result (λ decided. HasEditsOf command.now decided.change) }
+        ensures loaded { IfClean S.Store self.new.store (IfOk result (λ decided.
+            OfHeldRows S.Store self.old.store
+            (AreLoadedFor decided.change decided.first decided.second))) }
+        ensures answer { OfRows S.Store self.old self.new (λ history. MatchResult result
+            (λ decided. IsAccepted (charter_of self.old) history day caller.now command.now
+            decided.change)
+            (λ reply. AnswersCommand (charter_of self.old) history day caller.now command.now
+            reply history)) }
+        ensures never_done { IfErr result (λ reply. is_accepted reply ≡ false) }
+    {
+        if let Command::Transfer { giver, taker, .. } = command {
+            let (first, second) = self.load_two(giver, taker)?;
+            let charter = self.store.charter();
+            let change = policy::decide_two(
+                self.alloc,
+                charter,
+                first.as_ref(),
+                second.as_ref(),
+                caller,
+                command,
+            )?;
+            Ok(Decided {
+                change,
+                first,
+                second,
+            })
+        } else {
+            let view = self.view(command)?;
+            let charter = self.store.charter();
+            let change = policy::decide(self.alloc, charter, &view, day, caller, command)?;
+            Ok(Decided {
+                change,
+                first: view.holder,
+                second: None,
+            })
+        }
+    }
+
+    /// The rows of both holders that a transfer names, the giver's first.
+    fn load_two(
+        &mut self,
+        giver: &Name,
+        taker: &Name,
+    ) -> Result<(Option<HolderRows>, Option<HolderRows>), StoreFault>
+        ensures read { IsRead S.Store self.old.store self.new.store }
+        ensures same { self.new.kept ≡ self.old.kept }
+        ensures rows { IfOk result (λ both. OfRows S.Store self.old self.new (λ history.
+            RowsIfAny history giver.now (rows_if_any both.0)
+            × RowsIfAny history taker.now (rows_if_any both.1))) }
+        ensures loaded { IfClean S.Store self.new.store (IfOk result (λ both.
+            OfHeldRows S.Store self.old.store (λ rows.
+            AreLoaded (rows.of_holder giver.now) both.0
+            × AreLoaded (rows.of_holder taker.now) both.1))) }
+    {
+        store::laws::rows_of_a_history();
+        self.store.load_two(self.alloc, giver, taker)
+    }
+
+    /// What the command is judged on.
+    fn view(&mut self, command: &Command) -> Result<View, StoreFault>
+        ensures read { IsRead S.Store self.old.store self.new.store }
+        ensures same { self.new.kept ≡ self.old.kept }
+        ensures view { IfOk result (λ view. OfRows S.Store self.old self.new (λ history.
+            IsViewOf history command.now view)) }
+        ensures loaded { IfClean S.Store self.new.store (IfOk result (λ view.
+            OfHeldRows S.Store self.old.store (λ rows. IfSome (holder_of command.now)
+            (λ holder. AreLoaded (rows.of_holder holder) view.holder)))) }
+    {
+        let holder = self.load_named(command.holder())?;
+        let taken = self.is_taken(command)?;
+        Ok(View { holder, taken })
+    }
+
+    /// The rows of the holder, where the command names one.
+    fn load_named(&mut self, holder: Option<&Name>) -> Result<Option<HolderRows>, StoreFault>
+        ensures read { IsRead S.Store self.old.store self.new.store }
+        ensures same { self.new.kept ≡ self.old.kept }
+        ensures rows { IfOk result (λ rows. OfRows S.Store self.old self.new (λ history.
+            RowsOfNamed history (option_copied holder.entry) (rows_if_any rows))) }
+        ensures loaded { IfClean S.Store self.new.store (IfOk result (λ loaded.
+            OfHeldRows S.Store self.old.store (λ rows. IfSome (option_copied holder.entry)
+            (λ name. AreLoaded (rows.of_holder name) loaded)))) }
+    {
+        match holder {
+            Some(holder) => self.load(holder),
+            None => Ok(None),
+        }
+    }
+
+    /// Whether some address of a delegation's prefix is held; not looked up for another command.
+    fn is_taken(&mut self, command: &Command) -> Result<bool, StoreFault>
+        ensures read { IsRead S.Store self.old.store self.new.store }
+        ensures same { self.new.kept ≡ self.old.kept }
+        ensures taken { IfOk result (λ taken. OfRows S.Store self.old self.new (λ history.
+            ReportsTaken history command.now taken)) }
+    {
+        match command {
+            Command::Delegate { prefix, .. } => self.store.overlapping(prefix),
+            _ => Ok(false),
+        }
+    }
+}

@@ -1,0 +1,132 @@
+//! The day that a desk keeps beside its tables.
+ghost use Rattle.std.specs.Prelude.{◌≡◌, ◌≢◌, ◌↔◌, Contains, true, false, None, Some, option_copied, option_map, IfOk, IfSome, OnOk, OnErr};
+ghost use Rattle.std.specs.Borrow.{sem};
+ghost use Rattle.addr.specs.declared.vrp.Vrp.{Vrp};
+ghost use Rattle.registry.specs.RowsOfAll.{IsGivenOn};
+ghost use Rattle.store.specs.Loads.{AreFilesOf, OfHeldRows};
+ghost use Rattle.store.specs.StoreRows.{IfClean, IsRead};
+ghost use Rattle.desk.specs.Desk.{IsDayOf, OfRows};
+ghost use Rattle.desk.specs.DeskView.{IsDayOfRows};
+ghost use Rattle.desk.specs.Lent.{Lends};
+ghost use Rattle.desk.specs.Prepared.{day_of, IsPrepared};
+
+use super::Desk;
+use crate::exceptions::entries_of;
+use addr::{Day, Vrp};
+use kept::Kept;
+use payload::Trie;
+use slurm::Slurm;
+use sqlite::Alter;
+use std::alloc::Global;
+use store::{Store, StoreFault};
+
+/// The VRPs that the authorizations of all holders give on the day, and the SLURM files in force.
+fn read_day<S: Alter>(
+    store: &mut Store<S>,
+    alloc: Global,
+    day: Day,
+) -> Result<(Vec<Vrp>, Vec<Slurm>), StoreFault>
+    ensures read { IsRead S.Store store.old store.new }
+    ensures found { IfClean S.Store store.new (IfOk result (λ found.
+        OfHeldRows S.Store store.old (λ rows.
+        ((v : Vrp) → Contains found.0.items v ↔ IsGivenOn rows day v)
+        × AreFilesOf rows.exceptions found.1.items))) }
+{
+    let vrps = store.all_auths_on(alloc, day)?;
+    let files = store.slurm_files(alloc)?;
+    Ok((vrps, files))
+}
+
+/// What is kept of the day.
+fn kept_on<S: Alter>(store: &mut Store<S>, alloc: Global, day: Day) -> Result<Kept, StoreFault>
+    ensures read { IsRead S.Store store.old store.new }
+    ensures day { IfOk result (λ kept. kept.day ≡ day) }
+    ensures kept { IfClean S.Store store.new (IfOk result (λ kept.
+        OfHeldRows S.Store store.old (λ rows. IsDayOfRows rows kept))) }
+{
+    let (vrps, files) = read_day(store, alloc, day)?;
+    let (filters, assertions) = entries_of(&files);
+    Ok(Kept::of(alloc, day, vrps, filters, assertions)?)
+}
+
+impl<S: Alter> Desk<S> {
+    /// The day whose VRPs are kept, if those of one are.
+    pub fn kept(&self) -> Option<Day>
+        ensures { result ≡ day_of self.now.kept }
+    {
+        match &self.kept {
+            Some(kept) => Some(kept.day()),
+            None => None,
+        }
+    }
+
+    /// The VRPs of the day with the exceptions in force, or nothing where an allocation fails or
+    /// the database does not answer. They are kept in place of those of another day, so that a
+    /// further question about the day allocates nothing and asks nothing of the database.
+    pub fn payloads(&mut self, day: Day) -> Option<&Trie>
+        ensures* { sem 𝓛 (Lends S.row S.Store day self.entry result) }
+    {
+        if self.prepare(day) {
+            self.kept_vrps()
+        } else {
+            None
+        }
+    }
+
+    /// Keeps the VRPs of the day, in place of those of another, which are let go first. Where that
+    /// cannot be done, none are kept.
+    pub(super) fn prepare(&mut self, day: Day) -> bool
+        ensures { IsPrepared S.Store day result self.old self.new }
+    {
+        self.keeps_its_rows();
+        if self.is_kept(day) {
+            return true;
+        }
+        self.keep_anew(day).is_ok()
+    }
+
+    /// The VRPs that are kept.
+    pub(super) fn kept_vrps(&self) -> Option<&Trie>
+        ensures { option_copied result ≡ option_map (λ kept. kept.vrps) self.now.kept }
+    {
+        match &self.kept {
+            Some(kept) => Some(kept.vrps()),
+            None => None,
+        }
+    }
+
+    fn is_kept(&self, day: Day) -> bool
+        ensures yes { result ≡ true → day_of self.now.kept ≡ Some day }
+        ensures no { result ≡ false → day_of self.now.kept ≢ Some day }
+    {
+        match self.kept() {
+            Some(kept) => kept == day,
+            None => false,
+        }
+    }
+
+    /// The VRPs of the day in a set of their own. What is kept stays.
+    pub(super) fn kept_apart(&mut self, day: Day) -> Result<Kept, StoreFault>
+        ensures read { IsRead S.Store self.old.store self.new.store }
+        ensures same { self.new.kept ≡ self.old.kept }
+        ensures day { IfOk result (λ kept. kept.day ≡ day) }
+        ensures given { IfClean S.Store self.new.store (IfOk result (λ kept.
+            OfHeldRows S.Store self.old.store (λ rows. IsDayOfRows rows kept))) }
+    {
+        kept_on(&mut self.store, self.alloc, day)
+    }
+
+    /// Lets what is kept go, then reads the day and keeps it.
+    fn keep_anew(&mut self, day: Day) -> Result<(), StoreFault>
+        ensures read { IsRead S.Store self.old.store self.new.store }
+        ensures ok { OnOk result (day_of self.new.kept ≡ Some day) }
+        ensures err { OnErr result (self.new.kept ≡ None) }
+        ensures found { OfRows S.Store self.old self.new (λ history.
+            IfSome self.new.kept (IsDayOf history)) }
+    {
+        self.kept.take();
+        let kept = kept_on(&mut self.store, self.alloc, day)?;
+        self.kept.replace(kept);
+        Ok(())
+    }
+}

@@ -1,0 +1,166 @@
+//! Queries: answered from the rows.
+ghost use Rattle.std.specs.Prelude.{◌≡◌, false, IfOk};
+ghost use Rattle.store.specs.StoreRows.{IsRead};
+ghost use Rattle.desk.specs.Answer.{is_accepted, AnswersQuery, AnswersShow, AnswersContent, AnswersList, AnswersPayloads, AnswersValidity};
+ghost use Rattle.desk.specs.DayAfter.{DayAfterQuery, MovesDay};
+ghost use Rattle.desk.specs.Prepared.{day_of};
+ghost use Rattle.desk.specs.steps.Following.{reply_of};
+ghost use Rattle.desk.specs.Desk.{charter_of, HoldsHistory, OfHistories, OfRows};
+
+use super::Desk;
+use crate::content::content_text;
+use crate::gathering::{gather, judge};
+use crate::{Reply, Vrps};
+use addr::{Day, Name, Route};
+use registry::{Auth, Query};
+use sqlite::Alter;
+use std::alloc::AllocError;
+use store::StoreFault;
+
+/// The reply that shows the authorization.
+fn shown(auth: &Auth) -> Result<Reply, AllocError>
+    ensures { IfOk result (λ reply. reply ≡ Reply.Shown auth.now) }
+{
+    Ok(Reply::Shown(auth.clone()?))
+}
+
+impl<S: Alter> Desk<S> {
+    /// Answers the query from the rows as they are now.
+    pub(super) fn answer(&mut self, day: Day, caller: &Name, query: &Query) -> Reply
+        ensures read { IsRead S.Store self.old.store self.new.store }
+        ensures held { OfHistories S.Store self.old self.new (HoldsHistory S.Store self.new) }
+        ensures answered { OfHistories S.Store self.old self.new (λ history.
+            AnswersQuery (charter_of self.old) history day caller.now query.now result) }
+        ensures kept_day { DayAfterQuery day query.now result
+            (day_of self.old.kept) (day_of self.new.kept) }
+        ensures never_done { is_accepted result ≡ false }
+    {
+        match self.look_up(day, caller, query) {
+            Ok(reply) => reply,
+            Err(_) => Reply::Unavailable,
+        }
+    }
+
+    /// As `answer`, except where an allocation fails or the database does not answer.
+    fn look_up(&mut self, day: Day, caller: &Name, query: &Query) -> Result<Reply, StoreFault>
+        ensures read { IsRead S.Store self.old.store self.new.store }
+        ensures held { OfHistories S.Store self.old self.new (HoldsHistory S.Store self.new) }
+        ensures answered { IfOk result (λ reply. OfHistories S.Store self.old self.new (λ history.
+            AnswersQuery (charter_of self.old) history day caller.now query.now reply)) }
+        ensures kept_day { DayAfterQuery day query.now (reply_of result)
+            (day_of self.old.kept) (day_of self.new.kept) }
+        ensures never_done { IfOk result (λ reply. is_accepted reply ≡ false) }
+    {
+        self.keeps_its_rows();
+        match query {
+            Query::Show { holder, number } => self.show(holder, day, caller, *number),
+            Query::Content { holder, number } => self.content(holder, day, caller, *number),
+            Query::List { holder } => self.list(holder, day, caller),
+            Query::Payloads => self.export(day),
+            Query::Validity { routes } => self.validity(day, routes),
+            Query::WhatIf {
+                holder,
+                changes,
+                routes,
+            } => self.what_if(holder, day, caller, changes, routes),
+        }
+    }
+
+    /// The authorization of the number, or why the caller may not see it.
+    fn show(
+        &mut self,
+        holder: &Name,
+        day: Day,
+        caller: &Name,
+        number: u32,
+    ) -> Result<Reply, StoreFault>
+        ensures read { IsRead S.Store self.old.store self.new.store }
+        ensures same { self.new.kept ≡ self.old.kept }
+        ensures answered { IfOk result (λ reply. OfRows S.Store self.old self.new (λ history.
+            AnswersShow history holder.now day caller.now number reply)) }
+        ensures never_done { IfOk result (λ reply. is_accepted reply ≡ false) }
+    {
+        let rows = self.load(holder)?;
+        match policy::see(rows.as_ref(), day, caller, number) {
+            Ok(auth) => Ok(shown(auth)?),
+            Err(rule) => Ok(Reply::Denied(rule, None)),
+        }
+    }
+
+    /// The ROA content of the authorization that `show` shows.
+    fn content(
+        &mut self,
+        holder: &Name,
+        day: Day,
+        caller: &Name,
+        number: u32,
+    ) -> Result<Reply, StoreFault>
+        ensures read { IsRead S.Store self.old.store self.new.store }
+        ensures same { self.new.kept ≡ self.old.kept }
+        ensures answered { IfOk result (λ reply. OfRows S.Store self.old self.new (λ history.
+            AnswersContent history holder.now day caller.now number reply)) }
+        ensures never_done { IfOk result (λ reply. is_accepted reply ≡ false) }
+    {
+        let alloc = self.alloc;
+        let auth = match self.show(holder, day, caller, number)? {
+            Reply::Shown(auth) => auth,
+            refused => return Ok(refused),
+        };
+        match content_text(alloc, &auth)? {
+            Some(text) => Ok(Reply::Content(text)),
+            // No history has terms without a content.
+            None => Ok(Reply::Unavailable),
+        }
+    }
+
+    /// The authorizations of the holder, or why the caller may not see them.
+    fn list(&mut self, holder: &Name, day: Day, caller: &Name) -> Result<Reply, StoreFault>
+        ensures read { IsRead S.Store self.old.store self.new.store }
+        ensures same { self.new.kept ≡ self.old.kept }
+        ensures answered { IfOk result (λ reply. OfRows S.Store self.old self.new (λ history.
+            AnswersList history holder.now day caller.now reply)) }
+        ensures never_done { IfOk result (λ reply. is_accepted reply ≡ false) }
+    {
+        let rows = self.load(holder)?;
+        match policy::see_all(self.alloc, rows.as_ref(), day, caller) {
+            Ok(auths) => Ok(Reply::Listed(auths)),
+            Err(refusal) => Ok(Reply::from(refusal)),
+        }
+    }
+
+    /// The VRPs of the day, rising.
+    fn export(&mut self, day: Day) -> Result<Reply, StoreFault>
+        ensures read { IsRead S.Store self.old.store self.new.store }
+        ensures held { OfHistories S.Store self.old self.new (HoldsHistory S.Store self.new) }
+        ensures answered { IfOk result (λ reply. OfHistories S.Store self.old self.new (λ history.
+            AnswersPayloads history day reply)) }
+        ensures moved { MovesDay day (reply_of result)
+            (day_of self.old.kept) (day_of self.new.kept) }
+        ensures never_done { IfOk result (λ reply. is_accepted reply ≡ false) }
+    {
+        let alloc = self.alloc;
+        self.prepare(day);
+        match self.kept_vrps() {
+            Some(index) => Ok(Reply::Payloads(Vrps::from(gather(alloc, index)?))),
+            None => Ok(Reply::Unavailable),
+        }
+    }
+
+    /// The state of each route on the day.
+    fn validity(&mut self, day: Day, routes: &[Route]) -> Result<Reply, StoreFault>
+        ensures read { IsRead S.Store self.old.store self.new.store }
+        ensures held { OfHistories S.Store self.old self.new (HoldsHistory S.Store self.new) }
+        ensures answered { IfOk result (λ reply. OfHistories S.Store self.old self.new (λ history.
+            AnswersValidity history day routes.now reply)) }
+        ensures moved { MovesDay day (reply_of result)
+            (day_of self.old.kept) (day_of self.new.kept) }
+        ensures never_done { IfOk result (λ reply. is_accepted reply ≡ false) }
+    {
+        let alloc = self.alloc;
+        self.prepare(day);
+        match self.kept_vrps() {
+            Some(index) => Ok(Reply::Answers(judge(alloc, index, routes)?)),
+            None => Ok(Reply::Unavailable),
+        }
+    }
+}

@@ -1,0 +1,144 @@
+//! What-if requests.
+ghost use Rattle.std.specs.Prelude.{◌≡◌, ◌↔◌, false, map, option_copied, Contains, IfErr, IfOk, List, MatchResult, OnOk};
+ghost use Rattle.addr.specs.OriginValidation.{validation_state};
+ghost use Rattle.addr.specs.declared.route.Route.{Route};
+ghost use Rattle.addr.specs.declared.vrp.Vrp.{Vrp};
+ghost use Rattle.kept.specs.Changes.{AreExchanged, IsWithSame};
+ghost use Rattle.payload.specs.ValidityState.{state_of};
+ghost use Rattle.payload.specs.VrpSet as set;
+ghost use Rattle.registry.specs.History.{History};
+ghost use Rattle.registry.specs.Rows.{rows_if_any};
+ghost use Rattle.store.specs.StoreRows.{IsRead};
+ghost use Rattle.desk.specs.Answer.{is_accepted, states_now, states_after, AnswersWhatIf, AreStatesOn};
+ghost use Rattle.desk.specs.Desk.{charter_of, OfRows};
+ghost use Rattle.desk.specs.steps.WhatIf.{auths_if_any, ExchangesVrps, WouldExchange};
+
+use super::Desk;
+use crate::Reply;
+use crate::gathering::{judge, pair};
+use addr::{Day, Name, Route};
+use kept::Kept;
+use payload::Validity;
+use registry::{Auth, HolderRows, Proposed, View};
+use sqlite::Alter;
+use std::alloc::{AllocError, Global};
+use store::StoreFault;
+
+/// The authorizations of the rows; none where there are no rows.
+fn auths_of(rows: Option<&HolderRows>) -> &[Auth]
+    ensures { result.now ≡ auths_if_any (rows_if_any (option_copied rows.entry)) }
+{
+    match rows {
+        Some(rows) => &rows.auths,
+        None => &[],
+    }
+}
+
+/// The states of the routes over what is kept, and those after the exchange, which is made in it.
+fn judge_twice(
+    alloc: Global,
+    kept: &mut Kept,
+    ended: &[Auth],
+    begun: &[Auth],
+    routes: &[Route],
+) -> Result<Vec<(Validity, Validity)>, AllocError>
+    ensures same { IsWithSame kept.old kept.new }
+    ensures exchanged { OnOk result ((v : Vrp) → Contains (set.items kept.new.vrps) v
+        ↔ AreExchanged kept.old ended.now begun.now v) }
+    ensures now { IfOk result (λ states. map state_of (states_now states.items)
+        ≡ map (λ r. validation_state (set.items kept.old.vrps) r) routes.now) }
+    ensures after { IfOk result (λ states. map state_of (states_after states.items)
+        ≡ map (λ r. validation_state (set.items kept.new.vrps) r) routes.now) }
+{
+    let now = judge(alloc, kept.vrps(), routes)?;
+    kept.exchange(ended, begun)?;
+    let after = judge(alloc, kept.vrps(), routes)?;
+    pair(alloc, &now, &after)
+}
+
+impl<S: Alter> Desk<S> {
+    /// The state of each route now, and as it would be after the changes of the caller at the
+    /// holder.
+    pub(super) fn what_if(
+        &mut self,
+        holder: &Name,
+        day: Day,
+        caller: &Name,
+        changes: &[Proposed],
+        routes: &[Route],
+    ) -> Result<Reply, StoreFault>
+        ensures read { IsRead S.Store self.old.store self.new.store }
+        ensures same { self.new.kept ≡ self.old.kept }
+        ensures answered { IfOk result (λ reply. OfRows S.Store self.old self.new (λ history.
+            AnswersWhatIf (charter_of self.old) history day caller.now holder.now changes.now
+            routes.now reply)) }
+        ensures never_done { IfOk result (λ reply. is_accepted reply ≡ false) }
+    {
+        let (before, after) = match self.suppose(holder, day, caller, changes) {
+            Ok(supposed) => supposed,
+            Err(refused) => return Ok(refused),
+        };
+        let ended = auths_of(before.as_ref());
+        let begun = auths_of(after.as_ref());
+        let states = self.states_now_and_after(day, ended, begun, routes)?;
+        Ok(Reply::Report(states))
+    }
+
+    /// The holder's rows, and those that the changes would leave, or the reply that refuses them.
+    /// Where there is no change, neither is looked up.
+    ///
+    /// The rest stays as it is: other holders keep their rows, and none of them gives a VRP that
+    /// the holder gives, so to take the holder's out takes nothing of theirs.
+    fn suppose(
+        &mut self,
+        holder: &Name,
+        day: Day,
+        caller: &Name,
+        changes: &[Proposed],
+    ) -> Result<(Option<HolderRows>, Option<HolderRows>), Reply>
+        ensures read { IsRead S.Store self.old.store self.new.store }
+        ensures same { self.new.kept ≡ self.old.kept }
+        ensures found { OfRows S.Store self.old self.new (λ history. MatchResult result
+            (λ supposed. WouldExchange (charter_of self.old) history day caller.now holder.now
+            changes.now (auths_if_any (rows_if_any supposed.0))
+            (auths_if_any (rows_if_any supposed.1)))
+            (λ reply. (routes : List Route) → AnswersWhatIf (charter_of self.old) history day
+            caller.now holder.now changes.now routes reply)) }
+        ensures never_done { IfErr result (λ reply. is_accepted reply ≡ false) }
+    {
+        histories::laws::no_shared_vrp();
+        histories::laws::hypothetical_is_legal();
+        isolation::laws::hypothetical_keeps_others();
+        if changes.is_empty() {
+            return Ok((None, None));
+        }
+        let view = View {
+            holder: self.load(holder)?,
+            taken: false,
+        };
+        let charter = self.store.charter();
+        let after = policy::suppose(self.alloc, charter, &view, day, caller, changes)?;
+        Ok((view.holder, Some(after)))
+    }
+
+    /// The states of the routes now, and with the begun authorizations in place of the ended ones.
+    /// The VRPs are a set that is made for this and let go at its end.
+    fn states_now_and_after(
+        &mut self,
+        day: Day,
+        ended: &[Auth],
+        begun: &[Auth],
+        routes: &[Route],
+    ) -> Result<Vec<(Validity, Validity)>, StoreFault>
+        ensures read { IsRead S.Store self.old.store self.new.store }
+        ensures same { self.new.kept ≡ self.old.kept }
+        ensures now { IfOk result (λ states. OfRows S.Store self.old self.new (λ history.
+            AreStatesOn history day routes.now (states_now states.items))) }
+        ensures after { IfOk result (λ states. OfRows S.Store self.old self.new (λ history.
+            (after : History) → ExchangesVrps history after day ended.now begun.now
+            → AreStatesOn after day routes.now (states_after states.items))) }
+    {
+        let mut kept = self.kept_apart(day)?;
+        Ok(judge_twice(self.alloc, &mut kept, ended, begun, routes)?)
+    }
+}

@@ -1,0 +1,331 @@
+-- What the statements on claims and on entries do to the authorizations of a holder.
+use Rattle.std.proofs.Common.{◌≡◌, ◌≢◌, ℕ, Bool, true, false, cond, not, ◌==◌, List, [], ◌∷◌, ◌++◌, map, filter, flat_map, drop, Option, Some, None, option_map, IsSome, IsPermutation, refl, sym, ap, subst, ◌∙◌, append-nil}
+use Rattle.std.specs.List.{AllByRecursion}
+use Rattle.std.proofs.lemmas.Bool.{eqb-true}
+use Rattle.std.proofs.lemmas.List.{map-append}
+use Rattle.std.proofs.lemmas.List.Sorted.{IsPermutation-append_comm}
+use Rattle.std.proofs.lemmas.List.Elements.{filter-append}
+use Rattle.std.proofs.lemmas.Grind.{flat_map-append}
+use Rattle.sqlite.specs.Effect.{Database}
+use Rattle.sqlite.specs.State.{State}
+use Rattle.sqlite_value.specs.declared.value.Value.TheVariants.{Text, Blob}
+use Rattle.sqlite_value.specs.Order.{Row, column}
+use Rattle.sqlite_trees.proofs.ListLemmas.{IsPermutation-same, map-map}
+use Rattle.sqlite_sql.specs.Term.{eval_all}
+use Rattle.sqlite_schema.specs.declared.schema.Kind.TheVariants.{Integer, Text as Words}
+use Rattle.sqlite_rules.specs.Cast.{cast, cast_all}
+use Rattle.registry.specs.declared.authorization.Auth.{Auth}
+use Rattle.registry.specs.declared.authorization.RoaPrefix.{RoaPrefix}
+use Rattle.registry.specs.declared.change.Edit.TheVariants.{Amend, Withdraw}
+use Rattle.registry.specs.Rows.{Rows, edited, replaced_by}
+use Rattle.registry.specs.Terms.{entries_of}
+use Rattle.tables.specs.Authorizations.{claim_of, entry_rows_of}
+use Rattle.tables.specs.Cells.{number_cell, family_number, address_bytes, schema_row, operator_row, prefix_cells, claim_cells, claim_row, entry_cells, entry_row}
+use Rattle.tables.specs.Groups.{claim_entry}
+use Rattle.tables.specs.Tables.{claim, entry, contents, desk_tables, is_table, AreTrees}
+use Rattle.tables.specs.TablesHold.{Part, part_rows, holder_part, holding_part, granted_part, claim_part, entry_part, HoldsPart, HoldsExceptions}
+use Rattle.tables.specs.declared.claim.Claim.{Claim}
+use Rattle.tables.specs.declared.claim.TheConstants.{INSERT_CLAIM, UPDATE_CLAIM, DELETE_CLAIM}
+use Rattle.tables.specs.declared.entry.EntryRow.{EntryRow}
+use Rattle.tables.specs.declared.entry.TheConstants.{INSERT_ENTRY, UPDATE_ENTRY, DELETE_ENTRIES}
+use Rattle.tables.specs.steps.Edits.{Edits}
+use Rattle.tables.proofs.CellLemmas.{cast_number, cast_claim, cast_entry, number_of_number, appended}
+use Rattle.tables.proofs.ClaimTexts.{put_claim_is, put_entry_is, take_claim_is, take_entries_is, amend_claim_is, amend_entry_is, of_number_tests, claim_sets, entry_sets}
+use Rattle.tables.proofs.Claims.{entries_taken, takes_entries, takes_claim, amends_claim, amends_entry}
+use Rattle.tables.proofs.Deleting as deleting
+use Rattle.tables.proofs.HaveEntries.{all_have_entries}
+use Rattle.tables.proofs.PartLemmas.{name_of_itself, IsLocal, EditsPart, turned_at, part_same, part_turned, put_local, take_local, change_local}
+use Rattle.tables.proofs.Texts.{put_terms}
+use Rattle.tables.proofs.Updating as updating
+use Rattle.tables.proofs.Updating.{changed_if}
+use Rattle.database.specs.Statements.{IsReady, IsExecuted}
+use Rattle.database.specs.steps.Making.{PutsRows}
+use Rattle.database.proofs.CharterSteps.{puts_then}
+use Rattle.database.proofs.Columns.{column_after}
+use Rattle.database.proofs.StatementLemmas.{has_schema, wrote, ready_still, puts_row, sound_still}
+use Rattle.edits.specs.steps.RowEdits.{with_auths}
+use Rattle.edits.specs.steps.Statements.{EditsRows, EditsHolder}
+use Rattle.edits.proofs.EditSteps.{is_of, of_holder, of_tests, taken, name_kept}
+
+-- ---- edits of both tables
+
+-- the claims and the entries are edited, and every other table stays as it was
+record EditsBoth (of_claims of_entries : List Row → List Row) (old new : Database) : Type 0 where
+  others : (t : ℕ) → is_table t ≡ true → t ≢ claim.tree → t ≢ entry.tree → new.trees t ≡ old.trees t
+  claims : IsPermutation (of_claims (contents (old.trees claim.tree))) (contents (new.trees claim.tree))
+  entries : IsPermutation (of_entries (contents (old.trees entry.tree))) (contents (new.trees entry.tree))
+  whole : AreTrees old.trees → AreTrees new.trees
+
+module _ (of_claims of_entries : List Row → List Row) (a b c : Database) where
+  claims_first : Edits claim.tree of_claims a b → Edits entry.tree of_entries b c → EditsBoth of_claims of_entries a c
+  claims_first first second = record {
+    others = λ t is apart other. second.others t is other ∙ first.others t is apart;
+    claims = subst (λ rows. IsPermutation (of_claims (contents (a.trees claim.tree))) (contents rows)) (sym (second.others claim.tree refl (λ same. cc))) first.rows;
+    entries = subst (λ rows. IsPermutation (of_entries (contents rows)) (contents (c.trees entry.tree))) (first.others entry.tree refl (λ same. cc)) second.rows;
+    whole = λ whole. sound_still entry.tree of_entries b c second (sound_still claim.tree of_claims a b first whole);
+  }
+
+  entries_first : Edits entry.tree of_entries a b → Edits claim.tree of_claims b c → EditsBoth of_claims of_entries a c
+  entries_first first second = record {
+    others = λ t is apart other. second.others t is apart ∙ first.others t is other;
+    claims = subst (λ rows. IsPermutation (of_claims (contents rows)) (contents (c.trees claim.tree))) (first.others claim.tree refl (λ same. cc)) second.rows;
+    entries = subst (λ rows. IsPermutation (of_entries (contents (a.trees entry.tree))) (contents rows)) (sym (second.others entry.tree refl (λ same. cc))) first.rows;
+    whole = λ whole. sound_still claim.tree of_claims b c second (sound_still entry.tree of_entries a b first whole);
+  }
+
+-- Both tables are edited in the rows of one holder, and become those of its authorizations as they are turned.
+module _ (h : List ℕ) (to : List Auth → List Auth) where
+  abbrev with_turned : Rows → Rows
+  with_turned r = record r { auths = to r.auths }
+
+  module _ (rows : List ℕ → Option Rows) (some : IsSome (rows h)) where
+    abbrev after : List ℕ → Option Rows
+    after = turned_at h (option_map with_turned) rows
+
+    part_edited : (part : Part) (by : List Row → List Row) (old new : List Row) → IsLocal part.place h by → EditsPart part h with_turned by → IsPermutation (by old) new → HoldsPart part rows old → HoldsPart part after new
+    part_edited part by old new local turned same holds = part_turned part rows h (option_map with_turned) by old new holds local same (go (rows h) some)
+      where
+        go : (o : Option Rows) → IsSome o → IsPermutation (part_rows part h (option_map with_turned o)) (by (part_rows part h o))
+        go None some = absurd cc
+        go (Some r) some = turned r
+
+    part_kept : (part : Part) (table : List Row) → ((r : Rows) → part.rows h r ≡ part.rows h (with_turned r)) → HoldsPart part rows table → HoldsPart part after table
+    part_kept part table same holds = part_same part rows h (option_map with_turned) table holds (go (rows h))
+      where
+        go : (o : Option Rows) → part_rows part h o ≡ part_rows part h (option_map with_turned o)
+        go None = refl
+        go (Some r) = same r
+
+  auths_turned : (of_claims of_entries : List Row → List Row) (old new : Database) → EditsBoth of_claims of_entries old new → IsLocal 0 h of_claims → IsLocal 0 h of_entries
+      → EditsPart claim_part h with_turned of_claims → EditsPart entry_part h with_turned of_entries → EditsRows h with_turned old new
+  auths_turned of_claims of_entries old new e own_claims own_entries claims entries charter rows was some =
+      let still : (so : List Row → Type 0) (t : ℕ) → is_table t ≡ true → t ≢ claim.tree → t ≢ entry.tree → so (contents (old.trees t)) → so (contents (new.trees t)) =
+      λ so t is apart other. subst (λ table. so (contents table)) (sym (e.others t is apart other)) in
+      let kept : (part : Part) → is_table part.tree ≡ true → part.tree ≢ claim.tree → part.tree ≢ entry.tree → ((r : Rows) → part.rows h r ≡ part.rows h (with_turned r)) → HoldsPart part rows.of_holder (contents (old.trees part.tree))
+      → HoldsPart part (after rows.of_holder some) (contents (new.trees part.tree)) =
+      λ part is apart other same holds. part_kept rows.of_holder some part (contents (new.trees part.tree)) same (still (HoldsPart part rows.of_holder) part.tree is apart other holds) in
+      record {
+        held = record {
+          charter_kept = record {
+            schema = still (IsPermutation (schema_row ∷ [])) 0 refl (λ same. cc) (λ same. cc) was.charter_kept.schema;
+            operators = still (IsPermutation (map operator_row charter.operators)) 2 refl (λ same. cc) (λ same. cc) was.charter_kept.operators;
+            pool = still (IsPermutation (map prefix_cells charter.pool)) 4 refl (λ same. cc) (λ same. cc) was.charter_kept.pool;
+          };
+          holders = kept holder_part refl (λ same. cc) (λ same. cc) (λ r. refl) was.holders;
+          holdings = kept holding_part refl (λ same. cc) (λ same. cc) (λ r. refl) was.holdings;
+          grants = kept granted_part refl (λ same. cc) (λ same. cc) (λ r. refl) was.grants;
+          claims = part_edited rows.of_holder some claim_part of_claims _ _ own_claims claims e.claims was.claims;
+          entries = part_edited rows.of_holder some entry_part of_entries _ _ own_entries entries e.entries was.entries;
+          have_entries = all_have_entries (after rows.of_holder some);
+          unused = still (λ table. table ≡ []) 12 refl (λ same. cc) (λ same. cc) was.unused;
+          exceptions = still (HoldsExceptions rows.exceptions) 15 refl (λ same. cc) (λ same. cc) was.exceptions;
+          whole = e.whole was.whole;
+        };
+        exceptions = e.others 15 refl (λ same. cc) (λ same. cc);
+      }
+
+-- ---- the rows of one holder
+
+module _ (h : List ℕ) where
+  abbrev claim_cells_of : Auth → Row
+  claim_cells_of x = claim_row h (claim_of x)
+
+  abbrev entries_of_auth : Auth → List Row
+  entries_of_auth x = map (entry_row h) (entry_rows_of x)
+
+  -- ---- put
+
+  module _ (old new : State) where
+    pub puts_claim : (c : Claim) → IsReady old → IsExecuted INSERT_CLAIM.now (claim_row h c) old new → PutsRows claim.tree (claim_row h c ∷ []) old new
+    puts_claim c = puts_row 8 claim refl old new (claim_row h c) (put_terms 5) 6 (claim_row h c) put_claim_is refl (cast_claim h c)
+
+    pub puts_entry : (e : EntryRow) → IsReady old → IsExecuted INSERT_ENTRY.now (entry_row h e) old new → PutsRows entry.tree (entry_row h e ∷ []) old new
+    puts_entry e = puts_row 9 entry refl old new (entry_row h e) (put_terms 7) 8 (entry_row h e) put_entry_is refl (cast_entry h e)
+
+  abbrev pub rows_of_entries : Claim → List RoaPrefix → List Row
+  rows_of_entries c es = map (entry_row h) (map (claim_entry c) es)
+
+  -- one entry after others
+  pub puts_more : (c : Claim) (es : List RoaPrefix) (e : RoaPrefix) (more : List RoaPrefix) (x y z : State) → more ≡ es ++ e ∷ []
+      → PutsRows entry.tree (rows_of_entries c es) x y → PutsRows entry.tree (entry_row h (claim_entry c e) ∷ []) y z → PutsRows entry.tree (rows_of_entries c more) x z
+  puts_more c es e more x y z is before put =
+      let both = ap (rows_of_entries c) is ∙ ap (map (entry_row h)) (map-append (claim_entry c) es (e ∷ [])) ∙ map-append (entry_row h) (map (claim_entry c) es) (claim_entry c e ∷ []) in
+      subst (λ rows. PutsRows entry.tree rows x z) (sym both) (puts_then entry.tree (rows_of_entries c es) (entry_row h (claim_entry c e)) x y z before put)
+
+  puts_local : (rows : List Row) → AllByRecursion (λ row. column row 0 ≡ Text h) rows → IsLocal 0 h (λ table. rows ++ table)
+  puts_local [] named = record { mine = λ table. refl; others = λ k differ table. refl; permutes = λ xs ys same. same; texts = λ table all. all }
+  puts_local (row ∷ rows) named =
+      let first = puts_local rows named.1 in
+      let last = put_local 0 h row named.0 in
+      record {
+        mine = λ table. last.mine (rows ++ table) ∙ ap (λ l. row ∷ l) (first.mine table);
+        others = λ k differ table. last.others k differ (rows ++ table) ∙ first.others k differ table;
+        permutes = λ xs ys same. last.permutes _ _ (first.permutes xs ys same);
+        texts = λ table all. last.texts (rows ++ table) (first.texts table all);
+      }
+
+  entries_named : (c : Claim) (es : List RoaPrefix) → AllByRecursion (λ row. column row 0 ≡ Text h) (rows_of_entries c es)
+  entries_named c [] = tt
+  entries_named c (e ∷ es) = (refl, entries_named c es)
+
+  entries_appended : (xs : List Auth) (x : Auth) → IsPermutation (flat_map entries_of_auth (xs ++ x ∷ [])) (entries_of_auth x ++ flat_map entries_of_auth xs)
+  entries_appended xs x =
+      let parts = flat_map-append entries_of_auth xs (x ∷ []) ∙ ap (λ l. flat_map entries_of_auth xs ++ l) (append-nil (entries_of_auth x)) in
+      subst (λ l. IsPermutation l (entries_of_auth x ++ flat_map entries_of_auth xs)) (sym parts) (IsPermutation-append_comm (flat_map entries_of_auth xs) (entries_of_auth x))
+
+  pub puts_auth : (x : Auth) (a b c : State) → PutsRows claim.tree (claim_row h (claim_of x) ∷ []) a b → PutsRows entry.tree (rows_of_entries (claim_of x) (entries_of x)) b c → EditsHolder h (with_auths (x ∷ [])) a c
+  puts_auth x a b c first second = record {
+    ready = second.ready;
+    schema = second.edits.schema ∙ first.edits.schema;
+    sound = λ sound. second.sound (first.sound sound);
+    rows = auths_turned h (λ xs. xs ++ x ∷ []) _ _ a.now c.now (claims_first _ _ a.now b.now c.now first.edits second.edits)
+        (put_local 0 h (claim_row h (claim_of x)) refl) (puts_local (entries_of_auth x) (entries_named (claim_of x) (entries_of x)))
+        (λ r. appended claim_cells_of r.auths x) (λ r. entries_appended r.auths x);
+  }
+
+  -- ---- taken
+
+  own_claim : (n : ℕ) (c : Claim) → is_of h n (claim_row h c) ≡ (c.number == n)
+  own_claim n c = rw (name_of_itself h (Text h) refl) (number_of_number c.number n)
+
+  own_entry : (n : ℕ) (c : Claim) (e : RoaPrefix) → is_of h n (entry_row h (claim_entry c e)) ≡ (c.number == n)
+  own_entry n c e = rw (name_of_itself h (Text h) refl) (number_of_number c.number n)
+
+  -- the entries of one claim go all, or none does
+  taken_together : (n : ℕ) (c : Claim) (es : List RoaPrefix) → filter (λ row. not (is_of h n row)) (rows_of_entries c es) ≡ cond (c.number == n) [] (rows_of_entries c es)
+  taken_together n c [] = none_left (c.number == n)
+    where
+      none_left : (b : Bool) → ◌≡◌ {A = List Row} [] (cond b [] [])
+      none_left true = refl
+      none_left false = refl
+  taken_together n c (e ∷ es) =
+      ap (λ goes. cond (not goes) (entry_row h (claim_entry c e) ∷ filter (λ row. not (is_of h n row)) (rows_of_entries c es)) (filter (λ row. not (is_of h n row)) (rows_of_entries c es))) (own_entry n c e)
+      ∙ go (c.number == n) (taken_together n c es)
+    where
+      go : (b : Bool) → filter (λ row. not (is_of h n row)) (rows_of_entries c es) ≡ cond b [] (rows_of_entries c es)
+          → cond (not b) (entry_row h (claim_entry c e) ∷ filter (λ row. not (is_of h n row)) (rows_of_entries c es)) (filter (λ row. not (is_of h n row)) (rows_of_entries c es)) ≡ cond b [] (rows_of_entries c (e ∷ es))
+      go true more = more
+      go false more = ap (λ l. entry_row h (claim_entry c e) ∷ l) more
+
+  -- the authorizations but those of the number
+  abbrev without : ℕ → List Auth → List Auth
+  without n xs = filter (λ x. not (x.number == n)) xs
+
+  entries_left : (n : ℕ) (xs : List Auth) → flat_map entries_of_auth (without n xs) ≡ filter (λ row. not (is_of h n row)) (flat_map entries_of_auth xs)
+  entries_left n [] = refl
+  entries_left n (x ∷ xs) =
+      go (x.number == n) ∙ ap (λ l. l ++ flat_map entries_of_auth (without n xs)) (sym (taken_together n (claim_of x) (entries_of x)))
+      ∙ ap (λ l. filter (λ row. not (is_of h n row)) (entries_of_auth x) ++ l) (entries_left n xs) ∙ sym (filter-append (λ row. not (is_of h n row)) (entries_of_auth x) (flat_map entries_of_auth xs))
+    where
+      go : (b : Bool) → flat_map entries_of_auth (cond (not b) (x ∷ without n xs) (without n xs)) ≡ cond b [] (entries_of_auth x) ++ flat_map entries_of_auth (without n xs)
+      go true = refl
+      go false = refl
+
+  pub takes_auth : (n : ℕ) (a b c : State) → IsReady a → IsExecuted DELETE_ENTRIES.now (Text h ∷ number_cell n ∷ []) a b → IsExecuted DELETE_CLAIM.now (Text h ∷ number_cell n ∷ []) b c → EditsHolder h (edited (Withdraw n)) a c
+  takes_auth n a b c ready first second =
+      let params : Row = Text h ∷ number_cell n ∷ [] in
+      let has = has_schema params take_entries_is ready first in
+      let w = wrote params take_entries_is ready first in
+      let keeps = (deleting.applied 9 entry refl refl a.now.schema of_number_tests a b _ params first.0 has w).2 in
+      let between = ready_still params take_entries_is ready first keeps in
+      let still_has = has_schema params take_claim_is between second in
+      let last = wrote params take_claim_is between second in
+      let still_keeps = (deleting.found_among desk_tables 8 claim refl b.now.schema of_number_tests b c _ params second.0 still_has last).2 in
+      record {
+        ready = ready_still params take_claim_is between second still_keeps;
+        schema = still_keeps ∙ sym still_has ∙ keeps ∙ sym has;
+        sound = λ _. last.sound;
+        rows = λ charter rows was some.
+            let tests = of_tests h n [] in
+            let entries = takes_entries a.now.schema a b _ first.0 has params (is_of h n) tests (was.whole entry.tree refl) w in
+            let none = entries_taken params (is_of h n) a.now b.now tests entries in
+            let claims = takes_claim b.now.schema b c _ second.0 still_has params (is_of h n) tests (sound_still entry.tree _ a.now b.now entries was.whole claim.tree refl) none last in
+            let own = take_local 0 h (is_of h n) (of_holder h n) in
+            auths_turned h (without n) _ _ a.now c.now (entries_first _ _ a.now b.now c.now entries claims) own own
+            (λ r. IsPermutation-same _ _ (taken (is_of h n) (λ (x : Auth). x.number == n) claim_cells_of (λ x. own_claim n (claim_of x)) r.auths)) (λ r. IsPermutation-same _ _ (entries_left n r.auths)) charter rows was some;
+      }
+
+  -- ---- amended
+
+  -- the row with the columns of another, its holder and its number kept
+  abbrev amended_claim : Claim → Row → Row
+  amended_claim c row = cast Words (column row 0) ∷ cast Integer (column row 1) ∷ drop 1 (claim_cells c)
+
+  abbrev amended_entry : EntryRow → Row → Row
+  amended_entry e row = cast Words (column row 0) ∷ cast Integer (column row 1) ∷ drop 1 (entry_cells e)
+
+  claim_set : (c : Claim) (r : Row) → cast_all claim.columns (eval_all claim_sets (claim_row h c ∷ r ∷ [])) ≡ amended_claim c (drop 1 r)
+  claim_set c r = λ i. cast Words (column_after r 0 i) ∷ cast Integer (column_after r 1 i) ∷ cast_number c.asn.0 i ∷ cast_number c.from i ∷ cast_number c.until i ∷ []
+
+  entry_set : (e : EntryRow) (r : Row) → cast_all entry.columns (eval_all entry_sets (entry_row h e ∷ r ∷ [])) ≡ amended_entry e (drop 1 r)
+  entry_set e r = λ i. cast Words (column_after r 0 i) ∷ cast Integer (column_after r 1 i) ∷ cast_number e.asn.0 i ∷ cast_number (family_number e.entry.prefix.family) i ∷ Blob (address_bytes e.entry.prefix.first)
+      ∷ cast_number e.entry.prefix.length i ∷ cast_number e.entry.max i ∷ []
+
+  -- an authorization has one entry
+  abbrev pub one_entry : Auth → RoaPrefix
+  one_entry x = record { prefix = x.prefix; max = x.max }
+
+  abbrev row_of_one : Auth → Row
+  row_of_one x = entry_row h (claim_entry (claim_of x) (one_entry x))
+
+  pub entries_are_one : (x : Auth) → entries_of x ≡ one_entry x ∷ []
+  unfolding entries_of
+  entries_are_one x = refl
+
+  same_number : (m n : ℕ) → (m == n) ≡ true → number_cell n ≡ cast Integer (number_cell m)
+  same_number m n same = ap number_cell (sym (eqb-true _ _ same)) ∙ sym (cast_number m)
+
+  module _ (x : Auth) where
+    claim_amended : (y : Auth) → claim_cells_of (replaced_by x y) ≡ changed_if (is_of h x.number) (amended_claim (claim_of x)) (claim_cells_of y)
+    claim_amended y =
+        go (y.number == x.number) refl ∙ sym (ap (λ goes. cond goes (amended_claim (claim_of x) (claim_cells_of y)) (claim_cells_of y)) (own_claim x.number (claim_of y)))
+      where
+        go : (b : Bool) → (y.number == x.number) ≡ b → claim_cells_of (cond b x y) ≡ cond b (amended_claim (claim_of x) (claim_cells_of y)) (claim_cells_of y)
+        go false other = refl
+        go true same = λ i. Text h ∷ same_number y.number x.number same i ∷ drop 1 (claim_cells (claim_of x))
+
+    claims_amended : (xs : List Auth) → map claim_cells_of (map (replaced_by x) xs) ≡ map (changed_if (is_of h x.number) (amended_claim (claim_of x))) (map claim_cells_of xs)
+    claims_amended xs = map-map claim_cells_of (replaced_by x) xs ∙ (λ i. map (λ y. claim_amended y i) xs) ∙ sym (map-map (changed_if (is_of h x.number) (amended_claim (claim_of x))) claim_cells_of xs)
+
+    module _ (e : RoaPrefix) (one : entries_of x ≡ e ∷ []) where
+      abbrev row : EntryRow
+      row = claim_entry (claim_of x) e
+
+      abbrev change : Row → Row
+      change = changed_if (is_of h x.number) (amended_entry row)
+
+      entry_amended : (y : Auth) → entries_of_auth (replaced_by x y) ≡ map change (entries_of_auth y)
+      entry_amended y = go (y.number == x.number) refl ∙ sym (ap (λ es. map change (rows_of_entries (claim_of y) es)) (entries_are_one y) ∙ ap (λ b. cond b (amended_entry row (row_of_one y)) (row_of_one y) ∷ []) (own_entry x.number (claim_of y) (one_entry y)))
+        where
+          go : (b : Bool) → (y.number == x.number) ≡ b → entries_of_auth (cond b x y) ≡ cond b (amended_entry row (row_of_one y)) (row_of_one y) ∷ []
+          go false other = ap (rows_of_entries (claim_of y)) (entries_are_one y)
+          go true same = ap (rows_of_entries (claim_of x)) one ∙ (λ i. (Text h ∷ same_number y.number x.number same i ∷ drop 1 (entry_cells row)) ∷ [])
+
+      entries_amended : (xs : List Auth) → flat_map entries_of_auth (map (replaced_by x) xs) ≡ map change (flat_map entries_of_auth xs)
+      entries_amended [] = refl
+      entries_amended (y ∷ xs) = (λ i. entry_amended y i ++ entries_amended xs i) ∙ sym (map-append change (entries_of_auth y) (flat_map entries_of_auth xs))
+
+      pub amends_auth : (a b c : State) → IsReady a → IsExecuted UPDATE_CLAIM.now (claim_row h (claim_of x)) a b → IsExecuted UPDATE_ENTRY.now (entry_row h (claim_entry (claim_of x) e)) b c → EditsHolder h (edited (Amend x)) a c
+      amends_auth a b c ready first second =
+          let of_claim = claim_row h (claim_of x) in
+          let of_entry = entry_row h row in
+          let has = has_schema of_claim amend_claim_is ready first in
+          let w = wrote of_claim amend_claim_is ready first in
+          let keeps = (updating.applied 8 claim refl a.now.schema of_number_tests claim_sets a b _ of_claim first.0 has w).2 in
+          let between = ready_still of_claim amend_claim_is ready first keeps in
+          let still_has = has_schema of_entry amend_entry_is between second in
+          let last = wrote of_entry amend_entry_is between second in
+          let still_keeps = (updating.applied 9 entry refl b.now.schema of_number_tests entry_sets b c _ of_entry second.0 still_has last).2 in
+          record {
+            ready = ready_still of_entry amend_entry_is between second still_keeps;
+            schema = still_keeps ∙ sym still_has ∙ keeps ∙ sym has;
+            sound = λ _. last.sound;
+            rows = λ charter rows was some.
+                let own = of_holder h x.number in
+                let kept = λ (cells : Row) (is : is_of h x.number cells ≡ true). name_kept h x.number cells (own cells is) in
+                let claims = amends_claim a.now.schema a b _ first.0 has of_claim (is_of h x.number) of_number_tests claim_sets (amended_claim (claim_of x)) (of_tests h x.number (drop 1 (claim_cells (claim_of x)))) (claim_set (claim_of x)) (was.whole claim.tree refl) w in
+                let entries = amends_entry b.now.schema b c _ second.0 still_has of_entry (is_of h x.number) of_number_tests entry_sets (amended_entry row) (of_tests h x.number (drop 1 (entry_cells row))) (entry_set row) (sound_still claim.tree _ a.now b.now claims was.whole entry.tree refl) last in
+                auths_turned h (map (replaced_by x)) _ _ a.now c.now (claims_first _ _ a.now b.now c.now claims entries)
+                (change_local 0 h (is_of h x.number) own (amended_claim (claim_of x)) kept) (change_local 0 h (is_of h x.number) own (amended_entry row) kept)
+                (λ r. IsPermutation-same _ _ (claims_amended r.auths)) (λ r. IsPermutation-same _ _ (entries_amended r.auths)) charter rows was some;
+          }

@@ -1,0 +1,7 @@
+mod PartSteps
+pub mod StepLemmas
+mod EditSteps
+mod AuthSteps
+mod ExceptionSteps
+mod HolderSteps
+mod RowSteps

@@ -1,0 +1,154 @@
+-- What a statement means within a transaction, and what its edit of one table does to the rows of a holder.
+use Rattle.std.proofs.Common.{◌≡◌, ◌⊎◌, inl, inr, ℕ, Bool, true, false, ◌==◌, suc, List, [], ◌∷◌, map, drop, IsPermutation, None, Some, Option, option_map, IsSome, ℤ, refl, sym, ap, subst, ◌∙◌, is_eq}
+use Rattle.std.proofs.lemmas.Bool.{eq-eqb, both_ways}
+use Rattle.std.specs.List.{list_any}
+use Rattle.sqlite.specs.Effect.{Database}
+use Rattle.sqlite_value.specs.declared.keys.Collation.TheVariants.{Binary}
+use Rattle.sqlite_value.specs.declared.value.Value.{Value}
+use Rattle.sqlite_value.specs.declared.value.Value.TheVariants.{Null, Int, Real, Text, Blob}
+use Rattle.sqlite_value.specs.Order.{Row, column, value_cmp}
+use Rattle.sqlite_value.proofs.OrderLemmas.{value_cmp-apart}
+use Rattle.sqlite_sql.specs.declared.ops.CompareOp.TheVariants.{Eq}
+use Rattle.sqlite_sql.specs.declared.ops.BinaryOp.TheVariants.{Compare}
+use Rattle.sqlite_typed.proofs.TestLemmas.{last_term}
+use Rattle.sqlite_sql.specs.Ops.{binary, is_true, from_truth}
+use Rattle.addr.specs.declared.span.Span.{Span}
+use Rattle.registry.specs.declared.grant.Granted.{Granted}
+use Rattle.charters.specs.CharterSets.{CharterSets}
+use Rattle.registry.specs.Rows.{Rows}
+use Rattle.registry.specs.RowsOfAll.{AllRows}
+use Rattle.tables.specs.Tables.{contents, is_table}
+use Rattle.tables.specs.Cells.{schema_row, operator_row, prefix_cells}
+use Rattle.tables.specs.steps.Edits.{Edits}
+use Rattle.tables.specs.TablesHold.{Part, part_rows, is_name_of, holder_part, holding_part, granted_part, claim_part, entry_part, HoldsPart, HoldsCharter, HoldsExceptions, TablesHold}
+use Rattle.edits.specs.steps.Statements.{EditsRows, KeepsExceptions, at_holder}
+use Rattle.tables.proofs.HaveEntries.{all_have_entries}
+use Rattle.tables.proofs.PartLemmas.{names, IsLocal, EditsPart, turned_at, part_same, part_turned}
+use Rattle.tables.proofs.Selecting.{picks}
+use Rattle.tables.proofs.Texts.{equals}
+use Rattle.database.proofs.Columns.{column_after}
+use Rattle.database.proofs.StatementLemmas.{sound_still}
+
+true_back : (b : Bool) → is_true (from_truth (Some b)) ≡ b
+true_back true = refl
+true_back false = refl
+
+-- a comparison with a text, with a number and with bytes
+pub equals_text : (v : Value) (t : List ℕ) → is_true (binary (Compare Eq Binary) v (Text t)) ≡ is_eq (value_cmp v (Text t))
+unfolding binary
+equals_text Null t = sym (ap is_eq (value_cmp-apart Null (Text t) (λ e. cc)))
+equals_text (Int n) t = true_back _
+equals_text (Real x) t = true_back _
+equals_text (Text u) t = true_back _
+equals_text (Blob b) t = true_back _
+
+pub equals_int : (v : Value) (z : ℤ) → is_true (binary (Compare Eq Binary) v (Int z)) ≡ is_eq (value_cmp v (Int z))
+unfolding binary
+equals_int Null z = sym (ap is_eq (value_cmp-apart Null (Int z) (λ e. cc)))
+equals_int (Int n) z = true_back _
+equals_int (Real x) z = true_back _
+equals_int (Text u) z = true_back _
+equals_int (Blob b) z = true_back _
+
+pub equals_blob : (v : Value) (b : List ℕ) → is_true (binary (Compare Eq Binary) v (Blob b)) ≡ is_eq (value_cmp v (Blob b))
+unfolding binary
+equals_blob Null b = sym (ap is_eq (value_cmp-apart Null (Blob b) (λ e. cc)))
+equals_blob (Int n) b = true_back _
+equals_blob (Real x) b = true_back _
+equals_blob (Text u) b = true_back _
+equals_blob (Blob c) b = true_back _
+
+-- the test of a statement on the rows of a holder
+pub holder_test : (place : ℕ) (h : List ℕ) (more r : Row) → picks (Text h ∷ more) (equals (suc place) 0 ∷ []) r ≡ names place h (drop 1 r)
+holder_test place h more r = last_term (equals_text (column r (suc place)) h ∙ ap (is_name_of h) (column_after r place))
+
+-- the parts have trees of their own
+abbrev pub is_part_tree : ℕ → Bool
+is_part_tree t = list_any (λ part. part.tree == t) (holder_part ∷ holding_part ∷ granted_part ∷ claim_part ∷ entry_part ∷ [])
+
+module _ (tree : ℕ) (by : List Row → List Row) (old new : Database) (e : Edits tree by old new) (is : is_part_tree tree ≡ true) where
+  -- a table that is no part stays where a part is edited
+  tree_still : (t : ℕ) → is_table t ≡ true → is_part_tree t ≡ false → new.trees t ≡ old.trees t
+  tree_still t table apart = e.others t table (λ same. both_ways _ (subst (λ k. is_part_tree k ≡ false) same apart) is)
+
+  still : (t : ℕ) → is_table t ≡ true → is_part_tree t ≡ false → contents (old.trees t) ≡ contents (new.trees t)
+  still t table apart = ap contents (sym (tree_still t table apart))
+
+  charter_still : (charter : CharterSets) → HoldsCharter charter old.trees → HoldsCharter charter new.trees
+  charter_still charter was = record {
+    schema = subst (IsPermutation (schema_row ∷ [])) (still 0 refl refl) was.schema;
+    operators = subst (IsPermutation (map operator_row charter.operators)) (still 2 refl refl) was.operators;
+    pool = subst (IsPermutation (map prefix_cells charter.pool)) (still 4 refl refl) was.pool;
+  }
+
+-- A statement edits the table of one part. It turns the rows of a holder, where they are so, if this table's become those of the
+-- part, and the other parts show no difference.
+module _ (so : Option Rows → Type 0) (h : List ℕ) (to : Option Rows → Option Rows) (part : Part) where
+  -- the part is the one that is edited, or shows no difference
+  abbrev pub Follows : Part → Type 0
+  Follows p = (p ≡ part) ⊎ (((p.tree == part.tree) ≡ false) × (is_table p.tree ≡ true) × ((o : Option Rows) → so o → part_rows p h o ≡ part_rows p h (to o)))
+
+  abbrev pub AllFollow : Type 0
+  AllFollow = Follows holder_part × Follows holding_part × Follows granted_part × Follows claim_part × Follows entry_part
+
+  module _ (by : List Row → List Row) (old new : Database) (e : Edits part.tree by old new) (local : IsLocal part.place h by) (turns : (o : Option Rows) → so o → IsPermutation (part_rows part h (to o)) (by (part_rows part h o))) where
+    turned_part : (p : Part) (rows : List ℕ → Option Rows) → so (rows h) → Follows p → HoldsPart p rows (contents (old.trees p.tree)) → HoldsPart p (turned_at h to rows) (contents (new.trees p.tree))
+    turned_part p rows is (inl same) = subst (λ q. HoldsPart q rows (contents (old.trees q.tree)) → HoldsPart q (turned_at h to rows) (contents (new.trees q.tree))) (sym same)
+        (λ holds. part_turned part rows h to by _ _ holds local e.rows (turns (rows h) is))
+    turned_part p rows is (inr other) = λ holds.
+        part_same p rows h to (contents (new.trees p.tree))
+        (subst (λ t. HoldsPart p rows (contents t)) (sym (e.others p.tree other.1 (λ it. both_ways _ other.0 (rw it (eq-eqb part.tree part.tree refl))))) holds) (other.2 (rows h) is)
+
+    pub turns_rows : is_part_tree part.tree ≡ true → AllFollow → (charter : CharterSets) (rows : AllRows) → TablesHold charter rows old.trees → so (rows.of_holder h) → KeepsExceptions charter (at_holder h to rows) old.trees new.trees
+    turns_rows is parts charter rows was is_so = record {
+      held = record {
+        charter_kept = charter_still part.tree by old new e is charter was.charter_kept;
+        holders = turned_part holder_part rows.of_holder is_so parts.0 was.holders;
+        holdings = turned_part holding_part rows.of_holder is_so parts.1 was.holdings;
+        grants = turned_part granted_part rows.of_holder is_so parts.2 was.grants;
+        claims = turned_part claim_part rows.of_holder is_so parts.3 was.claims;
+        entries = turned_part entry_part rows.of_holder is_so parts.4 was.entries;
+        have_entries = all_have_entries (turned_at h to rows.of_holder);
+        unused = subst (λ rows. rows ≡ []) (still part.tree by old new e is 12 refl refl) was.unused;
+        exceptions = subst (HoldsExceptions rows.exceptions) (still part.tree by old new e is 15 refl refl) was.exceptions;
+        whole = sound_still part.tree by old new e was.whole;
+      };
+      exceptions = tree_still part.tree by old new e is 15 refl refl;
+    }
+
+-- an edit of the rows of a registered holder
+module _ (h : List ℕ) (edit : Rows → Rows) (part : Part) where
+  abbrev pub AllEdited : Type 0
+  AllEdited = AllFollow IsSome h (option_map edit) part
+
+  -- another part, in which the edit makes no difference
+  pub leaves : (p : Part) → (p.tree == part.tree) ≡ false → is_table p.tree ≡ true → ((r : Rows) → p.rows h (edit r) ≡ p.rows h r) → Follows IsSome h (option_map edit) part p
+  leaves p other is same = inr (other, is, go)
+    where
+      go : (o : Option Rows) → IsSome o → part_rows p h o ≡ part_rows p h (option_map edit o)
+      go None some = refl
+      go (Some r) some = sym (same r)
+
+  pub edits_rows : (by : List Row → List Row) (old new : Database) → Edits part.tree by old new → IsLocal part.place h by → EditsPart part h edit by → is_part_tree part.tree ≡ true → AllEdited → EditsRows h edit old new
+  edits_rows by old new e local to is parts = turns_rows IsSome h (option_map edit) part by old new e local go is parts
+    where
+      go : (o : Option Rows) → IsSome o → IsPermutation (part_rows part h (option_map edit o)) (by (part_rows part h o))
+      go None some = absurd cc
+      go (Some r) some = to r
+
+-- each edit is of one part
+module _ (h : List ℕ) where
+  pub in_holder : (granted created : Rows → ℕ) → AllEdited h (λ r. record r { granted = granted r; created = created r }) holder_part
+  in_holder granted created =
+      let left = leaves h (λ r. record r { granted = granted r; created = created r }) holder_part in
+      (inl refl, left holding_part refl refl (λ r. refl), left granted_part refl refl (λ r. refl), left claim_part refl refl (λ r. refl), left entry_part refl refl (λ r. refl))
+
+  pub in_holdings : (f : Rows → List Span) → AllEdited h (λ r. record r { holdings = f r }) holding_part
+  in_holdings f =
+      let left = leaves h (λ r. record r { holdings = f r }) holding_part in
+      (left holder_part refl refl (λ r. refl), inl refl, left granted_part refl refl (λ r. refl), left claim_part refl refl (λ r. refl), left entry_part refl refl (λ r. refl))
+
+  pub in_grants : (f : Rows → List Granted) → AllEdited h (λ r. record r { grants = f r }) granted_part
+  in_grants f =
+      let left = leaves h (λ r. record r { grants = f r }) granted_part in
+      (left holder_part refl refl (λ r. refl), left holding_part refl refl (λ r. refl), inl refl, left claim_part refl refl (λ r. refl), left entry_part refl refl (λ r. refl))

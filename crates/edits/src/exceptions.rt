@@ -1,0 +1,106 @@
+//! The exceptions of the SLURM file in force, as rows of the table `slurm`.
+ghost use Rattle.std.specs.Prelude.{◌≡◌, ◌≤◌, [], ◌∷◌, length};
+ghost use Rattle.slurm.specs.declared.exceptions.TheConstants.{MOST_ENTRIES};
+ghost use Rattle.tables.specs.Cells.{exception_row};
+ghost use Rattle.tables.specs.Tables.{slurm};
+ghost use Rattle.tables.specs.declared.exception.Exception.{Exception as AnyException};
+ghost use Rattle.database.specs.Statements.{IsReady, WhenClean, IfDone, StaysInside};
+ghost use Rattle.database.specs.steps.Making.{PutsRows};
+ghost use Rattle.edits.specs.Changes.{MakesChange, RowsBecome};
+ghost use Rattle.edits.specs.steps.Statements.{TakesRows, entry_rows};
+
+use addr::Vrp;
+use database::execute;
+use registry::Change;
+use slurm::{Filter, Slurm};
+use sqlite::{Alter, Error, Transaction};
+use tables::{
+    DELETE_EXCEPTIONS, Exception, ExceptionRow, INSERT_EXCEPTION, address_bytes, exception_first,
+    exception_values,
+};
+
+/// An entry of a SLURM file, which is put as a row of the table.
+trait ExceptionEntry {
+    ghost as_exception: { Self → AnyException };
+
+    fn as_exception(&self) -> Exception
+        ensures { result ≡ as_exception self.now };
+}
+
+impl ExceptionEntry for Filter {
+    ghost use Rattle.tables.specs.declared.exception.Exception.TheVariants.{Filter as FilterOf};
+
+    ghost as_exception = { FilterOf };
+
+    fn as_exception(&self) -> Exception {
+        Exception::Filter(*self)
+    }
+}
+
+impl ExceptionEntry for Vrp {
+    ghost use Rattle.tables.specs.declared.exception.Exception.TheVariants.{Assertion};
+
+    ghost as_exception = { Assertion };
+
+    fn as_exception(&self) -> Exception {
+        Exception::Assertion(*self)
+    }
+}
+
+/// Takes all exceptions away.
+fn take_exceptions<S: Alter>(tx: &mut Transaction<'_, S>) -> Result<(), Error>
+    requires { WhenClean S.Store IsReady tx.old }
+    ensures done { IfDone S.Store result (TakesRows slurm.tree) tx.old tx.new }
+    ensures inside { StaysInside S.Store tx.old tx.new }
+{
+    execute(tx, DELETE_EXCEPTIONS, &[])
+}
+
+/// Puts an exception.
+fn put_exception<S: Alter>(tx: &mut Transaction<'_, S>, row: &ExceptionRow) -> Result<(), Error>
+    requires { WhenClean S.Store IsReady tx.old }
+    ensures done { IfDone S.Store result
+        (PutsRows slurm.tree (exception_row row.now ∷ [])) tx.old tx.new }
+    ensures inside { StaysInside S.Store tx.old tx.new }
+{
+    let first = address_bytes(exception_first(&row.exception));
+    execute(tx, INSERT_EXCEPTION, &exception_values(row, &first))
+}
+
+/// Puts the entries of one kind, at the positions from 1 up.
+fn put_entries<T: ExceptionEntry, S: Alter>(
+    tx: &mut Transaction<'_, S>,
+    entries: &[T],
+) -> Result<(), Error>
+    requires ready { WhenClean S.Store IsReady tx.old }
+    requires number { length entries.now ≤ MOST_ENTRIES }
+    ensures done { IfDone S.Store result
+        (PutsRows slurm.tree (entry_rows T.as_exception entries.now)) tx.old tx.new }
+    ensures inside { StaysInside S.Store tx.old tx.new }
+{
+    let mut position = 0;
+    for entry in entries {
+        position += 1;
+        let row = ExceptionRow {
+            position,
+            exception: entry.as_exception(),
+        };
+        put_exception(tx, &row)?;
+    }
+    Ok(())
+}
+
+/// Puts the exceptions of the file in the place of all that there were.
+pub(crate) fn replace_exceptions<S: Alter>(
+    tx: &mut Transaction<'_, S>,
+    file: &Slurm,
+) -> Result<(), Error>
+    requires { WhenClean S.Store IsReady tx.old }
+    ensures done { IfDone S.Store result
+        (MakesChange (RowsBecome (Change.Exceptions file.now))) tx.old tx.new }
+    ensures inside { StaysInside S.Store tx.old tx.new }
+{
+    take_exceptions(tx)?;
+    put_entries(tx, file.filters())?;
+    put_entries(tx, file.assertions())
+}

@@ -1,0 +1,12 @@
+//! What a change does to the tables, statement by statement within a transaction.
+#![tactic(auto)]
+
+mod auth;
+mod change;
+mod exceptions;
+mod granted;
+mod holder;
+mod holding;
+mod row;
+
+pub use change::make_change;

@@ -1,0 +1,241 @@
+//! The desk over HTTP: connections with their responses, whole, in pieces and cut short.
+//!
+//! A row is `METHOD TARGET CALLER BODY => STATUS BODY`, the body of a request left out where it has
+//! none. The rows of a table are sent to one desk, one after the other, on the first of March.
+use addr::Day;
+use conformance::desks::example_desk;
+use conformance::fakes::{Drip, Tape};
+use desk::Desk;
+use library_conformance::rows::table_rows;
+use library_conformance::sheet::Sheet;
+use sqlite::MemStore;
+use std::alloc::Global;
+use std::process::Abort;
+use std::test::Fail;
+use web::{Device, WebFault, serve_one};
+
+mod connections;
+mod csv_files;
+mod heads;
+mod limits;
+mod routes;
+
+/// What came of a connection: the answer, the response, and how many bytes were left unread.
+#[derive(Drop)]
+pub(crate) struct Outcome {
+    pub(crate) result: Result<(), WebFault>,
+    pub(crate) written: Vec<u8>,
+    pub(crate) unread: usize,
+}
+
+/// How a connection gives its bytes and takes the response.
+#[derive(Clone, Copy)]
+pub(crate) struct Manner {
+    /// How many bytes come at once.
+    pub(crate) piece: usize,
+    /// Whether the connection fails after its bytes, and does not end.
+    pub(crate) fails: bool,
+    /// How many bytes of the response are taken.
+    pub(crate) room: usize,
+}
+
+/// All at once, and the response whole.
+pub(crate) const AT_ONCE: Manner = Manner {
+    piece: usize::MAX,
+    fails: false,
+    room: usize::MAX,
+};
+
+/// Serves a connection.
+pub(crate) fn serve(
+    alloc: Global,
+    desk: &mut Desk<MemStore>,
+    bytes: &[u8],
+    manner: Manner,
+) -> Result<Outcome, Fail> {
+    let day = Day::read(b"2026-03-01").ok_or("a day")?;
+    let mut tape = Tape {
+        bytes,
+        piece: manner.piece,
+        fails: manner.fails,
+        is_interrupted: false,
+    };
+    let mut sheet = Sheet {
+        bytes: Vec::new(alloc),
+        room: manner.room,
+        is_interrupted: false,
+    };
+    let result = {
+        let mut source = Device::new(&mut tape);
+        let mut drain = Device::new(&mut sheet);
+        serve_one(alloc, &mut source, &mut drain, desk, day)
+    };
+    Ok(Outcome {
+        result,
+        written: sheet.bytes,
+        unread: tape.bytes.len(),
+    })
+}
+
+/// How many writes of a connection that takes all bytes the response to a row's request is.
+pub(crate) fn writes_of(
+    alloc: Global,
+    desk: &mut Desk<MemStore>,
+    row: &str,
+) -> Result<usize, Fail> {
+    let day = Day::read(b"2026-03-01").ok_or("a day")?;
+    let request = request_text(alloc, row)?;
+    let mut source = Device::new(Tape {
+        bytes: request.as_bytes(),
+        piece: usize::MAX,
+        fails: false,
+        is_interrupted: false,
+    });
+    let mut drip = Drip {
+        piece: usize::MAX,
+        calls: 0,
+        written: Vec::new(alloc),
+    };
+    let result = serve_one(alloc, &mut source, &mut Device::new(&mut drip), desk, day);
+    result.map_err(|_| "not served")?;
+    Ok(drip.calls)
+}
+
+/// The bytes of a row's request.
+pub(crate) fn request_text(alloc: Global, row: &str) -> Result<String, Fail> {
+    let (method, after_method) = row.split_once(' ').ok_or("no method")?;
+    let (target, after_target) = after_method.split_once(' ').ok_or("no target")?;
+    let (caller, body) = after_target.split_once(' ').unwrap_or((after_target, ""));
+    let mut text = format!(in alloc; "{method} {target} HTTP/1.1\r\nDesk-Caller: {caller}\r\n")?;
+    if !body.is_empty() {
+        let length = body.len();
+        text.push_str(&format!(in alloc; "Content-Length: {length}\r\n")?)?;
+    }
+    text.push_str("\r\n")?;
+    text.push_str(body)?;
+    Ok(text)
+}
+
+/// A response of this status and type, with these further fields.
+pub(crate) fn response_of(
+    alloc: Global,
+    status: &str,
+    content_type: &str,
+    fields: &str,
+    body: &str,
+) -> Result<String, Fail> {
+    let reason = reason_of(status)?;
+    let length = body.len();
+    let text = format!(in alloc;
+        "HTTP/1.1 {status} {reason}\r\nContent-Type: {content_type}\r\nContent-Length: {length}\r\n{fields}Connection: close\r\n\r\n{body}"
+    )?;
+    Ok(text)
+}
+
+fn reason_of(status: &str) -> Result<&'static str, Fail> {
+    match status {
+        "200" => Ok("OK"),
+        "400" => Ok("Bad Request"),
+        "403" => Ok("Forbidden"),
+        "404" => Ok("Not Found"),
+        "405" => Ok("Method Not Allowed"),
+        "411" => Ok("Length Required"),
+        "413" => Ok("Content Too Large"),
+        "503" => Ok("Service Unavailable"),
+        _ => Err("no such status".into()),
+    }
+}
+
+/// A response in JSON; a row has its status and its body.
+pub(crate) fn json_response(alloc: Global, output: &str) -> Result<String, Fail> {
+    let (status, text) = output.split_once(' ').ok_or("no body")?;
+    let body = format!(in alloc; "{text}\n")?;
+    response_of(alloc, status, "application/json", "", &body)
+}
+
+/// The connection has this response.
+pub(crate) fn assert_response(
+    rt: &impl Abort,
+    alloc: Global,
+    desk: &mut Desk<MemStore>,
+    request: &[u8],
+    response: &str,
+    name: &str,
+) -> Result<(), Fail> {
+    let outcome = serve(alloc, desk, request, AT_ONCE)?;
+    let written = String::from_utf8(outcome.written)?;
+    assert_eq!(rt; written.as_str(), response, "{name}");
+    assert_eq!(rt; outcome.result, Ok(()), "{name}");
+    Ok(())
+}
+
+/// Each row's request has its response.
+pub(crate) fn assert_rows(
+    rt: &impl Abort,
+    alloc: Global,
+    desk: &mut Desk<MemStore>,
+    table: &str,
+) -> Result<(), Fail> {
+    for row in &table_rows(alloc, table)? {
+        let request = request_text(alloc, row.input)?;
+        assert_json(rt, alloc, desk, request.as_bytes(), row.output, row.input)?;
+    }
+    Ok(())
+}
+
+/// The response to a row's request is CSV.
+pub(crate) fn assert_csv(
+    rt: &impl Abort,
+    alloc: Global,
+    desk: &mut Desk<MemStore>,
+    row: &str,
+    body: &str,
+) -> Result<(), Fail> {
+    let request = request_text(alloc, row)?;
+    let response = response_of(alloc, "200", "text/csv", "", body)?;
+    assert_response(rt, alloc, desk, request.as_bytes(), &response, row)
+}
+
+/// The response to a request is this one in JSON.
+pub(crate) fn assert_json(
+    rt: &impl Abort,
+    alloc: Global,
+    desk: &mut Desk<MemStore>,
+    request: &[u8],
+    output: &str,
+    name: &str,
+) -> Result<(), Fail> {
+    let response = json_response(alloc, output)?;
+    assert_response(rt, alloc, desk, request, &response, name)
+}
+
+/// A connection that takes so many bytes of the response to a row's request takes its beginning.
+pub(crate) fn assert_cut(
+    rt: &impl Abort,
+    alloc: Global,
+    desk: &mut Desk<MemStore>,
+    row: &str,
+    response: &str,
+    room: usize,
+) -> Result<(), Fail> {
+    let request = request_text(alloc, row)?;
+    let manner = Manner { room, ..AT_ONCE };
+    let outcome = serve(alloc, desk, request.as_bytes(), manner)?;
+    assert!(rt;
+        outcome.result == Err(WebFault::Write),
+        "after {room} bytes"
+    );
+    let taken = response.as_bytes().get(..room);
+    assert!(rt;
+        taken == Some(outcome.written.as_slice()),
+        "after {room} bytes"
+    );
+    Ok(())
+}
+
+/// A desk on which `alpha` has 192.0.2.0/24, and `ann` is its manager.
+pub(crate) fn registered_holder(rt: &impl Abort, alloc: Global) -> Result<Desk<MemStore>, Fail> {
+    let mut desk = example_desk(alloc)?;
+    assert_rows(rt, alloc, &mut desk, routes::REGISTERED_HOLDER)?;
+    Ok(desk)
+}

@@ -1,0 +1,160 @@
+//! Connections in pieces, cut short, failing, and with bytes to come.
+use super::{
+    AT_ONCE, Manner, assert_cut, assert_json, assert_rows, json_response, registered_holder,
+    request_text, serve, writes_of,
+};
+use desk::Desk;
+use sqlite::MemStore;
+use std::alloc::Global;
+use std::process::Abort;
+use std::test::Fail;
+use web::WebFault;
+
+const CREATE: &str =
+    r#"POST /holders/alpha/auths ann {"asn":64496,"prefix":"192.0.2.0/24","max":24,"from":"2026-01-01","until":"2026-12-31"}"#;
+
+const SHOW: &str = "GET /holders/alpha/auths/1 ann";
+
+const SHOWN: &str =
+    r#"200 {"shown":{"number":1,"asn":64496,"prefix":"192.0.2.0/24","max":24,"from":"2026-01-01","until":"2026-12-31"}}"#;
+
+const DONE: &str = "200 {\"done\":1}";
+
+const MADE: &str = r#"
+GET /holders/alpha/auths/1 ann => 200 {"shown":{"number":1,"asn":64496,"prefix":"192.0.2.0/24","max":24,"from":"2026-01-01","until":"2026-12-31"}}
+"#;
+
+/// What comes after a request, and is not read.
+const NEXT: &str = "GET /payloads HTTP/1.1\r\n\r\n";
+
+/// A request, and then another one.
+fn followed(alloc: Global, row: &str) -> Result<String, Fail> {
+    let mut text = request_text(alloc, row)?;
+    text.push_str(NEXT)?;
+    Ok(text)
+}
+
+/// The request is answered, and what comes after it is left.
+fn assert_reads_no_more(
+    rt: &impl Abort,
+    alloc: Global,
+    desk: &mut Desk<MemStore>,
+    row: &str,
+    output: &str,
+    piece: usize,
+) -> Result<(), Fail> {
+    let bytes = followed(alloc, row)?;
+    let response = json_response(alloc, output)?;
+    let outcome = serve(alloc, desk, bytes.as_bytes(), Manner { piece, ..AT_ONCE })?;
+    assert!(rt;
+        outcome.written.as_slice() == response.as_bytes(),
+        "in pieces of {piece}"
+    );
+    assert_eq!(rt; outcome.unread, NEXT.len(), "in pieces of {piece}");
+    Ok(())
+}
+
+#[test]
+fn no_byte_after_the_request_is_read(rt: HostRuntime) -> Result<(), Fail> {
+    let alloc = rt.alloc();
+    for piece in [1, 7, usize::MAX] {
+        let mut desk = registered_holder(&rt, alloc)?;
+        assert_reads_no_more(&rt, alloc, &mut desk, CREATE, DONE, piece)?;
+        assert_reads_no_more(&rt, alloc, &mut desk, SHOW, SHOWN, piece)?;
+    }
+    Ok(())
+}
+
+/// A connection that gives these bytes and ends or fails is not answered.
+fn assert_not_answered(
+    rt: &impl Abort,
+    alloc: Global,
+    desk: &mut Desk<MemStore>,
+    bytes: &[u8],
+    fails: bool,
+) -> Result<(), Fail> {
+    let outcome = serve(alloc, desk, bytes, Manner { fails, ..AT_ONCE })?;
+    assert!(rt;
+        outcome.result == Err(WebFault::Read),
+        "after {} bytes",
+        bytes.len()
+    );
+    assert!(rt; outcome.written.is_empty(), "after {} bytes", bytes.len());
+    Ok(())
+}
+
+/// A connection that gives a beginning of the bytes is not answered, and acts on nothing.
+fn assert_beginnings_are_not_answered(
+    rt: &impl Abort,
+    alloc: Global,
+    desk: &mut Desk<MemStore>,
+    bytes: &[u8],
+) -> Result<(), Fail> {
+    for end in 0..bytes.len() {
+        assert_not_answered(rt, alloc, desk, &bytes[..end], false)?;
+        assert_not_answered(rt, alloc, desk, &bytes[..end], true)?;
+    }
+    Ok(())
+}
+
+/// Nothing is acted on: the whole request is then the first one.
+fn assert_acts_on_the_whole(
+    rt: &impl Abort,
+    alloc: Global,
+    desk: &mut Desk<MemStore>,
+) -> Result<(), Fail> {
+    let request = request_text(alloc, CREATE)?;
+    assert_beginnings_are_not_answered(rt, alloc, desk, request.as_bytes())?;
+    assert_json(rt, alloc, desk, request.as_bytes(), DONE, "whole")
+}
+
+#[test]
+fn request_cut_short_is_not_acted_on(rt: HostRuntime) -> Result<(), Fail> {
+    let mut desk = registered_holder(&rt, rt.alloc())?;
+    assert_acts_on_the_whole(&rt, rt.alloc(), &mut desk)
+}
+
+/// The create is made, and the beginning of its response is taken.
+fn assert_acts(
+    rt: &impl Abort,
+    alloc: Global,
+    desk: &mut Desk<MemStore>,
+    room: usize,
+) -> Result<(), Fail> {
+    let done = json_response(alloc, DONE)?;
+    assert_cut(rt, alloc, desk, CREATE, &done, room)?;
+    assert_rows(rt, alloc, desk, MADE)
+}
+
+fn assert_acted_on(rt: &impl Abort, alloc: Global, room: usize) -> Result<(), Fail> {
+    let mut desk = registered_holder(rt, alloc)?;
+    assert_acts(rt, alloc, &mut desk, room)
+}
+
+/// The request was acted on, and a beginning of its response is out.
+#[test]
+fn response_cut_short_was_acted_on(rt: HostRuntime) -> Result<(), Fail> {
+    let length = json_response(rt.alloc(), DONE)?.len();
+    for room in 0..length {
+        assert_acted_on(&rt, rt.alloc(), room)?;
+    }
+    Ok(())
+}
+
+/// Requests that are answered with a few bytes.
+const SHORT: [&str; 4] = [
+    CREATE,
+    SHOW,
+    "GET /holders/alpha/export ann",
+    "GET /nowhere ann",
+];
+
+#[test]
+fn short_response_is_one_write(rt: HostRuntime) -> Result<(), Fail> {
+    let alloc = rt.alloc();
+    let mut desk = registered_holder(&rt, alloc)?;
+    for row in SHORT {
+        assert_eq!(rt; writes_of(alloc, &mut desk, row)?, 1, "of {row:?}");
+    }
+    Ok(())
+}

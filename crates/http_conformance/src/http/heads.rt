@@ -1,0 +1,286 @@
+//! Heads: their fields, and the lengths of bodies.
+use super::{
+    AT_ONCE, assert_json, assert_response, assert_rows, json_response, registered_holder,
+    response_of, serve,
+};
+use conformance::desks::example_desk;
+use desk::Desk;
+use sqlite::MemStore;
+use std::alloc::Global;
+use std::process::Abort;
+use std::test::Fail;
+use web::WebFault;
+
+/// The fields of a head, and the last line of the response to a request for VRPs with them, which is
+/// `CSV` where VRPs are answered.
+const FIELDS: [(&str, &str, &str); 19] = [
+    ("one_caller", "Desk-Caller: bob\r\n", "CSV"),
+    ("field_names_in_any_case", "dESK-cALLER: bob\r\n", "CSV"),
+    (
+        "spaces_and_tabs_around_a_value",
+        "Desk-Caller: \t bob\t \r\n",
+        "CSV",
+    ),
+    (
+        "other_fields",
+        "Host: desk\r\nDesk-Caller: bob\r\nAccept: */*\r\n",
+        "CSV",
+    ),
+    ("http_caller_missing", "", "400 {\"malformed\":4}"),
+    (
+        "caller_twice",
+        "Desk-Caller: bob\r\nDesk-Caller: bob\r\n",
+        "400 {\"malformed\":4}",
+    ),
+    (
+        "caller_twice_in_other_case",
+        "Desk-Caller: bob\r\ndesk-caller: ann\r\n",
+        "400 {\"malformed\":4}",
+    ),
+    ("caller_empty", "Desk-Caller:\r\n", "400 {\"malformed\":4}"),
+    (
+        "length_of_no_body",
+        "Desk-Caller: bob\r\nContent-Length: 000\r\n",
+        "CSV",
+    ),
+    (
+        "length_where_no_body_is",
+        "Desk-Caller: bob\r\nContent-Length: 5\r\n",
+        "400 {\"error\":400}",
+    ),
+    (
+        "length_of_thirty_nines",
+        "Content-Length: 999999999999999999999999999999\r\n",
+        "400 {\"error\":400}",
+    ),
+    (
+        "length_twice",
+        "Content-Length: 0\r\nContent-Length: 0\r\n",
+        "400 {\"error\":400}",
+    ),
+    (
+        "length_empty",
+        "Content-Length: \r\n",
+        "400 {\"error\":400}",
+    ),
+    (
+        "length_signed",
+        "Content-Length: +0\r\n",
+        "400 {\"error\":400}",
+    ),
+    (
+        "length_list",
+        "Content-Length: 0, 0\r\n",
+        "400 {\"error\":400}",
+    ),
+    (
+        "chunked",
+        "Transfer-Encoding: chunked\r\n",
+        "411 {\"error\":411}",
+    ),
+    (
+        "chunked_before_a_wrong_length",
+        "content-length: x\r\ntransfer-encoding: x\r\n",
+        "411 {\"error\":411}",
+    ),
+    (
+        "space_before_the_colon",
+        "Desk-Caller : bob\r\n",
+        "400 {\"error\":400}",
+    ),
+    ("no_colon", "Desk-Caller\r\n", "400 {\"error\":400}"),
+];
+
+/// Fields for the length of a body, and the last line of the response.
+const LENGTHS: [(&str, &str, &str); 10] = [
+    ("no_length", "", "411 {\"error\":411}"),
+    (
+        "length_of_zero",
+        "Content-Length: 0\r\n",
+        "400 {\"malformed\":1}",
+    ),
+    (
+        "length_with_zeros",
+        "Content-Length: 0002\r\n",
+        "400 {\"malformed\":2}",
+    ),
+    (
+        "length_with_tabs",
+        "Content-Length:\t2\t\r\n",
+        "400 {\"malformed\":2}",
+    ),
+    (
+        "length_list",
+        "Content-Length: 2, 2\r\n",
+        "400 {\"error\":400}",
+    ),
+    (
+        "length_signed",
+        "Content-Length: +2\r\n",
+        "400 {\"error\":400}",
+    ),
+    ("length_empty", "Content-Length:\r\n", "400 {\"error\":400}"),
+    (
+        "length_in_hex",
+        "Content-Length: 0x2\r\n",
+        "400 {\"error\":400}",
+    ),
+    (
+        "length_of_thirty_nines",
+        "Content-Length: 999999999999999999999999999999\r\n",
+        "413 {\"error\":413}",
+    ),
+    (
+        "cut_head_and_oversized_body",
+        "Content-Length: 1048577\r\n",
+        "413 {\"error\":413}",
+    ),
+];
+
+/// Lengths of the body of a create, and the last line of the response.
+const LENGTHS_OF_A_CREATE: [(&str, &str, &str); 5] = [
+    ("create_length_list", "5, 5", "400 {\"error\":400}"),
+    ("create_length_signed", "+5", "400 {\"error\":400}"),
+    ("create_length_empty", "", "400 {\"error\":400}"),
+    (
+        "create_length_of_thirty_nines",
+        "999999999999999999999999999999",
+        "413 {\"error\":413}",
+    ),
+    (
+        "cut_head_and_oversized_body",
+        "1048577",
+        "413 {\"error\":413}",
+    ),
+];
+
+/// The body of a create that is accepted where its length is right.
+const CREATE_BODY: &str =
+    r#"{"asn":64496,"prefix":"192.0.2.0/24","max":24,"from":"2026-01-01","until":"2026-12-31"}"#;
+
+const NOTHING_MADE: &str = r#"
+# refused_length_makes_nothing
+GET /holders/alpha/auths ann => 200 {"listed":[]}
+"#;
+
+/// Bytes that are no head, and those that are.
+const HEADS: [(&str, &[u8], &str); 9] = [
+    ("nothing", b"\r\n\r\n", "400 {\"error\":400}"),
+    (
+        "empty_line_before",
+        b"\r\nGET /x HTTP/1.1\r\n\r\n",
+        "404 {\"error\":404}",
+    ),
+    (
+        "older_version",
+        b"GET /x HTTP/1.0\r\n\r\n",
+        "404 {\"error\":404}",
+    ),
+    (
+        "line_feeds_alone",
+        b"GET /x HTTP/1.1\nHost: desk\r\n\r\n",
+        "404 {\"error\":404}",
+    ),
+    (
+        "head_that_ends_early",
+        b"GET /x HTTP/1.1\n\nHost: desk\r\n\r\n",
+        "400 {\"error\":400}",
+    ),
+    ("no_version", b"GET /x\r\n\r\n", "400 {\"error\":400}"),
+    ("no_target", b"GET\r\n\r\n", "400 {\"error\":400}"),
+    (
+        "target_that_is_no_text",
+        b"GET /\xff HTTP/1.1\r\n\r\n",
+        "400 {\"error\":400}",
+    ),
+    ("other_words", b"hello\r\n\r\n", "400 {\"error\":400}"),
+];
+
+/// The response to a request for VRPs, of which there are none, with these fields.
+fn assert_fields(
+    rt: &impl Abort,
+    alloc: Global,
+    desk: &mut Desk<MemStore>,
+    row: (&str, &str, &str),
+) -> Result<(), Fail> {
+    let (name, fields, output) = row;
+    let request = format!(in alloc; "GET /payloads HTTP/1.1\r\n{fields}\r\n")?;
+    let response = if output == "CSV" {
+        response_of(alloc, "200", "text/csv", "", "asn,prefix,maxlength\n")?
+    } else {
+        json_response(alloc, output)?
+    };
+    assert_response(rt, alloc, desk, request.as_bytes(), &response, name)
+}
+
+#[test]
+fn fields_of_a_head(rt: HostRuntime) -> Result<(), Fail> {
+    let mut desk = example_desk(rt.alloc())?;
+    for row in FIELDS {
+        assert_fields(&rt, rt.alloc(), &mut desk, row)?;
+    }
+    Ok(())
+}
+
+fn assert_length(
+    rt: &impl Abort,
+    alloc: Global,
+    desk: &mut Desk<MemStore>,
+    row: (&str, &str, &str),
+) -> Result<(), Fail> {
+    let (name, length, output) = row;
+    let request = format!(in alloc;
+        "POST /validity HTTP/1.1\r\nDesk-Caller: bob\r\n{length}\r\n{{}}"
+    )?;
+    assert_json(rt, alloc, desk, request.as_bytes(), output, name)
+}
+
+#[test]
+fn content_length_spellings(rt: HostRuntime) -> Result<(), Fail> {
+    let mut desk = example_desk(rt.alloc())?;
+    for row in LENGTHS {
+        assert_length(&rt, rt.alloc(), &mut desk, row)?;
+    }
+    Ok(())
+}
+
+fn assert_length_of_a_create(
+    rt: &impl Abort,
+    alloc: Global,
+    desk: &mut Desk<MemStore>,
+    row: (&str, &str, &str),
+) -> Result<(), Fail> {
+    let (name, length, output) = row;
+    let request = format!(in alloc;
+        "POST /holders/alpha/auths HTTP/1.1\r\nDesk-Caller: ann\r\nContent-Length: {length}\r\n\r\n{CREATE_BODY}"
+    )?;
+    assert_json(rt, alloc, desk, request.as_bytes(), output, name)
+}
+
+#[test]
+fn lengths_of_a_create(rt: HostRuntime) -> Result<(), Fail> {
+    let mut desk = registered_holder(&rt, rt.alloc())?;
+    for row in LENGTHS_OF_A_CREATE {
+        assert_length_of_a_create(&rt, rt.alloc(), &mut desk, row)?;
+    }
+    assert_rows(&rt, rt.alloc(), &mut desk, NOTHING_MADE)
+}
+
+#[test]
+fn head_that_is_cut_is_not_answered(rt: HostRuntime) -> Result<(), Fail> {
+    let mut desk = example_desk(rt.alloc())?;
+    let request = b"GET /payloads HTTP/1.1\r\n";
+    let outcome = serve(rt.alloc(), &mut desk, request, AT_ONCE)?;
+    assert!(rt; outcome.result == Err(WebFault::Read));
+    assert!(rt; outcome.written.is_empty());
+    Ok(())
+}
+
+#[test]
+fn bytes_that_are_no_head_are_refused(rt: HostRuntime) -> Result<(), Fail> {
+    let mut desk = example_desk(rt.alloc())?;
+    for (name, request, output) in HEADS {
+        assert_json(&rt, rt.alloc(), &mut desk, request, output, name)?;
+    }
+    Ok(())
+}

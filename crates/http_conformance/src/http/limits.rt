@@ -1,0 +1,244 @@
+//! The limits of heads, of fields and of bodies.
+use super::{
+    AT_ONCE, Manner, assert_json, assert_response, json_response, request_text, response_of, serve,
+};
+use conformance::desks::example_desk;
+use desk::Desk;
+use library_conformance::rows::nested;
+use sqlite::MemStore;
+use std::alloc::Global;
+use std::process::Abort;
+use std::test::Fail;
+
+const HEAD_LIMIT: usize = 8192;
+
+const BODY_LIMIT: usize = 1_048_576;
+
+/// A request for VRPs whose head has so many bytes.
+fn long_head(alloc: Global, length: usize) -> Result<String, Fail> {
+    let mut text = String::from_str(
+        alloc,
+        "GET /payloads HTTP/1.1\r\nDesk-Caller: bob\r\nFiller: ",
+    )?;
+    for _ in text.len()..length.saturating_sub("\r\n\r\n".len()) {
+        text.push('x')?;
+    }
+    text.push_str("\r\n\r\n")?;
+    Ok(text)
+}
+
+/// A request for VRPs with so many fields.
+fn many_fields(alloc: Global, count: u32) -> Result<String, Fail> {
+    let mut text = String::from_str(alloc, "GET /payloads HTTP/1.1\r\nDesk-Caller: bob\r\n")?;
+    for _ in 1..count {
+        text.push_str("Filler: x\r\n")?;
+    }
+    text.push_str("\r\n")?;
+    Ok(text)
+}
+
+/// A request whose body is this text and then spaces.
+fn padded(alloc: Global, text: &str, length: usize) -> Result<String, Fail> {
+    let mut request = format!(in alloc;
+        "POST /validity HTTP/1.1\r\nDesk-Caller: bob\r\nContent-Length: {length}\r\n\r\n{text}"
+    )?;
+    for _ in text.len()..length {
+        request.push(' ')?;
+    }
+    Ok(request)
+}
+
+/// A head is answered with the VRPs, of which there are none.
+fn assert_head_is_read(
+    rt: &impl Abort,
+    alloc: Global,
+    desk: &mut Desk<MemStore>,
+    head: &str,
+    name: &str,
+) -> Result<(), Fail> {
+    let csv = response_of(alloc, "200", "text/csv", "", "asn,prefix,maxlength\n")?;
+    assert_response(rt, alloc, desk, head.as_bytes(), &csv, name)
+}
+
+fn assert_head_is_refused(
+    rt: &impl Abort,
+    alloc: Global,
+    desk: &mut Desk<MemStore>,
+    head: &str,
+    name: &str,
+) -> Result<(), Fail> {
+    assert_json(
+        rt,
+        alloc,
+        desk,
+        head.as_bytes(),
+        "400 {\"error\":400}",
+        name,
+    )
+}
+
+fn assert_head_limit(
+    rt: &impl Abort,
+    alloc: Global,
+    desk: &mut Desk<MemStore>,
+) -> Result<(), Fail> {
+    let head = long_head(alloc, HEAD_LIMIT)?;
+    assert_head_is_read(rt, alloc, desk, &head, "8192 bytes")?;
+    let longer = long_head(alloc, HEAD_LIMIT + 1)?;
+    assert_head_is_refused(rt, alloc, desk, &longer, "8193 bytes")
+}
+
+#[test]
+fn head_limit(rt: HostRuntime) -> Result<(), Fail> {
+    let mut desk = example_desk(rt.alloc())?;
+    assert_head_limit(&rt, rt.alloc(), &mut desk)
+}
+
+fn assert_field_limit(
+    rt: &impl Abort,
+    alloc: Global,
+    desk: &mut Desk<MemStore>,
+) -> Result<(), Fail> {
+    let fields = many_fields(alloc, 32)?;
+    assert_head_is_read(rt, alloc, desk, &fields, "32 fields")?;
+    let more = many_fields(alloc, 33)?;
+    assert_head_is_refused(rt, alloc, desk, &more, "33 fields")
+}
+
+#[test]
+fn field_limit(rt: HostRuntime) -> Result<(), Fail> {
+    let mut desk = example_desk(rt.alloc())?;
+    assert_field_limit(&rt, rt.alloc(), &mut desk)
+}
+
+/// A connection that fails after these bytes is answered before, and so many of them are left unread.
+fn assert_refused_before(
+    rt: &impl Abort,
+    alloc: Global,
+    desk: &mut Desk<MemStore>,
+    bytes: &[u8],
+    unread: usize,
+) -> Result<(), Fail> {
+    let refused = json_response(alloc, "400 {\"error\":400}")?;
+    let manner = Manner {
+        fails: true,
+        ..AT_ONCE
+    };
+    let outcome = serve(alloc, desk, bytes, manner)?;
+    assert!(rt; outcome.result == Ok(()), "{unread} unread");
+    assert!(rt;
+        outcome.written.as_slice() == refused.as_bytes(),
+        "{unread} unread"
+    );
+    assert!(rt; outcome.unread == unread, "{unread} unread");
+    Ok(())
+}
+
+/// A head that has no end within the limit is refused, and what follows the limit is not read.
+fn assert_heads_without_an_end(
+    rt: &impl Abort,
+    alloc: Global,
+    desk: &mut Desk<MemStore>,
+) -> Result<(), Fail> {
+    let head = long_head(alloc, HEAD_LIMIT + 1)?;
+    let beginning = head.as_bytes().get(..HEAD_LIMIT).ok_or("a short head")?;
+    assert_refused_before(rt, alloc, desk, beginning, 0)?;
+    assert_refused_before(rt, alloc, desk, head.as_bytes(), 1)
+}
+
+#[test]
+fn head_without_an_end(rt: HostRuntime) -> Result<(), Fail> {
+    let mut desk = example_desk(rt.alloc())?;
+    assert_heads_without_an_end(&rt, rt.alloc(), &mut desk)
+}
+
+/// A body that is padded to so many bytes has this response.
+fn assert_padded(
+    rt: &impl Abort,
+    alloc: Global,
+    desk: &mut Desk<MemStore>,
+    body: &str,
+    length: usize,
+    output: &str,
+) -> Result<(), Fail> {
+    let request = padded(alloc, body, length)?;
+    assert_json(rt, alloc, desk, request.as_bytes(), output, output)
+}
+
+#[test]
+fn body_limit(rt: HostRuntime) -> Result<(), Fail> {
+    let alloc = rt.alloc();
+    let mut desk = example_desk(alloc)?;
+    let routes = "{\"routes\":[{\"prefix\":\"192.0.2.0/24\",\"origin\":null}]}";
+    let answered = "200 {\"answers\":[\"NotFound\"]}";
+    assert_padded(&rt, alloc, &mut desk, routes, BODY_LIMIT, answered)?;
+    let refused = "413 {\"error\":413}";
+    assert_padded(&rt, alloc, &mut desk, routes, BODY_LIMIT + 1, refused)
+}
+
+/// Requests, how deep the array that is their body nests, and their responses.
+const NESTED_BODIES: [(&str, u32, &str); 4] = [
+    (
+        "POST /holders/alpha/auths ann",
+        127,
+        "400 {\"malformed\":2}",
+    ),
+    (
+        "POST /holders/alpha/auths ann",
+        128,
+        "400 {\"malformed\":1}",
+    ),
+    ("PUT /slurm reg", 127, "400 {\"malformed\":11,\"slurm\":2}"),
+    ("PUT /slurm reg", 128, "400 {\"malformed\":11,\"slurm\":1}"),
+];
+
+/// The request of a row, whose body is an array that nests so deep, has the response.
+fn assert_nested(
+    rt: &impl Abort,
+    alloc: Global,
+    desk: &mut Desk<MemStore>,
+    row: (&str, u32, &str),
+) -> Result<(), Fail> {
+    let (path, depth, output) = row;
+    let body = nested(alloc, depth)?;
+    let line = format!(in alloc; "{path} {body}")?;
+    let request = request_text(alloc, &line)?;
+    assert_json(rt, alloc, desk, request.as_bytes(), output, path)
+}
+
+#[test]
+fn nesting_limits(rt: HostRuntime) -> Result<(), Fail> {
+    for row in NESTED_BODIES {
+        let mut desk = example_desk(rt.alloc())?;
+        assert_nested(&rt, rt.alloc(), &mut desk, row)?;
+    }
+    Ok(())
+}
+
+/// How deep routes nest within their body, and the response.
+const DEPTHS: [(u32, &str); 2] = [
+    (126, "400 {\"malformed\":2}"),
+    (127, "400 {\"malformed\":1}"),
+];
+
+/// Routes that nest so deep have this response.
+fn assert_depth(
+    rt: &impl Abort,
+    alloc: Global,
+    desk: &mut Desk<MemStore>,
+    depth: u32,
+    output: &str,
+) -> Result<(), Fail> {
+    let routes = nested(alloc, depth)?;
+    let body = format!(in alloc; "{{\"routes\":{routes}}}")?;
+    assert_padded(rt, alloc, desk, &body, body.len(), output)
+}
+
+#[test]
+fn body_nests_at_most_127_levels(rt: HostRuntime) -> Result<(), Fail> {
+    let mut desk = example_desk(rt.alloc())?;
+    for (depth, output) in DEPTHS {
+        assert_depth(&rt, rt.alloc(), &mut desk, depth, output)?;
+    }
+    Ok(())
+}

@@ -1,0 +1,7 @@
+use Rattle.std.proofs.Common.{rules}
+use Rattle.std.proofs.lemmas.List.Sorted.{answers_always}
+use Rattle.slurm.proofs.RisingNames.{is_before, rise_from_answer}
+use Rattle.slurm.proofs.set.rise.Goals as goal
+
+pub returns : goal.returns
+returns c = rise_from_answer c.args.files.now c.is_sorted_by.result (c.is_sorted_by.ensures.cases is_before (answers_always _ _ _ (λ f a r q k. search rules)))

@@ -1,0 +1,6 @@
+use Rattle.std.proofs.Common.{◌≡◌, drop}
+use Rattle.slurm.specs.steps.Walk.{some_clash, walk}
+use Rattle.slurm.proofs.walk.some_clash.Given as goal
+
+abbrev pub invariant-loop-next : goal.invariant-loop-next
+invariant-loop-next l = walk l.outer (drop l.next-index l.others) ≡ some_clash l.prefixes

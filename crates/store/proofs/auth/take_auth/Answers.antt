@@ -1,6 +1,0 @@
-use Rattle.store.proofs.EditSteps.{takes_auth}
-use Rattle.database.proofs.StatementLemmas.{means}
-use Rattle.store.proofs.auth.take_auth.Goals as goal
-
-pub returns-clause-done : goal.returns-clause-done
-returns-clause-done g c = means g.S.Store c.run.result _ _ _ _ _ _ c.requires c.run.ensures.inside c.run.ensures.ran c.number_values.ensures (λ old new. takes_auth c.args.holder.now old new c.args.number)

@@ -1,6 +1,0 @@
-use Rattle.store.proofs.EditSteps.{sets_created}
-use Rattle.database.proofs.StatementLemmas.{means}
-use Rattle.store.proofs.holder.set_created.Goals as goal
-
-pub returns-clause-done : goal.returns-clause-done
-returns-clause-done g c = means g.S.Store c.run.result _ _ _ _ _ _ c.requires c.run.ensures.inside c.run.ensures.ran c.number_values.ensures (λ old new. sets_created c.args.holder.now c.args.number old new)

@@ -1,6 +1,0 @@
-use Rattle.store.proofs.EditSteps.{sets_granted}
-use Rattle.database.proofs.StatementLemmas.{means}
-use Rattle.store.proofs.holder.set_granted.Goals as goal
-
-pub returns-clause-done : goal.returns-clause-done
-returns-clause-done g c = means g.S.Store c.run.result _ _ _ _ _ _ c.requires c.run.ensures.inside c.run.ensures.ran c.number_values.ensures (λ old new. sets_granted c.args.holder.now c.args.number old new)

@@ -1,6 +1,0 @@
-use Rattle.store.proofs.EditSteps.{puts_holding}
-use Rattle.database.proofs.StatementLemmas.{means}
-use Rattle.store.proofs.holding.SpanHolderRow.put.Goals as goal
-
-pub returns-clause-done : goal.returns-clause-done
-returns-clause-done g c = means g.S.Store c.run.result _ _ _ _ _ _ c.requires c.run.ensures.inside c.run.ensures.ran c.holding_values.ensures (λ old new. puts_holding c.args.holder.now old new c.args.self.now)

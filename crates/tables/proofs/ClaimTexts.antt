@@ -1,0 +1,86 @@
+-- What the statements of claims and entries mean over the tables of a desk. Each fact is computed.
+use Rattle.std.proofs.Common.{List, [], ◌∷◌, codes, refl}
+use Rattle.sqlite_value.specs.declared.keys.Collation.TheVariants.{Binary}
+use Rattle.sqlite_schema.specs.declared.command.Source.TheVariants.{Values}
+use Rattle.sqlite_schema.specs.declared.command.Command.TheVariants.{Insert, Update, Delete, Select}
+use Rattle.sqlite_sql.specs.declared.ops.CompareOp.TheVariants.{Le, Ge}
+use Rattle.sqlite_sql.specs.declared.ops.BinaryOp.TheVariants.{Compare}
+use Rattle.sqlite_sql.specs.Term.{Term, col, op2}
+use Rattle.sqlite.specs.Listing.{understood}
+use Rattle.sqlite_tied.specs.Compute.{everything}
+use Rattle.tables.specs.declared.claim.TheConstants.{INSERT_CLAIM, UPDATE_CLAIM, DELETE_CLAIM, SELECT_HOLDER_CLAIMS, SELECT_ALL_CLAIMS, SELECT_CLAIMS_BY_HOLDER, SELECT_CLAIMS_IN_FORCE}
+use Rattle.tables.specs.declared.entry.TheConstants.{INSERT_ENTRY, UPDATE_ENTRY, DELETE_ENTRIES, SELECT_HOLDER_ENTRIES, SELECT_ALL_ENTRIES, SELECT_ENTRIES_BY_HOLDER, SELECT_PAYLOADS}
+use Rattle.tables.proofs.Selecting.{from_table, no_limit}
+use Rattle.tables.proofs.Texts.{Means, equals, upwards, put_terms}
+
+pub put_claim_is : Means INSERT_CLAIM.now (Insert 8 (Values (put_terms 5) 6))
+unfolding understood everything
+put_claim_is = record { is = λ s. refl; plain = λ s. (refl, refl); unlisted = λ s. refl }
+
+pub put_entry_is : Means INSERT_ENTRY.now (Insert 9 (Values (put_terms 7) 8))
+unfolding understood everything
+put_entry_is = record { is = λ s. refl; plain = λ s. (refl, refl); unlisted = λ s. refl }
+
+-- a claim or an entry is of the holder ?1 and of the number ?2
+abbrev pub of_number_tests : List Term
+of_number_tests = equals 1 0 ∷ equals 2 1 ∷ []
+
+-- the columns of the claim that the parameters are, its holder and its number kept
+abbrev pub claim_sets : List Term
+claim_sets = col 1 1 ∷ col 1 2 ∷ col 0 2 ∷ col 0 3 ∷ col 0 4 ∷ []
+
+pub amend_claim_is : Means UPDATE_CLAIM.now (Update 8 (record { lets = []; body = from_table 17 of_number_tests (col 1 0 ∷ col 1 0 ∷ claim_sets) [] no_limit }))
+unfolding understood everything
+amend_claim_is = record { is = λ s. refl; plain = λ s. (refl, refl); unlisted = λ s. refl }
+
+-- the columns of the entry that the parameters are, its holder and its number kept
+abbrev pub entry_sets : List Term
+entry_sets = col 1 1 ∷ col 1 2 ∷ col 0 2 ∷ col 0 3 ∷ col 0 4 ∷ col 0 5 ∷ col 0 6 ∷ []
+
+pub amend_entry_is : Means UPDATE_ENTRY.now (Update 9 (record { lets = []; body = from_table 19 of_number_tests (col 1 0 ∷ col 1 0 ∷ entry_sets) [] no_limit }))
+unfolding understood everything
+amend_entry_is = record { is = λ s. refl; plain = λ s. (refl, refl); unlisted = λ s. refl }
+
+pub take_claim_is : Means DELETE_CLAIM.now (Delete 8 (record { lets = []; body = from_table 17 of_number_tests (col 1 0 ∷ []) [] no_limit }))
+unfolding understood everything
+take_claim_is = record { is = λ s. refl; plain = λ s. (refl, refl); unlisted = λ s. refl }
+
+pub take_entries_is : Means DELETE_ENTRIES.now (Delete 9 (record { lets = []; body = from_table 19 of_number_tests (col 1 0 ∷ []) [] no_limit }))
+unfolding understood everything
+take_entries_is = record { is = λ s. refl; plain = λ s. (refl, refl); unlisted = λ s. refl }
+
+pub claims_is : Means SELECT_HOLDER_CLAIMS.now (Select (record { lets = []; body = from_table 17 (equals 1 0 ∷ []) (col 1 2 ∷ col 1 3 ∷ col 1 4 ∷ col 1 5 ∷ []) (upwards 2 ∷ []) no_limit }) (codes "number" ∷ codes "asn" ∷ codes "opens" ∷ codes "ends" ∷ []))
+unfolding understood everything
+claims_is = record { is = λ s. refl; plain = λ s. (refl, refl); unlisted = λ s. refl }
+
+pub entries_is : Means SELECT_HOLDER_ENTRIES.now (Select (record { lets = []; body = from_table 19 (equals 1 0 ∷ []) (col 1 2 ∷ col 1 3 ∷ col 1 4 ∷ col 1 5 ∷ col 1 6 ∷ col 1 7 ∷ []) (upwards 2 ∷ upwards 4 ∷ upwards 5 ∷ upwards 6 ∷ []) no_limit }) (codes "number" ∷ codes "asn" ∷ codes "family" ∷ codes "lo" ∷ codes "len" ∷ codes "max" ∷ []))
+unfolding understood everything
+entries_is = record { is = λ s. refl; plain = λ s. (refl, refl); unlisted = λ s. refl }
+
+pub all_claims_is : Means SELECT_ALL_CLAIMS.now (Select (record { lets = []; body = from_table 17 [] (col 1 2 ∷ col 1 3 ∷ col 1 4 ∷ col 1 5 ∷ col 1 0 ∷ []) (upwards 0 ∷ []) no_limit }) (codes "number" ∷ codes "asn" ∷ codes "opens" ∷ codes "ends" ∷ codes "rowid" ∷ []))
+unfolding understood everything
+all_claims_is = record { is = λ s. refl; plain = λ s. (refl, refl); unlisted = λ s. refl }
+
+pub all_entries_is : Means SELECT_ALL_ENTRIES.now (Select (record { lets = []; body = from_table 19 [] (col 1 2 ∷ col 1 3 ∷ col 1 4 ∷ col 1 5 ∷ col 1 6 ∷ col 1 7 ∷ col 1 0 ∷ []) (upwards 0 ∷ []) no_limit }) (codes "number" ∷ codes "asn" ∷ codes "family" ∷ codes "lo" ∷ codes "len" ∷ codes "max" ∷ codes "rowid" ∷ []))
+unfolding understood everything
+all_entries_is = record { is = λ s. refl; plain = λ s. (refl, refl); unlisted = λ s. refl }
+
+pub claims_by_holder_is : Means SELECT_CLAIMS_BY_HOLDER.now (Select (record { lets = []; body = from_table 17 [] (col 1 2 ∷ col 1 3 ∷ col 1 4 ∷ col 1 5 ∷ col 1 1 ∷ []) (upwards 1 ∷ upwards 2 ∷ []) no_limit }) (codes "number" ∷ codes "asn" ∷ codes "opens" ∷ codes "ends" ∷ codes "holder" ∷ []))
+unfolding understood everything
+claims_by_holder_is = record { is = λ s. refl; plain = λ s. (refl, refl); unlisted = λ s. refl }
+
+pub entries_by_holder_is : Means SELECT_ENTRIES_BY_HOLDER.now (Select (record { lets = []; body = from_table 19 [] (col 1 2 ∷ col 1 3 ∷ col 1 4 ∷ col 1 5 ∷ col 1 6 ∷ col 1 7 ∷ col 1 1 ∷ []) (upwards 1 ∷ upwards 2 ∷ upwards 4 ∷ upwards 5 ∷ upwards 6 ∷ []) no_limit }) (codes "number" ∷ codes "asn" ∷ codes "family" ∷ codes "lo" ∷ codes "len" ∷ codes "max" ∷ codes "holder" ∷ []))
+unfolding understood everything
+entries_by_holder_is = record { is = λ s. refl; plain = λ s. (refl, refl); unlisted = λ s. refl }
+
+pub payloads_is : Means SELECT_PAYLOADS.now (Select (record { lets = []; body = from_table 19 [] (col 1 3 ∷ col 1 4 ∷ col 1 5 ∷ col 1 6 ∷ col 1 7 ∷ col 1 1 ∷ col 1 2 ∷ []) [] no_limit }) (codes "asn" ∷ codes "family" ∷ codes "lo" ∷ codes "len" ∷ codes "max" ∷ codes "holder" ∷ codes "number" ∷ []))
+unfolding understood everything
+payloads_is = record { is = λ s. refl; plain = λ s. (refl, refl); unlisted = λ s. refl }
+
+-- the claims in force on the day ?1
+abbrev pub claims_in_force_tests : List Term
+claims_in_force_tests = op2 (Compare Le Binary) (col 1 4) (col 0 0) ∷ op2 (Compare Ge Binary) (col 1 5) (col 0 0) ∷ []
+
+pub claims_in_force_is : Means SELECT_CLAIMS_IN_FORCE.now (Select (record { lets = []; body = from_table 17 claims_in_force_tests (col 1 2 ∷ col 1 3 ∷ col 1 4 ∷ col 1 5 ∷ col 1 1 ∷ []) (upwards 1 ∷ upwards 2 ∷ []) no_limit }) (codes "number" ∷ codes "asn" ∷ codes "opens" ∷ codes "ends" ∷ codes "holder" ∷ []))
+unfolding understood everything
+claims_in_force_is = record { is = λ s. refl; plain = λ s. (refl, refl); unlisted = λ s. refl }

@@ -1,0 +1,111 @@
+//! The table `entry`, of which each row is the name of a holder and an entry of an authorization of
+//! it: a prefix with its maxLength (RFC 9582 section 4.3.2).
+ghost use Rattle.std.specs.Prelude.{◌≡◌};
+ghost use Rattle.sqlite.specs.Values.{bound};
+ghost use Rattle.tables.specs.Cells.{address_bytes, entry_cells, entry_row};
+ghost use Rattle.tables.specs.Decode.{EntryRowFits};
+ghost use Rattle.tables.specs.Groups.{claim_entry};
+
+use crate::FromRow;
+use crate::cells::family_number;
+use crate::claim::Claim;
+use crate::decode::{cell, decode_asn, decode_max_length, decode_number, decode_prefix};
+use addr::{Asn, Name};
+use registry::RoaPrefix;
+use sqlite::Row;
+use sqlite::types::{ToSql, ValueRef};
+
+/// Makes the table. The AS stands with each entry, so that a key keeps two authorizations from
+/// giving one VRP.
+pub const CREATE_ENTRY: &str = "\
+    CREATE TABLE entry (holder TEXT NOT NULL, number INTEGER NOT NULL, asn INTEGER NOT NULL, \
+    family INTEGER NOT NULL, lo BLOB NOT NULL, len INTEGER NOT NULL, max INTEGER NOT NULL, \
+    PRIMARY KEY (holder, number, family, lo, len), UNIQUE (asn, family, lo, len, max), \
+    FOREIGN KEY (holder, number) REFERENCES claim (holder, number) ON DELETE CASCADE) STRICT";
+
+/// Puts an entry of an authorization.
+pub const INSERT_ENTRY: &str = "\
+    INSERT INTO entry (holder, number, asn, family, lo, len, max) \
+    VALUES (?1, ?2, ?3, ?4, ?5, ?6, ?7)";
+
+/// Sets the columns of the one entry of an authorization.
+pub const UPDATE_ENTRY: &str = "\
+    UPDATE entry SET asn = ?3, family = ?4, lo = ?5, len = ?6, max = ?7 \
+    WHERE holder = ?1 AND number = ?2";
+
+/// Takes the entries of an authorization away.
+pub const DELETE_ENTRIES: &str = "DELETE FROM entry WHERE holder = ?1 AND number = ?2";
+
+/// The entries of a holder's authorizations.
+pub const SELECT_HOLDER_ENTRIES: &str = "\
+    SELECT number, asn, family, lo, len, max FROM entry WHERE holder = ?1 \
+    ORDER BY number, family, lo, len";
+
+/// All entries, and their rowids.
+pub const SELECT_ALL_ENTRIES: &str = "\
+    SELECT number, asn, family, lo, len, max, rowid FROM entry ORDER BY rowid";
+
+/// All entries, and the names of their holders.
+pub const SELECT_ENTRIES_BY_HOLDER: &str = "\
+    SELECT number, asn, family, lo, len, max, holder FROM entry \
+    ORDER BY holder, number, family, lo, len";
+
+/// The VRPs of all entries, with the holders and the numbers of their authorizations.
+pub const SELECT_PAYLOADS: &str = "\
+    SELECT asn, family, lo, len, max, holder, number FROM entry";
+
+/// An entry with the number and the AS of its authorization.
+#[derive(Clone, Copy, Debug, PartialEq, Eq)]
+pub struct EntryRow {
+    /// The number of the authorization.
+    pub number: u32,
+    pub asn: Asn,
+    pub entry: RoaPrefix,
+}
+
+/// The entry with the number and the AS of the claim.
+pub fn entry_row_of(claim: &Claim, entry: RoaPrefix) -> EntryRow
+    ensures { result ≡ claim_entry claim.now entry }
+{
+    EntryRow {
+        number: claim.number,
+        asn: claim.asn,
+        entry,
+    }
+}
+
+/// A row of the table, with the bytes of the first address of the entry's prefix.
+pub fn entry_values<'a>(holder: &'a Name, row: &EntryRow, first: &'a [u8]) -> [ValueRef<'a>; 7]
+    requires { first.now ≡ address_bytes row.now.entry.prefix.first }
+    ensures { bound result ≡ entry_row holder.now row.now }
+{
+    [
+        holder.as_str().to_sql(),
+        row.number.to_sql(),
+        row.asn.0.to_sql(),
+        family_number(row.entry.prefix.family).to_sql(),
+        first.to_sql(),
+        u32::from(row.entry.prefix.length).to_sql(),
+        u32::from(row.entry.max).to_sql(),
+    ]
+}
+
+impl FromRow for EntryRow {
+    ghost cells = { entry_cells };
+
+    ghost width = { 6 };
+
+    ghost fits = { EntryRowFits };
+
+    fn in_row(row: &Row) -> Option<EntryRow> {
+        let prefix = decode_prefix(cell(row, 2), cell(row, 3), cell(row, 4))?;
+        Some(EntryRow {
+            number: decode_number(cell(row, 0))?,
+            asn: decode_asn(cell(row, 1))?,
+            entry: RoaPrefix {
+                prefix,
+                max: decode_max_length(&prefix, cell(row, 5))?,
+            },
+        })
+    }
+}

@@ -1,0 +1,31 @@
+use Rattle.std.proofs.Common.{◌≡◌, ◌++◌, inl, inr, refl}
+use Rattle.csv_records.specs.Lines.{csv_text, payload_header, payload_row}
+use Rattle.desk.specs.declared.reply.Reply.TheVariants.{Payloads}
+use Rattle.payload.specs.VrpSet as set
+use Rattle.web.specs.HttpResponses.{reply_response, unavailable_response}
+use Rattle.web.proofs.VrpLemmas.{on-err-then, on-ok-then}
+use Rattle.web.proofs.http.response.write_vrps_response.Goals as goal
+
+pub returns-in-Some-clause-ok : goal.returns-in-Some-clause-ok
+returns-in-Some-clause-ok g c =
+    let vrps = set.items (g.I.PayloadIndex.vrps c.args.index.now) in
+    let text = c.as_str.result.now ++ csv_text payload_header payload_row vrps in
+    let whole : text ≡ reply_response c.args.form (Payloads vrps) =
+    rw (c.as_str.ensures.value, c.response_head-head.ensures, (rw c.in-Some.is at c.csv_length.ensures).1) refl in
+    on-ok-then c.write_csv.result _ _ (λ written. (text, inl whole, written)) c.write_csv.ensures.ok
+
+pub returns-in-Some-clause-err : goal.returns-in-Some-clause-err
+returns-in-Some-clause-err g c =
+    let vrps = set.items (g.I.PayloadIndex.vrps c.args.index.now) in
+    let text = c.as_str.result.now ++ csv_text payload_header payload_row vrps in
+    let whole : text ≡ reply_response c.args.form (Payloads vrps) =
+    rw (c.as_str.ensures.value, c.response_head-head.ensures, (rw c.in-Some.is at c.csv_length.ensures).1) refl in
+    on-err-then c.write_csv.result _ _ (λ begins. (text, inl whole, begins)) c.write_csv.ensures.err
+
+pub returns-in-None-clause-ok : goal.returns-in-None-clause-ok
+returns-in-None-clause-ok g c =
+    on-ok-then c.write_unavailable.result _ _ (λ written. (unavailable_response, inr (refl, refl), written)) c.write_unavailable.ensures.ok
+
+pub returns-in-None-clause-err : goal.returns-in-None-clause-err
+returns-in-None-clause-err g c =
+    on-err-then c.write_unavailable.result _ _ (λ begins. (unavailable_response, inr (refl, refl), begins)) c.write_unavailable.ensures.err
