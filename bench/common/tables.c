@@ -8,9 +8,10 @@
 
 static sqlite3 *db;
 
-static sqlite3_stmt *begin, *commit, *insert_holder, *insert_holding, *insert_grant, *insert_auth;
-static sqlite3_stmt *set_grants, *set_auths, *delete_auth;
-static sqlite3_stmt *counters_of, *holdings_of, *grants_of, *auths_of, *some_overlap, *in_force, *exceptions;
+static sqlite3_stmt *begin, *commit, *insert_holder, *insert_holding, *insert_grant, *insert_claim, *insert_entry;
+static sqlite3_stmt *set_grants, *set_auths, *delete_entries, *delete_claim;
+static sqlite3_stmt *counters_of, *holdings_of, *grants_of, *claims_of, *entries_of;
+static sqlite3_stmt *some_overlap, *in_force, *exceptions;
 
 _Noreturn void fail(const char *what)
 {
@@ -33,19 +34,23 @@ static void prepare_all(void)
     insert_holding = prepared("INSERT INTO holding (family, lo, hi, holder) VALUES (?1, ?2, ?3, ?4)");
     insert_grant = prepared("INSERT INTO granted (holder, number, caller, role, family, lo, len, until)"
                             " VALUES (?1, ?2, ?3, ?4, ?5, ?6, ?7, ?8)");
-    insert_auth = prepared("INSERT INTO auth (holder, number, asn, family, lo, len, max, opens, ends)"
-                           " VALUES (?1, ?2, ?3, ?4, ?5, ?6, ?7, ?8, ?9)");
+    insert_claim = prepared("INSERT INTO claim (holder, number, asn, opens, ends) VALUES (?1, ?2, ?3, ?4, ?5)");
+    insert_entry = prepared("INSERT INTO entry (holder, number, asn, family, lo, len, max)"
+                            " VALUES (?1, ?2, ?3, ?4, ?5, ?6, ?7)");
     set_grants = prepared("UPDATE holder SET grants = ?2 WHERE name = ?1");
     set_auths = prepared("UPDATE holder SET auths = ?2 WHERE name = ?1");
-    delete_auth = prepared("DELETE FROM auth WHERE holder = ?1 AND number = ?2");
+    delete_entries = prepared("DELETE FROM entry WHERE holder = ?1 AND number = ?2");
+    delete_claim = prepared("DELETE FROM claim WHERE holder = ?1 AND number = ?2");
     counters_of = prepared("SELECT grants, auths FROM holder WHERE name = ?1");
     holdings_of = prepared("SELECT family, lo, hi FROM holding WHERE holder = ?1 ORDER BY family, lo");
     grants_of = prepared("SELECT number, caller, role, family, lo, len, until FROM granted"
                          " WHERE holder = ?1 ORDER BY number");
-    auths_of = prepared("SELECT number, asn, family, lo, len, max, opens, ends FROM auth"
-                        " WHERE holder = ?1 ORDER BY number");
+    claims_of = prepared("SELECT number, asn, opens, ends FROM claim WHERE holder = ?1 ORDER BY number");
+    entries_of = prepared("SELECT number, asn, family, lo, len, max FROM entry"
+                          " WHERE holder = ?1 ORDER BY number, family, lo, len");
     some_overlap = prepared("SELECT 1 FROM holding WHERE family = ?1 AND lo <= ?3 AND hi >= ?2 LIMIT 1");
-    in_force = prepared("SELECT asn, family, lo, len, max FROM auth WHERE opens <= ?1 AND ends >= ?1");
+    in_force = prepared("SELECT entry.asn, family, lo, len, max FROM claim JOIN entry USING (holder, number)"
+                        " WHERE opens <= ?1 AND ends >= ?1");
     exceptions = prepared("SELECT 1 FROM slurm LIMIT 1");
 }
 
@@ -201,21 +206,36 @@ static void load_grants(const char *holder, struct rows *rows)
     }
 }
 
-static void load_auths(const char *holder, struct rows *rows)
+static void load_claims(const char *holder, struct rows *rows)
 {
     rows->auths_count = 0;
-    bind_text(auths_of, 1, holder);
-    while (has_row(auths_of)) {
+    bind_text(claims_of, 1, holder);
+    while (has_row(claims_of)) {
         if (rows->auths_count == MAX_AUTHS)
             fail("too many authorizations");
         struct auth *auth = &rows->auths[rows->auths_count++];
-        auth->number = sqlite3_column_int64(auths_of, 0);
-        auth->asn = sqlite3_column_int64(auths_of, 1);
-        auth->prefix = prefix_in(auths_of, 2);
-        auth->max = sqlite3_column_int(auths_of, 5);
-        auth->opens = sqlite3_column_int64(auths_of, 6);
-        auth->ends = sqlite3_column_int64(auths_of, 7);
+        auth->number = sqlite3_column_int64(claims_of, 0);
+        auth->asn = sqlite3_column_int64(claims_of, 1);
+        auth->opens = sqlite3_column_int64(claims_of, 2);
+        auth->ends = sqlite3_column_int64(claims_of, 3);
     }
+}
+
+/* Of the authorizations that were loaded, of which each has one entry; both rise by number. */
+static void load_entries(const char *holder, struct rows *rows)
+{
+    unsigned found = 0;
+    bind_text(entries_of, 1, holder);
+    while (has_row(entries_of)) {
+        struct auth *auth = &rows->auths[found];
+        if (found++ == rows->auths_count || auth->number != sqlite3_column_int64(entries_of, 0) ||
+            auth->asn != sqlite3_column_int64(entries_of, 1))
+            fail("an entry of no claim");
+        auth->prefix = prefix_in(entries_of, 2);
+        auth->max = sqlite3_column_int(entries_of, 5);
+    }
+    if (found != rows->auths_count)
+        fail("a claim without an entry");
 }
 
 void load(const char *holder, struct rows *rows)
@@ -223,7 +243,8 @@ void load(const char *holder, struct rows *rows)
     load_counters(holder, rows);
     load_runs(holder, rows);
     load_grants(holder, rows);
-    load_auths(holder, rows);
+    load_claims(holder, rows);
+    load_entries(holder, rows);
 }
 
 int is_overlapped(int family, address first, address last)
@@ -299,14 +320,18 @@ void put_grant(const char *holder, const struct grant *grant)
 
 void put_auth(const char *holder, const struct auth *auth)
 {
-    bind_text(insert_auth, 1, holder);
-    bind_number(insert_auth, 2, auth->number);
-    bind_number(insert_auth, 3, auth->asn);
-    bind_prefix(insert_auth, 4, &auth->prefix);
-    bind_number(insert_auth, 7, auth->max);
-    bind_number(insert_auth, 8, auth->opens);
-    bind_number(insert_auth, 9, auth->ends);
-    execute(insert_auth);
+    bind_text(insert_claim, 1, holder);
+    bind_number(insert_claim, 2, auth->number);
+    bind_number(insert_claim, 3, auth->asn);
+    bind_number(insert_claim, 4, auth->opens);
+    bind_number(insert_claim, 5, auth->ends);
+    execute(insert_claim);
+    bind_text(insert_entry, 1, holder);
+    bind_number(insert_entry, 2, auth->number);
+    bind_number(insert_entry, 3, auth->asn);
+    bind_prefix(insert_entry, 4, &auth->prefix);
+    bind_number(insert_entry, 7, auth->max);
+    execute(insert_entry);
     bind_text(set_auths, 1, holder);
     bind_number(set_auths, 2, auth->number);
     execute(set_auths);
@@ -314,7 +339,10 @@ void put_auth(const char *holder, const struct auth *auth)
 
 void take_auth(const char *holder, uint32_t number)
 {
-    bind_text(delete_auth, 1, holder);
-    bind_number(delete_auth, 2, number);
-    execute(delete_auth);
+    bind_text(delete_entries, 1, holder);
+    bind_number(delete_entries, 2, number);
+    execute(delete_entries);
+    bind_text(delete_claim, 1, holder);
+    bind_number(delete_claim, 2, number);
+    execute(delete_claim);
 }

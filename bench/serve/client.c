@@ -1,10 +1,13 @@
 /* Asks a server of a desk the same over and over, one connection for each request:
  *
- *     client PORT OPERATION HOLDERS AUTHORIZATIONS COUNT
+ *     client PORT OPERATION HOLDERS AUTHORIZATIONS COUNT [SERVER]
  *
- * The desk is that of desk.awk, with so many holders and authorizations of each. A line is printed: the
- * median of the times from the connection to the end of the response, and their mean, in nanoseconds,
- * and a sum over all bytes of all responses. A response with an unexpected status ends the client with 1.
+ * The desk is that of desk.awk, with so many holders and authorizations of each. Before an operation, except for
+ * those called first, the payloads are asked for once, so that the server has kept the day. A line is printed: the
+ * median of the times from the connection to the end of the response, of two requests to the end of the second,
+ * and their mean, in nanoseconds, and a sum over all bytes of all responses. A response with an unexpected status
+ * ends the client with 1. With SERVER, the process that answers, the mean of its processor time follows; then one
+ * more request is made, before which the server does not end, so that its end is not in that time.
  */
 #include <arpa/inet.h>
 #include <err.h>
@@ -17,24 +20,42 @@
 
 #include "times.h"
 
-enum { REQUEST_SIZE = 1024, BODY_SIZE = 256, RESPONSE_MOST = 1 << 24, COUNT_MOST = 10000, TRIES = 3000 };
+enum { REQUEST_SIZE = 1024, BODY_SIZE = 256, PREFIX_SIZE = 64, RESPONSE_MOST = 1 << 24 };
+enum { COUNT_MOST = 10000, TRIES = 3000 };
 
 static const int64_t TRY_AGAIN_AFTER = 10000;
 
 static unsigned holders, auths;
 
-/* The body that creates the authorization of this number of a holder, as desk.awk has it. */
-static void put_auth(char *body, unsigned holder, unsigned number)
+/* The prefix of the authorization of this number of a holder, as desk.awk has it, or one that it contains. */
+static void put_prefix(char *prefix, unsigned holder, unsigned number, int is_longer)
 {
-    char prefix[64];
     unsigned at = holder * 512 + number % 512;
     if (number % 5)
-        snprintf(prefix, sizeof prefix, "10.%u.%u.%u/28", at >> 12, at >> 4 & 255, at % 16 * 16);
+        snprintf(prefix, PREFIX_SIZE, "10.%u.%u.%u/%u", at >> 12, at >> 4 & 255, at % 16 * 16, is_longer ? 30 : 28);
     else
-        snprintf(prefix, sizeof prefix, "2001:db8:%x:%x::/64", holder + 1, number);
+        snprintf(prefix, PREFIX_SIZE, "2001:db8:%x:%x::/%u", holder + 1, number, is_longer ? 80 : 64);
+}
+
+/* The body that creates this authorization. */
+static void put_auth(char *body, unsigned holder, unsigned number)
+{
+    char prefix[PREFIX_SIZE];
+    put_prefix(prefix, holder, number, 0);
     snprintf(body, BODY_SIZE,
              "{\"asn\":%u,\"prefix\":\"%s\",\"max\":%u,\"from\":\"2026-01-01\",\"until\":\"2026-12-31\"}",
              64496 + number, prefix, number % 5 ? 28 : 64);
+}
+
+enum routes { AUTHORIZED, ANOTHER_AS, LONGER, ROUTES };
+
+/* The body that asks about such a route of an authorization. */
+static void put_route(char *body, unsigned holder, unsigned number, enum routes route)
+{
+    char prefix[PREFIX_SIZE];
+    put_prefix(prefix, holder, number, route == LONGER);
+    snprintf(body, BODY_SIZE, "{\"routes\":[{\"prefix\":\"%s\",\"origin\":%u}]}", prefix,
+             64496 + number + (route == ANOTHER_AS));
 }
 
 static void put_request(char *request, const char *method, const char *path, const char *body)
@@ -47,33 +68,57 @@ static void put_request(char *request, const char *method, const char *path, con
              method, path, length, body);
 }
 
-enum operation { SHOW, DENIED, CREATE, PAYLOADS, OPERATIONS };
+/* CREATE makes a new authorization, and SAME one that is there. VALIDITY asks about routes of all kinds,
+ * VALIDITY_OF_MADE about that of what CREATE made, VALIDITY_OF_TAKEN about that of what WITHDRAW took away. */
+enum kind { NOTHING, SHOW, SAME, CREATE, WITHDRAW, PAYLOADS, VALIDITY, VALIDITY_OF_MADE, VALIDITY_OF_TAKEN };
 
-static const struct {
-    const char *name, *status;
-} operations[OPERATIONS] = {
-    {"show", "HTTP/1.1 200 "},
-    {"denied", "HTTP/1.1 403 "},
-    {"create", "HTTP/1.1 200 "},
-    {"payloads", "HTTP/1.1 200 "},
+struct operation {
+    const char *name;
+    int keeps_first;
+    enum kind first, second;
 };
 
-/* The request of an operation that comes after so many others. */
-static void make_request(char *request, enum operation operation, unsigned at)
+static const struct operation operations[] = {
+    {"show", 1, SHOW, NOTHING},
+    {"denied", 1, SAME, NOTHING},
+    {"create", 1, CREATE, NOTHING},
+    {"payloads", 1, PAYLOADS, NOTHING},
+    {"validity", 1, VALIDITY, NOTHING},
+    {"create-validity", 1, CREATE, VALIDITY_OF_MADE},
+    {"withdraw-validity", 1, WITHDRAW, VALIDITY_OF_TAKEN},
+    {"first-payloads", 0, PAYLOADS, NOTHING},
+    {"first-validity", 0, VALIDITY, NOTHING},
+};
+
+/* The request of a kind that comes after so many others. */
+static void make_request(char *request, enum kind kind, unsigned at)
 {
     char path[64], body[BODY_SIZE] = "";
-    unsigned holder = at * 7919 % holders, number = at % auths + 1;
+    unsigned holder = at * 7919 % holders, number = at % auths + 1, made = auths + at + 1;
     snprintf(path, sizeof path, "/holders/h%u/auths", holder);
-    switch (operation) {
+    switch (kind) {
+    case NOTHING:
+        return;
     case SHOW:
+    case WITHDRAW:
         snprintf(path, sizeof path, "/holders/h%u/auths/%u", holder, number);
-        put_request(request, "GET", path, body);
+        put_request(request, kind == SHOW ? "GET" : "DELETE", path, body);
         return;
     case PAYLOADS:
         put_request(request, "GET", "/payloads", body);
         return;
-    default:
-        put_auth(body, holder, operation == CREATE ? auths + at + 1 : number);
+    case VALIDITY:
+        put_route(body, holder, number, at % ROUTES);
+        put_request(request, "POST", "/validity", body);
+        return;
+    case VALIDITY_OF_MADE:
+    case VALIDITY_OF_TAKEN:
+        put_route(body, holder, kind == VALIDITY_OF_MADE ? made : number, AUTHORIZED);
+        put_request(request, "POST", "/validity", body);
+        return;
+    case SAME:
+    case CREATE:
+        put_auth(body, holder, kind == CREATE ? made : number);
         put_request(request, "POST", path, body);
     }
 }
@@ -101,67 +146,124 @@ static int connected_at_last(const struct sockaddr_in *server)
     err(2, "connect");
 }
 
-/* Writes the request and reads the response to its end; its length. */
-static size_t ask(int stream, const char *request, char *response)
+/* A request that is made, and its response. */
+struct exchange {
+    enum kind kind;
+    char request[REQUEST_SIZE], response[RESPONSE_MOST];
+    size_t length;
+};
+
+/* Writes the request and reads the response to its end. */
+static void ask(int stream, struct exchange *exchange)
 {
-    ssize_t length = strlen(request), count;
-    size_t taken = 0;
-    if (write(stream, request, length) != length)
+    ssize_t length = strlen(exchange->request), count;
+    exchange->length = 0;
+    if (write(stream, exchange->request, length) != length)
         err(2, "write");
-    while ((count = read(stream, response + taken, RESPONSE_MOST - taken)) > 0)
-        taken += count;
-    if (count < 0 || taken == RESPONSE_MOST)
+    while ((count = read(stream, exchange->response + exchange->length, RESPONSE_MOST - exchange->length)) > 0)
+        exchange->length += count;
+    if (count < 0 || exchange->length == RESPONSE_MOST)
         err(2, "read");
     close(stream);
-    return taken;
 }
 
-/* The sum (FNV-1a) of the bytes and of what was summed before. */
-static uint64_t sum_of(uint64_t sum, const char *bytes, size_t count)
+static void prepare(struct exchange *exchange, enum kind kind, unsigned at)
 {
-    for (size_t at = 0; at < count; at++)
-        sum = (sum ^ (unsigned char)bytes[at]) * 1099511628211;
+    exchange->kind = kind;
+    make_request(exchange->request, kind, at);
+}
+
+/* The sum (FNV-1a) of the bytes of a response and of what was summed before. */
+static uint64_t checked_sum(uint64_t sum, const struct exchange *exchange)
+{
+    const char *status = exchange->kind == SAME ? "HTTP/1.1 403 " : "HTTP/1.1 200 ";
+    if (exchange->length < strlen(status) || strncmp(exchange->response, status, strlen(status)))
+        errx(1, "another status: %.*s", (int)exchange->length, exchange->response);
+    for (size_t at = 0; at < exchange->length; at++)
+        sum = (sum ^ (unsigned char)exchange->response[at]) * 1099511628211;
     return sum;
 }
 
-static void measure(const struct sockaddr_in *server, enum operation operation, unsigned count)
+static int connected_or_end(const struct sockaddr_in *server)
+{
+    int stream = connected(server);
+    if (stream < 0)
+        err(2, "connect");
+    return stream;
+}
+
+/* The processor time of a process in nanoseconds; 0 for none. */
+static int64_t processor_time(pid_t process)
+{
+    clockid_t clock;
+    struct timespec now;
+    if (!process)
+        return 0;
+    if (clock_getcpuclockid(process, &clock) || clock_gettime(clock, &now))
+        errx(2, "no time of process %d", (int)process);
+    return now.tv_sec * 1000000000LL + now.tv_nsec;
+}
+
+/* So that the server, which ends after a number of connections, ends. */
+static void ask_once_more(const struct sockaddr_in *server)
+{
+    static struct exchange last;
+    prepare(&last, SHOW, 0);
+    ask(connected_or_end(server), &last);
+}
+
+static void measure(const struct sockaddr_in *server, const struct operation *operation, unsigned count, pid_t process)
 {
     static int64_t times[COUNT_MOST];
-    static char request[REQUEST_SIZE], response[RESPONSE_MOST];
-    const char *status = operations[operation].status;
+    static struct exchange first, second;
     uint64_t sum = 14695981039346656037u;
     int64_t all = 0;
     int stream = connected_at_last(server);
-    for (unsigned at = 0; at < count; at++) {
-        make_request(request, operation, at);
-        int64_t start = nanoseconds();
-        if (at && (stream = connected(server)) < 0)
-            err(2, "connect");
-        size_t length = ask(stream, request, response);
-        all += times[at] = nanoseconds() - start;
-        if (strncmp(response, status, strlen(status)))
-            errx(1, "%s: another status: %.*s", operations[operation].name, (int)length, response);
-        sum = sum_of(sum, response, length);
+    if (operation->keeps_first) {
+        prepare(&first, PAYLOADS, 0);
+        ask(stream, &first);
+        sum = checked_sum(sum, &first);
+        stream = -1;
     }
-    printf("%lld %lld %016llx\n", (long long)median(times, count), (long long)all / count, (unsigned long long)sum);
+    int64_t before = processor_time(process);
+    for (unsigned at = 0; at < count; at++) {
+        prepare(&first, operation->first, at);
+        prepare(&second, operation->second, at);
+        int64_t start = nanoseconds();
+        ask(stream >= 0 ? stream : connected_or_end(server), &first);
+        if (operation->second != NOTHING)
+            ask(connected_or_end(server), &second);
+        all += times[at] = nanoseconds() - start;
+        stream = -1;
+        sum = checked_sum(sum, &first);
+        if (operation->second != NOTHING)
+            sum = checked_sum(sum, &second);
+    }
+    int64_t taken = processor_time(process) - before;
+    printf("%lld %lld %016llx", (long long)median(times, count), (long long)all / count, (unsigned long long)sum);
+    if (process) {
+        printf(" %lld", (long long)taken / count);
+        ask_once_more(server);
+    }
+    puts("");
 }
 
-static enum operation operation_of(const char *name)
+static const struct operation *operation_of(const char *name)
 {
-    for (int operation = 0; operation < OPERATIONS; operation++)
-        if (!strcmp(name, operations[operation].name))
-            return operation;
+    for (size_t at = 0; at < sizeof operations / sizeof *operations; at++)
+        if (!strcmp(name, operations[at].name))
+            return &operations[at];
     errx(2, "no operation %s", name);
 }
 
 int main(int count, char **words)
 {
-    if (count != 6 || atoi(words[5]) < 1 || atoi(words[5]) > COUNT_MOST)
-        errx(2, "PORT OPERATION HOLDERS AUTHORIZATIONS COUNT");
+    if (count < 6 || count > 7 || atoi(words[5]) < 1 || atoi(words[5]) > COUNT_MOST)
+        errx(2, "PORT OPERATION HOLDERS AUTHORIZATIONS COUNT [SERVER]");
     struct sockaddr_in server = {.sin_family = AF_INET, .sin_port = htons(atoi(words[1]))};
     server.sin_addr.s_addr = htonl(INADDR_LOOPBACK);
     holders = atoi(words[3]);
     auths = atoi(words[4]);
-    measure(&server, operation_of(words[2]), atoi(words[5]));
+    measure(&server, operation_of(words[2]), atoi(words[5]), count == 7 ? atoi(words[6]) : 0);
     return 0;
 }

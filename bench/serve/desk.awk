@@ -11,7 +11,7 @@ BEGIN {
     zeros = "0000000000000000"
     ones = "ffffffffffffffff"
     print "BEGIN;"
-    print "INSERT INTO meta VALUES ('schema', 1);"
+    print "INSERT INTO meta VALUES ('schema', 2);"
     print "INSERT INTO operator VALUES ('reg');"
     printf "INSERT INTO pool VALUES (4, %s, 8);\n", blob_v4(first_v4)
     printf "INSERT INTO pool VALUES (6, %s, 32);\n", blob_v6(-1, 0, zeros)
@@ -27,8 +27,12 @@ function print_holder(holder, name, first,   number) {
         blob_v6(holder, 0, zeros), blob_v6(holder, 65535, ones), name
     printf "INSERT INTO granted VALUES (%s, 1, 'ann', 1, NULL, NULL, NULL, 30000);\n", name
     for (number = 1; number <= auths; number++)
-        printf "INSERT INTO auth VALUES (%s, %d, %d, %s, %d, 30000);\n",
-            name, number, 64496 + number, prefix_and_max(holder, number, first), 20214 + number % 4 * 100
+        print_authorization(name, number, 64496 + number, prefix_and_max(holder, number, first))
+}
+
+function print_authorization(name, number, asn, prefix) {
+    printf "INSERT INTO claim VALUES (%s, %d, %d, %d, 30000);\n", name, number, asn, 20214 + number % 4 * 100
+    printf "INSERT INTO entry VALUES (%s, %d, %d, %s);\n", name, number, asn, prefix
 }
 
 function prefix_and_max(holder, number, first) {

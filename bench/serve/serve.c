@@ -15,11 +15,13 @@
 #include <sys/socket.h>
 #include <unistd.h>
 
+#include "kept.h"
 #include "tables.h"
 #include "texts.h"
 #include "times.h"
 
-enum { HEAD_MOST = 8192, BODY_MOST = 1 << 20, ANSWER_HEAD = 256, ANSWER_ROOM = 1 << 24, MOST_MADE = 999999 };
+enum { HEAD_MOST = 8192, BODY_MOST = 1 << 20, ANSWER_HEAD = 256, ANSWER_ROOM = 1 << 24 };
+enum { MOST_MADE = 999999, MOST_ROUTES = 10000 };
 
 static const int64_t TIME_LIMIT = 30000000000;
 
@@ -156,11 +158,22 @@ static char *cut_member(char *at, char **name, char **value, char *mark)
     return at + 1;
 }
 
-enum member { ASN = 1, PREFIX = 2, MAX = 4, FROM = 8, UNTIL = 16, EVERY_MEMBER = 31 };
+/* What comes after the text, or none where something else comes next. */
+static char *past(char *at, const char *text)
+{
+    size_t length = strlen(text);
+    at = at ? skipped(at) : NULL;
+    return at && !strncmp(at, text, length) ? at + length : NULL;
+}
+
+enum member { ASN = 1, PREFIX = 2, MAX = 4, FROM = 8, UNTIL = 16, ORIGIN = 32 };
+
+static const int AUTH_MEMBERS = ASN | PREFIX | MAX | FROM | UNTIL, ROUTE_MEMBERS = PREFIX | ORIGIN;
 
 /* Puts the value in its place; 0 where it is no member of a `create`. */
-static int take_member(const char *name, const char *value, struct auth *auth)
+static int take_auth_member(const char *name, const char *value, void *place)
 {
+    struct auth *auth = place;
     uint64_t number;
     if (!strcmp(name, "asn") && read_number(value, UINT32_MAX, &number)) {
         auth->asn = number;
@@ -179,21 +192,60 @@ static int take_member(const char *name, const char *value, struct auth *auth)
     return 0;
 }
 
-/* Whether the body is an object with each member of a `create` once. */
-static int read_auth(char *body, struct auth *auth)
+struct route {
+    struct prefix prefix;
+    uint32_t origin;
+};
+
+/* The same for a route. */
+static int take_route_member(const char *name, const char *value, void *place)
 {
-    char *name, *value, *at = skipped(body), mark = ',';
+    struct route *route = place;
+    uint64_t number;
+    if (!strcmp(name, "origin") && read_number(value, UINT32_MAX, &number)) {
+        route->origin = number;
+        return ORIGIN;
+    }
+    return !strcmp(name, "prefix") && read_prefix(value, &route->prefix) ? PREFIX : 0;
+}
+
+/* What comes after an object with each of these members once, or none where that does not come next. A value is
+ * put in its place by `take`, which says which member it is, or 0. */
+static char *read_members(char *at, int members, int (*take)(const char *, const char *, void *), void *place)
+{
+    char *name, *value, mark = ',';
     int taken = 0, member;
-    if (*at++ != '{')
-        return 0;
-    while (mark == ',') {
+    at = past(at, "{");
+    while (at && mark == ',') {
         at = cut_member(skipped(at), &name, &value, &mark);
-        member = at ? take_member(name, value, auth) : 0;
+        member = at ? take(name, value, place) : 0;
         if (!member || taken & member)
-            return 0;
+            return NULL;
         taken |= member;
     }
-    return taken == EVERY_MEMBER && mark == '}' && !*skipped(at);
+    return taken == members && mark == '}' ? at : NULL;
+}
+
+/* Whether the body is that of a `create`. */
+static int read_auth(char *body, struct auth *auth)
+{
+    char *end = read_members(body, AUTH_MEMBERS, take_auth_member, auth);
+    return end && !*skipped(end);
+}
+
+/* How many routes the body has; 0 where it is malformed. */
+static unsigned read_routes(char *body, struct route *routes)
+{
+    unsigned count = 0;
+    char *end, *at = past(past(past(past(body, "{"), "\"routes\""), ":"), "[");
+    while (at && count < MOST_ROUTES) {
+        at = read_members(at, ROUTE_MEMBERS, take_route_member, &routes[count++]);
+        end = past(past(at, "]"), "}");
+        if (end)
+            return *skipped(end) ? 0 : count;
+        at = past(at, ",");
+    }
+    return 0;
 }
 
 static int contains(const struct prefix *scope, const struct prefix *prefix)
@@ -302,17 +354,41 @@ static void put_shown(struct text *body, const struct auth *auth)
     put(body, "\"}}\n");
 }
 
+/* The authorization of this number; none, and the reply says why, where the caller has no such access to it. */
+static const struct auth *find_accessible(const struct rows *rows, const char *caller, enum role most,
+                                          uint32_t number, struct reply *reply)
+{
+    const struct auth *auth = find_auth(rows, number);
+    if (!is_granted(rows, caller, most, NULL))
+        deny(reply, "grant");
+    else if (!auth || !is_granted(rows, caller, most, &auth->prefix))
+        deny(reply, "number");
+    else
+        return auth;
+    return NULL;
+}
+
 static void show(const char *holder, const char *caller, uint32_t number, struct reply *reply)
 {
     static struct rows rows;
     load(holder, &rows);
-    const struct auth *auth = find_auth(&rows, number);
-    if (!is_granted(&rows, caller, AUDITOR, NULL))
-        deny(reply, "grant");
-    else if (!auth || !is_granted(&rows, caller, AUDITOR, &auth->prefix))
-        deny(reply, "number");
-    else
+    const struct auth *auth = find_accessible(&rows, caller, AUDITOR, number, reply);
+    if (auth)
         put_shown(&reply->body, auth);
+}
+
+static void withdraw(const char *holder, const char *caller, uint32_t number, struct reply *reply)
+{
+    static struct rows rows;
+    load(holder, &rows);
+    const struct auth *auth = find_accessible(&rows, caller, CLERK, number, reply);
+    if (!auth)
+        return;
+    begin_change(holder);
+    take_auth(holder, number);
+    commit_change();
+    follow_taken(auth);
+    put(&reply->body, "{\"done\":null}\n");
 }
 
 static void create(const char *holder, const char *caller, struct auth *auth, struct reply *reply)
@@ -328,60 +404,49 @@ static void create(const char *holder, const char *caller, struct auth *auth, st
     begin_change(holder);
     put_auth(holder, auth);
     commit_change();
+    follow_made(auth);
     put(&reply->body, "{\"done\":");
     put_number(&reply->body, auth->number);
     put(&reply->body, "}\n");
 }
 
-static int compare(address left, address right)
-{
-    return (left > right) - (left < right);
-}
-
-static int compare_vrps(const void *a, const void *b)
-{
-    const struct vrp *left = a, *right = b;
-    int order = compare(left->prefix.family, right->prefix.family);
-    order = order ? order : compare(left->prefix.first, right->prefix.first);
-    order = order ? order : compare(left->prefix.length, right->prefix.length);
-    order = order ? order : compare(left->max, right->max);
-    return order ? order : compare(left->asn, right->asn);
-}
-
-/* The VRPs of the day in rising order, in a place that the next call takes again. */
-static struct vrp *sorted_vrps(size_t *count)
-{
-    static struct vrp *vrps;
-    static size_t room;
-    struct vrp vrp;
-    *count = 0;
-    ask_vrps(today);
-    while (next_vrp(&vrp)) {
-        if (*count == room && !(vrps = realloc(vrps, (room = 2 * room + 1) * sizeof *vrps)))
-            errx(2, "no memory");
-        vrps[(*count)++] = vrp;
-    }
-    qsort(vrps, *count, sizeof *vrps, compare_vrps);
-    return vrps;
-}
-
 static void list_payloads(struct reply *reply)
 {
     size_t count;
-    if (has_exceptions())
-        errx(2, "SLURM exceptions are left out");
-    const struct vrp *vrps = sorted_vrps(&count);
+    const struct kept_vrp *vrps = vrps_on(today, &count);
     reply->type = "text/csv";
     put(&reply->body, "asn,prefix,maxlength\n");
     for (size_t i = 0; i < count; i++) {
+        struct prefix prefix = {vrps[i].family, vrps[i].length, vrps[i].first};
         put(&reply->body, "AS");
         put_number(&reply->body, vrps[i].asn);
         put(&reply->body, ",");
-        put_prefix(&reply->body, &vrps[i].prefix);
+        put_prefix(&reply->body, &prefix);
         put(&reply->body, ",");
         put_number(&reply->body, vrps[i].max);
         put(&reply->body, "\n");
     }
+}
+
+/* Answers the validity of routes. */
+static void judge(char *body, struct reply *reply)
+{
+    static const char *const states[] = {
+        [VALID] = "\"Valid\"",
+        [INVALID] = "\"Invalid\"",
+        [NOT_FOUND] = "\"NotFound\"",
+    };
+    static struct route routes[MOST_ROUTES];
+    unsigned count = read_routes(body, routes);
+    if (!count) {
+        refuse(reply, "400 Bad Request", "400");
+        return;
+    }
+    for (unsigned i = 0; i < count; i++) {
+        put(&reply->body, i ? "," : "{\"answers\":[");
+        put(&reply->body, states[validity_on(today, &routes[i].prefix, routes[i].origin)]);
+    }
+    put(&reply->body, "]}\n");
 }
 
 static int is_name(const char *text)
@@ -407,10 +472,13 @@ static void answer(const struct request *request, struct reply *reply)
     struct auth auth;
     int count = split_path(request->target, parts, MOST_PARTS);
     int is_get = !strcmp(request->method, "GET"), is_post = !strcmp(request->method, "POST");
+    int is_delete = !strcmp(request->method, "DELETE");
     int is_auths = count > 3 && !strcmp(parts[1], "holders") && !strcmp(parts[3], "auths");
     if (count == 2 && is_get && !strcmp(parts[1], "payloads"))
         list_payloads(reply);
-    else if (!is_auths || !((count == 4 && is_post) || (count == 5 && is_get)))
+    else if (count == 2 && is_post && !strcmp(parts[1], "validity"))
+        judge(request->body, reply);
+    else if (!is_auths || !((count == 4 && is_post) || (count == 5 && (is_get || is_delete))))
         refuse(reply, "404 Not Found", "404");
     else if (!is_name(parts[HOLDER]) || !is_name(request->caller))
         refuse(reply, "400 Bad Request", "400");
@@ -418,6 +486,8 @@ static void answer(const struct request *request, struct reply *reply)
         create(parts[HOLDER], request->caller, &auth, reply);
     else if (is_get && read_number(parts[NUMBER], MOST_MADE, &number))
         show(parts[HOLDER], request->caller, number, reply);
+    else if (is_delete && read_number(parts[NUMBER], MOST_MADE, &number))
+        withdraw(parts[HOLDER], request->caller, number, reply);
     else
         refuse(reply, "400 Bad Request", "400");
 }

@@ -1,13 +1,14 @@
 #!/usr/bin/env bash
 # Measures `roadesk serve` against serve.c, which answers the same requests in C over libsqlite3.
 #
-#     serve.sh [--only-c] [RUNS]      (5 where left out; --only-c runs the C server alone)
+#     serve.sh [--only-c] [RUNS [SIZE]...]      (5, and all sizes, where left out; --only-c runs the C server alone)
 #
 # Needs gcc, libsqlite3 with its header, sqlite3, awk and shuf; with strace the calls that sync are counted too.
 # The program has to be built first, by ./roadesk build at the top; PROGRAM may name another. Files go to a
-# temporary folder, or stay in BENCH_WORK. The two servers run in turn, each first in every other run, and of the
-# medians of an operation the least counts. Ends with 1 where they answer otherwise than each other or leave
-# other rows, with 2 where something could not be run.
+# temporary folder, or stay in BENCH_WORK. A SIZE is as '200 500', the holders and the authorizations of each. The two
+# servers run in turn, each first in every other run, and of the medians of an operation the least counts, as do the
+# least processor time of the server and the least peak of memory. Ends with 1 where they answer otherwise than each
+# other or leave other rows, with 2 where something could not be run.
 set -u
 . "$(dirname "${BASH_SOURCE[0]}")/../common/work.sh"
 program=${PROGRAM:-$top/crates/cli/out/cli}
@@ -17,9 +18,12 @@ if [ "${1:-}" = --only-c ]; then
     shift
 fi
 runs=${1:-5}
+sizes=("${@:2}")
+[ ${#sizes[@]} != 0 ] || sizes=('10 100' '100 100' '200 5' '200 50' '200 500')
 
 [ "$servers" = C ] || [ -x "$program" ] || fail "the program is not built: run ./roadesk build first"
-gcc -O2 -Wall -I "$common" -o "$work/serve" "$here"/{serve,texts}.c "$common/tables.c" -lsqlite3 || fail "serve.c was not built"
+gcc -O2 -Wall -I "$common" -o "$work/serve" "$here"/{serve,texts,kept}.c "$common/tables.c" -lsqlite3 ||
+    fail "serve.c was not built"
 gcc -O2 -Wall -I "$common" -o "$work/client" "$here/client.c" || fail "client.c was not built"
 
 # A port of 127.0.0.1 where nothing listens.
@@ -41,17 +45,33 @@ make_desk() {
 
 declare -A programs=([roadesk]=$program [C]=$work/serve) first_words=([roadesk]=serve [C]=)
 
-# ask OPERATION HOLDERS AUTHORIZATIONS COUNT COMMAND...: starts the server on a copy of desk.db and prints the
-# client's line and a sum of the rows afterwards.
-ask() {
-    local operation=$1 holders=$2 auths=$3 count=$4 port server line
-    shift 4
+# start COUNT COMMAND...: starts the server on a copy of desk.db; `port` and `server` are its port and process.
+start() {
+    local count=$1
+    shift
     port=$(free_port) || return 2
     rm -f "$work"/served.db*
     cp "$work/desk.db" "$work/served.db" && sync "$work/served.db" || return 2
     "$@" --db "$work/served.db" --listen "127.0.0.1:$port" --count "$count" --day 2026-03-01 >&2 &
     server=$!
-    if ! line=$("$work/client" "$port" "$operation" "$holders" "$auths" "$count"); then
+}
+
+# connections OPERATION COUNT: how many the client makes, with the one after the time of the server is taken.
+connections() {
+    case $1 in
+    first-*) echo $((1 + $2)) ;;
+    *-validity) echo $((2 + 2 * $2)) ;;
+    *) echo $((2 + $2)) ;;
+    esac
+}
+
+# ask OPERATION HOLDERS AUTHORIZATIONS COUNT COMMAND...: starts the server and prints the client's line and a sum
+# of the rows afterwards.
+ask() {
+    local operation=$1 holders=$2 auths=$3 count=$4 port server line
+    shift 4
+    start "$(connections "$operation" "$count")" "$@" || return 2
+    if ! line=$("$work/client" "$port" "$operation" "$holders" "$auths" "$count" "$server"); then
         kill "$server" 2>/dev/null
         return 2
     fi
@@ -60,13 +80,47 @@ ask() {
 }
 
 # A line an operation: server, holders, authorizations, operation, median and mean in nanoseconds, the sum of the
-# responses and that of the rows.
+# responses, the processor time of the server in nanoseconds, and the sum of the rows.
 measure() {
     local size=$1 operation=$2 count=$3 server line
     for server in $turn; do
         line=$(ask "$operation" $size "$count" "${programs[$server]}" ${first_words[$server]}) ||
             fail "$server failed: $operation"
         echo "$server $size $operation $line" >>"$work/serve.lines"
+    done
+}
+
+# memory: the most memory that the server has taken, and what it takes now, in kB.
+memory() {
+    awk '/^Vm(HWM|RSS)/ { printf " %d", $2 }' "/proc/$server/status"
+}
+
+# ask_for_memory HOLDERS AUTHORIZATIONS COMMAND...: the memory of a server, once it listens, so that its database is
+# open, after the validity of a route, for which the day is kept, and after the first payloads.
+ask_for_memory() {
+    local size="$1 $2" port server operation line
+    shift 2
+    start 3 "$@" || return 2
+    until grep -q "$(printf ':%04X 00000000:0000 0A' "$port")" /proc/net/tcp; do
+        kill -0 "$server" 2>/dev/null || return 2
+        sleep 0.01
+    done
+    line=$(memory)
+    for operation in first-validity first-payloads; do
+        "$work/client" "$port" "$operation" $size 1 >/dev/null || { kill "$server"; return 2; }
+        line+=$(memory)
+    done
+    "$work/client" "$port" first-validity $size 1 >/dev/null && wait "$server" && echo "$line"
+}
+
+# A line: server, holders, authorizations, the number of VRPs, and the memory, most and now, opened, kept and written.
+measure_memory() {
+    local size=$1 server line vrps
+    vrps=$(sqlite3 "$work/desk.db" 'SELECT count(*) FROM claim JOIN entry USING (holder, number)
+        WHERE opens <= 20513 AND ends >= 20513')
+    for server in $turn; do
+        line=$(ask_for_memory $size "${programs[$server]}" ${first_words[$server]}) || fail "$server failed: memory"
+        echo "$server $size $vrps $line" >>"$work/memory.lines"
     done
 }
 
@@ -79,43 +133,91 @@ syncs() {
 
 turn=$servers
 : >"$work/serve.lines"
-for size in '10 100' '100 100'; do
+: >"$work/memory.lines"
+for size in "${sizes[@]}"; do
     make_desk $size
     for _ in $(seq "$runs"); do
         measure "$size" show 1000
-        measure "$size" denied 1000
-        measure "$size" create 200
-        measure "$size" payloads 50
+        case $size in
+        # What is answered from the day that is kept.
+        '200 '*)
+            measure "$size" validity 1000
+            measure "$size" create-validity 200
+            measure "$size" withdraw-validity 200
+            measure "$size" payloads 20
+            for _ in 1 2 3; do
+                measure "$size" first-payloads 1
+            done
+            measure_memory "$size"
+            ;;
+        *)
+            measure "$size" denied 1000
+            measure "$size" create 200
+            measure "$size" payloads 50
+            ;;
+        esac
         turn=$(tr ' ' '\n' <<<"$turn" | tac | xargs)
     done
 done
 
 awk -v servers="$servers" '
-    { row = $2 " of " $3 " " $4; key = row " " $1; answers = $7 " " $8 }
+    { row = $2 " of " $3 " " $4; key = row " " $1; answers = $7 " " $9 }
     !(row in first) { first[row] = answers; order[++rows] = row }
     first[row] != answers { print "other answers: " row; differ = 1 }
     !(key in median) || $5 < median[key] { median[key] = $5 }
     !(key in mean) || $6 < mean[key] { mean[key] = $6 }
+    !(key in busy) || $8 < busy[key] { busy[key] = $8 }
+    # One row over another one, of each server.
+    function print_quotient(row, other,   one) {
+        if (!(row in first) || !(other in first)) return
+        printf "%-28s  over %-28s", row, other
+        for (one = 1; one <= count; one++)
+            printf "  %s %.2f busy %.2f", server[one], median[row " " server[one]] / median[other " " server[one]],
+                busy[row " " server[one]] / busy[other " " server[one]]
+        print ""
+    }
     END {
         count = split(servers, server, " ")
-        printf "%-20s", "rows, operation"
-        for (one = 1; one <= count; one++) printf "  %10s  %10s", server[one], "a second"
-        print (count == 2 ? "   ratio" : "")
+        printf "%-28s", "rows, operation"
+        for (one = 1; one <= count; one++) printf "  %11s  %10s  %11s", server[one], "a second", "busy"
+        print (count == 2 ? "   ratio    busy" : "")
         for (at = 1; at <= rows; at++) {
-            printf "%-20s", order[at]
+            printf "%-28s", order[at]
             for (one = 1; one <= count; one++) {
                 key = order[at] " " server[one]
-                printf "  %7.1f us  %10d", median[key] / 1000, 1e9 / mean[key]
+                printf "  %8.1f us  %10d  %8.1f us", median[key] / 1000, 1e9 / mean[key], busy[key] / 1000
             }
-            if (count == 2) printf "  %6.2f", median[order[at] " roadesk"] / median[order[at] " C"]
+            if (count == 2)
+                printf "  %6.2f  %6.2f", median[order[at] " roadesk"] / median[order[at] " C"],
+                    busy[order[at] " roadesk"] / busy[order[at] " C"]
             print ""
         }
+        print_quotient("200 of 50 validity", "200 of 50 show")
+        print_quotient("200 of 500 validity", "200 of 500 show")
+        print_quotient("200 of 500 create-validity", "200 of 5 create-validity")
         exit differ
     }' "$work/serve.lines"
 same=$?
 
-# The desk is the last one; what shows sync is for the opening and the end.
+awk -v servers="$servers" '
+    { row = $2 " of " $3 ", " $4 " VRPs"; vrps[row] = $4; key = row " " $1 }
+    !(row in seen) { seen[row]; order[++rows] = row }
+    !(key in kept) || $7 < kept[key] { opened[key] = $5; kept[key] = $7; written[key] = $9; grown[key] = $8 - $6 }
+    END {
+        count = split(servers, server, " ")
+        printf "%-28s  %8s  %28s  %21s\n", "rows", "server", "peak opened, kept, written", "bytes a VRP: peak, now"
+        for (at = 1; at <= rows; at++)
+            for (one = 1; one <= count; one++) {
+                row = order[at]
+                key = row " " server[one]
+                printf "%-28s  %8s  %7d %7d %7d kB  %11.0f %10.0f\n", row, server[one], opened[key], kept[key],
+                    written[key], (kept[key] - opened[key]) * 1024 / vrps[row], grown[key] * 1024 / vrps[row]
+            }
+    }' "$work/memory.lines"
+
+# What shows sync is for the opening and the end.
 if command -v strace >/dev/null; then
+    make_desk 100 100
     for server in $servers; do
         creates=$(syncs "$server" create) && shows=$(syncs "$server" show) || exit 2
         echo "$server synced $creates times for 100 creates, $shows for 100 shows"

@@ -112,8 +112,7 @@ static int spells_prefix(const char *from, const struct prefix *prefix)
     return are_same(&spelling, from);
 }
 
-/* The bits past the length. */
-static address bits_past(const struct prefix *prefix)
+address bits_past(const struct prefix *prefix)
 {
     int below = width_of(prefix->family) - prefix->length;
     return below == 128 ? ~(address)0 : ((address)1 << below) - 1;

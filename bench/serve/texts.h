@@ -28,6 +28,9 @@ int read_day(const char *from, int64_t *day);
 /* The number of bits of an address. */
 int width_of(int family);
 
+/* The bits of an address past the length of the prefix. */
+address bits_past(const struct prefix *prefix);
+
 /* The last address of the prefix. */
 address last_of(const struct prefix *prefix);
 
