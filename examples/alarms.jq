@@ -1,0 +1,13 @@
+# The lines of the front's watch.log on which to raise an alarm, each with its reason:
+#
+#     jq -r -f alarms.jq watch.log
+def reason:
+    if .status == "502" then "the desk is away"
+    elif .status == "503" then "the desk has no memory, or its database failed"
+    elif .status == "504" then "the desk does not answer"
+    elif .status >= "500" then "the front failed"
+    elif .status == "401" and .caller != "" then "a wrong password"
+    elif .status == "403" and .desk == "" then "a page of another site"
+    elif (.desk | tonumber? // 0) > 5 then "the desk was held"
+    else empty end;
+"\(.time) \(reason): \(.status) \(.caller) \(.method) \(.path)"
