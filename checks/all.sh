@@ -1,5 +1,5 @@
 #!/usr/bin/env bash
-# Runs the checks beside it, which the gate does not run, and says of each whether it passed.
+# Runs the checks beside it and that of the console, which the gate does not run, and says of each whether it passed.
 #
 #     all.sh
 #
@@ -10,7 +10,7 @@ checks=$(cd "$(dirname "${BASH_SOURCE[0]}")" && pwd)
 failed=0
 verdicts=()
 
-for check in guide formats responses sqlite3 stops refused first-look; do
+for check in guide formats responses sqlite3 stops failover refused first-look ../console/check; do
     echo "== $check"
     "$checks/$check.sh"
     case $? in
@@ -18,7 +18,7 @@ for check in guide formats responses sqlite3 stops refused first-look; do
         77) verdict=skipped ;;
         *) verdict=failed failed=1 ;;
     esac
-    verdicts+=("$check: $verdict")
+    verdicts+=("${check#../}: $verdict")
 done
 echo "=="
 printf '%s\n' "${verdicts[@]}"

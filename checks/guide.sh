@@ -6,7 +6,8 @@
 # The blocks marked sh run in one shell, in their order, in a temporary folder that has what the top of the
 # repository has, so that the files they make do not stay. What a block prints, on standard error too, has to be
 # the block after a line that ends with `prints` or `print`. Where there is none, it has to end with status 0.
-# A block marked `sh needs COMMAND..` is skipped where one of these commands is missing.
+# A block marked `sh needs COMMAND..` is skipped where one of these commands is missing; `netfilter` stands for the right
+# to make a network namespace with rules of nftables, which root has.
 # PROGRAM names the program to run as ./roadesk, else it is that of the repository; skipped where it is not built.
 # Ends with 1 where a block does otherwise, with 2 where something could not be run.
 set -u
@@ -46,10 +47,17 @@ chmod +x "$work/top/roadesk"
 # As on a terminal, curl does not show how far it is.
 printf 'silent\nshow-error\n' >"$work/.curlrc"
 
+is_there() {
+    case $1 in
+        netfilter) unshare -n nft add table inet roadesk 2>/dev/null ;;
+        *) command -v "$1" >/dev/null ;;
+    esac
+}
+
 # missing_for N: the commands that block N needs and that are missing.
 missing_for() {
     for tool in $(cat "$work/$1.needs"); do
-        command -v "$tool" >/dev/null || echo "$tool"
+        is_there "$tool" || echo "$tool"
     done
 }
 

@@ -32,7 +32,7 @@ FROM = "2026-01-01"
 # The longest life in seconds, and how many authorizations a holder has about at most.
 LONGEST = 0.5
 MANY = 300
-TABLES = ["meta", "operator", "pool", "holder", "holding", "granted", "auth", "slurm"]
+TABLES = ["meta", "operator", "pool", "holder", "holding", "granted", "auth", "slurm", "claim", "entry"]
 POOL = 10 << 24
 
 
@@ -142,8 +142,8 @@ class Rows:
             columns = (4, blob(scope[0]), scope[1]) if scope else (None, None, None)
             yield "granted", self.holder, number, name, role, *columns, number_of("2026-12-31")
         for number, auth in self.auths.items():
-            yield ("auth", self.holder, number, auth.asn, 4, blob(auth.prefix[0]), auth.prefix[1], auth.max,
-                   number_of(FROM), number_of(auth.until))
+            yield "claim", self.holder, number, auth.asn, number_of(FROM), number_of(auth.until)
+            yield "entry", self.holder, number, auth.asn, 4, blob(auth.prefix[0]), auth.prefix[1], auth.max
         for row in self.exceptions:
             yield "slurm", "main", *row
 
@@ -403,7 +403,7 @@ class Check:
         return [f"{command}\nfound {reply}" for command, reply in zip(commands, replies) if reply != command.reply]
 
     def expected(self, kept=None):
-        rows = {("meta", "schema", 1), ("operator", "reg"), ("pool", 4, blob(POOL), 8)}
+        rows = {("meta", "schema", 2), ("operator", "reg"), ("pool", 4, blob(POOL), 8)}
         return rows.union(*((client.after() if client is kept else client.rows).tables() for client in self.clients))
 
     def live(self):

@@ -20,21 +20,25 @@ made=$work/made.db
 expect 'the schema of a new store' "$(sqlite3 "$made" .schema | sort)" "$(sort "$common/tables.sql")"
 expect 'its integrity' "$(sqlite3 "$made" 'PRAGMA integrity_check')" ok
 expect 'its foreign keys' "$(sqlite3 "$made" 'PRAGMA foreign_key_check')" ''
-expect 'its number' "$(sqlite3 "$made" 'SELECT name, value FROM meta')" 'schema|1'
+expect 'its number' "$(sqlite3 "$made" 'SELECT name, value FROM meta')" 'schema|2'
 expect 'its holders' "$(sqlite3 "$made" 'SELECT count(*), sum(grants) FROM holder')" '10|10'
 # The AS of an authorization is its number: 1 to 10 at each of the 10 holders, and one each from 211 to 410.
-expect 'its authorizations' "$(sqlite3 "$made" 'SELECT count(*), sum(asn) FROM auth')" '300|62650'
+expect 'its authorizations' "$(sqlite3 "$made" 'SELECT count(*), sum(asn) FROM claim')" '300|62650'
+joined='claim JOIN entry USING (holder, number, asn)'
+expect 'their entries' "$(sqlite3 "$made" "SELECT count(*), sum(asn) FROM $joined")" '300|62650'
+expect 'the table of schema 1' "$(sqlite3 "$made" 'SELECT count(*) FROM auth')" 0
 
 # What sqlite3 wrote, opened as a store.
 open=$("$common/build.sh" "$here/open.rattle" "$work" "$work/first.db") || fail "open.rattle was not built"
 rows="
-INSERT INTO meta VALUES ('schema', 1);
+INSERT INTO meta VALUES ('schema', 2);
 INSERT INTO operator VALUES ('reg');
 INSERT INTO pool VALUES (4, x'000000000000000000000000c0000200', 24);
 INSERT INTO holder VALUES ('alpha', 1, 1);
 INSERT INTO holding VALUES (4, x'000000000000000000000000c0000200', x'000000000000000000000000c00002ff', 'alpha');
 INSERT INTO granted VALUES ('alpha', 1, 'ann', 1, NULL, NULL, NULL, 20818);
-INSERT INTO auth VALUES ('alpha', 1, 64496, 4, x'000000000000000000000000c0000200', 24, 24, 20454, 20818);"
+INSERT INTO claim VALUES ('alpha', 1, 64496, 20454, 20818);
+INSERT INTO entry VALUES ('alpha', 1, 64496, 4, x'000000000000000000000000c0000200', 24, 24);"
 whole='operators 1, pool 1
 AS64496 192.0.2.0/24 24'
 
@@ -48,13 +52,28 @@ expect_opened() {
 tables=$(cat "$common/tables.sql")
 expect_opened 'tables of sqlite3' "$whole" "$tables"
 expect 'its integrity afterwards' "$(sqlite3 "$work/written.db" 'PRAGMA integrity_check')" ok
-expect_opened 'without the index' "$whole" "$(grep -v INDEX "$common/tables.sql")"
-expect 'the schema afterwards' "$(sqlite3 "$work/written.db" .schema | sort)" "$(sort "$common/tables.sql")"
+expect_opened 'without the index' "$whole" "$tables" 'DROP INDEX holding_of;'
+expect 'the schema afterwards' "$(sqlite3 "$work/written.db" .schema | sort)" \
+    "$(grep -v INDEX "$common/tables.sql" | sort)"
 expect_opened 'with a write-ahead log' "$whole" "PRAGMA journal_mode = WAL; $tables"
-expect_opened 'after a vacuum' "$whole" "CREATE TABLE notes (text); $tables" 'DROP TABLE notes; VACUUM;'
+# The index is made last, so the tables have the same places without it, and where sqlite3 writes them anew: it then
+# makes all tables before the indexes.
+expect_opened 'made without the index' "$whole" "$(grep -v INDEX "$common/tables.sql")"
+expect_opened 'after a vacuum' "$whole" "$tables" "VACUUM; VACUUM INTO '$work/into.db';"
+expect 'a vacuum into another file' "$("$open" "$work/into.db")" "$whole"
+sqlite3 "$work/written.db" .dump | sqlite3 "$work/dumped.db" || fail 'sqlite3 failed: a dump'
+expect 'made from a dump' "$("$open" "$work/dumped.db")" "$whole"
+early=$(sed '/^CREATE TABLE claim/i CREATE INDEX run_of ON holding (holder);' "$common/tables.sql")
+expect_opened 'an index before the last tables' database "$early"
+expect_opened 'the same after a vacuum' "$whole" "$early" 'VACUUM;'
 expect_opened 'tables in another order' database "$(tac "$common/tables.sql" | grep -v INDEX)"
-expect_opened 'another number' schema "$tables" 'UPDATE meta SET value = 2;'
+expect_opened 'another number' schema "$tables" 'UPDATE meta SET value = 3;'
+old="INSERT INTO auth SELECT holder, number, asn, family, lo, len, max, opens, ends FROM $joined;"
+expect_opened 'a row of schema 1' schema "$tables" "$old"
+expect_opened 'tables of schema 1' schema "$tables" \
+    "$old DROP TABLE entry; DROP TABLE claim; UPDATE meta SET value = 1;"
 expect_opened 'a run of nobody' refused "$tables" 'DELETE FROM holder;'
+expect_opened 'an entry of no claim' refused "$tables" 'DELETE FROM claim;'
 : >"$work/empty.db"
 expect 'an empty file' "$("$open" "$work/empty.db")" schema
 echo 'register,alpha' >"$work/text.db"

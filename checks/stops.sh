@@ -121,7 +121,7 @@ ask_once() {
 }
 
 # The rows of the charter, by FORMATS.md.
-charter_rows="'meta','schema',1
+charter_rows="'meta','schema',2
 'operator','reg'
 'pool',4,X'000000000000000000000000c0000200',24
 'pool',4,X'000000000000000000000000c6336400',24
@@ -136,14 +136,15 @@ desk_rows() {
         echo "'holding',4,X'000000000000000000000000c0000200',X'000000000000000000000000c00002ff','alpha'"
         echo "'granted','alpha',1,'ann',1,NULL,NULL,NULL,20818"
         for number in $(seq "$1"); do
-            echo "'auth','alpha',$number,$((64495 + number)),4,X'000000000000000000000000c0000200',24,24,20454,20818"
+            echo "'claim','alpha',$number,$((64495 + number)),20454,20818"
+            echo "'entry','alpha',$number,$((64495 + number)),4,X'000000000000000000000000c0000200',24,24"
         done
     } | sort
 }
 
 rows() {
     local table statements=()
-    for table in meta operator pool holder holding granted auth slurm; do
+    for table in meta operator pool holder holding granted auth slurm claim entry; do
         statements+=("SELECT '$table', * FROM $table;")
     done
     # Some versions write the digits of a blob as capitals.
@@ -155,7 +156,7 @@ found() {
     local once count
     once=$(ask_once "$1" probe)
     [ "$once" = "$no_grant $fine" ] || { echo "$once" && return; }
-    count=$(sqlite3 "$1" 'SELECT count(*) FROM auth')
+    count=$(sqlite3 "$1" 'SELECT count(*) FROM claim')
     [ "$(rows "$1")" = "$(desk_rows "$count")" ] && echo "$count" || echo 'other rows'
 }
 
@@ -369,7 +370,7 @@ two_programs() {
     rm "$work/name.db"
 
     coproc reader { exec sqlite3 "$file"; }
-    echo 'SELECT count(*) FROM auth;' >&"${reader[1]}"
+    echo 'SELECT count(*) FROM claim;' >&"${reader[1]}"
     read -r count <&"${reader[0]}"
     expect 'serve while sqlite3 has the file open' "$count, $(serve "$file")" "3, $database"
     kill "$reader_PID"
@@ -398,7 +399,7 @@ foreign_log() {
     cp "$first" "$file"
     cp "$file" "$work/sqlite.db" && cp "$file-wal" "$work/sqlite.db-wal"
     # SQLite applies the log to whatever file it is beside, and here the two agree.
-    expected=$(sqlite3 "$work/sqlite.db" 'SELECT count(*) FROM auth')
+    expected=$(sqlite3 "$work/sqlite.db" 'SELECT count(*) FROM claim')
     expect 'a copy put back beside the old log' "$expected, $(found "$file")" '2, 2'
 
     file=$(copy restored)
@@ -418,13 +419,13 @@ PRAGMA journal_mode = DELETE;
 PRAGMA cache_size = 1;
 BEGIN;
 WITH more (one) AS (SELECT 2 UNION ALL SELECT one + 1 FROM more WHERE one < 900)
-    INSERT INTO auth SELECT holder, one, asn + one, family, lo, len, max, opens, ends FROM auth, more;
+    INSERT INTO entry SELECT holder, one, asn + one, family, lo, len, max FROM entry, more;
 .shell kill -9 $PPID
 END
     expect 'a hot journal' "$(head -c 1 "$file-journal" | od -An -tx1), $(serve "$file")" " d9, $database"
     expect 'no log was made' "$(ls "$file"*)" "$file
 $file-journal"
-    expect 'what sqlite3 makes of it' "$(sqlite3 "$file" 'SELECT count(*) FROM auth')" 1
+    expect 'what sqlite3 makes of it' "$(sqlite3 "$file" 'SELECT count(*) FROM entry')" 1
     expect 'found afterwards' "$(found "$file")" 1
 }
 
@@ -447,7 +448,7 @@ opened() {
 edited_rows() {
     local lo="x'000000000000000000000000C0000200'" one
     one=$(listed 1)
-    refused 'the number of the schema' "UPDATE meta SET value = 2" "$schema"
+    refused 'the number of the schema' "UPDATE meta SET value = 3" "$schema"
     refused 'that number away' "DELETE FROM meta" "$schema"
     refused 'the operator away' "DELETE FROM operator" "$schema"
     refused 'an operator to no name' "UPDATE operator SET name = 'Reg'" "$schema"
@@ -455,15 +456,20 @@ edited_rows() {
     refused 'a counter over 999,999' "UPDATE holder SET auths = 1000000" "$schema"
     refused 'a run to end before it begins' "UPDATE holding SET hi = x'000000000000000000000000C00001FF'" "$schema"
     refused 'an address to 15 bytes' "UPDATE holding SET lo = x'0000000000000000000000C0000200'" "$schema"
-    refused 'a family to 5' "UPDATE auth SET family = 5" "$schema"
+    refused 'a family to 5' "UPDATE entry SET family = 5" "$schema"
     refused 'a caller to no name' "UPDATE granted SET caller = ''" "$schema"
     refused 'a role to 4' "UPDATE granted SET role = 4" "$schema"
     refused 'a scope to a half' "UPDATE granted SET family = 4" "$schema"
-    refused 'an AS number over 4294967295' "UPDATE auth SET asn = 4294967296" "$schema"
-    refused 'a maxLength below the length' "UPDATE auth SET max = 23" "$schema"
-    refused 'a maxLength over 32' "UPDATE auth SET max = 33" "$schema"
-    refused 'a day after the last' "UPDATE auth SET ends = 2932897" "$schema"
-    refused 'a number to 0' "UPDATE auth SET number = 0" "$schema"
+    refused 'an AS number over 4294967295' \
+        "UPDATE claim SET asn = 4294967296; UPDATE entry SET asn = 4294967296" "$schema"
+    refused 'the AS number of a claim alone' "UPDATE claim SET asn = 64511" "$schema"
+    refused 'the entries of a claim away' "DELETE FROM entry" "$schema"
+    refused 'a maxLength below the length' "UPDATE entry SET max = 23" "$schema"
+    refused 'a maxLength over 32' "UPDATE entry SET max = 33" "$schema"
+    refused 'a day after the last' "UPDATE claim SET ends = 2932897" "$schema"
+    refused 'a number to 0' "UPDATE claim SET number = 0; UPDATE entry SET number = 0" "$schema"
+    refused 'a row of schema 1' \
+        "INSERT INTO auth VALUES ('alpha', 2, 64497, 4, $lo, 24, 24, 20454, 20818)" "$schema"
     refused 'a filter of nothing' "INSERT INTO slurm VALUES ('main', 1, 1, NULL, NULL, NULL, NULL, NULL)" "$schema"
     refused 'an assertion without maxLength' \
         "INSERT INTO slurm VALUES ('main', 2, 1, 4, $lo, 24, NULL, 64496)" "$schema"
@@ -471,18 +477,25 @@ edited_rows() {
     refused 'a table away' "DROP TABLE slurm" "$schema"
     refused 'a column away' "ALTER TABLE slurm DROP COLUMN max" "$schema"
     refused 'a further table' "CREATE TABLE notes (text)" "$database"
-    refused 'a further column' "ALTER TABLE auth ADD COLUMN note TEXT" "$database"
+    refused 'a further column' "ALTER TABLE claim ADD COLUMN note TEXT" "$database"
     refused 'a further row of meta' "INSERT INTO meta VALUES ('more', 1)" "$database"
-    refused 'an authorization to one of nobody' "UPDATE auth SET holder = 'beta'" "$database"
-    opened 'an AS number' "UPDATE auth SET asn = 64511" "${one/64496/64511}" list
-    opened 'the last day to one before the first' "UPDATE auth SET ends = 20453" "${one/2026-12-31/2025-12-31}" list
-    opened 'an index and a view beside' "CREATE INDEX by_as ON auth (asn); CREATE VIEW seen AS SELECT asn FROM auth" \
+    refused 'an authorization to one of nobody' \
+        "UPDATE claim SET holder = 'beta'; UPDATE entry SET holder = 'beta'" "$database"
+    refused 'an entry to one of no claim' "DELETE FROM claim" "$database"
+    opened 'an AS number' "UPDATE claim SET asn = 64511; UPDATE entry SET asn = 64511" "${one/64496/64511}" list
+    opened 'the last day to one before the first' "UPDATE claim SET ends = 20453" "${one/2026-12-31/2025-12-31}" list
+    opened 'an index and a view beside' "CREATE INDEX by_as ON claim (asn); CREATE VIEW seen AS SELECT asn FROM claim" \
         "$one" list
-    opened 'a row away' "DELETE FROM auth" "$(listed 0)" list
+    opened 'the index of runs away' "DROP INDEX holding_of" "$one" list
+    expect 'its indexes afterwards' "$(sqlite3 "$work/edited.db" '.indexes holding')" sqlite_autoindex_holding_1
+    opened 'the whole file by VACUUM' "VACUUM" "$one" list
+    sqlite3 "$(copy edited)" .dump | sqlite3 "$work/dumped.db" || exit 2
+    expect 'a desk made from a dump' "$(found "$work/dumped.db")" 1
+    opened 'a claim away with its entries' "PRAGMA foreign_keys = ON; DELETE FROM claim" "$(listed 0)" list
     opened 'a counter forward' "UPDATE holder SET auths = 7" "200 {\"done\":8}" create 2
     # The number is taken.
     opened 'a counter back' "UPDATE holder SET auths = 0" "$unavailable" create 2
-    expect 'what that desk has' "$(sqlite3 "$work/edited.db" 'SELECT auths, number FROM holder, auth')" '0|1'
+    expect 'what that desk has' "$(sqlite3 "$work/edited.db" 'SELECT auths, number FROM holder, claim')" '0|1'
 }
 
 make_first
