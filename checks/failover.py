@@ -21,7 +21,6 @@ import socket
 import subprocess
 import sys
 import time
-from collections import Counter
 from pathlib import Path
 
 import lives
@@ -234,14 +233,7 @@ class Lag(Pair):
 def main(program, folder, number, seed, seconds):
     lives.LONGEST = float(seconds)
     check = Pair(program, folder, seed)
-    faults = check.set_up()
-    lived = 0
-    while not faults and lived < int(number):
-        faults = check.live()
-        lived += 1
-    answered = sum((client.answered for client in check.clients), Counter())
-    print(f"{lived} takeovers, seed {seed}: answered {answered['200']} with 200 and {answered['403']} with 403")
-    print("; ".join(f"{name} {count}" for name, count in check.counts.items()))
+    faults = check.live_often(int(number), f"takeovers, seed {seed}")
     if not faults:
         other = Path(folder) / "lag"
         other.mkdir()

@@ -464,17 +464,22 @@ class Check:
         found = tables_of(self.folder / "first.db")
         return found, None if tables_of(self.folder / "second.db") == found else "SQLite reads other rows in the log"
 
+    def live_often(self, number, name):
+        """The faults of the first of so many lives that has any."""
+        faults = self.set_up()
+        lived = 0
+        while not faults and lived < number:
+            faults = self.live()
+            lived += 1
+        answered = sum((client.answered for client in self.clients), Counter())
+        print(f"{lived} {name}: answered {answered['200']} with 200 and {answered['403']} with 403")
+        print("; ".join(f"{kind} {count}" for kind, count in self.counts.items()))
+        return faults
+
 
 def main(program, folder, lives, seed):
     check = Check(program, folder, seed)
-    faults = check.set_up()
-    lived = 0
-    while not faults and lived < int(lives):
-        faults = check.live()
-        lived += 1
-    answered = sum((client.answered for client in check.clients), Counter())
-    print(f"{lived} lives, seed {seed}: answered {answered['200']} with 200 and {answered['403']} with 403")
-    print("; ".join(f"{name} {count}" for name, count in check.counts.items()))
+    faults = check.live_often(int(lives), f"lives, seed {seed}")
     for fault in faults:
         print(fault)
     return 1 if faults or not check.counts["kept"] or not check.counts["lost"] else 0
