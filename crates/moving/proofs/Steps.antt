@@ -1,0 +1,215 @@
+-- What the four statements do that move the rows of schema 1, and that together they move them.
+use Rattle.std.proofs.Common.{◌≡◌, ◌≢◌, ℕ, true, not, List, [], ◌∷◌, ◌++◌, map, filter, drop, Option, None, refl, sym, ap, ap₂, subst, ◌∙◌, append-nil, arith, IsPermutation}
+use Rattle.std.specs.List.{AllByRecursion}
+use Rattle.std.proofs.lemmas.List.Sorted.{IsPermutation-map, IsPermutation-trans, length_permutation}
+use Rattle.sqlite.specs.Effect.{Database}
+use Rattle.sqlite.specs.State.{State, Writes}
+use Rattle.sqlite_value.specs.Order.{Row, column}
+use Rattle.sqlite_trees.specs.Tree.{Trees}
+use Rattle.sqlite_sql.specs.Term.{eval_all}
+use Rattle.sqlite_schema.specs.declared.command.Command.TheVariants.{Update, Delete}
+use Rattle.sqlite_schema.specs.declared.schema.Column.{Column}
+use Rattle.sqlite_schema.specs.declared.schema.Schema.{Schema}
+use Rattle.sqlite_rules.specs.Cast.{cast_all}
+use Rattle.sqlite_rules.proofs.ListLemmas.{all_from}
+use Rattle.sqlite_rules.proofs.ProbeLemmas.{has_mapped}
+use Rattle.charters.specs.CharterSets.{CharterSets}
+use Rattle.registry.specs.Rows.{Rows}
+use Rattle.registry.specs.RowsOfAll.{AllRows}
+use Rattle.registry.specs.declared.authorization.Auth.{Auth}
+use Rattle.registry.specs.declared.authorization.RoaPrefix.{RoaPrefix}
+use Rattle.tables.specs.declared.meta.TheConstants.{SCHEMA}
+use Rattle.tables.specs.Authorizations.{claim_of}
+use Rattle.tables.specs.Cells.{number_cell, schema_row}
+use Rattle.tables.specs.Groups.{claim_entry}
+use Rattle.moving.specs.OldTables.{auth_row, auth_part, old_tables, is_old_table, old_schema_row, OldTablesHold}
+use Rattle.tables.specs.Tables.{meta, auth, claim, entry, desk_tables, desk_beside, contents, is_table, IsTree}
+use Rattle.tables.specs.TablesHold.{HoldsPart}
+use Rattle.tables.specs.steps.Edits.{Edits}
+use Rattle.moving.specs.Moved.{claim_columns, entry_columns, IsWidened, IsMoved}
+use Rattle.tables.proofs.CellLemmas.{cast_schema, cast_claim, cast_entry}
+use Rattle.tables.proofs.Copying.{copied, puts_shown}
+use Rattle.tables.proofs.Deleting.{deletion_of, takes}
+use Rattle.tables.proofs.Inserting.{each_table}
+use Rattle.moving.proofs.Texts.{claim_terms, entry_terms, schema_sets, claims_copied, entries_copied}
+use Rattle.tables.proofs.SomeRow.{of_some}
+use Rattle.tables.proofs.Updating.{update_of, changes}
+
+-- ---- the rows that are copied
+
+-- each row is that of an authorization of some holder
+abbrev pub AreAuthRows : List Row → Type 0
+AreAuthRows rows = AllByRecursion (λ c. (h : List ℕ) × (x : Auth) × (c ≡ auth_row h x)) rows
+
+pub auth_rows : (all : List ℕ → Option Rows) (table : List Row) → HoldsPart auth_part all table → AreAuthRows table
+auth_rows all table holds = all_from _ table (λ c there.
+    let of = of_some auth_part all table holds c there in
+    let row = has_mapped (auth_row of.0) of.1.auths c of.3 in
+    (of.0, row.0, row.2))
+
+-- the rows that a query shows of those of authorizations, none of which the columns cast to another
+all_shown : (turn shown : Row → Row) (kinds : List Column) → ((r : Row) → shown r ≡ cast_all kinds (turn (drop 1 r)))
+    → ((h : List ℕ) (x : Auth) → cast_all kinds (turn (auth_row h x)) ≡ turn (auth_row h x)) → (rows : List Row) → AreAuthRows (contents rows) → map shown rows ≡ map turn (contents rows)
+all_shown turn shown kinds is kept [] all = refl
+all_shown turn shown kinds is kept (r ∷ rows) all =
+    ap₂ ◌∷◌ (is r ∙ (λ i. cast_all kinds (turn (all.0.2 i))) ∙ kept all.0.0 all.0.1 ∙ (λ i. turn (sym all.0.2 i))) (all_shown turn shown kinds is kept rows all.1)
+
+none_left : {A : Type 0} (xs : List A) → filter (λ x. not true) xs ≡ []
+none_left [] = refl
+none_left (x ∷ xs) = none_left xs
+
+-- ---- each statement
+
+-- a row of `meta` with the number of this schema
+abbrev pub with_schema : Row → Row
+with_schema c = cast_all meta.columns (column c 0 ∷ number_cell SCHEMA ∷ [])
+
+module _ (s : Schema) (old new : State) (text : List ℕ) (count : ℕ) (has : old.now.schema ≡ desk_beside s) where
+  claim_shown : (r : Row) → copied desk_tables 8 claim refl s claim_terms [] r ≡ cast_all claim.columns (claim_columns (drop 1 r))
+  claim_shown [] = refl
+  claim_shown (id ∷ c) = refl
+
+  entry_shown : (r : Row) → copied desk_tables 9 entry refl s entry_terms [] r ≡ cast_all entry.columns (entry_columns (drop 1 r))
+  entry_shown [] = refl
+  entry_shown (id ∷ c) = refl
+
+  entry_kept : (h : List ℕ) (x : Auth) → cast_all entry.columns (entry_columns (auth_row h x)) ≡ entry_columns (auth_row h x)
+  entry_kept h x = let e : RoaPrefix = record { prefix = x.prefix; max = x.max } in cast_entry h (claim_entry (claim_of x) e)
+
+  schema_set : (r : Row) → cast_all meta.columns (eval_all schema_sets ([] ∷ r ∷ [])) ≡ with_schema (drop 1 r)
+  schema_set [] = refl
+  schema_set (id ∷ c) = refl
+
+  pub copies_claims : AreAuthRows (contents (old.now.trees auth.tree)) → Writes old new None claims_copied text [] count
+      → Edits claim.tree (λ rows. map claim_columns (contents (old.now.trees auth.tree)) ++ rows) old.now new.now
+  copies_claims all w =
+      subst (λ cells. Edits claim.tree (λ rows. cells ++ rows) old.now new.now)
+      (all_shown claim_columns (copied desk_tables 8 claim refl s claim_terms []) claim.columns claim_shown (λ h x. cast_claim h (claim_of x)) (old.now.trees auth.tree) all)
+      (puts_shown desk_tables 8 claim refl s auth.tree claim_terms _ old new text [] count has w)
+
+  pub copies_entries : AreAuthRows (contents (old.now.trees auth.tree)) → Writes old new None entries_copied text [] count
+      → Edits entry.tree (λ rows. map entry_columns (contents (old.now.trees auth.tree)) ++ rows) old.now new.now
+  copies_entries all w =
+      subst (λ cells. Edits entry.tree (λ rows. cells ++ rows) old.now new.now)
+      (all_shown entry_columns (copied desk_tables 9 entry refl s entry_terms []) entry.columns entry_shown entry_kept (old.now.trees auth.tree) all)
+      (puts_shown desk_tables 9 entry refl s auth.tree entry_terms _ old new text [] count has w)
+
+  pub takes_auths : IsTree (old.now.trees auth.tree) → Writes old new None (Delete 6 (deletion_of auth [])) text [] count → Edits auth.tree (λ rows. []) old.now new.now
+  takes_auths sound w =
+      subst (λ by. Edits auth.tree by old.now new.now) (λ i rows. none_left rows i) (takes 6 auth refl refl s [] (λ c. true) old new text [] count has (λ r. refl) sound w)
+
+  pub sets_schema : IsTree (old.now.trees meta.tree) → Writes old new None (Update 0 (update_of meta [] schema_sets)) text [] count → Edits meta.tree (map with_schema) old.now new.now
+  sets_schema sound w = changes 0 meta refl s [] schema_sets (λ c. true) with_schema old new text [] count has (λ r. refl) schema_set sound w
+
+-- ---- all four
+
+none_in : {A : Type 0} (xs : List A) → IsPermutation [] xs → xs ≡ []
+none_in [] same = refl
+none_in (x ∷ xs) same = absurd (let e = length_permutation _ _ same in cc)
+
+-- a table of schema 1 is one of a desk, and neither of the two beside them
+old_is_other : (t : ℕ) → is_old_table t ≡ true → (is_table t ≡ true) × (t ≢ claim.tree) × (t ≢ entry.tree)
+old_is_other = each_table (λ t. (is_table t ≡ true) × (t ≢ claim.tree) × (t ≢ entry.tree)) old_tables (
+  other refl (omega arith) (omega arith),
+  (
+    other refl (omega arith) (omega arith),
+    (
+      other refl (omega arith) (omega arith),
+      (
+        other refl (omega arith) (omega arith),
+        (other refl (omega arith) (omega arith), (other refl (omega arith) (omega arith), (other refl (omega arith) (omega arith), (other refl (omega arith) (omega arith), tt)))),
+      ),
+    ),
+  ),
+)
+  where
+    other : {t : ℕ} → is_table t ≡ true → t ≢ claim.tree → t ≢ entry.tree → (is_table t ≡ true) × (t ≢ claim.tree) × (t ≢ entry.tree)
+    other is no_claim no_entry = (is, no_claim, no_entry)
+
+module _ (charter : CharterSets) (rows : AllRows) (old : Trees) (a b c d e : Database) (was : OldTablesHold charter rows old) (wide : IsWidened old a.trees)
+    (claims : Edits claim.tree (λ there. map claim_columns (contents (a.trees auth.tree)) ++ there) a b)
+    (entries : Edits entry.tree (λ there. map entry_columns (contents (b.trees auth.tree)) ++ there) b c)
+    (emptied : Edits auth.tree (λ there. []) c d) (numbered : Edits meta.tree (map with_schema) d e) where
+  others : (t : ℕ) → is_old_table t ≡ true → t ≢ auth.tree → t ≢ meta.tree → e.trees t ≡ old t
+  others t is no_auth no_meta =
+      let it = old_is_other t is in
+      numbered.others t it.0 no_meta ∙ emptied.others t it.0 no_auth ∙ entries.others t it.0 it.2 ∙ claims.others t it.0 it.1 ∙ wide.same t is
+
+  -- the table `auth` until its rows go, and `meta` until its number is set
+  auths_copied : b.trees auth.tree ≡ old auth.tree
+  auths_copied = claims.others 12 refl (omega arith) ∙ wide.same 12 refl
+
+  auths_until : c.trees auth.tree ≡ old auth.tree
+  auths_until = entries.others 12 refl (omega arith) ∙ auths_copied
+
+  meta_until : d.trees meta.tree ≡ old meta.tree
+  meta_until = emptied.others 0 refl (omega arith) ∙ entries.others 0 refl (omega arith) ∙ claims.others 0 refl (omega arith) ∙ wide.same 0 refl
+
+  -- the tables that were edited, since
+  claims_since : e.trees claim.tree ≡ b.trees claim.tree
+  claims_since = numbered.others 17 refl (omega arith) ∙ emptied.others 17 refl (omega arith) ∙ entries.others 17 refl (omega arith)
+
+  entries_since : e.trees entry.tree ≡ c.trees entry.tree
+  entries_since = numbered.others 19 refl (omega arith) ∙ emptied.others 19 refl (omega arith)
+
+  auths_since : e.trees auth.tree ≡ d.trees auth.tree
+  auths_since = numbered.others 12 refl (omega arith)
+
+  no_entries : b.trees entry.tree ≡ []
+  no_entries = claims.others 19 refl (omega arith) ∙ wide.no_entries
+
+  claims_there : IsPermutation (map claim_columns (contents (old auth.tree))) (contents (b.trees claim.tree))
+  claims_there =
+      subst (λ l. IsPermutation l (contents (b.trees claim.tree)))
+      ((λ i. map claim_columns (contents (wide.same 12 refl i)) ++ contents (wide.no_claims i)) ∙ append-nil (map claim_columns (contents (old auth.tree)))) claims.rows
+
+  entries_there : IsPermutation (map entry_columns (contents (old auth.tree))) (contents (c.trees entry.tree))
+  entries_there =
+      subst (λ l. IsPermutation l (contents (c.trees entry.tree)))
+      ((λ i. map entry_columns (contents (auths_copied i)) ++ contents (no_entries i)) ∙ append-nil (map entry_columns (contents (old auth.tree)))) entries.rows
+
+  number_there : IsPermutation (schema_row ∷ []) (contents (e.trees meta.tree))
+  number_there =
+      subst (λ c. IsPermutation (c ∷ []) (contents (e.trees meta.tree))) cast_schema
+      (IsPermutation-trans (with_schema old_schema_row ∷ []) _ _ (IsPermutation-map with_schema _ _ was.charter_kept.schema)
+      (subst (λ t. IsPermutation (map with_schema (contents t)) (contents (e.trees meta.tree))) meta_until numbered.rows))
+
+  kept_tree : (t : ℕ) → is_old_table t ≡ true → t ≢ auth.tree → t ≢ meta.tree → IsTree (e.trees t)
+  kept_tree t is no_auth no_meta = subst IsTree (sym (others t is no_auth no_meta)) (was.whole t is)
+
+  pub moved : IsMoved old e.trees
+  moved = record {
+    claims = subst (λ l. IsPermutation (map claim_columns (contents (old auth.tree))) (contents l)) (sym claims_since) claims_there;
+    entries = subst (λ l. IsPermutation (map entry_columns (contents (old auth.tree))) (contents l)) (sym entries_since) entries_there;
+    emptied = ap contents auths_since ∙ none_in (contents (d.trees auth.tree)) emptied.rows;
+    number = number_there;
+    others = others;
+    whole = each_table (λ t. IsTree (e.trees t)) desk_tables (
+      numbered.whole (subst IsTree (sym meta_until) (was.whole 0 refl)),
+      (
+        kept_tree 2 refl (omega arith) (omega arith),
+        (
+          kept_tree 4 refl (omega arith) (omega arith),
+          (
+            kept_tree 6 refl (omega arith) (omega arith),
+            (
+              kept_tree 8 refl (omega arith) (omega arith),
+              (
+                kept_tree 10 refl (omega arith) (omega arith),
+                (
+                  subst IsTree (sym auths_since) (emptied.whole (subst IsTree (sym auths_until) (was.whole 12 refl))),
+                  (
+                    kept_tree 15 refl (omega arith) (omega arith),
+                    (
+                      subst IsTree (sym claims_since) (claims.whole (subst IsTree (sym wide.no_claims) (tt, tt))),
+                      (subst IsTree (sym entries_since) (entries.whole (subst IsTree (sym no_entries) (tt, tt))), tt),
+                    ),
+                  ),
+                ),
+              ),
+            ),
+          ),
+        ),
+      ),
+    );
+  }

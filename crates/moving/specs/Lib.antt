@@ -1,0 +1,3 @@
+pub mod OldTables
+pub mod Moved
+pub mod Laws

@@ -1,0 +1,74 @@
+-- The tables of a desk of schema 1, and what they hold: the charter, the rows of every holder, and the exceptions of the
+-- SLURM file in force. An authorization is a row of the table `auth`; there is no `claim` and no `entry`.
+use Rattle.std.specs.Prelude.{◌≡◌, ℕ, pos, ◌==◌, Bool, true, List, [], ◌∷◌, ◌++◌, map, take, codes, IsPermutation}
+use Rattle.std.specs.List.{list_any}
+use Rattle.sqlite_value.specs.declared.value.Value.TheVariants.{Int, Text}
+use Rattle.sqlite_value.specs.Order.{Row}
+use Rattle.sqlite_trees.specs.Tree.{Trees}
+use Rattle.sqlite_schema.specs.declared.schema.Index.{Index}
+use Rattle.sqlite_schema.specs.declared.schema.Schema.{Schema}
+use Rattle.sqlite_schema.specs.declared.schema.Table.{Table}
+use Rattle.charters.specs.CharterSets.{CharterSets}
+use Rattle.registry.specs.declared.authorization.Auth.{Auth}
+use Rattle.registry.specs.RowsOfAll.{AllRows}
+use Rattle.tables.specs.Cells.{operator_row, prefix_cells, auth_cells}
+use Rattle.tables.specs.Tables.{meta, operator, pool, auth, slurm, desk_tables, desk_indexes, holding_of, contents, IsTree}
+use Rattle.tables.specs.TablesHold.{Part, HoldsPart, HoldsExceptions, holder_part, holding_part, granted_part}
+
+-- ---- the schema
+
+-- all tables of a desk but `claim` and `entry`
+abbrev pub old_tables : List Table
+old_tables = take 8 desk_tables
+
+-- the indexes of their keys
+abbrev pub old_indexes : List Index
+old_indexes = take 9 desk_indexes
+
+-- the index by which a holder's runs are found, in the tree after theirs
+abbrev pub old_holding_of : Index
+old_holding_of = record holding_of { tree = 17 }
+
+-- a desk of schema 1 has that index, or has it not
+abbrev pub old_schema : Schema
+old_schema = record { tables = old_tables; indexes = old_indexes ++ old_holding_of ∷ []; views = [] }
+
+abbrev pub old_schema_without_index : Schema
+old_schema_without_index = record { tables = old_tables; indexes = old_indexes; views = [] }
+
+-- the tree has the rows of one of these tables
+abbrev pub is_old_table : ℕ → Bool
+is_old_table t = list_any (λ table. table.tree == t) old_tables
+
+-- ---- the rows
+
+-- the number of the schema
+abbrev pub old_schema_row : Row
+old_schema_row = Text (codes "schema") ∷ Int (pos 1) ∷ []
+
+-- the row of an authorization in the table `auth`, with the holder's name
+abbrev pub auth_row : List ℕ → Auth → Row
+auth_row h x = Text h ∷ auth_cells x
+
+-- a row for each authorization
+abbrev pub auth_part : Part
+auth_part = record { tree = auth.tree; place = 0; rows = λ h r. map (auth_row h) r.auths }
+
+abbrev pub AreOldTrees : Trees → Type 0
+AreOldTrees trees = (t : ℕ) → is_old_table t ≡ true → IsTree (trees t)
+
+-- the tables have the number of the schema, the operators and the pool, in some order, and nothing else
+pub record HoldsOldCharter (charter : CharterSets) (trees : Trees) : Type 0 where
+  pub schema : IsPermutation (old_schema_row ∷ []) (contents (trees meta.tree))
+  pub operators : IsPermutation (map operator_row charter.operators) (contents (trees operator.tree))
+  pub pool : IsPermutation (map prefix_cells charter.pool) (contents (trees pool.tree))
+
+-- the tables hold this charter and these rows
+pub record OldTablesHold (charter : CharterSets) (rows : AllRows) (trees : Trees) : Type 0 where
+  pub charter_kept : HoldsOldCharter charter trees
+  pub holders : HoldsPart holder_part rows.of_holder (contents (trees holder_part.tree))
+  pub holdings : HoldsPart holding_part rows.of_holder (contents (trees holding_part.tree))
+  pub grants : HoldsPart granted_part rows.of_holder (contents (trees granted_part.tree))
+  pub auths : HoldsPart auth_part rows.of_holder (contents (trees auth_part.tree))
+  pub exceptions : HoldsExceptions rows.exceptions (contents (trees slurm.tree))
+  pub whole : AreOldTrees trees

@@ -1,0 +1,7 @@
+//! Laws of the definitions. Each function does nothing: what it ensures is the law.
+ghost use Rattle.moving.specs.Laws.{MovedTablesHold};
+
+/// What the tables of schema 1 hold is what the tables of a desk hold after the move.
+pub fn moved_tables_hold()
+    ensures { MovedTablesHold }
+{}
