@@ -1,6 +1,5 @@
 -- What the four statements do that move the rows of schema 1, and that together they move them.
 use Rattle.std.proofs.Common.{◌≡◌, ◌≢◌, ℕ, true, not, List, [], ◌∷◌, ◌++◌, map, filter, drop, Option, None, refl, sym, ap, ap₂, subst, ◌∙◌, append-nil, arith, IsPermutation}
-use Rattle.std.specs.List.{AllByRecursion}
 use Rattle.std.proofs.lemmas.List.Sorted.{IsPermutation-map, IsPermutation-trans, length_permutation}
 use Rattle.sqlite.specs.Effect.{Database}
 use Rattle.sqlite.specs.State.{State, Writes}
@@ -26,26 +25,31 @@ use Rattle.moving.specs.OldTables.{auth_row, auth_part, old_tables, is_old_table
 use Rattle.tables.specs.Tables.{meta, auth, claim, entry, desk_tables, desk_beside, contents, is_table, IsTree}
 use Rattle.tables.specs.TablesHold.{HoldsPart}
 use Rattle.tables.specs.steps.Edits.{Edits}
-use Rattle.moving.specs.Moved.{claim_columns, entry_columns, IsWidened, IsMoved}
+use Rattle.moving.specs.Moved.{claim_columns, entry_columns, AreAuthRows, AreMovable, IsWidened, IsMoved}
 use Rattle.tables.proofs.CellLemmas.{cast_schema, cast_claim, cast_entry}
 use Rattle.tables.proofs.Copying.{copied, puts_shown}
+use Rattle.tables.proofs.Deleting as deleting
 use Rattle.tables.proofs.Deleting.{deletion_of, takes}
 use Rattle.tables.proofs.Inserting.{each_table}
 use Rattle.moving.proofs.Texts.{claim_terms, entry_terms, schema_sets, claims_copied, entries_copied}
 use Rattle.tables.proofs.SomeRow.{of_some}
+use Rattle.tables.proofs.Updating as updating
 use Rattle.tables.proofs.Updating.{update_of, changes}
 
 -- ---- the rows that are copied
 
--- each row is that of an authorization of some holder
-abbrev pub AreAuthRows : List Row → Type 0
-AreAuthRows rows = AllByRecursion (λ c. (h : List ℕ) × (x : Auth) × (c ≡ auth_row h x)) rows
-
-pub auth_rows : (all : List ℕ → Option Rows) (table : List Row) → HoldsPart auth_part all table → AreAuthRows table
+auth_rows : (all : List ℕ → Option Rows) (table : List Row) → HoldsPart auth_part all table → AreAuthRows table
 auth_rows all table holds = all_from _ table (λ c there.
     let of = of_some auth_part all table holds c there in
     let row = has_mapped (auth_row of.0) of.1.auths c of.3 in
     (of.0, row.0, row.2))
+
+pub are_movable : (charter : CharterSets) (rows : AllRows) (old : Trees) → OldTablesHold charter rows old → AreMovable old
+are_movable charter rows old holds = record {
+  number = holds.charter_kept.schema;
+  auths = auth_rows rows.of_holder (contents (old auth.tree)) holds.auths;
+  whole = holds.whole;
+}
 
 -- the rows that a query shows of those of authorizations, none of which the columns cast to another
 all_shown : (turn shown : Row → Row) (kinds : List Column) → ((r : Row) → shown r ≡ cast_all kinds (turn (drop 1 r)))
@@ -80,26 +84,40 @@ module _ (s : Schema) (old new : State) (text : List ℕ) (count : ℕ) (has : o
   schema_set [] = refl
   schema_set (id ∷ c) = refl
 
-  pub copies_claims : AreAuthRows (contents (old.now.trees auth.tree)) → Writes old new None claims_copied text [] count
-      → Edits claim.tree (λ rows. map claim_columns (contents (old.now.trees auth.tree)) ++ rows) old.now new.now
-  copies_claims all w =
-      subst (λ cells. Edits claim.tree (λ rows. cells ++ rows) old.now new.now)
-      (all_shown claim_columns (copied desk_tables 8 claim refl s claim_terms []) claim.columns claim_shown (λ h x. cast_claim h (claim_of x)) (old.now.trees auth.tree) all)
-      (puts_shown desk_tables 8 claim refl s auth.tree claim_terms _ old new text [] count has w)
+  -- the schema stays, and where the tables are so, a table is edited so
+  abbrev pub EditsIf : Type 0 → ℕ → (List Row → List Row) → Type 0
+  EditsIf So tree by = (new.now.schema ≡ old.now.schema) × (So → Edits tree by old.now new.now)
 
-  pub copies_entries : AreAuthRows (contents (old.now.trees auth.tree)) → Writes old new None entries_copied text [] count
-      → Edits entry.tree (λ rows. map entry_columns (contents (old.now.trees auth.tree)) ++ rows) old.now new.now
-  copies_entries all w =
-      subst (λ cells. Edits entry.tree (λ rows. cells ++ rows) old.now new.now)
-      (all_shown entry_columns (copied desk_tables 9 entry refl s entry_terms []) entry.columns entry_shown entry_kept (old.now.trees auth.tree) all)
-      (puts_shown desk_tables 9 entry refl s auth.tree entry_terms _ old new text [] count has w)
+  abbrev auths : List Row
+  auths = contents (old.now.trees auth.tree)
 
-  pub takes_auths : IsTree (old.now.trees auth.tree) → Writes old new None (Delete 6 (deletion_of auth [])) text [] count → Edits auth.tree (λ rows. []) old.now new.now
-  takes_auths sound w =
-      subst (λ by. Edits auth.tree by old.now new.now) (λ i rows. none_left rows i) (takes 6 auth refl refl s [] (λ c. true) old new text [] count has (λ r. refl) sound w)
+  pub copies_claims : Writes old new None claims_copied text [] count → EditsIf (AreAuthRows auths) claim.tree (λ rows. map claim_columns auths ++ rows)
+  copies_claims w =
+      let put = puts_shown desk_tables 8 claim refl s auth.tree claim_terms _ old new text [] count has w in (
+        put.schema,
+        λ all. subst (λ cells. Edits claim.tree (λ rows. cells ++ rows) old.now new.now)
+            (all_shown claim_columns (copied desk_tables 8 claim refl s claim_terms []) claim.columns claim_shown (λ h x. cast_claim h (claim_of x)) (old.now.trees auth.tree) all) put,
+      )
 
-  pub sets_schema : IsTree (old.now.trees meta.tree) → Writes old new None (Update 0 (update_of meta [] schema_sets)) text [] count → Edits meta.tree (map with_schema) old.now new.now
-  sets_schema sound w = changes 0 meta refl s [] schema_sets (λ c. true) with_schema old new text [] count has (λ r. refl) schema_set sound w
+  pub copies_entries : Writes old new None entries_copied text [] count → EditsIf (AreAuthRows auths) entry.tree (λ rows. map entry_columns auths ++ rows)
+  copies_entries w =
+      let put = puts_shown desk_tables 9 entry refl s auth.tree entry_terms _ old new text [] count has w in (
+        put.schema,
+        λ all. subst (λ cells. Edits entry.tree (λ rows. cells ++ rows) old.now new.now)
+            (all_shown entry_columns (copied desk_tables 9 entry refl s entry_terms []) entry.columns entry_shown entry_kept (old.now.trees auth.tree) all) put,
+      )
+
+  pub takes_auths : Writes old new None (Delete 6 (deletion_of auth [])) text [] count → EditsIf (IsTree (old.now.trees auth.tree)) auth.tree (λ rows. [])
+  takes_auths w = (
+    (deleting.applied 6 auth refl refl s [] old new text [] count has w).2 ∙ sym has,
+    λ sound. subst (λ by. Edits auth.tree by old.now new.now) (λ i rows. none_left rows i) (takes 6 auth refl refl s [] (λ c. true) old new text [] count has (λ r. refl) sound w),
+  )
+
+  pub sets_schema : Writes old new None (Update 0 (update_of meta [] schema_sets)) text [] count → EditsIf (IsTree (old.now.trees meta.tree)) meta.tree (map with_schema)
+  sets_schema w = (
+    (updating.applied 0 meta refl s [] schema_sets old new text [] count has w).2 ∙ sym has,
+    λ sound. changes 0 meta refl s [] schema_sets (λ c. true) with_schema old new text [] count has (λ r. refl) schema_set sound w,
+  )
 
 -- ---- all four
 
@@ -126,24 +144,36 @@ old_is_other = each_table (λ t. (is_table t ≡ true) × (t ≢ claim.tree) × 
     other : {t : ℕ} → is_table t ≡ true → t ≢ claim.tree → t ≢ entry.tree → (is_table t ≡ true) × (t ≢ claim.tree) × (t ≢ entry.tree)
     other is no_claim no_entry = (is, no_claim, no_entry)
 
-module _ (charter : CharterSets) (rows : AllRows) (old : Trees) (a b c d e : Database) (was : OldTablesHold charter rows old) (wide : IsWidened old a.trees)
-    (claims : Edits claim.tree (λ there. map claim_columns (contents (a.trees auth.tree)) ++ there) a b)
-    (entries : Edits entry.tree (λ there. map entry_columns (contents (b.trees auth.tree)) ++ there) b c)
-    (emptied : Edits auth.tree (λ there. []) c d) (numbered : Edits meta.tree (map with_schema) d e) where
-  others : (t : ℕ) → is_old_table t ≡ true → t ≢ auth.tree → t ≢ meta.tree → e.trees t ≡ old t
-  others t is no_auth no_meta =
-      let it = old_is_other t is in
-      numbered.others t it.0 no_meta ∙ emptied.others t it.0 no_auth ∙ entries.others t it.0 it.2 ∙ claims.others t it.0 it.1 ∙ wide.same t is
-
+module _ (old : Trees) (a b c d e : Database) (was : AreMovable old) (wide : IsWidened old a.trees)
+    (copies_claims : AreAuthRows (contents (a.trees auth.tree)) → Edits claim.tree (λ there. map claim_columns (contents (a.trees auth.tree)) ++ there) a b)
+    (copies_entries : AreAuthRows (contents (b.trees auth.tree)) → Edits entry.tree (λ there. map entry_columns (contents (b.trees auth.tree)) ++ there) b c)
+    (takes_auths : IsTree (c.trees auth.tree) → Edits auth.tree (λ there. []) c d) (sets_schema : IsTree (d.trees meta.tree) → Edits meta.tree (map with_schema) d e) where
   -- the table `auth` until its rows go, and `meta` until its number is set
+  claims : Edits claim.tree (λ there. map claim_columns (contents (a.trees auth.tree)) ++ there) a b
+  claims = copies_claims (subst (λ t. AreAuthRows (contents t)) (sym (wide.same 12 refl)) was.auths)
+
   auths_copied : b.trees auth.tree ≡ old auth.tree
   auths_copied = claims.others 12 refl (omega arith) ∙ wide.same 12 refl
+
+  entries : Edits entry.tree (λ there. map entry_columns (contents (b.trees auth.tree)) ++ there) b c
+  entries = copies_entries (subst (λ t. AreAuthRows (contents t)) (sym auths_copied) was.auths)
 
   auths_until : c.trees auth.tree ≡ old auth.tree
   auths_until = entries.others 12 refl (omega arith) ∙ auths_copied
 
+  emptied : Edits auth.tree (λ there. []) c d
+  emptied = takes_auths (subst IsTree (sym auths_until) (was.whole 12 refl))
+
   meta_until : d.trees meta.tree ≡ old meta.tree
   meta_until = emptied.others 0 refl (omega arith) ∙ entries.others 0 refl (omega arith) ∙ claims.others 0 refl (omega arith) ∙ wide.same 0 refl
+
+  numbered : Edits meta.tree (map with_schema) d e
+  numbered = sets_schema (subst IsTree (sym meta_until) (was.whole 0 refl))
+
+  others : (t : ℕ) → is_old_table t ≡ true → t ≢ auth.tree → t ≢ meta.tree → e.trees t ≡ old t
+  others t is no_auth no_meta =
+      let it = old_is_other t is in
+      numbered.others t it.0 no_meta ∙ emptied.others t it.0 no_auth ∙ entries.others t it.0 it.2 ∙ claims.others t it.0 it.1 ∙ wide.same t is
 
   -- the tables that were edited, since
   claims_since : e.trees claim.tree ≡ b.trees claim.tree
@@ -171,7 +201,7 @@ module _ (charter : CharterSets) (rows : AllRows) (old : Trees) (a b c d e : Dat
   number_there : IsPermutation (schema_row ∷ []) (contents (e.trees meta.tree))
   number_there =
       subst (λ c. IsPermutation (c ∷ []) (contents (e.trees meta.tree))) cast_schema
-      (IsPermutation-trans (with_schema old_schema_row ∷ []) _ _ (IsPermutation-map with_schema _ _ was.charter_kept.schema)
+      (IsPermutation-trans (with_schema old_schema_row ∷ []) _ _ (IsPermutation-map with_schema _ _ was.number)
       (subst (λ t. IsPermutation (map with_schema (contents t)) (contents (e.trees meta.tree))) meta_until numbered.rows))
 
   kept_tree : (t : ℕ) → is_old_table t ≡ true → t ≢ auth.tree → t ≢ meta.tree → IsTree (e.trees t)

@@ -1,9 +1,11 @@
 -- The move of the rows of schema 1 to the tables of a desk.
-use Rattle.std.specs.Prelude.{◌≡◌, ◌≢◌, ℕ, true, [], ◌∷◌, map, IsPermutation}
+use Rattle.std.specs.Prelude.{◌≡◌, ◌≢◌, ℕ, true, List, [], ◌∷◌, map, IsPermutation}
+use Rattle.std.specs.List.{AllByRecursion}
 use Rattle.sqlite_value.specs.Order.{Row}
 use Rattle.sqlite_trees.specs.Tree.{Trees}
+use Rattle.registry.specs.declared.authorization.Auth.{Auth}
 use Rattle.tables.specs.Cells.{schema_row}
-use Rattle.moving.specs.OldTables.{is_old_table}
+use Rattle.moving.specs.OldTables.{old_schema_row, auth_row, is_old_table, AreOldTrees}
 use Rattle.tables.specs.Tables.{meta, auth, claim, entry, columns, contents, AreTrees}
 
 -- the columns holder, number, asn, opens and ends of a row of `auth`, which are those of its claim
@@ -13,6 +15,17 @@ claim_columns = columns (0 ∷ 1 ∷ 2 ∷ 7 ∷ 8 ∷ [])
 -- its columns holder, number, asn, family, lo, len and max, which are those of its one entry
 abbrev pub entry_columns : Row → Row
 entry_columns = columns (0 ∷ 1 ∷ 2 ∷ 3 ∷ 4 ∷ 5 ∷ 6 ∷ [])
+
+-- each row is that of an authorization of some holder
+abbrev pub AreAuthRows : List Row → Type 0
+AreAuthRows rows = AllByRecursion (λ c. (h : List ℕ) × (x : Auth) × (c ≡ auth_row h x)) rows
+
+-- What the move needs of the tables of schema 1: `meta` has the number of that schema and nothing else, and `auth` the
+-- rows of authorizations. Tables that hold a charter and rows are such.
+pub record AreMovable (old : Trees) : Type 0 where
+  pub number : IsPermutation (old_schema_row ∷ []) (contents (old meta.tree))
+  pub auths : AreAuthRows (contents (old auth.tree))
+  pub whole : AreOldTrees old
 
 -- the tables of schema 1 are as they were, and the two beside them have no row
 pub record IsWidened (old new : Trees) : Type 0 where
