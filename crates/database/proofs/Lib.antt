@@ -17,3 +17,4 @@ mod SomeRows
 mod SomeExceptions
 mod Unread
 mod Opened
+mod OldRead

@@ -54,24 +54,25 @@ entries_turned h r = go r.auths
     go [] = refl
     go (x ∷ auths) = ap (λ l. entry_columns (auth_row h x) ∷ l) (go auths)
 
-module _ (charter : CharterSets) (rows : AllRows) (old new : Trees) (was : OldTablesHold charter rows old) (moved : IsMoved old new) where
-  stays : (so : List Row → Type 0) (t : ℕ) → is_old_table t ≡ true → t ≢ auth.tree → t ≢ meta.tree → so (contents (old t)) → so (contents (new t))
-  stays so t is no_auth no_meta = subst (λ rows. so (contents rows)) (sym (moved.others t is no_auth no_meta))
+-- the other tables are so as they were
+pub stays : (old new : Trees) → IsMoved old new → (so : List Row → Type 0) (t : ℕ) → is_old_table t ≡ true → t ≢ auth.tree → t ≢ meta.tree → so (contents (old t)) → so (contents (new t))
+stays old new moved so t is no_auth no_meta = subst (λ rows. so (contents rows)) (sym (moved.others t is no_auth no_meta))
 
+module _ (charter : CharterSets) (rows : AllRows) (old new : Trees) (was : OldTablesHold charter rows old) (moved : IsMoved old new) where
   pub moved_hold : TablesHold charter rows new
   moved_hold = record {
     charter_kept = record {
       schema = moved.number;
-      operators = stays (IsPermutation (map operator_row charter.operators)) 2 refl (omega arith) (omega arith) was.charter_kept.operators;
-      pool = stays (IsPermutation (map prefix_cells charter.pool)) 4 refl (omega arith) (omega arith) was.charter_kept.pool;
+      operators = stays old new moved (IsPermutation (map operator_row charter.operators)) 2 refl (omega arith) (omega arith) was.charter_kept.operators;
+      pool = stays old new moved (IsPermutation (map prefix_cells charter.pool)) 4 refl (omega arith) (omega arith) was.charter_kept.pool;
     };
-    holders = stays (HoldsPart holder_part rows.of_holder) 6 refl (omega arith) (omega arith) was.holders;
-    holdings = stays (HoldsPart holding_part rows.of_holder) 8 refl (omega arith) (omega arith) was.holdings;
-    grants = stays (HoldsPart granted_part rows.of_holder) 10 refl (omega arith) (omega arith) was.grants;
+    holders = stays old new moved (HoldsPart holder_part rows.of_holder) 6 refl (omega arith) (omega arith) was.holders;
+    holdings = stays old new moved (HoldsPart holding_part rows.of_holder) 8 refl (omega arith) (omega arith) was.holdings;
+    grants = stays old new moved (HoldsPart granted_part rows.of_holder) 10 refl (omega arith) (omega arith) was.grants;
     claims = part_moved auth_part claim_part claim_columns rows.of_holder _ _ (λ c. refl) claims_turned was.auths moved.claims;
     entries = part_moved auth_part entry_part entry_columns rows.of_holder _ _ (λ c. refl) entries_turned was.auths moved.entries;
     have_entries = all_have_entries rows.of_holder;
     unused = moved.emptied;
-    exceptions = stays (HoldsExceptions rows.exceptions) 15 refl (omega arith) (omega arith) was.exceptions;
+    exceptions = stays old new moved (HoldsExceptions rows.exceptions) 15 refl (omega arith) (omega arith) was.exceptions;
     whole = moved.whole;
   }

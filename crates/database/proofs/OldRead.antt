@@ -1,0 +1,77 @@
+-- Where the tables of schema 1 read, their rows can be moved, and the tables that they are moved to read.
+use Rattle.std.proofs.Common.{◌≡◌, ◌≢◌, ◌⊎◌, inl, ℕ, ◌≤◌, List, [], ◌∷◌, map, flat_map, length, refl, ap, subst, arith, IsPermutation}
+use Rattle.std.specs.Bool.{⊤}
+use Rattle.std.specs.List.{AllByRecursion}
+use Rattle.std.proofs.lemmas.List.Sorted.{Contains-permutation, IsPermutation-map, IsPermutation-trans}
+use Rattle.sqlite_value.specs.Order.{Row}
+use Rattle.sqlite_trees.specs.Tree.{Trees}
+use Rattle.sqlite_trees.proofs.ListLemmas.{map-map, all-permutation}
+use Rattle.sqlite_rules.proofs.ListLemmas.{contains_had}
+use Rattle.registry.specs.Terms.{entries_of}
+use Rattle.registry.specs.Values.{GrantFits}
+use Rattle.registry.specs.declared.authorization.Auth.{Auth}
+use Rattle.slurm.specs.declared.exceptions.TheConstants.{MOST_ENTRIES}
+use Rattle.tables.specs.declared.groups.OfHolder.{OfHolder}
+use Rattle.tables.specs.Cells.{operator_row, prefix_cells, holding_row, granted_row, schema_row}
+use Rattle.tables.specs.Decode.{exception_columns}
+use Rattle.tables.specs.Tables.{meta, auth, contents}
+use Rattle.moving.specs.Moved.{claim_columns, entry_columns, AreAuthRows, AreMovable, IsMoved}
+use Rattle.moving.proofs.Moved.{stays}
+use Rattle.database.specs.OldTablesRead.{row_of_auth, HasSomeOldAuths, OldTablesRead}
+use Rattle.database.specs.TablesRead.{rows_of_entries, row_of_claim, HasSomeAuths, HasSomeCharter, ShowsHolder, ShowsOfHolder, ShowsException, TablesRead}
+
+rows_of_auths : (auths : List (OfHolder Auth)) → AreAuthRows (map row_of_auth auths)
+rows_of_auths [] = tt
+rows_of_auths (x ∷ auths) = ((x.holder, x.row, refl), rows_of_auths auths)
+
+pub read_movable : (old : Trees) → OldTablesRead old → AreMovable old
+read_movable old reads = record {
+  number = reads.schema;
+  auths = all-permutation _ (map row_of_auth reads.authorizations.auths) (contents (old auth.tree)) reads.authorizations.shown (rows_of_auths reads.authorizations.auths);
+  whole = reads.whole;
+}
+
+-- each authorization has its claim and its one entry
+claims_turned : (auths : List (OfHolder Auth)) → map claim_columns (map row_of_auth auths) ≡ map row_of_claim auths
+claims_turned auths = map-map claim_columns row_of_auth auths
+
+entries_turned : (auths : List (OfHolder Auth)) → map entry_columns (map row_of_auth auths) ≡ flat_map rows_of_entries auths
+unfolding entries_of
+entries_turned [] = refl
+entries_turned (x ∷ auths) = ap (λ l. entry_columns (row_of_auth x) ∷ l) (entries_turned auths)
+
+module _ (old new : Trees) (moved : IsMoved old new) where
+  charter_stays : HasSomeCharter old → HasSomeCharter new
+  charter_stays c = record {
+    operators = c.operators;
+    prefixes = c.prefixes;
+    named = c.named;
+    number = c.number;
+    operators_once = c.operators_once;
+    prefixes_once = c.prefixes_once;
+    operators_shown = stays old new moved (IsPermutation (map operator_row c.operators)) 2 refl (omega arith) (omega arith) c.operators_shown;
+    prefixes_shown = stays old new moved (IsPermutation (map prefix_cells c.prefixes)) 4 refl (omega arith) (omega arith) c.prefixes_shown;
+  }
+
+  auths_moved : HasSomeOldAuths old → HasSomeAuths new
+  auths_moved a = record {
+    auths = a.auths;
+    fit = a.fit;
+    claims_shown = IsPermutation-trans _ _ _
+        (subst (λ l. IsPermutation l (map claim_columns (contents (old auth.tree)))) (claims_turned a.auths) (IsPermutation-map claim_columns _ _ a.shown)) moved.claims;
+    entries_shown = IsPermutation-trans _ _ _
+        (subst (λ l. IsPermutation l (map entry_columns (contents (old auth.tree)))) (entries_turned a.auths) (IsPermutation-map entry_columns _ _ a.shown)) moved.entries;
+    unused = moved.emptied;
+  }
+
+  pub moved_read : OldTablesRead old → TablesRead new
+  moved_read reads = record {
+    schema = Contains-permutation (schema_row ∷ []) (contents (new meta.tree)) schema_row moved.number (contains_had (schema_row ∷ []) schema_row (inl refl));
+    charter = charter_stays reads.charter;
+    holders = stays old new moved (AllByRecursion ShowsHolder) 6 refl (omega arith) (omega arith) reads.holders;
+    holdings = stays old new moved (AllByRecursion (ShowsOfHolder holding_row (λ _. ⊤))) 8 refl (omega arith) (omega arith) reads.holdings;
+    grants = stays old new moved (AllByRecursion (ShowsOfHolder granted_row GrantFits)) 10 refl (omega arith) (omega arith) reads.grants;
+    authorizations = auths_moved reads.authorizations;
+    exceptions = stays old new moved (λ rows. AllByRecursion ShowsException (map exception_columns rows)) 15 refl (omega arith) (omega arith) reads.exceptions;
+    exceptions_number = stays old new moved (λ rows. length rows ≤ MOST_ENTRIES) 15 refl (omega arith) (omega arith) reads.exceptions_number;
+  }

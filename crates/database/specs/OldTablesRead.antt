@@ -1,0 +1,40 @@
+-- What it is for the tables of a database of schema 1 to read.
+use Rattle.std.specs.Prelude.{◌≤◌, List, [], ◌∷◌, length, map, Contains, IsPermutation, IsTrue, ⊤}
+use Rattle.std.specs.List.{AllByRecursion}
+use Rattle.sqlite_value.specs.Order.{Row}
+use Rattle.sqlite_trees.specs.Tree.{Trees}
+use Rattle.addr.specs.Name.{is_name}
+use Rattle.registry.specs.declared.authorization.Auth.{Auth}
+use Rattle.registry.specs.Values.{AuthFits, GrantFits}
+use Rattle.slurm.specs.declared.exceptions.TheConstants.{MOST_ENTRIES}
+use Rattle.tables.specs.declared.groups.OfHolder.{OfHolder}
+use Rattle.tables.specs.Cells.{holding_row, granted_row}
+use Rattle.tables.specs.Decode.{exception_columns}
+use Rattle.tables.specs.Tables.{meta, holder, holding, granted, auth, slurm, contents}
+use Rattle.moving.specs.OldTables.{auth_row, old_schema_row, AreOldTrees}
+use Rattle.database.specs.TablesRead.{HasSomeCharter, ShowsHolder, ShowsOfHolder, ShowsException}
+
+-- the row of an authorization in the table `auth`
+abbrev pub row_of_auth : OfHolder Auth → Row
+row_of_auth x = auth_row x.holder x.row
+
+-- The table `auth` has authorizations, each value of which is in its range: their rows are there, in some order, and no
+-- other.
+pub record HasSomeOldAuths (trees : Trees) : Type 0 where
+  pub auths : List (OfHolder Auth)
+  pub fit : AllByRecursion (λ (x : OfHolder Auth). IsTrue (is_name x.holder) × AuthFits x.row) auths
+  pub shown : IsPermutation (map row_of_auth auths) (contents (trees auth.tree))
+
+-- The number is that of schema 1 and no other row is beside it, the operators and the pool make a charter, and each row
+-- of each table shows a value of its type and has a rowid of its own. Exceptions are no more than those of one SLURM
+-- file.
+pub record OldTablesRead (trees : Trees) : Type 0 where
+  pub schema : IsPermutation (old_schema_row ∷ []) (contents (trees meta.tree))
+  pub charter : HasSomeCharter trees
+  pub holders : AllByRecursion ShowsHolder (contents (trees holder.tree))
+  pub holdings : AllByRecursion (ShowsOfHolder holding_row (λ _. ⊤)) (contents (trees holding.tree))
+  pub grants : AllByRecursion (ShowsOfHolder granted_row GrantFits) (contents (trees granted.tree))
+  pub authorizations : HasSomeOldAuths trees
+  pub exceptions : AllByRecursion ShowsException (map exception_columns (contents (trees slurm.tree)))
+  pub exceptions_number : length (contents (trees slurm.tree)) ≤ MOST_ENTRIES
+  pub whole : AreOldTrees trees
