@@ -648,9 +648,7 @@ def check_looks(page):
 
 
 def check_pauses(page):
-    """1000 authorizations are listed, filtered, sorted and opened, each without a task of more than 100 ms in one of
-    three rounds: the time of a task has in it that of other programs on a loaded machine, while a pause of the page's
-    own is there in each round."""
+    """1000 authorizations are listed, filtered, sorted and opened three times, each without a task of over 100 ms."""
     rows = "".join(f"AS{65000 + at % 7},2001:db8:{at:x}::/48,48,2026-03-01,2026-12-31\n"
                    for at in range(1000, 2000 - len(listed())))
     (WORK / "many.csv").write_text("asn,prefix,maxlength,from,until\n" + rows)
@@ -661,11 +659,15 @@ def check_pauses(page):
     expect("1000 authorizations", len(listed()), 1000)
 
     def longest():
+        """The longest task of a step, which has ended when the list has stayed as it is for half a second."""
         time.sleep(1)
+        WebDriverWait(page.driver, 60).until(lambda _: page.run("return performance.now() - redrawn > 500"))
         return page.run("return Math.round(Math.max(0, ...tasks.splice(0)))")
 
     page.run("""window.tasks = []; new PerformanceObserver((list) =>
-        tasks.push(...list.getEntries().map((task) => task.duration))).observe({ type: 'longtask' });""")
+        tasks.push(...list.getEntries().map((task) => task.duration))).observe({ type: 'longtask' });
+        window.redrawn = 0; new MutationObserver(() => { redrawn = performance.now(); })
+        .observe(document.getElementById('auths'), { childList: true });""")
     rounds = []
     for _ in range(3):
         page.open()
@@ -683,7 +685,7 @@ def check_pauses(page):
         longest()
     print(f"the longest tasks of each round: {rounds} ms")
     for task in rounds[0]:
-        expect(f"{task}: no pause over 100 ms", min(each[task] for each in rounds) <= 100, True)
+        expect(f"{task}: no pause over 100 ms", max(each[task] for each in rounds) <= 100, True)
 
 
 def main():

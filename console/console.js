@@ -104,8 +104,9 @@ const cutOf = (number) => (number > SHOWN_AT_MOST ? ` The first ${SHOWN_AT_MOST}
 const fillings = new WeakMap();
 
 /**
- * Puts rows into a table in place of those that it has: 40 in each frame, so that the page answers meanwhile. A later
- * filling ends this one. They come in groups, of which a browser need not lay out those off the screen.
+ * Puts rows into a table in place of those that it has: ten in each frame, so that the page answers meanwhile. A later
+ * filling ends this one. A browser need not lay out the groups off the screen. A group that has its rows already stays,
+ * and what is left over goes from the end, so that nothing moves onto the screen.
  */
 function fill(table, rows, toRow) {
   const filling = {};
@@ -113,15 +114,18 @@ function fill(table, rows, toRow) {
   const olds = [...table.tBodies];
   let next = 0;
   const putGroup = () => {
-    const group = element("tbody", { role: "rowgroup" }, ...rows.slice(next, next + 20).map(toRow));
-    next += 20;
-    olds.shift()?.remove();
-    table.insertBefore(group, olds[0] ?? null);
+    const made = rows.slice(next, next + 10).map(toRow);
+    next += 10;
+    const old = olds.shift();
+    if (made.length === old?.rows.length && made.every((row, at) => row === old.rows[at])) return;
+    const group = element("tbody", { role: "rowgroup" }, ...made);
+    if (old) old.replaceWith(group);
+    else table.append(group);
   };
   const step = () => {
     if (fillings.get(table) !== filling) return;
-    for (let groups = 0; groups < 2 && next < rows.length; groups += 1) putGroup();
-    if (next >= rows.length) olds.splice(0, 10).forEach((old) => old.remove());
+    if (next < rows.length) putGroup();
+    else olds.splice(-20).forEach((old) => old.remove());
     if (next < rows.length || olds.length) requestAnimationFrame(step);
   };
   step();
@@ -153,10 +157,11 @@ function readPrefix(given) {
   const length = Number(digits);
   if (!parts || length > bits) return null;
   const digitsOfPart = bits / parts.length / 4;
-  const value = BigInt(`0x${parts.map((part) => part.toString(16).padStart(digitsOfPart, "0")).join("")}`);
+  const hex = parts.map((part) => part.toString(16).padStart(digitsOfPart, "0")).join("");
+  const value = BigInt(`0x${hex}`);
   if (BigInt.asUintN(bits - length, value)) return null;
   return {
-    bits, length, value,
+    bits, length, value, hex,
     get text() {
       return `${bits === 32 ? parts.join(".") : writeGroups(parts)}/${length}`;
     },
@@ -309,8 +314,8 @@ let sorted = { column: 0, falls: false };
 
 /** A text by which prefixes are in the order of their addresses, and those of one address by length. */
 function placeOf({ prefix }) {
-  const { bits, value, length } = readPrefix(prefix);
-  return `${String(bits).padStart(3)} ${value.toString(16).padStart(bits / 4, "0")} ${String(length).padStart(3)}`;
+  const { bits, hex, length } = readPrefix(prefix);
+  return `${String(bits).padStart(3)} ${hex} ${String(length).padStart(3)}`;
 }
 
 /** What is sorted and filtered. The place of its prefix and its row are made when they are needed, and once. */
@@ -623,7 +628,7 @@ async function confirmChange() {
   $("change").close();
   say(plan.said ?? $("notice"), plan.done(reply), "done");
   if (holder) await openHolder(holder);
-  if (document.activeElement === document.body) $("main").focus();
+  if (document.activeElement.matches("body, #auths *")) $("main").focus();
 }
 
 function termsGiven() {
