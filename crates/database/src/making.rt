@@ -8,7 +8,7 @@ ghost use Rattle.tables.specs.Tables.{blank_schema};
 ghost use Rattle.tables.specs.TablesHold.{TablesHold};
 ghost use Rattle.database.specs.Statements.{IfCommitted, IfRolledBack, CommitsAtMost};
 ghost use Rattle.database.specs.Statements.{WhenClean, IfDone, StaysInside};
-ghost use Rattle.database.specs.steps.Making.{IsMadeTo};
+ghost use Rattle.database.specs.steps.Making.{schema_so_far, IsOver, IsMadeTo, MakesClaimTables};
 
 use crate::StoreFault;
 use crate::charter::put_charter;
@@ -45,14 +45,23 @@ fn make_other_tables<S: Alter>(tx: &mut Transaction<'_, S>) -> Result<(), Error>
     execute(tx, CREATE_SLURM, &[])
 }
 
+/// Makes the tables `claim` and `entry` after those.
+pub(crate) fn make_claim_tables<S: Alter>(tx: &mut Transaction<'_, S>) -> Result<(), Error>
+    requires { WhenClean S.Store (IsOver (schema_so_far 8)) tx.old }
+    ensures made { IfDone S.Store result MakesClaimTables tx.old tx.new }
+    ensures inside { StaysInside S.Store tx.old tx.new }
+{
+    execute(tx, CREATE_CLAIM, &[])?;
+    execute(tx, CREATE_ENTRY, &[])
+}
+
 /// Makes the tables `claim` and `entry` after those, and then the index of a holder's runs.
 fn make_last_tables<S: Alter>(tx: &mut Transaction<'_, S>) -> Result<(), Error>
     requires { WhenClean S.Store (IsMadeTo 8) tx.old }
     ensures made { IfDone S.Store result (λ _. IsMadeTo 11) tx.old tx.new }
     ensures inside { StaysInside S.Store tx.old tx.new }
 {
-    execute(tx, CREATE_CLAIM, &[])?;
-    execute(tx, CREATE_ENTRY, &[])?;
+    make_claim_tables(tx)?;
     execute(tx, CREATE_HOLDING_INDEX, &[])
 }
 
