@@ -4,6 +4,7 @@ pub mod QueryLemmas
 pub mod SameCharter
 mod Creates
 mod MakingSteps
+mod MovingSteps
 pub mod CharterSteps
 mod Rowids
 mod InOrder

@@ -1,4 +1,5 @@
 -- The steps of the code, which no public contract cites.
 pub mod Making
+pub mod Moving
 pub mod Numbered
 pub mod Opened

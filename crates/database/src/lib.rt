@@ -5,6 +5,7 @@ mod charter;
 mod fault;
 pub mod laws;
 mod making;
+mod move_tables;
 mod opening;
 mod query;
 mod reading;

@@ -22,7 +22,7 @@ use Rattle.tables.specs.Authorizations.{claim_of}
 use Rattle.tables.specs.Cells.{number_cell, schema_row}
 use Rattle.tables.specs.Groups.{claim_entry}
 use Rattle.moving.specs.OldTables.{auth_row, auth_part, old_tables, is_old_table, old_schema_row, OldTablesHold}
-use Rattle.tables.specs.Tables.{meta, auth, claim, entry, desk_tables, desk_beside, contents, is_table, IsTree}
+use Rattle.tables.specs.Tables.{meta, auth, claim, entry, desk_tables, desk_beside, contents, is_table, IsTree, SameRows}
 use Rattle.tables.specs.TablesHold.{HoldsPart}
 use Rattle.tables.specs.steps.Edits.{Edits}
 use Rattle.moving.specs.Moved.{claim_columns, entry_columns, AreAuthRows, AreMovable, IsWidened, IsMoved}
@@ -243,3 +243,14 @@ module _ (old : Trees) (a b c d e : Database) (was : AreMovable old) (wide : IsW
       ),
     );
   }
+
+-- they are moved still, where no row changes
+pub still_moved : (old mid new : Trees) → SameRows mid new → IsMoved old mid → IsMoved old new
+still_moved old mid new same moved = record {
+  claims = subst (λ l. IsPermutation (map claim_columns (contents (old auth.tree))) (contents l)) (sym (same 17 refl)) moved.claims;
+  entries = subst (λ l. IsPermutation (map entry_columns (contents (old auth.tree))) (contents l)) (sym (same 19 refl)) moved.entries;
+  emptied = ap contents (same 12 refl) ∙ moved.emptied;
+  number = subst (λ l. IsPermutation (schema_row ∷ []) (contents l)) (sym (same 0 refl)) moved.number;
+  others = λ t is no_auth no_meta. same t (old_is_other t is).0 ∙ moved.others t is no_auth no_meta;
+  whole = λ t is. subst IsTree (sym (same t is)) (moved.whole t is);
+}
