@@ -10,6 +10,7 @@ use Rattle.sqlite_schema.specs.declared.schema.Schema.{Schema}
 use Rattle.sqlite_schema.specs.declared.schema.Table.{Table}
 use Rattle.sqlite_tied.specs.Compute.{everything}
 use Rattle.std.specs.Fmt.{digits}
+use Rattle.moving.specs.OldTables.{old_schema, old_schema_without_index}
 use Rattle.tables.specs.Tables.{meta, operator, pool, holder, holding, granted, auth, slurm, claim, entry, holding_of}
 use Rattle.tables.specs.declared.auth.TheConstants.{CREATE_AUTH}
 use Rattle.tables.specs.declared.claim.TheConstants.{CREATE_CLAIM}
@@ -84,3 +85,8 @@ entry_defined = record { is = refl; text = refl; plain = (refl, refl); defined =
 pub index_defined : DefinesIndex CREATE_HOLDING_INDEX.now (schema_so_far 10) (schema_so_far 11)
 unfolding understood everything digits
 index_defined = record { is = refl; text = refl; plain = (refl, refl); defined = refl; made = refl }
+
+-- of schema 1 too
+pub old_index_defined : DefinesIndex CREATE_HOLDING_INDEX.now old_schema_without_index old_schema
+unfolding understood everything digits
+old_index_defined = record { is = refl; text = refl; plain = (refl, refl); defined = refl; made = refl }

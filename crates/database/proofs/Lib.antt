@@ -4,6 +4,7 @@ pub mod QueryLemmas
 pub mod SameCharter
 mod Creates
 mod MakingSteps
+mod FoundSchemas
 mod MovingSteps
 pub mod CharterSteps
 mod Rowids

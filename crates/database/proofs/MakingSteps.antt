@@ -1,5 +1,5 @@
 -- What each CREATE does to the tables that are made so far.
-use Rattle.std.proofs.Common.{◌≡◌, ℕ, suc, false, List, [], ◌∷◌, ◌++◌, None, Ok, refl, sym, ap, subst, ◌∙◌}
+use Rattle.std.proofs.Common.{◌≡◌, ℕ, suc, Bool, true, false, List, [], ◌∷◌, ◌++◌, None, Some, slice_get, Ok, refl, sym, ap, subst, ◌∙◌}
 use Rattle.std.specs.List.{AllByRecursion}
 use Rattle.std.proofs.lemmas.List.Sorted.{IsPermutation-refl}
 use Rattle.sqlite_value.specs.Order.{Row}
@@ -17,10 +17,12 @@ use Rattle.tables.specs.Tables.{claim, entry, holding, holding_of, contents}
 use Rattle.registry.specs.ExceptionsInForce.{no_exceptions}
 use Rattle.tables.specs.TablesHold.{Part, HoldsPart, ArePlaced, HoldsExceptions}
 use Rattle.tables.specs.declared.holding.TheConstants.{CREATE_HOLDING_INDEX}
+use Rattle.moving.specs.OldTables.{old_schema, old_schema_without_index}
+use Rattle.database.specs.steps.Found.{IsOverOld}
 use Rattle.database.specs.steps.Making.{schema_so_far, tables_so_far, Redefines, MakesTable, MakesClaimTables, IsMadeTo}
 use Rattle.database.specs.Statements.{IsExecuted}
 use Rattle.tables.proofs.Inserting.{went, same_value, each_table}
-use Rattle.database.proofs.Creates.{Defines, index_defined}
+use Rattle.database.proofs.Creates.{Defines, DefinesIndex, index_defined, old_index_defined}
 
 -- tables that keep their rows stay empty
 still_empty : (tables : List Table) (old new : Trees) → KeepsRows tables old new → AllByRecursion (λ t. old t.tree ≡ []) tables → AllByRecursion (λ t. new t.tree ≡ []) tables
@@ -98,22 +100,31 @@ no_exceptions_held table none =
     rw none (record { filters = []; assertions = []; filters_placed = placed; assertions_placed = placed; rows = IsPermutation-refl [] })
 
 -- the index makes no table, and changes no row
-pub makes_index : (old new : State) → old.now.schema ≡ schema_so_far 10 → IsExecuted CREATE_HOLDING_INDEX.now [] old new → Redefines (schema_so_far 10) (schema_so_far 11) old new
-makes_index old new has ran =
-    let d = index_defined in
-    let runs = runs_as CREATE_HOLDING_INDEX.now [] old new (schema_so_far 10) has (CreateIndex 4) d.is d.plain ran.0 ran.1.0 in
+pub makes_index_of : (before after : Schema) → slice_get before.tables 4 ≡ Some holding → DefinesIndex CREATE_HOLDING_INDEX.now before after
+    → (old new : State) → old.now.schema ≡ before → IsExecuted CREATE_HOLDING_INDEX.now [] old new → Redefines before after old new
+makes_index_of before after there d old new has ran =
+    let runs = runs_as CREATE_HOLDING_INDEX.now [] old new before has (CreateIndex 4) d.is d.plain ran.0 ran.1.0 in
     let w = subst (λ t. Writes old new None (CreateIndex 4) t [] ran.0) d.text runs in
     let found = subst (λ s. Does old.step_limit (mode_of old) [] (record old.now { schema = s }) CREATE_HOLDING_INDEX.now None (CreateIndex 4) (Ok (w.tally, new.now))) has w.changed in
-    let all = went found in
+    let all = went (rw there at found) in
     let made = all.1 in
     let same : made.index ≡ record holding_of { tree = 0 } = same_value (sym made.defined ∙ d.defined) in
     let now : new.now ≡ all.0 = ap (λ (p : Tally × Database). p.1) (same_value all.2) in
     record {
       inside = ran.1.1.mode;
-      schema = ap (λ (d : Database). d.schema) now ∙ made.is ∙ ap (indexed (schema_so_far 10) holding) same ∙ d.made;
+      schema = ap (λ (d : Database). d.schema) now ∙ made.is ∙ ap (indexed before holding) same ∙ d.made;
       sound = w.sound;
-      rows = subst (λ (d : Database). KeepsRows (tables_so_far 10) old.now.trees d.trees) (sym now) made.rows;
+      rows = subst (λ (d : Database). KeepsRows before.tables old.now.trees d.trees) (sym now) made.rows;
     }
+
+pub makes_index : (old new : State) → old.now.schema ≡ schema_so_far 10 → IsExecuted CREATE_HOLDING_INDEX.now [] old new → Redefines (schema_so_far 10) (schema_so_far 11) old new
+makes_index = makes_index_of (schema_so_far 10) (schema_so_far 11) refl index_defined
+
+pub makes_old_index : (is_wanted : Bool) (old new : State) → is_wanted ≡ true → IsMadeTo 8 old → IsExecuted CREATE_HOLDING_INDEX.now [] old new → IsOverOld is_wanted new
+makes_old_index false old new is before ran = absurd cc
+makes_old_index true old new is before ran =
+    let made = makes_index_of old_schema_without_index old_schema refl old_index_defined old new before.schema ran in
+    record { inside = made.inside; schema = made.schema }
 
 -- the last tables and the index after the eight tables, all without a row
 pub makes_last : (a b c : State) → IsMadeTo 8 a → MakesClaimTables a b → IsExecuted CREATE_HOLDING_INDEX.now [] b c → IsMadeTo 11 c

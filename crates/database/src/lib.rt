@@ -3,6 +3,7 @@
 
 mod charter;
 mod fault;
+mod found;
 pub mod laws;
 mod making;
 mod move_tables;

@@ -8,6 +8,7 @@ ghost use Rattle.tables.specs.Tables.{blank_schema};
 ghost use Rattle.tables.specs.TablesHold.{TablesHold};
 ghost use Rattle.database.specs.Statements.{IfCommitted, IfRolledBack, CommitsAtMost};
 ghost use Rattle.database.specs.Statements.{WhenClean, IfDone, StaysInside};
+ghost use Rattle.database.specs.steps.Found.{IsOverOld};
 ghost use Rattle.database.specs.steps.Making.{schema_so_far, IsOver, IsMadeTo, MakesClaimTables};
 
 use crate::StoreFault;
@@ -74,6 +75,32 @@ pub(crate) fn make_schema<S: Alter>(tx: &mut Transaction<'_, S>) -> Result<(), E
     make_first_tables(tx)?;
     make_other_tables(tx)?;
     make_last_tables(tx)
+}
+
+/// Makes the index of a holder's runs after the tables of schema 1, if it is wanted.
+fn make_old_index<S: Alter>(tx: &mut Transaction<'_, S>, is_wanted: bool) -> Result<(), Error>
+    requires { WhenClean S.Store (IsMadeTo 8) tx.old }
+    ensures made { IfDone S.Store result (λ _. IsOverOld is_wanted) tx.old tx.new }
+    ensures inside { StaysInside S.Store tx.old tx.new }
+{
+    if is_wanted {
+        execute(tx, CREATE_HOLDING_INDEX, &[])?;
+    }
+    Ok(())
+}
+
+/// Makes the tables of schema 1 in a database that has no table, with the index or without it.
+pub(crate) fn make_old_schema<S: Alter>(
+    tx: &mut Transaction<'_, S>,
+    has_index: bool,
+) -> Result<(), Error>
+    requires { WhenClean S.Store (IsMadeTo 0) tx.old }
+    ensures made { IfDone S.Store result (λ _. IsOverOld has_index) tx.old tx.new }
+    ensures inside { StaysInside S.Store tx.old tx.new }
+{
+    make_first_tables(tx)?;
+    make_other_tables(tx)?;
+    make_old_index(tx, has_index)
 }
 
 /// Whether the database has no table, index or view.

@@ -2,30 +2,19 @@
 ghost use Rattle.std.specs.Prelude.{◌≡◌, ◌↔◌, false, None, Err, OnOk, IfOk, IsTrue};
 ghost use Rattle.sqlite.specs.Held.{state};
 ghost use Rattle.tables.specs.Schemas.{has_names, HasPlainTables};
-ghost use Rattle.tables.specs.Tables.{desk_schema, desk_tables};
+ghost use Rattle.tables.specs.Tables.{desk_tables};
 ghost use Rattle.database.specs.Databases.{IsOfAnotherSchema, LeavesAsBefore, OpensDesk};
 ghost use Rattle.database.specs.Queries.{IsClean};
 ghost use Rattle.database.specs.Statements.{IfRolledBack};
 
 use crate::StoreFault;
-use crate::making::make_schema;
+use crate::found::tables_in_memory;
 use crate::reading::read_tables;
 use registry::Charter;
-use sqlite::{Alter, Connection, Error, MemStore};
+use sqlite::{Alter, Connection};
 use sqlite_schema::schema::Schema;
 use std::alloc::Global;
 use tables::{has_names, same_tables};
-
-/// A database in memory that has the tables of a desk, with which others are compared.
-fn tables_in_memory(alloc: Global) -> Result<Connection<MemStore>, Error>
-    ensures { IfOk result (λ conn. conn.schema ≡ desk_schema) }
-{
-    let mut conn = Connection::open_in_memory(alloc)?;
-    let mut tx = conn.transaction();
-    make_schema(&mut tx)?;
-    tx.commit()?;
-    Ok(conn)
-}
 
 /// Whether the schema has the tables of the other. One that lacks a name of theirs is another
 /// schema.

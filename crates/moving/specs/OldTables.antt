@@ -1,6 +1,6 @@
 -- The tables of a desk of schema 1, and what they hold: the charter, the rows of every holder, and the exceptions of the
 -- SLURM file in force. An authorization is a row of the table `auth`; there is no `claim` and no `entry`.
-use Rattle.std.specs.Prelude.{◌≡◌, ℕ, pos, ◌==◌, Bool, true, List, [], ◌∷◌, ◌++◌, map, take, codes, IsPermutation}
+use Rattle.std.specs.Prelude.{◌≡◌, ◌⊎◌, ℕ, pos, ◌==◌, Bool, true, List, [], ◌∷◌, ◌++◌, map, take, codes, IsPermutation}
 use Rattle.std.specs.List.{list_any}
 use Rattle.sqlite_value.specs.declared.value.Value.TheVariants.{Int, Text}
 use Rattle.sqlite_value.specs.Order.{Row}
@@ -35,6 +35,9 @@ old_schema = record { tables = old_tables; indexes = old_indexes ++ old_holding_
 
 abbrev pub old_schema_without_index : Schema
 old_schema_without_index = record { tables = old_tables; indexes = old_indexes; views = [] }
+
+abbrev pub IsOldSchema : Schema → Type 0
+IsOldSchema schema = (schema ≡ old_schema) ⊎ (schema ≡ old_schema_without_index)
 
 -- the tree has the rows of one of these tables
 abbrev pub is_old_table : ℕ → Bool

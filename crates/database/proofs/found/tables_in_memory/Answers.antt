@@ -6,7 +6,7 @@ use Rattle.sqlite.proofs.Callers.{memory_is_clean}
 use Rattle.sqlite_trees.specs.declared.memory.MemStore.{MemStore}
 use Rattle.tables.specs.Tables.{desk_schema}
 use Rattle.database.specs.steps.Making.{IsMadeTo}
-use Rattle.database.proofs.opening.tables_in_memory.Goals as goal
+use Rattle.database.proofs.found.tables_in_memory.Goals as goal
 
 pub returns : goal.returns
 returns c =
