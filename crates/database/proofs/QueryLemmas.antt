@@ -63,6 +63,28 @@ kept_inside sql params old new e (inr late) = unchanged_keeps old new (inl late.
 pub answered_inside : (sql : List ℕ) (command : Command) → Means sql command → (params : Row) (old new : State) (rows : List Row) → IsReady old → Shown sql params old new rows → IsUnchanged old new
 answered_inside sql command means params old new rows ready shown = asked_same sql command means params old new rows (ready.tables (shown_open sql params old new rows shown)) shown
 
+-- what was ready and is as it was is ready still
+pub still_ready : (old new : State) → IsReady old → IsUnchanged old new → IsReady new
+still_ready old new ready same = record { tables = λ _. ap (λ (d : Database). d.schema.tables) same.0.now_is ∙ ready.tables same.0.was_open; inside = same.0.mode ∙ ready.inside }
+
+-- the clauses of a query within a transaction, whatever its rows are kept in
+module _ {X : Type 0} (items : X → List Row) (r : Result X Error) (sql : List ℕ) (params : Row) (old new : State) (ready : IsReady old) (plain : OverDesk (λ s. IsPlain (understood s sql))) where
+  shown_unchanged : (rows : List Row) → Shown sql params old new rows → IsUnchanged old new
+  shown_unchanged rows h = shown_same sql params old new rows (at_desk (λ s. IsPlain (understood s sql)) plain _ (ready.tables (shown_open sql params old new rows h))) h
+
+  pub inside_unchanged : IfOk r (λ x. Shown sql params old new (items x)) → OnOk r (IsUnchanged old new)
+  inside_unchanged = IfOk-weaker r _ _ (λ x h. shown_unchanged (items x) h)
+
+  pub inside_ready : IfOk r (λ x. Shown sql params old new (items x)) → OnOk r (IsReady new)
+  inside_ready = IfOk-weaker r _ _ (λ x h. still_ready old new ready (shown_unchanged (items x) h))
+
+  pub inside_kept : IfOk r (λ x. Shown sql params old new (items x)) → IfErr r (λ e. FailsToQuery sql params old new e ⊎ IsTooLate sql params old new e) → KeepsCommit old new
+  inside_kept = go r
+    where
+      go : (r : Result X Error) → IfOk r (λ x. Shown sql params old new (items x)) → IfErr r (λ e. FailsToQuery sql params old new e ⊎ IsTooLate sql params old new e) → KeepsCommit old new
+      go (Ok x) h fails = unchanged_keeps old new (inl (shown_unchanged (items x) h))
+      go (Err e) h fails = kept_inside sql params old new e fails
+
 -- ---- a query outside a transaction, which is compiled first
 
 pub shown_plain : (sql : List ℕ) (params : Row) (old mid new : State) (rows : List Row) → IsPlain (understood mid.now.schema sql) → IsUnchanged old mid → Shown sql params mid new rows → Shown sql params old new rows
@@ -137,6 +159,22 @@ answer_survives sql text params old mid new has plain compiled one two =
     let before : HasCleanDisk mid = omega (arith, two.clean) in
     let it = compiled before in
     asked_commits sql params old mid new (has (omega (arith, one.clean))) plain it.1 db (subst (λ t. CommitsShowing t params mid db) it.0 commits)) one two
+
+-- a transaction that committed nothing, once it is rolled back
+pub undone_as_before : (old mid new : State) → (IsTrue old.is_open → old.now ≡ old.committed) → KeepsCommit old mid → IsRolledBack mid new → IsTrue new.is_open → IsAsBefore old new
+undone_as_before old mid new settled keeps back opened =
+    let was_mid = back.was_open opened in
+    let was = keeps.was_open was_mid in
+    let undone = back.undone opened in
+    let committed = keeps.committed was_mid in
+    (was, undone.0 ∙ committed ∙ sym (settled was), undone.1 ∙ committed)
+
+-- a text that was not run after it
+pub not_run_after : (old mid new : State) (sql : List ℕ) (params : Row) (e : Error) → (IsTrue old.is_open → old.now ≡ old.committed) → (IsTrue mid.is_open → IsAsBefore old mid) → IsNotRun mid new sql params e → IsTrue new.is_open → IsAsBefore old new
+not_run_after old mid new sql params e settled before refused opened =
+    let it = as_before mid new (λ still. let first = before still in first.1 ∙ settled first.0 ∙ sym first.2) (not_run sql params mid new e refused) opened in
+    let first = before it.0 in
+    (first.0, it.1 ∙ first.1, it.2 ∙ first.2)
 
 -- what is shown, as what the text answers over the tables of a desk
 pub answered :

@@ -1,17 +1,18 @@
 -- What statements mean within a transaction, one and several in turn.
-use Rattle.std.proofs.Common.{◌≡◌, inl, ℕ, Bool, true, false, ◌==◌, List, [], ◌∷◌, None, Some, refl, sym, ap, subst, ◌∙◌, length, ◌/◌, slice_get, ◌++◌, Result, OnOk, arith, ◌+◌, ◌<◌, take, get_or}
+use Rattle.std.proofs.Common.{◌≡◌, inl, ℕ, Bool, true, false, ◌==◌, List, [], ◌∷◌, None, Some, refl, sym, ap, subst, ◌∙◌, length, ◌/◌, slice_get, ◌++◌, Result, Ok, IsErr, OnOk, arith, ◌+◌, ◌<◌, take, get_or}
 use Rattle.std.proofs.lemmas.Bool.{eqb-true, eq-eqb, both_ways}
 use Rattle.sqlite.specs.Effect.{Database, value_rows}
 use Rattle.sqlite.specs.Listing.{understood}
 use Rattle.sqlite.specs.State.{State, Runs}
-use Rattle.sqlite.proofs.Callers.{runs_as, statement_of}
+use Rattle.sqlite.proofs.Callers.{runs_as, statement_of, unchanged_then}
 use Rattle.sqlite_value.specs.declared.value.Value.TheVariants.{Null}
 use Rattle.sqlite_value.specs.Order.{Row}
 use Rattle.sqlite_schema.specs.declared.command.Command.{Command}
 use Rattle.sqlite_schema.specs.declared.schema.Schema.{Schema}
 use Rattle.tables.specs.Tables.{desk_beside, IsTree, AreTrees, as_strict, desk_tables}
 use Rattle.tables.specs.steps.Edits.{Edits}
-use Rattle.database.specs.Statements.{IsReady, IsExecuted, state_in, WhenClean, IfDone, StaysInside}
+use Rattle.database.specs.Statements.{IsReady, IsAskedInside, IsExecuted, state_in, WhenClean, IfDone, StaysInside}
+use Rattle.database.proofs.QueryLemmas.{no_answer}
 use Rattle.tables.proofs.Texts.{Means, beside}
 use Rattle.sqlite_sql.specs.Term.{Term}
 use Rattle.sqlite_schema.specs.declared.command.Command.TheVariants.{Insert}
@@ -70,6 +71,18 @@ module _ {S : Type 0} (g : Ghosts S) where
     kept = λ clean. keeps_then (state_in g a) (state_in g b) (state_in g c) (first.kept (omega (arith, second.survives.clean))) (second.kept clean);
     survives = survives_then (state_in g a) (state_in g b) (state_in g c) (λ _. ⊥) (λ _. ⊥) (λ _. ⊥) (λ _ db none. none) (λ _ db none. none) first.survives second.survives;
   }
+
+  -- ---- queries in turn
+
+  pub asked_then : {X Y E F : Type 0} (x : X) (r : Result Y F) (a b c : Transaction S) → IsAskedInside {X = X} {E = E} g a b (Ok x) → IsAskedInside g b c r → IsAskedInside g a c r
+  asked_then x r a b c first second = record {
+    inside = stays_then a b c first.inside second.inside;
+    same = λ clean. on_ok_weaker r (unchanged_then (state_in g a) (state_in g b) (state_in g c) (first.same (omega (arith, second.inside.survives.clean)))) (second.same clean);
+    ready = second.ready;
+  }
+
+  pub asked_in_vain : {X E : Type 0} (r : Result X E) (a b : Transaction S) → IsErr r → StaysInside g a b → IsAskedInside g a b r
+  asked_in_vain r a b failed stay = record { inside = stay; same = λ clean. no_answer _ r failed; ready = λ clean. no_answer _ r failed }
 
   -- what a statement means of the rows
   pub means : {X E : Type 0} (r : Result X E) (sql : List ℕ) (given params : Row) (so : State → State → Type 0) (old new : Transaction S) → WhenClean g IsReady old → StaysInside g old new

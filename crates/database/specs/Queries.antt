@@ -1,7 +1,7 @@
 -- What a query needs, and what it leaves of a connection.
 use Rattle.std.specs.Prelude.{◌≡◌, false, Result, OnOk, IsTrue}
 use Rattle.sqlite.specs.Held.{Held, state}
-use Rattle.sqlite.specs.State.{State, HasCleanDisk, IsUnchanged, Survives}
+use Rattle.sqlite.specs.State.{State, HasCleanDisk, IsUnchanged, KeepsCounts, Shows, Survives}
 use Rattle.sqlite.specs.Store.{Ghosts}
 use Rattle.database.specs.Databases.{HasDeskTables}
 
@@ -24,6 +24,20 @@ pub record IsAsked {S X E : Type 0} (g : Ghosts S) (old new : Held S) (result : 
   where
     pub idle : new.in_transaction ≡ false
     pub same : IsClean g new → OnOk result (IsUnchanged (state g old) (state g new))
+    pub kept :
+        IsClean g new → IsTrue (state g new).is_open → IsAsBefore (state g old) (state g new)
+    pub survives : Survives (state g old) (state g new) (λ _. ⊥)
+
+-- all is as it was, the savepoints aside
+abbrev pub ShowsTheSame : State → State → Type 0
+ShowsTheSame old new = Shows old new old.now old.committed old.in_transaction × KeepsCounts old new
+
+-- What a transaction that only asks leaves, once it is rolled back: what a query does, but for the
+-- savepoints. It ends with none, and of a connection that is handed in it is not known.
+pub record IsAskedOnce {S X E : Type 0} (g : Ghosts S) (old new : Held S) (result : Result X E) : Type 0
+  where
+    pub idle : new.in_transaction ≡ false
+    pub same : IsClean g new → OnOk result (ShowsTheSame (state g old) (state g new))
     pub kept :
         IsClean g new → IsTrue (state g new).is_open → IsAsBefore (state g old) (state g new)
     pub survives : Survives (state g old) (state g new) (λ _. ⊥)

@@ -2,7 +2,8 @@
 use Rattle.std.specs.Prelude.{◌≡◌, ℕ, true, List, IsTrue, Result, Ok, IfOk, OnOk, OnErr}
 use Rattle.sqlite.specs.declared.transaction.Transaction.{Transaction}
 use Rattle.sqlite.specs.Held.{Held, state}
-use Rattle.sqlite.specs.State.{State, HasCleanDisk, KeepsCommit, Survives, ExecutesInside}
+use Rattle.sqlite.specs.Effect.{IsDatabase}
+use Rattle.sqlite.specs.State.{State, HasCleanDisk, KeepsCommit, IsUnchanged, Survives, ExecutesInside}
 use Rattle.sqlite.specs.Store.{Ghosts}
 use Rattle.sqlite_value.specs.Order.{Row}
 use Rattle.sqlite_trees.specs.Tree.{Trees}
@@ -42,6 +43,18 @@ IsExecuted sql params old new = (count : ℕ) × ExecutesInside 0 sql params old
 pub record IsReady (s : State) : Type 0 where
   pub tables : IsTrue s.is_open → s.now.schema.tables ≡ desk_tables
   pub inside : s.in_transaction ≡ true
+
+-- while the connection is open, the rows obey the schema
+abbrev pub ObeysSchema : State → Type 0
+ObeysSchema s = IsTrue s.is_open → IsDatabase s.now
+
+-- What a query over the tables of a desk leaves: what every statement does, and after an answer all
+-- as it was.
+pub record IsAskedInside {S X E : Type 0} (g : Ghosts S) (old new : Transaction S) (result : Result X E) : Type 0
+  where
+    pub inside : StaysInside g old new
+    pub same : IfDone g result IsUnchanged old new
+    pub ready : IfDone g result (λ _ s. IsReady s) old new
 
 -- ---- a transaction as a whole
 

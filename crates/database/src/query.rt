@@ -7,9 +7,10 @@ ghost use Rattle.sqlite.specs.State.{Shown};
 ghost use Rattle.sqlite.specs.Values.{bound};
 ghost use Rattle.tables.specs.Tables.{OverDesk};
 ghost use Rattle.database.specs.Queries.{IsAsked, IsClean, IsReadyToAsk};
+ghost use Rattle.database.specs.Statements.{IfAnswered, IsAskedInside, IsReady, WhenClean};
 
 use sqlite::types::ValueRef;
-use sqlite::{Alter, Connection, Error, Row};
+use sqlite::{Alter, Connection, Error, Row, Transaction};
 
 /// All rows that a query answers. The database stays as it is.
 ///
@@ -31,4 +32,19 @@ pub fn ask<S: Alter>(
     let _idle = conn.is_autocommit();
     let query = conn.prepare(sql)?;
     query.query_all(conn, values)
+}
+
+/// All rows that a query answers within a transaction. The database stays as it is.
+pub(crate) fn ask_inside<S: Alter>(
+    tx: &mut Transaction<'_, S>,
+    sql: &str,
+    values: &[ValueRef<'_>],
+) -> Result<Vec<Row>, Error>
+    requires ready { WhenClean S.Store IsReady tx.old }
+    requires plain { OverDesk (λ s. IsPlain (understood s sql.now)) }
+    ensures asked { IsAskedInside S.Store tx.old tx.new result }
+    ensures shown { IfAnswered S.Store result (λ rows old new.
+        Shown sql.now (bound values.now) old new rows.items) tx.old tx.new }
+{
+    tx.query_all(sql, values)
 }

@@ -6,6 +6,7 @@ ghost use Rattle.std.specs.List.{AllByRecursion};
 ghost use Rattle.sqlite.specs.Given.{IsPlain};
 ghost use Rattle.sqlite.specs.Held.{state};
 ghost use Rattle.sqlite.specs.Listing.{understood, reads_listing};
+ghost use Rattle.sqlite.specs.State.{HasCleanDisk};
 ghost use Rattle.addr.specs.Address.{prefix_eq};
 ghost use Rattle.charters.specs.Charter.{operators_of, pool_of};
 ghost use Rattle.charters.specs.CharterSets.{AreInNumber};
@@ -19,16 +20,17 @@ ghost use Rattle.tables.proofs.GroupOrder.{claim_cmp, entry_row_cmp, of_holder_c
 ghost use Rattle.database.specs.TablesRead.{HoldSomeRows, ShowsSome, TablesRead};
 ghost use Rattle.database.specs.steps.Numbered.{AnswersSelect, AreRead, Rise, SelectsAll, SelectsInOrder, shown_in};
 ghost use Rattle.database.specs.steps.Opened.{MakeAuths, ShowAuths, ShowExceptions, ShowHolders, ShowsCharter, ShowsSchema, HasOneEntry, claim_places, entry_places};
-ghost use Rattle.database.specs.Queries.{IsAsked, IsClean, IsReadyToAsk};
+ghost use Rattle.database.specs.Queries.{IsAskedOnce, IsClean, IsReadyToAsk};
+ghost use Rattle.database.specs.Statements.{state_in, IsAskedInside, IsReady, ObeysSchema, WhenClean};
 
 use crate::StoreFault;
-use crate::query::ask;
+use crate::query::ask_inside;
 use crate::rise::rise;
 use crate::values::read_all;
 use addr::{Name, Prefix, Span};
 use registry::{Charter, Granted};
 use slurm::MOST_ENTRIES;
-use sqlite::{Alter, Connection, Row};
+use sqlite::{Alter, Connection, Row, Transaction};
 use std::alloc::Global;
 use tables::{
     Claim, EntryRow, ExceptionRow, FromRow, Group, OfHolder, Registered, SELECT_ALL_AUTHS,
@@ -71,31 +73,31 @@ trait InOrder: FromRow {
 }
 
 /// All rows that a query answers.
-fn ask_rows<S: Alter>(conn: &mut Connection<S>, sql: &str) -> Result<Vec<Row>, StoreFault>
-    requires ready { IsReadyToAsk S.Store conn.old }
+fn ask_rows<S: Alter>(tx: &mut Transaction<'_, S>, sql: &str) -> Result<Vec<Row>, StoreFault>
+    requires ready { WhenClean S.Store IsReady tx.old }
     requires plain { OverDesk (λ s. IsPlain (understood s sql.now)) }
     requires unlisted { OverDesk (λ s. reads_listing s sql.now ≡ false) }
-    ensures asked { IsAsked S.Store conn.old conn.new result }
-    ensures answered { IsClean S.Store conn.new → IfOk result (λ rows.
-        AnswersSelect sql.now (state S.Store conn.old).now rows.items) }
+    ensures asked { IsAskedInside S.Store tx.old tx.new result }
+    ensures answered { HasCleanDisk (state_in S.Store tx.new) → IfOk result (λ rows.
+        AnswersSelect sql.now (state_in S.Store tx.old).now rows.items) }
     ensures no_schema { result ≢ Err StoreFault.Schema }
 {
-    let rows = ask(conn, sql, &[])?;
+    let rows = ask_inside(tx, sql, &[])?;
     Ok(rows)
 }
 
 /// All rows that a query of numbered rows answers.
-fn ask_all<S: Alter>(conn: &mut Connection<S>, sql: &str) -> Result<Vec<Row>, StoreFault>
-    requires ready { IsReadyToAsk S.Store conn.old }
+fn ask_all<S: Alter>(tx: &mut Transaction<'_, S>, sql: &str) -> Result<Vec<Row>, StoreFault>
+    requires ready { WhenClean S.Store IsReady tx.old }
     requires plain { OverDesk (λ s. IsPlain (understood s sql.now)) }
     requires unlisted { OverDesk (λ s. reads_listing s sql.now ≡ false) }
-    ensures asked { IsAsked S.Store conn.old conn.new result }
-    ensures answered { IsClean S.Store conn.new → IfOk result (λ rows.
-        AnswersSelect sql.now (state S.Store conn.old).now rows.items) }
+    ensures asked { IsAskedInside S.Store tx.old tx.new result }
+    ensures answered { HasCleanDisk (state_in S.Store tx.new) → IfOk result (λ rows.
+        AnswersSelect sql.now (state_in S.Store tx.old).now rows.items) }
     ensures rise { IfOk result (λ rows. Rise rows.items) }
     ensures no_schema { result ≢ Err StoreFault.Schema }
 {
-    let rows = ask_rows(conn, sql)?;
+    let rows = ask_rows(tx, sql)?;
     if !rise(&rows) {
         return Err(StoreFault::Database);
     }
@@ -104,44 +106,44 @@ fn ask_all<S: Alter>(conn: &mut Connection<S>, sql: &str) -> Result<Vec<Row>, St
 
 /// The values of all rows of a table.
 fn read_table<T: InTable, S: Alter>(
-    conn: &mut Connection<S>,
+    tx: &mut Transaction<'_, S>,
     alloc: Global,
 ) -> Result<Vec<T>, StoreFault>
-    requires { IsReadyToAsk S.Store conn.old }
-    ensures asked { IsAsked S.Store conn.old conn.new result }
-    ensures tree { IsClean S.Store conn.new
-        → OnOk result (IsTree ((state S.Store conn.old).now.trees T.tree)) }
-    ensures read { IsClean S.Store conn.new → IfOk result (λ values.
-        AreRead T.cells T.fits (shown_in T.tree T.places (state S.Store conn.old).now)
+    requires { WhenClean S.Store IsReady tx.old }
+    ensures asked { IsAskedInside S.Store tx.old tx.new result }
+    ensures tree { HasCleanDisk (state_in S.Store tx.new)
+        → OnOk result (IsTree ((state_in S.Store tx.old).now.trees T.tree)) }
+    ensures read { HasCleanDisk (state_in S.Store tx.new) → IfOk result (λ values.
+        AreRead T.cells T.fits (shown_in T.tree T.places (state_in S.Store tx.old).now)
         values.items) }
-    ensures schema { IsClean S.Store conn.new → result ≡ Err StoreFault.Schema
+    ensures schema { HasCleanDisk (state_in S.Store tx.new) → result ≡ Err StoreFault.Schema
         → ¬ AllByRecursion (ShowsSome T.cells T.fits)
-        (shown_in T.tree T.places (state S.Store conn.old).now) }
+        (shown_in T.tree T.places (state_in S.Store tx.old).now) }
 {
-    let rows = ask_all(conn, T::select_all())?;
+    let rows = ask_all(tx, T::select_all())?;
     read_all(alloc, &rows)
 }
 
 /// The values of all rows of a table, in their order.
 fn read_in_order<T: InOrder, S: Alter>(
-    conn: &mut Connection<S>,
+    tx: &mut Transaction<'_, S>,
     alloc: Global,
 ) -> Result<Vec<T>, StoreFault>
-    requires { IsReadyToAsk S.Store conn.old }
-    ensures asked { IsAsked S.Store conn.old conn.new result }
-    ensures tree { IsClean S.Store conn.new
-        → OnOk result (IsTree ((state S.Store conn.old).now.trees T.tree)) }
-    ensures read { IsClean S.Store conn.new → IfOk result (λ values.
-        AreRead T.cells T.fits (shown_in T.tree T.places (state S.Store conn.old).now)
+    requires { WhenClean S.Store IsReady tx.old }
+    ensures asked { IsAskedInside S.Store tx.old tx.new result }
+    ensures tree { HasCleanDisk (state_in S.Store tx.new)
+        → OnOk result (IsTree ((state_in S.Store tx.old).now.trees T.tree)) }
+    ensures read { HasCleanDisk (state_in S.Store tx.new) → IfOk result (λ values.
+        AreRead T.cells T.fits (shown_in T.tree T.places (state_in S.Store tx.old).now)
         values.items) }
-    ensures sorted { IsClean S.Store conn.new
+    ensures sorted { HasCleanDisk (state_in S.Store tx.new)
         → IfOk result (λ values. IsSorted T.order values.items) }
-    ensures schema { IsClean S.Store conn.new → result ≡ Err StoreFault.Schema
+    ensures schema { HasCleanDisk (state_in S.Store tx.new) → result ≡ Err StoreFault.Schema
         → ¬ AllByRecursion (ShowsSome T.cells T.fits)
-        (shown_in T.tree T.places (state S.Store conn.old).now) }
+        (shown_in T.tree T.places (state_in S.Store tx.old).now) }
 {
-    let _numbered = ask_all(conn, T::select_numbered())?;
-    let rows = ask_rows(conn, T::select_in_order())?;
+    let _numbered = ask_all(tx, T::select_numbered())?;
+    let rows = ask_rows(tx, T::select_in_order())?;
     read_all(alloc, &rows)
 }
 
@@ -249,15 +251,15 @@ fn some_shows_schema(rows: &[Row]) -> bool
 }
 
 /// Checks that the one row of the table `meta` has the number of this schema.
-fn read_schema<S: Alter>(conn: &mut Connection<S>) -> Result<(), StoreFault>
-    requires { IsReadyToAsk S.Store conn.old }
-    ensures asked { IsAsked S.Store conn.old conn.new result }
-    ensures found { IsClean S.Store conn.new
-        → OnOk result (ShowsSchema (state S.Store conn.old).now) }
-    ensures schema { IsClean S.Store conn.new → result ≡ Err StoreFault.Schema
-        → ¬ TablesRead (state S.Store conn.old).now.trees }
+fn read_schema<S: Alter>(tx: &mut Transaction<'_, S>) -> Result<(), StoreFault>
+    requires { WhenClean S.Store IsReady tx.old }
+    ensures asked { IsAskedInside S.Store tx.old tx.new result }
+    ensures found { HasCleanDisk (state_in S.Store tx.new)
+        → OnOk result (ShowsSchema (state_in S.Store tx.old).now) }
+    ensures schema { HasCleanDisk (state_in S.Store tx.new) → result ≡ Err StoreFault.Schema
+        → ¬ TablesRead (state_in S.Store tx.old).now.trees }
 {
-    let rows = ask_all(conn, SELECT_SCHEMA)?;
+    let rows = ask_all(tx, SELECT_SCHEMA)?;
     if !some_shows_schema(&rows) {
         return Err(StoreFault::Schema);
     }
@@ -280,44 +282,44 @@ fn make_charter(operators: Vec<Name>, pool: Vec<Prefix>) -> Result<Charter, Stor
 }
 
 /// The charter that the tables have.
-fn read_charter<S: Alter>(conn: &mut Connection<S>, alloc: Global) -> Result<Charter, StoreFault>
-    requires { IsReadyToAsk S.Store conn.old }
-    ensures asked { IsAsked S.Store conn.old conn.new result }
-    ensures found { IsClean S.Store conn.new → IfOk result (λ charter.
-        ShowsCharter charter (state S.Store conn.old).now) }
-    ensures schema { IsClean S.Store conn.new → result ≡ Err StoreFault.Schema
-        → ¬ TablesRead (state S.Store conn.old).now.trees }
+fn read_charter<S: Alter>(tx: &mut Transaction<'_, S>, alloc: Global) -> Result<Charter, StoreFault>
+    requires { WhenClean S.Store IsReady tx.old }
+    ensures asked { IsAskedInside S.Store tx.old tx.new result }
+    ensures found { HasCleanDisk (state_in S.Store tx.new) → IfOk result (λ charter.
+        ShowsCharter charter (state_in S.Store tx.old).now) }
+    ensures schema { HasCleanDisk (state_in S.Store tx.new) → result ≡ Err StoreFault.Schema
+        → ¬ TablesRead (state_in S.Store tx.old).now.trees }
 {
-    let operators = read_table(conn, alloc)?;
-    let pool = read_table(conn, alloc)?;
+    let operators = read_table(tx, alloc)?;
+    let pool = read_table(tx, alloc)?;
     make_charter(operators, pool)
 }
 
 /// Checks that each row of the tables of holders, of what they hold and of grants reads.
-fn read_holders<S: Alter>(conn: &mut Connection<S>, alloc: Global) -> Result<(), StoreFault>
-    requires { IsReadyToAsk S.Store conn.old }
-    ensures asked { IsAsked S.Store conn.old conn.new result }
-    ensures found { IsClean S.Store conn.new
-        → OnOk result (ShowHolders (state S.Store conn.old).now) }
-    ensures schema { IsClean S.Store conn.new → result ≡ Err StoreFault.Schema
-        → ¬ TablesRead (state S.Store conn.old).now.trees }
+fn read_holders<S: Alter>(tx: &mut Transaction<'_, S>, alloc: Global) -> Result<(), StoreFault>
+    requires { WhenClean S.Store IsReady tx.old }
+    ensures asked { IsAskedInside S.Store tx.old tx.new result }
+    ensures found { HasCleanDisk (state_in S.Store tx.new)
+        → OnOk result (ShowHolders (state_in S.Store tx.old).now) }
+    ensures schema { HasCleanDisk (state_in S.Store tx.new) → result ≡ Err StoreFault.Schema
+        → ¬ TablesRead (state_in S.Store tx.old).now.trees }
 {
-    let _holders: Vec<Registered> = read_table(conn, alloc)?;
-    let _holdings: Vec<Span> = read_table(conn, alloc)?;
-    let _grants: Vec<Granted> = read_table(conn, alloc)?;
+    let _holders: Vec<Registered> = read_table(tx, alloc)?;
+    let _holdings: Vec<Span> = read_table(tx, alloc)?;
+    let _grants: Vec<Granted> = read_table(tx, alloc)?;
     Ok(())
 }
 
 /// Checks that the table of authorizations of schema 1 has no row.
-fn read_unused<S: Alter>(conn: &mut Connection<S>) -> Result<(), StoreFault>
-    requires { IsReadyToAsk S.Store conn.old }
-    ensures asked { IsAsked S.Store conn.old conn.new result }
-    ensures found { IsClean S.Store conn.new
-        → OnOk result ((state S.Store conn.old).now.trees auth.tree ≡ []) }
-    ensures schema { IsClean S.Store conn.new → result ≡ Err StoreFault.Schema
-        → ¬ TablesRead (state S.Store conn.old).now.trees }
+fn read_unused<S: Alter>(tx: &mut Transaction<'_, S>) -> Result<(), StoreFault>
+    requires { WhenClean S.Store IsReady tx.old }
+    ensures asked { IsAskedInside S.Store tx.old tx.new result }
+    ensures found { HasCleanDisk (state_in S.Store tx.new)
+        → OnOk result ((state_in S.Store tx.old).now.trees auth.tree ≡ []) }
+    ensures schema { HasCleanDisk (state_in S.Store tx.new) → result ≡ Err StoreFault.Schema
+        → ¬ TablesRead (state_in S.Store tx.old).now.trees }
 {
-    let rows = ask_all(conn, SELECT_ALL_AUTHS)?;
+    let rows = ask_all(tx, SELECT_ALL_AUTHS)?;
     if !rows.is_empty() {
         return Err(StoreFault::Schema);
     }
@@ -353,19 +355,18 @@ fn check_auths(
 }
 
 /// Checks that the rows of claims and of entries read, and that they make authorizations.
-fn read_auths<S: Alter>(conn: &mut Connection<S>, alloc: Global) -> Result<(), StoreFault>
-    requires { IsReadyToAsk S.Store conn.old }
-    ensures asked { IsAsked S.Store conn.old conn.new result }
-    ensures found { IsClean S.Store conn.new
-        → OnOk result (ShowAuths (state S.Store conn.old).now) }
-    ensures schema { IsClean S.Store conn.new → result ≡ Err StoreFault.Schema
-        → ¬ TablesRead (state S.Store conn.old).now.trees }
+fn read_auths<S: Alter>(tx: &mut Transaction<'_, S>, alloc: Global) -> Result<(), StoreFault>
+    requires ready { WhenClean S.Store IsReady tx.old }
+    requires sound { WhenClean S.Store ObeysSchema tx.old }
+    ensures asked { IsAskedInside S.Store tx.old tx.new result }
+    ensures found { HasCleanDisk (state_in S.Store tx.new)
+        → OnOk result (ShowAuths (state_in S.Store tx.old).now) }
+    ensures schema { HasCleanDisk (state_in S.Store tx.new) → result ≡ Err StoreFault.Schema
+        → ¬ TablesRead (state_in S.Store tx.old).now.trees }
 {
-    // Its clause `live` is for the proof: no two claims have the same holder and number.
-    let _schema = conn.schema();
-    read_unused(conn)?;
-    let claims: Vec<OfHolder<Claim>> = read_in_order(conn, alloc)?;
-    let entries: Vec<OfHolder<EntryRow>> = read_in_order(conn, alloc)?;
+    read_unused(tx)?;
+    let claims: Vec<OfHolder<Claim>> = read_in_order(tx, alloc)?;
+    let entries: Vec<OfHolder<EntryRow>> = read_in_order(tx, alloc)?;
     check_auths(alloc, &claims, &entries)
 }
 
@@ -378,15 +379,15 @@ fn are_few(exceptions: &[ExceptionRow]) -> bool
 
 /// Checks that each row of the table `slurm` reads. More than a SLURM file may have are those of
 /// another schema.
-fn read_exceptions<S: Alter>(conn: &mut Connection<S>, alloc: Global) -> Result<(), StoreFault>
-    requires { IsReadyToAsk S.Store conn.old }
-    ensures asked { IsAsked S.Store conn.old conn.new result }
-    ensures found { IsClean S.Store conn.new
-        → OnOk result (ShowExceptions (state S.Store conn.old).now) }
-    ensures schema { IsClean S.Store conn.new → result ≡ Err StoreFault.Schema
-        → ¬ TablesRead (state S.Store conn.old).now.trees }
+fn read_exceptions<S: Alter>(tx: &mut Transaction<'_, S>, alloc: Global) -> Result<(), StoreFault>
+    requires { WhenClean S.Store IsReady tx.old }
+    ensures asked { IsAskedInside S.Store tx.old tx.new result }
+    ensures found { HasCleanDisk (state_in S.Store tx.new)
+        → OnOk result (ShowExceptions (state_in S.Store tx.old).now) }
+    ensures schema { HasCleanDisk (state_in S.Store tx.new) → result ≡ Err StoreFault.Schema
+        → ¬ TablesRead (state_in S.Store tx.old).now.trees }
 {
-    let exceptions: Vec<ExceptionRow> = read_table(conn, alloc)?;
+    let exceptions: Vec<ExceptionRow> = read_table(tx, alloc)?;
     if !are_few(&exceptions) {
         return Err(StoreFault::Schema);
     }
@@ -395,12 +396,37 @@ fn read_exceptions<S: Alter>(conn: &mut Connection<S>, alloc: Global) -> Result<
 
 /// Reads all rows of a database that has the tables of a desk, and returns the charter that they
 /// have.
+pub(crate) fn read_inside<S: Alter>(
+    tx: &mut Transaction<'_, S>,
+    alloc: Global,
+) -> Result<Charter, StoreFault>
+    requires ready { WhenClean S.Store IsReady tx.old }
+    requires sound { WhenClean S.Store ObeysSchema tx.old }
+    ensures asked { IsAskedInside S.Store tx.old tx.new result }
+    ensures held { HasCleanDisk (state_in S.Store tx.new) → IfOk result (λ charter.
+        HoldSomeRows charter (state_in S.Store tx.old).now.trees) }
+    ensures reads { HasCleanDisk (state_in S.Store tx.new)
+        → OnOk result (TablesRead (state_in S.Store tx.old).now.trees) }
+    ensures schema { HasCleanDisk (state_in S.Store tx.new) → result ≡ Err StoreFault.Schema
+        → ¬ TablesRead (state_in S.Store tx.old).now.trees }
+{
+    read_schema(tx)?;
+    let charter = read_charter(tx, alloc)?;
+    // Its clause `valid` is for the proof: the operators and the pool make a charter.
+    let _operators = charter.operators();
+    read_holders(tx, alloc)?;
+    read_auths(tx, alloc)?;
+    read_exceptions(tx, alloc)?;
+    Ok(charter)
+}
+
+/// Reads all rows so in a transaction of its own, which is rolled back.
 pub(crate) fn read_tables<S: Alter>(
     conn: &mut Connection<S>,
     alloc: Global,
 ) -> Result<Charter, StoreFault>
     requires { IsReadyToAsk S.Store conn.old }
-    ensures asked { IsAsked S.Store conn.old conn.new result }
+    ensures asked { IsAskedOnce S.Store conn.old conn.new result }
     ensures held { IsClean S.Store conn.new → IfOk result (λ charter.
         HoldSomeRows charter (state S.Store conn.old).now.trees) }
     ensures reads { IsClean S.Store conn.new
@@ -408,14 +434,14 @@ pub(crate) fn read_tables<S: Alter>(
     ensures schema { IsClean S.Store conn.new → result ≡ Err StoreFault.Schema
         → ¬ TablesRead (state S.Store conn.old).now.trees }
 {
-    // Its clause `live` is for the proof: the rows obey the schema.
+    // Two clauses are for the proof: what is shown obeys the schema, and outside a transaction all
+    // of it is committed.
     let _schema = conn.schema();
-    read_schema(conn)?;
-    let charter = read_charter(conn, alloc)?;
-    // Its clause `valid` is for the proof: the operators and the pool make a charter.
-    let _operators = charter.operators();
-    read_holders(conn, alloc)?;
-    read_auths(conn, alloc)?;
-    read_exceptions(conn, alloc)?;
+    let _idle = conn.is_autocommit();
+    let mut tx = conn.transaction();
+    let charter = read_inside(&mut tx, alloc)?;
+    tx.rollback();
+    // Only a connection that compiled a text is known to be open.
+    conn.prepare(SELECT_SCHEMA)?;
     Ok(charter)
 }

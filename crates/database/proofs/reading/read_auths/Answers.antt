@@ -1,10 +1,10 @@
 use Rattle.std.proofs.Common.{subst, sym, ◌∙◌, arith}
 use Rattle.sqlite.specs.Effect.{Database}
-use Rattle.sqlite.specs.Held.{state}
 use Rattle.sqlite.specs.State.{HasCleanDisk}
 use Rattle.tables.specs.Cells.{claim_cells, entry_cells, named_cells}
 use Rattle.tables.specs.Decode.{ClaimFits, EntryRowFits, NamedFits}
 use Rattle.tables.specs.Tables.{claim, entry, IsTree}
+use Rattle.database.specs.Statements.{state_in}
 use Rattle.database.specs.TablesRead.{TablesRead}
 use Rattle.database.specs.steps.Numbered.{AreRead, shown_in}
 use Rattle.database.specs.steps.Opened.{claim_places, entry_places}
@@ -18,26 +18,26 @@ returns-in_err-read_unused-clause-schema g c clean is read =
 
 pub returns-in_err-claims-clause-schema : goal.returns-in_err-claims-clause-schema
 returns-in_err-claims-clause-schema g c clean is read =
-    let clean_1 : HasCleanDisk (state g.S.Store c.read_unused.new.conn) = omega (arith, clean, c.read_in_order.ensures.asked.survives.clean) in
+    let clean_1 : HasCleanDisk (state_in g.S.Store c.read_unused.new.tx) = omega (arith, clean, c.read_in_order.ensures.asked.inside.survives.clean) in
     let now = (c.in_ok-read_unused.ensures.asked.same clean_1).0.now_is in
     c.read_in_order.ensures.schema clean (refused_by c.read_in_order.result c.from_residual-in_err-claims.result c.in_err-claims.field-0.0 c.in_err-claims.was c.from_residual-in_err-claims.ensures.1 is)
-    (claims_in (state g.S.Store c.read_unused.new.conn).now (subst (λ (d : Database). TablesRead d.trees) (sym now) read).authorizations)
+    (claims_in (state_in g.S.Store c.read_unused.new.tx).now (subst (λ (d : Database). TablesRead d.trees) (sym now) read).authorizations)
 
 pub returns-in_err-entries-clause-schema : goal.returns-in_err-entries-clause-schema
 returns-in_err-entries-clause-schema g c clean is read =
-    let clean_2 : HasCleanDisk (state g.S.Store c.read_in_order.new.conn) = omega (arith, clean, c.read_in_order-2.ensures.asked.survives.clean) in
-    let clean_1 : HasCleanDisk (state g.S.Store c.read_unused.new.conn) = omega (arith, clean_2, c.read_in_order.ensures.asked.survives.clean) in
+    let clean_2 : HasCleanDisk (state_in g.S.Store c.read_in_order.new.tx) = omega (arith, clean, c.read_in_order-2.ensures.asked.inside.survives.clean) in
+    let clean_1 : HasCleanDisk (state_in g.S.Store c.read_unused.new.tx) = omega (arith, clean_2, c.read_in_order.ensures.asked.inside.survives.clean) in
     let now = (c.in_ok-claims.ensures.asked.same clean_2).0.now_is ∙ (c.in_ok-read_unused.ensures.asked.same clean_1).0.now_is in
     c.read_in_order-2.ensures.schema clean (refused_by c.read_in_order-2.result c.from_residual-in_err-entries.result c.in_err-entries.field-0.0 c.in_err-entries.was c.from_residual-in_err-entries.ensures.1 is)
-    (entries_in (state g.S.Store c.read_in_order.new.conn).now (subst (λ (d : Database). TablesRead d.trees) (sym now) read).authorizations)
+    (entries_in (state_in g.S.Store c.read_in_order.new.tx).now (subst (λ (d : Database). TablesRead d.trees) (sym now) read).authorizations)
 
 pub returns-clause-found : goal.returns-clause-found
 returns-clause-found g c clean =
-    let clean_2 : HasCleanDisk (state g.S.Store c.read_in_order.new.conn) = omega (arith, clean, c.read_in_order-2.ensures.asked.survives.clean) in
-    let clean_1 : HasCleanDisk (state g.S.Store c.read_unused.new.conn) = omega (arith, clean_2, c.read_in_order.ensures.asked.survives.clean) in
+    let clean_2 : HasCleanDisk (state_in g.S.Store c.read_in_order.new.tx) = omega (arith, clean, c.read_in_order-2.ensures.asked.inside.survives.clean) in
+    let clean_1 : HasCleanDisk (state_in g.S.Store c.read_unused.new.tx) = omega (arith, clean_2, c.read_in_order.ensures.asked.inside.survives.clean) in
     let after_1 = (c.in_ok-read_unused.ensures.asked.same clean_1).0.now_is in
     let after_2 = (c.in_ok-claims.ensures.asked.same clean_2).0.now_is ∙ after_1 in
-    auths_shown c.check_auths.result (state g.S.Store c.args.conn.now).now c.in_ok-claims.claims.items c.in_ok-entries.entries.items
+    auths_shown c.check_auths.result (state_in g.S.Store c.args.tx.now).now c.in_ok-claims.claims.items c.in_ok-entries.entries.items
     (c.in_ok-read_unused.ensures.found clean_1)
     (subst (λ (d : Database). IsTree (d.trees claim.tree)) after_1 (c.in_ok-claims.ensures.tree clean_2))
     (subst (λ (d : Database). IsTree (d.trees entry.tree)) after_2 (c.in_ok-entries.ensures.tree clean))
@@ -47,17 +47,17 @@ returns-clause-found g c clean =
 
 pub returns-clause-schema : goal.returns-clause-schema
 returns-clause-schema g c clean is read =
-    let old = state g.S.Store c.args.conn.now in
-    let clean_2 : HasCleanDisk (state g.S.Store c.read_in_order.new.conn) = omega (arith, clean, c.read_in_order-2.ensures.asked.survives.clean) in
-    let clean_1 : HasCleanDisk (state g.S.Store c.read_unused.new.conn) = omega (arith, clean_2, c.read_in_order.ensures.asked.survives.clean) in
-    let first : HasCleanDisk old = omega (arith, clean_1, c.read_unused.ensures.asked.survives.clean) in
+    let old = state_in g.S.Store c.args.tx.now in
+    let clean_2 : HasCleanDisk (state_in g.S.Store c.read_in_order.new.tx) = omega (arith, clean, c.read_in_order-2.ensures.asked.inside.survives.clean) in
+    let clean_1 : HasCleanDisk (state_in g.S.Store c.read_unused.new.tx) = omega (arith, clean_2, c.read_in_order.ensures.asked.inside.survives.clean) in
+    let first : HasCleanDisk old = omega (arith, clean_1, c.read_unused.ensures.asked.inside.survives.clean) in
     let one = c.in_ok-read_unused.ensures.asked.same clean_1 in
     let after_1 = one.0.now_is in
     let after_2 = (c.in_ok-claims.ensures.asked.same clean_2).0.now_is ∙ after_1 in
     let claims = c.in_ok-claims.claims.items in
     let entries = c.in_ok-entries.entries.items in
-    let sound = (c.schema-schema.ensures.live one.0.was_open).0 in
-    let tables = c.requires.tables first one.0.was_open in
+    let sound = c.requires.sound first one.0.was_open in
+    let tables = (c.requires.ready first).tables one.0.was_open in
     let whole = subst (λ (d : Database). IsTree (d.trees claim.tree)) after_1 (c.in_ok-claims.ensures.tree clean_2) in
     let claims_read = subst (λ (d : Database). AreRead (named_cells claim_cells) (NamedFits ClaimFits) (shown_in claim.tree claim_places d) claims) after_1 (c.in_ok-claims.ensures.read clean_2) in
     let entries_read = subst (λ (d : Database). AreRead (named_cells entry_cells) (NamedFits EntryRowFits) (shown_in entry.tree entry_places d) entries) after_2 (c.in_ok-entries.ensures.read clean) in

@@ -2,10 +2,10 @@ use Rattle.std.proofs.Common.{◌≡◌, [], ◌∷◌, map, refl, subst, arith,
 use Rattle.std.proofs.lemmas.Bool.{both_ways}
 use Rattle.std.proofs.lemmas.List.{length-map}
 use Rattle.std.proofs.lemmas.List.Sorted.{IsPermutation-sym}
-use Rattle.sqlite.specs.Held.{state}
 use Rattle.tables.specs.Cells.{schema_row}
 use Rattle.tables.specs.Decode.{first_columns}
 use Rattle.tables.proofs.SomeRow.{has_permuted}
+use Rattle.database.specs.Statements.{state_in}
 use Rattle.database.specs.steps.Numbered.{shown_in}
 use Rattle.database.proofs.AllTexts.{selects_meta}
 use Rattle.database.proofs.Rowids.{is_tree, shown_of}
@@ -21,7 +21,7 @@ ask_all-requires-clause-unlisted g c = selects_meta.unlisted
 pub returns-then-not-some_shows_schema-clause-schema :
     goal.returns-then-not-some_shows_schema-clause-schema
 returns-then-not-some_shows_schema-clause-schema g c clean is read =
-    let db = (state g.S.Store c.args.conn.now).now in
+    let db = (state_in g.S.Store c.args.tx.now).now in
     let rows = c.in_ok-rows.rows.items in
     let same = shown_of 2 (0 ∷ 1 ∷ []) (db.trees 0) rows refl (selects_meta.found db rows (c.in_ok-rows.ensures.answered clean)) in
     let some = some_from_has (first_columns 2) rows schema_row (has_permuted _ _ schema_row same (schema_in db read)) in
@@ -29,7 +29,7 @@ returns-then-not-some_shows_schema-clause-schema g c clean is read =
 
 pub returns-clause-found : goal.returns-clause-found
 returns-clause-found g c clean =
-    let db = (state g.S.Store c.args.conn.now).now in
+    let db = (state_in g.S.Store c.args.tx.now).now in
     let rows = c.in_ok-rows.rows.items in
     let found = selects_meta.found db rows (c.in_ok-rows.ensures.answered clean) in
     let same = shown_of 2 (0 ∷ 1 ∷ []) (db.trees 0) rows refl found in

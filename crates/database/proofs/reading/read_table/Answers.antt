@@ -1,17 +1,17 @@
-use Rattle.sqlite.specs.Held.{state}
+use Rattle.database.specs.Statements.{state_in}
 use Rattle.database.proofs.Rowids.{is_tree, shown_of, values_read, some_unread, ok_with}
 use Rattle.database.proofs.reading.read_table.Goals as goal
 
 pub returns-clause-tree : goal.returns-clause-tree
 returns-clause-tree g c clean =
-    let db = (state g.S.Store c.args.conn.now).now in
+    let db = (state_in g.S.Store c.args.tx.now).now in
     let asks = c.select_all.ensures in
     let rows = c.in_ok-rows.rows.items in
     ok_with _ c.read_all.result (is_tree g.T.InTable.places (db.trees g.T.InTable.tree) rows (asks.found db rows (c.in_ok-rows.ensures.answered clean)) c.in_ok-rows.ensures.rise)
 
 pub returns-clause-read : goal.returns-clause-read
 returns-clause-read g c clean =
-    let db = (state g.S.Store c.args.conn.now).now in
+    let db = (state_in g.S.Store c.args.tx.now).now in
     let asks = c.select_all.ensures in
     let rows = c.in_ok-rows.rows.items in
     let same = shown_of g.T.FromRow.width g.T.InTable.places (db.trees g.T.InTable.tree) rows asks.counted (asks.found db rows (c.in_ok-rows.ensures.answered clean)) in
@@ -19,7 +19,7 @@ returns-clause-read g c clean =
 
 pub returns-clause-schema : goal.returns-clause-schema
 returns-clause-schema g c clean refused =
-    let db = (state g.S.Store c.args.conn.now).now in
+    let db = (state_in g.S.Store c.args.tx.now).now in
     let asks = c.select_all.ensures in
     let rows = c.in_ok-rows.rows.items in
     let same = shown_of g.T.FromRow.width g.T.InTable.places (db.trees g.T.InTable.tree) rows asks.counted (asks.found db rows (c.in_ok-rows.ensures.answered clean)) in

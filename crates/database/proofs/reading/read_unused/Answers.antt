@@ -1,7 +1,7 @@
 use Rattle.std.proofs.Common.{◌≡◌, ℕ, Bool, true, ◌==◌, List, [], ◌∷◌, length, sym, ap, ◌∙◌, arith, refl}
 use Rattle.std.proofs.lemmas.Bool.{both_ways, eqb-true, eq-eqb}
-use Rattle.sqlite.specs.Held.{state}
 use Rattle.sqlite_value.specs.Order.{Row}
+use Rattle.database.specs.Statements.{state_in}
 use Rattle.database.proofs.AllTexts.{selects_auth}
 use Rattle.database.proofs.Unread.{no_rows_in, rows_of_none}
 use Rattle.database.proofs.reading.read_unused.Goals as goal
@@ -24,14 +24,14 @@ ask_all-requires-clause-unlisted g c = selects_auth.unlisted
 
 pub returns-then-not-is_empty-clause-schema : goal.returns-then-not-is_empty-clause-schema
 returns-then-not-is_empty-clause-schema g c clean is read =
-    let db = (state g.S.Store c.args.conn.now).now in
+    let db = (state_in g.S.Store c.args.tx.now).now in
     let rows = c.in_ok-rows.rows.items in
     let none = rows_of_none (1 ∷ 2 ∷ 3 ∷ 4 ∷ 5 ∷ 6 ∷ 7 ∷ 8 ∷ []) (db.trees 12) rows (selects_auth.found db rows (c.in_ok-rows.ensures.answered clean)) read.authorizations.unused in
     both_ways _ c.if-not-is_empty.true (said_empty rows c.is_empty.result c.in_ok-rows.rows.len c.in_ok-rows.rows.ok.0 c.is_empty.ensures none)
 
 pub returns-clause-found : goal.returns-clause-found
 returns-clause-found g c clean =
-    let db = (state g.S.Store c.args.conn.now).now in
+    let db = (state_in g.S.Store c.args.tx.now).now in
     let rows = c.in_ok-rows.rows.items in
     let none = said_some rows c.is_empty.result c.in_ok-rows.rows.len c.in_ok-rows.rows.ok.0 c.is_empty.ensures c.if-not-is_empty.false in
     no_rows_in (1 ∷ 2 ∷ 3 ∷ 4 ∷ 5 ∷ 6 ∷ 7 ∷ 8 ∷ []) (db.trees 12) rows (selects_auth.found db rows (c.in_ok-rows.ensures.answered clean)) none
