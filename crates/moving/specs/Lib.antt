@@ -1,3 +1,4 @@
 pub mod OldTables
+pub mod EitherSchema
 pub mod Moved
 pub mod Laws
