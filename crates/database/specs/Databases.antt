@@ -8,10 +8,12 @@ use Rattle.sqlite_catalog.specs.Listing.{IsSound}
 use Rattle.sqlite_schema.specs.declared.schema.Schema.{Schema}
 use Rattle.sqlite_trees.specs.Tree.{Trees}
 use Rattle.charters.specs.CharterSets.{CharterSets}
-use Rattle.registry.specs.RowsOfAll.{blank_rows}
+use Rattle.registry.specs.RowsOfAll.{AllRows, blank_rows}
 use Rattle.tables.specs.Tables.{blank_schema, desk_schema, desk_tables, SameRows}
 use Rattle.tables.specs.Schemas.{has_names}
 use Rattle.tables.specs.TablesHold.{TablesHold}
+use Rattle.moving.specs.EitherSchema.{AreOfEitherSchema, EitherSchemaHolds}
+use Rattle.moving.specs.OldTables.{old_tables}
 use Rattle.database.specs.TablesRead.{TablesRead, HoldSomeRows}
 
 -- the database has the tables of a desk, unless the disk returned what was not written, or the
@@ -65,21 +67,38 @@ LeavesOldOrNew charter old new =
 
 -- ---- an opened database
 
--- The database is a desk, and nothing of it changed: no table, index or view was made or dropped, and no row. Its
--- tables hold the charter and some rows, and each row is in the range of its type.
-pub record OpensDesk (charter : CharterSets) (old new : State) : Type 0 where
-  pub idle : old.in_transaction ≡ false
-  pub tables : old.now.schema.tables ≡ desk_tables
-  pub is_open : IsTrue new.is_open
-  pub desk : IsDesk new
+-- no table, index or view was made or dropped, and no row
+pub record IsLeftAlone (old new : State) : Type 0 where
   pub schema : new.now.schema ≡ old.now.schema
   pub rows : SameRows old.now.trees new.now.trees
-  pub some : HoldSomeRows charter old.now.trees
-  pub reads : TablesRead old.now.trees
 
--- a crash leaves nothing else than before
-abbrev pub LeavesAsBefore : State → State → Type 0
-LeavesAsBefore old new = (trees : Trees) → new.may_leave trees → old.may_leave trees
+-- The database has the tables of a desk, or had those of schema 1, and now is a desk. Its tables hold the charter and
+-- some rows, each row in the range of its type, and whatever the tables held before, in either schema. A desk of this
+-- schema is left alone.
+pub record OpensDesk (charter : CharterSets) (old new : State) : Type 0 where
+  pub idle : old.in_transaction ≡ false
+  pub tables : AreOfEitherSchema old.now.schema.tables
+  pub is_open : IsTrue new.is_open
+  pub desk : IsDesk new
+  pub some : HoldSomeRows charter new.now.trees
+  pub reads : TablesRead new.now.trees
+  pub kept :
+      (held : CharterSets) (rows : AllRows)
+      → EitherSchemaHolds held rows old.now.trees → TablesHold held rows new.now.trees
+  pub unchanged : old.now.schema.tables ≡ desk_tables → IsLeftAlone old new
+
+-- The database had the tables of schema 1, and the trees are those of a desk, which hold whatever its tables held.
+pub record AreMoved (old : State) (trees : Trees) : Type 0 where
+  pub tables : old.now.schema.tables ≡ old_tables
+  pub desk : IsDeskTrees trees
+  pub kept :
+      (held : CharterSets) (rows : AllRows)
+      → EitherSchemaHolds held rows old.now.trees → TablesHold held rows trees
+
+-- a crash leaves what it left before, or, of a database of schema 1, the trees of a desk with what its tables held
+abbrev pub LeavesOldOrMoved : State → State → Type 0
+LeavesOldOrMoved old new =
+    (trees : Trees) → new.may_leave trees → old.may_leave trees ⊎ AreMoved old trees
 
 -- A name of a table or a column of a desk is missing, or the tables are there and do not read.
 abbrev pub IsOfAnotherSchema : Database → Type 0

@@ -3,7 +3,7 @@ ghost use Rattle.std.specs.Prelude.{◌≡◌, ◌↔◌, false, None, Err, OnOk
 ghost use Rattle.sqlite.specs.Held.{state};
 ghost use Rattle.tables.specs.Schemas.{has_names, HasPlainTables};
 ghost use Rattle.tables.specs.Tables.{desk_tables};
-ghost use Rattle.database.specs.Databases.{IsOfAnotherSchema, LeavesAsBefore, OpensDesk};
+ghost use Rattle.database.specs.Databases.{IsOfAnotherSchema, LeavesOldOrMoved, OpensDesk};
 ghost use Rattle.database.specs.Queries.{IsClean};
 ghost use Rattle.database.specs.Statements.{IfRolledBack};
 
@@ -73,7 +73,7 @@ pub fn open_tables<S: Alter>(conn: &mut Connection<S>, alloc: Global) -> Result<
         (λ charter. OpensDesk charter (state S.Store conn.old) (state S.Store conn.new)) }
     ensures err { IfRolledBack S.Store result conn.old conn.new }
     ensures crash { IsClean S.Store conn.new
-        → LeavesAsBefore (state S.Store conn.old) (state S.Store conn.new) }
+        → LeavesOldOrMoved (state S.Store conn.old) (state S.Store conn.new) }
     ensures schema { IsClean S.Store conn.new → result ≡ Err StoreFault.Schema
         → IsOfAnotherSchema (state S.Store conn.old).now }
 {

@@ -6,9 +6,7 @@ use Rattle.sqlite.specs.State.{State, HasCleanDisk, IsLive}
 use Rattle.sqlite.specs.Store.{Ghosts}
 use Rattle.sqlite_trees.specs.Tree.{Trees}
 use Rattle.charters.specs.CharterSets.{CharterSets, IsCharter}
-use Rattle.registry.specs.RowsOfAll.{AllRows}
 use Rattle.tables.specs.TablesHold.{TablesHold}
-use Rattle.tables.proofs.RowsStay.{hold_still}
 use Rattle.store.specs.StoreRows.{IsOpened}
 use Rattle.database.specs.Databases.{IsDeskTrees, OpensDesk}
 use Rattle.database.proofs.SameCharter.{same_charter}
@@ -16,9 +14,6 @@ use Rattle.store.proofs.ReadRows.{rows_fit}
 use Rattle.store.proofs.StoreLemmas.{over}
 
 module _ {S : Type 0} (g : Ghosts S) (charter : CharterSets) (found : State) (h : Held S) (is : OpensDesk charter found (state g h)) where
-  now_held : (rows : AllRows) → TablesHold charter rows found.now.trees → TablesHold charter rows (state g h).now.trees
-  now_held = hold_still found.now.trees (state g h).now.trees is.rows charter
-
   pub opened_store : IsCharter charter → IsLive (state g h) → HasCleanDisk (state g h)
       → ((trees : Trees) → IsTrue (state g h).is_open → (state g h).may_leave trees → trees ≡ (state g h).committed.trees)
       → IsOpened g found (over charter h)
@@ -26,12 +21,13 @@ module _ {S : Type 0} (g : Ghosts S) (charter : CharterSets) (found : State) (h 
     idle = is.idle;
     tables = is.tables;
     is_open = is.is_open;
-    schema = is.schema;
-    some = (is.some.0, λ _ _. now_held is.some.0 is.some.1, rows_fit charter is.some.0 found.now.trees is.some.1 is.reads);
+    unchanged = is.unchanged;
+    some = (is.some.0, λ _ _. is.some.1, rows_fit charter is.some.0 (state g h).now.trees is.some.1 is.reads);
     reads = is.reads;
     same = λ other rows valid holds.
-        let one : charter ≡ other = same_charter charter other found.now.trees rising valid is.some.1.charter_kept holds.charter_kept in
-        (one, λ _ _. now_held rows (subst (λ c. TablesHold c rows found.now.trees) (sym one) holds));
+        let kept : TablesHold other rows (state g h).now.trees = is.kept other rows holds in
+        let one : charter ≡ other = same_charter charter other (state g h).now.trees rising valid is.some.1.charter_kept kept.charter_kept in
+        (one, λ _ _. subst (λ c. TablesHold c rows (state g h).now.trees) (sym one) kept);
     left = λ rows holds trees leaves.
         subst (TablesHold charter rows) (sym (settled trees is.is_open leaves ∙ ap (λ (d : Database). d.trees) is.desk.settled)) (holds clean is.is_open);
     listed = λ trees leaves.

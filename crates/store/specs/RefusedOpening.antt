@@ -3,16 +3,17 @@ use Rattle.std.specs.Prelude.{◌≡◌, IsTrue}
 use Rattle.sqlite.specs.Held.{Held, state}
 use Rattle.sqlite.specs.State.{State, HasCleanDisk}
 use Rattle.sqlite.specs.Store.{Ghosts}
-use Rattle.database.specs.Databases.{IsOfAnotherSchema, LeavesAsBefore}
+use Rattle.database.specs.Databases.{IsOfAnotherSchema, LeavesOldOrMoved}
 use Rattle.database.specs.Queries.{IsAsBefore}
 use Rattle.database.specs.declared.fault.StoreFault.{StoreFault}
 use Rattle.database.specs.declared.fault.StoreFault.TheVariants.{Schema}
 
 -- The connection is given back with the fault. Where the disk returned what was written, the fault is `Schema`
 -- only of what was found as a database of another schema, the database is as it was found while the connection
--- is open, and a crash leaves what it left before.
+-- is open, and a crash leaves what it left before, or, of a database of schema 1, the trees of a desk with what its
+-- tables held.
 pub record IsGivenBack {S : Type 0} (g : Ghosts S) (found : State) (fault : StoreFault) (returned : Held S) : Type 0 where
   pub clean : HasCleanDisk (state g returned) → HasCleanDisk found
   pub schema : HasCleanDisk (state g returned) → fault ≡ Schema → IsOfAnotherSchema found.now
   pub same : HasCleanDisk (state g returned) → IsTrue (state g returned).is_open → IsAsBefore found (state g returned)
-  pub left : HasCleanDisk (state g returned) → LeavesAsBefore found (state g returned)
+  pub left : HasCleanDisk (state g returned) → LeavesOldOrMoved found (state g returned)

@@ -12,7 +12,8 @@ use Rattle.registry.specs.RowsOfAll.{AllRows}
 use Rattle.registry.specs.Values.{ExceptionsFit, FitIfAny}
 use Rattle.tables.specs.Tables.{desk_tables}
 use Rattle.tables.specs.TablesHold.{TablesHold}
-use Rattle.database.specs.Databases.{IsDeskTrees}
+use Rattle.moving.specs.EitherSchema.{AreOfEitherSchema, EitherSchemaHolds}
+use Rattle.database.specs.Databases.{IsDeskTrees, IsLeftAlone}
 use Rattle.database.specs.TablesRead.{TablesRead}
 use Rattle.edits.specs.Changes.{RowChange, PlacesExceptions}
 
@@ -85,19 +86,19 @@ pub record IsRead {S : Type 0} (g : Ghosts S) (old new : StoreView S) : Type 0 w
 abbrev pub AreInRange : AllRows → Type 0
 AreInRange rows = ((h : List ℕ) → FitIfAny (rows.of_holder h)) × ExceptionsFit rows.exceptions
 
--- A store over a database that was found, whose schema stays as it was. It holds some rows, each value of which is in
--- the range of its type, and what the tables held before, with its charter; each row that was found reads; and a crash
--- leaves the trees of a desk with the rows that it holds.
+-- A store over a database that was found, of this schema, which is left alone, or of schema 1. It holds some rows, each
+-- value of which is in the range of its type, and what the tables held before, in either schema, with its charter; each
+-- of its rows reads; and a crash leaves the trees of a desk with the rows that it holds.
 pub record IsOpened {S : Type 0} (g : Ghosts S) (found : State) (store : StoreView S) : Type 0 where
   pub idle : found.in_transaction ≡ false
-  pub tables : found.now.schema.tables ≡ desk_tables
+  pub tables : AreOfEitherSchema found.now.schema.tables
   pub is_open : IsTrue (connection_state g store).is_open
-  pub schema : (connection_state g store).now.schema ≡ found.now.schema
+  pub unchanged : found.now.schema.tables ≡ desk_tables → IsLeftAlone found (connection_state g store)
   pub some : (rows : AllRows) × Holds g store rows × AreInRange rows
-  pub reads : TablesRead found.now.trees
+  pub reads : TablesRead (connection_state g store).now.trees
   pub same :
       (charter : CharterSets) (rows : AllRows) → IsCharter charter
-      → TablesHold charter rows found.now.trees → (store.charter ≡ charter) × Holds g store rows
+      → EitherSchemaHolds charter rows found.now.trees → (store.charter ≡ charter) × Holds g store rows
   pub left :
       (rows : AllRows) → Holds g store rows → (trees : Trees)
       → (connection_state g store).may_leave trees → TablesHold store.charter rows trees
