@@ -1,22 +1,38 @@
 -- What a desk holds that was opened over what a stop left.
-use Rattle.std.proofs.Common.{inl, inr, [], refl, subst}
+use Rattle.std.proofs.Common.{inl, inr, List, [], refl, subst, sym}
 use Rattle.sqlite.specs.State.{State, IsLive}
 use Rattle.sqlite.specs.Store.{Ghosts}
+use Rattle.sqlite_trees.specs.Tree.{Trees}
 use Rattle.charters.specs.CharterSets.{IsCharter}
 use Rattle.charters.specs.declared.charter.Charter.{Charter}
 use Rattle.histories.specs.Growth.{GrowthIsLegal}
 use Rattle.registry.specs.History.{History}
 use Rattle.registry.specs.Values.{HistoryFits}
 use Rattle.registry.specs.Verdict.{IsLegal}
+use Rattle.registry.specs.declared.asked.Asked.{Asked}
 use Rattle.database.specs.Databases.{IsOfAnotherSchema}
 use Rattle.database.specs.Laws.{DeskTreesHaveTables}
 use Rattle.store.specs.Laws.{HistoriesRead, TablesThatReadAreOurs}
 use Rattle.store.specs.StoreRows.{IsOpened}
 use Rattle.desk.specs.CrashOutcomes.{HasNonePending, HoldDesk, LeavesAtMost, MayBeLeft}
 use Rattle.desk.specs.Desk.{store_of, ContinuesHistories, Represents}
-use Rattle.desk.specs.Resumed.{FindsLeft, ResumesHistories}
+use Rattle.desk.specs.Resumed.{FindsLeft, HoldHistory, IsAtMostOneMore, MayBeFound, ResumesHistories}
 use Rattle.desk.specs.declared.desk.Desk.{Desk}
 use Rattle.desk.proofs.HolderLemmas.{legal_after}
+
+-- what a crash of a desk may leave may be found
+pub left_found : (charter : Charter) (history : History) (pending : List Asked) (trees : Trees)
+    → MayBeLeft charter history pending trees → MayBeFound charter history pending trees
+left_found charter history pending trees (inl held) = (history, inl refl, (held.0, held.1, inl held.2))
+left_found charter history pending trees (inr (asked, after, among, accepted, held)) =
+    (after, inr (asked, among, accepted), (held.0, held.1, inl held.2))
+
+-- a legal history is so with one of the pending requests
+legal_more : GrowthIsLegal → (charter : Charter) (before : History) (pending : List Asked) (after : History) → IsLegal charter before
+    → IsAtMostOneMore charter before pending after → IsLegal charter after
+legal_more grown charter before pending after legal (inl same) = subst (λ (h : History). IsLegal charter h) (sym same) legal
+legal_more grown charter before pending after legal (inr (asked, among, accepted)) =
+    legal_after grown charter before asked.day asked.caller asked.request accepted.0 after legal accepted.2
 
 module _ {S : Type 0} (g : Ghosts S) where
   -- what an opened desk holds is all that a crash leaves
@@ -26,7 +42,7 @@ module _ {S : Type 0} (g : Ghosts S) where
 
   -- where the tables hold a legal history, the desk goes on with it alone
   continued : (found : State) (desk : Desk S) → ContinuesHistories g found desk → HasNonePending g desk
-      → (charter : Charter) (history : History) → IsCharter charter → IsLegal charter history → HoldDesk charter history found.now.trees
+      → (charter : Charter) (history : History) → IsCharter charter → IsLegal charter history → HoldHistory charter history found.now.trees
       → Represents g charter desk history × LeavesAtMost g charter desk history []
   continued found desk continues alone charter history is legal held =
       let now = continues charter history held.0 is legal held.1 held.2 in
@@ -35,13 +51,9 @@ module _ {S : Type 0} (g : Ghosts S) where
   -- the tables that were found hold the history before, or that with a pending request
   pub resumes : GrowthIsLegal → (found : State) (desk : Desk S) → ContinuesHistories g found desk → HasNonePending g desk
       → ResumesHistories g found desk
-  resumes grown found desk continues alone charter before pending is legal (inl held) =
-      let now = continued found desk continues alone charter before is legal held in
-      (before, inl refl, now.0, now.1)
-  resumes grown found desk continues alone charter before pending is legal (inr (asked, after, among, accepted, held)) =
-      let later = legal_after grown charter before asked.day asked.caller asked.request accepted.0 after legal accepted.2 in
-      let now = continued found desk continues alone charter after is later held in
-      (after, inr (asked, among, accepted), now.0, now.1)
+  resumes grown found desk continues alone charter before pending is legal (after, more, held) =
+      let now = continued found desk continues alone charter after is (legal_more grown charter before pending after legal more) held in
+      (after, more, now.0, now.1)
 
 -- what may be left of a legal history is a database of this schema
 pub left_is_ours : DeskTreesHaveTables → TablesThatReadAreOurs → HistoriesRead → GrowthIsLegal → (found : State) → IsLive found
@@ -56,5 +68,5 @@ left_is_ours listed ours reads grown found live it = go it.left
     go : MayBeLeft it.charter it.before it.pending found.now.trees → ¬ IsOfAnotherSchema found.now
     go (inl held) = go_on it.before it.legal (it.fits it.before (inl refl)) held
     go (inr (asked, after, among, accepted, held)) =
-        let legal = legal_after grown it.charter it.before asked.day asked.caller asked.request accepted.0 after it.legal accepted.2 in
-        go_on after legal (it.fits after (inr (asked, among, accepted))) held
+        let more : IsAtMostOneMore it.charter it.before it.pending after = inr (asked, among, accepted) in
+        go_on after (legal_more grown it.charter it.before it.pending after it.legal more) (it.fits after more) held

@@ -12,7 +12,7 @@ use Rattle.registry.specs.History.{History}
 use Rattle.registry.specs.RowsOfAll.{AllRows, HasRows}
 use Rattle.registry.specs.Verdict.{IsLegal}
 use Rattle.charters.specs.declared.charter.Charter.{Charter}
-use Rattle.tables.specs.TablesHold.{TablesHold}
+use Rattle.moving.specs.EitherSchema.{EitherSchemaHolds}
 use Rattle.store.specs.StoreRows.{connection_state, Holds, StoreView}
 use Rattle.desk.specs.declared.desk.Desk.{Desk}
 
@@ -72,10 +72,10 @@ pub record Represents {S : Type 0} (g : Ghosts S) (charter : Charter) (desk : De
   pub legal : IsLegal charter history
   pub rows : HoldsHistory g desk history
 
--- Where the tables that were found held a charter and the rows of a legal history, the desk has that
--- charter and that history.
+-- Where the tables that were found held a charter and the rows of a legal history, in either schema, the desk has
+-- that charter and that history.
 abbrev pub ContinuesHistories : {S : Type 0} → Ghosts S → State → Desk S → Type 0
 ContinuesHistories g found desk =
     (charter : Charter) (history : History) (rows : AllRows)
     → IsCharter charter → IsLegal charter history → HasRows rows history
-    → TablesHold charter rows found.now.trees → Represents g charter desk history
+    → EitherSchemaHolds charter rows found.now.trees → Represents g charter desk history

@@ -3,13 +3,16 @@ use Rattle.std.specs.Prelude.{◌≡◌, ◌⊎◌, List, [], Contains, IsTrue}
 use Rattle.std.specs.List.{AllByRecursion}
 use Rattle.sqlite.specs.State.{State}
 use Rattle.sqlite.specs.Store.{Ghosts}
+use Rattle.sqlite_trees.specs.Tree.{Trees}
 use Rattle.addr.specs.Name.{is_name}
 use Rattle.charters.specs.CharterSets.{IsCharter}
 use Rattle.charters.specs.declared.charter.Charter.{Charter}
 use Rattle.registry.specs.History.{History}
+use Rattle.registry.specs.RowsOfAll.{AllRows, HasRows}
 use Rattle.registry.specs.Values.{HistoryFits}
 use Rattle.registry.specs.Verdict.{IsLegal}
 use Rattle.registry.specs.declared.asked.Asked.{Asked}
+use Rattle.moving.specs.EitherSchema.{EitherSchemaHolds}
 use Rattle.desk.specs.CrashOutcomes.{IsAcceptedOn, LeavesAtMost, MayBeLeft}
 use Rattle.desk.specs.Desk.{Represents}
 use Rattle.desk.specs.declared.desk.Desk.{Desk}
@@ -27,11 +30,21 @@ Resumes g charter before pending desk =
     (after : History) × IsAtMostOneMore charter before pending after
     × Represents g charter desk after × LeavesAtMost g charter desk after []
 
--- where the tables that were found may be left of a legal history with requests pending, the desk resumes it
+-- the tables hold the charter and the rows of the history, in either schema
+abbrev pub HoldHistory : Charter → History → Trees → Type 0
+HoldHistory charter history trees =
+    (rows : AllRows) × HasRows rows history × EitherSchemaHolds charter rows trees
+
+-- so do they of the history, or of the history with one of the pending requests
+abbrev pub MayBeFound : Charter → History → List Asked → Trees → Type 0
+MayBeFound charter before pending trees =
+    (after : History) × IsAtMostOneMore charter before pending after × HoldHistory charter after trees
+
+-- where the tables that were found hold a legal history, or that with one of the pending requests, the desk resumes it
 abbrev pub ResumesHistories : {S : Type 0} → Ghosts S → State → Desk S → Type 0
 ResumesHistories g found desk =
     (charter : Charter) (before : History) (pending : List Asked)
-    → IsCharter charter → IsLegal charter before → MayBeLeft charter before pending found.now.trees
+    → IsCharter charter → IsLegal charter before → MayBeFound charter before pending found.now.trees
     → Resumes g charter before pending desk
 
 -- An open connection found what may be left of a legal history with requests pending. The operators of the charter have
