@@ -1,5 +1,5 @@
 -- What an end and a stop leave of a desk's files, and what the next open finds there.
-use Rattle.std.proofs.Common.{◌≡◌, ap, sym, subst, ◌∙◌, IsTrue, List, Result, Ok, Err, IfOk, arith}
+use Rattle.std.proofs.Common.{◌≡◌, inl, ap, sym, subst, ◌∙◌, IsTrue, List, Result, Ok, Err, IfOk, arith}
 use Rattle.std.proofs.Math.Logic.{∥∥₁_elim, ∥∥₁_map}
 use Rattle.sqlite_disk.specs.declared.Disk.{Ghosts}
 use Rattle.sqlite_disk.specs.declared.Files.{Files}
@@ -27,7 +27,7 @@ use Rattle.tables.specs.TablesHold.{TablesHold}
 use Rattle.database.specs.Databases.{IsDeskTrees, IsDeskWhileOpen}
 use Rattle.desk.specs.CrashOutcomes.{LeavesAtMost, MayBeLeft}
 use Rattle.desk.specs.Desk.{charter_of, ContinuesHistories, HoldsHistory, IsOnCleanDisk, Represents}
-use Rattle.desk.specs.Resumed.{FindsLeft, ResumesHistories}
+use Rattle.desk.specs.Resumed.{FindsLeft, HoldHistory, MayBeFound, ResumesHistories}
 use Rattle.desk.specs.declared.desk.Desk.{Desk}
 use Rattle.desk_files.specs.DeskFiles.{AreLeftFiles, AreLeftOfLegal, ContinuesFiles, IsOver, KeepDesk, ResumesFiles}
 
@@ -70,16 +70,16 @@ pub opened_continues : {D : Type 0} {g : Ghosts D} (image : Image) (conn : Held 
     → ContinuesFiles image desk
 opened_continues image conn desk opened found continues charter history chartered legal files =
     let trees = shown_trees image conn files.0 opened found files.2 in
-    continues charter history files.1.0 chartered legal files.1.1
-    (subst (TablesHold charter files.1.0) (sym trees) files.1.2)
+    let held = subst (HoldHistory charter history) (sym trees) files.1 in
+    continues charter history held.0 chartered legal held.1 held.2
 
--- an opened desk resumes what a crash left in the files
+-- an opened desk resumes what the files hold, or that with a pending request
 pub opened_resumes : {D : Type 0} {g : Ghosts D} (image : Image) (conn : Held (FileStore D g)) (desk : Desk (FileStore D g))
     → IsOpened conn → FindsIn image (file_state conn) → ResumesHistories over_files (file_state conn) desk
     → ResumesFiles image desk
 opened_resumes image conn desk opened found resumes charter before pending chartered legal files =
     let trees = shown_trees image conn files.0 opened found files.2 in
-    resumes charter before pending chartered legal (subst (MayBeLeft charter before pending) (sym trees) files.1)
+    resumes charter before pending chartered legal (subst (MayBeFound charter before pending) (sym trees) files.1)
 
 -- an opened connection found what the files may be left of
 pub opened_finds_left : {D : Type 0} {g : Ghosts D} (image : Image) (conn : Held (FileStore D g))
@@ -114,7 +114,7 @@ pub reopened_same : {D : Type 0} (g : Ghosts D) (desk again : Desk (FileStore D 
     → Represents over_files charter again history
 reopened_same g desk again files charter history keeps continues chartered is =
     let kept = subst (λ held. KeepDesk g held history files) is.chartered (keeps history is.rows) in
-    continues charter history chartered is.legal (kept.trees, kept.desk, kept.seen.both)
+    continues charter history chartered is.legal (kept.trees, (kept.desk.0, kept.desk.1, inl kept.desk.2), kept.seen.both)
 
 pub if_ok_both : {T E : Type 0} (result : Result T E) (P Q R : T → Type 0) → ((x : T) → P x → Q x → R x) → IfOk result P
     → IfOk result Q → IfOk result R

@@ -10,12 +10,13 @@ use Rattle.charters.specs.declared.charter.Charter.{Charter}
 use Rattle.registry.specs.History.{History}
 use Rattle.registry.specs.Verdict.{IsLegal}
 use Rattle.registry.specs.declared.asked.Asked.{Asked}
-use Rattle.desk.specs.CrashOutcomes.{pending_after_all, AreKept, MayBeLeft}
+use Rattle.desk.specs.CrashOutcomes.{pending_after_all, AreKept}
 use Rattle.desk.specs.Desk.{charter_of, HoldsHistory}
-use Rattle.desk.specs.Resumed.{IsAtMostOneMore, ResumesHistories}
+use Rattle.desk.specs.Resumed.{IsAtMostOneMore, MayBeFound, ResumesHistories}
 use Rattle.desk.specs.Run.{Runs}
 use Rattle.desk.specs.declared.desk.Desk.{Desk}
 use Rattle.desk.specs.declared.reply.Reply.{Reply}
+use Rattle.desk.proofs.ResumedLemmas.{left_found}
 use Rattle.desk_files.specs.Lives.{Lives, LivesOn, ResumesAfter}
 
 abbrev requests : Bor (List Asked) → List Asked
@@ -54,7 +55,8 @@ module _ {S : Type 0} (g : Ghosts S) where
   crash_resumes desk again closed back fresh conn same quiet found settled shown resumes charter before pending is legal left =
       let committed = (g.view fresh).committed in
       let may = subst (λ (h : Held S). (state g h).may_leave committed) same (quiet.outcomes committed found) in
-      resumes charter before pending is legal (subst (MayBeLeft charter before pending) (sym (shown ∙ settled)) (left committed may))
+      resumes charter before pending is legal
+      (subst (MayBeFound charter before pending) (sym (shown ∙ settled)) (left_found charter before pending committed (left committed may)))
 
   -- one more list, then a crash
   one_more_life : (start old ran new : Desk S) (lives : List (List Asked)) (replies : List (List Reply)) (asked : List Asked) (list : List Reply)

@@ -29,17 +29,22 @@ use Rattle.database.specs.declared.fault.StoreFault.TheVariants.{Schema}
 use Rattle.store.specs.RefusedOpening.{IsGivenBack}
 use Rattle.desk.specs.CrashOutcomes.{HoldDesk, LeavesAtMost, MayBeLeft}
 use Rattle.desk.specs.Desk.{Represents}
-use Rattle.desk.specs.Resumed.{IsAtMostOneMore, Resumes}
+use Rattle.desk.specs.Resumed.{HoldHistory, IsAtMostOneMore, MayBeFound, Resumes}
 use Rattle.desk.specs.declared.desk.Desk.{Desk}
 use Rattle.desk_files.specs.declared.file.OpenFault.{OpenFault}
 use Rattle.desk_files.specs.declared.file.OpenFault.TheVariants.{File, Store}
 use Rattle.command_line.specs.declared.fault.ProgramFault.{ProgramFault}
 use Rattle.command_line.specs.declared.fault.ProgramFault.TheVariants.{Database, Memory}
 
--- the files hold a database with the charter and the rows of the history
+-- the files hold a database with the charter and the rows of the history, in either schema
 abbrev pub AreDeskFiles : Image → Charter → History → Type 0
 AreDeskFiles image charter history =
-    (trees : Trees) × HoldDesk charter history trees × ∥ HoldsDatabase image trees ∥₁
+    (trees : Trees) × HoldHistory charter history trees × ∥ HoldsDatabase image trees ∥₁
+
+-- so they do of the history, or of the history with one of the pending requests
+abbrev pub AreFoundFiles : Image → Charter → History → List Asked → Type 0
+AreFoundFiles image charter history pending =
+    (trees : Trees) × MayBeFound charter history pending trees × ∥ HoldsDatabase image trees ∥₁
 
 -- how a file reads, by what was done to it since it was opened
 abbrev pub seen_in : {S : Type 0} {g : calls.Ghosts Host} (first : start.Ghosts S) → Modelled Host S g first → List ℕ
@@ -60,17 +65,17 @@ ContinuesFiles image desk =
     → IsCharter charter → IsLegal charter history → AreDeskFiles image charter history
     → Represents over_files charter desk history
 
+-- where the files hold a legal history, or that with one of the pending requests, the desk resumes it
+abbrev pub ResumesFiles : {D : Type 0} {g : Ghosts D} → Image → Desk (FileStore D g) → Type 0
+ResumesFiles image desk =
+    (charter : Charter) (before : History) (pending : List Asked)
+    → IsCharter charter → IsLegal charter before → AreFoundFiles image charter before pending
+    → Resumes over_files charter before pending desk
+
 -- The files hold a database whose tables may be left of the history with these requests pending.
 abbrev pub AreLeftFiles : Image → Charter → History → List Asked → Type 0
 AreLeftFiles image charter history pending =
     (trees : Trees) × MayBeLeft charter history pending trees × ∥ HoldsDatabase image trees ∥₁
-
--- where the files may be left of a legal history with requests pending, the desk resumes it
-abbrev pub ResumesFiles : {D : Type 0} {g : Ghosts D} → Image → Desk (FileStore D g) → Type 0
-ResumesFiles image desk =
-    (charter : Charter) (before : History) (pending : List Asked)
-    → IsCharter charter → IsLegal charter before → AreLeftFiles image charter before pending
-    → Resumes over_files charter before pending desk
 
 -- The files may be left of a legal history with requests pending. The operators of the charter have names, and
 -- whichever request is accepted, the values of the history are those of their types.
