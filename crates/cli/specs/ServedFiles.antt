@@ -10,7 +10,7 @@ use Rattle.registry.specs.Verdict.{IsLegal}
 use Rattle.registry.specs.declared.asked.Asked.{Asked}
 use Rattle.command_line.specs.declared.fault.ProgramFault.TheVariants.{Memory, Socket}
 use Rattle.desk.specs.Resumed.{IsAtMostOneMore}
-use Rattle.desk_files.specs.DeskFiles.{AreLeftFiles, RefusesFiles, RefusesNoLeft}
+use Rattle.desk_files.specs.DeskFiles.{AreFoundFiles, RefusesFiles, RefusesNoLeft}
 use Rattle.cli.specs.ServedHistories.{KeepServed}
 use Rattle.cli.specs.Serving.{Transcript}
 use Rattle.cli.specs.declared.serve_desk.ServeFault.{ServeFault}
@@ -24,12 +24,13 @@ IfClosed (Err (Bind fault closed)) Holds = IfSome closed Holds
 IfClosed (Err (Accept closed)) Holds = IfSome closed Holds
 IfClosed (Err Close) Holds = ⊤
 
--- From files that may be left of a legal history with requests pending, to files of a history to which these connections
--- on the day lead: from that history, or from it with one of the requests. Where none is pending, it is from that history.
+-- From files that hold a legal history, or that with one of the pending requests, to files of a history to which these
+-- connections on the day lead: from that history, or from it with one of the requests. Where none is pending, it is from
+-- that history.
 abbrev pub KeepsFiles : {D : Type 0} (g : Ghosts D) → Image → ℕ → List Transcript → Files D → Type 0
 KeepsFiles g image day passed files =
     (charter : Charter) (before : History) (pending : List Asked)
-    → IsCharter charter → IsLegal charter before → AreLeftFiles image charter before pending
+    → IsCharter charter → IsLegal charter before → AreFoundFiles image charter before pending
     → (history : History) × IsAtMostOneMore charter before pending history
     × KeepServed g charter day passed history files
 
