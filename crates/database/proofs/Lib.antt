@@ -20,3 +20,5 @@ mod SomeExceptions
 mod Unread
 mod Opened
 mod OldRead
+mod MovingDesk
+mod OpenedDesk

@@ -39,7 +39,7 @@ use Rattle.tables.specs.declared.groups.OfHolder.{OfHolder}
 use Rattle.tables.proofs.HaveEntries.{all_have_entries}
 use Rattle.database.specs.TablesRead.{ShowsSome, ShowsHolder, ShowsOfHolder, HoldSomeRows, TablesRead, HasSomeAuths, row_of_claim}
 use Rattle.database.specs.steps.Numbered.{shown_in}
-use Rattle.database.specs.steps.Opened.{ShowsSchema, ShowsCharter, ShowExceptions, ShowHolders, ShowAuths}
+use Rattle.database.specs.steps.Opened.{ShowsNumber, ShowsCharter, ShowExceptions, ShowHolders, ShowAuths}
 use Rattle.database.proofs.Obeyed.{slurm_key, agree_in_key, all_whole, all_referred, once_by_key, once, equal_texts}
 use Rattle.database.proofs.KeyedRows.{at_claim}
 use Rattle.database.proofs.SomeAuths.{auths_read}
@@ -49,7 +49,7 @@ use Rattle.database.proofs.Columns.{column_after}
 
 module _ (db : Database) (tables : db.schema.tables ≡ desk_tables) (sound : IsSound db.schema db.trees) where
   -- a table of so many columns shows all of its rows
-  all_shown : (t : Table) (k : ℕ) (last : Column) → Has desk_tables t → t.key ≡ None → slice_get t.columns k ≡ Some last → last.not_null ≡ true → length t.columns ≡ k + 1
+  pub all_shown : (t : Table) (k : ℕ) (last : Column) → Has desk_tables t → t.key ≡ None → slice_get t.columns k ≡ Some last → last.not_null ≡ true → length t.columns ≡ k + 1
       → map (first_columns (k + 1)) (contents (db.trees t.tree)) ≡ contents (db.trees t.tree)
   all_shown t k last has key is required count =
       first_of_all (k + 1) (contents (db.trees t.tree))
@@ -223,7 +223,7 @@ module _ (db : Database) (tables : db.schema.tables ≡ desk_tables) (sound : Is
 
     -- ---- all of them
 
-    module _ (authorized : ShowAuths db) (charter : CharterSets) (schema : ShowsSchema db) (chartered : ShowsCharter charter db) (excepted : ShowExceptions db) where
+    module _ (authorized : ShowAuths db) (charter : CharterSets) (schema : ShowsNumber false db) (chartered : ShowsCharter charter db) (excepted : ShowExceptions db) where
       trees_whole : AreTrees db.trees
       trees_whole =
           each_table (λ t. IsTree (db.trees t)) desk_tables (

@@ -198,3 +198,8 @@ refused_by r s e was passed is =
   where
     of_fault : (y : StoreFault) → s ≡ Err y → y ≡ e → r ≡ Err Schema
     of_fault y said same = cc
+
+-- what holds holds where there is an answer
+pub always : {X E P : Type 0} (result : Result X E) → P → OnOk result P
+always (Ok x) p = p
+always (Err e) p = tt

@@ -1,5 +1,5 @@
 -- Tables that read show values of the types that each query asks for.
-use Rattle.std.proofs.Common.{◌≡◌, inl, inr, ℕ, true, ◌||◌, List, [], ◌∷◌, map, drop, length, Result, Ok, Err, IfOk, OnErr, nat_eq, refl, sym, ap, subst, ◌∙◌, arith, IsPermutation, IsTrue}
+use Rattle.std.proofs.Common.{◌≡◌, inl, inr, ℕ, Bool, true, false, ◌||◌, List, [], ◌∷◌, map, drop, length, Result, Ok, Err, IfOk, OnErr, nat_eq, refl, sym, ap, subst, ◌∙◌, arith, IsPermutation, IsTrue}
 use Rattle.std.specs.Prelude.{⊤, Any}
 use Rattle.std.specs.Cmp.Lexicographic.{pointwise}
 use Rattle.std.specs.List.{AllByRecursion}
@@ -31,7 +31,8 @@ use Rattle.database.specs.declared.fault.StoreFault.{StoreFault}
 use Rattle.database.specs.declared.fault.StoreFault.TheVariants.{Schema}
 use Rattle.database.specs.TablesRead.{ShowsSome, ShowsHolder, ShowsOfHolder, TablesRead}
 use Rattle.database.specs.steps.Numbered.{columns_and_rowid, shown_in, AreRead}
-use Rattle.database.specs.steps.Opened.{ShowsRows, ShowsCharter}
+use Rattle.moving.specs.OldTables.{old_schema_row}
+use Rattle.database.specs.steps.Opened.{HasNumber, number_row, ShowsRows, ShowsCharter}
 use Rattle.database.proofs.Columns.{grant_shown, exception_places}
 
 -- ---- what was read
@@ -101,10 +102,11 @@ shows_registered c it = (record { name = it.0; counters = record { granted = it.
 pub shows_holder : (c : Row) → ShowsSome holder_cells HolderFits c → ShowsHolder c
 shows_holder c it = (it.0.name, it.0.counters.granted, it.0.counters.created, it.1.0, it.1.1, it.1.2, it.2)
 
-module _ (db : Database) (read : TablesRead db.trees) where
-  pub schema_in : Has (shown_in meta.tree (0 ∷ 1 ∷ []) db) schema_row
-  schema_in = mapped_has (columns (0 ∷ 1 ∷ [])) (contents (db.trees meta.tree)) schema_row (has_contained _ _ read.schema)
+pub number_in : (is_old : Bool) (db : Database) → HasNumber is_old db.trees → Has (shown_in meta.tree (0 ∷ 1 ∷ []) db) (number_row is_old)
+number_in true db has = mapped_has (columns (0 ∷ 1 ∷ [])) (contents (db.trees meta.tree)) old_schema_row (has_contained _ _ has)
+number_in false db has = mapped_has (columns (0 ∷ 1 ∷ [])) (contents (db.trees meta.tree)) schema_row (has_contained _ _ has)
 
+module _ (db : Database) (read : TablesRead db.trees) where
   pub operators_read : IsPermutation (map operator_row read.charter.operators) (shown_in operator.tree (0 ∷ []) db)
   operators_read =
       subst (λ l. IsPermutation l (shown_in operator.tree (0 ∷ []) db)) (map-map (columns (0 ∷ [])) operator_row read.charter.operators)

@@ -13,7 +13,8 @@ use Rattle.tables.specs.Tables.{blank_schema, desk_schema, desk_tables, SameRows
 use Rattle.tables.specs.Schemas.{has_names}
 use Rattle.tables.specs.TablesHold.{TablesHold}
 use Rattle.moving.specs.EitherSchema.{AreOfEitherSchema, EitherSchemaHolds}
-use Rattle.moving.specs.OldTables.{old_tables}
+use Rattle.moving.specs.OldTables.{old_tables, HasOldNumber, IsOldSchema}
+use Rattle.database.specs.OldTablesRead.{OldTablesRead}
 use Rattle.database.specs.TablesRead.{TablesRead, HoldSomeRows}
 
 -- the database has the tables of a desk, unless the disk returned what was not written, or the
@@ -74,7 +75,7 @@ pub record IsLeftAlone (old new : State) : Type 0 where
 
 -- The database has the tables of a desk, or had those of schema 1, and now is a desk. Its tables hold the charter and
 -- some rows, each row in the range of its type, and whatever the tables held before, in either schema. A desk of this
--- schema is left alone.
+-- schema is left alone; tables of schema 1 had its number.
 pub record OpensDesk (charter : CharterSets) (old new : State) : Type 0 where
   pub idle : old.in_transaction ≡ false
   pub tables : AreOfEitherSchema old.now.schema.tables
@@ -86,6 +87,7 @@ pub record OpensDesk (charter : CharterSets) (old new : State) : Type 0 where
       (held : CharterSets) (rows : AllRows)
       → EitherSchemaHolds held rows old.now.trees → TablesHold held rows new.now.trees
   pub unchanged : old.now.schema.tables ≡ desk_tables → IsLeftAlone old new
+  pub numbered : old.now.schema.tables ≡ old_tables → HasOldNumber old.now.trees
 
 -- The database had the tables of schema 1, and the trees are those of a desk, which hold whatever its tables held.
 pub record AreMoved (old : State) (trees : Trees) : Type 0 where
@@ -100,7 +102,10 @@ abbrev pub LeavesOldOrMoved : State → State → Type 0
 LeavesOldOrMoved old new =
     (trees : Trees) → new.may_leave trees → old.may_leave trees ⊎ AreMoved old trees
 
--- A name of a table or a column of a desk is missing, or the tables are there and do not read.
+-- A name of a table or a column of a desk is missing, and the schema is not schema 1; or the tables of either schema are
+-- there and do not read.
 abbrev pub IsOfAnotherSchema : Database → Type 0
 IsOfAnotherSchema db =
-    (has_names db.schema desk_tables ≡ false) ⊎ ((db.schema.tables ≡ desk_tables) × ¬ TablesRead db.trees)
+    ((has_names db.schema desk_tables ≡ false) × ¬ IsOldSchema db.schema)
+    ⊎ ((db.schema.tables ≡ desk_tables) × ¬ TablesRead db.trees)
+    ⊎ (IsOldSchema db.schema × ¬ OldTablesRead db.trees)

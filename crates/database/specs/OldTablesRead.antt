@@ -1,5 +1,5 @@
 -- What it is for the tables of a database of schema 1 to read.
-use Rattle.std.specs.Prelude.{◌≤◌, List, [], ◌∷◌, length, map, Contains, IsPermutation, IsTrue, ⊤}
+use Rattle.std.specs.Prelude.{◌≤◌, List, [], ◌∷◌, length, map, IsPermutation, IsTrue, ⊤}
 use Rattle.std.specs.List.{AllByRecursion}
 use Rattle.sqlite_value.specs.Order.{Row}
 use Rattle.sqlite_trees.specs.Tree.{Trees}

@@ -1,10 +1,10 @@
 //! Which tables a database has that is opened.
-ghost use Rattle.std.specs.Prelude.{◌≡◌, ◌↔◌, Err, Ok, IfOk, OnOk, IsTrue};
+ghost use Rattle.std.specs.Prelude.{◌≡◌, ◌↔◌, true, false, Err, IfOk, OnOk, OnErr};
 ghost use Rattle.sqlite_schema.specs.declared.schema.Schema.{Schema as shown_schema};
 ghost use Rattle.tables.specs.Schemas.{has_names, HasPlainTables};
 ghost use Rattle.tables.specs.Tables.{desk_schema, desk_tables};
 ghost use Rattle.moving.specs.OldTables.{IsOldSchema};
-ghost use Rattle.database.specs.steps.Found.{HasFound, IsStrange};
+ghost use Rattle.database.specs.steps.Found.{HasFound, IsFoundOf, IsSamePlain, IsStrange};
 ghost use Rattle.database.specs.steps.Moving.{old_schema_if};
 
 use crate::StoreFault;
@@ -24,7 +24,7 @@ pub(crate) enum Found {
 }
 
 /// A database in memory that has the tables of a desk, with which others are compared.
-pub(crate) fn tables_in_memory(alloc: Global) -> Result<Connection<MemStore>, Error>
+fn tables_in_memory(alloc: Global) -> Result<Connection<MemStore>, Error>
     ensures { IfOk result (λ conn. conn.schema ≡ desk_schema) }
 {
     let mut conn = Connection::open_in_memory(alloc)?;
@@ -45,31 +45,53 @@ fn old_tables_in_memory(alloc: Global, has_index: bool) -> Result<Connection<Mem
     Ok(conn)
 }
 
-/// Whether the schema is that of schema 1, with the index or without it.
-fn is_old(alloc: Global, schema: &Schema, has_index: bool) -> Result<bool, Error>
-    ensures { IfOk result (λ is_old. IsTrue is_old ↔ (schema.now ≡ old_schema_if has_index)) }
+/// Whether the schema has the tables of the other. One that lacks a name of theirs is another
+/// schema.
+fn compare_tables(schema: &Schema, desk: &Schema) -> Result<(), StoreFault>
+    ensures tables { OnOk result (schema.now.tables ≡ desk.now.tables) }
+    ensures names { result ≡ Err StoreFault.Schema
+        ↔ (has_names schema.now desk.now.tables ≡ false) }
+    ensures others { result ≡ Err StoreFault.Database
+        → ¬ (HasPlainTables schema.now × (schema.now.tables ≡ desk.now.tables)) }
 {
-    let old = old_tables_in_memory(alloc, has_index)?;
-    Ok(same_schema(schema, old.schema()))
+    if !has_names(schema, desk) {
+        return Err(StoreFault::Schema);
+    }
+    if !same_tables(schema, desk) {
+        return Err(StoreFault::Database);
+    }
+    Ok(())
 }
 
-/// Which tables of schema 1 a schema has that lacks a name of a desk's. One that has them all, but
-/// others, indexes or views beside them, can not be moved.
+/// Which of the two schemas it is, of which one has the index of a holder's runs. One that has all
+/// their names and is neither can not be moved.
+fn compare_old(schema: &Schema, indexed: &Schema, bare: &Schema) -> Result<Found, StoreFault>
+    ensures found { IfOk result (IsFoundOf schema.now indexed.now bare.now) }
+    ensures neither { OnErr result (¬ IsSamePlain schema.now indexed.now
+        × ¬ IsSamePlain schema.now bare.now) }
+    ensures names { result ≡ Err StoreFault.Schema → has_names schema.now bare.now.tables ≡ false }
+    ensures named { result ≡ Err StoreFault.Database → has_names schema.now bare.now.tables ≡ true }
+{
+    if same_schema(schema, indexed) {
+        return Ok(Found::Old(true));
+    }
+    if same_schema(schema, bare) {
+        return Ok(Found::Old(false));
+    }
+    if has_names(schema, bare) {
+        return Err(StoreFault::Database);
+    }
+    Err(StoreFault::Schema)
+}
+
+/// Which tables of schema 1 a schema has that lacks a name of a desk's.
 fn find_old(alloc: Global, schema: &Schema) -> Result<Found, StoreFault>
     ensures found { IfOk result (HasFound schema.now) }
     ensures schema { result ≡ Err StoreFault.Schema → ¬ IsOldSchema schema.now }
 {
-    if is_old(alloc, schema, true)? {
-        return Ok(Found::Old(true));
-    }
-    if is_old(alloc, schema, false)? {
-        return Ok(Found::Old(false));
-    }
-    let old = old_tables_in_memory(alloc, false)?;
-    if has_names(schema, old.schema()) {
-        return Err(StoreFault::Database);
-    }
-    Err(StoreFault::Schema)
+    let indexed = old_tables_in_memory(alloc, true)?;
+    let bare = old_tables_in_memory(alloc, false)?;
+    compare_old(schema, indexed.schema(), bare.schema())
 }
 
 /// Which tables a schema has. Those of a desk may have other indexes and views beside them.
@@ -78,11 +100,9 @@ pub(crate) fn find_tables(alloc: Global, schema: &Schema) -> Result<Found, Store
     ensures schema { result ≡ Err StoreFault.Schema → IsStrange schema.now }
 {
     let desk = tables_in_memory(alloc)?;
-    if !has_names(schema, desk.schema()) {
-        return find_old(alloc, schema);
+    match compare_tables(schema, desk.schema()) {
+        Ok(()) => Ok(Found::Desk),
+        Err(StoreFault::Schema) => find_old(alloc, schema),
+        Err(fault) => Err(fault),
     }
-    if !same_tables(schema, desk.schema()) {
-        return Err(StoreFault::Database);
-    }
-    Ok(Found::Desk)
 }

@@ -1,14 +1,21 @@
 //! Moving the rows of schema 1 to the tables of a desk, within a transaction.
-ghost use Rattle.database.specs.Statements.{WhenClean, IfDone, StaysInside};
+ghost use Rattle.std.specs.Prelude.{◌≡◌, Err};
+ghost use Rattle.sqlite.specs.State.{HasCleanDisk};
+ghost use Rattle.database.specs.OldTablesRead.{OldTablesRead};
+ghost use Rattle.database.specs.Statements.{state_in, WhenClean, IfAnswered, IfDone, StaysInside};
 ghost use Rattle.database.specs.steps.Making.{IsOver};
 ghost use Rattle.database.specs.steps.Moving.{old_schema_if, wide_schema};
-ghost use Rattle.database.specs.steps.Moving.{DropsIndex, WidensTables, MovesRows};
+ghost use Rattle.database.specs.steps.Moving.{DropsIndex, WidensTables, MovesDesk, MovesRows};
 ghost use Rattle.tables.specs.Tables.{desk_schema};
 
+use crate::StoreFault;
 use crate::making::make_claim_tables;
+use crate::reading::{read_inside, read_number};
 use crate::statement::execute;
 use moving::{COPY_CLAIMS, COPY_ENTRIES, DELETE_ALL_AUTHS, DROP_HOLDING_INDEX, UPDATE_SCHEMA};
+use registry::Charter;
 use sqlite::{Alter, Error, Transaction};
+use std::alloc::Global;
 use tables::CREATE_HOLDING_INDEX;
 
 /// Takes the index of a holder's runs away, where the database has it.
@@ -57,4 +64,23 @@ pub(crate) fn move_rows<S: Alter>(tx: &mut Transaction<'_, S>) -> Result<(), Err
 {
     edit_rows(tx)?;
     execute(tx, CREATE_HOLDING_INDEX, &[])
+}
+
+/// Moves a database of schema 1, and reads all rows of the desk that it becomes.
+pub(crate) fn move_desk<S: Alter>(
+    tx: &mut Transaction<'_, S>,
+    alloc: Global,
+    has_index: bool,
+) -> Result<Charter, StoreFault>
+    requires { WhenClean S.Store (IsOver (old_schema_if has_index)) tx.old }
+    ensures moved { IfAnswered S.Store result
+        (λ charter old. MovesDesk charter old.now.trees) tx.old tx.new }
+    ensures inside { StaysInside S.Store tx.old tx.new }
+    ensures schema { HasCleanDisk (state_in S.Store tx.new) → result ≡ Err StoreFault.Schema
+        → ¬ OldTablesRead (state_in S.Store tx.old).now.trees }
+{
+    widen_tables(tx, has_index)?;
+    read_number(tx, true)?;
+    move_rows(tx)?;
+    read_inside(tx, alloc)
 }

@@ -12,14 +12,13 @@ ghost use Rattle.charters.specs.Charter.{operators_of, pool_of};
 ghost use Rattle.charters.specs.CharterSets.{AreInNumber};
 ghost use Rattle.charters.specs.Repeats.{has_repeat};
 ghost use Rattle.slurm.specs.declared.exceptions.TheConstants.{MOST_ENTRIES};
-ghost use Rattle.tables.specs.Cells.{schema_row};
 ghost use Rattle.tables.specs.Decode.{first_columns};
 ghost use Rattle.tables.specs.Groups.{AllApart, claim_entry, holder_entry};
 ghost use Rattle.tables.specs.Tables.{operator, pool, holder, holding, granted, auth, slurm, claim, entry, IsTree, OverDesk};
 ghost use Rattle.tables.proofs.GroupOrder.{claim_cmp, entry_row_cmp, of_holder_cmp};
 ghost use Rattle.database.specs.TablesRead.{HoldSomeRows, ShowsSome, TablesRead};
 ghost use Rattle.database.specs.steps.Numbered.{AnswersSelect, AreRead, Rise, SelectsAll, SelectsInOrder, shown_in};
-ghost use Rattle.database.specs.steps.Opened.{MakeAuths, ShowAuths, ShowExceptions, ShowHolders, ShowsCharter, ShowsSchema, HasOneEntry, claim_places, entry_places};
+ghost use Rattle.database.specs.steps.Opened.{HasNumber, ShowsNumber, number_row, MakeAuths, ShowAuths, ShowExceptions, ShowHolders, ShowsCharter, HasOneEntry, claim_places, entry_places};
 ghost use Rattle.database.specs.Queries.{IsAskedOnce, IsClean, IsReadyToAsk};
 ghost use Rattle.database.specs.Statements.{state_in, IsAskedInside, IsReady, ObeysSchema, WhenClean};
 
@@ -28,6 +27,7 @@ use crate::query::ask_inside;
 use crate::rise::rise;
 use crate::values::read_all;
 use addr::{Name, Prefix, Span};
+use moving::shows_old_schema;
 use registry::{Charter, Granted};
 use slurm::MOST_ENTRIES;
 use sqlite::{Alter, Connection, Row, Transaction};
@@ -243,24 +243,32 @@ impl InOrder for OfHolder<EntryRow> {
     }
 }
 
-/// Whether some row has the number of this schema.
-fn some_shows_schema(rows: &[Row]) -> bool
-    ensures { IsTrue result ↔ Any (λ row. first_columns 2 row ≡ schema_row) rows.now }
+/// Whether some row has the number of this schema, or that of schema 1.
+fn some_shows(rows: &[Row], is_old: bool) -> bool
+    ensures { IsTrue result
+        ↔ Any (λ row. first_columns 2 row ≡ number_row is_old) rows.now }
 {
-    rows.iter().any(|row| shows_schema(row))
+    if is_old {
+        rows.iter().any(|row| shows_old_schema(row))
+    } else {
+        rows.iter().any(|row| shows_schema(row))
+    }
 }
 
-/// Checks that the one row of the table `meta` has the number of this schema.
-fn read_schema<S: Alter>(tx: &mut Transaction<'_, S>) -> Result<(), StoreFault>
+/// Checks that the one row of the table `meta` has the number of this schema, or that of schema 1.
+pub(crate) fn read_number<S: Alter>(
+    tx: &mut Transaction<'_, S>,
+    is_old: bool,
+) -> Result<(), StoreFault>
     requires { WhenClean S.Store IsReady tx.old }
     ensures asked { IsAskedInside S.Store tx.old tx.new result }
     ensures found { HasCleanDisk (state_in S.Store tx.new)
-        → OnOk result (ShowsSchema (state_in S.Store tx.old).now) }
+        → OnOk result (ShowsNumber is_old (state_in S.Store tx.old).now) }
     ensures schema { HasCleanDisk (state_in S.Store tx.new) → result ≡ Err StoreFault.Schema
-        → ¬ TablesRead (state_in S.Store tx.old).now.trees }
+        → ¬ HasNumber is_old (state_in S.Store tx.old).now.trees }
 {
     let rows = ask_all(tx, SELECT_SCHEMA)?;
-    if !some_shows_schema(&rows) {
+    if !some_shows(&rows, is_old) {
         return Err(StoreFault::Schema);
     }
     if rows.len() != 1 {
@@ -410,7 +418,7 @@ pub(crate) fn read_inside<S: Alter>(
     ensures schema { HasCleanDisk (state_in S.Store tx.new) → result ≡ Err StoreFault.Schema
         → ¬ TablesRead (state_in S.Store tx.old).now.trees }
 {
-    read_schema(tx)?;
+    read_number(tx, false)?;
     let charter = read_charter(tx, alloc)?;
     // Its clause `valid` is for the proof: the operators and the pool make a charter.
     let _operators = charter.operators();

@@ -1,5 +1,5 @@
--- Tables that have the number of this schema hold nothing as tables of schema 1.
-use Rattle.std.proofs.Common.{◌≡◌, inl, inr, ℕ, pos, [], ◌∷◌, ap, arith, Contains}
+-- Tables that have the number of one schema hold nothing as tables of the other.
+use Rattle.std.proofs.Common.{◌≡◌, inl, inr, ℕ, pos, [], ◌∷◌, sym, ap, arith, Contains}
 use Rattle.std.proofs.lemmas.List.Sorted.{Contains-permutation, IsPermutation-sym}
 use Rattle.sqlite_rules.proofs.ListLemmas.{has_contained}
 use Rattle.sqlite_trees.specs.Tree.{Trees}
@@ -12,7 +12,7 @@ use Rattle.tables.specs.Cells.{schema_row}
 use Rattle.tables.specs.Tables.{meta, contents}
 use Rattle.tables.specs.TablesHold.{TablesHold}
 use Rattle.moving.specs.EitherSchema.{EitherSchemaHolds}
-use Rattle.moving.specs.OldTables.{old_schema_row, OldTablesHold}
+use Rattle.moving.specs.OldTables.{old_schema_row, HasOldNumber, OldTablesHold}
 
 -- the two rows have other numbers
 abbrev number_in : Value → ℕ
@@ -35,3 +35,11 @@ pub hold_now : (charter : CharterSets) (rows : AllRows) (trees : Trees) → Cont
     → EitherSchemaHolds charter rows trees → TablesHold charter rows trees
 hold_now charter rows trees numbered (inl now) = now
 hold_now charter rows trees numbered (inr old) = absurd (not_old charter rows trees numbered old)
+
+-- and tables that have the number of schema 1 are not those of this one
+pub not_now : (charter : CharterSets) (rows : AllRows) (trees : Trees) → HasOldNumber trees → ¬ TablesHold charter rows trees
+not_now charter rows trees numbered now =
+    elim (has_contained (schema_row ∷ []) old_schema_row (Contains-permutation (contents (trees meta.tree)) (schema_row ∷ []) old_schema_row (IsPermutation-sym _ _ now.charter_kept.schema) numbered)) [
+      | inl same ↦ other_number (sym same)
+      | inr none ↦ absurd none
+    ]

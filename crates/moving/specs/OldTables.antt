@@ -1,6 +1,6 @@
 -- The tables of a desk of schema 1, and what they hold: the charter, the rows of every holder, and the exceptions of the
 -- SLURM file in force. An authorization is a row of the table `auth`; there is no `claim` and no `entry`.
-use Rattle.std.specs.Prelude.{◌≡◌, ◌⊎◌, ℕ, pos, ◌==◌, Bool, true, List, [], ◌∷◌, ◌++◌, map, take, codes, IsPermutation}
+use Rattle.std.specs.Prelude.{◌≡◌, ◌⊎◌, ℕ, pos, ◌==◌, Bool, true, List, [], ◌∷◌, ◌++◌, map, take, codes, Contains, IsPermutation}
 use Rattle.std.specs.List.{list_any}
 use Rattle.sqlite_value.specs.declared.value.Value.TheVariants.{Int, Text}
 use Rattle.sqlite_value.specs.Order.{Row}
@@ -48,6 +48,9 @@ is_old_table t = list_any (λ table. table.tree == t) old_tables
 -- the number of the schema
 abbrev pub old_schema_row : Row
 old_schema_row = Text (codes "schema") ∷ Int (pos 1) ∷ []
+
+abbrev pub HasOldNumber : Trees → Type 0
+HasOldNumber trees = Contains (contents (trees meta.tree)) old_schema_row
 
 -- the row of an authorization in the table `auth`, with the holder's name
 abbrev pub auth_row : List ℕ → Auth → Row

@@ -3,8 +3,10 @@
 #![tactic(auto)]
 
 pub mod laws;
+mod schema;
 mod statements;
 
+pub use schema::shows_old_schema;
 pub use statements::{
     COPY_CLAIMS, COPY_ENTRIES, DELETE_ALL_AUTHS, DROP_HOLDING_INDEX, UPDATE_SCHEMA,
 };

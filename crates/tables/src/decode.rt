@@ -32,7 +32,7 @@ fn address_from_bytes(bytes: &[u8]) -> Option<u128>
 }
 
 /// The value in a column, and NULL past the end.
-pub(crate) fn cell(row: &Row, at: usize) -> ValueRef<'_>
+pub fn cell(row: &Row, at: usize) -> ValueRef<'_>
     ensures { owned result ≡ column row.now at }
 {
     row.get_ref(at).unwrap_or(ValueRef::Null)

@@ -3,7 +3,7 @@ use Rattle.std.specs.Prelude.{◌≡◌, Bool, true, false}
 use Rattle.sqlite.specs.State.{State}
 use Rattle.sqlite_schema.specs.declared.schema.Schema.{Schema}
 use Rattle.tables.specs.Tables.{desk_tables}
-use Rattle.tables.specs.Schemas.{has_names}
+use Rattle.tables.specs.Schemas.{has_names, IsPlainSchema}
 use Rattle.moving.specs.OldTables.{IsOldSchema}
 use Rattle.database.specs.declared.found.Found.{Found}
 use Rattle.database.specs.declared.found.Found.TheVariants.{Desk, Old}
@@ -22,3 +22,13 @@ HasFound schema (Old has_index) = schema ≡ old_schema_if has_index
 -- a name of the tables of a desk is missing, and it is not that of schema 1
 abbrev pub IsStrange : Schema → Type 0
 IsStrange schema = (has_names schema desk_tables ≡ false) × ¬ IsOldSchema schema
+
+-- it is the other schema, and others are compared with it
+abbrev pub IsSamePlain : Schema → Schema → Type 0
+IsSamePlain schema other = IsPlainSchema schema × (schema ≡ other)
+
+-- it is the one schema of schema 1, with the index of a holder's runs, or the other
+abbrev pub IsFoundOf : Schema → Schema → Schema → Found → Type 0
+IsFoundOf schema indexed bare Desk = ⊥
+IsFoundOf schema indexed bare (Old true) = schema ≡ indexed
+IsFoundOf schema indexed bare (Old false) = schema ≡ bare

@@ -6,7 +6,10 @@ use Rattle.sqlite_catalog.specs.Change.{KeepsRows}
 use Rattle.sqlite_schema.specs.declared.schema.Schema.{Schema}
 use Rattle.sqlite_trees.specs.Tree.{Trees}
 use Rattle.moving.specs.Moved.{AreMovable, IsMoved, IsWidened}
-use Rattle.moving.specs.OldTables.{old_tables, old_schema, old_schema_without_index}
+use Rattle.charters.specs.CharterSets.{CharterSets}
+use Rattle.moving.specs.OldTables.{HasOldNumber, old_tables, old_schema, old_schema_without_index}
+use Rattle.tables.specs.Tables.{desk_schema}
+use Rattle.database.specs.TablesRead.{HoldSomeRows, TablesRead}
 use Rattle.database.specs.steps.Making.{schema_so_far, IsOver}
 
 -- the schema of a desk of schema 1, with the index of a holder's runs or without it
@@ -40,3 +43,14 @@ pub record MovesRows (over : Schema) (old new : State) : Type 0 where
   pub schema : new.now.schema ≡ over
   pub sound : IsDatabase new.now
   pub moved : FinishesMove old new
+
+-- A database of schema 1 is moved, and its rows read: the transaction shows a desk that holds some rows, each row in the
+-- range of its type. Its tables had the number of schema 1, and where they were movable they are moved.
+pub record MovesDesk (charter : CharterSets) (old : Trees) (new : State) : Type 0 where
+  pub inside : new.in_transaction ≡ true
+  pub schema : new.now.schema ≡ desk_schema
+  pub sound : IsDatabase new.now
+  pub numbered : HasOldNumber old
+  pub moved : AreMovable old → IsMoved old new.now.trees
+  pub some : HoldSomeRows charter new.now.trees
+  pub reads : TablesRead new.now.trees

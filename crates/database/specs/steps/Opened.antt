@@ -1,8 +1,9 @@
 -- What the queries of all rows of the tables show.
-use Rattle.std.specs.Prelude.{◌≡◌, ℕ, ◌≤◌, List, [], ◌∷◌, length, map, flat_map, IsPermutation, IsTrue, ⊤}
+use Rattle.std.specs.Prelude.{◌≡◌, ℕ, ◌≤◌, List, [], ◌∷◌, length, map, flat_map, Bool, Contains, IsPermutation, IsTrue, ⊤, if◌then◌else◌}
 use Rattle.std.specs.List.{AllByRecursion}
 use Rattle.sqlite.specs.Effect.{Database}
 use Rattle.sqlite_value.specs.Order.{Row}
+use Rattle.sqlite_trees.specs.Tree.{Trees}
 use Rattle.addr.specs.Name.{is_name}
 use Rattle.charters.specs.CharterSets.{CharterSets}
 use Rattle.registry.specs.Terms.{entries_of}
@@ -18,6 +19,7 @@ use Rattle.tables.specs.Authorizations.{claim_of, entry_rows_of}
 use Rattle.tables.specs.Cells.{schema_row, operator_row, prefix_cells, span_cells, grant_cells, claim_cells, entry_cells, named_cells}
 use Rattle.tables.specs.Decode.{ClaimFits, EntryRowFits, NamedFits}
 use Rattle.tables.specs.Tables.{meta, operator, pool, holder, holding, granted, auth, slurm, claim, entry, contents, IsTree}
+use Rattle.moving.specs.OldTables.{old_schema_row}
 use Rattle.database.specs.TablesRead.{ShowsSome, ShowsHolder, ShowsException}
 use Rattle.database.specs.steps.Numbered.{shown_in, AreRead}
 
@@ -31,9 +33,16 @@ pub record ShowsEach (tree : ℕ) (places : List ℕ) (So : Row → Type 0) (db 
   pub whole : IsTree (db.trees tree)
   pub each : AllByRecursion So (shown_in tree places db)
 
--- the row that has the number of this schema, and no other
-abbrev pub ShowsSchema : Database → Type 0
-ShowsSchema = ShowsRows meta.tree (0 ∷ 1 ∷ []) (schema_row ∷ [])
+-- the row that has the number of this schema, or that of schema 1
+abbrev pub number_row : Bool → Row
+number_row is_old = if is_old then old_schema_row else schema_row
+
+abbrev pub HasNumber : Bool → Trees → Type 0
+HasNumber is_old trees = Contains (contents (trees meta.tree)) (number_row is_old)
+
+-- that row, and no other
+abbrev pub ShowsNumber : Bool → Database → Type 0
+ShowsNumber is_old = ShowsRows meta.tree (0 ∷ 1 ∷ []) (number_row is_old ∷ [])
 
 pub record ShowsCharter (charter : CharterSets) (db : Database) : Type 0 where
   pub named : AllByRecursion (λ name. IsTrue (is_name name)) charter.operators

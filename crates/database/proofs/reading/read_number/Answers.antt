@@ -2,15 +2,15 @@ use Rattle.std.proofs.Common.{◌≡◌, [], ◌∷◌, map, refl, subst, arith,
 use Rattle.std.proofs.lemmas.Bool.{both_ways}
 use Rattle.std.proofs.lemmas.List.{length-map}
 use Rattle.std.proofs.lemmas.List.Sorted.{IsPermutation-sym}
-use Rattle.tables.specs.Cells.{schema_row}
 use Rattle.tables.specs.Decode.{first_columns}
 use Rattle.tables.proofs.SomeRow.{has_permuted}
 use Rattle.database.specs.Statements.{state_in}
 use Rattle.database.specs.steps.Numbered.{shown_in}
+use Rattle.database.specs.steps.Opened.{number_row}
 use Rattle.database.proofs.AllTexts.{selects_meta}
 use Rattle.database.proofs.Rowids.{is_tree, shown_of}
-use Rattle.database.proofs.Unread.{has_some, some_from_has, only_one, schema_in}
-use Rattle.database.proofs.reading.read_schema.Goals as goal
+use Rattle.database.proofs.Unread.{has_some, some_from_has, only_one, number_in}
+use Rattle.database.proofs.reading.read_number.Goals as goal
 
 pub ask_all-requires-clause-plain : goal.ask_all-requires-clause-plain
 ask_all-requires-clause-plain g c = selects_meta.plain
@@ -18,14 +18,14 @@ ask_all-requires-clause-plain g c = selects_meta.plain
 pub ask_all-requires-clause-unlisted : goal.ask_all-requires-clause-unlisted
 ask_all-requires-clause-unlisted g c = selects_meta.unlisted
 
-pub returns-then-not-some_shows_schema-clause-schema :
-    goal.returns-then-not-some_shows_schema-clause-schema
-returns-then-not-some_shows_schema-clause-schema g c clean is read =
+pub returns-then-not-some_shows-clause-schema :
+    goal.returns-then-not-some_shows-clause-schema
+returns-then-not-some_shows-clause-schema g c clean is has =
     let db = (state_in g.S.Store c.args.tx.now).now in
     let rows = c.in_ok-rows.rows.items in
     let same = shown_of 2 (0 ∷ 1 ∷ []) (db.trees 0) rows refl (selects_meta.found db rows (c.in_ok-rows.ensures.answered clean)) in
-    let some = some_from_has (first_columns 2) rows schema_row (has_permuted _ _ schema_row same (schema_in db read)) in
-    both_ways _ c.if-not-some_shows_schema.true (c.some_shows_schema.ensures.1 (rw c.deref.ensures.value some))
+    let some = some_from_has (first_columns 2) rows (number_row c.args.is_old) (has_permuted _ _ (number_row c.args.is_old) same (number_in c.args.is_old db has)) in
+    both_ways _ c.if-not-some_shows.true (c.some_shows.ensures.1 (rw c.deref.ensures.value some))
 
 pub returns-clause-found : goal.returns-clause-found
 returns-clause-found g c clean =
@@ -33,9 +33,9 @@ returns-clause-found g c clean =
     let rows = c.in_ok-rows.rows.items in
     let found = selects_meta.found db rows (c.in_ok-rows.ensures.answered clean) in
     let same = shown_of 2 (0 ∷ 1 ∷ []) (db.trees 0) rows refl found in
-    let some = has_some (first_columns 2) rows schema_row (rw c.deref.ensures.value at (c.some_shows_schema.ensures.0 c.if-not-some_shows_schema.false)) in
+    let some = has_some (first_columns 2) rows (number_row c.args.is_old) (rw c.deref.ensures.value at (c.some_shows.ensures.0 c.if-not-some_shows.false)) in
     let one : length (map (first_columns 2) rows) ≡ 1 = omega (arith, c.len.ensures, c.if-len-ne1.false, c.in_ok-rows.rows.ok.0, length-map rows (first_columns 2)) in
     record {
       whole = is_tree (0 ∷ 1 ∷ []) (db.trees 0) rows found c.in_ok-rows.ensures.rise;
-      shown = subst (λ l. IsPermutation l (shown_in 0 (0 ∷ 1 ∷ []) db)) (only_one (map (first_columns 2) rows) schema_row some one) (IsPermutation-sym _ _ same);
+      shown = subst (λ l. IsPermutation l (shown_in 0 (0 ∷ 1 ∷ []) db)) (only_one (map (first_columns 2) rows) (number_row c.args.is_old) some one) (IsPermutation-sym _ _ same);
     }
