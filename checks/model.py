@@ -10,6 +10,7 @@ history that is never changed.
 import collections
 import datetime
 import functools
+import itertools
 import json
 import re
 import sys
@@ -132,19 +133,9 @@ class OtherNumber:
 def read_json(octets):
     """The value, or ValueError: nested to 127 at most, and no number too large for a float."""
     text = octets.decode("utf-8")
-    depth, quoted, at = 0, False, 0
-    while at < len(text):
-        if text[at] == '"':
-            quoted = not quoted
-        elif quoted:
-            at += text[at] == "\\"
-        elif text[at] in "[{":
-            depth += 1
-            if depth > 127:
-                raise ValueError
-        elif text[at] in "]}":
-            depth -= 1
-        at += 1
+    brackets = re.sub(r'"(\\.|[^"\\])*"|[^][{}]', "", text, flags=re.S)
+    if max(itertools.accumulate(1 if bracket in "[{" else -1 for bracket in brackets), default=0) > 127:
+        raise ValueError
 
     def number(digits):
         if abs(float(digits)) == float("inf"):
@@ -163,13 +154,14 @@ def read_json(octets):
 
 
 def read_slurm(value):
-    """(filters, assertions, the lowest fault or None): filters (prefix, AS), assertions (prefix, max, AS)."""
-    faults = []
+    """((filters, assertions), the lowest fault or None): a filter is (prefix, AS), an assertion (prefix, max, AS)."""
+    if type(value) is not dict:
+        return None, 2
+    faults, filters, assertions = [], [], []
 
     def members(value, required, optional=()):
-        if type(value) is dict and set(required) <= set(value) <= set(required) | set(optional):
-            return value
-        faults.append(3)
+        if type(value) is not dict or not set(required) <= set(value) <= set(required) | set(optional):
+            faults.append(3)
         return value if type(value) is dict else {}
 
     def items(value, name):
@@ -177,45 +169,35 @@ def read_slurm(value):
             faults.append(3)
         return value[name] if type(value.get(name)) is list else []
 
-    def member(entry, name, reader, fault):
-        if name not in entry:
-            return None
-        if reader(entry[name]) is None:
+    def member(entry, name, fault, reader):
+        if name in entry and reader(entry[name]) is None:
             faults.append(fault)
-        return reader(entry[name])
+        return reader(entry[name]) if name in entry else None
 
-    def comment(entry):
-        if "comment" in entry and type(entry["comment"]) is not str:
-            faults.append(10)
+    def read_entry(entry):
+        member(entry, "comment", 10, lambda value: value if type(value) is str else None)
+        return member(entry, "prefix", 6, read_prefix), member(entry, "asn", 7, read_asn)
 
-    if type(value) is not dict:
-        return [], [], 2
     whole = members(value, ["slurmVersion", "validationOutputFilters", "locallyAddedAssertions"])
-    if "slurmVersion" in whole and read_whole(whole["slurmVersion"], 1, 1) is None:
-        faults.append(4)
+    member(whole, "slurmVersion", 4, lambda value: read_whole(value, 1, 1))
     output = members(whole.get("validationOutputFilters"), ["prefixFilters", "bgpsecFilters"])
     added = members(whole.get("locallyAddedAssertions"), ["prefixAssertions", "bgpsecAssertions"])
     if items(output, "bgpsecFilters") or items(added, "bgpsecAssertions"):
         faults.append(5)
-    filters, assertions = [], []
-    for entry in items(output, "prefixFilters"):
-        read = members(entry, [], ["prefix", "asn", "comment"])
-        filters.append((member(read, "prefix", read_prefix, 6), member(read, "asn", read_asn, 7)))
-        if "prefix" not in read and "asn" not in read:
+    for item in items(output, "prefixFilters"):
+        entry = members(item, [], ["prefix", "asn", "comment"])
+        filters.append(read_entry(entry))
+        if "prefix" not in entry and "asn" not in entry:
             faults.append(9)
-        comment(read)
-    for entry in items(added, "prefixAssertions"):
-        read = members(entry, ["prefix", "asn"], ["maxPrefixLength", "comment"])
-        prefix = member(read, "prefix", read_prefix, 6)
-        asn = member(read, "asn", read_asn, 7)
-        if prefix is not None:
-            longest = member({"max": prefix[2]} | ({"max": read["maxPrefixLength"]} if "maxPrefixLength" in read else {}),
-                             "max", lambda value: read_whole(value, prefix[2], WIDTH[prefix[0]]), 8)
-            assertions.append((prefix, longest, asn))
-        comment(read)
-    if len(items(output, "prefixFilters")) + len(items(added, "prefixAssertions")) > 4096:
+    for item in items(added, "prefixAssertions"):
+        entry = members(item, ["prefix", "asn"], ["maxPrefixLength", "comment"])
+        prefix, asn = read_entry(entry)
+        lowest, highest = (prefix[2], WIDTH[prefix[0]]) if prefix else (0, 128)
+        longest = member(entry, "maxPrefixLength", 8, lambda value: read_whole(value, lowest, highest))
+        assertions.append((prefix, lowest if longest is None else longest, asn))
+    if len(filters) + len(assertions) > 4096:
         faults.append(11)
-    return filters, assertions, min(faults, default=None)
+    return (filters, assertions), min(faults, default=None)
 
 
 # ---- Which request a text is (FORMATS, lines of a script and malformed requests) ----------------------------------
@@ -255,8 +237,7 @@ def read_members(value, names, faults):
         if name in LIMITS:
             values[name] = read_items(name, given, faults)
         elif name == "file":
-            filters, assertions, fault = read_slurm(given)
-            values[name] = filters, assertions
+            values[name], fault = read_slurm(given)
             if fault:
                 faults.append((11, fault))
         elif name == "do":
@@ -280,13 +261,10 @@ def read_items(name, given, faults):
         faults.append((12,))
     items = []
     for item in given:
-        names = {"rows": ROW, "routes": ["prefix", "origin"]}.get(name)
+        word = item.get("do") if type(item) is dict else None
+        names = ROW if name == "rows" else ["prefix", "origin"]
         if name == "changes":
-            word = item.get("do") if type(item) is dict else None
-            names = ["do"] + CHANGES[word] if type(word) is str and word in CHANGES else ["do"]
-            if names == ["do"]:
-                faults.append((2,))
-                continue
+            names = ["do"] + (CHANGES[word] if type(word) is str and word in CHANGES else ["create or withdraw"])
         items.append(read_members(item, names, faults))
     return items
 
@@ -323,7 +301,7 @@ class Entry(dict):
     __ne__ = object.__ne__
 
 
-cached = functools.lru_cache(maxsize=20_000)
+cached = functools.lru_cache(maxsize=50)
 
 
 @cached
@@ -331,11 +309,13 @@ def registered(history):
     return {entry["holder"] for entry in history if entry["do"] == "register"}
 
 
+RECEIVERS = {"delegate": "holder", "transfer": "taker", "reclaim": None}
+
+
 @cached
 def moves(history):
     """What moves space: (prefix, who receives it), None where nobody does."""
-    receivers = {"delegate": "holder", "transfer": "taker", "reclaim": None}
-    return tuple((entry["prefix"], entry.get(receivers[entry["do"]])) for entry in history if entry["do"] in receivers)
+    return tuple((entry["prefix"], entry.get(RECEIVERS[entry["do"]])) for entry in history if entry["do"] in RECEIVERS)
 
 
 def resource_holder(moved, address):
@@ -350,7 +330,7 @@ def points(prefix, others):
     return {prefix[:2]} | {edge for edge in edges if has(prefix, edge)}
 
 
-@cached
+@functools.lru_cache(maxsize=20_000)
 def holds(moved, holder, prefix):
     """Whether the holder holds every address of the prefix."""
     return all(resource_holder(moved, address) == holder for address in points(prefix, [move[0] for move in moved]))
@@ -374,23 +354,24 @@ def grants(history, holder):
 @cached
 def authorizations(history, holder):
     """The authorizations made at the holder, numbered from 1; None is one that is not active."""
-    made = []
-    for at, entry in enumerate(history):
+    made, moved = [], 0
+    for entry in history:
+        moved += entry["do"] in RECEIVERS
         if entry.get("holder") != holder:
             continue
         if entry["do"] == "create":
-            made.append({"number": len(made) + 1} | {name: entry[name] for name in ROW} | {"beginning": at + 1})
+            made.append({"number": len(made) + 1} | {name: entry[name] for name in ROW} | {"moved": moved})
         if entry["do"] == "amend":
             made[entry["number"] - 1] |= {"max": entry["max"], "until": entry["until"]}
         if entry["do"] == "withdraw":
             made[entry["number"] - 1] = None
 
-    def is_active(made):
-        """In every beginning that has its making, its holder held its prefix; only moves tell one from the next."""
-        return all(holds(moves(history)[:count], holder, made["prefix"])
-                   for count in range(len(moves(history[:made["beginning"]])), len(moves(history)) + 1))
+    def is_active(auth):
+        """In every beginning that has its making, its holder held its prefix: only moves tell one from the next."""
+        return auth and all(holds(moves(history)[:count], holder, auth["prefix"])
+                            for count in range(auth["moved"], len(moves(history)) + 1))
 
-    return [auth if auth and is_active(auth) else None for auth in made]
+    return [auth if is_active(auth) else None for auth in made]
 
 
 def active(history, holder):
@@ -453,7 +434,7 @@ def rule_holds(rule, charter, history, request):
     operators, pool = charter
     terms = request if do == "create" else {}
     if do == "amend" and rule in ("dates", "length", "same"):
-        terms = authorizations(history, holder)[request["number"] - 1] | {"max": request["max"], "until": request["until"]}
+        terms = authorizations(history, holder)[request["number"] - 1] | {"max": request["max"]}
     match rule:
         case "operator":
             return request["caller"] in operators

@@ -53,78 +53,93 @@ class Requests:
         return self.pick(OTHER_PREFIXES if self.chance(0.07) else PREFIXES)
 
     def day(self):
-        return self.pick(OTHER_DAYS if self.chance(0.05) else DAYS)
+        return "2026-03-01" if self.chance(0.5) else self.pick(OTHER_DAYS if self.chance(0.1) else DAYS)
 
     def last_day(self):
         return "2026-12-31" if self.chance(0.6) else self.day()
 
     def holder(self):
-        return "delta" if self.chance(0.02) else self.random.choices(HOLDERS, [6, 3, 1])[0]
+        return "delta" if self.chance(0.02) else self.random.choices(HOLDERS, [7, 2, 1])[0]
 
     def asn(self):
         return self.pick([64496, 64496, 64497, 64498, 0, 2**32 - 1])
 
+    def several(self, make, counts):
+        return [make() for _ in range(self.pick(counts))]
+
+    def subset(self, members):
+        return {name: value for name, value in members.items() if self.chance(0.6)}
+
     def row(self):
         prefix = self.prefix()
         length = int(prefix.split("/")[1])
-        longest = self.pick([length, length, length, length + 1, length + 8, 24, 25, 32, 33, 128, max(length - 1, 0), 255])
-        return {"asn": self.asn(), "prefix": prefix, "max": longest if self.chance(0.5) else length,
+        longest = self.pick([length + 1, length + 8, 24, 25, 32, 33, 128, max(length - 1, 0), 255])
+        return {"asn": self.asn(), "prefix": prefix, "max": longest if self.chance(0.35) else length,
                 "from": "2026-01-01" if self.chance(0.7) else self.day(), "until": self.last_day()}
 
-    def routes(self):
-        return [{"prefix": self.prefix(), "origin": self.pick([None, self.asn(), self.asn()])}
-                for _ in range(self.random.randint(1, 4))]
+    def route(self):
+        return {"prefix": self.prefix(), "origin": self.pick([None, self.asn(), self.asn()])}
 
     def change(self):
         return {"do": "withdraw", "number": self.number()} if self.chance(0.4) else {"do": "create"} | self.row()
 
     def number(self):
-        return self.random.randint(1, 5)
+        return self.random.randint(1, 6)
+
+    def filter(self):
+        return self.subset({"prefix": self.prefix(), "asn": self.asn(), "comment": "c"})
+
+    def assertion(self):
+        row = self.row()
+        further = self.subset({"maxPrefixLength": row["max"], "comment": ""})
+        return {"prefix": row["prefix"], "asn": row["asn"]} | further
 
     def slurm(self):
-        filters = [self.subset({"prefix": self.prefix(), "asn": self.asn(), "comment": "c"}) for _ in range(self.pick([0, 1, 2]))]
-        assertions = []
-        for _ in range(self.pick([0, 1, 2])):
-            prefix = self.prefix()
-            length = int(prefix.split("/")[1])
-            assertions.append({"prefix": prefix, "asn": self.asn()}
-                              | self.subset({"maxPrefixLength": length + self.pick([0, 0, 1, 8]), "comment": ""}))
+        filters, assertions = self.several(self.filter, [0, 1, 2]), self.several(self.assertion, [0, 1, 2])
         return {"slurmVersion": 1, "validationOutputFilters": {"prefixFilters": filters, "bgpsecFilters": []},
                 "locallyAddedAssertions": {"prefixAssertions": assertions, "bgpsecAssertions": []}}
 
-    def subset(self, members):
-        return {name: value for name, value in members.items() if self.chance(0.6)}
-
-    def request(self, do=None):
-        do = do or self.random.choices(list(model.FURTHER), [2, 8, 5, 7, 6, 2, 14, 6, 3, 6, 5, 8, 5, 6, 4, 3, 5])[0]
+    def request(self, do=None, **fixed):
+        """A request with values that read; `fixed` has members that are given."""
+        weights = [2, 5, 2, 4, 5, 2, 16, 7, 3, 6, 5, 6, 8, 7, 4, 3, 5]
+        do = do or self.random.choices(list(model.FURTHER), weights)[0]
         members = self.row() | {
             "holder": self.holder(), "giver": self.holder(), "taker": self.pick(HOLDERS), "number": self.number(),
             "name": self.pick(CALLERS), "role": self.pick(["manager", "clerk", "auditor"]),
-            "scope": self.prefix() if self.chance(0.4) else "all", "rows": [self.row() for _ in range(self.pick([1, 2, 3, 5]))],
-            "changes": [self.change() for _ in range(self.pick([0, 1, 2, 3]))], "routes": self.routes(), "file": self.slurm()}
+            "scope": self.prefix() if self.chance(0.4) else "all", "rows": self.several(self.row, [1, 2, 3, 5]),
+            "changes": self.several(self.change, [0, 1, 2, 3]), "routes": self.several(self.route, [1, 2, 4]),
+            "file": self.slurm()}
         if members["role"] == "manager" and self.chance(0.97):
             members["scope"] = "all"
-        by_operator = set(model.RULES.get(do, [])) & {"operator", "steward"}
-        caller = "reg" if by_operator and self.chance(0.9) else self.pick(["ann", "ann", "bob", "cleo", "reg"])
-        return {"day": self.day(), "caller": caller, "do": do} | {name: members[name] for name in model.FURTHER[do]}
+        caller = self.pick(["ann", "ann", "ann", "ann", "bob", "bob", "cleo", "reg"])
+        if {"operator", "steward"} & set(model.RULES.get(do, [])) and self.chance(0.9):
+            caller = "reg"
+        members |= {"day": self.day(), "caller": caller, "do": do}
+        return {name: members[name] for name in ["day", "caller", "do"] + model.FURTHER[do]} | fixed
 
     def opening(self):
-        """What makes later requests meet something: holders, their space and grants."""
-        requests = [self.request("register") | {"caller": "reg", "holder": holder} for holder in HOLDERS]
-        requests += [self.request("delegate") | {"caller": "reg"} for _ in range(4)]
-        requests += [self.request("grant") | {"caller": "reg", "until": "2026-12-31"} for _ in range(5)]
+        """What makes later requests meet something: holders, their space and grants, and authorizations."""
+        spaces = self.pick([
+            [("alpha", "192.0.2.0/24"), ("alpha", "2001:db8::/32")],
+            [("alpha", "192.0.2.0/25"), ("alpha", "192.0.2.128/25"), ("beta", "2001:db8::/33"),
+             ("alpha", "2001:db8:8000::/33")],
+            [(self.holder(), self.prefix()) for _ in range(6)]])
+        manager = {"name": "ann", "role": "manager", "scope": "all", "until": "2026-12-31", "day": "2026-01-01"}
+        requests = [self.request("register", caller="reg", holder=holder) for holder in HOLDERS]
+        requests += [self.request("delegate", caller="reg", holder=holder, prefix=prefix) for holder, prefix in spaces]
+        requests += [self.request("grant", caller="reg", holder=holder, **manager) for holder in HOLDERS[:2]]
+        requests += [self.request("grant", caller="reg", until="2026-12-31") for _ in range(4)]
         if self.chance(0.05):
-            requests += [self.request("grant") | {"caller": "reg", "holder": "alpha"} for _ in range(66)]
-        return requests + [self.request("create") for _ in range(5)]
+            requests += [self.request("grant", caller="reg", holder="alpha") for _ in range(66)]
+        return requests + [self.request("create", caller="ann") for _ in range(8)]
 
     # ---- Requests that are spoiled. In a text "@24.0@" is the number 24.0.
 
     def junk(self):
-        return self.pick([None, True, False, [], {}, [[]], "@" + self.pick(NUMBERS) + "@", "@" + self.pick(NUMBERS) + "@",
-                          self.pick(TEXTS), self.pick(TEXTS), self.pick(TEXTS), self.nested(self.pick([125, 126, 127, 128]))])
-
-    def nested(self, depth):
-        return "@" + "[" * depth + "]" * depth + "@"
+        numbers = ["@" + self.pick(NUMBERS) + "@" for _ in range(2)]
+        depth = self.pick([125, 126, 127, 128])
+        nested = "@" + "[" * depth + "]" * depth + "@"
+        return self.pick([None, True, False, [], {}, [[]], nested, *numbers, *self.random.sample(TEXTS, 3)])
 
     def spoil(self, value):
         """Another value somewhere in it, a member less or one more."""
@@ -150,100 +165,102 @@ class Requests:
         text = json.dumps(value, ensure_ascii=self.chance(0.5), separators=self.pick([(",", ":"), (", ", " : ")]))
         return re.sub('"@(.*?)@"', "\\1", text).encode()
 
-    def broken(self, octets):
+    def broken(self, text):
         """A text with one thing wrong, or only odd."""
-        at = self.random.randrange(len(octets) + 1)
-        return self.pick([
-            octets[:at], octets[at:], octets[:at] + b"\xff" + octets[at:], b"\xef\xbb\xbf" + octets, octets + b"\r",
-            b" \t" + octets + b" ", octets + b"x", b"", b"[]", b"null", b"\x00", octets.replace(b"a", b"\\u0061"),
-            octets.replace(b"alpha", b"\\ud800"), octets.replace(b"alpha", b"\\ud83d\\ude00"), octets[:at] + b"\t" + octets[at:],
-            octets.replace(b"}", b",}"), octets.replace(b":", b"::", 1), b"{}", octets.replace(b'"', b"'"),
-            octets[:at] + b"\v" + octets[at:], octets.replace(b"alpha", "\u00e4\u2028".encode())])
+        at = self.random.randrange(len(text) + 1)
+        inserted = [text[:at] + octets + text[at:] for octets in (b"\xff", b"\t", b"\v", b"", b" ", b",", b"\xc3\xa4")]
+        replaced = [text.replace(b"alpha", octets) for octets in (
+            b"\\ud800", b"\\ud83d\\ude00", "\u00e4\u2028".encode(), b"\\u0061lpha", b"alph\\x61", b"al\x00pha")]
+        return self.pick(inserted + replaced + [
+            text[:at], text[at:], b"\xef\xbb\xbf" + text, text + b"\r", b" \t" + text + b" ", text + b"x", text + text,
+            text.replace(b"}", b",}"), text.replace(b":", b"::", 1), b"'" + text[1:], b"", b"[]", b"null", b"{}"])
 
     def spoiled(self, value):
-        for _ in range(self.pick([0] * 8 + [1, 1, 2])):
+        for _ in range(self.pick([0] * 20 + [1, 1, 2])):
             value = self.spoil(value)
-        text = self.text(value)
-        return (self.broken(text) if self.chance(0.03) else text).replace(b"\n", b"")
+        return self.broken(self.text(value)) if self.chance(0.02) else self.text(value)
 
     # ---- Scripts.
 
-    def lines(self):
-        requests = self.opening() if self.chance(0.95) else []
-        requests += [self.request() for _ in range(self.random.randint(20, 90))]
-        return [self.spoiled(request) for request in requests] + (self.long_lines() if self.chance(0.01) else [])
+    def lines(self, seed):
+        if seed % 100 == 1:
+            return self.limits()
+        opening = [self.text(request) for request in self.opening()] if self.chance(0.95) else []
+        return opening + [self.spoiled(self.request()) for _ in range(self.random.randint(20, 90))]
 
-    def long_lines(self):
-        """Lists and lines at their limits."""
-        base, route = {"day": "2026-03-01", "caller": "ann", "holder": "alpha"}, {"prefix": "192.0.2.0/24", "origin": 64496}
-        values = [{"day": "2026-03-01", "caller": "ann", "do": "validity", "routes": [route] * count} for count in (10_000, 10_001)]
-        values += [base | {"do": "import", "rows": [self.row()] * count} for count in (10_000, 10_001)]
-        values += [base | {"do": "whatif", "changes": [{"do": "withdraw", "number": 7}] * count, "routes": [route]}
-                   for count in (1000, 1001)]
+    def limits(self):
+        """Rooms, lists and lines at their limits."""
+        asked = {"day": "2026-03-01", "caller": "ann", "holder": "alpha"}
+        row = {"prefix": "192.0.2.0/26", "max": 27, "from": "2026-01-01", "until": "2026-12-31"}
+        withdraw = {"do": "withdraw", "number": 7}
+        many, two = [row | {"asn": asn} for asn in range(999)], [row | {"asn": asn} for asn in (2000, 2001)]
+        requests = self.opening()
+        requests += [asked | {"do": "import", "rows": rows} for rows in (many, two, two[:1], many)]
+        requests += [asked | row | {"do": "create", "asn": 2001}, asked | withdraw]
+        requests += [asked | {"do": "import", "rows": two[:1] * count} for count in (10_000, 10_001)]
+        requests += [self.request("whatif", changes=[withdraw] * count) for count in (1000, 1001)]
+        requests += [self.request("validity", routes=[self.route()] * count) for count in (10_000, 10_001)]
         for count in (4096, 4097):
             file = self.slurm()
-            entries = file["validationOutputFilters"]["prefixFilters"]
-            entries += [{"asn": 64499}] * (count - len(entries) - len(file["locallyAddedAssertions"]["prefixAssertions"]))
-            values.append({"day": "2026-03-01", "caller": "reg", "do": "slurm", "file": file})
-        texts = [self.text(value) for value in values]
-        listed = self.text(self.request("list"))
-        return texts + [listed + b" " * (model.LINE_LIMIT + over - len(listed)) for over in (0, 1)] + [listed]
+            file["validationOutputFilters"]["prefixFilters"] = [{"asn": 64499}] * (count - 1)
+            file["locallyAddedAssertions"]["prefixAssertions"] = [{"asn": 64499, "prefix": "192.0.2.0/24"}]
+            requests.append(self.request("slurm", caller="reg", file=file))
+        padded = self.text(asked | {"do": "list"})
+        texts = [self.text(request) for request in requests]
+        return texts + [padded + b" " * (model.LINE_LIMIT + over - len(padded)) for over in (0, 1)] + [padded]
 
     # ---- Messages.
 
     def message(self, request):
         """The octets of a connection that asks for it, perhaps spoiled."""
-        do, caller = request["do"], request["caller"]
-        if do == "list" and self.chance(0.5):
-            do = "export"
-        template, methods = self.pick([route for route in model.ROUTES if do in route[1].values()])
+        do = "export" if request["do"] == "list" and self.chance(0.5) else request["do"]
+        path, methods = self.pick([route for route in model.ROUTES if do in route[1].values()])
         method = next(method for method in methods if methods[method] == do)
-        path = template.format(**request).encode()
-        value = {name: request[name] for name in model.FURTHER[request["do"]] if "{" + name + "}" not in template}
-        body = self.csv(value["rows"]) if do == "import" else self.spoiled(value.get("file", value)) if value else b""
-        fields = [b"Desk-Caller: " + caller.encode(), b"Host: desk.example"]
+        value = {name: request[name] for name in model.FURTHER[request["do"]] if "{" + name + "}" not in path}
+        path, version, body = path.format(**request).encode(), b"HTTP/1.1", b""
+        if value:
+            body = self.csv(value["rows"]) if do == "import" else self.spoiled(value.get("file", value))
+        fields = [b"Desk-Caller: " + request["caller"].encode(), b"Host: desk.example"]
         if value or self.chance(0.05):
             fields.append(b"Content-Length: %d" % len(body))
-        version = b"HTTP/1.1"
-        if self.chance(0.12):
-            match self.random.randrange(9):
-                case 0:
-                    method = self.pick(["GET", "PUT", "POST", "PATCH", "DELETE", "HEAD", "OPTIONS", "get", "G/T"])
-                case 1 | 2:
-                    path = self.path(path)
-                case 3 | 4:
-                    fields = self.fields(fields, len(body))
-                case 5:
-                    version = self.pick([b"HTTP/2.0", b"HTTP/1.1 ", b"http/1.1", b"", b"HTTP/1.2"])
-                case 6:
-                    body = self.pick([body[:-1], body + b"x", b"", body * 2])
-                case 7:
-                    fields += [b"X: y"] * (self.pick([32, 33]) - len(fields))
-                case 8:
-                    rest = len(b"".join([method.encode(), path, version])) + 4 + sum(len(field) + 2 for field in fields) + 2
-                    fields.append(b"X: " + b"y" * (self.pick([8192, 8193]) - rest - 5))
+        match self.random.randrange(80):
+            case 0:
+                method = self.pick(["GET", "PUT", "POST", "PATCH", "DELETE", "HEAD", "OPTIONS", "get", "G/T"])
+            case 1 | 2:
+                path = self.path(path)
+            case 3 | 4:
+                fields = self.fields(fields, len(body))
+            case 5:
+                version = self.pick([b"HTTP/2.0", b"HTTP/1.1 ", b"http/1.1", b"", b"HTTP/1.2"])
+            case 6:
+                body = self.pick([body[:-1], body + b"x", b"", body * 2])
+            case 7:
+                fields += [b"X: y"] * (self.pick([32, 33]) - len(fields))
+            case 8:
+                head = b"\r\n".join([b" ".join([method.encode(), path, version])] + fields + [b"X: ", b"", b""])
+                fields.append(b"X: " + b"y" * (self.pick([8192, 8193]) - len(head)))
         self.random.shuffle(fields)
         message = b"\r\n".join([b" ".join([method.encode(), path, version])] + fields + [b"", b""]) + body
         return message[:self.random.randrange(len(message))] if self.chance(0.01) else message
 
     def path(self, path):
-        return self.pick([path + b"/", path + b"?a=b", path + b"#a", path.replace(b"a", b"%61"), path[1:], b"/" + path, b"*",
-                          re.sub(rb"\d+$", self.pick([b"0", b"01", b"999999", b"1000000", b"x", b"+1", b"1" * 30]), path),
-                          path.replace(b"alpha", self.pick([b"Alpha", b"", b"-a", b"a" * 33, "\u00e4".encode(), b"a{b}"]))])
+        number = self.pick([b"0", b"01", b"999999", b"1000000", b"x", b"+1", b"1" * 30])
+        holder = self.pick([b"Alpha", b"", b"-a", b"a" * 33, "\u00e4".encode(), b"a{b}"])
+        return self.pick([path + b"/", path + b"?a=b", path + b"#a", path.replace(b"a", b"%61"), path[1:], b"/" + path,
+                          b"*", path.replace(b"alpha", holder), *[re.sub(rb"\d+", number, path)] * 2])
 
     def fields(self, fields, length):
         caller, host, *_ = fields
-        lengths = [b"Content-Length: " + text for text in (
-            b"", b"+5", b"5, 5", b"0x5", b"%05d" % length, b"1048577", b"9" * 30, b"0", b"00", b"-0", b"5 5")]
+        odd = self.pick([b"Transfer-Encoding: chunked", b"X\x01: y", b"X: \x01", b"X : y", b": y", b"X", b"X: \xff",
+                         b"Content-Length: %d" % length, caller, caller.lower()])
+        other = self.pick([b"", b"+5", b"5, 5", b"0x5", b"%05d" % length, b"1048577", b"9" * 30, b"0", b"00", b"-0"])
         return self.pick([
-            [host], fields + [caller], fields + [caller.lower()], [caller.upper()] + fields[1:], fields + [b"Content-Length: %d" % length],
-            [caller.replace(b": ", b":")] + fields[1:], [caller.replace(b": ", b": \t") + b" "] + fields[1:],
-            fields + [b"Transfer-Encoding: chunked"], fields + [b"X\x01: y"], fields + [b"X: \x01"], fields + [b"X : y"],
-            fields + [b": y"], fields + [b"X"], fields + [b"X: \xff"], [caller, host], [caller, host, self.pick(lengths)],
-            [caller, host, self.pick(lengths)], fields[:2] + [b"content-length:%d" % length]])
+            fields + [odd], [caller, host, b"Content-Length: " + other], [caller, host], [host] + fields[2:],
+            [caller.upper()] + fields[1:], [caller.replace(b": ", b":")] + fields[1:],
+            [caller.replace(b": ", b": \t") + b" "] + fields[1:], fields[:2] + [b"content-length:%d" % length]])
 
     def csv(self, rows):
-        """An import file, perhaps with an odd end of line, quotes, or a fault."""
+        """An import file, perhaps with odd ends of lines or quotes, or with a fault."""
         lines = [b"asn,prefix,maxlength,from,until"]
         lines += [f"AS{row['asn']},{row['prefix']},{row['max']},{row['from']},{row['until']}".encode() for row in rows]
         if self.chance(0.3):
@@ -251,12 +268,15 @@ class Requests:
             fields = lines[at].split(b",")
             place = self.random.randrange(len(fields))
             field = fields[place]
-            fields[place] = self.pick([b'"' + field + b'"', b'"' + field, field + b'"', b'""', b'"' + field + b'"x', b" " + field,
-                                       b"", b"\xff", b"as1", b"AS01", b"AS4294967296", b"1", b"024", b"256", field + b",",
-                                       self.pick(TEXTS).encode(), b'"a,""b\r\n"'])
+            fields[place] = self.pick([
+                b'"' + field + b'"', b'"' + field, field + b'"', b'""', b'"' + field + b'"x', b" " + field, b"", b"\xff",
+                b"as1", b"AS01", b"AS4294967296", b"1", b"024", b"256", field + b",", self.pick(TEXTS).encode(),
+                b'"a,""b\r\n"'])
             lines[at] = b",".join(fields)
-            lines = self.pick([lines, lines, lines, lines[1:], lines[:1], lines + [b"", b""], [b"\xef\xbb\xbf" + lines[0]] + lines[1:]])
-        return self.pick([b"\n", b"\r\n", b"\r", b"\n\n"] if self.chance(0.2) else [b"\n"]).join(lines) + self.pick([b"", b"\n"])
+            marked = [b"\xef\xbb\xbf" + lines[0]] + lines[1:]
+            lines = self.pick([lines, lines, lines[1:], lines[:1], lines + [b"", b""], marked])
+        end = self.pick([b"\n", b"\n", b"\n", b"\r\n", b"\r", b"\n\n"])
+        return end.join(lines) + self.pick([b"", end])
 
 
 # ---- Runs ---------------------------------------------------------------------------------------------------------
@@ -270,9 +290,10 @@ def differ(seed, place, request, answers):
 
 
 def run_script(program, seed, charter_file, charter, requests):
-    lines = requests.lines()
+    lines = requests.lines(seed)
     script = b"\n".join(lines) + requests.pick([b"", b"\n"])
-    ended = subprocess.run([program, "script", "--charter", charter_file], input=script, capture_output=True, timeout=300)
+    words = [program, "script", "--charter", charter_file]
+    ended = subprocess.run(words, input=script, capture_output=True, timeout=300)
     replies = ended.stdout.split(b"\n")
     desk = model.Desk(charter)
     asked = model.lines_of(script)
