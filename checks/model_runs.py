@@ -269,8 +269,8 @@ class Requests:
             place = self.random.randrange(len(fields))
             field = fields[place]
             fields[place] = self.pick([
-                b'"' + field + b'"', b'"' + field, field + b'"', b'""', b'"' + field + b'"x', b" " + field, b"", b"\xff",
-                b"as1", b"AS01", b"AS4294967296", b"1", b"024", b"256", field + b",", self.pick(TEXTS).encode(),
+                b'"' + field + b'"', b'"' + field, field + b'"', b'""', b'"' + field + b'"x', b" " + field, b"",
+                b"\xff", b"as1", b"AS01", b"AS4294967296", b"1", b"256", field + b",", self.pick(TEXTS).encode(),
                 b'"a,""b\r\n"'])
             lines[at] = b",".join(fields)
             marked = [b"\xef\xbb\xbf" + lines[0]] + lines[1:]
