@@ -323,6 +323,9 @@ def exchanged(port, message):
             client.shutdown(socket.SHUT_WR)
             while piece := client.recv(65536):
                 got += piece
+        except ConnectionResetError:
+            # Bytes after a request are not read, so what was answered may end so.
+            pass
         except OSError as error:
             got += f"[{error}]".encode()
     return got
