@@ -316,19 +316,16 @@ def exchanged(port, message):
             time.sleep(0.02)
     else:
         sys.exit("model: no connection")
-    got = b""
+    got, was_reset = b"", False
     with client:
         try:
             client.sendall(message)
             client.shutdown(socket.SHUT_WR)
             while piece := client.recv(65536):
                 got += piece
-        except ConnectionResetError:
-            # Bytes after a request are not read, so what was answered may end so.
-            pass
-        except OSError as error:
-            got += f"[{error}]".encode()
-    return got
+        except OSError:
+            was_reset = True
+    return got, was_reset
 
 
 def run_session(program, seed, charter_file, charter, requests):
@@ -352,8 +349,9 @@ def run_session(program, seed, charter_file, charter, requests):
                 expected = model.answer_message(desk, day, message)
                 if not expected:
                     expected_log += f"roadesk: connection {place}: fault 1\n"
-                got = exchanged(port, message)
-                if got != expected:
+                got, was_reset = exchanged(port, message)
+                # Bytes after a request are not read, so the connection may be reset before all of the response is there.
+                if got != expected and not (was_reset and expected.startswith(got)):
                     differ(seed, f"connection {place} of {day}", message, (got, expected))
             log = served.communicate(timeout=60)[1].decode()
         finally:
