@@ -63,13 +63,19 @@ fn compare_tables(schema: &Schema, desk: &Schema) -> Result<(), StoreFault>
     Ok(())
 }
 
+/// Whether a table is there that schema 1 has not.
+fn has_new_table(schema: &Schema) -> bool {
+    schema.tables.as_slice().iter().any(|table| table.is_named(b"claim")
+        || table.is_named(b"entry"))
+}
+
 /// Which of the two schemas it is, of which one has the index of a holder's runs. One that has all
-/// their names and is neither can not be moved.
+/// their names, and others, indexes or views beside them, can not be moved; one that has a part of
+/// the tables that schema 1 has not lacks the others.
 fn compare_old(schema: &Schema, indexed: &Schema, bare: &Schema) -> Result<Found, StoreFault>
     ensures found { IfOk result (IsFoundOf schema.now indexed.now bare.now) }
     ensures neither { OnErr result (¬ IsSamePlain schema.now indexed.now
         × ¬ IsSamePlain schema.now bare.now) }
-    ensures names { result ≡ Err StoreFault.Schema → has_names schema.now bare.now.tables ≡ false }
     ensures named { result ≡ Err StoreFault.Database → has_names schema.now bare.now.tables ≡ true }
 {
     if same_schema(schema, indexed) {
@@ -78,7 +84,7 @@ fn compare_old(schema: &Schema, indexed: &Schema, bare: &Schema) -> Result<Found
     if same_schema(schema, bare) {
         return Ok(Found::Old(false));
     }
-    if has_names(schema, bare) {
+    if has_names(schema, bare) && !has_new_table(schema) {
         return Err(StoreFault::Database);
     }
     Err(StoreFault::Schema)
