@@ -2,7 +2,7 @@
 //! The statements and the answers follow from the formats of the tables.
 use crate::example_database::{TABLES, made};
 use library_conformance::rows::table_rows;
-use sqlite::{Alter, Connection};
+use sqlite::{Alter, Connection, MemStore};
 use sqlite_disk::{Disk, Files, Memory};
 use sqlite_pager::Options;
 use std::alloc::Global;
@@ -147,14 +147,44 @@ DROP TABLE granted => schema
 DROP TABLE auth => schema
 DROP TABLE slurm => schema
 DROP TABLE entry => schema
-DROP TABLE entry; DROP TABLE claim => schema
-DROP TABLE entry; DROP TABLE claim; UPDATE meta SET value = 1 => schema
+DROP INDEX holding_of; DROP TABLE entry; DROP TABLE claim => schema
 DROP TABLE slurm; CREATE TABLE exceptions (file TEXT) STRICT => schema
 # table_too_many
 CREATE TABLE notes (text TEXT) STRICT => database
 CREATE TABLE notes (holder TEXT REFERENCES holder (name)) STRICT => database
 # table_made_again
 DROP TABLE meta; CREATE TABLE meta (name TEXT NOT NULL, value INTEGER NOT NULL, PRIMARY KEY (name)) STRICT; INSERT INTO meta VALUES ('schema', 2) => database
+"#;
+
+/// Statements that make a database of schema 1 of one of schema 2 without its index, and others
+/// after them.
+const OLD_ROWS: &str = r#"
+# old_tables_are_moved_on_opening
+CREATE INDEX holding_of ON holding (holder) => ok
+DELETE FROM slurm => ok
+DELETE FROM auth => ok
+INSERT INTO slurm VALUES ('main', 1, 1, NULL, NULL, NULL, NULL, 64496) => ok
+INSERT INTO auth VALUES ('alpha', 2, 64497, 6, x'20010db8000000000000000000000000', 32, 48, 20454, 20818) => ok
+# number_of_schema_1
+UPDATE meta SET value = 2 => schema
+UPDATE meta SET value = 3 => schema
+INSERT INTO meta VALUES ('notes', 1) => database
+DELETE FROM meta => schema
+# old_rows_that_do_not_read
+UPDATE auth SET number = 0 => schema
+UPDATE auth SET asn = 4294967296 => schema
+UPDATE auth SET max = 23 => schema
+UPDATE auth SET lo = x'000000000000000000000000c0000201' => schema
+UPDATE auth SET ends = 2932897 => schema
+UPDATE granted SET role = 4 => schema
+DELETE FROM pool => schema
+# old_tables_with_others_beside_them_are_not_moved
+CREATE INDEX auth_by_as ON auth (asn, opens) => database
+CREATE INDEX holding_of ON holding (holder); CREATE INDEX auth_by_as ON auth (asn, opens) => database
+CREATE VIEW in_force AS SELECT holder, number FROM auth WHERE opens <= 20513 => database
+CREATE TABLE notes (text TEXT) STRICT => database
+# a_part_of_the_new_tables
+CREATE TABLE claim (holder TEXT NOT NULL REFERENCES holder (name), number INTEGER NOT NULL, asn INTEGER NOT NULL, opens INTEGER NOT NULL, ends INTEGER NOT NULL, PRIMARY KEY (holder, number)) STRICT => schema
 "#;
 
 /// Rows of exceptions, and what the opening answers then.
@@ -258,6 +288,46 @@ fn opening_asks_each_row(rt: HostRuntime) -> Result<(), Fail> {
 #[test]
 fn opening_asks_each_exception(rt: HostRuntime) -> Result<(), Fail> {
     assert_answers(&rt, rt.alloc(), EXCEPTIONS)
+}
+
+/// A database of schema 1 with the authorization of the example, and without the index.
+fn made_old(alloc: Global) -> Result<Connection<MemStore>, Fail> {
+    let mut conn = made(alloc, TABLES)?;
+    conn.execute_batch(
+        "INSERT INTO auth SELECT holder, number, asn, family, lo, len, max, opens, ends \
+        FROM claim JOIN entry USING (holder, number, asn); \
+        DROP INDEX holding_of; DROP TABLE entry; DROP TABLE claim; \
+        UPDATE meta SET value = 1",
+    )?;
+    Ok(conn)
+}
+
+#[test]
+fn opening_moves_the_tables_of_schema_1(rt: HostRuntime) -> Result<(), Fail> {
+    for row in table_rows(rt.alloc(), OLD_ROWS)? {
+        let mut conn = made_old(rt.alloc())?;
+        conn.execute_batch(row.input)?;
+        let answer = answer_of(rt.alloc(), conn);
+        assert_eq!(rt; answer, row.output, "{}: {}", row.name, row.input);
+    }
+    Ok(())
+}
+
+/// What was moved is a desk of this schema, with its index.
+#[test]
+fn moved_database_is_opened_again(rt: HostRuntime) -> Result<(), Fail> {
+    let Ok(store) = Store::open_from(rt.alloc(), made_old(rt.alloc())?) else {
+        return Err("not opened".into());
+    };
+    let mut conn = store.close();
+    let moved = conn.query_all(
+        "SELECT value FROM meta UNION ALL SELECT number FROM claim UNION ALL SELECT max FROM entry UNION ALL SELECT number FROM auth",
+        &[],
+    )?;
+    assert_eq!(rt; moved.len(), 3);
+    conn.execute_batch("DROP INDEX holding_of")?;
+    assert_eq!(rt; answer_of(rt.alloc(), conn), "ok");
+    Ok(())
 }
 
 #[test]

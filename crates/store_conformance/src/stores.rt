@@ -3,7 +3,8 @@ use crate::example_database::{TABLES, made};
 use addr::{Asn, Day, Holdings, Name, Prefix};
 use library_conformance::slurm_sample::SAMPLE;
 use policy::{
-    Auth, Change, Charter, Command, Edit, Granted, HolderChange, Role, Scope, View, decide,
+    Auth, Change, Charter, Command, Edit, Granted, HolderChange, HolderRows, Role, Scope, View,
+    decide,
 };
 use slurm::{Filter, Slurm};
 use sqlite::{Connection, MemStore};
@@ -115,14 +116,30 @@ fn each_edit_runs_in_memory(rt: HostRuntime) -> Result<(), Fail> {
     apply(&mut store, Edit::Revoke(1))
 }
 
+/// The rows of `alpha`, which is registered and holds its run, has its grant and its authorization.
+fn rows_of_each_kind(alloc: Global, store: &mut Store<MemStore>) -> Result<HolderRows, Fail> {
+    apply(store, hold(alloc, None)?)?;
+    apply(store, Edit::Grant(grant()?))?;
+    apply(store, Edit::Create(authorization(1)?))?;
+    Ok(view(alloc, store)?.holder.ok_or("rows")?)
+}
+
 #[test]
 fn what_was_applied_is_loaded(rt: HostRuntime) -> Result<(), Fail> {
     let mut store = registered_holder(rt.alloc())?;
+    let rows = rows_of_each_kind(rt.alloc(), &mut store)?;
+    assert!(rt; rows.holdings.spans() == [Prefix::read(b"192.0.2.0/24")?.span()].as_slice());
+    assert!(rt; rows.grants.as_slice() == [grant()?].as_slice());
+    assert!(rt; rows.auths.as_slice() == [authorization(1)?].as_slice());
+    assert_eq!(rt; (rows.granted, rows.created), (1, 1));
+    Ok(())
+}
+
+#[test]
+fn what_was_applied_is_in_force(rt: HostRuntime) -> Result<(), Fail> {
+    let mut store = registered_holder(rt.alloc())?;
     assert_eq!(rt; store.charter().operators().len(), 1);
-    apply(&mut store, hold(rt.alloc(), None)?)?;
-    apply(&mut store, Edit::Create(authorization(1)?))?;
-    let loaded = store.load_holder(rt.alloc(), &name("alpha")?);
-    assert!(rt; matches!(loaded, Ok(Some(_))));
+    rows_of_each_kind(rt.alloc(), &mut store)?;
     let both = store.load_two(rt.alloc(), &name("alpha")?, &name("beta")?);
     assert!(rt; matches!(both, Ok((Some(_), None))));
     let Ok(vrps) = store.all_auths_on(rt.alloc(), first_of_march()?) else {
