@@ -35,9 +35,17 @@ KeepsFiles g image day passed files =
     × KeepServed g charter day passed history files
 
 -- Each fault with its cause: the desk in the files was not opened, which is not for its schema where they may be left of
--- a legal history; the socket was not bound; or the last connection could not be accepted.
-abbrev pub IsCauseOf : {D : Type 0} {g : Ghosts D} → Image → Bool → ServeFault D g → Type 0
-IsCauseOf image not_accepted (Open fault) = RefusesFiles image fault × RefusesNoLeft image fault
-IsCauseOf image not_accepted (Bind fault closed) = (fault ≡ Socket) ⊎ (fault ≡ Memory)
-IsCauseOf image not_accepted (Accept closed) = not_accepted ≡ true
-IsCauseOf image not_accepted Close = ⊤
+-- a legal history; listening failed; or the last connection could not be accepted.
+abbrev pub IsCauseOf : {D : Type 0} {g : Ghosts D} → Image → Bool → Bool → ServeFault D g → Type 0
+IsCauseOf image cannot_listen not_accepted (Open fault) = RefusesFiles image fault × RefusesNoLeft image fault
+IsCauseOf image cannot_listen not_accepted (Bind fault closed) = (cannot_listen ≡ true) × ((fault ≡ Socket) ⊎ (fault ≡ Memory))
+IsCauseOf image cannot_listen not_accepted (Accept closed) = not_accepted ≡ true
+IsCauseOf image cannot_listen not_accepted Close = ⊤
+
+-- this holds, unless `serve` ended early because listening failed
+abbrev pub IfNotBind : {D : Type 0} {g : Ghosts D} → Result (Files D) (ServeFault D g) → Type 0 → Type 0
+IfNotBind (Ok files) Holds = Holds
+IfNotBind (Err (Open fault)) Holds = Holds
+IfNotBind (Err (Bind fault closed)) Holds = ⊤
+IfNotBind (Err (Accept closed)) Holds = Holds
+IfNotBind (Err Close) Holds = Holds

@@ -38,6 +38,7 @@ pub fn serve_on<C: Connections, S: Alter, L: Log>(
         × Logs (L.has_lost log.old) (L.has_lost log.new) (L.contents log.old)
         (L.contents log.new) (fault_lines 1 passed) }
     ensures failed { OnErr result (C.has_failed connections.new ≡ true) }
+    ensures listens { C.cannot_listen connections.new ≡ C.cannot_listen connections.old }
     ensures later { IsLaterDesk S.Store desk.old desk.new }
 {
     answer_each(alloc, connections, count, desk, day, log)
@@ -59,6 +60,7 @@ fn answer_each<C: Connections, E: AnswerConnections, L: Log>(
         × Logs (L.has_lost log.old) (L.has_lost log.new) (L.contents log.old)
         (L.contents log.new) (fault_lines 1 passed) }
     ensures failed { OnErr result (C.has_failed connections.new ≡ true) }
+    ensures listens { C.cannot_listen connections.new ≡ C.cannot_listen connections.old }
 {
     let mut served = 0;
     while served < count {

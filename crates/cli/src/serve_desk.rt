@@ -6,7 +6,7 @@ ghost use Rattle.registry.specs.History.{History};
 ghost use Rattle.charters.specs.declared.charter.Charter as shown;
 ghost use Rattle.desk.specs.Desk.{IsOnCleanDisk, Represents};
 ghost use Rattle.cli.specs.Connections.{Accepts, Logs};
-ghost use Rattle.cli.specs.ServedFiles.{IfClosed, IsCauseOf, KeepsFiles};
+ghost use Rattle.cli.specs.ServedFiles.{IfClosed, IfNotBind, IsCauseOf, KeepsFiles};
 ghost use Rattle.cli.specs.ServedHistories.{KeepServed};
 ghost use Rattle.cli.specs.Serving.{Transcript, fault_lines};
 
@@ -58,8 +58,10 @@ pub fn serve_files<D: Disk + Drop, C: Connections, L: Log>(
         (L.contents log.new) (fault_lines 1 passed)
         × IfClosed result (λ left. AreClean D.Disk left.log left.db
         → KeepsFiles D.Disk (image_of D.Disk files) day passed left) }
-    ensures err { IfErr result
-        (IsCauseOf (image_of D.Disk files) (C.has_failed connections.new)) }
+    ensures err { IfErr result (IsCauseOf (image_of D.Disk files)
+        (C.cannot_listen connections.new) (C.has_failed connections.new)) }
+    ensures listens { IfNotBind result
+        (C.cannot_listen connections.new ≡ C.cannot_listen connections.old) }
 {
     let desk = match open_files(alloc, files, options) {
         Ok(desk) => desk,
@@ -97,6 +99,7 @@ pub fn serve_desk<D: Disk + Drop, C: Connections, L: Log>(
     ensures err { IfErr result (λ fault. (fault ≡ ServeFault.Close)
         ⊎ ((closed : Option (Files D)) × (fault ≡ ServeFault.Accept closed)
         × (C.has_failed connections.new ≡ true))) }
+    ensures listens { C.cannot_listen connections.new ≡ C.cannot_listen connections.old }
 {
     match serve_on(alloc, connections, count, &mut desk, day, log) {
         Ok(()) => match close_desk(desk) {

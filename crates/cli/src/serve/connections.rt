@@ -1,5 +1,5 @@
 //! Connections that are accepted and answered, one after the other.
-ghost use Rattle.std.specs.Prelude.{◌≡◌, ◌<◌, ◌≤◌, ◌∷◌, ℕ, Bool, List, [], Option, None, true, length, IfOk, OnErr};
+ghost use Rattle.std.specs.Prelude.{◌≡◌, ◌<◌, ◌≤◌, ◌∷◌, ℕ, Bool, List, [], Option, None, true, length, IfOk, OnErr, OnOk};
 ghost use Rattle.std.specs.Result.{result_err};
 ghost use Rattle.http_messages.specs.Input.{Gives, IsOver};
 ghost use Rattle.cli.specs.ConnectionTime.{discard_limit};
@@ -61,12 +61,17 @@ pub trait Connections {
     // Those that were accepted, where they are known.
     ghost accepted: { Self → Option (List Transcript) } = { λ _. None };
 
+    // Whether listening has failed.
+    ghost cannot_listen: { Self → Bool };
+
     // Whether the last one could not be accepted.
     ghost has_failed: { Self → Bool };
 
     /// Binds the socket, so that clients can connect.
     fn listen(&mut self) -> io::Result<()>
-        ensures none { Accepts (accepted self.old) (accepted self.new) [] };
+        ensures none { Accepts (accepted self.old) (accepted self.new) [] }
+        ensures listens { OnOk result (cannot_listen self.new ≡ cannot_listen self.old) }
+        ensures failed { OnErr result (cannot_listen self.new ≡ true) };
 
     /// Accepts a connection, and has it answered. It has ended when the call returns.
     fn answer_next<E: AnswerConnections>(
@@ -80,7 +85,8 @@ pub trait Connections {
             × E.answers day engine.old passed engine.new) }
         ensures err { OnErr result (engine.new ≡ engine.old) }
         ensures not_accepted { OnErr result (Accepts (accepted self.old) (accepted self.new) []) }
-        ensures failed { OnErr result (has_failed self.new ≡ true) };
+        ensures failed { OnErr result (has_failed self.new ≡ true) }
+        ensures listens { cannot_listen self.new ≡ cannot_listen self.old };
 }
 
 /// What binds a socket to an address.
@@ -95,7 +101,8 @@ pub struct Incoming<'a, R, N> {
     network: &'a mut N,
     address: &'a str,
     listener: Option<TcpListener>,
-    // Kept for proofs.
+    // Both are kept for proofs.
+    cannot_listen: bool,
     has_failed: bool,
 }
 
@@ -106,17 +113,28 @@ impl<'a, R: Clock, N: Network> Incoming<'a, R, N> {
             network,
             address,
             listener: None,
+            cannot_listen: false,
             has_failed: false,
         }
     }
 }
 
 impl<R: Clock, N: Network> Connections for Incoming<'_, R, N> {
+    ghost cannot_listen = { λ incoming. incoming.cannot_listen };
+
     ghost has_failed = { λ incoming. incoming.has_failed };
 
     fn listen(&mut self) -> io::Result<()> {
-        self.listener = Some(self.network.bind(self.address)?);
-        Ok(())
+        match self.network.bind(self.address) {
+            Ok(listener) => {
+                self.listener = Some(listener);
+                Ok(())
+            }
+            Err(error) => {
+                self.cannot_listen = true;
+                Err(error)
+            }
+        }
     }
 
     fn answer_next<E: AnswerConnections>(

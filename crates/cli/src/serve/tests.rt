@@ -1,5 +1,5 @@
 //! Connections that are served.
-ghost use Rattle.std.specs.Prelude.{option_map};
+ghost use Rattle.std.specs.Prelude.{false, option_map};
 ghost use Rattle.std.specs.Duration.{as_nanos};
 ghost use Rattle.std.specs.Time.{instant_nanos};
 
@@ -321,6 +321,8 @@ struct Clients<'a> {
 }
 
 impl Connections for Clients<'_> {
+    ghost cannot_listen = { λ _. false };
+
     ghost has_failed = { λ clients. clients.has_failed };
 
     fn listen(&mut self) -> io::Result<()> {

@@ -4,10 +4,11 @@ use Rattle.cli.proofs.serve.answer_each.Goals as goal
 
 pub loop-served-preserved : goal.loop-served-preserved
 loop-served-preserved g c =
-    let (few, passed, counted, accepted, in_turn, logged) = c.loop-served.invariant in
+    let (few, listens, passed, counted, accepted, in_turn, logged) = c.loop-served.invariant in
     let (one, fault, accepted_one, answered) = c.in-Ok.ensures.ok in
     let below : c.loop-served.served + 1 ≤ c.args.count = omega (arith, c.loop-served-test.true) in (
       below,
+      c.answer_next.ensures.listens ∙ listens,
       passed ++ one ∷ [],
       length-then passed one ∙ ap (λ n. n + 1) counted,
       accepts-then _ _ _ passed (one ∷ []) accepted accepted_one,
