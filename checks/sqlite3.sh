@@ -70,8 +70,30 @@ expect_opened 'tables in another order' database "$(tac "$common/tables.sql" | g
 expect_opened 'another number' schema "$tables" 'UPDATE meta SET value = 3;'
 old="INSERT INTO auth SELECT holder, number, asn, family, lo, len, max, opens, ends FROM $joined;"
 expect_opened 'a row of schema 1' schema "$tables" "$old"
-expect_opened 'tables of schema 1' schema "$tables" \
-    "$old DROP TABLE entry; DROP TABLE claim; UPDATE meta SET value = 1;"
+expect_opened 'no table of entries' schema "$tables" 'DROP TABLE entry;'
+expect_opened 'no table but those of schema 1' database "$tables" 'DROP TABLE entry; DROP TABLE claim;'
+
+# Databases of schema 1, which are moved.
+new_rows=$rows
+rows=$(sed "s/('schema', 2)/('schema', 1)/; /^INSERT INTO entry/d
+    s/^INSERT INTO claim.*/INSERT INTO auth VALUES ('alpha', 1, 64496, 4, x'000000000000000000000000c0000200', 24, 24, 20454, 20818);/" <<<"$rows")
+old_tables=$(grep -v '^CREATE TABLE \(claim\|entry\)' "$common/tables.sql")
+expect_opened 'a database of schema 1' "$whole" "$old_tables"
+expect 'the schema that it has then' "$(sqlite3 "$work/written.db" .schema | sort)" "$(sort "$common/tables.sql")"
+expect 'its rows' "$(sqlite3 "$work/written.db" 'SELECT * FROM meta; SELECT * FROM claim; SELECT count(*) FROM auth' \
+    'SELECT holder, number, asn, family, hex(lo), len, max FROM entry')" "schema|2
+alpha|1|64496|20454|20818
+0
+alpha|1|64496|4|000000000000000000000000C0000200|24|24"
+expect 'its integrity and foreign keys' "$(sqlite3 "$work/written.db" 'PRAGMA integrity_check' 'PRAGMA foreign_key_check')" ok
+expect 'opened again' "$("$open" "$work/written.db")" "$whole"
+expect_opened 'one without the index' "$whole" "$(grep -v INDEX <<<"$old_tables")"
+expect_opened 'one with an index of its own' database "$old_tables" 'CREATE INDEX auth_by_as ON auth (asn);'
+expect 'which stays' "$(sqlite3 "$work/written.db" 'SELECT * FROM meta; SELECT count(*) FROM auth')" 'schema|1
+1'
+expect_opened 'one with another number' schema "$old_tables" 'UPDATE meta SET value = 2;'
+rows=$new_rows
+
 expect_opened 'a run of nobody' refused "$tables" 'DELETE FROM holder;'
 expect_opened 'an entry of no claim' refused "$tables" 'DELETE FROM claim;'
 : >"$work/empty.db"
