@@ -7,7 +7,7 @@ use sqlite::{Connection, MemStore};
 use std::alloc::Global;
 use std::process::Abort;
 use std::test::Fail;
-use store_conformance::example_database::{TABLES, made};
+use store_conformance::example_database::{TABLES, made, made_old};
 
 /// What comes after the opening, over the rows above.
 const AFTERWARDS: &str = r#"
@@ -24,16 +24,49 @@ reg {"do":"delegate","holder":"beta","prefix":"198.51.100.0/24"} => {"done":null
 reg {"do":"delegate","holder":"beta","prefix":"203.0.113.0/24"} => {"denied":"pool"}
 "#;
 
+/// Opens the desk of a database, which has these replies, and closes it.
+fn assert_opened(
+    rt: &impl Abort,
+    alloc: Global,
+    name: &str,
+    conn: Connection<MemStore>,
+    lines: &str,
+) -> Result<Connection<MemStore>, Fail> {
+    let Ok(mut desk) = Desk::open_from(alloc, conn) else {
+        return Err("not opened".into());
+    };
+    Dialogue::of(alloc, &[lines])?.assert_replies_of_lines(rt, name, &mut desk)?;
+    Ok(desk.close())
+}
+
 fn assert_goes_on(
     rt: &impl Abort,
     alloc: Global,
     name: &str,
     conn: Connection<MemStore>,
 ) -> Result<(), Fail> {
-    let Ok(mut desk) = Desk::open_from(alloc, conn) else {
-        return Err("not opened".into());
-    };
-    Dialogue::of(alloc, &[AFTERWARDS])?.assert_replies_of_lines(rt, name, &mut desk)
+    assert_opened(rt, alloc, name, conn, AFTERWARDS)?;
+    Ok(())
+}
+
+/// What a database of schema 1 shows, and what is made then.
+const FIRST_OPENING: &str = r#"
+ann {"do":"show","holder":"alpha","number":1} => {"shown":{"number":1,"asn":64496,"prefix":"192.0.2.0/24","max":24,"from":"2026-01-01","until":"2026-12-31"}}
+ann {"do":"create","holder":"alpha","asn":64497,"prefix":"192.0.2.0/24","max":24,"from":"2026-01-01","until":"2026-12-31"} => {"done":2}
+"#;
+
+/// What it shows when it is opened again.
+const SECOND_OPENING: &str = r#"
+ann {"do":"list","holder":"alpha"} => {"listed":[{"number":1,"asn":64496,"prefix":"192.0.2.0/24","max":24,"from":"2026-01-01","until":"2026-12-31"},{"number":2,"asn":64497,"prefix":"192.0.2.0/24","max":24,"from":"2026-01-01","until":"2026-12-31"}]}
+"#;
+
+#[test]
+fn old_tables_are_moved_on_opening(rt: HostRuntime) -> Result<(), Fail> {
+    let name = "old_tables_are_moved_on_opening";
+    let old = made_old(rt.alloc())?;
+    let moved = assert_opened(&rt, rt.alloc(), name, old, FIRST_OPENING)?;
+    assert_opened(&rt, rt.alloc(), name, moved, SECOND_OPENING)?;
+    Ok(())
 }
 
 #[test]

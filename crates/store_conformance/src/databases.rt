@@ -1,8 +1,8 @@
 //! Databases that were made by SQL, and what opening them as a store answers: `ok`, or the fault.
 //! The statements and the answers follow from the formats of the tables.
-use crate::example_database::{TABLES, made};
+use crate::example_database::{TABLES, made, made_old};
 use library_conformance::rows::table_rows;
-use sqlite::{Alter, Connection, MemStore};
+use sqlite::{Alter, Connection};
 use sqlite_disk::{Disk, Files, Memory};
 use sqlite_pager::Options;
 use std::alloc::Global;
@@ -288,18 +288,6 @@ fn opening_asks_each_row(rt: HostRuntime) -> Result<(), Fail> {
 #[test]
 fn opening_asks_each_exception(rt: HostRuntime) -> Result<(), Fail> {
     assert_answers(&rt, rt.alloc(), EXCEPTIONS)
-}
-
-/// A database of schema 1 with the authorization of the example, and without the index.
-fn made_old(alloc: Global) -> Result<Connection<MemStore>, Fail> {
-    let mut conn = made(alloc, TABLES)?;
-    conn.execute_batch(
-        "INSERT INTO auth SELECT holder, number, asn, family, lo, len, max, opens, ends \
-        FROM claim JOIN entry USING (holder, number, asn); \
-        DROP INDEX holding_of; DROP TABLE entry; DROP TABLE claim; \
-        UPDATE meta SET value = 1",
-    )?;
-    Ok(conn)
 }
 
 #[test]

@@ -42,3 +42,22 @@ pub fn made(alloc: Global, tables: &str) -> Result<Connection<MemStore>, Fail>
     conn.execute_batch(ROWS)?;
     Ok(conn)
 }
+
+/// The same of schema 1 and without the index.
+const OLD: &str = "
+INSERT INTO auth SELECT holder, number, asn, family, lo, len, max, opens, ends FROM claim JOIN entry USING (holder, number, asn);
+DROP INDEX holding_of;
+DROP TABLE entry;
+DROP TABLE claim;
+UPDATE meta SET value = 1;
+";
+
+/// A database in memory of schema 1, without its index, with the rows above. No limit is set on its
+/// steps.
+pub fn made_old(alloc: Global) -> Result<Connection<MemStore>, Fail>
+    ensures { IfOk result (λ conn. conn.step_limit ≡ None) }
+{
+    let mut conn = made(alloc, TABLES)?;
+    conn.execute_batch(OLD)?;
+    Ok(conn)
+}
