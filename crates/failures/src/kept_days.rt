@@ -42,7 +42,11 @@ enum End {
 
 /// The desk of a disk that failed answers the day that it keeps. Another day it reads from its
 /// cache, or it keeps none.
-fn end_of_failed<S: Alter>(rt: &impl Abort, alloc: Global, desk: &mut Desk<S>) -> Result<End, Fail> {
+fn end_of_failed<S: Alter>(
+    rt: &impl Abort,
+    alloc: Global,
+    desk: &mut Desk<S>,
+) -> Result<End, Fail> {
     let kept = Day::read(b"2026-03-01");
     let other = Day::read(b"2026-12-31").ok_or("no day")?;
     assert_eq!(rt; ask(alloc, desk, PAYLOADS)?.as_str(), BEFORE);
