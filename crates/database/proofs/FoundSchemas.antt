@@ -2,7 +2,7 @@
 use Rattle.std.proofs.Common.{◌≡◌, Bool, true, false, inl, inr}
 use Rattle.sqlite_schema.specs.declared.schema.Schema.{Schema}
 use Rattle.moving.specs.OldTables.{IsOldSchema}
-use Rattle.database.specs.steps.Moving.{old_schema_if}
+use Rattle.making.specs.Moving.{old_schema_if}
 
 pub is_old_if : (has_index : Bool) (schema : Schema) → schema ≡ old_schema_if has_index → IsOldSchema schema
 is_old_if true schema is = inl is

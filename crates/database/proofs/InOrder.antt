@@ -7,7 +7,7 @@ use Rattle.sqlite.specs.Effect.{Database}
 use Rattle.sqlite_value.specs.Order.{Row}
 use Rattle.tables.specs.Decode.{ShowsNone, first_columns}
 use Rattle.tables.proofs.ReadLemmas.{are_whole}
-use Rattle.database.specs.declared.fault.StoreFault.{StoreFault}
+use Rattle.making.specs.declared.fault.StoreFault.{StoreFault}
 use Rattle.database.specs.TablesRead.{ShowsSome}
 use Rattle.database.specs.steps.Numbered.{AnswersSelect, AreRead, SelectsInOrder, shown_in}
 use Rattle.database.proofs.Rowids.{some_unread, values_read}

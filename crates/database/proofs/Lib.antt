@@ -1,12 +1,7 @@
 pub mod Columns
-pub mod StatementLemmas
 pub mod QueryLemmas
 pub mod SameCharter
-mod Creates
-mod MakingSteps
 mod FoundSchemas
-mod MovingSteps
-pub mod CharterSteps
 mod Rowids
 mod InOrder
 mod AllTexts

@@ -17,10 +17,11 @@ use Rattle.moving.specs.OldTables.{old_tables, old_schema_row, HasOldNumber}
 use Rattle.moving.proofs.EitherSchema.{not_now}
 use Rattle.moving.proofs.Moved.{moved_hold}
 use Rattle.moving.proofs.Steps.{are_movable}
-use Rattle.database.specs.Databases.{AreMoved, LeavesOldOrMoved, OpensDesk}
+use Rattle.making.specs.Moving.{old_schema_if, MovesRows, WidensTables}
+use Rattle.database.specs.Opening.{AreMoved, LeavesOldOrMoved, OpensDesk}
 use Rattle.database.specs.OldTablesRead.{OldTablesRead}
 use Rattle.database.specs.TablesRead.{HoldSomeRows, TablesRead}
-use Rattle.database.specs.steps.Moving.{old_schema_if, MovesDesk, MovesRows, WidensTables}
+use Rattle.database.specs.steps.Moving.{MovesDesk}
 use Rattle.database.specs.steps.Opened.{HasNumber, ShowsNumber}
 use Rattle.database.proofs.OldRead.{moved_read, read_movable}
 use Rattle.database.proofs.Opened.{all_shown}

@@ -6,7 +6,7 @@ use Rattle.charters.specs.CharterSets.{CharterSets}
 use Rattle.tables.specs.Tables.{desk_tables}
 use Rattle.tables.specs.TablesHold.{TablesHold}
 use Rattle.moving.proofs.EitherSchema.{hold_now}
-use Rattle.database.specs.Databases.{LeavesOldOrMoved, OpensDesk}
+use Rattle.database.specs.Opening.{LeavesOldOrMoved, OpensDesk}
 use Rattle.database.specs.Queries.{ShowsTheSame}
 use Rattle.database.specs.TablesRead.{HoldSomeRows, TablesRead}
 

@@ -1,11 +1,13 @@
 -- What a query leaves of a connection.
 use Rattle.std.proofs.Common.{◌≡◌, ◌⊎◌, inl, inr, ℕ, List, Option, Some, None, Result, Ok, Err, IfOk, IfErr, IsErr, OnOk, IsTrue, false, refl, sym, ap, subst, ◌∙◌, arith, IsErrAnd}
-use Rattle.std.proofs.lemmas.Result.{IfOk-weaker, err_from_is_err_and}
+use Rattle.std.proofs.lemmas.Result.{IfOk-weaker, err_from_is_err_and, on_ok_weaker}
 use Rattle.sqlite.specs.declared.error.Error.{Error}
+use Rattle.sqlite.specs.declared.transaction.Transaction.{Transaction}
 use Rattle.sqlite.specs.Effect.{Database, Reads}
 use Rattle.sqlite.specs.Listing.{understood, reads_listing, IsSourceOf}
 use Rattle.sqlite.specs.State.{State, KeepsCommit, IsUnchanged, IsRolledBack, IsNotRun, Shown, ShowsRows, FailsToQuery, FailsToShow, IsTooLate, CommitsShowing, HasCleanDisk, Survives}
 use Rattle.sqlite.specs.Clock.{timed}
+use Rattle.sqlite.specs.Store.{Ghosts}
 use Rattle.sqlite.proofs.Callers.{IsPlain, command_of, reads_as, unchanged_then, never_commits}
 use Rattle.sqlite.proofs.InsideLemmas.{unchanged_keeps}
 use Rattle.sqlite.proofs.StateLemmas.{survives_then}
@@ -14,11 +16,12 @@ use Rattle.sqlite_trees.specs.Tree.{Trees}
 use Rattle.sqlite_schema.specs.declared.command.Command.{Command}
 use Rattle.sqlite_schema.specs.declared.command.Returning.{Returning}
 use Rattle.tables.specs.Tables.{desk_tables, desk_beside, OverDesk}
-use Rattle.database.specs.Queries.{IsAsBefore}
-use Rattle.database.specs.Statements.{IsReady}
+use Rattle.making.specs.Statements.{IsAsBefore, IsReady, StaysInside, state_in}
+use Rattle.making.proofs.StatementLemmas.{stays_then}
+use Rattle.database.specs.Queries.{IsAskedInside}
 use Rattle.tables.proofs.Texts.{Means, beside, at_desk}
-use Rattle.database.specs.declared.fault.StoreFault.{StoreFault}
-use Rattle.database.specs.declared.fault.StoreFault.TheVariants.{Schema}
+use Rattle.making.specs.declared.fault.StoreFault.{StoreFault}
+use Rattle.making.specs.declared.fault.StoreFault.TheVariants.{Schema}
 
 -- a query that answered changed nothing
 pub shown_same : (sql : List ℕ) (params : Row) (old new : State) (rows : List Row) → IsPlain (understood old.now.schema sql) → Shown sql params old new rows → IsUnchanged old new
@@ -203,3 +206,16 @@ refused_by r s e was passed is =
 pub always : {X E P : Type 0} (result : Result X E) → P → OnOk result P
 always (Ok x) p = p
 always (Err e) p = tt
+
+-- ---- queries in turn
+
+module _ {S : Type 0} (g : Ghosts S) where
+  pub asked_then : {X Y E F : Type 0} (x : X) (r : Result Y F) (a b c : Transaction S) → IsAskedInside {X = X} {E = E} g a b (Ok x) → IsAskedInside g b c r → IsAskedInside g a c r
+  asked_then x r a b c first second = record {
+    inside = stays_then g a b c first.inside second.inside;
+    same = λ clean. on_ok_weaker r (unchanged_then (state_in g a) (state_in g b) (state_in g c) (first.same (omega (arith, second.inside.survives.clean)))) (second.same clean);
+    ready = second.ready;
+  }
+
+  pub asked_in_vain : {X E : Type 0} (r : Result X E) (a b : Transaction S) → IsErr r → StaysInside g a b → IsAskedInside g a b r
+  asked_in_vain r a b failed stay = record { inside = stay; same = λ clean. no_answer _ r failed; ready = λ clean. no_answer _ r failed }

@@ -19,7 +19,7 @@ use Rattle.sqlite_trees.proofs.ListLemmas.{map-map, all_weaker, all_from_map, al
 use Rattle.sqlite_rules.proofs.ListLemmas.{all_has, any_has}
 use Rattle.tables.specs.Decode.{ShowsNone, first_columns}
 use Rattle.tables.specs.Tables.{columns, contents, IsTree}
-use Rattle.database.specs.declared.fault.StoreFault.{StoreFault}
+use Rattle.making.specs.declared.fault.StoreFault.{StoreFault}
 use Rattle.database.specs.TablesRead.{ShowsSome}
 use Rattle.tables.proofs.TreeRows.{alike_flip}
 use Rattle.database.proofs.Moved.{ascending_moved}

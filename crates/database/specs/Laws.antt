@@ -3,7 +3,7 @@ use Rattle.std.specs.Prelude.{◌≡◌, ◌≢◌, Bool, ℕ, List, [], ◌∷�
 use Rattle.sqlite.specs.Effect.{Database, IsDatabase}
 use Rattle.sqlite_value.specs.Order.{Row}
 use Rattle.tables.specs.Tables.{desk_tables, claim, entry, contents, columns, IsTree}
-use Rattle.database.specs.Databases.{IsDeskTrees}
+use Rattle.making.specs.Databases.{IsDeskTrees}
 
 -- the columns of the table `entry` that make a VRP: the AS, the prefix and the maxLength
 abbrev pub payload_columns : Row → Row

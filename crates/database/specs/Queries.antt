@@ -1,13 +1,12 @@
 -- What a query needs, and what it leaves of a connection.
 use Rattle.std.specs.Prelude.{◌≡◌, false, Result, OnOk, IsTrue}
+use Rattle.sqlite.specs.declared.transaction.Transaction.{Transaction}
+use Rattle.sqlite.specs.Effect.{IsDatabase}
 use Rattle.sqlite.specs.Held.{Held, state}
 use Rattle.sqlite.specs.State.{State, HasCleanDisk, IsUnchanged, KeepsCounts, Shows, Survives}
 use Rattle.sqlite.specs.Store.{Ghosts}
-use Rattle.database.specs.Databases.{HasDeskTables}
-
--- nothing was committed, and what is shown is as it was
-abbrev pub IsAsBefore : State → State → Type 0
-IsAsBefore old new = IsTrue old.is_open × (new.now ≡ old.now) × (new.committed ≡ old.committed)
+use Rattle.making.specs.Databases.{HasDeskTables}
+use Rattle.making.specs.Statements.{IsAsBefore, IfDone, IsReady, StaysInside}
 
 -- the disk of a connection returned what was written
 abbrev pub IsClean : {S : Type 0} → Ghosts S → Held S → Type 0
@@ -41,3 +40,17 @@ pub record IsAskedOnce {S X E : Type 0} (g : Ghosts S) (old new : Held S) (resul
     pub kept :
         IsClean g new → IsTrue (state g new).is_open → IsAsBefore (state g old) (state g new)
     pub survives : Survives (state g old) (state g new) (λ _. ⊥)
+
+-- ---- queries within a transaction
+
+-- while the connection is open, the rows obey the schema
+abbrev pub ObeysSchema : State → Type 0
+ObeysSchema s = IsTrue s.is_open → IsDatabase s.now
+
+-- What a query over the tables of a desk leaves: what every statement does, and after an answer all
+-- as it was.
+pub record IsAskedInside {S X E : Type 0} (g : Ghosts S) (old new : Transaction S) (result : Result X E) : Type 0
+  where
+    pub inside : StaysInside g old new
+    pub same : IfDone g result IsUnchanged old new
+    pub ready : IfDone g result (λ _ s. IsReady s) old new

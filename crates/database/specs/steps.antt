@@ -1,5 +1,4 @@
 -- The steps of the code, which no public contract cites.
-pub mod Making
 pub mod Moving
 pub mod Found
 pub mod Numbered

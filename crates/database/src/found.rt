@@ -4,11 +4,10 @@ ghost use Rattle.sqlite_schema.specs.declared.schema.Schema.{Schema as shown_sch
 ghost use Rattle.tables.specs.Schemas.{has_names, HasPlainTables};
 ghost use Rattle.tables.specs.Tables.{desk_schema, desk_tables};
 ghost use Rattle.moving.specs.OldTables.{IsOldSchema};
+ghost use Rattle.making.specs.Moving.{old_schema_if};
 ghost use Rattle.database.specs.steps.Found.{HasFound, IsFoundOf, IsSamePlain, IsStrange};
-ghost use Rattle.database.specs.steps.Moving.{old_schema_if};
 
-use crate::StoreFault;
-use crate::making::{make_old_schema, make_schema};
+use making::{StoreFault, make_old_schema, make_schema};
 use sqlite::{Connection, Error, MemStore};
 use sqlite_schema::schema::Schema;
 use std::alloc::Global;

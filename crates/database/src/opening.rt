@@ -1,19 +1,21 @@
 //! Opening a database that has the tables of a desk, or those of schema 1.
 ghost use Rattle.std.specs.Prelude.{◌≡◌, false, None, Err, OnOk, IfOk, IsTrue};
 ghost use Rattle.sqlite.specs.Held.{state};
-ghost use Rattle.database.specs.Databases.{IsOfAnotherSchema, LeavesOldOrMoved, OpensDesk};
+ghost use Rattle.sqlite.specs.State.{HasCleanDisk};
+ghost use Rattle.making.specs.Making.{IsOver};
+ghost use Rattle.making.specs.Statements.{state_in, IfAnswered, IfRolledBack, StaysInside, WhenClean};
+ghost use Rattle.making.specs.Moving.{old_schema_if};
+ghost use Rattle.database.specs.Opening.{IsOfAnotherSchema, LeavesOldOrMoved, OpensDesk};
 ghost use Rattle.database.specs.OldTablesRead.{OldTablesRead};
 ghost use Rattle.database.specs.Queries.{IsClean};
-ghost use Rattle.database.specs.Statements.{IfRolledBack};
 ghost use Rattle.database.specs.steps.Found.{HasFound, IsStrange};
-ghost use Rattle.database.specs.steps.Moving.{old_schema_if};
+ghost use Rattle.database.specs.steps.Moving.{MovesDesk};
 
-use crate::StoreFault;
 use crate::found::{Found, find_tables};
-use crate::move_tables::move_desk;
-use crate::reading::read_tables;
+use crate::reading::{read_inside, read_number, read_tables};
+use making::{StoreFault, move_rows, widen_tables};
 use registry::Charter;
-use sqlite::{Alter, Connection};
+use sqlite::{Alter, Connection, Transaction};
 use std::alloc::Global;
 
 /// Finds which tables a database has. A connection in a transaction is refused, and a limit of its
@@ -32,6 +34,25 @@ fn find_in<S: Alter>(conn: &mut Connection<S>, alloc: Global) -> Result<Found, S
     }
     conn.set_step_limit(None);
     find_tables(alloc, conn.schema())
+}
+
+/// Moves a database of schema 1, and reads all rows of the desk that it becomes.
+fn move_desk<S: Alter>(
+    tx: &mut Transaction<'_, S>,
+    alloc: Global,
+    has_index: bool,
+) -> Result<Charter, StoreFault>
+    requires { WhenClean S.Store (IsOver (old_schema_if has_index)) tx.old }
+    ensures moved { IfAnswered S.Store result
+        (λ charter old. MovesDesk charter old.now.trees) tx.old tx.new }
+    ensures inside { StaysInside S.Store tx.old tx.new }
+    ensures schema { HasCleanDisk (state_in S.Store tx.new) → result ≡ Err StoreFault.Schema
+        → ¬ OldTablesRead (state_in S.Store tx.old).now.trees }
+{
+    widen_tables(tx, has_index)?;
+    read_number(tx, true)?;
+    move_rows(tx)?;
+    read_inside(tx, alloc)
 }
 
 /// Moves a database of schema 1 in one transaction, and returns the charter of the desk that it

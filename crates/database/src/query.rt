@@ -6,8 +6,8 @@ ghost use Rattle.sqlite.specs.Listing.{understood};
 ghost use Rattle.sqlite.specs.State.{Shown};
 ghost use Rattle.sqlite.specs.Values.{bound};
 ghost use Rattle.tables.specs.Tables.{OverDesk};
-ghost use Rattle.database.specs.Queries.{IsAsked, IsClean, IsReadyToAsk};
-ghost use Rattle.database.specs.Statements.{IfAnswered, IsAskedInside, IsReady, WhenClean};
+ghost use Rattle.making.specs.Statements.{IfAnswered, IsReady, WhenClean};
+ghost use Rattle.database.specs.Queries.{IsAsked, IsClean, IsReadyToAsk, IsAskedInside};
 
 use sqlite::types::ValueRef;
 use sqlite::{Alter, Connection, Error, Row, Transaction};

@@ -18,7 +18,7 @@ use Rattle.registry.specs.declared.asked.Request.TheVariants.{Command as Command
 use Rattle.registry.specs.declared.change.Change.{Change}
 use Rattle.registry.specs.declared.command.Command.{Command}
 use Rattle.tables.specs.TablesHold.{TablesHold}
-use Rattle.database.specs.Databases.{IsDeskTrees}
+use Rattle.making.specs.Databases.{IsDeskTrees}
 use Rattle.store.specs.StoreRows.{HoldsAfter, IsRead, MayLeave, LeavesOnly}
 use Rattle.desk.specs.Answer.{is_accepted, AnswersCommand, AnswersRequest}
 use Rattle.desk.specs.CrashOutcomes.{asked_on, AreKept, IsKept, LeavesAlong, MayBeLeft, StaysOpen, pending_after, pending_after_all}

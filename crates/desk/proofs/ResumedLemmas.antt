@@ -10,7 +10,7 @@ use Rattle.registry.specs.History.{History}
 use Rattle.registry.specs.Values.{HistoryFits}
 use Rattle.registry.specs.Verdict.{IsLegal}
 use Rattle.registry.specs.declared.asked.Asked.{Asked}
-use Rattle.database.specs.Databases.{IsOfAnotherSchema}
+use Rattle.database.specs.Opening.{IsOfAnotherSchema}
 use Rattle.database.specs.Laws.{DeskTreesHaveTables}
 use Rattle.store.specs.Laws.{HistoriesRead, TablesThatReadAreOurs}
 use Rattle.store.specs.StoreRows.{IsOpened}

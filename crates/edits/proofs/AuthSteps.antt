@@ -38,11 +38,11 @@ use Rattle.tables.proofs.PartLemmas.{name_of_itself, IsLocal, EditsPart, turned_
 use Rattle.tables.proofs.Texts.{put_terms}
 use Rattle.tables.proofs.Updating as updating
 use Rattle.tables.proofs.Updating.{changed_if}
-use Rattle.database.specs.Statements.{IsReady, IsExecuted}
-use Rattle.database.specs.steps.Making.{PutsRows}
-use Rattle.database.proofs.CharterSteps.{puts_then}
+use Rattle.making.specs.Statements.{IsReady, IsExecuted}
+use Rattle.making.specs.steps.Making.{PutsRows}
+use Rattle.making.proofs.CharterSteps.{puts_then}
+use Rattle.making.proofs.StatementLemmas.{has_schema, wrote, ready_still, puts_row, sound_still}
 use Rattle.database.proofs.Columns.{column_after}
-use Rattle.database.proofs.StatementLemmas.{has_schema, wrote, ready_still, puts_row, sound_still}
 use Rattle.edits.specs.steps.RowEdits.{with_auths}
 use Rattle.edits.specs.steps.Statements.{EditsRows, EditsHolder}
 use Rattle.edits.proofs.EditSteps.{is_of, of_holder, of_tests, taken, name_kept}

@@ -23,16 +23,16 @@ use Rattle.tables.specs.Tables.{slurm, contents, is_table}
 use Rattle.tables.specs.TablesHold.{holder_part, holding_part, granted_part, claim_part, entry_part, HoldsPart, ArePlaced, HoldsExceptions, HoldsFile, TablesHold, at_positions}
 use Rattle.tables.specs.steps.Edits.{Edits}
 use Rattle.tables.specs.declared.exception.TheConstants.{DELETE_EXCEPTIONS, INSERT_EXCEPTION}
-use Rattle.database.specs.Statements.{IsReady, IsExecuted}
-use Rattle.database.specs.steps.Making.{PutsRows}
+use Rattle.making.specs.Statements.{IsReady, IsExecuted}
+use Rattle.making.specs.steps.Making.{PutsRows}
 use Rattle.edits.specs.steps.Statements.{TakesRows, entry_rows}
 use Rattle.edits.specs.Changes.{MakesChange, RowsBecome}
 use Rattle.tables.proofs.CellLemmas.{cast_exception}
 use Rattle.tables.proofs.Deleting as deleting
 use Rattle.tables.proofs.Texts.{put_terms, put_exception_is, take_exceptions_is}
-use Rattle.database.proofs.CharterSteps.{puts_then}
+use Rattle.making.proofs.CharterSteps.{puts_then}
+use Rattle.making.proofs.StatementLemmas.{has_schema, wrote, ready_still, puts_row, sound_still, taken_more}
 use Rattle.database.proofs.Columns.{exception_shown}
-use Rattle.database.proofs.StatementLemmas.{has_schema, wrote, ready_still, puts_row, sound_still, taken_more}
 
 -- ---- one statement
 

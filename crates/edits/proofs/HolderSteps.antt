@@ -14,7 +14,7 @@ use Rattle.registry.specs.RowsOfAll.{AllRows}
 use Rattle.tables.specs.Tables.{desk_tables}
 use Rattle.tables.specs.TablesHold.{part_rows, holder_part, TablesHold}
 use Rattle.tables.specs.declared.holder.TheConstants.{SELECT_COUNTERS}
-use Rattle.database.specs.Statements.{IsReady}
+use Rattle.making.specs.Statements.{IsReady}
 use Rattle.edits.specs.steps.Statements.{AnswersWhetherRegistered}
 use Rattle.edits.proofs.StepLemmas.{holder_test}
 use Rattle.tables.proofs.PartLemmas.{names}

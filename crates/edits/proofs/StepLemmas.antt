@@ -26,8 +26,8 @@ use Rattle.tables.proofs.HaveEntries.{all_have_entries}
 use Rattle.tables.proofs.PartLemmas.{names, IsLocal, EditsPart, turned_at, part_same, part_turned}
 use Rattle.tables.proofs.Selecting.{picks}
 use Rattle.tables.proofs.Texts.{equals}
+use Rattle.making.proofs.StatementLemmas.{sound_still}
 use Rattle.database.proofs.Columns.{column_after}
-use Rattle.database.proofs.StatementLemmas.{sound_still}
 
 true_back : (b : Bool) → is_true (from_truth (Some b)) ≡ b
 true_back true = refl

@@ -8,8 +8,8 @@ ghost use Rattle.tables.specs.Cells.{claim_row, entry_row};
 ghost use Rattle.tables.specs.Groups.{claim_entry};
 ghost use Rattle.tables.specs.TablesHold.{claim_part, entry_part};
 ghost use Rattle.edits.specs.steps.RowEdits.{with_auths, without_auths};
-ghost use Rattle.database.specs.Statements.{IsReady, WhenClean, StaysInside, IfDone};
-ghost use Rattle.database.specs.steps.Making.{PutsRows};
+ghost use Rattle.making.specs.Statements.{IsReady, WhenClean, StaysInside, IfDone};
+ghost use Rattle.making.specs.steps.Making.{PutsRows};
 ghost use Rattle.edits.specs.steps.Statements.{IfEdited};
 
 use crate::row::HolderRow;

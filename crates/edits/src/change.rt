@@ -2,7 +2,7 @@
 ghost use Rattle.std.specs.Prelude.{◌≡◌, ◌≢◌, Err};
 ghost use Rattle.registry.specs.Rows.{edited, changed_by_one};
 ghost use Rattle.edits.specs.steps.RowEdits.{with_new_auths, with_replaced_holdings, is_registration};
-ghost use Rattle.database.specs.Statements.{IsReady, WhenClean, StaysInside, IfDone};
+ghost use Rattle.making.specs.Statements.{IsReady, WhenClean, StaysInside, IfDone};
 ghost use Rattle.edits.specs.steps.Statements.{IfEdited, HoldersBecome, each_holder};
 ghost use Rattle.edits.specs.Changes.{MakesChange, RowsBecome};
 

@@ -4,8 +4,8 @@ ghost use Rattle.slurm.specs.declared.exceptions.TheConstants.{MOST_ENTRIES};
 ghost use Rattle.tables.specs.Cells.{exception_row};
 ghost use Rattle.tables.specs.Tables.{slurm};
 ghost use Rattle.tables.specs.declared.exception.Exception.{Exception as AnyException};
-ghost use Rattle.database.specs.Statements.{IsReady, WhenClean, IfDone, StaysInside};
-ghost use Rattle.database.specs.steps.Making.{PutsRows};
+ghost use Rattle.making.specs.Statements.{IsReady, WhenClean, IfDone, StaysInside};
+ghost use Rattle.making.specs.steps.Making.{PutsRows};
 ghost use Rattle.edits.specs.Changes.{MakesChange, RowsBecome};
 ghost use Rattle.edits.specs.steps.Statements.{TakesRows, entry_rows};
 

@@ -4,7 +4,7 @@ ghost use Rattle.std.specs.Prelude.{[], ◌∷◌};
 ghost use Rattle.registry.specs.declared.change.Edit.TheVariants.{Revoke};
 ghost use Rattle.registry.specs.Rows.{edited};
 ghost use Rattle.edits.specs.steps.RowEdits.{with_grants};
-ghost use Rattle.database.specs.Statements.{IsReady, WhenClean, StaysInside};
+ghost use Rattle.making.specs.Statements.{IsReady, WhenClean, StaysInside};
 ghost use Rattle.edits.specs.steps.Statements.{IfEdited};
 
 use crate::row::HolderRow;

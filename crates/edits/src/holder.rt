@@ -1,6 +1,6 @@
 //! The registered holders and their counters, as rows of the table `holder`.
 ghost use Rattle.edits.specs.steps.RowEdits.{with_granted, with_created};
-ghost use Rattle.database.specs.Statements.{IsReady, WhenClean, StaysInside, IfDone, IfAnswered};
+ghost use Rattle.making.specs.Statements.{IsReady, WhenClean, StaysInside, IfDone, IfAnswered};
 ghost use Rattle.edits.specs.steps.Statements.{IfEdited, AnswersWhetherRegistered, Registers};
 
 use addr::Name;

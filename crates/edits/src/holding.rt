@@ -2,7 +2,7 @@
 ghost use Rattle.std.proofs.Common.{append-nil, append_assoc};
 ghost use Rattle.std.specs.Prelude.{[], ◌∷◌};
 ghost use Rattle.edits.specs.steps.RowEdits.{with_holdings, without_holdings};
-ghost use Rattle.database.specs.Statements.{IsReady, WhenClean, StaysInside};
+ghost use Rattle.making.specs.Statements.{IsReady, WhenClean, StaysInside};
 ghost use Rattle.edits.specs.steps.Statements.{IfEdited};
 
 use crate::row::HolderRow;

@@ -37,7 +37,7 @@ use Rattle.registry.specs.Values.{IsCount, GrantFits, AuthFits, FitIfAny}
 use Rattle.registry.specs.RowsOfAll.{AllRows}
 use Rattle.store.specs.Loads.{AreInOrder, HaveSame, AreLoaded}
 use Rattle.tables.proofs.CellsOnce.{counters_of_rows}
-use Rattle.database.proofs.StatementLemmas.{taken_more}
+use Rattle.making.proofs.StatementLemmas.{taken_more}
 
 numbers_rise : (m n : ℕ) → is_lt (int_cmp (pos m) (pos n)) ≡ is_lt (nat_cmp m n)
 numbers_rise m n = grind (arith, ints)

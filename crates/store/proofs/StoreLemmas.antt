@@ -11,14 +11,14 @@ use Rattle.sqlite_trees.specs.Tree.{Trees}
 use Rattle.charters.specs.CharterSets.{CharterSets}
 use Rattle.registry.specs.declared.change.Change.{Change}
 use Rattle.registry.specs.RowsOfAll.{AllRows, blank_rows, changed_rows}
+use Rattle.making.specs.Statements.{IsAsBefore}
 use Rattle.database.specs.Laws.{ClaimsDiffer, EntriesDiffer}
-use Rattle.database.specs.Queries.{IsAsBefore}
 use Rattle.store.proofs.HeldOnce.{held_once}
 use Rattle.store.specs.Given.{GivenOnce}
 use Rattle.store.specs.steps.Queries.{IsOfAll}
 use Rattle.store.specs.StoreRows.{StoreView, Holds, IsRead, MayLeave, LeavesOnly, LeavesPlaced}
 use Rattle.edits.specs.Changes.{PlacesExceptions, MakesChange, RowsBecome}
-use Rattle.database.specs.Databases.{HasDeskTables, IsNew, IsDeskTrees, IsDeskWhileOpen, LeavesNew}
+use Rattle.making.specs.Databases.{HasDeskTables, IsNew, IsDeskTrees, IsDeskWhileOpen, LeavesNew}
 use Rattle.store.specs.steps.Commits.{CommitsChange, MayCommit}
 use Rattle.tables.specs.TablesHold.{TablesHold}
 

@@ -17,7 +17,8 @@ use Rattle.registry.specs.Values.{HistoryFits, FitIfAny, ExceptionsFit}
 use Rattle.registry.specs.Verdict.{IsLegal}
 use Rattle.tables.specs.TablesHold.{TablesHold}
 use Rattle.tables.specs.Tables.{desk_tables}
-use Rattle.database.specs.Databases.{IsHonest, IsOfAnotherSchema}
+use Rattle.making.specs.Databases.{IsHonest}
+use Rattle.database.specs.Opening.{IsOfAnotherSchema}
 use Rattle.database.specs.TablesRead.{TablesRead}
 use Rattle.store.specs.Loads.{AreLoaded, AllGiveOn}
 use Rattle.store.specs.StoreRows.{AreInRange, StoreView, connection_state, Holds}

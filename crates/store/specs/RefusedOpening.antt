@@ -3,10 +3,10 @@ use Rattle.std.specs.Prelude.{◌≡◌, IsTrue}
 use Rattle.sqlite.specs.Held.{Held, state}
 use Rattle.sqlite.specs.State.{State, HasCleanDisk}
 use Rattle.sqlite.specs.Store.{Ghosts}
-use Rattle.database.specs.Databases.{IsOfAnotherSchema, LeavesOldOrMoved}
-use Rattle.database.specs.Queries.{IsAsBefore}
-use Rattle.database.specs.declared.fault.StoreFault.{StoreFault}
-use Rattle.database.specs.declared.fault.StoreFault.TheVariants.{Schema}
+use Rattle.making.specs.Statements.{IsAsBefore}
+use Rattle.making.specs.declared.fault.StoreFault.{StoreFault}
+use Rattle.making.specs.declared.fault.StoreFault.TheVariants.{Schema}
+use Rattle.database.specs.Opening.{IsOfAnotherSchema, LeavesOldOrMoved}
 
 -- The connection is given back with the fault. Where the disk returned what was written, the fault is `Schema`
 -- only of what was found as a database of another schema, the database is as it was found while the connection

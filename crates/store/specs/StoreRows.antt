@@ -13,7 +13,8 @@ use Rattle.registry.specs.Values.{ExceptionsFit, FitIfAny}
 use Rattle.tables.specs.Tables.{desk_tables}
 use Rattle.tables.specs.TablesHold.{TablesHold}
 use Rattle.moving.specs.EitherSchema.{AreOfEitherSchema, EitherSchemaHolds}
-use Rattle.database.specs.Databases.{IsDeskTrees, IsLeftAlone}
+use Rattle.making.specs.Databases.{IsDeskTrees}
+use Rattle.database.specs.Opening.{IsLeftAlone}
 use Rattle.database.specs.TablesRead.{TablesRead}
 use Rattle.edits.specs.Changes.{RowChange, PlacesExceptions}
 

@@ -5,10 +5,10 @@ ghost use Rattle.sqlite.specs.State.{HasCleanDisk};
 ghost use Rattle.registry.specs.RowsOfAll.{blank_rows, changed_rows};
 ghost use Rattle.store.specs.RefusedOpening.{IsGivenBack};
 ghost use Rattle.store.specs.StoreRows.{IsOpened};
-ghost use Rattle.database.specs.Databases.{HasDeskTables, IsUnused, IsNew, LeavesNew};
-ghost use Rattle.database.specs.Databases.{IsHonest, IsOfAnotherSchema};
+ghost use Rattle.making.specs.Databases.{HasDeskTables, IsUnused, IsNew, LeavesNew, IsHonest};
+ghost use Rattle.database.specs.Opening.{IsOfAnotherSchema};
 ghost use Rattle.store.specs.steps.Commits.{CommitsChange, MayCommit};
-ghost use Rattle.database.specs.Statements.{IfCommitted, IfRolledBack, CommitsAtMost};
+ghost use Rattle.making.specs.Statements.{IfCommitted, IfRolledBack, CommitsAtMost};
 
 use crate::StoreFault;
 use crate::across::some_overlap;
@@ -58,7 +58,7 @@ impl<S: Alter> Model for Store<S> {
     ghost use Rattle.std.specs.Prelude.{◌≡◌, false};
     ghost use Rattle.sqlite.specs.Held.{state};
     ghost use Rattle.store.specs.StoreRows.{StoreView, view_code};
-    ghost use Rattle.database.specs.Databases.{IsDeskWhileOpen};
+    ghost use Rattle.making.specs.Databases.{IsDeskWhileOpen};
 
     ghost Value = { StoreView S };
 
@@ -150,7 +150,7 @@ impl<S: Alter> Store<S> {
     ghost use Rattle.store.specs.Given.{GivenOnce};
     ghost use Rattle.store.specs.Loads.{OfHeldRows, AreLoaded, AllGiveOn, AreFilesOf};
     ghost use Rattle.store.specs.StoreRows.{connection_state, Holds, IsRead};
-    ghost use Rattle.database.specs.Databases.{IsDeskWhileOpen};
+    ghost use Rattle.making.specs.Databases.{IsDeskWhileOpen};
     ghost use Rattle.store.specs.StoreRows.{IfClean, HoldsAfter, MayLeave, LeavesOnly};
     ghost use Rattle.store.specs.StoreRows.{KeepsSchema, LeavesPlaced};
 

@@ -1,18 +1,12 @@
 -- The schema of a database that is opened.
-use Rattle.std.specs.Prelude.{◌≡◌, Bool, true, false}
-use Rattle.sqlite.specs.State.{State}
+use Rattle.std.specs.Prelude.{◌≡◌, true, false}
 use Rattle.sqlite_schema.specs.declared.schema.Schema.{Schema}
 use Rattle.tables.specs.Tables.{desk_tables}
 use Rattle.tables.specs.Schemas.{has_names, IsPlainSchema}
 use Rattle.moving.specs.OldTables.{IsOldSchema}
+use Rattle.making.specs.Moving.{old_schema_if}
 use Rattle.database.specs.declared.found.Found.{Found}
 use Rattle.database.specs.declared.found.Found.TheVariants.{Desk, Old}
-use Rattle.database.specs.steps.Moving.{old_schema_if}
-
--- a transaction over the schema of schema 1, with the index of a holder's runs or without it
-pub record IsOverOld (has_index : Bool) (s : State) : Type 0 where
-  pub inside : s.in_transaction ≡ true
-  pub schema : s.now.schema ≡ old_schema_if has_index
 
 -- it has the tables of a desk, or is that of schema 1, with the index of a holder's runs or without it
 abbrev pub HasFound : Schema → Found → Type 0

@@ -4,8 +4,7 @@ use Rattle.sqlite.specs.Held.{Held, state}
 use Rattle.sqlite.specs.Steps.{over_memory}
 use Rattle.sqlite.proofs.Callers.{memory_is_clean}
 use Rattle.sqlite_trees.specs.declared.memory.MemStore.{MemStore}
-use Rattle.database.specs.steps.Found.{IsOverOld}
-use Rattle.database.specs.steps.Moving.{old_schema_if}
+use Rattle.making.specs.Moving.{IsOverOld, old_schema_if}
 use Rattle.database.proofs.found.old_tables_in_memory.Goals as goal
 
 pub returns : goal.returns

@@ -5,7 +5,7 @@ use Rattle.sqlite.specs.Steps.{over_memory}
 use Rattle.sqlite.proofs.Callers.{memory_is_clean}
 use Rattle.sqlite_trees.specs.declared.memory.MemStore.{MemStore}
 use Rattle.tables.specs.Tables.{desk_schema}
-use Rattle.database.specs.steps.Making.{IsMadeTo}
+use Rattle.making.specs.Making.{IsMadeTo}
 use Rattle.database.proofs.found.tables_in_memory.Goals as goal
 
 pub returns : goal.returns

@@ -1,7 +1,7 @@
 use Rattle.std.proofs.Common.{rules, ◌≡◌, arith, subst}
 use Rattle.sqlite.specs.Held.{state}
 use Rattle.sqlite.specs.State.{HasCleanDisk}
-use Rattle.database.specs.Databases.{LeavesOldOrMoved, OpensDesk}
+use Rattle.database.specs.Opening.{LeavesOldOrMoved, OpensDesk}
 use Rattle.database.specs.steps.Moving.{MovesDesk}
 use Rattle.database.proofs.MovingDesk.{are_moved, left_moved, opens_moved}
 use Rattle.database.proofs.opening.open_old.Goals as goal

@@ -1,7 +1,7 @@
 use Rattle.std.proofs.Common.{subst}
 use Rattle.std.proofs.lemmas.Result.{IfOk-weaker}
 use Rattle.sqlite.specs.Held.{state}
-use Rattle.database.specs.Databases.{LeavesOldOrMoved, OpensDesk}
+use Rattle.database.specs.Opening.{LeavesOldOrMoved, OpensDesk}
 use Rattle.database.specs.steps.Found.{HasFound}
 use Rattle.database.proofs.MovingDesk.{if_all}
 use Rattle.database.proofs.OpenedDesk.{leaves_unlimited, opens_desk, opens_unlimited}

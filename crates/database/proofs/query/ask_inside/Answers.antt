@@ -1,7 +1,7 @@
 use Rattle.std.proofs.Common.{arith}
 use Rattle.sqlite.specs.State.{HasCleanDisk}
 use Rattle.sqlite.specs.Values.{bound}
-use Rattle.database.specs.Statements.{state_in, IsReady}
+use Rattle.making.specs.Statements.{state_in, IsReady}
 use Rattle.database.proofs.QueryLemmas.{inside_unchanged, inside_ready, inside_kept}
 use Rattle.database.proofs.query.ask_inside.Goals as goal
 

@@ -1,6 +1,6 @@
 use Rattle.std.proofs.Common.{[], refl, arith}
 use Rattle.sqlite.specs.State.{HasCleanDisk}
-use Rattle.database.specs.Statements.{state_in}
+use Rattle.making.specs.Statements.{state_in}
 use Rattle.database.proofs.QueryLemmas.{answered}
 use Rattle.database.proofs.reading.ask_rows.Goals as goal
 

@@ -4,7 +4,7 @@ use Rattle.sqlite.specs.State.{HasCleanDisk}
 use Rattle.tables.specs.Cells.{claim_cells, entry_cells, named_cells}
 use Rattle.tables.specs.Decode.{ClaimFits, EntryRowFits, NamedFits}
 use Rattle.tables.specs.Tables.{claim, entry, IsTree}
-use Rattle.database.specs.Statements.{state_in}
+use Rattle.making.specs.Statements.{state_in}
 use Rattle.database.specs.TablesRead.{TablesRead}
 use Rattle.database.specs.steps.Numbered.{AreRead, shown_in}
 use Rattle.database.specs.steps.Opened.{claim_places, entry_places}

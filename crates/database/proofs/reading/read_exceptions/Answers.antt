@@ -4,7 +4,7 @@ use Rattle.slurm.specs.declared.exceptions.TheConstants.{MOST_ENTRIES}
 use Rattle.tables.specs.Cells.{exception_row}
 use Rattle.tables.specs.Decode.{ExceptionRowFits}
 use Rattle.tables.specs.Tables.{slurm}
-use Rattle.database.specs.Statements.{state_in}
+use Rattle.making.specs.Statements.{state_in}
 use Rattle.database.proofs.Columns.{exception_places}
 use Rattle.database.proofs.QueryLemmas.{refused_by}
 use Rattle.database.proofs.Unread.{as_many, each_read, exceptions_in}

@@ -1,7 +1,7 @@
 use Rattle.std.proofs.Common.{subst, sym, ◌∙◌, arith}
 use Rattle.sqlite.specs.Effect.{Database}
 use Rattle.sqlite.specs.State.{HasCleanDisk}
-use Rattle.database.specs.Statements.{state_in}
+use Rattle.making.specs.Statements.{state_in}
 use Rattle.database.specs.TablesRead.{TablesRead}
 use Rattle.database.specs.steps.Opened.{ShowsEach}
 use Rattle.database.proofs.QueryLemmas.{refused_by}

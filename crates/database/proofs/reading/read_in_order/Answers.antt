@@ -1,6 +1,6 @@
 use Rattle.std.proofs.Common.{arith}
 use Rattle.sqlite.specs.State.{HasCleanDisk}
-use Rattle.database.specs.Statements.{state_in}
+use Rattle.making.specs.Statements.{state_in}
 use Rattle.database.proofs.InOrder.{ordered_read, ordered_sorted, ordered_unread}
 use Rattle.database.proofs.Rowids.{is_tree, ok_with}
 use Rattle.database.proofs.reading.read_in_order.Goals as goal

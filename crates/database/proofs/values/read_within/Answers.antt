@@ -5,8 +5,8 @@ use Rattle.std.specs.Option.{ok_or}
 use Rattle.sqlite_value.specs.Order.{Row}
 use Rattle.tables.specs.Decode.{ShowsNone, DecodesAll, first_columns}
 use Rattle.tables.proofs.ReadLemmas.{all_show}
-use Rattle.database.specs.declared.fault.StoreFault.{StoreFault}
-use Rattle.database.specs.declared.fault.StoreFault.TheVariants.{Schema}
+use Rattle.making.specs.declared.fault.StoreFault.{StoreFault}
+use Rattle.making.specs.declared.fault.StoreFault.TheVariants.{Schema}
 use Rattle.database.proofs.values.read_within.Goals as goal
 
 refused_iff :

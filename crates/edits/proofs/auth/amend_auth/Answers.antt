@@ -1,6 +1,6 @@
 use Rattle.std.proofs.Common.{arith, ◌∙◌}
 use Rattle.std.proofs.lemmas.Result.{on_ok_weaker}
-use Rattle.database.proofs.StatementLemmas.{stays_then}
+use Rattle.making.proofs.StatementLemmas.{stays_then}
 use Rattle.edits.proofs.AuthSteps.{amends_auth, one_entry, entries_are_one}
 use Rattle.edits.proofs.auth.amend_auth.Goals as goal
 

@@ -1,5 +1,5 @@
 use Rattle.edits.proofs.EditSteps.{takes_holding}
-use Rattle.database.proofs.StatementLemmas.{means}
+use Rattle.making.proofs.StatementLemmas.{means}
 use Rattle.edits.proofs.holding.take_holding.Goals as goal
 
 pub returns-clause-done : goal.returns-clause-done

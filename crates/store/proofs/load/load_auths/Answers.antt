@@ -1,7 +1,7 @@
 use Rattle.std.proofs.Common.{map, flat_map, arith, refl, sym, ◌∙◌}
 use Rattle.sqlite.specs.Held.{state}
 use Rattle.sqlite.specs.State.{HasCleanDisk}
-use Rattle.database.specs.declared.fault.StoreFault.TheVariants.{Schema}
+use Rattle.making.specs.declared.fault.StoreFault.TheVariants.{Schema}
 use Rattle.registry.specs.declared.authorization.Auth.{Auth}
 use Rattle.tables.specs.Authorizations.{claim_of, entry_rows_of}
 use Rattle.tables.specs.Decode.{ClaimFits, EntryRowFits}

@@ -1,0 +1,57 @@
+-- The opening of a database that has the tables of a desk, or those of schema 1.
+use Rattle.std.specs.Prelude.{◌≡◌, ◌⊎◌, false, IsTrue}
+use Rattle.sqlite.specs.Effect.{Database}
+use Rattle.sqlite.specs.State.{State}
+use Rattle.sqlite_trees.specs.Tree.{Trees}
+use Rattle.charters.specs.CharterSets.{CharterSets}
+use Rattle.registry.specs.RowsOfAll.{AllRows}
+use Rattle.tables.specs.Tables.{desk_tables, SameRows}
+use Rattle.tables.specs.Schemas.{has_names}
+use Rattle.tables.specs.TablesHold.{TablesHold}
+use Rattle.moving.specs.EitherSchema.{AreOfEitherSchema, EitherSchemaHolds}
+use Rattle.moving.specs.OldTables.{old_tables, HasOldNumber, IsOldSchema}
+use Rattle.making.specs.Databases.{IsDesk, IsDeskTrees}
+use Rattle.database.specs.OldTablesRead.{OldTablesRead}
+use Rattle.database.specs.TablesRead.{TablesRead, HoldSomeRows}
+
+-- no table, index or view was made or dropped, and no row
+pub record IsLeftAlone (old new : State) : Type 0 where
+  pub schema : new.now.schema ≡ old.now.schema
+  pub rows : SameRows old.now.trees new.now.trees
+
+-- The database has the tables of a desk, or had those of schema 1, and now is a desk. Its tables hold the charter and
+-- some rows, each row in the range of its type, and whatever the tables held before, in either schema. A desk of this
+-- schema is left alone; tables of schema 1 had its number.
+pub record OpensDesk (charter : CharterSets) (old new : State) : Type 0 where
+  pub idle : old.in_transaction ≡ false
+  pub tables : AreOfEitherSchema old.now.schema.tables
+  pub is_open : IsTrue new.is_open
+  pub desk : IsDesk new
+  pub some : HoldSomeRows charter new.now.trees
+  pub reads : TablesRead new.now.trees
+  pub kept :
+      (held : CharterSets) (rows : AllRows)
+      → EitherSchemaHolds held rows old.now.trees → TablesHold held rows new.now.trees
+  pub unchanged : old.now.schema.tables ≡ desk_tables → IsLeftAlone old new
+  pub numbered : old.now.schema.tables ≡ old_tables → HasOldNumber old.now.trees
+
+-- The database had the tables of schema 1, and the trees are those of a desk, which hold whatever its tables held.
+pub record AreMoved (old : State) (trees : Trees) : Type 0 where
+  pub tables : old.now.schema.tables ≡ old_tables
+  pub desk : IsDeskTrees trees
+  pub kept :
+      (held : CharterSets) (rows : AllRows)
+      → EitherSchemaHolds held rows old.now.trees → TablesHold held rows trees
+
+-- a crash leaves what it left before, or, of a database of schema 1, the trees of a desk with what its tables held
+abbrev pub LeavesOldOrMoved : State → State → Type 0
+LeavesOldOrMoved old new =
+    (trees : Trees) → new.may_leave trees → old.may_leave trees ⊎ AreMoved old trees
+
+-- A name of a table or a column of a desk is missing, and the schema is not schema 1; or the tables of either schema are
+-- there and do not read.
+abbrev pub IsOfAnotherSchema : Database → Type 0
+IsOfAnotherSchema db =
+    ((has_names db.schema desk_tables ≡ false) × ¬ IsOldSchema db.schema)
+    ⊎ ((db.schema.tables ≡ desk_tables) × ¬ TablesRead db.trees)
+    ⊎ (IsOldSchema db.schema × ¬ OldTablesRead db.trees)

@@ -1,0 +1,114 @@
+-- What putting the charter does to tables that were just made.
+use Rattle.std.proofs.Common.{◌≡◌, ◌≢◌, ℕ, pos, ◌+◌, ◌<◌, List, [], ◌∷◌, ◌++◌, map, take, get_or, length, codes, true, false, refl, sym, ap, subst, ◌∙◌, append-nil, append_assoc, IsPermutation}
+use Rattle.std.proofs.lemmas.List.{map-append}
+use Rattle.std.proofs.lemmas.List.Sorted.{IsPermutation-refl, IsPermutation-trans, IsPermutation-cons, IsPermutation-middle}
+use Rattle.sqlite.specs.Effect.{Database, IsDatabase}
+use Rattle.sqlite.specs.State.{State, Shows}
+use Rattle.sqlite_value.specs.declared.value.Value.TheVariants.{Null, Int, Text}
+use Rattle.sqlite_value.specs.Order.{Row}
+use Rattle.sqlite_sql.specs.Term.{lit}
+use Rattle.addr.specs.declared.prefix.Prefix.{Prefix}
+use Rattle.charters.specs.CharterSets.{CharterSets}
+use Rattle.registry.specs.RowsOfAll.{blank_rows}
+use Rattle.making.specs.Databases.{IsNew}
+use Rattle.tables.specs.Tables.{meta, operator, pool, desk_tables, contents, is_table, IsTree, AreTrees}
+use Rattle.tables.specs.Cells.{schema_row, operator_row, prefix_cells}
+use Rattle.tables.specs.steps.Edits.{Edits}
+use Rattle.tables.specs.TablesHold.{holder_part, holding_part, granted_part, claim_part, entry_part, TablesHold}
+use Rattle.tables.specs.declared.meta.TheConstants.{INSERT_SCHEMA}
+use Rattle.tables.specs.declared.operator.TheConstants.{INSERT_OPERATOR}
+use Rattle.tables.specs.declared.pool.TheConstants.{INSERT_PREFIX}
+use Rattle.making.specs.Statements.{IsReady, IsExecuted}
+use Rattle.making.specs.Making.{IsMadeTo}
+use Rattle.making.specs.steps.Making.{PutsRows, HasCharter}
+use Rattle.tables.proofs.CellLemmas.{cast_schema, cast_prefix}
+use Rattle.tables.proofs.HaveEntries.{all_have_entries}
+use Rattle.making.proofs.StatementLemmas.{sound_still, puts_row, taken_more}
+use Rattle.tables.proofs.Inserting.{each_table}
+use Rattle.making.proofs.MakingSteps.{none_held, no_exceptions_held}
+use Rattle.tables.proofs.Texts.{put_terms, put_schema_is, put_operator_is, put_prefix_is}
+
+module _ (old new : State) where
+  pub puts_schema : IsReady old → IsExecuted INSERT_SCHEMA.now [] old new → PutsRows meta.tree (schema_row ∷ []) old new
+  puts_schema = puts_row 0 meta refl old new [] (lit Null ∷ lit (Text (codes "schema")) ∷ lit (Int (pos 2)) ∷ []) 3 schema_row put_schema_is refl cast_schema
+
+  pub puts_operator : (name : List ℕ) → IsReady old → IsExecuted INSERT_OPERATOR.now (operator_row name) old new → PutsRows operator.tree (operator_row name ∷ []) old new
+  puts_operator name = puts_row 1 operator refl old new (operator_row name) (put_terms 1) 2 (operator_row name) put_operator_is refl refl
+
+  pub puts_prefix : (p : Prefix) → IsReady old → IsExecuted INSERT_PREFIX.now (prefix_cells p) old new → PutsRows pool.tree (prefix_cells p ∷ []) old new
+  puts_prefix p = puts_row 2 pool refl old new (prefix_cells p) (put_terms 3) 4 (prefix_cells p) put_prefix_is refl (cast_prefix p)
+
+module _ (tree : ℕ) where
+  pub puts_none : (s : State) → IsReady s → PutsRows tree [] s s
+  puts_none s ready = record {
+    ready = ready;
+    sound = λ sound. sound;
+    edits = record { schema = refl; others = λ t is other. refl; rows = IsPermutation-refl _; whole = λ whole. whole };
+  }
+
+  pub puts_then : (rows : List Row) (row : Row) (a b c : State) → PutsRows tree rows a b → PutsRows tree (row ∷ []) b c → PutsRows tree (rows ++ row ∷ []) a c
+  puts_then rows row a b c first second =
+      let before = contents (a.now.trees tree) in
+      record {
+        ready = second.ready;
+        sound = λ sound. second.sound (first.sound sound);
+        edits = record {
+          schema = second.edits.schema ∙ first.edits.schema;
+          others = λ t is other. second.edits.others t is other ∙ first.edits.others t is other;
+          rows = subst (λ l. IsPermutation l (contents (c.now.trees tree))) (sym (append_assoc rows (row ∷ []) before))
+              (IsPermutation-trans _ _ _ (IsPermutation-middle rows row before) (IsPermutation-trans _ _ _ (IsPermutation-cons row _ _ first.edits.rows) second.edits.rows));
+          whole = λ whole. second.edits.whole (first.edits.whole whole);
+        };
+      }
+
+  -- one more step of a loop
+  pub puts_along : {X : Type 0} (cells : X → Row) (xs : List X) (i : ℕ) (x : X) (a b c : State) → i < length xs → x ≡ get_or xs i x
+      → PutsRows tree (map cells (take i xs)) a b → PutsRows tree (cells x ∷ []) b c → PutsRows tree (map cells (take (i + 1) xs)) a c
+  puts_along cells xs i x a b c low is before put =
+      let more = ap (map cells) (taken_more xs i x low is) ∙ map-append cells (take i xs) (x ∷ []) in
+      subst (λ rows. PutsRows tree rows a c) (sym more) (puts_then (map cells (take i xs)) (cells x) a b c before put)
+
+  -- rows that were put into an empty table are its rows
+  first_rows : (rows : List Row) (a b : Database) → Edits tree (λ table. rows ++ table) a b → a.trees tree ≡ [] → IsPermutation rows (contents (b.trees tree))
+  first_rows rows a b e none = subst (λ l. IsPermutation l (contents (b.trees tree))) (ap (λ t. rows ++ contents t) none ∙ append-nil rows) e.rows
+
+pub has_charter : (charter : CharterSets) (a b c d : State) → IsMadeTo 11 a → PutsRows meta.tree (schema_row ∷ []) a b → PutsRows operator.tree (map operator_row charter.operators) b c → PutsRows pool.tree (map prefix_cells charter.pool) c d → HasCharter charter d
+has_charter charter a b c d made schema operators prefixes =
+    let at = each_table (λ t. a.now.trees t ≡ []) desk_tables made.empty in
+    let first = schema.edits in
+    let second = operators.edits in
+    let third = prefixes.edits in
+    let still : (t : ℕ) → is_table t ≡ true → t ≢ 0 → t ≢ 2 → t ≢ 4 → d.now.trees t ≡ [] = λ t is meta operator pool. third.others t is pool ∙ second.others t is operator ∙ first.others t is meta ∙ at t is in
+    let sound : AreTrees a.now.trees = λ t is. subst IsTree (sym (at t is)) (tt, tt) in
+    record {
+      inside = prefixes.ready.inside;
+      schema = third.schema ∙ second.schema ∙ first.schema ∙ made.schema;
+      sound = prefixes.sound (operators.sound (schema.sound (made.sound refl)));
+      rows = record {
+        charter_kept = record {
+          schema = subst (λ t. IsPermutation (schema_row ∷ []) (contents t)) (sym (third.others 0 refl (λ same. cc) ∙ second.others 0 refl (λ same. cc))) (first_rows 0 (schema_row ∷ []) a.now b.now first (at 0 refl));
+          operators = subst (λ t. IsPermutation (map operator_row charter.operators) (contents t)) (sym (third.others 2 refl (λ same. cc)))
+              (first_rows 2 (map operator_row charter.operators) b.now c.now second (first.others 2 refl (λ same. cc) ∙ at 2 refl));
+          pool = first_rows 4 (map prefix_cells charter.pool) c.now d.now third (second.others 4 refl (λ same. cc) ∙ first.others 4 refl (λ same. cc) ∙ at 4 refl);
+        };
+        holders = none_held holder_part (d.now.trees 6) (still 6 refl (λ same. cc) (λ same. cc) (λ same. cc));
+        holdings = none_held holding_part (d.now.trees 8) (still 8 refl (λ same. cc) (λ same. cc) (λ same. cc));
+        grants = none_held granted_part (d.now.trees 10) (still 10 refl (λ same. cc) (λ same. cc) (λ same. cc));
+        claims = none_held claim_part (d.now.trees 17) (still 17 refl (λ same. cc) (λ same. cc) (λ same. cc));
+        entries = none_held entry_part (d.now.trees 19) (still 19 refl (λ same. cc) (λ same. cc) (λ same. cc));
+        have_entries = all_have_entries blank_rows.of_holder;
+        unused = ap contents (still 12 refl (λ same. cc) (λ same. cc) (λ same. cc));
+        exceptions = no_exceptions_held (d.now.trees 15) (still 15 refl (λ same. cc) (λ same. cc) (λ same. cc));
+        whole = sound_still 4 _ c.now d.now third (sound_still 2 _ b.now c.now second (sound_still 0 _ a.now b.now first sound));
+      };
+    }
+
+-- what the transaction holds is committed
+pub new_after : (charter : CharterSets) (mid last : State) → HasCharter charter mid → Shows mid last mid.now mid.now false → IsNew charter last
+new_after charter mid last has shown = record {
+  is_open = shown.is_open;
+  schema = ap (λ (d : Database). d.schema) shown.now_is ∙ has.schema;
+  sound = subst IsDatabase (sym shown.now_is) has.sound;
+  settled = shown.committed_is ∙ sym shown.now_is;
+  rows = subst (λ (d : Database). TablesHold charter blank_rows d.trees) (sym shown.now_is) has.rows;
+}

@@ -1,0 +1,5 @@
+pub mod StatementLemmas
+mod Creates
+mod MakingSteps
+mod MovingSteps
+pub mod CharterSteps

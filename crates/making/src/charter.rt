@@ -1,0 +1,85 @@
+//! The first rows of a desk: the number of its schema, and its charter.
+ghost use Rattle.std.specs.Prelude.{[], ◌∷◌, map};
+ghost use Rattle.tables.specs.Cells.{schema_row, operator_row, prefix_cells};
+ghost use Rattle.tables.specs.Tables.{meta, operator, pool};
+ghost use Rattle.making.specs.Statements.{IsReady, WhenClean, IfDone, StaysInside};
+ghost use Rattle.making.specs.Making.{IsMadeTo};
+ghost use Rattle.making.specs.steps.Making.{PutsRows, HasCharter};
+
+use crate::statement::execute;
+use addr::{Name, Prefix};
+use registry::Charter;
+use sqlite::{Alter, Error, Transaction};
+use tables::{
+    INSERT_OPERATOR, INSERT_PREFIX, INSERT_SCHEMA, address_bytes, name_values, prefix_values,
+};
+
+/// Puts the number of the schema.
+fn put_schema<S: Alter>(tx: &mut Transaction<'_, S>) -> Result<(), Error>
+    requires { WhenClean S.Store IsReady tx.old }
+    ensures put { IfDone S.Store result (PutsRows meta.tree (schema_row ∷ [])) tx.old tx.new }
+    ensures inside { StaysInside S.Store tx.old tx.new }
+{
+    execute(tx, INSERT_SCHEMA, &[])
+}
+
+/// Puts an operator.
+fn put_operator<S: Alter>(tx: &mut Transaction<'_, S>, name: &Name) -> Result<(), Error>
+    requires { WhenClean S.Store IsReady tx.old }
+    ensures put { IfDone S.Store result
+        (PutsRows operator.tree (operator_row name.now ∷ [])) tx.old tx.new }
+    ensures inside { StaysInside S.Store tx.old tx.new }
+{
+    execute(tx, INSERT_OPERATOR, &name_values(name))
+}
+
+/// Puts operators.
+fn put_operators<S: Alter>(tx: &mut Transaction<'_, S>, names: &[Name]) -> Result<(), Error>
+    requires { WhenClean S.Store IsReady tx.old }
+    ensures put { IfDone S.Store result
+        (PutsRows operator.tree (map operator_row names.now)) tx.old tx.new }
+    ensures inside { StaysInside S.Store tx.old tx.new }
+{
+    for name in names {
+        put_operator(tx, name)?;
+    }
+    Ok(())
+}
+
+/// Puts a prefix of the pool.
+fn put_prefix<S: Alter>(tx: &mut Transaction<'_, S>, prefix: &Prefix) -> Result<(), Error>
+    requires { WhenClean S.Store IsReady tx.old }
+    ensures put { IfDone S.Store result
+        (PutsRows pool.tree (prefix_cells prefix.now ∷ [])) tx.old tx.new }
+    ensures inside { StaysInside S.Store tx.old tx.new }
+{
+    let first = address_bytes(prefix.first);
+    execute(tx, INSERT_PREFIX, &prefix_values(prefix, &first))
+}
+
+/// Puts prefixes of the pool.
+fn put_pool<S: Alter>(tx: &mut Transaction<'_, S>, prefixes: &[Prefix]) -> Result<(), Error>
+    requires { WhenClean S.Store IsReady tx.old }
+    ensures put { IfDone S.Store result
+        (PutsRows pool.tree (map prefix_cells prefixes.now)) tx.old tx.new }
+    ensures inside { StaysInside S.Store tx.old tx.new }
+{
+    for prefix in prefixes {
+        put_prefix(tx, prefix)?;
+    }
+    Ok(())
+}
+
+/// Puts the number of the schema and the charter into tables that were just made.
+pub(crate) fn put_charter<S: Alter>(
+    tx: &mut Transaction<'_, S>,
+    charter: &Charter,
+) -> Result<(), Error>
+    requires { WhenClean S.Store (IsMadeTo 11) tx.old }
+    ensures put { IfDone S.Store result (λ _. HasCharter charter.now) tx.old tx.new }
+    ensures inside { StaysInside S.Store tx.old tx.new }
+{
+    put_schema(tx)?;
+    put_operators(tx, charter.operators())?;
+    put_pool(tx, charter.pool())
+}

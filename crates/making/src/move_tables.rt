@@ -1,0 +1,57 @@
+//! Moving the rows of schema 1 to the tables of a desk, within a transaction.
+ghost use Rattle.making.specs.Statements.{WhenClean, IfDone, StaysInside};
+ghost use Rattle.making.specs.Making.{IsOver};
+ghost use Rattle.making.specs.Moving.{old_schema_if, wide_schema, WidensTables, MovesRows};
+ghost use Rattle.making.specs.steps.Making.{DropsIndex};
+ghost use Rattle.tables.specs.Tables.{desk_schema};
+
+use crate::making::make_claim_tables;
+use crate::statement::execute;
+use moving::{COPY_CLAIMS, COPY_ENTRIES, DELETE_ALL_AUTHS, DROP_HOLDING_INDEX, UPDATE_SCHEMA};
+use sqlite::{Alter, Error, Transaction};
+use tables::CREATE_HOLDING_INDEX;
+
+/// Takes the index of a holder's runs away, where the database has it.
+fn drop_index<S: Alter>(tx: &mut Transaction<'_, S>, has_index: bool) -> Result<(), Error>
+    requires { WhenClean S.Store (IsOver (old_schema_if has_index)) tx.old }
+    ensures dropped { IfDone S.Store result DropsIndex tx.old tx.new }
+    ensures inside { StaysInside S.Store tx.old tx.new }
+{
+    if has_index {
+        execute(tx, DROP_HOLDING_INDEX, &[])?;
+    }
+    Ok(())
+}
+
+/// Makes the tables of a desk out of those of schema 1, whose rows stay. The index of a holder's
+/// runs is gone.
+pub fn widen_tables<S: Alter>(tx: &mut Transaction<'_, S>, has_index: bool) -> Result<(), Error>
+    requires { WhenClean S.Store (IsOver (old_schema_if has_index)) tx.old }
+    ensures widened { IfDone S.Store result WidensTables tx.old tx.new }
+    ensures inside { StaysInside S.Store tx.old tx.new }
+{
+    drop_index(tx, has_index)?;
+    make_claim_tables(tx)
+}
+
+/// Moves the rows of `auth` to `claim` and `entry`, and sets the number of the schema.
+fn edit_rows<S: Alter>(tx: &mut Transaction<'_, S>) -> Result<(), Error>
+    requires { WhenClean S.Store (IsOver wide_schema) tx.old }
+    ensures moved { IfDone S.Store result (MovesRows wide_schema) tx.old tx.new }
+    ensures inside { StaysInside S.Store tx.old tx.new }
+{
+    execute(tx, COPY_CLAIMS, &[])?;
+    execute(tx, COPY_ENTRIES, &[])?;
+    execute(tx, DELETE_ALL_AUTHS, &[])?;
+    execute(tx, UPDATE_SCHEMA, &[])
+}
+
+/// Moves the rows of schema 1 in tables that were widened, and makes the index of a holder's runs.
+pub fn move_rows<S: Alter>(tx: &mut Transaction<'_, S>) -> Result<(), Error>
+    requires { WhenClean S.Store (IsOver wide_schema) tx.old }
+    ensures moved { IfDone S.Store result (MovesRows desk_schema) tx.old tx.new }
+    ensures inside { StaysInside S.Store tx.old tx.new }
+{
+    edit_rows(tx)?;
+    execute(tx, CREATE_HOLDING_INDEX, &[])
+}
