@@ -1,60 +1,55 @@
--- What the statements on claims and on entries do to the authorizations of a holder.
-use Rattle.std.proofs.Common.{◌≡◌, ◌≢◌, ℕ, Bool, true, false, cond, not, ◌==◌, List, [], ◌∷◌, ◌++◌, map, filter, flat_map, drop, Option, Some, None, option_map, IsSome, IsPermutation, refl, sym, ap, subst, ◌∙◌, append-nil}
+-- What the statements that put and take claims and entries do to the authorizations of a holder.
+use Rattle.std.proofs.Common.{◌≡◌, ◌≢◌, ℕ, Bool, true, false, cond, not, ◌==◌, List, [], ◌∷◌, ◌++◌, map, filter, flat_map, Option, Some, None, option_map, IsSome, IsPermutation, refl, sym, ap, subst, ◌∙◌, append-nil}
 use Rattle.std.specs.List.{AllByRecursion}
-use Rattle.std.proofs.lemmas.Bool.{eqb-true}
 use Rattle.std.proofs.lemmas.List.{map-append}
-use Rattle.std.proofs.lemmas.List.Sorted.{IsPermutation-append_comm}
+use Rattle.std.proofs.lemmas.List.Sorted.{IsPermutation-append_comm, IsPermutation-trans}
 use Rattle.std.proofs.lemmas.List.Elements.{filter-append}
 use Rattle.std.proofs.lemmas.Grind.{flat_map-append}
 use Rattle.sqlite.specs.Effect.{Database}
 use Rattle.sqlite.specs.State.{State}
-use Rattle.sqlite_value.specs.declared.value.Value.TheVariants.{Text, Blob}
+use Rattle.sqlite_value.specs.declared.value.Value.TheVariants.{Text}
 use Rattle.sqlite_value.specs.Order.{Row, column}
-use Rattle.sqlite_trees.proofs.ListLemmas.{IsPermutation-same, map-map}
-use Rattle.sqlite_sql.specs.Term.{eval_all}
-use Rattle.sqlite_schema.specs.declared.schema.Kind.TheVariants.{Integer, Text as Words}
-use Rattle.sqlite_rules.specs.Cast.{cast, cast_all}
+use Rattle.sqlite_trees.proofs.ListLemmas.{IsPermutation-same}
+use Rattle.charters.specs.CharterSets.{CharterSets}
 use Rattle.registry.specs.declared.authorization.Auth.{Auth}
 use Rattle.registry.specs.declared.authorization.RoaPrefix.{RoaPrefix}
-use Rattle.registry.specs.declared.change.Edit.TheVariants.{Amend, Withdraw}
-use Rattle.registry.specs.Rows.{Rows, edited, replaced_by}
+use Rattle.registry.specs.declared.change.Edit.TheVariants.{Withdraw}
+use Rattle.registry.specs.Rows.{Rows, edited}
+use Rattle.registry.specs.RowsOfAll.{AllRows}
 use Rattle.registry.specs.Terms.{entries_of}
 use Rattle.tables.specs.Authorizations.{claim_of, entry_rows_of}
-use Rattle.tables.specs.Cells.{number_cell, family_number, address_bytes, schema_row, operator_row, prefix_cells, claim_cells, claim_row, entry_cells, entry_row}
+use Rattle.tables.specs.Cells.{number_cell, schema_row, operator_row, prefix_cells, claim_row, entry_row}
 use Rattle.tables.specs.Groups.{claim_entry}
 use Rattle.tables.specs.Tables.{claim, entry, contents, desk_tables, is_table, AreTrees}
-use Rattle.tables.specs.TablesHold.{Part, part_rows, holder_part, holding_part, granted_part, claim_part, entry_part, HoldsPart, HoldsExceptions}
+use Rattle.tables.specs.TablesHold.{Part, part_rows, holder_part, holding_part, granted_part, claim_part, entry_part, HoldsPart, HoldsExceptions, TablesHold}
 use Rattle.tables.specs.declared.claim.Claim.{Claim}
-use Rattle.tables.specs.declared.claim.TheConstants.{INSERT_CLAIM, UPDATE_CLAIM, DELETE_CLAIM}
+use Rattle.tables.specs.declared.claim.TheConstants.{INSERT_CLAIM, DELETE_CLAIM}
 use Rattle.tables.specs.declared.entry.EntryRow.{EntryRow}
-use Rattle.tables.specs.declared.entry.TheConstants.{INSERT_ENTRY, UPDATE_ENTRY, DELETE_ENTRIES}
+use Rattle.tables.specs.declared.entry.TheConstants.{INSERT_ENTRY, DELETE_ENTRIES}
 use Rattle.tables.specs.steps.Edits.{Edits}
-use Rattle.tables.proofs.CellLemmas.{cast_number, cast_claim, cast_entry, number_of_number, appended}
-use Rattle.tables.proofs.ClaimTexts.{put_claim_is, put_entry_is, take_claim_is, take_entries_is, amend_claim_is, amend_entry_is, of_number_tests, claim_sets, entry_sets}
-use Rattle.tables.proofs.Claims.{entries_taken, takes_entries, takes_claim, amends_claim, amends_entry}
+use Rattle.tables.proofs.CellLemmas.{cast_claim, cast_entry, number_of_number, appended}
+use Rattle.tables.proofs.ClaimTexts.{put_claim_is, put_entry_is, take_claim_is, take_entries_is, of_number_tests}
+use Rattle.tables.proofs.Claims.{entries_taken, takes_entries, takes_claim}
 use Rattle.tables.proofs.Deleting as deleting
 use Rattle.tables.proofs.HaveEntries.{all_have_entries}
-use Rattle.tables.proofs.PartLemmas.{name_of_itself, IsLocal, EditsPart, turned_at, part_same, part_turned, put_local, take_local, change_local}
+use Rattle.tables.proofs.PartLemmas.{name_of_itself, IsLocal, turned_at, part_same, part_turned, put_local, take_local}
 use Rattle.tables.proofs.Texts.{put_terms}
-use Rattle.tables.proofs.Updating as updating
-use Rattle.tables.proofs.Updating.{changed_if}
 use Rattle.making.specs.Statements.{IsReady, IsExecuted}
 use Rattle.making.specs.steps.Making.{PutsRows}
 use Rattle.making.proofs.CharterSteps.{puts_then}
 use Rattle.making.proofs.StatementLemmas.{has_schema, wrote, ready_still, puts_row, sound_still}
-use Rattle.database.proofs.Columns.{column_after}
 use Rattle.edits.specs.steps.RowEdits.{with_auths}
-use Rattle.edits.specs.steps.Statements.{EditsRows, EditsHolder}
-use Rattle.edits.proofs.EditSteps.{is_of, of_holder, of_tests, taken, name_kept}
+use Rattle.edits.specs.steps.Statements.{EditsHolder, KeepsExceptions, at_holder}
+use Rattle.edits.proofs.EditSteps.{is_of, of_holder, of_tests, taken}
 
 -- ---- edits of both tables
 
 -- the claims and the entries are edited, and every other table stays as it was
-record EditsBoth (of_claims of_entries : List Row → List Row) (old new : Database) : Type 0 where
-  others : (t : ℕ) → is_table t ≡ true → t ≢ claim.tree → t ≢ entry.tree → new.trees t ≡ old.trees t
-  claims : IsPermutation (of_claims (contents (old.trees claim.tree))) (contents (new.trees claim.tree))
-  entries : IsPermutation (of_entries (contents (old.trees entry.tree))) (contents (new.trees entry.tree))
-  whole : AreTrees old.trees → AreTrees new.trees
+pub record EditsBoth (of_claims of_entries : List Row → List Row) (old new : Database) : Type 0 where
+  pub others : (t : ℕ) → is_table t ≡ true → t ≢ claim.tree → t ≢ entry.tree → new.trees t ≡ old.trees t
+  pub claims : IsPermutation (of_claims (contents (old.trees claim.tree))) (contents (new.trees claim.tree))
+  pub entries : IsPermutation (of_entries (contents (old.trees entry.tree))) (contents (new.trees entry.tree))
+  pub whole : AreTrees old.trees → AreTrees new.trees
 
 module _ (of_claims of_entries : List Row → List Row) (a b c : Database) where
   claims_first : Edits claim.tree of_claims a b → Edits entry.tree of_entries b c → EditsBoth of_claims of_entries a c
@@ -65,7 +60,7 @@ module _ (of_claims of_entries : List Row → List Row) (a b c : Database) where
     whole = λ whole. sound_still entry.tree of_entries b c second (sound_still claim.tree of_claims a b first whole);
   }
 
-  entries_first : Edits entry.tree of_entries a b → Edits claim.tree of_claims b c → EditsBoth of_claims of_entries a c
+  pub entries_first : Edits entry.tree of_entries a b → Edits claim.tree of_claims b c → EditsBoth of_claims of_entries a c
   entries_first first second = record {
     others = λ t is apart other. second.others t is apart ∙ first.others t is other;
     claims = subst (λ rows. IsPermutation (of_claims (contents rows)) (contents (c.trees claim.tree))) (first.others claim.tree refl (λ same. cc)) second.rows;
@@ -73,21 +68,35 @@ module _ (of_claims of_entries : List Row → List Row) (a b c : Database) where
     whole = λ whole. sound_still claim.tree of_claims b c second (sound_still entry.tree of_entries a b first whole);
   }
 
+-- the entries are edited once more
+pub entries_again : (of_claims of_entries more : List Row → List Row) (a b c : Database) → EditsBoth of_claims of_entries a b → Edits entry.tree more b c
+    → ((xs ys : List Row) → IsPermutation xs ys → IsPermutation (more xs) (more ys)) → EditsBoth of_claims (λ rows. more (of_entries rows)) a c
+entries_again of_claims of_entries more a b c both edit permutes = record {
+  others = λ t is apart other. edit.others t is other ∙ both.others t is apart other;
+  claims = subst (λ rows. IsPermutation (of_claims (contents (a.trees claim.tree))) (contents rows)) (sym (edit.others claim.tree refl (λ same. cc))) both.claims;
+  entries = IsPermutation-trans _ _ _ (permutes _ _ both.entries) edit.rows;
+  whole = λ whole. sound_still entry.tree more b c edit (both.whole whole);
+}
+
 -- Both tables are edited in the rows of one holder, and become those of its authorizations as they are turned.
 module _ (h : List ℕ) (to : List Auth → List Auth) where
   abbrev with_turned : Rows → Rows
   with_turned r = record r { auths = to r.auths }
 
+  -- the edit of the table is that of the authorizations which the holder has
+  abbrev pub TurnsPart : (List ℕ → Option Rows) → Part → (List Row → List Row) → Type 0
+  TurnsPart rows part by = (r : Rows) → rows h ≡ Some r → IsPermutation (part.rows h (with_turned r)) (by (part.rows h r))
+
   module _ (rows : List ℕ → Option Rows) (some : IsSome (rows h)) where
     abbrev after : List ℕ → Option Rows
     after = turned_at h (option_map with_turned) rows
 
-    part_edited : (part : Part) (by : List Row → List Row) (old new : List Row) → IsLocal part.place h by → EditsPart part h with_turned by → IsPermutation (by old) new → HoldsPart part rows old → HoldsPart part after new
-    part_edited part by old new local turned same holds = part_turned part rows h (option_map with_turned) by old new holds local same (go (rows h) some)
+    part_edited : (part : Part) (by : List Row → List Row) (old new : List Row) → IsLocal part.place h by → TurnsPart rows part by → IsPermutation (by old) new → HoldsPart part rows old → HoldsPart part after new
+    part_edited part by old new local turned same holds = part_turned part rows h (option_map with_turned) by old new holds local same (go (rows h) refl some)
       where
-        go : (o : Option Rows) → IsSome o → IsPermutation (part_rows part h (option_map with_turned o)) (by (part_rows part h o))
-        go None some = absurd cc
-        go (Some r) some = turned r
+        go : (o : Option Rows) → rows h ≡ o → IsSome o → IsPermutation (part_rows part h (option_map with_turned o)) (by (part_rows part h o))
+        go None of some = absurd cc
+        go (Some r) of some = turned r of
 
     part_kept : (part : Part) (table : List Row) → ((r : Rows) → part.rows h r ≡ part.rows h (with_turned r)) → HoldsPart part rows table → HoldsPart part after table
     part_kept part table same holds = part_same part rows h (option_map with_turned) table holds (go (rows h))
@@ -96,9 +105,10 @@ module _ (h : List ℕ) (to : List Auth → List Auth) where
         go None = refl
         go (Some r) = same r
 
-  auths_turned : (of_claims of_entries : List Row → List Row) (old new : Database) → EditsBoth of_claims of_entries old new → IsLocal 0 h of_claims → IsLocal 0 h of_entries
-      → EditsPart claim_part h with_turned of_claims → EditsPart entry_part h with_turned of_entries → EditsRows h with_turned old new
-  auths_turned of_claims of_entries old new e own_claims own_entries claims entries charter rows was some =
+  pub auths_turned : (of_claims of_entries : List Row → List Row) (old new : Database) → EditsBoth of_claims of_entries old new → IsLocal 0 h of_claims → IsLocal 0 h of_entries
+      → (charter : CharterSets) (rows : AllRows) → TablesHold charter rows old.trees → IsSome (rows.of_holder h)
+      → TurnsPart rows.of_holder claim_part of_claims → TurnsPart rows.of_holder entry_part of_entries → KeepsExceptions charter (at_holder h (option_map with_turned) rows) old.trees new.trees
+  auths_turned of_claims of_entries old new e own_claims own_entries charter rows was some claims entries =
       let still : (so : List Row → Type 0) (t : ℕ) → is_table t ≡ true → t ≢ claim.tree → t ≢ entry.tree → so (contents (old.trees t)) → so (contents (new.trees t)) =
       λ so t is apart other. subst (λ table. so (contents table)) (sym (e.others t is apart other)) in
       let kept : (part : Part) → is_table part.tree ≡ true → part.tree ≢ claim.tree → part.tree ≢ entry.tree → ((r : Rows) → part.rows h r ≡ part.rows h (with_turned r)) → HoldsPart part rows.of_holder (contents (old.trees part.tree))
@@ -126,11 +136,20 @@ module _ (h : List ℕ) (to : List Auth → List Auth) where
 
 -- ---- the rows of one holder
 
+-- one local edit after another
+pub both_local : {place : ℕ} {h : List ℕ} (first then : List Row → List Row) → IsLocal place h first → IsLocal place h then → IsLocal place h (λ rows. then (first rows))
+both_local first then one two = record {
+  mine = λ rows. two.mine (first rows) ∙ ap then (one.mine rows);
+  others = λ k differ rows. two.others k differ (first rows) ∙ one.others k differ rows;
+  permutes = λ xs ys same. two.permutes _ _ (one.permutes xs ys same);
+  texts = λ rows all. two.texts (first rows) (one.texts rows all);
+}
+
 module _ (h : List ℕ) where
-  abbrev claim_cells_of : Auth → Row
+  abbrev pub claim_cells_of : Auth → Row
   claim_cells_of x = claim_row h (claim_of x)
 
-  abbrev entries_of_auth : Auth → List Row
+  abbrev pub entries_of_auth : Auth → List Row
   entries_of_auth x = map (entry_row h) (entry_rows_of x)
 
   -- ---- put
@@ -152,19 +171,11 @@ module _ (h : List ℕ) where
       let both = ap (rows_of_entries c) is ∙ ap (map (entry_row h)) (map-append (claim_entry c) es (e ∷ [])) ∙ map-append (entry_row h) (map (claim_entry c) es) (claim_entry c e ∷ []) in
       subst (λ rows. PutsRows entry.tree rows x z) (sym both) (puts_then entry.tree (rows_of_entries c es) (entry_row h (claim_entry c e)) x y z before put)
 
-  puts_local : (rows : List Row) → AllByRecursion (λ row. column row 0 ≡ Text h) rows → IsLocal 0 h (λ table. rows ++ table)
+  pub puts_local : (rows : List Row) → AllByRecursion (λ row. column row 0 ≡ Text h) rows → IsLocal 0 h (λ table. rows ++ table)
   puts_local [] named = record { mine = λ table. refl; others = λ k differ table. refl; permutes = λ xs ys same. same; texts = λ table all. all }
-  puts_local (row ∷ rows) named =
-      let first = puts_local rows named.1 in
-      let last = put_local 0 h row named.0 in
-      record {
-        mine = λ table. last.mine (rows ++ table) ∙ ap (λ l. row ∷ l) (first.mine table);
-        others = λ k differ table. last.others k differ (rows ++ table) ∙ first.others k differ table;
-        permutes = λ xs ys same. last.permutes _ _ (first.permutes xs ys same);
-        texts = λ table all. last.texts (rows ++ table) (first.texts table all);
-      }
+  puts_local (row ∷ rows) named = both_local (λ table. rows ++ table) (λ table. row ∷ table) (puts_local rows named.1) (put_local 0 h row named.0)
 
-  entries_named : (c : Claim) (es : List RoaPrefix) → AllByRecursion (λ row. column row 0 ≡ Text h) (rows_of_entries c es)
+  pub entries_named : (c : Claim) (es : List RoaPrefix) → AllByRecursion (λ row. column row 0 ≡ Text h) (rows_of_entries c es)
   entries_named c [] = tt
   entries_named c (e ∷ es) = (refl, entries_named c es)
 
@@ -178,14 +189,15 @@ module _ (h : List ℕ) where
     ready = second.ready;
     schema = second.edits.schema ∙ first.edits.schema;
     sound = λ sound. second.sound (first.sound sound);
-    rows = auths_turned h (λ xs. xs ++ x ∷ []) _ _ a.now c.now (claims_first _ _ a.now b.now c.now first.edits second.edits)
+    rows = λ charter rows was some.
+        auths_turned h (λ xs. xs ++ x ∷ []) _ _ a.now c.now (claims_first _ _ a.now b.now c.now first.edits second.edits)
         (put_local 0 h (claim_row h (claim_of x)) refl) (puts_local (entries_of_auth x) (entries_named (claim_of x) (entries_of x)))
-        (λ r. appended claim_cells_of r.auths x) (λ r. entries_appended r.auths x);
+        charter rows was some (λ r of. appended claim_cells_of r.auths x) (λ r of. entries_appended r.auths x);
   }
 
   -- ---- taken
 
-  own_claim : (n : ℕ) (c : Claim) → is_of h n (claim_row h c) ≡ (c.number == n)
+  pub own_claim : (n : ℕ) (c : Claim) → is_of h n (claim_row h c) ≡ (c.number == n)
   own_claim n c = rw (name_of_itself h (Text h) refl) (number_of_number c.number n)
 
   own_entry : (n : ℕ) (c : Claim) (e : RoaPrefix) → is_of h n (entry_row h (claim_entry c e)) ≡ (c.number == n)
@@ -208,10 +220,10 @@ module _ (h : List ℕ) where
       go false more = ap (λ l. entry_row h (claim_entry c e) ∷ l) more
 
   -- the authorizations but those of the number
-  abbrev without : ℕ → List Auth → List Auth
+  abbrev pub without : ℕ → List Auth → List Auth
   without n xs = filter (λ x. not (x.number == n)) xs
 
-  entries_left : (n : ℕ) (xs : List Auth) → flat_map entries_of_auth (without n xs) ≡ filter (λ row. not (is_of h n row)) (flat_map entries_of_auth xs)
+  pub entries_left : (n : ℕ) (xs : List Auth) → flat_map entries_of_auth (without n xs) ≡ filter (λ row. not (is_of h n row)) (flat_map entries_of_auth xs)
   entries_left n [] = refl
   entries_left n (x ∷ xs) =
       go (x.number == n) ∙ ap (λ l. l ++ flat_map entries_of_auth (without n xs)) (sym (taken_together n (claim_of x) (entries_of x)))
@@ -241,91 +253,6 @@ module _ (h : List ℕ) where
             let none = entries_taken params (is_of h n) a.now b.now tests entries in
             let claims = takes_claim b.now.schema b c _ second.0 still_has params (is_of h n) tests (sound_still entry.tree _ a.now b.now entries was.whole claim.tree refl) none last in
             let own = take_local 0 h (is_of h n) (of_holder h n) in
-            auths_turned h (without n) _ _ a.now c.now (entries_first _ _ a.now b.now c.now entries claims) own own
-            (λ r. IsPermutation-same _ _ (taken (is_of h n) (λ (x : Auth). x.number == n) claim_cells_of (λ x. own_claim n (claim_of x)) r.auths)) (λ r. IsPermutation-same _ _ (entries_left n r.auths)) charter rows was some;
+            auths_turned h (without n) _ _ a.now c.now (entries_first _ _ a.now b.now c.now entries claims) own own charter rows was some
+            (λ r of. IsPermutation-same _ _ (taken (is_of h n) (λ (x : Auth). x.number == n) claim_cells_of (λ x. own_claim n (claim_of x)) r.auths)) (λ r of. IsPermutation-same _ _ (entries_left n r.auths));
       }
-
-  -- ---- amended
-
-  -- the row with the columns of another, its holder and its number kept
-  abbrev amended_claim : Claim → Row → Row
-  amended_claim c row = cast Words (column row 0) ∷ cast Integer (column row 1) ∷ drop 1 (claim_cells c)
-
-  abbrev amended_entry : EntryRow → Row → Row
-  amended_entry e row = cast Words (column row 0) ∷ cast Integer (column row 1) ∷ drop 1 (entry_cells e)
-
-  claim_set : (c : Claim) (r : Row) → cast_all claim.columns (eval_all claim_sets (claim_row h c ∷ r ∷ [])) ≡ amended_claim c (drop 1 r)
-  claim_set c r = λ i. cast Words (column_after r 0 i) ∷ cast Integer (column_after r 1 i) ∷ cast_number c.asn.0 i ∷ cast_number c.from i ∷ cast_number c.until i ∷ []
-
-  entry_set : (e : EntryRow) (r : Row) → cast_all entry.columns (eval_all entry_sets (entry_row h e ∷ r ∷ [])) ≡ amended_entry e (drop 1 r)
-  entry_set e r = λ i. cast Words (column_after r 0 i) ∷ cast Integer (column_after r 1 i) ∷ cast_number e.asn.0 i ∷ cast_number (family_number e.entry.prefix.family) i ∷ Blob (address_bytes e.entry.prefix.first)
-      ∷ cast_number e.entry.prefix.length i ∷ cast_number e.entry.max i ∷ []
-
-  -- an authorization has one entry
-  abbrev pub one_entry : Auth → RoaPrefix
-  one_entry x = record { prefix = x.prefix; max = x.max }
-
-  abbrev row_of_one : Auth → Row
-  row_of_one x = entry_row h (claim_entry (claim_of x) (one_entry x))
-
-  pub entries_are_one : (x : Auth) → entries_of x ≡ one_entry x ∷ []
-  unfolding entries_of
-  entries_are_one x = refl
-
-  same_number : (m n : ℕ) → (m == n) ≡ true → number_cell n ≡ cast Integer (number_cell m)
-  same_number m n same = ap number_cell (sym (eqb-true _ _ same)) ∙ sym (cast_number m)
-
-  module _ (x : Auth) where
-    claim_amended : (y : Auth) → claim_cells_of (replaced_by x y) ≡ changed_if (is_of h x.number) (amended_claim (claim_of x)) (claim_cells_of y)
-    claim_amended y =
-        go (y.number == x.number) refl ∙ sym (ap (λ goes. cond goes (amended_claim (claim_of x) (claim_cells_of y)) (claim_cells_of y)) (own_claim x.number (claim_of y)))
-      where
-        go : (b : Bool) → (y.number == x.number) ≡ b → claim_cells_of (cond b x y) ≡ cond b (amended_claim (claim_of x) (claim_cells_of y)) (claim_cells_of y)
-        go false other = refl
-        go true same = λ i. Text h ∷ same_number y.number x.number same i ∷ drop 1 (claim_cells (claim_of x))
-
-    claims_amended : (xs : List Auth) → map claim_cells_of (map (replaced_by x) xs) ≡ map (changed_if (is_of h x.number) (amended_claim (claim_of x))) (map claim_cells_of xs)
-    claims_amended xs = map-map claim_cells_of (replaced_by x) xs ∙ (λ i. map (λ y. claim_amended y i) xs) ∙ sym (map-map (changed_if (is_of h x.number) (amended_claim (claim_of x))) claim_cells_of xs)
-
-    module _ (e : RoaPrefix) (one : entries_of x ≡ e ∷ []) where
-      abbrev row : EntryRow
-      row = claim_entry (claim_of x) e
-
-      abbrev change : Row → Row
-      change = changed_if (is_of h x.number) (amended_entry row)
-
-      entry_amended : (y : Auth) → entries_of_auth (replaced_by x y) ≡ map change (entries_of_auth y)
-      entry_amended y = go (y.number == x.number) refl ∙ sym (ap (λ es. map change (rows_of_entries (claim_of y) es)) (entries_are_one y) ∙ ap (λ b. cond b (amended_entry row (row_of_one y)) (row_of_one y) ∷ []) (own_entry x.number (claim_of y) (one_entry y)))
-        where
-          go : (b : Bool) → (y.number == x.number) ≡ b → entries_of_auth (cond b x y) ≡ cond b (amended_entry row (row_of_one y)) (row_of_one y) ∷ []
-          go false other = ap (rows_of_entries (claim_of y)) (entries_are_one y)
-          go true same = ap (rows_of_entries (claim_of x)) one ∙ (λ i. (Text h ∷ same_number y.number x.number same i ∷ drop 1 (entry_cells row)) ∷ [])
-
-      entries_amended : (xs : List Auth) → flat_map entries_of_auth (map (replaced_by x) xs) ≡ map change (flat_map entries_of_auth xs)
-      entries_amended [] = refl
-      entries_amended (y ∷ xs) = (λ i. entry_amended y i ++ entries_amended xs i) ∙ sym (map-append change (entries_of_auth y) (flat_map entries_of_auth xs))
-
-      pub amends_auth : (a b c : State) → IsReady a → IsExecuted UPDATE_CLAIM.now (claim_row h (claim_of x)) a b → IsExecuted UPDATE_ENTRY.now (entry_row h (claim_entry (claim_of x) e)) b c → EditsHolder h (edited (Amend x)) a c
-      amends_auth a b c ready first second =
-          let of_claim = claim_row h (claim_of x) in
-          let of_entry = entry_row h row in
-          let has = has_schema of_claim amend_claim_is ready first in
-          let w = wrote of_claim amend_claim_is ready first in
-          let keeps = (updating.applied 8 claim refl a.now.schema of_number_tests claim_sets a b _ of_claim first.0 has w).2 in
-          let between = ready_still of_claim amend_claim_is ready first keeps in
-          let still_has = has_schema of_entry amend_entry_is between second in
-          let last = wrote of_entry amend_entry_is between second in
-          let still_keeps = (updating.applied 9 entry refl b.now.schema of_number_tests entry_sets b c _ of_entry second.0 still_has last).2 in
-          record {
-            ready = ready_still of_entry amend_entry_is between second still_keeps;
-            schema = still_keeps ∙ sym still_has ∙ keeps ∙ sym has;
-            sound = λ _. last.sound;
-            rows = λ charter rows was some.
-                let own = of_holder h x.number in
-                let kept = λ (cells : Row) (is : is_of h x.number cells ≡ true). name_kept h x.number cells (own cells is) in
-                let claims = amends_claim a.now.schema a b _ first.0 has of_claim (is_of h x.number) of_number_tests claim_sets (amended_claim (claim_of x)) (of_tests h x.number (drop 1 (claim_cells (claim_of x)))) (claim_set (claim_of x)) (was.whole claim.tree refl) w in
-                let entries = amends_entry b.now.schema b c _ second.0 still_has of_entry (is_of h x.number) of_number_tests entry_sets (amended_entry row) (of_tests h x.number (drop 1 (entry_cells row))) (entry_set row) (sound_still claim.tree _ a.now b.now claims was.whole entry.tree refl) last in
-                auths_turned h (map (replaced_by x)) _ _ a.now c.now (claims_first _ _ a.now b.now c.now claims entries)
-                (change_local 0 h (is_of h x.number) own (amended_claim (claim_of x)) kept) (change_local 0 h (is_of h x.number) own (amended_entry row) kept)
-                (λ r. IsPermutation-same _ _ (claims_amended r.auths)) (λ r. IsPermutation-same _ _ (entries_amended r.auths)) charter rows was some;
-          }

@@ -1,25 +1,27 @@
 //! The authorizations of a holder, as rows of the table `claim`, and their entries, as rows of the
 //! table `entry`.
 ghost use Rattle.std.proofs.Common.{append-nil, append_assoc};
-ghost use Rattle.std.specs.Prelude.{[], ◌∷◌, map};
+ghost use Rattle.std.specs.Prelude.{◌≡◌, true, [], ◌∷◌, map};
 ghost use Rattle.registry.specs.declared.change.Edit.TheVariants.{Withdraw, Amend};
 ghost use Rattle.registry.specs.Rows.{edited};
 ghost use Rattle.tables.specs.Cells.{claim_row, entry_row};
 ghost use Rattle.tables.specs.Groups.{claim_entry};
 ghost use Rattle.tables.specs.TablesHold.{claim_part, entry_part};
 ghost use Rattle.edits.specs.steps.RowEdits.{with_auths, without_auths};
-ghost use Rattle.making.specs.Statements.{IsReady, WhenClean, StaysInside, IfDone};
+ghost use Rattle.sqlite.specs.Values.{bound};
+ghost use Rattle.making.specs.Statements.{IsReady, WhenClean, StaysInside, IfDone, IfAnswered};
 ghost use Rattle.making.specs.steps.Making.{PutsRows};
-ghost use Rattle.edits.specs.steps.Statements.{IfEdited};
+ghost use Rattle.edits.specs.steps.Statements.{IfEdited, IsExecutedOn};
 
 use crate::row::HolderRow;
 use addr::Name;
 use database::execute;
 use registry::{Auth, RoaPrefix};
+use sqlite::types::ValueRef;
 use sqlite::{Alter, Error, Transaction};
 use tables::{
     Claim, DELETE_CLAIM, DELETE_ENTRIES, EntryRow, INSERT_CLAIM, INSERT_ENTRY, UPDATE_CLAIM,
-    UPDATE_ENTRY, address_bytes, claim_of, claim_values, entry_row_of, entry_values, number_values,
+    address_bytes, claim_of, claim_values, entry_row_of, entry_values, number_values,
 };
 
 /// Puts an authorization without its entries.
@@ -84,8 +86,22 @@ impl HolderRow for Auth {
     }
 }
 
-/// Puts an authorization in the place of the one of its number, where there is one. Each has one
-/// entry, so its row is set too.
+/// Executes a statement that shows no rows, and counts those that it changes.
+fn execute_counting<S: Alter>(
+    tx: &mut Transaction<'_, S>,
+    sql: &str,
+    values: &[ValueRef<'_>],
+) -> Result<usize, Error>
+    requires { WhenClean S.Store (λ s. s.in_transaction ≡ true) tx.old }
+    ensures ran { IfAnswered S.Store result
+        (IsExecutedOn sql.now (bound values.now)) tx.old tx.new }
+    ensures inside { StaysInside S.Store tx.old tx.new }
+{
+    tx.execute(sql, values)
+}
+
+/// Puts an authorization in the place of the one of its number, where there is one. The two may
+/// have different entries, so those of the old one go.
 pub(crate) fn amend_auth<S: Alter>(
     tx: &mut Transaction<'_, S>,
     holder: &Name,
@@ -95,12 +111,14 @@ pub(crate) fn amend_auth<S: Alter>(
     ensures done { IfEdited S.Store result holder.now (edited (Amend auth.now)) tx.old tx.new }
     ensures inside { StaysInside S.Store tx.old tx.new }
 {
+    database::laws::claims_differ();
+    execute(tx, DELETE_ENTRIES, &number_values(holder, auth.number))?;
     let claim = claim_of(auth);
-    execute(tx, UPDATE_CLAIM, &claim_values(holder, &claim))?;
-    let [entry] = auth.entries();
-    let first = address_bytes(entry.prefix.first);
-    let row = entry_row_of(&claim, entry);
-    execute(tx, UPDATE_ENTRY, &entry_values(holder, &row, &first))
+    let amended = execute_counting(tx, UPDATE_CLAIM, &claim_values(holder, &claim))?;
+    if amended == 0 {
+        return Ok(());
+    }
+    put_entries(tx, holder, &claim, &auth.entries())
 }
 
 /// Takes away the authorization of this number, where there is one. Its entries go first, since

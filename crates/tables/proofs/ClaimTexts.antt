@@ -9,7 +9,7 @@ use Rattle.sqlite_sql.specs.Term.{Term, col, op2}
 use Rattle.sqlite.specs.Listing.{understood}
 use Rattle.sqlite_tied.specs.Compute.{everything}
 use Rattle.tables.specs.declared.claim.TheConstants.{INSERT_CLAIM, UPDATE_CLAIM, DELETE_CLAIM, SELECT_HOLDER_CLAIMS, SELECT_ALL_CLAIMS, SELECT_CLAIMS_BY_HOLDER, SELECT_CLAIMS_IN_FORCE}
-use Rattle.tables.specs.declared.entry.TheConstants.{INSERT_ENTRY, UPDATE_ENTRY, DELETE_ENTRIES, SELECT_HOLDER_ENTRIES, SELECT_ALL_ENTRIES, SELECT_ENTRIES_BY_HOLDER, SELECT_PAYLOADS}
+use Rattle.tables.specs.declared.entry.TheConstants.{INSERT_ENTRY, DELETE_ENTRIES, SELECT_HOLDER_ENTRIES, SELECT_ALL_ENTRIES, SELECT_ENTRIES_BY_HOLDER, SELECT_PAYLOADS}
 use Rattle.tables.proofs.Selecting.{from_table, no_limit}
 use Rattle.tables.proofs.Texts.{Means, equals, upwards, put_terms}
 
@@ -32,14 +32,6 @@ claim_sets = col 1 1 ∷ col 1 2 ∷ col 0 2 ∷ col 0 3 ∷ col 0 4 ∷ []
 pub amend_claim_is : Means UPDATE_CLAIM.now (Update 8 (record { lets = []; body = from_table 17 of_number_tests (col 1 0 ∷ col 1 0 ∷ claim_sets) [] no_limit }))
 unfolding understood everything
 amend_claim_is = record { is = λ s. refl; plain = λ s. (refl, refl); unlisted = λ s. refl }
-
--- the columns of the entry that the parameters are, its holder and its number kept
-abbrev pub entry_sets : List Term
-entry_sets = col 1 1 ∷ col 1 2 ∷ col 0 2 ∷ col 0 3 ∷ col 0 4 ∷ col 0 5 ∷ col 0 6 ∷ []
-
-pub amend_entry_is : Means UPDATE_ENTRY.now (Update 9 (record { lets = []; body = from_table 19 of_number_tests (col 1 0 ∷ col 1 0 ∷ entry_sets) [] no_limit }))
-unfolding understood everything
-amend_entry_is = record { is = λ s. refl; plain = λ s. (refl, refl); unlisted = λ s. refl }
 
 pub take_claim_is : Means DELETE_CLAIM.now (Delete 8 (record { lets = []; body = from_table 17 of_number_tests (col 1 0 ∷ []) [] no_limit }))
 unfolding understood everything

@@ -1,15 +1,17 @@
 -- What statements do to the claims and the entries among the tables of a desk. Of the foreign keys only that of an
 -- entry to its claim acts, where claims are deleted.
-use Rattle.std.proofs.Common.{◌≡◌, ℤ, ℕ, Bool, true, false, not, List, [], ◌∷◌, map, filter, drop, None, Some, Ok, refl, sym, ap, ◌∙◌, arith, IsPermutation}
+use Rattle.std.proofs.Common.{◌≡◌, ℤ, ℕ, Bool, true, false, not, List, [], ◌∷◌, map, filter, drop, length, None, Some, Ok, refl, sym, ap, ◌∙◌, arith, IsPermutation}
 use Rattle.std.specs.List.{AllByRecursion}
 use Rattle.std.proofs.lemmas.Bool.{both_ways, false_from_ne_true, not-true}
-use Rattle.std.proofs.lemmas.List.Sorted.{IsPermutation-sym}
+use Rattle.std.proofs.lemmas.List.{length-map}
+use Rattle.std.proofs.lemmas.List.Sorted.{IsPermutation-sym, length_permutation}
 use Rattle.sqlite.specs.Effect.{Database}
 use Rattle.sqlite.specs.State.{State, Writes}
 use Rattle.sqlite_value.specs.declared.value.Value.TheVariants.{Null}
 use Rattle.sqlite_value.specs.Keys.{first_key}
 use Rattle.sqlite_value.specs.Order.{Row}
 use Rattle.sqlite_trees.specs.Tree.{Trees, rowid}
+use Rattle.sqlite_trees.proofs.ListLemmas.{filter-map}
 use Rattle.sqlite_sql.specs.Term.{Term, col, eval_all}
 use Rattle.sqlite_schema.specs.declared.command.Command.TheVariants.{Insert, Update, Delete}
 use Rattle.sqlite_schema.specs.declared.command.Source.TheVariants.{Values}
@@ -42,7 +44,7 @@ use Rattle.tables.proofs.SomeRow.{has_permuted}
 use Rattle.tables.proofs.ClaimTexts.{of_number_tests}
 use Rattle.tables.proofs.Texts.{put_terms}
 use Rattle.tables.proofs.TreeRows.{found_at}
-use Rattle.tables.proofs.Updating.{update_of, changed_if, changes_among}
+use Rattle.tables.proofs.Updating.{update_of, new_rows, changed_if, applied_among, changes_among}
 
 -- the holder and the number, in a claim and in an entry
 abbrev number_places : List ℕ
@@ -128,6 +130,11 @@ module _ (s : Schema) (old new : State) (text : List ℕ) (count : ℕ) (has : o
           → Writes old new None (Update 8 (update_of claim tests sets)) text params count → Edits claim.tree (map (changed_if goes change)) old.now new.now
       amends_claim sets_to sound = changes_among desk_tables 8 claim refl s tests sets goes change old new text params count has same sets_to sound refl
 
-      pub amends_entry : ((r : Row) → cast_all entry.columns (eval_all sets (params ∷ r ∷ [])) ≡ change (drop 1 r)) → IsTree (old.now.trees entry.tree)
-          → Writes old new None (Update 9 (update_of entry tests sets)) text params count → Edits entry.tree (map (changed_if goes change)) old.now new.now
-      amends_entry sets_to sound = changes_among desk_tables 9 entry refl s tests sets goes change old new text params count has same sets_to sound refl
+      -- and as many are counted as the tests pick
+      pub amends_counted : Writes old new None (Update 8 (update_of claim tests sets)) text params count → count ≡ length (filter goes (contents (old.now.trees claim.tree)))
+      amends_counted w =
+          let it = applied_among desk_tables 8 claim refl s tests sets old new text params count has refl w in
+          let tree = old.now.trees claim.tree in
+          let shown = permuted claim.tree tests (new_rows sets) [] old.now.trees params it.0 (it.1.answer Null) in
+          let picked = filter-map goes (drop 1) tree ∙ (λ i. map (drop 1) (filter (λ r. sym (same r) i) tree)) in
+          it.4 ∙ length_permutation _ _ shown ∙ length-map _ _ ∙ sym (ap length picked ∙ length-map _ _)

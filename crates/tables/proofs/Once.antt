@@ -27,7 +27,7 @@ use Rattle.tables.proofs.SomeRow.{of_some, in_table, has_entry_row, entry_row_of
 
 -- two of a list that have one value are one, where the values of any two differ
 module _ {X Y : Type 0} (f : X → Y) where
-  differs : (z : X) (zs : List X) → AllPairs ◌≢◌ (map f (z ∷ zs)) → (y : X) → Has zs y → f z ≢ f y
+  pub differs : (z : X) (zs : List X) → AllPairs ◌≢◌ (map f (z ∷ zs)) → (y : X) → Has zs y → f z ≢ f y
   differs z zs apart y has same =
       let later = contains_had (map f zs) (f y) (mapped_has f zs y has) in
       apart 0 (suc later.0) (f y) (omega arith) (omega (arith, later.1)) (same ∙ sym later.2)

@@ -1,6 +1,6 @@
 -- What UPDATE does, whatever the table.
-use Rattle.std.proofs.Common.{◌≡◌, ℕ, Bool, true, false, cond, if◌then◌else◌, not, List, [], ◌∷◌, ◌++◌, map, filter, drop, slice_get, Some, None, Ok, refl, sym, ap, subst, subst₂, ◌∙◌, IsPermutation}
-use Rattle.std.proofs.lemmas.List.{map-append}
+use Rattle.std.proofs.Common.{◌≡◌, ℕ, Bool, true, false, cond, if◌then◌else◌, not, List, [], ◌∷◌, ◌++◌, map, filter, drop, length, slice_get, unwrap_or, Some, None, Ok, refl, sym, ap, subst, subst₂, ◌∙◌, IsPermutation}
+use Rattle.std.proofs.lemmas.List.{map-append, length-map}
 use Rattle.std.proofs.lemmas.List.Sorted.{IsPermutation-map, IsPermutation-trans, IsPermutation-append_left, IsPermutation-filter_both}
 use Rattle.sqlite.specs.Does.{Tally, Does, AtPlace, OnRows}
 use Rattle.sqlite.specs.Effect.{Database, Answers}
@@ -69,10 +69,14 @@ module _ (tables : List Table) (at : ℕ) (t : Table) (there : slice_get tables 
   abbrev table : Table
   table = as_strict t
 
+  -- as many rows are written as the query shows
+  as_many : (was rows : List Row) → length (numbered Given was (map (λ s. cast_row table (drop 1 s)) rows)) ≡ length rows
+  as_many was rows = ap length (given was (map (λ s. cast_row table (drop 1 s)) rows)) ∙ length-map _ _
+
   pub applied_among : (tests sets : List Term) (old new : State) (text : List ℕ) (params : Row) (count : ℕ) → old.now.schema ≡ with_tables tables s → any_acts_at Enforced false tables t.tree ≡ false
       → Writes old new None (Update at (update_of t tests sets)) text params count
       → (rows : List Row) × Answers (record { schema = with_tables tables s; trees = old.now.trees }) (update_of t tests sets) params rows × (new.now.schema ≡ with_tables tables s)
-      × Applies (with_tables tables s) Enforced old.now.trees (edit_of old.now.trees table (ids_of rows) Given 1 rows) new.now.trees
+      × Applies (with_tables tables s) Enforced old.now.trees (edit_of old.now.trees table (ids_of rows) Given 1 rows) new.now.trees × (count ≡ length rows)
   applied_among tests sets old new text params count has quiet w =
       let db = old.now.trees in
       let command = Update at (update_of t tests sets) in
@@ -84,7 +88,9 @@ module _ (tables : List Table) (at : ℕ) (t : Table) (there : slice_get tables 
       let trees : new.now.trees ≡ written.0 = ap (λ (d : Database). d.trees) now ∙ ap (λ (it : Written). it.trees) (same_value written.2) in
       let edit = edit_of db table (ids_of given.0) Given 1 given.0 in
       let made = one_step (with_tables tables s) Enforced db written.0 edit (updates_quietly (with_tables tables s) db table given.0 quiet) written.1 in
-      (given.0, given.1, ap (λ (d : Database). d.schema) now, subst (Applies (with_tables tables s) Enforced db edit) (sym trees) made)
+      let tally = ap (λ (p : Tally × Database). unwrap_or p.0.rows 0) (same_value (went (went done.2).2).2) in
+      let counted : count ≡ length given.0 = w.counted ∙ tally ∙ ap (λ (it : Written). length it.rows) (same_value written.2) ∙ as_many (without_all (db t.tree) (ids_of given.0)) given.0 in
+      (given.0, given.1, ap (λ (d : Database). d.schema) now, subst (Applies (with_tables tables s) Enforced db edit) (sym trees) made, counted)
 
   -- the columns of the new rows
   new_cells : (tests sets : List Term) (change : Row → Row) (params : Row) (rows tree_rows : List Row)
@@ -144,7 +150,7 @@ module _ (at : ℕ) (t : Table) (there : slice_get desk_tables at ≡ Some (as_s
   pub applied : (tests sets : List Term) (old new : State) (text : List ℕ) (params : Row) (count : ℕ) → old.now.schema ≡ desk_beside s
       → Writes old new None (Update at (update tests sets)) text params count
       → (rows : List Row) × Answers (record { schema = desk_beside s; trees = old.now.trees }) (update tests sets) params rows × (new.now.schema ≡ desk_beside s)
-      × Applies (desk_beside s) Enforced old.now.trees (edit_of old.now.trees (as_strict t) (ids_of rows) Given 1 rows) new.now.trees
+      × Applies (desk_beside s) Enforced old.now.trees (edit_of old.now.trees (as_strict t) (ids_of rows) Given 1 rows) new.now.trees × (count ≡ length rows)
   applied tests sets old new text params count has w = applied_among desk_tables at t there s tests sets old new text params count has refl w
 
   pub changes : (tests sets : List Term) (goes : Row → Bool) (change : Row → Row) (old new : State) (text : List ℕ) (params : Row) (count : ℕ) → old.now.schema ≡ desk_beside s

@@ -28,11 +28,6 @@ pub const INSERT_ENTRY: &str = "\
     INSERT INTO entry (holder, number, asn, family, lo, len, max) \
     VALUES (?1, ?2, ?3, ?4, ?5, ?6, ?7)";
 
-/// Sets the columns of the one entry of an authorization.
-pub const UPDATE_ENTRY: &str = "\
-    UPDATE entry SET asn = ?3, family = ?4, lo = ?5, len = ?6, max = ?7 \
-    WHERE holder = ?1 AND number = ?2";
-
 /// Takes the entries of an authorization away.
 pub const DELETE_ENTRIES: &str = "DELETE FROM entry WHERE holder = ?1 AND number = ?2";
 

@@ -30,8 +30,7 @@ pub use claim::{
 pub use decode::cell;
 pub use entry::{
     CREATE_ENTRY, DELETE_ENTRIES, EntryRow, INSERT_ENTRY, SELECT_ALL_ENTRIES,
-    SELECT_ENTRIES_BY_HOLDER, SELECT_HOLDER_ENTRIES, SELECT_PAYLOADS, UPDATE_ENTRY, entry_row_of,
-    entry_values,
+    SELECT_ENTRIES_BY_HOLDER, SELECT_HOLDER_ENTRIES, SELECT_PAYLOADS, entry_row_of, entry_values,
 };
 pub use exception::{
     CREATE_SLURM, DELETE_EXCEPTIONS, Exception, ExceptionRow, INSERT_EXCEPTION,

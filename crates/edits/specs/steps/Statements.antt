@@ -1,8 +1,8 @@
 -- What a statement within a transaction does to the rows of a holder, or to the exceptions.
-use Rattle.std.specs.Prelude.{◌≡◌, ℕ, Bool, List, [], map, IsTrue, Option, Some, None, option_map, is_some, IsSome, Result, if◌then◌else◌}
+use Rattle.std.specs.Prelude.{◌≡◌, ℕ, Bool, List, [], map, IsTrue, Option, Some, None, option_map, is_some, IsSome, Result, Ok, if◌then◌else◌}
 use Rattle.sqlite.specs.declared.transaction.Transaction.{Transaction}
 use Rattle.sqlite.specs.Effect.{Database, IsDatabase}
-use Rattle.sqlite.specs.State.{State}
+use Rattle.sqlite.specs.State.{State, ExecutesInside}
 use Rattle.sqlite.specs.Store.{Ghosts}
 use Rattle.sqlite_trees.specs.Tree.{Trees}
 use Rattle.sqlite_value.specs.Order.{Row}
@@ -39,6 +39,10 @@ abbrev pub EditsRows : List ℕ → (Rows → Rows) → Database → Database �
 EditsRows h edit old new =
     (charter : CharterSets) (rows : AllRows) → TablesHold charter rows old.trees → IsSome (rows.of_holder h)
     → KeepsExceptions charter (at_holder h (option_map edit) rows) old.trees new.trees
+
+-- the statement was executed within the transaction, and changed so many rows
+abbrev pub IsExecutedOn : List ℕ → Row → ℕ → State → State → Type 0
+IsExecutedOn sql params count old new = ExecutesInside 0 sql params old new (Ok count)
 
 -- the transaction goes on, the schema stays, and the rows of the holder are edited
 pub record EditsHolder (h : List ℕ) (edit : Rows → Rows) (old new : State) : Type 0 where

@@ -1,19 +1,35 @@
-use Rattle.std.proofs.Common.{arith, ◌∙◌}
+use Rattle.std.proofs.Common.{arith}
 use Rattle.std.proofs.lemmas.Result.{on_ok_weaker}
 use Rattle.making.proofs.StatementLemmas.{stays_then}
-use Rattle.edits.proofs.AuthSteps.{amends_auth, one_entry, entries_are_one}
+use Rattle.edits.proofs.AmendSteps.{ready_then, amends_none, amends_one}
 use Rattle.edits.proofs.auth.amend_auth.Goals as goal
+
+pub put_entries-requires : goal.put_entries-requires
+put_entries-requires g c clean =
+    let earlier = c.execute_counting.ensures.inside.survives.clean in
+    let ready = c.requires (omega (arith, clean, earlier, c.execute.ensures.inside.survives.clean)) in
+    let first = rw c.number_values.ensures at (c.in_ok-execute.ensures.ran (omega (arith, clean, earlier))) in
+    let second = rw (c.claim_values.ensures, c.claim_of-claim.ensures) at (c.in_ok-amended.ensures.ran clean) in
+    ready_then c.args.holder.now c.args.auth.now _ _ _ c.in_ok-amended.amended ready first second
+
+pub returns-then-amended-eq0-clause-done : goal.returns-then-amended-eq0-clause-done
+returns-then-amended-eq0-clause-done g c clean =
+    let earlier = c.execute_counting.ensures.inside.survives.clean in
+    let ready = c.requires (omega (arith, clean, earlier, c.execute.ensures.inside.survives.clean)) in
+    let first = rw c.number_values.ensures at (c.in_ok-execute.ensures.ran (omega (arith, clean, earlier))) in
+    let second = rw (c.claim_values.ensures, c.claim_of-claim.ensures) at (c.in_ok-amended.ensures.ran clean) in
+    amends_none c.args.holder.now c.args.auth.now _ _ _ c.in_ok-amended.amended ready first second (omega (arith, c.if-amended-eq0.true))
 
 pub returns-clause-done : goal.returns-clause-done
 returns-clause-done g c clean =
-    let last = c.execute-2.ensures.inside.survives.clean in
-    let ready = c.requires (omega (arith, last, c.execute.ensures.inside.survives.clean)) in
-    let first = rw (c.claim_values.ensures, c.claim_of-claim.ensures) at (c.in_ok-execute.ensures.ran (omega (arith, last))) in
-    let h = c.args.holder.now in
-    let x = c.args.auth.now in
-    let one = c.entries.ensures ∙ entries_are_one h x in
-    let second = rw (c.entry_values.ensures, c.entry_row_of-row.ensures, c.claim_of-claim.ensures, one) at (c.execute-2.ensures.ran clean) in
-    on_ok_weaker c.execute-2.result (amends_auth h x (one_entry h x) (entries_are_one h x) _ _ _ ready first) second
+    let last = c.put_entries.ensures.inside.survives.clean in
+    let earlier = c.execute_counting.ensures.inside.survives.clean in
+    let ready = c.requires (omega (arith, clean, last, earlier, c.execute.ensures.inside.survives.clean)) in
+    let first = rw c.number_values.ensures at (c.in_ok-execute.ensures.ran (omega (arith, clean, last, earlier))) in
+    let second = rw (c.claim_values.ensures, c.claim_of-claim.ensures) at (c.in_ok-amended.ensures.ran (omega (arith, clean, last))) in
+    let put = rw (c.claim_of-claim.ensures, c.entries.ensures) at (c.put_entries.ensures.done clean) in
+    on_ok_weaker c.put_entries.result
+    (amends_one c.args.holder.now c.args.auth.now _ _ _ c.in_ok-amended.amended ready first second c.claims_differ.ensures (λ none. absurd (omega (arith, none, c.if-amended-eq0.false))) _) put
 
 pub returns-clause-inside : goal.returns-clause-inside
-returns-clause-inside g c = stays_then g.S.Store _ _ _ c.execute.ensures.inside c.execute-2.ensures.inside
+returns-clause-inside g c = stays_then g.S.Store _ _ _ (stays_then g.S.Store _ _ _ c.execute.ensures.inside c.execute_counting.ensures.inside) c.put_entries.ensures.inside
