@@ -1,11 +1,10 @@
 -- The rows that tables hold give no VRP twice.
-use Rattle.std.proofs.Common.{◌≡◌, ℕ, true, List, map, filter, Some, Contains, refl, sym, ap, subst, ◌∙◌, IsPermutation}
-use Rattle.std.proofs.lemmas.List.Sorted.{IsPermutation-sym, IsPermutation-map}
+use Rattle.std.proofs.Common.{◌≡◌, ℕ, true, List, map, filter, Some, Contains, refl, sym, ap, subst, ◌∙◌}
 use Rattle.sqlite.specs.Effect.{Database, IsDatabase}
 use Rattle.sqlite_value.specs.Order.{Row}
 use Rattle.sqlite_rules.specs.Lists.{Has}
 use Rattle.sqlite_rules.proofs.ListLemmas.{all_from, has_contained}
-use Rattle.sqlite_trees.proofs.ListLemmas.{filter_all, map-map, IsPermutation-same}
+use Rattle.sqlite_trees.proofs.ListLemmas.{filter_all, IsPermutation-same}
 use Rattle.charters.specs.CharterSets.{CharterSets}
 use Rattle.registry.specs.declared.authorization.Auth.{Auth}
 use Rattle.registry.specs.declared.authorization.RoaPrefix.{RoaPrefix}
@@ -17,11 +16,11 @@ use Rattle.tables.specs.Authorizations.{claim_of}
 use Rattle.tables.specs.Cells.{claim_row, entry_row}
 use Rattle.tables.specs.Groups.{claim_entry}
 use Rattle.tables.specs.Tables.{desk_tables, claim, entry, contents}
-use Rattle.tables.specs.TablesHold.{TablesHold, claim_part, entry_part, part_rows}
+use Rattle.tables.specs.TablesHold.{TablesHold, entry_part}
 use Rattle.tables.proofs.Once.{two_are_one, entry_row_once}
-use Rattle.tables.proofs.PartLemmas.{names}
 use Rattle.tables.proofs.SomeRow.{in_table, has_entry_row}
 use Rattle.database.specs.Laws.{payload_columns, number_columns, ClaimsDiffer, EntriesDiffer}
+use Rattle.edits.proofs.Numbers.{number_of, numbered_apart}
 use Rattle.store.specs.Given.{GivenOnce}
 use Rattle.store.proofs.Giving.{cells_of_vrp}
 
@@ -43,12 +42,8 @@ module _ (entries_differ : EntriesDiffer) (claims_differ : ClaimsDiffer) (charte
   -- no two authorizations of a holder have one number
   one_of_number : (h : List ℕ) (r : Rows) (x y : Auth) → rows.of_holder h ≡ Some r → Has r.auths x → Has r.auths y → x.number ≡ y.number → x ≡ y
   one_of_number h r x y of in_r in_s number =
-      let shows = λ (z : Auth). claim_row h (claim_of z) in
-      let table = contents (db.trees claim.tree) in
-      let mine : IsPermutation (map shows r.auths) (filter (names claim_part.place h) table) = subst (λ o. IsPermutation (part_rows claim_part h o) (filter (names claim_part.place h) table)) of (holds.claims.each h) in
-      let shown = subst (IsPermutation (map number_columns (filter (names claim_part.place h) table))) (map-map number_columns shows r.auths) (IsPermutation-map number_columns _ _ (IsPermutation-sym _ _ mine)) in
-      let apart = claims_differ db sound tables (holds.whole claim.tree refl) (names claim_part.place h) _ shown in
-      two_are_one (λ z. number_columns (shows z)) r.auths apart x y in_r in_s (ap (λ n. number_columns (claim_row h (record (claim_of x) { number = n }))) number)
+      let apart = numbered_apart h claims_differ db sound tables (holds.whole claim.tree refl) rows.of_holder r holds.claims of in
+      two_are_one (number_of h) r.auths apart x y in_r in_s (ap (λ n. number_columns (claim_row h (record (claim_of x) { number = n }))) number)
 
   one_holder : (h k : List ℕ) (r s : Rows) (x y : Auth) → h ≡ k → rows.of_holder h ≡ Some r → rows.of_holder k ≡ Some s → Contains r.auths x → Contains s.auths y → x.number ≡ y.number → x ≡ y
   one_holder h k r s x y name of also in_r in_s number =
