@@ -10,7 +10,6 @@ use Rattle.addr.specs.declared.prefix.Prefix.{Prefix}
 use Rattle.addr.specs.declared.vrp.Vrp.{Vrp}
 use Rattle.registry.specs.declared.authorization.Auth.{Auth}
 use Rattle.registry.specs.declared.authorization.RoaPrefix.{RoaPrefix}
-use Rattle.registry.specs.Terms.{entries_of}
 use Rattle.csv_records.specs.Fields.{Fields}
 use Rattle.csv_records.specs.Imports.{import_header}
 
@@ -52,4 +51,4 @@ entry_row auth e =
 
 -- a row for each entry of the authorization
 abbrev pub list_rows : Auth → List Fields
-list_rows auth = map (entry_row auth) (entries_of auth)
+list_rows auth = map (entry_row auth) auth.entries

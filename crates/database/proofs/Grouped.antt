@@ -4,7 +4,6 @@ use Rattle.std.specs.List.{AllByRecursion}
 use Rattle.std.proofs.lemmas.List.Elements.{All-from_recursion}
 use Rattle.sqlite_trees.proofs.ListLemmas.{all_of, all-map, all_from_map, map-map, flat_map-map, flat_map_same_on}
 use Rattle.registry.specs.RoaPrefixes.{AreEntries}
-use Rattle.registry.specs.Terms.{entries_of}
 use Rattle.registry.specs.declared.authorization.Auth.{Auth}
 use Rattle.registry.specs.declared.authorization.RoaPrefix.{RoaPrefix}
 use Rattle.tables.specs.declared.claim.Claim.{Claim}
@@ -21,15 +20,13 @@ use Rattle.database.specs.steps.Opened.{HasOneEntry, MakeAuths, named_claim, nam
 abbrev auth_of : Claim → RoaPrefix → Auth
 auth_of c e = record { number = c.number; asn = c.asn; prefix = e.prefix; max = e.max; from = c.from; until = c.until }
 
-entries_of_it : (c : Claim) (e : RoaPrefix) → entries_of (auth_of c e) ≡ e ∷ []
-unfolding entries_of
+entries_of_it : (c : Claim) (e : RoaPrefix) → (auth_of c e).entries ≡ e ∷ []
 entries_of_it c e = refl
 
 claim_of_it : (c : Claim) (e : RoaPrefix) → claim_of (auth_of c e) ≡ c
 claim_of_it c e = refl
 
-has_one : (x : Auth) → length (entries_of x) ≡ 1
-unfolding entries_of
+has_one : (x : Auth) → length x.entries ≡ 1
 has_one x = refl
 
 abbrev pub named_row : OfHolder Claim → RoaPrefix → OfHolder EntryRow
@@ -37,7 +34,7 @@ named_row = holder_entry claim_entry
 
 -- an authorization as a claim with its entries
 abbrev pub group_of : OfHolder Auth → Group (OfHolder Claim)
-group_of x = record { claim = named_claim x; entries = entries_of x.row }
+group_of x = record { claim = named_claim x; entries = x.row.entries }
 
 pub all_one : (xs : List (OfHolder Auth)) → AllByRecursion HasOneEntry (map group_of xs)
 all_one xs = all-map HasOneEntry group_of xs (all_of (λ x. HasOneEntry (group_of x)) (λ x. has_one x.row) xs)
@@ -64,7 +61,7 @@ some_auths (g ∷ groups) one =
 pub same_rows : (xs : List (OfHolder Auth)) → flat_map named_entries xs ≡ flat_map (group_rows named_row) (map group_of xs)
 same_rows xs =
     flat_map_same_on named_entries (λ x. group_rows named_row (group_of x))
-    (λ x. map-map (λ (r : EntryRow). let named : OfHolder EntryRow = record { holder = x.holder; row = r } in named) (claim_entry (claim_of x.row)) (entries_of x.row)) xs
+    (λ x. map-map (λ (r : EntryRow). let named : OfHolder EntryRow = record { holder = x.holder; row = r } in named) (claim_entry (claim_of x.row)) x.row.entries) xs
     ∙ sym (flat_map-map (group_rows named_row) group_of xs)
 
 module _ (claims : List (OfHolder Claim)) (rows : List (OfHolder EntryRow)) where

@@ -6,7 +6,6 @@ use Rattle.std.proofs.lemmas.List.Sorted.{Contains-permutation, IsPermutation-ma
 use Rattle.sqlite_trees.specs.Tree.{Trees}
 use Rattle.sqlite_trees.proofs.ListLemmas.{map-map, all-permutation}
 use Rattle.sqlite_rules.proofs.ListLemmas.{contains_had}
-use Rattle.registry.specs.Terms.{entries_of}
 use Rattle.registry.specs.Values.{GrantFits}
 use Rattle.registry.specs.declared.authorization.Auth.{Auth}
 use Rattle.slurm.specs.declared.exceptions.TheConstants.{MOST_ENTRIES}
@@ -35,7 +34,6 @@ claims_turned : (auths : List (OfHolder Auth)) → map claim_columns (map row_of
 claims_turned auths = map-map claim_columns row_of_auth auths
 
 entries_turned : (auths : List (OfHolder Auth)) → map entry_columns (map row_of_auth auths) ≡ flat_map rows_of_entries auths
-unfolding entries_of
 entries_turned [] = refl
 entries_turned (x ∷ auths) = ap (λ l. entry_columns (row_of_auth x) ∷ l) (entries_turned auths)
 

@@ -20,7 +20,6 @@ use Rattle.addr.specs.Address.{FitsMaxLength, fits_max_length}
 use Rattle.addr.specs.Name.{is_name}
 use Rattle.registry.specs.Values.{AuthFits}
 use Rattle.registry.specs.RoaPrefixes.{AreEntries}
-use Rattle.registry.specs.Terms.{entries_of}
 use Rattle.registry.specs.Verdict.{fit_lengths}
 use Rattle.registry.specs.declared.authorization.Auth.{Auth}
 use Rattle.registry.specs.declared.authorization.RoaPrefix.{RoaPrefix}
@@ -72,16 +71,16 @@ lengths_in_range (e ∷ es) fit =
 abbrev IsInRange : OfHolder Auth → Type 0
 IsInRange x = IsTrue (is_name x.holder) × AuthFits x.row
 
-auth_fits : (x : OfHolder Auth) → NamedFits ClaimFits (named_claim x) → AllByRecursion (NamedFits EntryRowFits) (named_entries x) → AreEntries (entries_of x.row) → IsInRange x
+auth_fits : (x : OfHolder Auth) → NamedFits ClaimFits (named_claim x) → AllByRecursion (NamedFits EntryRowFits) (named_entries x) → AreEntries x.row.entries → IsInRange x
 auth_fits x one each are =
     let rows = all_from_map (NamedFits EntryRowFits) _ (entry_rows_of x.row) each in
-    let entries = all_from_map _ (claim_entry (claim_of x.row)) (entries_of x.row) rows in (
+    let entries = all_from_map _ (claim_entry (claim_of x.row)) x.row.entries rows in (
       one.0,
       record {
         number = one.1.number;
         asn = one.1.asn;
         entries = are;
-        lengths = lengths_fit (entries_of x.row) (all_weaker _ _ (λ e fits. fits.1.max) (entries_of x.row) entries);
+        lengths = lengths_fit x.row.entries (all_weaker _ _ (λ e fits. fits.1.max) x.row.entries entries);
         from = one.1.from;
         until = one.1.until;
       },
@@ -92,8 +91,8 @@ claim_fits x fits = record { number = fits.number; asn = fits.asn; from = fits.f
 
 rows_fit : (x : Auth) → AuthFits x → AllByRecursion EntryRowFits (entry_rows_of x)
 rows_fit x fits =
-    all-map EntryRowFits (claim_entry (claim_of x)) (entries_of x)
-    (all_weaker _ _ (λ e range. record { number = fits.number; asn = fits.asn; max = range }) (entries_of x) (lengths_in_range (entries_of x) fits.lengths))
+    all-map EntryRowFits (claim_entry (claim_of x)) x.entries
+    (all_weaker _ _ (λ e range. record { number = fits.number; asn = fits.asn; max = range }) x.entries (lengths_in_range x.entries fits.lengths))
 
 -- ---- what tables that read show
 

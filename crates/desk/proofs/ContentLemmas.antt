@@ -9,7 +9,6 @@ use Rattle.std.proofs.lemmas.List.{length-map}
 use Rattle.std.proofs.lemmas.List.Folds.{list_all-map}
 use Rattle.addr.specs.declared.asn.Asn.{Asn}
 use Rattle.registry.specs.RoaPrefixes.{AreEntries, Rise}
-use Rattle.registry.specs.Terms.{entries_of}
 use Rattle.registry.specs.Verdict.{fit_lengths}
 use Rattle.registry.specs.declared.authorization.Auth.{Auth}
 use Rattle.registry.specs.declared.authorization.RoaPrefix.{RoaPrefix}
@@ -46,16 +45,16 @@ made asn entries = record { asn = asn; entries = entries }
 
 -- what is made of the terms is their content, and it is made exactly where their maxLengths fit
 pub content_found : (x : Auth) (entries : List Entry) (r : Result RouteOriginAttestation ContentFault)
-    → AreEntries (entries_of x) → entries ≡ map content_entry (entries_of x)
+    → AreEntries x.entries → entries ≡ map content_entry x.entries
     → IfOk r (λ content. content.asn ≡ x.asn) → IfOk r (λ content. IsPermutation entries content.entries) → IfOk r IsContent
     → IfErr r (IsLowestFault entries)
-    → (IsSome (result_ok r) ↔ (fit_lengths (entries_of x) ≡ true)) × IfSome (result_ok r) (λ content. content ≡ content_of x)
+    → (IsSome (result_ok r) ↔ (fit_lengths x.entries ≡ true)) × IfSome (result_ok r) (λ content. content ≡ content_of x)
 unfolding made
 content_found x entries (Ok content) are all asn moved is fault =
-    let given = map content_entry (entries_of x) in
+    let given = map content_entry x.entries in
     let one : content.entries ≡ given =
-    one_order given content.entries (rw all at moved) (entries_rise (entries_of x) are.rising) is.entries.rising in
-    let fits = sym (in_range (entries_of x)) ∙ ap (list_all is_in_range) (sym one) ∙ is.entries.in_range in
+    one_order given content.entries (rw all at moved) (entries_rise x.entries are.rising) is.entries.rising in
+    let fits = sym (in_range x.entries) ∙ ap (list_all is_in_range) (sym one) ∙ is.entries.in_range in
     ((λ _. fits, λ _. refl), ap (λ a. made a content.entries) asn ∙ ap (made x.asn) one)
 content_found x entries (Err fault) are all asn moved is of =
-    ((λ some. absurd (false≢true some), λ fits. absurd (one_fault (entries_of x) fault are (rw all at of) fits)), tt)
+    ((λ some. absurd (false≢true some), λ fits. absurd (one_fault x.entries fault are (rw all at of) fits)), tt)

@@ -21,7 +21,7 @@ use Rattle.registry.specs.History.{History, same_name}
 use Rattle.registry.specs.HypotheticalHistory.{HypotheticalHistory}
 use Rattle.registry.specs.Rows.{Rows, RowsOf, RowsIfAny}
 use Rattle.registry.specs.RowsOfAll.{AllRows, HasRows, IsGivenOn}
-use Rattle.registry.specs.Terms.{authorization_terms, entries_of, is_entry, share_vrp, AreActive, HeldSinceMade, IsActive, IsVrpOf, Keeps}
+use Rattle.registry.specs.Terms.{authorization_terms, is_entry, share_vrp, AreActive, HeldSinceMade, IsActive, IsVrpOf, Keeps}
 use Rattle.registry.specs.Verdict.{IsLegal}
 use Rattle.registry.specs.declared.authorization.Auth.{Auth}
 use Rattle.charters.specs.Repeats.{has_repeat}
@@ -47,10 +47,10 @@ use Rattle.desk.proofs.KeptLemmas.{after_same}
 -- two authorizations that have one VRP share it
 shared_vrp : (x y : Auth) (v : Vrp) → IsVrpOf x v → IsVrpOf y v → share_vrp x y ≡ true
 shared_vrp x y v is also =
-    let of_x = and_parts (x.asn.0 == v.asn.0) (list_any (is_entry v.prefix v.max) (entries_of x)) is in
-    let of_y = and_parts (y.asn.0 == v.asn.0) (list_any (is_entry v.prefix v.max) (entries_of y)) also in
+    let of_x = and_parts (x.asn.0 == v.asn.0) (list_any (is_entry v.prefix v.max) x.entries) is in
+    let of_y = and_parts (y.asn.0 == v.asn.0) (list_any (is_entry v.prefix v.max) y.entries) also in
     let asn : (x.asn.0 == y.asn.0) ≡ true = eq-eqb _ _ (eqb-true _ _ of_x.0 ∙ sym (eqb-true _ _ of_y.0)) in
-    and_from _ _ asn (both_share v.prefix v.max (entries_of x) (entries_of y) of_x.1 of_y.1)
+    and_from _ _ asn (both_share v.prefix v.max x.entries y.entries of_x.1 of_y.1)
 
 -- ---- the exchange that changes would make
 

@@ -1,7 +1,6 @@
 -- The ROA content of an authorization, as a text.
 use Rattle.std.specs.Prelude.{◌≡◌, ℕ, List, map}
 use Rattle.hex.specs.Hex.{encode_lower}
-use Rattle.registry.specs.Terms.{entries_of}
 use Rattle.registry.specs.declared.authorization.Auth.{Auth}
 use Rattle.registry.specs.declared.authorization.RoaPrefix.{RoaPrefix}
 use Rattle.roa.specs.RoaContent.{RouteOriginAttestation, Encodes, IsContent}
@@ -13,7 +12,7 @@ content_entry e = record { prefix = e.prefix; max = e.max }
 
 -- the AS number of the terms, and all their entries
 abbrev pub content_of : Auth → RouteOriginAttestation
-content_of x = record { asn = x.asn; entries = map content_entry (entries_of x) }
+content_of x = record { asn = x.asn; entries = map content_entry x.entries }
 
 -- that is a content, and the text its octets (RFC 9582 section 4), two lower-case hex digits each
 abbrev pub IsContentText : Auth → List ℕ → Type 0

@@ -1,7 +1,6 @@
 //! The ROA content of an authorization (RFC 9582).
 ghost use Rattle.std.specs.Prelude.{◌≡◌, ◌↔◌, true, map, IsSome, IfSome, IfOk};
 ghost use Rattle.std.specs.String.{string_bytes};
-ghost use Rattle.registry.specs.Terms.{entries_of};
 ghost use Rattle.registry.specs.Verdict.{fit_lengths};
 ghost use Rattle.desk.specs.ContentText.{content_entry, content_of, IsContentText};
 
@@ -33,7 +32,7 @@ fn content_entries(alloc: Global, entries: &[RoaPrefix]) -> Result<Vec<Entry>, A
 /// history has.
 fn content_of(alloc: Global, auth: &Auth) -> Result<Option<Content>, AllocError>
     ensures some { IfOk result (λ found.
-        IsSome found ↔ (fit_lengths (entries_of auth.now) ≡ true)) }
+        IsSome found ↔ (fit_lengths auth.now.entries ≡ true)) }
     ensures value { IfOk result (λ found. IfSome found (λ content. content ≡ content_of auth.now)) }
 {
     let entries = content_entries(alloc, &auth.entries())?;
@@ -44,7 +43,7 @@ fn content_of(alloc: Global, auth: &Auth) -> Result<Option<Content>, AllocError>
 /// of range, which no history has.
 pub(crate) fn content_text(alloc: Global, auth: &Auth) -> Result<Option<String>, AllocError>
     ensures some { IfOk result (λ found.
-        IsSome found ↔ (fit_lengths (entries_of auth.now) ≡ true)) }
+        IsSome found ↔ (fit_lengths auth.now.entries ≡ true)) }
     ensures text { IfOk result (λ found.
         IfSome found (λ text. IsContentText auth.now (string_bytes text))) }
 {

@@ -17,7 +17,6 @@ use Rattle.registry.specs.declared.authorization.Auth.{Auth}
 use Rattle.registry.specs.declared.change.Edit.TheVariants.{Amend}
 use Rattle.registry.specs.Rows.{Rows, edited, replaced_by}
 use Rattle.registry.specs.RowsOfAll.{AllRows}
-use Rattle.registry.specs.Terms.{entries_of}
 use Rattle.tables.specs.Authorizations.{claim_of}
 use Rattle.tables.specs.Cells.{number_cell, claim_cells, claim_row}
 use Rattle.tables.specs.Tables.{claim, entry, contents, desk_beside}
@@ -178,14 +177,14 @@ module _ (h : List ℕ) where
       }
 
       -- one has it, and its entries are put
-      pub amends_one : ClaimsDiffer → count ≢ 0 → (d : State) → PutsRows entry.tree (rows_of_entries h (claim_of x) (entries_of x)) c d → EditsHolder h (edited (Amend x)) a d
+      pub amends_one : ClaimsDiffer → count ≢ 0 → (d : State) → PutsRows entry.tree (rows_of_entries h (claim_of x) x.entries) c d → EditsHolder h (edited (Amend x)) a d
       amends_one claims_differ some d put = record {
         ready = put.ready;
         schema = put.edits.schema ∙ same_schema;
         sound = λ _. put.sound (wrote cells amend_claim_is between ran).sound;
         rows = λ charter rows was is.
             let news = λ (table : List Row). entries_of_auth h x ++ table in
-            let own_news = puts_local h (entries_of_auth h x) (entries_named h (claim_of x) (entries_of x)) in
+            let own_news = puts_local h (entries_of_auth h x) (entries_named h (claim_of x) x.entries) in
             auths_turned h (map (replaced_by x)) _ _ a.now d.now (entries_again (map change) without news a.now c.now d.now (both charter rows was) put.edits own_news.permutes)
             (change_local 0 h (is_of h x.number) own (amended_claim (claim_of x)) (λ cells is. name_kept h x.number cells (own cells is)))
             (both_local without news (take_local 0 h (is_of h x.number) own) own_news)

@@ -16,7 +16,6 @@ use Rattle.registry.specs.declared.authorization.RoaPrefix.{RoaPrefix}
 use Rattle.registry.specs.declared.change.Edit.TheVariants.{Withdraw}
 use Rattle.registry.specs.Rows.{Rows, edited}
 use Rattle.registry.specs.RowsOfAll.{AllRows}
-use Rattle.registry.specs.Terms.{entries_of}
 use Rattle.tables.specs.Authorizations.{claim_of, entry_rows_of}
 use Rattle.tables.specs.Cells.{number_cell, schema_row, operator_row, prefix_cells, claim_row, entry_row}
 use Rattle.tables.specs.Groups.{claim_entry}
@@ -184,14 +183,14 @@ module _ (h : List ℕ) where
       let parts = flat_map-append entries_of_auth xs (x ∷ []) ∙ ap (λ l. flat_map entries_of_auth xs ++ l) (append-nil (entries_of_auth x)) in
       subst (λ l. IsPermutation l (entries_of_auth x ++ flat_map entries_of_auth xs)) (sym parts) (IsPermutation-append_comm (flat_map entries_of_auth xs) (entries_of_auth x))
 
-  pub puts_auth : (x : Auth) (a b c : State) → PutsRows claim.tree (claim_row h (claim_of x) ∷ []) a b → PutsRows entry.tree (rows_of_entries (claim_of x) (entries_of x)) b c → EditsHolder h (with_auths (x ∷ [])) a c
+  pub puts_auth : (x : Auth) (a b c : State) → PutsRows claim.tree (claim_row h (claim_of x) ∷ []) a b → PutsRows entry.tree (rows_of_entries (claim_of x) x.entries) b c → EditsHolder h (with_auths (x ∷ [])) a c
   puts_auth x a b c first second = record {
     ready = second.ready;
     schema = second.edits.schema ∙ first.edits.schema;
     sound = λ sound. second.sound (first.sound sound);
     rows = λ charter rows was some.
         auths_turned h (λ xs. xs ++ x ∷ []) _ _ a.now c.now (claims_first _ _ a.now b.now c.now first.edits second.edits)
-        (put_local 0 h (claim_row h (claim_of x)) refl) (puts_local (entries_of_auth x) (entries_named (claim_of x) (entries_of x)))
+        (put_local 0 h (claim_row h (claim_of x)) refl) (puts_local (entries_of_auth x) (entries_named (claim_of x) x.entries))
         charter rows was some (λ r of. appended claim_cells_of r.auths x) (λ r of. entries_appended r.auths x);
   }
 
@@ -226,7 +225,7 @@ module _ (h : List ℕ) where
   pub entries_left : (n : ℕ) (xs : List Auth) → flat_map entries_of_auth (without n xs) ≡ filter (λ row. not (is_of h n row)) (flat_map entries_of_auth xs)
   entries_left n [] = refl
   entries_left n (x ∷ xs) =
-      go (x.number == n) ∙ ap (λ l. l ++ flat_map entries_of_auth (without n xs)) (sym (taken_together n (claim_of x) (entries_of x)))
+      go (x.number == n) ∙ ap (λ l. l ++ flat_map entries_of_auth (without n xs)) (sym (taken_together n (claim_of x) x.entries))
       ∙ ap (λ l. filter (λ row. not (is_of h n row)) (entries_of_auth x) ++ l) (entries_left n xs) ∙ sym (filter-append (λ row. not (is_of h n row)) (entries_of_auth x) (flat_map entries_of_auth xs))
     where
       go : (b : Bool) → flat_map entries_of_auth (cond (not b) (x ∷ without n xs) (without n xs)) ≡ cond b [] (entries_of_auth x) ++ flat_map entries_of_auth (without n xs)

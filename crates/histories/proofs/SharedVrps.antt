@@ -17,7 +17,7 @@ use Rattle.registry.specs.declared.command.Command.{Command}
 use Rattle.registry.specs.declared.command.Command.TheVariants.{Create, Amend, Withdraw, Import}
 use Rattle.registry.specs.History.{Entry, History, same_name}
 use Rattle.charters.specs.Repeats.{has_repeat}
-use Rattle.registry.specs.Terms.{entries_of, entries_asked, entries_have, is_entry, are_shared, numbered_terms, gives_some, share_vrp, authorizations_made, authorization_terms, amended, HeldSinceMade, HoldsTerms, Keeps, AreActive}
+use Rattle.registry.specs.Terms.{entries_have, is_entry, are_shared, numbered_terms, gives_some, share_vrp, authorizations_made, authorization_terms, amended, HeldSinceMade, HoldsTerms, Keeps, AreActive}
 use Rattle.registry.specs.Verdict.{Verdict, IsLegal, auth_of_number}
 use Rattle.histories.specs.SharedVrps.{share_none, NoSharedVrp}
 use Rattle.registry.proofs.Names.{same_name-same, same_name-true}
@@ -45,8 +45,8 @@ shared_address p q same =
 
 share_vrp-flips : (x y : Auth) → share_vrp x y ≡ share_vrp y x
 share_vrp-flips x y =
-    ap (λ b. b && are_shared (entries_of x) (entries_of y)) (eqb-flips x.asn.0 y.asn.0)
-    ∙ ap (λ b. eqb y.asn.0 x.asn.0 && b) (are_shared-flips (entries_of x) (entries_of y))
+    ap (λ b. b && are_shared x.entries y.entries) (eqb-flips x.asn.0 y.asn.0)
+    ∙ ap (λ b. eqb y.asn.0 x.asn.0 && b) (are_shared-flips x.entries y.entries)
 
 -- a list that has an entry shares an address with it
 shared_with_one : (d : RoaPrefix) (es : List RoaPrefix) → list_any (is_entry d.prefix d.max) es ≡ true
@@ -80,7 +80,7 @@ two_holders : (history : History) (g h : List ℕ) (x y : Auth) → same_name g 
 two_holders history g h x y differ holds_x holds_y =
     elim (cases_Bool (share_vrp x y)) [
       | inl t ↦
-          let a = shared_entries (entries_of x) (entries_of y) (and_parts (eqb x.asn.0 y.asn.0) (are_shared (entries_of x) (entries_of y)) t).1 in
+          let a = shared_entries x.entries y.entries (and_parts (eqb x.asn.0 y.asn.0) (are_shared x.entries y.entries) t).1 in
           let one : g ≡ h = same_Some g h (sym (holds_x a.0 a.1) ∙ holds_y a.0 a.2) in
           absurd (false≢true (sym differ ∙ ap (same_name g) (sym one) ∙ same_name-same g))
       | inr f ↦ f
@@ -314,10 +314,10 @@ apart-after charter before day caller (Create holder terms) h accepted pairs =
     elim (cases_Bool (same_name holder h)) [
       | inl t ↦
           let of = accepted.1.1.1.1.1.0 in
-          let at_holder = each_of_kept (HeldSinceMade before holder) (λ y. gives_some y terms.asn (entries_asked terms)) (authorization_terms before holder) of.0 of.1 of.2 in
-          let Q : List ℕ → Type 0 = λ g. Each (λ y. HeldSinceMade before g y → gives_some y terms.asn (entries_asked terms) ≡ false) (authorization_terms before g) in
+          let at_holder = each_of_kept (HeldSinceMade before holder) (λ y. gives_some y terms.asn terms.entries) (authorization_terms before holder) of.0 of.1 of.2 in
+          let Q : List ℕ → Type 0 = λ g. Each (λ y. HeldSinceMade before g y → gives_some y terms.asn terms.entries ≡ false) (authorization_terms before g) in
           let none = subst Q (same_name-true holder h t) at_holder in
-          let later_on = Each-weaker (HeldSinceMade before h) (HeldSinceMade (e ∷ before) h) (λ y. gives_some y terms.asn (entries_asked terms)) (authorization_terms before h) (λ y since. since.1) none in
+          let later_on = Each-weaker (HeldSinceMade before h) (HeldSinceMade (e ∷ before) h) (λ y. gives_some y terms.asn terms.entries) (authorization_terms before h) (λ y since. since.1) none in
           let apart : Each (λ y. HeldSinceMade (e ∷ before) h y → share_vrp y x ≡ false) (authorization_terms before h) =
           subst (λ es. Each (λ y. HeldSinceMade (e ∷ before) h y → gives_some y terms.asn es ≡ false) (authorization_terms before h))
           (sym (numbered-entries terms (authorizations_made before h + 1))) later_on in

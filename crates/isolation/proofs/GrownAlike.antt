@@ -14,7 +14,7 @@ use Rattle.registry.specs.HolderEntries.{entries_naming}
 use Rattle.registry.specs.HypotheticalHistory.{JudgesChange, hypothetical_command}
 use Rattle.registry.specs.Import.{IsPresent, JudgesRow, row_command}
 use Rattle.registry.specs.Permission.{are_permitted}
-use Rattle.registry.specs.Terms.{entries_asked, row_terms}
+use Rattle.registry.specs.Terms.{row_terms}
 use Rattle.registry.specs.Verdict.{Verdict, IsLegal}
 use Rattle.registry.proofs.Names.{same_name-same}
 use Rattle.histories.proofs.Growth.{Judging, MakeAt, grown-legal, rows-make, changes-make}
@@ -107,7 +107,7 @@ grow_alike {judges = judges} {charter = charter} {holder = holder} {day = day} {
 pub present_alike : {one other : History} {holder : List ℕ} (day : ℕ) (caller : List ℕ) (t : ImportRow)
     → Agree one other holder → IsPresent day caller holder one t → IsPresent day caller holder other t
 present_alike day caller t same present =
-    (ap (λ grants. are_permitted grants day caller Alter (entries_asked (row_terms t))) (sym same.grants) ∙ present.0, (active_alike same _).0 present.1)
+    (ap (λ grants. are_permitted grants day caller Alter (row_terms t).entries) (sym same.grants) ∙ present.0, (active_alike same _).0 present.1)
 
 rows_alike : (charter : Charter) (day : ℕ) (caller holder : List ℕ) → AreAlike (JudgesRow charter day caller holder) holder
 rows_alike charter day caller holder one other t outcome same is = by_outcome outcome is

@@ -15,7 +15,7 @@ use Rattle.charters.specs.Charter.{is_operator}
 use Rattle.registry.specs.History.{History, is_registered}
 use Rattle.registry.specs.Permission.{has_access, are_permitted, is_permitted_terms}
 use Rattle.registry.specs.Resources.{HoldsPrefix}
-use Rattle.registry.specs.Terms.{entries_asked, HoldsEntries, grant_terms, OfActive}
+use Rattle.registry.specs.Terms.{HoldsEntries, grant_terms, OfActive}
 use Rattle.registry.specs.Verdict.{check, accept, auth_of_number, HasAccessTo, Verdict, ShowVerdict, ListVerdict}
 use Rattle.addr.specs.declared.prefix.Prefix.{Prefix}
 use Rattle.isolation.specs.Isolation.{concerns_all_holders, AreJudgedAlike, AreSeenAlike}
@@ -100,10 +100,10 @@ judged charter one other day caller (Revoke holder n) same taker own =
     checked (of_grants same (list_any (λ g. eqb g.number n))) accepted)
 judged charter one other day caller (Create holder terms) same taker own =
     checked (of_grants same (λ grants. has_access grants day caller Alter)) (
-    checked (of_grants same (λ grants. are_permitted grants day caller Alter (entries_asked terms))) (
+    checked (of_grants same (λ grants. are_permitted grants day caller Alter terms.entries)) (
     checked itself (
     checked itself (
-    checked (of_holds_entries same (entries_asked terms)) (
+    checked (of_holds_entries same terms.entries) (
     checked (active_alike same _) (
     checked (both (active_alike same _) (fewer same.created))
     accepted))))))

@@ -17,7 +17,7 @@ use Rattle.registry.specs.declared.command.Command.TheVariants.{Create}
 use Rattle.registry.specs.GrowingHistory.{grown_by}
 use Rattle.registry.specs.History.{Entry, History}
 use Rattle.registry.specs.Import.{IsPresent, JudgesRow, ImportGrows, has_terms, are_same}
-use Rattle.registry.specs.Terms.{HoldsEntries, entries_of, entries_asked, entries_have, is_entry, numbered_terms, row_terms, gives_some, authorizations_made, authorization_terms, HeldSinceMade, Keeps, AreActive, OfActive, are_shared}
+use Rattle.registry.specs.Terms.{HoldsEntries, entries_have, is_entry, numbered_terms, row_terms, gives_some, authorizations_made, authorization_terms, HeldSinceMade, Keeps, AreActive, OfActive, are_shared}
 use Rattle.registry.specs.RoaPrefixes.{AreEntries}
 use Rattle.registry.specs.Verdict.{Verdict}
 use Rattle.registry.proofs.Entries.{numbered-entries, row-are}
@@ -55,29 +55,29 @@ has_its_terms n t =
     let asn : eqb t.asn.0 t.asn.0 ≡ true = grind (arith, nat_tests) in
     let from : eqb t.from t.from ≡ true = grind (arith, nat_tests) in
     let until : eqb t.until t.until ≡ true = grind (arith, nat_tests) in
-    let same : are_same (entries_asked t) (entries_of (numbered_terms t n)) ≡ true =
-    ap (are_same (entries_asked t)) (numbered-entries t n) ∙ same_itself (entries_asked t) in
+    let same : are_same t.entries (numbered_terms t n).entries ≡ true =
+    ap (are_same t.entries) (numbered-entries t n) ∙ same_itself t.entries in
     and_from _ _ (and_from _ _ asn same) (and_from _ _ from until)
 
 -- what has the terms gives some of their entries, where there are any
-gives_of_terms : (t : AuthTerms) (x : Auth) → 0 < length (entries_asked t) → has_terms t x ≡ true → gives_some x t.asn (entries_asked t) ≡ true
+gives_of_terms : (t : AuthTerms) (x : Auth) → 0 < length t.entries → has_terms t x ≡ true → gives_some x t.asn t.entries ≡ true
 gives_of_terms t x some has =
     let asn = eqb x.asn.0 t.asn.0 in
-    let same = are_same (entries_asked t) (entries_of x) in
+    let same = are_same t.entries x.entries in
     let parts = and_parts asn same (and_parts (asn && same) (eqb x.from t.from && eqb x.until t.until) has).0 in
-    and_from _ _ parts.0 (same_shares (entries_asked t) (entries_of x) some parts.1)
+    and_from _ _ parts.0 (same_shares t.entries x.entries some parts.1)
 
-any_gives : (t : AuthTerms) (xs : List Auth) → 0 < length (entries_asked t) → list_any (has_terms t) xs ≡ true → list_any (λ y. gives_some y t.asn (entries_asked t)) xs ≡ true
+any_gives : (t : AuthTerms) (xs : List Auth) → 0 < length t.entries → list_any (has_terms t) xs ≡ true → list_any (λ y. gives_some y t.asn t.entries) xs ≡ true
 any_gives t [] some any = any
 any_gives t (x ∷ xs) some any = elim (cases_Bool (has_terms t x)) [
-  | inl has ↦ ap (λ b. b || list_any (λ y. gives_some y t.asn (entries_asked t)) xs) (gives_of_terms t x some has)
+  | inl has ↦ ap (λ b. b || list_any (λ y. gives_some y t.asn t.entries) xs) (gives_of_terms t x some has)
   | inr lacks ↦
       let rest = any_gives t xs some (sym (ap (λ b. b || list_any (has_terms t) xs) lacks) ∙ any) in
-      ap (λ b. gives_some x t.asn (entries_asked t) || b) rest ∙ or-true (gives_some x t.asn (entries_asked t))
+      ap (λ b. gives_some x t.asn t.entries || b) rest ∙ or-true (gives_some x t.asn t.entries)
 ]
 
 -- the active authorizations with the new one
-active-created : (history : History) (day : ℕ) (caller holder : List ℕ) (t : AuthTerms) → HoldsEntries history holder (entries_asked t)
+active-created : (history : History) (day : ℕ) (caller holder : List ℕ) (t : AuthTerms) → HoldsEntries history holder t.entries
     → (active : List Auth) → AreActive history holder active
     → AreActive (record { day = day; caller = caller; command = Create holder t } ∷ history) holder
     (active ++ numbered_terms t (authorizations_made history holder + 1) ∷ [])
@@ -119,11 +119,11 @@ create_keeps charter history day caller holder t u accepted has =
 
 -- terms that one has are not made again where they have any entry, by rule `same`
 pub not_made_again : (charter : Charter) (history : History) (day : ℕ) (caller holder : List ℕ) (t : AuthTerms)
-    → AreEntries (entries_asked t) → HasTerms history holder t → Verdict charter history day caller (Create holder t) None → ⊥
+    → AreEntries t.entries → HasTerms history holder t → Verdict charter history day caller (Create holder t) None → ⊥
 not_made_again charter history day caller holder t are has accepted =
     let new = accepted.1.1.1.1.1.0 in
     let one = Keeps-unique (HeldSinceMade history holder) (authorization_terms history holder) has.0 new.0 has.1 new.1 in
-    let test = list_any (λ (y : Auth). gives_some y t.asn (entries_asked t)) in
+    let test = list_any (λ (y : Auth). gives_some y t.asn t.entries) in
     false≢true (sym new.2 ∙ ap test (sym one) ∙ any_gives t has.0 (omega (arith, are.number.0)) has.2)
 
 -- a row of an import is present once it was judged

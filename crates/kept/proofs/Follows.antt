@@ -8,7 +8,7 @@ use Rattle.addr.specs.declared.vrp.Vrp.{Vrp}
 use Rattle.payload.specs.VrpSet as set
 use Rattle.registry.specs.Edits.{ended, ends}
 use Rattle.registry.proofs.EntryVrps.{vrp_of_terms}
-use Rattle.registry.specs.Terms.{entries_of, IsVrpOfEntry}
+use Rattle.registry.specs.Terms.{IsVrpOfEntry}
 use Rattle.registry.specs.declared.authorization.Auth.{Auth}
 use Rattle.registry.specs.declared.authorization.RoaPrefix.{RoaPrefix}
 use Rattle.registry.specs.declared.change.Edit.{Edit}
@@ -39,7 +39,7 @@ not_given day v xs ys x grown none other giving =
     elim ((giving_more day v xs ys x grown).0 giving) [ inl before ↦ none before | inr last ↦ other last ]
 
 -- an authorization in force gives the VRPs of its entries
-pub in_force_gives : (x : Auth) (day : ℕ) → (x.from ≤ day) × (day ≤ x.until) → (v : Vrp) → IsVrpOfSome (entries_of x) x.asn v ↔ GivesOn x day v
+pub in_force_gives : (x : Auth) (day : ℕ) → (x.from ≤ day) × (day ≤ x.until) → (v : Vrp) → IsVrpOfSome x.entries x.asn v ↔ GivesOn x day v
 in_force_gives x day days v = (λ some. (days.0, days.1, (vrp_of_terms x v).1 some), λ gives. (vrp_of_terms x v).0 gives.2)
 
 -- ---- some begin
@@ -70,7 +70,7 @@ entry_joined old mid new asn es ds e grown same before now v =
 
 -- where all have, the authorization has
 pub auth_joined : (old new : KeptDay) (x : Auth) → (x.from ≤ old.day) × (old.day ≤ x.until)
-    → ((v : Vrp) → Contains (set.items new.vrps) v ↔ IsJoinedBy old (IsVrpOfSome (entries_of x) x.asn) v)
+    → ((v : Vrp) → Contains (set.items new.vrps) v ↔ IsJoinedBy old (IsVrpOfSome x.entries x.asn) v)
     → (v : Vrp) → Contains (set.items new.vrps) v ↔ IsJoined old x v
 auth_joined old new x days joined v = joined_same (in_force_gives x old.day days v) (joined v)
 
@@ -129,7 +129,7 @@ entry_left old mid new asn begun es ds e grown same before now v =
 
 -- where all are, what the authorization gives is
 pub auth_left : (old new : KeptDay) (x : Auth) (begun : List Auth) → (x.from ≤ old.day) × (old.day ≤ x.until)
-    → ((v : Vrp) → Contains (set.items new.vrps) v ↔ IsLeftWithout old (IsVrpOfSome (entries_of x) x.asn) begun v)
+    → ((v : Vrp) → Contains (set.items new.vrps) v ↔ IsLeftWithout old (IsVrpOfSome x.entries x.asn) begun v)
     → (v : Vrp) → Contains (set.items new.vrps) v ↔ IsLeftWithout old (GivesOn x old.day) begun v
 auth_left old new x begun days left v = left_same (in_force_gives x old.day days v) (left v)
 

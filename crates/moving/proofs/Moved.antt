@@ -8,7 +8,6 @@ use Rattle.sqlite_trees.proofs.ListLemmas.{map-map, filter-map, all-map, all-per
 use Rattle.charters.specs.CharterSets.{CharterSets}
 use Rattle.registry.specs.Rows.{Rows}
 use Rattle.registry.specs.RowsOfAll.{AllRows}
-use Rattle.registry.specs.Terms.{entries_of}
 use Rattle.registry.specs.declared.authorization.Auth.{Auth}
 use Rattle.tables.specs.Cells.{operator_row, prefix_cells}
 use Rattle.moving.specs.OldTables.{auth_row, auth_part, is_old_table, OldTablesHold}
@@ -47,7 +46,6 @@ claims_turned : (h : List ℕ) (r : Rows) → map claim_columns (auth_part.rows 
 claims_turned h r = map-map claim_columns (auth_row h) r.auths
 
 entries_turned : (h : List ℕ) (r : Rows) → map entry_columns (auth_part.rows h r) ≡ entry_part.rows h r
-unfolding entries_of
 entries_turned h r = go r.auths
   where
     go : (auths : List Auth) → map entry_columns (map (auth_row h) auths) ≡ entry_part.rows h (record r { auths = auths })

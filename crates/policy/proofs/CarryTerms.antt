@@ -9,7 +9,7 @@ use Rattle.registry.specs.declared.change.Change.TheVariants.{Holders}
 use Rattle.registry.specs.declared.change.Edit.TheVariants.{Create as CreateEdit, Amend as AmendEdit, Withdraw as WithdrawEdit}
 use Rattle.registry.specs.declared.command.Command.TheVariants.{Create, Amend, Withdraw}
 use Rattle.registry.specs.History.{Entry, History, is_registered}
-use Rattle.registry.specs.Terms.{entries_of, entries_asked, entries_have, HoldsEntries, numbered_terms, authorizations_made, authorization_terms, amended, HeldSinceMade, Keeps}
+use Rattle.registry.specs.Terms.{entries_have, HoldsEntries, numbered_terms, authorizations_made, authorization_terms, amended, HeldSinceMade, Keeps}
 use Rattle.registry.specs.Verdict.{auth_of_number}
 use Rattle.registry.specs.Rows.{Rows, RowsOf, replaced_by, Carries}
 use Rattle.registry.proofs.Entries.{numbered-entries}
@@ -20,14 +20,14 @@ use Rattle.registry.proofs.Held.{active-kept, active-numbered, not_yet_made, sin
 use Rattle.registry.proofs.Carry.{carries-edit}
 
 pub carries-create : (before : History) (day : ℕ) (caller holder : List ℕ) (t : AuthTerms) (x : Auth)
-    → is_registered before holder ≡ true → HoldsEntries before holder (entries_asked t)
+    → is_registered before holder ≡ true → HoldsEntries before holder t.entries
     → x ≡ numbered_terms t (authorizations_made before holder + 1)
     → Carries (Holders (record { holder = holder; edit = CreateEdit x }) None) before
     (record { day = day; caller = caller; command = Create holder t } ∷ before)
 carries-create before day caller holder t x registered holds is =
     let e : Entry = record { day = day; caller = caller; command = Create holder t } in
     let number : x.number ≡ authorizations_made before holder + 1 = ap (λ y. y.number) is in
-    let entries : entries_of x ≡ entries_asked t = ap entries_of is ∙ numbered-entries t (authorizations_made before holder + 1) in
+    let entries : x.entries ≡ t.entries = ap is.entries ∙ numbered-entries t (authorizations_made before holder + 1) in
     let since : HeldSinceMade (e ∷ before) holder x = (
       λ made. λ a has. holds a (ap (λ es. entries_have es a) (sym entries) ∙ has),
       not_yet_made before holder x (omega arith),

@@ -19,7 +19,7 @@ use Rattle.registry.specs.History.{Entry, History, same_name, is_registered}
 use Rattle.registry.specs.Import.{row_command, JudgesRow, IsImportDenied}
 use Rattle.registry.specs.Permission.{has_access, are_permitted}
 use Rattle.registry.specs.Rows.{Rows, RowsIfAny, edited, edited_if_any, changed, Carries}
-use Rattle.registry.specs.Terms.{grant_terms, authorizations_made, entries_asked, row_terms}
+use Rattle.registry.specs.Terms.{grant_terms, authorizations_made, row_terms}
 use Rattle.registry.specs.Verdict.{IsLegal}
 use Rattle.policy.specs.steps.Import.{IsImport, AnswersImport, FindsRow, MakesRow, IsRowDone}
 use Rattle.policy.specs.steps.Part.{IsRefusedBy, refusal_at}
@@ -189,9 +189,9 @@ denied-unregistered charter history h day caller [] some legal missing = absurd 
 denied-unregistered charter history h day caller (t ∷ rest) some legal missing =
     let none = (has_nothing charter history h legal missing).grants in
     let no_access : has_access (grant_terms history h) day caller Alter ≡ false = ap (λ gs. has_access gs day caller Alter) none in
-    let not_permitted : are_permitted (grant_terms history h) day caller Alter (entries_asked (row_terms t)) ≡ false =
-    ap (λ gs. are_permitted gs day caller Alter (entries_asked (row_terms t))) none
-    ∙ none_permitted day caller (entries_asked (row_terms t)) (omega (arith, (row-are t).number.0)) in
+    let not_permitted : are_permitted (grant_terms history h) day caller Alter (row_terms t).entries ≡ false =
+    ap (λ gs. are_permitted gs day caller Alter (row_terms t).entries) none
+    ∙ none_permitted day caller (row_terms t).entries (omega (arith, (row-are t).number.0)) in
     inl ((λ present. false≢true (sym not_permitted ∙ present.0), inl (λ has. false≢true (sym no_access ∙ has), refl)), refl)
 
 -- and an import without rows makes nothing

@@ -7,7 +7,7 @@ ghost use Rattle.addr.specs.Spans.{span_covers};
 ghost use Rattle.charters.specs.declared.charter.Charter.{Charter as CharterValue};
 ghost use Rattle.registry.specs.History.{History, is_registered};
 ghost use Rattle.registry.specs.Resources.{HoldsPrefix};
-ghost use Rattle.registry.specs.Terms.{grant_terms, authorizations_made, HoldsEntries, OfActive, entries_asked, gives_some, share_vrp};
+ghost use Rattle.registry.specs.Terms.{grant_terms, authorizations_made, HoldsEntries, OfActive, gives_some, share_vrp};
 ghost use Rattle.registry.specs.Import.{has_terms, IsPresent};
 ghost use Rattle.registry.specs.Permission.{has_access};
 ghost use Rattle.registry.specs.Answer.{OfRows};
@@ -175,7 +175,7 @@ pub(crate) fn is_new(rows: &HolderRows, terms: &AuthTerms) -> bool
         → (IsTrue result
         ↔ OfActive history h
         (λ active.
-        list_any (λ y. gives_some y terms.now.asn (entries_asked terms.now)) active ≡ false)) }
+        list_any (λ y. gives_some y terms.now.asn terms.now.entries) active ≡ false)) }
 {
     !some_gives(&rows.auths, terms.asn, &terms.entries())
 }

@@ -28,7 +28,7 @@ keeps_unnamed (Register holder) h made count grants terms other = (other, refl, 
 keeps_unnamed (Grant holder name role scope until) h made count grants terms other = (refl, cond-false _ _ _ other, cond-false _ _ _ other, refl, refl)
 keeps_unnamed (Revoke holder n) h made count grants terms other = (refl, cond-false _ _ _ other, refl, refl, refl)
 keeps_unnamed (Create holder t) h made count grants terms other = (refl, refl, refl, cond-false _ _ _ other, cond-false _ _ _ other)
-keeps_unnamed (Amend holder n max until) h made count grants terms other = (refl, refl, refl, cond-false _ _ _ other, refl)
+keeps_unnamed (Amend holder n maxes until) h made count grants terms other = (refl, refl, refl, cond-false _ _ _ other, refl)
 keeps_unnamed (Withdraw holder n) h made count grants terms other = (refl, refl, refl, cond-false _ _ _ other, refl)
 keeps_unnamed _ h made count grants terms other = (refl, refl, refl, refl, refl)
 

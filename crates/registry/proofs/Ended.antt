@@ -11,7 +11,7 @@ use Rattle.registry.specs.declared.authorization.Auth.{Auth}
 use Rattle.registry.specs.declared.authorization.RoaPrefix.{RoaPrefix}
 use Rattle.registry.specs.History.{Entry, History}
 use Rattle.registry.specs.Resources.{resource_holder}
-use Rattle.registry.specs.Terms.{entries_of, entries_have, terms_overlap, authorizations_made, authorization_terms, HeldSinceMade, Keeps, AreActive}
+use Rattle.registry.specs.Terms.{entries_have, terms_overlap, authorizations_made, authorization_terms, HeldSinceMade, Keeps, AreActive}
 use Rattle.registry.proofs.Numbers.{Numbered}
 use Rattle.registry.proofs.Kept.{Keeps-filter}
 use Rattle.registry.proofs.Held.{authorization_terms-numbered, held_now}
@@ -63,13 +63,13 @@ since_ended e before h p x loses made positive bound = (
     since.1,
     elim (cases_Bool (terms_overlap x p)) [
       | inl t ↦
-          let shared = shared_entry p (entries_of x) t in
+          let shared = shared_entry p x.entries t in
           absurd (loses.lost shared.0 shared.2 (since.0 (subst (λ (k : ℕ). x.number ≤ k) (sym made) bound) shared.0 shared.1))
       | inr f ↦ f
     ],
   ),
   λ kept. (
-    λ _. λ a has. loses.others a (apart_entries p (entries_of x) a kept.1 has) ∙ held_now before h x positive bound kept.0 a has,
+    λ _. λ a has. loses.others a (apart_entries p x.entries a kept.1 has) ∙ held_now before h x positive bound kept.0 a has,
     kept.0,
   ),
 )

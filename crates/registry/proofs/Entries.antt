@@ -1,80 +1,62 @@
--- Lists of entries: those of an authorization that is made or amended, what two share, and what one of
--- one entry gives.
-use Rattle.std.proofs.Common.{◌≡◌, ℕ, Bool, true, false, ◌&&◌, ◌||◌, ◌==◌, List, [], ◌∷◌, inl, inr, refl, sym, ap, ◌∙◌, arith}
+-- Lists of entries: those of an authorization that is amended, and what two lists share.
+use Rattle.std.proofs.Common.{◌≡◌, ℕ, suc, ◌≤◌, Bool, true, false, ◌&&◌, ◌||◌, ◌==◌, List, [], ◌∷◌, length, inl, inr, refl, sym, ap, subst, ◌∙◌, arith}
 use Rattle.std.specs.List.{list_any}
-use Rattle.std.proofs.lemmas.Bool.{cases_Bool, false≢true, and_from, and_parts, eqb-true, le-leb}
-use Rattle.std.proofs.lemmas.Bool.Decides.{nat_tests}
-use Rattle.std.proofs.Math.Bool.{or-false, or-true, and-true}
-use Rattle.addr.specs.Address.{prefix_eq, FitsMaxLength, fits_max_length}
+use Rattle.std.proofs.lemmas.Bool.{cases_Bool, false≢true, and_from, and_parts, eqb-true}
+use Rattle.std.proofs.Math.Bool.{or-true}
+use Rattle.addr.specs.Address.{prefix_eq, fits_max_length}
 use Rattle.addr.proofs.Equality.{equal_prefix}
-use Rattle.addr.specs.declared.asn.Asn.{Asn}
 use Rattle.addr.specs.declared.prefix.Prefix.{Prefix}
 use Rattle.charters.proofs.Repeats.{eqb-flips, prefix_eq-flips}
-use Rattle.registry.specs.declared.authorization.Auth.{Auth}
-use Rattle.registry.specs.declared.authorization.AuthTerms.{AuthTerms}
 use Rattle.registry.specs.declared.authorization.ImportRow.{ImportRow}
 use Rattle.registry.specs.declared.authorization.RoaPrefix.{RoaPrefix}
-use Rattle.registry.specs.Terms.{entries_of, entries_asked, is_entry, are_shared, gives_vrp, share_vrp, numbered_terms, row_terms}
-use Rattle.registry.specs.RoaPrefixes.{AreEntries}
-use Rattle.registry.specs.Verdict.{fit_lengths, terms_fit_length}
-
--- an authorization that is made has the entries that were asked for
-pub numbered-entries : (t : AuthTerms) (n : ℕ) → entries_of (numbered_terms t n) ≡ entries_asked t
-unfolding entries_of entries_asked
-numbered-entries t n = refl
+use Rattle.registry.specs.Terms.{is_entry, are_shared, row_terms}
+use Rattle.registry.specs.RoaPrefixes.{Rise, AreEntries, with_maxes}
+use Rattle.registry.specs.Verdict.{fit_lengths, maxes_fit}
+use Rattle.registry.specs.declared.roa_prefixes.TheConstants.{MOST_ENTRIES}
 
 -- a row of an import asks for one entry
-pub row-are : (r : ImportRow) → AreEntries (entries_asked (row_terms r))
-unfolding entries_asked
+pub row-are : (r : ImportRow) → AreEntries (row_terms r).entries
 row-are r = record { number = (omega arith, omega arith); rising = tt }
 
--- an amendment leaves entries of one authorization
-pub amended-are : (x : Auth) (max until : ℕ) → AreEntries (entries_of x) → AreEntries (entries_of (record x { max = max; until = until }))
-unfolding entries_of
-amended-are x max until are = record { number = are.number; rising = are.rising }
+-- ---- maxLengths that are set
 
--- whose maxLengths fit where the new one does
-pub amended-lengths : (x : Auth) (max until : ℕ) → fit_lengths (entries_of (record x { max = max; until = until })) ≡ terms_fit_length x max
-unfolding entries_of
-amended-lengths x max until = refl
+pub with_maxes-none : (es : List RoaPrefix) → with_maxes [] es ≡ es
+with_maxes-none [] = refl
+with_maxes-none (e ∷ es) = refl
 
--- what an amendment shares does not go by its last day
-pub amended-shares : (x : Auth) (max until : ℕ) (y : Auth) → share_vrp (record x { max = max; until = until }) y ≡ share_vrp (record x { max = max }) y
-unfolding entries_of
-amended-shares x max until y = refl
+pub with_maxes-length : (ms : List ℕ) (es : List RoaPrefix) → length (with_maxes ms es) ≡ length es
+with_maxes-length ms [] = refl
+with_maxes-length [] (e ∷ es) = refl
+with_maxes-length (m ∷ ms) (e ∷ es) = ap suc (with_maxes-length ms es)
 
--- ---- of an authorization with one entry
+with_maxes-rising : (ms : List ℕ) (es : List RoaPrefix) → Rise es → Rise (with_maxes ms es)
+with_maxes-rising ms [] rising = tt
+with_maxes-rising [] (e ∷ es) rising = rising
+with_maxes-rising (m ∷ ms) (d ∷ []) rising = tt
+with_maxes-rising (m ∷ []) (d ∷ e ∷ es) rising = rising
+with_maxes-rising (m ∷ n ∷ ms) (d ∷ e ∷ es) rising = (rising.0, with_maxes-rising (n ∷ ms) (e ∷ es) rising.1)
 
--- its AS, prefix and maxLength are those given
-pub gives-one : (x : Auth) (asn : Asn) (p : Prefix) (max : ℕ)
-    → gives_vrp x asn p max ≡ ((x.asn.0 == asn.0) && (prefix_eq x.prefix p && (x.max == max)))
-unfolding entries_of
-gives-one x asn p max = ap (λ b. (x.asn.0 == asn.0) && b) (or-false (prefix_eq x.prefix p && (x.max == max)))
+-- they leave entries of one authorization,
+pub with_maxes-are : (ms : List ℕ) (es : List RoaPrefix) → AreEntries es → AreEntries (with_maxes ms es)
+with_maxes-are ms es are = record {
+  number = subst (λ n. (1 ≤ n) × (n ≤ MOST_ENTRIES)) (sym (with_maxes-length ms es)) are.number;
+  rising = with_maxes-rising ms es are.rising;
+}
 
--- a maxLength fits where it is one for its prefix
-pub fits-one : (x : Auth) (max : ℕ) → terms_fit_length x max ≡ fits_max_length x.prefix max
-unfolding entries_of
-fits-one x max = and-true (fits_max_length x.prefix max)
+-- which fit where these do,
+pub with_maxes-fit : (ms : List ℕ) (es : List RoaPrefix) → maxes_fit ms es ≡ true → fit_lengths (with_maxes ms es) ≡ true
+with_maxes-fit [] [] fit = refl
+with_maxes-fit (m ∷ ms) [] fit = refl
+with_maxes-fit [] (e ∷ es) fit = absurd (false≢true fit)
+with_maxes-fit (m ∷ ms) (e ∷ es) fit =
+    let parts = and_parts (fits_max_length e.prefix m) (maxes_fit ms es) fit in
+    and_from _ _ parts.0 (with_maxes-fit ms es parts.1)
 
--- its maxLength is one for its prefix, where each of its entries is
-pub lengths-one : (x : Auth) → fit_lengths (entries_of x) ≡ fits_max_length x.prefix x.max
-unfolding entries_of
-lengths-one x = and-true (fits_max_length x.prefix x.max)
-
--- and so it lies in the range of its prefix
-pub range-one : (x : Auth) → fit_lengths (entries_of x) ≡ true → FitsMaxLength x.prefix x.max
-range-one x fit =
-    let fits = sym (lengths-one x) ∙ fit in
-    (grind (arith, nat_tests), grind (arith, nat_tests))
-
--- its maxLengths fit where the one lies in that range
-pub fit-one : (x : Auth) → FitsMaxLength x.prefix x.max → fit_lengths (entries_of x) ≡ true
-fit-one x range = lengths-one x ∙ and_from _ _ (le-leb _ _ range.0) (le-leb _ _ range.1)
-
--- its entries are those of one authorization
-pub are-one : (x : Auth) → AreEntries (entries_of x)
-unfolding entries_of
-are-one x = record { number = (omega arith, omega arith); rising = tt }
+-- and the same once more change nothing
+pub with_maxes-again : (ms : List ℕ) (es : List RoaPrefix) → with_maxes ms (with_maxes ms es) ≡ with_maxes ms es
+with_maxes-again ms [] = refl
+with_maxes-again [] (e ∷ es) = refl
+with_maxes-again (m ∷ ms) (e ∷ es) = ap (λ l. record e { max = m } ∷ l) (with_maxes-again ms es)
 
 -- ---- what two lists share
 

@@ -8,7 +8,7 @@ use Rattle.addr.specs.Order.{same_vrp}
 use Rattle.addr.specs.declared.asn.Asn.{Asn}
 use Rattle.addr.specs.declared.prefix.Prefix.{Prefix}
 use Rattle.addr.specs.declared.vrp.Vrp.{Vrp}
-use Rattle.registry.specs.Terms.{entries_of, is_entry, IsVrpOf, IsVrpOfEntry}
+use Rattle.registry.specs.Terms.{is_entry, IsVrpOf, IsVrpOfEntry}
 use Rattle.registry.specs.declared.authorization.Auth.{Auth}
 use Rattle.registry.specs.declared.authorization.RoaPrefix.{RoaPrefix}
 
@@ -17,11 +17,11 @@ pub one_of_entry : (e : RoaPrefix) (asn : Asn) (v w : Vrp) → IsVrpOfEntry e as
 one_of_entry e asn v w is also = same_vrp v w (is.0 ∙ sym also.0) (is.1 ∙ sym also.1) (is.2 ∙ sym also.2)
 
 -- a VRP is one of the terms where it is that of an entry
-pub vrp_of_terms : (x : Auth) (v : Vrp) → IsVrpOf x v ↔ ((e : RoaPrefix) × Contains (entries_of x) e × IsVrpOfEntry e x.asn v)
+pub vrp_of_terms : (x : Auth) (v : Vrp) → IsVrpOf x v ↔ ((e : RoaPrefix) × Contains x.entries e × IsVrpOfEntry e x.asn v)
 vrp_of_terms x v = (
   λ is.
       let both = and_parts _ _ is in
-      let some = Any-from_list_any (is_entry v.prefix v.max) (entries_of x) both.1 in
+      let some = Any-from_list_any (is_entry v.prefix v.max) x.entries both.1 in
       let e = some.1 in
       let parts = and_parts (prefix_eq e.prefix v.prefix) (e.max == v.max) some.4 in (
         e,
@@ -34,5 +34,5 @@ vrp_of_terms x v = (
       let prefix : prefix_eq e.prefix v.prefix ≡ true = subst (λ (p : Prefix). prefix_eq e.prefix p ≡ true) (sym is.0) (prefix_itself e.prefix) in
       let entry : is_entry v.prefix v.max e ≡ true = and_from _ _ prefix (eq-eqb e.max v.max (sym is.1)) in
       and_from _ _ (eq-eqb x.asn.0 v.asn.0 (ap (λ (a : Asn). a.0) (sym is.2)))
-      (list_any-from_Any (is_entry v.prefix v.max) (entries_of x) (some.1.0, e, some.1.1, some.1.2, entry)),
+      (list_any-from_Any (is_entry v.prefix v.max) x.entries (some.1.0, e, some.1.1, some.1.2, entry)),
 )

@@ -1,14 +1,16 @@
 -- The active authorizations after a command, from those before it.
-use Rattle.std.proofs.Common.{◌≡◌, ℕ, ◌+◌, ◌<◌, ◌≤◌, true, false, not, cond, eqb, List, [], ◌∷◌, ◌++◌, Some, refl, sym, ◌∙◌, subst, arith, map, filter}
+use Rattle.std.proofs.Common.{◌≡◌, ℕ, ◌+◌, ◌<◌, ◌≤◌, true, false, not, ◌||◌, cond, eqb, List, [], ◌∷◌, ◌++◌, Some, refl, sym, ap, ◌∙◌, subst, arith, map, filter}
 use Rattle.std.specs.List.{All, Contains}
 use Rattle.std.proofs.lemmas.List.Elements.{All-nil, All-cons, All-contains}
-use Rattle.addr.specs.Address.{Address}
+use Rattle.addr.specs.Address.{Address, has_address}
 use Rattle.registry.specs.declared.authorization.Auth.{Auth}
+use Rattle.registry.specs.declared.authorization.RoaPrefix.{RoaPrefix}
 use Rattle.registry.specs.declared.command.Command.{Command}
 use Rattle.registry.specs.declared.command.Command.TheVariants.{Create, Amend, Withdraw}
 use Rattle.registry.specs.History.{Entry, History, same_name}
 use Rattle.registry.specs.Resources.{resource_holder}
-use Rattle.registry.specs.Terms.{entries_of, entries_have, numbered_terms, HoldsTerms, created_after, terms_after, authorizations_made, authorization_terms, amended, HeldSinceMade, Keeps, AreActive}
+use Rattle.registry.specs.RoaPrefixes.{with_maxes}
+use Rattle.registry.specs.Terms.{with_terms, entries_have, numbered_terms, HoldsTerms, created_after, terms_after, authorizations_made, authorization_terms, amended, HeldSinceMade, Keeps, AreActive}
 use Rattle.registry.proofs.Numbers.{Numbered, Numbered-high, Numbered-append, Numbered-filter, Numbered-map}
 use Rattle.registry.proofs.Kept.{Keeps-numbered, Keeps-same}
 
@@ -18,15 +20,21 @@ created_after-more (Create holder terms) h made =
     elim (same_name holder h) as (λ b. made ≤ cond b (made + 1) made) [ true ↦ omega arith | false ↦ omega arith ]
 created_after-more _ h made = omega arith
 
-pub amended-number : (n max until : ℕ) (x : Auth) → (amended n max until x).number ≡ x.number
-amended-number n max until x =
-    elim (eqb x.number n) as (λ b. (cond b (record x { max = max; until = until }) x).number ≡ x.number) [ true ↦ refl | false ↦ refl ]
+pub amended-number : (n : ℕ) (maxes : List ℕ) (until : ℕ) (x : Auth) → (amended n maxes until x).number ≡ x.number
+amended-number n maxes until x =
+    elim (eqb x.number n) as (λ b. (cond b (with_terms maxes until x) x).number ≡ x.number) [ true ↦ refl | false ↦ refl ]
 
--- an amendment keeps the addresses
-pub amended-addresses : (n max until : ℕ) (x : Auth) (a : Address) → entries_have (entries_of (amended n max until x)) a ≡ entries_have (entries_of x) a
-unfolding entries_of
-amended-addresses n max until x a =
-    elim (eqb x.number n) as (λ b. entries_have (entries_of (cond b (record x { max = max; until = until }) x)) a ≡ entries_have (entries_of x) a) [ true ↦ refl | false ↦ refl ]
+-- other maxLengths keep the addresses,
+with_maxes-addresses : (ms : List ℕ) (es : List RoaPrefix) (a : Address) → entries_have (with_maxes ms es) a ≡ entries_have es a
+with_maxes-addresses ms [] a = refl
+with_maxes-addresses [] (e ∷ es) a = refl
+with_maxes-addresses (m ∷ ms) (e ∷ es) a = ap (λ b. has_address e.prefix a || b) (with_maxes-addresses ms es a)
+
+-- and so does an amendment
+pub amended-addresses : (n : ℕ) (maxes : List ℕ) (until : ℕ) (x : Auth) (a : Address) → entries_have (amended n maxes until x).entries a ≡ entries_have x.entries a
+amended-addresses n maxes until x a =
+    elim (eqb x.number n) as (λ b. entries_have (cond b (with_terms maxes until x) x).entries a ≡ entries_have x.entries a)
+    [ true ↦ with_maxes-addresses maxes x.entries a | false ↦ refl ]
 
 -- the numbers rise from 1, up to how many were made
 pub terms_after-numbered : (c : Command) (h : List ℕ) (made : ℕ) (xs : List Auth) → Numbered 0 xs made → Numbered 0 (terms_after c h made xs) (created_after c h made)
@@ -34,9 +42,9 @@ terms_after-numbered (Create holder terms) h made xs n =
     let x = numbered_terms terms (made + 1) in
     elim (same_name holder h) as (λ b. Numbered 0 (cond b (xs ++ x ∷ []) xs) (cond b (made + 1) made))
     [ true ↦ Numbered-append 0 xs made x (omega arith) n | false ↦ n ]
-terms_after-numbered (Amend holder m max until) h made xs n =
-    elim (same_name holder h) as (λ b. Numbered 0 (cond b (map (amended m max until) xs) xs) made)
-    [ true ↦ Numbered-map (amended m max until) (amended-number m max until) 0 xs made n | false ↦ n ]
+terms_after-numbered (Amend holder m maxes until) h made xs n =
+    elim (same_name holder h) as (λ b. Numbered 0 (cond b (map (amended m maxes.items until) xs) xs) made)
+    [ true ↦ Numbered-map (amended m maxes.items until) (amended-number m maxes.items until) 0 xs made n | false ↦ n ]
 terms_after-numbered (Withdraw holder m) h made xs n =
     elim (same_name holder h) as (λ b. Numbered 0 (cond b (filter (λ x. not (eqb x.number m)) xs) xs) made)
     [ true ↦ Numbered-filter (λ x. not (eqb x.number m)) 0 xs made n | false ↦ n ]
@@ -100,7 +108,7 @@ active-kept e before h active keeps are =
 
 -- equal addresses and numbers, equally held
 pub since_same : (history : History) (h : List ℕ) (x y : Auth) → y.number ≡ x.number
-    → ((a : Address) → entries_have (entries_of y) a ≡ entries_have (entries_of x) a) → HeldSinceMade history h x → HeldSinceMade history h y
+    → ((a : Address) → entries_have y.entries a ≡ entries_have x.entries a) → HeldSinceMade history h x → HeldSinceMade history h y
 since_same [] h x y n same since = tt
 since_same (e ∷ before) h x y n same since = (
   λ made. λ a has. since.0 (subst (λ (k : ℕ). k ≤ authorizations_made (e ∷ before) h) n made) a (sym (same a) ∙ has),

@@ -77,7 +77,7 @@ nothing_after charter before day caller (Revoke holder n) h accepted unregistere
     nothing_stays _ before h (differ_by (λ g. test (grant_terms before g)) holder h accepted.1.0 (ap test none.grants)) none.holders none
 nothing_after charter before day caller (Create holder terms) h accepted unregistered none =
     nothing_stays _ before h (without_access before day caller holder h accepted.0 none) none.holders none
-nothing_after charter before day caller (Amend holder n max until) h accepted unregistered none =
+nothing_after charter before day caller (Amend holder n maxes until) h accepted unregistered none =
     nothing_stays _ before h (without_access before day caller holder h accepted.0 none) none.holders none
 nothing_after charter before day caller (Withdraw holder n) h accepted unregistered none =
     nothing_stays _ before h (without_access before day caller holder h accepted.0 none) none.holders none

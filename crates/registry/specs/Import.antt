@@ -15,7 +15,7 @@ use Rattle.registry.specs.declared.rule.Rule.{Rule}
 use Rattle.registry.specs.GrowingHistory.{Grows, IsDeniedAt}
 use Rattle.registry.specs.History.{History}
 use Rattle.registry.specs.Permission.{are_permitted}
-use Rattle.registry.specs.Terms.{entries_of, entries_asked, is_entry, grant_terms, row_terms, OfActive}
+use Rattle.registry.specs.Terms.{is_entry, grant_terms, row_terms, OfActive}
 use Rattle.registry.specs.Verdict.{Verdict}
 
 -- the command that makes the authorization of a row at a holder
@@ -29,14 +29,14 @@ are_same es ds = pointwise (λ e d. is_entry e.prefix e.max d) es ds
 -- the authorization has these terms: the AS, the entries and both days
 abbrev pub has_terms : AuthTerms → Auth → Bool
 has_terms t x =
-    ((x.asn.0 == t.asn.0) && are_same (entries_asked t) (entries_of x))
+    ((x.asn.0 == t.asn.0) && are_same t.entries x.entries)
     && ((x.from == t.from) && (x.until == t.until))
 
 -- Already authorized: rule `scope` holds, and with it `grant`; and an active authorization has the terms. Its
 -- days do not matter, nor does any other rule.
 abbrev pub IsPresent : ℕ → List ℕ → List ℕ → History → ImportRow → Type 0
 IsPresent day caller holder history row =
-    (are_permitted (grant_terms history holder) day caller Alter (entries_asked (row_terms row)) ≡ true)
+    (are_permitted (grant_terms history holder) day caller Alter (row_terms row).entries ≡ true)
     × OfActive history holder (λ active. list_any (has_terms (row_terms row)) active ≡ true)
 
 -- a row that is not already authorized is judged as the create of it

@@ -13,7 +13,6 @@ use Rattle.registry.specs.declared.grant.Scope.TheVariants.{All, Only}
 use Rattle.registry.specs.declared.grant.Access.{Access}
 use Rattle.registry.specs.declared.grant.Access.TheVariants.{Manage, Alter, Look}
 use Rattle.registry.specs.History.{same_name}
-use Rattle.registry.specs.Terms.{entries_of}
 
 -- the roles that give an access: managers manage grants, managers and clerks alter authorizations,
 -- and all three look at them
@@ -56,4 +55,4 @@ are_permitted grants day caller access es = list_all (λ e. is_permitted grants 
 
 -- the caller is permitted each prefix of the terms
 abbrev pub is_permitted_terms : List Granted → ℕ → List ℕ → Access → Auth → Bool
-is_permitted_terms grants day caller access x = are_permitted grants day caller access (entries_of x)
+is_permitted_terms grants day caller access x = are_permitted grants day caller access x.entries

@@ -1,6 +1,6 @@
 -- Lists of entries of an authorization, each a prefix with its maxLength (RFC 9582 section 4.3.2).
 -- An authorization has each of its prefixes in one entry, in the order of prefixes.
-use Rattle.std.specs.Prelude.{◌≡◌, ◌≤◌, Bool, List, [], ◌∷◌, length}
+use Rattle.std.specs.Prelude.{◌≡◌, ℕ, ◌≤◌, Bool, List, [], ◌∷◌, length}
 use Rattle.std.specs.declared.cmp.Ordering.TheVariants.{Less}
 use Rattle.addr.specs.Address.{prefix_eq}
 use Rattle.addr.specs.Order.{prefix_cmp}
@@ -30,3 +30,9 @@ Rise (d ∷ e ∷ es) = (prefix_cmp d.prefix e.prefix ≡ Less) × Rise (e ∷ e
 pub record AreEntries (es : List RoaPrefix) : Type 0 where
   pub number : AreInNumber es
   pub rising : Rise es
+
+-- the entries with these maxLengths, one an entry in order; where one list ends, the entries stay
+abbrev pub with_maxes : List ℕ → List RoaPrefix → List RoaPrefix
+with_maxes ms [] = []
+with_maxes [] (e ∷ es) = e ∷ es
+with_maxes (m ∷ ms) (e ∷ es) = record e { max = m } ∷ with_maxes ms es

@@ -15,15 +15,7 @@ use Rattle.registry.specs.declared.authorization.RoaPrefix.{RoaPrefix}
 use Rattle.registry.specs.declared.grant.Granted.{Granted}
 use Rattle.registry.specs.History.{History, same_name}
 use Rattle.registry.specs.Resources.{resource_holder}
-
--- the entries of the terms, each a prefix with its maxLength (RFC 9582 section 4.3.2); proofs see no
--- more of them than their lemmas say
-unfoldable pub entries_of : Auth → List RoaPrefix
-entries_of x = record { prefix = x.prefix; max = x.max } ∷ []
-
--- the entries of terms as they are requested
-unfoldable pub entries_asked : AuthTerms → List RoaPrefix
-entries_asked t = record { prefix = t.prefix; max = t.max } ∷ []
+use Rattle.registry.specs.RoaPrefixes.{with_maxes}
 
 -- the address lies in a prefix of the entries
 abbrev pub entries_have : List RoaPrefix → Address → Bool
@@ -31,7 +23,7 @@ entries_have es a = list_any (λ e. has_address e.prefix a) es
 
 -- a prefix of the terms shares an address with p
 abbrev pub terms_overlap : Auth → Prefix → Bool
-terms_overlap x p = list_any (λ e. overlaps e.prefix p) (entries_of x)
+terms_overlap x p = list_any (λ e. overlaps e.prefix p) x.entries
 
 -- the entry has this prefix and maxLength
 abbrev pub is_entry : Prefix → ℕ → RoaPrefix → Bool
@@ -43,7 +35,7 @@ IsVrpOfEntry e asn v = (v.prefix ≡ e.prefix) × (v.max ≡ e.max) × (v.asn �
 
 -- the terms give this AS, prefix and maxLength
 abbrev pub gives_vrp : Auth → Asn → Prefix → ℕ → Bool
-gives_vrp x asn p max = (x.asn.0 == asn.0) && list_any (is_entry p max) (entries_of x)
+gives_vrp x asn p max = (x.asn.0 == asn.0) && list_any (is_entry p max) x.entries
 
 -- some prefix and maxLength is an entry of both lists
 abbrev pub are_shared : List RoaPrefix → List RoaPrefix → Bool
@@ -51,11 +43,11 @@ are_shared es ds = list_any (λ d. list_any (is_entry d.prefix d.max) es) ds
 
 -- the terms give this AS with some entry of the list
 abbrev pub gives_some : Auth → Asn → List RoaPrefix → Bool
-gives_some x asn es = (x.asn.0 == asn.0) && are_shared (entries_of x) es
+gives_some x asn es = (x.asn.0 == asn.0) && are_shared x.entries es
 
 -- some AS, prefix and maxLength is given by both
 abbrev pub share_vrp : Auth → Auth → Bool
-share_vrp x y = gives_some x y.asn (entries_of y)
+share_vrp x y = gives_some x y.asn y.entries
 
 -- v is a VRP of the terms
 abbrev pub IsVrpOf : Auth → Vrp → Type 0
@@ -67,7 +59,7 @@ HoldsEntries history h es = (a : Address) → entries_have es a ≡ true → res
 
 -- every address of the terms is held by the holder
 abbrev pub HoldsTerms : History → List ℕ → Auth → Type 0
-HoldsTerms history h x = HoldsEntries history h (entries_of x)
+HoldsTerms history h x = HoldsEntries history h x.entries
 
 -- how many grants were made at the holder
 abbrev pub granted_after : Command → List ℕ → ℕ → ℕ
@@ -102,17 +94,21 @@ abbrev pub grant_terms : History → List ℕ → List Granted
 grant_terms [] h = []
 grant_terms (e ∷ before) h = grants_after e.command h (grants_made before h) (grant_terms before h)
 
--- the authorization with the maxLength and the last day that an amend of this number sets
-abbrev pub amended : ℕ → ℕ → ℕ → Auth → Auth
-amended n max until x = if x.number == n then record x { max = max; until = until } else x
+-- the terms with the maxLengths and the last day of an amend
+abbrev pub with_terms : List ℕ → ℕ → Auth → Auth
+with_terms maxes until x = record x { entries = with_maxes maxes x.entries; until = until }
+
+-- the authorization as an amend of this number leaves it
+abbrev pub amended : ℕ → List ℕ → ℕ → Auth → Auth
+amended n maxes until x = if x.number == n then with_terms maxes until x else x
 
 -- the terms of a row of an import
 abbrev pub row_terms : ImportRow → AuthTerms
-row_terms r = record { asn = r.asn; prefix = r.prefix; max = r.max; from = r.from; until = r.until }
+row_terms r = record { asn = r.asn; entries = record { prefix = r.prefix; max = r.max } ∷ []; from = r.from; until = r.until }
 
 -- the authorization of these terms and of this number
 abbrev pub numbered_terms : AuthTerms → ℕ → Auth
-numbered_terms t n = record { number = n; asn = t.asn; prefix = t.prefix; max = t.max; from = t.from; until = t.until }
+numbered_terms t n = record { number = n; asn = t.asn; entries = t.entries; from = t.from; until = t.until }
 
 -- the authorizations after a command, from those before it and how many were made by then
 abbrev pub terms_after : Command → List ℕ → ℕ → List Auth → List Auth
@@ -120,8 +116,8 @@ terms_after (Create holder terms) h made auths =
     if same_name holder h
     then auths ++ numbered_terms terms (made + 1) ∷ []
     else auths
-terms_after (Amend holder n max until) h made auths =
-    if same_name holder h then map (amended n max until) auths else auths
+terms_after (Amend holder n maxes until) h made auths =
+    if same_name holder h then map (amended n maxes.items until) auths else auths
 terms_after (Withdraw holder n) h made auths =
     if same_name holder h then filter (λ x. not (x.number == n)) auths else auths
 terms_after _ h made auths = auths

@@ -1,7 +1,7 @@
 -- What the types of the values of a history promise, and the ranges of the values of rows. Elsewhere a
 -- history ranges over all numbers and texts: a day, a number of a `u32` and a name are seen as any
 -- number and any text there.
-use Rattle.std.specs.Prelude.{◌≡◌, ℕ, ◌+◌, ◌^◌, ◌<◌, ◌≤◌, true, IsTrue, List, [], ◌∷◌, length, Option, Some, None, All, ⊤}
+use Rattle.std.specs.Prelude.{◌≡◌, ℕ, ◌+◌, ◌^◌, ◌<◌, ◌≤◌, true, IsTrue, [], ◌∷◌, length, Option, Some, None, All, ⊤}
 use Rattle.std.specs.List.{AllByRecursion}
 use Rattle.addr.specs.Day.{IsDay}
 use Rattle.addr.specs.Name.{is_name}
@@ -19,7 +19,7 @@ use Rattle.registry.specs.declared.command.Command.TheVariants.{Register, Delega
 use Rattle.registry.specs.declared.grant.Granted.{Granted}
 use Rattle.registry.specs.History.{Entry, History}
 use Rattle.registry.specs.RoaPrefixes.{AreEntries}
-use Rattle.registry.specs.Terms.{entries_of, entries_asked, row_terms}
+use Rattle.registry.specs.Terms.{row_terms}
 use Rattle.registry.specs.Verdict.{fit_lengths}
 use Rattle.registry.specs.Rows.{Rows}
 
@@ -56,8 +56,8 @@ pub record ExceptionsFit (exceptions : Exceptions) : Type 0 where
 -- the terms of an authorization, as they are requested
 pub record TermsFit (t : AuthTerms) : Type 0 where
   pub asn : IsU32 t.asn.0
-  pub entries : AreEntries (entries_asked t)
-  pub maxes : AllByRecursion (λ e. IsU8 e.max) (entries_asked t)
+  pub entries : AreEntries t.entries
+  pub maxes : AllByRecursion (λ e. IsU8 e.max) t.entries
   pub from : IsDay t.from
   pub until : IsDay t.until
 
@@ -74,7 +74,7 @@ CommandFits (Reclaim holder p) = IsTrue (is_name holder)
 CommandFits (Grant holder name role scope until) = IsTrue (is_name holder) × IsTrue (is_name name) × IsDay until
 CommandFits (Revoke holder n) = IsTrue (is_name holder) × IsU32 n
 CommandFits (Create holder terms) = IsTrue (is_name holder) × TermsFit terms
-CommandFits (Amend holder n max until) = IsTrue (is_name holder) × IsU32 n × IsU8 max × IsDay until
+CommandFits (Amend holder n maxes until) = IsTrue (is_name holder) × IsU32 n × All IsU8 maxes.items × IsDay until
 CommandFits (Withdraw holder n) = IsTrue (is_name holder) × IsU32 n
 CommandFits (Import holder rows) = IsTrue (is_name holder) × All ImportRowFits rows.items
 CommandFits (Slurm file) = ExceptionsFit file
@@ -92,8 +92,8 @@ HistoryFits (e ∷ before) = EntryFits e × HistoryFits before
 pub record AuthFits (x : Auth) : Type 0 where
   pub number : IsNumber x.number
   pub asn : IsU32 x.asn.0
-  pub entries : AreEntries (entries_of x)
-  pub lengths : fit_lengths (entries_of x) ≡ true
+  pub entries : AreEntries x.entries
+  pub lengths : fit_lengths x.entries ≡ true
   pub from : IsDay x.from
   pub until : IsDay x.until
 

@@ -2,6 +2,7 @@
 -- none where all hold.
 use Rattle.std.specs.Prelude.{◌≡◌, ℕ, ◌<◌, ◌≤◌, Bool, true, false, not, ◌&&◌, ◌||◌, ◌==◌, List, [], ◌∷◌, length, Option, Some, None, find, IsSomeAnd, ◌⊎◌}
 use Rattle.std.specs.List.{list_all, list_any}
+use Rattle.std.specs.Cmp.Lexicographic.{pointwise}
 use Rattle.addr.specs.Address.{fits_max_length}
 use Rattle.registry.specs.declared.limits.TheConstants.{MOST_GRANTS, MOST_AUTHORIZATIONS, LAST_NUMBER}
 use Rattle.registry.specs.declared.authorization.Auth.{Auth}
@@ -17,7 +18,7 @@ use Rattle.charters.specs.Charter.{is_operator, pool_of}
 use Rattle.charters.specs.Pool.{IsInPool}
 use Rattle.registry.specs.History.{History, same_name, is_registered}
 use Rattle.registry.specs.Resources.{HoldsPrefix, IsFree}
-use Rattle.registry.specs.Terms.{entries_of, entries_asked, HoldsEntries, gives_some, share_vrp, grant_terms, grants_made, authorizations_made, OfActive}
+use Rattle.registry.specs.Terms.{HoldsEntries, gives_some, share_vrp, with_terms, grant_terms, grants_made, authorizations_made, OfActive}
 use Rattle.registry.specs.Permission.{has_access, are_permitted, is_permitted_terms}
 
 -- a rule before others: all hold where this one does and the others do; and the first that does not
@@ -35,9 +36,9 @@ accept (Some first) = ⊥
 abbrev pub fit_lengths : List RoaPrefix → Bool
 fit_lengths es = list_all (λ e. fits_max_length e.prefix e.max) es
 
--- the maxLength is one for all prefixes of the terms
-abbrev pub terms_fit_length : Auth → ℕ → Bool
-terms_fit_length x max = list_all (λ e. fits_max_length e.prefix max) (entries_of x)
+-- there are as many maxLengths as entries, each one for the prefix of the entry in its place
+abbrev pub maxes_fit : List ℕ → List RoaPrefix → Bool
+maxes_fit ms es = pointwise (λ m e. fits_max_length e.prefix m) ms es
 
 -- an operator, or a manager at the holder
 abbrev pub is_steward : Charter → History → ℕ → List ℕ → List ℕ → Bool
@@ -92,22 +93,22 @@ Verdict charter history day caller (Revoke holder n) =
     accept)
 Verdict charter history day caller (Create holder terms) =
     check GrantRule (has_access (grant_terms history holder) day caller Alter ≡ true) (
-    check Scope (are_permitted (grant_terms history holder) day caller Alter (entries_asked terms) ≡ true) (
+    check Scope (are_permitted (grant_terms history holder) day caller Alter terms.entries ≡ true) (
     check Dates ((terms.from ≤ terms.until) × (day ≤ terms.until)) (
-    check Length (fit_lengths (entries_asked terms) ≡ true) (
-    check Held (HoldsEntries history holder (entries_asked terms)) (
+    check Length (fit_lengths terms.entries ≡ true) (
+    check Held (HoldsEntries history holder terms.entries) (
     check Same (OfActive history holder (λ active.
-    list_any (λ y. gives_some y terms.asn (entries_asked terms)) active ≡ false)) (
+    list_any (λ y. gives_some y terms.asn terms.entries) active ≡ false)) (
     check Room (OfActive history holder (λ active. length active < MOST_AUTHORIZATIONS)
     × (authorizations_made history holder < LAST_NUMBER))
     accept))))))
-Verdict charter history day caller (Amend holder n max until) =
+Verdict charter history day caller (Amend holder n maxes until) =
     check GrantRule (has_access (grant_terms history holder) day caller Alter ≡ true) (
     check Number (HasAccessTo history holder day caller Alter n) (
     check Dates (OfNumber history holder n (λ x. (x.from ≤ until) × (day ≤ until))) (
-    check Length (OfNumber history holder n (λ x. terms_fit_length x max ≡ true)) (
+    check Length (OfNumber history holder n (λ x. maxes_fit maxes.items x.entries ≡ true)) (
     check Same (OfActive history holder (λ active. IsSomeAnd (auth_of_number n active) (λ x.
-    list_any (λ y. not (y.number == n) && share_vrp (record x { max = max; until = until }) y) active ≡ false)))
+    list_any (λ y. not (y.number == n) && share_vrp (with_terms maxes.items until x) y) active ≡ false)))
     accept))))
 Verdict charter history day caller (Withdraw holder n) =
     check GrantRule (has_access (grant_terms history holder) day caller Alter ≡ true) (

@@ -4,11 +4,12 @@ ghost use Rattle.std.specs.Prelude.{◌≡◌, ◌≤◌, ◌↔◌, ◌&&◌, t
 ghost use Rattle.std.specs.List.{list_any};
 ghost use Rattle.addr.specs.Address.{FitsMaxLength};
 ghost use Rattle.registry.specs.Import.{are_same, has_terms};
-ghost use Rattle.registry.specs.Terms.{entries_asked, entries_of, numbered_terms, row_terms, terms_overlap, is_entry, are_shared, gives_some, share_vrp, IsVrpOf, IsVrpOfEntry};
-ghost use Rattle.registry.specs.Verdict.{fit_lengths, terms_fit_length};
+ghost use Rattle.registry.specs.Terms.{numbered_terms, row_terms, terms_overlap, is_entry, are_shared, gives_some, share_vrp, with_terms, IsVrpOf, IsVrpOfEntry};
+ghost use Rattle.registry.specs.Verdict.{fit_lengths, maxes_fit};
 
+use crate::RoaPrefixes;
 use addr::{Asn, Day, Prefix, Vrp};
-use std::alloc::AllocError;
+use std::alloc::{AllocError, Global};
 
 /// An entry of an authorization: a prefix and its maxLength (RFC 9582 section 4.3.2).
 #[derive(Clone, Copy, Debug, PartialEq, Eq)]
@@ -44,6 +45,20 @@ pub fn fit_lengths(entries: &[RoaPrefix]) -> bool
         .all(|entry| entry.prefix.fits_max_length(entry.max))
 }
 
+/// Whether there are as many maxLengths as entries, each one for the prefix of the entry in its
+/// place.
+fn maxes_fit(maxes: &[u8], entries: &[RoaPrefix]) -> bool
+    ensures { result ≡ maxes_fit maxes.now entries.now }
+{
+    match (maxes, entries) {
+        ([], []) => true,
+        ([max, maxes @ ..], [entry, entries @ ..]) => {
+            entry.prefix.fits_max_length(*max) && maxes_fit(maxes, entries)
+        }
+        _ => false,
+    }
+}
+
 /// Whether some entry has this prefix and maxLength.
 fn has_entry(entries: &[RoaPrefix], prefix: &Prefix, max: u8) -> bool
     ensures { result ≡ list_any (is_entry prefix.now max) entries.now }
@@ -75,14 +90,12 @@ fn are_shared(entries: &[RoaPrefix], others: &[RoaPrefix]) -> bool
 }
 
 /// A route origin authorization with its terms.
-#[derive(Clone, Debug, Drop, PartialEq, Eq)]
+#[derive(Clone, Debug, Drop)]
 pub struct Auth {
     /// Counts the holder's authorizations from 1, in the order in which they were made.
     pub number: u32,
     pub asn: Asn,
-    pub prefix: Prefix,
-    /// The maxLength as it was requested; the rule `length` judges it.
-    pub max: u8,
+    pub entries: RoaPrefixes,
     /// The first day in force.
     pub from: Day,
     /// The last day in force.
@@ -90,12 +103,10 @@ pub struct Auth {
 }
 
 /// What an authorization is to say, before it has a number.
-#[derive(Clone, Debug, Drop, PartialEq, Eq)]
+#[derive(Clone, Debug, Drop)]
 pub struct AuthTerms {
     pub asn: Asn,
-    pub prefix: Prefix,
-    /// The maxLength as it is requested; the rule `length` judges it.
-    pub max: u8,
+    pub entries: RoaPrefixes,
     /// The first day in force.
     pub from: Day,
     /// The last day in force.
@@ -117,31 +128,20 @@ pub struct ImportRow {
 
 impl ImportRow {
     /// The terms of the authorization that the row makes.
-    pub fn terms(&self) -> AuthTerms
-        ensures { result ≡ row_terms self.now }
+    pub fn terms(&self, alloc: Global) -> Result<AuthTerms, AllocError>
+        ensures { IfOk result (λ terms. terms ≡ row_terms self.now) }
     {
-        AuthTerms {
+        let entries = RoaPrefixes::one(alloc, self.prefix, self.max)?;
+        Ok(AuthTerms {
             asn: self.asn,
-            prefix: self.prefix,
-            max: self.max,
+            entries,
             from: self.from,
             until: self.until,
-        }
+        })
     }
 }
 
 impl AuthTerms {
-    /// The entries that are asked for.
-    #[tactic(auto, unfolding(crate::specs::Terms::entries_asked))]
-    pub fn entries(&self) -> [RoaPrefix; 1]
-        ensures { result ≡ entries_asked self.now }
-    {
-        [RoaPrefix {
-            prefix: self.prefix,
-            max: self.max,
-        }]
-    }
-
     /// The authorization of these terms and of this number.
     pub fn numbered(&self, number: u32) -> Result<Auth, AllocError>
         ensures { IfOk result (λ x. x ≡ numbered_terms self.now number) }
@@ -150,8 +150,7 @@ impl AuthTerms {
         Ok(Auth {
             number,
             asn: terms.asn,
-            prefix: terms.prefix,
-            max: terms.max,
+            entries: terms.entries,
             from: terms.from,
             until: terms.until,
         })
@@ -159,22 +158,12 @@ impl AuthTerms {
 }
 
 impl Auth {
-    /// The entries of the terms.
-    #[tactic(auto, unfolding(crate::specs::Terms::entries_of))]
-    pub fn entries(&self) -> [RoaPrefix; 1]
-        ensures { result ≡ entries_of self.now }
-    {
-        [RoaPrefix {
-            prefix: self.prefix,
-            max: self.max,
-        }]
-    }
-
     /// Whether a prefix of the terms shares an address with `prefix`.
     pub fn overlaps(&self, prefix: &Prefix) -> bool
         ensures { result ≡ terms_overlap self.now prefix.now }
     {
-        self.entries()
+        self.entries
+            .as_slice()
             .iter()
             .any(|entry| entry.prefix.overlaps(prefix))
     }
@@ -183,7 +172,7 @@ impl Auth {
     pub fn gives_some(&self, asn: Asn, entries: &[RoaPrefix]) -> bool
         ensures { result ≡ gives_some self.now asn entries.now }
     {
-        self.asn.0 == asn.0 && are_shared(&self.entries(), entries)
+        self.asn.0 == asn.0 && are_shared(self.entries.as_slice(), entries)
     }
 
     /// Whether the authorization has these terms: the AS, the entries and both days.
@@ -191,31 +180,34 @@ impl Auth {
         ensures { result ≡ has_terms terms.now self.now }
     {
         self.asn.0 == terms.asn.0
-            && are_same(&terms.entries(), &self.entries())
+            && are_same(terms.entries.as_slice(), self.entries.as_slice())
             && self.from.number() == terms.from.number()
             && self.until.number() == terms.until.number()
     }
 
-    /// Whether some AS, prefix and maxLength is given by the terms of the other, and by these with
-    /// this maxLength.
-    #[tactic(auto, unfolding(crate::specs::Terms::entries_of))]
-    pub fn shares_vrp_amended(&self, max: u8, other: &Auth) -> bool
-        ensures { result ≡ share_vrp (record self.now { max = max }) other.now }
+    /// Whether some AS, prefix and maxLength is given by both terms.
+    pub fn shares_vrp(&self, other: &Auth) -> bool
+        ensures { result ≡ share_vrp self.now other.now }
     {
-        let amended = [RoaPrefix {
-            prefix: self.prefix,
-            max,
-        }];
-        self.asn.0 == other.asn.0 && are_shared(&amended, &other.entries())
+        self.gives_some(other.asn, other.entries.as_slice())
     }
 
-    /// Whether the maxLength is one for all prefixes of the terms.
-    pub fn fits_length(&self, max: u8) -> bool
-        ensures { result ≡ terms_fit_length self.now max }
+    /// Whether there are as many maxLengths as entries, each one for the prefix of the entry in its
+    /// place.
+    pub fn fits_maxes(&self, maxes: &[u8]) -> bool
+        ensures { result ≡ maxes_fit maxes.now self.now.entries }
     {
-        self.entries()
-            .iter()
-            .all(|entry| entry.prefix.fits_max_length(max))
+        maxes_fit(maxes, self.entries.as_slice())
+    }
+
+    /// The authorization with these maxLengths, one an entry in order, and this last day.
+    pub fn with_terms(&self, maxes: &[u8], until: Day) -> Result<Auth, AllocError>
+        ensures { IfOk result (λ x. x ≡ with_terms maxes.now until self.now) }
+    {
+        let mut amended = self.clone()?;
+        amended.entries.set_maxes(maxes);
+        amended.until = until;
+        Ok(amended)
     }
 
     /// Whether the day lies from the first to the last day in force.
@@ -229,6 +221,6 @@ impl Auth {
     pub fn gives_vrp(&self, vrp: &Vrp) -> bool
         ensures { IsTrue result ↔ IsVrpOf self.now vrp.now }
     {
-        self.asn.0 == vrp.asn.0 && has_entry(&self.entries(), &vrp.prefix, vrp.max)
+        self.asn.0 == vrp.asn.0 && has_entry(self.entries.as_slice(), &vrp.prefix, vrp.max)
     }
 }

@@ -47,11 +47,12 @@ pub enum Command {
         holder: Name,
         terms: AuthTerms,
     },
-    /// Sets the maxLength and the last day of the authorization of this number.
+    /// Sets the maxLengths, one for each entry in the order of prefixes, and the last day of the
+    /// authorization of this number.
     Amend {
         holder: Name,
         number: u32,
-        max: u8,
+        maxes: Vec<u8>,
         until: Day,
     },
     /// Ends the authorization of this number.

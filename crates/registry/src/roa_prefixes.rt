@@ -1,6 +1,6 @@
 //! The entries of an authorization as a list in order.
 ghost use Rattle.std.specs.Prelude.{◌≡◌, ◌↔◌, true, false, List, [], ◌∷◌, IsTrue, Err, IsOk, IfOk, MatchOption, IsPermutation};
-ghost use Rattle.registry.specs.RoaPrefixes.{AreInNumber, AreEntries, Rise, repeats_prefix};
+ghost use Rattle.registry.specs.RoaPrefixes.{AreInNumber, AreEntries, Rise, repeats_prefix, with_maxes};
 ghost use Rattle.registry.specs.declared.authorization.RoaPrefix.{RoaPrefix};
 
 use crate::RoaPrefix;
@@ -25,7 +25,7 @@ pub enum RoaPrefixesFault {
 
 /// The entries of an authorization: 1 to 64, whose prefixes rise strictly, so that none is there
 /// twice.
-#[derive(Debug, Drop)]
+#[derive(Clone, Debug, Drop)]
 pub struct RoaPrefixes {
     entries: Vec<RoaPrefix>,
 }
@@ -80,12 +80,27 @@ impl RoaPrefixes {
     }
 
     /// The entries, rising by prefix.
-    pub fn entries(&self) -> &[RoaPrefix]
+    pub fn as_slice(&self) -> &[RoaPrefix]
         ensures items { result.now ≡ self.now }
         ensures number { AreInNumber self.now }
         ensures rising { Rise self.now }
     {
         &self.entries
+    }
+
+    /// Sets the maxLengths, one an entry in order; where there are fewer, the others stay.
+    pub fn set_maxes(&mut self, maxes: &[u8])
+        ensures { self.new ≡ with_maxes maxes.now self.old }
+    {
+        set_maxes(&mut self.entries, maxes);
+    }
+}
+
+fn set_maxes(entries: &mut [RoaPrefix], maxes: &[u8])
+    ensures { entries.new ≡ with_maxes maxes.now entries.old }
+{
+    for index in 0..entries.len().min(maxes.len()) {
+        entries[index].max = maxes[index];
     }
 }
 

@@ -7,7 +7,7 @@ ghost use Rattle.addr.specs.Day.{IsDay};
 ghost use Rattle.addr.specs.Name.{is_name};
 ghost use Rattle.registry.specs.Values.{IsU8, IsU32, CommandFits, ExceptionsFit, FilterFits, ImportRowFits, TermsFit, VrpFits};
 
-use crate::{AuthTerms, Command, ImportRow};
+use crate::{AuthTerms, Command, ImportRow, RoaPrefix};
 use addr::{Day, Name, Vrp};
 use slurm::{Filter, Slurm};
 
@@ -44,12 +44,12 @@ pub(crate) fn command_fits(command: &Command)
         Command::Amend {
             holder,
             number,
-            max,
+            maxes,
             until,
         } => {
             name_fits(holder);
             number_fits(*number);
-            max_length_fits(*max);
+            max_lengths_fit(maxes);
             day_fits(*until);
         }
         Command::Import { holder, rows } => {
@@ -94,6 +94,21 @@ fn max_length_fits(max: u8)
     ensures { IsU8 max }
 {}
 
+/// Each `u8` is below 2^8.
+fn max_lengths_fit(maxes: &[u8])
+    ensures { All IsU8 maxes.now }
+{}
+
+/// The maxLength of each entry is below 2^8.
+fn entries_fit(entries: &[RoaPrefix])
+    ensures { AllByRecursion (λ entry. IsU8 entry.max) entries.now }
+{
+    if let [first, others @ ..] = entries {
+        max_length_fits(first.max);
+        entries_fit(others);
+    }
+}
+
 /// The values of each row are those of their types.
 fn rows_fit(rows: &[ImportRow])
     ensures { All ImportRowFits rows.now }
@@ -107,16 +122,18 @@ fn rows_fit(rows: &[ImportRow])
 fn row_fits(row: &ImportRow)
     ensures { ImportRowFits row.now }
 {
-    terms_fit(&row.terms());
+    number_fits(row.asn.0);
+    max_length_fits(row.max);
+    day_fits(row.from);
+    day_fits(row.until);
 }
 
 /// The values of the terms are those of their types.
-#[tactic(auto, unfolding(crate::specs::Terms::entries_asked))]
 fn terms_fit(terms: &AuthTerms)
     ensures { TermsFit terms.now }
 {
     number_fits(terms.asn.0);
-    max_length_fits(terms.max);
+    entries_fit(terms.entries.as_slice());
     day_fits(terms.from);
     day_fits(terms.until);
 }

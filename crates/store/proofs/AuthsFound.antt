@@ -19,7 +19,6 @@ use Rattle.charters.specs.CharterSets.{CharterSets}
 use Rattle.registry.specs.RoaPrefixes.{AreEntries}
 use Rattle.registry.specs.Rows.{Rows}
 use Rattle.registry.specs.RowsOfAll.{AllRows}
-use Rattle.registry.specs.Terms.{entries_of}
 use Rattle.registry.specs.declared.authorization.Auth.{Auth}
 use Rattle.registry.specs.declared.authorization.RoaPrefix.{RoaPrefix}
 use Rattle.registry.proofs.Entries.{are-one}
@@ -62,17 +61,17 @@ rows_sorted = sorted_values entry_cells by_entry entry_row_cmp (λ r s. entries_
 -- ---- an authorization as its claim with its entries
 
 abbrev group_of : Auth → Group Claim
-group_of x = record { claim = claim_of x; entries = entries_of x }
+group_of x = record { claim = claim_of x; entries = x.entries }
 
 abbrev HasEntries : Auth → Type 0
-HasEntries x = AreEntries (entries_of x)
+HasEntries x = AreEntries x.entries
 
 first_or : RoaPrefix → List RoaPrefix → RoaPrefix
 first_or d [] = d
 first_or d (e ∷ es) = e
 
-same_auth : (x y : Auth) → claim_of x ≡ claim_of y → entries_of x ≡ entries_of y → x ≡ y
-unfolding entries_of first_or
+same_auth : (x y : Auth) → claim_of x ≡ claim_of y → x.entries ≡ y.entries → x ≡ y
+unfolding first_or entries_of
 same_auth x y claims entries =
     let one : RoaPrefix = record { prefix = x.prefix; max = x.max } in
     let number : x.number ≡ y.number = ap (λ (c : Claim). c.number) claims in

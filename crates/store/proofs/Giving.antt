@@ -16,7 +16,7 @@ use Rattle.addr.specs.declared.prefix.Prefix.{Prefix}
 use Rattle.addr.specs.declared.vrp.Vrp.{Vrp}
 use Rattle.registry.specs.declared.authorization.Auth.{Auth}
 use Rattle.registry.specs.declared.authorization.RoaPrefix.{RoaPrefix}
-use Rattle.registry.specs.Terms.{entries_of, is_entry, IsVrpOf}
+use Rattle.registry.specs.Terms.{is_entry, IsVrpOf}
 use Rattle.registry.specs.Values.{AuthFits, VrpFits}
 use Rattle.registry.specs.Verdict.{fit_lengths}
 use Rattle.tables.specs.Cells.{vrp_cells, number_cell, prefix_cells}
@@ -29,27 +29,26 @@ use Rattle.store.specs.Loads.{AllGiveOn}
 use Rattle.tables.proofs.CellsOnce.{one_prefix}
 
 -- a VRP of the terms is shown as an entry of them
-pub cells_of_vrp : (x : Auth) (v : Vrp) → IsVrpOf x v → (e : RoaPrefix) × Has (entries_of x) e × (vrp_cells v ≡ payload_cells x e)
+pub cells_of_vrp : (x : Auth) (v : Vrp) → IsVrpOf x v → (e : RoaPrefix) × Has x.entries e × (vrp_cells v ≡ payload_cells x e)
 cells_of_vrp x v is =
-    let one = and_parts (x.asn.0 == v.asn.0) (list_any (is_entry v.prefix v.max) (entries_of x)) is in
-    let (e, has, fits) = some_has (is_entry v.prefix v.max) (entries_of x) one.1 in
+    let one = and_parts (x.asn.0 == v.asn.0) (list_any (is_entry v.prefix v.max) x.entries) is in
+    let (e, has, fits) = some_has (is_entry v.prefix v.max) x.entries one.1 in
     let two = and_parts (prefix_eq e.prefix v.prefix) (e.max == v.max) fits in
     let asn = eqb-true x.asn.0 v.asn.0 one.0 in
     let prefix = equal_prefix e.prefix v.prefix two.0 in
     let max = eqb-true e.max v.max two.1 in
     (e, has, λ i. number_cell (sym asn i) ∷ prefix_cells (sym prefix i) ++ number_cell (sym max i) ∷ [])
 
-vrp_of_cells : (x : Auth) (e : RoaPrefix) (v : Vrp) → Has (entries_of x) e → vrp_cells v ≡ payload_cells x e → IsVrpOf x v
+vrp_of_cells : (x : Auth) (e : RoaPrefix) (v : Vrp) → Has x.entries e → vrp_cells v ≡ payload_cells x e → IsVrpOf x v
 vrp_of_cells x e v has is =
     let asn : x.asn.0 ≡ v.asn.0 = cc in
     let max : e.max ≡ v.max = cc in
     let prefix : v.prefix ≡ e.prefix = one_prefix v.prefix e.prefix cc in
     let fits : is_entry v.prefix v.max e ≡ true = and_from _ _ (subst (λ p. prefix_eq e.prefix p ≡ true) (sym prefix) (prefix_itself e.prefix)) (eq-eqb e.max v.max max) in
-    and_from _ _ (eq-eqb x.asn.0 v.asn.0 asn) (some_from (is_entry v.prefix v.max) (entries_of x) e has fits)
+    and_from _ _ (eq-eqb x.asn.0 v.asn.0 asn) (some_from (is_entry v.prefix v.max) x.entries e has fits)
 
 -- two entries of one authorization are one, since it has one
-one_entry : (x : Auth) (d e : RoaPrefix) → Has (entries_of x) d → Has (entries_of x) e → d ≡ e
-unfolding entries_of
+one_entry : (x : Auth) (d e : RoaPrefix) → Has x.entries d → Has x.entries e → d ≡ e
 one_entry x d e (inl first) (inl second) = first ∙ sym second
 one_entry x d e (inl first) (inr none) = absurd none
 one_entry x d e (inr none) other = absurd none
@@ -75,12 +74,12 @@ module _ (day : ℕ) (all : AllRows) (rows : List Row) (each : (row : Row) → C
   is_given vrps shown v there =
       let row = subst (λ l. Contains l (vrp_cells v)) (sym shown) (contains_had (map vrp_cells vrps) (vrp_cells v) (mapped_has vrp_cells vrps v (has_contained vrps v there))) in
       let (h, r, x, e, of, in_r, in_x, from, until, is) = (each (vrp_cells v)).0 row in
-      (h, r, x, of, in_r, from, until, vrp_of_cells x e v (has_contained (entries_of x) e in_x) is)
+      (h, r, x, of, in_r, from, until, vrp_of_cells x e v (has_contained x.entries e in_x) is)
 
   has_given : (vrps : List Vrp) → rows ≡ map vrp_cells vrps → (v : Vrp) → IsGivenOn all day v → Contains vrps v
   has_given vrps shown v (h, r, x, of, in_r, from, until, is) =
       let (e, in_x, cells) = cells_of_vrp x v is in
-      let row = (each (vrp_cells v)).1 (h, r, x, e, of, in_r, contains_had (entries_of x) e in_x, from, until, cells) in
+      let row = (each (vrp_cells v)).1 (h, r, x, e, of, in_r, contains_had x.entries e in_x, from, until, cells) in
       let its = has_mapped vrp_cells vrps (vrp_cells v) (has_contained (map vrp_cells vrps) (vrp_cells v) (subst (λ l. Contains l (vrp_cells v)) shown row)) in
       subst (Contains vrps) (sym (one_vrp v its.0 its.2)) (contains_had vrps its.0 its.1)
 
@@ -93,18 +92,18 @@ module _ (day : ℕ) (all : AllRows) (rows : List Row) (each : (row : Row) → C
       let (h, r, x, e, of, in_r, in_x, from, until, shows) = (each row).0 (at, low, is) in
       let (v, given, fits) = give h r x of in_r from until in
       let (d, has, cells) = cells_of_vrp x v given in
-      none v fits (cells ∙ ap (payload_cells x) (one_entry x d e has (has_contained (entries_of x) e in_x)) ∙ sym shows)
+      none v fits (cells ∙ ap (payload_cells x) (one_entry x d e has (has_contained x.entries e in_x)) ∙ sym shows)
 
 -- an authorization in its ranges gives a VRP: that of its first entry
 pub gives_one : (x : Auth) → AuthFits x → (v : Vrp) × IsVrpOf x v × VrpFits v
-gives_one x fits = of_first (entries_of x) refl (omega (arith, fits.entries.number.0)) fits.lengths
+gives_one x fits = of_first x.entries refl (omega (arith, fits.entries.number.0)) fits.lengths
   where
-    of_first : (es : List RoaPrefix) → entries_of x ≡ es → 0 < length es → fit_lengths es ≡ true → (v : Vrp) × IsVrpOf x v × VrpFits v
+    of_first : (es : List RoaPrefix) → x.entries ≡ es → 0 < length es → fit_lengths es ≡ true → (v : Vrp) × IsVrpOf x v × VrpFits v
     of_first [] are some fit = absurd (omega (arith, some))
     of_first (e ∷ es) are some fit =
         let range = max_in_range e.prefix e.max (and_parts (fits_max_length e.prefix e.max) (fit_lengths es) fit).0 in
         let v : Vrp = record { prefix = e.prefix; max = e.max; asn = x.asn; at_least_length = range.0; at_most_width = range.1 } in
-        let has : list_any (is_entry e.prefix e.max) (entries_of x) ≡ true =
+        let has : list_any (is_entry e.prefix e.max) x.entries ≡ true =
         ap (list_any (is_entry e.prefix e.max)) are
         ∙ or_left _ _ (and_from _ _ (prefix_itself e.prefix) (eq-eqb e.max e.max refl)) in
         (v, and_from _ _ (eq-eqb x.asn.0 x.asn.0 refl) has, fits.asn)

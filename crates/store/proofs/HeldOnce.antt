@@ -10,7 +10,6 @@ use Rattle.registry.specs.declared.authorization.Auth.{Auth}
 use Rattle.registry.specs.declared.authorization.RoaPrefix.{RoaPrefix}
 use Rattle.registry.specs.Rows.{Rows}
 use Rattle.registry.specs.RowsOfAll.{AllRows}
-use Rattle.registry.specs.Terms.{entries_of}
 use Rattle.tables.specs.declared.entry.EntryRow.{EntryRow}
 use Rattle.tables.specs.Authorizations.{claim_of}
 use Rattle.tables.specs.Cells.{claim_row, entry_row}
@@ -28,7 +27,7 @@ module _ (entries_differ : EntriesDiffer) (claims_differ : ClaimsDiffer) (charte
   abbrev row_of : List ℕ → Auth → RoaPrefix → Row
   row_of h x e = entry_row h (claim_entry (claim_of x) e)
 
-  has_row : (h : List ℕ) (r : Rows) (x : Auth) (e : RoaPrefix) → rows.of_holder h ≡ Some r → Contains r.auths x → Has (entries_of x) e → Has (contents (db.trees entry.tree)) (row_of h x e)
+  has_row : (h : List ℕ) (r : Rows) (x : Auth) (e : RoaPrefix) → rows.of_holder h ≡ Some r → Contains r.auths x → Has x.entries e → Has (contents (db.trees entry.tree)) (row_of h x e)
   has_row h r x e of there has = in_table entry_part rows.of_holder _ holds.entries (row_of h x e) h r of (has_entry_row h r x e (has_contained r.auths x there) has)
 
   -- no two rows of the table `entry` have one payload

@@ -24,7 +24,6 @@ use Rattle.registry.specs.declared.authorization.Auth.{Auth}
 use Rattle.registry.specs.declared.authorization.RoaPrefix.{RoaPrefix}
 use Rattle.registry.specs.Rows.{Rows}
 use Rattle.registry.specs.RowsOfAll.{AllRows}
-use Rattle.registry.specs.Terms.{entries_of}
 use Rattle.registry.proofs.Names.{same_name-true}
 use Rattle.tables.specs.declared.claim.Claim.{Claim}
 use Rattle.tables.specs.declared.claim.TheConstants.{SELECT_CLAIMS_IN_FORCE}
@@ -172,14 +171,14 @@ module _ (day : ℕ) (all : AllRows) (db : Database) (rows : List Row) (holds_cl
       let (x, e, in_r, in_x, row_is) = entry_row_of h r c mine in
       let opened = is_open h r x e of in_r (subst (λ d. is_claimed_on day db d ≡ true) row_is claimed) in
       let days = and_parts (nat_le x.from day) (nat_le day x.until) (sym (open_is day h (claim_of x)) ∙ opened) in
-      (h, r, x, e, of, contains_had r.auths x in_r, contains_had (entries_of x) e in_x, leb-true x.from day days.0, leb-true day x.until days.1, shown ∙ ap payload_columns row_is)
+      (h, r, x, e, of, contains_had r.auths x in_r, contains_had x.entries e in_x, leb-true x.from day days.0, leb-true day x.until days.1, shown ∙ ap payload_columns row_is)
 
   has_in_force : (v : Row) → IsPayloadOn all day v → Contains rows v
   has_in_force v (h, r, x, e, of, in_r, in_x, from, until, is) =
       let own = has_contained r.auths x in_r in
       let row = entry_row h (claim_entry (claim_of x) e) in
       let its = claim_row h (claim_of x) in
-      let kept = in_table entry_part all.of_holder entries holds_entries row h r of (has_entry_row h r x e own (has_contained (entries_of x) e in_x)) in
+      let kept = in_table entry_part all.of_holder entries holds_entries row h r of (has_entry_row h r x e own (has_contained x.entries e in_x)) in
       let held = in_table claim_part all.of_holder claims holds_claims its h r of (mapped_has (λ z. claim_row h (claim_of z)) r.auths x own) in
       let opened = has_kept (is_open_on day) claims its held (open_is day h (claim_of x) ∙ and_from _ _ (le-leb _ _ from) (le-leb _ _ until)) in
       let on = mapped_has claim_columns (filter (is_open_on day) claims) its opened in

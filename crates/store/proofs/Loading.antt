@@ -25,7 +25,6 @@ use Rattle.registry.specs.declared.grant.Granted.{Granted}
 use Rattle.charters.specs.CharterSets.{CharterSets}
 use Rattle.registry.specs.declared.rows.HolderRows.{HolderRows}
 use Rattle.registry.specs.Rows.{Rows}
-use Rattle.registry.specs.Terms.{entries_of}
 use Rattle.tables.specs.Authorizations.{claim_of, entry_rows_of}
 use Rattle.tables.specs.Cells.{number_cell}
 use Rattle.tables.specs.Decode.{ClaimFits, EntryRowFits}
@@ -80,11 +79,11 @@ max_fits e fits = (grind (arith, nat_tests), grind (arith, nat_tests))
 
 pub entries_of_fit : (x : Auth) → AuthFits x → AllByRecursion EntryRowFits (entry_rows_of x)
 entries_of_fit x fits =
-    all-map EntryRowFits (claim_entry (claim_of x)) (entries_of x)
-    (all_from _ (entries_of x) (λ e has. record {
+    all-map EntryRowFits (claim_entry (claim_of x)) x.entries
+    (all_from _ x.entries (λ e has. record {
       number = fits.number;
       asn = fits.asn;
-      max = max_fits e (test_has (λ (d : RoaPrefix). fits_max_length d.prefix d.max) (entries_of x) e fits.lengths has);
+      max = max_fits e (test_has (λ (d : RoaPrefix). fits_max_length d.prefix d.max) x.entries e fits.lengths has);
     }))
 
 pub claims_fit : (o : Option Rows) → FitIfAny o → All ClaimFits (items_if_any (λ r. map claim_of r.auths) o)

@@ -20,7 +20,6 @@ use Rattle.registry.specs.declared.authorization.RoaPrefix.{RoaPrefix}
 use Rattle.registry.specs.declared.grant.Granted.{Granted}
 use Rattle.registry.specs.RoaPrefixes.{AreEntries}
 use Rattle.registry.specs.Rows.{Rows}
-use Rattle.registry.specs.Terms.{entries_of}
 use Rattle.registry.specs.Values.{AuthFits, ExceptionsFit, FilterFits, FitIfAny, GrantFits, IsCount, IsU32, VrpFits}
 use Rattle.tables.specs.declared.claim.Claim.{Claim}
 use Rattle.tables.specs.declared.entry.EntryRow.{EntryRow}
@@ -80,7 +79,7 @@ claim_in_range h c (k, shown, fits, is) = subst ClaimFits (sym (claim_row_once h
 entry_in_range : (h : List ℕ) (d : EntryRow) → ShowsOfHolder entry_row EntryRowFits (entry_row h d) → EntryRowFits d
 entry_in_range h d (k, shown, fits, is) = subst EntryRowFits (sym (entry_row_once h k d shown is).1) fits
 
-auth_fits : (h : List ℕ) (x : Auth) → AreEntries (entries_of x) → ShowsOfHolder claim_row ClaimFits (claim_row h (claim_of x))
+auth_fits : (h : List ℕ) (x : Auth) → AreEntries x.entries → ShowsOfHolder claim_row ClaimFits (claim_row h (claim_of x))
     → AllByRecursion (ShowsOfHolder entry_row EntryRowFits) (map (entry_row h) (entry_rows_of x)) → AuthFits x
 auth_fits h x are shows rows =
     let claim = claim_in_range h (claim_of x) shows in
@@ -88,8 +87,8 @@ auth_fits h x are shows rows =
       number = claim.number;
       asn = claim.asn;
       entries = are;
-      lengths = test_from (λ (e : RoaPrefix). fits_max_length e.prefix e.max) (entries_of x) (λ e has.
-          let row = mapped_has (entry_row h) (entry_rows_of x) (claim_entry (claim_of x) e) (mapped_has (claim_entry (claim_of x)) (entries_of x) e has) in
+      lengths = test_from (λ (e : RoaPrefix). fits_max_length e.prefix e.max) x.entries (λ e has.
+          let row = mapped_has (entry_row h) (entry_rows_of x) (claim_entry (claim_of x) e) (mapped_has (claim_entry (claim_of x)) x.entries e has) in
           let range = (entry_in_range h (claim_entry (claim_of x) e) (all_has (ShowsOfHolder entry_row EntryRowFits) _ (entry_row h (claim_entry (claim_of x) e)) rows row)).max in
           and_from _ _ (le-leb _ _ range.0) (le-leb _ _ range.1));
       from = claim.from;
@@ -100,7 +99,7 @@ first_part : {X : Type 0} (P : X → Type 0) (xs ys : List X) → AllByRecursion
 first_part P [] ys all = (tt, all)
 first_part P (x ∷ xs) ys all = let rest = first_part P xs ys all.1 in ((all.0, rest.0), rest.1)
 
-auths_fit : (h : List ℕ) (xs : List Auth) → AllByRecursion (λ x. AreEntries (entries_of x)) xs → AllByRecursion (ShowsOfHolder claim_row ClaimFits) (map (λ x. claim_row h (claim_of x)) xs)
+auths_fit : (h : List ℕ) (xs : List Auth) → AllByRecursion (λ x. AreEntries x.entries) xs → AllByRecursion (ShowsOfHolder claim_row ClaimFits) (map (λ x. claim_row h (claim_of x)) xs)
     → AllByRecursion (ShowsOfHolder entry_row EntryRowFits) (flat_map (λ x. map (entry_row h) (entry_rows_of x)) xs) → AllByRecursion AuthFits xs
 auths_fit h [] are claims entries = tt
 auths_fit h (x ∷ xs) are claims entries =
@@ -112,7 +111,7 @@ each_fits : {X : Type 0} (row : X → Row) (So : Row → Type 0) (fits : X → T
 each_fits row So fits one [] all = tt
 each_fits row So fits one (x ∷ xs) all = (one x all.0, each_fits row So fits one xs all.1)
 
-holder_fits : (h : List ℕ) (o : Option Rows) → ((r : Rows) → o ≡ Some r → AllByRecursion (λ x. AreEntries (entries_of x)) r.auths)
+holder_fits : (h : List ℕ) (o : Option Rows) → ((r : Rows) → o ≡ Some r → AllByRecursion (λ x. AreEntries x.entries) r.auths)
     → AllByRecursion ShowsHolder (part_rows holder_part h o) → AllByRecursion (ShowsOfHolder granted_row GrantFits) (part_rows granted_part h o)
     → AllByRecursion (ShowsOfHolder claim_row ClaimFits) (part_rows claim_part h o) → AllByRecursion (ShowsOfHolder entry_row EntryRowFits) (part_rows entry_part h o)
     → FitIfAny o

@@ -3,9 +3,8 @@ use Rattle.std.proofs.Common.{ℕ, List, Option}
 use Rattle.sqlite_rules.proofs.ListLemmas.{all_from}
 use Rattle.registry.specs.RoaPrefixes.{AreEntries}
 use Rattle.registry.specs.Rows.{Rows}
-use Rattle.registry.specs.Terms.{entries_of}
 use Rattle.registry.proofs.Entries.{are-one}
 use Rattle.tables.specs.Authorizations.{HaveEntries}
 
 pub all_have_entries : (rows : List ℕ → Option Rows) → HaveEntries rows
-all_have_entries rows h r of = all_from (λ x. AreEntries (entries_of x)) r.auths (λ x there. are-one x)
+all_have_entries rows h r of = all_from (λ x. AreEntries x.entries) r.auths (λ x there. are-one x)

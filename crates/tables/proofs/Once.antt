@@ -14,7 +14,7 @@ use Rattle.registry.specs.declared.authorization.Auth.{Auth}
 use Rattle.registry.specs.declared.authorization.RoaPrefix.{RoaPrefix}
 use Rattle.registry.specs.Rows.{Rows}
 use Rattle.registry.specs.RowsOfAll.{AllRows, IsGivenOn}
-use Rattle.registry.specs.Terms.{entries_of, is_entry, IsVrpOf}
+use Rattle.registry.specs.Terms.{is_entry, IsVrpOf}
 use Rattle.tables.specs.declared.claim.Claim.{Claim}
 use Rattle.tables.specs.declared.entry.EntryRow.{EntryRow}
 use Rattle.tables.specs.Authorizations.{claim_of}
@@ -85,11 +85,11 @@ once_by_numbers c a trees holds numbered h one other has also same =
     some_rows r s is = cc
 
 -- an entry of the one row gives what it gives in the other
-gives_same : (x y : Auth) (e f : RoaPrefix) (v : Vrp) → claim_entry (claim_of x) e ≡ claim_entry (claim_of y) f → Has (entries_of y) f → (x.asn.0 == v.asn.0) ≡ true → is_entry v.prefix v.max e ≡ true → IsVrpOf y v
+gives_same : (x y : Auth) (e f : RoaPrefix) (v : Vrp) → claim_entry (claim_of x) e ≡ claim_entry (claim_of y) f → Has y.entries f → (x.asn.0 == v.asn.0) ≡ true → is_entry v.prefix v.max e ≡ true → IsVrpOf y v
 gives_same x y e f v same has asn is =
     let its : (y.asn.0 == v.asn.0) ≡ true = ap (λ (r : EntryRow). r.asn.0 == v.asn.0) (sym same) ∙ asn in
     let entry : is_entry v.prefix v.max f ≡ true = ap (λ (r : EntryRow). is_entry v.prefix v.max r.entry) (sym same) ∙ is in
-    and_from _ _ its (some_from (is_entry v.prefix v.max) (entries_of y) f has entry)
+    and_from _ _ its (some_from (is_entry v.prefix v.max) y.entries f has entry)
 
 -- whatever rows tables hold, they give the same VRPs on each day
 pub given_alike : (c d : CharterSets) (a b : AllRows) (trees : Trees) → AreNumberedOnce trees → TablesHold c a trees → TablesHold d b trees → (day : ℕ) (v : Vrp) → IsGivenOn a day v → IsGivenOn b day v
@@ -97,7 +97,7 @@ given_alike c d a b trees once one other day v (h, r, x, of, there, from, until,
     let claims = contents (trees claim_part.tree) in
     let entries = contents (trees entry_part.tree) in
     let parts = and_parts _ _ is in
-    let e = some_has (is_entry v.prefix v.max) (entries_of x) parts.1 in
+    let e = some_has (is_entry v.prefix v.max) x.entries parts.1 in
     let has = has_contained r.auths x there in
     let row = in_table entry_part a.of_holder entries one.entries (entry_row h (claim_entry (claim_of x) e.0)) h r of (has_entry_row h r x e.0 has e.1) in
     let its = of_some entry_part b.of_holder entries other.entries (entry_row h (claim_entry (claim_of x) e.0)) row in

@@ -9,7 +9,6 @@ use Rattle.sqlite_rules.specs.Lists.{Has}
 use Rattle.sqlite_rules.proofs.ListLemmas.{all_has, has_filtered, has_kept, has_contained, contains_had, has_either, has_left, has_right}
 use Rattle.sqlite_rules.proofs.ProbeLemmas.{mapped_has, has_mapped}
 use Rattle.registry.specs.Rows.{Rows}
-use Rattle.registry.specs.Terms.{entries_of}
 use Rattle.registry.specs.declared.authorization.Auth.{Auth}
 use Rattle.registry.specs.declared.authorization.RoaPrefix.{RoaPrefix}
 use Rattle.tables.specs.Authorizations.{claim_of, entry_rows_of}
@@ -61,14 +60,14 @@ joined_has f [] x y none has = absurd none
 joined_has f (z ∷ xs) x y (inl first) has = has_left (f z) (flat_map f xs) y (subst (λ w. Has (f w) y) first has)
 joined_has f (z ∷ xs) x y (inr later) has = has_right (f z) (flat_map f xs) y (joined_has f xs x y later has)
 
-pub has_entry_row : (h : List ℕ) (r : Rows) (x : Auth) (e : RoaPrefix) → Has r.auths x → Has (entries_of x) e → Has (entry_part.rows h r) (entry_row h (claim_entry (claim_of x) e))
+pub has_entry_row : (h : List ℕ) (r : Rows) (x : Auth) (e : RoaPrefix) → Has r.auths x → Has x.entries e → Has (entry_part.rows h r) (entry_row h (claim_entry (claim_of x) e))
 has_entry_row h r x e there has =
-    joined_has (λ x. map (entry_row h) (entry_rows_of x)) r.auths x _ there (mapped_has (entry_row h) (entry_rows_of x) _ (mapped_has (claim_entry (claim_of x)) (entries_of x) e has))
+    joined_has (λ x. map (entry_row h) (entry_rows_of x)) r.auths x _ there (mapped_has (entry_row h) (entry_rows_of x) _ (mapped_has (claim_entry (claim_of x)) x.entries e has))
 
 pub entry_row_of : (h : List ℕ) (r : Rows) (c : Row) → Has (entry_part.rows h r) c
-    → (x : Auth) × (e : RoaPrefix) × Has r.auths x × Has (entries_of x) e × (c ≡ entry_row h (claim_entry (claim_of x) e))
+    → (x : Auth) × (e : RoaPrefix) × Has r.auths x × Has x.entries e × (c ≡ entry_row h (claim_entry (claim_of x) e))
 entry_row_of h r c has =
     let of = has_joined (λ x. map (entry_row h) (entry_rows_of x)) r.auths c has in
     let row = has_mapped (entry_row h) (entry_rows_of of.0) c of.2 in
-    let one = has_mapped (claim_entry (claim_of of.0)) (entries_of of.0) row.0 row.1 in
+    let one = has_mapped (claim_entry (claim_of of.0)) of.0.entries row.0 row.1 in
     (of.0, one.0, of.1, one.1, row.2 ∙ ap (entry_row h) one.2)

@@ -8,7 +8,6 @@ use Rattle.sqlite_rules.proofs.ProbeLemmas.{has_mapped}
 use Rattle.sqlite_keyed.proofs.ListLemmas.{flat_map-map}
 use Rattle.sqlite_trees.proofs.ListLemmas.{all-map, map-map}
 use Rattle.registry.specs.RoaPrefixes.{AreEntries}
-use Rattle.registry.specs.Terms.{entries_of}
 use Rattle.registry.specs.declared.authorization.Auth.{Auth}
 use Rattle.registry.proofs.Entries.{are-one}
 use Rattle.tables.specs.declared.claim.Claim.{Claim}
@@ -24,7 +23,7 @@ module _ (claims : List Claim) (rows : List EntryRow) where
   grouped auths are = record {
     same_claims = map-map (λ (g : Group Claim). g.claim) group_of auths ∙ are.same_claims;
     same_rows = flat_map-map (group_rows claim_entry) group_of auths ∙ are.same_rows;
-    are_entries = all-map (λ (g : Group Claim). AreEntries g.entries) group_of auths (all_from (λ x. AreEntries (entries_of x)) auths (λ x there. are-one x));
+    are_entries = all-map (λ (g : Group Claim). AreEntries g.entries) group_of auths (all_from (λ x. AreEntries x.entries) auths (λ x there. are-one x));
   }
 
   ungrouped : (auths : List Auth) → AreGroups claim_entry claims rows (map group_of auths) → AreAuths claims rows auths

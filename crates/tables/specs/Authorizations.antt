@@ -4,7 +4,6 @@ use Rattle.std.specs.List.{AllByRecursion}
 use Rattle.sqlite_trees.specs.Tree.{IsAscending}
 use Rattle.registry.specs.Rows.{Rows}
 use Rattle.registry.specs.RoaPrefixes.{AreEntries}
-use Rattle.registry.specs.Terms.{entries_of}
 use Rattle.registry.specs.declared.authorization.Auth.{Auth}
 use Rattle.tables.specs.declared.claim.Claim.{Claim}
 use Rattle.tables.specs.declared.entry.EntryRow.{EntryRow}
@@ -15,7 +14,7 @@ abbrev pub claim_of : Auth → Claim
 claim_of x = record { number = x.number; asn = x.asn; from = x.from; until = x.until }
 
 abbrev pub entry_rows_of : Auth → List EntryRow
-entry_rows_of x = map (claim_entry (claim_of x)) (entries_of x)
+entry_rows_of x = map (claim_entry (claim_of x)) x.entries
 
 -- the authorizations that have these claims, and the rows of whose entries, one after the other, are these
 pub record AreAuths (claims : List Claim) (rows : List EntryRow) (auths : List Auth) : Type 0 where
@@ -32,4 +31,4 @@ NumbersRise claims = IsAscending (λ (c d : Claim). c.number < d.number) claims
 
 -- each authorization of each holder has at least one entry, no more than it may have, and each prefix once
 abbrev pub HaveEntries : (List ℕ → Option Rows) → Type 0
-HaveEntries rows = (h : List ℕ) (r : Rows) → rows h ≡ Some r → AllByRecursion (λ x. AreEntries (entries_of x)) r.auths
+HaveEntries rows = (h : List ℕ) (r : Rows) → rows h ≡ Some r → AllByRecursion (λ x. AreEntries x.entries) r.auths

@@ -10,7 +10,6 @@ use Rattle.addr.specs.declared.prefix.Prefix.{Prefix}
 use Rattle.addr.specs.declared.vrp.Vrp.{Vrp}
 use Rattle.registry.specs.declared.authorization.Auth.{Auth}
 use Rattle.registry.specs.declared.authorization.RoaPrefix.{RoaPrefix}
-use Rattle.registry.specs.Terms.{entries_of}
 use Rattle.registry.specs.declared.rule.Rule.{Rule}
 use Rattle.registry.specs.Rule.{rule_name}
 use Rattle.desk.specs.declared.reply.Reply.{Reply}
@@ -68,7 +67,7 @@ auth_end auth =
     codes ",\"from\":\"" ++ day_text auth.from ++ codes "\",\"until\":\"" ++ day_text auth.until ++ codes "\"}"
 
 abbrev pub auth_text : Auth → List ℕ
-auth_text auth = auth_start auth ++ entries_text (entries_of auth) ++ auth_end auth
+auth_text auth = auth_start auth ++ entries_text auth.entries ++ auth_end auth
 
 -- ---- replies
 

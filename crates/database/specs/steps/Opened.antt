@@ -6,7 +6,6 @@ use Rattle.sqlite_value.specs.Order.{Row}
 use Rattle.sqlite_trees.specs.Tree.{Trees}
 use Rattle.addr.specs.Name.{is_name}
 use Rattle.charters.specs.CharterSets.{CharterSets}
-use Rattle.registry.specs.Terms.{entries_of}
 use Rattle.registry.specs.RoaPrefixes.{AreEntries}
 use Rattle.registry.specs.Values.{GrantFits}
 use Rattle.registry.specs.declared.authorization.Auth.{Auth}
@@ -65,7 +64,7 @@ named_entries x = map (λ r. record { holder = x.holder; row = r }) (entry_rows_
 -- the authorizations, each with the entries of one, have these claims, and these rows of entries one after the other
 pub record MakeAuths (claims : List (OfHolder Claim)) (entries : List (OfHolder EntryRow)) : Type 0 where
   pub auths : List (OfHolder Auth)
-  pub are_entries : AllByRecursion (λ (x : OfHolder Auth). AreEntries (entries_of x.row)) auths
+  pub are_entries : AllByRecursion (λ (x : OfHolder Auth). AreEntries x.row.entries) auths
   pub same_claims : map named_claim auths ≡ claims
   pub same_entries : flat_map named_entries auths ≡ entries
 

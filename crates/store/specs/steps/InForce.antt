@@ -14,7 +14,6 @@ use Rattle.registry.specs.declared.authorization.Auth.{Auth}
 use Rattle.registry.specs.declared.authorization.RoaPrefix.{RoaPrefix}
 use Rattle.registry.specs.Rows.{Rows}
 use Rattle.registry.specs.RowsOfAll.{AllRows}
-use Rattle.registry.specs.Terms.{entries_of}
 use Rattle.tables.specs.Cells.{number_cell, prefix_cells}
 use Rattle.tables.specs.Decode.{first_columns}
 use Rattle.tables.specs.Tables.{claim, entry, columns, contents}
@@ -88,5 +87,5 @@ payload_cells x e = number_cell x.asn.0 ∷ prefix_cells e.prefix ++ number_cell
 abbrev pub IsPayloadOn : AllRows → ℕ → Row → Type 0
 IsPayloadOn rows day v =
     (h : List ℕ) × (r : Rows) × (x : Auth) × (e : RoaPrefix)
-    × (rows.of_holder h ≡ Some r) × Contains r.auths x × Contains (entries_of x) e
+    × (rows.of_holder h ≡ Some r) × Contains r.auths x × Contains x.entries e
     × (x.from ≤ day) × (day ≤ x.until) × (v ≡ payload_cells x e)

@@ -2,7 +2,6 @@
 use Rattle.std.specs.Prelude.{◌≡◌, ◌≢◌, List, map, Option, MatchOption}
 use Rattle.std.specs.Global.{Vec}
 use Rattle.sqlite_rules.specs.Lists.{Has}
-use Rattle.registry.specs.Terms.{entries_of}
 use Rattle.registry.specs.declared.authorization.Auth.{Auth}
 use Rattle.tables.specs.declared.claim.Claim.{Claim}
 use Rattle.tables.specs.declared.groups.Group.{Group}
@@ -10,7 +9,7 @@ use Rattle.tables.specs.Authorizations.{claim_of}
 
 -- the claim of an authorization with its entries
 abbrev pub group_of : Auth → Group Claim
-group_of x = record { claim = claim_of x; entries = entries_of x }
+group_of x = record { claim = claim_of x; entries = x.entries }
 
 -- no authorization has this claim and these entries
 abbrev pub IsNoAuth : Group Claim → Type 0

@@ -4,7 +4,7 @@ use Rattle.registry.specs.declared.grant.Access.TheVariants.{Alter}
 use Rattle.registry.specs.Import.{has_terms}
 use Rattle.registry.specs.Permission.{are_permitted}
 use Rattle.registry.specs.Rows.{rows_of}
-use Rattle.registry.specs.Terms.{row_terms, entries_asked, grant_terms}
+use Rattle.registry.specs.Terms.{row_terms, grant_terms}
 use Rattle.policy.proofs.RowsLemmas.{active-to, active-from}
 use Rattle.policy.proofs.admission.is_present.Goals as goal
 
@@ -12,7 +12,7 @@ pub returns-then-are_permitted : goal.returns-then-are_permitted
 returns-then-are_permitted c history h are =
     let a = c.args in
     let test = list_any (has_terms (row_terms a.row.now)) in
-    let asked = c.entries.ensures ∙ ap entries_asked c.terms-terms.ensures in
+    let asked = c.entries.ensures ∙ ap c.terms-terms.entries.ensures in
     let permitted = ap (λ gs. are_permitted gs a.day a.caller.now Alter c.entries.result) (c.deref.ensures.value ∙ are.grants)
     ∙ ap (are_permitted (grant_terms history h) a.day a.caller.now Alter) asked in
     let same = c.some_has_terms.ensures ∙ ap (λ t. list_any (has_terms t) c.deref-then-are_permitted.result.now) c.terms-terms.ensures ∙ ap test c.deref-then-are_permitted.ensures.value in (

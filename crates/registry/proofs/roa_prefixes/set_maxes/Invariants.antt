@@ -1,0 +1,6 @@
+use Rattle.std.proofs.Common.{◌≡◌, take}
+use Rattle.registry.specs.RoaPrefixes.{with_maxes}
+use Rattle.registry.proofs.roa_prefixes.set_maxes.Given as goal
+
+abbrev pub invariant-loop-index : goal.invariant-loop-index
+invariant-loop-index l = l.entries ≡ with_maxes (take l.index l.maxes) l.fn.entries
