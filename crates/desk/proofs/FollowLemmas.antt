@@ -145,7 +145,7 @@ begins_no (Grant h name role scope until) other is not = absurd is
 begins_no (Revoke h n) edit is not = ap begins_some is
 begins_no (Withdraw h n) edit is not = ap begins_some is
 begins_no (Create h terms) edit is not = absurd (true≢false not)
-begins_no (Amend h n max until) edit is not = absurd (true≢false not)
+begins_no (Amend h n maxes until) edit is not = absurd (true≢false not)
 begins_no (Import h rows) edit is not = absurd (true≢false not)
 begins_no (Transfer p giver taker) edit is not = absurd is
 begins_no (SlurmCommand file) edit is not = absurd is
@@ -173,7 +173,7 @@ day_by (Transfer p giver taker) (Holders first (Some second)) old new edits foll
     stays_then (begins_some first.edit || begins_some second.edit) old new
     (rw (hold_begins_no first.edit edits.1, ending_none_begins_no second.edit edits.3) refl) follows
 day_by (Create h terms) (Holders first None) old new edits follows = stays_or_gone _ old new follows
-day_by (Amend h n max until) (Holders first None) old new edits follows = stays_or_gone _ old new follows
+day_by (Amend h n maxes until) (Holders first None) old new edits follows = stays_or_gone _ old new follows
 day_by (Import h rows) (Holders first None) old new edits follows = stays_or_gone _ old new follows
 day_by (SlurmCommand file) (Holders first None) old new edits follows = absurd edits.1
 day_by command (Holders first None) old new edits follows =

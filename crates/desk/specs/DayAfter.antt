@@ -14,7 +14,7 @@ use Rattle.desk.specs.declared.reply.Reply.TheVariants.{Unavailable}
 -- the command makes authorizations, or puts one in the place of another
 abbrev pub makes_auths : Command → Bool
 makes_auths (Create holder terms) = true
-makes_auths (Amend holder n max until) = true
+makes_auths (Amend holder n maxes until) = true
 makes_auths (Import holder rows) = true
 makes_auths _ = false
 
@@ -23,7 +23,7 @@ makes_auths _ = false
 abbrev pub DayAfterCommand : Command → Option ℕ → Option ℕ → Type 0
 DayAfterCommand (Slurm file) old new = new ≡ None
 DayAfterCommand (Create holder terms) old new = (new ≡ old) ⊎ (new ≡ None)
-DayAfterCommand (Amend holder n max until) old new = (new ≡ old) ⊎ (new ≡ None)
+DayAfterCommand (Amend holder n maxes until) old new = (new ≡ old) ⊎ (new ≡ None)
 DayAfterCommand (Import holder rows) old new = (new ≡ old) ⊎ (new ≡ None)
 DayAfterCommand command old new = new ≡ old
 

@@ -35,7 +35,7 @@ fn content_of(alloc: Global, auth: &Auth) -> Result<Option<Content>, AllocError>
         IsSome found ↔ (fit_lengths auth.now.entries ≡ true)) }
     ensures value { IfOk result (λ found. IfSome found (λ content. content ≡ content_of auth.now)) }
 {
-    let entries = content_entries(alloc, &auth.entries())?;
+    let entries = content_entries(alloc, auth.entries.as_slice())?;
     Ok(Content::make(auth.asn, entries).ok())
 }
 

@@ -104,7 +104,7 @@ impl Kept {
         ensures same { IsWithSame self.old self.new }
     {
         if auth.is_in_force(self.day) {
-            self.begin_entries(&auth.entries(), auth.asn)?;
+            self.begin_entries(auth.entries.as_slice(), auth.asn)?;
         }
         Ok(())
     }
@@ -185,7 +185,7 @@ impl Kept {
         ensures same { IsWithSame self.old self.new }
     {
         if auth.is_in_force(self.day) {
-            self.end_entries(&auth.entries(), auth.asn, begun);
+            self.end_entries(auth.entries.as_slice(), auth.asn, begun);
         }
     }
 

@@ -66,21 +66,13 @@ group_of x = record { claim = claim_of x; entries = x.entries }
 abbrev HasEntries : Auth → Type 0
 HasEntries x = AreEntries x.entries
 
-first_or : RoaPrefix → List RoaPrefix → RoaPrefix
-first_or d [] = d
-first_or d (e ∷ es) = e
-
 same_auth : (x y : Auth) → claim_of x ≡ claim_of y → x.entries ≡ y.entries → x ≡ y
-unfolding first_or entries_of
 same_auth x y claims entries =
-    let one : RoaPrefix = record { prefix = x.prefix; max = x.max } in
     let number : x.number ≡ y.number = ap (λ (c : Claim). c.number) claims in
     let asn : x.asn ≡ y.asn = ap (λ (c : Claim). c.asn) claims in
     let from : x.from ≡ y.from = ap (λ (c : Claim). c.from) claims in
     let until : x.until ≡ y.until = ap (λ (c : Claim). c.until) claims in
-    let prefix : x.prefix ≡ y.prefix = ap (λ es. (first_or one es).prefix) entries in
-    let max : x.max ≡ y.max = ap (λ es. (first_or one es).max) entries in
-    λ i. record { number = number i; asn = asn i; prefix = prefix i; max = max i; from = from i; until = until i }
+    λ i. record { number = number i; asn = asn i; entries = entries i; from = from i; until = until i }
 
 same_auths : (xs ys : List Auth) → map group_of xs ≡ map group_of ys → xs ≡ ys
 same_auths [] [] same = refl

@@ -7,7 +7,7 @@ use Rattle.std.proofs.lemmas.Bool.Decides.{nat_tests}
 use Rattle.std.specs.List.{list_any}
 use Rattle.sqlite_value.specs.Order.{Row}
 use Rattle.sqlite_rules.specs.Lists.{Has}
-use Rattle.sqlite_rules.proofs.ListLemmas.{has_contained, contains_had, some_has, some_from}
+use Rattle.sqlite_rules.proofs.ListLemmas.{has_contained, contains_had, some_has, some_from, test_has}
 use Rattle.sqlite_rules.proofs.ProbeLemmas.{mapped_has, has_mapped}
 use Rattle.addr.specs.Address.{prefix_eq, FitsMaxLength, fits_max_length}
 use Rattle.addr.specs.Order.{same_vrp}
@@ -16,9 +16,8 @@ use Rattle.addr.specs.declared.prefix.Prefix.{Prefix}
 use Rattle.addr.specs.declared.vrp.Vrp.{Vrp}
 use Rattle.registry.specs.declared.authorization.Auth.{Auth}
 use Rattle.registry.specs.declared.authorization.RoaPrefix.{RoaPrefix}
-use Rattle.registry.specs.Terms.{is_entry, IsVrpOf}
+use Rattle.registry.specs.Terms.{is_entry, IsVrpOf, IsVrpOfEntry}
 use Rattle.registry.specs.Values.{AuthFits, VrpFits}
-use Rattle.registry.specs.Verdict.{fit_lengths}
 use Rattle.tables.specs.Cells.{vrp_cells, number_cell, prefix_cells}
 use Rattle.addr.proofs.Equality.{equal_prefix, prefix_itself}
 use Rattle.addr.proofs.SpanLemmas.{met_iff}
@@ -27,6 +26,9 @@ use Rattle.store.specs.steps.Queries.{MeetsSome}
 use Rattle.registry.specs.RowsOfAll.{AllRows, IsGivenOn, IsTaken}
 use Rattle.store.specs.Loads.{AllGiveOn}
 use Rattle.tables.proofs.CellsOnce.{one_prefix}
+
+cells_of_entry : (x : Auth) (e : RoaPrefix) (v : Vrp) → IsVrpOfEntry e x.asn v → vrp_cells v ≡ payload_cells x e
+cells_of_entry x e v is = λ i. number_cell (ap (λ (a : Asn). a.0) is.2 i) ∷ prefix_cells (is.0 i) ++ number_cell (is.1 i) ∷ []
 
 -- a VRP of the terms is shown as an entry of them
 pub cells_of_vrp : (x : Auth) (v : Vrp) → IsVrpOf x v → (e : RoaPrefix) × Has x.entries e × (vrp_cells v ≡ payload_cells x e)
@@ -46,12 +48,6 @@ vrp_of_cells x e v has is =
     let prefix : v.prefix ≡ e.prefix = one_prefix v.prefix e.prefix cc in
     let fits : is_entry v.prefix v.max e ≡ true = and_from _ _ (subst (λ p. prefix_eq e.prefix p ≡ true) (sym prefix) (prefix_itself e.prefix)) (eq-eqb e.max v.max max) in
     and_from _ _ (eq-eqb x.asn.0 v.asn.0 asn) (some_from (is_entry v.prefix v.max) x.entries e has fits)
-
--- two entries of one authorization are one, since it has one
-one_entry : (x : Auth) (d e : RoaPrefix) → Has x.entries d → Has x.entries e → d ≡ e
-one_entry x d e (inl first) (inl second) = first ∙ sym second
-one_entry x d e (inl first) (inr none) = absurd none
-one_entry x d e (inr none) other = absurd none
 
 pub one_vrp : (v w : Vrp) → vrp_cells v ≡ vrp_cells w → v ≡ w
 one_vrp v w is =
@@ -90,23 +86,14 @@ module _ (day : ℕ) (all : AllRows) (rows : List Row) (each : (row : Row) → C
   pub given_read : AllGiveOn all day → ¬ Any (λ row. (v : Vrp) → VrpFits v → vrp_cells v ≢ row) rows
   given_read give (at, row, low, is, none) =
       let (h, r, x, e, of, in_r, in_x, from, until, shows) = (each row).0 (at, low, is) in
-      let (v, given, fits) = give h r x of in_r from until in
-      let (d, has, cells) = cells_of_vrp x v given in
-      none v fits (cells ∙ ap (payload_cells x) (one_entry x d e has (has_contained x.entries e in_x)) ∙ sym shows)
+      let (v, given, fits) = give h r x e of in_r in_x from until in
+      none v fits (cells_of_entry x e v given ∙ sym shows)
 
--- an authorization in its ranges gives a VRP: that of its first entry
-pub gives_one : (x : Auth) → AuthFits x → (v : Vrp) × IsVrpOf x v × VrpFits v
-gives_one x fits = of_first x.entries refl (omega (arith, fits.entries.number.0)) fits.lengths
-  where
-    of_first : (es : List RoaPrefix) → x.entries ≡ es → 0 < length es → fit_lengths es ≡ true → (v : Vrp) × IsVrpOf x v × VrpFits v
-    of_first [] are some fit = absurd (omega (arith, some))
-    of_first (e ∷ es) are some fit =
-        let range = max_in_range e.prefix e.max (and_parts (fits_max_length e.prefix e.max) (fit_lengths es) fit).0 in
-        let v : Vrp = record { prefix = e.prefix; max = e.max; asn = x.asn; at_least_length = range.0; at_most_width = range.1 } in
-        let has : list_any (is_entry e.prefix e.max) x.entries ≡ true =
-        ap (list_any (is_entry e.prefix e.max)) are
-        ∙ or_left _ _ (and_from _ _ (prefix_itself e.prefix) (eq-eqb e.max e.max refl)) in
-        (v, and_from _ _ (eq-eqb x.asn.0 x.asn.0 refl) has, fits.asn)
+-- each entry of an authorization in its ranges gives a VRP
+pub gives_each : (x : Auth) (e : RoaPrefix) → AuthFits x → Contains x.entries e → (v : Vrp) × IsVrpOfEntry e x.asn v × VrpFits v
+gives_each x e fits there =
+    let range = max_in_range e.prefix e.max (test_has (λ (d : RoaPrefix). fits_max_length d.prefix d.max) x.entries e fits.lengths (has_contained x.entries e there)) in
+    (record { prefix = e.prefix; max = e.max; asn = x.asn; at_least_length = range.0; at_most_width = range.1 }, (refl, refl, refl), fits.asn)
 
 -- ---- what is held
 

@@ -38,7 +38,7 @@ use Rattle.tables.proofs.Once.{claim_row_once, entry_row_once}
 use Rattle.tables.proofs.HeldExceptions.{held_number}
 use Rattle.database.specs.TablesRead.{HasSomeAuths, ShowsException, ShowsHolder, ShowsOfHolder, row_of_claim, rows_of_entries}
 use Rattle.store.specs.Laws.{RowsInRangeGive, RowsThatReadFit}
-use Rattle.store.proofs.Giving.{gives_one}
+use Rattle.store.proofs.Giving.{gives_each}
 use Rattle.store.proofs.Loading.{claim_fits, entries_of_fit}
 
 -- what is so of each row of a table is so of each row of a holder in it
@@ -185,6 +185,6 @@ rows_fit charter rows trees holds read = (
 )
 
 pub rows_give : RowsInRangeGive
-rows_give rows day fit h r x there has from until =
+rows_give rows day fit h r x e there has in_x from until =
     let fits = (subst FitIfAny there (fit.0 h)).auths in
-    gives_one x (all_has AuthFits r.auths x (recursion_from_All AuthFits r.auths fits) (has_contained r.auths x has))
+    gives_each x e (all_has AuthFits r.auths x (recursion_from_All AuthFits r.auths fits) (has_contained r.auths x has)) in_x

@@ -7,12 +7,13 @@ use Rattle.addr.specs.Spans.{spans_have, AreMaximal}
 use Rattle.addr.specs.declared.span.Span.{Span}
 use Rattle.addr.specs.declared.vrp.Vrp.{Vrp}
 use Rattle.registry.specs.declared.authorization.Auth.{Auth}
+use Rattle.registry.specs.declared.authorization.RoaPrefix.{RoaPrefix}
 use Rattle.registry.specs.declared.grant.Granted.{Granted}
 use Rattle.registry.specs.declared.rows.HolderRows.{HolderRows}
 use Rattle.registry.specs.ExceptionsInForce.{no_exceptions}
 use Rattle.registry.specs.Rows.{Rows}
 use Rattle.registry.specs.RowsOfAll.{AllRows}
-use Rattle.registry.specs.Terms.{IsVrpOf}
+use Rattle.registry.specs.Terms.{IsVrpOfEntry}
 use Rattle.registry.specs.Values.{VrpFits}
 use Rattle.slurm.specs.Exceptions.{Exceptions}
 use Rattle.store.specs.StoreRows.{StoreView, Holds}
@@ -53,9 +54,9 @@ AreFilesOf exceptions [] = exceptions ≡ no_exceptions
 AreFilesOf exceptions (file ∷ []) = (file ≡ exceptions) × (exceptions ≢ no_exceptions)
 AreFilesOf _ _ = ⊥
 
--- each authorization that is in force on the day gives a VRP
+-- each entry of each authorization that is in force on the day gives a VRP
 abbrev pub AllGiveOn : AllRows → ℕ → Type 0
 AllGiveOn rows day =
-    (h : List ℕ) (r : Rows) (x : Auth)
-    → rows.of_holder h ≡ Some r → Contains r.auths x → x.from ≤ day → day ≤ x.until
-    → (v : Vrp) × IsVrpOf x v × VrpFits v
+    (h : List ℕ) (r : Rows) (x : Auth) (e : RoaPrefix)
+    → rows.of_holder h ≡ Some r → Contains r.auths x → Contains x.entries e → x.from ≤ day → day ≤ x.until
+    → (v : Vrp) × IsVrpOfEntry e x.asn v × VrpFits v
