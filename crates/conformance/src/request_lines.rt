@@ -91,6 +91,34 @@ reg {"do":"import","holder":"alpha","rows":[{"asn":64496,"prefix":"192.0.2.0/24"
 reg {"do":"import","holder":"alpha","rows":[{"asn":null,"prefix":null,"max":null,"from":null,"until":null},{}]} => 2
 reg {"do":"import","holder":"","rows":[{"asn":null,"prefix":null,"max":null,"from":null,"until":null}]} => 3
 -reg {"do":"import","holder":"alpha","rows":[{"asn":64496,"prefix":"192.0.2.0/24","max":24,"from":"","until":"2026-12-31"}]} => 4
+# entries_of_a_create
+ann {"do":"create","holder":"alpha","asn":64496,"entries":[{"prefix":"192.0.2.0/24","max":24}],"from":"2026-01-01","until":"2026-12-31"} => 0
+ann {"do":"create","holder":"alpha","asn":64496,"entries":[{"max":48,"prefix":"2001:db8::/32"},{"prefix":"192.0.2.0/24","max":24}],"from":"2026-01-01","until":"2026-12-31"} => 0
+ann {"do":"create","holder":"alpha","asn":64496,"entries":[{"prefix":"192.0.2.0/24","max":24}],"prefix":"192.0.2.0/24","max":24,"from":"2026-01-01","until":"2026-12-31"} => 2
+ann {"do":"create","holder":"alpha","asn":64496,"entries":[{"prefix":"192.0.2.0/24","max":24}],"max":24,"from":"2026-01-01","until":"2026-12-31"} => 2
+ann {"do":"create","holder":"alpha","asn":64496,"from":"2026-01-01","until":"2026-12-31"} => 2
+ann {"do":"create","holder":"alpha","asn":64496,"prefix":"192.0.2.0/24","from":"2026-01-01","until":"2026-12-31"} => 2
+ann {"do":"create","holder":"alpha","asn":64496,"entries":{},"from":"2026-01-01","until":"2026-12-31"} => 2
+ann {"do":"create","holder":"alpha","asn":64496,"entries":[7],"from":"2026-01-01","until":"2026-12-31"} => 2
+ann {"do":"create","holder":"alpha","asn":64496,"entries":[{"prefix":"192.0.2.0/24"}],"from":"2026-01-01","until":"2026-12-31"} => 2
+ann {"do":"create","holder":"alpha","asn":64496,"entries":[{"prefix":"192.0.2.0/24","max":24,"asn":1}],"from":"2026-01-01","until":"2026-12-31"} => 2
+ann {"do":"create","holder":"alpha","asn":64496,"entries":[],"from":"2026-01-01","until":"2026-12-31"} => 12
+ann {"do":"create","holder":"alpha","asn":64496,"entries":[{"prefix":"192.0.2.0/24","max":24},{"prefix":"192.0.2.1/24","max":24}],"from":"2026-01-01","until":"2026-12-31"} => 5
+ann {"do":"create","holder":"alpha","asn":64496,"entries":[{"prefix":"192.0.2.0/24","max":256}],"from":"2026-01-01","until":"2026-12-31"} => 7
+# one_prefix_twice_is_malformed
+ann {"do":"create","holder":"alpha","asn":64496,"entries":[{"prefix":"192.0.2.0/24","max":24},{"prefix":"192.0.2.0/24","max":25}],"from":"2026-01-01","until":"2026-12-31"} => 14
+ann {"do":"create","holder":"alpha","asn":64496,"entries":[{"prefix":"192.0.2.0/24","max":24},{"prefix":"::/0","max":0},{"prefix":"192.0.2.0/24","max":24}],"from":"2026-01-01","until":"2026-12-31"} => 14
+ann {"do":"create","holder":"alpha","asn":64496,"entries":[{"prefix":"192.0.2.0/24","max":24},{"prefix":"192.0.2.0/24","max":25}],"from":"2026-01-01","until":"never"} => 8
+ann {"do":"whatif","holder":"alpha","changes":[{"do":"create","asn":64496,"entries":[{"prefix":"::/0","max":0},{"prefix":"::/0","max":1}],"from":"2026-01-01","until":"2026-12-31"}],"routes":[{"prefix":"::/0","origin":1}]} => 14
+ann {"do":"whatif","holder":"alpha","changes":[{"do":"create","asn":64496,"entries":[{"prefix":"::/0","max":0},{"prefix":"::/1","max":1}],"from":"2026-01-01","until":"2026-12-31"}],"routes":[{"prefix":"::/0","origin":1}]} => 0
+# maxes_of_an_amendment
+ann {"do":"amend","holder":"alpha","number":1,"maxes":[24,48],"until":"2026-12-31"} => 0
+ann {"do":"amend","holder":"alpha","number":1,"maxes":[24],"max":24,"until":"2026-12-31"} => 2
+ann {"do":"amend","holder":"alpha","number":1,"until":"2026-12-31"} => 2
+ann {"do":"amend","holder":"alpha","number":1,"maxes":24,"until":"2026-12-31"} => 2
+ann {"do":"amend","holder":"alpha","number":1,"maxes":["24"],"until":"2026-12-31"} => 7
+ann {"do":"amend","holder":"alpha","number":1,"maxes":[24,256],"until":"2026-12-31"} => 7
+ann {"do":"amend","holder":"alpha","number":1,"maxes":[],"until":"2026-12-31"} => 12
 # changes_of_a_what_if
 reg {"do":"whatif","holder":"alpha","changes":[],"routes":[{"prefix":"::/0","origin":1}]} => 0
 reg {"do":"whatif","holder":"alpha","changes":[{"do":"create","asn":64496,"prefix":"192.0.2.0/24","max":24,"from":"2026-01-01","until":"2026-12-31"}],"routes":[{"prefix":"::/0","origin":1}]} => 0

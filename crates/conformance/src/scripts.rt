@@ -24,6 +24,7 @@ mod imports;
 mod other_holders;
 mod repeats;
 mod resources;
+mod several_prefixes;
 mod vrps;
 mod what_if;
 
@@ -237,6 +238,7 @@ fn setup_of(name: &str) -> Result<&'static str, Fail> {
         "exceptions" => Ok(exceptions::FILTER_AND_ASSERTION),
         "import" => Ok(imports::TWO_ROWS),
         "other holder" => Ok(BETA),
+        "two families" => Ok(several_prefixes::TWO_FAMILIES),
         "reclaimed part" => Ok(resources::PART_RECLAIMED),
         _ => Err("no set-up of that name".into()),
     }
@@ -297,6 +299,7 @@ fn scripts_have_their_replies(rt: HostRuntime) -> Result<(), Fail> {
     assert_all(&rt, rt.alloc(), grants::SCRIPTS)?;
     assert_all(&rt, rt.alloc(), authorizations::SCRIPTS)?;
     assert_all(&rt, rt.alloc(), amendments::SCRIPTS)?;
+    assert_all(&rt, rt.alloc(), several_prefixes::SCRIPTS)?;
     assert_all(&rt, rt.alloc(), contents::SCRIPTS)?;
     assert_all(&rt, rt.alloc(), imports::SCRIPTS)?;
     assert_all(&rt, rt.alloc(), what_if::SCRIPTS)?;
