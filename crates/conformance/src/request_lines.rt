@@ -388,3 +388,47 @@ fn length_is_tested_before_anything_else(rt: HostRuntime) -> Result<(), Fail> {
     assert_eq!(rt; reported(rt.alloc(), line.as_bytes()), 13);
     Ok(())
 }
+
+/// So many entries, each of a prefix of its own.
+fn entries_text(alloc: Global, count: u32) -> Result<String, Fail> {
+    let mut entries = String::new(alloc);
+    for index in 0..count {
+        if index > 0 {
+            entries.push(',')?;
+        }
+        let entry = format!(in alloc; r#"{{"prefix":"10.0.{index}.0/24","max":24}}"#)?;
+        entries.push_str(&entry)?;
+    }
+    Ok(entries)
+}
+
+/// The number that is reported of a create with so many entries.
+fn reported_of_entries(alloc: Global, count: u32) -> Result<u8, Fail> {
+    let entries = entries_text(alloc, count)?;
+    let request = format!(in alloc;
+        r#"ann {{"do":"create","holder":"alpha","asn":1,"entries":[{entries}],"from":"2026-01-01","until":"2026-12-31"}}"#)?;
+    let line = line_of(alloc, "2026-03-01", &request)?;
+    Ok(reported(alloc, line.as_bytes()))
+}
+
+/// The number that is reported of an amendment to so many maxLengths.
+fn reported_of_maxes(alloc: Global, count: u32) -> Result<u8, Fail> {
+    let mut list = String::new(alloc);
+    for index in 0..count {
+        list.push_str(if index > 0 { ",24" } else { "24" })?;
+    }
+    let request = format!(in alloc;
+        r#"ann {{"do":"amend","holder":"alpha","number":1,"maxes":[{list}],"until":"2026-12-31"}}"#)?;
+    let line = line_of(alloc, "2026-03-01", &request)?;
+    Ok(reported(alloc, line.as_bytes()))
+}
+
+#[test]
+fn authorization_has_up_to_64_entries(rt: HostRuntime) -> Result<(), Fail> {
+    let alloc = rt.alloc();
+    assert_eq!(rt; reported_of_entries(alloc, 64)?, 0);
+    assert_eq!(rt; reported_of_entries(alloc, 65)?, 12);
+    assert_eq!(rt; reported_of_maxes(alloc, 64)?, 0);
+    assert_eq!(rt; reported_of_maxes(alloc, 65)?, 12);
+    Ok(())
+}
