@@ -3,19 +3,18 @@ use addr::{Asn, Day, Prefix, Vrp};
 use desk::{Reply, Vrps};
 use library_conformance::sheet::Sheet;
 use payload::Validity;
-use policy::{Auth, Rule};
+use policy::{Auth, RoaPrefixes, Rule};
 use std::alloc::Global;
 use std::process::Abort;
 use std::test::Fail;
 use web::{Device, Failed, Malformed, short_text, write_reply};
 
-fn auth(number: u32, prefix: &str) -> Result<Auth, Fail> {
+fn auth(alloc: Global, number: u32, prefix: &str) -> Result<Auth, Fail> {
     let prefix = Prefix::read(prefix.as_bytes())?;
     Ok(Auth {
         number,
         asn: Asn(64496),
-        prefix,
-        max: prefix.length,
+        entries: RoaPrefixes::one(alloc, prefix, prefix.length)?,
         from: Day::read(b"2026-01-01").ok_or("no day")?,
         until: Day::read(b"2026-12-31").ok_or("no day")?,
     })
@@ -88,8 +87,8 @@ fn prints_short_replies(rt: HostRuntime) {
 #[test]
 fn prints_authorizations(rt: HostRuntime) -> Result<(), Fail> {
     let alloc = rt.alloc();
-    let one = auth(1, "192.0.2.0/24")?;
-    let other = auth(4_294_967_295, "2001:db8::/32")?;
+    let one = auth(alloc, 1, "192.0.2.0/24")?;
+    let other = auth(alloc, 4_294_967_295, "2001:db8::/32")?;
     let shown =
         "{\"shown\":{\"number\":1,\"asn\":64496,\"prefix\":\"192.0.2.0/24\",\"max\":24,\"from\":\"2026-01-01\",\"until\":\"2026-12-31\"}}\n";
     assert_printed(&rt, alloc, &Reply::Shown(one.clone()?), shown);
@@ -134,7 +133,7 @@ fn prints_vrps_and_states(rt: HostRuntime) -> Result<(), Fail> {
 #[test]
 fn write_that_fails_leaves_a_beginning(rt: HostRuntime) -> Result<(), Fail> {
     let alloc = rt.alloc();
-    let auths = vec![in alloc; auth(1, "192.0.2.0/24")?, auth(2, "192.0.2.0/25")?]?;
+    let auths = vec![in alloc; auth(alloc, 1, "192.0.2.0/24")?, auth(alloc, 2, "192.0.2.0/25")?]?;
     let reply = Reply::Listed(auths);
     let whole =
         b"{\"listed\":[{\"number\":1,\"asn\":64496,\"prefix\":\"192.0.2.0/24\",\"max\":24,\"from\":\"2026-01-01\",\"until\":\"2026-12-31\"},{\"number\":2,\"asn\":64496,\"prefix\":\"192.0.2.0/25\",\"max\":25,\"from\":\"2026-01-01\",\"until\":\"2026-12-31\"}]}\n";

@@ -77,8 +77,8 @@ fn row(asn: u32) -> Result<ImportRow, Fail> {
     })
 }
 
-fn terms(asn: u32) -> Result<AuthTerms, Fail> {
-    Ok(row(asn)?.terms())
+fn terms(alloc: Global, asn: u32) -> Result<AuthTerms, Fail> {
+    Ok(row(asn)?.terms(alloc)?)
 }
 
 /// The rule and the row that a denial names.
@@ -133,9 +133,9 @@ fn supposed_create_counts_as_made(rt: HostRuntime) -> Result<(), Fail> {
     let charter = example_charter(alloc)?;
     let (day, caller) = (first_of_march()?, name("ann")?);
     let changes = [
-        Proposed::Create(terms(1)?),
+        Proposed::Create(terms(alloc, 1)?),
         Proposed::Withdraw(999_999),
-        Proposed::Create(terms(2)?),
+        Proposed::Create(terms(alloc, 2)?),
     ];
     let third = suppose(alloc, &charter, &view, day, &caller, &changes);
     assert_eq!(rt; denial(third), Some((Rule::Room, Some(3))));

@@ -6,7 +6,7 @@ use crate::vrps::{parse_asn, parse_vrp, vrps_of};
 use addr::{Asn, Day, Prefix};
 use kept::Kept;
 use payload::{ListIndex, PayloadIndex};
-use registry::{Auth, Edit};
+use registry::{Auth, Edit, RoaPrefixes};
 use slurm::Filter;
 use std::alloc::Global;
 use std::process::Abort;
@@ -128,7 +128,7 @@ fn parse_day(text: &str) -> Result<Day, Fail> {
 }
 
 /// An authorization by its AS, prefix, maxLength, first and last day.
-fn parse_auth(number: u32, text: &str) -> Result<Auth, Fail> {
+fn parse_auth(alloc: Global, number: u32, text: &str) -> Result<Auth, Fail> {
     let (asn, rest) = text.split_once(' ').ok_or("no prefix")?;
     let (prefix, rest) = rest.split_once(' ').ok_or("no maxLength")?;
     let (max, days) = rest.split_once(' ').ok_or("no first day")?;
@@ -136,8 +136,7 @@ fn parse_auth(number: u32, text: &str) -> Result<Auth, Fail> {
     Ok(Auth {
         number,
         asn: parse_asn(asn)?,
-        prefix: Prefix::read(prefix.as_bytes())?,
-        max: max.parse()?,
+        entries: RoaPrefixes::one(alloc, Prefix::read(prefix.as_bytes())?, max.parse()?)?,
         from: parse_day(from)?,
         until: parse_day(until)?,
     })
@@ -154,12 +153,12 @@ fn kept_day(alloc: Global) -> Result<Kept, Fail> {
     Ok(Kept::of(alloc, parse_day(DAY)?, given, &filters, &asserted)?)
 }
 
-fn follow(kept: &mut Kept, events: &str) -> Result<(), Fail> {
+fn follow(alloc: Global, kept: &mut Kept, events: &str) -> Result<(), Fail> {
     for event in events.split(';') {
         let (what, auth) = event.split_once(' ').ok_or("no authorization")?;
         match what {
-            "begin" => kept.begin(&parse_auth(1, auth)?)?,
-            "end" => kept.end(&parse_auth(1, auth)?),
+            "begin" => kept.begin(&parse_auth(alloc, 1, auth)?)?,
+            "end" => kept.end(&parse_auth(alloc, 1, auth)?),
             _ => return Err("no event".into()),
         }
     }
@@ -171,7 +170,7 @@ fn auths_from(alloc: Global, first: u32, texts: &str, between: char) -> Result<V
     let mut auths = Vec::new(alloc);
     let mut number = first;
     for text in texts.split(between) {
-        auths.push(parse_auth(number, text)?)?;
+        auths.push(parse_auth(alloc, number, text)?)?;
         number = number.saturating_add(1);
     }
     Ok(auths)
@@ -189,14 +188,14 @@ fn numbers_of(alloc: Global, texts: &str) -> Result<Vec<u32>, Fail> {
 fn parse_edit(alloc: Global, words: &str) -> Result<Edit, Fail> {
     let (what, rest) = words.split_once(' ').ok_or("no edit")?;
     match what {
-        "create" => Ok(Edit::Create(parse_auth(6, rest)?)),
+        "create" => Ok(Edit::Create(parse_auth(alloc, 6, rest)?)),
         "import" => Ok(Edit::Import {
             auths: auths_from(alloc, 6, rest, ';')?,
             created: 7,
         }),
         "amend" => {
             let (number, auth) = rest.split_once(' ').ok_or("no authorization")?;
-            Ok(Edit::Amend(parse_auth(number.parse()?, auth)?))
+            Ok(Edit::Amend(parse_auth(alloc, number.parse()?, auth)?))
         }
         "withdraw" => Ok(Edit::Withdraw(rest.parse()?)),
         "hold" => Ok(Edit::Hold {
@@ -250,7 +249,7 @@ fn assert_row(rt: &impl Abort, alloc: Global, kept: &Kept, row: Row<'_>) -> Resu
 fn assert_follows(rt: &impl Abort, alloc: Global, row: Row<'_>) -> Result<(), Fail> {
     let mut kept = kept_day(alloc)?;
     assert_vrps(rt, alloc, &kept, "as_before")?;
-    follow(&mut kept, row.input)?;
+    follow(alloc, &mut kept, row.input)?;
     assert_row(rt, alloc, &kept, row)
 }
 

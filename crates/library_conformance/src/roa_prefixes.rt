@@ -59,7 +59,7 @@ fn entries_are_kept_rising(rt: HostRuntime) -> Result<(), Fail> {
         match RoaPrefixes::make(parse_entries(alloc, row.input)?) {
             Ok(made) => {
                 let expected = parse_entries(alloc, row.output)?;
-                assert_eq!(rt; made.entries(), expected.as_slice(), "{}", row.name);
+                assert_eq!(rt; made.as_slice(), expected.as_slice(), "{}", row.name);
             }
             Err(fault) => {
                 let text = format!(in alloc; "{fault}")?;
@@ -84,7 +84,7 @@ fn one_to_sixty_four_entries(rt: HostRuntime) -> Result<(), Fail> {
         match RoaPrefixes::make(falling) {
             Ok(made) => {
                 assert!(rt; fault.is_none(), "{name}");
-                assert_eq!(rt; made.entries(), rising.as_slice(), "{name}");
+                assert_eq!(rt; made.as_slice(), rising.as_slice(), "{name}");
             }
             Err(found) => assert_eq!(rt; Some(found), fault, "{name}"),
         }
@@ -96,6 +96,6 @@ fn one_to_sixty_four_entries(rt: HostRuntime) -> Result<(), Fail> {
 fn one_is_the_list_of_one_entry(rt: HostRuntime) -> Result<(), Fail> {
     let entry = host_entry(0)?;
     let made = RoaPrefixes::one(rt.alloc(), entry.prefix, entry.max)?;
-    assert!(rt; made.entries() == [entry].as_slice());
+    assert!(rt; made.as_slice() == [entry].as_slice());
     Ok(())
 }

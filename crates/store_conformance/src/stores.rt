@@ -3,8 +3,8 @@ use crate::example_database::{TABLES, made};
 use addr::{Asn, Day, Holdings, Name, Prefix};
 use library_conformance::slurm_sample::SAMPLE;
 use policy::{
-    Auth, Change, Charter, Command, Edit, Granted, HolderChange, HolderRows, Role, Scope, View,
-    decide,
+    Auth, Change, Charter, Command, Edit, Granted, HolderChange, HolderRows, RoaPrefixes, Role,
+    Scope, View, decide,
 };
 use slurm::{Filter, Slurm};
 use sqlite::{Connection, MemStore};
@@ -56,22 +56,29 @@ fn apply(store: &mut Store<MemStore>, edit: Edit) -> Result<(), Fail> {
     }
 }
 
-fn authorization(number: u32) -> Result<Auth, Fail> {
+fn authorization(alloc: Global, number: u32) -> Result<Auth, Fail> {
     Ok(Auth {
         number,
         asn: Asn(64_496),
-        prefix: Prefix::read(b"192.0.2.0/24")?,
-        max: 24,
+        entries: RoaPrefixes::one(alloc, Prefix::read(b"192.0.2.0/24")?, 24)?,
         from: first_of_march()?,
         until: first_of_march()?,
     })
+}
+
+fn is_same(auth: &Auth, other: &Auth) -> bool {
+    auth.number == other.number
+        && auth.asn == other.asn
+        && auth.entries.as_slice() == other.entries.as_slice()
+        && auth.from == other.from
+        && auth.until == other.until
 }
 
 /// So many authorizations of one prefix, each of an AS of its own, where four were made before.
 fn next_authorizations(alloc: Global, count: u32) -> Result<Vec<Auth>, Fail> {
     let mut auths = Vec::new(alloc);
     for number in 5..5u32.saturating_add(count) {
-        let mut auth = authorization(number)?;
+        let mut auth = authorization(alloc, number)?;
         auth.asn = Asn(number);
         auths.push(auth)?;
     }
@@ -110,8 +117,8 @@ fn each_edit_runs_in_memory(rt: HostRuntime) -> Result<(), Fail> {
     let mut store = registered_holder(rt.alloc())?;
     apply(&mut store, Edit::Grant(grant()?))?;
     apply(&mut store, hold(rt.alloc(), None)?)?;
-    apply(&mut store, Edit::Create(authorization(1)?))?;
-    apply(&mut store, Edit::Amend(authorization(1)?))?;
+    apply(&mut store, Edit::Create(authorization(rt.alloc(), 1)?))?;
+    apply(&mut store, Edit::Amend(authorization(rt.alloc(), 1)?))?;
     apply(&mut store, Edit::Withdraw(1))?;
     apply(&mut store, Edit::Revoke(1))
 }
@@ -120,7 +127,7 @@ fn each_edit_runs_in_memory(rt: HostRuntime) -> Result<(), Fail> {
 fn rows_of_each_kind(alloc: Global, store: &mut Store<MemStore>) -> Result<HolderRows, Fail> {
     apply(store, hold(alloc, None)?)?;
     apply(store, Edit::Grant(grant()?))?;
-    apply(store, Edit::Create(authorization(1)?))?;
+    apply(store, Edit::Create(authorization(alloc, 1)?))?;
     Ok(view(alloc, store)?.holder.ok_or("rows")?)
 }
 
@@ -130,7 +137,10 @@ fn what_was_applied_is_loaded(rt: HostRuntime) -> Result<(), Fail> {
     let rows = rows_of_each_kind(rt.alloc(), &mut store)?;
     assert!(rt; rows.holdings.spans() == [Prefix::read(b"192.0.2.0/24")?.span()].as_slice());
     assert!(rt; rows.grants.as_slice() == [grant()?].as_slice());
-    assert!(rt; rows.auths.as_slice() == [authorization(1)?].as_slice());
+    let [auth] = rows.auths.as_slice() else {
+        return Err("not one authorization".into());
+    };
+    assert!(rt; is_same(auth, &authorization(rt.alloc(), 1)?));
     assert_eq!(rt; (rows.granted, rows.created), (1, 1));
     Ok(())
 }
@@ -226,9 +236,9 @@ fn what_breaks_a_key_is_refused(rt: HostRuntime) -> Result<(), Fail> {
     let mut store = registered_holder(rt.alloc())?;
     let again = change(&mut store, Edit::Register)?;
     assert!(rt; matches!(again, Err(StoreFault::Database)));
-    apply(&mut store, Edit::Create(authorization(1)?))?;
+    apply(&mut store, Edit::Create(authorization(rt.alloc(), 1)?))?;
     // The same AS, prefix and maxLength under another number.
-    let second = change(&mut store, Edit::Create(authorization(2)?))?;
+    let second = change(&mut store, Edit::Create(authorization(rt.alloc(), 2)?))?;
     assert!(rt; matches!(second, Err(StoreFault::Database)));
     Ok(())
 }
@@ -249,8 +259,8 @@ fn database_that_has_tables_is_refused(rt: HostRuntime) -> Result<(), Fail> {
 #[test]
 fn authorization_that_gives_no_vrp_is_another_schema(rt: HostRuntime) -> Result<(), Fail> {
     let mut store = registered_holder(rt.alloc())?;
-    let mut auth = authorization(1)?;
-    auth.max = 23;
+    let mut auth = authorization(rt.alloc(), 1)?;
+    auth.entries.set_maxes(&[23]);
     apply(&mut store, Edit::Create(auth))?;
     let vrps = store.all_auths_on(rt.alloc(), first_of_march()?);
     assert!(rt; matches!(vrps, Err(StoreFault::Schema)));
