@@ -1,10 +1,40 @@
--- Authorizations have the entries of one.
-use Rattle.std.proofs.Common.{ℕ, List, Option}
-use Rattle.sqlite_rules.proofs.ListLemmas.{all_from}
+-- Authorizations have entries, before an edit of the rows of one holder and after it.
+use Rattle.std.proofs.Common.{◌≡◌, ℕ, Bool, true, false, cond, ◌==◌, List, [], ◌∷◌, map, Option, Some, None, option_map, refl, sym, subst}
+use Rattle.registry.specs.History.{same_name}
+use Rattle.registry.proofs.Names.{same_name-true}
 use Rattle.registry.specs.RoaPrefixes.{AreEntries}
-use Rattle.registry.specs.Rows.{Rows}
-use Rattle.registry.proofs.Entries.{are-one}
-use Rattle.tables.specs.Authorizations.{HaveEntries}
+use Rattle.registry.specs.Rows.{Rows, replaced_by}
+use Rattle.registry.specs.declared.authorization.Auth.{Auth}
+use Rattle.tables.specs.Authorizations.{EachHasEntries, HaveEntries}
+use Rattle.tables.proofs.PartLemmas.{turned_at}
 
-pub all_have_entries : (rows : List ℕ → Option Rows) → HaveEntries rows
-all_have_entries rows h r of = all_from (λ x. AreEntries x.entries) r.auths (λ x there. are-one x)
+-- those of no holder
+pub none_have_entries : HaveEntries (λ h. None)
+none_have_entries h r of = absurd cc
+
+-- those where the rows of one holder were turned to rows whose authorizations have them
+pub turned_have_entries : (h : List ℕ) (to : Option Rows → Option Rows) (rows : List ℕ → Option Rows) → HaveEntries rows
+    → ((r : Rows) → to (rows h) ≡ Some r → EachHasEntries r.auths) → HaveEntries (turned_at h to rows)
+turned_have_entries h to rows have turned k r = go (same_name h k) refl
+  where
+    go : (b : Bool) → same_name h k ≡ b → cond b (to (rows k)) (rows k) ≡ Some r → EachHasEntries r.auths
+    go true is of = turned r (subst (λ n. to (rows n) ≡ Some r) (sym (same_name-true h k is)) of)
+    go false differ of = have k r of
+
+-- those where an edit of its rows keeps them
+pub edited_have_entries : (h : List ℕ) (edit : Rows → Rows) (rows : List ℕ → Option Rows) → ((r : Rows) → EachHasEntries r.auths → EachHasEntries (edit r).auths)
+    → HaveEntries rows → HaveEntries (turned_at h (option_map edit) rows)
+edited_have_entries h edit rows keeps have = turned_have_entries h (option_map edit) rows have (λ r. go (rows h) refl r)
+  where
+    go : (o : Option Rows) → rows h ≡ o → (r : Rows) → option_map edit o ≡ Some r → EachHasEntries r.auths
+    go None is r of = absurd cc
+    go (Some q) is r of = let same : edit q ≡ r = cc in subst (λ (s : Rows). EachHasEntries s.auths) same (keeps q (have h q is))
+
+-- those of which one is replaced by one that has them; a part of them, and more of them, have them by `all-filter` and `all-append`
+pub replaced_have_entries : (x : Auth) → AreEntries x.entries → (auths : List Auth) → EachHasEntries auths → EachHasEntries (map (replaced_by x) auths)
+replaced_have_entries x are [] all = tt
+replaced_have_entries x are (y ∷ auths) all = (go (y.number == x.number), replaced_have_entries x are auths all.1)
+  where
+    go : (b : Bool) → AreEntries (cond b x y).entries
+    go true = are
+    go false = all.0

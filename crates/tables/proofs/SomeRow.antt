@@ -48,7 +48,7 @@ module _ (part : Part) (all : List ℕ → Option Rows) (table : List Row) (hold
 -- ---- the rows of the entries of authorizations
 
 -- what lists have together, one of them has
-has_joined : {X Y : Type 0} (f : X → List Y) (xs : List X) (y : Y) → Has (flat_map f xs) y → (x : X) × Has xs x × Has (f x) y
+pub has_joined : {X Y : Type 0} (f : X → List Y) (xs : List X) (y : Y) → Has (flat_map f xs) y → (x : X) × Has xs x × Has (f x) y
 has_joined f [] y none = absurd none
 has_joined f (x ∷ xs) y has = elim (has_either (f x) (flat_map f xs) y has) [
   | inl here ↦ (x, inl refl, here)

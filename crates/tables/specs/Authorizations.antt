@@ -16,10 +16,15 @@ claim_of x = record { number = x.number; asn = x.asn; from = x.from; until = x.u
 abbrev pub entry_rows_of : Auth → List EntryRow
 entry_rows_of x = map (claim_entry (claim_of x)) x.entries
 
+-- each has at least one entry, no more than it may have, and each prefix once
+abbrev pub EachHasEntries : List Auth → Type 0
+EachHasEntries auths = AllByRecursion (λ x. AreEntries x.entries) auths
+
 -- the authorizations that have these claims, and the rows of whose entries, one after the other, are these
 pub record AreAuths (claims : List Claim) (rows : List EntryRow) (auths : List Auth) : Type 0 where
   pub same_claims : map claim_of auths ≡ claims
   pub same_rows : flat_map entry_rows_of auths ≡ rows
+  pub have_entries : EachHasEntries auths
 
 -- no authorizations have them
 abbrev pub HasNoAuths : List Claim → List EntryRow → Type 0
@@ -29,6 +34,6 @@ HasNoAuths claims rows = (auths : List Auth) → ¬ AreAuths claims rows auths
 abbrev pub NumbersRise : List Claim → Type 0
 NumbersRise claims = IsAscending (λ (c d : Claim). c.number < d.number) claims
 
--- each authorization of each holder has at least one entry, no more than it may have, and each prefix once
+-- so have those of each holder
 abbrev pub HaveEntries : (List ℕ → Option Rows) → Type 0
-HaveEntries rows = (h : List ℕ) (r : Rows) → rows h ≡ Some r → AllByRecursion (λ x. AreEntries x.entries) r.auths
+HaveEntries rows = (h : List ℕ) (r : Rows) → rows h ≡ Some r → EachHasEntries r.auths

@@ -9,7 +9,6 @@ use Rattle.addr.specs.declared.family.Family.TheVariants.{V4, V6}
 use Rattle.addr.specs.declared.prefix.Prefix.{Prefix}
 use Rattle.addr.specs.declared.span.Span.{Span}
 use Rattle.addr.specs.declared.vrp.Vrp.{Vrp}
-use Rattle.registry.specs.declared.authorization.Auth.{Auth}
 use Rattle.registry.specs.declared.grant.Granted.{Granted}
 use Rattle.registry.specs.declared.grant.Role.{Role}
 use Rattle.registry.specs.declared.grant.Role.TheVariants.{Manager, Clerk, Auditor}
@@ -65,11 +64,6 @@ abbrev pub grant_cells : Granted → Row
 grant_cells g =
     number_cell g.number ∷ Text g.caller ∷ number_cell (role_number g.role) ∷ scope_cells g.scope
     ++ number_cell g.until ∷ []
-
-abbrev pub auth_cells : Auth → Row
-auth_cells x =
-    number_cell x.number ∷ number_cell x.asn.0 ∷ prefix_cells x.prefix
-    ++ number_cell x.max ∷ number_cell x.from ∷ number_cell x.until ∷ []
 
 abbrev pub claim_cells : Claim → Row
 claim_cells c = number_cell c.number ∷ number_cell c.asn.0 ∷ number_cell c.from ∷ number_cell c.until ∷ []

@@ -1,43 +1,32 @@
 //! Authorizations, out of their claims and the rows of their entries.
-ghost use Rattle.std.specs.Prelude.{IfOk, MatchOption};
+ghost use Rattle.std.specs.Prelude.{◌≡◌, map, IfOk, MatchOption};
 ghost use Rattle.tables.specs.Authorizations.{AreAuths, HasNoAuths, NumbersRise};
-ghost use Rattle.tables.specs.steps.Ungrouping.{AreUngrouped, IsUngrouped};
+ghost use Rattle.tables.specs.steps.Ungrouping.{auth_of};
 
 use crate::groups::{Group, group_entries};
 use crate::{Claim, EntryRow};
 use registry::Auth;
 use std::alloc::{AllocError, Global};
 
-/// The authorization that the claim with its entries is, if it has just one.
-#[tactic(auto, unfolding(registry::specs::Terms::entries_of))]
-fn auth_of(group: &Group<Claim>) -> Option<Auth>
-    ensures { IsUngrouped group.now result }
+/// The authorization that the claim with its entries is.
+fn auth_of(group: Group<Claim>) -> Auth
+    ensures { result ≡ auth_of group }
 {
-    let [entry] = group.entries.entries() else {
-        return None;
-    };
-    Some(Auth {
-        number: group.claim.number,
-        asn: group.claim.asn,
-        prefix: entry.prefix,
-        max: entry.max,
-        from: group.claim.from,
-        until: group.claim.until,
-    })
+    let Group { claim, entries } = group;
+    Auth {
+        number: claim.number,
+        asn: claim.asn,
+        entries,
+        from: claim.from,
+        until: claim.until,
+    }
 }
 
-/// The authorizations that the claims with their entries are, if each is one.
-fn ungroup(alloc: Global, groups: &[Group<Claim>]) -> Result<Option<Vec<Auth>>, AllocError>
-    ensures { IfOk result (AreUngrouped groups.now) }
+/// The authorizations that the claims with their entries are.
+fn ungroup(alloc: Global, groups: Vec<Group<Claim>>) -> Result<Vec<Auth>, AllocError>
+    ensures { IfOk result (λ auths. auths.items ≡ map auth_of groups.items) }
 {
-    let mut auths = Vec::new(alloc);
-    for group in groups {
-        let Some(auth) = auth_of(group) else {
-            return Ok(None);
-        };
-        auths.push(auth)?;
-    }
-    Ok(Some(auths))
+    groups.into_iter().map(auth_of).collect(alloc)
 }
 
 /// The authorizations that have these claims, and the rows of whose entries, one after the other,
@@ -54,5 +43,5 @@ pub fn auths_of(
     let Some(groups) = group_entries(alloc, claims, rows)? else {
         return Ok(None);
     };
-    ungroup(alloc, &groups)
+    Ok(Some(ungroup(alloc, groups)?))
 }

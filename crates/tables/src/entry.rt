@@ -2,15 +2,18 @@
 //! it: a prefix with its maxLength (RFC 9582 section 4.3.2).
 ghost use Rattle.std.specs.Prelude.{◌≡◌};
 ghost use Rattle.sqlite.specs.Values.{bound};
-ghost use Rattle.tables.specs.Cells.{address_bytes, entry_cells, entry_row};
+ghost use Rattle.registry.specs.Values.{VrpFits};
+ghost use Rattle.tables.specs.Cells.{address_bytes, entry_cells, entry_row, vrp_cells};
 ghost use Rattle.tables.specs.Decode.{EntryRowFits};
 ghost use Rattle.tables.specs.Groups.{claim_entry};
 
 use crate::FromRow;
 use crate::cells::family_number;
 use crate::claim::Claim;
-use crate::decode::{cell, decode_asn, decode_max_length, decode_number, decode_prefix};
-use addr::{Asn, Name};
+use crate::decode::{
+    cell, decode_asn, decode_max_length, decode_number, decode_prefix, decode_vrp,
+};
+use addr::{Asn, Name, Vrp};
 use registry::RoaPrefix;
 use sqlite::Row;
 use sqlite::types::{ToSql, ValueRef};
@@ -102,5 +105,23 @@ impl FromRow for EntryRow {
                 max: decode_max_length(&prefix, cell(row, 5))?,
             },
         })
+    }
+}
+
+impl FromRow for Vrp {
+    ghost cells = { vrp_cells };
+
+    ghost width = { 5 };
+
+    ghost fits = { VrpFits };
+
+    fn in_row(row: &Row) -> Option<Vrp> {
+        decode_vrp(
+            cell(row, 0),
+            cell(row, 1),
+            cell(row, 2),
+            cell(row, 3),
+            cell(row, 4),
+        )
     }
 }
