@@ -15,13 +15,13 @@ use Rattle.sqlite_rules.proofs.ProbeLemmas.{has_mapped}
 use Rattle.charters.specs.CharterSets.{CharterSets}
 use Rattle.registry.specs.Rows.{Rows}
 use Rattle.registry.specs.RowsOfAll.{AllRows}
-use Rattle.registry.specs.declared.authorization.Auth.{Auth}
 use Rattle.registry.specs.declared.authorization.RoaPrefix.{RoaPrefix}
+use Rattle.tables.specs.declared.claim.Claim.{Claim}
 use Rattle.tables.specs.declared.meta.TheConstants.{SCHEMA}
 use Rattle.tables.specs.Authorizations.{claim_of}
 use Rattle.tables.specs.Cells.{number_cell, schema_row}
 use Rattle.tables.specs.Groups.{claim_entry}
-use Rattle.moving.specs.OldTables.{auth_row, auth_part, old_tables, is_old_table, old_schema_row, OldTablesHold}
+use Rattle.moving.specs.OldTables.{auth_row, auth_rows, auth_part, old_tables, is_old_table, old_schema_row, OldTablesHold}
 use Rattle.tables.specs.Tables.{meta, auth, claim, entry, desk_tables, desk_beside, contents, is_table, IsTree, SameRows}
 use Rattle.tables.specs.TablesHold.{HoldsPart}
 use Rattle.tables.specs.steps.Edits.{Edits}
@@ -32,31 +32,32 @@ use Rattle.tables.proofs.Deleting as deleting
 use Rattle.tables.proofs.Deleting.{deletion_of, takes}
 use Rattle.tables.proofs.Inserting.{each_table}
 use Rattle.moving.proofs.Texts.{claim_terms, entry_terms, schema_sets, claims_copied, entries_copied}
-use Rattle.tables.proofs.SomeRow.{of_some}
+use Rattle.tables.proofs.SomeRow.{has_joined, of_some}
 use Rattle.tables.proofs.Updating as updating
 use Rattle.tables.proofs.Updating.{update_of, changes}
 
 -- ---- the rows that are copied
 
-auth_rows : (all : List ℕ → Option Rows) (table : List Row) → HoldsPart auth_part all table → AreAuthRows table
-auth_rows all table holds = all_from _ table (λ c there.
+are_auth_rows : (all : List ℕ → Option Rows) (table : List Row) → HoldsPart auth_part all table → AreAuthRows table
+are_auth_rows all table holds = all_from _ table (λ c there.
     let of = of_some auth_part all table holds c there in
-    let row = has_mapped (auth_row of.0) of.1.auths c of.3 in
-    (of.0, row.0, row.2))
+    let its = has_joined (auth_rows of.0) of.1.auths c of.3 in
+    let row = has_mapped (auth_row of.0 (claim_of its.0)) its.0.entries c its.2 in
+    (of.0, claim_of its.0, row.0, row.2))
 
 pub are_movable : (charter : CharterSets) (rows : AllRows) (old : Trees) → OldTablesHold charter rows old → AreMovable old
 are_movable charter rows old holds = record {
   number = holds.charter_kept.schema;
-  auths = auth_rows rows.of_holder (contents (old auth.tree)) holds.auths;
+  auths = are_auth_rows rows.of_holder (contents (old auth.tree)) holds.auths;
   whole = holds.whole;
 }
 
 -- the rows that a query shows of those of authorizations, none of which the columns cast to another
 all_shown : (turn shown : Row → Row) (kinds : List Column) → ((r : Row) → shown r ≡ cast_all kinds (turn (drop 1 r)))
-    → ((h : List ℕ) (x : Auth) → cast_all kinds (turn (auth_row h x)) ≡ turn (auth_row h x)) → (rows : List Row) → AreAuthRows (contents rows) → map shown rows ≡ map turn (contents rows)
+    → ((h : List ℕ) (c : Claim) (e : RoaPrefix) → cast_all kinds (turn (auth_row h c e)) ≡ turn (auth_row h c e)) → (rows : List Row) → AreAuthRows (contents rows) → map shown rows ≡ map turn (contents rows)
 all_shown turn shown kinds is kept [] all = refl
 all_shown turn shown kinds is kept (r ∷ rows) all =
-    ap₂ ◌∷◌ (is r ∙ (λ i. cast_all kinds (turn (all.0.2 i))) ∙ kept all.0.0 all.0.1 ∙ (λ i. turn (sym all.0.2 i))) (all_shown turn shown kinds is kept rows all.1)
+    ap₂ ◌∷◌ (is r ∙ (λ i. cast_all kinds (turn (all.0.3 i))) ∙ kept all.0.0 all.0.1 all.0.2 ∙ (λ i. turn (sym all.0.3 i))) (all_shown turn shown kinds is kept rows all.1)
 
 none_left : {A : Type 0} (xs : List A) → filter (λ x. not true) xs ≡ []
 none_left [] = refl
@@ -77,9 +78,6 @@ module _ (s : Schema) (old new : State) (text : List ℕ) (count : ℕ) (has : o
   entry_shown [] = refl
   entry_shown (id ∷ c) = refl
 
-  entry_kept : (h : List ℕ) (x : Auth) → cast_all entry.columns (entry_columns (auth_row h x)) ≡ entry_columns (auth_row h x)
-  entry_kept h x = let e : RoaPrefix = record { prefix = x.prefix; max = x.max } in cast_entry h (claim_entry (claim_of x) e)
-
   schema_set : (r : Row) → cast_all meta.columns (eval_all schema_sets ([] ∷ r ∷ [])) ≡ with_schema (drop 1 r)
   schema_set [] = refl
   schema_set (id ∷ c) = refl
@@ -96,7 +94,7 @@ module _ (s : Schema) (old new : State) (text : List ℕ) (count : ℕ) (has : o
       let put = puts_shown desk_tables 8 claim refl s auth.tree claim_terms _ old new text [] count has w in (
         put.schema,
         λ all. subst (λ cells. Edits claim.tree (λ rows. cells ++ rows) old.now new.now)
-            (all_shown claim_columns (copied desk_tables 8 claim refl s claim_terms []) claim.columns claim_shown (λ h x. cast_claim h (claim_of x)) (old.now.trees auth.tree) all) put,
+            (all_shown claim_columns (copied desk_tables 8 claim refl s claim_terms []) claim.columns claim_shown (λ h c e. cast_claim h c) (old.now.trees auth.tree) all) put,
       )
 
   pub copies_entries : Writes old new None entries_copied text [] count → EditsIf (AreAuthRows auths) entry.tree (λ rows. map entry_columns auths ++ rows)
@@ -104,7 +102,7 @@ module _ (s : Schema) (old new : State) (text : List ℕ) (count : ℕ) (has : o
       let put = puts_shown desk_tables 9 entry refl s auth.tree entry_terms _ old new text [] count has w in (
         put.schema,
         λ all. subst (λ cells. Edits entry.tree (λ rows. cells ++ rows) old.now new.now)
-            (all_shown entry_columns (copied desk_tables 9 entry refl s entry_terms []) entry.columns entry_shown entry_kept (old.now.trees auth.tree) all) put,
+            (all_shown entry_columns (copied desk_tables 9 entry refl s entry_terms []) entry.columns entry_shown (λ h c e. cast_entry h (claim_entry c e)) (old.now.trees auth.tree) all) put,
       )
 
   pub takes_auths : Writes old new None (Delete 6 (deletion_of auth [])) text [] count → EditsIf (IsTree (old.now.trees auth.tree)) auth.tree (λ rows. [])

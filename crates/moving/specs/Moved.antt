@@ -3,7 +3,8 @@ use Rattle.std.specs.Prelude.{◌≡◌, ◌≢◌, ℕ, true, List, [], ◌∷�
 use Rattle.std.specs.List.{AllByRecursion}
 use Rattle.sqlite_value.specs.Order.{Row}
 use Rattle.sqlite_trees.specs.Tree.{Trees}
-use Rattle.registry.specs.declared.authorization.Auth.{Auth}
+use Rattle.registry.specs.declared.authorization.RoaPrefix.{RoaPrefix}
+use Rattle.tables.specs.declared.claim.Claim.{Claim}
 use Rattle.tables.specs.Cells.{schema_row}
 use Rattle.moving.specs.OldTables.{old_schema_row, auth_row, is_old_table, AreOldTrees}
 use Rattle.tables.specs.Tables.{meta, auth, claim, entry, columns, contents, AreTrees}
@@ -16,9 +17,9 @@ claim_columns = columns (0 ∷ 1 ∷ 2 ∷ 7 ∷ 8 ∷ [])
 abbrev pub entry_columns : Row → Row
 entry_columns = columns (0 ∷ 1 ∷ 2 ∷ 3 ∷ 4 ∷ 5 ∷ 6 ∷ [])
 
--- each row is that of an authorization of some holder
+-- each row is that of an authorization of some holder, a claim with its one entry
 abbrev pub AreAuthRows : List Row → Type 0
-AreAuthRows rows = AllByRecursion (λ c. (h : List ℕ) × (x : Auth) × (c ≡ auth_row h x)) rows
+AreAuthRows rows = AllByRecursion (λ row. (h : List ℕ) × (c : Claim) × (e : RoaPrefix) × (row ≡ auth_row h c e)) rows
 
 -- What the move needs of the tables of schema 1: `meta` has the number of that schema and nothing else, and `auth` the
 -- rows of authorizations. Tables that hold a charter and rows are such.

@@ -1,4 +1,4 @@
--- Authorizations have entries, before an edit of the rows of one holder and after it.
+-- That authorizations have entries stays so where the rows of a holder change.
 use Rattle.std.proofs.Common.{◌≡◌, ℕ, Bool, true, false, cond, ◌==◌, List, [], ◌∷◌, map, Option, Some, None, option_map, refl, sym, subst}
 use Rattle.registry.specs.History.{same_name}
 use Rattle.registry.proofs.Names.{same_name-true}
@@ -8,11 +8,11 @@ use Rattle.registry.specs.declared.authorization.Auth.{Auth}
 use Rattle.tables.specs.Authorizations.{EachHasEntries, HaveEntries}
 use Rattle.tables.proofs.PartLemmas.{turned_at}
 
--- those of no holder
+-- where there is no holder there is none without entries
 pub none_have_entries : HaveEntries (λ h. None)
 none_have_entries h r of = absurd cc
 
--- those where the rows of one holder were turned to rows whose authorizations have them
+-- the rows of one holder were turned to rows whose authorizations have entries
 pub turned_have_entries : (h : List ℕ) (to : Option Rows → Option Rows) (rows : List ℕ → Option Rows) → HaveEntries rows
     → ((r : Rows) → to (rows h) ≡ Some r → EachHasEntries r.auths) → HaveEntries (turned_at h to rows)
 turned_have_entries h to rows have turned k r = go (same_name h k) refl
@@ -21,7 +21,7 @@ turned_have_entries h to rows have turned k r = go (same_name h k) refl
     go true is of = turned r (subst (λ n. to (rows n) ≡ Some r) (sym (same_name-true h k is)) of)
     go false differ of = have k r of
 
--- those where an edit of its rows keeps them
+-- they were edited so that it stays
 pub edited_have_entries : (h : List ℕ) (edit : Rows → Rows) (rows : List ℕ → Option Rows) → ((r : Rows) → EachHasEntries r.auths → EachHasEntries (edit r).auths)
     → HaveEntries rows → HaveEntries (turned_at h (option_map edit) rows)
 edited_have_entries h edit rows keeps have = turned_have_entries h (option_map edit) rows have (λ r. go (rows h) refl r)
@@ -30,7 +30,7 @@ edited_have_entries h edit rows keeps have = turned_have_entries h (option_map e
     go None is r of = absurd cc
     go (Some q) is r of = let same : edit q ≡ r = cc in subst (λ (s : Rows). EachHasEntries s.auths) same (keeps q (have h q is))
 
--- those of which one is replaced by one that has them; a part of them, and more of them, have them by `all-filter` and `all-append`
+-- one of its authorizations was replaced by one that has entries; of some taken away and of others put `all-filter` and `all-append` say it
 pub replaced_have_entries : (x : Auth) → AreEntries x.entries → (auths : List Auth) → EachHasEntries auths → EachHasEntries (map (replaced_by x) auths)
 replaced_have_entries x are [] all = tt
 replaced_have_entries x are (y ∷ auths) all = (go (y.number == x.number), replaced_have_entries x are auths all.1)
