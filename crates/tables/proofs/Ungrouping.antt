@@ -1,5 +1,5 @@
 -- Authorizations are those of claims with their entries.
-use Rattle.std.proofs.Common.{List, map, ◌∙◌}
+use Rattle.std.proofs.Common.{◌≡◌, List, [], ◌∷◌, map, refl, sym, ap, ◌∙◌}
 use Rattle.sqlite_keyed.proofs.ListLemmas.{flat_map-map}
 use Rattle.sqlite_trees.proofs.ListLemmas.{all-map, map-map}
 use Rattle.registry.specs.RoaPrefixes.{AreEntries}
@@ -10,7 +10,11 @@ use Rattle.tables.specs.declared.groups.Group.{Group}
 use Rattle.tables.specs.Authorizations.{AreAuths, HasNoAuths, NumbersRise, claim_of, entry_rows_of}
 use Rattle.tables.specs.Groups.{AllApart, AreGroups, HasNoGroups, claim_entry, group_rows}
 use Rattle.tables.specs.steps.Ungrouping.{auth_of, group_of}
-use Rattle.tables.proofs.GroupNeeds.{numbers_apart}
+use Rattle.tables.proofs.GroupNeeds.{claims_grouped_once, numbers_apart}
+
+auths_of_groups : (auths : List Auth) → map auth_of (map group_of auths) ≡ auths
+auths_of_groups [] = refl
+auths_of_groups (x ∷ auths) = ap (λ l. x ∷ l) (auths_of_groups auths)
 
 module _ (claims : List Claim) (rows : List EntryRow) where
   pub grouped : (auths : List Auth) → AreAuths claims rows auths → AreGroups claim_entry claims rows (map group_of auths)
@@ -29,3 +33,9 @@ module _ (claims : List Claim) (rows : List EntryRow) where
 
   pub no_auths : (AllApart claim_entry claims → HasNoGroups claim_entry claims rows) → NumbersRise claims → HasNoAuths claims rows
   no_auths none rise auths are = none (numbers_apart claims rise) (map group_of auths) (grouped auths are)
+
+  -- two lists are those of no other authorizations
+  pub auths_once : (one other : List Auth) → NumbersRise claims → AreAuths claims rows one → AreAuths claims rows other → one ≡ other
+  auths_once one other rise first second =
+      let same = claims_grouped_once claims rows (map group_of one) (map group_of other) rise (grouped one first) (grouped other second) in
+      sym (auths_of_groups one) ∙ ap (map auth_of) same ∙ auths_of_groups other
