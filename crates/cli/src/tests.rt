@@ -1,17 +1,18 @@
 //! Runs of the program's tasks.
 use super::{Host, run_task};
-use crate::clients::{AfterText, CHARTER, Callers, SETUP, answers_to, request, serve};
+use crate::clients::{AfterText, CHARTER, Callers, SETUP, Served, answers_to, request, serve};
 use crate::help::help_text;
 use addr::Day;
 use command_line::{ProgramFault, Task};
 use desk::Desk;
 use desk_files::{close_desk, open_desk};
-use sqlite::Connection;
+use sqlite::{Alter, Connection};
 use sqlite_std_file::{FileFrom, Unknown};
 use sqlite_store::FileStore;
 use std::alloc::AllocError;
 use std::fs;
 use std::io::{self, ErrorKind};
+use std::process::Abort;
 use std::rt::HostRuntime;
 use std::test::Fail;
 
@@ -102,50 +103,87 @@ fn help_names_the_five_tasks(rt: HostRuntime) -> Result<(), Fail> {
     Ok(())
 }
 
-#[test]
-fn a_desk_in_a_file_is_served_again(rt: HostRuntime) -> Result<(), Fail> {
-    let day = Day::read(b"2026-03-01").expect(&rt, "a day");
-    make_folder(&rt)?;
+/// Where there is no database, none is served, and one is made once there is a folder for it.
+fn make_database(test: &impl Abort, rt: &HostRuntime, day: Day) -> Result<(), Fail> {
+    assert_eq!(test;
+        serve_once(rt, DATABASE, "127.0.0.1:0", day),
+        Err(ProgramFault::Database)
+    );
+    assert!(test; !fs::exists(rt, DATABASE)?);
+    assert_eq!(test;
+        init(rt, "roadesk_test/none/a.db"),
+        Err(ProgramFault::Database)
+    );
+    fs::write(rt, DATABASE, b"".as_slice())?;
+    assert_eq!(test; init(rt, DATABASE), Ok(()));
+    Ok(())
+}
 
-    assert_eq!(rt;
-        serve_once(&rt, DATABASE, "127.0.0.1:0", day),
+/// What there is already is not replaced, and neither another file nor another word is served.
+fn assert_refused(test: &impl Abort, rt: &HostRuntime, day: Day) {
+    assert_eq!(test; init(rt, DATABASE), Err(ProgramFault::Exists));
+    assert_eq!(test; init(rt, CHARTER_FILE), Err(ProgramFault::Exists));
+    assert_eq!(test;
+        serve_once(rt, CHARTER_FILE, "127.0.0.1:0", day),
         Err(ProgramFault::Database)
     );
-    assert!(rt; !fs::exists(&rt, DATABASE)?);
-    assert_eq!(rt;
-        init(&rt, "roadesk_test/none/a.db"),
-        Err(ProgramFault::Database)
-    );
-    fs::write(&rt, DATABASE, b"".as_slice())?;
-    assert_eq!(rt; init(&rt, DATABASE), Ok(()));
-    assert_eq!(rt; init(&rt, DATABASE), Err(ProgramFault::Exists));
-    assert_eq!(rt; init(&rt, CHARTER_FILE), Err(ProgramFault::Exists));
-    assert_eq!(rt;
-        serve_once(&rt, CHARTER_FILE, "127.0.0.1:0", day),
-        Err(ProgramFault::Database)
-    );
-    assert_eq!(rt;
-        serve_once(&rt, DATABASE, "no address", day),
+    assert_eq!(test;
+        serve_once(rt, DATABASE, "no address", day),
         Err(ProgramFault::Socket)
     );
+}
 
-    let mut desk = open(&rt)?;
-    let texts = requests(&rt, &SETUP)?;
-    let served = serve(&rt, &rt, &mut desk, day, &texts, AfterText::ShutsWriting)?;
-    assert_eq!(rt; served.errors.len(), 0);
-    assert!(rt; close_desk(desk).is_ok());
+/// The desk answers these requests, each on a connection of its own.
+fn serve_parts<S: Alter>(
+    rt: &HostRuntime,
+    desk: &mut Desk<S>,
+    day: Day,
+    parts: &[(&str, &str, &str, &str)],
+) -> Result<Served, Fail> {
+    let texts = requests(rt, parts)?;
+    serve(rt, rt, desk, day, &texts, AfterText::ShutsWriting)
+}
 
-    let mut desk = open(&rt)?;
-    let texts = requests(&rt, &[("ann", "GET", "/holders/alpha/auths/1", "")])?;
-    let served = serve(&rt, &rt, &mut desk, day, &texts, AfterText::ShutsWriting)?;
-    assert_eq!(rt; served.answers.len(), 1);
-    assert!(rt;
+/// The desk in the database answers these requests, and is closed.
+fn serve_database(
+    test: &impl Abort,
+    rt: &HostRuntime,
+    day: Day,
+    parts: &[(&str, &str, &str, &str)],
+) -> Result<Served, Fail> {
+    let mut desk = open(rt)?;
+    let served = serve_parts(rt, &mut desk, day, parts);
+    assert!(test; close_desk(desk).is_ok());
+    served
+}
+
+/// The desk in the database has the authorization of `SETUP`.
+fn assert_authorization(test: &impl Abort, rt: &HostRuntime, day: Day) -> Result<(), Fail> {
+    let served = serve_database(
+        test,
+        rt,
+        day,
+        &[("ann", "GET", "/holders/alpha/auths/1", "")],
+    )?;
+    assert_eq!(test; served.answers.len(), 1);
+    assert!(test;
         served.answers[0].ends_with(
             "{\"shown\":{\"number\":1,\"asn\":64496,\"prefix\":\"192.0.2.0/24\",\"max\":24,\
             \"from\":\"2026-01-01\",\"until\":\"2026-12-31\"}}\n"
         )
     );
-    assert!(rt; close_desk(desk).is_ok());
+    Ok(())
+}
+
+#[test]
+fn a_desk_in_a_file_is_served_again(rt: HostRuntime) -> Result<(), Fail> {
+    let day = Day::read(b"2026-03-01").expect(&rt, "a day");
+    make_folder(&rt)?;
+    make_database(&rt, &rt, day)?;
+    assert_refused(&rt, &rt, day);
+    let served = serve_database(&rt, &rt, day, &SETUP)?;
+    assert_eq!(rt; served.errors.len(), 0);
+    assert_authorization(&rt, &rt, day)?;
     fs::remove_dir_all(&rt, FOLDER)?;
     Ok(())
 }
@@ -198,24 +236,40 @@ const DAYS: [(&str, &str); 4] = [
     ("2027-01-01", "asn,prefix,maxlength\n"),
 ];
 
+/// Each request of `SETUP` is accepted.
+fn serve_setup(test: &impl Abort, rt: &HostRuntime, day: Day) -> Result<(), Fail> {
+    let answers = serve_requests(rt, day, &SETUP)?;
+    assert_eq!(test; answers.len(), SETUP.len());
+    for (number, answer) in answers.iter().enumerate() {
+        assert!(test;
+            answer.starts_with("HTTP/1.1 200 OK\r\n"),
+            "request {number}"
+        );
+    }
+    Ok(())
+}
+
+/// The desk exports these payloads on the day.
+fn assert_payloads(
+    test: &impl Abort,
+    rt: &HostRuntime,
+    (text, payloads): (&str, &str),
+) -> Result<(), Fail> {
+    let day = Day::read(text.as_bytes()).expect(test, text);
+    let answers = serve_requests(rt, day, &[("bob", "GET", "/payloads", "")])?;
+    let answer = answers.first().expect(test, text);
+    assert!(test; answer.ends_with(payloads), "{text}");
+    Ok(())
+}
+
 #[test]
 fn serve_answers_each_connection_on_its_day(rt: HostRuntime) -> Result<(), Fail> {
     make_folder(&rt)?;
     assert_eq!(rt; init(&rt, DATABASE), Ok(()));
     let day = Day::read(b"2026-03-01").expect(&rt, "a day");
-    let answers = serve_requests(&rt, day, &SETUP)?;
-    assert_eq!(rt; answers.len(), SETUP.len());
-    for (number, answer) in answers.iter().enumerate() {
-        assert!(rt;
-            answer.starts_with("HTTP/1.1 200 OK\r\n"),
-            "request {number}"
-        );
-    }
-    for (text, payloads) in DAYS {
-        let day = Day::read(text.as_bytes()).expect(&rt, text);
-        let answers = serve_requests(&rt, day, &[("bob", "GET", "/payloads", "")])?;
-        let answer = answers.first().expect(&rt, text);
-        assert!(rt; answer.ends_with(payloads), "{text}");
+    serve_setup(&rt, &rt, day)?;
+    for row in DAYS {
+        assert_payloads(&rt, &rt, row)?;
     }
     fs::remove_dir_all(&rt, FOLDER)?;
     Ok(())
@@ -233,15 +287,21 @@ const OTHER_TABLES: [(&str, &str, &str, u8); 2] = [
     ),
 ];
 
+/// Executes the statement over the database.
+fn execute(rt: &HostRuntime, statement: &str) -> Result<(), Fail> {
+    let mut conn = Connection::open(rt, DATABASE)?;
+    conn.execute_batch(statement)?;
+    conn.close()?;
+    Ok(())
+}
+
 #[test]
 fn a_file_of_other_tables_is_not_served(rt: HostRuntime) -> Result<(), Fail> {
     let day = Day::read(b"2026-03-01").expect(&rt, "a day");
     for (name, statement, line, status) in OTHER_TABLES {
         make_folder(&rt)?;
         assert_eq!(rt; init(&rt, DATABASE), Ok(()), "{name}");
-        let mut conn = Connection::open(&rt, DATABASE)?;
-        conn.execute_batch(statement)?;
-        conn.close()?;
+        execute(&rt, statement)?;
         let ended = serve_once(&rt, DATABASE, "127.0.0.1:0", day);
         let fault = ended.err().expect(&rt, name);
         assert_eq!(rt; fault.line().as_str(), line, "{name}");

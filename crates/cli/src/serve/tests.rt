@@ -105,15 +105,24 @@ const REFUSED: [(&str, &str); 3] = [
     ),
 ];
 
+fn refused_requests(alloc: Global) -> Result<Vec<String>, Fail> {
+    let mut texts = Vec::new(alloc);
+    for (text, _) in REFUSED {
+        texts.push(String::from_str(alloc, text)?)?;
+    }
+    Ok(texts)
+}
+
+fn serve_refused(rt: &HostRuntime, desk: &mut Desk<MemStore>, day: Day) -> Result<Served, Fail> {
+    let texts = refused_requests(rt.alloc())?;
+    serve(rt, rt, desk, day, &texts, AfterText::ShutsWriting)
+}
+
 #[test]
 fn a_response_arrives_whose_request_has_its_body_unread(rt: HostRuntime) -> Result<(), Fail> {
     let mut desk = desk_in_memory(&rt);
-    let mut texts = Vec::new(rt.alloc());
-    for (text, _) in REFUSED {
-        texts.push(String::from_str(rt.alloc(), text)?)?;
-    }
     let day = Day::read(b"2026-03-01").expect(&rt, "a day");
-    let served = serve(&rt, &rt, &mut desk, day, &texts, AfterText::ShutsWriting)?;
+    let served = serve_refused(&rt, &mut desk, day)?;
     assert_eq!(rt; served.errors.len(), 0);
     for ((_, response), answer) in REFUSED.into_iter().zip(&served.answers) {
         assert_eq!(rt; answer.as_str(), response);
@@ -124,16 +133,26 @@ fn a_response_arrives_whose_request_has_its_body_unread(rt: HostRuntime) -> Resu
 /// What clients send that stay open.
 const UNFINISHED: [&str; 2] = ["", "GET "];
 
+fn unfinished_requests(alloc: Global) -> Result<Vec<String>, Fail> {
+    let mut texts = Vec::new(alloc);
+    for text in UNFINISHED {
+        texts.push(String::from_str(alloc, text)?)?;
+    }
+    Ok(texts)
+}
+
+/// Serves clients that stay open, whose connections are soon out of time.
+fn serve_late(rt: &HostRuntime, desk: &mut Desk<MemStore>, day: Day) -> Result<Served, Fail> {
+    let texts = unfinished_requests(rt.alloc())?;
+    let clock = Slow::by(Duration::from_millis(29_950));
+    serve(rt, &clock, desk, day, &texts, AfterText::StaysOpen)
+}
+
 #[test]
 fn a_connection_has_to_end_in_time(rt: HostRuntime) -> Result<(), Fail> {
     let mut desk = desk_in_memory(&rt);
-    let mut texts = Vec::new(rt.alloc());
-    for text in UNFINISHED {
-        texts.push(String::from_str(rt.alloc(), text)?)?;
-    }
-    let clock = Slow::by(Duration::from_millis(29_950));
     let day = Day::read(b"2026-03-01").expect(&rt, "a day");
-    let served = serve(&rt, &clock, &mut desk, day, &texts, AfterText::StaysOpen)?;
+    let served = serve_late(&rt, &mut desk, day)?;
     assert_eq!(rt;
         served.errors.as_slice(),
         b"roadesk: connection 1: fault 1\nroadesk: connection 2: fault 1\n".as_slice()
@@ -157,25 +176,71 @@ const LONG: [(&str, usize, &str); 2] = [
     ),
 ];
 
+/// The head, and so many bytes after it.
+fn long_request(alloc: Global, head: &str, length: usize) -> Result<String, Fail> {
+    let mut text = String::from_str(alloc, head)?;
+    for _ in 0..length {
+        text.push('a')?;
+    }
+    Ok(text)
+}
+
+/// The desk serves the client while it sends its text. The lines on the connection.
+fn serve_sending(
+    rt: &HostRuntime,
+    desk: &mut Desk<MemStore>,
+    day: Day,
+    clock: &Sending<'_>,
+    listener: TcpListener,
+) -> Result<Vec<u8>, Fail> {
+    let mut network = Bound(Some(listener));
+    serve_over(rt, clock, &mut network, 1, desk, day)
+}
+
+/// What the client is answered that has sent its text without waiting.
+fn answer_to(rt: &HostRuntime, client: &mut TcpStream) -> Result<String, Fail> {
+    client.set_nonblocking(false)?;
+    let mut answer = String::new(rt.alloc());
+    client.read_to_string(&mut answer)?;
+    Ok(answer)
+}
+
+/// A client sends the text, and is answered by the desk without a fault.
+fn answer_long(
+    test: &impl Abort,
+    rt: &HostRuntime,
+    desk: &mut Desk<MemStore>,
+    day: Day,
+    text: &str,
+) -> Result<String, Fail> {
+    let listener = TcpListener::bind(rt, "127.0.0.1:0")?;
+    let mut client = TcpStream::connect(rt, listener.local_addr()?)?;
+    let clock = Sending::new(&client, text.as_bytes())?;
+    let errors = serve_sending(rt, desk, day, &clock, listener)?;
+    assert_eq!(test; errors.len(), 0);
+    answer_to(rt, &mut client)
+}
+
+/// The desk has this response to a row of `LONG`.
+fn assert_long(
+    test: &impl Abort,
+    rt: &HostRuntime,
+    desk: &mut Desk<MemStore>,
+    day: Day,
+    (head, length, response): (&str, usize, &str),
+) -> Result<(), Fail> {
+    let text = long_request(rt.alloc(), head, length)?;
+    let answer = answer_long(test, rt, desk, day, text.as_str())?;
+    assert_eq!(test; answer.as_str(), response);
+    Ok(())
+}
+
 #[test]
 fn a_response_arrives_whose_request_is_long(rt: HostRuntime) -> Result<(), Fail> {
     let mut desk = desk_in_memory(&rt);
     let day = Day::read(b"2026-03-01").expect(&rt, "a day");
-    for (head, length, response) in LONG {
-        let listener = TcpListener::bind(&rt, "127.0.0.1:0")?;
-        let mut client = TcpStream::connect(&rt, listener.local_addr()?)?;
-        let mut text = String::from_str(rt.alloc(), head)?;
-        for _ in 0..length {
-            text.push('a')?;
-        }
-        let clock = Sending::new(&client, text.as_bytes())?;
-        let mut network = Bound(Some(listener));
-        let errors = serve_over(&rt, &clock, &mut network, 1, &mut desk, day)?;
-        assert_eq!(rt; errors.len(), 0, "{head}");
-        client.set_nonblocking(false)?;
-        let mut answer = String::new(rt.alloc());
-        client.read_to_string(&mut answer)?;
-        assert_eq!(rt; answer.as_str(), response);
+    for row in LONG {
+        assert_long(&rt, &rt, &mut desk, day, row)?;
     }
     Ok(())
 }
@@ -279,20 +344,34 @@ const TRICKLES: [(usize, u64, u64, Result<Extent, WebFault>, &str, usize); 3] = 
     (3, 0, 30, Err(WebFault::Write), "", 5),
 ];
 
+/// Has `TWO_REQUESTS` answered, of which so many bytes are left unread, and a response taken.
+fn answer_trickling(
+    rt: &HostRuntime,
+    desk: &mut Desk<MemStore>,
+    day: Day,
+    (most, reading, writing): (usize, u64, u64),
+    unread: &Cell<usize>,
+    taken: &mut Vec<u8>,
+) -> io::Result<Result<Extent, WebFault>> {
+    let reading = Slow::by(Duration::from_secs(reading));
+    let writing = Slow::by(Duration::from_secs(writing));
+    let none = Cell::new(0);
+    let mut sent = Vec::new(rt.alloc());
+    let from = Trickle::new(&reading, most, TWO_REQUESTS, unread, &mut sent)?;
+    let to = Trickle::new(&writing, most, b"", &none, taken)?;
+    Ok(answer_in_time(rt.alloc(), from, to, desk, day))
+}
+
 #[test]
 fn peers_that_trickle(rt: HostRuntime) -> Result<(), Fail> {
     let mut desk = desk_in_memory(&rt);
     let day = Day::read(b"2026-03-01").expect(&rt, "a day");
     for (most, reading, writing, result, response, left) in TRICKLES {
-        let reading = Slow::by(Duration::from_secs(reading));
-        let writing = Slow::by(Duration::from_secs(writing));
-        let (unread, none) = (Cell::new(TWO_REQUESTS.len()), Cell::new(0));
-        let mut sent = Vec::new(rt.alloc());
+        let unread = Cell::new(TWO_REQUESTS.len());
         let mut taken = Vec::new(rt.alloc());
-        let from = Trickle::new(&reading, most, TWO_REQUESTS, &unread, &mut sent)?;
-        let to = Trickle::new(&writing, most, b"", &none, &mut taken)?;
+        let pace = (most, reading, writing);
         assert_eq!(rt;
-            answer_in_time(rt.alloc(), from, to, &mut desk, day),
+            answer_trickling(&rt, &mut desk, day, pace, &unread, &mut taken)?,
             result
         );
         assert_eq!(rt; taken.as_slice(), response.as_bytes());

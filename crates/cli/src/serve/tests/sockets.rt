@@ -10,6 +10,7 @@ use addr::Day;
 use std::alloc::Global;
 use std::io::{self, Read, Write};
 use std::net::{TcpListener, TcpStream};
+use std::process::Abort;
 use std::rt::HostRuntime;
 use std::test::Fail;
 use std::time::{Duration, Instant};
@@ -27,6 +28,24 @@ fn connect(rt: &HostRuntime) -> io::Result<(TcpStream, TcpStream)> {
 /// milliseconds.
 const TIMEOUTS: [(u64, u64); 3] = [(0, 30_000), (29_000, 1_000), (29_500, 500)];
 
+/// A read and then a write set the timeout, each its own.
+fn assert_timeout(
+    test: &impl Abort,
+    clock: &Slow,
+    stream: &TcpStream,
+    began: Option<Instant>,
+    timeout: Duration,
+) -> io::Result<()> {
+    let timeout = Some(timeout);
+    let mut socket = Timed::new(Socket::new(clock, stream, began));
+    assert_eq!(test; socket.read(&mut [0; 4])?, 1, "{timeout:?}");
+    assert_eq!(test; stream.read_timeout()?, timeout);
+    assert_eq!(test; stream.write_timeout()?, None, "{timeout:?}");
+    assert_eq!(test; socket.write(b"a")?, 1, "{timeout:?}");
+    assert_eq!(test; stream.write_timeout()?, timeout);
+    Ok(())
+}
+
 #[test]
 fn a_call_has_the_time_that_is_left(rt: HostRuntime) -> Result<(), Fail> {
     for (elapsed, timeout) in TIMEOUTS {
@@ -35,14 +54,7 @@ fn a_call_has_the_time_that_is_left(rt: HostRuntime) -> Result<(), Fail> {
         let clock = Slow::by(Duration::ZERO);
         let began = Instant::now(&clock).ok();
         clock.advance(Duration::from_millis(elapsed));
-        let timeout = Some(Duration::from_millis(timeout));
-        let mut socket = Timed::new(Socket::new(&clock, &stream, began));
-        let mut piece = [0; 4];
-        assert_eq!(rt; socket.read(&mut piece)?, 1, "{elapsed}");
-        assert_eq!(rt; stream.read_timeout()?, timeout, "{elapsed}");
-        assert_eq!(rt; stream.write_timeout()?, None, "{elapsed}");
-        assert_eq!(rt; socket.write(b"a")?, 1, "{elapsed}");
-        assert_eq!(rt; stream.write_timeout()?, timeout, "{elapsed}");
+        assert_timeout(&rt, &clock, &stream, began, Duration::from_millis(timeout))?;
     }
     Ok(())
 }
@@ -142,38 +154,24 @@ const SILENT: [(&str, Action, Result<Extent, WebFault>, Option<u32>); 4] = [
     ("the whole", Action::AnswerWhole, Ok(Extent::Whole), Some(1)),
 ];
 
-#[test]
-fn a_silent_client_does_not_hold_the_desk(rt: HostRuntime) -> Result<(), Fail> {
-    let day = Day::read(b"2026-03-01").expect(&rt, "a day");
-    let mut texts = Vec::new(rt.alloc());
-    texts.push(String::new(rt.alloc()))?;
-    for (name, action, result, readings) in SILENT {
-        let mut callers = Callers::new(&rt, &texts, AfterText::StaysOpen);
-        let clock = Slow::by(Duration::ZERO);
-        let mut late = Late {
-            clock: &clock,
-            action,
-            written: 0,
-        };
-        let mut connections = Incoming::new(&clock, &mut callers, "127.0.0.1:0");
-        connections.listen()?;
-        let start = Instant::now(&rt)?;
-        let ended = connections.answer_next(rt.alloc(), &mut late, day);
-        assert!(rt; start.elapsed(&rt)? < Duration::from_secs(10), "{name}");
-        assert_eq!(rt; ended, Ok(result), "{name}");
-        if let Some(count) = readings {
-            assert_eq!(rt; clock.readings(), count, "{name}");
-        }
-        drop(connections);
-        for client in callers.clients {
-            assert_eq!(rt; bytes_left(client)?, late.written, "{name}");
-        }
-    }
-    Ok(())
+/// Has a connection of the callers answered, in less than ten seconds.
+fn answer_late(
+    test: &impl Abort,
+    rt: &HostRuntime,
+    callers: &mut Callers<'_>,
+    late: &mut Late<'_>,
+    day: Day,
+) -> Result<Result<Result<Extent, WebFault>, Failed>, Fail> {
+    let mut connections = Incoming::new(late.clock, callers, "127.0.0.1:0");
+    connections.listen()?;
+    let start = Instant::now(rt)?;
+    let ended = connections.answer_next(rt.alloc(), late, day);
+    assert!(test; start.elapsed(rt)? < Duration::from_secs(10));
+    Ok(ended)
 }
 
 /// How many bytes a client still has to take.
-fn bytes_left(mut client: TcpStream) -> io::Result<usize> {
+fn bytes_left(client: &mut TcpStream) -> io::Result<usize> {
     let mut piece = [0; 16_384];
     let mut left = 0usize;
     for _ in 0..u64::MAX {
@@ -184,6 +182,43 @@ fn bytes_left(mut client: TcpStream) -> io::Result<usize> {
         left = left.saturating_add(count);
     }
     Ok(left)
+}
+
+/// A row of `SILENT` becomes of the connection of the client with this text.
+fn assert_silent(
+    test: &impl Abort,
+    rt: &HostRuntime,
+    texts: &[String],
+    day: Day,
+    (name, action, expected, readings): (&str, Action, Result<Extent, WebFault>, Option<u32>),
+) -> Result<(), Fail> {
+    let mut callers = Callers::new(rt, texts, AfterText::StaysOpen);
+    let clock = Slow::by(Duration::ZERO);
+    let mut late = Late {
+        clock: &clock,
+        action,
+        written: 0,
+    };
+    let ended = answer_late(test, rt, &mut callers, &mut late, day)?;
+    assert_eq!(test; ended, Ok(expected), "{name}");
+    if let Some(count) = readings {
+        assert_eq!(test; clock.readings(), count, "{name}");
+    }
+    for client in &mut callers.clients {
+        assert_eq!(test; bytes_left(client)?, late.written, "{name}");
+    }
+    Ok(())
+}
+
+#[test]
+fn a_silent_client_does_not_hold_the_desk(rt: HostRuntime) -> Result<(), Fail> {
+    let day = Day::read(b"2026-03-01").expect(&rt, "a day");
+    let mut texts = Vec::new(rt.alloc());
+    texts.push(String::new(rt.alloc()))?;
+    for row in SILENT {
+        assert_silent(&rt, &rt, &texts, day, row)?;
+    }
+    Ok(())
 }
 
 #[test]
