@@ -39,7 +39,7 @@ pub fn list_lines(alloc: Global, auths: &[Auth]) -> Result<Vec<u8>, AllocError>
     let mut text = Vec::new(alloc);
     text.extend_from_slice(b"number,asn,prefix,maxlength,from,until\n")?;
     for auth in auths {
-        push_lines(&mut text, auth, &auth.entries())?;
+        push_lines(&mut text, auth, auth.entries.as_slice())?;
     }
     Ok(text)
 }

@@ -3,7 +3,7 @@ use Rattle.std.proofs.Common.{◌≡◌, ℕ, List, Result, Ok, Err, refl}
 use Rattle.std.specs.Global.{Vec}
 use Rattle.addr.specs.declared.route.Route.{Route}
 use Rattle.registry.specs.declared.authorization.ImportRow.{ImportRow}
-use Rattle.registry.specs.declared.command.Command.TheVariants.{Import}
+use Rattle.registry.specs.declared.command.Command.TheVariants.{Amend, Import}
 use Rattle.registry.specs.declared.command.Proposed.{Proposed}
 use Rattle.registry.specs.declared.command.Query.TheVariants.{WhatIf}
 use Rattle.registry.specs.declared.asked.Asked.{Asked}
@@ -12,7 +12,7 @@ use Rattle.registry.specs.declared.asked.Request.TheVariants.{Command as Command
 use Rattle.json_values.specs.Parts.{both, mapped}
 use Rattle.requests.specs.RequestFaults.{malformed_number}
 use Rattle.requests.specs.declared.request.fault.Fault.{Fault}
-use Rattle.requests.specs.steps.RequestReading.{asked_terms, import, request_terms, what_if}
+use Rattle.requests.specs.steps.RequestReading.{amend, asked_terms, import, request_terms, what_if}
 
 -- the parts as they are asked
 abbrev asked_with : ℕ × (List ℕ × Request) → Asked
@@ -28,6 +28,20 @@ asked_terms-parts (Ok day) (Err n) (Ok request) = refl
 asked_terms-parts (Err m) (Ok caller) (Ok request) = refl
 asked_terms-parts (Err m) (Err n) (Ok request) = refl
 asked_terms-parts day caller request = refl
+
+pub amend-parts : (named : Result (List ℕ × ℕ) Fault) (maxes : Result (Vec ℕ) Fault) (until : Result ℕ Fault) →
+    mapped request_terms (mapped (λ p. CommandRequest (Amend p.0.0 p.0.1 p.1.0 p.1.1))
+    (both malformed_number named (both malformed_number maxes until)))
+    ≡ mapped (λ p. amend p.0.0 p.0.1 p.1.0 p.1.1)
+    (both malformed_number named (both malformed_number (mapped (λ v. v.items) maxes) until))
+amend-parts (Ok named) (Ok maxes) (Ok until) = refl
+amend-parts (Ok named) (Ok maxes) (Err n) = refl
+amend-parts (Err m) (Ok maxes) (Ok until) = refl
+amend-parts (Err m) (Ok maxes) (Err n) = refl
+amend-parts (Ok named) (Err l) (Ok until) = refl
+amend-parts (Ok named) (Err l) (Err n) = refl
+amend-parts (Err m) (Err l) (Ok until) = refl
+amend-parts (Err m) (Err l) (Err n) = refl
 
 pub import-parts : (holder : Result (List ℕ) Fault) (rows : Result (Vec ImportRow) Fault) →
     mapped request_terms (mapped (λ p. CommandRequest (Import p.0 p.1)) (both malformed_number holder rows))

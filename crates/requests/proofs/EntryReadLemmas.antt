@@ -20,14 +20,13 @@ use Rattle.json_values.specs.Parts.{and_then}
 use Rattle.json_values.specs.Tree.{list_of}
 use Rattle.json_values.specs.Values.{as_prefix}
 use Rattle.requests.specs.RequestFaults.{chosen_faults, entries_faults, entry_list, entry_members, has_some, is_count, list_faults, malformed_number, maxes_faults, member_faults, named_prefixes, names_of, object_faults, repeat_faults}
-use Rattle.requests.specs.RequestText.{HasEntries, HasEntry, HasEntryList, HasMaxes}
+use Rattle.requests.specs.RequestText.{HasEntries, HasEntry, HasEntryList, HasMaxes, HasOneEntry, HasOneMax}
 use Rattle.requests.specs.RequestValues.{as_max}
 use Rattle.requests.specs.declared.request.fault.Fault.{Fault}
 use Rattle.requests.specs.declared.request.fault.Fault.TheVariants.{Json, Members, Holder, Caller, Prefix as PrefixFault, Asn, Max, Day, Role, Number, File, Count, TooLong, Repeated}
 use Rattle.requests.specs.steps.RequestReading.{arranged, chosen, entries_in, entry_in, entry_members_in, in_order, items_of, max_item_in, maxes_in, one_entry_in, one_max_in}
 use Rattle.requests.proofs.EntryOrder.{in_order-moves, in_order-rises}
-use Rattle.requests.proofs.RequestFaultLemmas.{ReadsUnlessFaulty, reads-member}
-use Rattle.requests.proofs.RequestReadLemmas.{reads-list}
+use Rattle.requests.proofs.RequestFaultLemmas.{ReadsUnlessFaulty, reads-list, reads-member}
 
 -- ---- a choice
 
@@ -41,7 +40,7 @@ reads-chosen false false one other = record { reported = record { is = refl }; v
 
 -- ---- one entry
 
-reads-entry_members : (d : Data) → ReadsUnlessFaulty (entry_members_in d) (member_faults entry_members d) (HasEntry d)
+pub reads-entry_members : (d : Data) → ReadsUnlessFaulty (entry_members_in d) (member_faults entry_members d) (HasEntry d)
 reads-entry_members d =
     reads-mapped (λ p. record { prefix = p.0; max = p.1 }) (λ p says. (says.0, says.1))
     (reads-both (reads-member as_prefix PrefixFault (codes "prefix") d) (reads-last (reads-member as_max Max (codes "max") d)))
@@ -49,8 +48,8 @@ reads-entry_members d =
 reads-entry : (d : Data) → ReadsUnlessFaulty (entry_in d) (object_faults entry_members d) (HasEntry d)
 reads-entry d = reads-unless (reads-entry_members d) (reported-only malformed_number Members (names_of entry_members) d)
 
-reads-one_entry : (d : Data) → ReadsUnlessFaulty (one_entry_in d) (member_faults entry_members d) (HasEntries d)
-reads-one_entry d = reads-mapped (λ entry. entry ∷ []) (λ entry says. inl (entry, says, refl)) (reads-entry_members d)
+pub reads-one_entry : (d : Data) → ReadsUnlessFaulty (one_entry_in d) (member_faults entry_members d) (HasOneEntry d)
+reads-one_entry d = reads-mapped (λ entry. entry ∷ []) (λ entry says. (entry, says, refl)) (reads-entry_members d)
 
 -- ---- a list of entries
 
@@ -162,15 +161,15 @@ reads-entry_list d (Some value) = reads-items_arranged (as_array value)
 
 pub reads-entries : (d : Data) → ReadsUnlessFaulty (entries_in d) (entries_faults d) (HasEntries d)
 reads-entries d =
-    reads-chosen (has_some (names_of entry_members) d) (has_some (codes "entries" ∷ []) d) (reads-one_entry d)
+    reads-chosen (has_some (names_of entry_members) d) (has_some (codes "entries" ∷ []) d) (reads-says (λ es says. inl says) (reads-one_entry d))
     (reads-last (reads-says (λ es says. inr says) (reads-entry_list d (get (codes "entries") d))))
 
-reads-one_max : (d : Data) → ReadsUnlessFaulty (one_max_in d) (required_faults Members (reading_faults as_max Max) (get (codes "max") d)) (HasMaxes d)
-reads-one_max d = reads-mapped (λ max. max ∷ []) (λ max says. inl (max, says, refl)) (reads-member as_max Max (codes "max") d)
+pub reads-one_max : (d : Data) → ReadsUnlessFaulty (one_max_in d) (required_faults Members (reading_faults as_max Max) (get (codes "max") d)) (HasOneMax d)
+reads-one_max d = reads-mapped (λ max. max ∷ []) (λ max says. (max, says, refl)) (reads-member as_max Max (codes "max") d)
 
 pub reads-maxes : (d : Data) → ReadsUnlessFaulty (maxes_in d) (maxes_faults d) (HasMaxes d)
 reads-maxes d =
-    reads-chosen (has_some (codes "max" ∷ []) d) (has_some (codes "maxes" ∷ []) d) (reads-last (reads-one_max d))
+    reads-chosen (has_some (codes "max" ∷ []) d) (has_some (codes "maxes" ∷ []) d) (reads-last (reads-says (λ maxes says. inl says) (reads-one_max d)))
     (reads-last (reads-says (λ maxes says. inr says)
     (reads-list max_item_in (reading_faults as_max Max) (λ value max. as_max value ≡ Some max) 1 MOST_ENTRIES
     (λ value. reads-ok_or (as_max value) Max) (get (codes "maxes") d))))

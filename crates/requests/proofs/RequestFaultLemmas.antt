@@ -1,19 +1,20 @@
 -- What the code reads of the members of a request: a value where they have no fault, and else the lowest of their
 -- faults.
-use Rattle.std.proofs.Common.{◌≡◌, ℕ, List, Option, Some, None, option_and_then, Result}
+use Rattle.std.proofs.Common.{◌≡◌, ℕ, length, List, Option, Some, None, option_and_then, Result, refl}
+use Rattle.std.specs.List.{AllZip}
 use Rattle.std.specs.Prelude.{IfOk}
 use Rattle.std.specs.Option.{ok_or}
-use Rattle.serde_json.specs.Data.{Data}
-use Rattle.serde_json.specs.Find.{get}
-use Rattle.json_values.proofs.FaultLemmas.{reported-ok_or, reported-required}
-use Rattle.json_values.proofs.ReadingLemmas.{Reads, value-ok_or}
+use Rattle.serde_json.specs.Data.{Data, Items}
+use Rattle.serde_json.specs.Find.{get, as_array}
+use Rattle.json_values.proofs.FaultLemmas.{reported-if, reported-ok_or, reported-required}
+use Rattle.json_values.proofs.ReadingLemmas.{Reads, reads-each, reads-says, reads-unless, value-ok_or}
 use Rattle.json_values.specs.Faults.{reading_faults, required_faults}
-use Rattle.json_values.specs.Tree.{required}
-use Rattle.requests.specs.RequestFaults.{malformed_number}
-use Rattle.requests.specs.RequestText.{HasMember}
+use Rattle.json_values.specs.Tree.{list_of, required}
+use Rattle.requests.specs.RequestFaults.{is_count, list_faults, malformed_number}
+use Rattle.requests.specs.RequestText.{HasItems, HasMember}
 use Rattle.requests.specs.declared.request.fault.Fault.{Fault}
-use Rattle.requests.specs.declared.request.fault.Fault.TheVariants.{Members}
-use Rattle.requests.specs.steps.RequestReading.{member_in}
+use Rattle.requests.specs.declared.request.fault.Fault.TheVariants.{Count, Members}
+use Rattle.requests.specs.steps.RequestReading.{items_of, member_in}
 
 abbrev pub ReadsUnlessFaulty : {A : Type 0} → Result A Fault → List Fault → (A → Type 0) → Type 0
 ReadsUnlessFaulty = Reads malformed_number
@@ -36,3 +37,19 @@ reads-member reading n name d = record {
       (λ e. reported-ok_or malformed_number (reading e) n);
   value = found-reads reading n (get name d);
 }
+
+module _ {A : Type 0} (reading : Data → Result A Fault) (faults : Data → List Fault) (Says : Data → A → Type 0)
+    (least most : ℕ) (reads : (d : Data) → ReadsUnlessFaulty (reading d) (faults d) (Says d)) where
+  reads-items : (found : Option Items) →
+      ReadsUnlessFaulty (items_of reading least most found) (list_faults faults least most found)
+      (λ values. (items : Items) × (found ≡ Some items) × AllZip Says (list_of items) values)
+  reads-items None = record { reported = record { is = refl }; value = tt }
+  reads-items (Some items) =
+      reads-unless (reads-says (λ values each. (items, refl, each)) (reads-each reading faults Says (list_of items) reads))
+      (reported-if malformed_number (is_count least most (length (list_of items))) tt Count)
+
+  -- the items of a member
+  pub reads-list : (member : Option Data) → ReadsUnlessFaulty (items_of reading least most (option_and_then as_array member))
+      (required_faults Members (λ value. list_faults faults least most (as_array value)) member) (HasItems Says member)
+  reads-list None = record { reported = record { is = refl }; value = tt }
+  reads-list (Some value) = reads-items (as_array value)

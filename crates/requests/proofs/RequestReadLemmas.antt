@@ -1,9 +1,10 @@
 -- What the code reads of a line is the request that the line is, and its fault the lowest.
 use Rattle.std.proofs.Common.{◌≡◌, ℕ, Bool, true, false, if◌then◌else◌, nat_lt, List, [], ◌∷◌, ◌++◌, map, length, codes, Option, Some, None, option_and_then, Result, Ok, Err, refl, sym, ap, ◌∙◌, append_assoc, inl, inr}
-use Rattle.std.specs.List.{AllZip, flat_map}
+use Rattle.std.proofs.lemmas.Grind.{flat_map-append}
+use Rattle.std.specs.List.{flat_map}
 use Rattle.addr.specs.declared.asn.Asn.{Asn as AsnValue}
 use Rattle.addr.specs.declared.prefix.Prefix.{Prefix as PrefixValue}
-use Rattle.registry.specs.declared.command.Command.TheVariants.{Import}
+use Rattle.registry.specs.declared.command.Command.TheVariants.{Amend, Import}
 use Rattle.registry.specs.declared.command.Proposed.TheVariants.{Create as CreateChange, Withdraw as WithdrawChange}
 use Rattle.registry.specs.declared.command.Query.TheVariants.{Validity}
 use Rattle.serde_json.specs.Data.{Data, Items}
@@ -16,8 +17,8 @@ use Rattle.json_values.specs.Tree.{tree_of, list_of}
 use Rattle.registry.specs.declared.asked.Asked.{Asked}
 use Rattle.registry.specs.declared.asked.Request.{Request}
 use Rattle.registry.specs.declared.asked.Request.TheVariants.{Command as CommandRequest, Query as QueryRequest}
-use Rattle.requests.specs.RequestFaults.{as_malformed, malformed_number, role_at, terms_members, creation_members, withdrawal_members, route_members, names_of, is_count, object_faults, list_faults, change_faults, rows, changes, routes, file, action_in, action_of, body_members, member_faults, named_by, named_member, Named, HolderName, NumberGiven, Kind, any_value, members_of, action_faults, tree_faults, request_faults, request_fault}
-use Rattle.requests.specs.RequestText.{HasName, HasDay, HasMax, HasMember, HasPrefix, HasRow, HasTerms, SaysChange, SaysRoute, HasItems, HasRoutes, Heading, Does, NamesHolder, NamesNumber, SaysRequest, line_heading, ReadsLine, SaysRows}
+use Rattle.requests.specs.RequestFaults.{as_malformed, malformed_number, role_at, terms_members, row_members, entry_members, creation_members, withdrawal_members, route_members, names_of, is_count, object_faults, list_faults, change_faults, rows, changes, routes, file, action_in, action_of, body_members, member_faults, named_by, named_member, Named, HolderName, NumberGiven, Kind, any_value, members_of, action_faults, tree_faults, request_faults, request_fault}
+use Rattle.requests.specs.RequestText.{HasName, HasDay, HasMember, HasOneMax, HasPrefix, HasRow, HasTerms, SaysChange, SaysRoute, HasItems, HasRoutes, Heading, Does, NamesHolder, NamesNumber, SaysRequest, line_heading, ReadsLine, SaysRows}
 use Rattle.json_values.specs.Values.{as_name, as_prefix, as_day, as_asn}
 use Rattle.requests.specs.RequestValues.{as_origin, as_max, as_number, as_role, as_scope}
 use Rattle.requests.specs.declared.request.TheConstants.{LINE_LENGTH_LIMIT}
@@ -27,9 +28,10 @@ use Rattle.requests.specs.declared.request.lists.TheConstants.{MOST_ITEMS, MOST_
 use Rattle.requests.specs.declared.request.fault.Fault.{Fault}
 use Rattle.requests.specs.declared.request.commands.Subject.{Subject}
 use Rattle.requests.specs.declared.request.fault.Fault.TheVariants.{Members, Holder, Caller, Prefix as PrefixFault, Asn, Max, Day, Role, Number, Count, TooLong}
-use Rattle.requests.specs.steps.RequestReading.{RequestTerms, request, import, validity, what_if, AskedTerms, request_terms, asked_terms, one_prefix_in, terms_in, row_in, change_by, change_in, route_in, items_of, rows_in, changes_in, routes_in, file_in, request_in, line_subject, asked_as, asked_by, asked_from, asked_in}
+use Rattle.requests.specs.steps.RequestReading.{RequestTerms, request, amend, import, validity, what_if, AskedTerms, request_terms, asked_terms, asn_and_days_in, terms_of, terms_in, row_of, row_in, change_by, change_in, route_in, rows_in, changes_in, routes_in, file_in, request_in, line_subject, asked_as, asked_by, asked_from, asked_in}
 use Rattle.json_values.proofs.ReadingLemmas.{reads-both, reads-mapped, reads-unless, reads-last, reads-says, reads-each, lowest-none}
-use Rattle.requests.proofs.RequestFaultLemmas.{ReadsUnlessFaulty, ReadsMember, reads-member}
+use Rattle.requests.proofs.RequestFaultLemmas.{ReadsUnlessFaulty, ReadsMember, reads-list, reads-member}
+use Rattle.requests.proofs.EntryReadLemmas.{reads-entry_members, reads-one_entry, reads-one_max}
 use Rattle.requests.proofs.SlurmReadLemmas.{reads-file}
 
 -- ---- members
@@ -39,9 +41,6 @@ holder = reads-member as_name Holder (codes "holder")
 
 prefix : (d : Data) → ReadsMember as_prefix PrefixFault (codes "prefix") d
 prefix = reads-member as_prefix PrefixFault (codes "prefix")
-
-max_length : (d : Data) → ReadsMember as_max Max (codes "max") d
-max_length = reads-member as_max Max (codes "max")
 
 number : (d : Data) → ReadsMember as_number Number (codes "number") d
 number = reads-member as_number Number (codes "number")
@@ -58,26 +57,33 @@ do-faultless d action (Some value) does = refl
 
 -- ---- rows, changes and routes
 
--- the members of an authorization of one prefix
-abbrev SaysOnePrefix : Data → AsnValue × (PrefixValue × (ℕ × (ℕ × ℕ))) → Type 0
-SaysOnePrefix d p =
-    HasMember as_asn (codes "asn") d p.0 × (HasPrefix d p.1.0 × (HasMax d p.1.1.0
-    × (HasDay (codes "from") d p.1.1.1.0 × HasDay (codes "until") d p.1.1.1.1)))
+-- the AS number, the first and the last day
+abbrev SaysAsnAndDays : Data → AsnValue × (ℕ × ℕ) → Type 0
+SaysAsnAndDays d p =
+    HasMember as_asn (codes "asn") d p.0 × (HasDay (codes "from") d p.1.0 × HasDay (codes "until") d p.1.1)
 
-reads-one-prefix : (d : Data) → ReadsUnlessFaulty (one_prefix_in d) (member_faults terms_members d) (SaysOnePrefix d)
-reads-one-prefix d =
-    reads-both (reads-member as_asn Asn (codes "asn") d) (reads-both (prefix d) (reads-both (max_length d)
-    (reads-both (reads-member as_day Day (codes "from") d) (reads-last (until d)))))
+reads-asn_and_days : (d : Data) → ReadsUnlessFaulty (asn_and_days_in d) (member_faults terms_members d) (SaysAsnAndDays d)
+reads-asn_and_days d =
+    reads-both (reads-member as_asn Asn (codes "asn") d)
+    (reads-both (reads-member as_day Day (codes "from") d) (reads-last (until d)))
 
-reads-terms : (d : Data) → ReadsUnlessFaulty (terms_in d) (member_faults terms_members d) (HasTerms d)
+-- with one entry
+row-split : (d : Data) → member_faults row_members d ≡ member_faults terms_members d ++ member_faults entry_members d
+row-split d = flat_map-append (λ m. required_faults Members (m.1 d) (get m.0 d)) terms_members entry_members
+
+reads-terms : (d : Data) → ReadsUnlessFaulty (terms_in d) (member_faults row_members d) (HasTerms d)
 reads-terms d =
-    reads-mapped _ (λ p says. (says.0, says.1.0, says.1.1.0, says.1.1.1.0, says.1.1.1.1)) (reads-one-prefix d)
+    rw (row-split d)
+    (reads-mapped terms_of (λ p says. (says.0.0, says.1, says.0.1.0, says.0.1.1))
+    (reads-both (reads-asn_and_days d) (reads-one_entry d)))
 
-reads-row : (d : Data) → ReadsUnlessFaulty (row_in d) (object_faults terms_members d) (HasRow d)
+reads-row : (d : Data) → ReadsUnlessFaulty (row_in d) (object_faults row_members d) (HasRow d)
 reads-row d =
-    reads-unless
-    (reads-mapped _ (λ terms says. says) (reads-terms d))
-    (reported-only malformed_number Members (names_of terms_members) d)
+    rw (row-split d)
+    (reads-unless
+    (reads-mapped row_of (λ p says. (says.0.0, says.1.0, says.1.1, says.0.1.0, says.0.1.1))
+    (reads-both (reads-asn_and_days d) (reads-entry_members d)))
+    (reported-only malformed_number Members (names_of row_members) d))
 
 reads-change : (action : Option Action) (d : Data) → action_in d ≡ action →
     ReadsUnlessFaulty (change_by action d) (change_faults action d) (SaysChange d)
@@ -98,25 +104,9 @@ reads-route d =
     (reads-both (prefix d) (reads-last (reads-member as_origin Asn (codes "origin") d))))
     (reported-only malformed_number Members (names_of route_members) d)
 
-module _ {A : Type 0} (reading : Data → Result A Fault) (faults : Data → List Fault) (Says : Data → A → Type 0)
-    (least most : ℕ) (reads : (d : Data) → ReadsUnlessFaulty (reading d) (faults d) (Says d)) where
-  reads-items : (found : Option Items) →
-      ReadsUnlessFaulty (items_of reading least most found) (list_faults faults least most found)
-      (λ values. (items : Items) × (found ≡ Some items) × AllZip Says (list_of items) values)
-  reads-items None = record { reported = record { is = refl }; value = tt }
-  reads-items (Some items) =
-      reads-unless (reads-says (λ values each. (items, refl, each)) (reads-each reading faults Says (list_of items) reads))
-      (reported-if malformed_number (is_count least most (length (list_of items))) tt Count)
-
-  -- the items of a member
-  pub reads-list : (member : Option Data) → ReadsUnlessFaulty (items_of reading least most (option_and_then as_array member))
-      (required_faults Members (λ value. list_faults faults least most (as_array value)) member) (HasItems Says member)
-  reads-list None = record { reported = record { is = refl }; value = tt }
-  reads-list (Some value) = reads-items (as_array value)
-
 pub reads-rows : (d : Data) → ReadsUnlessFaulty (rows_in d) (required_faults Members (rows d) (get (codes "rows") d))
     (HasItems HasRow (get (codes "rows") d))
-reads-rows d = reads-list row_in (object_faults terms_members) HasRow 1 MOST_ITEMS reads-row (get (codes "rows") d)
+reads-rows d = reads-list row_in (object_faults row_members) HasRow 1 MOST_ITEMS reads-row (get (codes "rows") d)
 
 reads-changes : (d : Data) →
     ReadsUnlessFaulty (changes_in d) (required_faults Members (changes d) (get (codes "changes") d))
@@ -133,12 +123,15 @@ reads-routes d = reads-list route_in (object_faults route_members) SaysRoute 1 M
 
 abbrev pub SaysTerms : Heading → Data → RequestTerms → Type 0
 SaysTerms h d (request r) = SaysRequest h d r
+SaysTerms h d (amend holder number maxes last) =
+    Does AskAmend h × NamesHolder h holder × NamesNumber h number × HasOneMax d maxes × HasDay (codes "until") d last
 SaysTerms h d (import holder listed) = Does AskImport h × NamesHolder h holder × SaysRows h.rows listed
 SaysTerms h d (validity listed) = Does AskValidity h × HasRoutes d listed
 SaysTerms h d (what_if holder supposed listed) =
     Does AskWhatIf h × NamesHolder h holder × HasItems SaysChange (get (codes "changes") d) supposed × HasRoutes d listed
 
 pub terms-said : (h : Heading) (d : Data) (r : Request) → SaysTerms h d (request_terms r) → SaysRequest h d r
+terms-said h d (CommandRequest (Amend holder number maxes last)) says = says
 terms-said h d (CommandRequest (Import holder listed)) says = says
 terms-said h d (QueryRequest (Validity listed)) says = says
 terms-said h d other says = says
@@ -188,7 +181,7 @@ module _ (h : Heading) (subject : Subject) (named : Named → List Fault)
       reads-mapped _ (λ p says. (does, says.0, says.1)) (reads-both (reads-last holder) (reads-terms d))
   reads-request AskAmend d does file_brought rows_brought =
       reads-mapped _ (λ p says. (does, says.0.0, says.0.1, says.1.0, says.1.1))
-      (reads-both holder_and_number (reads-both (max_length d) (reads-last (until d))))
+      (reads-both holder_and_number (reads-both (reads-one_max d) (reads-last (until d))))
   reads-request AskWithdraw d does file_brought rows_brought =
       reads-mapped _ (λ p says. (does, says.0, says.1)) (reads-last holder_and_number)
   reads-request AskSlurm d does file_brought rows_brought = reads-mapped _ (λ p says. (does, says)) (reads-last (file_brought does))

@@ -232,17 +232,19 @@ action_in d = option_and_then action_of (option_and_then as_str (get (codes "do"
 
 -- ---- rows, changes and routes
 
--- what an authorization is to say
+-- what an authorization says beside its entries
 abbrev pub terms_members : List (List ℕ × Kind)
-terms_members =
-    (codes "asn", asn) ∷ (codes "prefix", prefix) ∷ (codes "max", max_length) ∷ (codes "from", day)
-    ∷ (codes "until", day) ∷ []
+terms_members = (codes "asn", asn) ∷ (codes "from", day) ∷ (codes "until", day) ∷ []
+
+-- of an authorization of one entry
+abbrev pub row_members : List (List ℕ × Kind)
+row_members = terms_members ++ entry_members
 
 abbrev pub rows : Kind
-rows d value = list_faults (object_faults terms_members) 1 MOST_ITEMS (as_array value)
+rows d value = list_faults (object_faults row_members) 1 MOST_ITEMS (as_array value)
 
 abbrev pub creation_members : List (List ℕ × Kind)
-creation_members = (codes "do", any_value) ∷ terms_members
+creation_members = (codes "do", any_value) ∷ row_members
 
 abbrev pub withdrawal_members : List (List ℕ × Kind)
 withdrawal_members = (codes "do", any_value) ∷ (codes "number", number) ∷ []
@@ -306,7 +308,7 @@ form_of Grant =
     Post path.Grants
 form_of Revoke = names_number [] Delete path.Grant
 form_of ListAction = names_holder [] Get path.Auths
-form_of Create = names_holder terms_members Post path.Auths
+form_of Create = names_holder row_members Post path.Auths
 form_of Show = names_number [] Get path.Auth
 form_of Amend = names_number ((codes "max", max_length) ∷ (codes "until", day) ∷ []) Patch path.Auth
 form_of Withdraw = names_number [] Delete path.Auth

@@ -46,22 +46,11 @@ HasDay = HasMember as_day
 abbrev pub SaysRoute : Data → Route → Type 0
 SaysRoute d route = HasPrefix d route.prefix × HasMember as_origin (codes "origin") d route.origin
 
--- what a create is to authorize
-abbrev pub HasTerms : Data → AuthTerms → Type 0
-HasTerms d terms =
-    HasMember as_asn (codes "asn") d terms.asn × HasPrefix d terms.prefix × HasMax d terms.max
-    × HasDay (codes "from") d terms.from × HasDay (codes "until") d terms.until
-
 -- a row of an import
 abbrev pub HasRow : Data → ImportRow → Type 0
 HasRow d row =
     HasMember as_asn (codes "asn") d row.asn × HasPrefix d row.prefix × HasMax d row.max
     × HasDay (codes "from") d row.from × HasDay (codes "until") d row.until
-
-abbrev pub SaysChange : Data → Proposed → Type 0
-SaysChange d (CreateChange terms) = (action_in d ≡ Some AskCreate) × HasTerms d terms
-SaysChange d (WithdrawChange number) =
-    (action_in d ≡ Some AskWithdraw) × HasMember as_number (codes "number") d number
 
 -- a member is an array, of which each item says one of these values
 abbrev pub HasItems : {A : Type 0} → (Data → A → Type 0) → Option Data → List A → Type 0
@@ -73,6 +62,10 @@ HasItems Says member values = (items : Items)
 abbrev pub HasEntry : Data → RoaPrefix → Type 0
 HasEntry d entry = HasPrefix d entry.prefix × HasMax d entry.max
 
+-- the members of one entry
+abbrev pub HasOneEntry : Data → List RoaPrefix → Type 0
+HasOneEntry d entries = (entry : RoaPrefix) × HasEntry d entry × (entries ≡ entry ∷ [])
+
 -- a list of these entries, in any order
 abbrev pub HasEntryList : Option Data → List RoaPrefix → Type 0
 HasEntryList member entries = (listed : List RoaPrefix)
@@ -80,15 +73,27 @@ HasEntryList member entries = (listed : List RoaPrefix)
 
 -- the entries of a create: one, or a list
 abbrev pub HasEntries : Data → List RoaPrefix → Type 0
-HasEntries d entries =
-    ((entry : RoaPrefix) × HasEntry d entry × (entries ≡ entry ∷ []))
-    ⊎ HasEntryList (get (codes "entries") d) entries
+HasEntries d entries = HasOneEntry d entries ⊎ HasEntryList (get (codes "entries") d) entries
+
+-- the member of one maxLength
+abbrev pub HasOneMax : Data → List ℕ → Type 0
+HasOneMax d maxes = (max : ℕ) × HasMax d max × (maxes ≡ max ∷ [])
 
 -- the maxLengths of an amendment, in the order of the entries: one, or a list
 abbrev pub HasMaxes : Data → List ℕ → Type 0
 HasMaxes d maxes =
-    ((max : ℕ) × HasMax d max × (maxes ≡ max ∷ []))
-    ⊎ HasItems (λ value max. as_max value ≡ Some max) (get (codes "maxes") d) maxes
+    HasOneMax d maxes ⊎ HasItems (λ value max. as_max value ≡ Some max) (get (codes "maxes") d) maxes
+
+-- what a create is to authorize
+abbrev pub HasTerms : Data → AuthTerms → Type 0
+HasTerms d terms =
+    HasMember as_asn (codes "asn") d terms.asn × HasOneEntry d terms.entries
+    × HasDay (codes "from") d terms.from × HasDay (codes "until") d terms.until
+
+abbrev pub SaysChange : Data → Proposed → Type 0
+SaysChange d (CreateChange terms) = (action_in d ≡ Some AskCreate) × HasTerms d terms
+SaysChange d (WithdrawChange number) =
+    (action_in d ≡ Some AskWithdraw) × HasMember as_number (codes "number") d number
 
 abbrev pub HasRoutes : Data → List Route → Type 0
 HasRoutes d = HasItems SaysRoute (get (codes "routes") d)
@@ -137,9 +142,9 @@ SaysCommand h d (Revoke holder number) =
     Does AskRevoke h × NamesHolder h holder × NamesNumber h number
 SaysCommand h d (Create holder terms) =
     Does AskCreate h × NamesHolder h holder × HasTerms d terms
-SaysCommand h d (Amend holder number max until) =
+SaysCommand h d (Amend holder number maxes until) =
     Does AskAmend h × NamesHolder h holder × NamesNumber h number
-    × HasMax d max × HasDay (codes "until") d until
+    × HasOneMax d maxes.items × HasDay (codes "until") d until
 SaysCommand h d (Withdraw holder number) =
     Does AskWithdraw h × NamesHolder h holder × NamesNumber h number
 SaysCommand h d (Import holder rows) =

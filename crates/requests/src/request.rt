@@ -16,6 +16,7 @@ pub(crate) mod form;
 mod lists;
 pub(crate) mod members;
 pub(crate) mod message;
+mod terms;
 
 use crate::action::Action;
 use crate::malformed::Malformed;
@@ -123,8 +124,8 @@ fn request_in(alloc: Global, action: Action, subject: Subject, value: &Value) ->
         Action::Reclaim => Ok(commands::reclaim_in(subject, value)),
         Action::Grant => Ok(commands::grant_in(subject, value)),
         Action::Revoke => Ok(commands::revoke_in(subject)),
-        Action::Create => Ok(commands::create_in(subject, value)),
-        Action::Amend => Ok(commands::amend_in(subject, value)),
+        Action::Create => commands::create_in(alloc, subject, value),
+        Action::Amend => commands::amend_in(alloc, subject, value),
         Action::Withdraw => Ok(commands::withdraw_in(subject)),
         Action::Slurm => exceptions::slurm_in(alloc, value),
         Action::Show => Ok(commands::show_in(subject)),

@@ -93,7 +93,7 @@ impl Action {
             Action::Revoke => row!(Some("revoke"), [HOLDER, NUMBER] [], Delete Grant Json),
             Action::List => row!(Some("list"), [HOLDER] [], Get Auths Json),
             Action::Create => row!(
-                Some("create"), [HOLDER] [ASN, PREFIX, MAX, FROM, UNTIL],
+                Some("create"), [HOLDER] [ASN, FROM, UNTIL, PREFIX, MAX],
                 Post Auths Json
             ),
             Action::Show => row!(Some("show"), [HOLDER, NUMBER] [], Get Auth Json),

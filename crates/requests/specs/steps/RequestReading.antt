@@ -30,7 +30,7 @@ use Rattle.slurm.specs.steps.SlurmFile.{slurm_in}
 use Rattle.registry.specs.declared.asked.Asked.{Asked}
 use Rattle.registry.specs.declared.asked.Request.{Request}
 use Rattle.registry.specs.declared.asked.Request.TheVariants.{Command as CommandRequest, Query as QueryRequest}
-use Rattle.requests.specs.RequestFaults.{malformed_number, role_at, terms_members, creation_members, withdrawal_members, route_members, names_of, is_count, has_some, entry_members, action_in, members_of}
+use Rattle.requests.specs.RequestFaults.{malformed_number, role_at, row_members, creation_members, withdrawal_members, route_members, names_of, is_count, has_some, entry_members, action_in, members_of}
 use Rattle.json_values.specs.Values.{as_name, as_prefix, as_day, as_asn}
 use Rattle.requests.specs.RequestValues.{as_origin, as_max, as_number, as_role, as_scope}
 use Rattle.requests.specs.declared.request.TheConstants.{LINE_LENGTH_LIMIT}
@@ -41,10 +41,11 @@ use Rattle.requests.specs.declared.request.fault.Fault.{Fault}
 use Rattle.requests.specs.declared.request.commands.Subject.{Subject}
 use Rattle.requests.specs.declared.request.fault.Fault.TheVariants.{Json, Members, Holder, Caller, Prefix as PrefixFault, Asn, Max, Day, Role, Number, File, Count, TooLong, Repeated}
 
--- ---- what is asked, with its rows, changes and routes as lists
+-- ---- what is asked, with its maxLengths, rows, changes and routes as lists
 
 pub data RequestTerms : Type 0 where
   request : Request → RequestTerms
+  amend : List ℕ → ℕ → List ℕ → ℕ → RequestTerms
   import : List ℕ → List ImportRow → RequestTerms
   validity : List Route → RequestTerms
   what_if : List ℕ → List Proposed → List Route → RequestTerms
@@ -54,6 +55,7 @@ abbrev pub AskedTerms : Type 0
 AskedTerms = ℕ × (List ℕ × RequestTerms)
 
 abbrev pub request_terms : Request → RequestTerms
+request_terms (CommandRequest (Amend holder number maxes until)) = amend holder number maxes.items until
 request_terms (CommandRequest (Import holder rows)) = import holder rows.items
 request_terms (QueryRequest (Validity routes)) = validity routes.items
 request_terms (QueryRequest (WhatIf holder changes routes)) = what_if holder changes.items routes.items
@@ -99,53 +101,7 @@ file_of (Some d) = as_file d
 abbrev pub file_in : Data → Result Exceptions Fault
 file_in d = required Members as_file (get (codes "file") d)
 
--- ---- rows, changes and routes
-
--- the members of an authorization of one prefix
-abbrev pub one_prefix_in : Data → Result (AsnValue × (Prefix × (ℕ × (ℕ × ℕ)))) Fault
-one_prefix_in d =
-    both malformed_number (member_in as_asn Asn (codes "asn") d)
-    (both malformed_number (prefix_in d)
-    (both malformed_number (max_in d)
-    (both malformed_number (day_in (codes "from") d) (day_in (codes "until") d))))
-
-abbrev pub terms_in : Data → Result AuthTerms Fault
-terms_in d =
-    mapped (λ p. record { asn = p.0; prefix = p.1.0; max = p.1.1.0; from = p.1.1.1.0; until = p.1.1.1.1 })
-    (one_prefix_in d)
-
--- a row of an import has the members of a create
-abbrev pub row_members_in : Data → Result ImportRow Fault
-row_members_in d =
-    mapped
-    (λ (terms : AuthTerms). record {
-      asn = terms.asn;
-      prefix = terms.prefix;
-      max = terms.max;
-      from = terms.from;
-      until = terms.until;
-    })
-    (terms_in d)
-
-abbrev pub row_in : Data → Result ImportRow Fault
-row_in d = unless malformed_number (row_members_in d) (only Members (names_of terms_members) d)
-
--- by what it does, if that is known
-abbrev pub change_by : Option Action → Data → Result Proposed Fault
-change_by (Some AskCreate) d =
-    mapped CreateChange (unless malformed_number (terms_in d) (only Members (names_of creation_members) d))
-change_by (Some AskWithdraw) d =
-    mapped WithdrawChange (unless malformed_number (number_in d) (only Members (names_of withdrawal_members) d))
-change_by other d = Err Members
-
-abbrev pub change_in : Data → Result Proposed Fault
-change_in d = change_by (action_in d) d
-
-abbrev pub route_in : Data → Result Route Fault
-route_in d =
-    unless malformed_number (mapped (λ p. record { prefix = p.0; origin = p.1 })
-    (both malformed_number (prefix_in d) (member_in as_origin Asn (codes "origin") d)))
-    (only Members (names_of route_members) d)
+-- ---- lists
 
 abbrev pub count_of : ℕ → ℕ → ℕ → Result (Unit {0}) Fault
 count_of least most n = if is_count least most n then Ok tt else Err Count
@@ -159,15 +115,6 @@ items_of reading least most (Some items) =
 -- what the items of a member are read as
 abbrev pub items_in : {A : Type 0} → (Data → Result A Fault) → ℕ → ℕ → List ℕ → Data → Result (List A) Fault
 items_in reading least most name d = items_of reading least most (option_and_then as_array (get name d))
-
-abbrev pub rows_in : Data → Result (List ImportRow) Fault
-rows_in = items_in row_in 1 MOST_ITEMS (codes "rows")
-
-abbrev pub changes_in : Data → Result (List Proposed) Fault
-changes_in = items_in change_in 0 MOST_CHANGES (codes "changes")
-
-abbrev pub routes_in : Data → Result (List Route) Fault
-routes_in = items_in route_in 1 MOST_ITEMS (codes "routes")
 
 -- ---- entries and their maxLengths
 
@@ -224,6 +171,58 @@ maxes_in d =
     chosen (has_some (codes "max" ∷ []) d) (has_some (codes "maxes" ∷ []) d)
     (one_max_in d) (items_in max_item_in 1 MOST_ENTRIES (codes "maxes") d)
 
+-- ---- terms of authorizations
+
+-- what is said beside the entries
+abbrev pub asn_and_days_in : Data → Result (AsnValue × (ℕ × ℕ)) Fault
+asn_and_days_in d =
+    both malformed_number (member_in as_asn Asn (codes "asn") d)
+    (both malformed_number (day_in (codes "from") d) (day_in (codes "until") d))
+
+abbrev pub terms_of : (AsnValue × (ℕ × ℕ)) × List RoaPrefix → AuthTerms
+terms_of p = record { asn = p.0.0; entries = p.1; from = p.0.1.0; until = p.0.1.1 }
+
+abbrev pub terms_in : Data → Result AuthTerms Fault
+terms_in d = mapped terms_of (both malformed_number (asn_and_days_in d) (one_entry_in d))
+
+abbrev pub row_of : (AsnValue × (ℕ × ℕ)) × RoaPrefix → ImportRow
+row_of p =
+    record { asn = p.0.0; prefix = p.1.prefix; max = p.1.max; from = p.0.1.0; until = p.0.1.1 }
+
+abbrev pub row_members_in : Data → Result ImportRow Fault
+row_members_in d = mapped row_of (both malformed_number (asn_and_days_in d) (entry_members_in d))
+
+-- ---- rows, changes and routes
+
+abbrev pub row_in : Data → Result ImportRow Fault
+row_in d = unless malformed_number (row_members_in d) (only Members (names_of row_members) d)
+
+-- by what it does, if that is known
+abbrev pub change_by : Option Action → Data → Result Proposed Fault
+change_by (Some AskCreate) d =
+    mapped CreateChange (unless malformed_number (terms_in d) (only Members (names_of creation_members) d))
+change_by (Some AskWithdraw) d =
+    mapped WithdrawChange (unless malformed_number (number_in d) (only Members (names_of withdrawal_members) d))
+change_by other d = Err Members
+
+abbrev pub change_in : Data → Result Proposed Fault
+change_in d = change_by (action_in d) d
+
+abbrev pub route_in : Data → Result Route Fault
+route_in d =
+    unless malformed_number (mapped (λ p. record { prefix = p.0; origin = p.1 })
+    (both malformed_number (prefix_in d) (member_in as_origin Asn (codes "origin") d)))
+    (only Members (names_of route_members) d)
+
+abbrev pub rows_in : Data → Result (List ImportRow) Fault
+rows_in = items_in row_in 1 MOST_ITEMS (codes "rows")
+
+abbrev pub changes_in : Data → Result (List Proposed) Fault
+changes_in = items_in change_in 0 MOST_CHANGES (codes "changes")
+
+abbrev pub routes_in : Data → Result (List Route) Fault
+routes_in = items_in route_in 1 MOST_ITEMS (codes "routes")
+
 -- ---- requests
 
 abbrev pub slurm_request : Result Exceptions Fault → Result RequestTerms Fault
@@ -262,9 +261,9 @@ request_in AskRevoke subject d =
 request_in AskCreate subject d =
     mapped (λ p. request (CommandRequest (Create p.0 p.1))) (both malformed_number subject.holder (terms_in d))
 request_in AskAmend subject d =
-    mapped (λ p. request (CommandRequest (Amend p.0.0 p.0.1 p.1.0 p.1.1)))
+    mapped (λ p. amend p.0.0 p.0.1 p.1.0 p.1.1)
     (both malformed_number (holder_and_number subject)
-    (both malformed_number (max_in d) (day_in (codes "until") d)))
+    (both malformed_number (one_max_in d) (day_in (codes "until") d)))
 request_in AskWithdraw subject d =
     mapped (λ p. request (CommandRequest (Withdraw p.0 p.1))) (holder_and_number subject)
 request_in AskSlurm subject d = slurm_request (file_in d)

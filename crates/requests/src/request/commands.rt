@@ -1,21 +1,22 @@
 //! One reader for each request, of what it names and of its further members: null where it has
 //! none.
-ghost use Rattle.std.specs.Prelude.{◌≡◌};
+ghost use Rattle.std.specs.Prelude.{◌≡◌, IfOk};
 ghost use Rattle.serde_json.specs.Data.{null};
 ghost use Rattle.serde_json.specs.View.{view};
 ghost use Rattle.json_values.specs.Parts.{mapped};
 ghost use Rattle.requests.specs.steps.RequestReading.{access_in, holder_and_number, holder_and_prefix, request_in, request_terms};
 
-use super::fault::Fault;
-use super::members::{
-    caller_in, day_in, holder_in, max_in, prefix_in, role_in, scope_in, terms_in,
-};
+use super::entries::one_max_in;
+use super::fault::{Fault, Read};
+use super::members::{caller_in, day_in, holder_in, prefix_in, role_in, scope_in};
+use super::terms::terms_in;
 use crate::action::Action;
 use crate::member_names::{GIVER, NAME, TAKER, UNTIL};
 use addr::{Day, Name, Prefix};
 use json_values::both;
-use registry::{Command, Query, Request, Role, Scope};
+use registry::{AuthTerms, Command, Query, Request, Role, Scope};
 use serde_json::Value;
+use std::alloc::Global;
 
 /// The holder and the number that a request names. Where it names none, the fault counts for
 /// nothing.
@@ -101,22 +102,41 @@ pub(crate) fn revoke_in(subject: Subject) -> Result<Request, Fault>
     Ok(Request::Command(Command::Revoke { holder, number }))
 }
 
-pub(crate) fn create_in(subject: Subject, value: &Value) -> Result<Request, Fault>
-    ensures { mapped request_terms result ≡ request_in Action.Create subject (view value.now) }
+pub(crate) fn create_in(alloc: Global, subject: Subject, value: &Value) -> Read<Request>
+    ensures { IfOk result (λ request. mapped request_terms request
+        ≡ request_in Action.Create subject (view value.now)) }
 {
-    let (holder, terms) = both(subject.holder, terms_in(value))?;
+    let terms = terms_in(alloc, value)?;
+    Ok(asked_create(both(subject.holder, terms)))
+}
+
+/// The create of these terms.
+fn asked_create(parts: Result<(Name, AuthTerms), Fault>) -> Result<Request, Fault>
+    ensures { result ≡ mapped (λ p. Request.Command (Command.Create p.0 p.1)) parts }
+{
+    let (holder, terms) = parts?;
     Ok(Request::Command(Command::Create { holder, terms }))
 }
 
-pub(crate) fn amend_in(subject: Subject, value: &Value) -> Result<Request, Fault>
-    ensures { mapped request_terms result ≡ request_in Action.Amend subject (view value.now) }
+pub(crate) fn amend_in(alloc: Global, subject: Subject, value: &Value) -> Read<Request>
+    ensures { IfOk result (λ request. mapped request_terms request
+        ≡ request_in Action.Amend subject (view value.now)) }
 {
-    let terms = both(max_in(value), day_in(value, UNTIL));
-    let ((holder, number), (max, until)) = both(holder_and_number(subject), terms)?;
+    let maxes = one_max_in(alloc, value)?;
+    let terms = both(maxes, day_in(value, UNTIL));
+    Ok(asked_amend(both(holder_and_number(subject), terms)))
+}
+
+/// The amendment to these maxLengths and this last day.
+fn asked_amend(parts: Result<((Name, u32), (Vec<u8>, Day)), Fault>) -> Result<Request, Fault>
+    ensures { result
+        ≡ mapped (λ p. Request.Command (Command.Amend p.0.0 p.0.1 p.1.0 p.1.1)) parts }
+{
+    let ((holder, number), (maxes, until)) = parts?;
     Ok(Request::Command(Command::Amend {
         holder,
         number,
-        max,
+        maxes,
         until,
     }))
 }

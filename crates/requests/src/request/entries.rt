@@ -40,7 +40,8 @@ pub(crate) fn entries_in(alloc: Global, value: &Value) -> Read<RoaPrefixes>
     }
 }
 
-fn one_entry_in(alloc: Global, value: &Value) -> Read<RoaPrefixes>
+/// One entry by its members.
+pub(crate) fn one_entry_in(alloc: Global, value: &Value) -> Read<RoaPrefixes>
     ensures { IfOk result (λ entries. entries ≡ one_entry_in (view value.now)) }
 {
     match entry_members_in(value) {
@@ -67,7 +68,8 @@ fn arranged(entries: Result<Vec<RoaPrefix>, Fault>) -> Result<RoaPrefixes, Fault
     }
 }
 
-fn entry_members_in(value: &Value) -> Result<RoaPrefix, Fault>
+/// The members of an entry.
+pub(crate) fn entry_members_in(value: &Value) -> Result<RoaPrefix, Fault>
     ensures { result ≡ entry_members_in (view value.now) }
 {
     let (prefix, max) = both(prefix_in(value), max_in(value))?;
@@ -95,7 +97,8 @@ pub(crate) fn maxes_in(alloc: Global, value: &Value) -> Read<Vec<u8>>
     }
 }
 
-fn one_max_in(alloc: Global, value: &Value) -> Read<Vec<u8>>
+/// One maxLength by its member.
+pub(crate) fn one_max_in(alloc: Global, value: &Value) -> Read<Vec<u8>>
     ensures { IfOk result (λ maxes. mapped (λ v. v.items) maxes ≡ one_max_in (view value.now)) }
 {
     match max_in(value) {

@@ -7,14 +7,15 @@ ghost use Rattle.requests.specs.steps.RequestReading.{change_by, change_in, coun
 use super::commands::Subject;
 use super::fault::{Fault, Read};
 use super::form::action_in;
-use super::members::{number_in, origin_in, prefix_in, row_members_in, terms_in};
+use super::members::{number_in, origin_in, prefix_in};
+use super::terms::{row_members_in, terms_in};
 use crate::action::Action;
 use crate::member_names::{
     ASN, CHANGES, DO, FROM, MAX, NUMBER, ORIGIN, PREFIX, ROUTES, ROWS, UNTIL,
 };
 use addr::{Name, Origin, Prefix, Route};
 use json_values::{FromJson, FromJsonIn, both, each, only, unless};
-use registry::{Command, ImportRow, Proposed, Query, Request};
+use registry::{AuthTerms, Command, ImportRow, Proposed, Query, Request};
 use serde_json::Value;
 use std::alloc::Global;
 
@@ -127,32 +128,36 @@ impl FromJson<Fault> for ImportRow {
     fn from_json(value: &Value) -> Result<ImportRow, Fault> {
         unless(
             row_members_in(value),
-            only(value, &[ASN, PREFIX, MAX, FROM, UNTIL]),
+            only(value, &[ASN, FROM, UNTIL, PREFIX, MAX]),
         )
     }
 }
 
-impl FromJson<Fault> for Proposed {
+impl FromJsonIn<Fault> for Proposed {
     ghost reading = { change_in };
 
-    fn from_json(value: &Value) -> Result<Proposed, Fault> {
+    fn from_json_in(alloc: Global, value: &Value) -> Read<Proposed> {
         match action_in(value) {
-            Some(Action::Create) => creation_in(value),
-            Some(Action::Withdraw) => withdrawal_in(value),
-            _ => Err(Fault::Members),
+            Some(Action::Create) => creation_in(alloc, value),
+            Some(Action::Withdraw) => Ok(withdrawal_in(value)),
+            _ => Ok(Err(Fault::Members)),
         }
     }
 }
 
 /// A change that creates an authorization.
-fn creation_in(value: &Value) -> Result<Proposed, Fault>
-    ensures { result ≡ change_by (Some Action.Create) (view value.now) }
+fn creation_in(alloc: Global, value: &Value) -> Read<Proposed>
+    ensures { IfOk result (λ change. change ≡ change_by (Some Action.Create) (view value.now)) }
 {
-    let terms = unless(
-        terms_in(value),
-        only(value, &[DO, ASN, PREFIX, MAX, FROM, UNTIL]),
-    )?;
-    Ok(Proposed::Create(terms))
+    let terms = terms_in(alloc, value)?;
+    let names = only(value, &[DO, ASN, FROM, UNTIL, PREFIX, MAX]);
+    Ok(proposed_create(unless(terms, names)))
+}
+
+fn proposed_create(terms: Result<AuthTerms, Fault>) -> Result<Proposed, Fault>
+    ensures { result ≡ mapped Proposed.Create terms }
+{
+    Ok(Proposed::Create(terms?))
 }
 
 /// A change that withdraws one.

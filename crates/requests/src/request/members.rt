@@ -4,13 +4,13 @@ ghost use Rattle.serde_json.specs.View.{view};
 ghost use Rattle.json_values.specs.Values.{as_asn};
 ghost use Rattle.requests.specs.RequestFaults.{role_at};
 ghost use Rattle.requests.specs.RequestValues.{any_scope, as_max, as_number, as_origin, as_role, as_scope, fitting_scope, role_of};
-ghost use Rattle.requests.specs.steps.RequestReading.{caller_in, day_in, holder_in, max_in, member_in, number_in, one_prefix_in, prefix_in, row_members_in, terms_in};
+ghost use Rattle.requests.specs.steps.RequestReading.{caller_in, day_in, holder_in, max_in, member_in, number_in, prefix_in};
 
 use super::fault::Fault;
-use crate::member_names::{ASN, FROM, MAX, NUMBER, ORIGIN, PREFIX, ROLE, SCOPE, UNTIL};
+use crate::member_names::{ASN, MAX, NUMBER, ORIGIN, PREFIX, ROLE, SCOPE};
 use addr::{Asn, Day, Name, Origin, Prefix};
-use json_values::{as_asn, as_day, as_name, as_number_in, as_prefix, both, member};
-use registry::{AuthTerms, ImportRow, LAST_NUMBER, Role, Scope};
+use json_values::{as_asn, as_day, as_name, as_number_in, as_prefix, member};
+use registry::{LAST_NUMBER, Role, Scope};
 use serde_json::Value;
 
 /// The greatest `max` that a line may have: whether the prefix takes it is no question of the line.
@@ -141,48 +141,6 @@ pub(crate) fn role_in(value: &Value) -> Result<Role, Fault>
     ensures { result ≡ member_in as_role Fault.Role (codes "role") (view value.now) }
 {
     as_role(member(value, ROLE)?).ok_or(Fault::Role)
-}
-
-/// AS number, prefix, maxLength, first and last day.
-type OnePrefix = (Asn, (Prefix, (u8, (Day, Day))));
-
-/// The members of an authorization of one prefix.
-fn one_prefix_in(value: &Value) -> Result<OnePrefix, Fault>
-    ensures { result ≡ one_prefix_in (view value.now) }
-{
-    let days = both(day_in(value, FROM), day_in(value, UNTIL));
-    both(
-        asn_in(value),
-        both(prefix_in(value), both(max_in(value), days)),
-    )
-}
-
-/// What a create is to authorize.
-pub(crate) fn terms_in(value: &Value) -> Result<AuthTerms, Fault>
-    ensures { result ≡ terms_in (view value.now) }
-{
-    let (asn, (prefix, (max, (from, until)))) = one_prefix_in(value)?;
-    Ok(AuthTerms {
-        asn,
-        prefix,
-        max,
-        from,
-        until,
-    })
-}
-
-/// The members of a row of an import, which are those of a create.
-pub(crate) fn row_members_in(value: &Value) -> Result<ImportRow, Fault>
-    ensures { result ≡ row_members_in (view value.now) }
-{
-    let terms = terms_in(value)?;
-    Ok(ImportRow {
-        asn: terms.asn,
-        prefix: terms.prefix,
-        max: terms.max,
-        from: terms.from,
-        until: terms.until,
-    })
 }
 
 /// A scope that the role beside it may have.

@@ -1,17 +1,15 @@
 use Rattle.std.proofs.Common.{refl}
-use Rattle.std.proofs.lemmas.Result.{err_from_is_err_and}
+use Rattle.requests.proofs.AskedLemmas.{amend-parts}
 use Rattle.requests.proofs.request.commands.amend_in.Goals as goal
 
-pub returns-in_err-holder : goal.returns-in_err-holder
-returns-in_err-holder c =
-    let p = err_from_is_err_and c.from_residual.result c.from_residual.ensures.1 in
+pub returns : goal.returns
+returns c =
     rw (
-      p.1,
-      p.2,
-      ← c.holder_and_number.ensures,
-      ← c.max_in.ensures,
-      ← c.day_in.ensures,
-      ← c.both-terms.ensures,
-      ← c.both.ensures,
-      c.in_err-holder.was,
+      c.asked_amend.ensures,
+      c.both.ensures,
+      c.both-terms.ensures,
+      amend-parts c.holder_and_number.result c.in_ok-maxes.maxes c.day_in.result,
+      c.in_ok-maxes.ensures,
+      c.holder_and_number.ensures,
+      c.day_in.ensures,
     ) refl
