@@ -29,19 +29,19 @@ asked_terms-parts (Err m) (Ok caller) (Ok request) = refl
 asked_terms-parts (Err m) (Err n) (Ok request) = refl
 asked_terms-parts day caller request = refl
 
-pub amend-parts : (named : Result (List ℕ × ℕ) Fault) (maxes : Result (Vec ℕ) Fault) (until : Result ℕ Fault) →
-    mapped request_terms (mapped (λ p. CommandRequest (Amend p.0.0 p.0.1 p.1.0 p.1.1))
-    (both malformed_number named (both malformed_number maxes until)))
-    ≡ mapped (λ p. amend p.0.0 p.0.1 p.1.0 p.1.1)
-    (both malformed_number named (both malformed_number (mapped (λ v. v.items) maxes) until))
-amend-parts (Ok named) (Ok maxes) (Ok until) = refl
-amend-parts (Ok named) (Ok maxes) (Err n) = refl
-amend-parts (Err m) (Ok maxes) (Ok until) = refl
-amend-parts (Err m) (Ok maxes) (Err n) = refl
-amend-parts (Ok named) (Err l) (Ok until) = refl
-amend-parts (Ok named) (Err l) (Err n) = refl
-amend-parts (Err m) (Err l) (Ok until) = refl
-amend-parts (Err m) (Err l) (Err n) = refl
+pub amend-parts : (named : Result (List ℕ × ℕ) Fault) (until : Result ℕ Fault) (maxes : Result (Vec ℕ) Fault) →
+    mapped request_terms (mapped (λ p. CommandRequest (Amend p.0.0 p.0.1 p.1.1 p.1.0))
+    (both malformed_number named (both malformed_number until maxes)))
+    ≡ mapped (λ p. amend p.0.0 p.0.1 p.1.1 p.1.0)
+    (both malformed_number named (both malformed_number until (mapped (λ v. v.items) maxes)))
+amend-parts (Ok named) (Ok until) (Ok maxes) = refl
+amend-parts (Ok named) (Ok until) (Err l) = refl
+amend-parts (Ok named) (Err n) (Ok maxes) = refl
+amend-parts (Ok named) (Err n) (Err l) = refl
+amend-parts (Err m) (Ok until) (Ok maxes) = refl
+amend-parts (Err m) (Ok until) (Err l) = refl
+amend-parts (Err m) (Err n) (Ok maxes) = refl
+amend-parts (Err m) (Err n) (Err l) = refl
 
 pub import-parts : (holder : Result (List ℕ) Fault) (rows : Result (Vec ImportRow) Fault) →
     mapped request_terms (mapped (λ p. CommandRequest (Import p.0 p.1)) (both malformed_number holder rows))

@@ -19,7 +19,7 @@ use Rattle.json_values.specs.Faults.{fault_unless, lower_of, lowest, reading_fau
 use Rattle.json_values.specs.Parts.{and_then}
 use Rattle.json_values.specs.Tree.{list_of}
 use Rattle.json_values.specs.Values.{as_prefix}
-use Rattle.requests.specs.RequestFaults.{chosen_faults, entries_faults, entry_list, entry_members, has_some, is_count, list_faults, malformed_number, maxes_faults, member_faults, named_prefixes, names_of, object_faults, repeat_faults}
+use Rattle.requests.specs.RequestFaults.{choice_faults, chosen_faults, entry_choice, entry_list, entry_members, has_some, is_count, list_faults, malformed_number, max_choice, member_faults, named_prefixes, names_of, object_faults, repeat_faults}
 use Rattle.requests.specs.RequestText.{HasEntries, HasEntry, HasEntryList, HasMaxes, HasOneEntry, HasOneMax}
 use Rattle.requests.specs.RequestValues.{as_max}
 use Rattle.requests.specs.declared.request.fault.Fault.{Fault}
@@ -48,7 +48,7 @@ reads-entry_members d =
 reads-entry : (d : Data) → ReadsUnlessFaulty (entry_in d) (object_faults entry_members d) (HasEntry d)
 reads-entry d = reads-unless (reads-entry_members d) (reported-only malformed_number Members (names_of entry_members) d)
 
-pub reads-one_entry : (d : Data) → ReadsUnlessFaulty (one_entry_in d) (member_faults entry_members d) (HasOneEntry d)
+reads-one_entry : (d : Data) → ReadsUnlessFaulty (one_entry_in d) (member_faults entry_members d) (HasOneEntry d)
 reads-one_entry d = reads-mapped (λ entry. entry ∷ []) (λ entry says. (entry, says, refl)) (reads-entry_members d)
 
 -- ---- a list of entries
@@ -159,15 +159,15 @@ reads-entry_list d (Some value) = reads-items_arranged (as_array value)
 
 -- ---- entries and maxLengths
 
-pub reads-entries : (d : Data) → ReadsUnlessFaulty (entries_in d) (entries_faults d) (HasEntries d)
+pub reads-entries : (d : Data) → ReadsUnlessFaulty (entries_in d) (choice_faults entry_choice d) (HasEntries d)
 reads-entries d =
     reads-chosen (has_some (names_of entry_members) d) (has_some (codes "entries" ∷ []) d) (reads-says (λ es says. inl says) (reads-one_entry d))
     (reads-last (reads-says (λ es says. inr says) (reads-entry_list d (get (codes "entries") d))))
 
-pub reads-one_max : (d : Data) → ReadsUnlessFaulty (one_max_in d) (required_faults Members (reading_faults as_max Max) (get (codes "max") d)) (HasOneMax d)
+reads-one_max : (d : Data) → ReadsUnlessFaulty (one_max_in d) (required_faults Members (reading_faults as_max Max) (get (codes "max") d)) (HasOneMax d)
 reads-one_max d = reads-mapped (λ max. max ∷ []) (λ max says. (max, says, refl)) (reads-member as_max Max (codes "max") d)
 
-pub reads-maxes : (d : Data) → ReadsUnlessFaulty (maxes_in d) (maxes_faults d) (HasMaxes d)
+pub reads-maxes : (d : Data) → ReadsUnlessFaulty (maxes_in d) (choice_faults max_choice d) (HasMaxes d)
 reads-maxes d =
     reads-chosen (has_some (codes "max" ∷ []) d) (has_some (codes "maxes" ∷ []) d) (reads-last (reads-says (λ maxes says. inl says) (reads-one_max d)))
     (reads-last (reads-says (λ maxes says. inr says)

@@ -23,7 +23,7 @@ use Rattle.requests.specs.declared.action.Action.{Action}
 use Rattle.requests.specs.declared.action.Action.TheVariants.{Import, Slurm}
 use Rattle.requests.specs.HttpFaults.{body_bytes, body_faults, head_caller, fault_of_import, http_fault, http_faults, import_faults, json_tree, object_body_faults, path_faults, parsed_body_faults}
 use Rattle.requests.specs.HttpRequests.{body_tree, http_heading, SaysAsked}
-use Rattle.requests.specs.RequestFaults.{as_malformed, body_members, file_faults, malformed_number, member_faults, named_by, names_of}
+use Rattle.requests.specs.RequestFaults.{as_malformed, body_members, body_names, choices_of, file_faults, malformed_number, named_by, part_faults}
 use Rattle.requests.specs.declared.request.commands.Subject.{Subject}
 use Rattle.requests.specs.declared.request.fault.Fault.{Fault}
 use Rattle.requests.specs.declared.request.fault.Fault.TheVariants.{Json, Members, Holder, Caller, Number}
@@ -97,7 +97,7 @@ module _ (head : Head) (body : Option (List ℕ)) where
     in_path = flat_map (path_faults head) (named_by action)
 
     reads-members : (d : Data) → ReadsUnlessFaulty (request_in action (path_subject head) d)
-        (in_path ++ member_faults (body_members action) d) (SaysTerms (http_heading head body d) d)
+        (in_path ++ part_faults (body_members action) (choices_of action) d) (SaysTerms (http_heading head body d) d)
     reads-members d =
         reads-request (http_heading head body d) (path_subject head) (path_faults head)
         (reads-ok_or _ Holder) (reads-ok_or _ Number) action d (ap Some does)
@@ -109,8 +109,8 @@ module _ (head : Head) (body : Option (List ℕ)) where
     reads-tree None = record { reported = record { is = lowest-json in_path }; value = tt }
     reads-tree (Some d) =
         reads-says (λ terms says. (d, refl, says))
-        (rw (← append_assoc in_path (member_faults (body_members action) d) (name_faults Members (names_of (body_members action)) d))
-        (reads-unless (reads-members d) (reported-only malformed_number Members (names_of (body_members action)) d)))
+        (rw (← append_assoc in_path (part_faults (body_members action) (choices_of action) d) (name_faults Members (body_names action) d))
+        (reads-unless (reads-members d) (reported-only malformed_number Members (body_names action) d)))
 
     reads-object : (bytes : Option (List ℕ))
         → ReadsUnlessFaulty (object_body action (path_subject head) bytes) (in_path ++ object_body_faults action bytes)

@@ -1,37 +1,36 @@
 -- What the code reads of a line is the request that the line is, and its fault the lowest.
-use Rattle.std.proofs.Common.{◌≡◌, ℕ, Bool, true, false, if◌then◌else◌, nat_lt, List, [], ◌∷◌, ◌++◌, map, length, codes, Option, Some, None, option_and_then, Result, Ok, Err, refl, sym, ap, ◌∙◌, append_assoc, inl, inr}
+use Rattle.std.proofs.Common.{◌≡◌, ℕ, Bool, true, false, if◌then◌else◌, nat_lt, List, [], ◌∷◌, ◌++◌, map, length, codes, Option, Some, None, option_and_then, Ok, Err, refl, sym, ap, ◌∙◌, append_assoc, inl, inr}
 use Rattle.std.proofs.lemmas.Grind.{flat_map-append}
 use Rattle.std.specs.List.{flat_map}
 use Rattle.addr.specs.declared.asn.Asn.{Asn as AsnValue}
-use Rattle.addr.specs.declared.prefix.Prefix.{Prefix as PrefixValue}
 use Rattle.registry.specs.declared.command.Command.TheVariants.{Amend, Import}
 use Rattle.registry.specs.declared.command.Proposed.TheVariants.{Create as CreateChange, Withdraw as WithdrawChange}
 use Rattle.registry.specs.declared.command.Query.TheVariants.{Validity}
-use Rattle.serde_json.specs.Data.{Data, Items}
-use Rattle.serde_json.specs.Find.{get, as_array, as_str}
+use Rattle.serde_json.specs.Data.{Data}
+use Rattle.serde_json.specs.Find.{get, as_str}
 use Rattle.slurm.specs.SlurmEntries.{SaysExceptions}
-use Rattle.json_values.proofs.FaultLemmas.{reported-if, reported-only}
+use Rattle.json_values.proofs.FaultLemmas.{reported-only}
 use Rattle.json_values.specs.Faults.{required_faults}
 use Rattle.json_values.specs.Parts.{both, mapped}
-use Rattle.json_values.specs.Tree.{tree_of, list_of}
+use Rattle.json_values.specs.Tree.{tree_of}
 use Rattle.registry.specs.declared.asked.Asked.{Asked}
 use Rattle.registry.specs.declared.asked.Request.{Request}
 use Rattle.registry.specs.declared.asked.Request.TheVariants.{Command as CommandRequest, Query as QueryRequest}
-use Rattle.requests.specs.RequestFaults.{as_malformed, malformed_number, role_at, terms_members, row_members, entry_members, creation_members, withdrawal_members, route_members, names_of, is_count, object_faults, list_faults, change_faults, rows, changes, routes, file, action_in, action_of, body_members, member_faults, named_by, named_member, Named, HolderName, NumberGiven, Kind, any_value, members_of, action_faults, tree_faults, request_faults, request_fault}
-use Rattle.requests.specs.RequestText.{HasName, HasDay, HasMember, HasOneMax, HasPrefix, HasRow, HasTerms, SaysChange, SaysRoute, HasItems, HasRoutes, Heading, Does, NamesHolder, NamesNumber, SaysRequest, line_heading, ReadsLine, SaysRows}
+use Rattle.requests.specs.RequestFaults.{as_malformed, malformed_number, role_at, terms_members, row_members, entry_members, creation_members, withdrawal_members, route_members, names_of, part_names, part_faults, choice_faults, choices_of, entry_choice, line_names, object_faults, change_faults, rows, changes, routes, file, action_in, action_of, body_members, member_faults, named_by, named_member, Named, HolderName, NumberGiven, Kind, any_value, caller_name, day, members_of, action_faults, tree_faults, request_faults, request_fault}
+use Rattle.requests.specs.RequestText.{HasName, HasDay, HasMaxes, HasMember, HasRow, HasTerms, SaysChange, SaysRoute, HasItems, HasRoutes, Heading, Does, NamesHolder, NamesNumber, SaysRequest, line_heading, ReadsLine, SaysRows}
 use Rattle.json_values.specs.Values.{as_name, as_prefix, as_day, as_asn}
-use Rattle.requests.specs.RequestValues.{as_origin, as_max, as_number, as_role, as_scope}
+use Rattle.requests.specs.RequestValues.{as_origin, as_number, as_role, as_scope}
 use Rattle.requests.specs.declared.request.TheConstants.{LINE_LENGTH_LIMIT}
 use Rattle.requests.specs.declared.action.Action.{Action}
 use Rattle.requests.specs.declared.action.Action.TheVariants.{Register as AskRegister, Delegate as AskDelegate, Transfer as AskTransfer, Reclaim as AskReclaim, Grant as AskGrant, Revoke as AskRevoke, Create as AskCreate, Amend as AskAmend, Withdraw as AskWithdraw, Slurm as AskSlurm, Show as AskShow, Content as AskContent, List as AskList, Export as AskExport, Import as AskImport, WhatIf as AskWhatIf, Payloads as AskPayloads, Validity as AskValidity}
 use Rattle.requests.specs.declared.request.lists.TheConstants.{MOST_ITEMS, MOST_CHANGES}
 use Rattle.requests.specs.declared.request.fault.Fault.{Fault}
 use Rattle.requests.specs.declared.request.commands.Subject.{Subject}
-use Rattle.requests.specs.declared.request.fault.Fault.TheVariants.{Members, Holder, Caller, Prefix as PrefixFault, Asn, Max, Day, Role, Number, Count, TooLong}
+use Rattle.requests.specs.declared.request.fault.Fault.TheVariants.{Members, Holder, Caller, Prefix as PrefixFault, Asn, Day, Role, Number, TooLong}
 use Rattle.requests.specs.steps.RequestReading.{RequestTerms, request, amend, import, validity, what_if, AskedTerms, request_terms, asked_terms, asn_and_days_in, terms_of, terms_in, row_of, row_in, change_by, change_in, route_in, rows_in, changes_in, routes_in, file_in, request_in, line_subject, asked_as, asked_by, asked_from, asked_in}
-use Rattle.json_values.proofs.ReadingLemmas.{reads-both, reads-mapped, reads-unless, reads-last, reads-says, reads-each, lowest-none}
+use Rattle.json_values.proofs.ReadingLemmas.{reads-both, reads-mapped, reads-unless, reads-last, reads-says, lowest-none}
 use Rattle.requests.proofs.RequestFaultLemmas.{ReadsUnlessFaulty, ReadsMember, reads-list, reads-member}
-use Rattle.requests.proofs.EntryReadLemmas.{reads-entry_members, reads-one_entry, reads-one_max}
+use Rattle.requests.proofs.EntryReadLemmas.{reads-entries, reads-entry_members, reads-maxes}
 use Rattle.requests.proofs.SlurmReadLemmas.{reads-file}
 
 -- ---- members
@@ -67,15 +66,14 @@ reads-asn_and_days d =
     reads-both (reads-member as_asn Asn (codes "asn") d)
     (reads-both (reads-member as_day Day (codes "from") d) (reads-last (until d)))
 
--- with one entry
+reads-terms : (d : Data) → ReadsUnlessFaulty (terms_in d) (part_faults terms_members (entry_choice ∷ []) d) (HasTerms d)
+reads-terms d =
+    reads-mapped terms_of (λ p says. (says.0.0, says.1, says.0.1.0, says.0.1.1))
+    (reads-both (reads-asn_and_days d) (reads-last (reads-entries d)))
+
+-- a row has one entry
 row-split : (d : Data) → member_faults row_members d ≡ member_faults terms_members d ++ member_faults entry_members d
 row-split d = flat_map-append (λ m. required_faults Members (m.1 d) (get m.0 d)) terms_members entry_members
-
-reads-terms : (d : Data) → ReadsUnlessFaulty (terms_in d) (member_faults row_members d) (HasTerms d)
-reads-terms d =
-    rw (row-split d)
-    (reads-mapped terms_of (λ p says. (says.0.0, says.1, says.0.1.0, says.0.1.1))
-    (reads-both (reads-asn_and_days d) (reads-one_entry d)))
 
 reads-row : (d : Data) → ReadsUnlessFaulty (row_in d) (object_faults row_members d) (HasRow d)
 reads-row d =
@@ -90,7 +88,7 @@ reads-change : (action : Option Action) (d : Data) → action_in d ≡ action �
 reads-change (Some AskCreate) d does =
     rw (do-faultless d AskCreate (get (codes "do") d) does)
     (reads-mapped CreateChange (λ terms says. (does, says))
-    (reads-unless (reads-terms d) (reported-only malformed_number Members (names_of creation_members) d)))
+    (reads-unless (reads-terms d) (reported-only malformed_number Members (part_names creation_members (entry_choice ∷ [])) d)))
 reads-change (Some AskWithdraw) d does =
     rw (do-faultless d AskWithdraw (get (codes "do") d) does)
     (reads-mapped WithdrawChange (λ n says. (does, says))
@@ -124,7 +122,7 @@ reads-routes d = reads-list route_in (object_faults route_members) SaysRoute 1 M
 abbrev pub SaysTerms : Heading → Data → RequestTerms → Type 0
 SaysTerms h d (request r) = SaysRequest h d r
 SaysTerms h d (amend holder number maxes last) =
-    Does AskAmend h × NamesHolder h holder × NamesNumber h number × HasOneMax d maxes × HasDay (codes "until") d last
+    Does AskAmend h × NamesHolder h holder × NamesNumber h number × HasMaxes d maxes × HasDay (codes "until") d last
 SaysTerms h d (import holder listed) = Does AskImport h × NamesHolder h holder × SaysRows h.rows listed
 SaysTerms h d (validity listed) = Does AskValidity h × HasRoutes d listed
 SaysTerms h d (what_if holder supposed listed) =
@@ -138,7 +136,8 @@ terms-said h d other says = says
 
 -- of each of what a request names, and of its further members
 abbrev pub said_faults : (Named → List Fault) → Action → Data → List Fault
-said_faults named action d = flat_map named (named_by action) ++ member_faults (body_members action) d
+said_faults named action d =
+    flat_map named (named_by action) ++ part_faults (body_members action) (choices_of action) d
 
 module _ (h : Heading) (subject : Subject) (named : Named → List Fault)
     (holder : ReadsUnlessFaulty subject.holder (named HolderName) (NamesHolder h))
@@ -162,29 +161,29 @@ module _ (h : Heading) (subject : Subject) (named : Named → List Fault)
   reads-request AskRegister d does file_brought rows_brought = reads-mapped _ (λ p says. (does, says)) (reads-last (reads-last holder))
   reads-request AskDelegate d does file_brought rows_brought =
       reads-mapped _ (λ p says. (does, says.0, says.1))
-      (reads-both (reads-last holder) (reads-last (prefix d)))
+      (reads-both (reads-last holder) (reads-last (reads-last (prefix d))))
   reads-request AskTransfer d does file_brought rows_brought =
       reads-mapped _ (λ p says. (does, says.0, says.1.0, says.1.1))
-      (reads-both (prefix d) (reads-both (reads-member as_name Holder (codes "giver") d)
-      (reads-last (reads-member as_name Holder (codes "taker") d))))
+      (reads-last (reads-both (prefix d) (reads-both (reads-member as_name Holder (codes "giver") d)
+      (reads-last (reads-member as_name Holder (codes "taker") d)))))
   reads-request AskReclaim d does file_brought rows_brought =
       reads-mapped _ (λ p says. (does, says.0, says.1))
-      (reads-both (reads-last holder) (reads-last (prefix d)))
+      (reads-both (reads-last holder) (reads-last (reads-last (prefix d))))
   reads-request AskGrant d does file_brought rows_brought =
       reads-mapped _ (λ p says. (does, says.0, says.1.0, says.1.1.0, says.1.1.1.0, says.1.1.1.1))
-      (reads-both (reads-last holder) (reads-both (reads-member as_name Caller (codes "name") d)
+      (reads-both (reads-last holder) (reads-last (reads-both (reads-member as_name Caller (codes "name") d)
       (reads-both (reads-member as_role Role (codes "role") d)
-      (reads-both (reads-member (as_scope (role_at d)) Role (codes "scope") d) (reads-last (until d))))))
+      (reads-both (reads-member (as_scope (role_at d)) Role (codes "scope") d) (reads-last (until d)))))))
   reads-request AskRevoke d does file_brought rows_brought =
       reads-mapped _ (λ p says. (does, says.0, says.1)) (reads-last holder_and_number)
   reads-request AskCreate d does file_brought rows_brought =
       reads-mapped _ (λ p says. (does, says.0, says.1)) (reads-both (reads-last holder) (reads-terms d))
   reads-request AskAmend d does file_brought rows_brought =
-      reads-mapped _ (λ p says. (does, says.0.0, says.0.1, says.1.0, says.1.1))
-      (reads-both holder_and_number (reads-both (reads-one_max d) (reads-last (until d))))
+      reads-mapped _ (λ p says. (does, says.0.0, says.0.1, says.1.1, says.1.0))
+      (reads-both holder_and_number (reads-both (reads-last (until d)) (reads-last (reads-maxes d))))
   reads-request AskWithdraw d does file_brought rows_brought =
       reads-mapped _ (λ p says. (does, says.0, says.1)) (reads-last holder_and_number)
-  reads-request AskSlurm d does file_brought rows_brought = reads-mapped _ (λ p says. (does, says)) (reads-last (file_brought does))
+  reads-request AskSlurm d does file_brought rows_brought = reads-mapped _ (λ p says. (does, says)) (reads-last (reads-last (file_brought does)))
   reads-request AskShow d does file_brought rows_brought =
       reads-mapped _ (λ p says. (does, says.0, says.1)) (reads-last holder_and_number)
   reads-request AskContent d does file_brought rows_brought =
@@ -194,14 +193,14 @@ module _ (h : Heading) (subject : Subject) (named : Named → List Fault)
   reads-request AskExport d does file_brought rows_brought =
       reads-mapped _ (λ p says. (inr does, says)) (reads-last (reads-last holder))
   reads-request AskImport d does file_brought rows_brought =
-      reads-mapped _ (λ p says. (does, says.0, says.1)) (reads-both (reads-last holder) (reads-last (rows_brought does)))
+      reads-mapped _ (λ p says. (does, says.0, says.1)) (reads-both (reads-last holder) (reads-last (reads-last (rows_brought does))))
   reads-request AskWhatIf d does file_brought rows_brought =
       reads-mapped _ (λ p says. (does, says.0, says.1.0, says.1.1))
-      (reads-both (reads-last holder) (reads-both (reads-changes d) (reads-last (reads-routes d))))
+      (reads-both (reads-last holder) (reads-last (reads-both (reads-changes d) (reads-last (reads-routes d)))))
   reads-request AskPayloads d does file_brought rows_brought = record { reported = record { is = refl }; value = does }
   reads-request AskValidity d does file_brought rows_brought =
       reads-mapped validity (λ p says. (does, says))
-      (reads-last (reads-routes d))
+      (reads-last (reads-last (reads-routes d)))
 
 -- ---- lines
 
@@ -222,15 +221,41 @@ members-split d (n ∷ named) rest =
     ap (λ u. named_faults d n ++ u) (members-split d named rest)
     ∙ sym (append_assoc (named_faults d n) (flat_map (named_faults d) named) (member_faults rest d))
 
+-- day and caller come before all that the request says
+line-split : (action : Action) (d : Data) → Does action (line_heading d) →
+    part_faults (members_of action) (choices_of action) d
+    ≡ required_faults Members (day d) (get (codes "day") d)
+    ++ (required_faults Members (caller_name d) (get (codes "caller") d) ++ said_faults (named_faults d) action d)
+line-split action d does =
+    rw (do-faultless d action (get (codes "do") d) does, members-split d (named_by action) (body_members action))
+    (append_assoc on_day (by_caller ++ (named ++ members)) chosen
+    ∙ ap (λ faults. on_day ++ faults) (append_assoc by_caller (named ++ members) chosen
+    ∙ ap (λ faults. by_caller ++ faults) (append_assoc named members chosen)))
+  where
+    on_day : List Fault
+    on_day = required_faults Members (day d) (get (codes "day") d)
+
+    by_caller : List Fault
+    by_caller = required_faults Members (caller_name d) (get (codes "caller") d)
+
+    named : List Fault
+    named = flat_map (named_faults d) (named_by action)
+
+    members : List Fault
+    members = member_faults (body_members action) d
+
+    chosen : List Fault
+    chosen = flat_map (λ choice. choice_faults choice d) (choices_of action)
+
 reads-asked : (action : Action) (d : Data) → Does action (line_heading d) →
     ReadsUnlessFaulty (asked_as action d) (action_faults (Some action) d) (AsksTerms (Some d))
 reads-asked action d does =
-    rw (do-faultless d action (get (codes "do") d) does, members-split d (named_by action) (body_members action))
+    rw (line-split action d does)
     (reads-unless (reads-says (λ p says. (d, refl, says.0, says.1.0, says.1.1))
     (reads-both (reads-member as_day Day (codes "day") d)
     (reads-both (reads-member as_name Caller (codes "caller") d)
     (reads-request (line_heading d) (line_subject d) (named_faults d) (holder d) (number d) action d does (λ _. reads-file d) (λ _. reads-rows d)))))
-    (reported-only malformed_number Members (names_of (members_of action)) d))
+    (reported-only malformed_number Members (line_names action) d))
 
 reads-by : (action : Option Action) (d : Data) → action_in d ≡ action →
     ReadsUnlessFaulty (asked_by action d) (action_faults action d) (AsksTerms (Some d))

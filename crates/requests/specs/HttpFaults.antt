@@ -16,7 +16,7 @@ use Rattle.requests.specs.declared.action.Action.TheVariants.{Import, Slurm}
 use Rattle.csv_records.specs.Imports.{import_fault}
 use Rattle.csv_records.specs.declared.imports.ImportFault.{ImportFault}
 use Rattle.csv_records.specs.declared.imports.ImportFault.TheVariants as import_fault
-use Rattle.requests.specs.RequestFaults.{body_members, file_faults, malformed_of, member_faults, named_by, Named, HolderName, NumberGiven, object_faults}
+use Rattle.requests.specs.RequestFaults.{body_members, choices_of, file_faults, malformed_of, named_by, Named, HolderName, NumberGiven, object_faults_by_choice, part_faults}
 use Rattle.requests.specs.declared.malformed.Malformed.{Malformed}
 use Rattle.requests.specs.declared.request.fault.Fault.{Fault}
 use Rattle.requests.specs.declared.request.fault.Fault.TheVariants.{Json, Members, Holder, Caller, Prefix, Asn, Max, Day, Number, Count}
@@ -38,11 +38,11 @@ path_faults head NumberGiven = fault_unless (is_some (path_number head.number)) 
 
 abbrev pub parsed_body_faults : Action → Option Data → List Fault
 parsed_body_faults action None = Json ∷ []
-parsed_body_faults action (Some d) = object_faults (body_members action) d
+parsed_body_faults action (Some d) = object_faults_by_choice (body_members action) (choices_of action) d
 
 -- of a body that is to be an object; where there is none, every member that it ought to have is missing
 abbrev pub object_body_faults : Action → Option (List ℕ) → List Fault
-object_body_faults action None = member_faults (body_members action) null
+object_body_faults action None = part_faults (body_members action) (choices_of action) null
 object_body_faults action (Some bytes) = parsed_body_faults action (tree_of bytes)
 
 -- the JSON value of a body, null where there is none

@@ -145,18 +145,31 @@ chosen_faults true false one other = one
 chosen_faults false true one other = other
 chosen_faults has_one has_other one other = Members ∷ []
 
--- of the members of one of two lists, told by which names are there
-abbrev pub choice_faults : List (List ℕ × Kind) → List (List ℕ × Kind) → Data → List Fault
-choice_faults one other d =
-    chosen_faults (has_some (names_of one) d) (has_some (names_of other) d)
-    (member_faults one d) (member_faults other d)
+-- the members of one of two lists
+abbrev pub Choice : Type 0
+Choice = List (List ℕ × Kind) × List (List ℕ × Kind)
 
--- of what is to be an object with each of these members, with those of one of two lists and with no other
-abbrev pub object_faults_by_choice :
-    List (List ℕ × Kind) → List (List ℕ × Kind) → List (List ℕ × Kind) → Data → List Fault
-object_faults_by_choice members one other d =
-    member_faults members d ++ choice_faults one other d
-    ++ name_faults Members (names_of (members ++ one ++ other)) d
+-- which of the two it is, the names tell that are there
+abbrev pub choice_faults : Choice → Data → List Fault
+choice_faults choice d =
+    chosen_faults (has_some (names_of choice.0) d) (has_some (names_of choice.1) d)
+    (member_faults choice.0 d) (member_faults choice.1 d)
+
+abbrev pub choice_names : Choice → List (List ℕ)
+choice_names choice = names_of choice.0 ++ names_of choice.1
+
+-- of each of these members and each of these choices
+abbrev pub part_faults : List (List ℕ × Kind) → List Choice → Data → List Fault
+part_faults members choices d =
+    member_faults members d ++ flat_map (λ choice. choice_faults choice d) choices
+
+abbrev pub part_names : List (List ℕ × Kind) → List Choice → List (List ℕ)
+part_names members choices = names_of members ++ flat_map choice_names choices
+
+-- of what is to be an object with all of these and with no other member
+abbrev pub object_faults_by_choice : List (List ℕ × Kind) → List Choice → Data → List Fault
+object_faults_by_choice members choices d =
+    part_faults members choices d ++ name_faults Members (part_names members choices) d
 
 -- ---- entries and their maxLengths
 
@@ -179,16 +192,16 @@ abbrev pub entry_list : Kind
 entry_list d value =
     list_faults (object_faults entry_members) 1 MOST_ENTRIES (as_array value) ++ repeat_faults (as_array value)
 
--- of the entries of a create: the members of one entry, or a list
-abbrev pub entries_faults : Data → List Fault
-entries_faults d = choice_faults entry_members ((codes "entries", entry_list) ∷ []) d
+-- of a create: the members of one entry, or a list
+abbrev pub entry_choice : Choice
+entry_choice = (entry_members, (codes "entries", entry_list) ∷ [])
 
 abbrev pub max_lengths : Kind
 max_lengths d value = list_faults (reading_faults as_max Max) 1 MOST_ENTRIES (as_array value)
 
--- of the maxLengths of an amendment: one, or a list
-abbrev pub maxes_faults : Data → List Fault
-maxes_faults d = choice_faults ((codes "max", max_length) ∷ []) ((codes "maxes", max_lengths) ∷ []) d
+-- of an amendment: one maxLength, or a list
+abbrev pub max_choice : Choice
+max_choice = ((codes "max", max_length) ∷ [], (codes "maxes", max_lengths) ∷ [])
 
 -- ---- what is asked
 
@@ -236,7 +249,7 @@ action_in d = option_and_then action_of (option_and_then as_str (get (codes "do"
 abbrev pub terms_members : List (List ℕ × Kind)
 terms_members = (codes "asn", asn) ∷ (codes "from", day) ∷ (codes "until", day) ∷ []
 
--- of an authorization of one entry
+-- of a row of an import, which has one entry
 abbrev pub row_members : List (List ℕ × Kind)
 row_members = terms_members ++ entry_members
 
@@ -244,14 +257,14 @@ abbrev pub rows : Kind
 rows d value = list_faults (object_faults row_members) 1 MOST_ITEMS (as_array value)
 
 abbrev pub creation_members : List (List ℕ × Kind)
-creation_members = (codes "do", any_value) ∷ row_members
+creation_members = (codes "do", any_value) ∷ terms_members
 
 abbrev pub withdrawal_members : List (List ℕ × Kind)
 withdrawal_members = (codes "do", any_value) ∷ (codes "number", number) ∷ []
 
 -- of a change by what it does, if it is known
 abbrev pub change_faults : Option Action → Data → List Fault
-change_faults (Some Create) d = object_faults creation_members d
+change_faults (Some Create) d = object_faults_by_choice creation_members (entry_choice ∷ []) d
 change_faults (Some Withdraw) d = object_faults withdrawal_members d
 change_faults other d = Members ∷ []
 
@@ -272,18 +285,28 @@ pub data Named : Type 0 where
   HolderName : Named
   NumberGiven : Named
 
--- how a request is written: what it names, the members of what it says further, of which the body of an HTTP request is
--- made, its method and path, and the form in which it asks for a list
+-- how a request is written: what it names, the members and the choices of what it says further, of which the body of an
+-- HTTP request is made, its method and path, and the form in which it asks for a list
 pub record RequestForm : Type 0 where
   pub names : List Named
   pub members : List (List ℕ × Kind)
+  pub choices : List Choice
   pub method : Method
   pub path : Path
   pub list_form : ContentType
 
 abbrev json_form : List Named → List (List ℕ × Kind) → Method → Path → RequestForm
-json_form names members method at =
-    record { names = names; members = members; method = method; path = at; list_form = JsonText }
+json_form names members method at = record {
+  names = names;
+  members = members;
+  choices = [];
+  method = method;
+  path = at;
+  list_form = JsonText;
+}
+
+abbrev with_choice : Choice → RequestForm → RequestForm
+with_choice choice form = record form { choices = choice ∷ [] }
 
 abbrev names_nothing : List (List ℕ × Kind) → Method → Path → RequestForm
 names_nothing = json_form []
@@ -308,13 +331,13 @@ form_of Grant =
     Post path.Grants
 form_of Revoke = names_number [] Delete path.Grant
 form_of ListAction = names_holder [] Get path.Auths
-form_of Create = names_holder row_members Post path.Auths
+form_of Create = with_choice entry_choice (names_holder terms_members Post path.Auths)
 form_of Show = names_number [] Get path.Auth
-form_of Amend = names_number ((codes "max", max_length) ∷ (codes "until", day) ∷ []) Patch path.Auth
+form_of Amend = with_choice max_choice (names_number ((codes "until", day) ∷ []) Patch path.Auth)
 form_of Withdraw = names_number [] Delete path.Auth
 form_of Content = names_number [] Get path.Content
 form_of Export =
-    record { names = HolderName ∷ []; members = []; method = Get; path = path.Export; list_form = Csv }
+    record (names_holder [] Get path.Export) { list_form = Csv }
 form_of Import = names_holder ((codes "rows", rows) ∷ []) Post path.Imports
 form_of WhatIf = names_holder ((codes "changes", changes) ∷ (codes "routes", routes) ∷ []) Post path.WhatIf
 form_of Slurm = names_nothing ((codes "file", file) ∷ []) Put path.Slurm
@@ -327,19 +350,28 @@ named_by action = (form_of action).names
 abbrev pub body_members : Action → List (List ℕ × Kind)
 body_members action = (form_of action).members
 
+abbrev pub choices_of : Action → List Choice
+choices_of action = (form_of action).choices
+
+abbrev pub body_names : Action → List (List ℕ)
+body_names action = part_names (body_members action) (choices_of action)
+
 abbrev pub named_member : Named → List ℕ × Kind
 named_member HolderName = (codes "holder", holder_name)
 named_member NumberGiven = (codes "number", number)
 
--- the members of a line
+-- the members of a line, beside its choices
 abbrev pub members_of : Action → List (List ℕ × Kind)
 members_of action =
     (codes "day", day) ∷ (codes "caller", caller_name) ∷ (codes "do", any_value)
     ∷ map named_member (named_by action) ++ body_members action
 
+abbrev pub line_names : Action → List (List ℕ)
+line_names action = part_names (members_of action) (choices_of action)
+
 abbrev pub action_faults : Option Action → Data → List Fault
 action_faults None d = Members ∷ []
-action_faults (Some action) d = object_faults (members_of action) d
+action_faults (Some action) d = object_faults_by_choice (members_of action) (choices_of action) d
 
 abbrev pub tree_faults : Option Data → List Fault
 tree_faults None = Json ∷ []

@@ -87,7 +87,7 @@ HasMaxes d maxes =
 -- what a create is to authorize
 abbrev pub HasTerms : Data → AuthTerms → Type 0
 HasTerms d terms =
-    HasMember as_asn (codes "asn") d terms.asn × HasOneEntry d terms.entries
+    HasMember as_asn (codes "asn") d terms.asn × HasEntries d terms.entries
     × HasDay (codes "from") d terms.from × HasDay (codes "until") d terms.until
 
 abbrev pub SaysChange : Data → Proposed → Type 0
@@ -144,7 +144,7 @@ SaysCommand h d (Create holder terms) =
     Does AskCreate h × NamesHolder h holder × HasTerms d terms
 SaysCommand h d (Amend holder number maxes until) =
     Does AskAmend h × NamesHolder h holder × NamesNumber h number
-    × HasOneMax d maxes.items × HasDay (codes "until") d until
+    × HasMaxes d maxes.items × HasDay (codes "until") d until
 SaysCommand h d (Withdraw holder number) =
     Does AskWithdraw h × NamesHolder h holder × NamesNumber h number
 SaysCommand h d (Import holder rows) =

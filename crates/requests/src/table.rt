@@ -1,11 +1,11 @@
 //! The table of requests.
 ghost use Rattle.std.specs.Prelude.{◌≡◌, map, option_map};
-ghost use Rattle.requests.specs.RequestFaults.{body_members, form_of, members_of, names_of, word_of};
+ghost use Rattle.requests.specs.RequestFaults.{body_names, form_of, line_names, word_of};
 
 use crate::action::Action;
 use crate::member_names::{
-    ASN, CALLER, CHANGES, DAY, DO, FILE, FROM, GIVER, HOLDER, MAX, NAME, NUMBER, PREFIX, ROLE,
-    ROUTES, ROWS, SCOPE, TAKER, UNTIL,
+    ASN, CALLER, CHANGES, DAY, DO, ENTRIES, FILE, FROM, GIVER, HOLDER, MAX, MAXES, NAME, NUMBER,
+    PREFIX, ROLE, ROUTES, ROWS, SCOPE, TAKER, UNTIL,
 };
 use crate::path::Path;
 use http_messages::{ContentType, Method};
@@ -37,7 +37,8 @@ pub(crate) const ACTIONS: &[Action] = &[
 pub(crate) struct RequestForm {
     /// Its word in `do`; `None` where no line asks for it.
     pub(crate) word: Option<&'static str>,
-    /// The members of its line: those of every line, what it names, and those of its body.
+    /// The members of its line: those of every line, what it names, and those of its body. Of a
+    /// choice both lists are there.
     pub(crate) line_members: &'static [&'static str],
     pub(crate) body_members: &'static [&'static str],
     pub(crate) method: Method,
@@ -68,9 +69,8 @@ impl Action {
     /// The row of the request.
     pub(crate) fn form(self) -> RequestForm
         ensures word { option_map (λ word. word.now) result.word ≡ word_of self }
-        ensures line { map (λ name. name.now) result.line_members.now ≡ names_of (members_of self) }
-        ensures body { map (λ name. name.now) result.body_members.now
-            ≡ names_of (body_members self) }
+        ensures line { map (λ name. name.now) result.line_members.now ≡ line_names self }
+        ensures body { map (λ name. name.now) result.body_members.now ≡ body_names self }
         ensures method { result.method ≡ (form_of self).method }
         ensures path { result.path ≡ (form_of self).path }
         ensures list { result.list_form ≡ (form_of self).list_form }
@@ -93,12 +93,12 @@ impl Action {
             Action::Revoke => row!(Some("revoke"), [HOLDER, NUMBER] [], Delete Grant Json),
             Action::List => row!(Some("list"), [HOLDER] [], Get Auths Json),
             Action::Create => row!(
-                Some("create"), [HOLDER] [ASN, FROM, UNTIL, PREFIX, MAX],
+                Some("create"), [HOLDER] [ASN, FROM, UNTIL, PREFIX, MAX, ENTRIES],
                 Post Auths Json
             ),
             Action::Show => row!(Some("show"), [HOLDER, NUMBER] [], Get Auth Json),
             Action::Amend => row!(
-                Some("amend"), [HOLDER, NUMBER] [MAX, UNTIL],
+                Some("amend"), [HOLDER, NUMBER] [UNTIL, MAX, MAXES],
                 Patch Auth Json
             ),
             Action::Withdraw => row!(Some("withdraw"), [HOLDER, NUMBER] [], Delete Auth Json),

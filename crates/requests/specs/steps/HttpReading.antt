@@ -12,7 +12,7 @@ use Rattle.requests.specs.RequestHeads.{Head}
 use Rattle.requests.specs.declared.action.Action.{Action}
 use Rattle.requests.specs.declared.action.Action.TheVariants.{Import, Slurm}
 use Rattle.requests.specs.HttpFaults.{body_bytes, head_caller, fault_of_import, json_tree, path_number}
-use Rattle.requests.specs.RequestFaults.{body_members, malformed_number, names_of}
+use Rattle.requests.specs.RequestFaults.{body_names, malformed_number}
 use Rattle.requests.specs.declared.request.commands.Subject.{Subject}
 use Rattle.requests.specs.declared.request.fault.Fault.{Fault}
 use Rattle.requests.specs.declared.request.fault.Fault.TheVariants.{Json, Members, Holder, Caller, Number}
@@ -29,7 +29,7 @@ caller_of head = ok_or (head_caller head) Caller
 
 abbrev pub object_request : Action → Subject → Data → Result RequestTerms Fault
 object_request action subject d =
-    unless malformed_number (request_in action subject d) (only Members (names_of (body_members action)) d)
+    unless malformed_number (request_in action subject d) (only Members (body_names action) d)
 
 abbrev pub tree_request : Action → Subject → Option Data → Result RequestTerms Fault
 tree_request action subject None = Err Json

@@ -30,7 +30,7 @@ use Rattle.slurm.specs.steps.SlurmFile.{slurm_in}
 use Rattle.registry.specs.declared.asked.Asked.{Asked}
 use Rattle.registry.specs.declared.asked.Request.{Request}
 use Rattle.registry.specs.declared.asked.Request.TheVariants.{Command as CommandRequest, Query as QueryRequest}
-use Rattle.requests.specs.RequestFaults.{malformed_number, role_at, row_members, creation_members, withdrawal_members, route_members, names_of, is_count, has_some, entry_members, action_in, members_of}
+use Rattle.requests.specs.RequestFaults.{malformed_number, role_at, row_members, creation_members, withdrawal_members, route_members, names_of, part_names, is_count, has_some, entry_choice, entry_members, action_in, line_names}
 use Rattle.json_values.specs.Values.{as_name, as_prefix, as_day, as_asn}
 use Rattle.requests.specs.RequestValues.{as_origin, as_max, as_number, as_role, as_scope}
 use Rattle.requests.specs.declared.request.TheConstants.{LINE_LENGTH_LIMIT}
@@ -183,7 +183,7 @@ abbrev pub terms_of : (AsnValue × (ℕ × ℕ)) × List RoaPrefix → AuthTerms
 terms_of p = record { asn = p.0.0; entries = p.1; from = p.0.1.0; until = p.0.1.1 }
 
 abbrev pub terms_in : Data → Result AuthTerms Fault
-terms_in d = mapped terms_of (both malformed_number (asn_and_days_in d) (one_entry_in d))
+terms_in d = mapped terms_of (both malformed_number (asn_and_days_in d) (entries_in d))
 
 abbrev pub row_of : (AsnValue × (ℕ × ℕ)) × RoaPrefix → ImportRow
 row_of p =
@@ -200,7 +200,7 @@ row_in d = unless malformed_number (row_members_in d) (only Members (names_of ro
 -- by what it does, if that is known
 abbrev pub change_by : Option Action → Data → Result Proposed Fault
 change_by (Some AskCreate) d =
-    mapped CreateChange (unless malformed_number (terms_in d) (only Members (names_of creation_members) d))
+    mapped CreateChange (unless malformed_number (terms_in d) (only Members (part_names creation_members (entry_choice ∷ [])) d))
 change_by (Some AskWithdraw) d =
     mapped WithdrawChange (unless malformed_number (number_in d) (only Members (names_of withdrawal_members) d))
 change_by other d = Err Members
@@ -261,9 +261,9 @@ request_in AskRevoke subject d =
 request_in AskCreate subject d =
     mapped (λ p. request (CommandRequest (Create p.0 p.1))) (both malformed_number subject.holder (terms_in d))
 request_in AskAmend subject d =
-    mapped (λ p. amend p.0.0 p.0.1 p.1.0 p.1.1)
+    mapped (λ p. amend p.0.0 p.0.1 p.1.1 p.1.0)
     (both malformed_number (holder_and_number subject)
-    (both malformed_number (one_max_in d) (day_in (codes "until") d)))
+    (both malformed_number (day_in (codes "until") d) (maxes_in d)))
 request_in AskWithdraw subject d =
     mapped (λ p. request (CommandRequest (Withdraw p.0 p.1))) (holder_and_number subject)
 request_in AskSlurm subject d = slurm_request (file_in d)
@@ -294,7 +294,7 @@ asked_as action d =
     unless malformed_number
     (both malformed_number (day_in (codes "day") d)
     (both malformed_number (caller_in (codes "caller") d) (request_in action (line_subject d) d)))
-    (only Members (names_of (members_of action)) d)
+    (only Members (line_names action) d)
 
 abbrev pub asked_by : Option Action → Data → Result AskedTerms Fault
 asked_by None d = Err Members

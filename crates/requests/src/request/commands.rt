@@ -6,7 +6,7 @@ ghost use Rattle.serde_json.specs.View.{view};
 ghost use Rattle.json_values.specs.Parts.{mapped};
 ghost use Rattle.requests.specs.steps.RequestReading.{access_in, holder_and_number, holder_and_prefix, request_in, request_terms};
 
-use super::entries::one_max_in;
+use super::entries::maxes_in;
 use super::fault::{Fault, Read};
 use super::members::{caller_in, day_in, holder_in, prefix_in, role_in, scope_in};
 use super::terms::terms_in;
@@ -122,17 +122,17 @@ pub(crate) fn amend_in(alloc: Global, subject: Subject, value: &Value) -> Read<R
     ensures { IfOk result (λ request. mapped request_terms request
         ≡ request_in Action.Amend subject (view value.now)) }
 {
-    let maxes = one_max_in(alloc, value)?;
-    let terms = both(maxes, day_in(value, UNTIL));
+    let maxes = maxes_in(alloc, value)?;
+    let terms = both(day_in(value, UNTIL), maxes);
     Ok(asked_amend(both(holder_and_number(subject), terms)))
 }
 
 /// The amendment to these maxLengths and this last day.
-fn asked_amend(parts: Result<((Name, u32), (Vec<u8>, Day)), Fault>) -> Result<Request, Fault>
+fn asked_amend(parts: Result<((Name, u32), (Day, Vec<u8>)), Fault>) -> Result<Request, Fault>
     ensures { result
-        ≡ mapped (λ p. Request.Command (Command.Amend p.0.0 p.0.1 p.1.0 p.1.1)) parts }
+        ≡ mapped (λ p. Request.Command (Command.Amend p.0.0 p.0.1 p.1.1 p.1.0)) parts }
 {
-    let ((holder, number), (maxes, until)) = parts?;
+    let ((holder, number), (until, maxes)) = parts?;
     Ok(Request::Command(Command::Amend {
         holder,
         number,

@@ -40,8 +40,7 @@ pub(crate) fn entries_in(alloc: Global, value: &Value) -> Read<RoaPrefixes>
     }
 }
 
-/// One entry by its members.
-pub(crate) fn one_entry_in(alloc: Global, value: &Value) -> Read<RoaPrefixes>
+fn one_entry_in(alloc: Global, value: &Value) -> Read<RoaPrefixes>
     ensures { IfOk result (λ entries. entries ≡ one_entry_in (view value.now)) }
 {
     match entry_members_in(value) {
@@ -97,8 +96,7 @@ pub(crate) fn maxes_in(alloc: Global, value: &Value) -> Read<Vec<u8>>
     }
 }
 
-/// One maxLength by its member.
-pub(crate) fn one_max_in(alloc: Global, value: &Value) -> Read<Vec<u8>>
+fn one_max_in(alloc: Global, value: &Value) -> Read<Vec<u8>>
     ensures { IfOk result (λ maxes. mapped (λ v. v.items) maxes ≡ one_max_in (view value.now)) }
 {
     match max_in(value) {

@@ -2,7 +2,7 @@
 ghost use Rattle.std.specs.Prelude.{◌≡◌};
 ghost use Rattle.serde_json.specs.View.{view};
 ghost use Rattle.json_values.specs.Tree.{only};
-ghost use Rattle.requests.specs.RequestFaults.{action_in, action_of, body_members, is_word, members_of, names_of, word_of};
+ghost use Rattle.requests.specs.RequestFaults.{action_in, action_of, body_names, is_word, line_names, word_of};
 
 use super::fault::Fault;
 use crate::action::Action;
@@ -45,14 +45,14 @@ fn has_word(action: Action, text: &str) -> bool
 
 /// Refuses what is no object, or has a member that the request's line does not have.
 pub(crate) fn only_members_of(action: Action, value: &Value) -> Result<(), Fault>
-    ensures { result ≡ only Fault.Members (names_of (members_of action)) (view value.now) }
+    ensures { result ≡ only Fault.Members (line_names action) (view value.now) }
 {
     only(value, action.form().line_members)
 }
 
 /// Refuses what is no object, or has a member that the request's body does not have.
 pub(crate) fn only_body_members_of(action: Action, value: &Value) -> Result<(), Fault>
-    ensures { result ≡ only Fault.Members (names_of (body_members action)) (view value.now) }
+    ensures { result ≡ only Fault.Members (body_names action) (view value.now) }
 {
     only(value, action.form().body_members)
 }

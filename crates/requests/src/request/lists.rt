@@ -11,7 +11,7 @@ use super::members::{number_in, origin_in, prefix_in};
 use super::terms::{row_members_in, terms_in};
 use crate::action::Action;
 use crate::member_names::{
-    ASN, CHANGES, DO, FROM, MAX, NUMBER, ORIGIN, PREFIX, ROUTES, ROWS, UNTIL,
+    ASN, CHANGES, DO, ENTRIES, FROM, MAX, NUMBER, ORIGIN, PREFIX, ROUTES, ROWS, UNTIL,
 };
 use addr::{Name, Origin, Prefix, Route};
 use json_values::{FromJson, FromJsonIn, both, each, only, unless};
@@ -150,7 +150,7 @@ fn creation_in(alloc: Global, value: &Value) -> Read<Proposed>
     ensures { IfOk result (λ change. change ≡ change_by (Some Action.Create) (view value.now)) }
 {
     let terms = terms_in(alloc, value)?;
-    let names = only(value, &[DO, ASN, FROM, UNTIL, PREFIX, MAX]);
+    let names = only(value, &[DO, ASN, FROM, UNTIL, PREFIX, MAX, ENTRIES]);
     Ok(proposed_create(unless(terms, names)))
 }
 

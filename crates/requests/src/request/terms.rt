@@ -4,7 +4,7 @@ ghost use Rattle.serde_json.specs.View.{view};
 ghost use Rattle.json_values.specs.Parts.{mapped};
 ghost use Rattle.requests.specs.steps.RequestReading.{asn_and_days_in, row_members_in, row_of, terms_in, terms_of};
 
-use super::entries::{entry_members_in, one_entry_in};
+use super::entries::{entries_in, entry_members_in};
 use super::fault::{Fault, Read};
 use super::members::{asn_in, day_in};
 use crate::member_names::{FROM, UNTIL};
@@ -31,7 +31,7 @@ fn asn_and_days_in(value: &Value) -> Result<AsnAndDays, Fault>
 pub(crate) fn terms_in(alloc: Global, value: &Value) -> Read<AuthTerms>
     ensures { IfOk result (λ terms. terms ≡ terms_in (view value.now)) }
 {
-    let entries = one_entry_in(alloc, value)?;
+    let entries = entries_in(alloc, value)?;
     Ok(terms_of(both(asn_and_days_in(value), entries)))
 }
 

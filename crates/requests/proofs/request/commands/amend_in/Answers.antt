@@ -8,7 +8,7 @@ returns c =
       c.asked_amend.ensures,
       c.both.ensures,
       c.both-terms.ensures,
-      amend-parts c.holder_and_number.result c.in_ok-maxes.maxes c.day_in.result,
+      amend-parts c.holder_and_number.result c.day_in.result c.in_ok-maxes.maxes,
       c.in_ok-maxes.ensures,
       c.holder_and_number.ensures,
       c.day_in.ensures,
