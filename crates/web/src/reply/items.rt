@@ -31,7 +31,7 @@ impl Item for Auth {
     ghost text = { auth_text };
 
     fn write<D: Drain>(&self, is_first: bool, drain: &mut D) -> Result<(), Failed> {
-        write_auth(is_first, self, &self.entries(), drain)
+        write_auth(is_first, self, self.entries.as_slice(), drain)
     }
 }
 
