@@ -203,6 +203,7 @@ def read_slurm(value):
 # ---- Which request a text is (FORMATS, lines of a script and malformed requests) ----------------------------------
 
 ROW = ["asn", "prefix", "max", "from", "until"]
+TERMS = ["asn", "entries", "from", "until"]
 FURTHER = {
     "register": ["holder"],
     "delegate": ["holder", "prefix"],
@@ -210,8 +211,8 @@ FURTHER = {
     "transfer": ["prefix", "giver", "taker"],
     "grant": ["holder", "name", "role", "scope", "until"],
     "revoke": ["holder", "number"],
-    "create": ["holder"] + ROW,
-    "amend": ["holder", "number", "max", "until"],
+    "create": ["holder"] + TERMS,
+    "amend": ["holder", "number", "maxes", "until"],
     "withdraw": ["holder", "number"],
     "show": ["holder", "number"],
     "content": ["holder", "number"],
@@ -222,19 +223,34 @@ FURTHER = {
     "slurm": ["file"],
     "validity": ["routes"],
 }
-CHANGES = {"create": ROW, "withdraw": ["number"]}
-LIMITS = {"rows": (1, 10_000), "routes": (1, 10_000), "changes": (0, 1000)}
+CHANGES = {"create": TERMS, "withdraw": ["number"]}
+ITEMS = {"rows": ROW, "routes": ["prefix", "origin"], "entries": ["prefix", "max"]}
+LIMITS = {"rows": (1, 10_000), "routes": (1, 10_000), "changes": (0, 1000), "entries": (1, 64), "maxes": (1, 64)}
+
+
+def with_lists(value, names):
+    """The object with the list of one that `prefix` and `max`, or `max`, stand for."""
+    value = dict(value)
+    if "entries" in names and "entries" not in value and {"prefix", "max"} <= set(value):
+        value["entries"] = [{name: value.pop(name) for name in ITEMS["entries"]}]
+    if "maxes" in names and "maxes" not in value and "max" in value:
+        value["maxes"] = [value.pop("max")]
+    return value
 
 
 def read_members(value, names, faults):
     """The values of the members, and in `faults` every fault: (number,) or (11, the fault of the SLURM file)."""
     values = {}
+    if type(value) is dict:
+        value = with_lists(value, names)
     if type(value) is not dict or set(value) != set(names):
         faults.append((2,))
         return values
     for name in names:
         given = value[name]
-        if name in LIMITS:
+        if name == "entries":
+            values[name] = read_entries(given, faults)
+        elif name in LIMITS:
             values[name] = read_items(name, given, faults)
         elif name == "file":
             values[name], fault = read_slurm(given)
@@ -259,14 +275,24 @@ def read_items(name, given, faults):
     fewest, most = LIMITS[name]
     if not fewest <= len(given) <= most:
         faults.append((12,))
+    if name == "maxes":
+        return [read_members({"max": item}, ["max"], faults)["max"] for item in given]
     items = []
     for item in given:
         word = item.get("do") if type(item) is dict else None
-        names = ROW if name == "rows" else ["prefix", "origin"]
+        names = ITEMS.get(name)
         if name == "changes":
             names = ["do"] + (CHANGES[word] if type(word) is str and word in CHANGES else ["create or withdraw"])
         items.append(read_members(item, names, faults))
     return items
+
+
+def read_entries(given, faults):
+    """The entries as pairs of prefix and maxLength, in the order of prefixes where there is no fault."""
+    entries = [(item.get("prefix"), item.get("max")) for item in read_items("entries", given, faults)]
+    if len({prefix for prefix, _ in entries}) < len(entries):
+        faults.append((14,))
+    return entries if faults else sorted(entries)
 
 
 def read_line(octets):
@@ -336,6 +362,10 @@ def holds(moved, holder, prefix):
     return all(resource_holder(moved, address) == holder for address in points(prefix, [move[0] for move in moved]))
 
 
+def hold_all(moved, holder, entries):
+    return all(holds(moved, holder, prefix) for prefix, _ in entries)
+
+
 Grant = collections.namedtuple("Grant", "number name role scope until")
 
 
@@ -351,6 +381,12 @@ def grants(history, holder):
     return made
 
 
+def amended(auth, amend):
+    """An authorization with the maxLengths, one an entry in order, and the last day that an amend says."""
+    entries = [(prefix, longest) for (prefix, _), longest in zip(auth["entries"], amend["maxes"])]
+    return auth | {"entries": entries, "until": amend["until"]}
+
+
 @cached
 def authorizations(history, holder):
     """The authorizations made at the holder, numbered from 1; None is one that is not active."""
@@ -360,15 +396,15 @@ def authorizations(history, holder):
         if entry.get("holder") != holder:
             continue
         if entry["do"] == "create":
-            made.append({"number": len(made) + 1} | {name: entry[name] for name in ROW} | {"moved": moved})
+            made.append({"number": len(made) + 1} | {name: entry[name] for name in TERMS} | {"moved": moved})
         if entry["do"] == "amend":
-            made[entry["number"] - 1] |= {"max": entry["max"], "until": entry["until"]}
+            made[entry["number"] - 1] = amended(made[entry["number"] - 1], entry)
         if entry["do"] == "withdraw":
             made[entry["number"] - 1] = None
 
     def is_active(auth):
-        """In every beginning that has its making, its holder held its prefix: only moves tell one from the next."""
-        return auth and all(holds(moves(history)[:count], holder, auth["prefix"])
+        """In every beginning that has its making, its holder held its prefixes: only moves tell one from the next."""
+        return auth and all(hold_all(moves(history)[:count], holder, auth["entries"])
                             for count in range(auth["moved"], len(moves(history)) + 1))
 
     return [auth if is_active(auth) else None for auth in made]
@@ -387,14 +423,19 @@ def permits(history, request, prefix=None):
                for grant in grants(history, request["holder"]))
 
 
+def permits_all(history, request, entries):
+    """Whether the caller is permitted each prefix of the entries; the grants may differ."""
+    return all(permits(history, request, prefix) for prefix, _ in entries)
+
+
 def vrps(history, day):
     """The VRPs of a day: prefix, max and AS, rising."""
     filters, assertions = [], []
     for entry in history:
         if entry["do"] == "slurm":
             filters, assertions = entry["file"]
-    given = {(auth["prefix"], auth["max"], auth["asn"]) for holder in registered(history)
-             for auth in active(history, holder) if auth["from"] <= day <= auth["until"]}
+    given = {(prefix, longest, auth["asn"]) for holder in registered(history) for auth in active(history, holder)
+             if auth["from"] <= day <= auth["until"] for prefix, longest in auth["entries"]}
 
     def is_filtered(vrp):
         return any((prefix is None or contains(prefix, vrp[0])) and asn in (None, vrp[2]) for prefix, asn in filters)
@@ -434,7 +475,10 @@ def rule_holds(rule, charter, history, request):
     operators, pool = charter
     terms = request if do == "create" else {}
     if do == "amend" and rule in ("dates", "length", "same"):
-        terms = authorizations(history, holder)[request["number"] - 1] | {"max": request["max"]}
+        auth = authorizations(history, holder)[request["number"] - 1]
+        terms = amended(auth, request)
+        if rule == "length" and len(request["maxes"]) != len(auth["entries"]):
+            return False
     match rule:
         case "operator":
             return request["caller"] in operators
@@ -451,14 +495,14 @@ def rule_holds(rule, charter, history, request):
         case "number" if do == "revoke":
             return any(grant and grant.number == request["number"] for grant in grants(history, holder))
         case "number":
-            return any(auth["number"] == request["number"] and permits(history, request, auth["prefix"])
+            return any(auth["number"] == request["number"] and permits_all(history, request, auth["entries"])
                        for auth in active(history, holder))
         case "scope":
-            return permits(history, request, request["prefix"])
+            return permits_all(history, request, terms["entries"])
         case "dates":
             return terms.get("from", day) <= request["until"] and day <= request["until"]
         case "length":
-            return terms["prefix"][2] <= terms["max"] <= WIDTH[terms["prefix"][0]]
+            return all(prefix[2] <= longest <= WIDTH[prefix[0]] for prefix, longest in terms["entries"])
         case "pool":
             return all(any(has(prefix, address) for prefix in pool) for address in points(request["prefix"], pool))
         case "free":
@@ -466,10 +510,12 @@ def rule_holds(rule, charter, history, request):
                        for address in points(request["prefix"], [move[0] for move in moves(history)]))
         case "distinct":
             return request["giver"] != request["taker"]
+        case "held" if do == "create":
+            return hold_all(moves(history), holder, terms["entries"])
         case "held":
             return holds(moves(history), request["giver"] if do == "transfer" else holder, request["prefix"])
         case "same":
-            return not any(all(auth[name] == terms[name] for name in ("asn", "prefix", "max"))
+            return not any(auth["asn"] == terms["asn"] and set(auth["entries"]) & set(terms["entries"])
                            for auth in active(history, holder) if auth["number"] != terms.get("number"))
         case "room" if do == "grant":
             made = grants(history, holder)
@@ -488,27 +534,39 @@ def denial(charter, history, request):
 
 
 def show_auth(auth):
-    return {name: write_prefix(auth[name]) if name == "prefix" else auth[name] for name in ["number"] + ROW}
+    entries = [{"prefix": write_prefix(prefix), "max": longest} for prefix, longest in auth["entries"]]
+    shown = entries[0] if len(entries) == 1 else {"entries": entries}
+    return {"number": auth["number"], "asn": auth["asn"]} | shown | {"from": auth["from"], "until": auth["until"]}
 
 
 def der(tag, octets):
-    """An element of DER: contents here are shorter than 128 octets."""
-    return bytes([tag, len(octets)]) + octets
+    """An element of DER: a length over 127 is in octets of its own, after their number."""
+    size = len(octets)
+    if size < 128:
+        return bytes([tag, size]) + octets
+    length = size.to_bytes((size.bit_length() + 7) // 8, "big")
+    return bytes([tag, 0x80 + len(length)]) + length + octets
 
 
 def der_integer(number):
     return der(2, number.to_bytes(number.bit_length() // 8 + 1, "big"))
 
 
-def roa_content(auth):
-    """RouteOriginAttestation of RFC 9582 section 4; the version is the default, and so is not written."""
-    family, first, length = auth["prefix"]
+def roa_address(prefix, longest):
+    family, first, length = prefix
     count = (length + 7) // 8
     bits = (first >> (WIDTH[family] - 8 * count)).to_bytes(count, "big")
-    longest = der_integer(auth["max"]) if auth["max"] > length else b""
-    address = der(0x30, der(3, bytes([8 * count - length]) + bits) + longest)
-    block = der(0x30, der(4, bytes([0, 1 if family == 4 else 2])) + der(0x30, address))
-    return der(0x30, der_integer(auth["asn"]) + der(0x30, block))
+    return der(0x30, der(3, bytes([8 * count - length]) + bits) + (der_integer(longest) if longest > length else b""))
+
+
+def roa_content(auth):
+    """RouteOriginAttestation of RFC 9582 section 4; the version is the default, and so is not written."""
+    blocks = b""
+    for family, number in ((4, 1), (6, 2)):
+        addresses = [roa_address(*entry) for entry in auth["entries"] if entry[0][0] == family]
+        if addresses:
+            blocks += der(0x30, der(4, bytes([0, number])) + der(0x30, b"".join(addresses)))
+    return der(0x30, der_integer(auth["asn"]) + der(0x30, blocks))
 
 
 class Desk:
@@ -537,7 +595,7 @@ class Desk:
             return {"denied": rule}
         if do == "list":
             return {"listed": [show_auth(auth) for auth in active(history, holder)
-                               if permits(history, request, auth["prefix"])]}
+                               if permits_all(history, request, auth["entries"])]}
         if do in ("show", "content"):
             auth = authorizations(history, holder)[request["number"] - 1]
             return {"shown": show_auth(auth)} if do == "show" else {"content": roa_content(auth).hex()}
@@ -549,9 +607,10 @@ class Desk:
         """Each row as a create on what the rows before it left; the first that is denied denies the import."""
         history, made = self.history, 0
         for place, row in enumerate(request["rows"], 1):
-            create = Entry(row | {name: request[name] for name in ("day", "caller", "holder")} | {"do": "create"})
-            if permits(history, create, row["prefix"]) and any(
-                    all(auth[name] == row[name] for name in ROW) for auth in active(history, request["holder"])):
+            terms = row | {"do": "create", "entries": [(row["prefix"], row["max"])]}
+            create = Entry(terms | {name: request[name] for name in ("day", "caller", "holder")})
+            if permits_all(history, create, create["entries"]) and any(
+                    all(auth[name] == create[name] for name in TERMS) for auth in active(history, request["holder"])):
                 continue
             rule = denial(self.charter, history, create)
             if rule:
@@ -733,9 +792,12 @@ def answer_message(desk, day, octets):
         return response(403, text_of(reply) + "\n")
     if not as_csv:
         return response(200, text_of(reply) + "\n")
-    lines = ["asn,prefix,maxlength"] if do == "payloads" else ["number,asn,prefix,maxlength,from,until"]
+    columns = ["asn", "prefix", "max"] if do == "payloads" else ["number"] + ROW
+    lines = [",".join(columns).replace("max", "maxlength")]
     for item in reply["payloads" if do == "payloads" else "listed"]:
-        lines.append(",".join(f"AS{value}" if name == "asn" else str(value) for name, value in item.items()))
+        for entry in item.get("entries", [item]):
+            values = item | entry | {"asn": f"AS{item['asn']}"}
+            lines.append(",".join(str(values[name]) for name in columns))
     return response(200, "\n".join(lines) + "\n", "text/csv")
 
 

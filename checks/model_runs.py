@@ -70,18 +70,56 @@ class Requests:
     def subset(self, members):
         return {name: value for name, value in members.items() if self.chance(0.6)}
 
-    def row(self):
+    def entry(self, odd=0.35):
         prefix = self.prefix()
         length = int(prefix.split("/")[1])
         longest = self.pick([length + 1, length + 8, 24, 25, 32, 33, 128, max(length - 1, 0), 255])
-        return {"asn": self.asn(), "prefix": prefix, "max": longest if self.chance(0.35) else length,
-                "from": "2026-01-01" if self.chance(0.7) else self.day(), "until": self.last_day()}
+        return {"prefix": prefix, "max": longest if self.chance(odd) else length}
+
+    def days(self):
+        return {"from": "2026-01-01" if self.chance(0.7) else self.day(), "until": self.last_day()}
+
+    def row(self):
+        return {"asn": self.asn()} | self.entry() | self.days()
+
+    def entries(self):
+        """Few of them mostly; now and then as many as there may be or one more, or one prefix twice."""
+        if self.chance(0.02):
+            addresses = [f"192.0.2.{at}/32" for at in range(64)] + [f"2001:db8::{at}/128" for at in range(1, 65)]
+            prefixes = self.random.sample(addresses, self.pick([30, 64, 65]))
+            return [{"prefix": prefix, "max": int(prefix.split("/")[1])} for prefix in prefixes]
+        made = self.several(lambda: self.entry(0.1), [2, 2, 3, 4]) if self.chance(0.6) else [self.entry()]
+        entries = list({entry["prefix"]: entry for entry in made}.values())
+        return entries + [self.pick(entries) | {"max": 25}] if self.chance(0.02) else entries
+
+    def maxes(self):
+        """The maxLengths of an amend: those for IPv4 prefixes come first."""
+        if self.chance(0.02):
+            return [self.pick([24, 32, 128])] * self.pick([0, 30, 64, 65])
+        if self.chance(0.2):
+            return [self.entry()["max"] for _ in range(self.pick([1, 2, 3]))]
+        fours, sixes = self.pick([(1, 0), (1, 0), (0, 1), (2, 0), (1, 1), (0, 2), (2, 1), (1, 2), (2, 2)])
+        return [self.pick([24, 26, 32, 32]) for _ in range(fours)] + [self.pick([33, 48, 128]) for _ in range(sixes)]
+
+    def terms(self):
+        """The members of a create: the short form or the list, now and then both or neither."""
+        entries = self.entries()
+        short, listed = entries[0], {"entries": entries}
+        forms = [listed] if entries[1:] else [short, short, listed]
+        odd = [short | listed, {"max": 24} | listed, {"prefix": short["prefix"]}, {}]
+        return {"asn": self.asn()} | self.pick(odd if self.chance(0.03) else forms) | self.days()
+
+    def amendment(self):
+        maxes = self.maxes()
+        short, listed = {"max": (maxes or [24])[0]}, {"maxes": maxes}
+        forms = [listed] if maxes[1:] else [short, short, listed]
+        return self.pick([short | listed, {}] if self.chance(0.03) else forms) | {"until": self.last_day()}
 
     def route(self):
         return {"prefix": self.prefix(), "origin": self.pick([None, self.asn(), self.asn()])}
 
     def change(self):
-        return {"do": "withdraw", "number": self.number()} if self.chance(0.4) else {"do": "create"} | self.row()
+        return {"do": "withdraw", "number": self.number()} if self.chance(0.4) else {"do": "create"} | self.terms()
 
     def number(self):
         return self.random.randint(1, 6)
@@ -114,8 +152,12 @@ class Requests:
         caller = self.pick(["ann", "ann", "ann", "ann", "bob", "bob", "cleo", "reg"])
         if {"operator", "steward"} & set(model.RULES.get(do, [])) and self.chance(0.9):
             caller = "reg"
-        members |= {"day": self.day(), "caller": caller, "do": do}
-        return {name: members[name] for name in ["day", "caller", "do"] + model.FURTHER[do]} | fixed
+        request = {"day": self.day(), "caller": caller, "do": do}
+        if do == "create":
+            return request | {"holder": members["holder"]} | self.terms() | fixed
+        if do == "amend":
+            return request | {"holder": members["holder"], "number": members["number"]} | self.amendment() | fixed
+        return request | {name: members[name] for name in model.FURTHER[do]} | fixed
 
     def opening(self):
         """What makes later requests meet something: holders, their space and grants, and authorizations."""
@@ -131,7 +173,8 @@ class Requests:
         requests += [self.request("grant", caller="reg", until="2026-12-31") for _ in range(4)]
         if self.chance(0.05):
             requests += [self.request("grant", caller="reg", holder="alpha") for _ in range(66)]
-        return requests + [self.request("create", caller="ann") for _ in range(8)]
+        requests += [self.request("create", caller="ann") for _ in range(8)]
+        return requests + [self.request("amend", caller="ann", holder="alpha", number=at) for at in (1, 1, 2, 2, 3)]
 
     # ---- Requests that are spoiled. In a text "@24.0@" is the number 24.0.
 
@@ -154,7 +197,8 @@ class Requests:
             case 0:
                 del value[name]
             case 1:
-                value[self.pick(["comment", "asn", "max", "number", "day", "Holder", ""])] = self.junk()
+                names = ["comment", "asn", "max", "number", "day", "Holder", "", "entries", "maxes"]
+                value[self.pick(names)] = self.junk()
             case 2 if "rows" in value:
                 value["rows"] = []
             case _:
@@ -216,7 +260,8 @@ class Requests:
         do = "export" if request["do"] == "list" and self.chance(0.5) else request["do"]
         path, methods = self.pick([route for route in model.ROUTES if do in route[1].values()])
         method = next(method for method in methods if methods[method] == do)
-        value = {name: request[name] for name in model.FURTHER[request["do"]] if "{" + name + "}" not in path}
+        value = {name: request[name] for name in request
+                 if name not in ("day", "caller", "do") and "{" + name + "}" not in path}
         path, version, body = path.format(**request).encode(), b"HTTP/1.1", b""
         if value:
             body = self.csv(value["rows"]) if do == "import" else self.spoiled(value.get("file", value))
