@@ -2,6 +2,7 @@
 # Sends the lines and the messages of FORMATS.md to the program, and compares its replies with those that it says.
 #
 # The block marked jsonl has a line and its reply in turn; the blocks marked http a request and its response in turn.
+# Where there are openssl and xxd, openssl reads each content of a reply as the elements of a vector of ROA-CONTENT.md.
 # PROGRAM names the program, else it is that of the repository; skipped where it is not built. Ends with 1 where a reply
 # differs, with 2 where something could not be run.
 set -u
@@ -42,6 +43,23 @@ check_words() {
     return "$missing"
 }
 
+# elements: those of the content in hex that is read, each as its depth, tag and length.
+elements() {
+    xxd -r -p | openssl asn1parse -inform DER |
+        sed 's/.*d=\([0-9]*\) .* l= *\([0-9]*\) [a-z]*: \([A-Z ]*[A-Z]\).*/\1 \3 \2/' | paste -s -d ';' | sed 's/;/; /g'
+}
+
+check_contents() {
+    local content found strange=0
+    for content in $(sed -n 's/^{"content":"\(.*\)"}$/\1/p' "$work/1.jsonl"); do
+        found=$(elements <<<"$content")
+        grep -qF "| $found |" "$top/docs/ROA-CONTENT.md" && continue
+        echo "no vector of ROA-CONTENT.md has the elements $found"
+        strange=1
+    done
+    return "$strange"
+}
+
 # ask N PORT: the response to the request of block N.
 ask() {
     local connection
@@ -70,5 +88,10 @@ check_messages() {
 
 check_lines && echo "lines: as said" || failed=1
 check_words && echo "words: each has a line" || failed=1
+if command -v openssl >/dev/null && command -v xxd >/dev/null; then
+    check_contents && echo "contents: elements as said" || failed=1
+else
+    echo "contents: skipped: no command openssl or xxd"
+fi
 check_messages && echo "messages: as said" || failed=1
 exit "$failed"

@@ -63,6 +63,29 @@ expect_opened 'after a vacuum' "$whole" "$tables" "VACUUM; VACUUM INTO '$work/in
 expect 'a vacuum into another file' "$("$open" "$work/into.db")" "$whole"
 sqlite3 "$work/written.db" .dump | sqlite3 "$work/dumped.db" || fail 'sqlite3 failed: a dump'
 expect 'made from a dump' "$("$open" "$work/dumped.db")" "$whole"
+
+# Claims of other numbers of entries than one.
+block="x'20010db8000000000000000000000000'"
+two="
+INSERT INTO pool VALUES (6, $block, 32);
+INSERT INTO holding VALUES (6, $block, x'20010db8ffffffffffffffffffffffff', 'alpha');
+INSERT INTO entry VALUES ('alpha', 1, 64496, 6, $block, 32, 48);"
+# With the two these are 65.
+more="
+INSERT INTO entry WITH RECURSIVE longer(len) AS (SELECT 33 UNION ALL SELECT len + 1 FROM longer WHERE len < 95)
+    SELECT 'alpha', 1, 64496, 6, $block, len, len FROM longer;"
+both='operators 1, pool 2
+AS64496 192.0.2.0/24 24
+AS64496 2001:db8::/32 48'
+expect_opened 'a claim of two entries' "$both" "$tables" "$two"
+expect_opened 'the same after a vacuum' "$both" "$tables" "$two VACUUM; VACUUM INTO '$work/both.db';"
+expect 'a vacuum of it into another file' "$("$open" "$work/both.db")" "$both"
+expect_opened 'a claim of 65 entries' schema "$tables" "$two $more"
+sqlite3 "$work/written.db" 'DELETE FROM entry WHERE len = 95' || fail 'sqlite3 failed: an entry fewer'
+expect 'one of 64 entries' "$("$open" "$work/written.db" | grep -c ^AS)" 64
+expect_opened 'a claim without an entry' schema "$tables" 'DELETE FROM entry;'
+expect_opened 'an entry of another AS' schema "$tables" 'UPDATE entry SET asn = 64497;'
+
 early=$(sed '/^CREATE TABLE claim/i CREATE INDEX run_of ON holding (holder);' "$common/tables.sql")
 expect_opened 'an index before the last tables' database "$early"
 expect_opened 'the same after a vacuum' "$whole" "$early" 'VACUUM;'
