@@ -161,7 +161,7 @@ class Pair(Check):
 
 
 def authorizations_of(db):
-    return sorted(row[2] for row in tables_of(db) if row[0] == "auth")
+    return sorted(row[2] for row in tables_of(db) if row[0] == "claim")
 
 
 class Lag(Pair):
@@ -225,9 +225,9 @@ class Lag(Pair):
             for server in filter(None, (first, second)):
                 server.kill()
                 server.wait()
-        others = tables_of(self.db) ^ tables_of(self.standby)
+        others = sorted(row[0] for row in tables_of(self.db) ^ tables_of(self.standby))
         print("two writers: both answered number", self.made + 1, "and each has one authorization that the other lacks")
-        return faults if len(others) == 2 else faults + ["two writers left other rows"]
+        return faults if others == ["claim", "claim", "entry", "entry"] else faults + ["two writers left other rows"]
 
 
 def main(program, folder, number, seed, seconds):

@@ -140,7 +140,7 @@ measure() {
     line=$("$work/desks-client" "$count" "${words[@]}") || exit
     stop_all
     for desk in $(seq 0 $((desks - 1))); do
-        made=$((made + $(sqlite3 "$work/desk$desk.db" 'SELECT count(*) FROM auth')))
+        made=$((made + $(sqlite3 "$work/desk$desk.db" 'SELECT count(*) FROM claim')))
     done
     [ "$made" = $((clients * count)) ] || { echo "desks.sh: $made authorizations in the files" >&2 && exit 1; }
     echo "$desks $1 $line" >>"$work/desks.lines"
