@@ -1,5 +1,5 @@
 -- The rows of a legal history whose values are those of their types are in their ranges.
-use Rattle.std.proofs.Common.{◌≡◌, ℕ, ◌+◌, ◌<◌, ◌≤◌, true, false, not, cond, eqb, List, [], ◌∷◌, inl, inr, Option, Some, None, IsSomeAnd, refl, sym, ap, ◌∙◌, subst, arith, filter}
+use Rattle.std.proofs.Common.{◌≡◌, ℕ, ◌+◌, ◌<◌, ◌≤◌, true, false, not, cond, eqb, List, [], ◌∷◌, inl, inr, Option, Some, None, IsSomeAnd, refl, sym, subst, arith, filter}
 use Rattle.std.specs.List.{All}
 use Rattle.std.proofs.lemmas.Bool.{cases_Bool}
 use Rattle.std.proofs.lemmas.List.Elements.{All-nil, All-cons, All-head, All-tail, All-push, All-filter, All-map, All-weaker}
@@ -14,10 +14,9 @@ use Rattle.slurm.specs.Exceptions.{Exceptions}
 use Rattle.registry.specs.ExceptionsInForce.{exceptions_after, exceptions_in_force}
 use Rattle.registry.specs.History.{Entry, History, same_name}
 use Rattle.registry.specs.Terms.{numbered_terms, granted_after, grants_after, grants_made, grant_terms, created_after, terms_after, authorizations_made, authorization_terms, amended, HeldSinceMade}
-use Rattle.registry.specs.RoaPrefixes.{AreEntries}
 use Rattle.registry.specs.Values.{CommandFits, ExceptionsFit, FilterFits, HistoryFits, AuthFits, GrantFits, VrpFits}
-use Rattle.registry.specs.Verdict.{Verdict, IsLegal, auth_of_number, fit_lengths, terms_fit_length, OfNumber}
-use Rattle.registry.proofs.Entries.{numbered-entries, amended-are, amended-lengths}
+use Rattle.registry.specs.Verdict.{Verdict, IsLegal, auth_of_number, maxes_fit, OfNumber}
+use Rattle.registry.proofs.Entries.{with_maxes-are, with_maxes-fit}
 use Rattle.registry.proofs.Names.{same_name-true}
 use Rattle.registry.proofs.Kept.{Keeps-all}
 use Rattle.registry.proofs.Held.{authorization_terms-numbered, since_same, amended-number, amended-addresses}
@@ -66,16 +65,16 @@ record AuthsFit (history : History) (h : List ℕ) (created : ℕ) (auths : List
   made : created ≤ LAST_NUMBER
   terms : All (FitsWhereHeld history h) auths
 
--- the one authorization of the number, for which the maxLength is in range
-record Found (before : History) (h : List ℕ) (n max : ℕ) : Type 0 where
+-- the one authorization of the number, whose prefixes the maxLengths are for
+record Found (before : History) (h : List ℕ) (n : ℕ) (maxes : List ℕ) : Type 0 where
   one : Auth
-  fits : terms_fit_length one max ≡ true
+  fits : maxes_fit maxes one.entries ≡ true
   only : Each (λ x. HeldSinceMade before h x → eqb x.number n ≡ true → x ≡ one) (authorization_terms before h)
 
-found : (before : History) (h : List ℕ) (n max : ℕ) → OfNumber before h n (λ x. terms_fit_length x max ≡ true) → Found before h n max
-found before h n max of = by_case (auth_of_number n of.0) refl of.2
+found : (before : History) (h : List ℕ) (n : ℕ) (maxes : List ℕ) → OfNumber before h n (λ x. maxes_fit maxes x.entries ≡ true) → Found before h n maxes
+found before h n maxes of = by_case (auth_of_number n of.0) refl of.2
   where
-    by_case : (o : Option Auth) → auth_of_number n of.0 ≡ o → IsSomeAnd o (λ x. terms_fit_length x max ≡ true) → Found before h n max
+    by_case : (o : Option Auth) → auth_of_number n of.0 ≡ o → IsSomeAnd o (λ x. maxes_fit maxes x.entries ≡ true) → Found before h n maxes
     by_case None is none = absurd none
     by_case (Some z) is fits = record {
       one = z;
@@ -84,33 +83,33 @@ found before h n max of = by_case (auth_of_number n of.0) refl of.2
           (authorization_terms-numbered before h) of.1 is;
     }
 
-amended_fit : (e : Entry) (before : History) (h : List ℕ) (n max until : ℕ) (z : Auth) → terms_fit_length z max ≡ true → IsDay until → (xs : List Auth)
+amended_fit : (e : Entry) (before : History) (h : List ℕ) (n : ℕ) (maxes : List ℕ) (until : ℕ) (z : Auth) → maxes_fit maxes z.entries ≡ true → IsDay until → (xs : List Auth)
     → Each (λ x. HeldSinceMade before h x → eqb x.number n ≡ true → x ≡ z) xs → All (FitsWhereHeld (e ∷ before) h) xs
-    → All (λ x. FitsWhereHeld (e ∷ before) h (amended n max until x)) xs
-amended_fit e before h n max until z range day [] only all = All-nil (λ x. FitsWhereHeld (e ∷ before) h (amended n max until x))
-amended_fit e before h n max until z range day (x ∷ xs) only all =
-    All-cons (λ y. FitsWhereHeld (e ∷ before) h (amended n max until y)) x xs first
-    (amended_fit e before h n max until z range day xs only.1 (All-tail (FitsWhereHeld (e ∷ before) h) x xs all))
+    → All (λ x. FitsWhereHeld (e ∷ before) h (amended n maxes until x)) xs
+amended_fit e before h n maxes until z range day [] only all = All-nil (λ x. FitsWhereHeld (e ∷ before) h (amended n maxes until x))
+amended_fit e before h n maxes until z range day (x ∷ xs) only all =
+    All-cons (λ y. FitsWhereHeld (e ∷ before) h (amended n maxes until y)) x xs first
+    (amended_fit e before h n maxes until z range day xs only.1 (All-tail (FitsWhereHeld (e ∷ before) h) x xs all))
   where
-    first : FitsWhereHeld (e ∷ before) h (amended n max until x)
+    first : FitsWhereHeld (e ∷ before) h (amended n maxes until x)
     first since =
-        let number = sym (amended-number n max until x) in
-        let held = since_same (e ∷ before) h (amended n max until x) x number (λ a. sym (amended-addresses n max until x a)) since in
+        let number = sym (amended-number n maxes until x) in
+        let held = since_same (e ∷ before) h (amended n maxes until x) x number (λ a. sym (amended-addresses n maxes until x a)) since in
         let had = All-head (FitsWhereHeld (e ∷ before) h) x xs all held in
         elim (cases_Bool (eqb x.number n)) [
           | inl t ↦
               let one = only.0 held.1 t in
               let fits = subst AuthFits one had in
-              subst AuthFits (sym (amended-it n max until x z t one))
+              subst AuthFits (sym (amended-it n maxes until x z t one))
               (record {
                 number = fits.number;
                 asn = fits.asn;
-                entries = amended-are z max until fits.entries;
-                lengths = amended-lengths z max until ∙ range;
+                entries = with_maxes-are maxes z.entries fits.entries;
+                lengths = with_maxes-fit maxes z.entries range;
                 from = fits.from;
                 until = day;
               })
-          | inr f ↦ subst AuthFits (sym (amended-other n max until x f)) had
+          | inr f ↦ subst AuthFits (sym (amended-other n maxes until x f)) had
         ]
 
 auths_after-fit : (charter : Charter) (before : History) (day : ℕ) (caller : List ℕ) (c : Command) (h : List ℕ) → Verdict charter before day caller c None → CommandFits c
@@ -130,22 +129,22 @@ auths_after-fit charter before day caller (Create holder terms) h accepted value
           let fits : AuthFits x = record {
             number = (omega arith, omega (arith, room));
             asn = values.1.asn;
-            entries = subst AreEntries (sym (numbered-entries terms (made + 1))) values.1.entries;
-            lengths = ap fit_lengths (numbered-entries terms (made + 1)) ∙ accepted.1.1.1.0;
+            entries = values.1.entries;
+            lengths = accepted.1.1.1.0;
             from = values.1.from;
             until = values.1.until;
           } in
           rw t (record { made = omega (arith, room); terms = All-push F auths x fit.terms (λ _. fits) })
       | inr f ↦ rw f fit
     ]
-auths_after-fit charter before day caller (Amend holder n max until) h accepted values fit =
-    let e : Entry = record { day = day; caller = caller; command = Amend holder n max until } in
+auths_after-fit charter before day caller (Amend holder n maxes until) h accepted values fit =
+    let e : Entry = record { day = day; caller = caller; command = Amend holder n maxes until } in
     let auths = authorization_terms before h in
     elim (cases_Bool (same_name holder h)) [
       | inl t ↦
-          let here = subst (λ (g : List ℕ). Found before g n max) (same_name-true holder h t) (found before holder n max accepted.1.1.1.0) in
-          let terms = amended_fit e before h n max until here.one here.fits values.3 auths here.only fit.terms in
-          rw t (record { made = fit.made; terms = All-map (FitsWhereHeld (e ∷ before) h) (amended n max until) auths terms })
+          let here = subst (λ (g : List ℕ). Found before g n maxes.items) (same_name-true holder h t) (found before holder n maxes.items accepted.1.1.1.0) in
+          let terms = amended_fit e before h n maxes.items until here.one here.fits values.3 auths here.only fit.terms in
+          rw t (record { made = fit.made; terms = All-map (FitsWhereHeld (e ∷ before) h) (amended n maxes.items until) auths terms })
       | inr f ↦ rw f fit
     ]
 auths_after-fit charter before day caller (Withdraw holder n) h accepted values fit =

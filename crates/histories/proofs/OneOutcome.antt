@@ -49,7 +49,7 @@ one_verdict charter history day caller (Reclaim holder p) = checked (checked (ch
 one_verdict charter history day caller (Grant holder name role scope until) = checked (checked (checked (checked accepted)))
 one_verdict charter history day caller (Revoke holder n) = checked (checked accepted)
 one_verdict charter history day caller (Create holder terms) = checked (checked (checked (checked (checked (checked (checked accepted))))))
-one_verdict charter history day caller (Amend holder n max until) = checked (checked (checked (checked (checked accepted))))
+one_verdict charter history day caller (Amend holder n maxes until) = checked (checked (checked (checked (checked accepted))))
 one_verdict charter history day caller (Withdraw holder n) = checked (checked accepted)
 one_verdict charter history day caller (Import holder rows) = record { same = λ a b x y. absurd x }
 one_verdict charter history day caller (Slurm file) = checked accepted

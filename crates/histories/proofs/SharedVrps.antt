@@ -17,15 +17,15 @@ use Rattle.registry.specs.declared.command.Command.{Command}
 use Rattle.registry.specs.declared.command.Command.TheVariants.{Create, Amend, Withdraw, Import}
 use Rattle.registry.specs.History.{Entry, History, same_name}
 use Rattle.charters.specs.Repeats.{has_repeat}
-use Rattle.registry.specs.Terms.{entries_have, is_entry, are_shared, numbered_terms, gives_some, share_vrp, authorizations_made, authorization_terms, amended, HeldSinceMade, HoldsTerms, Keeps, AreActive}
+use Rattle.registry.specs.Terms.{entries_have, is_entry, are_shared, numbered_terms, gives_some, share_vrp, with_terms, authorizations_made, authorization_terms, amended, HeldSinceMade, HoldsTerms, Keeps, AreActive}
 use Rattle.registry.specs.Verdict.{Verdict, IsLegal, auth_of_number}
 use Rattle.histories.specs.SharedVrps.{share_none, NoSharedVrp}
 use Rattle.registry.proofs.Names.{same_name-same, same_name-true}
 use Rattle.registry.proofs.Numbers.{Numbered, Numbered-high, later}
 use Rattle.registry.proofs.Held.{authorization_terms-numbered, held_now, since_same, amended-number, amended-addresses}
 use Rattle.charters.proofs.Repeats.{eqb-flips}
-use Rattle.registry.proofs.Entries.{are_shared-flips, numbered-entries}
-use Rattle.registry.proofs.Amended.{new_terms, shares_with_other}
+use Rattle.registry.proofs.Entries.{are_shared-flips}
+use Rattle.registry.proofs.Amended.{shares_with_other}
 
 abbrev pub Each : (Auth → Type 0) → List Auth → Type 0
 Each P [] = Unit {0}
@@ -191,16 +191,16 @@ PairsApart-append P [] z none pairs = (λ p. tt, tt)
 PairsApart-append P (x ∷ xs) z none pairs =
     (λ p. Each-append (λ y. P y → share_vrp x y ≡ false) xs z (λ q. none.0 p) (pairs.0 p), PairsApart-append P xs z none.1 pairs.1)
 
-pub amended-other : (n max until : ℕ) (x : Auth) → eqb x.number n ≡ false → amended n max until x ≡ x
-amended-other n max until x differ = cond-false _ _ _ differ
+pub amended-other : (n : ℕ) (maxes : List ℕ) (until : ℕ) (x : Auth) → eqb x.number n ≡ false → amended n maxes until x ≡ x
+amended-other n maxes until x differ = cond-false _ _ _ differ
 
-pub amended-it : (n max until : ℕ) (x z : Auth) → eqb x.number n ≡ true → x ≡ z → amended n max until x ≡ new_terms z max until
-amended-it n max until x z same is = cond-true _ _ _ same ∙ ap (λ a. new_terms a max until) is
+pub amended-it : (n : ℕ) (maxes : List ℕ) (until : ℕ) (x z : Auth) → eqb x.number n ≡ true → x ≡ z → amended n maxes until x ≡ with_terms maxes until z
+amended-it n maxes until x z same is = cond-true _ _ _ same ∙ ap (with_terms maxes until) is
 
 -- what follows from a list of rising numbers for one that is amended: it is the one found, and shares none of the new terms with another
-record Amends (P : Auth → Type 0) (n max until : ℕ) (z x : Auth) : Type 0 where
+record Amends (P : Auth → Type 0) (n : ℕ) (maxes : List ℕ) (until : ℕ) (z x : Auth) : Type 0 where
   pub found : P x → eqb x.number n ≡ true → x ≡ z
-  pub apart : P x → eqb x.number n ≡ false → share_vrp (new_terms z max until) x ≡ false
+  pub apart : P x → eqb x.number n ≡ false → share_vrp (with_terms maxes until z) x ≡ false
 
 numbered_later : (n low : ℕ) (xs : List Auth) (high : ℕ) (P : Auth → Type 0) (z : Auth) → n ≤ low → Numbered low xs high → Each (λ x. P x → eqb x.number n ≡ true → x ≡ z) xs
 numbered_later n low [] high P z below numbers = tt
@@ -230,68 +230,68 @@ found_one P n low (x ∷ xs) (y ∷ ys) high z numbers (inl k) found =
 found_one P n low (x ∷ xs) (y ∷ ys) high z numbers (inr k) found =
     (λ p. absurd (k.0 p), found_one P n x.number xs (y ∷ ys) high z numbers.1 k.1 found)
 
-both-amends : (P : Auth → Type 0) (n max until : ℕ) (z : Auth) (xs : List Auth) → Each (λ x. P x → eqb x.number n ≡ true → x ≡ z) xs
-    → Each (λ x. P x → (not (eqb x.number n) && share_vrp (new_terms z max until) x) ≡ false) xs → Each (Amends P n max until z) xs
-both-amends P n max until z [] founds aparts = tt
-both-amends P n max until z (x ∷ xs) founds aparts = (
-  record { found = founds.0; apart = λ p differ. sym (ap (λ b. not b && share_vrp (new_terms z max until) x) differ) ∙ aparts.0 p },
-  both-amends P n max until z xs founds.1 aparts.1,
+both-amends : (P : Auth → Type 0) (n : ℕ) (maxes : List ℕ) (until : ℕ) (z : Auth) (xs : List Auth) → Each (λ x. P x → eqb x.number n ≡ true → x ≡ z) xs
+    → Each (λ x. P x → (not (eqb x.number n) && share_vrp (with_terms maxes until z) x) ≡ false) xs → Each (Amends P n maxes until z) xs
+both-amends P n maxes until z [] founds aparts = tt
+both-amends P n maxes until z (x ∷ xs) founds aparts = (
+  record { found = founds.0; apart = λ p differ. sym (ap (λ b. not b && share_vrp (with_terms maxes until z) x) differ) ∙ aparts.0 p },
+  both-amends P n maxes until z xs founds.1 aparts.1,
 )
 
 -- one and a later one, after an amend
-amended_pair : (P : Auth → Type 0) (n max until : ℕ) (z x y : Auth) → x.number < y.number → Amends P n max until z x → Amends P n max until z y
-    → P x → P y → share_vrp x y ≡ false → share_vrp (amended n max until x) (amended n max until y) ≡ false
-amended_pair P n max until z x y less at_x at_y p q apart =
+amended_pair : (P : Auth → Type 0) (n : ℕ) (maxes : List ℕ) (until : ℕ) (z x y : Auth) → x.number < y.number → Amends P n maxes until z x → Amends P n maxes until z y
+    → P x → P y → share_vrp x y ≡ false → share_vrp (amended n maxes until x) (amended n maxes until y) ≡ false
+amended_pair P n maxes until z x y less at_x at_y p q apart =
     elim (cases_Bool (eqb x.number n)) [
       | inl tx ↦ elim (cases_Bool (eqb y.number n)) [
         | inl ty ↦ absurd (grind (arith, nat_tests))
         | inr fy ↦
-            ap (λ a. share_vrp a (amended n max until y)) (amended-it n max until x z tx (at_x.found p tx))
-            ∙ ap (share_vrp (new_terms z max until)) (amended-other n max until y fy) ∙ at_y.apart q fy
+            ap (λ a. share_vrp a (amended n maxes until y)) (amended-it n maxes until x z tx (at_x.found p tx))
+            ∙ ap (share_vrp (with_terms maxes until z)) (amended-other n maxes until y fy) ∙ at_y.apart q fy
       ]
       | inr fx ↦ elim (cases_Bool (eqb y.number n)) [
         | inl ty ↦
-            ap (λ a. share_vrp a (amended n max until y)) (amended-other n max until x fx)
-            ∙ ap (share_vrp x) (amended-it n max until y z ty (at_y.found q ty)) ∙ share_vrp-flips x (new_terms z max until) ∙ at_x.apart p fx
+            ap (λ a. share_vrp a (amended n maxes until y)) (amended-other n maxes until x fx)
+            ∙ ap (share_vrp x) (amended-it n maxes until y z ty (at_y.found q ty)) ∙ share_vrp-flips x (with_terms maxes until z) ∙ at_x.apart p fx
         | inr fy ↦
-            ap (λ a. share_vrp a (amended n max until y)) (amended-other n max until x fx)
-            ∙ ap (share_vrp x) (amended-other n max until y fy) ∙ apart
+            ap (λ a. share_vrp a (amended n maxes until y)) (amended-other n maxes until x fx)
+            ∙ ap (share_vrp x) (amended-other n maxes until y fy) ∙ apart
       ]
     ]
 
-amended_each : (P Q : Auth → Type 0) (n max until : ℕ) (z x : Auth) (low : ℕ) (xs : List Auth) (high : ℕ) → ((y : Auth) → Q (amended n max until y) → P y)
-    → x.number ≤ low → Numbered low xs high → Amends P n max until z x → P x → Each (Amends P n max until z) xs → Each (λ y. P y → share_vrp x y ≡ false) xs
-    → Each (λ y. Q y → share_vrp (amended n max until x) y ≡ false) (map (amended n max until) xs)
-amended_each P Q n max until z x low [] high to below numbers at_x p amends each = tt
-amended_each P Q n max until z x low (y ∷ ys) high to below numbers at_x p amends each =
+amended_each : (P Q : Auth → Type 0) (n : ℕ) (maxes : List ℕ) (until : ℕ) (z x : Auth) (low : ℕ) (xs : List Auth) (high : ℕ) → ((y : Auth) → Q (amended n maxes until y) → P y)
+    → x.number ≤ low → Numbered low xs high → Amends P n maxes until z x → P x → Each (Amends P n maxes until z) xs → Each (λ y. P y → share_vrp x y ≡ false) xs
+    → Each (λ y. Q y → share_vrp (amended n maxes until x) y ≡ false) (map (amended n maxes until) xs)
+amended_each P Q n maxes until z x low [] high to below numbers at_x p amends each = tt
+amended_each P Q n maxes until z x low (y ∷ ys) high to below numbers at_x p amends each =
     let first : low < y.number = numbers.0 in (
-      λ q. amended_pair P n max until z x y (omega arith) at_x amends.0 p (to y q) (each.0 (to y q)),
-      amended_each P Q n max until z x y.number ys high to (omega arith) numbers.1 at_x p amends.1 each.1,
+      λ q. amended_pair P n maxes until z x y (omega arith) at_x amends.0 p (to y q) (each.0 (to y q)),
+      amended_each P Q n maxes until z x y.number ys high to (omega arith) numbers.1 at_x p amends.1 each.1,
     )
 
-PairsApart-amended : (P Q : Auth → Type 0) (n max until : ℕ) (z : Auth) (low : ℕ) (xs : List Auth) (high : ℕ) → ((y : Auth) → Q (amended n max until y) → P y)
-    → Numbered low xs high → Each (Amends P n max until z) xs → PairsApart P xs → PairsApart Q (map (amended n max until) xs)
-PairsApart-amended P Q n max until z low [] high to numbers amends pairs = tt
-PairsApart-amended P Q n max until z low (x ∷ xs) high to numbers amends pairs = (
-  λ q. amended_each P Q n max until z x x.number xs high to (omega arith) numbers.1 amends.0 (to x q) amends.1 (pairs.0 (to x q)),
-  PairsApart-amended P Q n max until z x.number xs high to numbers.1 amends.1 pairs.1,
+PairsApart-amended : (P Q : Auth → Type 0) (n : ℕ) (maxes : List ℕ) (until : ℕ) (z : Auth) (low : ℕ) (xs : List Auth) (high : ℕ) → ((y : Auth) → Q (amended n maxes until y) → P y)
+    → Numbered low xs high → Each (Amends P n maxes until z) xs → PairsApart P xs → PairsApart Q (map (amended n maxes until) xs)
+PairsApart-amended P Q n maxes until z low [] high to numbers amends pairs = tt
+PairsApart-amended P Q n maxes until z low (x ∷ xs) high to numbers amends pairs = (
+  λ q. amended_each P Q n maxes until z x x.number xs high to (omega arith) numbers.1 amends.0 (to x q) amends.1 (pairs.0 (to x q)),
+  PairsApart-amended P Q n maxes until z x.number xs high to numbers.1 amends.1 pairs.1,
 )
 
 -- the one that an accepted amend finds
-amended_found : (before : History) (h : List ℕ) (n max until : ℕ) (active : List Auth) → AreActive before h active
-    → IsSomeAnd (auth_of_number n active) (λ z. shares_with_other n (new_terms z max until) active ≡ false)
-    → (z : Auth) × Each (Amends (HeldSinceMade before h) n max until z) (authorization_terms before h)
-amended_found before h n max until active are found = by_case (auth_of_number n active) refl found
+amended_found : (before : History) (h : List ℕ) (n : ℕ) (maxes : List ℕ) (until : ℕ) (active : List Auth) → AreActive before h active
+    → IsSomeAnd (auth_of_number n active) (λ z. shares_with_other n (with_terms maxes until z) active ≡ false)
+    → (z : Auth) × Each (Amends (HeldSinceMade before h) n maxes until z) (authorization_terms before h)
+amended_found before h n maxes until active are found = by_case (auth_of_number n active) refl found
   where
     by_case : (o : Option Auth) → auth_of_number n active ≡ o
-        → IsSomeAnd o (λ z. shares_with_other n (new_terms z max until) active ≡ false)
-        → (z : Auth) × Each (Amends (HeldSinceMade before h) n max until z) (authorization_terms before h)
+        → IsSomeAnd o (λ z. shares_with_other n (with_terms maxes until z) active ≡ false)
+        → (z : Auth) × Each (Amends (HeldSinceMade before h) n maxes until z) (authorization_terms before h)
     by_case None is none = absurd none
     by_case (Some z) is alone = (
       z,
-      both-amends (HeldSinceMade before h) n max until z (authorization_terms before h)
+      both-amends (HeldSinceMade before h) n maxes until z (authorization_terms before h)
           (found_one (HeldSinceMade before h) n 0 (authorization_terms before h) active (authorizations_made before h) z (authorization_terms-numbered before h) are is)
-          (each_of_kept (HeldSinceMade before h) (λ y. not (eqb y.number n) && share_vrp (new_terms z max until) y) (authorization_terms before h) active are alone),
+          (each_of_kept (HeldSinceMade before h) (λ y. not (eqb y.number n) && share_vrp (with_terms maxes until z) y) (authorization_terms before h) active are alone),
     )
 
 -- after a command that was accepted
@@ -318,25 +318,22 @@ apart-after charter before day caller (Create holder terms) h accepted pairs =
           let Q : List ℕ → Type 0 = λ g. Each (λ y. HeldSinceMade before g y → gives_some y terms.asn terms.entries ≡ false) (authorization_terms before g) in
           let none = subst Q (same_name-true holder h t) at_holder in
           let later_on = Each-weaker (HeldSinceMade before h) (HeldSinceMade (e ∷ before) h) (λ y. gives_some y terms.asn terms.entries) (authorization_terms before h) (λ y since. since.1) none in
-          let apart : Each (λ y. HeldSinceMade (e ∷ before) h y → share_vrp y x ≡ false) (authorization_terms before h) =
-          subst (λ es. Each (λ y. HeldSinceMade (e ∷ before) h y → gives_some y terms.asn es ≡ false) (authorization_terms before h))
-          (sym (numbered-entries terms (authorizations_made before h + 1))) later_on in
-          subst G (sym t) (PairsApart-append (HeldSinceMade (e ∷ before) h) (authorization_terms before h) x apart old)
+          subst G (sym t) (PairsApart-append (HeldSinceMade (e ∷ before) h) (authorization_terms before h) x later_on old)
       | inr f ↦ subst G (sym f) old
     ]
-apart-after charter before day caller (Amend holder n max until) h accepted pairs =
-    let e : Entry = record { day = day; caller = caller; command = Amend holder n max until } in
-    let f = amended n max until in
+apart-after charter before day caller (Amend holder n maxes until) h accepted pairs =
+    let e : Entry = record { day = day; caller = caller; command = Amend holder n maxes until } in
+    let f = amended n maxes.items until in
     let old = PairsApart-weaker (HeldSinceMade before h) (HeldSinceMade (e ∷ before) h) (authorization_terms before h) (λ y since. since.1) pairs in
     let G : Bool → Type 0 = λ b. PairsApart (HeldSinceMade (e ∷ before) h) (cond b (map f (authorization_terms before h)) (authorization_terms before h)) in
-    let back = λ (y : Auth) (since : HeldSinceMade (e ∷ before) h (f y)). since_same before h (f y) y (sym (amended-number n max until y)) (λ a. sym (amended-addresses n max until y a)) since.1 in
+    let back = λ (y : Auth) (since : HeldSinceMade (e ∷ before) h (f y)). since_same before h (f y) y (sym (amended-number n maxes.items until y)) (λ a. sym (amended-addresses n maxes.items until y a)) since.1 in
     elim (cases_Bool (same_name holder h)) [
       | inl t ↦
           let of = accepted.1.1.1.1.0 in
-          let found = amended_found before holder n max until of.0 of.1 of.2 in
-          let Q : List ℕ → Type 0 = λ g. (z : Auth) × Each (Amends (HeldSinceMade before g) n max until z) (authorization_terms before g) in
+          let found = amended_found before holder n maxes.items until of.0 of.1 of.2 in
+          let Q : List ℕ → Type 0 = λ g. (z : Auth) × Each (Amends (HeldSinceMade before g) n maxes.items until z) (authorization_terms before g) in
           let here = subst Q (same_name-true holder h t) found in
-          subst G (sym t) (PairsApart-amended (HeldSinceMade before h) (HeldSinceMade (e ∷ before) h) n max until here.0 0 (authorization_terms before h) (authorizations_made before h)
+          subst G (sym t) (PairsApart-amended (HeldSinceMade before h) (HeldSinceMade (e ∷ before) h) n maxes.items until here.0 0 (authorization_terms before h) (authorizations_made before h)
           back (authorization_terms-numbered before h) here.1 pairs)
       | inr f ↦ subst G (sym f) old
     ]
