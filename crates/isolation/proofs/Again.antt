@@ -1,6 +1,7 @@
 -- A command that is accepted again leaves the rows and the exceptions: only an amendment and a SLURM file
 -- are, since what another command gave, took or made the first time is still so.
 use Rattle.std.proofs.Common.{◌≡◌, ℕ, Bool, true, false, not, ◌||◌, cond, eqb, List, [], ◌∷◌, ◌++◌, inl, inr, Option, Some, None, IsSomeAnd, refl, sym, ap, ◌∙◌, subst, arith, map, filter}
+use Rattle.std.specs.Global.{Vec}
 use Rattle.std.specs.List.{list_any}
 use Rattle.std.proofs.lemmas.Option.{IfSome_then}
 use Rattle.std.proofs.lemmas.Bool.{cases_Bool, cond-true, cond-false, false≢true, or_parts}
@@ -20,9 +21,10 @@ use Rattle.registry.specs.History.{Entry, History, same_name, is_registered}
 use Rattle.registry.specs.HolderEntries.{names_holder}
 use Rattle.registry.specs.Permission.{is_permitted_terms}
 use Rattle.registry.specs.Resources.{resource_holder, is_held_by}
-use Rattle.registry.specs.Terms.{grant_terms, authorization_terms, amended, HeldSinceMade, Keeps}
+use Rattle.registry.specs.Terms.{with_terms, grant_terms, authorization_terms, amended, HeldSinceMade, Keeps}
 use Rattle.registry.specs.Values.{CommandFits}
 use Rattle.registry.specs.Verdict.{Verdict, HasAccessTo, IsLegal, auth_of_number}
+use Rattle.registry.proofs.Entries.{with_maxes-again}
 use Rattle.registry.proofs.Names.{same_name-same, same_name-true, same_name-false}
 use Rattle.isolation.specs.RepeatedRequests.{is_grant, has_slurm_file, NoneNames, HaveSameRows, RepeatsLeaveRows}
 use Rattle.isolation.proofs.Agree.{Agree, AgreeIfNamed, agree-sym, agree-active, agree-rows}
@@ -71,16 +73,21 @@ still_held history other h p to required same left rule =
     let a = first_address p in
     ap (is_held_by h) (sym (rule a.0 a.1)) ∙ same.holders a.0 ∙ ap (is_held_by h) (left a.0 a.1)
 
+-- the same maxLengths and last day set twice are set once
+with_terms-twice : (maxes : List ℕ) (until : ℕ) (x : Auth) → with_terms maxes until (with_terms maxes until x) ≡ with_terms maxes until x
+with_terms-twice maxes until x =
+    ap (λ es. let y : Auth = record x { entries = es; until = until } in y) (with_maxes-again maxes x.entries)
+
 -- an amendment made twice is made once
-amended_twice : (n max until : ℕ) (x : Auth) → amended n max until (amended n max until x) ≡ amended n max until x
-amended_twice n max until x =
+amended_twice : (n : ℕ) (maxes : List ℕ) (until : ℕ) (x : Auth) → amended n maxes until (amended n maxes until x) ≡ amended n maxes until x
+amended_twice n maxes until x =
     elim (cases_Bool (eqb x.number n)) [
       | inl t ↦
-          let new : Auth = record x { max = max; until = until } in
-          let once : amended n max until x ≡ new = cond-true _ _ _ t in
-          let twice : amended n max until new ≡ new = cond-true _ _ _ t in
-          ap (amended n max until) once ∙ twice ∙ sym once
-      | inr f ↦ ap (amended n max until) (cond-false _ _ _ f)
+          let new = with_terms maxes until x in
+          let once : amended n maxes until x ≡ new = cond-true _ _ _ t in
+          let twice : amended n maxes until new ≡ new = cond-true _ _ _ t ∙ with_terms-twice maxes until x in
+          ap (amended n maxes until) once ∙ twice ∙ sym once
+      | inr f ↦ ap (amended n maxes until) (cond-false _ _ _ f)
     ]
 
 map_twice : (f : Auth → Auth) → ((x : Auth) → f (f x) ≡ f x) → (xs : List Auth) → map f (map f xs) ≡ map f xs
@@ -95,11 +102,11 @@ abbrev entry : ℕ → List ℕ → Command → Entry
 entry day caller c = record { day = day; caller = caller; command = c }
 
 -- the holder has the same after the amendment is made again
-amended_again : (history before : History) (then day : ℕ) (by caller holder : List ℕ) (n max until : ℕ)
-    → Agree history (entry then by (Amend holder n max until) ∷ before) holder
-    → Agree (entry day caller (Amend holder n max until) ∷ history) history holder
-amended_again history before then day by caller holder n max until same =
-    let f = amended n max until in
+amended_again : (history before : History) (then day : ℕ) (by caller holder : List ℕ) (n : ℕ) (maxes : Vec ℕ) (until : ℕ)
+    → Agree history (entry then by (Amend holder n maxes until) ∷ before) holder
+    → Agree (entry day caller (Amend holder n maxes until) ∷ history) history holder
+amended_again history before then day by caller holder n maxes until same =
+    let f = amended n maxes.items until in
     let itself = same_name-same holder in
     let made : authorization_terms history holder ≡ map f (authorization_terms before holder) = same.terms ∙ cond-true _ _ _ itself in
     record {
@@ -107,9 +114,9 @@ amended_again history before then day by caller holder n max until same =
       holders = λ a. refl;
       grants = refl;
       granted = refl;
-      terms = cond-true _ _ _ itself ∙ ap (map f) made ∙ map_twice f (amended_twice n max until) (authorization_terms before holder) ∙ sym made;
+      terms = cond-true _ _ _ itself ∙ ap (map f) made ∙ map_twice f (amended_twice n maxes.items until) (authorization_terms before holder) ∙ sym made;
       created = refl;
-      since = since_unchanged (entry day caller (Amend holder n max until)) history holder (λ a. refl) refl;
+      since = since_unchanged (entry day caller (Amend holder n maxes until)) history holder (λ a. refl) refl;
     }
 
 -- the authorization that was withdrawn is not active
@@ -142,11 +149,11 @@ agree-again charter history before then day by caller (Revoke holder n) fits fir
 agree-again charter history before then day by caller (Create holder t) fits first same other accepted h =
     let has = (active_alike (agree-sym same) _).0 (created_has charter before then by holder t first) in
     absurd (not_made_again charter history day caller holder t fits.1.entries has accepted)
-agree-again charter history before then day by caller (Amend holder n max until) fits first same other accepted h =
-    let e = entry day caller (Amend holder n max until) in
+agree-again charter history before then day by caller (Amend holder n maxes until) fits first same other accepted h =
+    let e = entry day caller (Amend holder n maxes until) in
     elim (cases_Bool (names_holder h e.command)) [
       | inl t ↦ subst (λ (g : List ℕ). Agree (e ∷ history) history g) (same_name-true holder h (or_itself (same_name holder h) t))
-          (amended_again history before then day by caller holder n max until same)
+          (amended_again history before then day by caller holder n maxes until same)
       | inr f ↦ agree-unnamed charter e history h accepted f
     ]
 agree-again charter history before then day by caller (Withdraw holder n) fits first same other accepted h =

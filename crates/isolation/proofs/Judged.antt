@@ -107,7 +107,7 @@ judged charter one other day caller (Create holder terms) same taker own =
     checked (active_alike same _) (
     checked (both (active_alike same _) (fewer same.created))
     accepted))))))
-judged charter one other day caller (Amend holder n max until) same taker own =
+judged charter one other day caller (Amend holder n maxes until) same taker own =
     checked (of_grants same (λ grants. has_access grants day caller Alter)) (
     checked (access_alike same day caller Alter n) (
     checked (active_alike same _) (

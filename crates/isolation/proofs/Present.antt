@@ -17,10 +17,10 @@ use Rattle.registry.specs.declared.command.Command.TheVariants.{Create}
 use Rattle.registry.specs.GrowingHistory.{grown_by}
 use Rattle.registry.specs.History.{Entry, History}
 use Rattle.registry.specs.Import.{IsPresent, JudgesRow, ImportGrows, has_terms, are_same}
-use Rattle.registry.specs.Terms.{HoldsEntries, entries_have, is_entry, numbered_terms, row_terms, gives_some, authorizations_made, authorization_terms, HeldSinceMade, Keeps, AreActive, OfActive, are_shared}
+use Rattle.registry.specs.Terms.{HoldsEntries, is_entry, numbered_terms, row_terms, gives_some, authorizations_made, authorization_terms, HeldSinceMade, Keeps, AreActive, OfActive, are_shared}
 use Rattle.registry.specs.RoaPrefixes.{AreEntries}
 use Rattle.registry.specs.Verdict.{Verdict}
-use Rattle.registry.proofs.Entries.{numbered-entries, row-are}
+use Rattle.registry.proofs.Entries.{row-are}
 use Rattle.registry.proofs.Names.{same_name-same}
 use Rattle.registry.proofs.Held.{active-kept, not_yet_made}
 use Rattle.registry.proofs.Kept.{Keeps-append, Keeps-unique}
@@ -55,9 +55,7 @@ has_its_terms n t =
     let asn : eqb t.asn.0 t.asn.0 ≡ true = grind (arith, nat_tests) in
     let from : eqb t.from t.from ≡ true = grind (arith, nat_tests) in
     let until : eqb t.until t.until ≡ true = grind (arith, nat_tests) in
-    let same : are_same t.entries (numbered_terms t n).entries ≡ true =
-    ap (are_same t.entries) (numbered-entries t n) ∙ same_itself t.entries in
-    and_from _ _ (and_from _ _ asn same) (and_from _ _ from until)
+    and_from _ _ (and_from _ _ asn (same_itself t.entries)) (and_from _ _ from until)
 
 -- what has the terms gives some of their entries, where there are any
 gives_of_terms : (t : AuthTerms) (x : Auth) → 0 < length t.entries → has_terms t x ≡ true → gives_some x t.asn t.entries ≡ true
@@ -85,7 +83,7 @@ active-created history day caller holder t holds active are =
     let e : Entry = record { day = day; caller = caller; command = Create holder t } in
     let x = numbered_terms t (authorizations_made history holder + 1) in
     let since : HeldSinceMade (e ∷ history) holder x = (
-      λ _. λ a has. holds a (ap (λ es. entries_have es a) (sym (numbered-entries t (authorizations_made history holder + 1))) ∙ has),
+      λ _. holds,
       not_yet_made history holder x (omega arith),
     ) in
     subst (λ (xs : List Auth). Keeps (HeldSinceMade (e ∷ history) holder) xs (active ++ x ∷ [])) (sym (cond-true _ _ _ (same_name-same holder)))
