@@ -1,5 +1,6 @@
 -- The changes of a create, an amend and a withdrawal carry every holder's rows.
 use Rattle.std.proofs.Common.{◌≡◌, ℕ, ◌+◌, ◌<◌, ◌≤◌, true, false, not, eqb, List, [], ◌∷◌, ◌++◌, inl, inr, Some, None, refl, sym, ap, ◌∙◌, subst, arith, map, filter}
+use Rattle.std.specs.Global.{Vec}
 use Rattle.std.proofs.lemmas.Bool.{cases_Bool, cond-true, cond-false}
 use Rattle.std.proofs.lemmas.Option.{same_Some, none-some}
 use Rattle.std.proofs.lemmas.Bool.Decides.{nat_tests}
@@ -9,10 +10,9 @@ use Rattle.registry.specs.declared.change.Change.TheVariants.{Holders}
 use Rattle.registry.specs.declared.change.Edit.TheVariants.{Create as CreateEdit, Amend as AmendEdit, Withdraw as WithdrawEdit}
 use Rattle.registry.specs.declared.command.Command.TheVariants.{Create, Amend, Withdraw}
 use Rattle.registry.specs.History.{Entry, History, is_registered}
-use Rattle.registry.specs.Terms.{entries_have, HoldsEntries, numbered_terms, authorizations_made, authorization_terms, amended, HeldSinceMade, Keeps}
+use Rattle.registry.specs.Terms.{entries_have, HoldsEntries, numbered_terms, authorizations_made, authorization_terms, with_terms, amended, HeldSinceMade, Keeps}
 use Rattle.registry.specs.Verdict.{auth_of_number}
 use Rattle.registry.specs.Rows.{Rows, RowsOf, replaced_by, Carries}
-use Rattle.registry.proofs.Entries.{numbered-entries}
 use Rattle.registry.proofs.Names.{same_name-same}
 use Rattle.registry.proofs.Numbers.{Numbered}
 use Rattle.registry.proofs.Kept.{Keeps-unique, Keeps-append, Keeps-filtered, Keeps-map}
@@ -27,7 +27,7 @@ pub carries-create : (before : History) (day : ℕ) (caller holder : List ℕ) (
 carries-create before day caller holder t x registered holds is =
     let e : Entry = record { day = day; caller = caller; command = Create holder t } in
     let number : x.number ≡ authorizations_made before holder + 1 = ap (λ y. y.number) is in
-    let entries : x.entries ≡ t.entries = ap is.entries ∙ numbered-entries t (authorizations_made before holder + 1) in
+    let entries : x.entries ≡ t.entries = ap (λ y. y.entries) is in
     let since : HeldSinceMade (e ∷ before) holder x = (
       λ made. λ a has. holds a (ap (λ es. entries_have es a) (sym entries) ∙ has),
       not_yet_made before holder x (omega arith),
@@ -82,60 +82,60 @@ found_number n (z ∷ zs) x found =
     ]
 
 -- an authorization of a higher number stays
-untouched : (low n : ℕ) (xs : List Auth) (high : ℕ) (max until : ℕ) (y : Auth) → Numbered low xs high → n ≤ low → y.number ≡ n
-    → map (replaced_by y) xs ≡ map (amended n max until) xs
-untouched low n [] high max until y numbers below is = refl
-untouched low n (x ∷ xs) high max until y numbers below is =
+untouched : (low n : ℕ) (xs : List Auth) (high : ℕ) (maxes : List ℕ) (until : ℕ) (y : Auth) → Numbered low xs high → n ≤ low → y.number ≡ n
+    → map (replaced_by y) xs ≡ map (amended n maxes until) xs
+untouched low n [] high maxes until y numbers below is = refl
+untouched low n (x ∷ xs) high maxes until y numbers below is =
     let first : low < x.number = numbers.0 in
     let not_n : eqb x.number n ≡ false = grind (arith, nat_tests) in
     let not_y : eqb x.number y.number ≡ false = grind (arith, nat_tests) in
-    let rest = untouched x.number n xs high max until y numbers.1 (omega arith) is in
-    let one : replaced_by y x ≡ amended n max until x =
+    let rest = untouched x.number n xs high maxes until y numbers.1 (omega arith) is in
+    let one : replaced_by y x ≡ amended n maxes until x =
     cond-false _ _ _ not_y ∙ sym (cond-false _ _ _ not_n) in
-    ap (λ z. z ∷ map (replaced_by y) xs) one ∙ ap (λ zs. amended n max until x ∷ zs) rest
+    ap (λ z. z ∷ map (replaced_by y) xs) one ∙ ap (λ zs. amended n maxes until x ∷ zs) rest
 
 -- the amended one put in the place of the one of its number
-pub replaced-amended : (low n : ℕ) (xs : List Auth) (high : ℕ) (max until : ℕ) (x y : Auth) → Numbered low xs high → auth_of_number n xs ≡ Some x
-    → y ≡ record x { max = max; until = until } → map (replaced_by y) xs ≡ map (amended n max until) xs
-replaced-amended low n [] high max until x y numbers found is = refl
-replaced-amended low n (z ∷ zs) high max until x y numbers found is =
+pub replaced-amended : (low n : ℕ) (xs : List Auth) (high : ℕ) (maxes : List ℕ) (until : ℕ) (x y : Auth) → Numbered low xs high → auth_of_number n xs ≡ Some x
+    → y ≡ with_terms maxes until x → map (replaced_by y) xs ≡ map (amended n maxes until) xs
+replaced-amended low n [] high maxes until x y numbers found is = refl
+replaced-amended low n (z ∷ zs) high maxes until x y numbers found is =
     elim (cases_Bool (eqb z.number n)) [
       | inl t ↦
           let same : z ≡ x = same_Some _ _ (sym (cond-true _ _ _ t) ∙ found) in
           let number : z.number ≡ n = grind (arith, nat_tests) in
           let number_y : y.number ≡ n = ap (λ a. a.number) is ∙ ap (λ a. a.number) (sym same) ∙ number in
           let same_number : eqb z.number y.number ≡ true = grind (arith, nat_tests) in
-          let new : record z { max = max; until = until } ≡ y = ap (λ a. let b : Auth = record a { max = max; until = until } in b) same ∙ sym is in
-          let one : replaced_by y z ≡ amended n max until z =
+          let new : with_terms maxes until z ≡ y = ap (with_terms maxes until) same ∙ sym is in
+          let one : replaced_by y z ≡ amended n maxes until z =
           cond-true _ _ _ same_number ∙ sym new ∙ sym (cond-true _ _ _ t) in
-          let rest = untouched z.number n zs high max until y numbers.1 (omega arith) number_y in
-          ap (λ a. a ∷ map (replaced_by y) zs) one ∙ ap (λ cs. amended n max until z ∷ cs) rest
+          let rest = untouched z.number n zs high maxes until y numbers.1 (omega arith) number_y in
+          ap (λ a. a ∷ map (replaced_by y) zs) one ∙ ap (λ cs. amended n maxes until z ∷ cs) rest
       | inr f ↦
           let later : auth_of_number n zs ≡ Some x = sym (cond-false _ _ _ f) ∙ found in
-          let rest = replaced-amended z.number n zs high max until x y numbers.1 later is in
+          let rest = replaced-amended z.number n zs high maxes until x y numbers.1 later is in
           let number_y : y.number ≡ n = ap (λ a. a.number) is ∙ found_number n zs x later in
           let differ : eqb z.number y.number ≡ false = ap (λ k. eqb z.number k) number_y ∙ f in
-          let one : replaced_by y z ≡ amended n max until z =
+          let one : replaced_by y z ≡ amended n maxes until z =
           cond-false _ _ _ differ ∙ sym (cond-false _ _ _ f) in
-          ap (λ a. a ∷ map (replaced_by y) zs) one ∙ ap (λ cs. amended n max until z ∷ cs) rest
+          ap (λ a. a ∷ map (replaced_by y) zs) one ∙ ap (λ cs. amended n maxes until z ∷ cs) rest
     ]
 
-pub carries-amend : (before : History) (day : ℕ) (caller holder : List ℕ) (n max until : ℕ) (v : Rows) (x y : Auth)
-    → is_registered before holder ≡ true → RowsOf before holder v → auth_of_number n v.auths ≡ Some x → y ≡ record x { max = max; until = until }
+pub carries-amend : (before : History) (day : ℕ) (caller holder : List ℕ) (n : ℕ) (maxes : Vec ℕ) (until : ℕ) (v : Rows) (x y : Auth)
+    → is_registered before holder ≡ true → RowsOf before holder v → auth_of_number n v.auths ≡ Some x → y ≡ with_terms maxes.items until x
     → Carries (Holders (record { holder = holder; edit = AmendEdit y }) None) before
-    (record { day = day; caller = caller; command = Amend holder n max until } ∷ before)
-carries-amend before day caller holder n max until v x y registered had_v found is =
-    let e : Entry = record { day = day; caller = caller; command = Amend holder n max until } in
-    let f = amended n max until in
+    (record { day = day; caller = caller; command = Amend holder n maxes until } ∷ before)
+carries-amend before day caller holder n maxes until v x y registered had_v found is =
+    let e : Entry = record { day = day; caller = caller; command = Amend holder n maxes until } in
+    let f = amended n maxes.items until in
     let terms : map f (authorization_terms before holder) ≡ authorization_terms (e ∷ before) holder =
     sym (cond-true _ _ _ (same_name-same holder)) in
-    let to = λ (z : Auth) (since : HeldSinceMade (e ∷ before) holder z). since_same (e ∷ before) holder z (f z) (amended-number n max until z) (amended-addresses n max until z) since in
-    let back = λ (z : Auth) (since : HeldSinceMade (e ∷ before) holder (f z)). since_same (e ∷ before) holder (f z) z (sym (amended-number n max until z)) (λ a. sym (amended-addresses n max until z a)) since in
+    let to = λ (z : Auth) (since : HeldSinceMade (e ∷ before) holder z). since_same (e ∷ before) holder z (f z) (amended-number n maxes.items until z) (amended-addresses n maxes.items until z) since in
+    let back = λ (z : Auth) (since : HeldSinceMade (e ∷ before) holder (f z)). since_same (e ∷ before) holder (f z) z (sym (amended-number n maxes.items until z)) (λ a. sym (amended-addresses n maxes.items until z a)) since in
     carries-edit e before holder (AmendEdit y) (record { named = refl; exceptions = refl }) registered
     (λ rows had.
     let same_auths : v.auths ≡ rows.auths = Keeps-unique (HeldSinceMade before holder) (authorization_terms before holder) v.auths rows.auths had_v.auths had.auths in
     let mapped : map (replaced_by y) rows.auths ≡ map f rows.auths =
-    replaced-amended 0 n rows.auths (authorizations_made before holder) max until x y (active-numbered before holder rows.auths had.auths)
+    replaced-amended 0 n rows.auths (authorizations_made before holder) maxes.items until x y (active-numbered before holder rows.auths had.auths)
     (ap (auth_of_number n) (sym same_auths) ∙ found) is in
     record {
       apart = had.apart;

@@ -7,14 +7,16 @@ ghost use Rattle.addr.specs.Spans.{span_covers};
 ghost use Rattle.charters.specs.declared.charter.Charter.{Charter as CharterValue};
 ghost use Rattle.registry.specs.History.{History, is_registered};
 ghost use Rattle.registry.specs.Resources.{HoldsPrefix};
-ghost use Rattle.registry.specs.Terms.{grant_terms, authorizations_made, HoldsEntries, OfActive, gives_some, share_vrp};
+ghost use Rattle.registry.specs.Terms.{grant_terms, authorizations_made, HoldsEntries, OfActive, are_shared, gives_some, is_entry, row_terms, share_vrp};
+ghost use Rattle.registry.specs.RoaPrefixes.{with_maxes};
+ghost use Rattle.registry.specs.declared.authorization.ImportRow.{ImportRow as ImportRowValue};
 ghost use Rattle.registry.specs.Import.{has_terms, IsPresent};
-ghost use Rattle.registry.specs.Permission.{has_access};
+ghost use Rattle.registry.specs.Permission.{has_access, is_permitted_terms};
 ghost use Rattle.registry.specs.Answer.{OfRows};
 ghost use Rattle.registry.specs.Verdict.{is_steward, auth_of_number, HasAccessTo};
 ghost use Rattle.registry.specs.Rows.{rows_of, rows_if_any, RowsOf, RowsIfAny, grants_if_any};
 
-use crate::{Access, Auth, AuthTerms, Charter, Granted, HolderRows, ImportRow, LAST_NUMBER, Rule};
+use crate::{Access, Auth, AuthTerms, Charter, Granted, HolderRows, LAST_NUMBER, Rule};
 use addr::{Asn, Day, Holdings, Name, Prefix};
 use registry::{MOST_AUTHORIZATIONS, MOST_GRANTS, RoaPrefix, are_permitted, has_access};
 
@@ -113,6 +115,19 @@ fn auth_of_number(auths: &[Auth], number: u32) -> Option<&Auth>
     auths.iter().find(|auth| auth.number == number)
 }
 
+/// Whether the caller has the access to each prefix of the terms.
+pub(crate) fn is_permitted_terms(
+    grants: &[Granted],
+    day: Day,
+    caller: &Name,
+    access: Access,
+    auth: &Auth,
+) -> bool
+    ensures { result ≡ is_permitted_terms grants.now day caller.now access auth.now }
+{
+    are_permitted(grants, day, caller, access, auth.entries.as_slice())
+}
+
 /// The active authorization of the number, where the caller has the access to it.
 pub(crate) fn auth_with_access<'a>(
     rows: &'a HolderRows,
@@ -130,7 +145,7 @@ pub(crate) fn auth_with_access<'a>(
 {
     match auth_of_number(&rows.auths, number) {
         Some(auth) => {
-            if are_permitted(&rows.grants, day, caller, access, &auth.entries()) {
+            if is_permitted_terms(&rows.grants, day, caller, access, auth) {
                 Ok(auth)
             } else {
                 Err(Rule::Number)
@@ -177,7 +192,7 @@ pub(crate) fn is_new(rows: &HolderRows, terms: &AuthTerms) -> bool
         (λ active.
         list_any (λ y. gives_some y terms.now.asn terms.now.entries) active ≡ false)) }
 {
-    !some_gives(&rows.auths, terms.asn, &terms.entries())
+    !some_gives(&rows.auths, terms.asn, terms.entries.as_slice())
 }
 
 /// Whether some authorization has the terms.
@@ -187,15 +202,16 @@ fn some_has_terms(auths: &[Auth], terms: &AuthTerms) -> bool
     auths.iter().any(|auth| auth.has_terms(terms))
 }
 
-/// Whether a row of an import is already authorized: the caller may alter authorizations of each
-/// prefix of its terms, and an active one has its terms.
-pub(crate) fn is_present(rows: &HolderRows, day: Day, caller: &Name, row: &ImportRow) -> bool
-    ensures { (history : History) (h : List ℕ) → RowsOf history h (rows_of rows.now)
-        → (IsTrue result ↔ IsPresent day caller.now h history row.now) }
+/// Whether a row of an import that has these terms is already authorized: the caller may alter
+/// authorizations of each prefix of the terms, and an active one has them.
+pub(crate) fn is_present(rows: &HolderRows, day: Day, caller: &Name, terms: &AuthTerms) -> bool
+    ensures { (row : ImportRowValue) → terms.now ≡ row_terms row
+        → (history : History) (h : List ℕ) → RowsOf history h (rows_of rows.now)
+        → (IsTrue result ↔ IsPresent day caller.now h history row) }
 {
-    let terms = row.terms();
-    are_permitted(&rows.grants, day, caller, Access::Alter, &terms.entries())
-        && some_has_terms(&rows.auths, &terms)
+    let entries = terms.entries.as_slice();
+    are_permitted(&rows.grants, day, caller, Access::Alter, entries)
+        && some_has_terms(&rows.auths, terms)
 }
 
 /// Whether another grant may be made: neither too many are unrevoked, nor were too many made.
@@ -217,20 +233,60 @@ pub(crate) fn has_room_for_authorization(rows: &HolderRows) -> bool
     rows.auths.len() < MOST_AUTHORIZATIONS && rows.created < LAST_NUMBER
 }
 
-/// Whether the other has another number, and shares an AS, prefix and maxLength with these terms
-/// once they have this maxLength.
-fn is_other_sharing(auth: &Auth, max: u8, other: &Auth) -> bool
-    ensures { result ≡ (not (other.now.number == auth.now.number)
-        && share_vrp (record auth.now { max = max }) other.now) }
+/// Whether some entry has this prefix and maxLength.
+fn has_entry(entries: &[RoaPrefix], entry: &RoaPrefix) -> bool
+    ensures { result ≡ list_any (is_entry entry.now.prefix entry.now.max) entries.now }
 {
-    other.number != auth.number && auth.shares_vrp_amended(max, other)
+    entries.iter().any(|other| other.prefix == entry.prefix && other.max == entry.max)
+}
+
+/// Whether some entry has this prefix and maxLength, once the entries have these maxLengths.
+fn has_amended_entry(entries: &[RoaPrefix], maxes: &[u8], entry: &RoaPrefix) -> bool
+    ensures { result
+        ≡ list_any (is_entry entry.now.prefix entry.now.max) (with_maxes maxes.now entries.now) }
+{
+    match maxes {
+        [] => has_entry(entries, entry),
+        [max, maxes @ ..] => match entries {
+            [] => false,
+            [first, others @ ..] => {
+                (first.prefix == entry.prefix && *max == entry.max)
+                    || has_amended_entry(others, maxes, entry)
+            }
+        },
+    }
+}
+
+/// Whether some prefix and maxLength is an entry of both lists, once the entries of the first have
+/// these maxLengths.
+fn are_shared_amended(entries: &[RoaPrefix], maxes: &[u8], others: &[RoaPrefix]) -> bool
+    ensures { result ≡ are_shared (with_maxes maxes.now entries.now) others.now }
+{
+    others
+        .iter()
+        .any(|other| has_amended_entry(entries, maxes, other))
+}
+
+/// Whether the other has another number, and shares an AS, prefix and maxLength with these terms
+/// once they have these maxLengths.
+fn is_other_sharing(auth: &Auth, maxes: &[u8], other: &Auth) -> bool
+    ensures { result ≡ (not (other.now.number == auth.now.number)
+        && share_vrp (record auth.now { entries = with_maxes maxes.now auth.now.entries })
+        other.now) }
+{
+    other.number != auth.number
+        && auth.asn.0 == other.asn.0
+        && are_shared_amended(auth.entries.as_slice(), maxes, other.entries.as_slice())
 }
 
 /// Whether an authorization of another number shares an AS, prefix and maxLength with these terms
-/// once they have this maxLength.
-pub(crate) fn shares_with_other(auths: &[Auth], auth: &Auth, max: u8) -> bool
+/// once they have these maxLengths.
+pub(crate) fn shares_with_other(auths: &[Auth], auth: &Auth, maxes: &[u8]) -> bool
     ensures { result ≡ list_any (λ y. not (y.number == auth.now.number)
-        && share_vrp (record auth.now { max = max }) y) auths.now }
+        && share_vrp (record auth.now { entries = with_maxes maxes.now auth.now.entries }) y)
+        auths.now }
 {
-    auths.iter().any(|other| is_other_sharing(auth, max, other))
+    auths
+        .iter()
+        .any(|other| is_other_sharing(auth, maxes, other))
 }

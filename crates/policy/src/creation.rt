@@ -33,12 +33,12 @@ pub(crate) fn new_number(
         (λ rule. Verdict charter history day caller.now (Command.Create h terms.now) (Some rule))) }
 {
     let rows = rows_with_access(rows, day, caller, Access::Alter)?;
-    let entries = terms.entries();
-    let permitted = are_permitted(&rows.grants, day, caller, Access::Alter, &entries);
+    let entries = terms.entries.as_slice();
+    let permitted = are_permitted(&rows.grants, day, caller, Access::Alter, entries);
     require(permitted, Rule::Scope)?;
     require(are_dates(day, terms.from, terms.until), Rule::Dates)?;
-    require(fit_lengths(&entries), Rule::Length)?;
-    require(holds_entries(rows, &entries), Rule::Held)?;
+    require(fit_lengths(entries), Rule::Length)?;
+    require(holds_entries(rows, entries), Rule::Held)?;
     require(is_new(rows, terms), Rule::Same)?;
     require(has_room_for_authorization(rows), Rule::Room)?;
     Ok(rows.created + 1)

@@ -1,6 +1,7 @@
 //! Deciding commands.
 
 ghost use Rattle.std.specs.Prelude.{◌≡◌, ℕ, true, false, None, Err, IsTrue, option_copied, MatchBool, IfOk, map, filter};
+ghost use Rattle.std.specs.Global.{Vec};
 ghost use Rattle.addr.specs.Address.{has_address};
 ghost use Rattle.addr.specs.Spans.{AddsAddresses, TakesAddresses};
 ghost use Rattle.charters.specs.declared.charter.Charter.{Charter as CharterValue};
@@ -257,21 +258,22 @@ fn auth_to_amend<'a>(
     caller: &Name,
     holder: Holder<'a>,
     number: u32,
-    max: u8,
+    maxes: &[u8],
     until: Day,
 ) -> Result<&'a Auth, Rule>
-    ensures { (charter : CharterValue) (history : History) → IsLegal charter history
+    ensures { (charter : CharterValue) (history : History) (asked : Vec ℕ)
+        → asked.items ≡ maxes.now → IsLegal charter history
         → RowsIfAny history holder.entry.name.now (rows_if_any (option_copied holder.entry.rows))
         → IsAdmitted charter history day caller.now
-        (Command.Amend holder.entry.name.now number max until)
-        (λ x. IsAmended history holder.entry.name.now day caller.now number max until x.now)
+        (Command.Amend holder.entry.name.now number asked until)
+        (λ x. IsAmended history holder.entry.name.now day caller.now number asked until x.now)
         result }
 {
     let rows = rows_with_access(holder.rows, day, caller, Access::Alter)?;
     let auth = auth_with_access(rows, day, caller, Access::Alter, number)?;
     require(are_dates(day, auth.from, until), Rule::Dates)?;
-    require(auth.fits_length(max), Rule::Length)?;
-    require(!shares_with_other(&rows.auths, auth, max), Rule::Same)?;
+    require(auth.fits_maxes(maxes), Rule::Length)?;
+    require(!shares_with_other(&rows.auths, auth, maxes), Rule::Same)?;
     Ok(auth)
 }
 
@@ -280,19 +282,18 @@ fn decide_amend(
     basis: Basis<'_>,
     holder: Holder<'_>,
     number: u32,
-    max: u8,
+    maxes: &[u8],
     until: Day,
 ) -> Result<Change, Refusal>
-    ensures answer { AnswersRows basis.entry.charter.now
+    ensures answer { (asked : Vec ℕ) → asked.items ≡ maxes.now
+        → AnswersRows basis.entry.charter.now
         (rows_if_any (option_copied holder.entry.rows)) basis.entry.day basis.entry.caller.now
-        (Command.Amend holder.entry.name.now number max until) result }
-    ensures shape { IfOk result (HasEditsOf
-        (Command.Amend holder.entry.name.now number max until)) }
+        (Command.Amend holder.entry.name.now number asked until) result }
+    ensures shape { (asked : Vec ℕ) → IfOk result (HasEditsOf
+        (Command.Amend holder.entry.name.now number asked until)) }
 {
-    let auth = auth_to_amend(basis.day, basis.caller, holder, number, max, until)?;
-    let mut amended = auth.clone()?;
-    amended.max = max;
-    amended.until = until;
+    let auth = auth_to_amend(basis.day, basis.caller, holder, number, maxes, until)?;
+    let amended = auth.with_terms(maxes, until)?;
     Ok(change_of(holder.name, Edit::Amend(amended)))
 }
 
@@ -442,9 +443,9 @@ pub fn decide(
         Command::Amend {
             holder,
             number,
-            max,
+            maxes,
             until,
-        } => decide_amend(basis, Holder { name: holder, rows }, *number, *max, *until),
+        } => decide_amend(basis, Holder { name: holder, rows }, *number, maxes, *until),
         Command::Withdraw { holder, number } => {
             Ok(decide_withdraw(basis, Holder { name: holder, rows }, *number)?)
         }

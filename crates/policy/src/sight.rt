@@ -1,16 +1,15 @@
 //! Showing and listing authorizations.
 
-ghost use Rattle.std.specs.Prelude.{◌≡◌, Some, option_copied, MatchResult, IfOk, filter};
+ghost use Rattle.std.specs.Prelude.{◌≡◌, [], ◌∷◌, ◌++◌, Some, option_copied, MatchResult, IfOk, OnOk, filter};
 ghost use Rattle.charters.specs.declared.charter.Charter.{Charter as CharterValue};
 ghost use Rattle.registry.specs.Permission.{is_permitted_terms};
 ghost use Rattle.registry.specs.Rows.{rows_if_any};
 ghost use Rattle.registry.specs.Verdict.{ShowVerdict};
 ghost use Rattle.registry.specs.Answer.{OfRows, IsShown, IsListed, IsListRefusal};
 
-use crate::admission::{auth_with_access, rows_with_access};
+use crate::admission::{auth_with_access, is_permitted_terms, rows_with_access};
 use crate::{Access, Auth, Granted, HolderRows, Refusal, Rule};
 use addr::{Day, Name};
-use registry::are_permitted;
 use std::alloc::{AllocError, Global};
 
 /// The authorization of the number, where the caller may see it on the day. A hidden authorization
@@ -30,6 +29,14 @@ pub fn see<'a>(
     auth_with_access(rows, day, caller, Access::Look, number)
 }
 
+/// Puts a copy of the authorization after the others.
+fn push_copy(auths: &mut Vec<Auth>, auth: &Auth) -> Result<(), AllocError>
+    ensures { OnOk result (auths.new.items ≡ auths.old.items ++ auth.now ∷ []) }
+{
+    auths.push(auth.clone()?)?;
+    Ok(())
+}
+
 /// The authorizations that the caller may see on the day.
 fn permitted_auths(
     alloc: Global,
@@ -43,8 +50,8 @@ fn permitted_auths(
 {
     let mut seen = Vec::new(alloc);
     for auth in auths {
-        if are_permitted(grants, day, caller, Access::Look, &auth.entries()) {
-            seen.push(auth.clone()?)?;
+        if is_permitted_terms(grants, day, caller, Access::Look, auth) {
+            push_copy(&mut seen, auth)?;
         }
     }
     Ok(seen)

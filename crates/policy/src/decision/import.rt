@@ -25,6 +25,7 @@ use std::alloc::Global;
 /// Puts the authorization that a row makes among the rows of the holder, and among those made. A
 /// row that is already authorized makes none.
 fn import_row(
+    alloc: Global,
     rows: &mut HolderRows,
     auths: &mut Vec<Auth>,
     day: Day,
@@ -37,10 +38,11 @@ fn import_row(
         (rows_of rows.old) (rows_of rows.new))
         (λ rule. JudgesRow charter day caller.now h history row.now (Err rule)) result) }
 {
-    if is_present(rows, day, caller, row) {
+    let terms = row.terms(alloc)?;
+    if is_present(rows, day, caller, &terms) {
         return Ok(());
     }
-    let auth = create(rows, day, caller, &row.terms())?;
+    let auth = create(rows, day, caller, &terms)?;
     auths.push(auth)?;
     Ok(())
 }
@@ -62,7 +64,7 @@ fn import_rows(
     let mut place = 0;
     for row in listed {
         place += 1;
-        let done = import_row(&mut rows, &mut auths, day, caller, row);
+        let done = import_row(alloc, &mut rows, &mut auths, day, caller, row);
         if let Err(refusal) = done {
             return Err(refusal_at(refusal, place));
         }

@@ -13,7 +13,7 @@ returns c history h are =
     let a = c.args in
     let given : List RoaPrefix → List Auth → Bool = λ es. list_any (λ y. gives_some y a.terms.now.asn es) in
     let test = given a.terms.now.entries in
-    let same = c.some_gives.ensures ∙ ap (λ es. given es c.deref.result.now) c.entries.ensures ∙ ap test c.deref.ensures.value in (
+    let same = c.some_gives.ensures ∙ ap (λ es. given es c.deref.result.now) c.as_slice.ensures.items ∙ ap test c.deref.ensures.value in (
       λ is. active-to history h (rows_of a.rows.now) (λ active. test active ≡ false) are (sym same ∙ not-true c.some_gives.result is),
       λ of. ap not (same ∙ active-from history h (rows_of a.rows.now) (λ active. test active ≡ false) are of),
     )

@@ -9,13 +9,13 @@ use Rattle.policy.proofs.RowsLemmas.{active-to, active-from}
 use Rattle.policy.proofs.admission.is_present.Goals as goal
 
 pub returns-then-are_permitted : goal.returns-then-are_permitted
-returns-then-are_permitted c history h are =
+returns-then-are_permitted c row is_row history h are =
     let a = c.args in
-    let test = list_any (has_terms (row_terms a.row.now)) in
-    let asked = c.entries.ensures ∙ ap c.terms-terms.entries.ensures in
-    let permitted = ap (λ gs. are_permitted gs a.day a.caller.now Alter c.entries.result) (c.deref.ensures.value ∙ are.grants)
+    let test = list_any (has_terms (row_terms row)) in
+    let asked = c.as_slice-entries.ensures.items ∙ ap (λ t. t.entries) is_row in
+    let permitted = ap (λ gs. are_permitted gs a.day a.caller.now Alter c.as_slice-entries.result.now) (c.deref.ensures.value ∙ are.grants)
     ∙ ap (are_permitted (grant_terms history h) a.day a.caller.now Alter) asked in
-    let same = c.some_has_terms.ensures ∙ ap (λ t. list_any (has_terms t) c.deref-then-are_permitted.result.now) c.terms-terms.ensures ∙ ap test c.deref-then-are_permitted.ensures.value in (
+    let same = c.some_has_terms.ensures ∙ ap (λ t. list_any (has_terms t) c.deref-then-are_permitted.result.now) is_row ∙ ap test c.deref-then-are_permitted.ensures.value in (
       λ is. (
         sym (c.are_permitted.ensures ∙ permitted) ∙ c.if-are_permitted.true,
         active-to history h (rows_of a.rows.now) (λ active. test active ≡ true) are (sym same ∙ is),

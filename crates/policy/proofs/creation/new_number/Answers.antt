@@ -11,8 +11,8 @@ returns c charter history h legal are =
     let a = c.args in
     let t = a.terms.now in
     let had = c.in_ok-rows.ensures charter history h legal are in
-    let asked = c.entries-entries.ensures in
-    let permitted = ap (λ gs. are_permitted gs a.day a.caller.now Alter c.entries-entries.result) (c.deref.ensures.value ∙ had.2.grants)
+    let asked = c.as_slice-entries.ensures.items in
+    let permitted = ap (λ gs. are_permitted gs a.day a.caller.now Alter c.as_slice-entries.result.now) (c.deref.ensures.value ∙ had.2.grants)
     ∙ ap (are_permitted (grant_terms history h) a.day a.caller.now Alter) asked in
     let scope = sym (c.are_permitted-permitted.ensures ∙ permitted) ∙ c.in_ok-require.ensures in
     let dates = c.are_dates.ensures.0 c.in_ok-require-2.ensures in

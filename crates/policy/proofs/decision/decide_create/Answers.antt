@@ -1,4 +1,4 @@
-use Rattle.std.proofs.Common.{sym, ap, ◌∙◌, Some, subst, refl}
+use Rattle.std.proofs.Common.{sym, ap, Some, subst, refl}
 use Rattle.registry.specs.declared.command.Command.TheVariants.{Create}
 use Rattle.registry.specs.Answer.{IsAccepted}
 use Rattle.policy.specs.steps.Creation.{IsCreated}

@@ -1,13 +1,37 @@
-use Rattle.std.proofs.Common.{inr, sym, ◌∙◌}
+use Rattle.std.proofs.Common.{inr, sym, ◌∙◌, Some, Err}
 use Rattle.std.proofs.lemmas.Bool.{false≢true}
+use Rattle.std.proofs.lemmas.Result.{err_from_is_err_and}
+use Rattle.registry.specs.declared.rule.Refusal.{Refusal}
+use Rattle.registry.specs.declared.rule.Refusal.TheVariants.{Denied, Memory}
+use Rattle.registry.specs.declared.rule.Rule.{Rule}
+use Rattle.registry.specs.Import.{JudgesRow, row_command}
+use Rattle.registry.specs.Verdict.{Verdict}
+use Rattle.policy.specs.steps.Part.{IsRefusedBy}
 use Rattle.policy.proofs.decision.import.import_row.Goals as goal
+
+-- another fact of the rule that denies
+refused_by : {P Q : Rule → Type 0} (refusal : Refusal) → ((rule : Rule) → P rule → Q rule) → IsRefusedBy P refusal → IsRefusedBy Q refusal
+refused_by (Denied rule place) to denied = to rule denied
+refused_by Memory to refused = tt
+
+pub returns-in_err-auth : goal.returns-in_err-auth
+returns-in_err-auth c charter history h legal are =
+    let refused = err_from_is_err_and c.from_residual-in_err-auth.result c.from_residual-in_err-auth.ensures.1 in
+    let judged = rw c.in_ok-terms.ensures at c.in_err-auth.ensures.judged charter history h legal are in
+    let a = c.args in
+    rw (refused.1, refused.2) (refused_by
+    {P = λ rule. Verdict charter history a.day a.caller.now (row_command h a.row.now) (Some rule)}
+    {Q = λ rule. JudgesRow charter a.day a.caller.now h history a.row.now (Err rule)} _ (λ rule denied. (
+      λ present. false≢true (sym c.if-is_present.false ∙ (c.is_present.ensures c.args.row.now c.in_ok-terms.ensures history h are.1).1 present),
+      denied,
+    )) judged)
 
 pub returns : goal.returns
 returns c charter history h legal are =
     inr (record {
       auth = c.in_ok-auth.auth;
-      absent = λ present. false≢true (sym c.if-is_present.false ∙ (c.is_present.ensures history h are.1).1 present);
-      created = rw c.terms.ensures at c.in_ok-auth.ensures.judged charter history h legal are;
+      absent = λ present. false≢true (sym c.if-is_present.false ∙ (c.is_present.ensures c.args.row.now c.in_ok-terms.ensures history h are.1).1 present);
+      created = rw c.in_ok-terms.ensures at c.in_ok-auth.ensures.judged charter history h legal are;
       made_one = rw c.in_ok-push.was at c.push.ensures.items;
       put = c.in_ok-auth.ensures.rows;
     })
