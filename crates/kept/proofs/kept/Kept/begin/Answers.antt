@@ -4,11 +4,11 @@ use Rattle.kept.proofs.kept.Kept.begin.Goals as goal
 pub returns-in_ok-begin_entries-clause-ok : goal.returns-in_ok-begin_entries-clause-ok
 returns-in_ok-begin_entries-clause-ok c =
     auth_joined c.args.self.now c.begin_entries.new.self c.args.auth.now (rw (← c.self.view_is) (c.is_in_force.ensures.0 c.if-is_in_force.true))
-    (rw c.entries.ensures at c.in_ok-begin_entries.ensures.ok)
+    (rw c.as_slice.ensures.items at c.in_ok-begin_entries.ensures.ok)
 
 pub returns-in_err-begin_entries-clause-err : goal.returns-in_err-begin_entries-clause-err
 returns-in_err-begin_entries-clause-err c =
-    let some = rw c.entries.ensures at c.in_err-begin_entries.ensures.err in
+    let some = rw c.as_slice.ensures.items at c.in_err-begin_entries.ensures.err in
     given_where_fails c.from_residual.result (
       some.0,
       (in_force_gives c.args.auth.now c.args.self.now.day (rw (← c.self.view_is) (c.is_in_force.ensures.0 c.if-is_in_force.true)) some.0).0 some.1,
