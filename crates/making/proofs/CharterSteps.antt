@@ -22,7 +22,7 @@ use Rattle.making.specs.Statements.{IsReady, IsExecuted}
 use Rattle.making.specs.Making.{IsMadeTo}
 use Rattle.making.specs.steps.Making.{PutsRows, HasCharter}
 use Rattle.tables.proofs.CellLemmas.{cast_schema, cast_prefix}
-use Rattle.tables.proofs.HaveEntries.{all_have_entries}
+use Rattle.tables.proofs.HaveEntries.{none_have_entries}
 use Rattle.making.proofs.StatementLemmas.{sound_still, puts_row, taken_more}
 use Rattle.tables.proofs.Inserting.{each_table}
 use Rattle.making.proofs.MakingSteps.{none_held, no_exceptions_held}
@@ -96,7 +96,7 @@ has_charter charter a b c d made schema operators prefixes =
         grants = none_held granted_part (d.now.trees 10) (still 10 refl (λ same. cc) (λ same. cc) (λ same. cc));
         claims = none_held claim_part (d.now.trees 17) (still 17 refl (λ same. cc) (λ same. cc) (λ same. cc));
         entries = none_held entry_part (d.now.trees 19) (still 19 refl (λ same. cc) (λ same. cc) (λ same. cc));
-        have_entries = all_have_entries blank_rows.of_holder;
+        have_entries = none_have_entries;
         unused = ap contents (still 12 refl (λ same. cc) (λ same. cc) (λ same. cc));
         exceptions = no_exceptions_held (d.now.trees 15) (still 15 refl (λ same. cc) (λ same. cc) (λ same. cc));
         whole = sound_still 4 _ c.now d.now third (sound_still 2 _ b.now c.now second (sound_still 0 _ a.now b.now first sound));
