@@ -1,41 +1,43 @@
 -- Where the tables of schema 1 read, their rows can be moved, and the tables that they are moved to read.
-use Rattle.std.proofs.Common.{◌≡◌, inl, ◌≤◌, List, [], ◌∷◌, map, flat_map, length, refl, ap, subst, arith, IsPermutation}
+use Rattle.std.proofs.Common.{◌≡◌, inl, ◌≤◌, List, [], ◌∷◌, map, flat_map, length, refl, subst, ◌∙◌, arith, IsPermutation}
 use Rattle.std.specs.Bool.{⊤}
 use Rattle.std.specs.List.{AllByRecursion}
 use Rattle.std.proofs.lemmas.List.Sorted.{Contains-permutation, IsPermutation-map, IsPermutation-trans}
 use Rattle.sqlite_trees.specs.Tree.{Trees}
-use Rattle.sqlite_trees.proofs.ListLemmas.{map-map, all-permutation}
+use Rattle.sqlite_trees.proofs.ListLemmas.{all_of, all-flat_map, all-map, all-permutation, flat_map_same_on, map-flat_map}
 use Rattle.sqlite_rules.proofs.ListLemmas.{contains_had}
 use Rattle.registry.specs.Values.{GrantFits}
 use Rattle.registry.specs.declared.authorization.Auth.{Auth}
 use Rattle.slurm.specs.declared.exceptions.TheConstants.{MOST_ENTRIES}
 use Rattle.tables.specs.declared.groups.OfHolder.{OfHolder}
+use Rattle.tables.specs.Authorizations.{claim_of}
 use Rattle.tables.specs.Cells.{operator_row, prefix_cells, holding_row, granted_row, schema_row}
 use Rattle.tables.specs.Decode.{exception_columns}
 use Rattle.tables.specs.Tables.{meta, auth, contents}
+use Rattle.moving.specs.OldTables.{HasOneEntry, auth_row}
 use Rattle.moving.specs.Moved.{claim_columns, entry_columns, AreAuthRows, AreMovable, IsMoved}
-use Rattle.moving.proofs.Moved.{stays}
-use Rattle.database.specs.OldTablesRead.{row_of_auth, HasSomeOldAuths, OldTablesRead}
+use Rattle.moving.proofs.Moved.{claim_turned, entry_turned, joined_ones, stays}
+use Rattle.database.specs.OldTablesRead.{rows_of_auth, HasSomeOldAuths, OldTablesRead}
 use Rattle.database.specs.TablesRead.{rows_of_entries, row_of_claim, HasSomeAuths, HasSomeCharter, ShowsHolder, ShowsOfHolder, ShowsException, TablesRead}
 
-rows_of_auths : (auths : List (OfHolder Auth)) → AreAuthRows (map row_of_auth auths)
-rows_of_auths [] = tt
-rows_of_auths (x ∷ auths) = ((x.holder, x.row, refl), rows_of_auths auths)
+rows_are_auth_rows : (auths : List (OfHolder Auth)) → AreAuthRows (flat_map rows_of_auth auths)
+rows_are_auth_rows auths =
+    all-flat_map _ rows_of_auth auths
+    (all_of _ (λ x. all-map _ (auth_row x.holder (claim_of x.row)) x.row.entries (all_of _ (λ e. (x.holder, claim_of x.row, e, refl)) x.row.entries)) auths)
 
 pub read_movable : (old : Trees) → OldTablesRead old → AreMovable old
 read_movable old reads = record {
   number = reads.schema;
-  auths = all-permutation _ (map row_of_auth reads.authorizations.auths) (contents (old auth.tree)) reads.authorizations.shown (rows_of_auths reads.authorizations.auths);
+  auths = all-permutation _ (flat_map rows_of_auth reads.authorizations.auths) (contents (old auth.tree)) reads.authorizations.shown (rows_are_auth_rows reads.authorizations.auths);
   whole = reads.whole;
 }
 
 -- each authorization has its claim and its one entry
-claims_turned : (auths : List (OfHolder Auth)) → map claim_columns (map row_of_auth auths) ≡ map row_of_claim auths
-claims_turned auths = map-map claim_columns row_of_auth auths
+claims_turned : (auths : List (OfHolder Auth)) → AllByRecursion (λ (x : OfHolder Auth). HasOneEntry x.row) auths → map claim_columns (flat_map rows_of_auth auths) ≡ map row_of_claim auths
+claims_turned = joined_ones claim_columns rows_of_auth row_of_claim (λ x. HasOneEntry x.row) (λ x. claim_turned x.holder x.row)
 
-entries_turned : (auths : List (OfHolder Auth)) → map entry_columns (map row_of_auth auths) ≡ flat_map rows_of_entries auths
-entries_turned [] = refl
-entries_turned (x ∷ auths) = ap (λ l. entry_columns (row_of_auth x) ∷ l) (entries_turned auths)
+entries_turned : (auths : List (OfHolder Auth)) → map entry_columns (flat_map rows_of_auth auths) ≡ flat_map rows_of_entries auths
+entries_turned auths = map-flat_map entry_columns rows_of_auth auths ∙ flat_map_same_on _ _ (λ x. entry_turned x.holder x.row) auths
 
 module _ (old new : Trees) (moved : IsMoved old new) where
   charter_stays : HasSomeCharter old → HasSomeCharter new
@@ -55,7 +57,7 @@ module _ (old new : Trees) (moved : IsMoved old new) where
     auths = a.auths;
     fit = a.fit;
     claims_shown = IsPermutation-trans _ _ _
-        (subst (λ l. IsPermutation l (map claim_columns (contents (old auth.tree)))) (claims_turned a.auths) (IsPermutation-map claim_columns _ _ a.shown)) moved.claims;
+        (subst (λ l. IsPermutation l (map claim_columns (contents (old auth.tree)))) (claims_turned a.auths a.one_each) (IsPermutation-map claim_columns _ _ a.shown)) moved.claims;
     entries_shown = IsPermutation-trans _ _ _
         (subst (λ l. IsPermutation l (map entry_columns (contents (old auth.tree)))) (entries_turned a.auths) (IsPermutation-map entry_columns _ _ a.shown)) moved.entries;
     unused = moved.emptied;

@@ -36,14 +36,13 @@ use Rattle.tables.proofs.Inserting.{each_table}
 use Rattle.tables.proofs.PartLemmas.{names, name_of-true, name_of_itself}
 use Rattle.tables.proofs.ReadLemmas.{all_columns, first_of_all}
 use Rattle.tables.specs.declared.groups.OfHolder.{OfHolder}
-use Rattle.tables.proofs.HaveEntries.{all_have_entries}
 use Rattle.database.specs.TablesRead.{ShowsSome, ShowsHolder, ShowsOfHolder, HoldSomeRows, TablesRead, HasSomeAuths, row_of_claim}
 use Rattle.database.specs.steps.Numbered.{shown_in}
 use Rattle.database.specs.steps.Opened.{ShowsNumber, ShowsCharter, ShowExceptions, ShowHolders, ShowAuths}
 use Rattle.database.proofs.Obeyed.{slurm_key, agree_in_key, all_whole, all_referred, once_by_key, once, equal_texts}
 use Rattle.database.proofs.KeyedRows.{at_claim}
 use Rattle.database.proofs.SomeAuths.{auths_read}
-use Rattle.database.proofs.SomeRows.{IsPartRow, rows_in, holds_parts}
+use Rattle.database.proofs.SomeRows.{IsPartRow, have_entries, holds_parts, rows_in}
 use Rattle.database.proofs.SomeExceptions.{AreElsewhere, ascending_where, some_exceptions}
 use Rattle.database.proofs.Columns.{column_after}
 
@@ -300,7 +299,7 @@ module _ (db : Database) (tables : db.schema.tables ≡ desk_tables) (sound : Is
               grants = parts.grants_held;
               claims = parts.claims_held;
               entries = parts.entries_held;
-              have_entries = all_have_entries of_holder;
+              have_entries = have_entries holders made one_counter (contents (db.trees holding.tree)) (contents (db.trees granted.tree)) (contents (db.trees claim.tree)) (contents (db.trees entry.tree)) held given auths.auths (registered authorized) auths.claims_shown auths.entries_shown (all_weaker _ _ (λ x fits. fits.1.entries) auths.auths auths.fit);
               unused = auths.unused;
               exceptions = exceptions.1;
               whole = trees_whole;

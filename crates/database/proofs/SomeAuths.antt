@@ -39,8 +39,8 @@ use Rattle.tables.proofs.ReadLemmas.{all_columns}
 use Rattle.database.specs.Laws.{number_columns}
 use Rattle.database.specs.TablesRead.{ShowsOfHolder, ShowsSome, HasSomeAuths, row_of_claim, rows_of_entries}
 use Rattle.database.specs.steps.Numbered.{shown_in, AreRead}
-use Rattle.database.specs.steps.Opened.{HasOneEntry, MakeAuths, ShowAuths, claim_places, entry_places, named_claim, named_entries}
-use Rattle.database.proofs.Grouped.{all_one, group_of, makes, named_row, same_rows}
+use Rattle.database.specs.steps.Opened.{MakeAuths, ShowAuths, claim_places, entry_places, named_claim, named_entries}
+use Rattle.database.proofs.Grouped.{group_of, makes, named_row, same_rows}
 use Rattle.database.proofs.KeyedRows.{all_claims_differ, at_claim, at_entry}
 use Rattle.database.proofs.Moved.{ascending_moved}
 use Rattle.database.proofs.Obeyed.{all_whole}
@@ -213,7 +213,7 @@ module _ (db : Database) (sound : IsSound db.schema db.trees) (tables : db.schem
       (subst (IsAscending less) have.are.same_claims (ascending-map less (λ (g : Group (OfHolder Claim)). g.claim) have.groups have.rise))
 
   pub auths_made : MakeAuths claims entries
-  auths_made = let have = in_order in makes claims entries have.groups have.are (all-permutation HasOneEntry held have.groups have.same (all_one read.auths))
+  auths_made = let have = in_order in makes claims entries have.groups have.are
 
 -- ---- the rows of what was read
 

@@ -5,15 +5,16 @@ use Rattle.std.proofs.lemmas.List.Elements.{filter-append}
 use Rattle.std.proofs.lemmas.List.Sorted.{length_permutation}
 use Rattle.sqlite_value.specs.declared.value.Value.TheVariants.{Text}
 use Rattle.sqlite_value.specs.Order.{Row, column}
-use Rattle.sqlite_trees.proofs.ListLemmas.{all_of, all_weaker, all-map, all-flat_map, all-permutation, filter_all, filter_none, IsPermutation-filter, IsPermutation-same}
+use Rattle.sqlite_trees.proofs.ListLemmas.{all_of, all_weaker, all-filter, all-map, all-flat_map, all-permutation, filter_all, filter_none, IsPermutation-filter, IsPermutation-same}
 use Rattle.sqlite_rules.specs.Lists.{Has}
 use Rattle.sqlite_rules.proofs.ListLemmas.{all_has, has_filtered, has_kept}
 use Rattle.addr.specs.declared.span.Span.{Span}
 use Rattle.registry.specs.declared.authorization.Auth.{Auth}
 use Rattle.registry.specs.declared.grant.Granted.{Granted}
+use Rattle.registry.specs.RoaPrefixes.{AreEntries}
 use Rattle.registry.specs.Rows.{Rows}
 use Rattle.tables.specs.declared.groups.OfHolder.{OfHolder}
-use Rattle.tables.specs.Authorizations.{claim_of, entry_rows_of}
+use Rattle.tables.specs.Authorizations.{EachHasEntries, HaveEntries, claim_of, entry_rows_of}
 use Rattle.tables.specs.Cells.{holder_row, holding_row, granted_row, claim_row, entry_row}
 use Rattle.tables.specs.TablesHold.{Part, HoldsPart, part_rows, is_name_of, is_text, holder_part, holding_part, granted_part, claim_part, entry_part}
 use Rattle.tables.proofs.PartLemmas.{names, name_of-true, name_of_itself}
@@ -97,6 +98,10 @@ entries_of_holder h (x ∷ xs) = go (is_of h x) refl (entries_of_holder h xs) �
         let name = same_holder h x mine in
         (λ i. map (entry_row (sym name i)) (entry_rows_of x.row) ++ more i)
         ∙ ap (λ l. l ++ filter (names 0 h) (flat_map rows_of_entries xs)) (sym (filter_all (names 0 h) (rows_of_entries x) (entries_named h x true mine)))
+
+abbrev auths_if_any : Option Rows → List Auth
+auths_if_any None = []
+auths_if_any (Some r) = r.auths
 
 module _ (holders : List Row) (made : AllByRecursion (λ c. (h : List ℕ) × (n : ℕ × ℕ) × (c ≡ holder_row h n.0 n.1)) holders)
     (once : (h : List ℕ) (xs : List (ℕ × ℕ)) → map (λ (n : ℕ × ℕ). holder_row h n.0 n.1) xs ≡ filter (names 0 h) holders → length xs < 2) where
@@ -205,6 +210,14 @@ module _ (holders : List Row) (made : AllByRecursion (λ c. (h : List ℕ) × (n
         all-permutation (λ c. is_text (column c 0) ≡ true) _ _ entries_shown
         (all-flat_map (λ c. is_text (column c 0) ≡ true) rows_of_entries auths
         (all_of _ (λ x. all-map (λ c. is_text (column c 0) ≡ true) (entry_row x.holder) (entry_rows_of x.row) (all_of _ (λ r. refl) (entry_rows_of x.row))) auths))
+
+    -- where all authorizations have entries, those of each holder have them
+    pub have_entries : AllByRecursion (λ (x : OfHolder Auth). AreEntries x.row.entries) auths → HaveEntries rows_in
+    have_entries each h r of = subst EachHasEntries (ap auths_if_any of) (go (counters h).0)
+      where
+        go : (xs : List (ℕ × ℕ)) → EachHasEntries (auths_if_any (rows_with h xs))
+        go [] = tt
+        go (n ∷ more) = all-map (λ (x : Auth). AreEntries x.entries) (λ (x : OfHolder Auth). x.row) (filter (is_of h) auths) (all-filter _ (is_of h) auths each)
 
     pub record HoldsParts : Type 0 where
       pub holders_held : HoldsPart holder_part rows_in holders

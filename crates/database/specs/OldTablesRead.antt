@@ -1,5 +1,5 @@
 -- What it is for the tables of a database of schema 1 to read.
-use Rattle.std.specs.Prelude.{◌≤◌, List, [], ◌∷◌, length, map, IsPermutation, IsTrue, ⊤}
+use Rattle.std.specs.Prelude.{◌≤◌, List, [], ◌∷◌, length, map, flat_map, IsPermutation, IsTrue, ⊤}
 use Rattle.std.specs.List.{AllByRecursion}
 use Rattle.sqlite_value.specs.Order.{Row}
 use Rattle.sqlite_trees.specs.Tree.{Trees}
@@ -11,19 +11,20 @@ use Rattle.tables.specs.declared.groups.OfHolder.{OfHolder}
 use Rattle.tables.specs.Cells.{holding_row, granted_row}
 use Rattle.tables.specs.Decode.{exception_columns}
 use Rattle.tables.specs.Tables.{meta, holder, holding, granted, auth, slurm, contents}
-use Rattle.moving.specs.OldTables.{auth_row, old_schema_row, AreOldTrees}
+use Rattle.moving.specs.OldTables.{auth_rows, old_schema_row, AreOldTrees, HasOneEntry}
 use Rattle.database.specs.TablesRead.{HasSomeCharter, ShowsHolder, ShowsOfHolder, ShowsException}
 
--- the row of an authorization in the table `auth`
-abbrev pub row_of_auth : OfHolder Auth → Row
-row_of_auth x = auth_row x.holder x.row
+-- the rows of an authorization in the table `auth`: one, where it has one entry
+abbrev pub rows_of_auth : OfHolder Auth → List Row
+rows_of_auth x = auth_rows x.holder x.row
 
--- The table `auth` has authorizations, each value of which is in its range: their rows are there, in some order, and no
--- other.
+-- The table `auth` has authorizations of one entry each, each value of which is in its range: their rows are there, in
+-- some order, and no other.
 pub record HasSomeOldAuths (trees : Trees) : Type 0 where
   pub auths : List (OfHolder Auth)
   pub fit : AllByRecursion (λ (x : OfHolder Auth). IsTrue (is_name x.holder) × AuthFits x.row) auths
-  pub shown : IsPermutation (map row_of_auth auths) (contents (trees auth.tree))
+  pub one_each : AllByRecursion (λ (x : OfHolder Auth). HasOneEntry x.row) auths
+  pub shown : IsPermutation (flat_map rows_of_auth auths) (contents (trees auth.tree))
 
 -- The number is that of schema 1 and no other row is beside it, the operators and the pool make a charter, and each row
 -- of each table shows a value of its type and has a rowid of its own. Exceptions are no more than those of one SLURM

@@ -1,5 +1,5 @@
 //! Reading all rows of a database that has the tables of a desk.
-ghost use Rattle.std.specs.Prelude.{◌≡◌, ◌≢◌, ◌≤◌, ◌↔◌, true, false, ◌||◌, nat_eq, ℕ, List, [], ◌∷◌, length, All, Any, Err, OnOk, OnErr, IfOk, IsPermutation, IsSorted, IsTrue};
+ghost use Rattle.std.specs.Prelude.{◌≡◌, ◌≢◌, ◌≤◌, ◌↔◌, true, false, ◌||◌, nat_eq, ℕ, List, [], ◌∷◌, length, Any, Err, OnOk, OnErr, IfOk, IsPermutation, IsSorted, IsTrue};
 ghost use Rattle.std.specs.declared.cmp.Ordering.{Ordering};
 ghost use Rattle.std.specs.Cmp.Lexicographic.{pointwise};
 ghost use Rattle.std.specs.List.{AllByRecursion};
@@ -19,7 +19,7 @@ ghost use Rattle.tables.proofs.GroupOrder.{claim_cmp, entry_row_cmp, of_holder_c
 ghost use Rattle.making.specs.Statements.{state_in, IsReady, WhenClean};
 ghost use Rattle.database.specs.TablesRead.{HoldSomeRows, ShowsSome, TablesRead};
 ghost use Rattle.database.specs.steps.Numbered.{AnswersSelect, AreRead, Rise, SelectsAll, SelectsInOrder, shown_in};
-ghost use Rattle.database.specs.steps.Opened.{HasNumber, ShowsNumber, number_row, MakeAuths, ShowAuths, ShowExceptions, ShowHolders, ShowsCharter, HasOneEntry, claim_places, entry_places};
+ghost use Rattle.database.specs.steps.Opened.{HasNumber, ShowsNumber, number_row, MakeAuths, ShowAuths, ShowExceptions, ShowHolders, ShowsCharter, claim_places, entry_places};
 ghost use Rattle.database.specs.Queries.{IsAskedOnce, IsClean, IsReadyToAsk, IsAskedInside, ObeysSchema};
 
 use crate::query::ask_inside;
@@ -33,7 +33,7 @@ use slurm::MOST_ENTRIES;
 use sqlite::{Alter, Connection, Row, Transaction};
 use std::alloc::Global;
 use tables::{
-    Claim, EntryRow, ExceptionRow, FromRow, Group, OfHolder, Registered, SELECT_ALL_AUTHS,
+    Claim, EntryRow, ExceptionRow, FromRow, OfHolder, Registered, SELECT_ALL_AUTHS,
     SELECT_ALL_CLAIMS, SELECT_ALL_ENTRIES, SELECT_ALL_EXCEPTIONS, SELECT_ALL_GRANTS,
     SELECT_ALL_HOLDERS, SELECT_ALL_OPERATORS, SELECT_ALL_PREFIXES, SELECT_ALL_SPANS,
     SELECT_CLAIMS_BY_HOLDER, SELECT_ENTRIES_BY_HOLDER, SELECT_SCHEMA, group_entries, shows_schema,
@@ -334,15 +334,6 @@ fn read_unused<S: Alter>(tx: &mut Transaction<'_, S>) -> Result<(), StoreFault>
     Ok(())
 }
 
-/// Whether each claim has one entry, as an authorization has.
-fn have_one_entry(groups: &[Group<OfHolder<Claim>>]) -> bool
-    ensures { IsTrue result ↔ All HasOneEntry groups.now }
-{
-    groups
-        .iter()
-        .all(|group| group.entries.entries().len() == 1)
-}
-
 /// Checks that claims and entries, both in order, make authorizations.
 fn check_auths(
     alloc: Global,
@@ -353,13 +344,10 @@ fn check_auths(
     ensures schema { result ≡ Err StoreFault.Schema
         → AllApart (holder_entry claim_entry) claims.now → ¬ MakeAuths claims.now entries.now }
 {
-    let Some(groups) = group_entries(alloc, claims, entries)? else {
-        return Err(StoreFault::Schema);
-    };
-    if !have_one_entry(&groups) {
-        return Err(StoreFault::Schema);
+    match group_entries(alloc, claims, entries)? {
+        Some(_) => Ok(()),
+        None => Err(StoreFault::Schema),
     }
-    Ok(())
 }
 
 /// Checks that the rows of claims and of entries read, and that they make authorizations.

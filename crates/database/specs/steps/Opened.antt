@@ -12,7 +12,6 @@ use Rattle.registry.specs.declared.authorization.Auth.{Auth}
 use Rattle.slurm.specs.declared.exceptions.TheConstants.{MOST_ENTRIES}
 use Rattle.tables.specs.declared.claim.Claim.{Claim}
 use Rattle.tables.specs.declared.entry.EntryRow.{EntryRow}
-use Rattle.tables.specs.declared.groups.Group.{Group}
 use Rattle.tables.specs.declared.groups.OfHolder.{OfHolder}
 use Rattle.tables.specs.Authorizations.{claim_of, entry_rows_of}
 use Rattle.tables.specs.Cells.{schema_row, operator_row, prefix_cells, span_cells, grant_cells, claim_cells, entry_cells, named_cells}
@@ -67,10 +66,6 @@ pub record MakeAuths (claims : List (OfHolder Claim)) (entries : List (OfHolder 
   pub are_entries : AllByRecursion (λ (x : OfHolder Auth). AreEntries x.row.entries) auths
   pub same_claims : map named_claim auths ≡ claims
   pub same_entries : flat_map named_entries auths ≡ entries
-
--- the claim has the one entry that an authorization has
-abbrev pub HasOneEntry : Group (OfHolder Claim) → Type 0
-HasOneEntry g = length g.entries ≡ 1
 
 -- where a row of `claim` shows a claim and then the name of its holder, and a row of `entry` so
 abbrev pub claim_places : List ℕ
