@@ -13,6 +13,7 @@ use Rattle.sqlite_schema.specs.declared.schema.Kind.TheVariants.{Integer, Text a
 use Rattle.sqlite_schema.specs.declared.schema.Schema.{Schema}
 use Rattle.sqlite_rules.specs.Cast.{cast, cast_all}
 use Rattle.charters.specs.CharterSets.{CharterSets}
+use Rattle.registry.specs.RoaPrefixes.{AreEntries}
 use Rattle.registry.specs.declared.authorization.Auth.{Auth}
 use Rattle.registry.specs.declared.change.Edit.TheVariants.{Amend}
 use Rattle.registry.specs.Rows.{Rows, edited, replaced_by}
@@ -29,6 +30,7 @@ use Rattle.tables.proofs.CellLemmas.{cast_number, is_number_cell}
 use Rattle.tables.proofs.ClaimTexts.{take_entries_is, amend_claim_is, of_number_tests, claim_sets}
 use Rattle.tables.proofs.Claims.{takes_entries, amends_claim, amends_counted}
 use Rattle.tables.proofs.Deleting as deleting
+use Rattle.tables.proofs.HaveEntries.{replaced_have_entries}
 use Rattle.tables.proofs.PartLemmas.{names, take_local, change_local}
 use Rattle.tables.proofs.Selecting.{picks}
 use Rattle.tables.proofs.TreeRows.{filter_twice}
@@ -164,8 +166,8 @@ module _ (h : List ℕ) where
       own = of_holder h x.number
 
       -- no claim has the number
-      pub amends_none : count ≡ 0 → EditsHolder h (edited (Amend x)) a c
-      amends_none none = record {
+      pub amends_none : AreEntries x.entries → count ≡ 0 → EditsHolder h (edited (Amend x)) a c
+      amends_none are none = record {
         ready = ready_then;
         schema = same_schema;
         sound = λ _. (wrote cells amend_claim_is between ran).sound;
@@ -173,12 +175,12 @@ module _ (h : List ℕ) where
             auths_turned h (map (replaced_by x)) _ _ a.now c.now (both charter rows was)
             (change_local 0 h (is_of h x.number) own (amended_claim (claim_of x)) (λ cells is. name_kept h x.number cells (own cells is))) (take_local 0 h (is_of h x.number) own)
             charter rows was some (λ r of. IsPermutation-same _ _ (claims_amended r.auths))
-            (λ r of. IsPermutation-same _ _ (none_amended r.auths (sym (counted charter rows was r of) ∙ none)));
+            (λ r of. IsPermutation-same _ _ (none_amended r.auths (sym (counted charter rows was r of) ∙ none))) (replaced_have_entries x are);
       }
 
       -- one has it, and its entries are put
-      pub amends_one : ClaimsDiffer → count ≢ 0 → (d : State) → PutsRows entry.tree (rows_of_entries h (claim_of x) x.entries) c d → EditsHolder h (edited (Amend x)) a d
-      amends_one claims_differ some d put = record {
+      pub amends_one : AreEntries x.entries → ClaimsDiffer → count ≢ 0 → (d : State) → PutsRows entry.tree (rows_of_entries h (claim_of x) x.entries) c d → EditsHolder h (edited (Amend x)) a d
+      amends_one are claims_differ some d put = record {
         ready = put.ready;
         schema = put.edits.schema ∙ same_schema;
         sound = λ _. put.sound (wrote cells amend_claim_is between ran).sound;
@@ -189,5 +191,5 @@ module _ (h : List ℕ) where
             (change_local 0 h (is_of h x.number) own (amended_claim (claim_of x)) (λ cells is. name_kept h x.number cells (own cells is)))
             (both_local without news (take_local 0 h (is_of h x.number) own) own_news)
             charter rows was is (λ r of. IsPermutation-same _ _ (claims_amended r.auths))
-            (λ r of. one_amended r.auths (apart charter rows was r of claims_differ) (λ none. some (counted charter rows was r of ∙ none)));
+            (λ r of. one_amended r.auths (apart charter rows was r of claims_differ) (λ none. some (counted charter rows was r of ∙ none))) (replaced_have_entries x are);
       }

@@ -9,14 +9,15 @@ use Rattle.sqlite.specs.Effect.{Database}
 use Rattle.sqlite.specs.State.{State}
 use Rattle.sqlite_value.specs.declared.value.Value.TheVariants.{Text}
 use Rattle.sqlite_value.specs.Order.{Row, column}
-use Rattle.sqlite_trees.proofs.ListLemmas.{IsPermutation-same}
+use Rattle.sqlite_trees.proofs.ListLemmas.{all-append, all-filter, IsPermutation-same}
 use Rattle.charters.specs.CharterSets.{CharterSets}
+use Rattle.registry.specs.RoaPrefixes.{AreEntries}
 use Rattle.registry.specs.declared.authorization.Auth.{Auth}
 use Rattle.registry.specs.declared.authorization.RoaPrefix.{RoaPrefix}
 use Rattle.registry.specs.declared.change.Edit.TheVariants.{Withdraw}
 use Rattle.registry.specs.Rows.{Rows, edited}
 use Rattle.registry.specs.RowsOfAll.{AllRows}
-use Rattle.tables.specs.Authorizations.{claim_of, entry_rows_of}
+use Rattle.tables.specs.Authorizations.{EachHasEntries, claim_of, entry_rows_of}
 use Rattle.tables.specs.Cells.{number_cell, schema_row, operator_row, prefix_cells, claim_row, entry_row}
 use Rattle.tables.specs.Groups.{claim_entry}
 use Rattle.tables.specs.Tables.{claim, entry, contents, desk_tables, is_table, AreTrees}
@@ -30,7 +31,7 @@ use Rattle.tables.proofs.CellLemmas.{cast_claim, cast_entry, number_of_number, a
 use Rattle.tables.proofs.ClaimTexts.{put_claim_is, put_entry_is, take_claim_is, take_entries_is, of_number_tests}
 use Rattle.tables.proofs.Claims.{entries_taken, takes_entries, takes_claim}
 use Rattle.tables.proofs.Deleting as deleting
-use Rattle.tables.proofs.HaveEntries.{all_have_entries}
+use Rattle.tables.proofs.HaveEntries.{edited_have_entries}
 use Rattle.tables.proofs.PartLemmas.{name_of_itself, IsLocal, turned_at, part_same, part_turned, put_local, take_local}
 use Rattle.tables.proofs.Texts.{put_terms}
 use Rattle.making.specs.Statements.{IsReady, IsExecuted}
@@ -106,8 +107,9 @@ module _ (h : List ℕ) (to : List Auth → List Auth) where
 
   pub auths_turned : (of_claims of_entries : List Row → List Row) (old new : Database) → EditsBoth of_claims of_entries old new → IsLocal 0 h of_claims → IsLocal 0 h of_entries
       → (charter : CharterSets) (rows : AllRows) → TablesHold charter rows old.trees → IsSome (rows.of_holder h)
-      → TurnsPart rows.of_holder claim_part of_claims → TurnsPart rows.of_holder entry_part of_entries → KeepsExceptions charter (at_holder h (option_map with_turned) rows) old.trees new.trees
-  auths_turned of_claims of_entries old new e own_claims own_entries charter rows was some claims entries =
+      → TurnsPart rows.of_holder claim_part of_claims → TurnsPart rows.of_holder entry_part of_entries → ((xs : List Auth) → EachHasEntries xs → EachHasEntries (to xs))
+      → KeepsExceptions charter (at_holder h (option_map with_turned) rows) old.trees new.trees
+  auths_turned of_claims of_entries old new e own_claims own_entries charter rows was some claims entries keeps =
       let still : (so : List Row → Type 0) (t : ℕ) → is_table t ≡ true → t ≢ claim.tree → t ≢ entry.tree → so (contents (old.trees t)) → so (contents (new.trees t)) =
       λ so t is apart other. subst (λ table. so (contents table)) (sym (e.others t is apart other)) in
       let kept : (part : Part) → is_table part.tree ≡ true → part.tree ≢ claim.tree → part.tree ≢ entry.tree → ((r : Rows) → part.rows h r ≡ part.rows h (with_turned r)) → HoldsPart part rows.of_holder (contents (old.trees part.tree))
@@ -125,7 +127,7 @@ module _ (h : List ℕ) (to : List Auth → List Auth) where
           grants = kept granted_part refl (λ same. cc) (λ same. cc) (λ r. refl) was.grants;
           claims = part_edited rows.of_holder some claim_part of_claims _ _ own_claims claims e.claims was.claims;
           entries = part_edited rows.of_holder some entry_part of_entries _ _ own_entries entries e.entries was.entries;
-          have_entries = all_have_entries (after rows.of_holder some);
+          have_entries = edited_have_entries h with_turned rows.of_holder (λ r. keeps r.auths) was.have_entries;
           unused = still (λ table. table ≡ []) 12 refl (λ same. cc) (λ same. cc) was.unused;
           exceptions = still (HoldsExceptions rows.exceptions) 15 refl (λ same. cc) (λ same. cc) was.exceptions;
           whole = e.whole was.whole;
@@ -183,15 +185,15 @@ module _ (h : List ℕ) where
       let parts = flat_map-append entries_of_auth xs (x ∷ []) ∙ ap (λ l. flat_map entries_of_auth xs ++ l) (append-nil (entries_of_auth x)) in
       subst (λ l. IsPermutation l (entries_of_auth x ++ flat_map entries_of_auth xs)) (sym parts) (IsPermutation-append_comm (flat_map entries_of_auth xs) (entries_of_auth x))
 
-  pub puts_auth : (x : Auth) (a b c : State) → PutsRows claim.tree (claim_row h (claim_of x) ∷ []) a b → PutsRows entry.tree (rows_of_entries (claim_of x) x.entries) b c → EditsHolder h (with_auths (x ∷ [])) a c
-  puts_auth x a b c first second = record {
+  pub puts_auth : (x : Auth) → AreEntries x.entries → (a b c : State) → PutsRows claim.tree (claim_row h (claim_of x) ∷ []) a b → PutsRows entry.tree (rows_of_entries (claim_of x) x.entries) b c → EditsHolder h (with_auths (x ∷ [])) a c
+  puts_auth x are a b c first second = record {
     ready = second.ready;
     schema = second.edits.schema ∙ first.edits.schema;
     sound = λ sound. second.sound (first.sound sound);
     rows = λ charter rows was some.
         auths_turned h (λ xs. xs ++ x ∷ []) _ _ a.now c.now (claims_first _ _ a.now b.now c.now first.edits second.edits)
         (put_local 0 h (claim_row h (claim_of x)) refl) (puts_local (entries_of_auth x) (entries_named (claim_of x) x.entries))
-        charter rows was some (λ r of. appended claim_cells_of r.auths x) (λ r of. entries_appended r.auths x);
+        charter rows was some (λ r of. appended claim_cells_of r.auths x) (λ r of. entries_appended r.auths x) (λ xs all. all-append _ xs (x ∷ []) all (are, tt));
   }
 
   -- ---- taken
@@ -253,5 +255,5 @@ module _ (h : List ℕ) where
             let claims = takes_claim b.now.schema b c _ second.0 still_has params (is_of h n) tests (sound_still entry.tree _ a.now b.now entries was.whole claim.tree refl) none last in
             let own = take_local 0 h (is_of h n) (of_holder h n) in
             auths_turned h (without n) _ _ a.now c.now (entries_first _ _ a.now b.now c.now entries claims) own own charter rows was some
-            (λ r of. IsPermutation-same _ _ (taken (is_of h n) (λ (x : Auth). x.number == n) claim_cells_of (λ x. own_claim n (claim_of x)) r.auths)) (λ r of. IsPermutation-same _ _ (entries_left n r.auths));
+            (λ r of. IsPermutation-same _ _ (taken (is_of h n) (λ (x : Auth). x.number == n) claim_cells_of (λ x. own_claim n (claim_of x)) r.auths)) (λ r of. IsPermutation-same _ _ (entries_left n r.auths)) (λ xs. all-filter _ (λ (x : Auth). not (x.number == n)) xs);
       }

@@ -9,6 +9,7 @@ use Rattle.sqlite_schema.specs.declared.command.Command.TheVariants.{Update, Del
 use Rattle.sqlite_schema.specs.declared.schema.Table.{Table}
 use Rattle.sqlite_rules.specs.Cast.{cast_all}
 use Rattle.registry.specs.Rows.{Rows}
+use Rattle.tables.specs.Authorizations.{EachHasEntries}
 use Rattle.tables.specs.Tables.{as_strict, claim, desk_tables, is_table}
 use Rattle.tables.specs.TablesHold.{Part}
 use Rattle.making.specs.steps.Making.{PutsRows}
@@ -24,7 +25,8 @@ use Rattle.edits.proofs.StepLemmas.{is_part_tree, AllEdited, edits_rows}
 use Rattle.tables.proofs.Texts.{Means}
 
 module _ (at : ℕ) (t : Table) (there : slice_get desk_tables at ≡ Some (as_strict t)) (old new : State) where
-  module _ (place : ℕ) (rows : List ℕ → Rows → List Row) (parted : is_part_tree t.tree ≡ true) (h : List ℕ) (edit : Rows → Rows) where
+  module _ (place : ℕ) (rows : List ℕ → Rows → List Row) (parted : is_part_tree t.tree ≡ true) (h : List ℕ) (edit : Rows → Rows)
+      (entries_stay : (r : Rows) → EachHasEntries r.auths → EachHasEntries (edit r).auths) where
     abbrev part : Part
     part = record { tree = t.tree; place = place; rows = rows }
 
@@ -35,7 +37,7 @@ module _ (at : ℕ) (t : Table) (there : slice_get desk_tables at ≡ Some (as_s
           ready = puts.ready;
           schema = puts.edits.schema;
           sound = puts.sound;
-          rows = edits_rows h edit part (λ rows. row ∷ rows) old.now new.now puts.edits (put_local place h row named) put parted parts;
+          rows = edits_rows h edit part (λ rows. row ∷ rows) old.now new.now puts.edits (put_local place h row named) put parted parts entries_stay;
         }
 
     module _ (tests : List Term) (goes : Row → Bool) (params : Row) (same : (r : Row) → picks params tests r ≡ goes (drop 1 r)) (own : (c : Row) → goes c ≡ true → names place h c ≡ true) where
@@ -50,7 +52,7 @@ module _ (at : ℕ) (t : Table) (there : slice_get desk_tables at ≡ Some (as_s
             sound = λ _. w.sound;
             rows = λ charter held was some.
                 edits_rows h edit part (filter (λ c. not (goes c))) old.now new.now (deleting.takes at t there other old.now.schema tests goes old new _ params ran.0 has same (was.whole t.tree is) w)
-                (take_local place h goes own) (λ r. IsPermutation-same _ _ (taken r)) parted parts charter held was some;
+                (take_local place h goes own) (λ r. IsPermutation-same _ _ (taken r)) parted parts entries_stay charter held was some;
           }
 
       pub changes_edit : {sql : List ℕ} (sets : List Term) (change : Row → Row) → Means sql (Update at (updating.update at t there old.now.schema tests sets))
@@ -66,5 +68,5 @@ module _ (at : ℕ) (t : Table) (there : slice_get desk_tables at ≡ Some (as_s
             sound = λ _. w.sound;
             rows = λ charter held was some.
                 edits_rows h edit part (map (changed_if goes change)) old.now new.now (updating.changes at t there old.now.schema tests sets goes change old new _ params ran.0 has same sets_to (was.whole t.tree is) w)
-                (change_local place h goes own change keeps) (λ r. IsPermutation-same _ _ (changed r)) parted parts charter held was some;
+                (change_local place h goes own change keeps) (λ r. IsPermutation-same _ _ (changed r)) parted parts entries_stay charter held was some;
           }

@@ -17,12 +17,13 @@ use Rattle.registry.specs.declared.grant.Granted.{Granted}
 use Rattle.charters.specs.CharterSets.{CharterSets}
 use Rattle.registry.specs.Rows.{Rows}
 use Rattle.registry.specs.RowsOfAll.{AllRows}
+use Rattle.tables.specs.Authorizations.{EachHasEntries, HaveEntries}
 use Rattle.tables.specs.Tables.{contents, is_table}
 use Rattle.tables.specs.Cells.{schema_row, operator_row, prefix_cells}
 use Rattle.tables.specs.steps.Edits.{Edits}
 use Rattle.tables.specs.TablesHold.{Part, part_rows, is_name_of, holder_part, holding_part, granted_part, claim_part, entry_part, HoldsPart, HoldsCharter, HoldsExceptions, TablesHold}
 use Rattle.edits.specs.steps.Statements.{EditsRows, KeepsExceptions, at_holder}
-use Rattle.tables.proofs.HaveEntries.{all_have_entries}
+use Rattle.tables.proofs.HaveEntries.{edited_have_entries}
 use Rattle.tables.proofs.PartLemmas.{names, IsLocal, EditsPart, turned_at, part_same, part_turned}
 use Rattle.tables.proofs.Selecting.{picks}
 use Rattle.tables.proofs.Texts.{equals}
@@ -99,8 +100,9 @@ module _ (so : Option Rows → Type 0) (h : List ℕ) (to : Option Rows → Opti
         part_same p rows h to (contents (new.trees p.tree))
         (subst (λ t. HoldsPart p rows (contents t)) (sym (e.others p.tree other.1 (λ it. both_ways _ other.0 (rw it (eq-eqb part.tree part.tree refl))))) holds) (other.2 (rows h) is)
 
-    pub turns_rows : is_part_tree part.tree ≡ true → AllFollow → (charter : CharterSets) (rows : AllRows) → TablesHold charter rows old.trees → so (rows.of_holder h) → KeepsExceptions charter (at_holder h to rows) old.trees new.trees
-    turns_rows is parts charter rows was is_so = record {
+    pub turns_rows : is_part_tree part.tree ≡ true → AllFollow → ((rows : List ℕ → Option Rows) → HaveEntries rows → HaveEntries (turned_at h to rows))
+        → (charter : CharterSets) (rows : AllRows) → TablesHold charter rows old.trees → so (rows.of_holder h) → KeepsExceptions charter (at_holder h to rows) old.trees new.trees
+    turns_rows is parts entries_stay charter rows was is_so = record {
       held = record {
         charter_kept = charter_still part.tree by old new e is charter was.charter_kept;
         holders = turned_part holder_part rows.of_holder is_so parts.0 was.holders;
@@ -108,7 +110,7 @@ module _ (so : Option Rows → Type 0) (h : List ℕ) (to : Option Rows → Opti
         grants = turned_part granted_part rows.of_holder is_so parts.2 was.grants;
         claims = turned_part claim_part rows.of_holder is_so parts.3 was.claims;
         entries = turned_part entry_part rows.of_holder is_so parts.4 was.entries;
-        have_entries = all_have_entries (turned_at h to rows.of_holder);
+        have_entries = entries_stay rows.of_holder was.have_entries;
         unused = subst (λ rows. rows ≡ []) (still part.tree by old new e is 12 refl refl) was.unused;
         exceptions = subst (HoldsExceptions rows.exceptions) (still part.tree by old new e is 15 refl refl) was.exceptions;
         whole = sound_still part.tree by old new e was.whole;
@@ -116,7 +118,7 @@ module _ (so : Option Rows → Type 0) (h : List ℕ) (to : Option Rows → Opti
       exceptions = tree_still part.tree by old new e is 15 refl refl;
     }
 
--- an edit of the rows of a registered holder
+-- an edit of the rows of a registered holder, in which authorizations keep their entries
 module _ (h : List ℕ) (edit : Rows → Rows) (part : Part) where
   abbrev pub AllEdited : Type 0
   AllEdited = AllFollow IsSome h (option_map edit) part
@@ -129,8 +131,9 @@ module _ (h : List ℕ) (edit : Rows → Rows) (part : Part) where
       go None some = refl
       go (Some r) some = sym (same r)
 
-  pub edits_rows : (by : List Row → List Row) (old new : Database) → Edits part.tree by old new → IsLocal part.place h by → EditsPart part h edit by → is_part_tree part.tree ≡ true → AllEdited → EditsRows h edit old new
-  edits_rows by old new e local to is parts = turns_rows IsSome h (option_map edit) part by old new e local go is parts
+  pub edits_rows : (by : List Row → List Row) (old new : Database) → Edits part.tree by old new → IsLocal part.place h by → EditsPart part h edit by → is_part_tree part.tree ≡ true → AllEdited
+      → ((r : Rows) → EachHasEntries r.auths → EachHasEntries (edit r).auths) → EditsRows h edit old new
+  edits_rows by old new e local to is parts keeps = turns_rows IsSome h (option_map edit) part by old new e local go is parts (λ rows. edited_have_entries h edit rows keeps)
     where
       go : (o : Option Rows) → IsSome o → IsPermutation (part_rows part h (option_map edit o)) (by (part_rows part h o))
       go None some = absurd cc

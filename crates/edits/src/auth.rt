@@ -82,7 +82,7 @@ impl HolderRow for Auth {
     fn put<S: Alter>(&self, tx: &mut Transaction<'_, S>, holder: &Name) -> Result<(), Error> {
         let claim = claim_of(self);
         put_claim(tx, holder, &claim)?;
-        put_entries(tx, holder, &claim, &self.entries())
+        put_entries(tx, holder, &claim, self.entries.as_slice())
     }
 }
 
@@ -112,13 +112,14 @@ pub(crate) fn amend_auth<S: Alter>(
     ensures inside { StaysInside S.Store tx.old tx.new }
 {
     database::laws::claims_differ();
-    execute(tx, DELETE_ENTRIES, &number_values(holder, auth.number))?;
     let claim = claim_of(auth);
+    let entries = auth.entries.as_slice();
+    execute(tx, DELETE_ENTRIES, &number_values(holder, auth.number))?;
     let amended = execute_counting(tx, UPDATE_CLAIM, &claim_values(holder, &claim))?;
     if amended == 0 {
         return Ok(());
     }
-    put_entries(tx, holder, &claim, &auth.entries())
+    put_entries(tx, holder, &claim, entries)
 }
 
 /// Takes away the authorization of this number, where there is one. Its entries go first, since

@@ -18,7 +18,7 @@ returns-then-amended-eq0-clause-done g c clean =
     let ready = c.requires (omega (arith, clean, earlier, c.execute.ensures.inside.survives.clean)) in
     let first = rw c.number_values.ensures at (c.in_ok-execute.ensures.ran (omega (arith, clean, earlier))) in
     let second = rw (c.claim_values.ensures, c.claim_of-claim.ensures) at (c.in_ok-amended.ensures.ran clean) in
-    amends_none c.args.holder.now c.args.auth.now _ _ _ c.in_ok-amended.amended ready first second (omega (arith, c.if-amended-eq0.true))
+    amends_none c.args.holder.now c.args.auth.now _ _ _ c.in_ok-amended.amended ready first second (record { number = c.as_slice-entries.ensures.number; rising = c.as_slice-entries.ensures.rising }) (omega (arith, c.if-amended-eq0.true))
 
 pub returns-clause-done : goal.returns-clause-done
 returns-clause-done g c clean =
@@ -27,9 +27,9 @@ returns-clause-done g c clean =
     let ready = c.requires (omega (arith, clean, last, earlier, c.execute.ensures.inside.survives.clean)) in
     let first = rw c.number_values.ensures at (c.in_ok-execute.ensures.ran (omega (arith, clean, last, earlier))) in
     let second = rw (c.claim_values.ensures, c.claim_of-claim.ensures) at (c.in_ok-amended.ensures.ran (omega (arith, clean, last))) in
-    let put = rw (c.claim_of-claim.ensures, c.entries.ensures) at (c.put_entries.ensures.done clean) in
+    let put = rw (c.claim_of-claim.ensures, c.as_slice-entries.ensures.items) at (c.put_entries.ensures.done clean) in
     on_ok_weaker c.put_entries.result
-    (amends_one c.args.holder.now c.args.auth.now _ _ _ c.in_ok-amended.amended ready first second c.claims_differ.ensures (λ none. absurd (omega (arith, none, c.if-amended-eq0.false))) _) put
+    (amends_one c.args.holder.now c.args.auth.now _ _ _ c.in_ok-amended.amended ready first second (record { number = c.as_slice-entries.ensures.number; rising = c.as_slice-entries.ensures.rising }) c.claims_differ.ensures (λ none. absurd (omega (arith, none, c.if-amended-eq0.false))) _) put
 
 pub returns-clause-inside : goal.returns-clause-inside
 returns-clause-inside g c = stays_then g.S.Store _ _ _ (stays_then g.S.Store _ _ _ c.execute.ensures.inside c.execute_counting.ensures.inside) c.put_entries.ensures.inside
