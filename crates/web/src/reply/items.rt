@@ -99,15 +99,24 @@ fn write_auth<D: Drain>(
     ensures failed { OnErr result (D.has_failed drain.new ≡ true) }
 {
     match entries {
-        [entry] => {
-            let mut text: ArrayString<256> = ArrayString::new();
-            text.push_str(auth_start(is_first, auth).as_str());
-            text.push_str(prefix_members(&entry.prefix, entry.max).as_str());
-            text.push_str(auth_end(auth).as_str());
-            write_all(drain, text.as_str().as_bytes())
-        }
+        [entry] => write_all(
+            drain,
+            one_entry_item(is_first, auth, entry).as_str().as_bytes(),
+        ),
         _ => write_auth_list(is_first, auth, entries, drain),
     }
+}
+
+/// An authorization of this one entry, behind a comma where it is not the first of its list.
+fn one_entry_item(is_first: bool, auth: &Auth, entry: &RoaPrefix) -> ArrayString<256>
+    ensures { result.bytes
+        ≡ auth_item is_first auth.now (prefix_members entry.now.prefix entry.now.max) }
+{
+    let mut text = ArrayString::new();
+    text.push_str(auth_start(is_first, auth).as_str());
+    text.push_str(prefix_members(&entry.prefix, entry.max).as_str());
+    text.push_str(auth_end(auth).as_str());
+    text
 }
 
 /// Writes an authorization with the list of these entries, one by one, since they are too many for
