@@ -7,7 +7,7 @@ use Rattle.registry.specs.Rows.{Rows, RowsOf}
 use Rattle.registry.specs.Values.{ExceptionsFit, HistoryFits, RowsFit}
 use Rattle.registry.specs.Verdict.{IsLegal}
 
--- those of each holder: create and amend require it of the maxLength, and no number is given after the last
+-- those of each holder: create and amend require it of each maxLength, and no number is given after the last
 -- one
 abbrev pub LegalRowsFit : Type 0
 LegalRowsFit =
