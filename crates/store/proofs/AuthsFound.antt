@@ -1,39 +1,38 @@
 -- The authorizations of a holder, out of its claims and the rows of its entries.
-use Rattle.std.proofs.Common.{◌≡◌, ◌≢◌, ℕ, suc, ◌<◌, ◌^◌, false, List, [], ◌∷◌, map, flat_map, get_or, filter, ◌+◌, true, Option, Some, None, Ordering, Less, refl, sym, ap, ap₂, subst, ◌∙◌, arith, is_lt, is_eq, nat_cmp, IsPermutation, IsSorted}
+use Rattle.std.proofs.Common.{◌≡◌, ◌≢◌, ℕ, suc, ◌<◌, ◌^◌, false, List, [], ◌∷◌, map, flat_map, get_or, filter, ◌+◌, true, Option, Some, None, Ordering, Less, refl, sym, ap, subst, ◌∙◌, arith, is_lt, is_eq, nat_cmp, IsPermutation, IsSorted}
 use Rattle.std.specs.Prelude.{AllPairs, Err, IfOk, MatchOption, Result}
 use Rattle.std.specs.Option.{ok_or}
 use Rattle.std.specs.List.{AllByRecursion}
 use Rattle.std.proofs.lemmas.Bool.{false_from_ne_true}
-use Rattle.std.proofs.lemmas.List.{get_or-map, length-map}
+use Rattle.std.proofs.lemmas.List.{get_or-map, length-map, map-id}
 use Rattle.std.proofs.lemmas.List.Sorted.{IsPermutation-map, IsPermutation-sym}
 use Rattle.sqlite.specs.Effect.{Database, IsDatabase}
 use Rattle.sqlite_value.specs.declared.value.Value.TheVariants.{Text}
 use Rattle.sqlite_value.specs.Order.{Row}
-use Rattle.sqlite_rules.specs.Lists.{Has}
 use Rattle.sqlite_rules.proofs.ListLemmas.{all_from, contains_had}
 use Rattle.sqlite_rules.proofs.ProbeLemmas.{mapped_has}
 use Rattle.sqlite_trees.specs.Tree.{Trees, IsAscending}
-use Rattle.sqlite_trees.proofs.ListLemmas.{all_of, all-map, ascending-map, ascending_weaker, flat_map-map, map-map, pull_back}
+use Rattle.sqlite_trees.proofs.ListLemmas.{all-map, ascending-map, ascending_weaker, flat_map-map, map-map}
 use Rattle.addr.proofs.AddressLemmas.{below_widest, first_below}
 use Rattle.charters.specs.CharterSets.{CharterSets}
 use Rattle.registry.specs.RoaPrefixes.{AreEntries}
 use Rattle.registry.specs.Rows.{Rows}
 use Rattle.registry.specs.RowsOfAll.{AllRows}
 use Rattle.registry.specs.declared.authorization.Auth.{Auth}
-use Rattle.registry.specs.declared.authorization.RoaPrefix.{RoaPrefix}
-use Rattle.registry.proofs.Entries.{are-one}
 use Rattle.tables.specs.declared.claim.Claim.{Claim}
 use Rattle.tables.specs.declared.entry.EntryRow.{EntryRow}
 use Rattle.tables.specs.declared.groups.Group.{Group}
 use Rattle.tables.specs.Authorizations.{AreAuths, NumbersRise, claim_of, entry_rows_of}
 use Rattle.tables.specs.Cells.{claim_cells, claim_row, entry_cells, number_cell}
-use Rattle.tables.specs.Groups.{AreGroups, claim_entry, group_rows}
+use Rattle.tables.specs.Groups.{claim_entry, group_rows}
+use Rattle.tables.specs.steps.Ungrouping.{auth_of, group_of}
 use Rattle.tables.specs.Tables.{claim, contents, desk_tables}
 use Rattle.tables.specs.TablesHold.{TablesHold, claim_part, items_if_any, part_rows}
 use Rattle.tables.proofs.GroupCells.{by_entry, entries_alike}
 use Rattle.tables.proofs.GroupNeeds.{claims_grouped_once}
 use Rattle.tables.proofs.GroupOrder.{claim_cmp, claim_orders, entry_row_cmp, groups_in_order}
 use Rattle.tables.proofs.PartLemmas.{names}
+use Rattle.tables.proofs.Ungrouping.{grouped, ungrouped}
 use Rattle.database.specs.Laws.{ClaimsDiffer, number_columns}
 use Rattle.store.specs.Loads.{AreInOrder}
 use Rattle.store.specs.steps.Queries.{by_column}
@@ -60,46 +59,17 @@ rows_sorted = sorted_values entry_cells by_entry entry_row_cmp (λ r s. entries_
 
 -- ---- an authorization as its claim with its entries
 
-abbrev group_of : Auth → Group Claim
-group_of x = record { claim = claim_of x; entries = x.entries }
-
 abbrev HasEntries : Auth → Type 0
 HasEntries x = AreEntries x.entries
 
-same_auth : (x y : Auth) → claim_of x ≡ claim_of y → x.entries ≡ y.entries → x ≡ y
-same_auth x y claims entries =
-    let number : x.number ≡ y.number = ap (λ (c : Claim). c.number) claims in
-    let asn : x.asn ≡ y.asn = ap (λ (c : Claim). c.asn) claims in
-    let from : x.from ≡ y.from = ap (λ (c : Claim). c.from) claims in
-    let until : x.until ≡ y.until = ap (λ (c : Claim). c.until) claims in
-    λ i. record { number = number i; asn = asn i; entries = entries i; from = from i; until = until i }
-
-same_auths : (xs ys : List Auth) → map group_of xs ≡ map group_of ys → xs ≡ ys
-same_auths [] [] same = refl
-same_auths [] (y ∷ ys) same = absurd cc
-same_auths (x ∷ xs) [] same = absurd cc
-same_auths (x ∷ xs) (y ∷ ys) same =
-    let head : group_of x ≡ group_of y = cc in
-    let rest : map group_of xs ≡ map group_of ys = cc in
-    ap₂ ◌∷◌ (same_auth x y (ap (λ (g : Group Claim). g.claim) head) (ap (λ (g : Group Claim). g.entries) head)) (same_auths xs ys rest)
-
-as_groups : (claims : List Claim) (rows : List EntryRow) (auths : List Auth) → AreAuths claims rows auths → AllByRecursion HasEntries auths → AreGroups claim_entry claims rows (map group_of auths)
-as_groups claims rows auths are have = record {
-  same_claims = map-map (λ (g : Group Claim). g.claim) group_of auths ∙ are.same_claims;
-  same_rows = flat_map-map (group_rows claim_entry) group_of auths ∙ are.same_rows;
-  are_entries = all-map (λ (g : Group Claim). AreEntries g.entries) group_of auths have;
-}
-
-as_auths : (claims : List Claim) (rows : List EntryRow) (auths : List Auth) → AreGroups claim_entry claims rows (map group_of auths) → AreAuths claims rows auths
-as_auths claims rows auths are = record {
-  same_claims = sym (map-map (λ (g : Group Claim). g.claim) group_of auths) ∙ are.same_claims;
-  same_rows = sym (flat_map-map (group_rows claim_entry) group_of auths) ∙ are.same_rows;
-}
+back_from_groups : (xs : List Auth) → map auth_of (map group_of xs) ≡ xs
+back_from_groups xs = map-map auth_of group_of xs ∙ map-id xs
 
 -- two lists are those of no other authorizations
 auths_once : (claims : List Claim) (rows : List EntryRow) (one other : List Auth) → NumbersRise claims → AreAuths claims rows one → AreAuths claims rows other → one ≡ other
 auths_once claims rows one other rise first second =
-    same_auths one other (claims_grouped_once claims rows (map group_of one) (map group_of other) rise (as_groups claims rows one first (all_of HasEntries are-one one)) (as_groups claims rows other second (all_of HasEntries are-one other)))
+    let same = claims_grouped_once claims rows (map group_of one) (map group_of other) rise (grouped claims rows one first) (grouped claims rows other second) in
+    sym (back_from_groups one) ∙ ap (map auth_of) same ∙ back_from_groups other
 
 -- ---- the numbers of a holder's authorizations
 
@@ -147,13 +117,12 @@ module _ (h : List ℕ) (xs : List Auth) (claims : List Claim) (rows : List Entr
       (by_number claim_cells (λ (c : Claim). c.number) (λ _. refl) claims claims_sorted)
       (subst (λ l. IsPermutation l rows) (sym (flat_map-map (group_rows claim_entry) group_of xs)) same_rows)
       (rows_sorted rows sorted) in
-      let back = pull_back group_of held it.groups it.same xs refl in
       let less = ascending_weaker (λ (g k : Group Claim). claim_cmp g.claim k.claim ≡ Less) (λ (g k : Group Claim). g.claim.number < k.claim.number) (λ g k before. less_number g.claim.number k.claim.number before) it.groups it.rise in
       record {
-        auths = back.0;
-        same = back.1;
+        auths = map auth_of it.groups;
+        same = subst (λ l. IsPermutation l (map auth_of it.groups)) (back_from_groups xs) (IsPermutation-map auth_of _ _ it.same);
         rise = subst NumbersRise it.are.same_claims (ascending-map (λ (c d : Claim). c.number < d.number) (λ (g : Group Claim). g.claim) it.groups less);
-        are = as_auths claims rows back.0 (subst (AreGroups claim_entry claims rows) back.2 it.are);
+        are = ungrouped claims rows it.groups it.are;
       }
 
   -- the authorizations of the two lists are those of the holder, by rising number
