@@ -10,8 +10,7 @@ use std::process::Abort;
 use std::test::Fail;
 use store::{Store, StoreFault};
 
-/// Statements over the rows of the example, and what the opening answers then. An authorization has
-/// one prefix for now, so a claim that has two entries does not read.
+/// Statements over the rows of the example, and what the opening answers then.
 const CHANGED_ROWS: &str = r#"
 # number_of_the_schema
 UPDATE meta SET value = 2 => ok
@@ -115,9 +114,12 @@ INSERT INTO claim VALUES ('alpha', 2, 64497, 20454, 20818); INSERT INTO entry VA
 INSERT INTO claim VALUES ('alpha', 2, 64497, 20454, 20818); INSERT INTO entry VALUES ('alpha', 2, 64496, 4, x'000000000000000000000000c0000200', 24, 25) => schema
 INSERT INTO claim VALUES ('alpha', 2, 64497, 20454, 20818); UPDATE entry SET number = 2, asn = 64497 => schema
 INSERT INTO holder VALUES ('beta', 0, 1); INSERT INTO claim VALUES ('beta', 1, 64496, 20454, 20818); INSERT INTO entry VALUES ('beta', 1, 64496, 4, x'000000000000000000000000c0000280', 25, 25) => ok
-# one_prefix_each
-INSERT INTO entry VALUES ('alpha', 1, 64496, 4, x'000000000000000000000000c0000200', 25, 25) => schema
-INSERT INTO entry VALUES ('alpha', 1, 64496, 6, x'20010db8000000000000000000000000', 32, 48) => schema
+# several_entries_of_a_claim
+INSERT INTO entry VALUES ('alpha', 1, 64496, 4, x'000000000000000000000000c0000200', 25, 25) => ok
+INSERT INTO entry VALUES ('alpha', 1, 64496, 6, x'20010db8000000000000000000000000', 32, 48) => ok
+INSERT INTO entry VALUES ('alpha', 1, 64497, 6, x'20010db8000000000000000000000000', 32, 48) => schema
+INSERT INTO entry WITH RECURSIVE n (i) AS (SELECT 66 UNION ALL SELECT i + 1 FROM n WHERE i < 128) SELECT 'alpha', 1, 64496, 6, x'20010db8000000000000000000000000', i, i FROM n => ok
+INSERT INTO entry WITH RECURSIVE n (i) AS (SELECT 65 UNION ALL SELECT i + 1 FROM n WHERE i < 128) SELECT 'alpha', 1, 64496, 6, x'20010db8000000000000000000000000', i, i FROM n => schema
 # table_of_schema_1_is_empty
 INSERT INTO auth VALUES ('alpha', 2, 64497, 4, x'000000000000000000000000c0000200', 24, 24, 20454, 20818) => schema
 INSERT INTO auth VALUES ('alpha', 1, 64496, 4, x'000000000000000000000000c0000200', 24, 24, 20454, 20818) => schema
