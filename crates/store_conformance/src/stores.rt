@@ -74,6 +74,15 @@ fn is_same(auth: &Auth, other: &Auth) -> bool {
         && auth.until == other.until
 }
 
+/// Whether both lists have the same authorizations, in one order.
+fn are_same(auths: &[Auth], others: &[Auth]) -> bool {
+    auths.len() == others.len()
+        && auths
+            .iter()
+            .zip(others)
+            .all(|(auth, other)| is_same(auth, other))
+}
+
 /// So many authorizations of one prefix, each of an AS of its own, where four were made before.
 fn next_authorizations(alloc: Global, count: u32) -> Result<Vec<Auth>, Fail> {
     let mut auths = Vec::new(alloc);
@@ -167,7 +176,7 @@ fn imported_authorizations_are_loaded(rt: HostRuntime) -> Result<(), Fail> {
         let made = auths.clone()?;
         apply(&mut store, Edit::Import { auths, created })?;
         let rows = view(rt.alloc(), &mut store)?.holder.ok_or("rows")?;
-        assert!(rt; rows.auths == made);
+        assert!(rt; are_same(&rows.auths, &made));
         assert_eq!(rt; rows.created, created);
     }
     Ok(())
