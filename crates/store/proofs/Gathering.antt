@@ -1,16 +1,18 @@
 -- The authorizations of all holders, out of those of each one.
-use Rattle.std.proofs.Common.{◌≡◌, ℕ, Bool, true, false, cond, not, ◌||◌, List, [], ◌∷◌, ◌++◌, map, flat_map, filter, Option, Some, None, IsTrue, refl, sym, ap, subst, ◌∙◌, IsPermutation}
+use Rattle.std.proofs.Common.{◌≡◌, ℕ, Bool, true, false, cond, not, ◌||◌, List, [], ◌∷◌, ◌++◌, map, flat_map, filter, Option, Some, None, IsTrue, refl, sym, ap, subst, ◌∙◌, inl, inr, IsPermutation}
+use Rattle.std.specs.Prelude.{⊤}
 use Rattle.std.specs.List.{AllByRecursion, list_any}
-use Rattle.std.proofs.lemmas.List.{map-append}
 use Rattle.std.proofs.lemmas.List.Concat.{flat_map-append}
 use Rattle.std.proofs.lemmas.List.Sorted.{IsPermutation-append, IsPermutation-filter_both, IsPermutation-refl, IsPermutation-sym, IsPermutation-trans}
 use Rattle.sqlite_value.specs.declared.value.Value.{Value}
 use Rattle.sqlite_value.specs.declared.value.Value.TheVariants.{Null, Int, Real, Text, Blob}
 use Rattle.sqlite_value.specs.Order.{Row, column}
 use Rattle.sqlite_rules.specs.Lists.{Has}
-use Rattle.sqlite_rules.proofs.ListLemmas.{all_from, all_has, has_left, has_right, some_from}
+use Rattle.sqlite_rules.proofs.ListLemmas.{all_from, all_has, has_left, has_right, some_from, some_has}
 use Rattle.sqlite_rules.proofs.ProbeLemmas.{mapped_has}
-use Rattle.sqlite_trees.proofs.ListLemmas.{IsPermutation-same, all-append, all-map, all_weaker, flat_map-map, map-map}
+use Rattle.sqlite_keyed.proofs.ListLemmas.{none_from_any}
+use Rattle.sqlite_trees.specs.Tree.{Trees}
+use Rattle.sqlite_trees.proofs.ListLemmas.{all-flat_map, all-map, all_of, all_weaker, flat_map-map, flat_map-one, flat_map_same_on}
 use Rattle.addr.specs.Name.{is_name}
 use Rattle.registry.specs.History.{same_name}
 use Rattle.registry.specs.Rows.{Rows}
@@ -18,106 +20,50 @@ use Rattle.registry.specs.Values.{AuthFits}
 use Rattle.registry.specs.declared.authorization.Auth.{Auth}
 use Rattle.registry.proofs.Names.{same_name-true}
 use Rattle.tables.specs.declared.groups.OfHolder.{OfHolder}
-use Rattle.tables.specs.Authorizations.{claim_of, entry_rows_of}
-use Rattle.tables.specs.Cells.{claim_row, entry_row}
-use Rattle.tables.specs.TablesHold.{HoldsPart, claim_part, entry_part, is_text, part_rows}
-use Rattle.tables.proofs.PartLemmas.{AllText, name_of_itself, names, take_local}
-use Rattle.database.specs.TablesRead.{row_of_claim, rows_of_entries}
+use Rattle.tables.specs.Tables.{auth, claim, contents, entry}
+use Rattle.tables.specs.TablesHold.{HoldsPart, Part, claim_part, entry_part, is_text, items_if_any, part_rows}
+use Rattle.tables.proofs.PartLemmas.{name_of_itself, names, take_local}
+use Rattle.moving.specs.OldTables.{HasOneEntry, HaveOneEntry, auth_part}
+use Rattle.database.specs.OldTablesRead.{HasSomeOldAuths, rows_of_auth}
+use Rattle.database.specs.TablesRead.{HasSomeAuths, row_of_claim, rows_of_entries}
 
-abbrev beside : List ℕ → Auth → OfHolder Auth
-beside h x = record { holder = h; row = x }
+-- ---- names, each once
+
+-- no two of these names are the same
+abbrev AreApart : List (List ℕ) → Type 0
+AreApart [] = ⊤
+AreApart (k ∷ ks) = AllByRecursion (λ h. same_name k h ≡ false) ks × AreApart ks
+
+record AreOnce (ks : List (List ℕ)) : Type 0 where
+  pub each : List (List ℕ)
+  pub apart : AreApart each
+  pub kept : (k : List ℕ) → Has ks k → Has each k
+
+once_more : (k : List ℕ) (ks : List (List ℕ)) → AreOnce ks → AreOnce (k ∷ ks)
+once_more k ks later = go (list_any (same_name k) later.each) refl
+  where
+    go : (b : Bool) → list_any (same_name k) later.each ≡ b → AreOnce (k ∷ ks)
+    go true is =
+        let it = some_has (same_name k) later.each is in
+        record {
+          each = later.each;
+          apart = later.apart;
+          kept = λ h has. elim has [
+            | inl same ↦ subst (Has later.each) (sym (same ∙ same_name-true k it.0 it.2)) it.1
+            | inr more ↦ later.kept h more
+          ];
+        }
+    go false is = record {
+      each = k ∷ later.each;
+      apart = (none_from_any (same_name k) later.each is, later.apart);
+      kept = λ h has. elim has [ inl same ↦ inl same | inr more ↦ inr (later.kept h more) ];
+    }
+
+once : (ks : List (List ℕ)) → AreOnce ks
+once [] = record { each = []; apart = tt; kept = λ k none. none }
+once (k ∷ ks) = once_more k ks (once ks)
 
 -- ---- rows by name
-
--- each row has one of these names
-abbrev AreNamed : List (List ℕ) → List Row → Type 0
-AreNamed ks rows = AllByRecursion (λ c. list_any (λ k. names 0 k c) ks ≡ true) rows
-
-abbrev without : List ℕ → List Row → List Row
-without k rows = filter (λ c. not (names 0 k c)) rows
-
-named_later : (k : List ℕ) (ks : List (List ℕ)) (rows : List Row) → AreNamed (k ∷ ks) rows → AreNamed ks (without k rows)
-named_later k ks [] all = tt
-named_later k ks (c ∷ rows) all = go (names 0 k c) refl (named_later k ks rows all.1)
-  where
-    go : (b : Bool) → names 0 k c ≡ b → AreNamed ks (without k rows) → AreNamed ks (cond (not b) (c ∷ without k rows) (without k rows))
-    go true is more = more
-    go false is more = (subst (λ (b : Bool). (b || list_any (λ n. names 0 n c) ks) ≡ true) is all.0, more)
-
-none_of_it : (k : List ℕ) (rows : List Row) → filter (names 0 k) (without k rows) ≡ []
-none_of_it k [] = refl
-none_of_it k (c ∷ rows) = go (names 0 k c) refl (none_of_it k rows)
-  where
-    go : (b : Bool) → names 0 k c ≡ b → filter (names 0 k) (without k rows) ≡ [] → filter (names 0 k) (cond (not b) (c ∷ without k rows) (without k rows)) ≡ []
-    go true is more = more
-    go false is more = subst (λ (b : Bool). cond b (c ∷ filter (names 0 k) (without k rows)) (filter (names 0 k) (without k rows)) ≡ []) (sym is) more
-
-others_stay : (k h : List ℕ) → same_name k h ≡ false → (rows : List Row) → filter (names 0 h) (without k rows) ≡ filter (names 0 h) rows
-others_stay k h differ rows = (take_local 0 k (names 0 k) (λ c is. is)).others h differ rows
-
-with_name : (k : List ℕ) (rows xs ys : List Row) → IsPermutation xs (filter (names 0 k) rows) → IsPermutation ys (without k rows) → IsPermutation (xs ++ ys) rows
-with_name k rows xs ys mine later =
-    IsPermutation-trans _ _ _ (IsPermutation-append _ _ _ _ mine later) (IsPermutation-sym _ _ (IsPermutation-filter_both (names 0 k) (λ c. not (names 0 k c)) (λ _. refl) rows))
-
-nobody : (rows : List Row) → AreNamed [] rows → IsPermutation [] rows
-nobody [] all = IsPermutation-refl []
-nobody (c ∷ rows) all = absurd (let never = all.0 in cc)
-
--- ---- authorizations by name
-
-module _ (Fits : OfHolder Auth → Type 0) where
-  -- authorizations of the holder, whose rows are those of its name
-  record AreOfName (claims entries : List Row) (h : List ℕ) : Type 0 where
-    pub auths : List Auth
-    pub fit : AllByRecursion (λ x. Fits (beside h x)) auths
-    pub claims_named : IsPermutation (map (λ x. claim_row h (claim_of x)) auths) (filter (names 0 h) claims)
-    pub entries_named : IsPermutation (flat_map (λ x. map (entry_row h) (entry_rows_of x)) auths) (filter (names 0 h) entries)
-
-  -- authorizations of holders, whose rows these are
-  pub record AreOfAll (claims entries : List Row) : Type 0 where
-    pub auths : List (OfHolder Auth)
-    pub fit : AllByRecursion Fits auths
-    pub claims_shown : IsPermutation (map row_of_claim auths) claims
-    pub entries_shown : IsPermutation (flat_map rows_of_entries auths) entries
-
-  none_left : (k : List ℕ) (claims entries : List Row) → AreOfName (without k claims) (without k entries) k
-  none_left k claims entries = record {
-    auths = [];
-    fit = tt;
-    claims_named = IsPermutation-same _ _ (sym (none_of_it k claims));
-    entries_named = IsPermutation-same _ _ (sym (none_of_it k entries));
-  }
-
-  rest_of_name : (k h : List ℕ) (claims entries : List Row) → AreOfName claims entries h → AreOfName (without k claims) (without k entries) h
-  rest_of_name k h claims entries mine = go (same_name k h) refl
-    where
-      go : (b : Bool) → same_name k h ≡ b → AreOfName (without k claims) (without k entries) h
-      go true same = subst (AreOfName (without k claims) (without k entries)) (same_name-true k h same) (none_left k claims entries)
-      go false differ = record {
-        auths = mine.auths;
-        fit = mine.fit;
-        claims_named = subst (IsPermutation (map (λ x. claim_row h (claim_of x)) mine.auths)) (sym (others_stay k h differ claims)) mine.claims_named;
-        entries_named = subst (IsPermutation (flat_map (λ x. map (entry_row h) (entry_rows_of x)) mine.auths)) (sym (others_stay k h differ entries)) mine.entries_named;
-      }
-
-  gathered : (ks : List (List ℕ)) (claims entries : List Row) → AreNamed ks claims → AreNamed ks entries → ((h : List ℕ) → AreOfName claims entries h) → AreOfAll claims entries
-  gathered [] claims entries named also each = record { auths = []; fit = tt; claims_shown = nobody claims named; entries_shown = nobody entries also }
-  gathered (k ∷ ks) claims entries named also each =
-      let mine = each k in
-      let first = map (beside k) mine.auths in
-      let later = gathered ks (without k claims) (without k entries) (named_later k ks claims named) (named_later k ks entries also) (λ h. rest_of_name k h claims entries (each h)) in
-      record {
-        auths = first ++ later.auths;
-        fit = all-append Fits first later.auths (all-map Fits (beside k) mine.auths mine.fit) later.fit;
-        claims_shown = subst (λ l. IsPermutation l claims)
-            (sym (map-append row_of_claim first later.auths ∙ ap (λ l. l ++ map row_of_claim later.auths) (map-map row_of_claim (beside k) mine.auths)))
-            (with_name k claims _ _ mine.claims_named later.claims_shown);
-        entries_shown = subst (λ l. IsPermutation l entries)
-            (sym (flat_map-append rows_of_entries first later.auths ∙ ap (λ l. l ++ flat_map rows_of_entries later.auths) (flat_map-map rows_of_entries (beside k) mine.auths)))
-            (with_name k entries _ _ mine.entries_named later.entries_shown);
-      }
-
--- ---- the names of the rows
 
 name_in : Value → List ℕ
 name_in (Text t) = t
@@ -131,30 +77,134 @@ text_is (Real x) is = absurd cc
 text_is (Text t) is = refl
 text_is (Blob b) is = absurd cc
 
-abbrev name_of_row : Row → List ℕ
-name_of_row c = name_in (column c 0)
+module _ (place : ℕ) where
+  -- each row has one of these names
+  abbrev AreNamed : List (List ℕ) → List Row → Type 0
+  AreNamed ks rows = AllByRecursion (λ c. list_any (λ k. names place k c) ks ≡ true) rows
 
-among_names : (ks : List (List ℕ)) (rows : List Row) → AllText 0 rows → ((c : Row) → Has rows c → Has ks (name_of_row c)) → AreNamed ks rows
-among_names ks rows texts there = all_from _ rows (λ c has. some_from (λ k. names 0 k c) ks (name_of_row c) (there c has)
-    (name_of_itself (name_of_row c) (column c 0) (text_is (column c 0) (all_has _ rows c texts has))))
+  abbrev without : List ℕ → List Row → List Row
+  without k rows = filter (λ c. not (names place k c)) rows
+
+  named_later : (k : List ℕ) (ks : List (List ℕ)) (rows : List Row) → AreNamed (k ∷ ks) rows → AreNamed ks (without k rows)
+  named_later k ks [] all = tt
+  named_later k ks (c ∷ rows) all = go (names place k c) refl (named_later k ks rows all.1)
+    where
+      go : (b : Bool) → names place k c ≡ b → AreNamed ks (without k rows) → AreNamed ks (cond (not b) (c ∷ without k rows) (without k rows))
+      go true is more = more
+      go false is more = (subst (λ (b : Bool). (b || list_any (λ n. names place n c) ks) ≡ true) is all.0, more)
+
+  with_name : (k : List ℕ) (rows xs ys : List Row) → IsPermutation xs (filter (names place k) rows) → IsPermutation ys (without k rows) → IsPermutation (xs ++ ys) rows
+  with_name k rows xs ys mine later =
+      IsPermutation-trans _ _ _ (IsPermutation-append _ _ _ _ mine later) (IsPermutation-sym _ _ (IsPermutation-filter_both (names place k) (λ c. not (names place k c)) (λ _. refl) rows))
+
+  nobody : (rows : List Row) → AreNamed [] rows → IsPermutation [] rows
+  nobody [] all = IsPermutation-refl []
+  nobody (c ∷ rows) all = absurd (let never = all.0 in cc)
+
+  -- the rows of each of these names
+  abbrev AreOfEach : (List ℕ → List Row) → List (List ℕ) → List Row → Type 0
+  AreOfEach of ks rows = AllByRecursion (λ h. IsPermutation (of h) (filter (names place h) rows)) ks
+
+  others_stay : (of : List ℕ → List Row) (k : List ℕ) (hs : List (List ℕ)) (rows : List Row) → AllByRecursion (λ h. same_name k h ≡ false) hs
+      → AreOfEach of hs rows → AreOfEach of hs (without k rows)
+  others_stay of k [] rows differ each = tt
+  others_stay of k (h ∷ hs) rows differ each =
+      (subst (IsPermutation (of h)) (sym ((take_local place k (names place k) (λ c is. is)).others h differ.0 rows)) each.0, others_stay of k hs rows differ.1 each.1)
+
+  gathered : (of : List ℕ → List Row) (ks : List (List ℕ)) (rows : List Row) → AreApart ks → AreNamed ks rows → AreOfEach of ks rows
+      → IsPermutation (flat_map of ks) rows
+  gathered of [] rows apart named each = nobody rows named
+  gathered of (k ∷ ks) rows apart named each =
+      with_name k rows _ _ each.0 (gathered of ks (without k rows) apart.1 (named_later k ks rows named) (others_stay of k ks rows apart.0 each.1))
+
+abbrev name_of_row : Part → Row → List ℕ
+name_of_row part c = name_in (column c part.place)
+
+-- ---- authorizations of names
+
+flat_map-flat_map : {X Y Z : Type 0} (g : Y → List Z) (f : X → List Y) (xs : List X) → flat_map g (flat_map f xs) ≡ flat_map (λ x. flat_map g (f x)) xs
+flat_map-flat_map g f [] = refl
+flat_map-flat_map g f (x ∷ xs) = flat_map-append g (f x) (flat_map f xs) ∙ ap (λ l. flat_map g (f x) ++ l) (flat_map-flat_map g f xs)
+
+flat_map-ones : {X Y : Type 0} (f : X → Y) (xs : List X) → flat_map (λ x. f x ∷ []) xs ≡ map f xs
+flat_map-ones f xs = sym (flat_map-map (λ y. y ∷ []) f xs) ∙ flat_map-one (map f xs)
+
+abbrev beside : List ℕ → Auth → OfHolder Auth
+beside h x = record { holder = h; row = x }
+
+module _ (rows : List ℕ → Option Rows) where
+  abbrev auths_of : List (List ℕ) → List (OfHolder Auth)
+  auths_of = flat_map (λ h. map (beside h) (items_if_any (λ (r : Rows). r.auths) (rows h)))
+
+  each_so : (So : OfHolder Auth → Type 0) → ((h : List ℕ) (r : Rows) → rows h ≡ Some r → AllByRecursion (λ x. So (beside h x)) r.auths)
+      → (ks : List (List ℕ)) → AllByRecursion So (auths_of ks)
+  each_so So so ks = all-flat_map So _ ks (all_of _ (λ h. go h (rows h) refl) ks)
+    where
+      go : (h : List ℕ) (o : Option Rows) → rows h ≡ o → AllByRecursion So (map (beside h) (items_if_any (λ (r : Rows). r.auths) o))
+      go h None is = tt
+      go h (Some r) is = all-map So (beside h) r.auths (so h r is)
+
+  -- where the names are those of a part, their authorizations give its rows
+  part_shown : (part : Part) (shown : OfHolder Auth → List Row) → ((h : List ℕ) (r : Rows) → part.rows h r ≡ flat_map (λ x. shown (beside h x)) r.auths)
+      → (table : List Row) → HoldsPart part rows table → (ks : List (List ℕ)) → AreApart ks → ((c : Row) → Has table c → Has ks (name_of_row part c))
+      → IsPermutation (flat_map shown (auths_of ks)) table
+  part_shown part shown gives table holds ks apart there =
+      subst (λ l. IsPermutation l table) (sym (flat_map-flat_map shown _ ks ∙ flat_map_same_on _ _ (λ h. go h (rows h)) ks))
+      (gathered part.place (λ h. part_rows part h (rows h)) ks table apart named (all_of _ holds.each ks))
+    where
+      go : (h : List ℕ) (o : Option Rows) → flat_map shown (map (beside h) (items_if_any (λ (r : Rows). r.auths) o)) ≡ part_rows part h o
+      go h None = refl
+      go h (Some r) = flat_map-map shown (beside h) r.auths ∙ sym (gives h r)
+
+      named : AreNamed part.place ks table
+      named = all_from _ table (λ c has. some_from (λ k. names part.place k c) ks (name_of_row part c) (there c has)
+          (name_of_itself (name_of_row part c) (column c part.place) (text_is (column c part.place) (all_has _ table c holds.named has))))
 
 -- ---- over the tables
 
-abbrev pub NamedFit : OfHolder Auth → Type 0
-NamedFit x = IsTrue (is_name x.holder) × AuthFits x.row
+-- the holders have names, and their authorizations fit
+abbrev FitNamed : (List ℕ → Option Rows) → Type 0
+FitNamed rows = (h : List ℕ) (r : Rows) → rows h ≡ Some r → IsTrue (is_name h) × AllByRecursion AuthFits r.auths
+
+auths_fit : (rows : List ℕ → Option Rows) → FitNamed rows → (ks : List (List ℕ))
+    → AllByRecursion (λ (x : OfHolder Auth). IsTrue (is_name x.holder) × AuthFits x.row) (auths_of rows ks)
+auths_fit rows fit = each_so rows _ (λ h r is. let it = fit h r is in all_weaker AuthFits _ (λ x fits. (it.0, fits)) r.auths it.1)
 
 pub some_auths :
-    (rows : List ℕ → Option Rows) (claims entries : List Row) → HoldsPart claim_part rows claims → HoldsPart entry_part rows entries
-    → ((h : List ℕ) (r : Rows) → rows h ≡ Some r → IsTrue (is_name h) × AllByRecursion AuthFits r.auths) → AreOfAll NamedFit claims entries
-some_auths rows claims entries holds also fit =
-    gathered NamedFit (map name_of_row claims ++ map name_of_row entries) claims entries
-    (among_names _ claims holds.named (λ c has. has_left (map name_of_row claims) (map name_of_row entries) (name_of_row c) (mapped_has name_of_row claims c has)))
-    (among_names _ entries also.named (λ c has. has_right (map name_of_row claims) (map name_of_row entries) (name_of_row c) (mapped_has name_of_row entries c has)))
-    (λ h. go h (rows h) refl (holds.each h) (also.each h))
+    (rows : List ℕ → Option Rows) (trees : Trees) → HoldsPart claim_part rows (contents (trees claim.tree)) → HoldsPart entry_part rows (contents (trees entry.tree))
+    → contents (trees auth.tree) ≡ [] → FitNamed rows → HasSomeAuths trees
+some_auths rows trees claims entries unused fit = record {
+  auths = auths_of rows holders.each;
+  fit = auths_fit rows fit holders.each;
+  claims_shown = subst (λ l. IsPermutation l (contents (trees claim.tree))) (flat_map-ones row_of_claim (auths_of rows holders.each))
+      (part_shown rows claim_part (λ x. row_of_claim x ∷ []) (λ h r. sym (flat_map-ones (λ x. row_of_claim (beside h x)) r.auths)) _ claims holders.each holders.apart
+      (λ c has. holders.kept _ (has_left of_claims of_entries _ (mapped_has (name_of_row claim_part) _ c has))));
+  entries_shown =
+      part_shown rows entry_part rows_of_entries (λ h r. refl) _ entries holders.each holders.apart
+      (λ c has. holders.kept _ (has_right of_claims of_entries _ (mapped_has (name_of_row entry_part) _ c has)));
+  unused = unused;
+}
   where
-    go : (h : List ℕ) (o : Option Rows) → rows h ≡ o → IsPermutation (part_rows claim_part h o) (filter (names 0 h) claims) → IsPermutation (part_rows entry_part h o) (filter (names 0 h) entries)
-        → AreOfName NamedFit claims entries h
-    go h None is mine own = record { auths = []; fit = tt; claims_named = mine; entries_named = own }
-    go h (Some r) is mine own =
-        let it = fit h r is in
-        record { auths = r.auths; fit = all_weaker AuthFits (λ x. NamedFit (beside h x)) (λ x fits. (it.0, fits)) r.auths it.1; claims_named = mine; entries_named = own }
+    of_claims : List (List ℕ)
+    of_claims = map (name_of_row claim_part) (contents (trees claim.tree))
+
+    of_entries : List (List ℕ)
+    of_entries = map (name_of_row entry_part) (contents (trees entry.tree))
+
+    holders : AreOnce (of_claims ++ of_entries)
+    holders = once (of_claims ++ of_entries)
+
+pub some_old_auths :
+    (rows : List ℕ → Option Rows) (trees : Trees) → HoldsPart auth_part rows (contents (trees auth.tree)) → HaveOneEntry rows → FitNamed rows
+    → HasSomeOldAuths trees
+some_old_auths rows trees held one_each fit = record {
+  auths = auths_of rows holders.each;
+  fit = auths_fit rows fit holders.each;
+  one_each = each_so rows (λ x. HasOneEntry x.row) one_each holders.each;
+  shown =
+      part_shown rows auth_part rows_of_auth (λ h r. refl) _ held holders.each holders.apart
+      (λ c has. holders.kept _ (mapped_has (name_of_row auth_part) _ c has));
+}
+  where
+    holders : AreOnce (map (name_of_row auth_part) (contents (trees auth.tree)))
+    holders = once (map (name_of_row auth_part) (contents (trees auth.tree)))

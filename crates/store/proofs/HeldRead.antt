@@ -1,5 +1,5 @@
--- Tables that hold a charter and rows that fit read.
-use Rattle.std.proofs.Common.{◌≡◌, ℕ, Bool, true, false, ◌||◌, List, [], ◌∷◌, Option, Some, refl, inl, inr, sym, subst, arith, IsTrue, map, ◌++◌}
+-- Tables of either schema that hold a charter and rows that fit read.
+use Rattle.std.proofs.Common.{◌≡◌, ℕ, Bool, true, false, ◌||◌, List, [], ◌∷◌, Option, Some, refl, inl, inr, sym, subst, arith, IsTrue, map, ◌++◌, IsPermutation}
 use Rattle.std.specs.Prelude.{⊤}
 use Rattle.std.specs.List.{AllByRecursion}
 use Rattle.std.proofs.lemmas.List.Elements.{recursion_from_All}
@@ -11,26 +11,30 @@ use Rattle.sqlite_rules.proofs.ListLemmas.{all_has, all_from, contains_had}
 use Rattle.sqlite_rules.proofs.ProbeLemmas.{has_mapped}
 use Rattle.addr.specs.Name.{is_name}
 use Rattle.charters.specs.CharterSets.{CharterSets, IsCharter}
+use Rattle.charters.specs.declared.charter.Charter.{Charter}
 use Rattle.registry.specs.declared.command.Command.{Command}
 use Rattle.registry.specs.declared.command.Command.TheVariants.{Register}
 use Rattle.registry.specs.History.{History, registers, is_registered}
 use Rattle.registry.specs.Rows.{Rows, RowsIfAny}
 use Rattle.registry.specs.Values.{RowsFit, AuthFits, GrantFits, CommandFits, HistoryFits, ExceptionsFit, FilterFits, VrpFits}
 use Rattle.histories.specs.Ranges.{LegalRowsFit, ExceptionsInForceFit}
-use Rattle.registry.specs.RowsOfAll.{AllRows}
+use Rattle.registry.specs.RowsOfAll.{AllRows, HasRows}
+use Rattle.registry.specs.Verdict.{IsLegal}
 use Rattle.registry.proofs.Names.{same_name-true}
-use Rattle.tables.specs.Cells.{schema_row, holder_row, holding_row, granted_row, exception_row}
+use Rattle.tables.specs.Cells.{schema_row, operator_row, prefix_cells, holder_row, holding_row, granted_row, exception_row}
 use Rattle.tables.specs.Laws.{ExceptionsAreCounted}
-use Rattle.tables.specs.Tables.{meta, holder, claim, entry, contents}
+use Rattle.tables.specs.Tables.{meta, operator, pool, contents}
 use Rattle.tables.specs.TablesHold.{Part, TablesHold, HoldsPart, holder_part, holding_part, granted_part, ArePlaced, HoldsExceptions}
 use Rattle.tables.specs.declared.exception.Exception.{Exception}
 use Rattle.tables.specs.declared.exception.Exception.TheVariants.{Filter as FilterOf, Assertion}
 use Rattle.tables.specs.declared.exception.ExceptionRow.{ExceptionRow}
 use Rattle.tables.specs.Decode.{IsPosition, ExceptionFits, ExceptionRowFits, exception_columns}
 use Rattle.tables.proofs.SomeRow.{has_permuted, of_some}
-use Rattle.store.specs.Laws.{HistoriesRead}
-use Rattle.store.proofs.Gathering.{AreOfAll, NamedFit, some_auths}
-use Rattle.database.specs.TablesRead.{ShowsHolder, ShowsOfHolder, ShowsException, TablesRead}
+use Rattle.moving.specs.OldTables.{OldTablesHold}
+use Rattle.store.specs.Laws.{HistoriesRead, OldHistoriesRead}
+use Rattle.store.proofs.Gathering.{some_auths, some_old_auths}
+use Rattle.database.specs.OldTablesRead.{OldTablesRead}
+use Rattle.database.specs.TablesRead.{HasSomeCharter, ShowsHolder, ShowsOfHolder, ShowsException, TablesRead}
 use Rattle.slurm.specs.Exceptions.{Exceptions}
 
 -- each row of a part shows what the rows of its holder are
@@ -54,49 +58,79 @@ exceptions_read exceptions table holds fit =
     (all-map ShowsException exception_row (holds.filters ++ holds.assertions)
     (all_from _ (holds.filters ++ holds.assertions) (λ r has. (r, all_has ExceptionRowFits _ r (all-append ExceptionRowFits holds.filters holds.assertions filters assertions) has, refl))))
 
-pub held_read : ExceptionsAreCounted → (charter : CharterSets) (rows : AllRows) (trees : Trees) → IsCharter charter → AllByRecursion (λ name. IsTrue (is_name name)) charter.operators
-    → ((h : List ℕ) (r : Rows) → rows.of_holder h ≡ Some r → IsTrue (is_name h) × RowsFit r) → ExceptionsFit rows.exceptions → TablesHold charter rows trees → TablesRead trees
-held_read counted charter rows trees is named fit exceptions_fit holds = record {
-  schema = contains_had _ schema_row (has_permuted (schema_row ∷ []) (contents (trees meta.tree)) schema_row holds.charter_kept.schema (inl refl));
-  charter = record {
-    operators = charter.operators;
-    prefixes = charter.pool;
-    named = named;
-    number = is.number;
-    operators_once = is.operators_once;
-    prefixes_once = is.pool_once;
-    operators_shown = holds.charter_kept.operators;
-    prefixes_shown = holds.charter_kept.pool;
-  };
-  holders =
-      of_part holder_part rows.of_holder _ ShowsHolder holds.holders
-      (λ h r c there has. let it = fit h r there in (h, r.granted, r.created, it.0, it.1.granted, it.1.created, one_row (holder_row h r.granted r.created) c has));
-  holdings =
-      of_part holding_part rows.of_holder _ (ShowsOfHolder holding_row (λ _. ⊤)) holds.holdings
-      (λ h r c there has. let it = has_mapped (holding_row h) r.holdings c has in (h, it.0, tt, it.2));
-  grants =
-      of_part granted_part rows.of_holder _ (ShowsOfHolder granted_row GrantFits) holds.grants
+-- ---- what the tables of both schemas have alike
+
+charter_read : (charter : CharterSets) (trees : Trees) → IsCharter charter → AllByRecursion (λ name. IsTrue (is_name name)) charter.operators
+    → IsPermutation (map operator_row charter.operators) (contents (trees operator.tree)) → IsPermutation (map prefix_cells charter.pool) (contents (trees pool.tree))
+    → HasSomeCharter trees
+charter_read charter trees is named operators pool = record {
+  operators = charter.operators;
+  prefixes = charter.pool;
+  named = named;
+  number = is.number;
+  operators_once = is.operators_once;
+  prefixes_once = is.pool_once;
+  operators_shown = operators;
+  prefixes_shown = pool;
+}
+
+-- each holder has a name, and rows that fit
+abbrev RowsFitNamed : AllRows → Type 0
+RowsFitNamed rows = (h : List ℕ) (r : Rows) → rows.of_holder h ≡ Some r → IsTrue (is_name h) × RowsFit r
+
+module _ (rows : AllRows) (fit : RowsFitNamed rows) where
+  holders_read : (table : List Row) → HoldsPart holder_part rows.of_holder table → AllByRecursion ShowsHolder table
+  holders_read table holds =
+      of_part holder_part rows.of_holder table ShowsHolder holds
+      (λ h r c there has. let it = fit h r there in (h, r.granted, r.created, it.0, it.1.granted, it.1.created, one_row (holder_row h r.granted r.created) c has))
+    where
+      one_row : (row c : Row) → Has (row ∷ []) c → c ≡ row
+      one_row row c (inl is) = is
+      one_row row c (inr none) = absurd none
+
+  holdings_read : (table : List Row) → HoldsPart holding_part rows.of_holder table → AllByRecursion (ShowsOfHolder holding_row (λ _. ⊤)) table
+  holdings_read table holds =
+      of_part holding_part rows.of_holder table (ShowsOfHolder holding_row (λ _. ⊤)) holds
+      (λ h r c there has. let it = has_mapped (holding_row h) r.holdings c has in (h, it.0, tt, it.2))
+
+  grants_read : (table : List Row) → HoldsPart granted_part rows.of_holder table → AllByRecursion (ShowsOfHolder granted_row GrantFits) table
+  grants_read table holds =
+      of_part granted_part rows.of_holder table (ShowsOfHolder granted_row GrantFits) holds
       (λ h r c there has.
       let it = has_mapped (granted_row h) r.grants c has in
-      (h, it.0, all_has GrantFits r.grants it.0 (recursion_from_All GrantFits r.grants (fit h r there).1.grants) it.1, it.2));
-  authorizations = record {
-    auths = authorized.auths;
-    fit = authorized.fit;
-    claims_shown = authorized.claims_shown;
-    entries_shown = authorized.entries_shown;
-    unused = holds.unused;
-  };
-  exceptions = exceptions_read rows.exceptions _ holds.exceptions exceptions_fit;
-  exceptions_number = omega (arith, exceptions_fit.number, counted rows.exceptions _ holds.exceptions);
-}
-  where
-    authorized : AreOfAll NamedFit (contents (trees claim.tree)) (contents (trees entry.tree))
-    authorized = some_auths rows.of_holder (contents (trees claim.tree)) (contents (trees entry.tree)) holds.claims holds.entries
-        (λ h r there. let it = fit h r there in (it.0, recursion_from_All AuthFits r.auths it.1.auths))
+      (h, it.0, all_has GrantFits r.grants it.0 (recursion_from_All GrantFits r.grants (fit h r there).1.grants) it.1, it.2))
 
-    one_row : (row c : Row) → Has (row ∷ []) c → c ≡ row
-    one_row row c (inl is) = is
-    one_row row c (inr none) = absurd none
+  auths_fit : (h : List ℕ) (r : Rows) → rows.of_holder h ≡ Some r → IsTrue (is_name h) × AllByRecursion AuthFits r.auths
+  auths_fit h r there = let it = fit h r there in (it.0, recursion_from_All AuthFits r.auths it.1.auths)
+
+-- ---- the tables
+
+module _ (counted : ExceptionsAreCounted) (charter : CharterSets) (rows : AllRows) (trees : Trees) (is : IsCharter charter)
+    (named : AllByRecursion (λ name. IsTrue (is_name name)) charter.operators) (fit : RowsFitNamed rows) (exceptions_fit : ExceptionsFit rows.exceptions) where
+  held_read : TablesHold charter rows trees → TablesRead trees
+  held_read holds = record {
+    schema = contains_had _ schema_row (has_permuted (schema_row ∷ []) (contents (trees meta.tree)) schema_row holds.charter_kept.schema (inl refl));
+    charter = charter_read charter trees is named holds.charter_kept.operators holds.charter_kept.pool;
+    holders = holders_read rows fit _ holds.holders;
+    holdings = holdings_read rows fit _ holds.holdings;
+    grants = grants_read rows fit _ holds.grants;
+    authorizations = some_auths rows.of_holder trees holds.claims holds.entries holds.unused (auths_fit rows fit);
+    exceptions = exceptions_read rows.exceptions _ holds.exceptions exceptions_fit;
+    exceptions_number = omega (arith, exceptions_fit.number, counted rows.exceptions _ holds.exceptions);
+  }
+
+  old_held_read : OldTablesHold charter rows trees → OldTablesRead trees
+  old_held_read holds = record {
+    schema = holds.charter_kept.schema;
+    charter = charter_read charter trees is named holds.charter_kept.operators holds.charter_kept.pool;
+    holders = holders_read rows fit _ holds.holders;
+    holdings = holdings_read rows fit _ holds.holdings;
+    grants = grants_read rows fit _ holds.grants;
+    authorizations = some_old_auths rows.of_holder trees holds.auths holds.have_one_entry (auths_fit rows fit);
+    exceptions = exceptions_read rows.exceptions _ holds.exceptions exceptions_fit;
+    exceptions_number = omega (arith, exceptions_fit.number, counted rows.exceptions _ holds.exceptions);
+    whole = holds.whole;
+  }
 
 -- ---- after a history
 
@@ -112,9 +146,19 @@ registered_named (e ∷ before) h is fit = go (registers e.command h) refl is (�
     go true here is later = named_by e.command h here fit.0.command
     go false there is later = later is
 
-pub opens_again : LegalRowsFit → ExceptionsInForceFit → ExceptionsAreCounted → HistoriesRead
-opens_again rows_fit in_force_fit counted charter history rows trees legal fits have is named holds =
-    held_read counted charter rows trees is named (λ h r there.
-    let of = subst (RowsIfAny history h) there (have.holders h) in
-    (registered_named history h of.0 fits, rows_fit charter history h r legal fits of.1))
-    (subst ExceptionsFit (sym have.exceptions) (in_force_fit history fits)) holds
+module _ (rows_fit : LegalRowsFit) (in_force_fit : ExceptionsInForceFit) (counted : ExceptionsAreCounted) where
+  rows_named : (charter : Charter) (history : History) (rows : AllRows) → IsLegal charter history → HistoryFits history → HasRows rows history → RowsFitNamed rows
+  rows_named charter history rows legal fits have h r there =
+      let of = subst (RowsIfAny history h) there (have.holders h) in
+      (registered_named history h of.0 fits, rows_fit charter history h r legal fits of.1)
+
+  in_force : (history : History) (rows : AllRows) → HistoryFits history → HasRows rows history → ExceptionsFit rows.exceptions
+  in_force history rows fits have = subst ExceptionsFit (sym have.exceptions) (in_force_fit history fits)
+
+  pub opens_again : HistoriesRead
+  opens_again charter history rows trees legal fits have is named =
+      held_read counted charter rows trees is named (rows_named charter history rows legal fits have) (in_force history rows fits have)
+
+  pub old_opens_again : OldHistoriesRead
+  old_opens_again charter history rows trees legal fits have is named =
+      old_held_read counted charter rows trees is named (rows_named charter history rows legal fits have) (in_force history rows fits have)

@@ -17,8 +17,10 @@ use Rattle.registry.specs.Values.{HistoryFits, FitIfAny, ExceptionsFit}
 use Rattle.registry.specs.Verdict.{IsLegal}
 use Rattle.tables.specs.TablesHold.{TablesHold}
 use Rattle.tables.specs.Tables.{desk_tables}
+use Rattle.moving.specs.OldTables.{IsOldSchema, OldTablesHold}
 use Rattle.making.specs.Databases.{IsHonest}
 use Rattle.database.specs.Opening.{IsOfAnotherSchema}
+use Rattle.database.specs.OldTablesRead.{OldTablesRead}
 use Rattle.database.specs.TablesRead.{TablesRead}
 use Rattle.store.specs.Loads.{AreLoaded, AllGiveOn}
 use Rattle.store.specs.StoreRows.{AreInRange, StoreView, connection_state, Holds}
@@ -62,6 +64,14 @@ HistoriesRead =
     → IsCharter charter → AllByRecursion (λ name. IsTrue (is_name name)) charter.operators
     → TablesHold charter rows trees → TablesRead trees
 
+-- So do tables of schema 1.
+abbrev pub OldHistoriesRead : Type 0
+OldHistoriesRead =
+    (charter : Charter) (history : History) (rows : AllRows) (trees : Trees)
+    → IsLegal charter history → HistoryFits history → HasRows rows history
+    → IsCharter charter → AllByRecursion (λ name. IsTrue (is_name name)) charter.operators
+    → OldTablesHold charter rows trees → OldTablesRead trees
+
 -- Whatever rows tables hold that read, their values are in range.
 abbrev pub RowsThatReadFit : Type 0
 RowsThatReadFit =
@@ -90,3 +100,8 @@ MemoryHoldsRows =
 abbrev pub TablesThatReadAreOurs : Type 0
 TablesThatReadAreOurs =
     (db : Database) → db.schema.tables ≡ desk_tables → TablesRead db.trees → ¬ IsOfAnotherSchema db
+
+-- Nor are those of schema 1.
+abbrev pub OldTablesThatReadAreOurs : Type 0
+OldTablesThatReadAreOurs =
+    (db : Database) → IsOldSchema db.schema → OldTablesRead db.trees → ¬ IsOfAnotherSchema db

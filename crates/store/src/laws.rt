@@ -2,8 +2,9 @@
 //! laws of `histories` and `tables`.
 ghost use Rattle.store.specs.Laws.{AuthsOfHistoriesGive, ExceptionsOfHistoriesFit, HistoriesRead};
 ghost use Rattle.store.specs.Laws.{LoadsRowsOfHistories, MemoryHoldsRows, MemoryIsHonest};
-ghost use Rattle.store.specs.Laws.{MemoryStaysOpen, RowsInRangeGive, RowsOfHistoriesFit};
-ghost use Rattle.store.specs.Laws.{RowsThatReadFit, TablesThatReadAreOurs};
+ghost use Rattle.store.specs.Laws.{MemoryStaysOpen, OldHistoriesRead, OldTablesThatReadAreOurs};
+ghost use Rattle.store.specs.Laws.{RowsInRangeGive, RowsOfHistoriesFit, RowsThatReadFit};
+ghost use Rattle.store.specs.Laws.{TablesThatReadAreOurs};
 
 /// Where the tables hold the rows of a history, what is loaded of a holder are its rows after that
 /// history, as `registry` defines them.
@@ -46,6 +47,15 @@ pub fn tables_of_a_history_read()
     tables::laws::exceptions_are_counted();
 }
 
+/// Nor does one where tables of schema 1 hold them.
+pub fn old_tables_of_a_history_read()
+    ensures { OldHistoriesRead }
+{
+    histories::laws::legal_rows_fit();
+    histories::laws::exceptions_in_force_fit();
+    tables::laws::exceptions_are_counted();
+}
+
 /// The rows of tables that read are in range, so that after an opening no load answers `Schema`:
 /// by clause `opened` the store holds such rows, and by clause `schema` a load answers it only where
 /// all rows that the store holds have a value that does not fit.
@@ -66,9 +76,11 @@ pub fn memory_stays_open()
     ensures rows { MemoryHoldsRows }
 {}
 
-/// Tables of a desk that read are never refused as those of another schema.
+/// Tables of a desk that read, of this schema or of schema 1, are never refused as those of another
+/// schema.
 pub fn tables_that_read_are_ours()
-    ensures { TablesThatReadAreOurs }
+    ensures now { TablesThatReadAreOurs }
+    ensures old { OldTablesThatReadAreOurs }
 {
     tables::laws::desk_tables_are_named();
 }
