@@ -1,9 +1,11 @@
--- What holds of every database that has the tables of a desk and obeys its schema.
+-- What holds of every database that has the tables of a desk, or those of schema 1, and obeys its schema.
 use Rattle.std.specs.Prelude.{◌≡◌, ◌≢◌, Bool, ℕ, List, [], ◌∷◌, map, filter, AllPairs, IsPermutation}
 use Rattle.sqlite.specs.Effect.{Database, IsDatabase}
 use Rattle.sqlite_value.specs.Order.{Row}
 use Rattle.tables.specs.Tables.{desk_tables, claim, entry, contents, columns, IsTree}
+use Rattle.moving.specs.OldTables.{IsOldSchema}
 use Rattle.making.specs.Databases.{IsDeskTrees}
+use Rattle.database.specs.OldTrees.{IsOldDeskTrees}
 
 -- the columns of the table `entry` that make a VRP: the AS, the prefix and the maxLength
 abbrev pub payload_columns : Row → Row
@@ -33,3 +35,8 @@ ClaimsDiffer = RowsDiffer claim.tree number_columns
 abbrev pub DeskTreesHaveTables : Type 0
 DeskTreesHaveTables =
     (db : Database) → IsDatabase db → IsDeskTrees db.trees → db.schema.tables ≡ desk_tables
+
+-- And one over the trees of a desk of schema 1 has that schema.
+abbrev pub OldDeskTreesHaveSchema : Type 0
+OldDeskTreesHaveSchema =
+    (db : Database) → IsDatabase db → IsOldDeskTrees db.trees → IsOldSchema db.schema

@@ -1,5 +1,6 @@
 //! Laws of the definitions. Each function does nothing: what it ensures is the law.
 ghost use Rattle.database.specs.Laws.{ClaimsDiffer, DeskTreesHaveTables, EntriesDiffer};
+ghost use Rattle.database.specs.Laws.{OldDeskTreesHaveSchema};
 
 /// No two entries of a desk, of whatever authorizations, have the same AS, prefix and maxLength.
 pub fn entries_differ()
@@ -14,4 +15,9 @@ pub fn claims_differ()
 /// A database over the trees of a desk has its tables.
 pub fn desk_trees_have_tables()
     ensures { DeskTreesHaveTables }
+{}
+
+/// A database over the trees of a desk of schema 1 has that schema.
+pub fn old_desk_trees_have_schema()
+    ensures { OldDeskTreesHaveSchema }
 {}
