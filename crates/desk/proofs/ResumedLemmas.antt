@@ -1,5 +1,6 @@
 -- What a desk holds that was opened over what a stop left.
 use Rattle.std.proofs.Common.{inl, inr, List, [], refl, subst, sym}
+use Rattle.sqlite.specs.Effect.{IsDatabase}
 use Rattle.sqlite.specs.State.{State, IsLive}
 use Rattle.sqlite.specs.Store.{Ghosts}
 use Rattle.sqlite_trees.specs.Tree.{Trees}
@@ -7,16 +8,15 @@ use Rattle.charters.specs.CharterSets.{IsCharter}
 use Rattle.charters.specs.declared.charter.Charter.{Charter}
 use Rattle.histories.specs.Growth.{GrowthIsLegal}
 use Rattle.registry.specs.History.{History}
-use Rattle.registry.specs.Values.{HistoryFits}
 use Rattle.registry.specs.Verdict.{IsLegal}
 use Rattle.registry.specs.declared.asked.Asked.{Asked}
 use Rattle.database.specs.Opening.{IsOfAnotherSchema}
-use Rattle.database.specs.Laws.{DeskTreesHaveTables}
-use Rattle.store.specs.Laws.{HistoriesRead, TablesThatReadAreOurs}
+use Rattle.database.specs.Laws.{DeskTreesHaveTables, OldDeskTreesHaveSchema}
+use Rattle.store.specs.Laws.{HistoriesRead, OldHistoriesRead, OldTablesThatReadAreOurs, TablesThatReadAreOurs}
 use Rattle.store.specs.StoreRows.{IsOpened}
 use Rattle.desk.specs.CrashOutcomes.{HasNonePending, HoldDesk, LeavesAtMost, MayBeLeft}
 use Rattle.desk.specs.Desk.{store_of, ContinuesHistories, Represents}
-use Rattle.desk.specs.Resumed.{FindsLeft, HoldHistory, IsAtMostOneMore, MayBeFound, ResumesHistories}
+use Rattle.desk.specs.Resumed.{FindsLeft, HoldHistory, HoldOldDesk, IsAtMostOneMore, MayBeFound, MayBeLeftInEitherSchema, ResumesHistories}
 use Rattle.desk.specs.declared.desk.Desk.{Desk}
 use Rattle.desk.proofs.HolderLemmas.{legal_after}
 
@@ -55,18 +55,29 @@ module _ {S : Type 0} (g : Ghosts S) where
       let now = continued found desk continues alone charter after is (legal_more grown charter before pending after legal more) held in
       (after, more, now.0, now.1)
 
--- what may be left of a legal history is a database of this schema
-pub left_is_ours : DeskTreesHaveTables → TablesThatReadAreOurs → HistoriesRead → GrowthIsLegal → (found : State) → IsLive found
-    → FindsLeft found → ¬ IsOfAnotherSchema found.now
-left_is_ours listed ours reads grown found live it = go it.left
-  where
-    go_on : (history : History) → IsLegal it.charter history → HistoryFits history → HoldDesk it.charter history found.now.trees → ¬ IsOfAnotherSchema found.now
-    go_on history legal fits held =
-        ours found.now (listed found.now (live it.is_open).0 held.3)
-        (reads it.charter history held.0 found.now.trees legal fits held.1 it.chartered it.named held.2)
+-- what may be left of a legal history is a database of this schema, or of schema 1
+module _ (listed : DeskTreesHaveTables) (ours : TablesThatReadAreOurs) (reads : HistoriesRead)
+    (old_listed : OldDeskTreesHaveSchema) (old_ours : OldTablesThatReadAreOurs) (old_reads : OldHistoriesRead) (grown : GrowthIsLegal) where
+  pub left_is_ours : (found : State) → IsLive found → FindsLeft found → ¬ IsOfAnotherSchema found.now
+  left_is_ours found live it = go it.left
+    where
+      obeyed : IsDatabase found.now
+      obeyed = (live it.is_open).0
 
-    go : MayBeLeft it.charter it.before it.pending found.now.trees → ¬ IsOfAnotherSchema found.now
-    go (inl held) = go_on it.before it.legal (it.fits it.before (inl refl)) held
-    go (inr (asked, after, among, accepted, held)) =
-        let more : IsAtMostOneMore it.charter it.before it.pending after = inr (asked, among, accepted) in
-        go_on after (legal_more grown it.charter it.before it.pending after it.legal more) (it.fits after more) held
+      legal : (after : History) → IsAtMostOneMore it.charter it.before it.pending after → IsLegal it.charter after
+      legal after more = legal_more grown it.charter it.before it.pending after it.legal more
+
+      now : (after : History) → IsAtMostOneMore it.charter it.before it.pending after → HoldDesk it.charter after found.now.trees → ¬ IsOfAnotherSchema found.now
+      now after more held =
+          ours found.now (listed found.now obeyed held.3)
+          (reads it.charter after held.0 found.now.trees (legal after more) (it.fits after more) held.1 it.chartered it.named held.2)
+
+      old : (after : History) → IsAtMostOneMore it.charter it.before it.pending after → HoldOldDesk it.charter after found.now.trees → ¬ IsOfAnotherSchema found.now
+      old after more held =
+          old_ours found.now (old_listed found.now obeyed held.3)
+          (old_reads it.charter after held.0 found.now.trees (legal after more) (it.fits after more) held.1 it.chartered it.named held.2)
+
+      go : MayBeLeftInEitherSchema it.charter it.before it.pending found.now.trees → ¬ IsOfAnotherSchema found.now
+      go (inl (inl held)) = now it.before (inl refl) held
+      go (inl (inr (asked, after, among, accepted, held))) = now after (inr (asked, among, accepted)) held
+      go (inr (after, more, held)) = old after more held

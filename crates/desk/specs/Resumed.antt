@@ -13,6 +13,8 @@ use Rattle.registry.specs.Values.{HistoryFits}
 use Rattle.registry.specs.Verdict.{IsLegal}
 use Rattle.registry.specs.declared.asked.Asked.{Asked}
 use Rattle.moving.specs.EitherSchema.{EitherSchemaHolds}
+use Rattle.moving.specs.OldTables.{OldTablesHold}
+use Rattle.database.specs.OldTrees.{IsOldDeskTrees}
 use Rattle.desk.specs.CrashOutcomes.{IsAcceptedOn, LeavesAtMost, MayBeLeft}
 use Rattle.desk.specs.Desk.{Represents}
 use Rattle.desk.specs.declared.desk.Desk.{Desk}
@@ -47,8 +49,19 @@ ResumesHistories g found desk =
     → IsCharter charter → IsLegal charter before → MayBeFound charter before pending found.now.trees
     → Resumes g charter before pending desk
 
--- An open connection found what may be left of a legal history with requests pending. The operators of the charter have
--- names, and whichever request is accepted, the values of the history are those of their types.
+-- the trees are those of a desk of schema 1, whose tables hold the charter and the rows of the history
+abbrev pub HoldOldDesk : Charter → History → Trees → Type 0
+HoldOldDesk charter history trees =
+    (rows : AllRows) × HasRows rows history × OldTablesHold charter rows trees × IsOldDeskTrees trees
+
+-- the tables are those of the history, or of the history with one of the pending requests, in either schema
+abbrev pub MayBeLeftInEitherSchema : Charter → History → List Asked → Trees → Type 0
+MayBeLeftInEitherSchema charter before pending trees =
+    MayBeLeft charter before pending trees
+    ⊎ ((after : History) × IsAtMostOneMore charter before pending after × HoldOldDesk charter after trees)
+
+-- An open connection found what may be left of a legal history with requests pending, in either schema. The operators of
+-- the charter have names, and whichever request is accepted, the values of the history are those of their types.
 pub record FindsLeft (found : State) : Type 0 where
   pub charter : Charter
   pub before : History
@@ -58,4 +71,4 @@ pub record FindsLeft (found : State) : Type 0 where
   pub named : AllByRecursion (λ name. IsTrue (is_name name)) charter.operators
   pub legal : IsLegal charter before
   pub fits : (after : History) → IsAtMostOneMore charter before pending after → HistoryFits after
-  pub left : MayBeLeft charter before pending found.now.trees
+  pub left : MayBeLeftInEitherSchema charter before pending found.now.trees

@@ -135,8 +135,10 @@ impl<S: Alter + Drop> Desk<S> {
     {
         histories::laws::growth_is_legal();
         database::laws::desk_trees_have_tables();
+        database::laws::old_desk_trees_have_schema();
         store::laws::tables_that_read_are_ours();
         store::laws::tables_of_a_history_read();
+        store::laws::old_tables_of_a_history_read();
         // Its clause `live` is for the proof: what is shown obeys the schema.
         let _schema = conn.schema();
         match Store::open_or_return(alloc, conn) {

@@ -19,5 +19,6 @@ returns-in-Ok-clause-resumed g c clean =
 
 pub returns-in-Err-clause-not_schema : goal.returns-in-Err-clause-not_schema
 returns-in-Err-clause-not_schema g c clean is found =
-    left_is_ours c.desk_trees_have_tables.ensures c.tables_that_read_are_ours.ensures c.tables_of_a_history_read.ensures c.growth_is_legal.ensures
+    left_is_ours c.desk_trees_have_tables.ensures c.tables_that_read_are_ours.ensures.now c.tables_of_a_history_read.ensures
+    c.old_desk_trees_have_schema.ensures c.tables_that_read_are_ours.ensures.old c.old_tables_of_a_history_read.ensures c.growth_is_legal.ensures
     (state g.S.Store c.args.conn) c.schema-schema.ensures.live found (c.in-Err.ensures.err.schema clean is)
