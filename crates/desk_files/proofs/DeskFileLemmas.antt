@@ -25,9 +25,9 @@ use Rattle.registry.specs.declared.asked.Asked.{Asked}
 use Rattle.charters.specs.declared.charter.Charter.{Charter}
 use Rattle.tables.specs.TablesHold.{TablesHold}
 use Rattle.making.specs.Databases.{IsDeskTrees, IsDeskWhileOpen}
-use Rattle.desk.specs.CrashOutcomes.{LeavesAtMost, MayBeLeft}
+use Rattle.desk.specs.CrashOutcomes.{LeavesAtMost}
 use Rattle.desk.specs.Desk.{charter_of, ContinuesHistories, HoldsHistory, IsOnCleanDisk, Represents}
-use Rattle.desk.specs.Resumed.{FindsLeft, HoldHistory, MayBeFound, ResumesHistories}
+use Rattle.desk.specs.Resumed.{FindsLeft, HoldHistory, MayBeFound, MayBeLeftInEitherSchema, ResumesHistories}
 use Rattle.desk.specs.declared.desk.Desk.{Desk}
 use Rattle.desk_files.specs.DeskFiles.{AreLeftFiles, AreLeftOfLegal, ContinuesFiles, IsOver, KeepDesk, ResumesFiles}
 
@@ -95,7 +95,7 @@ opened_finds_left image conn opened found it =
       named = it.named;
       legal = it.legal;
       fits = it.fits;
-      left = subst (MayBeLeft it.charter it.before it.pending) (sym trees) it.left.1;
+      left = subst (MayBeLeftInEitherSchema it.charter it.before it.pending) (sym trees) it.left.1;
     }
 
 -- a connection that found what the files held was opened over files that read so

@@ -29,7 +29,7 @@ use Rattle.making.specs.declared.fault.StoreFault.TheVariants.{Schema}
 use Rattle.store.specs.RefusedOpening.{IsGivenBack}
 use Rattle.desk.specs.CrashOutcomes.{HoldDesk, LeavesAtMost, MayBeLeft}
 use Rattle.desk.specs.Desk.{Represents}
-use Rattle.desk.specs.Resumed.{HoldHistory, IsAtMostOneMore, MayBeFound, Resumes}
+use Rattle.desk.specs.Resumed.{HoldHistory, IsAtMostOneMore, MayBeFound, MayBeLeftInEitherSchema, Resumes}
 use Rattle.desk.specs.declared.desk.Desk.{Desk}
 use Rattle.desk_files.specs.declared.file.OpenFault.{OpenFault}
 use Rattle.desk_files.specs.declared.file.OpenFault.TheVariants.{File, Store}
@@ -77,8 +77,13 @@ abbrev pub AreLeftFiles : Image → Charter → History → List Asked → Type 
 AreLeftFiles image charter history pending =
     (trees : Trees) × MayBeLeft charter history pending trees × ∥ HoldsDatabase image trees ∥₁
 
--- The files may be left of a legal history with requests pending. The operators of the charter have names, and
--- whichever request is accepted, the values of the history are those of their types.
+-- so may they be, in either schema
+abbrev pub AreLeftFilesInEitherSchema : Image → Charter → History → List Asked → Type 0
+AreLeftFilesInEitherSchema image charter history pending =
+    (trees : Trees) × MayBeLeftInEitherSchema charter history pending trees × ∥ HoldsDatabase image trees ∥₁
+
+-- The files may be left of a legal history with requests pending, in either schema. The operators of the charter have
+-- names, and whichever request is accepted, the values of the history are those of their types.
 pub record AreLeftOfLegal (image : Image) : Type 0 where
   pub charter : Charter
   pub before : History
@@ -87,7 +92,7 @@ pub record AreLeftOfLegal (image : Image) : Type 0 where
   pub named : AllByRecursion (λ name. IsTrue (is_name name)) charter.operators
   pub legal : IsLegal charter before
   pub fits : (after : History) → IsAtMostOneMore charter before pending after → HistoryFits after
-  pub left : AreLeftFiles image charter before pending
+  pub left : AreLeftFilesInEitherSchema image charter before pending
 
 -- The files hold a desk, as they read now and as a crash leaves them, and the database file does so
 -- without its log.
@@ -123,8 +128,8 @@ RefusesFiles {D} {g} image (Store fault conn) =
     (opened : Held (FileStore D g)) × IsOver opened image
     × IsGivenBack over_files (file_state opened) fault conn
 
--- Where the disk returned what was written, files that may be left of a legal history are not refused as a database of
--- another schema.
+-- Where the disk returned what was written, files that may be left of a legal history, in either schema, are not refused
+-- as a database of another schema.
 abbrev pub RefusesNoLeft : {D : Type 0} {g : Ghosts D} → Image → OpenFault (FileStore D g) → Type 0
 RefusesNoLeft image (File fault) = ⊤
 RefusesNoLeft image (Store fault conn) = HasCleanDisk (file_state conn) → fault ≡ Schema → ¬ AreLeftOfLegal image
