@@ -133,7 +133,10 @@ fn prints_vrps_and_states(rt: HostRuntime) -> Result<(), Fail> {
 #[test]
 fn write_that_fails_leaves_a_beginning(rt: HostRuntime) -> Result<(), Fail> {
     let alloc = rt.alloc();
-    let auths = vec![in alloc; auth(alloc, 1, "192.0.2.0/24")?, auth(alloc, 2, "192.0.2.0/25")?]?;
+    let auths = vec![in alloc;
+        auth(alloc, 1, "192.0.2.0/24")?,
+        auth(alloc, 2, "192.0.2.0/25")?,
+    ]?;
     let reply = Reply::Listed(auths);
     let whole =
         b"{\"listed\":[{\"number\":1,\"asn\":64496,\"prefix\":\"192.0.2.0/24\",\"max\":24,\"from\":\"2026-01-01\",\"until\":\"2026-12-31\"},{\"number\":2,\"asn\":64496,\"prefix\":\"192.0.2.0/25\",\"max\":25,\"from\":\"2026-01-01\",\"until\":\"2026-12-31\"}]}\n";

@@ -406,7 +406,8 @@ fn entries_text(alloc: Global, count: u32) -> Result<String, Fail> {
 fn reported_of_entries(alloc: Global, count: u32) -> Result<u8, Fail> {
     let entries = entries_text(alloc, count)?;
     let request = format!(in alloc;
-        r#"ann {{"do":"create","holder":"alpha","asn":1,"entries":[{entries}],"from":"2026-01-01","until":"2026-12-31"}}"#)?;
+        r#"ann {{"do":"create","holder":"alpha","asn":1,"entries":[{entries}],"from":"2026-01-01","until":"2026-12-31"}}"#
+    )?;
     let line = line_of(alloc, "2026-03-01", &request)?;
     Ok(reported(alloc, line.as_bytes()))
 }
@@ -418,7 +419,8 @@ fn reported_of_maxes(alloc: Global, count: u32) -> Result<u8, Fail> {
         list.push_str(if index > 0 { ",24" } else { "24" })?;
     }
     let request = format!(in alloc;
-        r#"ann {{"do":"amend","holder":"alpha","number":1,"maxes":[{list}],"until":"2026-12-31"}}"#)?;
+        r#"ann {{"do":"amend","holder":"alpha","number":1,"maxes":[{list}],"until":"2026-12-31"}}"#
+    )?;
     let line = line_of(alloc, "2026-03-01", &request)?;
     Ok(reported(alloc, line.as_bytes()))
 }

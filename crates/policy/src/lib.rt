@@ -13,8 +13,8 @@ mod withdrawal;
 pub use decision::{decide, decide_two};
 pub use registry::{
     Access, Auth, AuthTerms, Change, Charter, CharterFault, Command, Edit, Granted, HolderChange,
-    HolderRows, ImportRow, LAST_NUMBER, Proposed, Query, Refusal, RoaPrefix, RoaPrefixes, Role, Rule,
-    Scope, View, laws,
+    HolderRows, ImportRow, LAST_NUMBER, Proposed, Query, Refusal, RoaPrefix, RoaPrefixes, Role,
+    Rule, Scope, View, laws,
 };
 pub use sight::{see, see_all};
 pub use what_if::suppose;
