@@ -4,7 +4,7 @@ ghost use Rattle.std.specs.Prelude.{◌≡◌, ◌≤◌, ◌↔◌, ◌&&◌, t
 ghost use Rattle.std.specs.List.{list_any};
 ghost use Rattle.addr.specs.Address.{FitsMaxLength};
 ghost use Rattle.registry.specs.Import.{are_same, has_terms};
-ghost use Rattle.registry.specs.Terms.{numbered_terms, row_terms, terms_overlap, is_entry, are_shared, gives_some, share_vrp, with_terms, IsVrpOf, IsVrpOfEntry};
+ghost use Rattle.registry.specs.Terms.{numbered_terms, row_terms, terms_overlap, is_entry, are_shared, gives_some, with_terms, IsVrpOf, IsVrpOfEntry};
 ghost use Rattle.registry.specs.Verdict.{fit_lengths, maxes_fit};
 
 use crate::RoaPrefixes;
@@ -183,13 +183,6 @@ impl Auth {
             && are_same(terms.entries.as_slice(), self.entries.as_slice())
             && self.from.number() == terms.from.number()
             && self.until.number() == terms.until.number()
-    }
-
-    /// Whether some AS, prefix and maxLength is given by both terms.
-    pub fn shares_vrp(&self, other: &Auth) -> bool
-        ensures { result ≡ share_vrp self.now other.now }
-    {
-        self.gives_some(other.asn, other.entries.as_slice())
     }
 
     /// Whether there are as many maxLengths as entries, each one for the prefix of the entry in its
