@@ -22,6 +22,7 @@ install -m 755 "$program" "$work/roadesk" && install -m 644 "$top/examples/chart
 program=$work/roadesk
 charter=$work/charter.csv
 first=$work/first.db
+old=$work/old.db
 
 # What the program writes and its status, in a line; and responses.
 fine='status 0'
@@ -283,6 +284,12 @@ open="503 200 200 403 $fine; made 2, found 2
 200 200 503 403 $fine; made 2, found 2
 200 200 200 403 $fine; made 3, found 3"
 
+# Of a desk that opens a database of schema 1: it is moved, or stays as it was, or the commit that was told to have failed
+# is found.
+moves="$fine; schema 2 left, found 1
+$database; schema 1 left, found 1
+$database; schema 2 left, found 1"
+
 # expect_among NAME SWEEP LINES: no other line came.
 expect_among() {
     echo "$2"
@@ -294,6 +301,55 @@ calls_fail() {
     expect_among 'serve, each of its writes refused in turn' \
         "$(sweep failing_serve error=ENOSPC pwrite64 ftruncate)" "$shut
 $open"
+}
+
+# make_old: the rows of the first desk in a database of schema 1.
+make_old() {
+    local table
+    {
+        grep -v '^CREATE TABLE \(claim\|entry\)' "$top/bench/common/tables.sql"
+        echo "ATTACH '$first' AS first;"
+        for table in meta operator pool holder holding granted slurm; do
+            echo "INSERT INTO main.$table SELECT * FROM first.$table;"
+        done
+        echo 'INSERT INTO main.auth SELECT holder, number, asn, family, lo, len, max, opens, ends
+            FROM first.claim NATURAL JOIN first.entry; UPDATE main.meta SET value = 1;'
+    } | sqlite3 "$old" || exit 2
+}
+
+# Opens such a database below the command. `line` is what is left, schema 1 with the rows that it had or 2, and what the
+# desk has that opens it next; `first_end` is how the first ended.
+move() {
+    local file=$work/moved.db left
+    rm -f "$file"*
+    cp "$old" "$file" || exit 2
+    start "$file" 1 "${below[@]}"
+    probe >"$work/response"
+    finish
+    first_end=$ended
+    left=$(sqlite3 "$file" 'SELECT value FROM meta' 2>&1)
+    [ "$left" != 1 ] || [ "$(sqlite3 "$file" .dump)" = "$(sqlite3 "$old" .dump)" ] || left='other rows'
+    line="schema $left left, found $(found "$file")"
+}
+
+killed_move() {
+    move
+    echo "$line"
+}
+
+failing_move() {
+    move
+    echo "$first_end; $line"
+}
+
+moves_are_stopped() {
+    make_old
+    expect_lines 'a database of schema 1 opened, killed at each of its calls' \
+        "$(sweep killed_move signal=KILL openat pwrite64 ftruncate fsync fdatasync)" \
+        'schema 1 left, found 1
+schema 2 left, found 1'
+    expect_among 'each of its syncs failing in turn' "$(sweep failing_move error=EIO fsync fdatasync)" "$moves"
+    expect_among 'each of its writes refused in turn' "$(sweep failing_move error=ENOSPC pwrite64 ftruncate)" "$moves"
 }
 
 # condition: that of the unit which restarts the service, asked of the desk that is served.
@@ -502,6 +558,7 @@ make_first
 init_is_killed
 serve_is_killed
 calls_fail
+moves_are_stopped
 probe_restarts
 full_disk
 other_users
