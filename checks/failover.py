@@ -29,6 +29,8 @@ from lives import DAY, Check, Command, done, exchange, free_port, tables_of
 RECORD = struct.Struct("=IIQQ")
 WRITE, TRUNCATE, SYNC = 1, 2, 3
 ENDS = {1: "", 2: "-wal"}
+# A write that is killed may have been made up to the end of a page of the file.
+PAGE = 4096
 # How long a desk may take until it listens, in seconds, and how many creates a mirror that lags is tried with.
 START = 120
 CREATES = 20
@@ -74,6 +76,16 @@ def part_of(record, chance):
     choice = chance.randrange(4 if kind == WRITE else 2)
     cut = chance.randint(0, len(written))
     return [None, record, (kind, file, offset, written[:cut]), (kind, file, offset + cut, written[cut:])][choice]
+
+
+def beginnings(record):
+    """What a kill may leave of a call: all, nothing, or of a write what ends with a page of the file."""
+    kind, file, offset, written = record
+    yield [record]
+    yield []
+    if kind == WRITE:
+        for end in range(offset // PAGE * PAGE + PAGE, offset + len(written), PAGE):
+            yield [(kind, file, offset, written[:end - offset])]
 
 
 def play(pair, records, rest, chance):
@@ -140,10 +152,10 @@ class Pair(Check):
 
     def is_whole_record(self, records):
         """The pair of the process that was killed, which lost nothing, is what all records make. The call of the last
-        one may not have been made."""
+        one may not have been made, or in part."""
         found = read_pair(self.db)
-        return any(play(self.copy_of(self.before), some, "all", self.chance) == found
-                   for some in (records, records[:-1]))
+        ends = beginnings(records[-1]) if records else [[]]
+        return any(play(self.copy_of(self.before), [*records[:-1], *end], "all", self.chance) == found for end in ends)
 
     def found(self):
         """The first machine is gone: what is found is that of the second, which is the first from now on."""

@@ -1,0 +1,154 @@
+#!/usr/bin/env python3
+"""Measures how long a database of schema 1 takes to be moved when it is opened, beside sqlite3 doing the same statements.
+
+    moving.py [AUTHORIZATIONS [RUNS]]      (100000 and 3 where left out)
+
+The authorizations lie at 200 holders. Each run opens a copy with the program and asks for a list that is denied, so that
+its time is that from the start to the first answer; then it does so once more, with the database that was moved. The
+statements are those of the move, in one transaction of a copy that is written through (WAL, synchronous FULL), by the
+sqlite3 module of Python; it reads all rows before, as an opening does. Of the runs the shortest counts.
+
+PROGRAM names the program, else it is that of the repository. Files go to a temporary folder, or below BENCH_WORK. Ends
+with 1 where a moved database has other rows, with 2 where something could not be run.
+"""
+
+import http.client
+import os
+import shutil
+import socket
+import sqlite3
+import subprocess
+import sys
+import tempfile
+import time
+
+TOP = os.path.dirname(os.path.dirname(os.path.dirname(os.path.abspath(__file__))))
+PROGRAM = os.environ.get("PROGRAM", f"{TOP}/crates/cli/out/cli")
+HOLDERS = 200
+MOVED = ("claim", "entry")
+COPY = (
+    "INSERT INTO claim (holder, number, asn, opens, ends) SELECT holder, number, asn, opens, ends FROM auth",
+    "INSERT INTO entry (holder, number, asn, family, lo, len, max)"
+    " SELECT holder, number, asn, family, lo, len, max FROM auth",
+    "DELETE FROM auth",
+    "UPDATE meta SET value = 2",
+)
+
+
+def schema():
+    with open(f"{TOP}/bench/common/tables.sql", encoding="ascii") as lines:
+        return lines.read().splitlines()
+
+
+def is_moved(statement):
+    return statement.startswith(tuple(f"CREATE TABLE {table} " for table in MOVED))
+
+
+def address(number):
+    return (number).to_bytes(16, "big")
+
+
+def make_old(path, count):
+    """A database of schema 1 with so many authorizations of an AS and a prefix each, a run a holder."""
+    with sqlite3.connect(path) as db:
+        for statement in schema():
+            if not is_moved(statement):
+                db.execute(statement)
+        each = -(-count // HOLDERS)
+        db.execute("INSERT INTO meta VALUES ('schema', 1)")
+        db.execute("INSERT INTO operator VALUES ('reg')")
+        db.execute("INSERT INTO pool VALUES (4, ?, 8)", (address(10 << 24),))
+        for place in range(HOLDERS):
+            name, first = f"h{place:03}", (10 << 24) + (place << 16)
+            db.execute("INSERT INTO holder VALUES (?, 0, ?)", (name, each))
+            db.execute("INSERT INTO holding VALUES (4, ?, ?, ?)", (address(first), address(first + 0xFFFF), name))
+            db.executemany(
+                "INSERT INTO auth VALUES (?, ?, ?, 4, ?, 24, 24, 20454, 20818)",
+                ((name, number + 1, 64496 + number // 256, address(first + (number % 256 << 8))) for number in range(each)),
+            )
+    db.close()
+
+
+def copy(old, path):
+    for end in ("", "-wal", "-shm"):
+        if os.path.exists(path + end):
+            os.remove(path + end)
+    shutil.copy(old, path)
+
+
+def first_answer(path):
+    """Seconds from the start of a desk to its first response."""
+    with socket.socket() as taken:
+        taken.bind(("127.0.0.1", 0))
+        port = taken.getsockname()[1]
+    start = time.perf_counter()
+    desk = subprocess.Popen([PROGRAM, "serve", "--db", path, "--listen", f"127.0.0.1:{port}", "--count", "1",
+                             "--day", "2026-03-01"])
+    while True:
+        try:
+            client = http.client.HTTPConnection("127.0.0.1", port)
+            client.request("GET", "/holders/h000/auths", headers={"Desk-Caller": "nobody"})
+            break
+        except ConnectionRefusedError:
+            if desk.poll() is not None:
+                sys.exit(2)
+            time.sleep(0.002)
+    if client.getresponse().status != 403:
+        sys.exit(2)
+    seconds = time.perf_counter() - start
+    desk.wait()
+    return seconds
+
+
+def moved_by_statements(path):
+    db = sqlite3.connect(path, isolation_level=None)
+    db.execute("PRAGMA journal_mode = WAL")
+    db.execute("PRAGMA synchronous = FULL")
+    db.execute("PRAGMA foreign_keys = ON")
+    start = time.perf_counter()
+    for table in ("operator", "pool", "holder", "holding", "granted", "auth", "slurm"):
+        for _ in db.execute(f"SELECT * FROM {table}"):
+            pass
+    db.execute("BEGIN")
+    db.execute("DROP INDEX holding_of")
+    for statement in schema():
+        if is_moved(statement):
+            db.execute(statement)
+    for statement in COPY:
+        db.execute(statement)
+    db.execute(schema()[-1])
+    db.execute("COMMIT")
+    seconds = time.perf_counter() - start
+    db.close()
+    return seconds
+
+
+def rows(path):
+    db = sqlite3.connect(path)
+    found = [db.execute(f"SELECT * FROM {table} ORDER BY 1, 2, 3, 4, 5").fetchall() for table in ("auth", *MOVED)]
+    db.close()
+    return found
+
+
+def main():
+    count = int(sys.argv[1]) if len(sys.argv) > 1 else 100_000
+    runs = int(sys.argv[2]) if len(sys.argv) > 2 else 3
+    with tempfile.TemporaryDirectory(dir=os.environ.get("BENCH_WORK")) as work:
+        old, one, other = f"{work}/old.db", f"{work}/one.db", f"{work}/other.db"
+        make_old(old, count)
+        opening, again, statements = [], [], []
+        for _ in range(runs):
+            copy(old, one)
+            opening.append(first_answer(one))
+            again.append(first_answer(one))
+            copy(old, other)
+            statements.append(moved_by_statements(other))
+        if rows(one) != rows(other):
+            sys.exit("moving.py: the moved database has other rows")
+    print(f"{count} authorizations of {HOLDERS} holders, seconds:")
+    print(f"  opened and moved {min(opening):.2f}, opened once more {min(again):.2f}")
+    print(f"  the statements by sqlite3, after all rows were read {min(statements):.2f}")
+    print(f"  moving beside the statements {min(opening) / min(statements):.2f} times")
+
+
+main()
