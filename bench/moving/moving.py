@@ -77,7 +77,7 @@ def copy(old, path):
 
 
 def first_answer(path):
-    """Seconds from the start of a desk to its first response."""
+    """Seconds from the start of a desk to its first response, and those of the processor until its end."""
     with socket.socket() as taken:
         taken.bind(("127.0.0.1", 0))
         port = taken.getsockname()[1]
@@ -96,8 +96,8 @@ def first_answer(path):
     if client.getresponse().status != 403:
         sys.exit(2)
     seconds = time.perf_counter() - start
-    desk.wait()
-    return seconds
+    usage = os.wait4(desk.pid, 0)[2]
+    return seconds, usage.ru_utime + usage.ru_stime
 
 
 def moved_by_statements(path):
@@ -105,7 +105,7 @@ def moved_by_statements(path):
     db.execute("PRAGMA journal_mode = WAL")
     db.execute("PRAGMA synchronous = FULL")
     db.execute("PRAGMA foreign_keys = ON")
-    start = time.perf_counter()
+    start, processor = time.perf_counter(), time.process_time()
     for table in ("operator", "pool", "holder", "holding", "granted", "auth", "slurm"):
         for _ in db.execute(f"SELECT * FROM {table}"):
             pass
@@ -118,7 +118,7 @@ def moved_by_statements(path):
         db.execute(statement)
     db.execute(schema()[-1])
     db.execute("COMMIT")
-    seconds = time.perf_counter() - start
+    seconds = time.perf_counter() - start, time.process_time() - processor
     db.close()
     return seconds
 
@@ -145,10 +145,16 @@ def main():
             statements.append(moved_by_statements(other))
         if rows(one) != rows(other):
             sys.exit("moving.py: the moved database has other rows")
-    print(f"{count} authorizations of {HOLDERS} holders, seconds:")
-    print(f"  opened and moved {min(opening):.2f}, opened once more {min(again):.2f}")
-    print(f"  the statements by sqlite3, after all rows were read {min(statements):.2f}")
-    print(f"  moving beside the statements {min(opening) / min(statements):.2f} times")
+    print(f"{count} authorizations of {HOLDERS} holders, seconds and those of the processor:")
+    for what, times in (
+        ("opened and moved", opening),
+        ("opened once more", again),
+        ("the statements by sqlite3, after all rows were read", statements),
+    ):
+        print(f"  {what}: {min(times)[0]:.2f}, {min(used for _, used in times):.2f}")
+    least = [min(used for _, used in times) for times in (opening, again, statements)]
+    print(f"  of the processor: opening {least[0] / least[2]:.2f} times the statements,"
+          f" moving {(least[0] - least[1]) / least[2]:.2f} times")
 
 
 main()
