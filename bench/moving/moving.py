@@ -6,7 +6,7 @@
 The authorizations lie at 200 holders. Each run opens a copy with the program and asks for a list that is denied, so that
 its time is that from the start to the first answer; then it does so once more, with the database that was moved. The
 statements are those of the move, in one transaction of a copy that is written through (WAL, synchronous FULL), by the
-sqlite3 module of Python; it reads all rows before, as an opening does. Of the runs the shortest counts.
+sqlite3 module of Python, whose time has the reading of all rows too, as an opening does it. Of the runs the shortest counts.
 
 PROGRAM names the program, else it is that of the repository. Files go to a temporary folder, or below BENCH_WORK. Ends
 with 1 where a moved database has other rows, with 2 where something could not be run.
@@ -149,11 +149,11 @@ def main():
     for what, times in (
         ("opened and moved", opening),
         ("opened once more", again),
-        ("the statements by sqlite3, after all rows were read", statements),
+        ("all rows read and the statements done by sqlite3", statements),
     ):
         print(f"  {what}: {min(times)[0]:.2f}, {min(used for _, used in times):.2f}")
     least = [min(used for _, used in times) for times in (opening, again, statements)]
-    print(f"  of the processor: opening {least[0] / least[2]:.2f} times the statements,"
+    print(f"  of the processor: opening {least[0] / least[2]:.2f} times sqlite3,"
           f" moving {(least[0] - least[1]) / least[2]:.2f} times")
 
 
