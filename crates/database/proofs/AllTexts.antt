@@ -1,28 +1,18 @@
--- What the queries of all rows of a table mean over the schema of a desk, and that they select them, some in an order of
--- the values that they show.
-use lib.ListN.{get_or-map}
-use Rattle.std.proofs.Common.{◌≡◌, ℕ, ◌+◌, true, List, [], ◌∷◌, ◌++◌, map, filter, drop, length, get_or, codes, refl, sym, ap, ap₂, subst, ◌∙◌, arith, is_lt, Ordering, IsPermutation, IsSorted}
-use Rattle.std.specs.Ordering.{ordering_then}
-use Rattle.std.proofs.lemmas.List.{length-map, map-append}
+-- What the queries of all rows of a table mean over the schema of a desk, and that they select them.
+use Rattle.std.proofs.Common.{◌≡◌, ℕ, true, List, [], ◌∷◌, ◌++◌, map, filter, length, codes, refl, ap, subst, ◌∙◌, IsPermutation}
+use Rattle.std.proofs.lemmas.List.{map-append}
 use Rattle.sqlite.specs.Effect.{Database, Reads}
 use Rattle.sqlite_value.specs.declared.value.Value.TheVariants.{Null}
-use Rattle.sqlite_value.specs.declared.keys.Key.{Key}
-use Rattle.sqlite_value.specs.Order.{Row, column, value_cmp}
-use Rattle.sqlite_value.proofs.OrderLemmas.{then-Equal, value_cmp-Text}
-use Rattle.sqlite_trees.proofs.ListLemmas.{all_of, filter_all, map-map}
-use Rattle.sqlite_sql.specs.Query.{IsAnswer, key_cmp}
-use Rattle.sqlite_sql.specs.Program.{overlay}
-use Rattle.sqlite_sql.specs.Term.{Term, col, eval, eval_all}
-use Rattle.addr.proofs.AddressLemmas.{below_widest, first_below}
+use Rattle.sqlite_value.specs.Order.{Row}
+use Rattle.sqlite_trees.proofs.ListLemmas.{all_of, filter_all}
+use Rattle.sqlite_sql.specs.Term.{col, eval, eval_all}
 use Rattle.sqlite_schema.specs.declared.command.Command.{Command}
 use Rattle.sqlite_schema.specs.declared.command.Command.TheVariants.{Select}
 use Rattle.sqlite.specs.Listing.{understood}
 use Rattle.sqlite_tied.specs.Compute.{everything}
 use Rattle.tables.specs.declared.auth.TheConstants.{SELECT_ALL_AUTHS}
-use Rattle.tables.specs.declared.claim.Claim.{Claim}
-use Rattle.tables.specs.declared.claim.TheConstants.{SELECT_ALL_CLAIMS, SELECT_CLAIMS_BY_HOLDER}
-use Rattle.tables.specs.declared.entry.EntryRow.{EntryRow}
-use Rattle.tables.specs.declared.entry.TheConstants.{SELECT_ALL_ENTRIES, SELECT_ENTRIES_BY_HOLDER}
+use Rattle.tables.specs.declared.claim.TheConstants.{SELECT_ALL_CLAIMS}
+use Rattle.tables.specs.declared.entry.TheConstants.{SELECT_ALL_ENTRIES}
 use Rattle.tables.specs.declared.exception.TheConstants.{SELECT_ALL_EXCEPTIONS}
 use Rattle.tables.specs.declared.granted.TheConstants.{SELECT_ALL_GRANTS}
 use Rattle.tables.specs.declared.holder.TheConstants.{SELECT_ALL_HOLDERS}
@@ -30,16 +20,11 @@ use Rattle.tables.specs.declared.holding.TheConstants.{SELECT_ALL_SPANS}
 use Rattle.tables.specs.declared.meta.TheConstants.{SELECT_SCHEMA}
 use Rattle.tables.specs.declared.operator.TheConstants.{SELECT_ALL_OPERATORS}
 use Rattle.tables.specs.declared.pool.TheConstants.{SELECT_ALL_PREFIXES}
-use Rattle.tables.specs.declared.groups.OfHolder.{OfHolder}
-use Rattle.tables.specs.Cells.{claim_cells, entry_cells, named_cells}
-use Rattle.tables.specs.Tables.{columns}
-use Rattle.tables.proofs.ClaimTexts.{all_claims_is, all_entries_is, claims_by_holder_is, entries_by_holder_is}
-use Rattle.tables.proofs.GroupCells.{by_entry, entries_alike, numbers_alike}
-use Rattle.tables.proofs.GroupOrder.{claim_cmp, entry_row_cmp, of_holder_cmp}
-use Rattle.tables.proofs.Selecting.{from_table, no_limit, picks, permuted, sorted}
+use Rattle.tables.proofs.ClaimTexts.{all_claims_is, all_entries_is}
+use Rattle.tables.proofs.Selecting.{from_table, no_limit, picks, permuted}
 use Rattle.database.proofs.Columns.{shown_at, shown_columns}
 use Rattle.tables.proofs.Texts.{Means, upwards}
-use Rattle.database.specs.steps.Numbered.{columns_and_rowid, AnswersSelect, SelectsAll, SelectsInOrder, shown_in}
+use Rattle.database.specs.steps.Numbered.{columns_and_rowid, AnswersSelect, SelectsAll}
 use Rattle.database.specs.steps.Opened.{claim_places, entry_places}
 
 -- SELECT these columns and the rowid FROM the table ORDER BY rowid
@@ -116,78 +101,8 @@ all_slurm_is = record { is = λ s. refl; plain = λ s. (refl, refl); unlisted = 
 pub selects_slurm : SelectsAll 8 15 (0 ∷ 1 ∷ 2 ∷ 3 ∷ 4 ∷ 5 ∷ 6 ∷ 7 ∷ []) SELECT_ALL_EXCEPTIONS.now
 selects_slurm = selects_all 15 (0 ∷ 1 ∷ 2 ∷ 3 ∷ 4 ∷ 5 ∷ 6 ∷ 7 ∷ []) _ SELECT_ALL_EXCEPTIONS.now all_slurm_is
 
-pub selects_claim : SelectsAll 4 17 (1 ∷ 2 ∷ 3 ∷ 4 ∷ []) SELECT_ALL_CLAIMS.now
-selects_claim = selects_all 17 (1 ∷ 2 ∷ 3 ∷ 4 ∷ []) _ SELECT_ALL_CLAIMS.now all_claims_is
+pub selects_claim : SelectsAll 5 17 claim_places SELECT_ALL_CLAIMS.now
+selects_claim = selects_all 17 claim_places _ SELECT_ALL_CLAIMS.now all_claims_is
 
-pub selects_entry : SelectsAll 6 19 (1 ∷ 2 ∷ 3 ∷ 4 ∷ 5 ∷ 6 ∷ []) SELECT_ALL_ENTRIES.now
-selects_entry = selects_all 19 (1 ∷ 2 ∷ 3 ∷ 4 ∷ 5 ∷ 6 ∷ []) _ SELECT_ALL_ENTRIES.now all_entries_is
-
--- ---- in an order of the values
-
--- values are sorted where the rows are that show them
-sorted_shown :
-    {X : Type 0} (cells : X → Row) (by : Row → Row → Ordering) (order : X → X → Ordering) → ((x y : X) → by (cells x) (cells y) ≡ order x y)
-    → (xs : List X) → IsSorted by (map cells xs) → IsSorted order xs
-sorted_shown cells by order same xs up k d low high =
-    let shows = ap₂ by (get_or-map cells xs (k + 1) d) (get_or-map cells xs k d) in
-    ap is_lt (sym (same (get_or xs (k + 1) d) (get_or xs k d)) ∙ sym shows) ∙ up k (cells d) low (omega (arith, high, length-map xs cells))
-
--- SELECT these columns FROM the table, in this order
-abbrev in_order_of : ℕ → List ℕ → List (Term × Key) → List (List ℕ) → Command
-in_order_of tree places order titles = Select (record { lets = []; body = from_table tree [] (shown_at places) order no_limit }) titles
-
--- a query by these keys, which are columns that it shows
-module _ {X : Type 0} (tree : ℕ) (places : List ℕ) (cells : X → Row) (order : X → X → Ordering) (keys : List (Term × Key)) (shown_keys : List ℕ) (by : Row → Row → Ordering)
-    (titles : List (List ℕ)) (sql : List ℕ) (means : Means sql (in_order_of tree places keys titles))
-    (keyed : (r : Row) → eval_all (map (λ (k : Term × Key). k.0) keys) ([] ∷ r ∷ []) ≡ map (column (eval_all (shown_at places) ([] ∷ r ∷ []))) shown_keys)
-    (ranked : (x y : Row) → key_cmp 0 (map (λ (k : Term × Key). k.1) keys) (map (column x) shown_keys) (map (column y) shown_keys) ≡ by x y)
-    (alike : (x y : X) → by (cells x) (cells y) ≡ order x y) where
-  answer_of : (db : Database) (rows : List Row) → AnswersSelect sql db rows → IsAnswer (from_table tree [] (shown_at places) keys no_limit) (overlay db.trees []) [] rows
-  answer_of db rows read = (subst (λ (k : Command). Reads k db [] rows) (means.is db.schema) read).answer Null
-
-  all_found : (db : Database) (rows : List Row) → AnswersSelect sql db rows → IsPermutation (shown_in tree places db) rows
-  all_found db rows read =
-      let every : filter (picks [] []) (db.trees tree) ≡ db.trees tree = filter_all (picks [] []) (db.trees tree) (all_of (λ r. picks [] [] r ≡ true) (λ r. refl) (db.trees tree)) in
-      subst (λ l. IsPermutation l rows) ((λ i. map (λ r. shown_columns places [] r i) (every i)) ∙ sym (map-map (columns places) (drop 1) (db.trees tree)))
-      (permuted tree [] (shown_at places) keys db.trees [] rows (answer_of db rows read))
-
-  selects_in_order : SelectsInOrder (length places) tree places cells order sql
-  selects_in_order = record {
-    counted = refl;
-    plain = means.plain;
-    unlisted = means.unlisted;
-    found = all_found;
-    sorted = λ db rows read xs is.
-        sorted_shown cells by order alike xs
-        (subst (IsSorted by) is (sorted tree [] (shown_at places) keys db.trees [] rows shown_keys by keyed ranked (answer_of db rows read)));
-  }
-
--- rows of claims by the name after them and by number
-abbrev by_named_claim : Row → Row → Ordering
-by_named_claim x y = ordering_then (value_cmp (column x 4) (column y 4)) (value_cmp (column x 0) (column y 0))
-
-claims_alike : (x y : OfHolder Claim) → by_named_claim (named_cells claim_cells x) (named_cells claim_cells y) ≡ of_holder_cmp claim_cmp x y
-claims_alike x y = ap₂ ordering_then (value_cmp-Text x.holder y.holder) (numbers_alike x.row.number y.row.number)
-
-pub selects_claims_in_order : SelectsInOrder 5 17 claim_places (named_cells claim_cells) (of_holder_cmp claim_cmp) SELECT_CLAIMS_BY_HOLDER.now
-selects_claims_in_order =
-    selects_in_order 17 claim_places (named_cells claim_cells) (of_holder_cmp claim_cmp) (upwards 1 ∷ upwards 2 ∷ []) (4 ∷ 0 ∷ []) by_named_claim _ SELECT_CLAIMS_BY_HOLDER.now claims_by_holder_is
-    (λ r. refl) (λ x y. ap (ordering_then (value_cmp (column x 4) (column y 4))) (then-Equal _)) claims_alike
-
--- rows of entries by the name after them, by number and by prefix
-abbrev by_named_entry : Row → Row → Ordering
-by_named_entry x y = ordering_then (value_cmp (column x 6) (column y 6)) (by_entry x y)
-
-named_entries_alike : (x y : OfHolder EntryRow) → by_named_entry (named_cells entry_cells x) (named_cells entry_cells y) ≡ of_holder_cmp entry_row_cmp x y
-named_entries_alike x y =
-    let p = x.row.entry.prefix in
-    let q = y.row.entry.prefix in
-    ap₂ ordering_then (value_cmp-Text x.holder y.holder)
-    (entries_alike x.row y.row (below_widest p.family p.first (first_below p)) (below_widest q.family q.first (first_below q)))
-
-pub selects_entries_in_order : SelectsInOrder 7 19 entry_places (named_cells entry_cells) (of_holder_cmp entry_row_cmp) SELECT_ENTRIES_BY_HOLDER.now
-selects_entries_in_order =
-    selects_in_order 19 entry_places (named_cells entry_cells) (of_holder_cmp entry_row_cmp) (upwards 1 ∷ upwards 2 ∷ upwards 4 ∷ upwards 5 ∷ upwards 6 ∷ []) (6 ∷ 0 ∷ 2 ∷ 3 ∷ 4 ∷ []) by_named_entry _
-    SELECT_ENTRIES_BY_HOLDER.now entries_by_holder_is (λ r. refl)
-    (λ x y. ap (λ o. ordering_then (value_cmp (column x 6) (column y 6)) (ordering_then (value_cmp (column x 0) (column y 0)) (ordering_then (value_cmp (column x 2) (column y 2)) (ordering_then (value_cmp (column x 3) (column y 3)) o)))) (then-Equal _))
-    named_entries_alike
+pub selects_entry : SelectsAll 7 19 entry_places SELECT_ALL_ENTRIES.now
+selects_entry = selects_all 19 entry_places _ SELECT_ALL_ENTRIES.now all_entries_is

@@ -3,7 +3,6 @@ pub mod QueryLemmas
 pub mod SameCharter
 mod FoundSchemas
 mod Rowids
-mod InOrder
 mod AllTexts
 mod Obeyed
 mod Moved

@@ -1,6 +1,7 @@
 //! Reading all rows of a database that has the tables of a desk.
 ghost use Rattle.std.specs.Prelude.{◌≡◌, ◌≢◌, ◌≤◌, ◌↔◌, true, false, ◌||◌, nat_eq, ℕ, List, [], ◌∷◌, length, Any, Err, OnOk, OnErr, IfOk, IsPermutation, IsSorted, IsTrue};
 ghost use Rattle.std.specs.declared.cmp.Ordering.{Ordering};
+ghost use Rattle.std.specs.Cmp.{IsTotalOrder};
 ghost use Rattle.std.specs.Cmp.Lexicographic.{pointwise};
 ghost use Rattle.std.specs.List.{AllByRecursion};
 ghost use Rattle.sqlite.specs.Given.{IsPlain};
@@ -15,10 +16,10 @@ ghost use Rattle.slurm.specs.declared.exceptions.TheConstants.{MOST_ENTRIES};
 ghost use Rattle.tables.specs.Decode.{first_columns};
 ghost use Rattle.tables.specs.Groups.{AllApart, claim_entry, holder_entry};
 ghost use Rattle.tables.specs.Tables.{operator, pool, holder, holding, granted, auth, slurm, claim, entry, IsTree, OverDesk};
-ghost use Rattle.tables.proofs.GroupOrder.{claim_cmp, entry_row_cmp, of_holder_cmp};
+ghost use Rattle.tables.proofs.GroupOrder.{claim_cmp, claim_orders, entry_row_cmp, of_holder_cmp, of_holder_total};
 ghost use Rattle.making.specs.Statements.{state_in, IsReady, WhenClean};
 ghost use Rattle.database.specs.TablesRead.{HoldSomeRows, ShowsSome, TablesRead};
-ghost use Rattle.database.specs.steps.Numbered.{AnswersSelect, AreRead, Rise, SelectsAll, SelectsInOrder, shown_in};
+ghost use Rattle.database.specs.steps.Numbered.{AnswersSelect, AreRead, Rise, SelectsAll, shown_in};
 ghost use Rattle.database.specs.steps.Opened.{HasNumber, ShowsNumber, number_row, MakeAuths, ShowAuths, ShowExceptions, ShowHolders, ShowsCharter, claim_places, entry_places};
 ghost use Rattle.database.specs.Queries.{IsAskedOnce, IsClean, IsReadyToAsk, IsAskedInside, ObeysSchema};
 
@@ -32,11 +33,12 @@ use registry::{Charter, Granted};
 use slurm::MOST_ENTRIES;
 use sqlite::{Alter, Connection, Row, Transaction};
 use std::alloc::Global;
+use std::cmp::Ordering;
 use tables::{
     Claim, EntryRow, ExceptionRow, FromRow, OfHolder, Registered, SELECT_ALL_AUTHS,
     SELECT_ALL_CLAIMS, SELECT_ALL_ENTRIES, SELECT_ALL_EXCEPTIONS, SELECT_ALL_GRANTS,
-    SELECT_ALL_HOLDERS, SELECT_ALL_OPERATORS, SELECT_ALL_PREFIXES, SELECT_ALL_SPANS,
-    SELECT_CLAIMS_BY_HOLDER, SELECT_ENTRIES_BY_HOLDER, SELECT_SCHEMA, group_entries, shows_schema,
+    SELECT_ALL_HOLDERS, SELECT_ALL_OPERATORS, SELECT_ALL_PREFIXES, SELECT_ALL_SPANS, SELECT_SCHEMA,
+    group_entries, shows_schema,
 };
 
 /// A value that each row of one table shows.
@@ -51,39 +53,14 @@ trait InTable: FromRow {
         ensures { SelectsAll Self.width tree places result.now };
 }
 
-/// A value that each row of one table shows, and that a query shows in an order of the values.
-trait InOrder: FromRow {
-    // The tree of the table, the columns that show the value, and others that a query of numbered
-    // rows shows.
-    ghost tree: { ℕ };
-
-    ghost places: { List ℕ };
-
-    ghost numbered: { List ℕ };
-
+/// A value that each row of one table shows, and that has a place among the others.
+trait InOrder: InTable {
     ghost order: { Self → Self → Ordering };
 
-    /// The query of the other columns of all rows, and of their rowids after them.
-    fn select_numbered() -> &'static str
-        ensures { SelectsAll (length numbered) tree numbered result.now };
+    ghost total: { IsTotalOrder order };
 
-    /// The query of the values of all rows.
-    fn select_in_order() -> &'static str
-        ensures { SelectsInOrder Self.width tree places Self.cells order result.now };
-}
-
-/// All rows that a query answers.
-fn ask_rows<S: Alter>(tx: &mut Transaction<'_, S>, sql: &str) -> Result<Vec<Row>, StoreFault>
-    requires ready { WhenClean S.Store IsReady tx.old }
-    requires plain { OverDesk (λ s. IsPlain (understood s sql.now)) }
-    requires unlisted { OverDesk (λ s. reads_listing s sql.now ≡ false) }
-    ensures asked { IsAskedInside S.Store tx.old tx.new result }
-    ensures answered { HasCleanDisk (state_in S.Store tx.new) → IfOk result (λ rows.
-        AnswersSelect sql.now (state_in S.Store tx.old).now rows.items) }
-    ensures no_schema { result ≢ Err StoreFault.Schema }
-{
-    let rows = ask_inside(tx, sql, &[])?;
-    Ok(rows)
+    fn order(&self, other: &Self) -> Ordering
+        ensures { result ≡ order self.now other.now };
 }
 
 /// All rows that a query of numbered rows answers.
@@ -97,7 +74,7 @@ fn ask_all<S: Alter>(tx: &mut Transaction<'_, S>, sql: &str) -> Result<Vec<Row>,
     ensures rise { IfOk result (λ rows. Rise rows.items) }
     ensures no_schema { result ≢ Err StoreFault.Schema }
 {
-    let rows = ask_rows(tx, sql)?;
+    let rows = ask_inside(tx, sql, &[])?;
     if !rise(&rows) {
         return Err(StoreFault::Database);
     }
@@ -142,9 +119,9 @@ fn read_in_order<T: InOrder, S: Alter>(
         → ¬ AllByRecursion (ShowsSome T.cells T.fits)
         (shown_in T.tree T.places (state_in S.Store tx.old).now) }
 {
-    let _numbered = ask_all(tx, T::select_numbered())?;
-    let rows = ask_rows(tx, T::select_in_order())?;
-    read_all(alloc, &rows)
+    let mut values: Vec<T> = read_table(tx, alloc)?;
+    values.sort_unstable_by(|one, other| one.order(other));
+    Ok(values)
 }
 
 impl InTable for Name {
@@ -207,39 +184,47 @@ impl InTable for ExceptionRow {
     }
 }
 
-impl InOrder for OfHolder<Claim> {
+impl InTable for OfHolder<Claim> {
     ghost tree = { claim.tree };
 
     ghost places = { claim_places };
 
-    ghost numbered = { 1 ∷ 2 ∷ 3 ∷ 4 ∷ [] };
-
-    ghost order = { of_holder_cmp claim_cmp };
-
-    fn select_numbered() -> &'static str {
+    fn select_all() -> &'static str {
         SELECT_ALL_CLAIMS
-    }
-
-    fn select_in_order() -> &'static str {
-        SELECT_CLAIMS_BY_HOLDER
     }
 }
 
-impl InOrder for OfHolder<EntryRow> {
+impl InTable for OfHolder<EntryRow> {
     ghost tree = { entry.tree };
 
     ghost places = { entry_places };
 
-    ghost numbered = { 1 ∷ 2 ∷ 3 ∷ 4 ∷ 5 ∷ 6 ∷ [] };
-
-    ghost order = { of_holder_cmp entry_row_cmp };
-
-    fn select_numbered() -> &'static str {
+    fn select_all() -> &'static str {
         SELECT_ALL_ENTRIES
     }
+}
 
-    fn select_in_order() -> &'static str {
-        SELECT_ENTRIES_BY_HOLDER
+impl InOrder for OfHolder<Claim> {
+    ghost order = { of_holder_cmp claim_cmp };
+
+    ghost total = { of_holder_total claim_cmp claim_orders.claims_total };
+
+    fn order(&self, other: &OfHolder<Claim>) -> Ordering {
+        let holders = self.holder.cmp(&other.holder);
+        holders.then(self.row.number.cmp(&other.row.number))
+    }
+}
+
+impl InOrder for OfHolder<EntryRow> {
+    ghost order = { of_holder_cmp entry_row_cmp };
+
+    ghost total = { of_holder_total entry_row_cmp claim_orders.rows_total };
+
+    fn order(&self, other: &OfHolder<EntryRow>) -> Ordering {
+        let holders = self.holder.cmp(&other.holder);
+        let numbers = self.row.number.cmp(&other.row.number);
+        let prefixes = self.row.entry.prefix.cmp(&other.row.entry.prefix);
+        holders.then(numbers.then(prefixes))
     }
 }
 

@@ -29,7 +29,7 @@ compared m n = elim (cases_lt m n) [
   ]
 ]
 
-pub numbers_alike : (m n : ℕ) → value_cmp (number_cell m) (number_cell n) ≡ nat_cmp m n
+numbers_alike : (m n : ℕ) → value_cmp (number_cell m) (number_cell n) ≡ nat_cmp m n
 numbers_alike m n = value_cmp-Int (pos m) (pos n) ∙ compared m n
 
 families_alike : (f g : Family) → value_cmp (number_cell (family_number f)) (number_cell (family_number g)) ≡ family_cmp f g

@@ -153,7 +153,7 @@ claim_orders = record {
 abbrev pub of_holder_cmp : {X : Type 0} → (X → X → Ordering) → OfHolder X → OfHolder X → Ordering
 of_holder_cmp cmp x y = ordering_then (slice_cmp nat_cmp x.holder y.holder) (cmp x.row y.row)
 
-of_holder_total : {X : Type 0} (cmp : X → X → Ordering) → IsTotalOrder cmp → IsTotalOrder (of_holder_cmp cmp)
+pub of_holder_total : {X : Type 0} (cmp : X → X → Ordering) → IsTotalOrder cmp → IsTotalOrder (of_holder_cmp cmp)
 of_holder_total {X} cmp total = then_total (on_total (λ (x : OfHolder X). x.holder) nat_list_cmp_total) (on_total (λ (x : OfHolder X). x.row) total)
 
 less_across : (o p q : Ordering) → (p ≡ Less → q ≡ Less) → ordering_then o p ≡ Less → ordering_then o q ≡ Less

@@ -34,13 +34,9 @@ pub const DELETE_CLAIM: &str = "DELETE FROM claim WHERE holder = ?1 AND number =
 pub const SELECT_HOLDER_CLAIMS: &str = "\
     SELECT number, asn, opens, ends FROM claim WHERE holder = ?1 ORDER BY number";
 
-/// All claims, and their rowids.
+/// All claims, the names of their holders, and their rowids.
 pub const SELECT_ALL_CLAIMS: &str = "\
-    SELECT number, asn, opens, ends, rowid FROM claim ORDER BY rowid";
-
-/// All claims, and the names of their holders.
-pub const SELECT_CLAIMS_BY_HOLDER: &str = "\
-    SELECT number, asn, opens, ends, holder FROM claim ORDER BY holder, number";
+    SELECT number, asn, opens, ends, holder, rowid FROM claim ORDER BY rowid";
 
 /// The claims in force on a day, and the names of their holders.
 pub const SELECT_CLAIMS_IN_FORCE: &str = "\

@@ -39,14 +39,9 @@ pub const SELECT_HOLDER_ENTRIES: &str = "\
     SELECT number, asn, family, lo, len, max FROM entry WHERE holder = ?1 \
     ORDER BY number, family, lo, len";
 
-/// All entries, and their rowids.
+/// All entries, the names of their holders, and their rowids.
 pub const SELECT_ALL_ENTRIES: &str = "\
-    SELECT number, asn, family, lo, len, max, rowid FROM entry ORDER BY rowid";
-
-/// All entries, and the names of their holders.
-pub const SELECT_ENTRIES_BY_HOLDER: &str = "\
-    SELECT number, asn, family, lo, len, max, holder FROM entry \
-    ORDER BY holder, number, family, lo, len";
+    SELECT number, asn, family, lo, len, max, holder, rowid FROM entry ORDER BY rowid";
 
 /// The VRPs of all entries, with the holders and the numbers of their authorizations.
 pub const SELECT_PAYLOADS: &str = "\

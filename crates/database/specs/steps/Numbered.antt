@@ -1,6 +1,5 @@
 -- Rows of a table that end in their rowids.
-use Rattle.std.specs.Prelude.{◌≡◌, ℕ, ◌-◌, Bool, true, false, List, [], ◌∷◌, ◌++◌, drop, map, length, All, IsPermutation, IsSorted}
-use Rattle.std.specs.declared.cmp.Ordering.{Ordering}
+use Rattle.std.specs.Prelude.{◌≡◌, ℕ, ◌-◌, Bool, true, false, List, [], ◌∷◌, ◌++◌, drop, map, length, All, IsPermutation}
 use Rattle.std.specs.List.{AllByRecursion}
 use Rattle.std.specs.Ordering.{is_eq, is_lt, int_cmp}
 use Rattle.sqlite.specs.Effect.{Database, Reads}
@@ -55,13 +54,3 @@ pub record AreRead {X : Type 0} (cells : X → Row) (fits : X → Type 0) (shown
   where
     pub fit : All fits values
     pub same : IsPermutation shown (map cells values)
-
--- The text selects these columns of all rows of a table, which are so many, and the values that they show are in this
--- order. It reads the tables alone.
-pub record SelectsInOrder {X : Type 0} (width tree : ℕ) (places : List ℕ) (cells : X → Row) (order : X → X → Ordering) (sql : List ℕ) : Type 0 where
-  pub counted : length places ≡ width
-  pub plain : OverDesk (λ s. IsPlain (understood s sql))
-  pub unlisted : OverDesk (λ s. reads_listing s sql ≡ false)
-  pub found : (db : Database) (rows : List Row) → AnswersSelect sql db rows → IsPermutation (shown_in tree places db) rows
-  pub sorted :
-      (db : Database) (rows : List Row) → AnswersSelect sql db rows → (xs : List X) → rows ≡ map cells xs → IsSorted order xs
