@@ -6,6 +6,7 @@ ghost use Rattle.slurm.specs.declared.set.TheConstants.{MOST_FILES};
 
 use crate::Slurm;
 use addr::Name;
+use std::alloc::AllocError;
 use std::marker::Model;
 use thiserror::Error;
 
@@ -17,6 +18,17 @@ pub const MOST_FILES: usize = 16;
 pub struct NamedSlurm {
     pub name: Name,
     pub file: Slurm,
+}
+
+impl Clone for NamedSlurm {
+    ghost is_clone = { λ named copy. copy ≡ named };
+
+    fn clone(&self) -> Result<Self, AllocError> {
+        Ok(NamedSlurm {
+            name: self.name,
+            file: self.file.clone()?,
+        })
+    }
 }
 
 /// Why files are no set. Of both faults the first counts.
@@ -40,6 +52,16 @@ impl Model for SlurmSet {
     ghost view = { λ set. set.files.items };
 
     ghost invariant = { λ set. AreFiles set.files.items };
+}
+
+impl Clone for SlurmSet {
+    ghost is_clone = { λ set copy. copy ≡ set };
+
+    fn clone(&self) -> Result<Self, AllocError> {
+        Ok(SlurmSet {
+            files: self.files.clone()?,
+        })
+    }
 }
 
 impl SlurmSet {

@@ -1,16 +1,16 @@
 //! Whether two files of a set overlap, by one walk along the prefixes of all files.
 ghost use Rattle.std.specs.Prelude.{◌≡◌, ◌↔◌, ◌++◌, [], ◌∷◌, map, IsTrue, IfOk, OnOk};
-ghost use Rattle.std.specs.List.{filter_map, flat_map};
+ghost use Rattle.std.specs.List.{filter_map, flat_map, list_any};
 ghost use Rattle.std.specs.List.Sorted.{IsSortedByKey};
 ghost use Rattle.std.specs.Str.{bytes_eq};
 ghost use Rattle.addr.specs.Order.{prefix_cmp};
 ghost use Rattle.addr.specs.Address.{contains};
-ghost use Rattle.slurm.specs.Overlap.{filter_prefix};
-ghost use Rattle.slurm.specs.SlurmSets.{some_overlap, SomeOverlap};
+ghost use Rattle.slurm.specs.Overlap.{filter_prefix, overlap};
+ghost use Rattle.slurm.specs.SlurmSets.{some_overlap, RiseByName, SomeOverlap};
 ghost use Rattle.slurm.specs.steps.Walk.{of_file, prefixes_of, some_clash};
 ghost use Rattle.slurm.specs.declared.walk.NamedPrefix.{NamedPrefix};
 
-use crate::{Filter, NamedSlurm, SlurmSet};
+use crate::{Filter, NamedSlurm, Slurm, SlurmSet};
 use addr::{Name, Prefix, Vrp};
 use std::alloc::{AllocError, Global};
 
@@ -36,16 +36,43 @@ impl NamedPrefix {
 }
 
 impl SlurmSet {
-    /// Whether some two files of the set overlap. It takes memory for the prefixes that they name,
-    /// and no more time than it takes to sort these.
-    pub fn has_overlap(&self, alloc: Global) -> Result<bool, AllocError>
-        ensures some { IfOk result (λ found. IsTrue found ↔ SomeOverlap self.now) }
-        ensures by_test { IfOk result (λ found. found ≡ some_overlap self.now) }
+    /// Whether some two files of the set overlap. It takes memory for the prefixes that they name, and
+    /// no more time than it takes to sort these; where memory is refused, the time of all pairs.
+    pub fn has_overlap(&self, alloc: Global) -> bool
+        ensures some { IsTrue result ↔ SomeOverlap self.now }
+        ensures by_test { result ≡ some_overlap self.now }
     {
-        let mut prefixes = prefixes_of(alloc, self.files())?;
-        prefixes.sort_unstable_by_key(|named| named.prefix);
-        Ok(some_clash(&prefixes))
+        match has_clash(alloc, self.files()) {
+            Ok(found) => found,
+            Err(AllocError) => some_overlap(self.files()),
+        }
     }
+}
+
+/// Whether some two of the files overlap, by every two of them.
+fn some_overlap(files: &[NamedSlurm]) -> bool
+    ensures { result ≡ some_overlap files.now }
+{
+    match files {
+        [] => false,
+        [first, others @ ..] => overlaps_some(&first.file, others) || some_overlap(others),
+    }
+}
+
+fn overlaps_some(file: &Slurm, others: &[NamedSlurm]) -> bool
+    ensures { result ≡ list_any (λ g. overlap file.now g.file) others.now }
+{
+    others.iter().any(|other| file.overlaps(&other.file))
+}
+
+/// Whether some two of the files overlap, by one walk.
+fn has_clash(alloc: Global, files: &[NamedSlurm]) -> Result<bool, AllocError>
+    requires { RiseByName files.now }
+    ensures { IfOk result (λ found. found ≡ some_overlap files.now) }
+{
+    let mut prefixes = prefixes_of(alloc, files)?;
+    prefixes.sort_unstable_by_key(|named| named.prefix);
+    Ok(some_clash(&prefixes))
 }
 
 fn prefixes_of(alloc: Global, files: &[NamedSlurm]) -> Result<Vec<NamedPrefix>, AllocError>

@@ -1,26 +1,14 @@
-use Rattle.std.proofs.Common.{◌≡◌, ◌↔◌, IsTrue, ap, rules, subst, sym, ◌∙◌}
-use Rattle.std.proofs.lemmas.Fn.{always_returns_same}
-use Rattle.std.specs.List.{flat_map}
-use Rattle.std.specs.List.Sorted.{IsSortedByKey}
-use Rattle.addr.proofs.OrderLemmas.{derived_prefix}
-use Rattle.slurm.specs.SlurmSets.{SomeOverlap}
-use Rattle.slurm.specs.steps.Walk.{prefixes_of, some_clash}
-use Rattle.slurm.proofs.RisingNames.{rising_once}
-use Rattle.slurm.proofs.SetOverlapLemmas.{set_overlap, some_overlap_decides}
+use Rattle.std.proofs.Common.{◌↔◌, IsTrue, ap, subst, sym, ◌∙◌}
+use Rattle.slurm.specs.SlurmSets.{some_overlap, SomeOverlap}
+use Rattle.slurm.proofs.SetOverlapLemmas.{some_overlap_decides}
 use Rattle.slurm.proofs.set.SlurmSet.has_overlap.Goals as goal
 
-pub some_clash-requires : goal.some_clash-requires
-some_clash-requires c =
-    let sorted = c.sort_unstable_by_key.ensures.sorted (λ p. p.prefix) (always_returns_same _ (λ a r. r ≡ a.0.now.prefix) _ (λ a r q k. search rules)) in
-    rw c.deref.ensures.value (subst (λ cmp. IsSortedByKey (λ p. p.prefix) cmp c.sort_unstable_by_key.new.self.items) (λ i p q. derived_prefix p q i) sorted)
+pub returns-in-Ok-clause-some : goal.returns-in-Ok-clause-some
+returns-in-Ok-clause-some c =
+    subst (λ b. IsTrue b ↔ SomeOverlap c.args.self.now) (sym (c.in-Ok.ensures ∙ ap some_overlap c.files.ensures.files))
+    (some_overlap_decides c.args.self.now)
 
-pub returns-clause-by_test : goal.returns-clause-by_test
-returns-clause-by_test c =
-    c.some_clash.ensures
-    ∙ ap some_clash c.deref.ensures.value
-    ∙ set_overlap c.args.self.now _ c.sort_unstable_by_key.new.self.items (rising_once c.args.self.now c.files.ensures.rising)
-    (c.in_ok-prefixes.ensures ∙ ap (flat_map prefixes_of) c.files.ensures.files) c.sort_unstable_by_key.ensures.permutation
-
-pub returns-clause-some : goal.returns-clause-some
-returns-clause-some c =
-    subst (λ b. IsTrue b ↔ SomeOverlap c.args.self.now) (sym (returns-clause-by_test c)) (some_overlap_decides c.args.self.now)
+pub returns-in-Err-clause-some : goal.returns-in-Err-clause-some
+returns-in-Err-clause-some c =
+    subst (λ b. IsTrue b ↔ SomeOverlap c.args.self.now) (sym (c.some_overlap.ensures ∙ ap some_overlap c.files-in-Err.ensures.files))
+    (some_overlap_decides c.args.self.now)
