@@ -10,17 +10,18 @@ use Rattle.charters.specs.declared.charter.Charter.{Charter}
 use Rattle.registry.specs.declared.command.Command.{Command}
 use Rattle.registry.specs.declared.command.Command.TheVariants.{Grant, Revoke, Create, Amend, Withdraw, Import, Slurm}
 use Rattle.registry.specs.declared.grant.Granted.{Granted}
-use Rattle.slurm.specs.Exceptions.{Exceptions}
-use Rattle.registry.specs.ExceptionsInForce.{exceptions_after, exceptions_in_force}
+use Rattle.slurm.specs.SlurmSets.{has_entries}
+use Rattle.slurm.specs.declared.set.NamedSlurm.{NamedSlurm}
+use Rattle.registry.specs.ExceptionsInForce.{files_after, files_in_force}
 use Rattle.registry.specs.History.{Entry, History, same_name}
 use Rattle.registry.specs.Terms.{numbered_terms, granted_after, grants_after, grants_made, grant_terms, created_after, terms_after, authorizations_made, authorization_terms, amended, HeldSinceMade}
-use Rattle.registry.specs.Values.{CommandFits, ExceptionsFit, FilterFits, HistoryFits, AuthFits, GrantFits, VrpFits}
+use Rattle.registry.specs.Values.{CommandFits, FileFits, FilesFit, HistoryFits, AuthFits, GrantFits}
 use Rattle.registry.specs.Verdict.{Verdict, IsLegal, auth_of_number, maxes_fit, OfNumber}
 use Rattle.registry.proofs.Entries.{with_maxes-are, with_maxes-fit}
 use Rattle.registry.proofs.Names.{same_name-true}
 use Rattle.registry.proofs.Kept.{Keeps-all}
 use Rattle.registry.proofs.Held.{authorization_terms-numbered, since_same, amended-number, amended-addresses}
-use Rattle.histories.specs.Ranges.{ExceptionsInForceFit, LegalRowsFit}
+use Rattle.histories.specs.Ranges.{FilesInForceFit, LegalRowsFit}
 use Rattle.histories.proofs.SharedVrps.{Each, found_one, amended-other, amended-it}
 
 -- the grants that were made at a holder, and how many they are
@@ -178,11 +179,10 @@ legal_rows_fit charter history h rows legal fits of =
       auths = Keeps-all (HeldSinceMade history h) AuthFits (authorization_terms history h) rows.auths of.auths auths.terms;
     }
 
-exceptions_after-fit : (c : Command) (before : Exceptions) → CommandFits c → ExceptionsFit before → ExceptionsFit (exceptions_after c before)
-exceptions_after-fit (Slurm file) before values fit = values
-exceptions_after-fit _ before values fit = fit
+files_after-fit : (c : Command) (before : List NamedSlurm) → CommandFits c → FilesFit before → FilesFit (files_after c before)
+files_after-fit (Slurm files) before values fit = All-filter (λ (f : NamedSlurm). has_entries f.file) FileFits files values
+files_after-fit _ before values fit = fit
 
-pub exceptions_in_force_fit : ExceptionsInForceFit
-exceptions_in_force_fit [] fits = record { number = omega arith; filters = All-nil FilterFits; assertions = All-nil VrpFits }
-exceptions_in_force_fit (e ∷ before) fits =
-    exceptions_after-fit e.command (exceptions_in_force before) fits.0.command (exceptions_in_force_fit before fits.1)
+pub files_in_force_fit : FilesInForceFit
+files_in_force_fit [] fits = All-nil FileFits
+files_in_force_fit (e ∷ before) fits = files_after-fit e.command (files_in_force before) fits.0.command (files_in_force_fit before fits.1)

@@ -52,7 +52,7 @@ one_verdict charter history day caller (Create holder terms) = checked (checked 
 one_verdict charter history day caller (Amend holder n maxes until) = checked (checked (checked (checked (checked accepted))))
 one_verdict charter history day caller (Withdraw holder n) = checked (checked accepted)
 one_verdict charter history day caller (Import holder rows) = record { same = λ a b x y. absurd x }
-one_verdict charter history day caller (Slurm file) = checked accepted
+one_verdict charter history day caller (Slurm files) = checked (checked accepted)
 
 -- what is accepted is denied by no rule
 not_denied : {verdict : Option Rule → Type 0} {rule : Rule} → One verdict → verdict None → verdict (Some rule) → ⊥

@@ -3,7 +3,7 @@
 ghost use Rattle.histories.specs.Ended.{EndsJustOverlapping};
 ghost use Rattle.histories.specs.Growth.{GrowthFits, GrowthIsLegal, HypotheticalIsLegal};
 ghost use Rattle.histories.specs.OneOutcome.{OneHypotheticalOutcome, OneOutcome};
-ghost use Rattle.histories.specs.Ranges.{ExceptionsInForceFit, LegalRowsFit};
+ghost use Rattle.histories.specs.Ranges.{FilesInForceFit, LegalRowsFit};
 ghost use Rattle.histories.specs.SharedVrps.{NoSharedVrp};
 
 /// Over a legal history no two active authorizations, of whatever holders, give the same AS, prefix
@@ -26,10 +26,10 @@ pub fn legal_rows_fit()
     ensures { LegalRowsFit }
 {}
 
-/// The exceptions in force after a history whose values are those of their types are those of one SLURM
-/// file: at most 4096, each AS number below 2^32.
-pub fn exceptions_in_force_fit()
-    ensures { ExceptionsInForceFit }
+/// The SLURM files in force after a history whose values are those of their types have names, and at
+/// most 4096 entries each, with AS numbers below 2^32.
+pub fn files_in_force_fit()
+    ensures { FilesInForceFit }
 {}
 
 /// Every accepted command leaves a legal history legal, an import with the entries that its rows

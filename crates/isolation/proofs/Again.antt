@@ -1,4 +1,4 @@
--- A command that is accepted again leaves the rows and the exceptions: only an amendment and a SLURM file
+-- A command that is accepted again leaves the rows and the files: only an amendment and a SLURM file
 -- are, since what another command gave, took or made the first time is still so.
 use Rattle.std.proofs.Common.{◌≡◌, ℕ, Bool, true, false, not, ◌||◌, cond, eqb, List, [], ◌∷◌, ◌++◌, inl, inr, Option, Some, None, IsSomeAnd, refl, sym, ap, ◌∙◌, subst, arith, map, filter}
 use Rattle.std.specs.Global.{Vec}
@@ -16,7 +16,7 @@ use Rattle.registry.specs.declared.command.Command.TheVariants.{Register, Delega
 use Rattle.registry.specs.declared.grant.Access.TheVariants.{Alter}
 use Rattle.registry.specs.declared.grant.Granted.{Granted}
 use Rattle.registry.specs.Answer.{holder_of, Leaves}
-use Rattle.registry.specs.ExceptionsInForce.{brings_exceptions, exceptions_after, exceptions_in_force}
+use Rattle.registry.specs.ExceptionsInForce.{brings_exceptions, files_after, files_in_force}
 use Rattle.registry.specs.History.{Entry, History, same_name, is_registered}
 use Rattle.registry.specs.HolderEntries.{names_holder}
 use Rattle.registry.specs.Permission.{is_permitted_terms}
@@ -28,7 +28,7 @@ use Rattle.registry.proofs.Entries.{with_maxes-again}
 use Rattle.registry.proofs.Names.{same_name-same, same_name-true, same_name-false}
 use Rattle.isolation.specs.RepeatedRequests.{is_grant, has_slurm_file, NoneNames, HaveSameRows, RepeatsLeaveRows}
 use Rattle.isolation.proofs.Agree.{Agree, AgreeIfNamed, agree-sym, agree-active, agree-rows}
-use Rattle.isolation.proofs.Grown.{exceptions_stay}
+use Rattle.isolation.proofs.Grown.{files_stay}
 use Rattle.isolation.proofs.Judged.{active_alike}
 use Rattle.isolation.proofs.Present.{created_has, not_made_again, imports_repeat}
 use Rattle.isolation.proofs.Parts.{since_unchanged, agree-unnamed, agree-later}
@@ -159,22 +159,22 @@ agree-again charter history before then day by caller (Amend holder n maxes unti
 agree-again charter history before then day by caller (Withdraw holder n) fits first same other accepted h =
     absurd (withdrawn_again history before then day by caller holder n same accepted.1.0)
 agree-again charter history before then day by caller (Import holder rows) fits first same other accepted h = absurd accepted
-agree-again charter history before then day by caller (Slurm file) fits first same other accepted h =
-    agree-unnamed charter (entry day caller (Slurm file)) history h accepted refl
+agree-again charter history before then day by caller (Slurm files) fits first same other accepted h =
+    agree-unnamed charter (entry day caller (Slurm files)) history h accepted refl
 
-exceptions_later : (later before : History) → has_slurm_file later ≡ false
-    → exceptions_in_force (later ++ before) ≡ exceptions_in_force before
-exceptions_later [] before none = refl
-exceptions_later (e ∷ later) before none =
+files_later : (later before : History) → has_slurm_file later ≡ false
+    → files_in_force (later ++ before) ≡ files_in_force before
+files_later [] before none = refl
+files_later (e ∷ later) before none =
     let parts = or_parts (brings_exceptions e.command) (has_slurm_file later) none in
-    exceptions_stay e.command (exceptions_in_force (later ++ before)) parts.0 ∙ exceptions_later later before parts.1
+    files_stay e.command (files_in_force (later ++ before)) parts.0 ∙ files_later later before parts.1
 
 -- and so does the command when it comes again, where no other file came since its own
-exceptions_again : (c : Command) (later before : History) (then : ℕ) (by : List ℕ)
+files_again : (c : Command) (later before : History) (then : ℕ) (by : List ℕ)
     → (brings_exceptions c ≡ true → has_slurm_file later ≡ false)
-    → exceptions_in_force (later ++ entry then by c ∷ before) ≡ exceptions_after c (exceptions_in_force (later ++ entry then by c ∷ before))
-exceptions_again (Slurm file) later before then by none = exceptions_later later (entry then by (Slurm file) ∷ before) (none refl)
-exceptions_again _ later before then by none = refl
+    → files_in_force (later ++ entry then by c ∷ before) ≡ files_after c (files_in_force (later ++ entry then by c ∷ before))
+files_again (Slurm files) later before then by none = files_later later (entry then by (Slurm files) ∷ before) (none refl)
+files_again _ later before then by none = refl
 
 -- of a command that makes an entry
 entries_again : (charter : Charter) (before : History) (first : Entry) (later : History) (day : ℕ) (caller : List ℕ)
@@ -190,11 +190,11 @@ entries_again charter before first later day caller fits accepted_first legal ot
     let again = agree-again charter history before first.day day first.caller caller c fits accepted_first same other accepted in
     record {
       holders = λ h rows. (agree-rows (agree-sym (again h)) rows, agree-rows (again h) rows);
-      exceptions = exceptions_again c later before first.day first.caller none.file;
+      files = files_again c later before first.day first.caller none.file;
     }
 
 same_rows : (history : History) → HaveSameRows history history
-same_rows history = record { holders = λ h rows. (λ are. are, λ are. are); exceptions = refl }
+same_rows history = record { holders = λ h rows. (λ are. are, λ are. are); files = refl }
 
 pub repeats_leave_rows : RepeatsLeaveRows
 repeats_leave_rows charter before then by (Import holder rows) left later day caller again fits leaves legal other none accepted =

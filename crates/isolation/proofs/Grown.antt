@@ -1,12 +1,12 @@
 -- What accepted commands and the parts of requests leave of the holders that they do not name.
 use Rattle.std.proofs.Common.{◌≡◌, ℕ, false, ◌||◌, List, ◌∷◌, Option, Some, Ok, ◌↔◌, refl, sym, ap, ◌∙◌, subst}
 use Rattle.std.proofs.lemmas.Bool.{or_parts}
-use Rattle.slurm.specs.Exceptions.{Exceptions}
+use Rattle.slurm.specs.declared.set.NamedSlurm.{NamedSlurm}
 use Rattle.charters.specs.declared.charter.Charter.{Charter}
 use Rattle.registry.specs.declared.command.Command.{Command}
 use Rattle.registry.specs.declared.command.Command.TheVariants.{Import, Slurm}
 use Rattle.registry.specs.Answer.{taker_of}
-use Rattle.registry.specs.ExceptionsInForce.{brings_exceptions, exceptions_after, exceptions_in_force}
+use Rattle.registry.specs.ExceptionsInForce.{brings_exceptions, files_after, files_in_force}
 use Rattle.registry.specs.GrowingHistory.{Grows}
 use Rattle.registry.specs.History.{Entry, History, same_name}
 use Rattle.registry.specs.HolderEntries.{is_this, names_holder}
@@ -19,10 +19,10 @@ use Rattle.isolation.specs.Isolation.{OthersKeepRows, HypotheticalKeepsOthers}
 use Rattle.isolation.proofs.Agree.{Agree, agree-same, agree-sym, agree-trans, agree-rows}
 use Rattle.isolation.proofs.Parts.{agree-unnamed}
 
--- a command that brings no file leaves the exceptions
-pub exceptions_stay : (c : Command) (exceptions : Exceptions) → brings_exceptions c ≡ false → exceptions_after c exceptions ≡ exceptions
-exceptions_stay (Slurm file) exceptions none = cc
-exceptions_stay _ exceptions none = refl
+-- a command that brings no file leaves the files
+pub files_stay : (c : Command) (files : List NamedSlurm) → brings_exceptions c ≡ false → files_after c files ≡ files
+files_stay (Slurm brought) files none = cc
+files_stay _ files none = refl
 
 -- what parts make names their holder alone
 pub names_made : {charter : Charter} {holder : List ℕ} {before : History} {day : ℕ} {caller : List ℕ} {c : Command}
@@ -54,12 +54,12 @@ grown-agrees {X} charter holder day caller judges make h other before xs after l
         }
 
 -- parts bring no file
-grown-exceptions : {X : Type 0} (charter : Charter) (holder : List ℕ) (day : ℕ) (caller : List ℕ) (judges : Judging X) → MakeAt charter holder day caller judges
-    → (before : History) (xs : List X) (after : History) → Grows judges day caller before xs after → exceptions_in_force before ≡ exceptions_in_force after
-grown-exceptions {X} charter holder day caller judges make before xs after grows =
-    let P : History → Type 0 = λ history. exceptions_in_force before ≡ exceptions_in_force history in
+grown-files : {X : Type 0} (charter : Charter) (holder : List ℕ) (day : ℕ) (caller : List ℕ) (judges : Judging X) → MakeAt charter holder day caller judges
+    → (before : History) (xs : List X) (after : History) → Grows judges day caller before xs after → files_in_force before ≡ files_in_force after
+grown-files {X} charter holder day caller judges make before xs after grows =
+    let P : History → Type 0 = λ history. files_in_force before ≡ files_in_force history in
     grown-keeps judges day caller (λ x. Unit {0}) P
-    (λ history x c some is same. same ∙ sym (exceptions_stay c (exceptions_in_force history) (make history x c is).file))
+    (λ history x c some is same. same ∙ sym (files_stay c (files_in_force history) (make history x c is).file))
     before xs after (All-every (λ (x : X). Unit {0}) (λ x. tt) xs) refl grows
 
 rows_alike : {one other : History} {h : List ℕ} → Agree other one h → (rows : Option Rows) → RowsIfAny one h rows ↔ RowsIfAny other h rows
@@ -82,5 +82,5 @@ hypothetical_keeps_others charter day caller holder before changes after legal w
     let make = changes-make charter day caller holder in
     record {
       others = λ h rows other. rows_alike (grown-agrees charter holder day caller judges make h other before changes after legal would).agree rows;
-      exceptions = grown-exceptions charter holder day caller judges make before changes after would;
+      files = grown-files charter holder day caller judges make before changes after would;
     }

@@ -118,7 +118,7 @@ judged charter one other day caller (Withdraw holder n) same taker own =
     checked (of_grants same (λ grants. has_access grants day caller Alter)) (
     checked (access_alike same day caller Alter n) accepted)
 judged charter one other day caller (Import holder rows) same taker own = record { to = λ verdict is. is }
-judged charter one other day caller (Slurm file) same taker own = checked itself accepted
+judged charter one other day caller (Slurm files) same taker own = checked itself (checked itself accepted)
 
 number_alike : (one other : History) (c : Command) → AgreeIfNamed one other (holder_of c) → number_given one c ≡ number_given other c
 number_alike one other (Grant holder name role scope until) same = ap (λ made. Some (made + 1)) same.granted

@@ -10,7 +10,7 @@ use Rattle.registry.specs.declared.command.Proposed.{Proposed}
 use Rattle.registry.specs.declared.rule.Rule.{Rule}
 use Rattle.registry.specs.Answer.{number_given, Leaves, IsShown, IsListed}
 use Rattle.registry.specs.DailyVrps.{IsAfterExceptions, IsVrpOn}
-use Rattle.registry.specs.ExceptionsInForce.{exceptions_in_force}
+use Rattle.registry.specs.ExceptionsInForce.{exceptions_in_force, files_in_force}
 use Rattle.registry.specs.HolderEntries.{names_holder, entries_naming, entries_for}
 use Rattle.registry.specs.GrowingHistory.{Grows, IsDeniedAt}
 use Rattle.registry.specs.History.{History, same_name}
@@ -34,14 +34,14 @@ OthersKeepRows =
     → IsLegal charter before → Leaves charter before day caller command after
     → names_holder h command ≡ false → RowsIfAny before h rows ↔ RowsIfAny after h rows
 
--- the rows of every holder except this one are the same after both, and the exceptions in force
+-- the rows of every holder except this one are the same after both, and the SLURM files in force
 pub record DifferAtMostAt (holder : List ℕ) (one other : History) : Type 0 where
   pub others :
       (h : List ℕ) (rows : Option Rows) → same_name holder h ≡ false
       → RowsIfAny one h rows ↔ RowsIfAny other h rows
-  pub exceptions : exceptions_in_force one ≡ exceptions_in_force other
+  pub files : files_in_force one ≡ files_in_force other
 
--- changes at a holder would leave the rows of every other, and the exceptions
+-- changes at a holder would leave the rows of every other, and the SLURM files
 abbrev pub HypotheticalKeepsOthers : Type 0
 HypotheticalKeepsOthers =
     (charter : Charter) (day : ℕ) (caller holder : List ℕ) (before : History)

@@ -1,5 +1,5 @@
 -- A command that is sent again. Where it is denied the history stays as it is, and the rows and the
--- exceptions with it.
+-- SLURM files with it.
 use Rattle.std.specs.Prelude.{◌≡◌, ℕ, Bool, true, false, List, ◌++◌, Option, ◌↔◌}
 use Rattle.std.specs.List.{list_any}
 use Rattle.std.specs.Option.{IfSome}
@@ -9,7 +9,7 @@ use Rattle.registry.specs.declared.command.Command.{Command}
 use Rattle.registry.specs.declared.command.Command.TheVariants.{Grant}
 use Rattle.registry.specs.declared.rule.Rule.{Rule}
 use Rattle.registry.specs.Answer.{holder_of, taker_of, Leaves}
-use Rattle.registry.specs.ExceptionsInForce.{brings_exceptions, exceptions_in_force}
+use Rattle.registry.specs.ExceptionsInForce.{brings_exceptions, files_in_force}
 use Rattle.registry.specs.History.{History}
 use Rattle.registry.specs.HolderEntries.{names_holder}
 use Rattle.registry.specs.Import.{ImportGrows, IsImportDenied}
@@ -36,14 +36,14 @@ pub record NoneNames (command : Command) (entries : History) : Type 0 where
   pub taker : IfSome (taker_of command) (λ h. is_named h entries ≡ false)
   pub file : brings_exceptions command ≡ true → has_slurm_file entries ≡ false
 
--- the rows of every holder and the exceptions in force are the same after both
+-- the rows of every holder and the SLURM files in force are the same after both
 pub record HaveSameRows (one other : History) : Type 0 where
   pub holders : (h : List ℕ) (rows : Option Rows) → RowsIfAny one h rows ↔ RowsIfAny other h rows
-  pub exceptions : exceptions_in_force one ≡ exceptions_in_force other
+  pub files : files_in_force one ≡ files_in_force other
 
 -- after a command other than a grant was accepted, whose values are those of their types, and no later
 -- entry names one of its holders or, where it brought a SLURM file, brings another, the same command of
--- any caller on any day, accepted again, leaves the rows of every holder and the exceptions in force. The
+-- any caller on any day, accepted again, leaves the rows of every holder and the SLURM files in force. The
 -- types matter to a create alone: no two authorizations share an entry, so one of no entries could be made
 -- again
 abbrev pub RepeatsLeaveRows : Type 0

@@ -20,7 +20,7 @@ pub carries-grant : (before : History) (day : ℕ) (caller holder name : List �
     (record { day = day; caller = caller; command = Grant holder name role scope until } ∷ before)
 carries-grant before day caller holder name role scope until g registered is =
     let e : Entry = record { day = day; caller = caller; command = Grant holder name role scope until } in
-    carries-edit e before holder (GrantEdit g) (record { named = refl; exceptions = refl }) registered
+    carries-edit e before holder (GrantEdit g) (record { named = refl; files = refl }) registered
     (λ rows had. record {
       apart = had.apart;
       holdings = had.holdings;
@@ -37,7 +37,7 @@ pub carries-revoke : (before : History) (day : ℕ) (caller holder : List ℕ) (
     (record { day = day; caller = caller; command = Revoke holder n } ∷ before)
 carries-revoke before day caller holder n registered =
     let e : Entry = record { day = day; caller = caller; command = Revoke holder n } in
-    carries-edit e before holder (RevokeEdit n) (record { named = refl; exceptions = refl }) registered
+    carries-edit e before holder (RevokeEdit n) (record { named = refl; files = refl }) registered
     (λ rows had. record {
       apart = had.apart;
       holdings = had.holdings;

@@ -39,7 +39,7 @@ carries-register charter before day caller holder legal fresh =
     let registered : is_registered (e ∷ before) holder ≡ true = ap (λ b. b || is_registered before holder) (same_name-same holder) in
     let no_terms : AreActive (e ∷ before) holder [] =
     subst (λ (xs : List Auth). Keeps (HeldSinceMade (e ∷ before) holder) xs []) (sym none.terms) tt in
-    carries-one e before holder RegisterEdit (record { named = refl; exceptions = refl })
+    carries-one e before holder RegisterEdit (record { named = refl; files = refl })
     (λ rows are. elim rows as (λ r. RowsIfAny before holder r → RowsIfAny (e ∷ before) holder (edited_if_any RegisterEdit r)) [
       | None ↦ λ _. (
         registered,
@@ -157,7 +157,7 @@ pub carries-delegate : (before : History) (day : ℕ) (caller holder : List ℕ)
     → Carries (Holders (record { holder = holder; edit = edit }) None) before (record { day = day; caller = caller; command = Delegate holder p } ∷ before)
 carries-delegate before day caller holder p spans ended edit v registered free had x united none =
     let e : Entry = record { day = day; caller = caller; command = Delegate holder p } in
-    carries-edit e before holder edit (record { named = refl; exceptions = refl }) registered
+    carries-edit e before holder edit (record { named = refl; files = refl }) registered
     (λ rows are. receiver-rows e before holder p spans ended edit v rows (λ a. refl) x united none refl refl refl refl had are)
     (λ h other a. elim (cases_Bool (has_address p a)) [
       | inl t ↦ ap (is_held_by h) (cond-true _ _ _ t) ∙ other ∙ ap (is_held_by h) (sym (free a t))
@@ -171,7 +171,7 @@ pub carries-reclaim : (before : History) (day : ℕ) (caller holder : List ℕ) 
     → Carries (Holders (record { holder = holder; edit = edit }) None) before (record { day = day; caller = caller; command = Reclaim holder p } ∷ before)
 carries-reclaim before day caller holder p spans ended edit v registered holds had x without numbers =
     let e : Entry = record { day = day; caller = caller; command = Reclaim holder p } in
-    carries-edit e before holder edit (record { named = refl; exceptions = refl }) registered
+    carries-edit e before holder edit (record { named = refl; files = refl }) registered
     (λ rows are. giver-rows e before holder p spans ended edit v rows
     (λ a. elim (has_address p a) as (λ b. is_held_by holder (cond b None (resource_holder before a)) ≡ cond b false (is_held_by holder (resource_holder before a))) [ true ↦ refl | false ↦ refl ])
     (λ a f. cond-false _ _ _ f)
@@ -191,7 +191,7 @@ pub carries-transfer : (before : History) (day : ℕ) (caller giver taker : List
     (record { day = day; caller = caller; command = Transfer p giver taker } ∷ before)
 carries-transfer before day caller giver taker p less more ended none edit_giver edit_taker v w giver_registered taker_registered differ holds had_v had_w x without y united numbers nothing =
     let e : Entry = record { day = day; caller = caller; command = Transfer p giver taker } in
-    carries-two e before giver taker edit_giver edit_taker (record { named = refl; exceptions = refl }) giver_registered taker_registered differ
+    carries-two e before giver taker edit_giver edit_taker (record { named = refl; files = refl }) giver_registered taker_registered differ
     (λ rows are. giver-rows e before giver p less ended edit_giver v rows
     (λ a. elim (has_address p a) as (λ b. is_held_by giver (cond b (Some taker) (resource_holder before a)) ≡ cond b false (is_held_by giver (resource_holder before a))) [ true ↦ differ | false ↦ refl ])
     (λ a f. cond-false _ _ _ f)

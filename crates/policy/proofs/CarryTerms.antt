@@ -34,7 +34,7 @@ carries-create before day caller holder t x registered holds is =
     ) in
     let terms : authorization_terms before holder ++ x ∷ [] ≡ authorization_terms (e ∷ before) holder =
     ap (λ y. authorization_terms before holder ++ y ∷ []) is ∙ sym (cond-true _ _ _ (same_name-same holder)) in
-    carries-edit e before holder (CreateEdit x) (record { named = refl; exceptions = refl }) registered
+    carries-edit e before holder (CreateEdit x) (record { named = refl; files = refl }) registered
     (λ rows had. record {
       apart = had.apart;
       holdings = had.holdings;
@@ -56,7 +56,7 @@ carries-withdraw before day caller holder n registered =
     let keep = λ (x : Auth). not (eqb x.number n) in
     let terms : filter keep (authorization_terms before holder) ≡ authorization_terms (e ∷ before) holder =
     sym (cond-true _ _ _ (same_name-same holder)) in
-    carries-edit e before holder (WithdrawEdit n) (record { named = refl; exceptions = refl }) registered
+    carries-edit e before holder (WithdrawEdit n) (record { named = refl; files = refl }) registered
     (λ rows had. record {
       apart = had.apart;
       holdings = had.holdings;
@@ -131,7 +131,7 @@ carries-amend before day caller holder n maxes until v x y registered had_v foun
     sym (cond-true _ _ _ (same_name-same holder)) in
     let to = λ (z : Auth) (since : HeldSinceMade (e ∷ before) holder z). since_same (e ∷ before) holder z (f z) (amended-number n maxes.items until z) (amended-addresses n maxes.items until z) since in
     let back = λ (z : Auth) (since : HeldSinceMade (e ∷ before) holder (f z)). since_same (e ∷ before) holder (f z) z (sym (amended-number n maxes.items until z)) (λ a. sym (amended-addresses n maxes.items until z a)) since in
-    carries-edit e before holder (AmendEdit y) (record { named = refl; exceptions = refl }) registered
+    carries-edit e before holder (AmendEdit y) (record { named = refl; files = refl }) registered
     (λ rows had.
     let same_auths : v.auths ≡ rows.auths = Keeps-unique (HeldSinceMade before holder) (authorization_terms before holder) v.auths rows.auths had_v.auths had.auths in
     let mapped : map (replaced_by y) rows.auths ≡ map f rows.auths =

@@ -40,7 +40,7 @@ adds_nothing made created rows none is =
 pub carries-nothing : (history : History) (h : List ℕ) (made : Vec Auth) (created : ℕ) → made.items ≡ []
     → ((rows : Rows) → RowsIfAny history h (Some rows) → rows.created ≡ created)
     → Carries (Holders (record { holder = h; edit = ImportEdit made created }) None) history history
-carries-nothing history h made created none counter = record { holders = same; exceptions = refl }
+carries-nothing history h made created none counter = record { holders = same; files = refl }
   where
     same : (g : List ℕ) (rows : Option Rows) → RowsIfAny history g rows
         → RowsIfAny history g (changed (Holders (record { holder = h; edit = ImportEdit made created }) None) g rows)
@@ -73,7 +73,7 @@ carries-more : (before mid after : History) (h : List ℕ) (made more : Vec Auth
     → Carries (Holders (record { holder = h; edit = ImportEdit more x.number }) None) before after
 carries-more before mid after h made more created x is first second = record {
   holders = λ g rows are. subst (λ (r : Option Rows). RowsIfAny after g r) (both g rows) (second.holders g _ (first.holders g rows are));
-  exceptions = second.exceptions ∙ first.exceptions;
+  files = second.files ∙ first.files;
 }
   where
     both : (g : List ℕ) (rows : Option Rows)

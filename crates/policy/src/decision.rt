@@ -31,7 +31,7 @@ use crate::{
 };
 use addr::{Day, Holdings, Name, Prefix};
 use import::decide_import;
-use slurm::Slurm;
+use slurm::SlurmSet;
 use std::alloc::{AllocError, Global};
 use terms::GrantTerms;
 
@@ -369,22 +369,23 @@ fn decide_transfer(
     })
 }
 
-/// Decides a SLURM file. It is taken whole, whatever the last one was.
-fn decide_slurm(basis: Basis<'_>, file: &Slurm) -> Result<Change, Refusal>
+/// Decides a set of SLURM files. It is taken whole, whatever the last one was.
+fn decide_slurm(alloc: Global, basis: Basis<'_>, files: &SlurmSet) -> Result<Change, Refusal>
     ensures answer { (history : History) → IsLegal basis.entry.charter.now history
         → IsAnswer basis.entry.charter.now history basis.entry.day basis.entry.caller.now
-        (Command.Slurm file.now) result }
-    ensures shape { IfOk result (HasEditsOf (Command.Slurm file.now)) }
+        (Command.Slurm files.now) result }
+    ensures shape { IfOk result (HasEditsOf (Command.Slurm files.now)) }
 {
     require(basis.charter.is_operator(basis.caller), Rule::Operator)?;
-    Ok(Change::Exceptions(file.clone()?))
+    require(!files.has_overlap(alloc), Rule::Overlap)?;
+    Ok(Change::Exceptions(files.clone()?))
 }
 
 /// What a command of the caller on the day does, or the first rule of its line that does not hold.
 ///
 /// Of a history whose rows the view has it gives that history's answer; of other rows it gives
-/// some answer. It allocates only to delegate, to reclaim, to create, to amend, to import and to take a
-/// SLURM file.
+/// some answer. It allocates only to delegate, to reclaim, to create, to amend, to import and to take
+/// SLURM files.
 pub fn decide(
     alloc: Global,
     charter: &Charter,
@@ -453,7 +454,7 @@ pub fn decide(
             holder,
             rows: listed,
         } => decide_import(alloc, basis, Holder { name: holder, rows }, listed),
-        Command::Slurm { file } => decide_slurm(basis, file),
+        Command::Slurm { files } => decide_slurm(alloc, basis, files),
     }
 }
 

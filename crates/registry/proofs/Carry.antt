@@ -3,7 +3,7 @@ use Rattle.std.proofs.Common.{◌≡◌, ℕ, Bool, true, false, ◌||◌, cond,
 use Rattle.std.proofs.lemmas.Bool.{cases_Bool, cond-false, false≢true}
 use Rattle.std.proofs.Math.Bool.{or-true}
 use Rattle.addr.specs.Address.{Address}
-use Rattle.slurm.specs.Exceptions.{Exceptions}
+use Rattle.slurm.specs.declared.set.NamedSlurm.{NamedSlurm}
 use Rattle.registry.specs.declared.authorization.Auth.{Auth}
 use Rattle.registry.specs.declared.change.Change.TheVariants.{Holders, Exceptions as Replace}
 use Rattle.registry.specs.declared.change.Edit.{Edit}
@@ -14,7 +14,7 @@ use Rattle.registry.specs.History.{Entry, History, same_name, registers, is_regi
 use Rattle.registry.specs.Resources.{resource_holder, is_held_by}
 use Rattle.registry.specs.Terms.{granted_after, grants_after, grants_made, grant_terms, created_after, terms_after, authorizations_made, authorization_terms, HeldSinceMade, Keeps, AreActive}
 use Rattle.registry.specs.Answer.{holder_of}
-use Rattle.registry.specs.ExceptionsInForce.{exceptions_in_force}
+use Rattle.registry.specs.ExceptionsInForce.{files_in_force}
 use Rattle.registry.specs.HolderEntries.{is_this}
 use Rattle.registry.specs.Rows.{Rows, RowsOf, RowsIfAny, edited, edited_if_any, changed, Carries}
 use Rattle.registry.proofs.Names.{same_name-same, same_name-true, held_by_same}
@@ -66,10 +66,10 @@ rows-unnamed e before h other holders rows are =
       )
     ] are
 
--- the command names this holder, and brings no exceptions
+-- the command names this holder, and brings no SLURM file
 pub record IsAt (holder : List ℕ) (e : Entry) (before : History) : Type 0 where
   pub named : holder_of e.command ≡ Some holder
-  pub exceptions : exceptions_in_force (e ∷ before) ≡ exceptions_in_force before
+  pub files : files_in_force (e ∷ before) ≡ files_in_force before
 
 not_named : (holder h : List ℕ) (e : Entry) (before : History) → IsAt holder e before → same_name holder h ≡ false → is_this h (holder_of e.command) ≡ false
 not_named holder h e before at other = ap (is_this h) at.named ∙ other
@@ -79,7 +79,7 @@ pub carries-one : (e : Entry) (before : History) (holder : List ℕ) (edit : Edi
     → ((rows : Option Rows) → RowsIfAny before holder rows → RowsIfAny (e ∷ before) holder (edited_if_any edit rows))
     → ((h : List ℕ) → same_name holder h ≡ false → LeavesHeld e before h)
     → Carries (Holders (record { holder = holder; edit = edit }) None) before (e ∷ before)
-carries-one e before holder edit at step others = record { holders = carried; exceptions = at.exceptions }
+carries-one e before holder edit at step others = record { holders = carried; files = at.files }
   where
     carried : (h : List ℕ) (rows : Option Rows) → RowsIfAny before h rows
         → RowsIfAny (e ∷ before) h (changed (Holders (record { holder = holder; edit = edit }) None) h rows)
@@ -117,7 +117,7 @@ pub carries-two : (e : Entry) (before : History) (one other : List ℕ) (edit_on
     → ((h : List ℕ) → same_name one h ≡ false → same_name other h ≡ false → LeavesHeld e before h)
     → Carries (Holders (record { holder = one; edit = edit_one }) (Some (record { holder = other; edit = edit_other }))) before (e ∷ before)
 carries-two e before one other edit_one edit_other at one_registered other_registered differ step_one step_other others =
-    record { holders = carried; exceptions = at.exceptions }
+    record { holders = carried; files = at.files }
   where
     carried : (h : List ℕ) (rows : Option Rows) → RowsIfAny before h rows
         → RowsIfAny (e ∷ before) h (changed (Holders (record { holder = one; edit = edit_one }) (Some (record { holder = other; edit = edit_other }))) h rows)
@@ -147,12 +147,12 @@ carries-two e before one other edit_one edit_other at one_registered other_regis
               ]
         ]
 
--- the exceptions of a SLURM file, in the place of those in force
-pub carries-exceptions : (before : History) (day : ℕ) (caller : List ℕ) (file : Exceptions)
-    → Carries (Replace file) before (record { day = day; caller = caller; command = Slurm file } ∷ before)
-carries-exceptions before day caller file = record {
-  holders = λ h rows are. rows-unnamed (record { day = day; caller = caller; command = Slurm file }) before h refl (λ a. refl) rows are;
-  exceptions = refl;
+-- SLURM files, in the place of those in force
+pub carries-exceptions : (before : History) (day : ℕ) (caller : List ℕ) (files : List NamedSlurm)
+    → Carries (Replace files) before (record { day = day; caller = caller; command = Slurm files } ∷ before)
+carries-exceptions before day caller files = record {
+  holders = λ h rows are. rows-unnamed (record { day = day; caller = caller; command = Slurm files }) before h refl (λ a. refl) rows are;
+  files = refl;
 }
 
 -- the rows of the holder after the change

@@ -82,7 +82,7 @@ nothing_after charter before day caller (Amend holder n maxes until) h accepted 
 nothing_after charter before day caller (Withdraw holder n) h accepted unregistered none =
     nothing_stays _ before h (without_access before day caller holder h accepted.0 none) none.holders none
 nothing_after charter before day caller (Import holder rows) h accepted unregistered none = absurd accepted
-nothing_after charter before day caller (Slurm file) h accepted unregistered none =
+nothing_after charter before day caller (Slurm files) h accepted unregistered none =
     nothing_stays _ before h refl none.holders none
 
 pub has_nothing : UnregisteredHaveNothing

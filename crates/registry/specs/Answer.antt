@@ -30,7 +30,7 @@ abbrev pub is_transfer : Command → Bool
 is_transfer (Transfer p giver taker) = true
 is_transfer _ = false
 
--- the holder that the command names; of a transfer the giver, and of a SLURM file none
+-- the holder that the command names; of a transfer the giver, and of SLURM files none
 abbrev pub holder_of : Command → Option (List ℕ)
 holder_of (Register holder) = Some holder
 holder_of (Delegate holder p) = Some holder
@@ -42,7 +42,7 @@ holder_of (Create holder terms) = Some holder
 holder_of (Amend holder n maxes until) = Some holder
 holder_of (Withdraw holder n) = Some holder
 holder_of (Import holder rows) = Some holder
-holder_of (Slurm file) = None
+holder_of (Slurm files) = None
 
 -- the taker of a transfer; of another command its holder
 abbrev pub taker_of : Command → Option (List ℕ)
@@ -64,7 +64,7 @@ edit_number _ = None
 -- the same of a change
 abbrev pub number_made : Change → Option ℕ
 number_made (Holders first second) = edit_number first.edit
-number_made (Exceptions file) = None
+number_made (Exceptions files) = None
 
 -- how many authorizations an import's edit makes
 abbrev pub edit_imported : Edit → ℕ
@@ -74,7 +74,7 @@ edit_imported _ = 0
 -- the same of a change
 abbrev pub imported : Change → ℕ
 imported (Holders first second) = edit_imported first.edit
-imported (Exceptions file) = 0
+imported (Exceptions files) = 0
 
 -- no run of addresses that an edit puts is one that it takes away
 abbrev pub PutsNoneBack : Edit → Type 0
@@ -84,7 +84,7 @@ PutsNoneBack _ = Unit {0}
 -- no edit of a change does
 abbrev pub IsSparing : Change → Type 0
 IsSparing (Holders first second) = PutsNoneBack first.edit × IfSome second (λ c. PutsNoneBack c.edit)
-IsSparing (Exceptions file) = Unit {0}
+IsSparing (Exceptions files) = Unit {0}
 
 -- `taken` is true exactly where some address of a delegation's prefix has a resource holder; for any
 -- other command it may be either
@@ -101,11 +101,11 @@ pub record IsViewOf (history : History) (command : Command) (view : View) : Type
   pub rows : RowsOfNamed history (holder_of command) (rows_if_any view.holder)
   pub taken : ReportsTaken history command view.taken
 
--- a change is of holders that the command names, or puts the SLURM file that it brings
+-- a change is of holders that the command names, or puts the SLURM files that it brings
 abbrev pub IsOfCommand : Command → Change → Type 0
 IsOfCommand command (Holders first second) =
     (holder_of command ≡ Some first.holder) × IfSome second (λ c. taker_of command ≡ Some c.holder)
-IsOfCommand command (Exceptions file) = command ≡ Slurm file
+IsOfCommand command (Exceptions files) = command ≡ Slurm files
 
 -- the history that an accepted command leaves: with its own entry, and after an import with those that the
 -- rows make
@@ -170,7 +170,7 @@ IsHypotheticalAnswer charter history holder day caller changes (Ok rows) =
     (after : History) × HypotheticalHistory charter day caller holder history changes after
     × RowsOf after holder (rows_of rows)
 
--- the command moves addresses, makes or changes authorizations, or brings a SLURM file; no other takes memory to decide
+-- the command moves addresses, makes or changes authorizations, or brings SLURM files; no other takes memory to decide
 abbrev pub takes_memory : Command → Bool
 takes_memory (Delegate holder p) = true
 takes_memory (Transfer p giver taker) = true
@@ -178,7 +178,7 @@ takes_memory (Reclaim holder p) = true
 takes_memory (Create holder terms) = true
 takes_memory (Amend holder n maxes until) = true
 takes_memory (Import holder rows) = true
-takes_memory (Slurm file) = true
+takes_memory (Slurm files) = true
 takes_memory _ = false
 
 -- what is shown is the active authorization of that number

@@ -45,7 +45,7 @@ abbrev pub IsImportEdit : Edit → Type 0
 IsImportEdit (ImportEdit auths created) = Unit {0}
 IsImportEdit _ = ⊥
 
--- the edit is one that the command makes of its one holder's rows; a transfer and a SLURM file make none
+-- the edit is one that the command makes of its one holder's rows; a transfer and SLURM files make none
 abbrev pub IsEditOf : Command → Edit → Type 0
 IsEditOf (Register holder) edit = edit ≡ RegisterEdit
 IsEditOf (Delegate holder p) edit = IsHoldEndingNone edit
@@ -59,11 +59,11 @@ IsEditOf (Import holder rows) edit = IsImportEdit edit
 IsEditOf _ _ = ⊥
 
 -- The change has the edits of the command and no others: of a transfer that of the giver and that of another taker,
--- of whom no authorization ends; of a SLURM file none; and of any other command one.
+-- of whom no authorization ends; of SLURM files none; and of any other command one.
 abbrev pub HasEditsOf : Command → Change → Type 0
 HasEditsOf (Transfer p giver taker) (Holders first (Some second)) =
     (first.holder ≡ giver) × IsHold first.edit × (second.holder ≡ taker) × IsHoldEndingNone second.edit
     × (same_name giver taker ≡ false)
-HasEditsOf (Slurm file) (Exceptions more) = more ≡ file
+HasEditsOf (Slurm files) (Exceptions more) = more ≡ files
 HasEditsOf command (Holders first None) = (holder_of command ≡ Some first.holder) × IsEditOf command first.edit
 HasEditsOf _ _ = ⊥

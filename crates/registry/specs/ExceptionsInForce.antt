@@ -1,24 +1,27 @@
--- The SLURM exceptions in force: those of the last file of the history, all of them and no others
--- (RFC 8416 section 4.1: a file takes effect as a whole). Before the first file there are none.
-use Rattle.std.specs.Prelude.{Bool, true, false, [], ◌∷◌}
+-- The SLURM files in force: those of the last set of the history that have entries, all of them and no
+-- others (RFC 8416 section 4.1: they take effect as a whole). Before the first there are none.
+use Rattle.std.specs.Prelude.{Bool, true, false, List, [], ◌∷◌}
 use Rattle.slurm.specs.Exceptions.{Exceptions}
+use Rattle.slurm.specs.SlurmSets.{union, with_entries}
+use Rattle.slurm.specs.declared.set.NamedSlurm.{NamedSlurm}
 use Rattle.registry.specs.declared.command.Command.{Command}
 use Rattle.registry.specs.declared.command.Command.TheVariants.{Slurm}
 use Rattle.registry.specs.History.{History}
 
-abbrev pub no_exceptions : Exceptions
-no_exceptions = record { filters = []; assertions = [] }
+-- the files in force after a command, from those before it
+abbrev pub files_after : Command → List NamedSlurm → List NamedSlurm
+files_after (Slurm files) before = with_entries files
+files_after _ before = before
 
--- the exceptions after a command, from those before it
-abbrev pub exceptions_after : Command → Exceptions → Exceptions
-exceptions_after (Slurm file) before = file
-exceptions_after _ before = before
+abbrev pub files_in_force : History → List NamedSlurm
+files_in_force [] = []
+files_in_force (e ∷ before) = files_after e.command (files_in_force before)
 
+-- what the files in force say together
 abbrev pub exceptions_in_force : History → Exceptions
-exceptions_in_force [] = no_exceptions
-exceptions_in_force (e ∷ before) = exceptions_after e.command (exceptions_in_force before)
+exceptions_in_force history = union (files_in_force history)
 
--- the command brings a file
+-- the command brings SLURM files
 abbrev pub brings_exceptions : Command → Bool
-brings_exceptions (Slurm file) = true
+brings_exceptions (Slurm files) = true
 brings_exceptions _ = false

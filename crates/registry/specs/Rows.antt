@@ -7,13 +7,14 @@ use Rattle.addr.specs.declared.span.Span.{Span}
 use Rattle.registry.specs.declared.authorization.Auth.{Auth}
 use Rattle.registry.specs.declared.grant.Granted.{Granted}
 use Rattle.registry.specs.declared.rows.HolderRows.{HolderRows}
-use Rattle.slurm.specs.Exceptions.{Exceptions}
+use Rattle.slurm.specs.SlurmSets.{with_entries}
+use Rattle.slurm.specs.declared.set.NamedSlurm.{NamedSlurm}
 use Rattle.registry.specs.declared.change.Change.{Change}
 use Rattle.registry.specs.declared.change.Change.TheVariants.{Holders, Exceptions as Replace}
 use Rattle.registry.specs.declared.change.HolderChange.{HolderChange}
 use Rattle.registry.specs.declared.change.Edit.{Edit}
 use Rattle.registry.specs.declared.change.Edit.TheVariants.{Register, Hold, Grant, Revoke, Create, Import, Amend, Withdraw}
-use Rattle.registry.specs.ExceptionsInForce.{exceptions_in_force}
+use Rattle.registry.specs.ExceptionsInForce.{files_in_force}
 use Rattle.registry.specs.History.{History, same_name, is_registered}
 use Rattle.registry.specs.Resources.{resource_holder, is_held_by}
 use Rattle.registry.specs.Terms.{grant_terms, grants_made, authorizations_made, AreActive}
@@ -93,17 +94,17 @@ changed_by_second (Some c) h rows = changed_by_one c h rows
 -- what a change means: the rows of a holder after it, from its rows before
 abbrev pub changed : Change → List ℕ → Option Rows → Option Rows
 changed (Holders first second) h rows = changed_by_second second h (changed_by_one first h rows)
-changed (Replace file) h rows = rows
+changed (Replace files) h rows = rows
 
--- and the exceptions after it, from those before
-abbrev pub changed_exceptions : Change → Exceptions → Exceptions
-changed_exceptions (Holders first second) before = before
-changed_exceptions (Replace file) before = file
+-- and the SLURM files after it, from those before
+abbrev pub changed_files : Change → List NamedSlurm → List NamedSlurm
+changed_files (Holders first second) before = before
+changed_files (Replace files) before = with_entries files
 
 -- the change turns the rows of every holder of the first history into its rows of the second, and the
--- exceptions in force of the first into those of the second
+-- SLURM files in force of the first into those of the second
 pub record Carries (change : Change) (before after : History) : Type 0 where
   pub holders :
       (h : List ℕ) (rows : Option Rows)
       → RowsIfAny before h rows → RowsIfAny after h (changed change h rows)
-  pub exceptions : exceptions_in_force after ≡ changed_exceptions change (exceptions_in_force before)
+  pub files : files_in_force after ≡ changed_files change (files_in_force before)

@@ -1,36 +1,36 @@
--- The rows of every holder, by its name, with the exceptions: the history that they are of, and what
+-- The rows of every holder, by its name, with the SLURM files: the history that they are of, and what
 -- they say together.
-use Rattle.std.specs.Prelude.{◌≡◌, ℕ, ◌≤◌, List, Option, Some, None, Contains}
+use Rattle.std.specs.Prelude.{◌≡◌, ℕ, ◌≤◌, List, [], Option, Some, None, Contains}
 use Rattle.addr.specs.Spans.{HaveSome}
 use Rattle.addr.specs.declared.prefix.Prefix.{Prefix}
 use Rattle.addr.specs.declared.vrp.Vrp.{Vrp}
-use Rattle.slurm.specs.Exceptions.{Exceptions}
+use Rattle.slurm.specs.declared.set.NamedSlurm.{NamedSlurm}
 use Rattle.registry.specs.declared.authorization.Auth.{Auth}
 use Rattle.registry.specs.declared.change.Change.{Change}
-use Rattle.registry.specs.ExceptionsInForce.{no_exceptions, exceptions_in_force}
+use Rattle.registry.specs.ExceptionsInForce.{files_in_force}
 use Rattle.registry.specs.History.{History}
-use Rattle.registry.specs.Rows.{Rows, RowsIfAny, changed, changed_exceptions}
+use Rattle.registry.specs.Rows.{Rows, RowsIfAny, changed, changed_files}
 use Rattle.registry.specs.Terms.{IsVrpOf}
 
 pub record AllRows : Type 0 where
   pub of_holder : List ℕ → Option Rows
-  pub exceptions : Exceptions
+  pub files : List NamedSlurm
 
 -- the rows of a desk on which nothing was accepted
 abbrev pub blank_rows : AllRows
-blank_rows = record { of_holder = λ h. None; exceptions = no_exceptions }
+blank_rows = record { of_holder = λ h. None; files = [] }
 
 -- all rows after a change, from those before it
 abbrev pub changed_rows : Change → AllRows → AllRows
 changed_rows change rows = record {
   of_holder = λ h. changed change h (rows.of_holder h);
-  exceptions = changed_exceptions change rows.exceptions;
+  files = changed_files change rows.files;
 }
 
--- the rows of each holder are those of the history, and the exceptions are those in force
+-- the rows of each holder are those of the history, and the files are those in force
 pub record HasRows (rows : AllRows) (history : History) : Type 0 where
   pub holders : (h : List ℕ) → RowsIfAny history h (rows.of_holder h)
-  pub exceptions : rows.exceptions ≡ exceptions_in_force history
+  pub files : rows.files ≡ files_in_force history
 
 -- some holder holds an address of the prefix
 abbrev pub IsTaken : AllRows → Prefix → Type 0

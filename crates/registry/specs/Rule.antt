@@ -1,7 +1,7 @@
 -- The rules of admission by name.
 use Rattle.std.specs.Prelude.{ℕ, List, codes}
 use Rattle.registry.specs.declared.rule.Rule.{Rule}
-use Rattle.registry.specs.declared.rule.Rule.TheVariants.{Operator, Steward, Grant, Holder, Fresh, Number, Scope, Dates, Length, Pool, Free, Distinct, Held, Same, Room}
+use Rattle.registry.specs.declared.rule.Rule.TheVariants.{Operator, Steward, Grant, Holder, Fresh, Number, Scope, Dates, Length, Pool, Free, Distinct, Held, Same, Room, Overlap}
 
 -- the word for the rule
 abbrev pub rule_name : Rule → List ℕ
@@ -20,3 +20,4 @@ rule_name Distinct = codes "distinct"
 rule_name Held = codes "held"
 rule_name Same = codes "same"
 rule_name Room = codes "room"
+rule_name Overlap = codes "overlap"

@@ -1,7 +1,7 @@
 -- What the types of the values of a history promise, and the ranges of the values of rows. Elsewhere a
 -- history ranges over all numbers and texts: a day, a number of a `u32` and a name are seen as any
 -- number and any text there.
-use Rattle.std.specs.Prelude.{◌≡◌, ℕ, ◌+◌, ◌^◌, ◌<◌, ◌≤◌, true, IsTrue, [], ◌∷◌, length, Option, Some, None, All, ⊤}
+use Rattle.std.specs.Prelude.{◌≡◌, ℕ, ◌+◌, ◌^◌, ◌<◌, ◌≤◌, true, IsTrue, List, [], ◌∷◌, length, Option, Some, None, All, ⊤}
 use Rattle.std.specs.List.{AllByRecursion}
 use Rattle.addr.specs.Day.{IsDay}
 use Rattle.addr.specs.Name.{is_name}
@@ -10,6 +10,7 @@ use Rattle.slurm.specs.Exceptions.{Exceptions}
 use Rattle.slurm.specs.declared.exceptions.TheConstants.{MOST_ENTRIES}
 use Rattle.slurm.specs.declared.filter.Filter.{Filter}
 use Rattle.slurm.specs.declared.filter.Filter.TheVariants.{Under, By, Both}
+use Rattle.slurm.specs.declared.set.NamedSlurm.{NamedSlurm}
 use Rattle.registry.specs.declared.limits.TheConstants.{LAST_NUMBER}
 use Rattle.registry.specs.declared.authorization.Auth.{Auth}
 use Rattle.registry.specs.declared.authorization.AuthTerms.{AuthTerms}
@@ -47,11 +48,19 @@ FilterFits (Both p asn) = IsU32 asn.0
 abbrev pub VrpFits : Vrp → Type 0
 VrpFits v = IsU32 v.asn.0
 
--- exceptions of one SLURM file
+-- what one SLURM file says
 pub record ExceptionsFit (exceptions : Exceptions) : Type 0 where
   pub number : length exceptions.filters + length exceptions.assertions ≤ MOST_ENTRIES
   pub filters : All FilterFits exceptions.filters
   pub assertions : All VrpFits exceptions.assertions
+
+-- a SLURM file with its name
+pub record FileFits (f : NamedSlurm) : Type 0 where
+  pub name : IsTrue (is_name f.name)
+  pub file : ExceptionsFit f.file
+
+abbrev pub FilesFit : List NamedSlurm → Type 0
+FilesFit files = All FileFits files
 
 -- the terms of an authorization, as they are requested
 pub record TermsFit (t : AuthTerms) : Type 0 where
@@ -77,7 +86,7 @@ CommandFits (Create holder terms) = IsTrue (is_name holder) × TermsFit terms
 CommandFits (Amend holder n maxes until) = IsTrue (is_name holder) × IsU32 n × All IsU8 maxes.items × IsDay until
 CommandFits (Withdraw holder n) = IsTrue (is_name holder) × IsU32 n
 CommandFits (Import holder rows) = IsTrue (is_name holder) × All ImportRowFits rows.items
-CommandFits (Slurm file) = ExceptionsFit file
+CommandFits (Slurm files) = FilesFit files
 
 pub record EntryFits (e : Entry) : Type 0 where
   pub day : IsDay e.day

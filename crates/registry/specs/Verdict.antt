@@ -13,7 +13,8 @@ use Rattle.registry.specs.declared.command.Command.TheVariants.{Register, Delega
 use Rattle.registry.specs.declared.grant.Access.{Access}
 use Rattle.registry.specs.declared.grant.Access.TheVariants.{Manage, Alter, Look}
 use Rattle.registry.specs.declared.rule.Rule.{Rule}
-use Rattle.registry.specs.declared.rule.Rule.TheVariants.{Operator, Steward, Grant as GrantRule, Holder, Fresh, Number, Scope, Dates, Length, Pool, Free, Distinct, Held, Same, Room}
+use Rattle.registry.specs.declared.rule.Rule.TheVariants.{Operator, Steward, Grant as GrantRule, Holder, Fresh, Number, Scope, Dates, Length, Pool, Free, Distinct, Held, Same, Room, Overlap}
+use Rattle.slurm.specs.SlurmSets.{some_overlap}
 use Rattle.charters.specs.Charter.{is_operator, pool_of}
 use Rattle.charters.specs.Pool.{IsInPool}
 use Rattle.registry.specs.History.{History, same_name, is_registered}
@@ -116,9 +117,10 @@ Verdict charter history day caller (Withdraw holder n) =
     accept)
 -- each row of an import is judged as a create, so an import is no entry of a history
 Verdict charter history day caller (Import holder rows) = λ first. ⊥
-Verdict charter history day caller (Slurm file) =
-    check Operator (is_operator charter caller ≡ true)
-    accept
+Verdict charter history day caller (Slurm files) =
+    check Operator (is_operator charter caller ≡ true) (
+    check Overlap (some_overlap files ≡ false)
+    accept)
 
 -- the verdict of showing the authorization of a number
 abbrev pub ShowVerdict : History → List ℕ → ℕ → List ℕ → ℕ → Option Rule → Type 0

@@ -5,7 +5,7 @@ ghost use Rattle.std.specs.List.{list_any};
 
 use crate::{Auth, Granted};
 use addr::{Name, Span};
-use slurm::Slurm;
+use slurm::SlurmSet;
 use std::slice;
 
 /// What an accepted command does to the rows of one resource holder.
@@ -52,8 +52,8 @@ pub enum Change {
         first: HolderChange,
         second: Option<HolderChange>,
     },
-    /// Puts these exceptions in the place of all that there were.
-    Exceptions(Slurm),
+    /// Puts these SLURM files in the place of all that there were.
+    Exceptions(SlurmSet),
 }
 
 /// Whether the number is one of these.

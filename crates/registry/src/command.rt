@@ -4,7 +4,7 @@ ghost use Rattle.std.specs.Prelude.{◌≡◌};
 
 use crate::{AuthTerms, ImportRow, Role, Scope};
 use addr::{Day, Name, Prefix, Route};
-use slurm::Slurm;
+use slurm::SlurmSet;
 
 /// A request that enters the history where it is accepted.
 #[derive(Debug, Drop)]
@@ -66,9 +66,9 @@ pub enum Command {
         holder: Name,
         rows: Vec<ImportRow>,
     },
-    /// Puts the exceptions of a SLURM file in the place of those of the last one.
+    /// Puts these SLURM files in the place of all that there were.
     Slurm {
-        file: Slurm,
+        files: SlurmSet,
     },
 }
 
@@ -124,7 +124,7 @@ impl Command {
         matches!(self, Command::Transfer { .. })
     }
 
-    /// The holder that the command names; of a transfer the giver, and of a SLURM file none.
+    /// The holder that the command names; of a transfer the giver, and of SLURM files none.
     pub fn holder(&self) -> Option<&Name>
         ensures { option_copied result ≡ holder_of self.now }
     {

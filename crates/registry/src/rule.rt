@@ -41,6 +41,9 @@ pub enum Rule {
     /// The holder has fewer than 1000 active authorizations, or fewer than 64 unrevoked grants, and
     /// fewer than 999,999 of them were ever made.
     Room,
+    /// No prefix that one SLURM file names shares an address with one that another file names (RFC 8416
+    /// section 4.2).
+    Overlap,
 }
 
 impl Rule {
@@ -68,6 +71,7 @@ impl Rule {
             Rule::Held => "held",
             Rule::Same => "same",
             Rule::Room => "room",
+            Rule::Overlap => "overlap",
         }
     }
 }

@@ -5,11 +5,11 @@ ghost use Rattle.std.specs.Prelude.{All, IsTrue};
 ghost use Rattle.std.specs.List.{AllByRecursion};
 ghost use Rattle.addr.specs.Day.{IsDay};
 ghost use Rattle.addr.specs.Name.{is_name};
-ghost use Rattle.registry.specs.Values.{IsU8, IsU32, CommandFits, ExceptionsFit, FilterFits, ImportRowFits, TermsFit, VrpFits};
+ghost use Rattle.registry.specs.Values.{IsU8, IsU32, CommandFits, ExceptionsFit, FilesFit, FilterFits, ImportRowFits, TermsFit, VrpFits};
 
 use crate::{AuthTerms, Command, ImportRow, RoaPrefix};
 use addr::{Day, Name, Vrp};
-use slurm::{Filter, Slurm};
+use slurm::{Filter, NamedSlurm, Slurm};
 
 /// The values of the command are those of their types.
 pub(crate) fn command_fits(command: &Command)
@@ -56,7 +56,7 @@ pub(crate) fn command_fits(command: &Command)
             name_fits(holder);
             rows_fit(rows);
         }
-        Command::Slurm { file } => exceptions_fit(file),
+        Command::Slurm { files } => files_fit(files.files()),
     }
 }
 
@@ -136,6 +136,16 @@ fn terms_fit(terms: &AuthTerms)
     entries_fit(terms.entries.as_slice());
     day_fits(terms.from);
     day_fits(terms.until);
+}
+
+/// Each SLURM file has a name, and its exceptions are those of one.
+fn files_fit(files: &[NamedSlurm])
+    ensures { FilesFit files.now }
+{
+    for named in files {
+        name_fits(&named.name);
+        exceptions_fit(&named.file);
+    }
 }
 
 /// The exceptions are those of one SLURM file.
