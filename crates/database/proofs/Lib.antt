@@ -10,7 +10,9 @@ mod KeyedRows
 mod Grouped
 pub mod SomeAuths
 mod SomeRows
+mod FewOfEach
 mod SomeExceptions
+mod SomeFiles
 mod Unread
 mod Opened
 mod OldRead

@@ -1,5 +1,5 @@
 -- Where the tables of schema 1 read, their rows can be moved, and the tables that they are moved to read.
-use Rattle.std.proofs.Common.{◌≡◌, inl, ◌≤◌, List, [], ◌∷◌, map, flat_map, length, refl, subst, ◌∙◌, arith, IsPermutation}
+use Rattle.std.proofs.Common.{◌≡◌, inl, List, [], ◌∷◌, map, flat_map, refl, subst, ◌∙◌, arith, IsPermutation}
 use Rattle.std.specs.Bool.{⊤}
 use Rattle.std.specs.List.{AllByRecursion}
 use Rattle.std.proofs.lemmas.List.Sorted.{Contains-permutation, IsPermutation-map, IsPermutation-trans}
@@ -8,7 +8,6 @@ use Rattle.sqlite_trees.proofs.ListLemmas.{all_of, all-flat_map, all-map, all-pe
 use Rattle.sqlite_rules.proofs.ListLemmas.{contains_had}
 use Rattle.registry.specs.Values.{GrantFits}
 use Rattle.registry.specs.declared.authorization.Auth.{Auth}
-use Rattle.slurm.specs.declared.exceptions.TheConstants.{MOST_ENTRIES}
 use Rattle.tables.specs.declared.groups.OfHolder.{OfHolder}
 use Rattle.tables.specs.Authorizations.{claim_of}
 use Rattle.tables.specs.Cells.{operator_row, prefix_cells, holding_row, granted_row, schema_row}
@@ -18,7 +17,7 @@ use Rattle.moving.specs.OldTables.{HasOneEntry, auth_row}
 use Rattle.moving.specs.Moved.{claim_columns, entry_columns, AreAuthRows, AreMovable, IsMoved}
 use Rattle.moving.proofs.Moved.{claim_turned, entry_turned, joined_ones, stays}
 use Rattle.database.specs.OldTablesRead.{rows_of_auth, HasSomeOldAuths, OldTablesRead}
-use Rattle.database.specs.TablesRead.{rows_of_entries, row_of_claim, HasSomeAuths, HasSomeCharter, ShowsHolder, ShowsOfHolder, ShowsException, TablesRead}
+use Rattle.database.specs.TablesRead.{rows_of_entries, row_of_claim, HasSomeAuths, HasSomeCharter, ShowsHolder, ShowsOfHolder, ShowsException, AreFewOfEach, TablesRead}
 
 rows_are_auth_rows : (auths : List (OfHolder Auth)) → AreAuthRows (flat_map rows_of_auth auths)
 rows_are_auth_rows auths =
@@ -72,5 +71,5 @@ module _ (old new : Trees) (moved : IsMoved old new) where
     grants = stays old new moved (AllByRecursion (ShowsOfHolder granted_row GrantFits)) 10 refl (omega arith) (omega arith) reads.grants;
     authorizations = auths_moved reads.authorizations;
     exceptions = stays old new moved (λ rows. AllByRecursion ShowsException (map exception_columns rows)) 15 refl (omega arith) (omega arith) reads.exceptions;
-    exceptions_number = stays old new moved (λ rows. length rows ≤ MOST_ENTRIES) 15 refl (omega arith) (omega arith) reads.exceptions_number;
+    exceptions_number = stays old new moved AreFewOfEach 15 refl (omega arith) (omega arith) reads.exceptions_number;
   }

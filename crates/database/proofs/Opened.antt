@@ -25,13 +25,13 @@ use Rattle.addr.specs.declared.span.Span.{Span}
 use Rattle.charters.specs.CharterSets.{CharterSets, IsCharter}
 use Rattle.registry.specs.declared.authorization.Auth.{Auth}
 use Rattle.registry.specs.declared.grant.Granted.{Granted}
-use Rattle.registry.specs.Values.{GrantFits, ExceptionsFit}
-use Rattle.slurm.specs.Exceptions.{Exceptions}
+use Rattle.registry.specs.Values.{GrantFits, FilesFit}
+use Rattle.slurm.specs.declared.set.NamedSlurm.{NamedSlurm}
 use Rattle.tables.specs.declared.exception.ExceptionRow.{ExceptionRow}
 use Rattle.tables.specs.Cells.{schema_row, operator_row, prefix_cells, number_cell, kind_number, exception_row, span_cells, grant_cells, holder_row, holding_row, granted_row}
 use Rattle.tables.specs.Decode.{first_columns, exception_columns}
 use Rattle.tables.specs.Tables.{desk_tables, holder_reference, required_column, meta, operator, pool, holder, holding, granted, slurm, claim, entry, contents, columns, IsTree, AreTrees}
-use Rattle.tables.specs.TablesHold.{HoldsExceptions}
+use Rattle.tables.specs.TablesHold.{HoldsFiles}
 use Rattle.tables.proofs.Inserting.{each_table}
 use Rattle.tables.proofs.PartLemmas.{names, name_of-true, name_of_itself}
 use Rattle.tables.proofs.ReadLemmas.{all_columns, first_of_all}
@@ -43,7 +43,8 @@ use Rattle.database.proofs.Obeyed.{slurm_key, agree_in_key, all_whole, all_refer
 use Rattle.database.proofs.KeyedRows.{at_claim}
 use Rattle.database.proofs.SomeAuths.{auths_read}
 use Rattle.database.proofs.SomeRows.{IsPartRow, have_entries, holds_parts, rows_in}
-use Rattle.database.proofs.SomeExceptions.{AreElsewhere, ascending_where, some_exceptions}
+use Rattle.database.proofs.SomeExceptions.{AreElsewhere, ascending_where}
+use Rattle.database.proofs.SomeFiles.{some_files}
 use Rattle.database.proofs.Columns.{column_after}
 
 module _ (db : Database) (tables : db.schema.tables ≡ desk_tables) (sound : IsSound db.schema db.trees) where
@@ -77,14 +78,14 @@ module _ (db : Database) (tables : db.schema.tables ≡ desk_tables) (sound : Is
 
     -- rows of two rowids show exceptions at different places
     elsewhere : (a b : Row) → Has tree a → Has tree b → is_eq (value_cmp (rowid a) (rowid b)) ≡ false → (r s : ExceptionRow) → Shows a r → Shows b s → AreElsewhere r s
-    elsewhere a b has_a has_b apart r s one other kind position =
+    elsewhere a b has_a has_b apart r s one other file kind position =
         let int = λ (c : Row) (has : Has tree c). all_has (λ c. is_int (rowid c) ≡ true) tree c shown.rows.whole.1 has in
         let cell = λ (c : Row) (x : ExceptionRow) (is : Shows c x) (at : ℕ) (same : column (exception_columns (drop 1 c)) at ≡ column (drop 1 c) at).
         column_after c at ∙ sym same ∙ ap (λ l. column l at) is in
         let differ = once_by_key db.schema db.trees tables sound slurm at_slurm 0 slurm_key refl refl a b has_a has_b (int a has_a) (int b has_b) apart in
         both_ways _ differ
-        (agree_in_key (Text (codes "main")) (number_cell (kind_number s.exception)) (number_cell s.position) a b
-        (cell a r one 0 refl, refl) (cell b s other 0 refl, refl)
+        (agree_in_key (Text s.file) (number_cell (kind_number s.exception)) (number_cell s.position) a b
+        (cell a r one 0 refl ∙ ap Text file, refl) (cell b s other 0 refl, refl)
         (cell a r one 1 refl ∙ ap number_cell kind, refl) (cell b s other 1 refl, refl)
         (cell a r one 2 refl ∙ ap number_cell position, refl) (cell b s other 2 refl, refl))
 
@@ -97,8 +98,8 @@ module _ (db : Database) (tables : db.schema.tables ≡ desk_tables) (sound : Is
         let in_columns = ascending-map AreOf exception_columns (contents tree) (ascending-map (λ c d. AreOf (exception_columns c) (exception_columns d)) (drop 1) tree apart) in
         ascending_weaker _ AreElsewhere (λ r s of. of r s refl refl) rows (ascending_from_map AreOf exception_row rows (subst (IsAscending AreOf) (sym is) in_columns))
 
-    exceptions_held : (exceptions : Exceptions) × HoldsExceptions exceptions (contents tree) × ExceptionsFit exceptions
-    exceptions_held = some_exceptions (contents tree) shown.rows.each shown.number all_elsewhere
+    files_held : (files : List NamedSlurm) × HoldsFiles files (contents tree) × FilesFit files
+    files_held = some_files (contents tree) shown.rows.each shown.number all_elsewhere
 
   -- ---- holders
 
@@ -282,11 +283,11 @@ module _ (db : Database) (tables : db.schema.tables ≡ desk_tables) (sound : Is
       some_rows =
           let auths = have_auths authorized in
           let parts = holds_parts holders made one_counter (contents (db.trees holding.tree)) (contents (db.trees granted.tree)) (contents (db.trees claim.tree)) (contents (db.trees entry.tree)) held given auths.auths (registered authorized) auths.claims_shown auths.entries_shown in
-          let exceptions = exceptions_held excepted in
+          let files = files_held excepted in
           let of_holder = rows_in holders made one_counter (contents (db.trees holding.tree)) (contents (db.trees granted.tree)) (contents (db.trees claim.tree)) (contents (db.trees entry.tree)) held given auths.auths (registered authorized) auths.claims_shown auths.entries_shown in (
             record {
               of_holder = of_holder;
-              exceptions = exceptions.0;
+              files = files.0;
             },
             record {
               charter_kept = record {
@@ -301,8 +302,8 @@ module _ (db : Database) (tables : db.schema.tables ≡ desk_tables) (sound : Is
               entries = parts.entries_held;
               have_entries = have_entries holders made one_counter (contents (db.trees holding.tree)) (contents (db.trees granted.tree)) (contents (db.trees claim.tree)) (contents (db.trees entry.tree)) held given auths.auths (registered authorized) auths.claims_shown auths.entries_shown (all_weaker _ _ (λ x fits. fits.1.entries) auths.auths auths.fit);
               unused = auths.unused;
-              exceptions = exceptions.1;
+              files = files.1;
               whole = trees_whole;
             },
-            exceptions.2,
+            files.2,
           )

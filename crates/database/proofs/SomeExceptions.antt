@@ -1,4 +1,4 @@
--- The exceptions that a table holds whose rows show exceptions, each at a place of its own.
+-- The exceptions of a SLURM file, of which some rows show each at a place of its own.
 use Rattle.std.proofs.Common.{◌≡◌, ◌≢◌, ℕ, ◌<◌, ◌≤◌, not, length, ◌==◌, List, [], ◌∷◌, ◌++◌, map, filter, refl, inl, inr, sym, subst, ◌∙◌, arith, IsPermutation}
 use Rattle.std.specs.List.{AllByRecursion}
 use Rattle.std.proofs.lemmas.Bool.{cases_lt, eqb-true}
@@ -20,7 +20,7 @@ use Rattle.tables.specs.Cells.{kind_number, exception_row}
 use Rattle.tables.specs.Decode.{ExceptionFits, ExceptionRowFits, IsPosition, exception_columns}
 use Rattle.tables.specs.TablesHold.{ArePlaced, HoldsExceptions}
 use Rattle.tables.proofs.HeldExceptions.{held_number}
-use Rattle.database.specs.TablesRead.{ShowsSome, ShowsException}
+use Rattle.database.specs.TablesRead.{ShowsSome}
 
 -- a relation of each element and each later one, where it holds of all that are so
 pub ascending_where : {X : Type 0} (P : X → Type 0) (R S : X → X → Type 0) → ((a b : X) → P a → P b → R a b → S a b) → (xs : List X) → AllByRecursion P xs → IsAscending R xs → IsAscending S xs
@@ -29,7 +29,7 @@ ascending_where P R S to (x ∷ xs) all up =
     (all_both P (R x) (S x) (λ y p r. to x y all.0 p r) xs all.1 up.0, ascending_where P R S to xs all.1 up.1)
 
 -- the values that rows show
-values_of : {X : Type 0} (cells : X → Row) (fits : X → Type 0) (shown : List Row) → AllByRecursion (ShowsSome cells fits) shown
+pub values_of : {X : Type 0} (cells : X → Row) (fits : X → Type 0) (shown : List Row) → AllByRecursion (ShowsSome cells fits) shown
     → (xs : List X) × (map cells xs ≡ shown) × AllByRecursion fits xs
 values_of cells fits [] all = ([], refl, tt)
 values_of cells fits (c ∷ shown) all =
@@ -95,21 +95,31 @@ assertions_of (r ∷ rows) all fit =
     an_assertion (FilterOf f) is fits = absurd cc
     an_assertion (Assertion v) is fits = (v, refl, fits)
 
--- rows of one kind are at different positions
+-- rows of one kind of one file are at different positions
 abbrev pub AreElsewhere : ExceptionRow → ExceptionRow → Type 0
-AreElsewhere r s = kind_number r.exception ≡ kind_number s.exception → r.position ≢ s.position
+AreElsewhere r s = r.file ≡ s.file → kind_number r.exception ≡ kind_number s.exception → r.position ≢ s.position
 
-module _ (rows : List ExceptionRow) (fit : AllByRecursion ExceptionRowFits rows) (apart : IsAscending AreElsewhere rows) (kind : ℕ) where
+abbrev pub IsOfFile : List ℕ → ExceptionRow → Type 0
+IsOfFile name r = r.file ≡ name
+
+abbrev IsOfBoth : List ℕ → ℕ → ExceptionRow → Type 0
+IsOfBoth name kind r = IsOfFile name r × IsOfKind kind r
+
+module _ (name : List ℕ) (rows : List ExceptionRow) (named : AllByRecursion (IsOfFile name) rows) (fit : AllByRecursion ExceptionRowFits rows) (apart : IsAscending AreElsewhere rows) (kind : ℕ) where
   abbrev kept : List ExceptionRow
   kept = of_kind kind rows
 
   are_of_kind : AllByRecursion (IsOfKind kind) kept
   are_of_kind = all_from (IsOfKind kind) kept (λ r has. eqb-true (kind_number r.exception) kind (has_filtered (λ (r : ExceptionRow). kind_number r.exception == kind) rows r has).1)
 
+  named_of_kind : AllByRecursion (IsOfFile name) kept
+  named_of_kind = all-filter (IsOfFile name) (λ (r : ExceptionRow). kind_number r.exception == kind) rows named
+
   ordered : (all : List ExceptionRow) × IsPermutation kept all × IsAscending IsBefore all
   ordered =
       in_order kept
-      (ascending_where (IsOfKind kind) AreElsewhere AreApart (λ r s one other elsewhere. elsewhere (one ∙ sym other)) kept are_of_kind
+      (ascending_where (IsOfBoth name kind) AreElsewhere AreApart (λ r s one other elsewhere. elsewhere (one.0 ∙ sym other.0) (one.1 ∙ sym other.1)) kept
+      (all_both (IsOfFile name) (IsOfKind kind) (IsOfBoth name kind) (λ r file of. (file, of)) kept named_of_kind are_of_kind)
       (ascending-filter AreElsewhere (λ (r : ExceptionRow). kind_number r.exception == kind) rows apart))
 
   placed_of_kind : AllByRecursion (IsOfKind kind) ordered.0
@@ -118,8 +128,9 @@ module _ (rows : List ExceptionRow) (fit : AllByRecursion ExceptionRowFits rows)
   placed_fit : AllByRecursion ExceptionRowFits ordered.0
   placed_fit = all-permutation ExceptionRowFits _ _ ordered.1 (all-filter ExceptionRowFits (λ (r : ExceptionRow). kind_number r.exception == kind) rows fit)
 
-  placed : (exceptions : List Exception) → map (λ (r : ExceptionRow). r.exception) ordered.0 ≡ exceptions → ArePlaced exceptions ordered.0
+  placed : (exceptions : List Exception) → map (λ (r : ExceptionRow). r.exception) ordered.0 ≡ exceptions → ArePlaced name exceptions ordered.0
   placed exceptions is = record {
+    named = all-permutation (IsOfFile name) _ _ ordered.1 named_of_kind;
     brought = is;
     positions = all_weaker ExceptionRowFits (λ (r : ExceptionRow). IsPosition r.position) (λ r fits. fits.position) ordered.0 placed_fit;
     rise = ordered.2;
@@ -131,32 +142,29 @@ other_kind (Assertion v) = refl
 
 -- ---- the table
 
--- rows at different places show some exceptions
-pub some_exceptions : (table : List Row) → AllByRecursion ShowsException (map exception_columns table) → length table ≤ MOST_ENTRIES
-    → ((rows : List ExceptionRow) → map exception_row rows ≡ map exception_columns table → IsAscending AreElsewhere rows)
-    → (exceptions : Exceptions) × HoldsExceptions exceptions table × ExceptionsFit exceptions
-some_exceptions table each few apart =
-    let shown = values_of exception_row ExceptionRowFits (map exception_columns table) each in
-    let rows = shown.0 in
-    let elsewhere = apart rows shown.1 in
-    let first = ordered rows shown.2 elsewhere 1 in
-    let second = ordered rows shown.2 elsewhere 2 in
-    let filters = filters_of first.0 (placed_of_kind rows shown.2 elsewhere 1) (placed_fit rows shown.2 elsewhere 1) in
-    let assertions = assertions_of second.0 (placed_of_kind rows shown.2 elsewhere 2) (placed_fit rows shown.2 elsewhere 2) in
+-- rows of a file at different places show some exceptions
+pub some_exceptions : (name : List ℕ) (table : List Row) (rows : List ExceptionRow) → map exception_row rows ≡ map exception_columns table
+    → AllByRecursion (IsOfFile name) rows → AllByRecursion ExceptionRowFits rows → IsAscending AreElsewhere rows → length table ≤ MOST_ENTRIES
+    → (exceptions : Exceptions) × HoldsExceptions name exceptions table × ExceptionsFit exceptions
+some_exceptions name table rows shown named fit elsewhere few =
+    let first = ordered name rows named fit elsewhere 1 in
+    let second = ordered name rows named fit elsewhere 2 in
+    let filters = filters_of first.0 (placed_of_kind name rows named fit elsewhere 1) (placed_fit name rows named fit elsewhere 1) in
+    let assertions = assertions_of second.0 (placed_of_kind name rows named fit elsewhere 2) (placed_fit name rows named fit elsewhere 2) in
     let both : IsPermutation rows (first.0 ++ second.0) =
     IsPermutation-trans _ _ _ (IsPermutation-filter_both _ _ (λ (r : ExceptionRow). other_kind r.exception) rows) (IsPermutation-append _ _ _ _ first.1 second.1) in
     let exceptions : Exceptions = record { filters = filters.0; assertions = assertions.0 } in
-    let held : HoldsExceptions exceptions table = record {
+    let held : HoldsExceptions name exceptions table = record {
       filters = first.0;
       assertions = second.0;
-      filters_placed = placed rows shown.2 elsewhere 1 (map FilterOf filters.0) filters.1;
-      assertions_placed = placed rows shown.2 elsewhere 2 (map Assertion assertions.0) assertions.1;
-      rows = subst (IsPermutation (map exception_row (first.0 ++ second.0))) shown.1 (IsPermutation-map exception_row _ _ (IsPermutation-sym _ _ both));
+      filters_placed = placed name rows named fit elsewhere 1 (map FilterOf filters.0) filters.1;
+      assertions_placed = placed name rows named fit elsewhere 2 (map Assertion assertions.0) assertions.1;
+      rows = subst (IsPermutation (map exception_row (first.0 ++ second.0))) shown (IsPermutation-map exception_row _ _ (IsPermutation-sym _ _ both));
     } in (
       exceptions,
       held,
       record {
-        number = omega (arith, few, held_number exceptions table held);
+        number = omega (arith, few, held_number name exceptions table held);
         filters = All-from_recursion FilterFits filters.0 filters.2;
         assertions = All-from_recursion VrpFits assertions.0 assertions.2;
       },

@@ -61,12 +61,6 @@ only_one (y ∷ z ∷ xs) x has one = absurd (omega arith)
 
 -- ---- the number of rows
 
-pub as_many : {X : Type 0} (cells : X → Row) (fits : X → Type 0) (tree : ℕ) (places : List ℕ) (db : Database) (values : List X)
-    → AreRead cells fits (shown_in tree places db) values → length (contents (db.trees tree)) ≡ length values
-as_many cells fits tree places db values read =
-    let rows = contents (db.trees tree) in
-    omega (arith, length_permutation _ _ read.same, length-map rows (columns places), length-map values cells)
-
 -- a tree of which nothing is shown has no row
 pub no_rows_in : (places : List ℕ) (tree rows : List Row) → IsPermutation (map (columns_and_rowid places) tree) rows → rows ≡ [] → tree ≡ []
 no_rows_in places [] rows same none = refl

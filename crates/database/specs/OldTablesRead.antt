@@ -1,18 +1,17 @@
 -- What it is for the tables of a database of schema 1 to read.
-use Rattle.std.specs.Prelude.{◌≤◌, List, [], ◌∷◌, length, map, flat_map, IsPermutation, IsTrue, ⊤}
+use Rattle.std.specs.Prelude.{List, [], ◌∷◌, map, flat_map, IsPermutation, IsTrue, ⊤}
 use Rattle.std.specs.List.{AllByRecursion}
 use Rattle.sqlite_value.specs.Order.{Row}
 use Rattle.sqlite_trees.specs.Tree.{Trees}
 use Rattle.addr.specs.Name.{is_name}
 use Rattle.registry.specs.declared.authorization.Auth.{Auth}
 use Rattle.registry.specs.Values.{AuthFits, GrantFits}
-use Rattle.slurm.specs.declared.exceptions.TheConstants.{MOST_ENTRIES}
 use Rattle.tables.specs.declared.groups.OfHolder.{OfHolder}
 use Rattle.tables.specs.Cells.{holding_row, granted_row}
 use Rattle.tables.specs.Decode.{exception_columns}
 use Rattle.tables.specs.Tables.{meta, holder, holding, granted, auth, slurm, contents}
 use Rattle.moving.specs.OldTables.{auth_rows, old_schema_row, AreOldTrees, HasOneEntry}
-use Rattle.database.specs.TablesRead.{HasSomeCharter, ShowsHolder, ShowsOfHolder, ShowsException}
+use Rattle.database.specs.TablesRead.{HasSomeCharter, ShowsHolder, ShowsOfHolder, ShowsException, AreFewOfEach}
 
 -- the rows of an authorization in the table `auth`: one, where it has one entry
 abbrev pub rows_of_auth : OfHolder Auth → List Row
@@ -27,8 +26,8 @@ pub record HasSomeOldAuths (trees : Trees) : Type 0 where
   pub shown : IsPermutation (flat_map rows_of_auth auths) (contents (trees auth.tree))
 
 -- The number is that of schema 1 and no other row is beside it, the operators and the pool make a charter, and each row
--- of each table shows a value of its type and has a rowid of its own. Exceptions are no more than those of one SLURM
--- file.
+-- of each table shows a value of its type and has a rowid of its own. No SLURM file has more exceptions than a file may
+-- have.
 pub record OldTablesRead (trees : Trees) : Type 0 where
   pub schema : IsPermutation (old_schema_row ∷ []) (contents (trees meta.tree))
   pub charter : HasSomeCharter trees
@@ -37,5 +36,5 @@ pub record OldTablesRead (trees : Trees) : Type 0 where
   pub grants : AllByRecursion (ShowsOfHolder granted_row GrantFits) (contents (trees granted.tree))
   pub authorizations : HasSomeOldAuths trees
   pub exceptions : AllByRecursion ShowsException (map exception_columns (contents (trees slurm.tree)))
-  pub exceptions_number : length (contents (trees slurm.tree)) ≤ MOST_ENTRIES
+  pub exceptions_number : AreFewOfEach (contents (trees slurm.tree))
   pub whole : AreOldTrees trees

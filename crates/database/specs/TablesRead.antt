@@ -1,5 +1,5 @@
 -- What it is for the tables of a database to read.
-use Rattle.std.specs.Prelude.{◌≡◌, ◌≤◌, ℕ, false, List, [], length, map, flat_map, nat_eq, Contains, IsPermutation, IsTrue, ⊤}
+use Rattle.std.specs.Prelude.{◌≡◌, ◌≤◌, ℕ, false, List, [], length, map, flat_map, filter, nat_eq, Contains, IsPermutation, IsTrue, ⊤}
 use Rattle.std.specs.Cmp.Lexicographic.{pointwise}
 use Rattle.std.specs.List.{AllByRecursion}
 use Rattle.sqlite_value.specs.Order.{Row}
@@ -11,14 +11,14 @@ use Rattle.charters.specs.CharterSets.{AreInNumber, CharterSets}
 use Rattle.charters.specs.Repeats.{has_repeat}
 use Rattle.registry.specs.declared.authorization.Auth.{Auth}
 use Rattle.registry.specs.RowsOfAll.{AllRows}
-use Rattle.registry.specs.Values.{IsCount, AuthFits, GrantFits, ExceptionsFit}
+use Rattle.registry.specs.Values.{IsCount, AuthFits, GrantFits, FilesFit}
 use Rattle.slurm.specs.declared.exceptions.TheConstants.{MOST_ENTRIES}
 use Rattle.tables.specs.declared.groups.OfHolder.{OfHolder}
 use Rattle.tables.specs.Authorizations.{claim_of, entry_rows_of}
 use Rattle.tables.specs.Cells.{schema_row, operator_row, prefix_cells, holder_row, holding_row, granted_row, claim_row, entry_row, exception_row}
 use Rattle.tables.specs.Decode.{ExceptionRowFits, exception_columns}
 use Rattle.tables.specs.Tables.{meta, operator, pool, holder, holding, granted, auth, slurm, claim, entry, contents}
-use Rattle.tables.specs.TablesHold.{TablesHold}
+use Rattle.tables.specs.TablesHold.{TablesHold, is_of_file}
 
 -- the row shows some value of the type
 abbrev pub ShowsSome : {X : Type 0} → (X → Row) → (X → Type 0) → Row → Type 0
@@ -34,9 +34,13 @@ ShowsHolder c =
 abbrev pub ShowsOfHolder : {X : Type 0} → (List ℕ → X → Row) → (X → Type 0) → Row → Type 0
 ShowsOfHolder {X} row fits c = (h : List ℕ) × (x : X) × fits x × (c ≡ row h x)
 
--- the row shows an exception of the one SLURM file and its position
+-- the row shows an exception of some SLURM file and its position
 abbrev pub ShowsException : Row → Type 0
 ShowsException = ShowsSome exception_row ExceptionRowFits
+
+-- no SLURM file has more of the rows than a file may have exceptions
+abbrev pub AreFewOfEach : List Row → Type 0
+AreFewOfEach rows = (name : List ℕ) → length (filter (is_of_file name) rows) ≤ MOST_ENTRIES
 
 -- the tables have operators and prefixes that make a charter
 pub record HasSomeCharter (trees : Trees) : Type 0 where
@@ -66,7 +70,7 @@ pub record HasSomeAuths (trees : Trees) : Type 0 where
   pub unused : contents (trees auth.tree) ≡ []
 
 -- The number of the schema is there, the operators and the pool make a charter, each row of each table shows a value
--- of its type, and claims and entries make authorizations. Exceptions are no more than those of one SLURM file.
+-- of its type, and claims and entries make authorizations. No SLURM file has more exceptions than a file may have.
 pub record TablesRead (trees : Trees) : Type 0 where
   pub schema : Contains (contents (trees meta.tree)) schema_row
   pub charter : HasSomeCharter trees
@@ -75,9 +79,9 @@ pub record TablesRead (trees : Trees) : Type 0 where
   pub grants : AllByRecursion (ShowsOfHolder granted_row GrantFits) (contents (trees granted.tree))
   pub authorizations : HasSomeAuths trees
   pub exceptions : AllByRecursion ShowsException (map exception_columns (contents (trees slurm.tree)))
-  pub exceptions_number : length (contents (trees slurm.tree)) ≤ MOST_ENTRIES
+  pub exceptions_number : AreFewOfEach (contents (trees slurm.tree))
 
--- the tables hold this charter and some rows, with the exceptions of one SLURM file
+-- the tables hold this charter and some rows, with SLURM files each of which is in its range
 abbrev pub HoldSomeRows : CharterSets → Trees → Type 0
 HoldSomeRows charter trees =
-    (rows : AllRows) × TablesHold charter rows trees × ExceptionsFit rows.exceptions
+    (rows : AllRows) × TablesHold charter rows trees × FilesFit rows.files

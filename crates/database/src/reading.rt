@@ -1,9 +1,10 @@
 //! Reading all rows of a database that has the tables of a desk.
-ghost use Rattle.std.specs.Prelude.{◌≡◌, ◌≢◌, ◌≤◌, ◌↔◌, true, false, ◌||◌, nat_eq, ℕ, List, [], ◌∷◌, length, Any, Err, OnOk, OnErr, IfOk, IsPermutation, IsSorted, IsTrue};
+ghost use Rattle.std.specs.Prelude.{◌≡◌, ◌≢◌, ◌≤◌, ◌↔◌, true, false, not, drop, filter, ◌||◌, nat_eq, ℕ, List, [], ◌∷◌, length, Any, Err, OnOk, OnErr, IfOk, IsPermutation, IsSorted, IsTrue};
 ghost use Rattle.std.specs.declared.cmp.Ordering.{Ordering};
 ghost use Rattle.std.specs.Cmp.{IsTotalOrder};
 ghost use Rattle.std.specs.Cmp.Lexicographic.{pointwise};
-ghost use Rattle.std.specs.List.{AllByRecursion};
+ghost use Rattle.std.specs.List.{AllByRecursion, list_all, zip};
+ghost use Rattle.std.specs.Str.{bytes_eq};
 ghost use Rattle.sqlite.specs.Given.{IsPlain};
 ghost use Rattle.sqlite.specs.Held.{state};
 ghost use Rattle.sqlite.specs.Listing.{understood, reads_listing};
@@ -351,15 +352,29 @@ fn read_auths<S: Alter>(tx: &mut Transaction<'_, S>, alloc: Global) -> Result<()
     check_auths(alloc, &claims, &entries)
 }
 
-/// Whether a SLURM file may have so many exceptions.
-fn are_few(exceptions: &[ExceptionRow]) -> bool
-    ensures { IsTrue result ↔ (length exceptions.now ≤ MOST_ENTRIES) }
+/// Whether no exception has the file of the one that is `MOST_ENTRIES` places before it.
+fn are_apart(exceptions: &[ExceptionRow]) -> bool
+    ensures { result ≡ list_all (λ p. not (bytes_eq p.0.file p.1.file))
+        (zip exceptions.now (drop MOST_ENTRIES exceptions.now)) }
 {
-    exceptions.len() <= MOST_ENTRIES
+    let later = exceptions.iter().skip(MOST_ENTRIES);
+    exceptions
+        .iter()
+        .zip(later)
+        .all(|(row, later)| row.file != later.file)
 }
 
-/// Checks that each row of the table `slurm` reads. More than a SLURM file may have are those of
-/// another schema.
+/// Whether no SLURM file has more of the exceptions than a file may have. It takes no memory.
+fn are_few(mut exceptions: Vec<ExceptionRow>) -> bool
+    ensures { IsTrue result ↔ ((name : List ℕ)
+        → length (filter (λ r. bytes_eq r.file name) exceptions.items) ≤ MOST_ENTRIES) }
+{
+    exceptions.sort_unstable_by_key(|row| row.file);
+    are_apart(&exceptions)
+}
+
+/// Checks that each row of the table `slurm` reads. More of a SLURM file than it may have are those
+/// of another schema.
 fn read_exceptions<S: Alter>(tx: &mut Transaction<'_, S>, alloc: Global) -> Result<(), StoreFault>
     requires { WhenClean S.Store IsReady tx.old }
     ensures asked { IsAskedInside S.Store tx.old tx.new result }
@@ -369,7 +384,7 @@ fn read_exceptions<S: Alter>(tx: &mut Transaction<'_, S>, alloc: Global) -> Resu
         → ¬ TablesRead (state_in S.Store tx.old).now.trees }
 {
     let exceptions: Vec<ExceptionRow> = read_table(tx, alloc)?;
-    if !are_few(&exceptions) {
+    if !are_few(exceptions) {
         return Err(StoreFault::Schema);
     }
     Ok(())

@@ -25,7 +25,7 @@ use Rattle.tables.proofs.CellLemmas.{cast_schema, cast_prefix}
 use Rattle.tables.proofs.HaveEntries.{none_have_entries}
 use Rattle.making.proofs.StatementLemmas.{sound_still, puts_row, taken_more}
 use Rattle.tables.proofs.Inserting.{each_table}
-use Rattle.making.proofs.MakingSteps.{none_held, no_exceptions_held}
+use Rattle.making.proofs.MakingSteps.{none_held, none_of_files}
 use Rattle.tables.proofs.Texts.{put_terms, put_schema_is, put_operator_is, put_prefix_is}
 
 module _ (old new : State) where
@@ -98,7 +98,7 @@ has_charter charter a b c d made schema operators prefixes =
         entries = none_held entry_part (d.now.trees 19) (still 19 refl (λ same. cc) (λ same. cc) (λ same. cc));
         have_entries = none_have_entries;
         unused = ap contents (still 12 refl (λ same. cc) (λ same. cc) (λ same. cc));
-        exceptions = no_exceptions_held (d.now.trees 15) (still 15 refl (λ same. cc) (λ same. cc) (λ same. cc));
+        files = none_of_files (d.now.trees 15) (still 15 refl (λ same. cc) (λ same. cc) (λ same. cc));
         whole = sound_still 4 _ c.now d.now third (sound_still 2 _ b.now c.now second (sound_still 0 _ a.now b.now first sound));
       };
     }

@@ -14,14 +14,14 @@ use Rattle.sqlite_schema.specs.declared.command.Command.TheVariants.{CreateTable
 use Rattle.sqlite_schema.specs.declared.schema.Schema.{Schema}
 use Rattle.sqlite_schema.specs.declared.schema.Table.{Table}
 use Rattle.tables.specs.Tables.{claim, entry, holding, holding_of, contents}
-use Rattle.registry.specs.ExceptionsInForce.{no_exceptions}
-use Rattle.tables.specs.TablesHold.{Part, HoldsPart, ArePlaced, HoldsExceptions}
+use Rattle.tables.specs.TablesHold.{Part, HoldsPart, HoldsFiles}
 use Rattle.tables.specs.declared.holding.TheConstants.{CREATE_HOLDING_INDEX}
 use Rattle.moving.specs.OldTables.{old_schema, old_schema_without_index}
 use Rattle.making.specs.Moving.{IsOverOld}
 use Rattle.making.specs.Making.{schema_so_far, tables_so_far, IsMadeTo}
 use Rattle.making.specs.steps.Making.{Redefines, MakesTable, MakesClaimTables}
 use Rattle.making.specs.Statements.{IsExecuted}
+use Rattle.tables.proofs.HeldFiles.{no_files_held}
 use Rattle.tables.proofs.Inserting.{went, same_value, each_table}
 use Rattle.making.proofs.Creates.{Defines, DefinesIndex, index_defined, old_index_defined}
 
@@ -94,11 +94,9 @@ makes_claim_tables a b c first second = record {
 pub none_held : (part : Part) (table : List Row) → table ≡ [] → HoldsPart part (λ h. None) (contents table)
 none_held part table none = rw none (record { each = λ h. IsPermutation-refl []; named = tt })
 
--- and no exceptions
-pub no_exceptions_held : (table : List Row) → table ≡ [] → HoldsExceptions no_exceptions (contents table)
-no_exceptions_held table none =
-    let placed : ArePlaced [] [] = record { brought = refl; positions = tt; rise = tt } in
-    rw none (record { filters = []; assertions = []; filters_placed = placed; assertions_placed = placed; rows = IsPermutation-refl [] })
+-- and those of no SLURM file
+pub none_of_files : (table : List Row) → table ≡ [] → HoldsFiles [] (contents table)
+none_of_files table none = rw none no_files_held
 
 -- the index makes no table, and changes no row
 pub makes_index_of : (before after : Schema) → slice_get before.tables 4 ≡ Some holding → DefinesIndex CREATE_HOLDING_INDEX.now before after

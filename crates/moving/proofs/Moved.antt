@@ -17,7 +17,7 @@ use Rattle.tables.specs.Cells.{claim_row, entry_row, operator_row, prefix_cells}
 use Rattle.tables.specs.Groups.{claim_entry}
 use Rattle.moving.specs.OldTables.{auth_row, auth_rows, auth_part, is_old_table, HasOneEntry, OldTablesHold}
 use Rattle.tables.specs.Tables.{auth, meta, contents}
-use Rattle.tables.specs.TablesHold.{Part, HoldsPart, HoldsExceptions, TablesHold, part_rows, is_name_of, is_text, holder_part, holding_part, granted_part, claim_part, entry_part}
+use Rattle.tables.specs.TablesHold.{Part, HoldsPart, HoldsFiles, TablesHold, part_rows, is_name_of, is_text, holder_part, holding_part, granted_part, claim_part, entry_part}
 use Rattle.moving.specs.Moved.{claim_columns, entry_columns, IsMoved}
 use Rattle.tables.proofs.PartLemmas.{names}
 
@@ -98,6 +98,6 @@ module _ (charter : CharterSets) (rows : AllRows) (old new : Trees) (was : OldTa
     entries = part_moved auth_part entry_part entry_columns rows.of_holder _ _ (λ c. refl) (λ h r of. entries_turned h r.auths) was.auths moved.entries;
     have_entries = λ h r of. all_weaker HasOneEntry (λ x. AreEntries x.entries) one_is_entries r.auths (was.have_one_entry h r of);
     unused = moved.emptied;
-    exceptions = stays old new moved (HoldsExceptions rows.exceptions) 15 refl (omega arith) (omega arith) was.exceptions;
+    files = stays old new moved (HoldsFiles rows.files) 15 refl (omega arith) (omega arith) was.files;
     whole = moved.whole;
   }

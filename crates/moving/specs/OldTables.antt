@@ -1,5 +1,5 @@
--- The tables of a desk of schema 1, and what they hold: the charter, the rows of every holder, and the exceptions of the
--- SLURM file in force. An authorization with its one entry is a row of the table `auth`; there is no `claim` and no
+-- The tables of a desk of schema 1, and what they hold: the charter, the rows of every holder, and the SLURM files in
+-- force. An authorization with its one entry is a row of the table `auth`; there is no `claim` and no
 -- `entry`.
 use Rattle.std.specs.Prelude.{◌≡◌, ◌⊎◌, ℕ, pos, ◌==◌, Bool, true, List, [], ◌∷◌, ◌++◌, length, map, flat_map, take, codes, Option, Some, Contains, IsPermutation}
 use Rattle.std.specs.List.{AllByRecursion, list_any}
@@ -18,7 +18,7 @@ use Rattle.tables.specs.declared.claim.Claim.{Claim}
 use Rattle.tables.specs.Authorizations.{claim_of}
 use Rattle.tables.specs.Cells.{number_cell, operator_row, prefix_cells}
 use Rattle.tables.specs.Tables.{meta, operator, pool, auth, slurm, desk_tables, desk_indexes, holding_of, contents, IsTree}
-use Rattle.tables.specs.TablesHold.{Part, HoldsPart, HoldsExceptions, holder_part, holding_part, granted_part}
+use Rattle.tables.specs.TablesHold.{Part, HoldsPart, HoldsFiles, holder_part, holding_part, granted_part}
 
 -- ---- the schema
 
@@ -94,5 +94,5 @@ pub record OldTablesHold (charter : CharterSets) (rows : AllRows) (trees : Trees
   pub grants : HoldsPart granted_part rows.of_holder (contents (trees granted_part.tree))
   pub auths : HoldsPart auth_part rows.of_holder (contents (trees auth_part.tree))
   pub have_one_entry : HaveOneEntry rows.of_holder
-  pub exceptions : HoldsExceptions rows.exceptions (contents (trees slurm.tree))
+  pub files : HoldsFiles rows.files (contents (trees slurm.tree))
   pub whole : AreOldTrees trees

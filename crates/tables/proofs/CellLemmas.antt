@@ -60,10 +60,10 @@ pub cast_exception : (r : ExceptionRow) → cast_all slurm.columns (exception_ro
 cast_exception r = go r.exception
   where
     go : (e : Exception) → cast_all slurm.columns (exception_row (record r { exception = e })) ≡ exception_row (record r { exception = e })
-    go (FilterOf (Under p)) = λ i. Text (codes "main") ∷ cast_number 1 i ∷ cast_number r.position i ∷ cast_number (family_number p.family) i ∷ Blob (address_bytes p.first) ∷ cast_number p.length i ∷ cast_null i ∷ cast_null i ∷ []
-    go (FilterOf (By asn)) = λ i. Text (codes "main") ∷ cast_number 1 i ∷ cast_number r.position i ∷ cast_null i ∷ Null ∷ cast_null i ∷ cast_null i ∷ cast_number asn.0 i ∷ []
-    go (FilterOf (Both p asn)) = λ i. Text (codes "main") ∷ cast_number 1 i ∷ cast_number r.position i ∷ cast_number (family_number p.family) i ∷ Blob (address_bytes p.first) ∷ cast_number p.length i ∷ cast_null i ∷ cast_number asn.0 i ∷ []
-    go (Assertion v) = λ i. Text (codes "main") ∷ cast_number 2 i ∷ cast_number r.position i ∷ cast_number (family_number v.prefix.family) i ∷ Blob (address_bytes v.prefix.first) ∷ cast_number v.prefix.length i ∷ cast_number v.max i ∷ cast_number v.asn.0 i ∷ []
+    go (FilterOf (Under p)) = λ i. Text r.file ∷ cast_number 1 i ∷ cast_number r.position i ∷ cast_number (family_number p.family) i ∷ Blob (address_bytes p.first) ∷ cast_number p.length i ∷ cast_null i ∷ cast_null i ∷ []
+    go (FilterOf (By asn)) = λ i. Text r.file ∷ cast_number 1 i ∷ cast_number r.position i ∷ cast_null i ∷ Null ∷ cast_null i ∷ cast_null i ∷ cast_number asn.0 i ∷ []
+    go (FilterOf (Both p asn)) = λ i. Text r.file ∷ cast_number 1 i ∷ cast_number r.position i ∷ cast_number (family_number p.family) i ∷ Blob (address_bytes p.first) ∷ cast_number p.length i ∷ cast_null i ∷ cast_number asn.0 i ∷ []
+    go (Assertion v) = λ i. Text r.file ∷ cast_number 2 i ∷ cast_number r.position i ∷ cast_number (family_number v.prefix.family) i ∷ Blob (address_bytes v.prefix.first) ∷ cast_number v.prefix.length i ∷ cast_number v.max i ∷ cast_number v.asn.0 i ∷ []
 
 -- a value is this number
 abbrev pub is_number_cell : ℕ → Value → Bool

@@ -1,5 +1,5 @@
--- The rows of the exceptions that a table holds.
-use Rattle.std.proofs.Common.{◌≡◌, ◌+◌, List, ◌++◌, length, ap, arith}
+-- The rows of the exceptions of a file.
+use Rattle.std.proofs.Common.{◌≡◌, ℕ, ◌+◌, List, ◌++◌, length, ap, arith}
 use Rattle.std.proofs.lemmas.List.{length-append, length-map}
 use Rattle.std.proofs.lemmas.List.Sorted.{length_permutation}
 use Rattle.sqlite_value.specs.Order.{Row}
@@ -10,7 +10,7 @@ use Rattle.tables.specs.Cells.{exception_row}
 use Rattle.tables.specs.Decode.{exception_columns}
 use Rattle.tables.specs.TablesHold.{HoldsExceptions}
 
-module _ (exceptions : Exceptions) (table : List Row) (holds : HoldsExceptions exceptions table) where
+module _ (name : List ℕ) (exceptions : Exceptions) (table : List Row) (holds : HoldsExceptions name exceptions table) where
   pub held_number : length exceptions.filters + length exceptions.assertions ≡ length table
   held_number =
       let rows = length_permutation _ _ holds.rows in

@@ -16,9 +16,9 @@ pub mod CellsOnce
 pub mod Addresses
 pub mod SomeRow
 pub mod DeskTables
-pub mod RowsStay
 pub mod HaveEntries
 pub mod HeldExceptions
+pub mod HeldFiles
 pub mod Once
 pub mod Claims
 pub mod Grouping

@@ -130,8 +130,8 @@ abbrev pub exception_first : Exception → ℕ
 exception_first (FilterOf f) = filter_first f
 exception_first (Assertion v) = v.prefix.first
 
--- the row of an exception in the table `slurm`, whose one file is `main`
+-- the row of an exception in the table `slurm`
 abbrev pub exception_row : ExceptionRow → Row
 exception_row r =
-    Text (codes "main") ∷ number_cell (kind_number r.exception) ∷ number_cell r.position
+    Text r.file ∷ number_cell (kind_number r.exception) ∷ number_cell r.position
     ∷ exception_cells r.exception

@@ -47,6 +47,7 @@ ExceptionFits (FilterOf f) = FilterFits f
 ExceptionFits (Assertion v) = VrpFits v
 
 pub record ExceptionRowFits (r : ExceptionRow) : Type 0 where
+  pub file : IsTrue (is_name r.file)
   pub position : IsPosition r.position
   pub exception : ExceptionFits r.exception
 

@@ -1,5 +1,5 @@
 -- What holds of the tables of a desk.
-use Rattle.std.specs.Prelude.{◌≡◌, ◌+◌, true, List, length}
+use Rattle.std.specs.Prelude.{◌≡◌, ℕ, ◌+◌, true, List, length}
 use Rattle.sqlite_schema.specs.declared.schema.Schema.{Schema}
 use Rattle.sqlite_value.specs.Order.{Row}
 use Rattle.slurm.specs.Exceptions.{Exceptions}
@@ -11,8 +11,8 @@ use Rattle.tables.specs.TablesHold.{HoldsExceptions}
 abbrev pub DeskTablesAreNamed : Type 0
 DeskTablesAreNamed = (schema : Schema) → schema.tables ≡ desk_tables → has_names schema desk_tables ≡ true
 
--- A table that holds exceptions has as many rows as they are.
+-- The rows of a SLURM file are as many as its exceptions.
 abbrev pub ExceptionsAreCounted : Type 0
 ExceptionsAreCounted =
-    (exceptions : Exceptions) (table : List Row) → HoldsExceptions exceptions table
+    (name : List ℕ) (exceptions : Exceptions) (table : List Row) → HoldsExceptions name exceptions table
     → length exceptions.filters + length exceptions.assertions ≡ length table

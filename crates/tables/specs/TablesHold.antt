@@ -1,4 +1,4 @@
--- What the tables hold: the charter, the rows of every holder, and the exceptions of the SLURM file in force.
+-- What the tables hold: the charter, the rows of every holder, and the SLURM files in force.
 use Rattle.std.specs.Prelude.{◌≡◌, ℕ, ◌<◌, Bool, true, false, List, [], ◌∷◌, ◌++◌, map, flat_map, filter, Option, Some, None, IsPermutation}
 use Rattle.std.specs.List.{AllByRecursion, enumerate_from}
 use Rattle.std.specs.Ordering.{is_eq}
@@ -10,6 +10,8 @@ use Rattle.charters.specs.CharterSets.{CharterSets}
 use Rattle.registry.specs.Rows.{Rows}
 use Rattle.registry.specs.RowsOfAll.{AllRows}
 use Rattle.slurm.specs.Exceptions.{Exceptions}
+use Rattle.slurm.specs.SlurmSets.{exceptions_of, has_entries, RiseByName}
+use Rattle.slurm.specs.declared.set.NamedSlurm.{NamedSlurm}
 use Rattle.tables.specs.declared.exception.Exception.{Exception}
 use Rattle.tables.specs.declared.exception.Exception.TheVariants.{Filter as FilterOf, Assertion}
 use Rattle.tables.specs.declared.exception.ExceptionRow.{ExceptionRow}
@@ -62,29 +64,45 @@ pub record HoldsPart (part : Part) (rows : List ℕ → Option Rows) (table : Li
   pub each : (h : List ℕ) → IsPermutation (part_rows part h (rows h)) (filter (λ c. is_name_of h (column c part.place)) table)
   pub named : AllByRecursion (λ c. is_text (column c part.place) ≡ true) table
 
--- the rows bring these exceptions in their order, at positions that rise, with gaps or without
-pub record ArePlaced (exceptions : List Exception) (rows : List ExceptionRow) : Type 0 where
+-- the rows of the SLURM file of this name bring these exceptions in their order, at positions that rise,
+-- with gaps or without
+pub record ArePlaced (name : List ℕ) (exceptions : List Exception) (rows : List ExceptionRow) : Type 0 where
+  pub named : AllByRecursion (λ (r : ExceptionRow). r.file ≡ name) rows
   pub brought : map (λ (r : ExceptionRow). r.exception) rows ≡ exceptions
   pub positions : AllByRecursion (λ (r : ExceptionRow). IsPosition r.position) rows
   pub rise : IsAscending (λ (a b : ExceptionRow). a.position < b.position) rows
 
--- the table has the rows of the filters and of the assertions, each kind in the file's order, and no others
-pub record HoldsExceptions (exceptions : Exceptions) (table : List Row) : Type 0 where
+-- the rows of a file are those of its filters and of its assertions, each kind in its order
+pub record HoldsExceptions (name : List ℕ) (exceptions : Exceptions) (table : List Row) : Type 0 where
   pub filters : List ExceptionRow
   pub assertions : List ExceptionRow
-  pub filters_placed : ArePlaced (map FilterOf exceptions.filters) filters
-  pub assertions_placed : ArePlaced (map Assertion exceptions.assertions) assertions
+  pub filters_placed : ArePlaced name (map FilterOf exceptions.filters) filters
+  pub assertions_placed : ArePlaced name (map Assertion exceptions.assertions) assertions
   pub rows : IsPermutation (map exception_row (filters ++ assertions)) (map exception_columns table)
 
--- exceptions at the positions 1, 2, 3 and so on
-abbrev pub at_positions : List Exception → List ExceptionRow
-at_positions exceptions =
-    map (λ (e : ℕ × Exception). let row : ExceptionRow = record { position = e.0; exception = e.1 } in row) (enumerate_from 1 exceptions)
+-- the row has an exception of the SLURM file of this name
+abbrev pub is_of_file : List ℕ → Row → Bool
+is_of_file name c = is_name_of name (column c 0)
 
--- the table has the filters and the assertions of a file, each kind at the positions 1, 2, 3 and so on, and no other row
-abbrev pub HoldsFile : Exceptions → List Row → Type 0
-HoldsFile file table =
-    IsPermutation (map exception_row (at_positions (map FilterOf file.filters) ++ at_positions (map Assertion file.assertions))) table
+-- the table has the rows of each of these SLURM files, which rise by name and have entries, and no others
+pub record HoldsFiles (files : List NamedSlurm) (table : List Row) : Type 0 where
+  pub rising : RiseByName files
+  pub some : AllByRecursion (λ (f : NamedSlurm). has_entries f.file ≡ true) files
+  pub each : (name : List ℕ) → HoldsExceptions name (exceptions_of files name) (filter (is_of_file name) table)
+  pub named : AllByRecursion (λ c. is_text (column c 0) ≡ true) table
+
+-- exceptions of a file at the positions 1, 2, 3 and so on
+abbrev pub at_positions : List ℕ → List Exception → List ExceptionRow
+at_positions name exceptions =
+    map (λ (e : ℕ × Exception). let row : ExceptionRow = record { file = name; position = e.0; exception = e.1 } in row) (enumerate_from 1 exceptions)
+
+-- the rows of a file, each kind at the positions 1, 2, 3 and so on
+abbrev pub file_rows : NamedSlurm → List ExceptionRow
+file_rows f = at_positions f.name (map FilterOf f.file.filters) ++ at_positions f.name (map Assertion f.file.assertions)
+
+-- the table has the rows of these files, each kind of a file at the positions 1, 2, 3 and so on, and no other row
+abbrev pub HoldsFromOne : List NamedSlurm → List Row → Type 0
+HoldsFromOne files table = IsPermutation (map exception_row (flat_map file_rows files)) table
 
 -- the tables have the number of the schema, the operators and the pool, in some order, and nothing else
 pub record HoldsCharter (charter : CharterSets) (trees : Trees) : Type 0 where
@@ -102,5 +120,5 @@ pub record TablesHold (charter : CharterSets) (rows : AllRows) (trees : Trees) :
   pub entries : HoldsPart entry_part rows.of_holder (contents (trees entry_part.tree))
   pub have_entries : HaveEntries rows.of_holder
   pub unused : contents (trees auth.tree) ≡ []
-  pub exceptions : HoldsExceptions rows.exceptions (contents (trees slurm.tree))
+  pub files : HoldsFiles rows.files (contents (trees slurm.tree))
   pub whole : AreTrees trees

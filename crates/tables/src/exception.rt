@@ -1,8 +1,7 @@
-//! The table `slurm`: the exceptions of the SLURM file in force.
-ghost use Rattle.std.specs.Prelude.{◌≡◌, ◌↔◌, [], ◌∷◌, codes, IsTrue};
+//! The table `slurm`: the exceptions of the SLURM files in force.
+ghost use Rattle.std.specs.Prelude.{◌≡◌, [], ◌∷◌};
 ghost use Rattle.sqlite.specs.Values.{bound};
 ghost use Rattle.registry.specs.Values.{FilterFits};
-ghost use Rattle.sqlite_value.specs.declared.value.Value.TheVariants.{Text};
 ghost use Rattle.sqlite_value.specs.Value.{owned};
 ghost use Rattle.tables.specs.Cells.{address_bytes, number_cell, kind_number, filter_first, filter_cells, assertion_cells, exception_first, exception_cells, exception_row};
 ghost use Rattle.tables.specs.Decode.{Decodes, IsPosition, ExceptionFits, ExceptionRowFits};
@@ -10,8 +9,8 @@ ghost use Rattle.tables.specs.Tables.{columns};
 
 use crate::FromRow;
 use crate::cells::prefix_values;
-use crate::decode::{cell, decode_asn, decode_prefix, decode_u32, decode_vrp};
-use addr::Vrp;
+use crate::decode::{cell, decode_asn, decode_name, decode_prefix, decode_u32, decode_vrp};
+use addr::{Name, Vrp};
 use slurm::Filter;
 use sqlite::Row;
 use sqlite::types::{ToSql, ValueRef};
@@ -30,13 +29,18 @@ pub const INSERT_EXCEPTION: &str = "\
 /// Takes all exceptions away.
 pub const DELETE_EXCEPTIONS: &str = "DELETE FROM slurm";
 
-/// The prefix filters, in the file's order.
-pub const SELECT_FILTERS: &str = "\
-    SELECT family, lo, len, max, asn, position FROM slurm WHERE kind = 1 ORDER BY position";
+/// The names of the SLURM files.
+pub const SELECT_FILES: &str = "SELECT DISTINCT file FROM slurm ORDER BY file";
 
-/// The prefix assertions, in the file's order.
+/// The prefix filters of a SLURM file, in its order.
+pub const SELECT_FILTERS: &str = "\
+    SELECT family, lo, len, max, asn, position FROM slurm WHERE file = ?1 AND kind = 1 \
+    ORDER BY position";
+
+/// The prefix assertions of a SLURM file, in its order.
 pub const SELECT_ASSERTIONS: &str = "\
-    SELECT asn, family, lo, len, max, position FROM slurm WHERE kind = 2 ORDER BY position";
+    SELECT asn, family, lo, len, max, position FROM slurm WHERE file = ?1 AND kind = 2 \
+    ORDER BY position";
 
 /// All exceptions, and their rowids.
 pub const SELECT_ALL_EXCEPTIONS: &str = "\
@@ -49,9 +53,10 @@ pub enum Exception {
     Assertion(Vrp),
 }
 
-/// An exception, and its place among those of its kind.
+/// An exception of a SLURM file, and its place among those of its kind.
 #[derive(Clone, Copy, Debug, PartialEq, Eq)]
 pub struct ExceptionRow {
+    pub file: Name,
     /// Counted from 1.
     pub position: u32,
     pub exception: Exception,
@@ -65,10 +70,8 @@ impl FromRow for ExceptionRow {
     ghost fits = { ExceptionRowFits };
 
     fn in_row(row: &Row) -> Option<ExceptionRow> {
-        if !is_main(cell(row, 0)) {
-            return None;
-        }
         Some(ExceptionRow {
+            file: decode_name(cell(row, 0))?,
             position: decode_position(cell(row, 2))?,
             exception: decode_exception(row)?,
         })
@@ -90,16 +93,6 @@ impl FromRow for Filter {
             cell(row, 3),
             cell(row, 4),
         )
-    }
-}
-
-/// Whether the value names the one SLURM file that a desk has.
-fn is_main(file: ValueRef<'_>) -> bool
-    ensures { IsTrue result ↔ (owned file.entry ≡ Text (codes "main")) }
-{
-    match file {
-        ValueRef::Text(name) => name == b"main".as_slice(),
-        _ => false,
     }
 }
 
@@ -208,7 +201,7 @@ fn assertion_values<'a>(vrp: &Vrp, first: &'a [u8]) -> [ValueRef<'a>; 5]
 }
 
 /// A row of the table, with the bytes of the first address of its prefix.
-pub fn exception_values<'a>(row: &ExceptionRow, first: &'a [u8]) -> [ValueRef<'a>; 8]
+pub fn exception_values<'a>(row: &'a ExceptionRow, first: &'a [u8]) -> [ValueRef<'a>; 8]
     requires { first.now ≡ address_bytes (exception_first row.now.exception) }
     ensures { bound result ≡ exception_row row.now }
 {
@@ -217,7 +210,7 @@ pub fn exception_values<'a>(row: &ExceptionRow, first: &'a [u8]) -> [ValueRef<'a
         Exception::Assertion(vrp) => (2, assertion_values(vrp, first)),
     };
     [
-        "main".to_sql(),
+        row.file.as_str().to_sql(),
         kind.to_sql(),
         row.position.to_sql(),
         family,

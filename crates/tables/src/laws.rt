@@ -7,7 +7,7 @@ pub fn desk_tables_are_named()
     ensures { DeskTablesAreNamed }
 {}
 
-/// A table that holds exceptions has a row for each of them, and no other.
+/// The rows of a SLURM file are as many as its exceptions.
 pub fn exceptions_are_counted()
     ensures { ExceptionsAreCounted }
 {}

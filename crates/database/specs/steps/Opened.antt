@@ -1,5 +1,5 @@
 -- What the queries of all rows of the tables show.
-use Rattle.std.specs.Prelude.{◌≡◌, ℕ, ◌≤◌, List, [], ◌∷◌, length, map, flat_map, Bool, Contains, IsPermutation, IsTrue, ⊤, if◌then◌else◌}
+use Rattle.std.specs.Prelude.{◌≡◌, ℕ, List, [], ◌∷◌, map, flat_map, Bool, Contains, IsPermutation, IsTrue, ⊤, if◌then◌else◌}
 use Rattle.std.specs.List.{AllByRecursion}
 use Rattle.sqlite.specs.Effect.{Database}
 use Rattle.sqlite_value.specs.Order.{Row}
@@ -9,7 +9,6 @@ use Rattle.charters.specs.CharterSets.{CharterSets}
 use Rattle.registry.specs.RoaPrefixes.{AreEntries}
 use Rattle.registry.specs.Values.{GrantFits}
 use Rattle.registry.specs.declared.authorization.Auth.{Auth}
-use Rattle.slurm.specs.declared.exceptions.TheConstants.{MOST_ENTRIES}
 use Rattle.tables.specs.declared.claim.Claim.{Claim}
 use Rattle.tables.specs.declared.entry.EntryRow.{EntryRow}
 use Rattle.tables.specs.declared.groups.OfHolder.{OfHolder}
@@ -18,7 +17,7 @@ use Rattle.tables.specs.Cells.{schema_row, operator_row, prefix_cells, span_cell
 use Rattle.tables.specs.Decode.{ClaimFits, EntryRowFits, NamedFits}
 use Rattle.tables.specs.Tables.{meta, operator, pool, holder, holding, granted, auth, slurm, claim, entry, contents, IsTree}
 use Rattle.moving.specs.OldTables.{old_schema_row}
-use Rattle.database.specs.TablesRead.{ShowsSome, ShowsHolder, ShowsException}
+use Rattle.database.specs.TablesRead.{ShowsSome, ShowsHolder, ShowsException, AreFewOfEach}
 use Rattle.database.specs.steps.Numbered.{shown_in, AreRead}
 
 -- a table that has rowids shows these rows in some columns
@@ -85,7 +84,7 @@ pub record ShowAuths (db : Database) : Type 0 where
   pub entries_read : AreRead (named_cells entry_cells) (NamedFits EntryRowFits) (shown_in entry.tree entry_places db) entries
   pub made : MakeAuths claims entries
 
--- each row of the table of exceptions shows one, and they are no more than those of one SLURM file
+-- each row of the table of exceptions shows one, and no SLURM file has more than a file may have
 pub record ShowExceptions (db : Database) : Type 0 where
   pub rows : ShowsEach slurm.tree (0 ∷ 1 ∷ 2 ∷ 3 ∷ 4 ∷ 5 ∷ 6 ∷ 7 ∷ []) ShowsException db
-  pub number : length (contents (db.trees slurm.tree)) ≤ MOST_ENTRIES
+  pub number : AreFewOfEach (contents (db.trees slurm.tree))

@@ -1,13 +1,11 @@
-use Rattle.std.proofs.Common.{length, ◌≤◌, arith}
 use Rattle.std.proofs.lemmas.Bool.{both_ways}
-use Rattle.slurm.specs.declared.exceptions.TheConstants.{MOST_ENTRIES}
 use Rattle.tables.specs.Cells.{exception_row}
 use Rattle.tables.specs.Decode.{ExceptionRowFits}
-use Rattle.tables.specs.Tables.{slurm}
+use Rattle.tables.specs.Tables.{slurm, contents}
 use Rattle.making.specs.Statements.{state_in}
-use Rattle.database.proofs.Columns.{exception_places}
+use Rattle.database.proofs.FewOfEach.{few_of_each, few_where_read}
 use Rattle.database.proofs.QueryLemmas.{refused_by}
-use Rattle.database.proofs.Unread.{as_many, each_read, exceptions_in}
+use Rattle.database.proofs.Unread.{each_read, exceptions_in}
 use Rattle.database.proofs.reading.read_exceptions.Goals as goal
 
 pub returns-in_err-exceptions-clause-schema : goal.returns-in_err-exceptions-clause-schema
@@ -17,17 +15,15 @@ returns-in_err-exceptions-clause-schema g c clean is read =
 
 pub returns-then-not-are_few-clause-schema : goal.returns-then-not-are_few-clause-schema
 returns-then-not-are_few-clause-schema g c clean is read =
-    let db = (state_in g.S.Store c.args.tx.now).now in
-    let many = as_many exception_row ExceptionRowFits slurm.tree exception_places db c.in_ok-exceptions.exceptions.items (c.in_ok-exceptions.ensures.read clean) in
-    let few : length c.in_ok-exceptions.exceptions.items ≤ MOST_ENTRIES = omega (arith, many, read.exceptions_number) in
-    both_ways _ c.if-not-are_few.true (c.are_few.ensures.1 (rw c.deref.ensures.value few))
+    let table = contents ((state_in g.S.Store c.args.tx.now).now.trees slurm.tree) in
+    let same = (c.in_ok-exceptions.ensures.read clean).same in
+    both_ways _ c.if-not-are_few.true (c.are_few.ensures.1 (few_of_each table c.in_ok-exceptions.exceptions.items same read.exceptions_number))
 
 pub returns-clause-found : goal.returns-clause-found
 returns-clause-found g c clean =
-    let db = (state_in g.S.Store c.args.tx.now).now in
-    let many = as_many exception_row ExceptionRowFits slurm.tree exception_places db c.in_ok-exceptions.exceptions.items (c.in_ok-exceptions.ensures.read clean) in
-    let few = rw c.deref.ensures.value at (c.are_few.ensures.0 c.if-not-are_few.false) in
+    let table = contents ((state_in g.S.Store c.args.tx.now).now.trees slurm.tree) in
+    let same = (c.in_ok-exceptions.ensures.read clean).same in
     record {
       rows = record { whole = c.in_ok-exceptions.ensures.tree clean; each = each_read exception_row ExceptionRowFits _ _ (c.in_ok-exceptions.ensures.read clean) };
-      number = omega (arith, many, few);
+      number = few_where_read table c.in_ok-exceptions.exceptions.items same (c.are_few.ensures.0 c.if-not-are_few.false);
     }
