@@ -21,7 +21,7 @@ use Rattle.tables.specs.Authorizations.{EachHasEntries, claim_of, entry_rows_of}
 use Rattle.tables.specs.Cells.{number_cell, schema_row, operator_row, prefix_cells, claim_row, entry_row}
 use Rattle.tables.specs.Groups.{claim_entry}
 use Rattle.tables.specs.Tables.{claim, entry, contents, desk_tables, is_table, AreTrees}
-use Rattle.tables.specs.TablesHold.{Part, part_rows, holder_part, holding_part, granted_part, claim_part, entry_part, HoldsPart, HoldsExceptions, TablesHold}
+use Rattle.tables.specs.TablesHold.{Part, part_rows, holder_part, holding_part, granted_part, claim_part, entry_part, HoldsPart, HoldsFiles, TablesHold}
 use Rattle.tables.specs.declared.claim.Claim.{Claim}
 use Rattle.tables.specs.declared.claim.TheConstants.{INSERT_CLAIM, DELETE_CLAIM}
 use Rattle.tables.specs.declared.entry.EntryRow.{EntryRow}
@@ -129,7 +129,7 @@ module _ (h : List ℕ) (to : List Auth → List Auth) where
           entries = part_edited rows.of_holder some entry_part of_entries _ _ own_entries entries e.entries was.entries;
           have_entries = edited_have_entries h with_turned rows.of_holder (λ r. keeps r.auths) was.have_entries;
           unused = still (λ table. table ≡ []) 12 refl (λ same. cc) (λ same. cc) was.unused;
-          exceptions = still (HoldsExceptions rows.exceptions) 15 refl (λ same. cc) (λ same. cc) was.exceptions;
+          files = still (HoldsFiles rows.files) 15 refl (λ same. cc) (λ same. cc) was.files;
           whole = e.whole was.whole;
         };
         exceptions = e.others 15 refl (λ same. cc) (λ same. cc);

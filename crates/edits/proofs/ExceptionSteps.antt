@@ -1,38 +1,37 @@
 -- What the statements on the table of exceptions do, and what they do together.
-use Rattle.std.proofs.Common.{◌≡◌, ◌≢◌, ℕ, ◌+◌, ◌/◌, ◌^◌, ◌<◌, ◌≤◌, true, not, List, [], ◌∷◌, ◌++◌, map, filter, take, get_or, length, refl, sym, ap, subst, ◌∙◌, arith, append-nil, IsPermutation}
-use Rattle.std.specs.List.{AllByRecursion, enumerate_from}
+use Rattle.std.proofs.Common.{◌≡◌, ◌≢◌, ℕ, ◌+◌, ◌/◌, ◌<◌, true, not, List, [], ◌∷◌, ◌++◌, map, filter, flat_map, take, get_or, length, All, Result, Ok, Err, OnOk, refl, sym, ap, subst, ◌∙◌, arith, append-nil, append_assoc, IsPermutation}
+use Rattle.std.specs.List.{enumerate_from}
+use Rattle.std.proofs.lemmas.Grind.{flat_map-append}
 use Rattle.std.proofs.lemmas.List.{length-take, map-append}
-use Rattle.std.proofs.lemmas.List.Sorted.{IsPermutation-append_comm, IsPermutation-append_right, IsPermutation-map, IsPermutation-trans}
+use Rattle.std.proofs.lemmas.List.Elements.{recursion_from_All}
+use Rattle.std.proofs.lemmas.List.Sorted.{IsPermutation-append_comm, IsPermutation-append_left, IsPermutation-append_right, IsPermutation-trans}
 use Rattle.sqlite.specs.Effect.{Database, value_rows}
 use Rattle.sqlite.specs.State.{State}
 use Rattle.sqlite_value.specs.declared.value.Value.TheVariants.{Null}
 use Rattle.sqlite_value.specs.Order.{Row}
-use Rattle.sqlite_trees.specs.Tree.{IsAscending}
-use Rattle.sqlite_trees.proofs.ListLemmas.{map-map}
 use Rattle.registry.specs.declared.change.Change.TheVariants.{Exceptions as Replace}
 use Rattle.registry.specs.RowsOfAll.{changed_rows}
-use Rattle.slurm.specs.Exceptions.{Exceptions}
-use Rattle.slurm.specs.declared.exceptions.TheConstants.{MOST_ENTRIES}
+use Rattle.slurm.specs.SlurmSets.{RiseByName}
 use Rattle.slurm.specs.declared.filter.Filter.TheVariants.{Under, By, Both}
+use Rattle.slurm.specs.declared.set.NamedSlurm.{NamedSlurm}
 use Rattle.tables.specs.declared.exception.Exception.{Exception}
 use Rattle.tables.specs.declared.exception.Exception.TheVariants.{Filter as FilterOf, Assertion}
 use Rattle.tables.specs.declared.exception.ExceptionRow.{ExceptionRow}
 use Rattle.tables.specs.Cells.{schema_row, operator_row, prefix_cells, exception_row}
-use Rattle.tables.specs.Decode.{IsPosition, exception_columns}
 use Rattle.tables.specs.Tables.{slurm, contents, is_table}
-use Rattle.tables.specs.TablesHold.{holder_part, holding_part, granted_part, claim_part, entry_part, HoldsPart, ArePlaced, HoldsExceptions, HoldsFile, TablesHold, at_positions}
+use Rattle.tables.specs.TablesHold.{holder_part, holding_part, granted_part, claim_part, entry_part, HoldsPart, HoldsFromOne, TablesHold, at_positions, file_rows}
 use Rattle.tables.specs.steps.Edits.{Edits}
 use Rattle.tables.specs.declared.exception.TheConstants.{DELETE_EXCEPTIONS, INSERT_EXCEPTION}
 use Rattle.making.specs.Statements.{IsReady, IsExecuted}
 use Rattle.making.specs.steps.Making.{PutsRows}
-use Rattle.edits.specs.steps.Statements.{TakesRows, entry_rows}
+use Rattle.edits.specs.steps.Statements.{TakesRows, entry_rows, IsBounded}
 use Rattle.edits.specs.Changes.{MakesChange, RowsBecome}
 use Rattle.tables.proofs.CellLemmas.{cast_exception}
 use Rattle.tables.proofs.Deleting as deleting
+use Rattle.tables.proofs.HeldFiles.{files_held}
 use Rattle.tables.proofs.Texts.{put_terms, put_exception_is, take_exceptions_is}
 use Rattle.making.proofs.CharterSteps.{puts_then}
 use Rattle.making.proofs.StatementLemmas.{has_schema, wrote, ready_still, puts_row, sound_still, taken_more}
-use Rattle.database.proofs.Columns.{exception_shown}
 
 -- ---- one statement
 
@@ -67,71 +66,47 @@ module _ (old new : State) where
   pub puts_exception : (r : ExceptionRow) → IsReady old → IsExecuted INSERT_EXCEPTION.now (exception_row r) old new → PutsRows slurm.tree (exception_row r ∷ []) old new
   puts_exception r = puts_row 7 slurm refl old new (exception_row r) (put_terms 8) 9 (exception_row r) put_exception_is (eight r) (cast_exception r)
 
--- ---- entries of one kind, one after another
+-- ---- entries of one kind of a file, one after another
 
-module _ {X : Type 0} (of_kind : X → Exception) where
+module _ {X : Type 0} (name : List ℕ) (of_kind : X → Exception) where
   -- they are at the positions from this one up
   abbrev placed_from : ℕ → List X → List ExceptionRow
-  placed_from at xs = map (λ (e : ℕ × Exception). let row : ExceptionRow = record { position = e.0; exception = e.1 } in row) (enumerate_from at (map of_kind xs))
+  placed_from at xs = map (λ (e : ℕ × Exception). let row : ExceptionRow = record { file = name; position = e.0; exception = e.1 } in row) (enumerate_from at (map of_kind xs))
 
-  one_more : (at : ℕ) (xs : List X) (x : X) (n : ℕ) → n ≡ at + length xs → placed_from at (xs ++ x ∷ []) ≡ placed_from at xs ++ record { position = n; exception = of_kind x } ∷ []
-  one_more at [] x n is = let here : at ≡ n = omega (arith, is) in λ i. record { position = here i; exception = of_kind x } ∷ []
-  one_more at (y ∷ xs) x n is = ap (λ l. record { position = at; exception = of_kind y } ∷ l) (one_more (at + 1) xs x n (omega (arith, is)))
+  one_more : (at : ℕ) (xs : List X) (x : X) (n : ℕ) → n ≡ at + length xs → placed_from at (xs ++ x ∷ []) ≡ placed_from at xs ++ record { file = name; position = n; exception = of_kind x } ∷ []
+  one_more at [] x n is = let here : at ≡ n = omega (arith, is) in λ i. record { file = name; position = here i; exception = of_kind x } ∷ []
+  one_more at (y ∷ xs) x n is = ap (λ l. record { file = name; position = at; exception = of_kind y } ∷ l) (one_more (at + 1) xs x n (omega (arith, is)))
 
   pub puts_entry : (xs : List X) (i : ℕ) (x : X) (n : ℕ) (a b c : State) → i < length xs → x ≡ get_or xs i x → n ≡ i + 1
-      → PutsRows slurm.tree (entry_rows of_kind (take i xs)) a b → PutsRows slurm.tree (exception_row (record { position = n; exception = of_kind x }) ∷ []) b c
-      → PutsRows slurm.tree (entry_rows of_kind (take (i + 1) xs)) a c
+      → PutsRows slurm.tree (entry_rows name of_kind (take i xs)) a b → PutsRows slurm.tree (exception_row (record { file = name; position = n; exception = of_kind x }) ∷ []) b c
+      → PutsRows slurm.tree (entry_rows name of_kind (take (i + 1) xs)) a c
   puts_entry xs i x n a b c low is at before put =
-      let row : ExceptionRow = record { position = n; exception = of_kind x } in
-      let more = ap (entry_rows of_kind) (taken_more xs i x low is) ∙ ap (map exception_row) (one_more 1 (take i xs) x n (omega (arith, at, length-take i xs)))
+      let row : ExceptionRow = record { file = name; position = n; exception = of_kind x } in
+      let more = ap (entry_rows name of_kind) (taken_more xs i x low is) ∙ ap (map exception_row) (one_more 1 (take i xs) x n (omega (arith, at, length-take i xs)))
       ∙ map-append exception_row (placed_from 1 (take i xs)) (row ∷ []) in
-      subst (λ rows. PutsRows slurm.tree rows a c) (sym more) (puts_then slurm.tree (entry_rows of_kind (take i xs)) (exception_row row) a b c before put)
+      subst (λ rows. PutsRows slurm.tree rows a c) (sym more) (puts_then slurm.tree (entry_rows name of_kind (take i xs)) (exception_row row) a b c before put)
 
-  brought : (at : ℕ) (xs : List X) → map (λ (r : ExceptionRow). r.exception) (placed_from at xs) ≡ map of_kind xs
-  brought at [] = refl
-  brought at (x ∷ xs) = ap (λ l. of_kind x ∷ l) (brought (at + 1) xs)
+-- ---- the files, one after another
 
-  in_range : (at : ℕ) (xs : List X) → 0 < at → at + length xs ≤ 2 ^ 32 → AllByRecursion (λ (r : ExceptionRow). IsPosition r.position) (placed_from at xs)
-  in_range at [] some low = tt
-  in_range at (x ∷ xs) some low = ((omega (arith, some), omega (arith, low)), in_range (at + 1) xs (omega arith) (omega (arith, low)))
-
-  above : (n at : ℕ) (xs : List X) → n < at → AllByRecursion (λ (r : ExceptionRow). n < r.position) (placed_from at xs)
-  above n at [] low = tt
-  above n at (x ∷ xs) low = (low, above n (at + 1) xs (omega (arith, low)))
-
-  rise : (at : ℕ) (xs : List X) → IsAscending (λ (a b : ExceptionRow). a.position < b.position) (placed_from at xs)
-  rise at [] = tt
-  rise at (x ∷ xs) = (above at (at + 1) xs (omega arith), rise (at + 1) xs)
-
-  placed : (xs : List X) → length xs ≤ MOST_ENTRIES → ArePlaced (map of_kind xs) (placed_from 1 xs)
-  placed xs few = record { brought = brought 1 xs; positions = in_range 1 xs (omega arith) (omega (arith, few)); rise = rise 1 xs }
-
--- ---- a file
-
-seen_whole : (rows : List ExceptionRow) → map exception_columns (map exception_row rows) ≡ map exception_row rows
-seen_whole rows = map-map exception_columns exception_row rows ∙ (λ i. map (λ r. exception_shown r i) rows)
-
-file_held : (file : Exceptions) (table : List Row) → IsPermutation (entry_rows Assertion file.assertions ++ entry_rows FilterOf file.filters) table → HoldsFile file table
-file_held file table same =
-    let both = map-append exception_row (at_positions (map FilterOf file.filters)) (at_positions (map Assertion file.assertions)) in
-    let turned = IsPermutation-trans _ _ _ (IsPermutation-append_comm (entry_rows FilterOf file.filters) (entry_rows Assertion file.assertions)) same in
-    subst (λ rows. IsPermutation rows table) (sym both) turned
-
--- a table that holds a file holds its exceptions
-exceptions_held : (file : Exceptions) (table : List Row) → length file.filters ≤ MOST_ENTRIES → length file.assertions ≤ MOST_ENTRIES → HoldsFile file table → HoldsExceptions file table
-exceptions_held file table filters assertions holds =
-    let first = at_positions (map FilterOf file.filters) in
-    let last = at_positions (map Assertion file.assertions) in
-    record {
-      filters = first;
-      assertions = last;
-      filters_placed = placed FilterOf file.filters filters;
-      assertions_placed = placed Assertion file.assertions assertions;
-      rows = subst (λ rows. IsPermutation rows (map exception_columns table)) (seen_whole (first ++ last)) (IsPermutation-map exception_columns _ _ holds);
-    }
-
--- rows that are put after those of a table were taken away are its rows
 module _ (tree : ℕ) where
+  -- rows that are put after others
+  puts_more : (rows more : List Row) (a b c : State) → PutsRows tree rows a b → PutsRows tree more b c → PutsRows tree (rows ++ more) a c
+  puts_more rows more a b c first second =
+      let before = contents (a.now.trees tree) in
+      let turned : IsPermutation (rows ++ more ++ before) (more ++ (rows ++ before)) =
+      subst (IsPermutation (rows ++ more ++ before)) (append_assoc more rows before) (IsPermutation-append_left before _ _ (IsPermutation-append_comm rows more)) in
+      record {
+        ready = second.ready;
+        sound = λ sound. second.sound (first.sound sound);
+        edits = record {
+          schema = second.edits.schema ∙ first.edits.schema;
+          others = λ t is other. second.edits.others t is other ∙ first.edits.others t is other;
+          rows = IsPermutation-trans _ _ _ turned (IsPermutation-trans _ _ _ (IsPermutation-append_right more _ _ first.edits.rows) second.edits.rows);
+          whole = λ whole. second.edits.whole (first.edits.whole whole);
+        };
+      }
+
+  -- rows that are put after those of a table were taken away are its rows
   puts_after : (by : List Row → List Row) (rows : List Row) (a b c : Database) → Edits tree by a b → Edits tree (λ table. rows ++ table) b c → Edits tree (λ table. rows ++ by table) a c
   puts_after by rows a b c first second = record {
     schema = second.schema ∙ first.schema;
@@ -140,21 +115,36 @@ module _ (tree : ℕ) where
     whole = λ whole. second.whole (first.whole whole);
   }
 
-pub replaces : (file : Exceptions) (a b c d : State) → length file.filters ≤ MOST_ENTRIES → length file.assertions ≤ MOST_ENTRIES → TakesRows slurm.tree a b → PutsRows slurm.tree (entry_rows FilterOf file.filters) b c
-    → PutsRows slurm.tree (entry_rows Assertion file.assertions) c d → MakesChange (RowsBecome (Replace file)) a d
-replaces file a b c d few_filters few_assertions taken filters assertions = record {
+pub puts_file : (f : NamedSlurm) (a b c : State) → PutsRows slurm.tree (entry_rows f.name FilterOf f.file.filters) a b → PutsRows slurm.tree (entry_rows f.name Assertion f.file.assertions) b c
+    → PutsRows slurm.tree (map exception_row (file_rows f)) a c
+puts_file f a b c filters assertions =
+    let both = map-append exception_row (at_positions f.name (map FilterOf f.file.filters)) (at_positions f.name (map Assertion f.file.assertions)) in
+    subst (λ rows. PutsRows slurm.tree rows a c) (sym both) (puts_more slurm.tree _ _ a b c filters assertions)
+
+pub puts_next : (files : List NamedSlurm) (i : ℕ) (f : NamedSlurm) (a b c : State) → i < length files → f ≡ get_or files i f
+    → PutsRows slurm.tree (map exception_row (flat_map file_rows (take i files))) a b → PutsRows slurm.tree (map exception_row (file_rows f)) b c
+    → PutsRows slurm.tree (map exception_row (flat_map file_rows (take (i + 1) files))) a c
+puts_next files i f a b c low is before put =
+    let so_far = flat_map file_rows (take i files) in
+    let more = ap (flat_map file_rows) (taken_more files i f low is) ∙ flat_map-append file_rows (take i files) (f ∷ []) ∙ ap (λ rows. so_far ++ rows) (append-nil (file_rows f)) in
+    let rows = ap (map exception_row) more ∙ map-append exception_row so_far (file_rows f) in
+    subst (λ rows. PutsRows slurm.tree rows a c) (sym rows) (puts_more slurm.tree _ _ a b c before put)
+
+-- the table has the rows of these files and no others, and is the only one that changed
+pub replaces : (files : List NamedSlurm) (a b c : State) → RiseByName files → All IsBounded files → TakesRows slurm.tree a b → PutsRows slurm.tree (map exception_row (flat_map file_rows files)) b c
+    → MakesChange (RowsBecome (Replace files)) a c
+replaces files a b c rising bounded taken put = record {
   was_open = taken.was_open;
-  ready = assertions.ready;
-  schema = assertions.edits.schema ∙ filters.edits.schema ∙ taken.schema;
-  sound = λ sound. assertions.sound (filters.sound (taken.sound sound));
+  ready = put.ready;
+  schema = put.edits.schema ∙ taken.schema;
+  sound = λ sound. put.sound (taken.sound sound);
   made = λ charter rows was.
-      let first = entry_rows FilterOf file.filters in
-      let last = entry_rows Assertion file.assertions in
-      let e = puts_after slurm.tree _ last a.now c.now d.now (puts_after slurm.tree _ first a.now b.now c.now (taken.edits (was.whole slurm.tree refl)) filters.edits) assertions.edits in
-      let still : (so : List Row → Type 0) (t : ℕ) → is_table t ≡ true → t ≢ slurm.tree → so (contents (a.now.trees t)) → so (contents (d.now.trees t)) =
+      let all = map exception_row (flat_map file_rows files) in
+      let e = puts_after slurm.tree _ all a.now b.now c.now (taken.edits (was.whole slurm.tree refl)) put.edits in
+      let still : (so : List Row → Type 0) (t : ℕ) → is_table t ≡ true → t ≢ slurm.tree → so (contents (a.now.trees t)) → so (contents (c.now.trees t)) =
       λ so t is other. subst (λ tree. so (contents tree)) (sym (e.others t is other)) in
-      let placed = file_held file _ (subst (λ l. IsPermutation (last ++ l) (contents (d.now.trees slurm.tree))) (append-nil first) e.rows) in
-      let held : TablesHold charter (changed_rows (Replace file) rows) d.now.trees = record {
+      let placed : HoldsFromOne files (contents (c.now.trees slurm.tree)) = subst (λ l. IsPermutation l (contents (c.now.trees slurm.tree))) (append-nil all) e.rows in
+      let held : TablesHold charter (changed_rows (Replace files) rows) c.now.trees = record {
         charter_kept = record {
           schema = still (IsPermutation (schema_row ∷ [])) 0 refl (λ same. cc) was.charter_kept.schema;
           operators = still (IsPermutation (map operator_row charter.operators)) 2 refl (λ same. cc) was.charter_kept.operators;
@@ -167,8 +157,14 @@ replaces file a b c d few_filters few_assertions taken filters assertions = reco
         entries = still (HoldsPart entry_part rows.of_holder) 19 refl (λ same. cc) was.entries;
         have_entries = was.have_entries;
         unused = still (λ rows. rows ≡ []) 12 refl (λ same. cc) was.unused;
-        exceptions = exceptions_held file _ few_filters few_assertions placed;
-        whole = sound_still slurm.tree _ a.now d.now e was.whole;
+        files = files_held files _ rising (recursion_from_All IsBounded files bounded) placed;
+        whole = sound_still slurm.tree _ a.now c.now e was.whole;
       } in
       (held, placed);
 }
+
+-- the same where they were put
+pub replaced : {X E : Type 0} (r : Result X E) (files : List NamedSlurm) (a b c : State) → RiseByName files → TakesRows slurm.tree a b
+    → OnOk r (PutsRows slurm.tree (map exception_row (flat_map file_rows files)) b c) → OnOk r (All IsBounded files) → OnOk r (MakesChange (RowsBecome (Replace files)) a c)
+replaced (Ok x) files a b c rising taken put bounded = replaces files a b c rising bounded taken put
+replaced (Err e) files a b c rising taken put bounded = tt

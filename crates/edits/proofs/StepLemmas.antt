@@ -21,7 +21,7 @@ use Rattle.tables.specs.Authorizations.{EachHasEntries, HaveEntries}
 use Rattle.tables.specs.Tables.{contents, is_table}
 use Rattle.tables.specs.Cells.{schema_row, operator_row, prefix_cells}
 use Rattle.tables.specs.steps.Edits.{Edits}
-use Rattle.tables.specs.TablesHold.{Part, part_rows, is_name_of, holder_part, holding_part, granted_part, claim_part, entry_part, HoldsPart, HoldsCharter, HoldsExceptions, TablesHold}
+use Rattle.tables.specs.TablesHold.{Part, part_rows, is_name_of, holder_part, holding_part, granted_part, claim_part, entry_part, HoldsPart, HoldsCharter, HoldsFiles, TablesHold}
 use Rattle.edits.specs.steps.Statements.{EditsRows, KeepsExceptions, at_holder}
 use Rattle.tables.proofs.HaveEntries.{edited_have_entries}
 use Rattle.tables.proofs.PartLemmas.{names, IsLocal, EditsPart, turned_at, part_same, part_turned}
@@ -112,7 +112,7 @@ module _ (so : Option Rows → Type 0) (h : List ℕ) (to : Option Rows → Opti
         entries = turned_part entry_part rows.of_holder is_so parts.4 was.entries;
         have_entries = entries_stay rows.of_holder was.have_entries;
         unused = subst (λ rows. rows ≡ []) (still part.tree by old new e is 12 refl refl) was.unused;
-        exceptions = subst (HoldsExceptions rows.exceptions) (still part.tree by old new e is 15 refl refl) was.exceptions;
+        files = subst (HoldsFiles rows.files) (still part.tree by old new e is 15 refl refl) was.files;
         whole = sound_still part.tree by old new e was.whole;
       };
       exceptions = tree_still part.tree by old new e is 15 refl refl;

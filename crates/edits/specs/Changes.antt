@@ -8,18 +8,18 @@ use Rattle.registry.specs.declared.change.Change.{Change}
 use Rattle.registry.specs.declared.change.Change.TheVariants.{Holders, Exceptions}
 use Rattle.registry.specs.RowsOfAll.{AllRows, changed_rows}
 use Rattle.tables.specs.Tables.{slurm, contents}
-use Rattle.tables.specs.TablesHold.{TablesHold, HoldsFile}
+use Rattle.tables.specs.TablesHold.{TablesHold, HoldsFromOne}
 use Rattle.making.specs.Statements.{IsReady}
 
 -- all rows after a change, from those before it
 abbrev pub RowChange : Type 0
 RowChange = AllRows → AllRows
 
--- What a change does to the table of exceptions: one of the SLURM file puts those of the file, each kind at the
--- positions 1, 2, 3 and so on, and any other leaves the table as it was.
+-- What a change does to the table of exceptions: one of the SLURM files puts those of the files, each kind of a file
+-- at the positions 1, 2, 3 and so on, and any other leaves the table as it was.
 abbrev pub PlacesExceptions : Change → Trees → Trees → Type 0
 PlacesExceptions (Holders first second) old new = new slurm.tree ≡ old slurm.tree
-PlacesExceptions (Exceptions file) old new = HoldsFile file (contents (new slurm.tree))
+PlacesExceptions (Exceptions files) old new = HoldsFromOne files (contents (new slurm.tree))
 
 -- the tables hold the rows after the change, if they held those before it, and it places the exceptions
 abbrev pub RowsBecome : Change → Database → Database → Type 0

@@ -7,7 +7,7 @@ ghost use Rattle.edits.specs.steps.Statements.{IfEdited, HoldersBecome, each_hol
 ghost use Rattle.edits.specs.Changes.{MakesChange, RowsBecome};
 
 use crate::auth::{amend_auth, take_auth, take_auths};
-use crate::exceptions::replace_exceptions;
+use crate::exceptions::replace_files;
 use crate::granted::take_grant;
 use crate::holder::{is_registered, register, set_created, set_granted};
 use crate::holding::take_holdings;
@@ -138,7 +138,7 @@ pub fn make_change<S: Alter>(tx: &mut Transaction<'_, S>, change: &Change) -> Re
                 edit_holder(tx, second)?;
             }
         }
-        Change::Exceptions(file) => replace_exceptions(tx, file)?,
+        Change::Exceptions(files) => replace_files(tx, files)?,
     }
     Ok(())
 }

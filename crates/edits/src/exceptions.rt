@@ -1,18 +1,19 @@
-//! The exceptions of the SLURM file in force, as rows of the table `slurm`.
-ghost use Rattle.std.specs.Prelude.{◌≡◌, ◌≤◌, [], ◌∷◌, length};
+//! The exceptions of the SLURM files in force, as rows of the table `slurm`.
+ghost use Rattle.std.specs.Prelude.{◌≡◌, ◌≤◌, [], ◌∷◌, length, map, flat_map, All, OnOk};
 ghost use Rattle.slurm.specs.declared.exceptions.TheConstants.{MOST_ENTRIES};
 ghost use Rattle.tables.specs.Cells.{exception_row};
 ghost use Rattle.tables.specs.Tables.{slurm};
+ghost use Rattle.tables.specs.TablesHold.{file_rows};
 ghost use Rattle.tables.specs.declared.exception.Exception.{Exception as AnyException};
 ghost use Rattle.making.specs.Statements.{IsReady, WhenClean, IfDone, StaysInside};
 ghost use Rattle.making.specs.steps.Making.{PutsRows};
 ghost use Rattle.edits.specs.Changes.{MakesChange, RowsBecome};
-ghost use Rattle.edits.specs.steps.Statements.{TakesRows, entry_rows};
+ghost use Rattle.edits.specs.steps.Statements.{TakesRows, entry_rows, IsBounded};
 
-use addr::Vrp;
+use addr::{Name, Vrp};
 use database::execute;
 use registry::Change;
-use slurm::{Filter, Slurm};
+use slurm::{Filter, NamedSlurm, SlurmSet};
 use sqlite::{Alter, Error, Transaction};
 use tables::{
     DELETE_EXCEPTIONS, Exception, ExceptionRow, INSERT_EXCEPTION, address_bytes, exception_first,
@@ -67,21 +68,23 @@ fn put_exception<S: Alter>(tx: &mut Transaction<'_, S>, row: &ExceptionRow) -> R
     execute(tx, INSERT_EXCEPTION, &exception_values(row, &first))
 }
 
-/// Puts the entries of one kind, at the positions from 1 up.
+/// Puts the entries of one kind of a file, at the positions from 1 up.
 fn put_entries<T: ExceptionEntry, S: Alter>(
     tx: &mut Transaction<'_, S>,
+    file: &Name,
     entries: &[T],
 ) -> Result<(), Error>
     requires ready { WhenClean S.Store IsReady tx.old }
     requires number { length entries.now ≤ MOST_ENTRIES }
     ensures done { IfDone S.Store result
-        (PutsRows slurm.tree (entry_rows T.as_exception entries.now)) tx.old tx.new }
+        (PutsRows slurm.tree (entry_rows file.now T.as_exception entries.now)) tx.old tx.new }
     ensures inside { StaysInside S.Store tx.old tx.new }
 {
     let mut position = 0;
     for entry in entries {
         position += 1;
         let row = ExceptionRow {
+            file: *file,
             position,
             exception: entry.as_exception(),
         };
@@ -90,17 +93,42 @@ fn put_entries<T: ExceptionEntry, S: Alter>(
     Ok(())
 }
 
-/// Puts the exceptions of the file in the place of all that there were.
-pub(crate) fn replace_exceptions<S: Alter>(
+/// Puts the exceptions of a file.
+fn put_file<S: Alter>(tx: &mut Transaction<'_, S>, named: &NamedSlurm) -> Result<(), Error>
+    requires { WhenClean S.Store IsReady tx.old }
+    ensures done { IfDone S.Store result
+        (PutsRows slurm.tree (map exception_row (file_rows named.now))) tx.old tx.new }
+    ensures inside { StaysInside S.Store tx.old tx.new }
+    ensures bounded { IsBounded named.now }
+{
+    put_entries(tx, &named.name, named.file.filters())?;
+    put_entries(tx, &named.name, named.file.assertions())
+}
+
+/// Puts the exceptions of the files, one file after another.
+fn put_files<S: Alter>(tx: &mut Transaction<'_, S>, files: &[NamedSlurm]) -> Result<(), Error>
+    requires { WhenClean S.Store IsReady tx.old }
+    ensures done { IfDone S.Store result
+        (PutsRows slurm.tree (map exception_row (flat_map file_rows files.now))) tx.old tx.new }
+    ensures inside { StaysInside S.Store tx.old tx.new }
+    ensures bounded { OnOk result (All IsBounded files.now) }
+{
+    for named in files {
+        put_file(tx, named)?;
+    }
+    Ok(())
+}
+
+/// Puts the exceptions of the files in the place of all that there were.
+pub(crate) fn replace_files<S: Alter>(
     tx: &mut Transaction<'_, S>,
-    file: &Slurm,
+    files: &SlurmSet,
 ) -> Result<(), Error>
     requires { WhenClean S.Store IsReady tx.old }
     ensures done { IfDone S.Store result
-        (MakesChange (RowsBecome (Change.Exceptions file.now))) tx.old tx.new }
+        (MakesChange (RowsBecome (Change.Exceptions files.now))) tx.old tx.new }
     ensures inside { StaysInside S.Store tx.old tx.new }
 {
     take_exceptions(tx)?;
-    put_entries(tx, file.filters())?;
-    put_entries(tx, file.assertions())
+    put_files(tx, files.files())
 }

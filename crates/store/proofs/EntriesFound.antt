@@ -1,5 +1,5 @@
--- What the queries of the entries of a SLURM file answer.
-use Rattle.std.proofs.Common.{◌≡◌, ℕ, zero, suc, add-one, pos, ◌<◌, Bool, true, false, List, [], ◌∷◌, ◌++◌, map, filter, codes, append-nil, Ordering, Less, int_cmp, is_lt, refl, sym, ap, ap₂, subst, ◌∙◌, arith, drop, IsPermutation, IsSorted}
+-- What the queries of the entries of one SLURM file answer.
+use Rattle.std.proofs.Common.{◌≡◌, ℕ, zero, suc, add-one, pos, ◌<◌, ◌&&◌, Bool, true, false, List, [], ◌∷◌, ◌++◌, map, filter, codes, append-nil, Ordering, Less, int_cmp, is_lt, refl, sym, ap, ap₂, subst, ◌∙◌, arith, drop, IsPermutation, IsSorted}
 use Rattle.std.specs.List.{AllByRecursion}
 use Rattle.std.specs.Cmp.{IsTotalOrder}
 use Rattle.std.specs.Ordering.{ordering_reverse}
@@ -9,7 +9,7 @@ use Rattle.std.proofs.lemmas.List.Elements.{filter-append}
 use Rattle.std.proofs.lemmas.List.Sorted.{IsPermutation-map, IsPermutation-sym, IsPermutation-trans}
 use Rattle.sqlite.specs.Effect.{Database, Reads}
 use Rattle.sqlite_keyed.proofs.SortLemmas.{sorted_unique}
-use Rattle.sqlite_value.specs.declared.value.Value.TheVariants.{Null}
+use Rattle.sqlite_value.specs.declared.value.Value.TheVariants.{Null, Text}
 use Rattle.sqlite_value.specs.Order.{Row, column, value_cmp}
 use Rattle.sqlite_value.proofs.OrderLemmas.{then-Equal, value_cmp-Int, value_cmp_total}
 use Rattle.sqlite_trees.specs.Tree.{IsAscending}
@@ -25,6 +25,7 @@ use Rattle.addr.specs.declared.vrp.Vrp.{Vrp}
 use Rattle.charters.specs.CharterSets.{CharterSets}
 use Rattle.registry.specs.RowsOfAll.{AllRows}
 use Rattle.slurm.specs.Exceptions.{Exceptions}
+use Rattle.slurm.specs.SlurmSets.{exceptions_of}
 use Rattle.slurm.specs.declared.filter.Filter.{Filter}
 use Rattle.slurm.specs.declared.filter.Filter.TheVariants.{Under, By, Both}
 use Rattle.tables.specs.declared.exception.Exception.{Exception}
@@ -33,18 +34,18 @@ use Rattle.tables.specs.declared.exception.ExceptionRow.{ExceptionRow}
 use Rattle.tables.specs.Cells.{number_cell, kind_number, filter_cells, vrp_cells, exception_cells, exception_row}
 use Rattle.tables.specs.Decode.{exception_columns, first_columns}
 use Rattle.tables.specs.Tables.{slurm, contents, columns}
-use Rattle.tables.specs.TablesHold.{ArePlaced, HoldsExceptions, TablesHold}
+use Rattle.tables.specs.TablesHold.{ArePlaced, HoldsExceptions, TablesHold, is_name_of, is_of_file}
 use Rattle.tables.specs.declared.exception.TheConstants.{SELECT_ASSERTIONS, SELECT_FILTERS}
-use Rattle.database.specs.steps.Numbered.{AnswersSelect}
-use Rattle.store.specs.steps.Queries.{by_column, SelectsEntries}
+use Rattle.store.specs.steps.Queries.{AreSelected, by_column, SelectsEntries}
 use Rattle.tables.proofs.CellLemmas.{is_number_cell, number_of_number}
 use Rattle.tables.proofs.CellsOnce.{one_prefix, same_values}
 use Rattle.tables.proofs.Selecting.{from_table, no_limit, picks, permuted, sorted}
+use Rattle.tables.proofs.TreeRows.{filter_twice}
 use Rattle.tables.proofs.Texts.{Means, upwards, kind_tests, filters_is, assertions_is}
 use Rattle.database.proofs.Columns.{column_after, shown_at, shown_columns}
 use Rattle.store.proofs.Finding.{of_contents}
 use Rattle.store.proofs.Giving.{one_vrp}
-use Rattle.edits.proofs.StepLemmas.{equals_int}
+use Rattle.edits.proofs.StepLemmas.{equals_int, equals_text}
 
 numbers_less : (m n : ℕ) → m < n → int_cmp (pos m) (pos n) ≡ Less
 numbers_less m n less = grind (arith, ints, less)
@@ -64,7 +65,7 @@ abbrev is_of_kind : ℕ → Exception → Bool
 is_of_kind kind e = is_number_cell kind (number_cell (kind_number e))
 
 -- the exceptions of one kind, of those of a file
-module _ (exceptions : Exceptions) (filters assertions : List ExceptionRow) (placed : ArePlaced (map FilterOf exceptions.filters) filters) (also : ArePlaced (map Assertion exceptions.assertions) assertions) where
+module _ (name : List ℕ) (exceptions : Exceptions) (filters assertions : List ExceptionRow) (placed : ArePlaced name (map FilterOf exceptions.filters) filters) (also : ArePlaced name (map Assertion exceptions.assertions) assertions) where
   all_of_kind : {X : Type 0} (of_kind : X → Exception) (kind : ℕ) (is : Bool) → ((x : X) → is_of_kind kind (of_kind x) ≡ is) → (xs : List X) → AllByRecursion (λ e. is_of_kind kind e ≡ is) (map of_kind xs)
   all_of_kind of_kind kind is each [] = tt
   all_of_kind of_kind kind is each (x ∷ xs) = (each x, all_of_kind of_kind kind is each xs)
@@ -105,10 +106,10 @@ pub record EntryQuery {X : Type 0} (cells : X → Row) (items : Exceptions → L
         lets = [];
         body = from_table slurm.tree (kind_tests kind) (shown_at places) (upwards 3 ∷ []) no_limit;
       }) titles)
-  -- the rows of this kind, among all
+  -- the rows of this kind, among those of a file
   pub rows :
-      (exceptions : Exceptions) (table : List Row) → HoldsExceptions exceptions table
-      → (rows : List ExceptionRow) × ArePlaced (map of_kind (items exceptions)) rows
+      (name : List ℕ) (exceptions : Exceptions) (table : List Row) → HoldsExceptions name exceptions table
+      → (rows : List ExceptionRow) × ArePlaced name (map of_kind (items exceptions)) rows
       × IsPermutation (map exception_row rows) (filter (λ c. is_number_cell kind (column c 1)) (map exception_columns table))
   pub whole : (c : Row) → columns places c ≡ columns places (exception_columns c)
   pub position : (r : ExceptionRow) → column (columns places (exception_row r)) 5 ≡ number_cell r.position
@@ -135,53 +136,65 @@ module _ {X : Type 0} (cells : X → Row) (items : Exceptions → List X) (q : E
   in_order placed rows rise same rises = sorted_unique (by_column 5) (on_total (λ c. column c 5) value_cmp_total) (map shown placed) rows (rising_rows placed rise) same rises
 
   -- rows of this kind, in whatever order, show the entries of the exceptions in theirs
-  shows_entries : (exceptions : Exceptions) (placed : List ExceptionRow) → ArePlaced (map q.of_kind (items exceptions)) placed → map (first_columns 5) (map shown placed) ≡ map cells (items exceptions)
-  shows_entries exceptions placed are =
+  shows_entries : (name : List ℕ) (exceptions : Exceptions) (placed : List ExceptionRow) → ArePlaced name (map q.of_kind (items exceptions)) placed → map (first_columns 5) (map shown placed) ≡ map cells (items exceptions)
+  shows_entries name exceptions placed are =
       let of : Exception → Row = λ e. columns q.of_exception (exception_cells e) in
       map-map (first_columns 5) shown placed ∙ (λ i. map (λ r. q.shows r i) placed)
       ∙ sym (map-map of brings placed) ∙ ap (map of) are.brought ∙ map-map of q.of_kind (items exceptions) ∙ (λ i. map (λ x. q.cells_are x i) (items exceptions))
 
-  of_test : (r : Row) → picks [] (kind_tests q.kind) r ≡ is_number_cell q.kind (column (drop 1 r) 1)
-  of_test r = last_term (equals_int (column r 2) (pos q.kind) ∙ ap (is_number_cell q.kind) (column_after r 1))
+  abbrev of_file_and_kind : List ℕ → Row → Bool
+  of_file_and_kind name c = is_of_file name c && is_number_cell q.kind (column c 1)
 
-  module _ (db : Database) (rows : List Row) (answered : AnswersSelect q.text db rows) where
-    answers : IsAnswer (from_table slurm.tree (kind_tests q.kind) (shown_at q.places) (upwards 3 ∷ []) no_limit) (overlay db.trees []) [] rows
-    answers = (subst (λ (k : Command). Reads k db [] rows) (q.means.is db.schema) answered).answer Null
+  of_test : (name : List ℕ) (r : Row) → picks (Text name ∷ []) (kind_tests q.kind) r ≡ of_file_and_kind name (drop 1 r)
+  of_test name r =
+      ap₂ ◌&&◌ (equals_text (column r 1) name ∙ ap (is_name_of name) (column_after r 0))
+      (last_term (equals_int (column r 2) (pos q.kind) ∙ ap (is_number_cell q.kind) (column_after r 1)))
+
+  module _ (name : List ℕ) (db : Database) (rows : List Row) (selected : AreSelected q.text name db rows) where
+    abbrev params : Row
+    params = Text name ∷ []
+
+    -- the rows of the file
+    abbrev table : List Row
+    table = filter (is_of_file name) (contents (db.trees slurm.tree))
+
+    answers : IsAnswer (from_table slurm.tree (kind_tests q.kind) (shown_at q.places) (upwards 3 ∷ []) no_limit) (overlay db.trees []) params rows
+    answers = (subst (λ (k : Command). Reads k db params rows) (q.means.is db.schema) selected).answer Null
 
     rises : IsSorted (by_column 5) rows
-    rises = sorted slurm.tree (kind_tests q.kind) (shown_at q.places) (upwards 3 ∷ []) db.trees [] rows (5 ∷ []) (by_column 5) (q.keyed []) (λ x y. then-Equal _) answers
+    rises = sorted slurm.tree (kind_tests q.kind) (shown_at q.places) (upwards 3 ∷ []) db.trees params rows (5 ∷ []) (by_column 5) (q.keyed params) (λ x y. then-Equal _) answers
 
-    finds : IsPermutation (map (columns q.places) (filter (λ c. is_number_cell q.kind (column c 1)) (contents (db.trees slurm.tree)))) rows
+    finds : IsPermutation (map (columns q.places) (filter (λ c. is_number_cell q.kind (column c 1)) table)) rows
     finds =
-        let same = of_contents (λ r. eval_all (shown_at q.places) ([] ∷ r ∷ [])) (columns q.places) (picks [] (kind_tests q.kind)) (λ c. is_number_cell q.kind (column c 1)) (shown_columns q.places []) of_test (db.trees slurm.tree) in
-        subst (λ l. IsPermutation l rows) same (permuted slurm.tree (kind_tests q.kind) (shown_at q.places) (upwards 3 ∷ []) db.trees [] rows answers)
+        let same = of_contents (λ r. eval_all (shown_at q.places) (params ∷ r ∷ [])) (columns q.places) (picks params (kind_tests q.kind)) (of_file_and_kind name) (shown_columns q.places params) (of_test name) (db.trees slurm.tree) in
+        let twice = filter_twice (λ c. is_number_cell q.kind (column c 1)) (is_of_file name) (contents (db.trees slurm.tree)) in
+        subst (λ l. IsPermutation l rows) (same ∙ ap (map (columns q.places)) (sym twice)) (permuted slurm.tree (kind_tests q.kind) (shown_at q.places) (upwards 3 ∷ []) db.trees params rows answers)
 
     -- short rows show what they show with all their columns
-    seen : (table : List Row)
-        → map (columns q.places) (filter (λ c. is_number_cell q.kind (column c 1)) (map exception_columns table)) ≡ map (columns q.places) (filter (λ c. is_number_cell q.kind (column c 1)) table)
-    seen table =
+    seen : map (columns q.places) (filter (λ c. is_number_cell q.kind (column c 1)) (map exception_columns table)) ≡ map (columns q.places) (filter (λ c. is_number_cell q.kind (column c 1)) table)
+    seen =
         ap (map (columns q.places)) (filter-map (λ c. is_number_cell q.kind (column c 1)) exception_columns table)
         ∙ map-map (columns q.places) exception_columns _ ∙ (λ i. map (λ c. sym (q.whole c) i) (filter (λ c. is_number_cell q.kind (column c 1)) table))
 
-    found : (charter : CharterSets) (all : AllRows) → TablesHold charter all db.trees → map (first_columns 5) rows ≡ map cells (items all.exceptions)
+    found : (charter : CharterSets) (all : AllRows) → TablesHold charter all db.trees → map (first_columns 5) rows ≡ map cells (items (exceptions_of all.files name))
     found charter all holds =
-        let mine = q.rows all.exceptions (contents (db.trees slurm.tree)) holds.exceptions in
-        let show = subst (λ l. IsPermutation l (map (columns q.places) (filter (λ c. is_number_cell q.kind (column c 1)) (map exception_columns (contents (db.trees slurm.tree))))))
-        (map-map (columns q.places) exception_row mine.0) (IsPermutation-map (columns q.places) _ _ mine.2) in
-        let same = in_order mine.0 rows mine.1.rise (IsPermutation-trans _ _ _ show (subst (λ l. IsPermutation l rows) (sym (seen (contents (db.trees slurm.tree)))) finds)) rises in
-        ap (map (first_columns 5)) same ∙ shows_entries all.exceptions mine.0 mine.1
+        let exceptions = exceptions_of all.files name in
+        let mine = q.rows name exceptions table (holds.files.each name) in
+        let show = subst (λ l. IsPermutation l (map (columns q.places) (filter (λ c. is_number_cell q.kind (column c 1)) (map exception_columns table)))) (map-map (columns q.places) exception_row mine.0) (IsPermutation-map (columns q.places) _ _ mine.2) in
+        let same = in_order mine.0 rows mine.1.rise (IsPermutation-trans _ _ _ show (subst (λ l. IsPermutation l rows) (sym seen) finds)) rises in
+        ap (map (first_columns 5)) same ∙ shows_entries name exceptions mine.0 mine.1
 
-  -- a table holds the entries of this kind of one SLURM file at most
-  pub entries_alike : (a b : Exceptions) (table : List Row) → HoldsExceptions a table → HoldsExceptions b table → items a ≡ items b
-  entries_alike a b table one other =
-      let first = q.rows a table one in
-      let second = q.rows b table other in
+  -- a table holds one list of entries of this kind at most
+  pub entries_alike : (name : List ℕ) (a b : Exceptions) (table : List Row) → HoldsExceptions name a table → HoldsExceptions name b table → items a ≡ items b
+  entries_alike name a b table one other =
+      let first = q.rows name a table one in
+      let second = q.rows name b table other in
       let whole = λ (rows : List ExceptionRow). map-map (columns q.places) exception_row rows in
       let same = IsPermutation-map (columns q.places) _ _ (IsPermutation-trans _ _ _ first.2 (IsPermutation-sym _ _ second.2)) in
       let moved : IsPermutation (map shown first.0) (map shown second.0) = subst (λ l. IsPermutation l (map shown second.0)) (whole first.0) (subst (IsPermutation (map (columns q.places) (map exception_row first.0))) (whole second.0) same) in
       let order = on_total (λ c. column c 5) value_cmp_total in
       let ordered = in_order first.0 (map shown second.0) first.1.rise moved (sorted_from_rising (by_column 5) order (map shown second.0) (rising_rows second.0 second.1.rise)) in
-      same_values cells q.once (items a) (items b) (sym (shows_entries a first.0 first.1) ∙ ap (map (first_columns 5)) (sym ordered) ∙ shows_entries b second.0 second.1)
+      same_values cells q.once (items a) (items b) (sym (shows_entries name a first.0 first.1) ∙ ap (map (first_columns 5)) (sym ordered) ∙ shows_entries name b second.0 second.1)
 
   pub selects_entries : SelectsEntries cells 5 items q.text
   selects_entries = record { plain = q.means.plain; unlisted = q.means.unlisted; found = found; once = q.once }
@@ -222,8 +235,8 @@ filters_query = record {
   text = SELECT_FILTERS.now;
   titles = codes "family" ∷ codes "lo" ∷ codes "len" ∷ codes "max" ∷ codes "asn" ∷ codes "position" ∷ [];
   means = filters_is;
-  rows = λ e table holds.
-      (holds.filters, holds.filters_placed, rows_of_kind 1 table (holds.filters ++ holds.assertions) holds.filters holds.rows (just_filters e holds.filters holds.assertions holds.filters_placed holds.assertions_placed));
+  rows = λ name e table holds.
+      (holds.filters, holds.filters_placed, rows_of_kind 1 table (holds.filters ++ holds.assertions) holds.filters holds.rows (just_filters name e holds.filters holds.assertions holds.filters_placed holds.assertions_placed));
   whole = λ _. refl;
   position = λ _. refl;
   keyed = λ _ _. refl;
@@ -243,10 +256,10 @@ assertions_query = record {
   text = SELECT_ASSERTIONS.now;
   titles = codes "asn" ∷ codes "family" ∷ codes "lo" ∷ codes "len" ∷ codes "max" ∷ codes "position" ∷ [];
   means = assertions_is;
-  rows = λ e table holds. (
+  rows = λ name e table holds. (
     holds.assertions,
     holds.assertions_placed,
-    rows_of_kind 2 table (holds.filters ++ holds.assertions) holds.assertions holds.rows (just_assertions e holds.filters holds.assertions holds.filters_placed holds.assertions_placed),
+    rows_of_kind 2 table (holds.filters ++ holds.assertions) holds.assertions holds.rows (just_assertions name e holds.filters holds.assertions holds.filters_placed holds.assertions_placed),
   );
   whole = λ _. refl;
   position = λ _. refl;

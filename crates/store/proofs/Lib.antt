@@ -6,7 +6,10 @@ mod Overlapping
 mod Claimed
 mod InForce
 mod Giving
+mod NamedFiles
+mod NamesFound
 mod EntriesFound
+mod Asking
 mod HistoryRows
 mod Gathering
 mod HeldRead

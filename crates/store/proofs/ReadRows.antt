@@ -1,18 +1,25 @@
 -- The rows of tables that read are in range.
-use Rattle.std.proofs.Common.{◌≡◌, ℕ, List, [], ◌∷◌, ◌++◌, map, flat_map, Option, Some, None, refl, sym, subst, arith}
+use Rattle.std.proofs.Common.{◌≡◌, ℕ, List, [], ◌∷◌, ◌++◌, map, filter, flat_map, Option, Some, None, IsTrue, refl, sym, ap, subst, ◌∙◌, arith}
 use Rattle.std.specs.Prelude.{length, ◌≤◌}
 use Rattle.std.specs.List.{AllByRecursion}
 use Rattle.std.proofs.lemmas.Bool.{and_from, le-leb}
 use Rattle.std.proofs.lemmas.List.Elements.{All-from_recursion, recursion_from_All}
 use Rattle.std.proofs.lemmas.List.Sorted.{IsPermutation-sym}
-use Rattle.sqlite_value.specs.Order.{Row}
+use Rattle.sqlite_value.specs.declared.value.Value.TheVariants.{Text}
+use Rattle.sqlite_value.specs.Order.{Row, column}
 use Rattle.sqlite_trees.specs.Tree.{Trees}
-use Rattle.sqlite_trees.proofs.ListLemmas.{all-flat_map, all-map, all-permutation, all_weaker}
+use Rattle.sqlite_trees.proofs.ListLemmas.{all-flat_map, all-map, all_from_map, all-permutation, all_weaker}
 use Rattle.sqlite_keyed.proofs.ListLemmas.{all-filter}
-use Rattle.sqlite_rules.proofs.ListLemmas.{all_has, has_contained, test_from}
+use Rattle.sqlite_rules.specs.Lists.{Has}
+use Rattle.sqlite_rules.proofs.ListLemmas.{all_from, all_has, has_contained, test_from}
 use Rattle.sqlite_rules.proofs.ProbeLemmas.{mapped_has}
 use Rattle.addr.specs.Address.{fits_max_length}
+use Rattle.addr.specs.Name.{is_name}
 use Rattle.slurm.specs.Exceptions.{Exceptions}
+use Rattle.slurm.specs.SlurmSets.{exceptions_of}
+use Rattle.slurm.specs.declared.set.NamedSlurm.{NamedSlurm}
+use Rattle.store.proofs.NamedFiles.{said}
+use Rattle.store.proofs.NamesFound.{some_row}
 use Rattle.slurm.specs.declared.exceptions.TheConstants.{MOST_ENTRIES}
 use Rattle.slurm.specs.declared.filter.Filter.TheVariants.{Under, By, Both}
 use Rattle.registry.specs.declared.authorization.Auth.{Auth}
@@ -20,7 +27,7 @@ use Rattle.registry.specs.declared.authorization.RoaPrefix.{RoaPrefix}
 use Rattle.registry.specs.declared.grant.Granted.{Granted}
 use Rattle.registry.specs.RoaPrefixes.{AreEntries}
 use Rattle.registry.specs.Rows.{Rows}
-use Rattle.registry.specs.Values.{AuthFits, ExceptionsFit, FilterFits, FitIfAny, GrantFits, IsCount, IsU32, VrpFits}
+use Rattle.registry.specs.Values.{AuthFits, ExceptionsFit, FileFits, FilesFit, FilterFits, FitIfAny, GrantFits, IsCount, IsU32, VrpFits}
 use Rattle.tables.specs.declared.claim.Claim.{Claim}
 use Rattle.tables.specs.declared.entry.EntryRow.{EntryRow}
 use Rattle.tables.specs.declared.groups.OfHolder.{OfHolder}
@@ -29,14 +36,14 @@ use Rattle.tables.specs.Groups.{claim_entry}
 use Rattle.tables.specs.Cells.{claim_row, entry_row, exception_cells, exception_row, granted_row, holder_row, kind_number, number_cell}
 use Rattle.tables.specs.Decode.{ClaimFits, EntryRowFits, ExceptionFits, exception_columns}
 use Rattle.tables.specs.Tables.{claim, contents, entry, slurm}
-use Rattle.tables.specs.TablesHold.{ArePlaced, HoldsExceptions, HoldsPart, Part, claim_part, entry_part, granted_part, holder_part, part_rows}
+use Rattle.tables.specs.TablesHold.{ArePlaced, HoldsExceptions, HoldsFiles, HoldsPart, is_of_file, Part, claim_part, entry_part, granted_part, holder_part, part_rows}
 use Rattle.tables.specs.declared.exception.Exception.{Exception}
 use Rattle.tables.specs.declared.exception.Exception.TheVariants.{Filter as FilterOf, Assertion}
 use Rattle.tables.specs.declared.exception.ExceptionRow.{ExceptionRow}
 use Rattle.tables.proofs.CellsOnce.{one_grant}
 use Rattle.tables.proofs.Once.{claim_row_once, entry_row_once}
 use Rattle.tables.proofs.HeldExceptions.{held_number}
-use Rattle.database.specs.TablesRead.{HasSomeAuths, ShowsException, ShowsHolder, ShowsOfHolder, row_of_claim, rows_of_entries}
+use Rattle.database.specs.TablesRead.{AreFewOfEach, HasSomeAuths, ShowsException, ShowsHolder, ShowsOfHolder, row_of_claim, rows_of_entries}
 use Rattle.store.specs.Laws.{RowsInRangeGive, RowsThatReadFit}
 use Rattle.store.proofs.Giving.{gives_each}
 use Rattle.store.proofs.Loading.{claim_fits, entries_of_fit}
@@ -149,9 +156,9 @@ exception_fits r (shown, fits, is) =
 
 -- the exceptions that such rows bring fit
 brought_fit : {X : Type 0} (of : X → Exception) (fits : X → Type 0) → ((x : X) → ExceptionFits (of x) → fits x)
-    → (xs : List X) (rows : List ExceptionRow) → ArePlaced (map of xs) rows
+    → (name : List ℕ) (xs : List X) (rows : List ExceptionRow) → ArePlaced name (map of xs) rows
     → AllByRecursion (λ (r : ExceptionRow). ExceptionFits r.exception) rows → AllByRecursion fits xs
-brought_fit of fits one xs rows placed all =
+brought_fit of fits one name xs rows placed all =
     go xs (subst (AllByRecursion ExceptionFits) placed.brought (mapped rows all))
   where
     mapped : (rows : List ExceptionRow) → AllByRecursion (λ (r : ExceptionRow). ExceptionFits r.exception) rows
@@ -163,16 +170,36 @@ brought_fit of fits one xs rows placed all =
     go [] all = tt
     go (x ∷ xs) all = (one x all.0, go xs all.1)
 
-exceptions_fit : (exceptions : Exceptions) (table : List Row) → HoldsExceptions exceptions table
+exceptions_fit : (name : List ℕ) (exceptions : Exceptions) (table : List Row) → HoldsExceptions name exceptions table
     → AllByRecursion ShowsException (map exception_columns table) → length table ≤ MOST_ENTRIES → ExceptionsFit exceptions
-exceptions_fit exceptions table holds all few =
+exceptions_fit name exceptions table holds all few =
     let shown = all-permutation ShowsException _ _ (IsPermutation-sym _ _ holds.rows) all in
     let both = first_part _ holds.filters holds.assertions (each_fits exception_row _ (λ (r : ExceptionRow). ExceptionFits r.exception) exception_fits (holds.filters ++ holds.assertions) shown) in
     record {
-      number = omega (arith, few, held_number exceptions table holds);
-      filters = All-from_recursion FilterFits exceptions.filters (brought_fit FilterOf FilterFits (λ f fits. fits) exceptions.filters holds.filters holds.filters_placed both.0);
-      assertions = All-from_recursion VrpFits exceptions.assertions (brought_fit Assertion VrpFits (λ v fits. fits) exceptions.assertions holds.assertions holds.assertions_placed both.1);
+      number = omega (arith, few, held_number name exceptions table holds);
+      filters = All-from_recursion FilterFits exceptions.filters (brought_fit FilterOf FilterFits (λ f fits. fits) name exceptions.filters holds.filters holds.filters_placed both.0);
+      assertions = All-from_recursion VrpFits exceptions.assertions (brought_fit Assertion VrpFits (λ v fits. fits) name exceptions.assertions holds.assertions holds.assertions_placed both.1);
     }
+
+module _ (files : List NamedSlurm) (table : List Row) (holds : HoldsFiles files table) (all : AllByRecursion ShowsException (map exception_columns table)) (few : AreFewOfEach table) where
+  name_fits : (f : NamedSlurm) → Has files f → IsTrue (is_name f.name)
+  name_fits f has =
+      let c = some_row files table holds f.name (mapped_has (λ (g : NamedSlurm). g.name) files f has) in
+      let shown = all_has ShowsException (map exception_columns table) (exception_columns c.0) all (mapped_has exception_columns table c.0 c.1) in
+      let r = shown.0 in
+      let cells : Text f.name ≡ Text r.file = sym c.2 ∙ ap (λ d. column d 0) shown.2 in
+      let is : f.name ≡ r.file = cc in
+      subst (λ n. IsTrue (is_name n)) (sym is) shown.1.file
+
+  file_fits : (f : NamedSlurm) → Has files f → FileFits f
+  file_fits f has =
+      let of_file = filter (is_of_file f.name) table in
+      let mine = all-map ShowsException exception_columns of_file (all-filter (λ c. ShowsException (exception_columns c)) (is_of_file f.name) table (all_from_map ShowsException exception_columns table all)) in
+      let says = all_has (λ (g : NamedSlurm). exceptions_of files g.name ≡ g.file) files f (said files holds.rising) has in
+      record { name = name_fits f has; file = subst ExceptionsFit says (exceptions_fit f.name (exceptions_of files f.name) of_file (holds.each f.name) mine (few f.name)) }
+
+  files_fit : FilesFit files
+  files_fit = All-from_recursion FileFits files (all_from FileFits files file_fits)
 
 pub rows_fit : RowsThatReadFit
 rows_fit charter rows trees holds read = (
@@ -181,7 +208,7 @@ rows_fit charter rows trees holds read = (
       (part_shows granted_part rows.of_holder _ (ShowsOfHolder granted_row GrantFits) holds.grants read.grants h)
       (part_shows claim_part rows.of_holder _ (ShowsOfHolder claim_row ClaimFits) holds.claims (claims_shown trees read.authorizations) h)
       (part_shows entry_part rows.of_holder _ (ShowsOfHolder entry_row EntryRowFits) holds.entries (entries_shown trees read.authorizations) h)),
-  exceptions_fit rows.exceptions (contents (trees slurm.tree)) holds.exceptions read.exceptions read.exceptions_number,
+  files_fit rows.files (contents (trees slurm.tree)) holds.files read.exceptions read.exceptions_number,
 )
 
 pub rows_give : RowsInRangeGive

@@ -13,7 +13,7 @@ use Rattle.registry.specs.declared.rows.HolderRows.{HolderRows}
 use Rattle.registry.specs.History.{History}
 use Rattle.registry.specs.Rows.{Rows, rows_if_any, RowsIfAny}
 use Rattle.registry.specs.RowsOfAll.{AllRows, HasRows}
-use Rattle.registry.specs.Values.{HistoryFits, FitIfAny, ExceptionsFit}
+use Rattle.registry.specs.Values.{HistoryFits, FitIfAny, FilesFit}
 use Rattle.registry.specs.Verdict.{IsLegal}
 use Rattle.tables.specs.TablesHold.{TablesHold}
 use Rattle.tables.specs.Tables.{desk_tables}
@@ -40,12 +40,12 @@ RowsOfHistoriesFit =
     → IsLegal charter history → HistoryFits history → HasRows rows history
     → (h : List ℕ) → FitIfAny (rows.of_holder h)
 
--- The exceptions in force of such a history fit, so that no load of the SLURM files finds a row that shows
--- none, or more of them than a file may have.
-abbrev pub ExceptionsOfHistoriesFit : Type 0
-ExceptionsOfHistoriesFit =
+-- The SLURM files in force of such a history fit, so that no load of them finds a row that shows none, or more
+-- exceptions than a file may have.
+abbrev pub FilesOfHistoriesFit : Type 0
+FilesOfHistoriesFit =
     (history : History) (rows : AllRows) → HistoryFits history → HasRows rows history
-    → ExceptionsFit rows.exceptions
+    → FilesFit rows.files
 
 -- On each day the authorizations in force of such a history give VRPs, so that no load of the VRPs finds a
 -- row that shows none.

@@ -1,5 +1,5 @@
 -- What is loaded of the rows that the tables hold.
-use Rattle.std.specs.Prelude.{◌≡◌, ◌≢◌, ◌≤◌, ℕ, List, [], ◌∷◌, Option, Some, None, Contains, IsPermutation, IsSortedByKey, ⊤}
+use Rattle.std.specs.Prelude.{◌≡◌, ◌≤◌, ℕ, List, map, Option, Some, None, Contains, IsPermutation, IsSortedByKey, ⊤}
 use Rattle.std.specs.Ordering.{nat_cmp}
 use Rattle.sqlite.specs.Store.{Ghosts}
 use Rattle.addr.specs.Address.{Address}
@@ -10,12 +10,12 @@ use Rattle.registry.specs.declared.authorization.Auth.{Auth}
 use Rattle.registry.specs.declared.authorization.RoaPrefix.{RoaPrefix}
 use Rattle.registry.specs.declared.grant.Granted.{Granted}
 use Rattle.registry.specs.declared.rows.HolderRows.{HolderRows}
-use Rattle.registry.specs.ExceptionsInForce.{no_exceptions}
 use Rattle.registry.specs.Rows.{Rows}
 use Rattle.registry.specs.RowsOfAll.{AllRows}
 use Rattle.registry.specs.Terms.{IsVrpOfEntry}
 use Rattle.registry.specs.Values.{VrpFits}
 use Rattle.slurm.specs.Exceptions.{Exceptions}
+use Rattle.slurm.specs.declared.set.NamedSlurm.{NamedSlurm}
 use Rattle.store.specs.StoreRows.{StoreView, Holds}
 
 -- it is so of the rows that a store holds
@@ -47,12 +47,9 @@ AreLoaded None (Some loaded) = ⊥
 AreLoaded (Some r) None = ⊥
 AreLoaded (Some r) (Some loaded) = IsLoaded r loaded
 
--- The SLURM files that are loaded of exceptions: none where there are none, else one that has all of
--- them.
-abbrev pub AreFilesOf : Exceptions → List Exceptions → Type 0
-AreFilesOf exceptions [] = exceptions ≡ no_exceptions
-AreFilesOf exceptions (file ∷ []) = (file ≡ exceptions) × (exceptions ≢ no_exceptions)
-AreFilesOf _ _ = ⊥
+-- the SLURM files that are loaded, each without its name, by rising name
+abbrev pub AreFilesOf : List NamedSlurm → List Exceptions → Type 0
+AreFilesOf held files = files ≡ map (λ (f : NamedSlurm). f.file) held
 
 -- each entry of each authorization that is in force on the day gives a VRP
 abbrev pub AllGiveOn : AllRows → ℕ → Type 0

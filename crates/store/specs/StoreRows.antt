@@ -9,7 +9,7 @@ use Rattle.charters.specs.contracts.charter.Charter as charter
 use Rattle.charters.specs.CharterSets.{CharterSets, IsCharter}
 use Rattle.registry.specs.declared.change.Change.{Change}
 use Rattle.registry.specs.RowsOfAll.{AllRows}
-use Rattle.registry.specs.Values.{ExceptionsFit, FitIfAny}
+use Rattle.registry.specs.Values.{FilesFit, FitIfAny}
 use Rattle.tables.specs.Tables.{desk_tables}
 use Rattle.tables.specs.TablesHold.{TablesHold}
 use Rattle.moving.specs.EitherSchema.{AreOfEitherSchema, EitherSchemaHolds}
@@ -83,9 +83,9 @@ pub record IsRead {S : Type 0} (g : Ghosts S) (old new : StoreView S) : Type 0 w
 
 -- ---- an opened store
 
--- each value of the rows is in the range of its type, and the exceptions are those of one SLURM file
+-- each value of the rows is in the range of its type, and the exceptions of each SLURM file are no more than it may have
 abbrev pub AreInRange : AllRows → Type 0
-AreInRange rows = ((h : List ℕ) → FitIfAny (rows.of_holder h)) × ExceptionsFit rows.exceptions
+AreInRange rows = ((h : List ℕ) → FitIfAny (rows.of_holder h)) × FilesFit rows.files
 
 -- A store over a database that was found, of this schema, which is left alone, or of schema 1. It holds some rows, each
 -- value of which is in the range of its type, and what the tables held before, in either schema, with its charter; each

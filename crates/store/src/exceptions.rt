@@ -1,27 +1,28 @@
-//! The exceptions of the SLURM file in force: its prefix filters and its prefix assertions.
-ghost use Rattle.std.specs.Prelude.{◌≡◌, ◌+◌, ◌≤◌, List, length, All, Err, IfOk};
+//! The SLURM files in force: their names, and the prefix filters and prefix assertions of each.
+ghost use Rattle.std.specs.Prelude.{◌≡◌, ◌+◌, ◌≤◌, List, map, length, All, Err, IfOk, IsTrue};
 ghost use Rattle.sqlite.specs.Held.{state};
-ghost use Rattle.registry.specs.Values.{ExceptionsFit};
+ghost use Rattle.registry.specs.Values.{ExceptionsFit, FilesFit};
 ghost use Rattle.slurm.specs.Exceptions.{Exceptions};
+ghost use Rattle.slurm.specs.SlurmSets.{exceptions_of};
 ghost use Rattle.slurm.specs.declared.exceptions.TheConstants.{MOST_ENTRIES};
 ghost use Rattle.database.specs.Queries.{IsAsked, IsClean, IsReadyToAsk};
 ghost use Rattle.store.specs.Loads.{AreFilesOf};
 ghost use Rattle.store.specs.steps.Queries.{IsOfAll, SelectsEntries, IsOpenWith};
 
 use crate::StoreFault;
-use addr::Vrp;
+use addr::{Name, Vrp};
 use database::{ask, read_all};
 use slurm::{Filter, Slurm};
 use sqlite::{Alter, Connection};
 use std::alloc::Global;
-use tables::{FromRow, SELECT_ASSERTIONS, SELECT_FILTERS};
+use tables::{FromRow, SELECT_ASSERTIONS, SELECT_FILES, SELECT_FILTERS, name_values};
 
 /// An entry of a SLURM file, which a row of the table of exceptions shows.
 pub(crate) trait ExceptionEntry: FromRow {
     // Such entries of a file.
     ghost items: { Exceptions → List Self };
 
-    /// The query of the entries in the file's order.
+    /// The query of the entries of a file in its order, whose parameter is the file's name.
     fn select() -> &'static str
         ensures { SelectsEntries Self.cells Self.width items result.now };
 }
@@ -42,43 +43,91 @@ impl ExceptionEntry for Vrp {
     }
 }
 
-/// The entries of one kind, in the file's order.
+/// The names of the files, rising. Names that are no names are of another schema.
+fn load_names<S: Alter>(conn: &mut Connection<S>, alloc: Global) -> Result<Vec<Name>, StoreFault>
+    requires { IsReadyToAsk S.Store conn.old }
+    ensures asked { IsAsked S.Store conn.old conn.new result }
+    ensures found { IsClean S.Store conn.new → IfOk result (λ names.
+        IsOfAll (λ rows. names.items ≡ map (λ f. f.name) rows.files) (state S.Store conn.old)) }
+    ensures schema { IsClean S.Store conn.new → result ≡ Err StoreFault.Schema
+        → IsOpenWith (λ rows. ¬ FilesFit rows.files) (state S.Store conn.old) }
+{
+    let rows = ask(conn, SELECT_FILES, &[])?;
+    read_all(alloc, &rows)
+}
+
+/// The entries of one kind of the file of this name, in the file's order.
 fn load_entries<T: ExceptionEntry, S: Alter>(
     conn: &mut Connection<S>,
     alloc: Global,
+    name: &Name,
 ) -> Result<Vec<T>, StoreFault>
     requires { IsReadyToAsk S.Store conn.old }
     ensures asked { IsAsked S.Store conn.old conn.new result }
     ensures found { IsClean S.Store conn.new → IfOk result (λ entries.
-        IsOfAll (λ rows. entries.items ≡ T.items rows.exceptions) (state S.Store conn.old)) }
+        IsOfAll (λ rows. entries.items ≡ T.items (exceptions_of rows.files name.now))
+        (state S.Store conn.old)) }
     ensures schema { IsClean S.Store conn.new → result ≡ Err StoreFault.Schema
-        → IsOpenWith (λ rows. ¬ All T.fits (T.items rows.exceptions)) (state S.Store conn.old) }
+        → IsOpenWith (λ rows. ¬ All T.fits (T.items (exceptions_of rows.files name.now)))
+        (state S.Store conn.old) }
 {
-    let rows = ask(conn, T::select(), &[])?;
+    let rows = ask(conn, T::select(), &name_values(name))?;
     read_all(alloc, &rows)
 }
 
-/// The SLURM file of these entries, if there are any. More than a file may have are of another
-/// schema.
-fn files_of(
-    alloc: Global,
-    filters: Vec<Filter>,
-    assertions: Vec<Vrp>,
-) -> Result<Vec<Slurm>, StoreFault>
-    ensures files { IfOk result (λ files. AreFilesOf
-        (record { filters = filters.items; assertions = assertions.items }) files.items) }
+/// The file of these entries. More than a file may have are of another schema.
+fn file_of(filters: Vec<Filter>, assertions: Vec<Vrp>) -> Result<Slurm, StoreFault>
+    ensures file { IfOk result (λ file. file
+        ≡ record { filters = filters.items; assertions = assertions.items }) }
     ensures schema { result ≡ Err StoreFault.Schema
         → ¬ (length filters.items + length assertions.items ≤ MOST_ENTRIES) }
 {
-    let mut files = Vec::with_capacity(alloc, 1)?;
-    if !filters.is_empty() || !assertions.is_empty() {
-        let file = Slurm::make(filters, assertions).map_err(|_| StoreFault::Schema)?;
+    Slurm::make(filters, assertions).map_err(|_| StoreFault::Schema)
+}
+
+/// The file of this name.
+fn load_file<S: Alter>(
+    conn: &mut Connection<S>,
+    alloc: Global,
+    name: &Name,
+) -> Result<Slurm, StoreFault>
+    requires { IsReadyToAsk S.Store conn.old }
+    ensures asked { IsAsked S.Store conn.old conn.new result }
+    ensures found { IsClean S.Store conn.new → IfOk result (λ file.
+        IsOfAll (λ rows. file ≡ exceptions_of rows.files name.now) (state S.Store conn.old)) }
+    ensures schema { IsClean S.Store conn.new → result ≡ Err StoreFault.Schema
+        → IsOpenWith (λ rows. ¬ ExceptionsFit (exceptions_of rows.files name.now))
+        (state S.Store conn.old) }
+{
+    let filters: Vec<Filter> = load_entries(conn, alloc, name)?;
+    let assertions: Vec<Vrp> = load_entries(conn, alloc, name)?;
+    file_of(filters, assertions)
+}
+
+/// The files of these names, in their order.
+fn load_each<S: Alter>(
+    conn: &mut Connection<S>,
+    alloc: Global,
+    names: &[Name],
+) -> Result<Vec<Slurm>, StoreFault>
+    requires ready { IsReadyToAsk S.Store conn.old }
+    requires is_open { IsClean S.Store conn.old → IsTrue (state S.Store conn.old).is_open }
+    ensures asked { IsAsked S.Store conn.old conn.new result }
+    ensures found { IsClean S.Store conn.new → IfOk result (λ files.
+        IsOfAll (λ rows. files.items ≡ map (exceptions_of rows.files) names.now)
+        (state S.Store conn.old)) }
+    ensures schema { IsClean S.Store conn.new → result ≡ Err StoreFault.Schema
+        → IsOpenWith (λ rows. ¬ FilesFit rows.files) (state S.Store conn.old) }
+{
+    let mut files = Vec::with_capacity(alloc, names.len())?;
+    for name in names {
+        let file = load_file(conn, alloc, name)?;
         files.push(file).unwrap();
     }
     Ok(files)
 }
 
-/// The SLURM files in force; none where there is no exception.
+/// The SLURM files in force, rising by name; none where there is no exception.
 pub(crate) fn load_files<S: Alter>(
     conn: &mut Connection<S>,
     alloc: Global,
@@ -86,11 +135,10 @@ pub(crate) fn load_files<S: Alter>(
     requires { IsReadyToAsk S.Store conn.old }
     ensures asked { IsAsked S.Store conn.old conn.new result }
     ensures found { IsClean S.Store conn.new → IfOk result (λ files.
-        IsOfAll (λ rows. AreFilesOf rows.exceptions files.items) (state S.Store conn.old)) }
+        IsOfAll (λ rows. AreFilesOf rows.files files.items) (state S.Store conn.old)) }
     ensures schema { IsClean S.Store conn.new → result ≡ Err StoreFault.Schema
-        → IsOpenWith (λ rows. ¬ ExceptionsFit rows.exceptions) (state S.Store conn.old) }
+        → IsOpenWith (λ rows. ¬ FilesFit rows.files) (state S.Store conn.old) }
 {
-    let filters: Vec<Filter> = load_entries(conn, alloc)?;
-    let assertions: Vec<Vrp> = load_entries(conn, alloc)?;
-    files_of(alloc, filters, assertions)
+    let names = load_names(conn, alloc)?;
+    load_each(conn, alloc, &names)
 }

@@ -1,6 +1,6 @@
 //! Laws over the definitions alone: each function's contract states one, and its body at most calls
 //! laws of `histories` and `tables`.
-ghost use Rattle.store.specs.Laws.{AuthsOfHistoriesGive, ExceptionsOfHistoriesFit, HistoriesRead};
+ghost use Rattle.store.specs.Laws.{AuthsOfHistoriesGive, FilesOfHistoriesFit, HistoriesRead};
 ghost use Rattle.store.specs.Laws.{LoadsRowsOfHistories, MemoryHoldsRows, MemoryIsHonest};
 ghost use Rattle.store.specs.Laws.{MemoryStaysOpen, OldHistoriesRead, OldTablesThatReadAreOurs};
 ghost use Rattle.store.specs.Laws.{RowsInRangeGive, RowsOfHistoriesFit, RowsThatReadFit};
@@ -21,12 +21,12 @@ pub fn rows_of_a_history_fit()
     histories::laws::legal_rows_fit();
 }
 
-/// The exceptions of a history whose values are those of their types are in their ranges, so that
+/// The SLURM files of a history whose values are those of their types are in their ranges, so that
 /// by clause `schema` no load of the SLURM files answers `Schema`.
-pub fn exceptions_of_a_history_fit()
-    ensures { ExceptionsOfHistoriesFit }
+pub fn files_of_a_history_fit()
+    ensures { FilesOfHistoriesFit }
 {
-    histories::laws::exceptions_in_force_fit();
+    histories::laws::files_in_force_fit();
 }
 
 /// Each authorization in force of a legal history whose values are those of their types gives a
@@ -43,7 +43,7 @@ pub fn tables_of_a_history_read()
     ensures { HistoriesRead }
 {
     histories::laws::legal_rows_fit();
-    histories::laws::exceptions_in_force_fit();
+    histories::laws::files_in_force_fit();
     tables::laws::exceptions_are_counted();
 }
 
@@ -52,7 +52,7 @@ pub fn old_tables_of_a_history_read()
     ensures { OldHistoriesRead }
 {
     histories::laws::legal_rows_fit();
-    histories::laws::exceptions_in_force_fit();
+    histories::laws::files_in_force_fit();
     tables::laws::exceptions_are_counted();
 }
 

@@ -146,7 +146,7 @@ impl<S: Alter> Store<S> {
     ghost use Rattle.std.specs.Prelude.{Option, AllPairs, Contains};
     ghost use Rattle.addr.specs.declared.vrp.Vrp.{Vrp};
     ghost use Rattle.registry.specs.RowsOfAll.{IsTaken, IsGivenOn};
-    ghost use Rattle.registry.specs.Values.{FitIfAny, ExceptionsFit};
+    ghost use Rattle.registry.specs.Values.{FitIfAny, FilesFit};
     ghost use Rattle.store.specs.Given.{GivenOnce};
     ghost use Rattle.store.specs.Loads.{OfHeldRows, AreLoaded, AllGiveOn, AreFilesOf};
     ghost use Rattle.store.specs.StoreRows.{connection_state, Holds, IsRead};
@@ -222,13 +222,13 @@ impl<S: Alter> Store<S> {
         load_vrps(&mut self.conn, alloc, day)
     }
 
-    /// The SLURM files in force; none where there is no exception.
+    /// The SLURM files in force, rising by name; none where there is no exception.
     pub fn slurm_files(&mut self, alloc: Global) -> Result<Vec<Slurm>, StoreFault>
         ensures read { IsRead S.Store self.old self.new }
         ensures found { IfClean S.Store self.new (IfOk result (λ files.
-            OfHeldRows S.Store self.old (λ rows. AreFilesOf rows.exceptions files.items))) }
+            OfHeldRows S.Store self.old (λ rows. AreFilesOf rows.files files.items))) }
         ensures schema { IfClean S.Store self.new (result ≡ Err StoreFault.Schema
-            → OfHeldRows S.Store self.old (λ rows. ¬ ExceptionsFit rows.exceptions)) }
+            → OfHeldRows S.Store self.old (λ rows. ¬ FilesFit rows.files)) }
     {
         load_files(&mut self.conn, alloc)
     }

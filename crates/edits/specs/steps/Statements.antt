@@ -1,5 +1,5 @@
 -- What a statement within a transaction does to the rows of a holder, or to the exceptions.
-use Rattle.std.specs.Prelude.{◌≡◌, ℕ, Bool, List, [], map, IsTrue, Option, Some, None, option_map, is_some, IsSome, Result, Ok, if◌then◌else◌}
+use Rattle.std.specs.Prelude.{◌≡◌, ◌≤◌, ◌+◌, ℕ, Bool, List, [], length, map, IsTrue, Option, Some, None, option_map, is_some, IsSome, Result, Ok, if◌then◌else◌}
 use Rattle.sqlite.specs.declared.transaction.Transaction.{Transaction}
 use Rattle.sqlite.specs.Effect.{Database, IsDatabase}
 use Rattle.sqlite.specs.State.{State, ExecutesInside}
@@ -10,6 +10,8 @@ use Rattle.charters.specs.CharterSets.{CharterSets}
 use Rattle.registry.specs.History.{same_name}
 use Rattle.registry.specs.Rows.{Rows, new_rows}
 use Rattle.registry.specs.RowsOfAll.{AllRows}
+use Rattle.slurm.specs.declared.exceptions.TheConstants.{MOST_ENTRIES}
+use Rattle.slurm.specs.declared.set.NamedSlurm.{NamedSlurm}
 use Rattle.edits.specs.Changes.{RowChange}
 use Rattle.tables.specs.Cells.{exception_row}
 use Rattle.tables.specs.Tables.{slurm, IsTree}
@@ -83,9 +85,13 @@ pub record TakesRows (tree : ℕ) (old new : State) : Type 0 where
   pub sound : IsDatabase old.now → IsDatabase new.now
   pub edits : IsTree (old.now.trees tree) → Edits tree (λ _. []) old.now new.now
 
--- the rows of exceptions of one kind, at the positions from 1 up
-abbrev pub entry_rows : {X : Type 0} → (X → Exception) → List X → List Row
-entry_rows of_kind xs = map exception_row (at_positions (map of_kind xs))
+-- the rows of a file's exceptions of one kind, at the positions from 1 up
+abbrev pub entry_rows : {X : Type 0} → List ℕ → (X → Exception) → List X → List Row
+entry_rows name of_kind xs = map exception_row (at_positions name (map of_kind xs))
+
+-- the file has no more entries than one may have
+abbrev pub IsBounded : NamedSlurm → Type 0
+IsBounded f = length f.file.filters + length f.file.assertions ≤ MOST_ENTRIES
 
 -- ---- all rows
 

@@ -16,10 +16,10 @@ use Rattle.charters.specs.CharterSets.{CharterSets}
 use Rattle.registry.specs.Rows.{Rows}
 use Rattle.registry.specs.RowsOfAll.{AllRows}
 use Rattle.slurm.specs.Exceptions.{Exceptions}
+use Rattle.slurm.specs.SlurmSets.{exceptions_of}
 use Rattle.tables.specs.Decode.{first_columns}
 use Rattle.tables.specs.Tables.{desk_beside, OverDesk}
 use Rattle.tables.specs.TablesHold.{TablesHold, items_if_any}
-use Rattle.database.specs.steps.Numbered.{AnswersSelect}
 
 -- it is so of all rows, and of those of one holder, whatever charter and rows the tables hold
 abbrev pub IsOfAll : (AllRows → Type 0) → State → Type 0
@@ -39,9 +39,9 @@ by_column at = on (λ r. column r at) value_cmp
 
 -- ---- queries of the rows of one holder
 
--- over the tables of a desk the text answers these rows, with the holder's name as its parameter
+-- over the tables of a desk the text answers these rows, with a name as its parameter
 abbrev pub AreSelected : List ℕ → List ℕ → Database → List Row → Type 0
-AreSelected sql h db rows = Reads (command_of (understood (desk_beside db.schema) sql)) db (Text h ∷ []) rows
+AreSelected sql name db rows = Reads (command_of (understood (desk_beside db.schema) sql)) db (Text name ∷ []) rows
 
 -- The text selects these values of a holder: its answer has the row of each, and no other, and rises
 -- by this order, and its rows have so many columns. No two values have one row. It reads the tables
@@ -63,19 +63,19 @@ pub record Selects
       → map (first_columns width) rows ≡ rows
   pub once : (x y : X) → cells x ≡ cells y → x ≡ y
 
--- ---- queries of exceptions
+-- ---- queries of the exceptions of one SLURM file
 
--- The text selects the entries of one kind: the first columns of its answer are the rows of the entries, in the
--- file's order. No two entries have one row. It reads the tables alone.
+-- The text selects the entries of one kind of the file of a name: the first columns of its answer are the rows of the
+-- entries, in the file's order. No two entries have one row. It reads the tables alone.
 pub record SelectsEntries
     {X : Type 0} (cells : X → Row) (width : ℕ) (items : Exceptions → List X) (sql : List ℕ)
     : Type 0 where
   pub plain : OverDesk (λ s. IsPlain (understood s sql))
   pub unlisted : OverDesk (λ s. reads_listing s sql ≡ false)
   pub found :
-      (db : Database) (rows : List Row) → AnswersSelect sql db rows
+      (name : List ℕ) (db : Database) (rows : List Row) → AreSelected sql name db rows
       → (charter : CharterSets) (all : AllRows) → TablesHold charter all db.trees
-      → map (first_columns width) rows ≡ map cells (items all.exceptions)
+      → map (first_columns width) rows ≡ map cells (items (exceptions_of all.files name))
   pub once : (x y : X) → cells x ≡ cells y → x ≡ y
 
 -- ---- queries of the rows of every holder

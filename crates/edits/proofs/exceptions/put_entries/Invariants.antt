@@ -11,4 +11,4 @@ invariant-loop-entry g l =
     StaysInside g.S.Store l.fn.tx l.tx
     × (l.position ≡ l.entry-index)
     × (HasCleanDisk (state_in g.S.Store l.tx)
-    → PutsRows slurm.tree (entry_rows g.T.ExceptionEntry.as_exception (take l.entry-index l.entries)) (state_in g.S.Store l.fn.tx) (state_in g.S.Store l.tx))
+    → PutsRows slurm.tree (entry_rows l.file g.T.ExceptionEntry.as_exception (take l.entry-index l.entries)) (state_in g.S.Store l.fn.tx) (state_in g.S.Store l.tx))

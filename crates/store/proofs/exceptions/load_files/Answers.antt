@@ -1,49 +1,33 @@
-use Rattle.std.proofs.Common.{arith, ap, subst, length}
+use Rattle.std.proofs.Common.{arith, ap, map, ◌∙◌}
 use Rattle.std.proofs.lemmas.Result.{IfOk-weaker}
-use Rattle.slurm.specs.Exceptions.{Exceptions}
+use Rattle.slurm.specs.SlurmSets.{exceptions_of}
 use Rattle.sqlite.specs.Held.{state}
 use Rattle.sqlite.specs.State.{HasCleanDisk}
-use Rattle.store.specs.Loads.{AreFilesOf}
+use Rattle.registry.specs.Values.{FilesFit}
 use Rattle.database.proofs.QueryLemmas.{refused_by}
-use Rattle.store.proofs.EntriesFound.{both_kinds}
-use Rattle.store.proofs.Loading.{held_before}
+use Rattle.store.proofs.Loading.{held_before, refused_before}
+use Rattle.store.proofs.NamedFiles.{all_said}
 use Rattle.store.proofs.exceptions.load_files.Goals as goal
 
-pub returns-in_err-filters-clause-schema : goal.returns-in_err-filters-clause-schema
-returns-in_err-filters-clause-schema g c clean is =
-    let refusal = c.load_entries.ensures.schema clean (refused_by c.load_entries.result c.from_residual.result c.in_err-filters.field-0.0 c.in_err-filters.was c.from_residual.ensures.1 is) in
-    (refusal.0, λ charter rows holds fit. refusal.1 charter rows holds fit.filters)
-
-pub returns-in_err-assertions-clause-schema : goal.returns-in_err-assertions-clause-schema
-returns-in_err-assertions-clause-schema g c clean is =
-    let old = state g.S.Store c.args.conn.now in
-    let mid = state g.S.Store c.load_entries.new.conn in
-    let first = c.in_ok-filters.ensures.asked.same (omega (arith, clean, c.load_entries-2.ensures.asked.survives.clean)) in
-    let refusal = c.load_entries-2.ensures.schema clean
-    (refused_by c.load_entries-2.result c.from_residual-in_err-assertions.result c.in_err-assertions.field-0.0 c.in_err-assertions.was c.from_residual-in_err-assertions.ensures.1 is) in
-    (first.0.was_open, λ charter rows holds fit. refusal.1 charter rows (held_before old mid first.0.now_is charter rows holds) fit.assertions)
+pub returns-in_err-names-clause-schema : goal.returns-in_err-names-clause-schema
+returns-in_err-names-clause-schema g c clean is =
+    c.load_names.ensures.schema clean (refused_by c.load_names.result c.from_residual.result c.in_err-names.field-0.0 c.in_err-names.was c.from_residual.ensures.1 is)
 
 pub returns-clause-found : goal.returns-clause-found
 returns-clause-found g c clean =
     let old = state g.S.Store c.args.conn.now in
-    let mid = state g.S.Store c.load_entries.new.conn in
-    let before : HasCleanDisk mid = omega (arith, clean, c.load_entries-2.ensures.asked.survives.clean) in
-    let first = c.in_ok-filters.ensures.asked.same before in
-    IfOk-weaker c.files_of.result _ _ (λ files are charter rows holds.
-    subst (λ (e : Exceptions). AreFilesOf e files.items)
-    (both_kinds rows.exceptions c.in_ok-filters.filters.items c.in_ok-assertions.assertions.items (c.in_ok-filters.ensures.found before charter rows holds)
-    (c.in_ok-assertions.ensures.found clean charter rows (held_before old mid first.0.now_is charter rows holds))) are)
-    c.files_of.ensures.files
+    let mid = state g.S.Store c.load_names.new.conn in
+    let before : HasCleanDisk mid = omega (arith, clean, c.load_each.ensures.asked.survives.clean) in
+    let first = c.in_ok-names.ensures.asked.same before in
+    IfOk-weaker c.load_each.result _ _ (λ files are charter rows holds.
+    are charter rows (held_before old mid first.0.now_is charter rows holds)
+    ∙ ap (map (exceptions_of rows.files)) (c.deref.ensures.value ∙ c.in_ok-names.ensures.found before charter rows holds)
+    ∙ all_said rows.files holds.files.rising)
+    (c.load_each.ensures.found clean)
 
 pub returns-clause-schema : goal.returns-clause-schema
 returns-clause-schema g c clean refused =
     let old = state g.S.Store c.args.conn.now in
-    let mid = state g.S.Store c.load_entries.new.conn in
-    let before : HasCleanDisk mid = omega (arith, clean, c.load_entries-2.ensures.asked.survives.clean) in
-    let first = c.in_ok-filters.ensures.asked.same before in (
-      first.0.was_open,
-      λ charter rows holds fit.
-          let filters = c.in_ok-filters.ensures.found before charter rows holds in
-          let assertions = c.in_ok-assertions.ensures.found clean charter rows (held_before old mid first.0.now_is charter rows holds) in
-          c.files_of.ensures.schema refused (omega (arith, fit.number, ap length filters, ap length assertions)),
-    )
+    let mid = state g.S.Store c.load_names.new.conn in
+    let first = c.in_ok-names.ensures.asked.same (omega (arith, clean, c.load_each.ensures.asked.survives.clean)) in
+    refused_before (λ rows. ¬ FilesFit rows.files) old mid first.0.was_open first.0.now_is (c.load_each.ensures.schema clean refused)
