@@ -6,7 +6,7 @@ use Rattle.addr.specs.Address.{Address}
 use Rattle.addr.specs.declared.prefix.Prefix.{Prefix}
 use Rattle.registry.specs.History.{History, is_registered}
 use Rattle.registry.specs.Resources.{resource_holder, is_held_by, IsFree}
-use Rattle.registry.specs.Rows.{Rows, RowsOf, RowsIfAny, changed_exceptions}
+use Rattle.registry.specs.Rows.{Rows, RowsOf, RowsIfAny, changed_files}
 use Rattle.registry.specs.Answer.{IsAccepted, IsAnswer, IsListRefusal, IsOfCommand, imported, number_made}
 use Rattle.registry.specs.declared.rule.Refusal.{Refusal}
 use Rattle.registry.specs.declared.rule.Refusal.TheVariants.{Denied, Memory}
@@ -32,7 +32,7 @@ use Rattle.charters.specs.declared.charter.Charter.{Charter}
 use Rattle.registry.proofs.Names.{held_by_itself}
 use Rattle.registry.proofs.Unregistered.{has_nothing}
 use Rattle.registry.specs.RowsOfAll.{AllRows, changed_rows, IsTaken, HasRows}
-use Rattle.desk.proofs.HolderLemmas.{others_left, exceptions_left}
+use Rattle.desk.proofs.HolderLemmas.{others_left, files_left}
 
 -- the rows of a registered holder
 pub rows_present : (rows : AllRows) (history : History) → HasRows rows history → (h : List ℕ) (r : Rows) → rows.of_holder h ≡ Some r → (is_registered history h ≡ true) × RowsOf history h r
@@ -77,7 +77,7 @@ pub rows_carried : (charter : Charter) (history : History) (day : ℕ) (caller :
     → (accepted : IsAccepted charter history day caller command change) → HasRows rows history → HasRows (changed_rows change rows) accepted.after
 rows_carried charter history day caller command change rows accepted has = record {
   holders = λ h. accepted.carries.holders h (rows.of_holder h) (has.holders h);
-  exceptions = ap (changed_exceptions change) has.exceptions ∙ sym accepted.carries.exceptions;
+  files = ap (changed_files change) has.files ∙ sym accepted.carries.files;
 }
 
 -- ---- desks before and after
@@ -122,7 +122,7 @@ module _ {S : Type 0} (g : Ghosts S) where
   pub changed_kept : (command : Command) (change : Change) (old mid new : Desk S) → IsOfCommand command change → KeepsRows g old mid → IsOnCleanDisk g mid
       → HoldsAfter g mid.store new.store (changed_rows change) → KeepsOthers g (may_change (CommandRequest command)) (may_except (CommandRequest command)) old new
   changed_kept command change old mid new of keeps clean made rows holds =
-      (changed_rows change rows, made rows (keeps clean rows holds), λ h unnamed. others_left command change h (rows.of_holder h) of unnamed, exceptions_left command change rows.exceptions of)
+      (changed_rows change rows, made rows (keeps clean rows holds), λ h unnamed. others_left command change h (rows.of_holder h) of unnamed, files_left command change rows.files of)
 
 -- ---- refusals
 

@@ -29,6 +29,7 @@ use Rattle.charters.specs.declared.charter.Charter.{Charter}
 use Rattle.registry.specs.declared.command.Proposed.{Proposed}
 use Rattle.registry.specs.declared.rule.Refusal.{Refusal}
 use Rattle.registry.specs.declared.rule.Refusal.TheVariants.{Denied, Memory}
+use Rattle.slurm.specs.SlurmSets.{union}
 use Rattle.desk.specs.Answer.{refused_with, states_now, states_after, AnswersWhatIf}
 use Rattle.desk.specs.DeskView.{IsDayOfRows}
 use Rattle.desk.specs.steps.WhatIf.{auths_if_any, ExchangesVrps, WouldExchange}
@@ -224,7 +225,7 @@ would_exchange shared legally others_keep charter history after day caller holde
       would,
       record {
         vrps = in_force_then shared charter history all legal has after holder (auths_if_any rows) later.auths turns day;
-        exceptions = sym differ.exceptions;
+        exceptions = ap union (sym differ.files);
       },
     )
 
@@ -248,7 +249,7 @@ exchanged_day charter rows before after legal has day ended begun old new on is 
     let left : Contains (set.items new.vrps) v
     ↔ IsAfterExceptions (exceptions_of new) stays_or_begins v =
     rw on at kept in
-    let has_these = subst (HasExceptions new) (has.exceptions ∙ sym exchanges.exceptions) (has_same old new rows.exceptions same is.exceptions) in
+    let has_these = subst (HasExceptions new) (ap union has.files ∙ sym exchanges.exceptions) (has_same old new (union rows.files) same is.exceptions) in
     let after_these = after_same new (exceptions_in_force after) has_these (IsVrpInForce after day v) v in
     (λ there. after_these.0 (alike.0 (left.0 there)), λ on_day. left.1 (alike.1 (after_these.1 on_day)))
 

@@ -22,6 +22,7 @@ use Rattle.registry.specs.declared.command.Command.TheVariants.{Register, Delega
 use Rattle.registry.specs.declared.change.HolderChange.{HolderChange}
 use Rattle.registry.specs.declared.rows.HolderRows.{HolderRows}
 use Rattle.slurm.specs.Exceptions.{Exceptions as ExceptionsOf}
+use Rattle.slurm.specs.SlurmSets.{union}
 use Rattle.store.specs.Given.{GivenOnce}
 use Rattle.store.specs.Loads.{AreLoaded}
 use Rattle.desk.proofs.GivenEdits.{edits_given_as_loaded, edits_nothing, ending_keeps_once, none_loaded, rows_stay}
@@ -49,7 +50,7 @@ edit_followed rows change None old new once of same is =
           (λ there. alike.0 ((is.given v).0 there), λ after. (is.given v).1 (alike.1 after));
     })
 edit_followed rows change (Some loaded) old new once of (same, are) is = record {
-  exceptions = has_same old new rows.exceptions same is.exceptions;
+  exceptions = has_same old new (union rows.files) same is.exceptions;
   given = λ v.
       let auths = loaded.auths.items in
       let kept = follow_keeps (λ (w : Vrp). IsGivenOn rows old.day w) (ended change.edit auths) (begun change.edit auths) old new same are is.given v in
@@ -89,7 +90,7 @@ change_followed (Holders first (Some second)) one other old new apart (mid, earl
     subst (λ w. AreLoaded w other) (sym (rows_stay rows first second.holder apart.0)) of.1 in
     edit_followed middle second other mid new (ending_keeps_once rows first begins once) still late
     (edit_followed rows first one old mid once of.0 early is)
-change_followed (Exceptions file) one other old new apart none rows once of is = absurd none
+change_followed (Exceptions files) one other old new apart none rows once of is = absurd none
 
 -- what is kept follows
 pub followed : (change : Change) (one other : Option HolderRows) (old new : KeptDay) → EditsTwoApart change → FollowsChange change one other old new
@@ -105,11 +106,11 @@ let_go change one other old rows once of is = tt
 pub apart_by : (command : Command) (change : Change) → HasEditsOf command change → EditsTwoApart change
 apart_by (Transfer p giver taker) (Holders first (Some second)) edits = (rw (edits.0, edits.2) edits.4, edits.1)
 apart_by (Transfer p giver taker) (Holders first None) edits = tt
-apart_by (Transfer p giver taker) (Exceptions file) edits = tt
-apart_by (SlurmCommand file) (Holders first (Some second)) edits = absurd edits
+apart_by (Transfer p giver taker) (Exceptions files) edits = tt
+apart_by (SlurmCommand files) (Holders first (Some second)) edits = absurd edits
 apart_by other (Holders first (Some second)) edits = absurd edits
 apart_by other (Holders first None) edits = tt
-apart_by other (Exceptions file) edits = tt
+apart_by other (Exceptions files) edits = tt
 
 pub no_transfer : (command : Command) → ((p : Prefix) (giver taker : List ℕ) → ¬ (command ≡ Transfer p giver taker)) → is_transfer command ≡ false
 no_transfer (Transfer p giver taker) not = absurd (not p giver taker refl)
@@ -119,7 +120,7 @@ no_transfer other not = refl
 pub loaded_for_one : (command : Command) (change : Change) (one : Option HolderRows) (rows : AllRows) → is_transfer command ≡ false → HasEditsOf command change
     → IfSome (holder_of command) (λ h. AreLoaded (rows.of_holder h) one) → AreLoadedFor change one None rows
 loaded_for_one (Transfer p giver taker) change one rows not edits loaded = absurd (true≢false not)
-loaded_for_one command (Exceptions file) one rows not edits loaded = tt
+loaded_for_one command (Exceptions files) one rows not edits loaded = tt
 loaded_for_one command (Holders first None) one rows not edits loaded =
     subst (λ (h : Option (List ℕ)). IfSome h (λ n. AreLoaded (rows.of_holder n) one)) edits.0 loaded
 loaded_for_one command (Holders first (Some second)) one rows not edits loaded = absurd edits
@@ -131,7 +132,7 @@ loaded_for_two p giver taker (Holders first (Some second)) one other rows edits 
   subst (λ (h : List ℕ). AreLoaded (rows.of_holder h) one) (sym edits.0) loaded.0,
   subst (λ (h : List ℕ). AreLoaded (rows.of_holder h) other) (sym edits.2) loaded.1,
 )
-loaded_for_two p giver taker (Exceptions file) one other rows edits loaded = tt
+loaded_for_two p giver taker (Exceptions files) one other rows edits loaded = tt
 
 -- an edit of a command that makes no authorization begins none
 begins_no : (command : Command) (edit : Edit) → IsEditOf command edit → makes_auths command ≡ false → begins_some edit ≡ false
@@ -148,7 +149,7 @@ begins_no (Create h terms) edit is not = absurd (true≢false not)
 begins_no (Amend h n maxes until) edit is not = absurd (true≢false not)
 begins_no (Import h rows) edit is not = absurd (true≢false not)
 begins_no (Transfer p giver taker) edit is not = absurd is
-begins_no (SlurmCommand file) edit is not = absurd is
+begins_no (SlurmCommand files) edit is not = absurd is
 
 hold_begins_no : (edit : Edit) → IsHold edit → begins_some edit ≡ false
 hold_begins_no (Hold removed added gone) is = refl
@@ -168,14 +169,14 @@ stays_or_gone P old new (inr gone) = inr gone.0
 
 -- what becomes of the day by a change becomes of it by the command
 pub day_by : (command : Command) (change : Change) (old new : Option ℕ) → HasEditsOf command change → FollowsDay change old new → DayAfterCommand command old new
-day_by (SlurmCommand file) (Exceptions more) old new edits follows = follows
+day_by (SlurmCommand files) (Exceptions more) old new edits follows = follows
 day_by (Transfer p giver taker) (Holders first (Some second)) old new edits follows =
     stays_then (begins_some first.edit || begins_some second.edit) old new
     (rw (hold_begins_no first.edit edits.1, ending_none_begins_no second.edit edits.3) refl) follows
 day_by (Create h terms) (Holders first None) old new edits follows = stays_or_gone _ old new follows
 day_by (Amend h n maxes until) (Holders first None) old new edits follows = stays_or_gone _ old new follows
 day_by (Import h rows) (Holders first None) old new edits follows = stays_or_gone _ old new follows
-day_by (SlurmCommand file) (Holders first None) old new edits follows = absurd edits.1
+day_by (SlurmCommand files) (Holders first None) old new edits follows = absurd edits.1
 day_by command (Holders first None) old new edits follows =
     stays_then (begins_some first.edit) old new (begins_no command first.edit edits.1 refl) follows
 day_by command change old new edits follows = absurd edits

@@ -22,9 +22,9 @@ use Rattle.registry.specs.History.{History}
 use Rattle.registry.specs.HypotheticalHistory.{JudgesChange}
 use Rattle.registry.specs.Import.{JudgesRow}
 use Rattle.registry.specs.HolderEntries.{is_this, names_holder, entries_naming, entries_for}
-use Rattle.registry.specs.Rows.{Rows, changed, changed_by_one, changed_by_second, changed_exceptions}
+use Rattle.registry.specs.Rows.{Rows, changed, changed_by_one, changed_by_second, changed_files}
 use Rattle.registry.specs.Verdict.{Verdict, IsLegal}
-use Rattle.slurm.specs.Exceptions.{Exceptions}
+use Rattle.slurm.specs.declared.set.NamedSlurm.{NamedSlurm}
 use Rattle.desk.specs.Answer.{is_import, AnswersCommand, AnswersShow, AnswersContent, AnswersList, AnswersQuery, AnswersRequest}
 use Rattle.desk.specs.HolderAnswers.{IsAnswerOn, IsAnswerByEntries, AnswersByEntries, RunsByEntries}
 use Rattle.desk.specs.Run.{Runs}
@@ -198,8 +198,8 @@ others_left command (Holders first second) h rows of unnamed =
     ∙ left_by_one first (holder_of command) h rows of.0 others.0
 others_left command (Replace file) h rows of unnamed = refl
 
--- and where the command brings no SLURM file, the exceptions
-pub exceptions_left : (command : Command) (change : Change) (exceptions : Exceptions) → IsOfCommand command change → brings_exceptions command ≡ false
-    → changed_exceptions change exceptions ≡ exceptions
-exceptions_left command (Holders first second) exceptions of other = refl
-exceptions_left command (Replace file) exceptions of other = absurd (true≢false (sym (ap brings_exceptions of) ∙ other))
+-- and where the command brings no SLURM files, those in force
+pub files_left : (command : Command) (change : Change) (files : List NamedSlurm) → IsOfCommand command change → brings_exceptions command ≡ false
+    → changed_files change files ≡ files
+files_left command (Holders first second) files of other = refl
+files_left command (Replace brought) files of other = absurd (true≢false (sym (ap brings_exceptions of) ∙ other))

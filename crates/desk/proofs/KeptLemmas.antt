@@ -1,5 +1,5 @@
 -- What a desk keeps of a day is what its tables give, and what a history gives that it holds.
-use Rattle.std.proofs.Common.{◌≡◌, ℕ, ◌<◌, List, [], ◌∷◌, Bool, true, false, ◌↔◌, inl, inr, Option, Some, None, Result, Ok, Err, refl, sym, ap, subst, ◌∙◌, arith, Contains}
+use Rattle.std.proofs.Common.{◌≡◌, ℕ, ◌<◌, List, [], ◌∷◌, ◌++◌, map, flat_map, Bool, true, false, ◌↔◌, inl, inr, Option, Some, None, Result, Ok, Err, refl, sym, ap, subst, ◌∙◌, arith, Contains}
 use Rattle.std.specs.Prelude.{IfSome, OnErr}
 use Rattle.addr.specs.declared.vrp.Vrp.{Vrp}
 use Rattle.charters.specs.declared.charter.Charter.{Charter}
@@ -18,16 +18,18 @@ use Rattle.registry.specs.Verdict.{IsLegal}
 use Rattle.registry.proofs.Held.{active-numbered}
 use Rattle.registry.proofs.Numbers.{Numbered, later}
 use Rattle.slurm.specs.Exceptions.{Exceptions}
+use Rattle.slurm.specs.SlurmSets.{union}
 use Rattle.slurm.specs.declared.filter.Filter.{Filter}
+use Rattle.slurm.specs.declared.set.NamedSlurm.{NamedSlurm}
 use Rattle.sqlite.specs.Store.{Ghosts}
 use Rattle.sqlite.specs.State.{HasCleanDisk}
 use Rattle.sqlite_rules.specs.Lists.{Has}
 use Rattle.sqlite_trees.specs.Tree.{Trees}
 use Rattle.tables.specs.TablesHold.{TablesHold}
-use Rattle.store.proofs.HeldAlike.{exceptions_alike}
+use Rattle.store.proofs.HeldAlike.{held_alike}
 use Rattle.tables.proofs.Once.{AreNumberedOnce, given_alike, once_by_numbers}
 use Rattle.store.specs.Given.{GivenOnce}
-use Rattle.store.specs.Loads.{OfHeldRows}
+use Rattle.store.specs.Loads.{AreFilesOf, OfHeldRows}
 use Rattle.store.specs.StoreRows.{connection_state, Holds, HoldsAfter, IsRead, StoreView}
 use Rattle.desk.proofs.DailyLemmas.{given_on}
 use Rattle.desk.specs.Desk.{charter_of, HoldsHistory, IsDayOf, IsOnCleanDisk, KeepsRows, OfHistories, OfRows}
@@ -56,14 +58,27 @@ pub day_of_history : (charter : Charter) (rows : AllRows) (history : History) �
 day_of_history charter rows history legal has k is v =
     let on = given_on charter rows history legal has k.day v in
     let alike = after_alike (exceptions_of k) v on.0 on.1 in
-    let same = subst (λ (e : Exceptions). IsAfterExceptions (exceptions_of k) (IsVrpInForce history k.day v) v ↔ IsAfterExceptions e (IsVrpInForce history k.day v) v) has.exceptions
-    (after_same k rows.exceptions is.exceptions (IsVrpInForce history k.day v) v) in
+    let same = subst (λ (e : Exceptions). IsAfterExceptions (exceptions_of k) (IsVrpInForce history k.day v) v ↔ IsAfterExceptions e (IsVrpInForce history k.day v) v) (ap union has.files)
+    (after_same k (union rows.files) is.exceptions (IsVrpInForce history k.day v) v) in
     (λ there. same.0 (alike.0 ((is.given v).0 there)), λ on_day. (is.given v).1 (alike.1 (same.1 on_day)))
+
+-- the entries of the files without their names are those of the files
+entries_of_each : {X : Type 0} (entries : Exceptions → List X) (held : List NamedSlurm)
+    → flat_map entries (map (λ (f : NamedSlurm). f.file) held) ≡ flat_map (λ (f : NamedSlurm). entries f.file) held
+entries_of_each entries [] = refl
+entries_of_each entries (f ∷ rest) = ap (λ l. entries f.file ++ l) (entries_of_each entries rest)
+
+-- the filters and the assertions of all files that are loaded are the exceptions of the files together
+pub together : (held : List NamedSlurm) (files : List Exceptions) (filters : List Filter) (assertions : List Vrp) → AreFilesOf held files
+    → filters ≡ flat_map (λ (f : Exceptions). f.filters) files → assertions ≡ flat_map (λ (f : Exceptions). f.assertions) files
+    → record { filters = filters; assertions = assertions } ≡ union held
+together held files filters assertions are of_filters of_assertions =
+    rw (of_filters, of_assertions, are, entries_of_each (λ (f : Exceptions). f.filters) held, entries_of_each (λ (f : Exceptions). f.assertions) held) refl
 
 -- what is kept of the VRPs that the rows give, with their exceptions, is of the rows
 pub day_of_found : (rows : AllRows) (day : ℕ) (vrps : List Vrp) (k : KeptDay) (filters : List Filter) (assertions : List Vrp)
     → k.day ≡ day → IsKept (λ v. Contains vrps v) k → HasExceptions k (record { filters = filters; assertions = assertions })
-    → ((v : Vrp) → Contains vrps v ↔ IsGivenOn rows day v) → record { filters = filters; assertions = assertions } ≡ rows.exceptions
+    → ((v : Vrp) → Contains vrps v ↔ IsGivenOn rows day v) → record { filters = filters; assertions = assertions } ≡ union rows.files
     → IsDayOfRows rows k
 day_of_found rows day vrps k filters assertions on kept has found are = record {
   exceptions = subst (HasExceptions k) are has;
@@ -104,7 +119,7 @@ numbers_once history rows has h r of =
 pub day_alike : (c d : CharterSets) (a b : AllRows) (trees : Trees) → AreNumberedOnce trees → TablesHold c a trees → TablesHold d b trees
     → (k : KeptDay) → IsDayOfRows a k → IsDayOfRows b k
 day_alike c d a b trees once one other k is = record {
-  exceptions = subst (HasExceptions k) (exceptions_alike a.exceptions b.exceptions _ one.exceptions other.exceptions) is.exceptions;
+  exceptions = subst (HasExceptions k) (ap union (held_alike a.files b.files _ one.files other.files)) is.exceptions;
   given = λ v.
       let alike = after_alike (exceptions_of k) v (given_alike c d a b trees once one other k.day v) (given_alike d c b a trees once other one k.day v) in
       (λ there. alike.0 ((is.given v).0 there), λ after. (is.given v).1 (alike.1 after));

@@ -21,7 +21,7 @@ makes_auths _ = false
 -- An accepted command leaves the day, except that other exceptions let it go, and so may what makes authorizations,
 -- where their VRPs find no memory.
 abbrev pub DayAfterCommand : Command → Option ℕ → Option ℕ → Type 0
-DayAfterCommand (Slurm file) old new = new ≡ None
+DayAfterCommand (Slurm files) old new = new ≡ None
 DayAfterCommand (Create holder terms) old new = (new ≡ old) ⊎ (new ≡ None)
 DayAfterCommand (Amend holder n maxes until) old new = (new ≡ old) ⊎ (new ≡ None)
 DayAfterCommand (Import holder rows) old new = (new ≡ old) ⊎ (new ≡ None)

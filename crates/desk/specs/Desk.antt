@@ -1,4 +1,4 @@
--- What a desk keeps: its charter, in the tables of its store the rows of each holder and the exceptions,
+-- What a desk keeps: its charter, in the tables of its store the rows of each holder and the SLURM files,
 -- and beside them the VRPs of a day.
 use Rattle.std.specs.Prelude.{◌≡◌, ◌↔◌, false, Contains, IfSome}
 use Rattle.addr.specs.declared.vrp.Vrp.{Vrp}

@@ -87,7 +87,7 @@ abbrev pub may_change : Request → List ℕ → Bool
 may_change (CommandRequest command) h = names_holder h command
 may_change (QueryRequest query) h = false
 
--- a SLURM file may change the exceptions, and no other request does
+-- SLURM files may change the exceptions, and no other request does
 abbrev pub may_except : Request → Bool
 may_except (CommandRequest command) = brings_exceptions command
 may_except (QueryRequest query) = false
@@ -100,10 +100,10 @@ abbrev pub may_except_any : List Asked → Bool
 may_except_any asked = list_any (λ a. may_except a.request) asked
 
 -- of each holder for which the test is false the tables hold, in every one, the rows that they held; and
--- the exceptions that they held, unless these may change
+-- the SLURM files that they held, unless these may change
 abbrev pub KeepsOthers : {S : Type 0} → Ghosts S → (List ℕ → Bool) → Bool → Desk S → Desk S → Type 0
 KeepsOthers g changes excepts old new =
     (rows : AllRows) → Holds g (store_of old) rows
     → (after : AllRows) × Holds g (store_of new) after
     × ((h : List ℕ) → changes h ≡ false → after.of_holder h ≡ rows.of_holder h)
-    × (excepts ≡ false → after.exceptions ≡ rows.exceptions)
+    × (excepts ≡ false → after.files ≡ rows.files)

@@ -23,7 +23,7 @@ abbrev pub AreLoadedFor : Change → Option HolderRows → Option HolderRows →
 AreLoadedFor (Holders first None) one other rows = AreLoaded (rows.of_holder first.holder) one
 AreLoadedFor (Holders first (Some second)) one other rows =
     AreLoaded (rows.of_holder first.holder) one × AreLoaded (rows.of_holder second.holder) other
-AreLoadedFor (Exceptions file) one other rows = ⊤
+AreLoadedFor (Exceptions files) one other rows = ⊤
 
 -- of two holders, the change edits another second, and begins no authorization of the first
 abbrev pub EditsTwoApart : Change → Type 0
@@ -45,7 +45,7 @@ abbrev pub FollowsChange : Change → Option HolderRows → Option HolderRows �
 FollowsChange (Holders first None) one other old new = FollowsEdit first.edit one old new
 FollowsChange (Holders first (Some second)) one other old new =
     (mid : KeptDay) × FollowsEdit first.edit one old mid × FollowsEdit second.edit other mid new
-FollowsChange (Exceptions file) one other old new = ⊥
+FollowsChange (Exceptions files) one other old new = ⊥
 
 -- the edit may begin authorizations
 abbrev pub begins_some : Edit → Bool
@@ -58,7 +58,7 @@ begins_some _ = false
 abbrev pub may_drop : Change → Bool
 may_drop (Holders first None) = begins_some first.edit
 may_drop (Holders first (Some second)) = begins_some first.edit || begins_some second.edit
-may_drop (Exceptions file) = true
+may_drop (Exceptions files) = true
 
 -- what is kept is of the rows after the change, if it was of the rows before it
 abbrev pub Follows :
@@ -69,7 +69,7 @@ Follows change one other old new =
 
 -- the day that is kept stays, or is let go where it may be; with other exceptions it is let go
 abbrev pub FollowsDay : Change → Option ℕ → Option ℕ → Type 0
-FollowsDay (Exceptions file) old new = new ≡ None
+FollowsDay (Exceptions files) old new = new ≡ None
 FollowsDay change old new = (new ≡ old) ⊎ ((new ≡ None) × (may_drop change ≡ true))
 
 -- the reply where there is one; a fault is told as unavailable

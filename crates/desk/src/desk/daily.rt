@@ -11,7 +11,7 @@ ghost use Rattle.desk.specs.Lent.{Lends};
 ghost use Rattle.desk.specs.Prepared.{day_of, IsPrepared};
 
 use super::Desk;
-use crate::exceptions::entries_of;
+use crate::exceptions::{assertions_of, filters_of};
 use addr::{Day, Vrp};
 use kept::Kept;
 use payload::Trie;
@@ -30,7 +30,7 @@ fn read_day<S: Alter>(
     ensures found { IfClean S.Store store.new (IfOk result (λ found.
         OfHeldRows S.Store store.old (λ rows.
         ((v : Vrp) → Contains found.0.items v ↔ IsGivenOn rows day v)
-        × AreFilesOf rows.exceptions found.1.items))) }
+        × AreFilesOf rows.files found.1.items))) }
 {
     let vrps = store.all_auths_on(alloc, day)?;
     let files = store.slurm_files(alloc)?;
@@ -45,8 +45,9 @@ fn kept_on<S: Alter>(store: &mut Store<S>, alloc: Global, day: Day) -> Result<Ke
         OfHeldRows S.Store store.old (λ rows. IsDayOfRows rows kept))) }
 {
     let (vrps, files) = read_day(store, alloc, day)?;
-    let (filters, assertions) = entries_of(&files);
-    Ok(Kept::of(alloc, day, vrps, filters, assertions)?)
+    let filters = filters_of(alloc, &files)?;
+    let assertions = assertions_of(alloc, &files)?;
+    Ok(Kept::of(alloc, day, vrps, &filters, &assertions)?)
 }
 
 impl<S: Alter> Desk<S> {
