@@ -10,7 +10,7 @@ use Rattle.registry.specs.declared.asked.Asked.{Asked}
 use Rattle.registry.specs.declared.asked.Request.{Request}
 use Rattle.registry.specs.declared.asked.Request.TheVariants.{Command as CommandRequest, Query as QueryRequest}
 use Rattle.json_values.specs.Parts.{both, mapped}
-use Rattle.requests.specs.RequestFaults.{malformed_number}
+use Rattle.requests.specs.RequestFaults.{fault_order}
 use Rattle.requests.specs.declared.request.fault.Fault.{Fault}
 use Rattle.requests.specs.steps.RequestReading.{amend, asked_terms, import, request_terms, what_if}
 
@@ -21,8 +21,8 @@ asked_with p = record { day = p.0; caller = p.1.0; request = p.1.1 }
 pub asked_terms-parts : (day : Result ℕ Fault) (caller : Result (List ℕ) Fault)
     (request : Result Request Fault) →
     mapped asked_terms (mapped asked_with
-    (both malformed_number day (both malformed_number caller request)))
-    ≡ both malformed_number day (both malformed_number caller (mapped request_terms request))
+    (both fault_order day (both fault_order caller request)))
+    ≡ both fault_order day (both fault_order caller (mapped request_terms request))
 asked_terms-parts (Ok day) (Ok caller) (Ok request) = refl
 asked_terms-parts (Ok day) (Err n) (Ok request) = refl
 asked_terms-parts (Err m) (Ok caller) (Ok request) = refl
@@ -31,9 +31,9 @@ asked_terms-parts day caller request = refl
 
 pub amend-parts : (named : Result (List ℕ × ℕ) Fault) (until : Result ℕ Fault) (maxes : Result (Vec ℕ) Fault) →
     mapped request_terms (mapped (λ p. CommandRequest (Amend p.0.0 p.0.1 p.1.1 p.1.0))
-    (both malformed_number named (both malformed_number until maxes)))
+    (both fault_order named (both fault_order until maxes)))
     ≡ mapped (λ p. amend p.0.0 p.0.1 p.1.1 p.1.0)
-    (both malformed_number named (both malformed_number until (mapped (λ v. v.items) maxes)))
+    (both fault_order named (both fault_order until (mapped (λ v. v.items) maxes)))
 amend-parts (Ok named) (Ok until) (Ok maxes) = refl
 amend-parts (Ok named) (Ok until) (Err l) = refl
 amend-parts (Ok named) (Err n) (Ok maxes) = refl
@@ -44,8 +44,8 @@ amend-parts (Err m) (Err n) (Ok maxes) = refl
 amend-parts (Err m) (Err n) (Err l) = refl
 
 pub import-parts : (holder : Result (List ℕ) Fault) (rows : Result (Vec ImportRow) Fault) →
-    mapped request_terms (mapped (λ p. CommandRequest (Import p.0 p.1)) (both malformed_number holder rows))
-    ≡ mapped (λ p. import p.0 p.1) (both malformed_number holder (mapped (λ v. v.items) rows))
+    mapped request_terms (mapped (λ p. CommandRequest (Import p.0 p.1)) (both fault_order holder rows))
+    ≡ mapped (λ p. import p.0 p.1) (both fault_order holder (mapped (λ v. v.items) rows))
 import-parts (Ok holder) (Ok rows) = refl
 import-parts (Err m) (Ok rows) = refl
 import-parts holder rows = refl
@@ -53,10 +53,10 @@ import-parts holder rows = refl
 pub what_if-parts : (holder : Result (List ℕ) Fault) (changes : Result (Vec Proposed) Fault)
     (routes : Result (Vec Route) Fault) →
     mapped request_terms (mapped (λ p. QueryRequest (WhatIf p.0 p.1.0 p.1.1))
-    (both malformed_number holder (both malformed_number changes routes)))
+    (both fault_order holder (both fault_order changes routes)))
     ≡ mapped (λ p. what_if p.0 p.1.0 p.1.1)
-    (both malformed_number holder
-    (both malformed_number (mapped (λ v. v.items) changes) (mapped (λ v. v.items) routes)))
+    (both fault_order holder
+    (both fault_order (mapped (λ v. v.items) changes) (mapped (λ v. v.items) routes)))
 what_if-parts (Ok holder) (Ok changes) (Ok routes) = refl
 what_if-parts (Ok holder) (Err n) (Ok routes) = refl
 what_if-parts (Err m) (Ok changes) (Ok routes) = refl

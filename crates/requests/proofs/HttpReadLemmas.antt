@@ -1,5 +1,6 @@
 -- What the code reads of an HTTP message is the request that the message is, and its fault the lowest.
-use Rattle.std.proofs.Common.{◌≡◌, ℕ, List, [], ◌∷◌, ◌++◌, map, Option, Some, None, is_some, Result, Ok, Err, refl, sym, ap, ◌∙◌, append_assoc}
+use Rattle.std.proofs.Common.{◌≡◌, ℕ, List, [], ◌∷◌, ◌++◌, map, Option, Some, None, is_some, Result, Ok, Err, codes, inl, refl, sym, ap, ◌∙◌, append_assoc, arith}
+use Rattle.std.proofs.lemmas.Bool.Decides.{nat_tests}
 use Rattle.std.proofs.lemmas.Option.{same_Some}
 use Rattle.std.specs.Global.{Vec}
 use Rattle.std.specs.List.{flat_map}
@@ -10,7 +11,7 @@ use Rattle.addr.specs.Name.{name_in}
 use Rattle.serde_json.specs.Data.{Data, null}
 use Rattle.registry.specs.declared.authorization.ImportRow.{ImportRow}
 use Rattle.json_values.proofs.FaultLemmas.{reported-only}
-use Rattle.json_values.specs.Faults.{fault_unless, lower_of, lowest, name_faults}
+use Rattle.json_values.specs.Faults.{fault_unless, lower_of, lowest, name_faults, required_faults}
 use Rattle.json_values.specs.Parts.{lower, mapped}
 use Rattle.json_values.specs.Tree.{tree_of}
 use Rattle.csv_records.proofs.ImportLemmas.{import-read, import_in-said, import_in-reported}
@@ -20,30 +21,34 @@ use Rattle.csv_records.specs.steps.Importing.{import_in}
 use Rattle.registry.specs.declared.asked.Asked.{Asked}
 use Rattle.requests.specs.RequestHeads.{Head}
 use Rattle.requests.specs.declared.action.Action.{Action}
-use Rattle.requests.specs.declared.action.Action.TheVariants.{Import, Slurm}
+use Rattle.requests.specs.declared.action.Action.TheVariants.{Import, Slurm, Slurms}
 use Rattle.requests.specs.HttpFaults.{body_bytes, body_faults, head_caller, fault_of_import, http_fault, http_faults, import_faults, json_tree, object_body_faults, path_faults, parsed_body_faults}
-use Rattle.requests.specs.HttpRequests.{body_tree, http_heading, SaysAsked}
-use Rattle.requests.specs.RequestFaults.{as_malformed, body_members, body_names, choices_of, file_faults, malformed_number, named_by, part_faults}
+use Rattle.requests.specs.HttpRequests.{body_tree, files_brought, http_heading, SaysAsked}
+use Rattle.requests.specs.RequestFaults.{as_malformed, body_members, body_names, choices_of, file_faults, file_list, fault_order, named_by, part_faults}
 use Rattle.requests.specs.declared.request.commands.Subject.{Subject}
 use Rattle.requests.specs.declared.request.fault.Fault.{Fault}
-use Rattle.requests.specs.declared.request.fault.Fault.TheVariants.{Json, Members, Holder, Caller, Number}
+use Rattle.requests.specs.declared.request.fault.Fault.TheVariants.{Json, Members, Holder, Caller, Number, File}
 use Rattle.requests.specs.steps.HttpReading.{asked_of, import_body, import_rows, object_body, path_subject, request_by, tree_request}
-use Rattle.requests.specs.steps.RequestReading.{AskedTerms, RequestTerms, asked_terms, file_of, import, request_in, slurm_request}
+use Rattle.requests.specs.steps.RequestReading.{AskedTerms, RequestTerms, asked_terms, file_list_in, import, main_file_of, request_in, slurm_request}
 use Rattle.json_values.proofs.ReadingLemmas.{lowest-none, reads-both, reads-last, reads-mapped, reads-ok_or, reads-says, reads-unless}
+use Rattle.serde_json.specs.Find.{get}
+use Rattle.requests.specs.RequestText.{HasFileList}
+use Rattle.requests.proofs.FileReadLemmas.{reads-file_list}
 use Rattle.requests.proofs.RequestFaultLemmas.{ReadsUnlessFaulty}
 use Rattle.requests.proofs.RequestReadLemmas.{SaysTerms, reads-request, terms-said}
-use Rattle.requests.proofs.SlurmReadLemmas.{reads-file_of}
+use Rattle.requests.proofs.SlurmReadLemmas.{reads-main_file_of}
 
 -- no fault is lower than this one
-lower-json : (fault : Fault) → lower malformed_number fault Json ≡ Json
+lower-json : (fault : Fault) → lower fault_order fault Json ≡ Json
 unfolding lower
 lower-json Json = refl
+lower-json (File fault) = grind (arith, nat_tests)
 lower-json fault = refl
 
-lowest-json : (faults : List Fault) → Some Json ≡ lowest malformed_number (faults ++ Json ∷ [])
+lowest-json : (faults : List Fault) → Some Json ≡ lowest fault_order (faults ++ Json ∷ [])
 lowest-json [] = refl
 lowest-json (fault ∷ faults) =
-    ap Some (sym (lower-json fault)) ∙ ap (lower_of malformed_number (Some fault)) (lowest-json faults)
+    ap Some (sym (lower-json fault)) ∙ ap (lower_of fault_order (Some fault)) (lowest-json faults)
 
 reads-day : (day : ℕ) → ReadsUnlessFaulty (Ok day) [] (λ asked_day. asked_day ≡ day)
 reads-day day = record { reported = record { is = refl }; value = refl }
@@ -58,7 +63,7 @@ reads-text text =
   where
     reported : (read : Result (List ImportRow) ImportFault) (found : Option ImportFault) → result_err read ≡ found
         → result_err (result_map_both (λ rows. rows) fault_of_import read)
-        ≡ lowest malformed_number (map fault_of_import (option_to_list found))
+        ≡ lowest fault_order (map fault_of_import (option_to_list found))
     reported (Ok rows) found is = rw (← is) refl
     reported (Err fault) found is = rw (← is) refl
 
@@ -90,6 +95,11 @@ module _ (head : Head) (body : Option (List ℕ)) where
   abbrev SaysTree : Option Data → RequestTerms → Type 0
   SaysTree found terms = (d : Data) × (found ≡ Some d) × SaysTerms (http_heading head body d) d terms
 
+  -- the files that a body brings as a list
+  reads-list_brought : (d : Data) → head.action ≡ Slurms
+      → ReadsUnlessFaulty (file_list_in d) (required_faults Members (file_list d) (get (codes "files") d)) (HasFileList (files_brought head.action d))
+  reads-list_brought d is = rw is (reads-file_list d)
+
   -- a body that is to be an object, of a request that brings neither a file nor rows
   module _ (action : Action) (does : head.action ≡ action)
       (no_file : action ≡ Slurm → ⊥) (no_rows : action ≡ Import → ⊥) where
@@ -102,6 +112,7 @@ module _ (head : Head) (body : Option (List ℕ)) where
         reads-request (http_heading head body d) (path_subject head) (path_faults head)
         (reads-ok_or _ Holder) (reads-ok_or _ Number) action d (ap Some does)
         (λ file. absurd (no_file (sym does ∙ same_Some head.action Slurm file)))
+        (λ list. reads-list_brought d (same_Some head.action Slurms list))
         (λ rows. absurd (no_rows (sym does ∙ same_Some head.action Import rows)))
 
     reads-tree : (found : Option Data)
@@ -110,7 +121,7 @@ module _ (head : Head) (body : Option (List ℕ)) where
     reads-tree (Some d) =
         reads-says (λ terms says. (d, refl, says))
         (rw (← append_assoc in_path (part_faults (body_members action) (choices_of action) d) (name_faults Members (body_names action) d))
-        (reads-unless (reads-members d) (reported-only malformed_number Members (body_names action) d)))
+        (reads-unless (reads-members d) (reported-only fault_order Members (body_names action) d)))
 
     reads-object : (bytes : Option (List ℕ))
         → ReadsUnlessFaulty (object_body action (path_subject head) bytes) (in_path ++ object_body_faults action bytes)
@@ -120,9 +131,9 @@ module _ (head : Head) (body : Option (List ℕ)) where
 
   -- a body that is a file
   reads-slurm : head.action ≡ Slurm → (found : Option Data)
-      → ReadsUnlessFaulty (slurm_request (file_of found)) (file_faults found) (SaysTree found)
+      → ReadsUnlessFaulty (slurm_request (main_file_of found)) (file_faults found) (SaysTree found)
   reads-slurm does None = record { reported = record { is = refl }; value = tt }
-  reads-slurm does (Some d) = reads-mapped _ (λ p says. (d, refl, (ap Some does, says))) (reads-file_of (Some d))
+  reads-slurm does (Some d) = reads-mapped _ (λ p says. (d, refl, inl (ap Some does, says))) (reads-main_file_of (Some d))
 
   -- a body that is an import
   reads-import : head.action ≡ Import → ReadsUnlessFaulty (import_body (path_subject head) body)
@@ -160,7 +171,7 @@ module _ (head : Head) (body : Option (List ℕ)) where
         on_day = says.0;
         caller = says.1;
         request = terms-said (http_heading head body says.2.0) says.2.0 asked.request says.2.2;
-        faultless = lowest-none malformed_number (http_faults head body) (sym fault);
+        faultless = lowest-none fault_order (http_faults head body) (sym fault);
       }
 
   -- what is reported of a message is its lowest fault

@@ -1,8 +1,12 @@
+pub mod ArrangedReadLemmas
 pub mod AskedLemmas
 pub mod EntryOrder
 pub mod EntryReadLemmas
+pub mod FileOrder
+pub mod FileReadLemmas
 pub mod HeadLemmas
 pub mod HttpReadLemmas
+pub mod InOrder
 pub mod PathLemmas
 pub mod RequestFaultLemmas
 pub mod RequestReadLemmas

@@ -10,14 +10,14 @@ use Rattle.json_values.proofs.FaultLemmas.{reported-if, reported-ok_or, reported
 use Rattle.json_values.proofs.ReadingLemmas.{Reads, reads-each, reads-says, reads-unless, value-ok_or}
 use Rattle.json_values.specs.Faults.{reading_faults, required_faults}
 use Rattle.json_values.specs.Tree.{list_of, required}
-use Rattle.requests.specs.RequestFaults.{is_count, list_faults, malformed_number}
+use Rattle.requests.specs.RequestFaults.{is_count, list_faults, fault_order}
 use Rattle.requests.specs.RequestText.{HasItems, HasMember}
 use Rattle.requests.specs.declared.request.fault.Fault.{Fault}
 use Rattle.requests.specs.declared.request.fault.Fault.TheVariants.{Count, Members}
 use Rattle.requests.specs.steps.RequestReading.{items_of, member_in}
 
 abbrev pub ReadsUnlessFaulty : {A : Type 0} → Result A Fault → List Fault → (A → Type 0) → Type 0
-ReadsUnlessFaulty = Reads malformed_number
+ReadsUnlessFaulty = Reads fault_order
 
 found-reads : {A : Type 0} (reading : Data → Option A) (n : Fault) (o : Option Data) →
     IfOk (required Members (λ found. ok_or (reading found) n) o)
@@ -33,8 +33,8 @@ ReadsMember reading n name d =
 pub reads-member : {A : Type 0} (reading : Data → Option A) (n : Fault) (name : List ℕ) (d : Data) →
     ReadsMember reading n name d
 reads-member reading n name d = record {
-  reported = reported-required malformed_number Members _ (reading_faults reading n) (get name d)
-      (λ e. reported-ok_or malformed_number (reading e) n);
+  reported = reported-required fault_order Members _ (reading_faults reading n) (get name d)
+      (λ e. reported-ok_or fault_order (reading e) n);
   value = found-reads reading n (get name d);
 }
 
@@ -46,7 +46,7 @@ module _ {A : Type 0} (reading : Data → Result A Fault) (faults : Data → Lis
   reads-items None = record { reported = record { is = refl }; value = tt }
   reads-items (Some items) =
       reads-unless (reads-says (λ values each. (items, refl, each)) (reads-each reading faults Says (list_of items) reads))
-      (reported-if malformed_number (is_count least most (length (list_of items))) tt Count)
+      (reported-if fault_order (is_count least most (length (list_of items))) tt Count)
 
   -- the items of a member
   pub reads-list : (member : Option Data) → ReadsUnlessFaulty (items_of reading least most (option_and_then as_array member))

@@ -1,5 +1,5 @@
 -- What the code reads of a line is the request that the line is, and its fault the lowest.
-use Rattle.std.proofs.Common.{◌≡◌, ℕ, Bool, true, false, if◌then◌else◌, nat_lt, List, [], ◌∷◌, ◌++◌, map, length, codes, Option, Some, None, option_and_then, Ok, Err, refl, sym, ap, ◌∙◌, append_assoc, inl, inr}
+use Rattle.std.proofs.Common.{◌≡◌, ◌⊎◌, ℕ, Bool, true, false, if◌then◌else◌, nat_lt, List, [], ◌∷◌, ◌++◌, map, length, codes, Option, Some, None, option_and_then, Ok, Err, refl, sym, ap, ◌∙◌, append_assoc, inl, inr}
 use Rattle.std.proofs.lemmas.Grind.{flat_map-append}
 use Rattle.std.specs.List.{flat_map}
 use Rattle.addr.specs.declared.asn.Asn.{Asn as AsnValue}
@@ -8,7 +8,7 @@ use Rattle.registry.specs.declared.command.Proposed.TheVariants.{Create as Creat
 use Rattle.registry.specs.declared.command.Query.TheVariants.{Validity}
 use Rattle.serde_json.specs.Data.{Data}
 use Rattle.serde_json.specs.Find.{get, as_str}
-use Rattle.slurm.specs.SlurmEntries.{SaysExceptions}
+use Rattle.slurm.specs.declared.set.NamedSlurm.{NamedSlurm}
 use Rattle.json_values.proofs.FaultLemmas.{reported-only}
 use Rattle.json_values.specs.Faults.{required_faults}
 use Rattle.json_values.specs.Parts.{both, mapped}
@@ -16,22 +16,22 @@ use Rattle.json_values.specs.Tree.{tree_of}
 use Rattle.registry.specs.declared.asked.Asked.{Asked}
 use Rattle.registry.specs.declared.asked.Request.{Request}
 use Rattle.registry.specs.declared.asked.Request.TheVariants.{Command as CommandRequest, Query as QueryRequest}
-use Rattle.requests.specs.RequestFaults.{as_malformed, malformed_number, role_at, terms_members, row_members, entry_members, creation_members, withdrawal_members, route_members, names_of, part_names, part_faults, choice_faults, choices_of, entry_choice, line_names, object_faults, change_faults, rows, changes, routes, file, action_in, action_of, body_members, member_faults, named_by, named_member, Named, HolderName, NumberGiven, Kind, any_value, caller_name, day, members_of, action_faults, tree_faults, request_faults, request_fault}
-use Rattle.requests.specs.RequestText.{HasName, HasDay, HasMaxes, HasMember, HasRow, HasTerms, SaysChange, SaysRoute, HasItems, HasRoutes, Heading, Does, NamesHolder, NamesNumber, SaysRequest, line_heading, ReadsLine, SaysRows}
+use Rattle.requests.specs.RequestFaults.{as_malformed, fault_order, role_at, terms_members, row_members, entry_members, creation_members, withdrawal_members, route_members, names_of, part_names, part_faults, choice_faults, choices_of, entry_choice, line_names, object_faults, change_faults, rows, changes, routes, file_choice, file_list, action_in, action_of, body_members, member_faults, named_by, named_member, Named, HolderName, NumberGiven, Kind, any_value, caller_name, day, members_of, action_faults, tree_faults, request_faults, request_fault}
+use Rattle.requests.specs.RequestText.{HasName, HasDay, HasFileList, HasMainFile, HasMaxes, HasMember, HasRow, HasTerms, SaysChange, SaysRoute, HasItems, HasRoutes, Heading, Does, NamesHolder, NamesNumber, SaysRequest, line_heading, ReadsLine, SaysRows}
 use Rattle.json_values.specs.Values.{as_name, as_prefix, as_day, as_asn}
 use Rattle.requests.specs.RequestValues.{as_origin, as_number, as_role, as_scope}
 use Rattle.requests.specs.declared.request.TheConstants.{LINE_LENGTH_LIMIT}
 use Rattle.requests.specs.declared.action.Action.{Action}
-use Rattle.requests.specs.declared.action.Action.TheVariants.{Register as AskRegister, Delegate as AskDelegate, Transfer as AskTransfer, Reclaim as AskReclaim, Grant as AskGrant, Revoke as AskRevoke, Create as AskCreate, Amend as AskAmend, Withdraw as AskWithdraw, Slurm as AskSlurm, Show as AskShow, Content as AskContent, List as AskList, Export as AskExport, Import as AskImport, WhatIf as AskWhatIf, Payloads as AskPayloads, Validity as AskValidity}
+use Rattle.requests.specs.declared.action.Action.TheVariants.{Register as AskRegister, Delegate as AskDelegate, Transfer as AskTransfer, Reclaim as AskReclaim, Grant as AskGrant, Revoke as AskRevoke, Create as AskCreate, Amend as AskAmend, Withdraw as AskWithdraw, Slurm as AskSlurm, Slurms as AskSlurms, Show as AskShow, Content as AskContent, List as AskList, Export as AskExport, Import as AskImport, WhatIf as AskWhatIf, Payloads as AskPayloads, Validity as AskValidity}
 use Rattle.requests.specs.declared.request.lists.TheConstants.{MOST_ITEMS, MOST_CHANGES}
 use Rattle.requests.specs.declared.request.fault.Fault.{Fault}
 use Rattle.requests.specs.declared.request.commands.Subject.{Subject}
 use Rattle.requests.specs.declared.request.fault.Fault.TheVariants.{Members, Holder, Caller, Prefix as PrefixFault, Asn, Day, Role, Number, TooLong}
-use Rattle.requests.specs.steps.RequestReading.{RequestTerms, request, amend, import, validity, what_if, AskedTerms, request_terms, asked_terms, asn_and_days_in, terms_of, terms_in, row_of, row_in, change_by, change_in, route_in, rows_in, changes_in, routes_in, file_in, request_in, line_subject, asked_as, asked_by, asked_from, asked_in}
+use Rattle.requests.specs.steps.RequestReading.{RequestTerms, request, amend, import, validity, what_if, AskedTerms, request_terms, asked_terms, asn_and_days_in, terms_of, terms_in, row_of, row_in, change_by, change_in, route_in, rows_in, changes_in, routes_in, file_list_in, files_in, request_in, line_subject, asked_as, asked_by, asked_from, asked_in}
 use Rattle.json_values.proofs.ReadingLemmas.{reads-both, reads-mapped, reads-unless, reads-last, reads-says, lowest-none}
 use Rattle.requests.proofs.RequestFaultLemmas.{ReadsUnlessFaulty, ReadsMember, reads-list, reads-member}
 use Rattle.requests.proofs.EntryReadLemmas.{reads-entries, reads-entry_members, reads-maxes}
-use Rattle.requests.proofs.SlurmReadLemmas.{reads-file}
+use Rattle.requests.proofs.FileReadLemmas.{reads-file_list, reads-files}
 
 -- ---- members
 
@@ -81,18 +81,18 @@ reads-row d =
     (reads-unless
     (reads-mapped row_of (λ p says. (says.0.0, says.1.0, says.1.1, says.0.1.0, says.0.1.1))
     (reads-both (reads-asn_and_days d) (reads-entry_members d)))
-    (reported-only malformed_number Members (names_of row_members) d))
+    (reported-only fault_order Members (names_of row_members) d))
 
 reads-change : (action : Option Action) (d : Data) → action_in d ≡ action →
     ReadsUnlessFaulty (change_by action d) (change_faults action d) (SaysChange d)
 reads-change (Some AskCreate) d does =
     rw (do-faultless d AskCreate (get (codes "do") d) does)
     (reads-mapped CreateChange (λ terms says. (does, says))
-    (reads-unless (reads-terms d) (reported-only malformed_number Members (part_names creation_members (entry_choice ∷ [])) d)))
+    (reads-unless (reads-terms d) (reported-only fault_order Members (part_names creation_members (entry_choice ∷ [])) d)))
 reads-change (Some AskWithdraw) d does =
     rw (do-faultless d AskWithdraw (get (codes "do") d) does)
     (reads-mapped WithdrawChange (λ n says. (does, says))
-    (reads-unless (reads-last (number d)) (reported-only malformed_number Members (names_of withdrawal_members) d)))
+    (reads-unless (reads-last (number d)) (reported-only fault_order Members (names_of withdrawal_members) d)))
 reads-change other d does = record { reported = record { is = refl }; value = tt }
 
 reads-route : (d : Data) → ReadsUnlessFaulty (route_in d) (object_faults route_members d) (SaysRoute d)
@@ -100,7 +100,7 @@ reads-route d =
     reads-unless
     (reads-mapped (λ p. record { prefix = p.0; origin = p.1 }) (λ p read. (read.0, read.1))
     (reads-both (prefix d) (reads-last (reads-member as_origin Asn (codes "origin") d))))
-    (reported-only malformed_number Members (names_of route_members) d)
+    (reported-only fault_order Members (names_of route_members) d)
 
 pub reads-rows : (d : Data) → ReadsUnlessFaulty (rows_in d) (required_faults Members (rows d) (get (codes "rows") d))
     (HasItems HasRow (get (codes "rows") d))
@@ -142,63 +142,74 @@ said_faults named action d =
 module _ (h : Heading) (subject : Subject) (named : Named → List Fault)
     (holder : ReadsUnlessFaulty subject.holder (named HolderName) (NamesHolder h))
     (number : ReadsUnlessFaulty subject.number (named NumberGiven) (NamesNumber h)) where
-  holder_and_number : ReadsUnlessFaulty (both malformed_number subject.holder subject.number)
+  holder_and_number : ReadsUnlessFaulty (both fault_order subject.holder subject.number)
       (flat_map named (HolderName ∷ NumberGiven ∷ [])) (λ p. NamesHolder h p.0 × NamesNumber h p.1)
   holder_and_number = reads-both holder (reads-last number)
 
-  -- the file of a member is the one that the heading has, where a file is brought at all
-  abbrev pub ReadsFile : Data → Type 0
-  ReadsFile d = Does AskSlurm h
-      → ReadsUnlessFaulty (file_in d) (required_faults Members (file d) (get (codes "file") d)) (SaysExceptions h.file)
+  -- the files of members are those that the heading has, where files are brought at all
+  abbrev pub ReadsFiles : Data → Type 0
+  ReadsFiles d = Does AskSlurm h
+      → ReadsUnlessFaulty (files_in d) (choice_faults file_choice d) (λ files. HasMainFile h.file files ⊎ HasFileList h.files files)
 
-  -- and so the rows
+  abbrev pub ReadsFileList : Data → Type 0
+  ReadsFileList d = Does AskSlurms h
+      → ReadsUnlessFaulty (file_list_in d) (required_faults Members (file_list d) (get (codes "files") d)) (HasFileList h.files)
+
+  -- a set of files, as one or as a list
+  says-files : Does AskSlurm h → (files : List NamedSlurm) → HasMainFile h.file files ⊎ HasFileList h.files files
+      → (Does AskSlurm h × HasMainFile h.file files) ⊎ ((Does AskSlurm h ⊎ Does AskSlurms h) × HasFileList h.files files)
+  says-files does files (inl one) = inl (does, one)
+  says-files does files (inr list) = inr (inl does, list)
+
   abbrev pub ReadsRows : Data → Type 0
   ReadsRows d = Does AskImport h
       → ReadsUnlessFaulty (rows_in d) (required_faults Members (rows d) (get (codes "rows") d)) (SaysRows h.rows)
 
-  pub reads-request : (action : Action) (d : Data) → Does action h → ReadsFile d → ReadsRows d →
+  pub reads-request : (action : Action) (d : Data) → Does action h → ReadsFiles d → ReadsFileList d → ReadsRows d →
       ReadsUnlessFaulty (request_in action subject d) (said_faults named action d) (SaysTerms h d)
-  reads-request AskRegister d does file_brought rows_brought = reads-mapped _ (λ p says. (does, says)) (reads-last (reads-last holder))
-  reads-request AskDelegate d does file_brought rows_brought =
+  reads-request AskRegister d does files_brought list_brought rows_brought = reads-mapped _ (λ p says. (does, says)) (reads-last (reads-last holder))
+  reads-request AskDelegate d does files_brought list_brought rows_brought =
       reads-mapped _ (λ p says. (does, says.0, says.1))
       (reads-both (reads-last holder) (reads-last (reads-last (prefix d))))
-  reads-request AskTransfer d does file_brought rows_brought =
+  reads-request AskTransfer d does files_brought list_brought rows_brought =
       reads-mapped _ (λ p says. (does, says.0, says.1.0, says.1.1))
       (reads-last (reads-both (prefix d) (reads-both (reads-member as_name Holder (codes "giver") d)
       (reads-last (reads-member as_name Holder (codes "taker") d)))))
-  reads-request AskReclaim d does file_brought rows_brought =
+  reads-request AskReclaim d does files_brought list_brought rows_brought =
       reads-mapped _ (λ p says. (does, says.0, says.1))
       (reads-both (reads-last holder) (reads-last (reads-last (prefix d))))
-  reads-request AskGrant d does file_brought rows_brought =
+  reads-request AskGrant d does files_brought list_brought rows_brought =
       reads-mapped _ (λ p says. (does, says.0, says.1.0, says.1.1.0, says.1.1.1.0, says.1.1.1.1))
       (reads-both (reads-last holder) (reads-last (reads-both (reads-member as_name Caller (codes "name") d)
       (reads-both (reads-member as_role Role (codes "role") d)
       (reads-both (reads-member (as_scope (role_at d)) Role (codes "scope") d) (reads-last (until d)))))))
-  reads-request AskRevoke d does file_brought rows_brought =
+  reads-request AskRevoke d does files_brought list_brought rows_brought =
       reads-mapped _ (λ p says. (does, says.0, says.1)) (reads-last holder_and_number)
-  reads-request AskCreate d does file_brought rows_brought =
+  reads-request AskCreate d does files_brought list_brought rows_brought =
       reads-mapped _ (λ p says. (does, says.0, says.1)) (reads-both (reads-last holder) (reads-terms d))
-  reads-request AskAmend d does file_brought rows_brought =
+  reads-request AskAmend d does files_brought list_brought rows_brought =
       reads-mapped _ (λ p says. (does, says.0.0, says.0.1, says.1.1, says.1.0))
       (reads-both holder_and_number (reads-both (reads-last (until d)) (reads-last (reads-maxes d))))
-  reads-request AskWithdraw d does file_brought rows_brought =
+  reads-request AskWithdraw d does files_brought list_brought rows_brought =
       reads-mapped _ (λ p says. (does, says.0, says.1)) (reads-last holder_and_number)
-  reads-request AskSlurm d does file_brought rows_brought = reads-mapped _ (λ p says. (does, says)) (reads-last (reads-last (file_brought does)))
-  reads-request AskShow d does file_brought rows_brought =
+  reads-request AskSlurm d does files_brought list_brought rows_brought = reads-mapped _ (says-files does) (reads-last (files_brought does))
+  reads-request AskSlurms d does files_brought list_brought rows_brought =
+      reads-mapped _ (λ p says. inr (inr does, says)) (reads-last (reads-last (list_brought does)))
+  reads-request AskShow d does files_brought list_brought rows_brought =
       reads-mapped _ (λ p says. (does, says.0, says.1)) (reads-last holder_and_number)
-  reads-request AskContent d does file_brought rows_brought =
+  reads-request AskContent d does files_brought list_brought rows_brought =
       reads-mapped _ (λ p says. (does, says.0, says.1)) (reads-last holder_and_number)
-  reads-request AskList d does file_brought rows_brought =
+  reads-request AskList d does files_brought list_brought rows_brought =
       reads-mapped _ (λ p says. (inl does, says)) (reads-last (reads-last holder))
-  reads-request AskExport d does file_brought rows_brought =
+  reads-request AskExport d does files_brought list_brought rows_brought =
       reads-mapped _ (λ p says. (inr does, says)) (reads-last (reads-last holder))
-  reads-request AskImport d does file_brought rows_brought =
+  reads-request AskImport d does files_brought list_brought rows_brought =
       reads-mapped _ (λ p says. (does, says.0, says.1)) (reads-both (reads-last holder) (reads-last (reads-last (rows_brought does))))
-  reads-request AskWhatIf d does file_brought rows_brought =
+  reads-request AskWhatIf d does files_brought list_brought rows_brought =
       reads-mapped _ (λ p says. (does, says.0, says.1.0, says.1.1))
       (reads-both (reads-last holder) (reads-last (reads-both (reads-changes d) (reads-last (reads-routes d)))))
-  reads-request AskPayloads d does file_brought rows_brought = record { reported = record { is = refl }; value = does }
-  reads-request AskValidity d does file_brought rows_brought =
+  reads-request AskPayloads d does files_brought list_brought rows_brought = record { reported = record { is = refl }; value = does }
+  reads-request AskValidity d does files_brought list_brought rows_brought =
       reads-mapped validity (λ p says. (does, says))
       (reads-last (reads-last (reads-routes d)))
 
@@ -254,8 +265,8 @@ reads-asked action d does =
     (reads-unless (reads-says (λ p says. (d, refl, says.0, says.1.0, says.1.1))
     (reads-both (reads-member as_day Day (codes "day") d)
     (reads-both (reads-member as_name Caller (codes "caller") d)
-    (reads-request (line_heading d) (line_subject d) (named_faults d) (holder d) (number d) action d does (λ _. reads-file d) (λ _. reads-rows d)))))
-    (reported-only malformed_number Members (line_names action) d))
+    (reads-request (line_heading d) (line_subject d) (named_faults d) (holder d) (number d) action d does (λ _. reads-files d) (λ _. reads-file_list d) (λ _. reads-rows d)))))
+    (reported-only fault_order Members (line_names action) d))
 
 reads-by : (action : Option Action) (d : Data) → action_in d ≡ action →
     ReadsUnlessFaulty (asked_by action d) (action_faults action d) (AsksTerms (Some d))
@@ -289,7 +300,7 @@ line-read line asked read =
       day = says.2;
       caller = says.3;
       request = terms-said (line_heading says.0) says.0 asked.request says.4;
-      faultless = lowest-none malformed_number (request_faults line) (sym fault);
+      faultless = lowest-none fault_order (request_faults line) (sym fault);
     }
 
 -- what is reported of a line is its lowest fault

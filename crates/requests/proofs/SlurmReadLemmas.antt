@@ -1,10 +1,12 @@
 -- What is read of a SLURM file in a request: the exceptions that it says are those that one reading
 -- of its tree gives, and its fault is that reading's.
-use Rattle.std.proofs.Common.{◌≡◌, List, [], ◌∷◌, Option, Some, None, Result, Ok, Err, refl, sym, ap, ◌∙◌, subst, map, codes}
+use Rattle.std.proofs.Common.{◌≡◌, List, [], ◌∷◌, Option, Some, None, Result, Ok, Err, length, refl, sym, ap, ◌∙◌, subst, map, codes}
 use Rattle.std.proofs.lemmas.Option.{none-some, same_Some}
-use Rattle.std.specs.List.{AllZip}
+use Rattle.std.proofs.lemmas.List.Elements.{All-from_recursion, recursion_from_All}
+use Rattle.std.proofs.lemmas.List.Sorted.{All-permutation, length_permutation}
+use Rattle.std.specs.List.{AllByRecursion, AllZip}
 use Rattle.std.specs.Option.{option_to_list}
-use Rattle.std.specs.Prelude.{IfOk}
+use Rattle.std.specs.Prelude.{IfOk, IsPermutation}
 use Rattle.std.specs.Result.{result_err, result_map_both}
 use Rattle.addr.proofs.PrefixSpellingLemmas.{Spells_unique}
 use Rattle.addr.specs.Order.{same_vrp}
@@ -25,9 +27,11 @@ use Rattle.slurm.specs.declared.filter.Filter.TheVariants.{Under, By, Both}
 use Rattle.slurm.specs.steps.SlurmFile.{slurm_in}
 use Rattle.json_values.specs.Faults.{lowest, required_faults}
 use Rattle.json_values.specs.Tree.{required}
-use Rattle.requests.specs.RequestFaults.{file, file_faults, malformed_number}
+use Rattle.requests.specs.RequestFaults.{file, file_faults, fault_order}
 use Rattle.requests.specs.declared.request.fault.Fault.TheVariants.{File, Members}
-use Rattle.requests.specs.steps.RequestReading.{as_file, file_in, file_of}
+use Rattle.requests.specs.RequestText.{HasMainFile, main_alone}
+use Rattle.requests.specs.steps.RequestReading.{as_file, file_in, file_of, main_file_in, main_file_of}
+use Rattle.json_values.proofs.ReadingLemmas.{reads-mapped}
 use Rattle.requests.proofs.RequestFaultLemmas.{ReadsUnlessFaulty}
 
 same_prefix_member : (member : Option Data) (p q : Prefix) → IsPrefixMember member p → IsPrefixMember member q → p ≡ q
@@ -98,7 +102,7 @@ read_err d fault reported = go (slurm_in d) refl
     go (Ok other) is = let none : None ≡ Some fault = sym (ap result_err is) ∙ slurm_fault-reported d ∙ reported in absurd (none-some fault none)
     go (Err n) is = ap (λ (x : SlurmFault). Err x) (same_Some fault n (sym (sym (ap result_err is) ∙ slurm_fault-reported d ∙ reported)))
 
-reported-file : (read : Result Exceptions SlurmFault) → result_err (result_map_both (λ (x : Exceptions). x) File read) ≡ lowest malformed_number (map File (option_to_list (result_err read)))
+reported-file : (read : Result Exceptions SlurmFault) → result_err (result_map_both (λ (x : Exceptions). x) File read) ≡ lowest fault_order (map File (option_to_list (result_err read)))
 reported-file (Ok exceptions) = refl
 reported-file (Err n) = refl
 
@@ -109,7 +113,7 @@ said-file value (Err n) is = tt
 -- what is read of a file is what it says, and its fault the lowest
 reads-as_file : (value : Data) → ReadsUnlessFaulty (as_file value) (file_faults (Some value)) (SaysExceptions (Some value))
 reads-as_file value = record {
-  reported = record { is = reported-file (slurm_in value) ∙ ap (λ (fault : Option SlurmFault). lowest malformed_number (map File (option_to_list fault))) (slurm_fault-reported value) };
+  reported = record { is = reported-file (slurm_in value) ∙ ap (λ (fault : Option SlurmFault). lowest fault_order (map File (option_to_list fault))) (slurm_fault-reported value) };
   value = said-file value (slurm_in value) refl;
 }
 
@@ -121,6 +125,24 @@ reads-file d = at (get (codes "file") d)
     at (Some value) = reads-as_file value
 
 -- the same of a file that may be no JSON
-pub reads-file_of : (found : Option Data) → ReadsUnlessFaulty (file_of found) (file_faults found) (SaysExceptions found)
+reads-file_of : (found : Option Data) → ReadsUnlessFaulty (file_of found) (file_faults found) (SaysExceptions found)
 reads-file_of None = record { reported = record { is = refl }; value = tt }
 reads-file_of (Some value) = reads-as_file value
+
+-- the set of one file
+pub reads-main_file : (d : Data) → ReadsUnlessFaulty (main_file_in d) (required_faults Members (file d) (get (codes "file") d)) (HasMainFile (get (codes "file") d))
+reads-main_file d = reads-mapped main_alone (λ file says. (file, says, refl)) (reads-file d)
+
+pub reads-main_file_of : (found : Option Data) → ReadsUnlessFaulty (main_file_of found) (file_faults found) (HasMainFile found)
+reads-main_file_of found = reads-mapped main_alone (λ file says. (file, says, refl)) (reads-file_of found)
+
+-- one file in another order
+alone : {X : Type 0} (x : X) (ys : List X) → length ys ≡ 1 → AllByRecursion (λ y. y ≡ x) ys → ys ≡ x ∷ []
+alone x [] long all = absurd cc
+alone x (y ∷ []) long all = ap (λ z. z ∷ []) all.0
+alone x (y ∷ z ∷ ys) long all = absurd cc
+
+pub still_alone : {X : Type 0} (x : X) (ys : List X) → IsPermutation (x ∷ []) ys → ys ≡ x ∷ []
+still_alone x ys moved =
+    alone x ys (length_permutation (x ∷ []) ys moved)
+    (recursion_from_All (λ y. y ≡ x) ys (All-permutation (λ y. y ≡ x) (x ∷ []) ys moved (All-from_recursion (λ y. y ≡ x) (x ∷ []) (refl, tt))))

@@ -1,11 +1,12 @@
 -- Which request the bytes of an HTTP message are: a head as http_messages defines it, with the body that it announces.
-use Rattle.std.specs.Prelude.{◌≡◌, ◌<◌, ◌⊎◌, ℕ, List, [], ◌++◌, length, Option, Some, option_map, Ok, Err}
+use Rattle.std.specs.Prelude.{◌≡◌, ◌<◌, ◌⊎◌, ℕ, List, [], ◌++◌, length, codes, Option, Some, None, option_map, Ok, Err}
 use Rattle.addr.specs.Name.{name_in}
 use Rattle.serde_json.specs.Data.{Data, null}
+use Rattle.serde_json.specs.Find.{get}
 use Rattle.http_messages.specs.HeadEnd.{IsWholeHead, LacksEnd}
 use Rattle.requests.specs.RequestHeads.{Head, SaysHead}
 use Rattle.requests.specs.declared.action.Action.{Action}
-use Rattle.requests.specs.declared.action.Action.TheVariants.{Import}
+use Rattle.requests.specs.declared.action.Action.TheVariants.{Import, Slurms}
 use Rattle.http_messages.specs.declared.head.TheConstants.{HEAD_LIMIT}
 use Rattle.http_messages.specs.declared.refusal.HttpRefusal.{HttpRefusal}
 use Rattle.http_messages.specs.declared.refusal.HttpRefusal.TheVariants.{BadRequest}
@@ -23,6 +24,11 @@ abbrev pub body_tree : Action → Option (List ℕ) → Option Data
 body_tree Import body = Some null
 body_tree action body = json_tree body
 
+-- the list of SLURM files that a body brings
+abbrev pub files_brought : Action → Data → Option Data
+files_brought Slurms tree = get (codes "files") tree
+files_brought action tree = None
+
 -- the action is that of path and method, the path names holder and number, a SLURM file is the body's value, and the
 -- rows of an import are the body's
 abbrev pub http_heading : Head → Option (List ℕ) → Data → Heading
@@ -31,6 +37,7 @@ http_heading head body tree = record {
   holder = name_in head.holder;
   number = path_number head.number;
   file = Some tree;
+  files = files_brought head.action tree;
   rows = in_text (body_bytes body);
 }
 

@@ -1,12 +1,11 @@
 -- The table of requests, and every fault of a line as one of them, wherever it is in the line: the lowest of all is
 -- reported.
 -- A line is judged by the tree that the JSON reader gives: of a repeated member it has the last value.
-use Rattle.std.specs.Prelude.{ℕ, nat_le, nat_lt, ◌&&◌, Bool, true, false, not, List, [], ◌∷◌, ◌++◌, map, length, codes, if◌then◌else◌, Option, Some, None, option_map, option_and_then, is_some, find}
+use Rattle.std.specs.Prelude.{ℕ, ◌+◌, ◌*◌, nat_le, nat_lt, ◌&&◌, Bool, true, false, not, List, [], ◌∷◌, ◌++◌, map, length, codes, if◌then◌else◌, Option, Some, None, option_map, option_and_then, is_some, find}
 use Rattle.std.specs.List.{flat_map, list_any}
 use Rattle.std.specs.Option.{option_to_list}
 use Rattle.std.specs.Str.{bytes_eq}
 use Rattle.addr.specs.Address.{prefix_eq}
-use Rattle.addr.specs.declared.prefix.Prefix.{Prefix as PrefixValue}
 use Rattle.charters.specs.Repeats.{has_repeat}
 use Rattle.registry.specs.declared.grant.Role.{Role}
 use Rattle.requests.specs.declared.request.entries.TheConstants.{MOST_ENTRIES}
@@ -17,6 +16,7 @@ use Rattle.json_values.specs.Tree.{tree_of, list_of}
 use Rattle.json_values.specs.Values.{as_name, as_prefix, as_day, as_asn}
 use Rattle.slurm.specs.Fault.{slurm_fault_number}
 use Rattle.slurm.specs.SlurmFaults.{slurm_fault}
+use Rattle.slurm.specs.declared.set.TheConstants.{MOST_FILES}
 use Rattle.http_messages.specs.declared.method.Method.{Method}
 use Rattle.http_messages.specs.declared.method.Method.TheVariants.{Get, Put, Post, Patch, Delete}
 use Rattle.http_messages.specs.declared.response.ContentType.{ContentType}
@@ -27,12 +27,12 @@ use Rattle.requests.specs.RequestValues.{as_origin, as_max, as_number, as_role, 
 use Rattle.requests.specs.declared.request.TheConstants.{LINE_LENGTH_LIMIT}
 use Rattle.requests.specs.declared.malformed.Malformed.{Malformed}
 use Rattle.requests.specs.declared.action.Action.{Action}
-use Rattle.requests.specs.declared.action.Action.TheVariants.{Register, Delegate, Transfer, Reclaim, Grant, Revoke, Create, Amend, Withdraw, Slurm, Show, Content, List as ListAction, Export, Import, WhatIf, Payloads, Validity}
+use Rattle.requests.specs.declared.action.Action.TheVariants.{Register, Delegate, Transfer, Reclaim, Grant, Revoke, Create, Amend, Withdraw, Slurm, Slurms, Show, Content, List as ListAction, Export, Import, WhatIf, Payloads, Validity}
 use Rattle.requests.specs.declared.request.fault.Fault.{Fault}
-use Rattle.requests.specs.declared.request.fault.Fault.TheVariants.{Json, Members, Holder, Caller, Prefix, Asn, Max, Day, Role as RoleFault, Number, File, Count, TooLong, Repeated}
+use Rattle.requests.specs.declared.request.fault.Fault.TheVariants.{Json, Members, Holder, Caller, Prefix, Asn, Max, Day, Role as RoleFault, Number, File, Count, TooLong, Repeated, FileName}
 use Rattle.requests.specs.declared.request.lists.TheConstants.{MOST_ITEMS, MOST_CHANGES}
 
--- where several faults apply, the one of the lowest number is reported
+-- the number that is reported
 abbrev pub malformed_number : Fault → ℕ
 malformed_number Json = 1
 malformed_number Members = 2
@@ -48,11 +48,18 @@ malformed_number (File fault) = 11
 malformed_number Count = 12
 malformed_number TooLong = 13
 malformed_number Repeated = 14
+malformed_number FileName = 15
 
 -- of a SLURM file that is refused, the number of its own fault
 abbrev pub slurm_number : Fault → Option ℕ
 slurm_number (File fault) = Some (slurm_fault_number fault)
 slurm_number _ = None
+
+-- where several faults apply, the one of the lowest number is reported, and of several files' faults the one of the
+-- lowest SLURM number, which is below 16
+abbrev pub fault_order : Fault → ℕ
+fault_order (File fault) = 16 * 11 + slurm_fault_number fault
+fault_order fault = 16 * malformed_number fault
 
 abbrev pub as_malformed : Fault → Malformed
 as_malformed fault = record { number = malformed_number fault; slurm = slurm_number fault }
@@ -133,6 +140,18 @@ list_faults item_faults least most (Some items) =
     flat_map item_faults (list_of items)
     ++ fault_unless (is_count least most (length (list_of items))) Count
 
+-- the values of a member, in items that have one
+abbrev pub values_in : {A : Type 0} → (Data → Option A) → List ℕ → List Data → List A
+values_in reading name items =
+    flat_map (λ d. option_to_list (option_and_then reading (get name d))) items
+
+-- of items, two of which have the same value of a member
+abbrev pub repeat_faults : {A : Type 0}
+    → (A → A → Bool) → (Data → Option A) → List ℕ → Fault → Option Items → List Fault
+repeat_faults same reading name fault None = []
+repeat_faults same reading name fault (Some items) =
+    fault_unless (not (has_repeat same (values_in reading name (list_of items)))) fault
+
 -- ---- a choice of members
 
 -- some member of one of these names is there
@@ -177,20 +196,10 @@ object_faults_by_choice members choices d =
 abbrev pub entry_members : List (List ℕ × Kind)
 entry_members = (codes "prefix", prefix) ∷ (codes "max", max_length) ∷ []
 
--- the prefixes that entries name
-abbrev pub named_prefixes : List Data → List PrefixValue
-named_prefixes entries =
-    flat_map (λ entry. option_to_list (option_and_then as_prefix (get (codes "prefix") entry))) entries
-
--- of entries, two of which name the same prefix
-abbrev pub repeat_faults : Option Items → List Fault
-repeat_faults None = []
-repeat_faults (Some items) =
-    fault_unless (not (has_repeat prefix_eq (named_prefixes (list_of items)))) Repeated
-
 abbrev pub entry_list : Kind
 entry_list d value =
-    list_faults (object_faults entry_members) 1 MOST_ENTRIES (as_array value) ++ repeat_faults (as_array value)
+    list_faults (object_faults entry_members) 1 MOST_ENTRIES (as_array value)
+    ++ repeat_faults prefix_eq as_prefix (codes "prefix") Repeated (as_array value)
 
 -- of a create: the members of one entry, or a list
 abbrev pub entry_choice : Choice
@@ -203,15 +212,35 @@ max_lengths d value = list_faults (reading_faults as_max Max) 1 MOST_ENTRIES (as
 abbrev pub max_choice : Choice
 max_choice = ((codes "max", max_length) ∷ [], (codes "maxes", max_lengths) ∷ [])
 
+-- ---- SLURM files and their names
+
+abbrev pub file_name : Kind
+file_name d = reading_faults as_name FileName
+
+-- a file and the name that it has in a set
+abbrev pub file_members : List (List ℕ × Kind)
+file_members = (codes "name", file_name) ∷ (codes "file", file) ∷ []
+
+-- no file at all is a set too
+abbrev pub file_list : Kind
+file_list d value =
+    list_faults (object_faults file_members) 0 MOST_FILES (as_array value)
+    ++ repeat_faults bytes_eq as_name (codes "name") FileName (as_array value)
+
+-- of a set: one file, or a list
+abbrev pub file_choice : Choice
+file_choice = ((codes "file", file) ∷ [], (codes "files", file_list) ∷ [])
+
 -- ---- what is asked
 
 -- the requests, in the order of their table
 abbrev pub all_actions : List Action
 all_actions =
     Register ∷ Delegate ∷ Reclaim ∷ Transfer ∷ Grant ∷ Revoke ∷ ListAction ∷ Create ∷ Show ∷ Amend ∷ Withdraw
-    ∷ Content ∷ Export ∷ Import ∷ WhatIf ∷ Slurm ∷ Payloads ∷ Validity ∷ []
+    ∷ Content ∷ Export ∷ Import ∷ WhatIf ∷ Slurm ∷ Slurms ∷ Payloads ∷ Validity ∷ []
 
--- the word of a request in the member `do`, which a change has too; an export is no line
+-- the word of a request in the member `do`, which a change has too; an export is no line, and both paths of
+-- SLURM files have one word
 abbrev pub word_of : Action → Option (List ℕ)
 word_of Register = Some (codes "register")
 word_of Delegate = Some (codes "delegate")
@@ -229,6 +258,7 @@ word_of Export = None
 word_of Import = Some (codes "import")
 word_of WhatIf = Some (codes "whatif")
 word_of Slurm = Some (codes "slurm")
+word_of Slurms = None
 word_of Payloads = Some (codes "payloads")
 word_of Validity = Some (codes "validity")
 
@@ -340,7 +370,8 @@ form_of Export =
     record (names_holder [] Get path.Export) { list_form = Csv }
 form_of Import = names_holder ((codes "rows", rows) ∷ []) Post path.Imports
 form_of WhatIf = names_holder ((codes "changes", changes) ∷ (codes "routes", routes) ∷ []) Post path.WhatIf
-form_of Slurm = names_nothing ((codes "file", file) ∷ []) Put path.Slurm
+form_of Slurm = with_choice file_choice (names_nothing [] Put path.Slurm)
+form_of Slurms = names_nothing ((codes "files", file_list) ∷ []) Put path.Slurms
 form_of Payloads = names_nothing [] Get path.Payloads
 form_of Validity = names_nothing ((codes "routes", routes) ∷ []) Post path.Validity
 
@@ -388,7 +419,7 @@ too_long = as_malformed TooLong
 
 -- what is reported of these faults
 abbrev pub malformed_of : List Fault → Option Malformed
-malformed_of faults = option_map as_malformed (lowest malformed_number faults)
+malformed_of faults = option_map as_malformed (lowest fault_order faults)
 
 -- why a line is no request
 abbrev pub request_fault : List ℕ → Option Malformed

@@ -16,7 +16,10 @@ use Rattle.registry.specs.declared.command.Query.TheVariants.{Show, Content, Lis
 use Rattle.serde_json.specs.Data.{Data, Items}
 use Rattle.serde_json.specs.Find.{get, as_array}
 use Rattle.json_values.specs.Tree.{tree_of, list_of}
+use Rattle.slurm.specs.Exceptions.{Exceptions}
 use Rattle.slurm.specs.SlurmEntries.{SaysExceptions}
+use Rattle.slurm.specs.SlurmSets.{RiseByName}
+use Rattle.slurm.specs.declared.set.NamedSlurm.{NamedSlurm}
 use Rattle.csv_records.specs.Imports.{IsImportText}
 use Rattle.registry.specs.declared.asked.Asked.{Asked}
 use Rattle.registry.specs.declared.asked.Request.{Request}
@@ -25,7 +28,7 @@ use Rattle.requests.specs.RequestFaults.{action_in, request_faults, role_at}
 use Rattle.json_values.specs.Values.{as_name, as_prefix, as_day, as_asn}
 use Rattle.requests.specs.RequestValues.{as_origin, as_max, as_number, as_role, as_scope}
 use Rattle.requests.specs.declared.action.Action.{Action}
-use Rattle.requests.specs.declared.action.Action.TheVariants.{Register as AskRegister, Delegate as AskDelegate, Transfer as AskTransfer, Reclaim as AskReclaim, Grant as AskGrant, Revoke as AskRevoke, Create as AskCreate, Amend as AskAmend, Withdraw as AskWithdraw, Slurm as AskSlurm, Show as AskShow, Content as AskContent, List as AskList, Export as AskExport, Import as AskImport, WhatIf as AskWhatIf, Payloads as AskPayloads, Validity as AskValidity}
+use Rattle.requests.specs.declared.action.Action.TheVariants.{Register as AskRegister, Delegate as AskDelegate, Transfer as AskTransfer, Reclaim as AskReclaim, Grant as AskGrant, Revoke as AskRevoke, Create as AskCreate, Amend as AskAmend, Withdraw as AskWithdraw, Slurm as AskSlurm, Slurms as AskSlurms, Show as AskShow, Content as AskContent, List as AskList, Export as AskExport, Import as AskImport, WhatIf as AskWhatIf, Payloads as AskPayloads, Validity as AskValidity}
 
 -- the member of this name is there, and reads as this value
 abbrev pub HasMember : {A : Type 0} → (Data → Option A) → List ℕ → Data → A → Type 0
@@ -98,6 +101,25 @@ SaysChange d (WithdrawChange number) =
 abbrev pub HasRoutes : Data → List Route → Type 0
 HasRoutes d = HasItems SaysRoute (get (codes "routes") d)
 
+-- the set of one SLURM file, which is named `main`
+abbrev pub main_alone : Exceptions → List NamedSlurm
+main_alone file = record { name = codes "main"; file = file } ∷ []
+
+-- one SLURM file
+abbrev pub HasMainFile : Option Data → List NamedSlurm → Type 0
+HasMainFile found files =
+    (file : Exceptions) × SaysExceptions found file × (files ≡ main_alone file)
+
+-- a SLURM file and its name
+abbrev pub HasFile : Data → NamedSlurm → Type 0
+HasFile d named =
+    HasName (codes "name") d named.name × SaysExceptions (get (codes "file") d) named.file
+
+-- a list of these files, in any order
+abbrev pub HasFileList : Option Data → List NamedSlurm → Type 0
+HasFileList member files = (listed : List NamedSlurm)
+    × HasItems HasFile member listed × IsPermutation listed files × RiseByName files
+
 -- the rows of an import: a member of JSON, or a CSV text
 pub data RowsBrought : Type 0 where
   in_member : Option Data → RowsBrought
@@ -108,12 +130,13 @@ SaysRows (in_member member) rows = HasItems HasRow member rows
 SaysRows (in_text text) rows = IsImportText text rows
 
 -- what a request says outside of the members that lines and bodies have in common: what it asks, the holder and
--- the number that it names, and the SLURM file or the rows that it brings
+-- the number that it names, and the SLURM file, the list of such files or the rows that it brings
 pub record Heading : Type 0 where
   pub action : Option Action
   pub holder : Option (List ℕ)
   pub number : Option ℕ
   pub file : Option Data
+  pub files : Option Data
   pub rows : RowsBrought
 
 abbrev pub Does : Action → Heading → Type 0
@@ -149,7 +172,9 @@ SaysCommand h d (Withdraw holder number) =
     Does AskWithdraw h × NamesHolder h holder × NamesNumber h number
 SaysCommand h d (Import holder rows) =
     Does AskImport h × NamesHolder h holder × SaysRows h.rows rows.items
-SaysCommand h d (Slurm file) = Does AskSlurm h × SaysExceptions h.file file
+SaysCommand h d (Slurm files) =
+    (Does AskSlurm h × HasMainFile h.file files)
+    ⊎ ((Does AskSlurm h ⊎ Does AskSlurms h) × HasFileList h.files files)
 
 abbrev pub SaysQuery : Heading → Data → Query → Type 0
 SaysQuery h d (Show holder number) = Does AskShow h × NamesHolder h holder × NamesNumber h number
@@ -174,6 +199,7 @@ line_heading d = record {
   holder = option_and_then as_name (get (codes "holder") d);
   number = option_and_then as_number (get (codes "number") d);
   file = get (codes "file") d;
+  files = get (codes "files") d;
   rows = in_member (get (codes "rows") d);
 }
 

@@ -8,7 +8,7 @@ use Rattle.requests.specs.RequestFaults.{RequestForm, all_actions, form_of}
 use Rattle.requests.specs.contracts.path.PathPartialEq.TheImpl as path_eq
 use Rattle.requests.specs.declared.action.Action.{Action}
 use Rattle.requests.specs.declared.path.Path.{Path}
-use Rattle.requests.specs.declared.path.Path.TheVariants.{Holder, Delegations, Reclaims, Transfers, Grants, Grant, Auths, Auth, Content, Export, Imports, WhatIf, Slurm, Payloads, Validity}
+use Rattle.requests.specs.declared.path.Path.TheVariants.{Holder, Delegations, Reclaims, Transfers, Grants, Grant, Auths, Auth, Content, Export, Imports, WhatIf, Slurm, Slurms, Payloads, Validity}
 
 -- all paths, each with its template
 abbrev pub all_paths : List (List ℕ × Path)
@@ -26,6 +26,7 @@ all_paths =
     ∷ (codes "/holders/{holder}/imports", Imports)
     ∷ (codes "/holders/{holder}/whatif", WhatIf)
     ∷ (codes "/slurm", Slurm)
+    ∷ (codes "/slurms", Slurms)
     ∷ (codes "/payloads", Payloads)
     ∷ (codes "/validity", Validity)
     ∷ []

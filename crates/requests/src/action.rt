@@ -23,7 +23,10 @@ pub enum Action {
     Export,
     Import,
     WhatIf,
+    /// One SLURM file, or a list.
     Slurm,
+    /// A list of SLURM files, by its path alone.
+    Slurms,
     Payloads,
     Validity,
 }

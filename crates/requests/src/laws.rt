@@ -4,6 +4,7 @@ ghost use Rattle.requests.specs.declared.head.TheConstants.{FIELD_LIMIT};
 ghost use Rattle.requests.specs.declared.request.TheConstants.{LINE_LENGTH_LIMIT};
 ghost use Rattle.requests.specs.declared.request.entries.TheConstants.{MOST_ENTRIES};
 ghost use Rattle.requests.specs.declared.request.lists.TheConstants.{MOST_ITEMS, MOST_CHANGES};
+ghost use Rattle.slurm.specs.declared.set.TheConstants.{MOST_FILES};
 ghost use Rattle.requests.specs.declared.request.members.TheConstants.{GREATEST_MAX};
 
 /// The limits of a request in numbers, so that a changed constant is not proved.
@@ -13,5 +14,6 @@ pub fn limits()
     ensures items { MOST_ITEMS ≡ 10000 }
     ensures changes { MOST_CHANGES ≡ 1000 }
     ensures entries { MOST_ENTRIES ≡ 64 }
+    ensures files { MOST_FILES ≡ 16 }
     ensures greatest_max { GREATEST_MAX ≡ 255 }
 {}

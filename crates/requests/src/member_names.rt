@@ -43,4 +43,6 @@ pub(crate) const ROUTES: &str = "routes";
 
 pub(crate) const FILE: &str = "file";
 
+pub(crate) const FILES: &str = "files";
+
 pub(crate) const ORIGIN: &str = "origin";

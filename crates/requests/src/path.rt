@@ -24,6 +24,7 @@ pub(crate) enum Path {
     Imports,
     WhatIf,
     Slurm,
+    Slurms,
     Payloads,
     Validity,
 }
@@ -43,6 +44,7 @@ pub(crate) const PATHS: &[(&str, Path)] = &[
     ("/holders/{holder}/imports", Path::Imports),
     ("/holders/{holder}/whatif", Path::WhatIf),
     ("/slurm", Path::Slurm),
+    ("/slurms", Path::Slurms),
     ("/payloads", Path::Payloads),
     ("/validity", Path::Validity),
 ];

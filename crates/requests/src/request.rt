@@ -128,6 +128,7 @@ fn request_in(alloc: Global, action: Action, subject: Subject, value: &Value) ->
         Action::Amend => commands::amend_in(alloc, subject, value),
         Action::Withdraw => Ok(commands::withdraw_in(subject)),
         Action::Slurm => exceptions::slurm_in(alloc, value),
+        Action::Slurms => exceptions::slurms_in(alloc, value),
         Action::Show => Ok(commands::show_in(subject)),
         Action::Content => Ok(commands::content_in(subject)),
         Action::List | Action::Export => Ok(commands::list_in(subject)),

@@ -4,8 +4,8 @@ ghost use Rattle.requests.specs.RequestFaults.{body_names, form_of, line_names, 
 
 use crate::action::Action;
 use crate::member_names::{
-    ASN, CALLER, CHANGES, DAY, DO, ENTRIES, FILE, FROM, GIVER, HOLDER, MAX, MAXES, NAME, NUMBER,
-    PREFIX, ROLE, ROUTES, ROWS, SCOPE, TAKER, UNTIL,
+    ASN, CALLER, CHANGES, DAY, DO, ENTRIES, FILE, FILES, FROM, GIVER, HOLDER, MAX, MAXES, NAME,
+    NUMBER, PREFIX, ROLE, ROUTES, ROWS, SCOPE, TAKER, UNTIL,
 };
 use crate::path::Path;
 use http_messages::{ContentType, Method};
@@ -28,6 +28,7 @@ pub(crate) const ACTIONS: &[Action] = &[
     Action::Import,
     Action::WhatIf,
     Action::Slurm,
+    Action::Slurms,
     Action::Payloads,
     Action::Validity,
 ];
@@ -109,7 +110,8 @@ impl Action {
                 Some("whatif"), [HOLDER] [CHANGES, ROUTES],
                 Post WhatIf Json
             ),
-            Action::Slurm => row!(Some("slurm"), [] [FILE], Put Slurm Json),
+            Action::Slurm => row!(Some("slurm"), [] [FILE, FILES], Put Slurm Json),
+            Action::Slurms => row!(None, [] [FILES], Put Slurms Json),
             Action::Payloads => row!(Some("payloads"), [] [], Get Payloads Json),
             Action::Validity => row!(Some("validity"), [] [ROUTES], Post Validity Json),
         }

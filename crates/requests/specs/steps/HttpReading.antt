@@ -12,11 +12,11 @@ use Rattle.requests.specs.RequestHeads.{Head}
 use Rattle.requests.specs.declared.action.Action.{Action}
 use Rattle.requests.specs.declared.action.Action.TheVariants.{Import, Slurm}
 use Rattle.requests.specs.HttpFaults.{body_bytes, head_caller, fault_of_import, json_tree, path_number}
-use Rattle.requests.specs.RequestFaults.{body_names, malformed_number}
+use Rattle.requests.specs.RequestFaults.{body_names, fault_order}
 use Rattle.requests.specs.declared.request.commands.Subject.{Subject}
 use Rattle.requests.specs.declared.request.fault.Fault.{Fault}
 use Rattle.requests.specs.declared.request.fault.Fault.TheVariants.{Json, Members, Holder, Caller, Number}
-use Rattle.requests.specs.steps.RequestReading.{AskedTerms, RequestTerms, file_of, import, request_in, slurm_request}
+use Rattle.requests.specs.steps.RequestReading.{AskedTerms, RequestTerms, import, main_file_of, request_in, slurm_request}
 
 abbrev pub path_subject : Head → Subject
 path_subject head = record {
@@ -29,7 +29,7 @@ caller_of head = ok_or (head_caller head) Caller
 
 abbrev pub object_request : Action → Subject → Data → Result RequestTerms Fault
 object_request action subject d =
-    unless malformed_number (request_in action subject d) (only Members (body_names action) d)
+    unless fault_order (request_in action subject d) (only Members (body_names action) d)
 
 abbrev pub tree_request : Action → Subject → Option Data → Result RequestTerms Fault
 tree_request action subject None = Err Json
@@ -44,10 +44,10 @@ import_rows text = result_map_both (λ rows. rows) fault_of_import (import_in te
 
 abbrev pub import_body : Subject → Option (List ℕ) → Result RequestTerms Fault
 import_body subject body =
-    mapped (λ p. import p.0 p.1) (both malformed_number subject.holder (import_rows (body_bytes body)))
+    mapped (λ p. import p.0 p.1) (both fault_order subject.holder (import_rows (body_bytes body)))
 
 abbrev pub request_by : Action → Subject → Option (List ℕ) → Result RequestTerms Fault
-request_by Slurm subject body = slurm_request (file_of (json_tree body))
+request_by Slurm subject body = slurm_request (main_file_of (json_tree body))
 request_by Import subject body = import_body subject body
 request_by action subject body = object_body action subject body
 
@@ -57,4 +57,4 @@ request_of head body = request_by head.action (path_subject head) body
 -- the request of a head and a body on the day, or its lowest fault
 abbrev pub asked_of : ℕ → Head → Option (List ℕ) → Result AskedTerms Fault
 asked_of day head body =
-    both malformed_number (Ok day) (both malformed_number (caller_of head) (request_of head body))
+    both fault_order (Ok day) (both fault_order (caller_of head) (request_of head body))

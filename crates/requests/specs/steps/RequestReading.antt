@@ -5,10 +5,13 @@ use Rattle.std.specs.Prelude.{ℕ, nat_lt, Bool, true, false, List, [], ◌∷�
 use Rattle.std.specs.Option.{ok_or}
 use Rattle.std.specs.Result.{result_map_both}
 use Rattle.std.specs.Ordering.{is_lt}
+use Rattle.std.specs.Str.{bytes_eq}
+use Rattle.std.specs.declared.cmp.Ordering.{Ordering}
 use Rattle.addr.specs.Order.{prefix_cmp}
 use Rattle.addr.specs.declared.asn.Asn.{Asn as AsnValue}
 use Rattle.addr.specs.declared.prefix.Prefix.{Prefix}
 use Rattle.addr.specs.declared.route.Route.{Route}
+use Rattle.charters.specs.Repeats.{has_repeat}
 use Rattle.registry.specs.declared.authorization.AuthTerms.{AuthTerms}
 use Rattle.registry.specs.declared.authorization.ImportRow.{ImportRow}
 use Rattle.registry.specs.declared.authorization.RoaPrefix.{RoaPrefix}
@@ -25,21 +28,25 @@ use Rattle.serde_json.specs.Find.{get, as_array}
 use Rattle.json_values.specs.Parts.{and_then, both, mapped, unless, each}
 use Rattle.json_values.specs.Tree.{tree_of, required, only, list_of}
 use Rattle.slurm.specs.Exceptions.{Exceptions}
+use Rattle.slurm.specs.SlurmSets.{name_cmp}
+use Rattle.slurm.specs.declared.set.NamedSlurm.{NamedSlurm}
+use Rattle.slurm.specs.declared.set.TheConstants.{MOST_FILES}
 use Rattle.slurm.specs.declared.fault.SlurmFault.TheVariants.{NotJson}
 use Rattle.slurm.specs.steps.SlurmFile.{slurm_in}
 use Rattle.registry.specs.declared.asked.Asked.{Asked}
 use Rattle.registry.specs.declared.asked.Request.{Request}
 use Rattle.registry.specs.declared.asked.Request.TheVariants.{Command as CommandRequest, Query as QueryRequest}
-use Rattle.requests.specs.RequestFaults.{malformed_number, role_at, row_members, creation_members, withdrawal_members, route_members, names_of, part_names, is_count, has_some, entry_choice, entry_members, action_in, line_names}
+use Rattle.requests.specs.RequestFaults.{fault_order, role_at, row_members, creation_members, withdrawal_members, route_members, names_of, part_names, is_count, has_some, entry_choice, entry_members, file_members, action_in, line_names}
+use Rattle.requests.specs.RequestText.{main_alone}
 use Rattle.json_values.specs.Values.{as_name, as_prefix, as_day, as_asn}
 use Rattle.requests.specs.RequestValues.{as_origin, as_max, as_number, as_role, as_scope}
 use Rattle.requests.specs.declared.request.TheConstants.{LINE_LENGTH_LIMIT}
 use Rattle.requests.specs.declared.action.Action.{Action}
-use Rattle.requests.specs.declared.action.Action.TheVariants.{Register as AskRegister, Delegate as AskDelegate, Transfer as AskTransfer, Reclaim as AskReclaim, Grant as AskGrant, Revoke as AskRevoke, Create as AskCreate, Amend as AskAmend, Withdraw as AskWithdraw, Slurm as AskSlurm, Show as AskShow, Content as AskContent, List as AskList, Export as AskExport, Import as AskImport, WhatIf as AskWhatIf, Payloads as AskPayloads, Validity as AskValidity}
+use Rattle.requests.specs.declared.action.Action.TheVariants.{Register as AskRegister, Delegate as AskDelegate, Transfer as AskTransfer, Reclaim as AskReclaim, Grant as AskGrant, Revoke as AskRevoke, Create as AskCreate, Amend as AskAmend, Withdraw as AskWithdraw, Slurm as AskSlurm, Slurms as AskSlurms, Show as AskShow, Content as AskContent, List as AskList, Export as AskExport, Import as AskImport, WhatIf as AskWhatIf, Payloads as AskPayloads, Validity as AskValidity}
 use Rattle.requests.specs.declared.request.lists.TheConstants.{MOST_ITEMS, MOST_CHANGES}
 use Rattle.requests.specs.declared.request.fault.Fault.{Fault}
 use Rattle.requests.specs.declared.request.commands.Subject.{Subject}
-use Rattle.requests.specs.declared.request.fault.Fault.TheVariants.{Json, Members, Holder, Caller, Prefix as PrefixFault, Asn, Max, Day, Role, Number, File, Count, TooLong, Repeated}
+use Rattle.requests.specs.declared.request.fault.Fault.TheVariants.{Json, Members, Holder, Caller, Prefix as PrefixFault, Asn, Max, Day, Role, Number, File, Count, TooLong, Repeated, FileName}
 
 -- ---- what is asked, with its maxLengths, rows, changes and routes as lists
 
@@ -101,6 +108,13 @@ file_of (Some d) = as_file d
 abbrev pub file_in : Data → Result Exceptions Fault
 file_in d = required Members as_file (get (codes "file") d)
 
+-- the set of one file
+abbrev pub main_file_in : Data → Result (List NamedSlurm) Fault
+main_file_in d = mapped main_alone (file_in d)
+
+abbrev pub main_file_of : Option Data → Result (List NamedSlurm) Fault
+main_file_of found = mapped main_alone (file_of found)
+
 -- ---- lists
 
 abbrev pub count_of : ℕ → ℕ → ℕ → Result (Unit {0}) Fault
@@ -109,14 +123,33 @@ count_of least most n = if is_count least most n then Ok tt else Err Count
 abbrev pub items_of : {A : Type 0} → (Data → Result A Fault) → ℕ → ℕ → Option Items → Result (List A) Fault
 items_of reading least most None = Err Members
 items_of reading least most (Some items) =
-    unless malformed_number (each malformed_number reading (list_of items))
+    unless fault_order (each fault_order reading (list_of items))
     (count_of least most (length (list_of items)))
 
 -- what the items of a member are read as
 abbrev pub items_in : {A : Type 0} → (Data → Result A Fault) → ℕ → ℕ → List ℕ → Data → Result (List A) Fault
 items_in reading least most name d = items_of reading least most (option_and_then as_array (get name d))
 
--- ---- entries and their maxLengths
+-- the items in order and one more
+abbrev pub with_item : {A : Type 0} → (A → A → Ordering) → A → List A → List A
+with_item order new [] = new ∷ []
+with_item order new (x ∷ xs) =
+    if is_lt (order new x) then new ∷ x ∷ xs else x ∷ with_item order new xs
+
+abbrev pub in_order : {A : Type 0} → (A → A → Ordering) → List A → List A
+in_order order [] = []
+in_order order (x ∷ xs) = with_item order x (in_order order xs)
+
+-- items of which none is there twice, in order
+abbrev pub once_in_order : {A : Type 0} → Bool → Fault → (A → A → Ordering) → List A → Result (List A) Fault
+once_in_order true fault order xs = Err fault
+once_in_order false fault order xs = Ok (in_order order xs)
+
+-- `least` to `most` items of which none is there twice, in order
+abbrev pub arranged : {A : Type 0}
+    → ℕ → ℕ → (List A → Bool) → Fault → (A → A → Ordering) → List A → Result (List A) Fault
+arranged least most repeats fault order xs =
+    if is_count least most (length xs) then once_in_order (repeats xs) fault order xs else Err Count
 
 -- by which of two lists of members an object has
 abbrev pub chosen : {A : Type 0} → Bool → Bool → Result A Fault → Result A Fault → Result A Fault
@@ -124,36 +157,24 @@ chosen true false one other = one
 chosen false true one other = other
 chosen has_one has_other one other = Err Members
 
+-- ---- entries and their maxLengths
+
 abbrev pub entry_members_in : Data → Result RoaPrefix Fault
 entry_members_in d =
-    mapped (λ p. record { prefix = p.0; max = p.1 }) (both malformed_number (prefix_in d) (max_in d))
+    mapped (λ p. record { prefix = p.0; max = p.1 }) (both fault_order (prefix_in d) (max_in d))
 
 abbrev pub entry_in : Data → Result RoaPrefix Fault
-entry_in d = unless malformed_number (entry_members_in d) (only Members (names_of entry_members) d)
-
--- the entries in order and one more
-abbrev pub with_entry : RoaPrefix → List RoaPrefix → List RoaPrefix
-with_entry new [] = new ∷ []
-with_entry new (e ∷ es) =
-    if is_lt (prefix_cmp new.prefix e.prefix) then new ∷ e ∷ es else e ∷ with_entry new es
-
-abbrev pub in_order : List RoaPrefix → List RoaPrefix
-in_order [] = []
-in_order (e ∷ es) = with_entry e (in_order es)
-
--- of distinct prefixes, in order
-abbrev pub distinct_in_order : List RoaPrefix → Result (List RoaPrefix) Fault
-distinct_in_order es = if repeats_prefix es then Err Repeated else Ok (in_order es)
+entry_in d = unless fault_order (entry_members_in d) (only Members (names_of entry_members) d)
 
 -- the entries of an authorization that these are in order
-abbrev pub arranged : List RoaPrefix → Result (List RoaPrefix) Fault
-arranged es = if is_count 1 MOST_ENTRIES (length es) then distinct_in_order es else Err Count
+abbrev pub entries_arranged : List RoaPrefix → Result (List RoaPrefix) Fault
+entries_arranged = arranged 1 MOST_ENTRIES repeats_prefix Repeated (λ d e. prefix_cmp d.prefix e.prefix)
 
 abbrev pub one_entry_in : Data → Result (List RoaPrefix) Fault
 one_entry_in d = mapped (λ entry. entry ∷ []) (entry_members_in d)
 
 abbrev pub entry_list_in : Data → Result (List RoaPrefix) Fault
-entry_list_in d = and_then arranged (items_in entry_in 1 MOST_ENTRIES (codes "entries") d)
+entry_list_in d = and_then entries_arranged (items_in entry_in 1 MOST_ENTRIES (codes "entries") d)
 
 abbrev pub entries_in : Data → Result (List RoaPrefix) Fault
 entries_in d =
@@ -171,38 +192,64 @@ maxes_in d =
     chosen (has_some (codes "max" ∷ []) d) (has_some (codes "maxes" ∷ []) d)
     (one_max_in d) (items_in max_item_in 1 MOST_ENTRIES (codes "maxes") d)
 
+-- ---- SLURM files and their names
+
+abbrev pub file_members_in : Data → Result NamedSlurm Fault
+file_members_in d =
+    mapped (λ p. record { name = p.0; file = p.1 })
+    (both fault_order (member_in as_name FileName (codes "name") d) (file_in d))
+
+abbrev pub named_file_in : Data → Result NamedSlurm Fault
+named_file_in d = unless fault_order (file_members_in d) (only Members (names_of file_members) d)
+
+-- whether two files have one name
+abbrev pub repeats_name : List NamedSlurm → Bool
+repeats_name files = has_repeat (λ f g. bytes_eq f.name g.name) files
+
+-- the set of these files in order
+abbrev pub files_arranged : List NamedSlurm → Result (List NamedSlurm) Fault
+files_arranged = arranged 0 MOST_FILES repeats_name FileName name_cmp
+
+abbrev pub file_list_in : Data → Result (List NamedSlurm) Fault
+file_list_in d = and_then files_arranged (items_in named_file_in 0 MOST_FILES (codes "files") d)
+
+abbrev pub files_in : Data → Result (List NamedSlurm) Fault
+files_in d =
+    chosen (has_some (codes "file" ∷ []) d) (has_some (codes "files" ∷ []) d)
+    (main_file_in d) (file_list_in d)
+
 -- ---- terms of authorizations
 
 -- what is said beside the entries
 abbrev pub asn_and_days_in : Data → Result (AsnValue × (ℕ × ℕ)) Fault
 asn_and_days_in d =
-    both malformed_number (member_in as_asn Asn (codes "asn") d)
-    (both malformed_number (day_in (codes "from") d) (day_in (codes "until") d))
+    both fault_order (member_in as_asn Asn (codes "asn") d)
+    (both fault_order (day_in (codes "from") d) (day_in (codes "until") d))
 
 abbrev pub terms_of : (AsnValue × (ℕ × ℕ)) × List RoaPrefix → AuthTerms
 terms_of p = record { asn = p.0.0; entries = p.1; from = p.0.1.0; until = p.0.1.1 }
 
 abbrev pub terms_in : Data → Result AuthTerms Fault
-terms_in d = mapped terms_of (both malformed_number (asn_and_days_in d) (entries_in d))
+terms_in d = mapped terms_of (both fault_order (asn_and_days_in d) (entries_in d))
 
 abbrev pub row_of : (AsnValue × (ℕ × ℕ)) × RoaPrefix → ImportRow
 row_of p =
     record { asn = p.0.0; prefix = p.1.prefix; max = p.1.max; from = p.0.1.0; until = p.0.1.1 }
 
 abbrev pub row_members_in : Data → Result ImportRow Fault
-row_members_in d = mapped row_of (both malformed_number (asn_and_days_in d) (entry_members_in d))
+row_members_in d = mapped row_of (both fault_order (asn_and_days_in d) (entry_members_in d))
 
 -- ---- rows, changes and routes
 
 abbrev pub row_in : Data → Result ImportRow Fault
-row_in d = unless malformed_number (row_members_in d) (only Members (names_of row_members) d)
+row_in d = unless fault_order (row_members_in d) (only Members (names_of row_members) d)
 
 -- by what it does, if that is known
 abbrev pub change_by : Option Action → Data → Result Proposed Fault
 change_by (Some AskCreate) d =
-    mapped CreateChange (unless malformed_number (terms_in d) (only Members (part_names creation_members (entry_choice ∷ [])) d))
+    mapped CreateChange (unless fault_order (terms_in d) (only Members (part_names creation_members (entry_choice ∷ [])) d))
 change_by (Some AskWithdraw) d =
-    mapped WithdrawChange (unless malformed_number (number_in d) (only Members (names_of withdrawal_members) d))
+    mapped WithdrawChange (unless fault_order (number_in d) (only Members (names_of withdrawal_members) d))
 change_by other d = Err Members
 
 abbrev pub change_in : Data → Result Proposed Fault
@@ -210,8 +257,8 @@ change_in d = change_by (action_in d) d
 
 abbrev pub route_in : Data → Result Route Fault
 route_in d =
-    unless malformed_number (mapped (λ p. record { prefix = p.0; origin = p.1 })
-    (both malformed_number (prefix_in d) (member_in as_origin Asn (codes "origin") d)))
+    unless fault_order (mapped (λ p. record { prefix = p.0; origin = p.1 })
+    (both fault_order (prefix_in d) (member_in as_origin Asn (codes "origin") d)))
     (only Members (names_of route_members) d)
 
 abbrev pub rows_in : Data → Result (List ImportRow) Fault
@@ -225,21 +272,21 @@ routes_in = items_in route_in 1 MOST_ITEMS (codes "routes")
 
 -- ---- requests
 
-abbrev pub slurm_request : Result Exceptions Fault → Result RequestTerms Fault
-slurm_request file = mapped (λ f. request (CommandRequest (Slurm f))) file
+abbrev pub slurm_request : Result (List NamedSlurm) Fault → Result RequestTerms Fault
+slurm_request files = mapped (λ f. request (CommandRequest (Slurm f))) files
 
 abbrev pub holder_and_prefix : Subject → Data → Result (List ℕ × Prefix) Fault
-holder_and_prefix subject d = both malformed_number subject.holder (prefix_in d)
+holder_and_prefix subject d = both fault_order subject.holder (prefix_in d)
 
 abbrev pub holder_and_number : Subject → Result (List ℕ × ℕ) Fault
-holder_and_number subject = both malformed_number subject.holder subject.number
+holder_and_number subject = both fault_order subject.holder subject.number
 
 -- what a grant gives, and to whom
 abbrev pub access_in : Data → Result (List ℕ × (RoleGiven × (Scope × ℕ))) Fault
 access_in d =
-    both malformed_number (caller_in (codes "name") d)
-    (both malformed_number (member_in as_role Role (codes "role") d)
-    (both malformed_number (member_in (as_scope (role_at d)) Role (codes "scope") d)
+    both fault_order (caller_in (codes "name") d)
+    (both fault_order (member_in as_role Role (codes "role") d)
+    (both fault_order (member_in (as_scope (role_at d)) Role (codes "scope") d)
     (day_in (codes "until") d)))
 
 abbrev pub request_in : Action → Subject → Data → Result RequestTerms Fault
@@ -249,24 +296,25 @@ request_in AskDelegate subject d =
     mapped (λ p. request (CommandRequest (Delegate p.0 p.1))) (holder_and_prefix subject d)
 request_in AskTransfer subject d =
     mapped (λ p. request (CommandRequest (Transfer p.0 p.1.0 p.1.1)))
-    (both malformed_number (prefix_in d)
-    (both malformed_number (holder_in (codes "giver") d) (holder_in (codes "taker") d)))
+    (both fault_order (prefix_in d)
+    (both fault_order (holder_in (codes "giver") d) (holder_in (codes "taker") d)))
 request_in AskReclaim subject d =
     mapped (λ p. request (CommandRequest (Reclaim p.0 p.1))) (holder_and_prefix subject d)
 request_in AskGrant subject d =
     mapped (λ p. request (CommandRequest (Grant p.0 p.1.0 p.1.1.0 p.1.1.1.0 p.1.1.1.1)))
-    (both malformed_number subject.holder (access_in d))
+    (both fault_order subject.holder (access_in d))
 request_in AskRevoke subject d =
     mapped (λ p. request (CommandRequest (Revoke p.0 p.1))) (holder_and_number subject)
 request_in AskCreate subject d =
-    mapped (λ p. request (CommandRequest (Create p.0 p.1))) (both malformed_number subject.holder (terms_in d))
+    mapped (λ p. request (CommandRequest (Create p.0 p.1))) (both fault_order subject.holder (terms_in d))
 request_in AskAmend subject d =
     mapped (λ p. amend p.0.0 p.0.1 p.1.1 p.1.0)
-    (both malformed_number (holder_and_number subject)
-    (both malformed_number (day_in (codes "until") d) (maxes_in d)))
+    (both fault_order (holder_and_number subject)
+    (both fault_order (day_in (codes "until") d) (maxes_in d)))
 request_in AskWithdraw subject d =
     mapped (λ p. request (CommandRequest (Withdraw p.0 p.1))) (holder_and_number subject)
-request_in AskSlurm subject d = slurm_request (file_in d)
+request_in AskSlurm subject d = slurm_request (files_in d)
+request_in AskSlurms subject d = slurm_request (file_list_in d)
 request_in AskShow subject d =
     mapped (λ p. request (QueryRequest (Show p.0 p.1))) (holder_and_number subject)
 request_in AskContent subject d =
@@ -276,10 +324,10 @@ request_in AskList subject d =
 request_in AskExport subject d =
     mapped (λ p. request (QueryRequest (ListQuery p))) subject.holder
 request_in AskImport subject d =
-    mapped (λ p. import p.0 p.1) (both malformed_number subject.holder (rows_in d))
+    mapped (λ p. import p.0 p.1) (both fault_order subject.holder (rows_in d))
 request_in AskWhatIf subject d =
     mapped (λ p. what_if p.0 p.1.0 p.1.1)
-    (both malformed_number subject.holder (both malformed_number (changes_in d) (routes_in d)))
+    (both fault_order subject.holder (both fault_order (changes_in d) (routes_in d)))
 request_in AskPayloads subject d = Ok (request (QueryRequest Payloads))
 request_in AskValidity subject d = mapped validity (routes_in d)
 
@@ -291,9 +339,9 @@ line_subject d = record { holder = holder_in (codes "holder") d; number = number
 
 abbrev pub asked_as : Action → Data → Result AskedTerms Fault
 asked_as action d =
-    unless malformed_number
-    (both malformed_number (day_in (codes "day") d)
-    (both malformed_number (caller_in (codes "caller") d) (request_in action (line_subject d) d)))
+    unless fault_order
+    (both fault_order (day_in (codes "day") d)
+    (both fault_order (caller_in (codes "caller") d) (request_in action (line_subject d) d)))
     (only Members (line_names action) d)
 
 abbrev pub asked_by : Option Action → Data → Result AskedTerms Fault

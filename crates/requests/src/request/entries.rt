@@ -1,13 +1,12 @@
 //! The entries that a create names, and the maxLengths that an amendment gives to entries: each as
 //! one or as a list.
-ghost use Rattle.std.specs.Prelude.{◌≡◌, IfOk, is_some};
-ghost use Rattle.std.specs.List.{list_any};
-ghost use Rattle.serde_json.specs.Find.{get};
+ghost use Rattle.std.specs.Prelude.{◌≡◌, IfOk};
 ghost use Rattle.serde_json.specs.View.{view};
 ghost use Rattle.json_values.specs.Parts.{and_then, mapped};
-ghost use Rattle.requests.specs.steps.RequestReading.{arranged, entries_in, entry_in, entry_list_in, entry_members_in, max_item_in, maxes_in, one_entry_in, one_max_in};
+ghost use Rattle.requests.specs.steps.RequestReading.{entries_arranged, entries_in, entry_in, entry_list_in, entry_members_in, max_item_in, maxes_in, one_entry_in, one_max_in};
 
 use super::fault::{Fault, Read};
+use super::form::has_some;
 use super::lists::items_in;
 use super::members::{as_max, max_in, prefix_in};
 use crate::member_names::{ENTRIES, MAX, MAXES, PREFIX};
@@ -19,13 +18,6 @@ use std::alloc::Global;
 /// How many entries an authorization may have: the limit of `RoaPrefixes`, which the proof of
 /// `arranged` compares with it.
 const MOST_ENTRIES: usize = 64;
-
-/// Whether some member of one of these names is there.
-fn has_some(value: &Value, names: &[&str]) -> bool
-    ensures { result ≡ list_any (λ name. is_some (get name.now (view value.now))) names.now }
-{
-    names.iter().any(|name| value.get(*name).is_some())
-}
 
 // ---- entries
 
@@ -58,7 +50,7 @@ fn entry_list_in(alloc: Global, value: &Value) -> Read<RoaPrefixes>
 
 /// The entries of an authorization that these are in order.
 fn arranged(entries: Result<Vec<RoaPrefix>, Fault>) -> Result<RoaPrefixes, Fault>
-    ensures { result ≡ and_then arranged (mapped (λ v. v.items) entries) }
+    ensures { result ≡ and_then entries_arranged (mapped (λ v. v.items) entries) }
 {
     match RoaPrefixes::make(entries?) {
         Ok(made) => Ok(made),

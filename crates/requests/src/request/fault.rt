@@ -1,7 +1,7 @@
 //! What may be wrong with a request.
 ghost use Rattle.std.specs.Prelude.{◌≡◌};
 ghost use Rattle.requests.specs.HttpFaults.{fault_of_import};
-ghost use Rattle.requests.specs.RequestFaults.{as_malformed, malformed_number, slurm_number};
+ghost use Rattle.requests.specs.RequestFaults.{as_malformed, fault_order, malformed_number, slurm_number};
 
 use crate::malformed::Malformed;
 use csv_records::ImportFault;
@@ -10,7 +10,8 @@ use slurm::SlurmFault;
 /// What is read of a request.
 pub(crate) type Read<T> = json_values::Read<T, Fault>;
 
-/// Of several faults the one with the lowest number is reported.
+/// Of several faults the one with the lowest number is reported, of SLURM files' faults the one with
+/// the lowest of theirs.
 #[derive(Clone, Copy, Debug, PartialEq, Eq)]
 pub(crate) enum Fault {
     /// The text is not JSON, or nests deeper than 127.
@@ -38,6 +39,8 @@ pub(crate) enum Fault {
     TooLong,
     /// Two entries of one create name the same prefix.
     Repeated,
+    /// A file's name is no name, or two files have one name.
+    FileName,
 }
 
 impl Fault {
@@ -60,6 +63,18 @@ impl Fault {
             Fault::Count => 12,
             Fault::TooLong => 13,
             Fault::Repeated => 14,
+            Fault::FileName => 15,
+        }
+    }
+
+    /// The place in the order in which faults are reported: by their numbers, and SLURM files' by
+    /// the numbers of those.
+    fn order(self) -> u8
+        ensures { result ≡ fault_order self }
+    {
+        match self {
+            Fault::File(fault) => 16 * 11 + fault.number(),
+            _ => 16 * self.number(),
         }
     }
 
@@ -101,12 +116,12 @@ impl Fault {
 impl json_values::Fault for Fault {
     ghost use Rattle.requests.specs.declared.request.fault.Fault.TheVariants.{Members};
 
-    ghost number = { malformed_number };
+    ghost number = { fault_order };
 
     ghost members = { Members };
 
     fn number(self) -> u8 {
-        Fault::number(self)
+        self.order()
     }
 
     fn members() -> Fault {

@@ -1,5 +1,7 @@
 //! The form of a JSON request: the word of its `do`, and the members that it may have.
-ghost use Rattle.std.specs.Prelude.{◌≡◌};
+ghost use Rattle.std.specs.Prelude.{◌≡◌, is_some};
+ghost use Rattle.std.specs.List.{list_any};
+ghost use Rattle.serde_json.specs.Find.{get};
 ghost use Rattle.serde_json.specs.View.{view};
 ghost use Rattle.json_values.specs.Tree.{only};
 ghost use Rattle.requests.specs.RequestFaults.{action_in, action_of, body_names, is_word, line_names, word_of};
@@ -55,4 +57,11 @@ pub(crate) fn only_body_members_of(action: Action, value: &Value) -> Result<(), 
     ensures { result ≡ only Fault.Members (body_names action) (view value.now) }
 {
     only(value, action.form().body_members)
+}
+
+/// Whether some member of one of these names is there.
+pub(crate) fn has_some(value: &Value, names: &[&str]) -> bool
+    ensures { result ≡ list_any (λ name. is_some (get name.now (view value.now))) names.now }
+{
+    names.iter().any(|name| value.get(*name).is_some())
 }

@@ -1,13 +1,13 @@
 //! The members of requests: each reader asks one member, which has to be there.
 ghost use Rattle.std.specs.Prelude.{◌≡◌, codes};
 ghost use Rattle.serde_json.specs.View.{view};
-ghost use Rattle.json_values.specs.Values.{as_asn};
+ghost use Rattle.json_values.specs.Values.{as_asn, as_name};
 ghost use Rattle.requests.specs.RequestFaults.{role_at};
 ghost use Rattle.requests.specs.RequestValues.{any_scope, as_max, as_number, as_origin, as_role, as_scope, fitting_scope, role_of};
 ghost use Rattle.requests.specs.steps.RequestReading.{caller_in, day_in, holder_in, max_in, member_in, number_in, prefix_in};
 
 use super::fault::Fault;
-use crate::member_names::{ASN, MAX, NUMBER, ORIGIN, PREFIX, ROLE, SCOPE};
+use crate::member_names::{ASN, MAX, NAME, NUMBER, ORIGIN, PREFIX, ROLE, SCOPE};
 use addr::{Asn, Day, Name, Origin, Prefix};
 use json_values::{as_asn, as_day, as_name, as_number_in, as_prefix, member};
 use registry::{LAST_NUMBER, Role, Scope};
@@ -99,6 +99,13 @@ pub(crate) fn caller_in(value: &Value, name: &str) -> Result<Name, Fault>
     ensures { result ≡ caller_in name.now (view value.now) }
 {
     as_name(member(value, name)?).ok_or(Fault::Caller)
+}
+
+/// The name of a SLURM file.
+pub(crate) fn file_name_in(value: &Value) -> Result<Name, Fault>
+    ensures { result ≡ member_in as_name Fault.FileName (codes "name") (view value.now) }
+{
+    as_name(member(value, NAME)?).ok_or(Fault::FileName)
 }
 
 pub(crate) fn prefix_in(value: &Value) -> Result<Prefix, Fault>

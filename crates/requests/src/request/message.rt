@@ -8,7 +8,7 @@ ghost use Rattle.requests.specs.RequestHeads.{head_view};
 ghost use Rattle.requests.specs.HttpFaults.{body_bytes, http_fault, json_tree, path_number};
 ghost use Rattle.requests.specs.HttpRequests.{SaysAsked};
 ghost use Rattle.requests.specs.steps.HttpReading.{asked_of, caller_of, import_body, import_rows, object_body, object_request, path_subject, request_of};
-ghost use Rattle.requests.specs.steps.RequestReading.{asked_terms, file_of, request_terms, slurm_request};
+ghost use Rattle.requests.specs.steps.RequestReading.{asked_terms, main_file_of, request_terms, slurm_request};
 
 use super::commands::Subject;
 use super::exceptions::slurm_of;
@@ -85,7 +85,7 @@ fn request_of(alloc: Global, head: &Head<'_>, body: Option<&[u8]>) -> Read<Reque
 /// The request of a body that is a SLURM file.
 fn file_body(alloc: Global, body: Option<&[u8]>) -> Read<Request>
     ensures { IfOk result (λ request. mapped request_terms request
-        ≡ slurm_request (file_of (json_tree (option_copied body.entry)))) }
+        ≡ slurm_request (main_file_of (json_tree (option_copied body.entry)))) }
 {
     let Some(bytes) = body else {
         return slurm_of(alloc, &Value::Null);

@@ -1,6 +1,6 @@
 use Rattle.std.proofs.Common.{refl}
 use Rattle.json_values.proofs.PartsLemmas.{mapped-unless}
-use Rattle.requests.specs.RequestFaults.{malformed_number}
+use Rattle.requests.specs.RequestFaults.{fault_order}
 use Rattle.requests.specs.steps.RequestReading.{asked_terms}
 use Rattle.requests.proofs.AskedLemmas.{asked_terms-parts}
 use Rattle.requests.proofs.request.asked_as.Goals as goal
@@ -9,7 +9,7 @@ pub returns : goal.returns
 returns c =
     rw (
       c.unless.ensures,
-      mapped-unless malformed_number asked_terms c.asked_with-asked.result c.only_members_of.result,
+      mapped-unless fault_order asked_terms c.asked_with-asked.result c.only_members_of.result,
       c.asked_with-asked.ensures,
       c.both-2.ensures,
       c.both.ensures,

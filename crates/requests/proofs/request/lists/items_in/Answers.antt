@@ -2,14 +2,14 @@ use Rattle.std.proofs.Common.{refl}
 use Rattle.std.proofs.lemmas.List.{length-map}
 use Rattle.json_values.proofs.PartsLemmas.{mapped-unless}
 use Rattle.json_values.proofs.TreeLemmas.{list_of-items_view}
-use Rattle.requests.specs.RequestFaults.{malformed_number}
+use Rattle.requests.specs.RequestFaults.{fault_order}
 use Rattle.requests.proofs.request.lists.items_in.Goals as goal
 
 pub returns : goal.returns
 returns g c =
     rw (
       c.unless.ensures,
-      mapped-unless malformed_number (λ v. v.items) c.in_ok-items.items c.count_of.result,
+      mapped-unless fault_order (λ v. v.items) c.in_ok-items.items c.count_of.result,
       c.in_ok-items.ensures,
       c.count_of.ensures,
       c.as_slice.ensures.value,

@@ -1,6 +1,6 @@
 use Rattle.std.proofs.Common.{refl}
 use Rattle.json_values.proofs.PartsLemmas.{mapped-unless}
-use Rattle.requests.specs.RequestFaults.{malformed_number}
+use Rattle.requests.specs.RequestFaults.{fault_order}
 use Rattle.requests.specs.steps.RequestReading.{request_terms}
 use Rattle.requests.proofs.request.message.object_request.Goals as goal
 
@@ -8,7 +8,7 @@ pub returns : goal.returns
 returns c =
     rw (
       c.unless.ensures,
-      mapped-unless malformed_number request_terms c.in_ok-request.request c.only_body_members_of.result,
+      mapped-unless fault_order request_terms c.in_ok-request.request c.only_body_members_of.result,
       c.in_ok-request.ensures.read,
       c.only_body_members_of.ensures,
     ) refl
