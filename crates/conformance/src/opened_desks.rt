@@ -107,6 +107,42 @@ fn opened_desk_has_its_exceptions(rt: HostRuntime) -> Result<(), Fail> {
     afterwards.assert_replies_of_lines(&rt, name, &mut opened)
 }
 
+/// Two files of a set, and what is left of them when the desk is opened again.
+const FILES: &str = r#"
+slurms b ; {"asn":64496,"prefix":"192.0.2.128/25"} | a {"prefix":"192.0.2.0/25"},{"asn":64496} ; | c ; => {"done":null}
+"#;
+
+const FILES_AFTERWARDS: &str = r#"
+bob {"do":"payloads"} => {"payloads":[{"asn":64496,"prefix":"192.0.2.128/25","max":25}]}
+slurms a {"prefix":"192.0.2.0/25"} ; => {"done":null}
+bob {"do":"payloads"} => {"payloads":[{"asn":64496,"prefix":"192.0.2.0/24","max":24}]}
+"#;
+
+#[test]
+fn opened_desk_has_its_slurm_files(rt: HostRuntime) -> Result<(), Fail> {
+    let name = "opened_desk_has_its_slurm_files";
+    let mut desk = example_desk(rt.alloc())?;
+    let setup = Dialogue::of(rt.alloc(), &[ALPHA, AUTHORIZATION, FILES])?;
+    setup.assert_replies_of_lines(&rt, name, &mut desk)?;
+    assert_opened(&rt, rt.alloc(), name, desk.close(), FILES_AFTERWARDS)?;
+    Ok(())
+}
+
+/// The rows of a file as schema 1 has them.
+const OLD_EXCEPTIONS: &str = "
+INSERT INTO slurm VALUES ('main', 1, 1, 4, x'000000000000000000000000c0000200', 24, NULL, NULL);
+INSERT INTO slurm VALUES ('main', 2, 1, 4, x'000000000000000000000000c0000200', 24, 24, 64496);
+";
+
+#[test]
+fn old_slurm_entries_are_file_main(rt: HostRuntime) -> Result<(), Fail> {
+    let name = "old_slurm_entries_are_file_main";
+    let mut old = made_old(rt.alloc())?;
+    old.execute_batch(OLD_EXCEPTIONS)?;
+    assert_opened(&rt, rt.alloc(), name, old, EXCEPTIONS_AFTERWARDS)?;
+    Ok(())
+}
+
 /// All numbers of authorizations but the last were given.
 const ALL_BUT_ONE_MADE: &str = "UPDATE holder SET auths = 999998 WHERE name = 'alpha';";
 

@@ -211,6 +211,23 @@ reg {"do":"validity","routes":[{"prefix":"192.0.2.0/24","origin":1,"max":24}]} =
 reg {"do":"validity","routes":[{"prefix":"192.0.2.0/24","origin":"AS1"}]} => 6
 reg {"do":"validity","routes":[{"prefix":"192.0.2.0/24","origin":"AS1"},{"prefix":"all","origin":1}]} => 5
 reg {"do":"slurm","file":{}} => 11
+# files_of_a_slurm_request
+reg {"do":"slurm","files":[]} => 0
+reg {"do":"slurm","files":[{"name":"a","file":{"slurmVersion":1,"validationOutputFilters":{"prefixFilters":[],"bgpsecFilters":[]},"locallyAddedAssertions":{"prefixAssertions":[],"bgpsecAssertions":[]}}},{"file":{"slurmVersion":1,"validationOutputFilters":{"prefixFilters":[],"bgpsecFilters":[]},"locallyAddedAssertions":{"prefixAssertions":[],"bgpsecAssertions":[]}},"name":"b"}]} => 0
+reg {"do":"slurm","file":{"slurmVersion":1,"validationOutputFilters":{"prefixFilters":[],"bgpsecFilters":[]},"locallyAddedAssertions":{"prefixAssertions":[],"bgpsecAssertions":[]}},"files":[]} => 2
+reg {"do":"slurm"} => 2
+reg {"do":"slurm","files":null} => 2
+reg {"do":"slurm","files":{}} => 2
+reg {"do":"slurm","files":[7]} => 2
+reg {"do":"slurm","files":[{"name":"a"}]} => 2
+reg {"do":"slurm","files":[{"file":{"slurmVersion":1,"validationOutputFilters":{"prefixFilters":[],"bgpsecFilters":[]},"locallyAddedAssertions":{"prefixAssertions":[],"bgpsecAssertions":[]}}}]} => 2
+reg {"do":"slurm","files":[{"name":"a","file":{"slurmVersion":1,"validationOutputFilters":{"prefixFilters":[],"bgpsecFilters":[]},"locallyAddedAssertions":{"prefixAssertions":[],"bgpsecAssertions":[]}},"asn":1}]} => 2
+reg {"do":"slurm","files":[{"name":"a","file":{}},7]} => 2
+reg {"do":"slurm","files":[{"name":7,"file":{"slurmVersion":1,"validationOutputFilters":{"prefixFilters":[],"bgpsecFilters":[]},"locallyAddedAssertions":{"prefixAssertions":[],"bgpsecAssertions":[]}}}]} => 15
+reg {"do":"slurm","files":[{"name":"","file":{"slurmVersion":1,"validationOutputFilters":{"prefixFilters":[],"bgpsecFilters":[]},"locallyAddedAssertions":{"prefixAssertions":[],"bgpsecAssertions":[]}}}]} => 15
+reg {"do":"slurm","files":[{"name":"a","file":{"slurmVersion":1,"validationOutputFilters":{"prefixFilters":[],"bgpsecFilters":[]},"locallyAddedAssertions":{"prefixAssertions":[],"bgpsecAssertions":[]}}},{"name":"b","file":{"slurmVersion":1,"validationOutputFilters":{"prefixFilters":[],"bgpsecFilters":[]},"locallyAddedAssertions":{"prefixAssertions":[],"bgpsecAssertions":[]}}},{"name":"a","file":{"slurmVersion":1,"validationOutputFilters":{"prefixFilters":[],"bgpsecFilters":[]},"locallyAddedAssertions":{"prefixAssertions":[],"bgpsecAssertions":[]}}}]} => 15
+reg {"do":"slurm","files":[{"name":7,"file":{"slurmVersion":1,"validationOutputFilters":{"prefixFilters":[],"bgpsecFilters":[]},"locallyAddedAssertions":{"prefixAssertions":[],"bgpsecAssertions":[]}}},{"name":"a","file":null}]} => 11
+Reg {"do":"slurm","files":[{"name":7,"file":{"slurmVersion":1,"validationOutputFilters":{"prefixFilters":[],"bgpsecFilters":[]},"locallyAddedAssertions":{"prefixAssertions":[],"bgpsecAssertions":[]}}}]} => 4
 # takes_numbers_in_plain_digits_alone
 reg {"do":"amend","holder":"alpha","number":1,"max":24,"until":"2026-12-31"} => 0
 reg {"do":"amend","holder":"alpha","number":1,"max":24.0,"until":"2026-12-31"} => 7
@@ -345,7 +362,12 @@ fn nesting_over_127_is_no_json(rt: HostRuntime) -> Result<(), Fail> {
 /// The numbers of a line that brings this file, both 0 where it is a request.
 fn reported_of_file(alloc: Global, file: &str) -> Result<(u8, u8), Fail> {
     let request = format!(in alloc; "reg {{\"do\":\"slurm\",\"file\":{file}}}")?;
-    let line = line_of(alloc, "2026-03-01", &request)?;
+    reported_of_slurm(alloc, &request)
+}
+
+/// The numbers of such a request, both 0 where it is one.
+fn reported_of_slurm(alloc: Global, request: &str) -> Result<(u8, u8), Fail> {
+    let line = line_of(alloc, "2026-03-01", request)?;
     match read_line_request(alloc, line.as_bytes()) {
         Ok(_) => Ok((0, 0)),
         Err(LineFault::Malformed(malformed)) => {
@@ -353,6 +375,26 @@ fn reported_of_file(alloc: Global, file: &str) -> Result<(u8, u8), Fail> {
         }
         Err(LineFault::Memory) => Err("no memory".into()),
     }
+}
+
+/// The numbers of a line that brings these two files, both 0 where it is a request.
+fn reported_of_two_files(alloc: Global, one: &str, other: &str) -> Result<(u8, u8), Fail> {
+    let request = format!(in alloc;
+        "reg {{\"do\":\"slurm\",\"files\":[{{\"name\":\"a\",\"file\":{one}}},\
+         {{\"name\":\"b\",\"file\":{other}}}]}}"
+    )?;
+    reported_of_slurm(alloc, &request)
+}
+
+/// The limit on entries is that of each file.
+#[test]
+fn limits_of_sets_of_slurm_files(rt: HostRuntime) -> Result<(), Fail> {
+    let alloc = rt.alloc();
+    let full = file_of_many(alloc, 4095)?;
+    let over = file_of_many(alloc, 4096)?;
+    assert_eq!(rt; reported_of_two_files(alloc, &full, &full)?, (0, 0));
+    assert_eq!(rt; reported_of_two_files(alloc, &full, &over)?, (11, 11));
+    Ok(())
 }
 
 /// The line's own object is one level more.

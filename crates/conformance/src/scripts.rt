@@ -25,6 +25,7 @@ mod other_holders;
 mod repeats;
 mod resources;
 mod several_prefixes;
+mod slurm_sets;
 mod vrps;
 mod what_if;
 
@@ -300,6 +301,7 @@ fn scripts_have_their_replies(rt: HostRuntime) -> Result<(), Fail> {
     assert_all(&rt, rt.alloc(), authorizations::SCRIPTS)?;
     assert_all(&rt, rt.alloc(), amendments::SCRIPTS)?;
     assert_all(&rt, rt.alloc(), several_prefixes::SCRIPTS)?;
+    assert_all(&rt, rt.alloc(), slurm_sets::SCRIPTS)?;
     assert_all(&rt, rt.alloc(), contents::SCRIPTS)?;
     assert_all(&rt, rt.alloc(), imports::SCRIPTS)?;
     assert_all(&rt, rt.alloc(), what_if::SCRIPTS)?;

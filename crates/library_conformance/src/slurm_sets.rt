@@ -147,13 +147,13 @@ fn slurm_files_overlap_either_way(rt: HostRuntime) -> Result<(), Fail> {
 #[test]
 fn slurm_sets_have_an_overlap(rt: HostRuntime) -> Result<(), Fail> {
     let alloc = rt.alloc();
-    assert!(rt; !SlurmSet::make(Vec::new(alloc))?.has_overlap(alloc)?);
+    assert!(rt; !SlurmSet::make(Vec::new(alloc))?.has_overlap(alloc));
     for table in [PAIRS, SETS] {
         for row in &table_rows(alloc, table)? {
             let set = SlurmSet::make(files_of(alloc, row.input)?)?;
             let expected = row.output == "yes";
             assert!(rt;
-                set.has_overlap(alloc)? == expected,
+                set.has_overlap(alloc) == expected,
                 "{}: {}",
                 row.name,
                 row.input

@@ -6,7 +6,7 @@ use policy::{
     Auth, Change, Charter, Command, Edit, Granted, HolderChange, HolderRows, RoaPrefixes, Role,
     Scope, View, decide,
 };
-use slurm::{Filter, Slurm};
+use slurm::{Filter, NamedSlurm, Slurm, SlurmSet};
 use sqlite::{Connection, MemStore};
 use std::alloc::Global;
 use std::process::Abort;
@@ -276,6 +276,16 @@ fn authorization_that_gives_no_vrp_is_another_schema(rt: HostRuntime) -> Result<
     Ok(())
 }
 
+/// The set of one file.
+fn one_file(alloc: Global, text: &str, file: Slurm) -> Result<SlurmSet, Fail> {
+    let mut files = Vec::new(alloc);
+    files.push(NamedSlurm {
+        name: name(text)?,
+        file,
+    })?;
+    Ok(SlurmSet::make(files)?)
+}
+
 /// The one file of the store.
 fn only_file(alloc: Global, store: &mut Store<MemStore>) -> Result<Slurm, Fail> {
     let Ok(mut files) = store.slurm_files(alloc) else {
@@ -291,17 +301,67 @@ fn only_file(alloc: Global, store: &mut Store<MemStore>) -> Result<Slurm, Fail> 
 fn slurm_file_is_loaded_as_it_was_applied(rt: HostRuntime) -> Result<(), Fail> {
     let mut store = registered_holder(rt.alloc())?;
     let file = Slurm::read(rt.alloc(), SAMPLE.as_bytes())?;
-    let copy = file.clone()?;
-    assert!(rt; store.apply(&Change::Exceptions(copy)).is_ok());
+    let set = one_file(rt.alloc(), "main", file.clone()?)?;
+    assert!(rt; store.apply(&Change::Exceptions(set)).is_ok());
     let loaded = only_file(rt.alloc(), &mut store)?;
     assert!(rt; loaded.filters() == file.filters());
     assert!(rt; loaded.assertions() == file.assertions());
     let empty = Slurm::make(Vec::new(rt.alloc()), Vec::new(rt.alloc()))?;
-    assert!(rt; store.apply(&Change::Exceptions(empty)).is_ok());
+    let set = one_file(rt.alloc(), "a", empty)?;
+    assert!(rt; store.apply(&Change::Exceptions(set)).is_ok());
     let Ok(files) = store.slurm_files(rt.alloc()) else {
         return Err("no files".into());
     };
     assert!(rt; files.is_empty());
+    Ok(())
+}
+
+/// A file of one filter.
+fn file_of(alloc: Global, asn: u32) -> Result<Slurm, Fail> {
+    let mut filters = Vec::new(alloc);
+    filters.push(Filter::By(Asn(asn)))?;
+    Ok(Slurm::make(filters, Vec::new(alloc))?)
+}
+
+/// The filters of the files that are loaded.
+fn filters_loaded(alloc: Global, store: &mut Store<MemStore>) -> Result<Vec<Filter>, Fail> {
+    let Ok(files) = store.slurm_files(alloc) else {
+        return Err("no files".into());
+    };
+    let mut filters = Vec::new(alloc);
+    for file in &files {
+        filters.extend_from_slice(file.filters())?;
+    }
+    Ok(filters)
+}
+
+#[test]
+fn slurm_files_are_loaded_by_name(rt: HostRuntime) -> Result<(), Fail> {
+    let alloc = rt.alloc();
+    let mut store = registered_holder(alloc)?;
+    let mut files = Vec::new(alloc);
+    for (text, asn) in [("b", 64_497), ("main", 64_498), ("a", 64_496)] {
+        files.push(NamedSlurm {
+            name: name(text)?,
+            file: file_of(alloc, asn)?,
+        })?;
+    }
+    files.push(NamedSlurm {
+        name: name("empty")?,
+        file: Slurm::make(Vec::new(alloc), Vec::new(alloc))?,
+    })?;
+    let set = SlurmSet::make(files)?;
+    assert!(rt; store.apply(&Change::Exceptions(set)).is_ok());
+    let Ok(loaded) = store.slurm_files(alloc) else {
+        return Err("no files".into());
+    };
+    assert_eq!(rt; loaded.len(), 3);
+    let expected = [
+        Filter::By(Asn(64_496)),
+        Filter::By(Asn(64_497)),
+        Filter::By(Asn(64_498)),
+    ];
+    assert!(rt; filters_loaded(alloc, &mut store)?.as_slice() == expected.as_slice());
     Ok(())
 }
 

@@ -2,6 +2,7 @@
 //!
 //! A row `slurm FILTERS ; ASSERTIONS` is the request of the operator `reg` with the file of these
 //! entries.
+use super::slurm_sets::set_line;
 use std::alloc::Global;
 use std::test::Fail;
 
@@ -105,8 +106,11 @@ pub(crate) fn slurm_file(alloc: Global, filters: &str, assertions: &str) -> Resu
     Ok(file)
 }
 
-/// The request of a row that begins with `slurm `; any other as it is.
+/// The request of a row that begins with `slurm ` or `slurms `; any other as it is.
 pub(crate) fn request_line(alloc: Global, row: &str) -> Result<String, Fail> {
+    if let Some(files) = row.strip_prefix("slurms ") {
+        return set_line(alloc, files);
+    }
     let Some(lists) = row.strip_prefix("slurm ") else {
         return Ok(String::from_str(alloc, row)?);
     };

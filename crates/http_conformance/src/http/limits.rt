@@ -177,7 +177,7 @@ fn body_limit(rt: HostRuntime) -> Result<(), Fail> {
 }
 
 /// Requests, how deep the array that is their body nests, and their responses.
-const NESTED_BODIES: [(&str, u32, &str); 4] = [
+const NESTED_BODIES: [(&str, u32, &str); 6] = [
     (
         "POST /holders/alpha/auths ann",
         127,
@@ -190,6 +190,8 @@ const NESTED_BODIES: [(&str, u32, &str); 4] = [
     ),
     ("PUT /slurm reg", 127, "400 {\"malformed\":11,\"slurm\":2}"),
     ("PUT /slurm reg", 128, "400 {\"malformed\":11,\"slurm\":1}"),
+    ("PUT /slurms reg", 127, "400 {\"malformed\":2}"),
+    ("PUT /slurms reg", 128, "400 {\"malformed\":1}"),
 ];
 
 /// The request of a row, whose body is an array that nests so deep, has the response.

@@ -59,6 +59,25 @@ POST /validity bob {"routes":[{"prefix":"198.51.100.0/24","origin":64500}]} => 2
 # file_without_entries_ends_the_exceptions
 PUT /slurm reg {"slurmVersion":1,"validationOutputFilters":{"prefixFilters":[],"bgpsecFilters":[]},"locallyAddedAssertions":{"prefixAssertions":[],"bgpsecAssertions":[]}} => 200 {"done":null}
 POST /validity bob {"routes":[{"prefix":"198.51.100.0/24","origin":64500}]} => 200 {"answers":["NotFound"]}
+# slurm_set_is_put
+PUT /slurms reg {"files":[{"name":"a","file":{"slurmVersion":1,"validationOutputFilters":{"prefixFilters":[],"bgpsecFilters":[]},"locallyAddedAssertions":{"prefixAssertions":[{"asn":64500,"prefix":"198.51.100.0/24"}],"bgpsecAssertions":[]}}},{"name":"b","file":{"slurmVersion":1,"validationOutputFilters":{"prefixFilters":[],"bgpsecFilters":[]},"locallyAddedAssertions":{"prefixAssertions":[{"asn":64501,"prefix":"203.0.113.0/24"}],"bgpsecAssertions":[]}}}]} => 200 {"done":null}
+POST /validity bob {"routes":[{"prefix":"198.51.100.0/24","origin":64500},{"prefix":"203.0.113.0/24","origin":64501}]} => 200 {"answers":["Valid","Valid"]}
+# refused_slurm_set_leaves_the_last
+PUT /slurms ann {"files":[]} => 403 {"denied":"operator"}
+PUT /slurms reg {"files":[{"name":"a","file":{"slurmVersion":1,"validationOutputFilters":{"prefixFilters":[],"bgpsecFilters":[]},"locallyAddedAssertions":{"prefixAssertions":[{"asn":64500,"prefix":"198.51.100.0/24"}],"bgpsecAssertions":[]}}},{"name":"b","file":{"slurmVersion":1,"validationOutputFilters":{"prefixFilters":[{"prefix":"198.51.100.0/22"}],"bgpsecFilters":[]},"locallyAddedAssertions":{"prefixAssertions":[],"bgpsecAssertions":[]}}}]} => 403 {"denied":"overlap"}
+PUT /slurms reg x => 400 {"malformed":1}
+PUT /slurms reg [] => 400 {"malformed":2}
+PUT /slurms reg {} => 400 {"malformed":2}
+PUT /slurms reg {"slurmVersion":1,"validationOutputFilters":{"prefixFilters":[],"bgpsecFilters":[]},"locallyAddedAssertions":{"prefixAssertions":[],"bgpsecAssertions":[]}} => 400 {"malformed":2}
+PUT /slurms reg {"file":{"slurmVersion":1,"validationOutputFilters":{"prefixFilters":[],"bgpsecFilters":[]},"locallyAddedAssertions":{"prefixAssertions":[],"bgpsecAssertions":[]}}} => 400 {"malformed":2}
+PUT /slurms reg {"files":[],"file":{"slurmVersion":1,"validationOutputFilters":{"prefixFilters":[],"bgpsecFilters":[]},"locallyAddedAssertions":{"prefixAssertions":[],"bgpsecAssertions":[]}}} => 400 {"malformed":2}
+PUT /slurms reg {"files":[{"name":"a","file":{}}]} => 400 {"malformed":11,"slurm":3}
+PUT /slurms reg {"files":[{"name":"a","file":{"slurmVersion":1,"validationOutputFilters":{"prefixFilters":[],"bgpsecFilters":[]},"locallyAddedAssertions":{"prefixAssertions":[],"bgpsecAssertions":[]}}},{"name":"a","file":{"slurmVersion":1,"validationOutputFilters":{"prefixFilters":[],"bgpsecFilters":[]},"locallyAddedAssertions":{"prefixAssertions":[],"bgpsecAssertions":[]}}}]} => 400 {"malformed":15}
+PUT /slurms Reg x => 400 {"malformed":1}
+POST /validity bob {"routes":[{"prefix":"198.51.100.0/24","origin":64500},{"prefix":"203.0.113.0/24","origin":64501}]} => 200 {"answers":["Valid","Valid"]}
+# set_of_no_files_ends_the_exceptions
+PUT /slurms reg {"files":[]} => 200 {"done":null}
+POST /validity bob {"routes":[{"prefix":"198.51.100.0/24","origin":64500},{"prefix":"203.0.113.0/24","origin":64501}]} => 200 {"answers":["NotFound","NotFound"]}
 "#;
 
 const MALFORMED: &str = r#"
@@ -155,6 +174,7 @@ const ALLOWED: [(&str, &str); 15] = [
     ("/holders/alpha/imports", "POST"),
     ("/holders/alpha/whatif", "POST"),
     ("/slurm", "PUT"),
+    ("/slurms", "PUT"),
     ("/payloads", "GET"),
     ("/validity", "POST"),
 ];
