@@ -145,7 +145,7 @@ class Rows:
             yield "claim", self.holder, number, auth.asn, number_of(FROM), number_of(auth.until)
             yield "entry", self.holder, number, auth.asn, 4, blob(auth.prefix[0]), auth.prefix[1], auth.max
         for row in self.exceptions:
-            yield "slurm", "main", *row
+            yield "slurm", *row
 
 
 def done(caller, method, path, members=None, number=None, effect=None):
@@ -254,24 +254,32 @@ def transfer(rows, chance):
     return done("reg", "POST", "/transfers", members, None, effect)
 
 
+def slurm_file(filters, assertions):
+    return {
+        "slurmVersion": 1,
+        "validationOutputFilters": {"prefixFilters": filters, "bgpsecFilters": []},
+        "locallyAddedAssertions": {"prefixAssertions": assertions, "bgpsecAssertions": []},
+    }
+
+
 def slurm(rows, chance):
-    """There is one file, so one client alone sends them."""
+    """One file, or a second one too, whose filters name no prefix. There is one set, so one client alone sends them."""
     filters = [some_auth(rows, chance) for _ in range(chance.randrange(30))]
     assertions = [some_auth(rows, chance) for _ in range(chance.randrange(30))]
-    members = {
-        "slurmVersion": 1,
-        "validationOutputFilters": {
-            "prefixFilters": [{"asn": one.asn, "prefix": text(one.prefix)} for one in filters], "bgpsecFilters": []},
-        "locallyAddedAssertions": {
-            "prefixAssertions": [{"asn": one.asn, "prefix": text(one.prefix), "maxPrefixLength": one.max}
-                                 for one in assertions], "bgpsecAssertions": []},
-    }
+    numbers = [chance.randrange(64496, 64512) for _ in range(chance.choice([0, 0, 20]))]
+    main = slurm_file([{"asn": one.asn, "prefix": text(one.prefix)} for one in filters],
+                      [{"asn": one.asn, "prefix": text(one.prefix), "maxPrefixLength": one.max} for one in assertions])
+    other = slurm_file([{"asn": asn} for asn in numbers], [])
 
     def effect(after):
         after.exceptions = [
-            (kind, place, 4, blob(one.prefix[0]), one.prefix[1], one.max if kind == 2 else None, one.asn)
+            ("main", kind, place, 4, blob(one.prefix[0]), one.prefix[1], one.max if kind == 2 else None, one.asn)
             for kind, entries in ((1, filters), (2, assertions)) for place, one in enumerate(entries, 1)]
-    return done("reg", "PUT", "/slurm", members, None, effect)
+        after.exceptions += [("noc", 1, place, None, None, None, None, asn) for place, asn in enumerate(numbers, 1)]
+    if numbers:
+        files = [{"name": "noc", "file": other}, {"name": "main", "file": main}]
+        return done("reg", "PUT", "/slurms", {"files": files}, None, effect)
+    return done("reg", "PUT", "/slurm", main, None, effect)
 
 
 def list_all(rows, chance):

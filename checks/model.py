@@ -220,7 +220,7 @@ FURTHER = {
     "import": ["holder", "rows"],
     "whatif": ["holder", "changes", "routes"],
     "payloads": [],
-    "slurm": ["file"],
+    "slurm": ["files"],
     "validity": ["routes"],
 }
 CHANGES = {"create": TERMS, "withdraw": ["number"]}
@@ -229,12 +229,14 @@ LIMITS = {"rows": (1, 10_000), "routes": (1, 10_000), "changes": (0, 1000), "ent
 
 
 def with_lists(value, names):
-    """The object with the list of one that `prefix` and `max`, or `max`, stand for."""
+    """The object with the list of one that `prefix` and `max`, or `max`, stand for, and in a line `file`."""
     value = dict(value)
     if "entries" in names and "entries" not in value and {"prefix", "max"} <= set(value):
         value["entries"] = [{name: value.pop(name) for name in ITEMS["entries"]}]
     if "maxes" in names and "maxes" not in value and "max" in value:
         value["maxes"] = [value.pop("max")]
+    if {"files", "day"} <= set(names) and "files" not in value and "file" in value:
+        value["files"] = [{"name": "main", "file": value.pop("file")}]
     return value
 
 
@@ -252,10 +254,8 @@ def read_members(value, names, faults):
             values[name] = read_entries(given, faults)
         elif name in LIMITS:
             values[name] = read_items(name, given, faults)
-        elif name == "file":
-            values[name], fault = read_slurm(given)
-            if fault:
-                faults.append((11, fault))
+        elif name == "files":
+            values[name] = read_files(given, faults)
         elif name == "do":
             values[name] = given
         else:
@@ -293,6 +293,24 @@ def read_entries(given, faults):
     if len({prefix for prefix, _ in entries}) < len(entries):
         faults.append((14,))
     return entries if faults else sorted(entries)
+
+
+def read_files(given, faults):
+    """The filters and assertions of each file, by its name."""
+    if type(given) is not list or any(type(item) is not dict or set(item) != {"name", "file"} for item in given):
+        faults.append((2,))
+        return {}
+    if len(given) > 16:
+        faults.append((12,))
+    files = {}
+    for item in given:
+        name, (file, fault) = read_name(item["name"]), read_slurm(item["file"])
+        if fault:
+            faults.append((11, fault))
+        if name is None or name in files:
+            faults.append((15,))
+        files[name] = file
+    return files
 
 
 def read_line(octets):
@@ -430,10 +448,12 @@ def permits_all(history, request, entries):
 
 def vrps(history, day):
     """The VRPs of a day: prefix, max and AS, rising."""
-    filters, assertions = [], []
+    files = {}
     for entry in history:
         if entry["do"] == "slurm":
-            filters, assertions = entry["file"]
+            files = entry["files"]
+    filters = [one for file in files.values() for one in file[0]]
+    assertions = [one for file in files.values() for one in file[1]]
     given = {(prefix, longest, auth["asn"]) for holder in registered(history) for auth in active(history, holder)
              if auth["from"] <= day <= auth["until"] for prefix, longest in auth["entries"]}
 
@@ -466,8 +486,14 @@ RULES = {
     "show": ["grant", "number"],
     "content": ["grant", "number"],
     "list": ["grant"],
-    "slurm": ["operator"],
+    "slurm": ["operator", "overlap"],
 }
+
+
+def overlap(one, other):
+    """Whether two SLURM files name prefixes with an address in common."""
+    named = [[prefix for prefix, _ in file[0] if prefix] + [prefix for prefix, *_ in file[1]] for file in (one, other)]
+    return any(contains(p, q) or contains(q, p) for p in named[0] for q in named[1])
 
 
 def rule_holds(rule, charter, history, request):
@@ -482,6 +508,8 @@ def rule_holds(rule, charter, history, request):
     match rule:
         case "operator":
             return request["caller"] in operators
+        case "overlap":
+            return not any(overlap(one, other) for one, other in itertools.combinations(request["files"].values(), 2))
         case "steward":
             return request["caller"] in operators or any(
                 grant and grant.name == request["caller"] and grant.role == "manager" and day <= grant.until
@@ -664,6 +692,7 @@ ROUTES = [
     ("/holders/{holder}/imports", {"POST": "import"}),
     ("/holders/{holder}/whatif", {"POST": "whatif"}),
     ("/slurm", {"PUT": "slurm"}),
+    ("/slurms", {"PUT": "slurms"}),
     ("/payloads", {"GET": "payloads"}),
     ("/validity", {"POST": "validity"}),
 ]
@@ -720,16 +749,16 @@ def read_import(octets, faults):
     return rows
 
 
-def read_body(do, octets, names, faults):
+def read_body(asked, octets, names, faults):
     """The members of a body."""
-    if do == "import":
+    if asked == "import":
         return {"rows": read_import(octets, faults)}
     try:
         value = read_json(octets)
     except ValueError:
-        faults.append((11, 1) if do == "slurm" else (1,))
+        faults.append((11, 1) if asked == "slurm" else (1,))
         return {}
-    return read_members({"file": value} if do == "slurm" else value, names, faults)
+    return read_members({"files": [{"name": "main", "file": value}]} if asked == "slurm" else value, names, faults)
 
 
 def response(status, body, kind="application/json", allow=None):
@@ -763,7 +792,7 @@ def answer_message(desk, day, octets):
         return [field[2] for field in fields if field[1].lower() == name]
 
     as_csv = methods[method] in ("export", "payloads")
-    do = "list" if methods[method] == "export" else methods[method]
+    do = {"export": "list", "slurms": "slurm"}.get(methods[method], methods[method])
     names = [name for name in FURTHER[do] if name not in parameters]
     lengths = values_of(b"content-length")
     if values_of(b"transfer-encoding") or names and not lengths:
@@ -784,7 +813,7 @@ def answer_message(desk, day, octets):
         given["number"] = read_digits(given["number"], 999_999)
     request |= read_members(given, list(given), faults)
     if names:
-        request |= read_body(do, body, names, faults)
+        request |= read_body(methods[method], body, names, faults)
     if faults:
         return response(400, text_of(malformed(min(faults))) + "\n")
     reply = desk.answer(request)

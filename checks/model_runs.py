@@ -137,6 +137,14 @@ class Requests:
         return {"slurmVersion": 1, "validationOutputFilters": {"prefixFilters": filters, "bgpsecFilters": []},
                 "locallyAddedAssertions": {"prefixAssertions": assertions, "bgpsecAssertions": []}}
 
+    def exceptions(self):
+        """The members of a set of SLURM files, now and then both forms or neither."""
+        names = self.random.sample(["a", "b", "main", "noc"], self.pick([0, 1, 2, 2, 2, 3]))
+        if self.chance(0.03):
+            names = self.pick([["a", "a"], ["-a"], [f"a{at}" for at in range(17)]])
+        short, listed = {"file": self.slurm()}, {"files": [{"name": name, "file": self.slurm()} for name in names]}
+        return self.pick([short | listed, {}] if self.chance(0.03) else [short, listed, listed])
+
     def request(self, do=None, **fixed):
         """A request with values that read; `fixed` has members that are given."""
         weights = [2, 5, 2, 4, 5, 2, 16, 7, 3, 6, 5, 6, 8, 7, 4, 3, 5]
@@ -145,8 +153,7 @@ class Requests:
             "holder": self.holder(), "giver": self.holder(), "taker": self.pick(HOLDERS), "number": self.number(),
             "name": self.pick(CALLERS), "role": self.pick(["manager", "clerk", "auditor"]),
             "scope": self.prefix() if self.chance(0.4) else "all", "rows": self.several(self.row, [1, 2, 3, 5]),
-            "changes": self.several(self.change, [0, 1, 2, 3]), "routes": self.several(self.route, [1, 2, 4]),
-            "file": self.slurm()}
+            "changes": self.several(self.change, [0, 1, 2, 3]), "routes": self.several(self.route, [1, 2, 4])}
         if members["role"] == "manager" and self.chance(0.97):
             members["scope"] = "all"
         caller = self.pick(["ann", "ann", "ann", "ann", "bob", "bob", "cleo", "reg"])
@@ -155,6 +162,8 @@ class Requests:
         request = {"day": self.day(), "caller": caller, "do": do}
         if do == "create":
             return request | {"holder": members["holder"]} | self.terms() | fixed
+        if do == "slurm":
+            return request | (fixed or self.exceptions())
         if do == "amend":
             return request | {"holder": members["holder"], "number": members["number"]} | self.amendment() | fixed
         return request | {name: members[name] for name in model.FURTHER[do]} | fixed
@@ -258,13 +267,15 @@ class Requests:
     def message(self, request):
         """The octets of a connection that asks for it, perhaps spoiled."""
         do = "export" if request["do"] == "list" and self.chance(0.5) else request["do"]
+        do = "slurms" if do == "slurm" and "files" in request else do
         path, methods = self.pick([route for route in model.ROUTES if do in route[1].values()])
         method = next(method for method in methods if methods[method] == do)
         value = {name: request[name] for name in request
                  if name not in ("day", "caller", "do") and "{" + name + "}" not in path}
         path, version, body = path.format(**request).encode(), b"HTTP/1.1", b""
         if value:
-            body = self.csv(value["rows"]) if do == "import" else self.spoiled(value.get("file", value))
+            whole = value["file"] if do == "slurm" else value
+            body = self.csv(value["rows"]) if do == "import" else self.spoiled(whole)
         fields = [b"Desk-Caller: " + request["caller"].encode(), b"Host: desk.example"]
         if value or self.chance(0.05):
             fields.append(b"Content-Length: %d" % len(body))

@@ -75,6 +75,12 @@ def slurm_file(comment):
                    locallyAddedAssertions={"prefixAssertions": assertions, "bgpsecAssertions": []})
 
 
+def slurm_files(count):
+    file = json.loads(slurm_file("one"))
+    file["locallyAddedAssertions"]["prefixAssertions"] = []
+    return members(files=[{"name": f"a{at}", "file": file} for at in range(count)])
+
+
 AUTH = {"asn": 64496, "prefix": "192.0.2.0/24", "max": 24, "from": "2026-01-01", "until": "2026-12-31"}
 CREATE = "POST /holders/alpha/auths"
 IMPORT = "POST /holders/alpha/imports"
@@ -93,6 +99,7 @@ REQUESTS = [
             members(changes=[{"do": "withdraw", "number": 1}], routes=[{"prefix": "192.0.2.0/24", "origin": 64496}]),
             '{"report":[["Valid","NotFound"]]}\n'),
     Request("SLURM file", "PUT /slurm", "reg", slurm_file("one"), '{"done":null}\n'),
+    Request("SLURM files", "PUT /slurms", "reg", slurm_files(3), '{"done":null}\n'),
     Request("SLURM file of 480 KB", "PUT /slurm", "reg", slurm_file("x" * (480 << 10)), '{"done":null}\n'),
 ]
 PAYLOADS = Request("payloads of 1,000", "GET /payloads", "bob", "", "asn,prefix,maxlength\n" + "".join(

@@ -529,7 +529,7 @@ edited_rows() {
     refused 'a filter of nothing' "INSERT INTO slurm VALUES ('main', 1, 1, NULL, NULL, NULL, NULL, NULL)" "$schema"
     refused 'an assertion without maxLength' \
         "INSERT INTO slurm VALUES ('main', 2, 1, 4, $lo, 24, NULL, 64496)" "$schema"
-    refused 'another SLURM file' "INSERT INTO slurm VALUES ('more', 1, 1, NULL, NULL, NULL, NULL, 64496)" "$schema"
+    refused 'a SLURM file of no name' "INSERT INTO slurm VALUES ('More', 1, 1, NULL, NULL, NULL, NULL, 64496)" "$schema"
     refused 'a table away' "DROP TABLE slurm" "$schema"
     refused 'a column away' "ALTER TABLE slurm DROP COLUMN max" "$schema"
     refused 'a further table' "CREATE TABLE notes (text)" "$database"

@@ -1,10 +1,11 @@
 #!/usr/bin/env python3
 """Writes a script of `roadesk script` for the benchmark of prefix filters.
 
-    filters.py FILTERS QUERIES CHARTER.csv > SCRIPT.jsonl
+    filters.py FILTERS FILES QUERIES CHARTER.csv > SCRIPT.jsonl
 
-A desk gets 100 holders with 100 authorizations each, a SLURM file of so many filters of which none
-matches any of their VRPs, and is asked for the VRPs of a day so many times. The charter is written too.
+A desk gets 100 holders with 100 authorizations each, so many filters in so many SLURM files of which none matches
+any of their VRPs, and is asked for VRPs so many times, each time of another day than before, so that no answer is
+taken from the day that is kept. The charter is written too.
 """
 
 import json
@@ -12,11 +13,11 @@ import sys
 
 HOLDERS = 100
 AUTHORIZATIONS = 100
-DAY = "2026-03-01"
+DAYS = ["2026-03-01", "2026-03-02"]
 
 
-def line(caller, **members):
-    print(json.dumps({"day": DAY, "caller": caller, **members}, separators=(",", ":")))
+def line(caller, day=DAYS[0], **members):
+    print(json.dumps({"day": day, "caller": caller, **members}, separators=(",", ":")))
 
 
 def block(number):
@@ -34,16 +35,24 @@ def filter_of(number):
     ][number % 3]
 
 
+def slurm_files(filters, files):
+    """No two files name one block."""
+    entries = [[] for _ in range(files)]
+    for number in range(filters):
+        entries[number % HOLDERS % files].append(filter_of(number))
+    return [{"name": f"file-{place}", "file": slurm_file(some)} for place, some in enumerate(entries)]
+
+
 def slurm_file(filters):
     return {
         "slurmVersion": 1,
-        "validationOutputFilters": {"prefixFilters": [filter_of(n) for n in range(filters)], "bgpsecFilters": []},
+        "validationOutputFilters": {"prefixFilters": filters, "bgpsecFilters": []},
         "locallyAddedAssertions": {"prefixAssertions": [], "bgpsecAssertions": []},
     }
 
 
 def main():
-    filters, queries, charter = int(sys.argv[1]), int(sys.argv[2]), sys.argv[3]
+    filters, files, queries, charter = *map(int, sys.argv[1:4]), sys.argv[4]
     with open(charter, "w", encoding="ascii") as out:
         out.write("kind,value\noperator,reg\npool,10.0.0.0/8\n")
     for number in range(HOLDERS):
@@ -54,9 +63,9 @@ def main():
         for third in range(AUTHORIZATIONS):
             line("ann", do="create", holder=holder, asn=64496 + third, prefix=f"10.{number}.{third}.0/24", max=24,
                  **{"from": "2026-01-01"}, until="2026-12-31")
-    line("reg", do="slurm", file=slurm_file(filters))
-    for _ in range(queries):
-        line("bob", do="payloads")
+    line("reg", do="slurm", files=slurm_files(filters, files))
+    for number in range(queries):
+        line("bob", DAYS[number % 2], do="payloads")
 
 
 main()

@@ -1,6 +1,6 @@
 #!/usr/bin/env bash
-# Measures what prefix filters cost: the VRPs of a day of 10,000 authorizations, with 4096 filters that match
-# none of them and with none.
+# Measures what prefix filters cost: the first VRPs of a day of 10,000 authorizations, with 4096 filters that match
+# none of them, in one SLURM file and in 16, and with none.
 #
 #     filters.sh [RUNS]      (5 where left out)
 #
@@ -14,33 +14,38 @@ program=${PROGRAM:-$top/crates/cli/out/cli}
 
 [ -x "$program" ] || fail "the program is not built: run ./roadesk build first"
 
-for filters in 0 4096; do
+sets='0-1 4096-1 4096-16'
+for set in $sets; do
     for queries in 1 101; do
-        python3 "$here/filters.py" "$filters" "$queries" "$work/charter.csv" >"$work/$filters-$queries.jsonl" ||
+        python3 "$here/filters.py" "${set%-*}" "${set#*-}" "$queries" "$work/charter.csv" >"$work/$set-$queries.jsonl" ||
             fail "no script"
     done
 done
 
-# seconds FILTERS QUERIES: the processor time of the script.
+# seconds SET QUERIES: the processor time of the script.
 seconds() {
     local TIMEFORMAT=%U
     { time "$program" script --charter "$work/charter.csv" <"$work/$1-$2.jsonl" >"$work/$1-$2.out"; } 2>&1 ||
         fail "the script failed"
 }
 
-for filters in 0 4096; do
+for set in $sets; do
     for _ in $(seq "$runs"); do
-        echo "$filters $(seconds "$filters" 1) $(seconds "$filters" 101)"
+        echo "$set $(seconds "$set" 1) $(seconds "$set" 101)"
     done
 done >"$work/times"
 
-cmp -s "$work/0-1.out" "$work/4096-1.out" || { echo "filters.sh: other answers" >&2; exit 1; }
+for set in $sets; do
+    cmp -s "$work/0-1-101.out" "$work/$set-101.out" || { echo "filters.sh: other answers" >&2; exit 1; }
+done
 
 awk '
     !($1 in once) || $2 < once[$1] { once[$1] = $2 }
     !($1 in often) || $3 < often[$1] { often[$1] = $3 }
     END {
-        none = (often[0] - once[0]) * 10
-        all = (often[4096] - once[4096]) * 10
-        printf "no filters    %6.2f ms\n4096 filters  %6.2f ms\nratio         %6.2f\n", none, all, all / none
+        for (set in once) answer[set] = (often[set] - once[set]) * 10
+        none = answer["0-1"]; one = answer["4096-1"]; many = answer["4096-16"]
+        printf "no filters                 %6.2f ms\n", none
+        printf "4096 filters               %6.2f ms  %.2f times no filters\n", one, one / none
+        printf "4096 filters in 16 files   %6.2f ms  %.2f times one file\n", many, many / one
     }' "$work/times"
