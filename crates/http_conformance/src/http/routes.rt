@@ -160,7 +160,7 @@ const NOT_FOUND: [&str; 16] = [
 ];
 
 /// Paths, and the methods that each has in the order of the table of routes.
-const ALLOWED: [(&str, &str); 15] = [
+const ALLOWED: [(&str, &str); 16] = [
     ("/holders/alpha", "PUT"),
     ("/holders/alpha/delegations", "POST"),
     ("/holders/alpha/reclaims", "POST"),
