@@ -10,7 +10,6 @@ use Rattle.sqlite_schema.specs.declared.schema.Keys.{Keys}
 use Rattle.sqlite_schema.specs.declared.schema.Reference.{Reference}
 use Rattle.sqlite_schema.specs.declared.schema.Schema.{Schema}
 use Rattle.sqlite_schema.specs.declared.schema.Table.{Table}
-use Rattle.sqlite_schema.specs.Names.{same_name}
 use Rattle.sqlite_schema.specs.Rules.{ParentKey, parent_key, agree}
 use Rattle.sqlite_rules.specs.declared.action.Deed.{Deed}
 use Rattle.sqlite_rules.specs.declared.error.Refusal.TheVariants.{TooDeep}
@@ -18,8 +17,6 @@ use Rattle.sqlite_rules.specs.Action.{Work, works, work_by, pairs, loses, deed_f
 use Rattle.sqlite_rules.specs.Edit.{Edit, Applies, taken_by}
 use Rattle.sqlite_rules.specs.Lists.{Has}
 use Rattle.sqlite_rules.proofs.ListLemmas.{all_has, has_front, has_last}
-use Rattle.sqlite_tied.specs.Compute.{everything}
-use Rattle.tables.specs.Tables.{desk_tables, holder, holder_reference, rising}
 
 -- the action of a reference finds no child to act on
 abbrev IsChildless : Trees → Work → Type 0
@@ -114,15 +111,3 @@ apart_childless tables db olds child ref deed key is other apart = subst (HasNoC
     go : (deed : Option Deed) → HasNoChild db key.0 olds child ref deed (Some key)
     go None = tt
     go (Some deed) = λ same. (other, apart)
-
--- a reference to a holder points to its name
-pub holder_key : (place : ℕ) → parent_key desk_tables (holder_reference place) ≡ Some (holder.tree, 1 ∷ [], rising)
-unfolding same_name everything
-holder_key place = refl
-
--- holders that no row of the table names have no child there
-pub unnamed : (db : Trees) (olds : List Row) (child : Table) (place : ℕ) (deed : Option Deed) → child.tree ≢ holder.tree
-    → ((r : Row) → Has (db child.tree) r → AllByRecursion (λ old. agree rising (place ∷ []) r (1 ∷ []) old ≡ false) olds)
-    → HasNoChild db holder.tree olds child (holder_reference place) deed (parent_key desk_tables (holder_reference place))
-unnamed db olds child place deed other apart =
-    apart_childless desk_tables db olds child (holder_reference place) deed (holder.tree, 1 ∷ [], rising) (holder_key place) other apart

@@ -26,7 +26,6 @@ use Rattle.tables.specs.declared.exception.ExceptionRow.{ExceptionRow}
 use Rattle.tables.specs.Cells.{exception_row}
 use Rattle.tables.specs.Decode.{IsPosition, exception_columns}
 use Rattle.tables.specs.TablesHold.{ArePlaced, HoldsExceptions, HoldsFiles, HoldsFromOne, at_positions, file_rows, is_of_file, is_text}
-use Rattle.tables.proofs.HeldExceptions.{held_number}
 use Rattle.tables.proofs.PartLemmas.{name_of_text}
 
 -- ---- no exceptions, and no files
@@ -46,16 +45,9 @@ none_rise = tt
 pub no_files_held : HoldsFiles [] []
 no_files_held = record { rising = none_rise; some = tt; each = nothing_held; named = tt }
 
--- ---- the number of a file's rows
-
--- they are as many as its exceptions
-pub file_number : (files : List NamedSlurm) (table : List Row) → HoldsFiles files table → (name : List ℕ)
-    → length (exceptions_of files name).filters + length (exceptions_of files name).assertions ≡ length (filter (is_of_file name) table)
-file_number files table holds name = held_number name (exceptions_of files name) (filter (is_of_file name) table) (holds.each name)
-
 -- ---- the rows of an exception
 
-pub exception_shown : (r : ExceptionRow) → exception_columns (exception_row r) ≡ exception_row r
+exception_shown : (r : ExceptionRow) → exception_columns (exception_row r) ≡ exception_row r
 exception_shown r = go r.exception
   where
     go : (e : Exception) → exception_columns (exception_row (record r { exception = e })) ≡ exception_row (record r { exception = e })

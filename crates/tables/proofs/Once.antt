@@ -2,7 +2,6 @@
 use Rattle.std.proofs.Common.{◌≡◌, ◌≢◌, ◌≤◌, ℕ, suc, ◌==◌, true, List, [], ◌∷◌, map, drop, Option, Some, inl, inr, sym, ap, ◌∙◌, arith, subst}
 use Rattle.std.specs.Prelude.{AllPairs}
 use Rattle.std.proofs.lemmas.Bool.{and_parts, and_from}
-use Rattle.sqlite_value.specs.declared.value.Value.TheVariants.{Text}
 use Rattle.sqlite_value.specs.Order.{Row}
 use Rattle.sqlite_rules.specs.Lists.{Has}
 use Rattle.sqlite_rules.proofs.ListLemmas.{has_contained, contains_had, some_has, some_from}
@@ -18,7 +17,7 @@ use Rattle.registry.specs.Terms.{is_entry, IsVrpOf}
 use Rattle.tables.specs.declared.claim.Claim.{Claim}
 use Rattle.tables.specs.declared.entry.EntryRow.{EntryRow}
 use Rattle.tables.specs.Authorizations.{claim_of}
-use Rattle.tables.specs.Cells.{number_cell, claim_row, entry_row}
+use Rattle.tables.specs.Cells.{claim_row, entry_row}
 use Rattle.tables.specs.Groups.{claim_entry}
 use Rattle.tables.specs.Tables.{claim, columns, contents}
 use Rattle.tables.specs.TablesHold.{TablesHold, claim_part, entry_part}
@@ -60,12 +59,7 @@ abbrev pub AreNumberedOnce : Trees → Type 0
 AreNumberedOnce trees =
     (h : List ℕ) (c d : Claim) → Has (contents (trees claim_part.tree)) (claim_row h c) → Has (contents (trees claim_part.tree)) (claim_row h d) → c.number ≡ d.number → c ≡ d
 
--- so they are where no two rows have the same holder and number,
-pub once_by_rows : (trees : Trees) → NumbersDiffer trees → AreNumberedOnce trees
-once_by_rows trees differ h c d has also same =
-    (claim_row_once h h c d (two_are_one number_columns (contents (trees claim_part.tree)) differ _ _ has also (λ i. Text h ∷ number_cell (same i) ∷ []))).1
-
--- and where no two authorizations of a holder have one number
+-- so they are where no two authorizations of a holder have one number
 pub once_by_numbers : (c : CharterSets) (a : AllRows) (trees : Trees) → TablesHold c a trees
     → ((h : List ℕ) (r : Rows) → a.of_holder h ≡ Some r → (x y : Auth) → Has r.auths x → Has r.auths y → x.number ≡ y.number → x ≡ y) → AreNumberedOnce trees
 once_by_numbers c a trees holds numbered h one other has also same =
