@@ -1,5 +1,4 @@
 pub mod Texts
 pub mod Moved
 pub mod Steps
-pub mod OldTables
 pub mod EitherSchema
