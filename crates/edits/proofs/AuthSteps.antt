@@ -170,7 +170,7 @@ module _ (h : List ℕ) where
       → PutsRows entry.tree (rows_of_entries c es) x y → PutsRows entry.tree (entry_row h (claim_entry c e) ∷ []) y z → PutsRows entry.tree (rows_of_entries c more) x z
   puts_more c es e more x y z is before put =
       let both = ap (rows_of_entries c) is ∙ ap (map (entry_row h)) (map-append (claim_entry c) es (e ∷ [])) ∙ map-append (entry_row h) (map (claim_entry c) es) (claim_entry c e ∷ []) in
-      subst (λ rows. PutsRows entry.tree rows x z) (sym both) (puts_then entry.tree (rows_of_entries c es) (entry_row h (claim_entry c e)) x y z before put)
+      subst (λ rows. PutsRows entry.tree rows x z) (sym both) (puts_then entry.tree _ _ x y z before put)
 
   pub puts_local : (rows : List Row) → AllByRecursion (λ row. column row 0 ≡ Text h) rows → IsLocal 0 h (λ table. rows ++ table)
   puts_local [] named = record { mine = λ table. refl; others = λ k differ table. refl; permutes = λ xs ys same. same; texts = λ table all. all }

@@ -1,10 +1,9 @@
 -- What the statements on the table of exceptions do, and what they do together.
-use Rattle.std.proofs.Common.{◌≡◌, ◌≢◌, ℕ, ◌+◌, ◌/◌, ◌<◌, true, not, List, [], ◌∷◌, ◌++◌, map, filter, flat_map, take, get_or, length, All, Result, Ok, Err, OnOk, refl, sym, ap, subst, ◌∙◌, arith, append-nil, append_assoc, IsPermutation}
-use Rattle.std.specs.List.{enumerate_from}
+use Rattle.std.proofs.Common.{◌≡◌, ◌≢◌, ℕ, ◌+◌, ◌/◌, ◌<◌, true, not, List, [], ◌∷◌, ◌++◌, map, filter, flat_map, take, get_or, length, All, Result, Ok, Err, OnOk, refl, sym, ap, subst, ◌∙◌, arith, append-nil, IsPermutation}
 use Rattle.std.proofs.lemmas.Grind.{flat_map-append}
 use Rattle.std.proofs.lemmas.List.{length-take, map-append}
 use Rattle.std.proofs.lemmas.List.Elements.{recursion_from_All}
-use Rattle.std.proofs.lemmas.List.Sorted.{IsPermutation-append_comm, IsPermutation-append_left, IsPermutation-append_right, IsPermutation-trans}
+use Rattle.std.proofs.lemmas.List.Sorted.{IsPermutation-append_right, IsPermutation-trans}
 use Rattle.sqlite.specs.Effect.{Database, value_rows}
 use Rattle.sqlite.specs.State.{State}
 use Rattle.sqlite_value.specs.declared.value.Value.TheVariants.{Null}
@@ -28,7 +27,7 @@ use Rattle.edits.specs.steps.Statements.{TakesRows, entry_rows, IsBounded}
 use Rattle.edits.specs.Changes.{MakesChange, RowsBecome}
 use Rattle.tables.proofs.CellLemmas.{cast_exception}
 use Rattle.tables.proofs.Deleting as deleting
-use Rattle.tables.proofs.HeldFiles.{files_held}
+use Rattle.tables.proofs.HeldFiles.{files_held, placed_from}
 use Rattle.tables.proofs.Texts.{put_terms, put_exception_is, take_exceptions_is}
 use Rattle.making.proofs.CharterSteps.{puts_then}
 use Rattle.making.proofs.StatementLemmas.{has_schema, wrote, ready_still, puts_row, sound_still, taken_more}
@@ -70,10 +69,10 @@ module _ (old new : State) where
 
 module _ {X : Type 0} (name : List ℕ) (of_kind : X → Exception) where
   -- they are at the positions from this one up
-  abbrev placed_from : ℕ → List X → List ExceptionRow
-  placed_from at xs = map (λ (e : ℕ × Exception). let row : ExceptionRow = record { file = name; position = e.0; exception = e.1 } in row) (enumerate_from at (map of_kind xs))
+  abbrev placed : ℕ → List X → List ExceptionRow
+  placed at xs = placed_from name at (map of_kind xs)
 
-  one_more : (at : ℕ) (xs : List X) (x : X) (n : ℕ) → n ≡ at + length xs → placed_from at (xs ++ x ∷ []) ≡ placed_from at xs ++ record { file = name; position = n; exception = of_kind x } ∷ []
+  one_more : (at : ℕ) (xs : List X) (x : X) (n : ℕ) → n ≡ at + length xs → placed at (xs ++ x ∷ []) ≡ placed at xs ++ record { file = name; position = n; exception = of_kind x } ∷ []
   one_more at [] x n is = let here : at ≡ n = omega (arith, is) in λ i. record { file = name; position = here i; exception = of_kind x } ∷ []
   one_more at (y ∷ xs) x n is = ap (λ l. record { file = name; position = at; exception = of_kind y } ∷ l) (one_more (at + 1) xs x n (omega (arith, is)))
 
@@ -83,29 +82,12 @@ module _ {X : Type 0} (name : List ℕ) (of_kind : X → Exception) where
   puts_entry xs i x n a b c low is at before put =
       let row : ExceptionRow = record { file = name; position = n; exception = of_kind x } in
       let more = ap (entry_rows name of_kind) (taken_more xs i x low is) ∙ ap (map exception_row) (one_more 1 (take i xs) x n (omega (arith, at, length-take i xs)))
-      ∙ map-append exception_row (placed_from 1 (take i xs)) (row ∷ []) in
-      subst (λ rows. PutsRows slurm.tree rows a c) (sym more) (puts_then slurm.tree (entry_rows name of_kind (take i xs)) (exception_row row) a b c before put)
+      ∙ map-append exception_row (placed 1 (take i xs)) (row ∷ []) in
+      subst (λ rows. PutsRows slurm.tree rows a c) (sym more) (puts_then slurm.tree _ _ a b c before put)
 
 -- ---- the files, one after another
 
 module _ (tree : ℕ) where
-  -- rows that are put after others
-  puts_more : (rows more : List Row) (a b c : State) → PutsRows tree rows a b → PutsRows tree more b c → PutsRows tree (rows ++ more) a c
-  puts_more rows more a b c first second =
-      let before = contents (a.now.trees tree) in
-      let turned : IsPermutation (rows ++ more ++ before) (more ++ (rows ++ before)) =
-      subst (IsPermutation (rows ++ more ++ before)) (append_assoc more rows before) (IsPermutation-append_left before _ _ (IsPermutation-append_comm rows more)) in
-      record {
-        ready = second.ready;
-        sound = λ sound. second.sound (first.sound sound);
-        edits = record {
-          schema = second.edits.schema ∙ first.edits.schema;
-          others = λ t is other. second.edits.others t is other ∙ first.edits.others t is other;
-          rows = IsPermutation-trans _ _ _ turned (IsPermutation-trans _ _ _ (IsPermutation-append_right more _ _ first.edits.rows) second.edits.rows);
-          whole = λ whole. second.edits.whole (first.edits.whole whole);
-        };
-      }
-
   -- rows that are put after those of a table were taken away are its rows
   puts_after : (by : List Row → List Row) (rows : List Row) (a b c : Database) → Edits tree by a b → Edits tree (λ table. rows ++ table) b c → Edits tree (λ table. rows ++ by table) a c
   puts_after by rows a b c first second = record {
@@ -119,7 +101,7 @@ pub puts_file : (f : NamedSlurm) (a b c : State) → PutsRows slurm.tree (entry_
     → PutsRows slurm.tree (map exception_row (file_rows f)) a c
 puts_file f a b c filters assertions =
     let both = map-append exception_row (at_positions f.name (map FilterOf f.file.filters)) (at_positions f.name (map Assertion f.file.assertions)) in
-    subst (λ rows. PutsRows slurm.tree rows a c) (sym both) (puts_more slurm.tree _ _ a b c filters assertions)
+    subst (λ rows. PutsRows slurm.tree rows a c) (sym both) (puts_then slurm.tree _ _ a b c filters assertions)
 
 pub puts_next : (files : List NamedSlurm) (i : ℕ) (f : NamedSlurm) (a b c : State) → i < length files → f ≡ get_or files i f
     → PutsRows slurm.tree (map exception_row (flat_map file_rows (take i files))) a b → PutsRows slurm.tree (map exception_row (file_rows f)) b c
@@ -128,7 +110,7 @@ puts_next files i f a b c low is before put =
     let so_far = flat_map file_rows (take i files) in
     let more = ap (flat_map file_rows) (taken_more files i f low is) ∙ flat_map-append file_rows (take i files) (f ∷ []) ∙ ap (λ rows. so_far ++ rows) (append-nil (file_rows f)) in
     let rows = ap (map exception_row) more ∙ map-append exception_row so_far (file_rows f) in
-    subst (λ rows. PutsRows slurm.tree rows a c) (sym rows) (puts_more slurm.tree _ _ a b c before put)
+    subst (λ rows. PutsRows slurm.tree rows a c) (sym rows) (puts_then slurm.tree _ _ a b c before put)
 
 -- the table has the rows of these files and no others, and is the only one that changed
 pub replaces : (files : List NamedSlurm) (a b c : State) → RiseByName files → All IsBounded files → TakesRows slurm.tree a b → PutsRows slurm.tree (map exception_row (flat_map file_rows files)) b c

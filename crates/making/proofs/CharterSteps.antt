@@ -1,20 +1,18 @@
 -- What putting the charter does to tables that were just made.
-use Rattle.std.proofs.Common.{◌≡◌, ◌≢◌, ℕ, pos, ◌+◌, ◌<◌, List, [], ◌∷◌, ◌++◌, map, take, get_or, length, codes, true, false, refl, sym, ap, subst, ◌∙◌, append-nil, append_assoc, IsPermutation}
+use Rattle.std.proofs.Common.{◌≡◌, ◌≢◌, ℕ, pos, ◌+◌, ◌<◌, List, [], ◌∷◌, ◌++◌, map, take, get_or, length, codes, true, refl, sym, ap, subst, ◌∙◌, append-nil, append_assoc, IsPermutation}
 use Rattle.std.proofs.lemmas.List.{map-append}
-use Rattle.std.proofs.lemmas.List.Sorted.{IsPermutation-refl, IsPermutation-trans, IsPermutation-cons, IsPermutation-middle}
-use Rattle.sqlite.specs.Effect.{Database, IsDatabase}
-use Rattle.sqlite.specs.State.{State, Shows}
+use Rattle.std.proofs.lemmas.List.Sorted.{IsPermutation-append_comm, IsPermutation-append_left, IsPermutation-append_right, IsPermutation-refl, IsPermutation-trans}
+use Rattle.sqlite.specs.Effect.{Database}
+use Rattle.sqlite.specs.State.{State}
 use Rattle.sqlite_value.specs.declared.value.Value.TheVariants.{Null, Int, Text}
 use Rattle.sqlite_value.specs.Order.{Row}
 use Rattle.sqlite_sql.specs.Term.{lit}
 use Rattle.addr.specs.declared.prefix.Prefix.{Prefix}
 use Rattle.charters.specs.CharterSets.{CharterSets}
-use Rattle.registry.specs.RowsOfAll.{blank_rows}
-use Rattle.making.specs.Databases.{IsNew}
 use Rattle.tables.specs.Tables.{meta, operator, pool, desk_tables, contents, is_table, IsTree, AreTrees}
 use Rattle.tables.specs.Cells.{schema_row, operator_row, prefix_cells}
 use Rattle.tables.specs.steps.Edits.{Edits}
-use Rattle.tables.specs.TablesHold.{holder_part, holding_part, granted_part, claim_part, entry_part, TablesHold}
+use Rattle.tables.specs.TablesHold.{holder_part, holding_part, granted_part, claim_part, entry_part}
 use Rattle.tables.specs.declared.meta.TheConstants.{INSERT_SCHEMA}
 use Rattle.tables.specs.declared.operator.TheConstants.{INSERT_OPERATOR}
 use Rattle.tables.specs.declared.pool.TheConstants.{INSERT_PREFIX}
@@ -46,17 +44,19 @@ module _ (tree : ℕ) where
     edits = record { schema = refl; others = λ t is other. refl; rows = IsPermutation-refl _; whole = λ whole. whole };
   }
 
-  pub puts_then : (rows : List Row) (row : Row) (a b c : State) → PutsRows tree rows a b → PutsRows tree (row ∷ []) b c → PutsRows tree (rows ++ row ∷ []) a c
-  puts_then rows row a b c first second =
+  -- rows that are put after others
+  pub puts_then : (rows more : List Row) (a b c : State) → PutsRows tree rows a b → PutsRows tree more b c → PutsRows tree (rows ++ more) a c
+  puts_then rows more a b c first second =
       let before = contents (a.now.trees tree) in
+      let turned : IsPermutation (rows ++ more ++ before) (more ++ (rows ++ before)) =
+      subst (IsPermutation (rows ++ more ++ before)) (append_assoc more rows before) (IsPermutation-append_left before _ _ (IsPermutation-append_comm rows more)) in
       record {
         ready = second.ready;
         sound = λ sound. second.sound (first.sound sound);
         edits = record {
           schema = second.edits.schema ∙ first.edits.schema;
           others = λ t is other. second.edits.others t is other ∙ first.edits.others t is other;
-          rows = subst (λ l. IsPermutation l (contents (c.now.trees tree))) (sym (append_assoc rows (row ∷ []) before))
-              (IsPermutation-trans _ _ _ (IsPermutation-middle rows row before) (IsPermutation-trans _ _ _ (IsPermutation-cons row _ _ first.edits.rows) second.edits.rows));
+          rows = IsPermutation-trans _ _ _ turned (IsPermutation-trans _ _ _ (IsPermutation-append_right more _ _ first.edits.rows) second.edits.rows);
           whole = λ whole. second.edits.whole (first.edits.whole whole);
         };
       }
@@ -66,7 +66,7 @@ module _ (tree : ℕ) where
       → PutsRows tree (map cells (take i xs)) a b → PutsRows tree (cells x ∷ []) b c → PutsRows tree (map cells (take (i + 1) xs)) a c
   puts_along cells xs i x a b c low is before put =
       let more = ap (map cells) (taken_more xs i x low is) ∙ map-append cells (take i xs) (x ∷ []) in
-      subst (λ rows. PutsRows tree rows a c) (sym more) (puts_then (map cells (take i xs)) (cells x) a b c before put)
+      subst (λ rows. PutsRows tree rows a c) (sym more) (puts_then (map cells (take i xs)) (cells x ∷ []) a b c before put)
 
   -- rows that were put into an empty table are its rows
   first_rows : (rows : List Row) (a b : Database) → Edits tree (λ table. rows ++ table) a b → a.trees tree ≡ [] → IsPermutation rows (contents (b.trees tree))
@@ -102,13 +102,3 @@ has_charter charter a b c d made schema operators prefixes =
         whole = sound_still 4 _ c.now d.now third (sound_still 2 _ b.now c.now second (sound_still 0 _ a.now b.now first sound));
       };
     }
-
--- what the transaction holds is committed
-pub new_after : (charter : CharterSets) (mid last : State) → HasCharter charter mid → Shows mid last mid.now mid.now false → IsNew charter last
-new_after charter mid last has shown = record {
-  is_open = shown.is_open;
-  schema = ap (λ (d : Database). d.schema) shown.now_is ∙ has.schema;
-  sound = subst IsDatabase (sym shown.now_is) has.sound;
-  settled = shown.committed_is ∙ sym shown.now_is;
-  rows = subst (λ (d : Database). TablesHold charter blank_rows d.trees) (sym shown.now_is) has.rows;
-}

@@ -62,7 +62,7 @@ all_shown rows = map-map exception_columns exception_row rows ∙ (λ i. map (λ
 -- ---- the rows of one kind of a file, from a position on
 
 module _ (name : List ℕ) where
-  abbrev placed_from : ℕ → List Exception → List ExceptionRow
+  abbrev pub placed_from : ℕ → List Exception → List ExceptionRow
   placed_from at xs = map (λ (e : ℕ × Exception). let row : ExceptionRow = record { file = name; position = e.0; exception = e.1 } in row) (enumerate_from at xs)
 
   all_named : (at : ℕ) (xs : List Exception) → AllByRecursion (λ (r : ExceptionRow). r.file ≡ name) (placed_from at xs)
