@@ -1,5 +1,5 @@
 -- A request has one reply on given entries.
-use Rattle.std.proofs.Common.{◌≡◌, ℕ, List, [], ◌∷◌, Option, Some, None, IfSome, inl, inr, refl, sym, ap, ◌∙◌, subst, filter, arith}
+use Rattle.std.proofs.Common.{◌≡◌, ℕ, List, Option, Some, None, IfSome, sym, ap, ◌∙◌, subst, filter, arith}
 use Rattle.std.specs.Prelude.{◌↔◌, IsSome}
 use Rattle.std.specs.Global.{Vec}
 use Rattle.std.specs.String.{string_bytes}
@@ -13,10 +13,11 @@ use Rattle.registry.specs.declared.command.Proposed.{Proposed}
 use Rattle.registry.specs.declared.command.Query.TheVariants.{Show as ShowQuery, Content as ContentQuery, List as ListQuery, Payloads as PayloadsQuery, Validity as ValidityQuery, WhatIf as WhatIfQuery}
 use Rattle.registry.specs.declared.grant.Access.TheVariants.{Look}
 use Rattle.registry.specs.declared.rule.Rule.{Rule}
+use Rattle.registry.proofs.Kept.{Keeps-unique}
 use Rattle.registry.specs.Answer.{AreCounts, IsShown}
 use Rattle.registry.specs.History.{History}
 use Rattle.registry.specs.Permission.{is_permitted_terms}
-use Rattle.registry.specs.Terms.{grant_terms, Keeps, AreActive, HeldSinceMade, authorizations_made, authorization_terms}
+use Rattle.registry.specs.Terms.{grant_terms, AreActive, HeldSinceMade, authorizations_made, authorization_terms}
 use Rattle.registry.specs.Verdict.{auth_of_number, ShowVerdict, ListVerdict}
 use Rattle.histories.specs.OneOutcome.{OneHypotheticalOutcome, OneOutcome}
 use Rattle.histories.proofs.OneOutcome.{One, checked, accepted}
@@ -52,22 +53,8 @@ denied_whole r s row other rule left right = cc
 
 -- ---- active authorizations
 
-one_kept : (P : Auth → Type 0) (xs ys zs : List Auth) → Keeps P xs ys → Keeps P xs zs → ys ≡ zs
-one_kept P [] [] [] a b = refl
-one_kept P [] [] (z ∷ zs) a b = absurd b
-one_kept P [] (y ∷ ys) zs a b = absurd a
-one_kept P (x ∷ xs) [] [] a b = refl
-one_kept P (x ∷ xs) [] (z ∷ zs) a (inl b) = absurd (a.0 b.0)
-one_kept P (x ∷ xs) [] (z ∷ zs) a (inr b) = one_kept P xs [] (z ∷ zs) a.1 b.1
-one_kept P (x ∷ xs) (y ∷ ys) [] (inl a) b = absurd (b.0 a.0)
-one_kept P (x ∷ xs) (y ∷ ys) [] (inr a) b = one_kept P xs (y ∷ ys) [] a.1 b.1
-one_kept P (x ∷ xs) (y ∷ ys) (z ∷ zs) (inl a) (inl b) = ap (λ v. v ∷ ys) (a.1 ∙ sym b.1) ∙ ap (λ rest. z ∷ rest) (one_kept P xs ys zs a.2 b.2)
-one_kept P (x ∷ xs) (y ∷ ys) (z ∷ zs) (inl a) (inr b) = absurd (b.0 a.0)
-one_kept P (x ∷ xs) (y ∷ ys) (z ∷ zs) (inr a) (inl b) = absurd (a.0 b.0)
-one_kept P (x ∷ xs) (y ∷ ys) (z ∷ zs) (inr a) (inr b) = one_kept P xs (y ∷ ys) (z ∷ zs) a.1 b.1
-
 one_active : (history : History) (h : List ℕ) (xs ys : List Auth) → AreActive history h xs → AreActive history h ys → xs ≡ ys
-one_active history h xs ys a b = one_kept (HeldSinceMade history h) (authorization_terms history h) xs ys a b
+one_active history h xs ys a b = Keeps-unique (HeldSinceMade history h) (authorization_terms history h) xs ys a b
 
 one_shown : (history : History) (h : List ℕ) (day : ℕ) (caller : List ℕ) (n : ℕ) (x y : Auth) → IsShown history h day caller n x → IsShown history h day caller n y → x ≡ y
 one_shown history h day caller n x y a b =
