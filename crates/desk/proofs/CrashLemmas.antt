@@ -29,7 +29,8 @@ use Rattle.desk.specs.declared.reply.Reply.{Reply}
 use Rattle.desk.specs.declared.reply.Reply.TheVariants.{Denied, Done, Imported, Unavailable}
 use Rattle.desk.specs.steps.Accepting.{AnswersAccepted}
 use Rattle.desk.proofs.DeskLemmas.{rows_carried}
-use Rattle.desk.proofs.RunLemmas.{Runs-append, taken_more}
+use Rattle.making.proofs.StatementLemmas.{taken_more}
+use Rattle.desk.proofs.RunLemmas.{Runs-append}
 
 -- the newest of the pending requests
 newest : (asked : Asked) (pending : List Asked) → Contains (asked ∷ pending) asked

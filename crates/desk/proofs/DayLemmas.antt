@@ -13,7 +13,7 @@ use Rattle.desk.specs.declared.desk.Desk.{Desk}
 use Rattle.desk.specs.declared.reply.Reply.{Reply}
 
 -- the day is kept where VRPs are
-day_there : (kept : Option KeptDay) (day : ℕ) → None ≡ option_map (λ (k : KeptDay). k.vrps) kept → ¬ (day_of kept ≡ Some day)
+pub day_there : (kept : Option KeptDay) (day : ℕ) → None ≡ option_map (λ (k : KeptDay). k.vrps) kept → ¬ (day_of kept ≡ Some day)
 day_there None day none is = none-some day is
 day_there (Some k) day none is = none-some k.vrps none
 

@@ -97,10 +97,6 @@ pub followed : (change : Change) (one other : Option HolderRows) (old new : Kept
     → Follows change one other (Some old) (Some new)
 followed change one other old new apart follows rows once of is = change_followed change one other old new apart follows rows once of is
 
--- or is let go
-pub let_go : (change : Change) (one other : Option HolderRows) (old : Option KeptDay) → Follows change one other old None
-let_go change one other old rows once of is = tt
-
 -- ---- the change of a command
 
 pub apart_by : (command : Command) (change : Change) → HasEditsOf command change → EditsTwoApart change
@@ -124,15 +120,6 @@ loaded_for_one command (Exceptions files) one rows not edits loaded = tt
 loaded_for_one command (Holders first None) one rows not edits loaded =
     subst (λ (h : Option (List ℕ)). IfSome h (λ n. AreLoaded (rows.of_holder n) one)) edits.0 loaded
 loaded_for_one command (Holders first (Some second)) one rows not edits loaded = absurd edits
-
-pub loaded_for_two : (p : Prefix) (giver taker : List ℕ) (change : Change) (one other : Option HolderRows) (rows : AllRows) → HasEditsOf (Transfer p giver taker) change
-    → AreLoaded (rows.of_holder giver) one × AreLoaded (rows.of_holder taker) other → AreLoadedFor change one other rows
-loaded_for_two p giver taker (Holders first None) one other rows edits loaded = absurd edits.1
-loaded_for_two p giver taker (Holders first (Some second)) one other rows edits loaded = (
-  subst (λ (h : List ℕ). AreLoaded (rows.of_holder h) one) (sym edits.0) loaded.0,
-  subst (λ (h : List ℕ). AreLoaded (rows.of_holder h) other) (sym edits.2) loaded.1,
-)
-loaded_for_two p giver taker (Exceptions files) one other rows edits loaded = tt
 
 -- an edit of a command that makes no authorization begins none
 begins_no : (command : Command) (edit : Edit) → IsEditOf command edit → makes_auths command ≡ false → begins_some edit ≡ false

@@ -1,7 +1,7 @@
 -- What a desk keeps and lends after a question about a day.
 use Rattle.std.proofs.Common.{◌≡◌, ◌≢◌, ℕ, Bool, true, false, ◌↔◌, Option, Some, None, Result, Ok, Err, refl, sym, ap, ◌∙◌, subst, Contains}
 use Rattle.std.specs.Prelude.{IfSome, is_ok, option_copied, option_map, OnErr, OnOk}
-use Rattle.std.proofs.lemmas.Bool.{false≢true, true≢false}
+use Rattle.std.proofs.lemmas.Bool.{true≢false}
 use Rattle.std.proofs.lemmas.Option.{none-some, same_Some}
 use Rattle.kept.specs.KeptDay.{KeptDay}
 use Rattle.payload.proofs.Sets.{items_rise}
@@ -9,6 +9,8 @@ use Rattle.payload.specs.VrpSet as set
 use Rattle.registry.specs.DailyVrps.{IsVrpOn}
 use Rattle.sqlite.specs.Store.{Ghosts}
 use Rattle.store.specs.StoreRows.{IsRead, StoreView}
+use Rattle.desk.proofs.DayLemmas.{day_there}
+use Rattle.desk.proofs.FollowLemmas.{when_ok}
 use Rattle.desk.proofs.KeptLemmas.{kept_of}
 use Rattle.desk.specs.Answer.{AreVrpsOn}
 use Rattle.desk.specs.Desk.{IsDayOf, OfHistories, OfRows}
@@ -20,10 +22,6 @@ use denote.Ref.{Bor}
 
 abbrev vrps_of : Option KeptDay → Option set.VrpSet
 vrps_of kept = option_map (λ day. day.vrps) kept
-
-when_ok : {T E P : Type 0} (r : Result T E) → OnOk r P → is_ok r ≡ true → P
-when_ok (Ok x) is holds = is
-when_ok (Err e) is holds = absurd (false≢true holds)
 
 when_err : {T E P : Type 0} (r : Result T E) → OnErr r P → is_ok r ≡ false → P
 when_err (Ok x) is fails = absurd (true≢false fails)
@@ -56,7 +54,7 @@ module _ {S : Type 0} (g : Ghosts S) where
       → IsPrepared g day (is_ok r) old new
   prepared_anew old new day r differs read done failed found = record {
     read = read;
-    kept = when_ok r done;
+    kept = λ is. when_ok r is done;
     none = when_err r failed;
     same = λ was. absurd (differs was);
     held = λ clean history legal held.
@@ -89,18 +87,10 @@ module _ {S : Type 0} (g : Ghosts S) where
   -- what is lent where the day is kept
   pub has_lent : (old new : Desk S) (day : ℕ) (r : Option (Bor set.VrpSet)) → IsPrepared g day true old new
       → option_copied r ≡ option_map (λ (k : KeptDay). k.vrps) new.kept → HasLent g day old r new
-  has_lent old new day None prepared is = absurd (go new.kept refl)
-    where
-      go : (kept : Option KeptDay) → new.kept ≡ kept → ⊥
-      go None none = none-some day (sym (ap day_of none) ∙ prepared.kept refl)
-      go (Some k) some = none-some k.vrps (is ∙ ap vrps_of some)
+  has_lent old new day None prepared is = absurd (day_there new.kept day is (prepared.kept refl))
   has_lent old new day (Some vrps) prepared is =
       record { prepared = prepared; lent = go new.kept refl; answered = lent_day old new day vrps.now prepared is }
     where
       go : (kept : Option KeptDay) → new.kept ≡ kept → IfSome kept (λ k. k.vrps ≡ vrps.now)
       go None none = tt
       go (Some k) some = sym (same_Some vrps.now k.vrps (is ∙ ap vrps_of some))
-
-  -- and where it is not
-  pub nothing_lent : (old new : Desk S) (day : ℕ) → IsPrepared g day false old new → HasLent g day old None new
-  nothing_lent old new day prepared = record { prepared = prepared; lent = tt; answered = λ clean history legal held. tt }

@@ -2,7 +2,6 @@
 use Rattle.std.proofs.Common.{◌≡◌, ℕ, Bool, false, ◌+◌, ◌<◌, ◌||◌, List, [], ◌∷◌, ◌++◌, length, get_or, take, refl, sym, ap, ◌∙◌, subst}
 use Rattle.std.specs.List.{list_any}
 use Rattle.std.proofs.lemmas.Bool.{or_parts}
-use Rattle.std.proofs.lemmas.List.{take_more}
 use Rattle.std.proofs.lemmas.List.Folds.{list_any-append, list_any_more}
 use Rattle.registry.specs.History.{History}
 use Rattle.charters.specs.declared.charter.Charter.{Charter}
@@ -25,10 +24,6 @@ Runs-append charter before middle after [] (r ∷ replies) a reply runs answers 
 Runs-append charter before middle after (x ∷ asked) [] a reply runs answers = absurd runs
 Runs-append charter before middle after (x ∷ asked) (r ∷ replies) a reply runs answers =
     (runs.0, runs.1, Runs-append charter runs.0 middle after asked replies a reply runs.2 answers)
-
--- the requests up to an index, with the one there
-pub taken_more : (asked : List Asked) (index : ℕ) (a : Asked) → index < length asked → a ≡ get_or asked index a → take (index + 1) asked ≡ take index asked ++ a ∷ []
-taken_more asked index a below here = take_more asked index a below ∙ ap (λ x. take index asked ++ x ∷ []) (sym here)
 
 -- one more reply that accepts nothing keeps the rows, where those before it accept nothing either
 pub kept_more : {S : Type 0} (g : Ghosts S) (replies grown : List Reply) (reply : Reply) (start old new : Desk S)
