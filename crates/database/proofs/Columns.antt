@@ -6,11 +6,7 @@ use Rattle.sqlite_sql.specs.Term.{Term, col, eval, eval_all}
 use Rattle.registry.specs.declared.grant.Granted.{Granted}
 use Rattle.registry.specs.declared.grant.Scope.{Scope}
 use Rattle.registry.specs.declared.grant.Scope.TheVariants.{All, Only}
-use Rattle.slurm.specs.declared.filter.Filter.TheVariants.{Under, By, Both}
-use Rattle.tables.specs.declared.exception.Exception.{Exception}
-use Rattle.tables.specs.declared.exception.Exception.TheVariants.{Filter as FilterOf, Assertion}
-use Rattle.tables.specs.declared.exception.ExceptionRow.{ExceptionRow}
-use Rattle.tables.specs.Cells.{grant_cells, granted_row, exception_row}
+use Rattle.tables.specs.Cells.{grant_cells, granted_row}
 use Rattle.tables.specs.Tables.{columns}
 
 -- a column of a row with its rowid is the one before it without
@@ -36,12 +32,3 @@ grant_shown h g = go g.scope
 
 abbrev pub exception_places : List ℕ
 exception_places = 0 ∷ 1 ∷ 2 ∷ 3 ∷ 4 ∷ 5 ∷ 6 ∷ 7 ∷ []
-
-pub exception_shown : (r : ExceptionRow) → columns exception_places (exception_row r) ≡ exception_row r
-exception_shown r = go r.exception
-  where
-    go : (e : Exception) → columns exception_places (exception_row (record r { exception = e })) ≡ exception_row (record r { exception = e })
-    go (FilterOf (Under p)) = refl
-    go (FilterOf (By asn)) = refl
-    go (FilterOf (Both p asn)) = refl
-    go (Assertion v) = refl

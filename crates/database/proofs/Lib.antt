@@ -1,7 +1,6 @@
 pub mod Columns
 pub mod QueryLemmas
 pub mod SameCharter
-mod FoundSchemas
 mod Rowids
 mod AllTexts
 mod Obeyed

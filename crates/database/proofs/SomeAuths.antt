@@ -37,7 +37,7 @@ use Rattle.tables.proofs.CellsOnce.{one_claim, one_entry_row, values_shown}
 use Rattle.tables.proofs.GroupOrder.{claim_cmp, claim_orders, entry_row_cmp, groups_in_order, holder_orders, of_holder_cmp, rising_apart, AreOrders, HaveInOrder}
 use Rattle.tables.proofs.ReadLemmas.{all_columns}
 use Rattle.database.specs.Laws.{number_columns}
-use Rattle.database.specs.TablesRead.{ShowsOfHolder, ShowsSome, HasSomeAuths, row_of_claim, rows_of_entries}
+use Rattle.database.specs.TablesRead.{ShowsSome, HasSomeAuths, row_of_claim, rows_of_entries}
 use Rattle.database.specs.steps.Numbered.{shown_in, AreRead}
 use Rattle.database.specs.steps.Opened.{MakeAuths, ShowAuths, claim_places, entry_places, named_claim, named_entries}
 use Rattle.database.proofs.Grouped.{group_of, makes, named_row, same_rows}
@@ -107,18 +107,6 @@ entries_of_shown : (x : OfHolder Auth) → map (columns entry_places) (rows_of_e
 entries_of_shown x = map-map (columns entry_places) (entry_row x.holder) (entry_rows_of x.row) ∙ sym (map-map show_entry _ (entry_rows_of x.row))
 
 module _ (db : Database) (read : HasSomeAuths db.trees) where
-  -- each row shows a claim or an entry beside the name of its holder
-  pub claims_show : AllByRecursion (ShowsOfHolder claim_row ClaimFits) (contents (db.trees claim.tree))
-  claims_show =
-      all-permutation (ShowsOfHolder claim_row ClaimFits) _ _ read.claims_shown
-      (all-map (ShowsOfHolder claim_row ClaimFits) row_of_claim read.auths (all_weaker _ _ (λ x fits. (x.holder, claim_of x.row, claim_fits x.row fits.1, refl)) read.auths read.fit))
-
-  pub entries_show : AllByRecursion (ShowsOfHolder entry_row EntryRowFits) (contents (db.trees entry.tree))
-  entries_show =
-      all-permutation (ShowsOfHolder entry_row EntryRowFits) _ _ read.entries_shown
-      (all-flat_map (ShowsOfHolder entry_row EntryRowFits) rows_of_entries read.auths
-      (all_weaker _ _ (λ x fits. all-map (ShowsOfHolder entry_row EntryRowFits) (entry_row x.holder) (entry_rows_of x.row) (all_weaker _ _ (λ r fit. (x.holder, r, fit, refl)) (entry_rows_of x.row) (rows_fit x.row fits.1))) read.auths read.fit))
-
   claims_in_columns : IsPermutation (map show_claim (map named_claim read.auths)) (shown_in claim.tree claim_places db)
   claims_in_columns =
       subst (λ l. IsPermutation l (shown_in claim.tree claim_places db)) (map-map (columns claim_places) row_of_claim read.auths ∙ sym (map-map show_claim named_claim read.auths))
