@@ -7,6 +7,7 @@ mod Obeyed
 mod Moved
 mod KeyedRows
 mod Grouped
+pub mod AuthsFound
 pub mod SomeAuths
 mod SomeRows
 mod FewOfEach

@@ -11,6 +11,7 @@ use Rattle.registry.specs.declared.change.Change.TheVariants.{Holders, Exception
 use Rattle.registry.specs.declared.change.Edit.{Edit}
 use Rattle.registry.specs.declared.change.Edit.TheVariants.{Hold, Grant as GrantEdit, Create as CreateEdit, Import as ImportEdit}
 use Rattle.registry.specs.declared.grant.Access.TheVariants.{Look}
+use Rattle.registry.specs.declared.grant.Granted.{Granted}
 use Rattle.registry.specs.declared.command.Proposed.{Proposed}
 use Rattle.registry.specs.declared.rows.HolderRows.{HolderRows}
 use Rattle.registry.specs.declared.rows.View.{View}
@@ -185,6 +186,12 @@ takes_memory _ = false
 abbrev pub IsShown : History → List ℕ → ℕ → List ℕ → ℕ → Auth → Type 0
 IsShown history h day caller n x =
     ShowVerdict history h day caller n None × OfActive history h (λ active. auth_of_number n active ≡ Some x)
+
+-- what a request on one authorization is judged on: the grants and the active authorization of the number are those
+-- of the history
+pub record AnswersNumber (history : History) (h : List ℕ) (n : ℕ) (granted : List Granted) (found : Option Auth) : Type 0 where
+  pub grants : granted ≡ grant_terms history h
+  pub auth : OfActive history h (λ active. auth_of_number n active ≡ found)
 
 -- what is listed are the active authorizations that the caller may see, by rising number
 abbrev pub IsListed : History → List ℕ → ℕ → List ℕ → List Auth → Type 0

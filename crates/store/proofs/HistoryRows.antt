@@ -13,10 +13,11 @@ use Rattle.registry.specs.declared.command.Command.{Command}
 use Rattle.registry.specs.declared.command.Command.TheVariants.{Grant, Revoke}
 use Rattle.registry.specs.declared.grant.Granted.{Granted}
 use Rattle.registry.specs.History.{History, same_name}
-use Rattle.registry.specs.Terms.{granted_after, grants_made, grants_after, grant_terms, authorizations_made, AreActive}
+use Rattle.registry.specs.Terms.{granted_after, grants_made, grants_after, grant_terms, authorizations_made, AreActive, HeldSinceMade, Keeps}
+use Rattle.registry.specs.Unregistered.{UnregisteredHaveNothing}
 use Rattle.registry.proofs.Numbers.{Numbered}
 use Rattle.registry.proofs.Held.{active-numbered}
-use Rattle.store.specs.Laws.{LoadsRowsOfHistories}
+use Rattle.store.specs.Laws.{LoadsNumberOfHistories, LoadsRowsOfHistories}
 use Rattle.store.specs.Loads.{AreInOrder}
 
 module _ {X : Type 0} (number : X → ℕ) where
@@ -78,23 +79,38 @@ grant_terms-rise : (history : History) (h : List ℕ) → GrantsRise 0 (grant_te
 grant_terms-rise [] h = omega arith
 grant_terms-rise (e ∷ before) h = grants_after-rise e.command h (grants_made before h) (grant_terms before h) (grant_terms-rise before h)
 
+-- the grants of a history that are loaded in order are its grants
+grants_in_order : (history : History) (h : List ℕ) (held loaded : List Granted) → held ≡ grant_terms history h → AreInOrder (λ (g : Granted). g.number) held loaded → loaded ≡ grant_terms history h
+grants_in_order history h held loaded are order =
+    let ascend = rise-ascending (λ (g : Granted). g.number) 0 (grant_terms history h) (grants_made history h) (grant_terms-rise history h) in
+    in_order_same (λ (g : Granted). g.number) (grant_terms history h) loaded ascend (subst (λ l. AreInOrder (λ (g : Granted). g.number) l loaded) are order)
+
 pub loads_rows : LoadsRowsOfHistories
 loads_rows history h None None unregistered loaded = unregistered
 loads_rows history h None (Some s) unregistered loaded = absurd loaded
 loads_rows history h (Some r) None are loaded = absurd loaded
 loads_rows history h (Some r) (Some s) are loaded =
     let rows = are.1 in
-    let grants_ascend = rise-ascending (λ (g : Granted). g.number) 0 (grant_terms history h) (grants_made history h) (grant_terms-rise history h) in
     let auths_ascend = rise-ascending (λ (x : Auth). x.number) 0 r.auths (authorizations_made history h) (auths-rise 0 r.auths (authorizations_made history h) (active-numbered history h r.auths rows.auths)) in
-    let grants = in_order_same (λ (g : Granted). g.number) r.grants s.grants.items (subst (IsAscending (λ (g k : Granted). g.number < k.number)) (sym rows.grants) grants_ascend) loaded.grants in
     let auths = in_order_same (λ (x : Auth). x.number) r.auths s.auths.items auths_ascend loaded.auths in (
       are.0,
       record {
         apart = maximal_apart s.holdings loaded.maximal;
         holdings = λ a. loaded.holdings a ∙ rows.holdings a;
-        grants = grants ∙ rows.grants;
+        grants = grants_in_order history h r.grants s.grants.items rows.grants loaded.grants;
         auths = subst (AreActive history h) (sym auths) rows.auths;
         granted = loaded.granted ∙ rows.granted;
         created = loaded.created ∙ rows.created;
       },
     )
+
+pub loads_number : UnregisteredHaveNothing → LoadsNumberOfHistories
+loads_number have_nothing charter history h n None loaded legal unregistered are =
+    let nothing = have_nothing charter history h legal unregistered in record {
+      grants = grants_in_order history h [] loaded.grants.items (sym nothing.grants) are.grants;
+      auth = ([], subst (λ terms. Keeps (HeldSinceMade history h) terms []) (sym nothing.terms) tt, are.auth);
+    }
+loads_number have_nothing charter history h n (Some r) loaded legal registered are = record {
+  grants = grants_in_order history h r.grants loaded.grants.items registered.1.grants are.grants;
+  auth = (r.auths, registered.1.auths, are.auth);
+}

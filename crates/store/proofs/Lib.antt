@@ -1,7 +1,7 @@
 mod StoreLemmas
 mod Finding
 mod Loading
-mod AuthsFound
+mod NumberFound
 mod Overlapping
 mod Claimed
 mod InForce

@@ -1,11 +1,9 @@
 -- What is loaded from the rows that queries found.
-use Rattle.std.proofs.Common.{◌≡◌, ℕ, ◌+◌, ◌<◌, pos, ◌||◌, true, List, [], ◌∷◌, map, flat_map, take, length, get_or, slice_get, All, Option, Some, None, IsTrue, refl, sym, ap, subst, ◌∙◌, arith, is_lt, nat_cmp, int_cmp, IsPermutation, IsSorted, IsSortedByKey}
+use Rattle.std.proofs.Common.{◌≡◌, ℕ, ◌+◌, ◌<◌, ◌||◌, true, List, [], ◌∷◌, map, flat_map, take, length, get_or, slice_get, All, Option, Some, None, IsTrue, refl, sym, ap, subst, ◌∙◌, arith, IsPermutation}
 use Rattle.std.specs.Prelude.{⊤}
 use Rattle.std.specs.List.{AllByRecursion}
 use Rattle.std.proofs.Math.Bool.{or-false}
 use Rattle.std.proofs.lemmas.Bool.Decides.{nat_tests}
-use Rattle.std.proofs.lemmas.Int.{ints}
-use Rattle.std.proofs.lemmas.List.{get_or-map, length-map}
 use Rattle.std.proofs.lemmas.List.Elements.{All-nil, All-cons, All-from_recursion, recursion_from_All}
 use Rattle.std.proofs.lemmas.List.Folds.{list_any-append}
 use Rattle.std.proofs.lemmas.List.Sorted.{list_any-IsPermutation, length_permutation}
@@ -14,8 +12,6 @@ use Rattle.sqlite.specs.State.{State}
 use Rattle.sqlite.proofs.Callers.{one_permutation}
 use Rattle.sqlite_rules.proofs.ListLemmas.{all_from, test_has}
 use Rattle.sqlite_trees.proofs.ListLemmas.{all-flat_map, all-map, all_weaker}
-use Rattle.sqlite_value.specs.Order.{Row, column, value_cmp}
-use Rattle.sqlite_value.proofs.OrderLemmas.{value_cmp-Int}
 use Rattle.addr.specs.Address.{Address, FitsMaxLength, fits_max_length}
 use Rattle.addr.specs.Spans.{span_has, spans_have, AreMaximal}
 use Rattle.addr.specs.declared.span.Span.{Span}
@@ -26,32 +22,16 @@ use Rattle.charters.specs.CharterSets.{CharterSets}
 use Rattle.registry.specs.declared.rows.HolderRows.{HolderRows}
 use Rattle.registry.specs.Rows.{Rows}
 use Rattle.tables.specs.Authorizations.{claim_of, entry_rows_of}
-use Rattle.tables.specs.Cells.{number_cell}
 use Rattle.tables.specs.Decode.{ClaimFits, EntryRowFits}
 use Rattle.tables.specs.Groups.{claim_entry}
 use Rattle.tables.specs.TablesHold.{items_if_any, TablesHold}
-use Rattle.store.specs.steps.Queries.{by_column, IsOpenWith}
+use Rattle.store.specs.steps.Queries.{IsOpenWith}
 use Rattle.tables.specs.declared.holder.Counters.{Counters}
 use Rattle.registry.specs.Values.{IsCount, GrantFits, AuthFits, FitIfAny}
 use Rattle.registry.specs.RowsOfAll.{AllRows}
 use Rattle.store.specs.Loads.{AreInOrder, HaveSame, AreLoaded}
 use Rattle.tables.proofs.CellsOnce.{counters_of_rows}
 use Rattle.making.proofs.StatementLemmas.{taken_more}
-
-numbers_rise : (m n : ℕ) → is_lt (int_cmp (pos m) (pos n)) ≡ is_lt (nat_cmp m n)
-numbers_rise m n = grind (arith, ints)
-
--- what rises by a column with its number rises by its number
-pub by_number :
-    {X : Type 0} (cells : X → Row) (number : X → ℕ) → ((x : X) → column (cells x) 0 ≡ number_cell (number x)) → (xs : List X)
-    → IsSorted (by_column 0) (map cells xs) → IsSortedByKey number nat_cmp xs
-by_number cells number is xs sorted k d low high =
-    let later = get_or xs (k + 1) d in
-    let earlier = get_or xs k d in
-    let at = sorted k (cells d) low (omega (arith, length-map xs cells)) in
-    let numbers : value_cmp (column (cells later) 0) (column (cells earlier) 0) ≡ int_cmp (pos (number later)) (pos (number earlier)) = (λ i. value_cmp (is later i) (is earlier i)) ∙ value_cmp-Int (pos (number later)) (pos (number earlier)) in
-    sym (numbers_rise (number later) (number earlier)) ∙ ap is_lt (sym numbers)
-    ∙ (λ i. is_lt (by_column 0 (sym (get_or-map cells xs (k + 1) d (cells d) high) i) (sym (get_or-map cells xs k d (cells d) (omega (arith, high))) i))) ∙ at
 
 -- one more run in a loop
 pub one_run_more : (spans : List Span) (i : ℕ) (s : Span) (before after : List Span) → i < length spans → s ≡ get_or spans i s → HaveSame (take i spans) before

@@ -10,6 +10,7 @@ use Rattle.sqlite.specs.Held.{Held, state}
 use Rattle.sqlite.specs.Steps.{over_memory}
 use Rattle.charters.specs.declared.charter.Charter.{Charter}
 use Rattle.registry.specs.declared.rows.HolderRows.{HolderRows}
+use Rattle.registry.specs.Answer.{AnswersNumber}
 use Rattle.registry.specs.History.{History}
 use Rattle.registry.specs.Rows.{Rows, rows_if_any, RowsIfAny}
 use Rattle.registry.specs.RowsOfAll.{AllRows, HasRows}
@@ -22,7 +23,8 @@ use Rattle.making.specs.Databases.{IsHonest}
 use Rattle.database.specs.Opening.{IsOfAnotherSchema}
 use Rattle.database.specs.OldTablesRead.{OldTablesRead}
 use Rattle.database.specs.TablesRead.{TablesRead}
-use Rattle.store.specs.Loads.{AreLoaded, AllGiveOn}
+use Rattle.store.specs.declared.load.Numbered.{Numbered}
+use Rattle.store.specs.Loads.{AreLoaded, AreNumbered, AllGiveOn}
 use Rattle.store.specs.StoreRows.{AreInRange, StoreView, connection_state, Holds}
 
 -- The rows of a holder after a history, as they are loaded, are its rows after the history.
@@ -31,6 +33,13 @@ LoadsRowsOfHistories =
     (history : History) (h : List ℕ) (rows : Option Rows) (loaded : Option HolderRows)
     → RowsIfAny history h rows → AreLoaded rows loaded
     → RowsIfAny history h (rows_if_any loaded)
+
+-- What is loaded of a holder and a number is what a request on that authorization is judged on, after a legal history.
+abbrev pub LoadsNumberOfHistories : Type 0
+LoadsNumberOfHistories =
+    (charter : Charter) (history : History) (h : List ℕ) (n : ℕ) (rows : Option Rows) (loaded : Numbered)
+    → IsLegal charter history → RowsIfAny history h rows → AreNumbered n rows loaded
+    → AnswersNumber history h n loaded.grants.items loaded.auth
 
 -- The rows of a legal history whose values are those of their types fit, so that no load of a holder
 -- finds a row that shows none.

@@ -14,8 +14,11 @@ use Rattle.registry.specs.Rows.{Rows}
 use Rattle.registry.specs.RowsOfAll.{AllRows}
 use Rattle.registry.specs.Terms.{IsVrpOfEntry}
 use Rattle.registry.specs.Values.{VrpFits}
+use Rattle.registry.specs.Verdict.{auth_of_number}
 use Rattle.slurm.specs.Exceptions.{Exceptions}
 use Rattle.slurm.specs.declared.set.NamedSlurm.{NamedSlurm}
+use Rattle.tables.specs.TablesHold.{items_if_any}
+use Rattle.store.specs.declared.load.Numbered.{Numbered}
 use Rattle.store.specs.StoreRows.{StoreView, Holds}
 
 -- it is so of the rows that a store holds
@@ -46,6 +49,12 @@ AreLoaded None None = ⊤
 AreLoaded None (Some loaded) = ⊥
 AreLoaded (Some r) None = ⊥
 AreLoaded (Some r) (Some loaded) = IsLoaded r loaded
+
+-- what is loaded of a holder and a number: the grants, by rising number, and the authorization of that number, if
+-- there is one
+pub record AreNumbered (n : ℕ) (rows : Option Rows) (loaded : Numbered) : Type 0 where
+  pub grants : AreInOrder (λ (g : Granted). g.number) (items_if_any (λ r. r.grants) rows) loaded.grants.items
+  pub auth : auth_of_number n (items_if_any (λ r. r.auths) rows) ≡ loaded.auth
 
 -- the SLURM files that are loaded, each without its name, by rising name
 abbrev pub AreFilesOf : List NamedSlurm → List Exceptions → Type 0

@@ -1,7 +1,8 @@
 //! Laws over the definitions alone: each function's contract states one, and its body at most calls
 //! laws of `histories` and `tables`.
 ghost use Rattle.store.specs.Laws.{AuthsOfHistoriesGive, FilesOfHistoriesFit, HistoriesRead};
-ghost use Rattle.store.specs.Laws.{LoadsRowsOfHistories, MemoryHoldsRows, MemoryIsHonest};
+ghost use Rattle.store.specs.Laws.{LoadsNumberOfHistories, LoadsRowsOfHistories};
+ghost use Rattle.store.specs.Laws.{MemoryHoldsRows, MemoryIsHonest};
 ghost use Rattle.store.specs.Laws.{MemoryStaysOpen, OldHistoriesRead, OldTablesThatReadAreOurs};
 ghost use Rattle.store.specs.Laws.{RowsInRangeGive, RowsOfHistoriesFit, RowsThatReadFit};
 ghost use Rattle.store.specs.Laws.{TablesThatReadAreOurs};
@@ -12,6 +13,14 @@ ghost use Rattle.store.specs.Laws.{TablesThatReadAreOurs};
 pub fn rows_of_a_history()
     ensures { LoadsRowsOfHistories }
 {}
+
+/// Where the tables hold the rows of a legal history, the grants and the authorization of a number
+/// that are loaded of a holder are those of that history.
+pub fn number_of_a_history()
+    ensures { LoadsNumberOfHistories }
+{
+    registry::laws::unregistered_have_nothing();
+}
 
 /// The rows of a legal history whose values are those of their types are in their ranges, so that
 /// by clause `schema` no load of a holder answers `Schema`.

@@ -9,4 +9,5 @@ mod select;
 mod store;
 
 pub use database::StoreFault;
+pub use load::Numbered;
 pub use store::Store;

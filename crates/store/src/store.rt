@@ -13,7 +13,7 @@ ghost use Rattle.making.specs.Statements.{IfCommitted, IfRolledBack, CommitsAtMo
 use crate::StoreFault;
 use crate::across::some_overlap;
 use crate::exceptions::load_files;
-use crate::load::{load_rows, load_vrps};
+use crate::load::{Numbered, load_numbered, load_rows, load_vrps};
 use addr::{Day, Name, Prefix, Vrp};
 use database::{make_tables, open_tables};
 use edits::make_change;
@@ -148,7 +148,7 @@ impl<S: Alter> Store<S> {
     ghost use Rattle.registry.specs.RowsOfAll.{IsTaken, IsGivenOn};
     ghost use Rattle.registry.specs.Values.{FitIfAny, FilesFit};
     ghost use Rattle.store.specs.Given.{GivenOnce};
-    ghost use Rattle.store.specs.Loads.{OfHeldRows, AreLoaded, AllGiveOn, AreFilesOf};
+    ghost use Rattle.store.specs.Loads.{OfHeldRows, AreLoaded, AreNumbered, AllGiveOn, AreFilesOf};
     ghost use Rattle.store.specs.StoreRows.{connection_state, Holds, IsRead};
     ghost use Rattle.making.specs.Databases.{IsDeskWhileOpen};
     ghost use Rattle.store.specs.StoreRows.{IfClean, HoldsAfter, MayLeave, LeavesOnly};
@@ -174,6 +174,24 @@ impl<S: Alter> Store<S> {
             → OfHeldRows S.Store self.old (λ rows. ¬ FitIfAny (rows.of_holder holder.now))) }
     {
         load_rows(&mut self.conn, alloc, holder)
+    }
+
+    /// The grants of the holder, and its authorization that has the number; neither where it is not
+    /// registered.
+    pub fn load_numbered(
+        &mut self,
+        alloc: Global,
+        holder: &Name,
+        number: u32,
+    ) -> Result<Numbered, StoreFault>
+        ensures read { IsRead S.Store self.old self.new }
+        ensures found { IfClean S.Store self.new (IfOk result (λ loaded.
+            OfHeldRows S.Store self.old
+            (λ rows. AreNumbered number (rows.of_holder holder.now) loaded))) }
+        ensures schema { IfClean S.Store self.new (result ≡ Err StoreFault.Schema
+            → OfHeldRows S.Store self.old (λ rows. ¬ FitIfAny (rows.of_holder holder.now))) }
+    {
+        load_numbered(&mut self.conn, alloc, holder, number)
     }
 
     /// The rows of two holders; of equal names the same rows twice.

@@ -34,6 +34,10 @@ pub const DELETE_CLAIM: &str = "DELETE FROM claim WHERE holder = ?1 AND number =
 pub const SELECT_HOLDER_CLAIMS: &str = "\
     SELECT number, asn, opens, ends FROM claim WHERE holder = ?1 ORDER BY number";
 
+/// The claim of a holder that has a number, if there is one.
+pub const SELECT_NUMBERED_CLAIM: &str = "\
+    SELECT number, asn, opens, ends FROM claim WHERE holder = ?1 AND number = ?2 ORDER BY number";
+
 /// All claims, the names of their holders, and their rowids.
 pub const SELECT_ALL_CLAIMS: &str = "\
     SELECT number, asn, opens, ends, holder, rowid FROM claim ORDER BY rowid";

@@ -39,6 +39,11 @@ pub const SELECT_HOLDER_ENTRIES: &str = "\
     SELECT number, asn, family, lo, len, max FROM entry WHERE holder = ?1 \
     ORDER BY number, family, lo, len";
 
+/// The entries of a holder's authorization that has a number.
+pub const SELECT_NUMBERED_ENTRIES: &str = "\
+    SELECT number, asn, family, lo, len, max FROM entry WHERE holder = ?1 AND number = ?2 \
+    ORDER BY number, family, lo, len";
+
 /// All entries, the names of their holders, and their rowids.
 pub const SELECT_ALL_ENTRIES: &str = "\
     SELECT number, asn, family, lo, len, max, holder, rowid FROM entry ORDER BY rowid";

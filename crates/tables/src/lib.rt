@@ -25,12 +25,12 @@ pub use authorizations::auths_of;
 pub use cells::{address_bytes, family_number, name_values, number_values, prefix_values};
 pub use claim::{
     CREATE_CLAIM, Claim, DELETE_CLAIM, INSERT_CLAIM, SELECT_ALL_CLAIMS, SELECT_CLAIMS_IN_FORCE,
-    SELECT_HOLDER_CLAIMS, UPDATE_CLAIM, claim_of, claim_values,
+    SELECT_HOLDER_CLAIMS, SELECT_NUMBERED_CLAIM, UPDATE_CLAIM, claim_of, claim_values,
 };
 pub use decode::cell;
 pub use entry::{
     CREATE_ENTRY, DELETE_ENTRIES, EntryRow, INSERT_ENTRY, SELECT_ALL_ENTRIES,
-    SELECT_HOLDER_ENTRIES, SELECT_PAYLOADS, entry_row_of, entry_values,
+    SELECT_HOLDER_ENTRIES, SELECT_NUMBERED_ENTRIES, SELECT_PAYLOADS, entry_row_of, entry_values,
 };
 pub use exception::{
     CREATE_SLURM, DELETE_EXCEPTIONS, Exception, ExceptionRow, INSERT_EXCEPTION,

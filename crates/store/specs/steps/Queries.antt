@@ -39,29 +39,34 @@ by_column at = on (λ r. column r at) value_cmp
 
 -- ---- queries of the rows of one holder
 
--- over the tables of a desk the text answers these rows, with a name as its parameter
-abbrev pub AreSelected : List ℕ → List ℕ → Database → List Row → Type 0
-AreSelected sql name db rows = Reads (command_of (understood (desk_beside db.schema) sql)) db (Text name ∷ []) rows
+-- over the tables of a desk the text answers these rows, with these parameters, and with a name as its parameter
+abbrev pub AreAnswered : List ℕ → Row → Database → List Row → Type 0
+AreAnswered sql params db rows = Reads (command_of (understood (desk_beside db.schema) sql)) db params rows
 
--- The text selects these values of a holder: its answer has the row of each, and no other, and rises
--- by this order, and its rows have so many columns. No two values have one row. It reads the tables
--- alone.
-pub record Selects
+abbrev pub AreSelected : List ℕ → List ℕ → Database → List Row → Type 0
+AreSelected sql name = AreAnswered sql (Text name ∷ [])
+
+-- With these parameters the text selects these values of a holder: its answer has the row of each, and no
+-- other, and rises by this order, and its rows have so many columns. No two values have one row. It reads the
+-- tables alone.
+pub record SelectsWith
     {X : Type 0} (cells : X → Row) (width : ℕ) (items : Rows → List X) (cmp : Row → Row → Ordering)
-    (sql : List ℕ)
+    (sql h : List ℕ) (params : Row)
     : Type 0 where
   pub plain : OverDesk (λ s. IsPlain (understood s sql))
   pub unlisted : OverDesk (λ s. reads_listing s sql ≡ false)
   pub found :
-      (h : List ℕ) (db : Database) (rows : List Row) → AreSelected sql h db rows
+      (db : Database) (rows : List Row) → AreAnswered sql params db rows
       → (charter : CharterSets) (all : AllRows) → TablesHold charter all db.trees
       → IsPermutation (map cells (items_if_any items (all.of_holder h))) rows
-  pub rising :
-      (h : List ℕ) (db : Database) (rows : List Row) → AreSelected sql h db rows → IsSorted cmp rows
-  pub whole :
-      (h : List ℕ) (db : Database) (rows : List Row) → AreSelected sql h db rows
-      → map (first_columns width) rows ≡ rows
+  pub rising : (db : Database) (rows : List Row) → AreAnswered sql params db rows → IsSorted cmp rows
+  pub whole : (db : Database) (rows : List Row) → AreAnswered sql params db rows → map (first_columns width) rows ≡ rows
   pub once : (x y : X) → cells x ≡ cells y → x ≡ y
+
+-- the text selects these values of the holder that its parameter names
+abbrev pub Selects :
+    {X : Type 0} → (X → Row) → ℕ → (Rows → List X) → (Row → Row → Ordering) → List ℕ → Type 0
+Selects cells width items cmp sql = (h : List ℕ) → SelectsWith cells width items cmp sql h (Text h ∷ [])
 
 -- ---- queries of the exceptions of one SLURM file
 

@@ -8,7 +8,7 @@ use Rattle.tables.specs.Decode.{ClaimFits, EntryRowFits}
 use Rattle.tables.specs.TablesHold.{items_if_any}
 use Rattle.store.specs.Loads.{AreInOrder}
 use Rattle.store.specs.steps.Queries.{IsOf}
-use Rattle.store.proofs.AuthsFound.{auths_found, if_made, never_none, only_refused}
+use Rattle.database.proofs.AuthsFound.{auths_found, if_made, never_none, only_refused}
 use Rattle.store.proofs.Loading.{claims_fit, entries_fit, held_before, never_fit}
 use Rattle.database.proofs.QueryLemmas.{refused_by}
 use Rattle.store.proofs.load.load_auths.Goals as goal

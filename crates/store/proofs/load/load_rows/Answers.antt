@@ -6,7 +6,8 @@ use Rattle.tables.specs.Cells.{grant_cells}
 use Rattle.registry.specs.Values.{GrantFits, FitIfAny}
 use Rattle.tables.specs.TablesHold.{items_if_any}
 use Rattle.tables.proofs.CellsOnce.{counters_of_rows}
-use Rattle.store.proofs.Loading.{AreCounters, CountersFit, counters_fit, all_spans_fit, grants_fit, first_counters, by_number, same-permuted, held_before, never_fit, refused_before, none_loaded, all_loaded}
+use Rattle.database.proofs.AuthsFound.{by_number}
+use Rattle.store.proofs.Loading.{AreCounters, CountersFit, counters_fit, all_spans_fit, grants_fit, first_counters, same-permuted, held_before, never_fit, refused_before, none_loaded, all_loaded}
 use Rattle.database.proofs.QueryLemmas.{refused_by}
 use Rattle.store.proofs.load.load_rows.Goals as goal
 

@@ -1,14 +1,17 @@
 -- The authorizations of a holder, out of its claims and the rows of its entries.
-use Rattle.std.proofs.Common.{◌≡◌, ◌≢◌, ℕ, suc, ◌<◌, ◌^◌, false, List, [], ◌∷◌, map, flat_map, get_or, filter, ◌+◌, true, Option, Some, None, Ordering, Less, refl, sym, ap, subst, ◌∙◌, arith, is_lt, is_eq, nat_cmp, IsPermutation, IsSorted}
+use Rattle.std.proofs.Common.{◌≡◌, ◌≢◌, ℕ, suc, ◌<◌, ◌^◌, false, List, [], ◌∷◌, map, flat_map, get_or, filter, ◌+◌, true, Option, Some, None, Ordering, Less, refl, sym, ap, subst, ◌∙◌, arith, is_lt, is_eq, nat_cmp, IsPermutation, IsSorted, IsSortedByKey, int_cmp, pos}
 use Rattle.std.specs.Prelude.{AllPairs, Err, IfOk, MatchOption, Result}
 use Rattle.std.specs.Option.{ok_or}
 use Rattle.std.specs.List.{AllByRecursion}
+use Rattle.std.specs.Ordering.{on}
+use Rattle.std.proofs.lemmas.Int.{ints}
 use Rattle.std.proofs.lemmas.Bool.{false_from_ne_true}
 use Rattle.std.proofs.lemmas.List.{get_or-map, length-map, map-id}
 use Rattle.std.proofs.lemmas.List.Sorted.{IsPermutation-map, IsPermutation-sym}
 use Rattle.sqlite.specs.Effect.{Database, IsDatabase}
 use Rattle.sqlite_value.specs.declared.value.Value.TheVariants.{Text}
-use Rattle.sqlite_value.specs.Order.{Row}
+use Rattle.sqlite_value.specs.Order.{Row, column, value_cmp}
+use Rattle.sqlite_value.proofs.OrderLemmas.{value_cmp-Int}
 use Rattle.sqlite_rules.proofs.ListLemmas.{all_from, contains_had}
 use Rattle.sqlite_rules.proofs.ProbeLemmas.{mapped_has}
 use Rattle.sqlite_trees.specs.Tree.{Trees, IsAscending}
@@ -34,11 +37,27 @@ use Rattle.tables.proofs.GroupOrder.{claim_cmp, claim_orders, entry_row_cmp, gro
 use Rattle.tables.proofs.PartLemmas.{names}
 use Rattle.tables.proofs.Ungrouping.{grouped, ungrouped}
 use Rattle.database.specs.Laws.{ClaimsDiffer, number_columns}
-use Rattle.store.specs.Loads.{AreInOrder}
-use Rattle.store.specs.steps.Queries.{by_column}
-use Rattle.store.proofs.Loading.{by_number}
 
 -- ---- lists in order
+
+-- by the first column
+abbrev pub by_first : Row → Row → Ordering
+by_first = on (λ r. column r 0) value_cmp
+
+numbers_rise : (m n : ℕ) → is_lt (int_cmp (pos m) (pos n)) ≡ is_lt (nat_cmp m n)
+numbers_rise m n = grind (arith, ints)
+
+-- what rises by a column with its number rises by its number
+pub by_number :
+    {X : Type 0} (cells : X → Row) (number : X → ℕ) → ((x : X) → column (cells x) 0 ≡ number_cell (number x)) → (xs : List X)
+    → IsSorted by_first (map cells xs) → IsSortedByKey number nat_cmp xs
+by_number cells number is xs sorted k d low high =
+    let later = get_or xs (k + 1) d in
+    let earlier = get_or xs k d in
+    let at = sorted k (cells d) low (omega (arith, length-map xs cells)) in
+    let numbers : value_cmp (column (cells later) 0) (column (cells earlier) 0) ≡ int_cmp (pos (number later)) (pos (number earlier)) = (λ i. value_cmp (is later i) (is earlier i)) ∙ value_cmp-Int (pos (number later)) (pos (number earlier)) in
+    sym (numbers_rise (number later) (number earlier)) ∙ ap is_lt (sym numbers)
+    ∙ (λ i. is_lt (by_first (sym (get_or-map cells xs (k + 1) d (cells d) high) i) (sym (get_or-map cells xs k d (cells d) (omega (arith, high))) i))) ∙ at
 
 -- values are in the order of their cells
 sorted_values :
@@ -59,7 +78,7 @@ rows_sorted = sorted_values entry_cells by_entry entry_row_cmp (λ r s. entries_
 
 -- ---- an authorization as its claim with its entries
 
-abbrev HasEntries : Auth → Type 0
+abbrev pub HasEntries : Auth → Type 0
 HasEntries x = AreEntries x.entries
 
 back_from_groups : (xs : List Auth) → map auth_of (map group_of xs) ≡ xs
@@ -77,7 +96,7 @@ less_number : (m n : ℕ) → nat_cmp m n ≡ Less → m < n
 less_number m n less = grind (arith, less)
 
 module _ (h : List ℕ) where
-  abbrev key_of : Auth → Row
+  abbrev pub key_of : Auth → Row
   key_of x = number_columns (claim_row h (claim_of x))
 
   same_key : (x y : Auth) → is_eq (claim_cmp (claim_of x) (claim_of y)) ≡ true → key_of x ≡ key_of y
@@ -106,7 +125,7 @@ record InOrder (xs : List Auth) (claims : List Claim) (rows : List EntryRow) : T
   pub are : AreAuths claims rows auths
 
 module _ (h : List ℕ) (xs : List Auth) (claims : List Claim) (rows : List EntryRow) (have : AllByRecursion HasEntries xs) (apart : AllPairs ◌≢◌ (map (key_of h) xs))
-    (same_claims : IsPermutation (map claim_of xs) claims) (claims_sorted : IsSorted (by_column 0) (map claim_cells claims))
+    (same_claims : IsPermutation (map claim_of xs) claims) (claims_sorted : IsSorted by_first (map claim_cells claims))
     (same_rows : IsPermutation (flat_map entry_rows_of xs) rows) (sorted : IsSorted by_entry (map entry_cells rows)) where
   put_in_order : InOrder xs claims rows
   put_in_order =
@@ -126,22 +145,22 @@ module _ (h : List ℕ) (xs : List Auth) (claims : List Claim) (rows : List Entr
       }
 
   -- the authorizations of the two lists are those of the holder, by rising number
-  in_order : (auths : List Auth) → AreAuths claims rows auths → AreInOrder (λ (x : Auth). x.number) xs auths
+  pub in_order : (auths : List Auth) → AreAuths claims rows auths → IsPermutation xs auths × IsSortedByKey (λ (x : Auth). x.number) nat_cmp auths
   in_order auths are =
       let it = put_in_order in
       let cells : map claim_cells claims ≡ map (λ (x : Auth). claim_cells (claim_of x)) auths = ap (map claim_cells) (sym are.same_claims) ∙ map-map claim_cells claim_of auths in (
         subst (IsPermutation xs) (auths_once claims rows it.auths auths it.rise it.are are) it.same,
-        by_number (λ (x : Auth). claim_cells (claim_of x)) (λ (x : Auth). x.number) (λ _. refl) auths (subst (IsSorted (by_column 0)) cells claims_sorted),
+        by_number (λ (x : Auth). claim_cells (claim_of x)) (λ (x : Auth). x.number) (λ _. refl) auths (subst (IsSorted by_first) cells claims_sorted),
       )
 
   -- and there are such
-  are_some : (NumbersRise claims → (auths : List Auth) → ¬ AreAuths claims rows auths) → ⊥
+  pub are_some : (NumbersRise claims → (auths : List Auth) → ¬ AreAuths claims rows auths) → ⊥
   are_some none = let it = put_in_order in none it.rise it.auths it.are
 
 -- ---- over the tables
 
 -- each authorization of a holder has entries
-held_entries : (charter : CharterSets) (all : AllRows) (trees : Trees) → TablesHold charter all trees → (h : List ℕ) → AllByRecursion HasEntries (items_if_any (λ (r : Rows). r.auths) (all.of_holder h))
+pub held_entries : (charter : CharterSets) (all : AllRows) (trees : Trees) → TablesHold charter all trees → (h : List ℕ) → AllByRecursion HasEntries (items_if_any (λ (r : Rows). r.auths) (all.of_holder h))
 held_entries charter all trees holds h = go (all.of_holder h) refl
   where
     go : (o : Option Rows) → all.of_holder h ≡ o → AllByRecursion HasEntries (items_if_any (λ (r : Rows). r.auths) o)
@@ -164,7 +183,7 @@ numbers_differ differ charter all db sound tables holds h =
 module _
     (differ : ClaimsDiffer) (charter : CharterSets) (all : AllRows) (db : Database) (sound : IsDatabase db) (tables : db.schema.tables ≡ desk_tables)
     (holds : TablesHold charter all db.trees) (h : List ℕ) (claims : List Claim) (rows : List EntryRow)
-    (same_claims : IsPermutation (items_if_any (λ (r : Rows). map claim_of r.auths) (all.of_holder h)) claims) (claims_sorted : IsSorted (by_column 0) (map claim_cells claims))
+    (same_claims : IsPermutation (items_if_any (λ (r : Rows). map claim_of r.auths) (all.of_holder h)) claims) (claims_sorted : IsSorted by_first (map claim_cells claims))
     (same_rows : IsPermutation (items_if_any (λ (r : Rows). flat_map entry_rows_of r.auths) (all.of_holder h)) rows) (sorted : IsSorted by_entry (map entry_cells rows)) where
   its_claims : IsPermutation (map claim_of (items_if_any (λ (r : Rows). r.auths) (all.of_holder h))) claims
   its_claims = go (all.of_holder h) same_claims
@@ -180,7 +199,7 @@ module _
       go None same = same
       go (Some r) same = same
 
-  pub auths_found : (auths : List Auth) → AreAuths claims rows auths → AreInOrder (λ (x : Auth). x.number) (items_if_any (λ (r : Rows). r.auths) (all.of_holder h)) auths
+  pub auths_found : (auths : List Auth) → AreAuths claims rows auths → IsPermutation (items_if_any (λ (r : Rows). r.auths) (all.of_holder h)) auths × IsSortedByKey (λ (x : Auth). x.number) nat_cmp auths
   auths_found = in_order h _ claims rows (held_entries charter all db.trees holds h) (numbers_differ differ charter all db sound tables holds h) its_claims claims_sorted its_rows sorted
 
   pub never_none : (NumbersRise claims → (auths : List Auth) → ¬ AreAuths claims rows auths) → ⊥
