@@ -1,14 +1,15 @@
 -- What the given rows say of the holder.
-use Rattle.std.proofs.Common.{◌≡◌, ℕ, Bool, true, false, List, Option, Some, None, sym, ap, ◌∙◌, subst, Bor, option_copied, is_some, IsSomeAnd}
+use Rattle.std.proofs.Common.{◌≡◌, ℕ, Bool, true, false, List, [], Option, Some, None, refl, sym, ap, ◌∙◌, subst, Bor, option_copied, is_some, IsSomeAnd}
 use Rattle.std.specs.List.{list_any}
 use Rattle.std.proofs.lemmas.Bool.{false≢true}
 use Rattle.charters.specs.declared.charter.Charter.{Charter}
 use Rattle.registry.specs.declared.rows.HolderRows.{HolderRows}
+use Rattle.registry.specs.Answer.{AnswersNumber}
 use Rattle.registry.specs.History.{History, is_registered}
 use Rattle.registry.specs.Rows.{Rows, RowsOf, RowsIfAny, rows_if_any, grants_if_any}
 use Rattle.registry.specs.declared.authorization.Auth.{Auth}
 use Rattle.registry.specs.declared.grant.Granted.{Granted}
-use Rattle.registry.specs.Terms.{grant_terms, authorization_terms, HeldSinceMade, OfActive}
+use Rattle.registry.specs.Terms.{grant_terms, authorization_terms, HeldSinceMade, Keeps, OfActive}
 use Rattle.registry.specs.Verdict.{IsLegal, auth_of_number, OfNumber}
 use Rattle.registry.proofs.Kept.{Keeps-unique}
 use Rattle.registry.proofs.Unregistered.{has_nothing}
@@ -42,10 +43,25 @@ pub number-from : (history : History) (h : List ℕ) (rows : Rows) (n : ℕ) (x 
 number-from history h rows n x P are found of =
     subst (λ (o : Option Auth). IsSomeAnd o P) found (active-from history h rows (λ active. IsSomeAnd (auth_of_number n active) P) are of)
 
-pub number-none : (history : History) (h : List ℕ) (rows : Rows) (n : ℕ) (P : Auth → Type 0) → RowsOf history h rows
-    → auth_of_number n rows.auths ≡ None → OfNumber history h n P → ⊥
-number-none history h rows n P are missing of =
-    subst (λ (o : Option Auth). IsSomeAnd o P) missing (active-from history h rows (λ active. IsSomeAnd (auth_of_number n active) P) are of)
+-- a fact about the authorization of a number is one about what was found
+pub found-to : (history : History) (h : List ℕ) (n : ℕ) (gs : List Granted) (found : Option Auth) (P : Auth → Type 0) → AnswersNumber history h n gs found
+    → IsSomeAnd found P → OfNumber history h n P
+found-to history h n gs found P are holds = (are.auth.0, are.auth.1, subst (λ (o : Option Auth). IsSomeAnd o P) (sym are.auth.2) holds)
+
+pub found-from : (history : History) (h : List ℕ) (n : ℕ) (gs : List Granted) (found : Option Auth) (P : Auth → Type 0) → AnswersNumber history h n gs found
+    → OfNumber history h n P → IsSomeAnd found P
+found-from history h n gs found P are of =
+    let same = Keeps-unique (HeldSinceMade history h) (authorization_terms history h) of.0 are.auth.0 of.1 are.auth.1 in
+    subst (λ (o : Option Auth). IsSomeAnd o P) are.auth.2 (subst (λ (active : List Auth). IsSomeAnd (auth_of_number n active) P) same of.2)
+
+-- what is found among the rows is that of the history; without rows nothing is
+pub answers-rows : (history : History) (h : List ℕ) (n : ℕ) (rows : Rows) (gs : List Granted) (found : Option Auth) → RowsOf history h rows → gs ≡ rows.grants → found ≡ auth_of_number n rows.auths → AnswersNumber history h n gs found
+answers-rows history h n rows gs found are granted is = record { grants = granted ∙ are.grants; auth = (rows.auths, are.auths, sym is) }
+
+pub answers-unregistered : (charter : Charter) (history : History) (h : List ℕ) (n : ℕ) → IsLegal charter history → is_registered history h ≡ false → AnswersNumber history h n [] None
+answers-unregistered charter history h n legal unregistered =
+    let nothing = has_nothing charter history h legal unregistered in
+    record { grants = sym nothing.grants; auth = ([], subst (λ terms. Keeps (HeldSinceMade history h) terms []) (sym nothing.terms) tt, refl) }
 
 -- a holder with a grant is registered
 pub registered-by_grant : (charter : Charter) (history : History) (h : List ℕ) (rows : Option (Bor HolderRows)) (test : Granted → Bool)

@@ -12,7 +12,7 @@ ghost use Rattle.registry.specs.RoaPrefixes.{with_maxes};
 ghost use Rattle.registry.specs.declared.authorization.ImportRow.{ImportRow as ImportRowValue};
 ghost use Rattle.registry.specs.Import.{has_terms, IsPresent};
 ghost use Rattle.registry.specs.Permission.{has_access, is_permitted_terms};
-ghost use Rattle.registry.specs.Answer.{OfRows};
+ghost use Rattle.registry.specs.Answer.{AnswersNumber, OfRows};
 ghost use Rattle.registry.specs.Verdict.{is_steward, auth_of_number, HasAccessTo};
 ghost use Rattle.registry.specs.Rows.{rows_of, rows_if_any, RowsOf, RowsIfAny, grants_if_any};
 
@@ -109,7 +109,7 @@ fn are_covered(holdings: &Holdings, entries: &[RoaPrefix]) -> bool
 }
 
 /// The authorization of the number.
-fn auth_of_number(auths: &[Auth], number: u32) -> Option<&Auth>
+pub(crate) fn auth_of_number(auths: &[Auth], number: u32) -> Option<&Auth>
     ensures { option_copied result ≡ auth_of_number number auths.now }
 {
     auths.iter().find(|auth| auth.number == number)
@@ -128,6 +128,34 @@ pub(crate) fn is_permitted_terms(
     are_permitted(grants, day, caller, access, auth.entries.as_slice())
 }
 
+/// The authorization that was found, where the caller has the access to it.
+pub(crate) fn found_with_access<'a>(
+    grants: &[Granted],
+    found: Option<&'a Auth>,
+    day: Day,
+    caller: &Name,
+    access: Access,
+) -> Result<&'a Auth, Rule>
+    ensures { (history : History) (h : List ℕ) (number : ℕ)
+        → AnswersNumber history h number grants.now (option_copied found.entry)
+        → MatchResult result
+        (λ x. (option_copied found.entry ≡ Some x.now)
+        × HasAccessTo history h day caller.now access number)
+        (λ rule. (HasAccessTo history h day caller.now access number → ⊥)
+        × (rule ≡ Rule.Number)) }
+{
+    match found {
+        Some(auth) => {
+            if is_permitted_terms(grants, day, caller, access, auth) {
+                Ok(auth)
+            } else {
+                Err(Rule::Number)
+            }
+        }
+        None => Err(Rule::Number),
+    }
+}
+
 /// The active authorization of the number, where the caller has the access to it.
 pub(crate) fn auth_with_access<'a>(
     rows: &'a HolderRows,
@@ -143,16 +171,8 @@ pub(crate) fn auth_with_access<'a>(
         (λ rule. (HasAccessTo history h day caller.now access number → ⊥)
         × (rule ≡ Rule.Number)) }
 {
-    match auth_of_number(&rows.auths, number) {
-        Some(auth) => {
-            if is_permitted_terms(&rows.grants, day, caller, access, auth) {
-                Ok(auth)
-            } else {
-                Err(Rule::Number)
-            }
-        }
-        None => Err(Rule::Number),
-    }
+    let found = auth_of_number(&rows.auths, number);
+    found_with_access(&rows.grants, found, day, caller, access)
 }
 
 /// Whether neither the first day nor the day of the request is after the last day.

@@ -16,5 +16,5 @@ pub use registry::{
     HolderRows, ImportRow, LAST_NUMBER, Proposed, Query, Refusal, RoaPrefix, RoaPrefixes, Role,
     Rule, Scope, View, laws,
 };
-pub use sight::{see, see_all};
+pub use sight::{see, see_all, see_found};
 pub use what_if::suppose;

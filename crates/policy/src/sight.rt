@@ -1,19 +1,41 @@
 //! Showing and listing authorizations.
 
-ghost use Rattle.std.specs.Prelude.{◌≡◌, [], ◌∷◌, ◌++◌, Some, option_copied, MatchResult, IfOk, OnOk, filter};
+ghost use Rattle.std.specs.Prelude.{◌≡◌, ℕ, List, [], ◌∷◌, ◌++◌, Some, option_copied, MatchResult, IfOk, OnOk, filter};
 ghost use Rattle.charters.specs.declared.charter.Charter.{Charter as CharterValue};
+ghost use Rattle.registry.specs.History.{History};
 ghost use Rattle.registry.specs.Permission.{is_permitted_terms};
 ghost use Rattle.registry.specs.Rows.{rows_if_any};
 ghost use Rattle.registry.specs.Verdict.{ShowVerdict};
-ghost use Rattle.registry.specs.Answer.{OfRows, IsShown, IsListed, IsListRefusal};
+ghost use Rattle.registry.specs.Answer.{AnswersNumber, OfRows, IsShown, IsListed, IsListRefusal};
 
-use crate::admission::{auth_with_access, is_permitted_terms, rows_with_access};
+use crate::admission::{
+    auth_of_number, found_with_access, is_permitted_terms, require, rows_with_access,
+};
 use crate::{Access, Auth, Granted, HolderRows, Refusal, Rule};
 use addr::{Day, Name};
+use registry::has_access;
 use std::alloc::{AllocError, Global};
 
-/// The authorization of the number, where the caller may see it on the day. A hidden authorization
-/// and a missing one get the same reply. It takes no memory.
+/// Of the authorization of a number that was found at a holder with these grants: it, where the
+/// caller may see it on the day. A hidden authorization and a missing one get the same reply. It
+/// takes no memory.
+pub fn see_found<'a>(
+    grants: &[Granted],
+    found: Option<&'a Auth>,
+    day: Day,
+    caller: &Name,
+) -> Result<&'a Auth, Rule>
+    ensures { (history : History) (h : List ℕ) (number : ℕ)
+        → AnswersNumber history h number grants.now (option_copied found.entry)
+        → MatchResult result
+        (λ x. IsShown history h day caller.now number x.now)
+        (λ rule. ShowVerdict history h day caller.now number (Some rule)) }
+{
+    require(has_access(grants, day, caller, Access::Look), Rule::Grant)?;
+    found_with_access(grants, found, day, caller, Access::Look)
+}
+
+/// The authorization of the number, where the caller may see it on the day, as `see_found` sees it.
 pub fn see<'a>(
     rows: Option<&'a HolderRows>,
     day: Day,
@@ -25,8 +47,15 @@ pub fn see<'a>(
         (λ x. IsShown history h day caller.now number x.now)
         (λ rule. ShowVerdict history h day caller.now number (Some rule))) }
 {
-    let rows = rows_with_access(rows, day, caller, Access::Look)?;
-    auth_with_access(rows, day, caller, Access::Look, number)
+    match rows {
+        Some(rows) => see_found(
+            &rows.grants,
+            auth_of_number(&rows.auths, number),
+            day,
+            caller,
+        ),
+        None => see_found(&[], None, day, caller),
+    }
 }
 
 /// Puts a copy of the authorization after the others.
