@@ -1,6 +1,7 @@
 //! The desk, and how it handles requests.
 ghost use Rattle.std.specs.Prelude.{◌≡◌, ◌≢◌, true, false, None, [], ◌∷◌, Err, IfOk, IfErr, OnOk, OnErr};
 ghost use Rattle.std.specs.List.{list_any};
+ghost use Rattle.registry.specs.Answer.{AnswersNumber};
 ghost use Rattle.registry.specs.History.{History};
 ghost use Rattle.registry.specs.Rows.{rows_if_any, RowsIfAny};
 ghost use Rattle.sqlite.specs.Held.{state};
@@ -37,7 +38,7 @@ use registry::{Charter, HolderRows};
 use sqlite::{Alter, Connection, MemStore};
 use std::alloc::{AllocError, Global};
 use std::marker::Model;
-use store::{Store, StoreFault};
+use store::{Numbered, Store, StoreFault};
 
 /// A route origin authorization desk over the tables of a store, with the charter that they were
 /// made with. Beside the tables it may keep the VRPs of one day.
@@ -239,6 +240,17 @@ impl<S: Alter> Desk<S> {
     {
         store::laws::rows_of_a_history();
         self.store.load_holder(self.alloc, holder)
+    }
+
+    /// The grants of the holder, and its authorization that has the number.
+    fn load_numbered(&mut self, holder: &Name, number: u32) -> Result<Numbered, StoreFault>
+        ensures read { IsRead S.Store self.old.store self.new.store }
+        ensures same { self.new.kept ≡ self.old.kept }
+        ensures rows { IfOk result (λ loaded. OfRows S.Store self.old self.new (λ history.
+            AnswersNumber history holder.now number loaded.grants.items loaded.auth)) }
+    {
+        store::laws::number_of_a_history();
+        self.store.load_numbered(self.alloc, holder, number)
     }
 
     /// Returns the connection.
