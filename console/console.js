@@ -21,7 +21,6 @@ const SENTENCES = {
     held: "The holder does not hold every address of this prefix.",
     same: "The holder has another active authorization with this AS, prefix and maxLength. Amend or withdraw that one.",
     room: "The holder is full: 1000 active authorizations, 64 grants, or all 999,999 numbers are used.",
-    overlap: "Two of the SLURM files name prefixes with an address in common.",
   },
   malformed: {
     1: "The desk could not read the request: it is no JSON.",
@@ -35,10 +34,8 @@ const SENTENCES = {
     9: "The role or the scope is none that can be granted. A manager has the scope all.",
     10: "The number has to be a whole number from 1 to 999999.",
     11: "This file is not a SLURM file that the desk takes.",
-    12: "The desk takes 1 to 10,000 rows or routes at once, at most 1000 changes, and at most 16 SLURM files.",
+    12: "The desk takes 1 to 10,000 rows or routes at once, and at most 1000 changes.",
     13: "The request is longer than 1,048,576 bytes.",
-    14: "A prefix stands twice in one authorization.",
-    15: "The name of a SLURM file is none, or stands twice.",
   },
   slurm: {
     1: "The file is not JSON, or is nested too deeply, or begins with a byte order mark.",
