@@ -8,10 +8,10 @@
 # other, each client at a holder of its own, and the holders are spread over the desks. So all runs send the same
 # creates. Afterwards the files have to have all of them. With --only-c each desk is the C server of bench/serve.
 #
-# Needs gcc, nginx, sqlite3, openssl and shuf, and the C server libsqlite3 with its header. The program has to be built first, by ./roadesk build at the top;
-# PROGRAM may name another. Files go to a temporary folder, or stay in BENCH_WORK; they should be on the disk that is of
-# interest. Of the runs the one with the most creates a second counts. Ends with 1 where a response or a row is
-# another, with 2 where something could not be run.
+# Needs gcc, nginx, sqlite3, openssl and shuf, and the C server libsqlite3 with its header. The program has to be built
+# first, by ./roadesk build at the top; PROGRAM may name another. Files go to a temporary folder, or stay in BENCH_WORK;
+# they should be on the disk that is of interest. Of the runs the one with the most creates a second counts. Ends with 1
+# where a response or a row is another, with 2 where something could not be run.
 set -u
 . "$(dirname "${BASH_SOURCE[0]}")/../common/work.sh"
 program=${PROGRAM:-$top/crates/cli/out/cli}
@@ -71,7 +71,7 @@ make_desk() {
     {
         echo 'PRAGMA journal_mode = WAL;'
         cat "$common/tables.sql"
-        echo "INSERT INTO meta VALUES ('schema', 1); INSERT INTO operator VALUES ('reg');"
+        echo "INSERT INTO meta VALUES ('schema', 2); INSERT INTO operator VALUES ('reg');"
         for number in $(seq "$1" "$desks" $((clients - 1))); do
             first=$((0x0a000000 + number * 4096))
             printf "INSERT INTO pool VALUES (4, x'%032x', 20);\n" "$first"
