@@ -61,6 +61,18 @@ missing_for() {
     done
 }
 
+# wait_for BLOCK: until each desk that the block leaves in the background listens, a minute at most. The desk is not
+# asked, as it may answer one connection alone.
+wait_for() {
+    local port
+    for port in $(sed -n 's/.*--listen 127\.0\.0\.1:\([0-9]*\) .*&$/\1/p' "$1"); do
+        for _ in $(seq 600); do
+            ! grep -q "$(printf ':%04X 00000000:0000 0A' "$port")" /proc/net/tcp || break
+            sleep 0.1
+        done
+    done
+}
+
 # Runs the blocks that miss nothing. What one leaves in the background goes on until the last has ended.
 run_blocks() {
     trap 'kill $(jobs -p) 2>/dev/null' EXIT
@@ -69,7 +81,8 @@ run_blocks() {
         [ ! -s "$work/$guide_block.missing" ] || continue
         . "$work/$guide_block.sh" >"$work/$guide_block.printed" 2>&1 </dev/null
         echo $? >"$work/$guide_block.status"
-        # A server needs a moment until it listens.
+        wait_for "$work/$guide_block.sh"
+        # Other servers need a moment until they listen.
         ! grep -q '&$' "$work/$guide_block.sh" || sleep 2
     done
 }
@@ -99,7 +112,7 @@ for block in $(seq "$blocks"); do
     missing_for "$block" >"$work/$block.missing"
 done
 export work blocks CURL_HOME=$work
-export -f run_blocks
+export -f run_blocks wait_for
 timeout 600 bash -c run_blocks
 
 failed=0
