@@ -11,6 +11,7 @@ static sqlite3 *db;
 static sqlite3_stmt *begin, *commit, *insert_holder, *insert_holding, *insert_grant, *insert_claim, *insert_entry;
 static sqlite3_stmt *set_grants, *set_auths, *delete_entries, *delete_claim;
 static sqlite3_stmt *counters_of, *holdings_of, *grants_of, *claims_of, *entries_of;
+static sqlite3_stmt *scopes_of, *claim_of, *entries_of_claim, *run_at, *same_entry, *last_that_may_be;
 static sqlite3_stmt *some_overlap, *in_force, *exceptions;
 
 _Noreturn void fail(const char *what)
@@ -48,6 +49,15 @@ static void prepare_all(void)
     claims_of = prepared("SELECT number, asn, opens, ends FROM claim WHERE holder = ?1 ORDER BY number");
     entries_of = prepared("SELECT number, asn, family, lo, len, max FROM entry"
                           " WHERE holder = ?1 ORDER BY number, family, lo, len");
+    scopes_of = prepared("SELECT family, lo, len FROM granted"
+                         " WHERE holder = ?1 AND caller = ?2 AND role <= ?3 AND until >= ?4");
+    claim_of = prepared("SELECT number, asn, opens, ends FROM claim WHERE holder = ?1 AND number = ?2");
+    entries_of_claim = prepared("SELECT number, asn, family, lo, len, max FROM entry"
+                                " WHERE holder = ?1 AND number = ?2 ORDER BY family, lo, len");
+    run_at = prepared("SELECT hi, holder FROM holding WHERE family = ?1 AND lo <= ?2 ORDER BY lo DESC LIMIT 1");
+    same_entry = prepared("SELECT 1 FROM entry"
+                          " WHERE asn = ?1 AND family = ?2 AND lo = ?3 AND len = ?4 AND max = ?5 AND holder = ?6");
+    last_that_may_be = prepared("SELECT 1 FROM claim WHERE holder = ?1 LIMIT 1 OFFSET ?2");
     some_overlap = prepared("SELECT 1 FROM holding WHERE family = ?1 AND lo <= ?3 AND hi >= ?2 LIMIT 1");
     in_force = prepared("SELECT entry.asn, family, lo, len, max FROM claim JOIN entry USING (holder, number)"
                         " WHERE opens <= ?1 AND ends >= ?1");
@@ -130,6 +140,12 @@ static struct prefix prefix_in(sqlite3_stmt *statement, int at)
     return prefix;
 }
 
+/* The scope all, or the one in the three columns from this one on. */
+static struct prefix scope_in(sqlite3_stmt *statement, int at)
+{
+    return sqlite3_column_type(statement, at) == SQLITE_NULL ? (struct prefix){0} : prefix_in(statement, at);
+}
+
 static void bind_prefix(sqlite3_stmt *statement, int at, const struct prefix *prefix)
 {
     bind_number(statement, at, prefix->family);
@@ -199,11 +215,30 @@ static void load_grants(const char *holder, struct rows *rows)
         grant->number = sqlite3_column_int64(grants_of, 0);
         snprintf(grant->caller, NAME_SIZE, "%s", (const char *)sqlite3_column_text(grants_of, 1));
         grant->role = sqlite3_column_int(grants_of, 2);
-        grant->scope = (struct prefix){0};
-        if (sqlite3_column_type(grants_of, 3) != SQLITE_NULL)
-            grant->scope = prefix_in(grants_of, 3);
+        grant->scope = scope_in(grants_of, 3);
         grant->until = sqlite3_column_int64(grants_of, 6);
     }
+}
+
+/* An authorization without an entry, of the columns of a claim. */
+static struct auth claim_in(sqlite3_stmt *statement)
+{
+    return (struct auth){
+        .number = sqlite3_column_int64(statement, 0),
+        .asn = sqlite3_column_int64(statement, 1),
+        .opens = sqlite3_column_int64(statement, 2),
+        .ends = sqlite3_column_int64(statement, 3),
+    };
+}
+
+/* Whether the entry is of the authorization, which then has it. */
+static int take_entry(sqlite3_stmt *statement, struct auth *auth)
+{
+    if (auth->number != sqlite3_column_int64(statement, 0) || auth->asn != sqlite3_column_int64(statement, 1))
+        return 0;
+    auth->prefix = prefix_in(statement, 2);
+    auth->max = sqlite3_column_int(statement, 5);
+    return 1;
 }
 
 static void load_claims(const char *holder, struct rows *rows)
@@ -213,11 +248,7 @@ static void load_claims(const char *holder, struct rows *rows)
     while (has_row(claims_of)) {
         if (rows->auths_count == MAX_AUTHS)
             fail("too many authorizations");
-        struct auth *auth = &rows->auths[rows->auths_count++];
-        auth->number = sqlite3_column_int64(claims_of, 0);
-        auth->asn = sqlite3_column_int64(claims_of, 1);
-        auth->opens = sqlite3_column_int64(claims_of, 2);
-        auth->ends = sqlite3_column_int64(claims_of, 3);
+        rows->auths[rows->auths_count++] = claim_in(claims_of);
     }
 }
 
@@ -227,12 +258,9 @@ static void load_entries(const char *holder, struct rows *rows)
     unsigned found = 0;
     bind_text(entries_of, 1, holder);
     while (has_row(entries_of)) {
-        struct auth *auth = &rows->auths[found];
-        if (found++ == rows->auths_count || auth->number != sqlite3_column_int64(entries_of, 0) ||
-            auth->asn != sqlite3_column_int64(entries_of, 1))
+        if (found == rows->auths_count || !take_entry(entries_of, &rows->auths[found]))
             fail("an entry of no claim");
-        auth->prefix = prefix_in(entries_of, 2);
-        auth->max = sqlite3_column_int(entries_of, 5);
+        found++;
     }
     if (found != rows->auths_count)
         fail("a claim without an entry");
@@ -245,6 +273,103 @@ void load(const char *holder, struct rows *rows)
     load_grants(holder, rows);
     load_claims(holder, rows);
     load_entries(holder, rows);
+}
+
+unsigned find_scopes(const char *holder, const char *caller, enum role most, int64_t day, struct prefix *scopes)
+{
+    unsigned count = 0;
+    bind_text(scopes_of, 1, holder);
+    bind_text(scopes_of, 2, caller);
+    bind_number(scopes_of, 3, most);
+    bind_number(scopes_of, 4, day);
+    while (has_row(scopes_of)) {
+        if (count == MAX_GRANTS)
+            fail("too many grants");
+        scopes[count++] = scope_in(scopes_of, 0);
+    }
+    return count;
+}
+
+unsigned find_auth(const char *holder, uint32_t number, struct auth *entries)
+{
+    struct auth claim = {0};
+    unsigned count = 0;
+    bind_text(claim_of, 1, holder);
+    bind_number(claim_of, 2, number);
+    while (has_row(claim_of))
+        claim = claim_in(claim_of);
+    if (!claim.number)
+        return 0;
+    bind_text(entries_of_claim, 1, holder);
+    bind_number(entries_of_claim, 2, number);
+    while (has_row(entries_of_claim)) {
+        if (count == MAX_ENTRIES || !take_entry(entries_of_claim, &claim))
+            fail("an entry of no claim");
+        entries[count++] = claim;
+    }
+    if (!count)
+        fail("a claim without an entry");
+    return count;
+}
+
+/* Claims and entries rise by number, so both are asked for once and walked together. */
+unsigned find_auths(const char *holder, struct auth *entries)
+{
+    struct auth claim = {0};
+    unsigned count = 0;
+    bind_text(claims_of, 1, holder);
+    bind_text(entries_of, 1, holder);
+    while (has_row(entries_of)) {
+        if (count == MAX_AUTHS * MAX_ENTRIES)
+            fail("too many entries");
+        if (!take_entry(entries_of, &claim)) {
+            if (!has_row(claims_of))
+                fail("an entry of no claim");
+            claim = claim_in(claims_of);
+            if (!take_entry(entries_of, &claim))
+                fail("a claim without an entry");
+        }
+        entries[count++] = claim;
+    }
+    if (has_row(claims_of))
+        fail("a claim without an entry");
+    return count;
+}
+
+/* Runs do not overlap, so an address is in the last run that begins at or before it, if in any. */
+int is_held(const char *holder, int family, address first, address last)
+{
+    bind_number(run_at, 1, family);
+    bind_address(run_at, 2, first);
+    int found = has_row(run_at) && last <= address_in(run_at, 0) &&
+                !strcmp((const char *)sqlite3_column_text(run_at, 1), holder);
+    sqlite3_reset(run_at);
+    return found;
+}
+
+int has_same(const char *holder, const struct auth *auth)
+{
+    bind_number(same_entry, 1, auth->asn);
+    bind_prefix(same_entry, 2, &auth->prefix);
+    bind_number(same_entry, 5, auth->max);
+    bind_text(same_entry, 6, holder);
+    return has_any(same_entry);
+}
+
+uint32_t made_at(const char *holder)
+{
+    uint32_t made = 0;
+    bind_text(counters_of, 1, holder);
+    while (has_row(counters_of))
+        made = sqlite3_column_int64(counters_of, 1);
+    return made;
+}
+
+int is_full(const char *holder)
+{
+    bind_text(last_that_may_be, 1, holder);
+    bind_number(last_that_may_be, 2, MAX_AUTHS - 1);
+    return has_any(last_that_may_be);
 }
 
 int is_overlapped(int family, address first, address last)
@@ -275,11 +400,9 @@ int has_exceptions(void)
     return has_any(exceptions);
 }
 
-void begin_change(const char *holder)
+void begin_change(void)
 {
     execute(begin);
-    bind_text(counters_of, 1, holder);
-    execute(counters_of);
 }
 
 void commit_change(void)

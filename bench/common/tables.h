@@ -4,8 +4,9 @@
 
 #include <stdint.h>
 
-/* The most grants and authorizations that a holder may have, and the most runs that are taken here. */
-enum { NAME_SIZE = 33, MAX_RUNS = 64, MAX_GRANTS = 64, MAX_AUTHS = 1000 };
+/* The most grants and authorizations that a holder may have, the most entries of an authorization, and the most runs
+ * that are taken here. */
+enum { NAME_SIZE = 33, MAX_RUNS = 64, MAX_GRANTS = 64, MAX_AUTHS = 1000, MAX_ENTRIES = 64 };
 
 typedef unsigned __int128 address;
 
@@ -30,6 +31,7 @@ struct grant {
     int64_t until;
 };
 
+/* An authorization with one of its entries. */
 struct auth {
     uint32_t number, asn;
     struct prefix prefix;
@@ -59,7 +61,29 @@ _Noreturn void fail(const char *what);
 void open_database(const char *path, const char *statements);
 void close_database(void);
 
+/* All rows of a holder, of whose authorizations each has one entry. */
 void load(const char *holder, struct rows *rows);
+
+/* The scopes of the grants at a holder that a caller has on a day, of this role or a lower number; how many. */
+unsigned find_scopes(const char *holder, const char *caller, enum role most, int64_t day, struct prefix *scopes);
+
+/* The entries of the authorization of a number, in the order of prefixes; how many, 0 where there is none. */
+unsigned find_auth(const char *holder, uint32_t number, struct auth *entries);
+
+/* The same of all authorizations of a holder, by rising number. */
+unsigned find_auths(const char *holder, struct auth *entries);
+
+/* Whether the holder has each address from the first to the last one. */
+int is_held(const char *holder, int family, address first, address last);
+
+/* Whether an authorization of the holder has this AS and this entry. */
+int has_same(const char *holder, const struct auth *auth);
+
+/* How many authorizations were made at the holder; 0 also where it is not registered. */
+uint32_t made_at(const char *holder);
+
+/* Whether the holder has as many authorizations as it may. */
+int is_full(const char *holder);
 
 /* Whether an address from the first to the last one is held. */
 int is_overlapped(int family, address first, address last);
@@ -71,8 +95,7 @@ int next_vrp(struct vrp *vrp);
 /* Whether there are SLURM exceptions. */
 int has_exceptions(void);
 
-/* Each change of the store looks first whether the holder is registered. */
-void begin_change(const char *holder);
+void begin_change(void);
 void commit_change(void);
 
 void put_holder(const char *holder);
@@ -82,6 +105,7 @@ void put_run(const char *holder, const struct run *run);
 void put_grant(const char *holder, const struct grant *grant);
 void put_auth(const char *holder, const struct auth *auth);
 
+/* With its entries. */
 void take_auth(const char *holder, uint32_t number);
 
 #endif

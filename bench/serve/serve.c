@@ -20,7 +20,7 @@
 #include "texts.h"
 #include "times.h"
 
-enum { HEAD_MOST = 8192, BODY_MOST = 1 << 20, ANSWER_HEAD = 256, ANSWER_ROOM = 1 << 24 };
+enum { HEAD_MOST = 8192, BODY_MOST = 1 << 20, ANSWER_HEAD = 256, ANSWER_ROOM = 1 << 26 };
 enum { MOST_MADE = 999999, MOST_ROUTES = 10000 };
 
 static const int64_t TIME_LIMIT = 30000000000;
@@ -254,65 +254,55 @@ static int contains(const struct prefix *scope, const struct prefix *prefix)
            last_of(prefix) <= last_of(scope);
 }
 
-/* Whether the caller has a current grant of the role or a lower number; where a prefix is given, one
- * whose scope contains it. */
-static int is_granted(const struct rows *rows, const char *caller, enum role most, const struct prefix *within)
+/* The scopes of a caller's current grants of the roles that a request allows. */
+struct scopes {
+    unsigned count;
+    struct prefix scopes[MAX_GRANTS];
+};
+
+static void find_current(const char *holder, const char *caller, enum role most, struct scopes *scopes)
 {
-    for (unsigned i = 0; i < rows->grants_count; i++) {
-        const struct grant *grant = &rows->grants[i];
-        int is_current = !strcmp(grant->caller, caller) && grant->role <= most && today <= grant->until;
-        if (is_current && (!within || !grant->scope.family || contains(&grant->scope, within)))
+    scopes->count = find_scopes(holder, caller, most, today, scopes->scopes);
+}
+
+static int is_permitted(const struct scopes *scopes, const struct prefix *prefix)
+{
+    for (unsigned i = 0; i < scopes->count; i++)
+        if (!scopes->scopes[i].family || contains(&scopes->scopes[i], prefix))
             return 1;
-    }
     return 0;
 }
 
-static int is_held(const struct rows *rows, const struct prefix *prefix)
+static int are_permitted(const struct scopes *scopes, const struct auth *entries, unsigned count)
 {
-    for (unsigned i = 0; i < rows->runs_count; i++) {
-        const struct run *run = &rows->runs[i];
-        if (run->family == prefix->family && run->first <= prefix->first && last_of(prefix) <= run->last)
-            return 1;
-    }
-    return 0;
+    for (unsigned i = 0; i < count; i++)
+        if (!is_permitted(scopes, &entries[i].prefix))
+            return 0;
+    return 1;
 }
 
-static int has_same(const struct rows *rows, const struct auth *other)
+/* The first rule of `create` that does not hold, or none; then the authorization has its number. The tables are asked
+ * for what a rule needs when its turn has come. */
+static const char *denial_of_create(const char *holder, const char *caller, struct auth *auth)
 {
-    for (unsigned i = 0; i < rows->auths_count; i++) {
-        const struct auth *auth = &rows->auths[i];
-        if (auth->asn == other->asn && auth->max == other->max && auth->prefix.family == other->prefix.family &&
-            auth->prefix.first == other->prefix.first && auth->prefix.length == other->prefix.length)
-            return 1;
-    }
-    return 0;
-}
-
-/* The first rule of `create` that does not hold, or none. */
-static const char *denial_of_create(const struct rows *rows, const char *caller, const struct auth *auth)
-{
-    if (!is_granted(rows, caller, CLERK, NULL))
+    struct scopes scopes;
+    find_current(holder, caller, CLERK, &scopes);
+    if (!scopes.count)
         return "grant";
-    if (!is_granted(rows, caller, CLERK, &auth->prefix))
+    if (!is_permitted(&scopes, &auth->prefix))
         return "scope";
     if (auth->ends < auth->opens || auth->ends < today)
         return "dates";
     if (auth->max < auth->prefix.length || auth->max > width_of(auth->prefix.family))
         return "length";
-    if (!is_held(rows, &auth->prefix))
+    if (!is_held(holder, auth->prefix.family, auth->prefix.first, last_of(&auth->prefix)))
         return "held";
-    if (has_same(rows, auth))
+    if (has_same(holder, auth))
         return "same";
-    if (rows->auths_count >= MAX_AUTHS || rows->created >= MOST_MADE)
+    uint32_t made = made_at(holder);
+    if (made >= MOST_MADE || (made >= MAX_AUTHS && is_full(holder)))
         return "room";
-    return NULL;
-}
-
-static const struct auth *find_auth(const struct rows *rows, uint32_t number)
-{
-    for (unsigned i = 0; i < rows->auths_count; i++)
-        if (rows->auths[i].number == number)
-            return &rows->auths[i];
+    auth->number = made + 1;
     return NULL;
 }
 
@@ -337,71 +327,123 @@ static void deny(struct reply *reply, const char *rule)
     put(&reply->body, "\"}\n");
 }
 
-static void put_shown(struct text *body, const struct auth *auth)
+static void put_entry(struct text *body, const struct auth *entry)
 {
-    put(body, "{\"shown\":{\"number\":");
-    put_number(body, auth->number);
-    put(body, ",\"asn\":");
-    put_number(body, auth->asn);
-    put(body, ",\"prefix\":\"");
-    put_prefix(body, &auth->prefix);
+    put(body, "\"prefix\":\"");
+    put_prefix(body, &entry->prefix);
     put(body, "\",\"max\":");
-    put_number(body, auth->max);
-    put(body, ",\"from\":\"");
-    put_day(body, auth->opens);
-    put(body, "\",\"until\":\"");
-    put_day(body, auth->ends);
-    put(body, "\"}}\n");
+    put_number(body, entry->max);
 }
 
-/* The authorization of this number; none, and the reply says why, where the caller has no such access to it. */
-static const struct auth *find_accessible(const struct rows *rows, const char *caller, enum role most,
-                                          uint32_t number, struct reply *reply)
+static void put_entries(struct text *body, const struct auth *entries, unsigned count)
 {
-    const struct auth *auth = find_auth(rows, number);
-    if (!is_granted(rows, caller, most, NULL))
-        deny(reply, "grant");
-    else if (!auth || !is_granted(rows, caller, most, &auth->prefix))
-        deny(reply, "number");
+    for (unsigned i = 0; i < count; i++) {
+        put(body, i ? ",{" : "\"entries\":[{");
+        put_entry(body, &entries[i]);
+        put(body, "}");
+    }
+    put(body, "]");
+}
+
+static void put_authorization(struct text *body, const struct auth *entries, unsigned count)
+{
+    put(body, "{\"number\":");
+    put_number(body, entries->number);
+    put(body, ",\"asn\":");
+    put_number(body, entries->asn);
+    put(body, ",");
+    if (count == 1)
+        put_entry(body, entries);
     else
-        return auth;
-    return NULL;
+        put_entries(body, entries, count);
+    put(body, ",\"from\":\"");
+    put_day(body, entries->opens);
+    put(body, "\",\"until\":\"");
+    put_day(body, entries->ends);
+    put(body, "\"}");
+}
+
+/* The entries of the authorization of this number; 0, and the reply says why, where the caller has no such access to
+ * it. */
+static unsigned find_accessible(const char *holder, const char *caller, enum role most, uint32_t number,
+                                struct auth *entries, struct reply *reply)
+{
+    struct scopes scopes;
+    find_current(holder, caller, most, &scopes);
+    if (!scopes.count) {
+        deny(reply, "grant");
+        return 0;
+    }
+    unsigned count = find_auth(holder, number, entries);
+    if (count && are_permitted(&scopes, entries, count))
+        return count;
+    deny(reply, "number");
+    return 0;
 }
 
 static void show(const char *holder, const char *caller, uint32_t number, struct reply *reply)
 {
-    static struct rows rows;
-    load(holder, &rows);
-    const struct auth *auth = find_accessible(&rows, caller, AUDITOR, number, reply);
-    if (auth)
-        put_shown(&reply->body, auth);
+    struct auth entries[MAX_ENTRIES];
+    unsigned count = find_accessible(holder, caller, AUDITOR, number, entries, reply);
+    if (!count)
+        return;
+    put(&reply->body, "{\"shown\":");
+    put_authorization(&reply->body, entries, count);
+    put(&reply->body, "}\n");
+}
+
+/* How many of the entries are of the first one's authorization. */
+static unsigned entries_of_first(const struct auth *entries, unsigned most)
+{
+    unsigned count = 1;
+    while (count < most && entries[count].number == entries->number)
+        count++;
+    return count;
+}
+
+static void list(const char *holder, const char *caller, struct reply *reply)
+{
+    static struct auth entries[MAX_AUTHS * MAX_ENTRIES];
+    struct scopes scopes;
+    find_current(holder, caller, AUDITOR, &scopes);
+    if (!scopes.count) {
+        deny(reply, "grant");
+        return;
+    }
+    unsigned count = find_auths(holder, entries), size, listed = 0;
+    put(&reply->body, "{\"listed\":[");
+    for (unsigned at = 0; at < count; at += size) {
+        size = entries_of_first(entries + at, count - at);
+        if (!are_permitted(&scopes, entries + at, size))
+            continue;
+        put(&reply->body, listed++ ? "," : "");
+        put_authorization(&reply->body, entries + at, size);
+    }
+    put(&reply->body, "]}\n");
 }
 
 static void withdraw(const char *holder, const char *caller, uint32_t number, struct reply *reply)
 {
-    static struct rows rows;
-    load(holder, &rows);
-    const struct auth *auth = find_accessible(&rows, caller, CLERK, number, reply);
-    if (!auth)
+    struct auth entries[MAX_ENTRIES];
+    unsigned count = find_accessible(holder, caller, CLERK, number, entries, reply);
+    if (!count)
         return;
-    begin_change(holder);
+    begin_change();
     take_auth(holder, number);
     commit_change();
-    follow_taken(auth);
+    for (unsigned i = 0; i < count; i++)
+        follow_taken(&entries[i]);
     put(&reply->body, "{\"done\":null}\n");
 }
 
 static void create(const char *holder, const char *caller, struct auth *auth, struct reply *reply)
 {
-    static struct rows rows;
-    load(holder, &rows);
-    const char *rule = denial_of_create(&rows, caller, auth);
+    const char *rule = denial_of_create(holder, caller, auth);
     if (rule) {
         deny(reply, rule);
         return;
     }
-    auth->number = rows.created + 1;
-    begin_change(holder);
+    begin_change();
     put_auth(holder, auth);
     commit_change();
     follow_made(auth);
@@ -449,6 +491,11 @@ static void judge(char *body, struct reply *reply)
     put(&reply->body, "]}\n");
 }
 
+static int read_auth_number(const char *text, uint64_t *number)
+{
+    return read_number(text, MOST_MADE, number) && *number;
+}
+
 static int is_name(const char *text)
 {
     size_t length = strspn(text, "abcdefghijklmnopqrstuvwxyz0123456789-");
@@ -478,15 +525,17 @@ static void answer(const struct request *request, struct reply *reply)
         list_payloads(reply);
     else if (count == 2 && is_post && !strcmp(parts[1], "validity"))
         judge(request->body, reply);
-    else if (!is_auths || !((count == 4 && is_post) || (count == 5 && (is_get || is_delete))))
+    else if (!is_auths || !((count == 4 && (is_post || is_get)) || (count == 5 && (is_get || is_delete))))
         refuse(reply, "404 Not Found", "404");
     else if (!is_name(parts[HOLDER]) || !is_name(request->caller))
         refuse(reply, "400 Bad Request", "400");
     else if (is_post && read_auth(request->body, &auth))
         create(parts[HOLDER], request->caller, &auth, reply);
-    else if (is_get && read_number(parts[NUMBER], MOST_MADE, &number))
+    else if (is_get && count == 4)
+        list(parts[HOLDER], request->caller, reply);
+    else if (is_get && read_auth_number(parts[NUMBER], &number))
         show(parts[HOLDER], request->caller, number, reply);
-    else if (is_delete && read_number(parts[NUMBER], MOST_MADE, &number))
+    else if (is_delete && read_auth_number(parts[NUMBER], &number))
         withdraw(parts[HOLDER], request->caller, number, reply);
     else
         refuse(reply, "400 Bad Request", "400");

@@ -28,19 +28,26 @@ static address address_of(unsigned holder, unsigned at)
     return (10u << 24) + holder * 8192 + at;
 }
 
+/* Each change of the store looks first whether the holder is registered. */
+static void begin_change_of(unsigned holder)
+{
+    begin_change();
+    made_at(name_of(holder));
+}
+
 static void create(unsigned holder, unsigned number)
 {
     struct auth auth = {.number = number, .asn = number, .max = 28, .ends = 30000};
     auth.prefix = (struct prefix){.family = 4, .length = 28, .first = address_of(holder, number * 16)};
     auth.opens = 20000 + number % 4 * 100;
-    begin_change(name_of(holder));
+    begin_change_of(holder);
     put_auth(name_of(holder), &auth);
     commit_change();
 }
 
 static void withdraw(unsigned holder, unsigned number)
 {
-    begin_change(name_of(holder));
+    begin_change_of(holder);
     take_auth(name_of(holder), number);
     commit_change();
 }
