@@ -1,6 +1,7 @@
 /* Asks a server of a desk the same over and over, one connection for each request:
  *
  *     client PORT OPERATION HOLDERS AUTHORIZATIONS COUNT [SERVER]
+ *     client PORT start HOLDERS AUTHORIZATIONS COMMAND...
  *
  * The desk is that of desk.awk, with so many holders and authorizations of each. Before an operation, except for
  * those called first, the payloads are asked for once, so that the server has kept the day. A line is printed: the
@@ -8,31 +9,39 @@
  * and their mean, in nanoseconds, and a sum over all bytes of all responses. A response with an unexpected status
  * ends the client with 1. With SERVER, the process that answers, the mean of its processor time follows; then one
  * more request is made, before which the server does not end, so that its end is not in that time.
+ *
+ * The second form starts the server by its COMMAND, the path of a program and its words. The times are those from then
+ * to the end of the response of a show, and the processor time is that of the whole process.
  */
 #include <arpa/inet.h>
 #include <err.h>
 #include <errno.h>
+#include <signal.h>
 #include <stdio.h>
 #include <stdlib.h>
 #include <string.h>
+#include <sys/resource.h>
 #include <sys/socket.h>
+#include <sys/wait.h>
 #include <unistd.h>
 
 #include "times.h"
 
-enum { REQUEST_SIZE = 1024, BODY_SIZE = 256, PREFIX_SIZE = 64, RESPONSE_MOST = 1 << 24 };
-enum { COUNT_MOST = 10000, TRIES = 3000 };
+enum { REQUEST_SIZE = 1024, BODY_SIZE = 256, PREFIX_SIZE = 64, RESPONSE_MOST = 1 << 26 };
+enum { COUNT_MOST = 10000, TRY_AGAIN_AFTER = 100 };
 
-static const int64_t TRY_AGAIN_AFTER = 10000;
+static const int64_t TIME_TO_LISTEN = 600000000000;
+static const uint64_t NO_SUM = 14695981039346656037u;
 
 static unsigned holders, auths;
 
 /* The prefix of the authorization of this number of a holder, as desk.awk has it, or one that it contains. */
 static void put_prefix(char *prefix, unsigned holder, unsigned number, int is_longer)
 {
-    unsigned at = holder * 512 + number % 512;
+    unsigned first = (240u << 24) + holder * 8192 + number % 512 * 16;
     if (number % 5)
-        snprintf(prefix, PREFIX_SIZE, "10.%u.%u.%u/%u", at >> 12, at >> 4 & 255, at % 16 * 16, is_longer ? 30 : 28);
+        snprintf(prefix, PREFIX_SIZE, "%u.%u.%u.%u/%u", first >> 24, first >> 16 & 255, first >> 8 & 255, first & 255,
+                 is_longer ? 30 : 28);
     else
         snprintf(prefix, PREFIX_SIZE, "2001:db8:%x:%x::/%u", holder + 1, number, is_longer ? 80 : 64);
 }
@@ -68,9 +77,22 @@ static void put_request(char *request, const char *method, const char *path, con
              method, path, length, body);
 }
 
-/* CREATE makes a new authorization, and SAME one that is there. VALIDITY asks about routes of all kinds,
- * VALIDITY_OF_MADE about that of what CREATE made, VALIDITY_OF_TAKEN about that of what WITHDRAW took away. */
-enum kind { NOTHING, SHOW, SAME, CREATE, WITHDRAW, PAYLOADS, VALIDITY, VALIDITY_OF_MADE, VALIDITY_OF_TAKEN };
+/* CREATE makes a new authorization. SAME and FULL are denied: one that is there, and a new one where a holder has as
+ * many as it may. VALIDITY asks about routes of all kinds, VALIDITY_OF_MADE about that of what CREATE made,
+ * VALIDITY_OF_TAKEN about that of what WITHDRAW took away. */
+enum kind {
+    NOTHING,
+    SHOW,
+    LIST,
+    SAME,
+    FULL,
+    CREATE,
+    WITHDRAW,
+    PAYLOADS,
+    VALIDITY,
+    VALIDITY_OF_MADE,
+    VALIDITY_OF_TAKEN,
+};
 
 struct operation {
     const char *name;
@@ -80,8 +102,11 @@ struct operation {
 
 static const struct operation operations[] = {
     {"show", 1, SHOW, NOTHING},
+    {"list", 1, LIST, NOTHING},
     {"denied", 1, SAME, NOTHING},
+    {"full", 1, FULL, NOTHING},
     {"create", 1, CREATE, NOTHING},
+    {"withdraw", 1, WITHDRAW, NOTHING},
     {"payloads", 1, PAYLOADS, NOTHING},
     {"validity", 1, VALIDITY, NOTHING},
     {"create-validity", 1, CREATE, VALIDITY_OF_MADE},
@@ -90,11 +115,12 @@ static const struct operation operations[] = {
     {"first-validity", 0, VALIDITY, NOTHING},
 };
 
-/* The request of a kind that comes after so many others. */
+/* The request of a kind that comes after so many others. Those to the same holder have numbers of their own, as long as
+ * there are some. */
 static void make_request(char *request, enum kind kind, unsigned at)
 {
     char path[64], body[BODY_SIZE] = "";
-    unsigned holder = at * 7919 % holders, number = at % auths + 1, made = auths + at + 1;
+    unsigned holder = at * 7919 % holders, number = (at % holders + at / holders) % auths + 1, made = auths + at + 1;
     snprintf(path, sizeof path, "/holders/h%u/auths", holder);
     switch (kind) {
     case NOTHING:
@@ -103,6 +129,9 @@ static void make_request(char *request, enum kind kind, unsigned at)
     case WITHDRAW:
         snprintf(path, sizeof path, "/holders/h%u/auths/%u", holder, number);
         put_request(request, kind == SHOW ? "GET" : "DELETE", path, body);
+        return;
+    case LIST:
+        put_request(request, "GET", path, body);
         return;
     case PAYLOADS:
         put_request(request, "GET", "/payloads", body);
@@ -117,8 +146,9 @@ static void make_request(char *request, enum kind kind, unsigned at)
         put_request(request, "POST", "/validity", body);
         return;
     case SAME:
+    case FULL:
     case CREATE:
-        put_auth(body, holder, kind == CREATE ? made : number);
+        put_auth(body, holder, kind == SAME ? number : made);
         put_request(request, "POST", path, body);
     }
 }
@@ -134,16 +164,24 @@ static int connected(const struct sockaddr_in *server)
     return -1;
 }
 
-/* The server may need some time to listen. */
-static int connected_at_last(const struct sockaddr_in *server)
+static int has_ended(pid_t child)
 {
-    for (int tries = 0; tries < TRIES; tries++) {
+    return child && waitpid(child, NULL, WNOHANG) == child;
+}
+
+/* The server may need some time to listen; it is the child, if there is one. */
+static int connected_at_last(const struct sockaddr_in *server, pid_t child)
+{
+    for (int64_t end = nanoseconds() + TIME_TO_LISTEN; nanoseconds() < end; usleep(TRY_AGAIN_AFTER)) {
         int stream = connected(server);
         if (stream >= 0)
             return stream;
-        usleep(TRY_AGAIN_AFTER);
+        if (has_ended(child))
+            errx(2, "the server has ended");
     }
-    err(2, "connect");
+    if (child)
+        kill(child, SIGTERM);
+    errx(2, "nothing listens");
 }
 
 /* A request that is made, and its response. */
@@ -176,7 +214,8 @@ static void prepare(struct exchange *exchange, enum kind kind, unsigned at)
 /* The sum (FNV-1a) of the bytes of a response and of what was summed before. */
 static uint64_t checked_sum(uint64_t sum, const struct exchange *exchange)
 {
-    const char *status = exchange->kind == SAME ? "HTTP/1.1 403 " : "HTTP/1.1 200 ";
+    int is_denied = exchange->kind == SAME || exchange->kind == FULL;
+    const char *status = is_denied ? "HTTP/1.1 403 " : "HTTP/1.1 200 ";
     if (exchange->length < strlen(status) || strncmp(exchange->response, status, strlen(status)))
         errx(1, "another status: %.*s", (int)exchange->length, exchange->response);
     for (size_t at = 0; at < exchange->length; at++)
@@ -216,9 +255,9 @@ static void measure(const struct sockaddr_in *server, const struct operation *op
 {
     static int64_t times[COUNT_MOST];
     static struct exchange first, second;
-    uint64_t sum = 14695981039346656037u;
+    uint64_t sum = NO_SUM;
     int64_t all = 0;
-    int stream = connected_at_last(server);
+    int stream = connected_at_last(server, 0);
     if (operation->keeps_first) {
         prepare(&first, PAYLOADS, 0);
         ask(stream, &first);
@@ -248,6 +287,41 @@ static void measure(const struct sockaddr_in *server, const struct operation *op
     puts("");
 }
 
+static long long nanoseconds_of(const struct timeval *time)
+{
+    return time->tv_sec * 1000000000LL + time->tv_usec * 1000LL;
+}
+
+static pid_t started(char **command)
+{
+    pid_t child = fork();
+    if (child < 0)
+        err(2, "fork");
+    if (child)
+        return child;
+    dup2(STDERR_FILENO, STDOUT_FILENO);
+    execvp(*command, command);
+    err(2, "%s", *command);
+}
+
+/* The command is a server, which ends after one connection. */
+static void measure_start(const struct sockaddr_in *server, char **command)
+{
+    static struct exchange first;
+    struct rusage usage;
+    int status;
+    prepare(&first, SHOW, 0);
+    int64_t start = nanoseconds();
+    pid_t child = started(command);
+    ask(connected_at_last(server, child), &first);
+    int64_t time = nanoseconds() - start;
+    uint64_t sum = checked_sum(NO_SUM, &first);
+    if (wait4(child, &status, 0, &usage) != child || status)
+        errx(2, "the server failed");
+    printf("%lld %lld %016llx %lld\n", (long long)time, (long long)time, (unsigned long long)sum,
+           nanoseconds_of(&usage.ru_utime) + nanoseconds_of(&usage.ru_stime));
+}
+
 static const struct operation *operation_of(const char *name)
 {
     for (size_t at = 0; at < sizeof operations / sizeof *operations; at++)
@@ -258,12 +332,16 @@ static const struct operation *operation_of(const char *name)
 
 int main(int count, char **words)
 {
-    if (count < 6 || count > 7 || atoi(words[5]) < 1 || atoi(words[5]) > COUNT_MOST)
+    int is_start = count > 5 && !strcmp(words[2], "start");
+    if (!is_start && (count < 6 || count > 7 || atoi(words[5]) < 1 || atoi(words[5]) > COUNT_MOST))
         errx(2, "PORT OPERATION HOLDERS AUTHORIZATIONS COUNT [SERVER]");
     struct sockaddr_in server = {.sin_family = AF_INET, .sin_port = htons(atoi(words[1]))};
     server.sin_addr.s_addr = htonl(INADDR_LOOPBACK);
     holders = atoi(words[3]);
     auths = atoi(words[4]);
-    measure(&server, operation_of(words[2]), atoi(words[5]), count == 7 ? atoi(words[6]) : 0);
+    if (is_start)
+        measure_start(&server, words + 5);
+    else
+        measure(&server, operation_of(words[2]), atoi(words[5]), count == 7 ? atoi(words[6]) : 0);
     return 0;
 }

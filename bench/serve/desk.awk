@@ -1,19 +1,20 @@
 # Prints, as SQL, the rows of a desk with so many holders and authorizations of each (-v holders=N -v auths=N).
 #
-# A holder has 8192 addresses of 10.0.0.0/8 and a /48 of 2001:db8::/32, and `ann` as its manager. Each fifth
-# authorization is of IPv6, and three of four are in force on 2026-03-01, which is day 20513.
+# A holder has 8192 addresses of 240.0.0.0/4, which is room for 32,768 holders, and a /48 of 2001:db8::/32, and `ann` as
+# its manager. After 512 authorizations their prefixes begin anew, each with another AS. Each fifth authorization is of
+# IPv6, and three of four are in force on 2026-03-01, which is day 20513.
 
 function blob_v4(address) { return sprintf("x'%032x'", address) }
 function blob_v6(holder, subnet, rest) { return sprintf("x'20010db8%04x%04x%s'", holder + 1, subnet, rest) }
 
 BEGIN {
-    first_v4 = 10 * 2 ^ 24
+    first_v4 = 240 * 2 ^ 24
     zeros = "0000000000000000"
     ones = "ffffffffffffffff"
     print "BEGIN;"
     print "INSERT INTO meta VALUES ('schema', 2);"
     print "INSERT INTO operator VALUES ('reg');"
-    printf "INSERT INTO pool VALUES (4, %s, 8);\n", blob_v4(first_v4)
+    printf "INSERT INTO pool VALUES (4, %s, 4);\n", blob_v4(first_v4)
     printf "INSERT INTO pool VALUES (6, %s, 32);\n", blob_v6(-1, 0, zeros)
     for (holder = 0; holder < holders; holder++)
         print_holder(holder, "'h" holder "'", first_v4 + holder * 8192)
@@ -37,6 +38,6 @@ function print_authorization(name, number, asn, prefix) {
 
 function prefix_and_max(holder, number, first) {
     if (number % 5)
-        return "4, " blob_v4(first + number * 16) ", 28, 28"
+        return "4, " blob_v4(first + number % 512 * 16) ", 28, 28"
     return "6, " blob_v6(holder, number, zeros) ", 64, 64"
 }

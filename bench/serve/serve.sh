@@ -5,10 +5,11 @@
 #
 # Needs gcc, libsqlite3 with its header, sqlite3, awk and shuf; with strace the calls that sync are counted too.
 # The program has to be built first, by ./roadesk build at the top; PROGRAM may name another. Files go to a
-# temporary folder, or stay in BENCH_WORK. A SIZE is as '200 500', the holders and the authorizations of each. The two
-# servers run in turn, each first in every other run, and of the medians of an operation the least counts, as do the
-# least processor time of the server and the least peak of memory. Ends with 1 where they answer otherwise than each
-# other or leave other rows, with 2 where something could not be run.
+# temporary folder, or stay in BENCH_WORK. A SIZE is as '200 500', the holders, at most 32768, and the authorizations of
+# each, at most 1000; the greatest, '25000 40', takes 0.5 GB of files. The two servers run in turn, each first in every
+# other run, and of the medians of an operation the least counts, as do the least processor time of the server and the
+# least peak of memory. Ends with 1 where they answer otherwise than each other or leave other rows, with 2 where
+# something could not be run.
 set -u
 . "$(dirname "${BASH_SOURCE[0]}")/../common/work.sh"
 program=${PROGRAM:-$top/crates/cli/out/cli}
@@ -19,7 +20,7 @@ if [ "${1:-}" = --only-c ]; then
 fi
 runs=${1:-5}
 sizes=("${@:2}")
-[ ${#sizes[@]} != 0 ] || sizes=('10 100' '100 100' '200 5' '200 50' '200 500')
+[ ${#sizes[@]} != 0 ] || sizes=('200 5' '200 50' '200 500' '1 1000' '10000 1' '25000 4' '25000 40')
 
 [ "$servers" = C ] || [ -x "$program" ] || fail "the program is not built: run ./roadesk build first"
 gcc -O2 -Wall -I "$common" -o "$work/serve" "$here"/{serve,texts,kept}.c "$common/tables.c" -lsqlite3 ||
@@ -45,15 +46,24 @@ make_desk() {
 
 declare -A programs=([roadesk]=$program [C]=$work/serve) first_words=([roadesk]=serve [C]=)
 
-# start COUNT COMMAND...: starts the server on a copy of desk.db; `port` and `server` are its port and process.
-start() {
-    local count=$1
-    shift
+# place COUNT: a copy of desk.db, and the `words` of a server of it for so many connections at `port`.
+place() {
     port=$(free_port) || return 2
     rm -f "$work"/served.db*
     cp "$work/desk.db" "$work/served.db" && sync "$work/served.db" || return 2
-    "$@" --db "$work/served.db" --listen "127.0.0.1:$port" --count "$count" --day 2026-03-01 >&2 &
+    words=(--db "$work/served.db" --listen "127.0.0.1:$port" --count "$1" --day 2026-03-01)
+}
+
+# start COUNT COMMAND...: starts the server on a copy of desk.db; `port` and `server` are its port and process.
+start() {
+    local words
+    place "$1" || return 2
+    "${@:2}" "${words[@]}" >&2 &
     server=$!
+}
+
+sum_of_rows() {
+    sqlite3 "$work/served.db" .dump | cksum | tr ' ' -
 }
 
 # connections OPERATION COUNT: how many the client makes, with the one after the time of the server is taken.
@@ -76,15 +86,24 @@ ask() {
         return 2
     fi
     wait "$server" || return 2
-    echo "$line $(sqlite3 "$work/served.db" .dump | cksum | tr ' ' -)"
+    echo "$line $(sum_of_rows)"
+}
+
+# ask_at_start OPERATION HOLDERS AUTHORIZATIONS COUNT COMMAND...: the same, where the client starts the server.
+ask_at_start() {
+    local port words line
+    place 1 || return 2
+    line=$("$work/client" "$port" "$1" "$2" "$3" "${@:5}" "${words[@]}") || return 2
+    echo "$line $(sum_of_rows)"
 }
 
 # A line an operation: server, holders, authorizations, operation, median and mean in nanoseconds, the sum of the
 # responses, the processor time of the server in nanoseconds, and the sum of the rows.
 measure() {
-    local size=$1 operation=$2 count=$3 server line
+    local size=$1 operation=$2 count=$3 ask=ask server line
+    [ "$operation" != start ] || ask=ask_at_start
     for server in $turn; do
-        line=$(ask "$operation" $size "$count" "${programs[$server]}" ${first_words[$server]}) ||
+        line=$("$ask" "$operation" $size "$count" "${programs[$server]}" ${first_words[$server]}) ||
             fail "$server failed: $operation"
         echo "$server $size $operation $line" >>"$work/serve.lines"
     done
@@ -137,25 +156,25 @@ turn=$servers
 for size in "${sizes[@]}"; do
     make_desk $size
     for _ in $(seq "$runs"); do
-        measure "$size" show 1000
+        for operation in show list denied validity; do
+            measure "$size" "$operation" 1000
+        done
+        # A holder of 1000 has no room for a create.
         case $size in
-        # What is answered from the day that is kept.
-        '200 '*)
-            measure "$size" validity 1000
-            measure "$size" create-validity 200
-            measure "$size" withdraw-validity 200
-            measure "$size" payloads 20
-            for _ in 1 2 3; do
-                measure "$size" first-payloads 1
-            done
-            measure_memory "$size"
-            ;;
+        *' 1000') measure "$size" full 200 ;;
         *)
-            measure "$size" denied 1000
             measure "$size" create 200
-            measure "$size" payloads 50
+            measure "$size" create-validity 200
             ;;
         esac
+        measure "$size" withdraw 200
+        measure "$size" withdraw-validity 200
+        measure "$size" payloads 20
+        for _ in 1 2 3; do
+            measure "$size" first-payloads 1
+            measure "$size" start 1
+        done
+        measure_memory "$size"
         turn=$(tr ' ' '\n' <<<"$turn" | tac | xargs)
     done
 done
@@ -170,7 +189,7 @@ awk -v servers="$servers" '
     # One row over another one, of each server.
     function print_quotient(row, other,   one) {
         if (!(row in first) || !(other in first)) return
-        printf "%-28s  over %-28s", row, other
+        printf "%-30s  over %-30s", row, other
         for (one = 1; one <= count; one++)
             printf "  %s %.2f busy %.2f", server[one], median[row " " server[one]] / median[other " " server[one]],
                 busy[row " " server[one]] / busy[other " " server[one]]
@@ -178,11 +197,11 @@ awk -v servers="$servers" '
     }
     END {
         count = split(servers, server, " ")
-        printf "%-28s", "rows, operation"
+        printf "%-30s", "rows, operation"
         for (one = 1; one <= count; one++) printf "  %11s  %10s  %11s", server[one], "a second", "busy"
         print (count == 2 ? "   ratio    busy" : "")
         for (at = 1; at <= rows; at++) {
-            printf "%-28s", order[at]
+            printf "%-30s", order[at]
             for (one = 1; one <= count; one++) {
                 key = order[at] " " server[one]
                 printf "  %8.1f us  %10d  %8.1f us", median[key] / 1000, 1e9 / mean[key], busy[key] / 1000
@@ -195,6 +214,9 @@ awk -v servers="$servers" '
         print_quotient("200 of 50 validity", "200 of 50 show")
         print_quotient("200 of 500 validity", "200 of 500 show")
         print_quotient("200 of 500 create-validity", "200 of 5 create-validity")
+        print_quotient("25000 of 40 show", "25000 of 4 show")
+        print_quotient("25000 of 40 validity", "25000 of 4 validity")
+        print_quotient("25000 of 40 create-validity", "25000 of 4 create-validity")
         exit differ
     }' "$work/serve.lines"
 same=$?
@@ -205,12 +227,12 @@ awk -v servers="$servers" '
     !(key in kept) || $7 < kept[key] { opened[key] = $5; kept[key] = $7; written[key] = $9; grown[key] = $8 - $6 }
     END {
         count = split(servers, server, " ")
-        printf "%-28s  %8s  %28s  %21s\n", "rows", "server", "peak opened, kept, written", "bytes a VRP: peak, now"
+        printf "%-30s  %8s  %28s  %21s\n", "rows", "server", "peak opened, kept, written", "bytes a VRP: peak, now"
         for (at = 1; at <= rows; at++)
             for (one = 1; one <= count; one++) {
                 row = order[at]
                 key = row " " server[one]
-                printf "%-28s  %8s  %7d %7d %7d kB  %11.0f %10.0f\n", row, server[one], opened[key], kept[key],
+                printf "%-30s  %8s  %7d %7d %7d kB  %11.0f %10.0f\n", row, server[one], opened[key], kept[key],
                     written[key], (kept[key] - opened[key]) * 1024 / vrps[row], grown[key] * 1024 / vrps[row]
             }
     }' "$work/memory.lines"
