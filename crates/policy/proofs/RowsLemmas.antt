@@ -1,7 +1,7 @@
 -- What the given rows say of the holder.
-use Rattle.std.proofs.Common.{◌≡◌, ℕ, Bool, true, false, List, [], Option, Some, None, refl, sym, ap, ◌∙◌, subst, Bor, option_copied, is_some, IsSomeAnd}
+use Rattle.std.proofs.Common.{◌≡◌, ℕ, Bool, true, false, List, [], Option, Some, None, refl, sym, ap, ◌∙◌, subst, Bor, option_copied, is_some, IsSomeAnd, inl, inr}
 use Rattle.std.specs.List.{list_any}
-use Rattle.std.proofs.lemmas.Bool.{false≢true}
+use Rattle.std.proofs.lemmas.Bool.{cases_Bool, false≢true}
 use Rattle.charters.specs.declared.charter.Charter.{Charter}
 use Rattle.registry.specs.declared.rows.HolderRows.{HolderRows}
 use Rattle.registry.specs.Answer.{AnswersNumber}
@@ -64,9 +64,10 @@ answers-unregistered charter history h n legal unregistered =
     record { grants = sym nothing.grants; auth = ([], subst (λ terms. Keeps (HeldSinceMade history h) terms []) (sym nothing.terms) tt, refl) }
 
 -- a holder with a grant is registered
-pub registered-by_grant : (charter : Charter) (history : History) (h : List ℕ) (rows : Option (Bor HolderRows)) (test : Granted → Bool)
-    → IsLegal charter history → RowsIfAny history h (rows_if_any (option_copied rows)) → list_any test (grant_terms history h) ≡ true
-    → is_registered history h ≡ true
-registered-by_grant charter history h None test legal are has =
-    absurd (false≢true (ap (list_any test) (sym (has_nothing charter history h legal are).grants) ∙ has))
-registered-by_grant charter history h (Some r) test legal are has = are.0
+pub registered-by_grant : (charter : Charter) (history : History) (h : List ℕ) (test : Granted → Bool)
+    → IsLegal charter history → list_any test (grant_terms history h) ≡ true → is_registered history h ≡ true
+registered-by_grant charter history h test legal has =
+    elim (cases_Bool (is_registered history h)) [
+      | inl registered ↦ registered
+      | inr unregistered ↦ absurd (false≢true (ap (list_any test) (sym (has_nothing charter history h legal unregistered).grants) ∙ has))
+    ]

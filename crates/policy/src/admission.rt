@@ -61,6 +61,22 @@ pub(crate) fn is_steward(
     charter.is_operator(caller) || has_access(grants_of(rows), day, caller, Access::Manage)
 }
 
+/// The rule where none of the grants gives the caller the access, whatever the scope.
+pub(crate) fn require_access(
+    grants: &[Granted],
+    day: Day,
+    caller: &Name,
+    access: Access,
+) -> Result<(), Rule>
+    ensures { (history : History) (h : List ℕ) → grants.now ≡ grant_terms history h
+        → MatchResult result
+        (λ _. has_access (grant_terms history h) day caller.now access ≡ true)
+        (λ rule. (has_access (grant_terms history h) day caller.now access ≡ false)
+        × (rule ≡ Rule.Grant)) }
+{
+    require(has_access(grants, day, caller, access), Rule::Grant)
+}
+
 /// The rows of a holder at which the caller has the access, whatever the scope.
 pub(crate) fn rows_with_access<'a>(
     rows: Option<&'a HolderRows>,
@@ -109,10 +125,21 @@ fn are_covered(holdings: &Holdings, entries: &[RoaPrefix]) -> bool
 }
 
 /// The authorization of the number.
-pub(crate) fn auth_of_number(auths: &[Auth], number: u32) -> Option<&Auth>
+fn auth_of_number(auths: &[Auth], number: u32) -> Option<&Auth>
     ensures { option_copied result ≡ auth_of_number number auths.now }
 {
     auths.iter().find(|auth| auth.number == number)
+}
+
+/// The grants of the rows, and their authorization of the number; none where there are no rows.
+pub(crate) fn numbered_of(rows: Option<&HolderRows>, number: u32) -> (&[Granted], Option<&Auth>)
+    ensures { (charter : CharterValue) → OfRows charter (rows_if_any (option_copied rows.entry))
+        (λ history h. AnswersNumber history h number result.0.now (option_copied result.1)) }
+{
+    match rows {
+        Some(rows) => (&rows.grants, auth_of_number(&rows.auths, number)),
+        None => (&[], None),
+    }
 }
 
 /// Whether the caller has the access to each prefix of the terms.

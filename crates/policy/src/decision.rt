@@ -20,11 +20,12 @@ mod import;
 mod terms;
 
 use crate::admission::{
-    are_dates, auth_with_access, has_grant, has_room_for_grant, holds, is_steward, registered,
-    require, rows_with_access, shares_with_other,
+    are_dates, auth_with_access, has_grant, has_room_for_grant, holds, is_steward, numbered_of,
+    registered, require, rows_with_access, shares_with_other,
 };
 use crate::creation::new_number;
-use crate::withdrawal::may_withdraw;
+use crate::part::change_of;
+use crate::withdrawal::withdraw_found;
 use crate::{
     Access, Auth, AuthTerms, Change, Charter, Command, Edit, HolderChange, HolderRows, Refusal,
     Rule, View,
@@ -48,20 +49,6 @@ struct Basis<'a> {
 struct Holder<'a> {
     name: &'a Name,
     rows: Option<&'a HolderRows>,
-}
-
-/// The change of one holder.
-fn change_of(holder: &Name, edit: Edit) -> Change
-    ensures { result
-        ≡ Change.Holders (record { holder = holder.now; edit = edit }) None }
-{
-    Change::Holders {
-        first: HolderChange {
-            holder: *holder,
-            edit,
-        },
-        second: None,
-    }
 }
 
 /// The holdings with the prefix.
@@ -304,8 +291,8 @@ fn decide_withdraw(basis: Basis<'_>, holder: Holder<'_>, number: u32) -> Result<
         (Command.Withdraw holder.entry.name.now number) result }
     ensures shape { IfOk result (HasEditsOf (Command.Withdraw holder.entry.name.now number)) }
 {
-    may_withdraw(holder.rows, basis.day, basis.caller, number)?;
-    Ok(change_of(holder.name, Edit::Withdraw(number)))
+    let (grants, found) = numbered_of(holder.rows, number);
+    withdraw_found(holder.name, grants, found, basis.day, basis.caller, number)
 }
 
 /// The rows of the giver and of the taker, where all rules of a transfer hold.

@@ -18,3 +18,4 @@ pub use registry::{
 };
 pub use sight::{see, see_all, see_found};
 pub use what_if::suppose;
+pub use withdrawal::withdraw_found;

@@ -1,9 +1,24 @@
-//! Refusals of requests of several parts.
+//! Changes of one holder, and refusals of requests of several parts.
 
-ghost use Rattle.std.specs.Prelude.{◌≡◌};
+ghost use Rattle.std.specs.Prelude.{◌≡◌, None};
 ghost use Rattle.policy.specs.steps.Part.{refusal_at};
 
-use crate::Refusal;
+use crate::{Change, Edit, HolderChange, Refusal};
+use addr::Name;
+
+/// The change of one holder.
+pub(crate) fn change_of(holder: &Name, edit: Edit) -> Change
+    ensures { result
+        ≡ Change.Holders (record { holder = holder.now; edit = edit }) None }
+{
+    Change::Holders {
+        first: HolderChange {
+            holder: *holder,
+            edit,
+        },
+        second: None,
+    }
+}
 
 /// The refusal of a request of several parts for the one in this place.
 pub(crate) fn refusal_at(refusal: Refusal, place: u64) -> Refusal

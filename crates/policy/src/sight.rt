@@ -9,11 +9,10 @@ ghost use Rattle.registry.specs.Verdict.{ShowVerdict};
 ghost use Rattle.registry.specs.Answer.{AnswersNumber, OfRows, IsShown, IsListed, IsListRefusal};
 
 use crate::admission::{
-    auth_of_number, found_with_access, is_permitted_terms, require, rows_with_access,
+    found_with_access, is_permitted_terms, numbered_of, require_access, rows_with_access,
 };
 use crate::{Access, Auth, Granted, HolderRows, Refusal, Rule};
 use addr::{Day, Name};
-use registry::has_access;
 use std::alloc::{AllocError, Global};
 
 /// Of the authorization of a number that was found at a holder with these grants: it, where the
@@ -31,7 +30,7 @@ pub fn see_found<'a>(
         (λ x. IsShown history h day caller.now number x.now)
         (λ rule. ShowVerdict history h day caller.now number (Some rule)) }
 {
-    require(has_access(grants, day, caller, Access::Look), Rule::Grant)?;
+    require_access(grants, day, caller, Access::Look)?;
     found_with_access(grants, found, day, caller, Access::Look)
 }
 
@@ -47,15 +46,8 @@ pub fn see<'a>(
         (λ x. IsShown history h day caller.now number x.now)
         (λ rule. ShowVerdict history h day caller.now number (Some rule))) }
 {
-    match rows {
-        Some(rows) => see_found(
-            &rows.grants,
-            auth_of_number(&rows.auths, number),
-            day,
-            caller,
-        ),
-        None => see_found(&[], None, day, caller),
-    }
+    let (grants, found) = numbered_of(rows, number);
+    see_found(grants, found, day, caller)
 }
 
 /// Puts a copy of the authorization after the others.

@@ -1,33 +1,60 @@
 //! Withdrawing an authorization.
 
-ghost use Rattle.std.specs.Prelude.{◌≡◌, Some, option_copied, MatchResult, IfOk};
+ghost use Rattle.std.specs.Prelude.{◌≡◌, ℕ, List, Some, option_copied, MatchResult, IfOk};
 ghost use Rattle.registry.specs.declared.change.Edit.{Edit};
 ghost use Rattle.charters.specs.declared.charter.Charter.{Charter as CharterValue};
 ghost use Rattle.registry.specs.declared.command.Command.{Command};
-ghost use Rattle.registry.specs.Rows.{rows_of, rows_if_any, edited};
-ghost use Rattle.registry.specs.Answer.{OfRows};
-ghost use Rattle.registry.specs.Verdict.{Verdict};
+ghost use Rattle.registry.specs.History.{History};
+ghost use Rattle.registry.specs.Rows.{rows_of, edited};
+ghost use Rattle.registry.specs.Answer.{AnswersNumber, IsAccepted, OfRows};
+ghost use Rattle.registry.specs.Edits.{HasEditsOf};
+ghost use Rattle.registry.specs.Verdict.{IsLegal, Verdict};
 ghost use Rattle.policy.specs.steps.Withdrawal.{IsWithdrawn};
 
-use crate::admission::{auth_with_access, rows_with_access};
-use crate::{Access, HolderRows, Rule};
+use crate::admission::{found_with_access, numbered_of, require_access};
+use crate::part::change_of;
+use crate::{Access, Auth, Change, Edit, Granted, HolderRows, Rule};
 use addr::{Day, Name};
 
 /// Whether all rules of a withdrawal hold; else the first that does not.
-pub(crate) fn may_withdraw(
-    rows: Option<&HolderRows>,
+fn may_withdraw(
+    grants: &[Granted],
+    found: Option<&Auth>,
+    day: Day,
+    caller: &Name,
+) -> Result<(), Rule>
+    ensures { (charter : CharterValue) (history : History) (h : List ℕ) (number : ℕ)
+        → IsLegal charter history
+        → AnswersNumber history h number grants.now (option_copied found.entry)
+        → MatchResult result
+        (λ _. IsWithdrawn charter history h day caller.now number)
+        (λ rule. Verdict charter history day caller.now (Command.Withdraw h number) (Some rule)) }
+{
+    require_access(grants, day, caller, Access::Alter)?;
+    found_with_access(grants, found, day, caller, Access::Alter)?;
+    Ok(())
+}
+
+/// What the withdrawal of a number does at a holder with these grants, where this authorization of
+/// the number was found; or the first rule of its line that does not hold. It takes no memory.
+pub fn withdraw_found(
+    holder: &Name,
+    grants: &[Granted],
+    found: Option<&Auth>,
     day: Day,
     caller: &Name,
     number: u32,
-) -> Result<(), Rule>
-    ensures { (charter : CharterValue) → OfRows charter (rows_if_any (option_copied rows.entry))
-        (λ history h. MatchResult result
-        (λ _. IsWithdrawn charter history h day caller.now number)
-        (λ rule. Verdict charter history day caller.now (Command.Withdraw h number) (Some rule))) }
+) -> Result<Change, Rule>
+    ensures answer { (charter : CharterValue) (history : History) → IsLegal charter history
+        → AnswersNumber history holder.now number grants.now (option_copied found.entry)
+        → MatchResult result
+        (IsAccepted charter history day caller.now (Command.Withdraw holder.now number))
+        (λ rule. Verdict charter history day caller.now
+        (Command.Withdraw holder.now number) (Some rule)) }
+    ensures shape { IfOk result (HasEditsOf (Command.Withdraw holder.now number)) }
 {
-    let rows = rows_with_access(rows, day, caller, Access::Alter)?;
-    auth_with_access(rows, day, caller, Access::Alter, number)?;
-    Ok(())
+    may_withdraw(grants, found, day, caller)?;
+    Ok(change_of(holder, Edit::Withdraw(number)))
 }
 
 /// Takes the authorization of the number from among the rows.
@@ -51,7 +78,8 @@ pub(crate) fn withdraw(
         (λ _. IsWithdrawn charter history h day caller.now number)
         (λ rule. Verdict charter history day caller.now (Command.Withdraw h number) (Some rule))) }
 {
-    may_withdraw(Some(rows), day, caller, number)?;
+    let (grants, found) = numbered_of(Some(rows), number);
+    may_withdraw(grants, found, day, caller)?;
     take_away(rows, number);
     Ok(())
 }

@@ -14,10 +14,10 @@ ghost use Rattle.registry.specs.Edits.{HasEditsOf, IsImportEdit};
 ghost use Rattle.policy.specs.steps.Import.{AnswersImport, IsRowDone};
 ghost use Rattle.policy.specs.steps.Part.{Judged};
 
-use super::{Basis, Holder, change_of};
+use super::{Basis, Holder};
 use crate::admission::is_present;
 use crate::creation::create;
-use crate::part::refusal_at;
+use crate::part::{change_of, refusal_at};
 use crate::{Auth, Change, Edit, HolderRows, ImportRow, Refusal, Rule};
 use addr::{Day, Name};
 use std::alloc::Global;

@@ -12,7 +12,7 @@ returns-clause-answer c history legal are =
     let a = c.args in
     let h = a.holder.name.now in
     let has = sym (c.has_grant.ensures a.basis.charter.now history h legal are) ∙ c.in_ok-require-2.ensures in
-    let registered = registered-by_grant a.basis.charter.now history h a.holder.rows (λ g. eqb g.number a.number) legal are has in
+    let registered = registered-by_grant a.basis.charter.now history h (λ g. eqb g.number a.number) legal has in
     subst (IsAccepted a.basis.charter.now history a.basis.day a.basis.caller.now (Revoke h a.number)) (sym c.change_of.ensures) (record {
       after = _;
       leaves = ((sym (c.is_steward.ensures history h legal are) ∙ c.in_ok-require.ensures, (has, tt)), refl);
