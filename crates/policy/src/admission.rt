@@ -7,7 +7,7 @@ ghost use Rattle.addr.specs.Spans.{span_covers};
 ghost use Rattle.charters.specs.declared.charter.Charter.{Charter as CharterValue};
 ghost use Rattle.registry.specs.History.{History, is_registered};
 ghost use Rattle.registry.specs.Resources.{HoldsPrefix};
-ghost use Rattle.registry.specs.Terms.{grant_terms, authorizations_made, HoldsEntries, OfActive, are_shared, gives_some, is_entry, row_terms, share_vrp};
+ghost use Rattle.registry.specs.Terms.{grant_terms, HoldsEntries, OfActive, are_shared, gives_some, is_entry, row_terms, share_vrp};
 ghost use Rattle.registry.specs.RoaPrefixes.{with_maxes};
 ghost use Rattle.registry.specs.declared.authorization.ImportRow.{ImportRow as ImportRowValue};
 ghost use Rattle.registry.specs.Import.{has_terms, IsPresent};
@@ -231,15 +231,15 @@ fn some_gives(auths: &[Auth], asn: Asn, entries: &[RoaPrefix]) -> bool
     auths.iter().any(|auth| auth.gives_some(asn, entries))
 }
 
-/// Whether no active authorization gives the AS of the terms with some entry of theirs.
-pub(crate) fn is_new(rows: &HolderRows, terms: &AuthTerms) -> bool
+/// Whether an active authorization gives the AS of the terms with some entry of theirs.
+pub(crate) fn gives_terms(rows: &HolderRows, terms: &AuthTerms) -> bool
     ensures { (history : History) (h : List ℕ) → RowsOf history h (rows_of rows.now)
-        → (IsTrue result
+        → ((result ≡ false)
         ↔ OfActive history h
         (λ active.
         list_any (λ y. gives_some y terms.now.asn terms.now.entries) active ≡ false)) }
 {
-    !some_gives(&rows.auths, terms.asn, terms.entries.as_slice())
+    some_gives(&rows.auths, terms.asn, terms.entries.as_slice())
 }
 
 /// Whether some authorization has the terms.
@@ -269,15 +269,13 @@ pub(crate) fn has_room_for_grant(rows: &HolderRows) -> bool
     rows.grants.len() < MOST_GRANTS && rows.granted < LAST_NUMBER
 }
 
-/// Whether another authorization may be made: neither too many are active, nor were too many made.
-pub(crate) fn has_room_for_authorization(rows: &HolderRows) -> bool
-    ensures counter { IsTrue result → rows.now.created < LAST_NUMBER }
-    ensures room { (history : History) (h : List ℕ) → RowsOf history h (rows_of rows.now)
-        → (IsTrue result
-        ↔ (OfActive history h (λ active. length active < MOST_AUTHORIZATIONS)
-        × (authorizations_made history h < LAST_NUMBER))) }
+/// Whether as many authorizations are active as may be.
+pub(crate) fn is_full(rows: &HolderRows) -> bool
+    ensures { (history : History) (h : List ℕ) → RowsOf history h (rows_of rows.now)
+        → ((result ≡ false)
+        ↔ OfActive history h (λ active. length active < MOST_AUTHORIZATIONS)) }
 {
-    rows.auths.len() < MOST_AUTHORIZATIONS && rows.created < LAST_NUMBER
+    rows.auths.len() >= MOST_AUTHORIZATIONS
 }
 
 /// Whether some entry has this prefix and maxLength.

@@ -1,47 +1,94 @@
 //! Creating an authorization.
 
-ghost use Rattle.std.specs.Prelude.{◌≡◌, Some, option_copied, MatchResult, IfOk, OnOk};
+ghost use Rattle.std.specs.Prelude.{◌≡◌, ℕ, ◌<◌, ◌↔◌, false, IsTrue, List, Some, MatchResult, IfOk, OnOk};
 ghost use Rattle.charters.specs.declared.charter.Charter.{Charter as CharterValue};
 ghost use Rattle.registry.specs.declared.change.Edit.{Edit};
 ghost use Rattle.registry.specs.declared.command.Command.{Command};
-ghost use Rattle.registry.specs.Rows.{rows_of, rows_if_any, edited};
-ghost use Rattle.registry.specs.Answer.{OfRows};
+ghost use Rattle.registry.specs.declared.limits.TheConstants.{LAST_NUMBER};
+ghost use Rattle.registry.specs.History.{History};
+ghost use Rattle.registry.specs.Rows.{rows_of, edited, RowsOf};
+ghost use Rattle.registry.specs.Answer.{AnswersCreate, IsAnswer, OfRows};
+ghost use Rattle.registry.specs.Edits.{HasEditsOf};
 ghost use Rattle.registry.specs.Terms.{numbered_terms};
-ghost use Rattle.registry.specs.Verdict.{Verdict};
+ghost use Rattle.registry.specs.Verdict.{IsLegal, Verdict};
 ghost use Rattle.policy.specs.steps.Creation.{IsCreated};
 ghost use Rattle.policy.specs.steps.Part.{Judged};
 
-use crate::admission::{
-    are_dates, has_room_for_authorization, holds_entries, is_new, require, rows_with_access,
+use crate::admission::{are_dates, gives_terms, holds_entries, is_full, require, require_access};
+use crate::part::change_of;
+use crate::{
+    Access, Auth, AuthTerms, Change, CreateAnswers, Edit, Granted, HolderRows, LAST_NUMBER,
+    Refusal, Rule,
 };
-use crate::{Access, Auth, AuthTerms, HolderRows, Refusal, Rule};
 use addr::{Day, Name};
 use registry::{are_permitted, fit_lengths};
 use std::alloc::AllocError;
 
+/// Whether another authorization may be made: neither are too many active, nor were too many made.
+fn has_room(answers: CreateAnswers) -> bool
+    ensures { IsTrue result ↔ ((answers.is_full ≡ false) × (answers.created < LAST_NUMBER)) }
+{
+    !answers.is_full && answers.created < LAST_NUMBER
+}
+
 /// The number of the authorization that a create of the terms makes, or the first rule of its line
 /// that does not hold.
-pub(crate) fn new_number(
-    rows: Option<&HolderRows>,
+fn new_number(
+    grants: &[Granted],
+    answers: CreateAnswers,
     day: Day,
     caller: &Name,
     terms: &AuthTerms,
 ) -> Result<u32, Rule>
-    ensures { (charter : CharterValue) → OfRows charter (rows_if_any (option_copied rows.entry))
-        (λ history h. MatchResult result
+    ensures { (charter : CharterValue) (history : History) (h : List ℕ) → IsLegal charter history
+        → AnswersCreate history h terms.now grants.now answers
+        → MatchResult result
         (λ n. IsCreated charter history h day caller.now terms.now (numbered_terms terms.now n))
-        (λ rule. Verdict charter history day caller.now (Command.Create h terms.now) (Some rule))) }
+        (λ rule. Verdict charter history day caller.now (Command.Create h terms.now) (Some rule)) }
 {
-    let rows = rows_with_access(rows, day, caller, Access::Alter)?;
+    require_access(grants, day, caller, Access::Alter)?;
     let entries = terms.entries.as_slice();
-    let permitted = are_permitted(&rows.grants, day, caller, Access::Alter, entries);
+    let permitted = are_permitted(grants, day, caller, Access::Alter, entries);
     require(permitted, Rule::Scope)?;
     require(are_dates(day, terms.from, terms.until), Rule::Dates)?;
     require(fit_lengths(entries), Rule::Length)?;
-    require(holds_entries(rows, entries), Rule::Held)?;
-    require(is_new(rows, terms), Rule::Same)?;
-    require(has_room_for_authorization(rows), Rule::Room)?;
-    Ok(rows.created + 1)
+    require(answers.holds, Rule::Held)?;
+    require(!answers.gives, Rule::Same)?;
+    require(has_room(answers), Rule::Room)?;
+    Ok(answers.created + 1)
+}
+
+/// What a create of the terms does at a holder with these grants, of which these are the answers;
+/// or the first rule of its line that does not hold.
+pub fn create_answered(
+    holder: &Name,
+    grants: &[Granted],
+    answers: CreateAnswers,
+    day: Day,
+    caller: &Name,
+    terms: &AuthTerms,
+) -> Result<Change, Refusal>
+    ensures answer { (charter : CharterValue) (history : History) → IsLegal charter history
+        → AnswersCreate history holder.now terms.now grants.now answers
+        → IsAnswer charter history day caller.now (Command.Create holder.now terms.now) result }
+    ensures shape { IfOk result (HasEditsOf (Command.Create holder.now terms.now)) }
+{
+    let number = new_number(grants, answers, day, caller, terms)?;
+    let auth = terms.numbered(number)?;
+    Ok(change_of(holder, Edit::Create(auth)))
+}
+
+/// What a create of the terms is judged on beside the grants, of these rows.
+pub(crate) fn answers_of(rows: &HolderRows, terms: &AuthTerms) -> CreateAnswers
+    ensures { (history : History) (h : List ℕ) → RowsOf history h (rows_of rows.now)
+        → AnswersCreate history h terms.now rows.now.grants.items result }
+{
+    CreateAnswers {
+        created: rows.created,
+        holds: holds_entries(rows, terms.entries.as_slice()),
+        gives: gives_terms(rows, terms),
+        is_full: is_full(rows),
+    }
 }
 
 /// Puts the authorization among the rows, and sets the counter to its number.
@@ -67,7 +114,8 @@ pub(crate) fn create(
         (λ rule. Verdict charter history day caller.now (Command.Create h terms.now) (Some rule))
         result) }
 {
-    let number = new_number(Some(rows), day, caller, terms)?;
+    let answers = answers_of(rows, terms);
+    let number = new_number(&rows.grants, answers, day, caller, terms)?;
     let auth = terms.numbered(number)?;
     put(rows, &auth)?;
     Ok(auth)

@@ -23,7 +23,7 @@ use crate::admission::{
     are_dates, auth_with_access, has_grant, has_room_for_grant, holds, is_steward, numbered_of,
     registered, require, rows_with_access, shares_with_other,
 };
-use crate::creation::new_number;
+use crate::creation::{answers_of, create_answered};
 use crate::part::change_of;
 use crate::withdrawal::withdraw_found;
 use crate::{
@@ -234,9 +234,16 @@ fn decide_create(basis: Basis<'_>, holder: Holder<'_>, terms: &AuthTerms) -> Res
         (Command.Create holder.entry.name.now terms.now) result }
     ensures shape { IfOk result (HasEditsOf (Command.Create holder.entry.name.now terms.now)) }
 {
-    let number = new_number(holder.rows, basis.day, basis.caller, terms)?;
-    let auth = terms.numbered(number)?;
-    Ok(change_of(holder.name, Edit::Create(auth)))
+    let rows = rows_with_access(holder.rows, basis.day, basis.caller, Access::Alter)?;
+    let answers = answers_of(rows, terms);
+    create_answered(
+        holder.name,
+        &rows.grants,
+        answers,
+        basis.day,
+        basis.caller,
+        terms,
+    )
 }
 
 /// The authorization of the number, where all rules of an amendment of it hold.

@@ -10,11 +10,12 @@ mod sight;
 mod what_if;
 mod withdrawal;
 
+pub use creation::create_answered;
 pub use decision::{decide, decide_two};
 pub use registry::{
-    Access, Auth, AuthTerms, Change, Charter, CharterFault, Command, Edit, Granted, HolderChange,
-    HolderRows, ImportRow, LAST_NUMBER, Proposed, Query, Refusal, RoaPrefix, RoaPrefixes, Role,
-    Rule, Scope, View, laws,
+    Access, Auth, AuthTerms, Change, Charter, CharterFault, Command, CreateAnswers, Edit, Granted,
+    HolderChange, HolderRows, ImportRow, LAST_NUMBER, Proposed, Query, Refusal, RoaPrefix,
+    RoaPrefixes, Role, Rule, Scope, View, laws,
 };
 pub use sight::{see, see_all, see_found};
 pub use what_if::suppose;

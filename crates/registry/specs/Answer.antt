@@ -1,8 +1,11 @@
 -- What the rules answer, for the rows of a history.
-use Rattle.std.specs.Prelude.{◌≡◌, ℕ, ◌+◌, Bool, true, false, List, ◌∷◌, Option, Some, None, Result, Ok, Err, not, MatchBool, MatchResult, IfSome, IsSomeAnd, length, filter}
-use Rattle.std.specs.List.{list_all}
+use Rattle.std.specs.Prelude.{◌≡◌, ℕ, ◌+◌, ◌<◌, ◌==◌, ◌&&◌, ◌↔◌, Bool, true, false, IsTrue, List, ◌∷◌, Option, Some, None, Result, Ok, Err, not, MatchBool, MatchResult, IfSome, IsSomeAnd, length, filter}
+use Rattle.std.specs.List.{list_all, list_any}
 use Rattle.addr.specs.Spans.{is_one_of}
 use Rattle.registry.specs.declared.authorization.Auth.{Auth}
+use Rattle.registry.specs.declared.authorization.AuthTerms.{AuthTerms}
+use Rattle.registry.specs.declared.limits.TheConstants.{MOST_AUTHORIZATIONS}
+use Rattle.registry.specs.declared.rows.CreateAnswers.{CreateAnswers}
 use Rattle.charters.specs.declared.charter.Charter.{Charter}
 use Rattle.registry.specs.declared.command.Command.{Command}
 use Rattle.registry.specs.declared.command.Command.TheVariants.{Register, Delegate, Transfer, Reclaim, Grant, Revoke, Create, Amend, Withdraw, Import, Slurm}
@@ -22,9 +25,10 @@ use Rattle.registry.specs.History.{History}
 use Rattle.registry.specs.HypotheticalHistory.{HypotheticalHistory, IsChangeDenied}
 use Rattle.registry.specs.Import.{ImportGrows, IsImportDenied}
 use Rattle.registry.specs.Resources.{IsFree}
-use Rattle.registry.specs.Terms.{grant_terms, grants_made, authorizations_made, OfActive}
+use Rattle.registry.specs.RoaPrefixes.{with_maxes}
+use Rattle.registry.specs.Terms.{HoldsEntries, gives_some, share_vrp, grant_terms, grants_made, authorizations_made, OfActive}
 use Rattle.registry.specs.Permission.{is_permitted_terms}
-use Rattle.registry.specs.Verdict.{Verdict, ShowVerdict, ListVerdict, IsLegal, auth_of_number}
+use Rattle.registry.specs.Verdict.{Verdict, ShowVerdict, ListVerdict, IsLegal, auth_of_number, maxes_fit}
 use Rattle.registry.specs.Rows.{Rows, rows_of, rows_if_any, RowsOf, RowsIfAny, Carries}
 
 abbrev pub is_transfer : Command → Bool
@@ -192,6 +196,30 @@ IsShown history h day caller n x =
 pub record AnswersNumber (history : History) (h : List ℕ) (n : ℕ) (granted : List Granted) (found : Option Auth) : Type 0 where
   pub grants : granted ≡ grant_terms history h
   pub auth : OfActive history h (λ active. auth_of_number n active ≡ found)
+
+-- What a create of the terms is judged on: the grants and the counter are those of the history. An answer has to be
+-- right only where those before it let its rule be reached, so that it need not be asked elsewhere.
+pub record AnswersCreate (history : History) (h : List ℕ) (terms : AuthTerms) (granted : List Granted) (answers : CreateAnswers) : Type 0 where
+  pub grants : granted ≡ grant_terms history h
+  pub created : answers.created ≡ authorizations_made history h
+  pub holds : IsTrue answers.holds ↔ HoldsEntries history h terms.entries
+  pub gives :
+      IsTrue answers.holds
+      → ((answers.gives ≡ false) ↔ OfActive history h (λ active. list_any (λ y. gives_some y terms.asn terms.entries) active ≡ false))
+  pub is_full :
+      IsTrue answers.holds → answers.gives ≡ false
+      → ((answers.is_full ≡ false) ↔ OfActive history h (λ active. length active < MOST_AUTHORIZATIONS))
+
+-- no active authorization of another number shares an AS, prefix and maxLength with the terms once they have these maxLengths
+abbrev pub SharesWithNone : History → List ℕ → ℕ → List ℕ → Auth → Type 0
+SharesWithNone history h n maxes x =
+    OfActive history h (λ active. list_any (λ y. not (y.number == n) && share_vrp (record x { entries = with_maxes maxes x.entries }) y) active ≡ false)
+
+-- what an amendment to these maxLengths is judged on; whether the amended authorization shares something has to be right
+-- only where one was found that they fit
+pub record AnswersAmend (history : History) (h : List ℕ) (n : ℕ) (maxes : List ℕ) (granted : List Granted) (found : Option Auth) (is_shared : Bool) : Type 0 where
+  pub number : AnswersNumber history h n granted found
+  pub shared : IfSome found (λ x. maxes_fit maxes x.entries ≡ true → ((is_shared ≡ false) ↔ SharesWithNone history h n maxes x))
 
 -- what is listed are the active authorizations that the caller may see, by rising number
 abbrev pub IsListed : History → List ℕ → ℕ → List ℕ → List Auth → Type 0

@@ -22,5 +22,5 @@ pub use command::{Command, Proposed, Query};
 pub use grant::{Access, Granted, Role, Scope, are_permitted, has_access};
 pub use limits::{LAST_NUMBER, MOST_AUTHORIZATIONS, MOST_GRANTS};
 pub use roa_prefixes::{RoaPrefixes, RoaPrefixesFault};
-pub use rows::{HolderRows, View};
+pub use rows::{CreateAnswers, HolderRows, View};
 pub use rule::{Refusal, Rule};

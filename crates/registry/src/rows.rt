@@ -48,3 +48,17 @@ pub struct View {
     /// any other command.
     pub taken: bool,
 }
+
+/// What a create of some terms is judged on at a holder, beside its grants, in the order of the
+/// rules. An answer is read only where those before it let its rule be reached.
+#[derive(Clone, Copy)]
+pub struct CreateAnswers {
+    /// How many authorizations were made at the holder.
+    pub created: u32,
+    /// Whether the holder holds every address of the terms.
+    pub holds: bool,
+    /// Whether an active authorization gives the AS of the terms with some entry of theirs.
+    pub gives: bool,
+    /// Whether as many authorizations are active as may be.
+    pub is_full: bool,
+}

@@ -1,21 +1,8 @@
-use Rattle.std.proofs.Common.{sym, ap, Some, subst, refl}
-use Rattle.registry.specs.declared.command.Command.TheVariants.{Create}
-use Rattle.registry.specs.Answer.{IsAccepted}
-use Rattle.policy.specs.steps.Creation.{IsCreated}
 use Rattle.policy.proofs.decision.decide_create.Goals as goal
 
 pub returns-clause-answer : goal.returns-clause-answer
 returns-clause-answer c history legal are =
     let a = c.args in
     let h = a.holder.name.now in
-    let t = a.terms.now in
-    let made = subst (IsCreated a.basis.charter.now history h a.basis.day a.basis.caller.now t) (sym c.in_ok-auth.ensures)
-    (c.in_ok-number.ensures a.basis.charter.now history h legal are) in
-    subst (IsAccepted a.basis.charter.now history a.basis.day a.basis.caller.now (Create h t)) (sym c.change_of.ensures) (record {
-      after = _;
-      leaves = (made.verdict, refl);
-      numbered = ap Some made.number;
-      carries = made.carries;
-      sparing = (tt, tt);
-      of_command = (refl, tt);
-    })
+    let had = c.in_ok-rows.ensures a.basis.charter.now history h legal are in
+    c.create_answered.ensures.answer a.basis.charter.now history legal (rw c.deref.ensures.value (c.answers_of-answers.ensures history h had.2))
