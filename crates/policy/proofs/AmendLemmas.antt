@@ -1,29 +1,56 @@
 -- The rule that amended terms share no AS, prefix and maxLength with another active authorization.
-use Rattle.std.proofs.Common.{◌≡◌, ℕ, false, List, Option, Some, sym, subst, IsSomeAnd}
+use Rattle.std.proofs.Common.{◌≡◌, ℕ, Bool, false, List, Option, Some, None, sym, ◌∙◌, subst, IfSome, IsSomeAnd}
 use Rattle.registry.specs.declared.authorization.Auth.{Auth}
+use Rattle.registry.specs.declared.grant.Granted.{Granted}
+use Rattle.registry.specs.Answer.{AnswersNumber, AnswersAmend, SharesWithNone}
 use Rattle.registry.specs.History.{History}
-use Rattle.registry.specs.Terms.{with_terms, OfActive}
+use Rattle.registry.specs.RoaPrefixes.{with_maxes}
+use Rattle.registry.specs.Terms.{with_terms, authorization_terms, HeldSinceMade, OfActive}
 use Rattle.registry.specs.Verdict.{auth_of_number}
 use Rattle.registry.specs.Rows.{Rows, RowsOf}
 use Rattle.registry.proofs.Amended.{shares_with_other}
+use Rattle.registry.proofs.Kept.{Keeps-unique}
 use Rattle.policy.proofs.CarryTerms.{found_number}
-use Rattle.policy.proofs.RowsLemmas.{active-from}
+use Rattle.policy.proofs.RowsLemmas.{active-from, answers-rows}
 
 abbrev pub SharesWithNoOther : History → List ℕ → ℕ → List ℕ → ℕ → Type 0
 SharesWithNoOther history h n maxes until =
     OfActive history h (λ active. IsSomeAnd (auth_of_number n active) (λ x. shares_with_other n (with_terms maxes until x) active ≡ false))
 
-pub only-to : (history : History) (h : List ℕ) (rows : Rows) (n : ℕ) (maxes : List ℕ) (until : ℕ) (x : Auth) → RowsOf history h rows → auth_of_number n rows.auths ≡ Some x
-    → shares_with_other x.number (with_terms maxes until x) rows.auths ≡ false → SharesWithNoOther history h n maxes until
-only-to history h rows n maxes until x are found is =
-    let at_n : shares_with_other n (with_terms maxes until x) rows.auths ≡ false =
-    subst (λ (m : ℕ). shares_with_other m (with_terms maxes until x) rows.auths ≡ false) (found_number n rows.auths x found) is in
-    (rows.auths, are.auths, subst (λ (o : Option Auth). IsSomeAnd o (λ z. shares_with_other n (with_terms maxes until z) rows.auths ≡ false)) (sym found) at_n)
+-- the authorization that was found is that of the number in each list of the active ones
+found_in : (history : History) (h : List ℕ) (n : ℕ) (gs : List Granted) (x : Auth) (P : List Auth → Type 0) → AnswersNumber history h n gs (Some x)
+    → (of : OfActive history h P) → auth_of_number n of.0 ≡ Some x
+found_in history h n gs x P are of =
+    subst (λ (active : List Auth). auth_of_number n active ≡ Some x)
+    (Keeps-unique (HeldSinceMade history h) (authorization_terms history h) are.auth.0 of.0 are.auth.1 of.1) are.auth.2
 
-pub only-from : (history : History) (h : List ℕ) (rows : Rows) (n : ℕ) (maxes : List ℕ) (until : ℕ) (x : Auth) → RowsOf history h rows → auth_of_number n rows.auths ≡ Some x
-    → SharesWithNoOther history h n maxes until → shares_with_other x.number (with_terms maxes until x) rows.auths ≡ false
-only-from history h rows n maxes until x are found of =
-    let here = active-from history h rows (λ active. IsSomeAnd (auth_of_number n active) (λ z. shares_with_other n (with_terms maxes until z) active ≡ false)) are of in
-    let at_n : shares_with_other n (with_terms maxes until x) rows.auths ≡ false =
-    subst (λ (o : Option Auth). IsSomeAnd o (λ z. shares_with_other n (with_terms maxes until z) rows.auths ≡ false)) found here in
-    subst (λ (m : ℕ). shares_with_other m (with_terms maxes until x) rows.auths ≡ false) (sym (found_number n rows.auths x found)) at_n
+pub only-to : (history : History) (h : List ℕ) (n : ℕ) (gs : List Granted) (x : Auth) (maxes : List ℕ) (until : ℕ) → AnswersNumber history h n gs (Some x)
+    → SharesWithNone history h n maxes x → SharesWithNoOther history h n maxes until
+only-to history h n gs x maxes until are none =
+    (none.0, none.1, subst (λ (o : Option Auth). IsSomeAnd o (λ z. shares_with_other n (with_terms maxes until z) none.0 ≡ false)) (sym (found_in history h n gs x _ are none)) none.2)
+
+pub only-from : (history : History) (h : List ℕ) (n : ℕ) (gs : List Granted) (x : Auth) (maxes : List ℕ) (until : ℕ) → AnswersNumber history h n gs (Some x)
+    → SharesWithNoOther history h n maxes until → SharesWithNone history h n maxes x
+only-from history h n gs x maxes until are only =
+    (only.0, only.1, subst (λ (o : Option Auth). IsSomeAnd o (λ z. shares_with_other n (with_terms maxes until z) only.0 ≡ false)) (found_in history h n gs x _ are only) only.2)
+
+abbrev pub IsSharedAmong : List ℕ → List Auth → Bool → Auth → Type 0
+IsSharedAmong maxes auths is_shared x = is_shared ≡ shares_with_other x.number (record x { entries = with_maxes maxes x.entries }) auths
+
+-- what is found among the rows, and whether others of them share with it, is that of the history
+pub amend-rows : (history : History) (h : List ℕ) (n : ℕ) (maxes : List ℕ) (rows : Rows) (gs : List Granted) (found : Option Auth) (is_shared : Bool)
+    → RowsOf history h rows → gs ≡ rows.grants → found ≡ auth_of_number n rows.auths → IfSome found (IsSharedAmong maxes rows.auths is_shared)
+    → AnswersAmend history h n maxes gs found is_shared
+amend-rows history h n maxes rows gs None is_shared are granted is shared =
+    record { number = answers-rows history h n rows gs None are granted is; shared = tt }
+amend-rows history h n maxes rows gs (Some x) is_shared are granted is shared =
+    let z : Auth = record x { entries = with_maxes maxes x.entries } in
+    let same : is_shared ≡ shares_with_other n z rows.auths =
+    subst (λ (m : ℕ). is_shared ≡ shares_with_other m z rows.auths) (found_number n rows.auths x (sym is)) shared in
+    record {
+      number = answers-rows history h n rows gs (Some x) are granted is;
+      shared = λ fit. (
+        λ none. (rows.auths, are.auths, sym same ∙ none),
+        λ of. same ∙ active-from history h rows (λ active. shares_with_other n z active ≡ false) are of,
+      );
+    }

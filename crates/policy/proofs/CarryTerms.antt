@@ -10,9 +10,9 @@ use Rattle.registry.specs.declared.change.Change.TheVariants.{Holders}
 use Rattle.registry.specs.declared.change.Edit.TheVariants.{Create as CreateEdit, Amend as AmendEdit, Withdraw as WithdrawEdit}
 use Rattle.registry.specs.declared.command.Command.TheVariants.{Create, Amend, Withdraw}
 use Rattle.registry.specs.History.{Entry, History, is_registered}
-use Rattle.registry.specs.Terms.{entries_have, HoldsEntries, numbered_terms, authorizations_made, authorization_terms, with_terms, amended, HeldSinceMade, Keeps}
+use Rattle.registry.specs.Terms.{entries_have, HoldsEntries, numbered_terms, authorizations_made, authorization_terms, with_terms, amended, HeldSinceMade, Keeps, AreActive}
 use Rattle.registry.specs.Verdict.{auth_of_number}
-use Rattle.registry.specs.Rows.{Rows, RowsOf, replaced_by, Carries}
+use Rattle.registry.specs.Rows.{replaced_by, Carries}
 use Rattle.registry.proofs.Names.{same_name-same}
 use Rattle.registry.proofs.Numbers.{Numbered}
 use Rattle.registry.proofs.Kept.{Keeps-unique, Keeps-append, Keeps-filtered, Keeps-map}
@@ -120,11 +120,11 @@ replaced-amended low n (z ∷ zs) high maxes until x y numbers found is =
           ap (λ a. a ∷ map (replaced_by y) zs) one ∙ ap (λ cs. amended n maxes until z ∷ cs) rest
     ]
 
-pub carries-amend : (before : History) (day : ℕ) (caller holder : List ℕ) (n : ℕ) (maxes : Vec ℕ) (until : ℕ) (v : Rows) (x y : Auth)
-    → is_registered before holder ≡ true → RowsOf before holder v → auth_of_number n v.auths ≡ Some x → y ≡ with_terms maxes.items until x
+pub carries-amend : (before : History) (day : ℕ) (caller holder : List ℕ) (n : ℕ) (maxes : Vec ℕ) (until : ℕ) (active : List Auth) (x y : Auth)
+    → is_registered before holder ≡ true → AreActive before holder active → auth_of_number n active ≡ Some x → y ≡ with_terms maxes.items until x
     → Carries (Holders (record { holder = holder; edit = AmendEdit y }) None) before
     (record { day = day; caller = caller; command = Amend holder n maxes until } ∷ before)
-carries-amend before day caller holder n maxes until v x y registered had_v found is =
+carries-amend before day caller holder n maxes until active x y registered are_active found is =
     let e : Entry = record { day = day; caller = caller; command = Amend holder n maxes until } in
     let f = amended n maxes.items until in
     let terms : map f (authorization_terms before holder) ≡ authorization_terms (e ∷ before) holder =
@@ -133,7 +133,7 @@ carries-amend before day caller holder n maxes until v x y registered had_v foun
     let back = λ (z : Auth) (since : HeldSinceMade (e ∷ before) holder (f z)). since_same (e ∷ before) holder (f z) z (sym (amended-number n maxes.items until z)) (λ a. sym (amended-addresses n maxes.items until z a)) since in
     carries-edit e before holder (AmendEdit y) (record { named = refl; files = refl }) registered
     (λ rows had.
-    let same_auths : v.auths ≡ rows.auths = Keeps-unique (HeldSinceMade before holder) (authorization_terms before holder) v.auths rows.auths had_v.auths had.auths in
+    let same_auths : active ≡ rows.auths = Keeps-unique (HeldSinceMade before holder) (authorization_terms before holder) active rows.auths are_active had.auths in
     let mapped : map (replaced_by y) rows.auths ≡ map f rows.auths =
     replaced-amended 0 n rows.auths (authorizations_made before holder) maxes.items until x y (active-numbered before holder rows.auths had.auths)
     (ap (auth_of_number n) (sym same_auths) ∙ found) is in

@@ -33,16 +33,6 @@ pub active-from : (history : History) (h : List ℕ) (rows : Rows) (P : List Aut
 active-from history h rows P are of =
     subst P (Keeps-unique (HeldSinceMade history h) (authorization_terms history h) of.0 rows.auths of.1 are.auths) of.2
 
-pub number-to : (history : History) (h : List ℕ) (rows : Rows) (n : ℕ) (x : Auth) (P : Auth → Type 0) → RowsOf history h rows
-    → auth_of_number n rows.auths ≡ Some x → P x → OfNumber history h n P
-number-to history h rows n x P are found holds =
-    (rows.auths, are.auths, subst (λ (o : Option Auth). IsSomeAnd o P) (sym found) holds)
-
-pub number-from : (history : History) (h : List ℕ) (rows : Rows) (n : ℕ) (x : Auth) (P : Auth → Type 0) → RowsOf history h rows
-    → auth_of_number n rows.auths ≡ Some x → OfNumber history h n P → P x
-number-from history h rows n x P are found of =
-    subst (λ (o : Option Auth). IsSomeAnd o P) found (active-from history h rows (λ active. IsSomeAnd (auth_of_number n active) P) are of)
-
 -- a fact about the authorization of a number is one about what was found
 pub found-to : (history : History) (h : List ℕ) (n : ℕ) (gs : List Granted) (found : Option Auth) (P : Auth → Type 0) → AnswersNumber history h n gs found
     → IsSomeAnd found P → OfNumber history h n P

@@ -125,7 +125,7 @@ fn are_covered(holdings: &Holdings, entries: &[RoaPrefix]) -> bool
 }
 
 /// The authorization of the number.
-fn auth_of_number(auths: &[Auth], number: u32) -> Option<&Auth>
+pub(crate) fn auth_of_number(auths: &[Auth], number: u32) -> Option<&Auth>
     ensures { option_copied result ≡ auth_of_number number auths.now }
 {
     auths.iter().find(|auth| auth.number == number)
@@ -181,25 +181,6 @@ pub(crate) fn found_with_access<'a>(
         }
         None => Err(Rule::Number),
     }
-}
-
-/// The active authorization of the number, where the caller has the access to it.
-pub(crate) fn auth_with_access<'a>(
-    rows: &'a HolderRows,
-    day: Day,
-    caller: &Name,
-    access: Access,
-    number: u32,
-) -> Result<&'a Auth, Rule>
-    ensures { (history : History) (h : List ℕ) → RowsOf history h (rows_of rows.now)
-        → MatchResult result
-        (λ x. (auth_of_number number rows.now.auths.items ≡ Some x.now)
-        × HasAccessTo history h day caller.now access number)
-        (λ rule. (HasAccessTo history h day caller.now access number → ⊥)
-        × (rule ≡ Rule.Number)) }
-{
-    let found = auth_of_number(&rows.auths, number);
-    found_with_access(&rows.grants, found, day, caller, access)
 }
 
 /// Whether neither the first day nor the day of the request is after the last day.

@@ -12,7 +12,6 @@ ghost use Rattle.registry.specs.Verdict.{IsLegal};
 ghost use Rattle.registry.specs.Rows.{rows_of, rows_if_any, RowsOf, RowsIfAny};
 ghost use Rattle.policy.specs.steps.Exchange.{Exchanges};
 ghost use Rattle.policy.specs.steps.Admission.{IsAdmitted};
-ghost use Rattle.policy.specs.steps.Amendment.{IsAmended};
 ghost use Rattle.registry.specs.Answer.{AnswersRows, JudgesRows, RowsOfNamed, IsAnswer, IsViewOf, is_transfer, takes_memory, holder_of, taker_of};
 ghost use Rattle.registry.specs.Edits.{HasEditsOf};
 
@@ -20,9 +19,10 @@ mod import;
 mod terms;
 
 use crate::admission::{
-    are_dates, auth_with_access, has_grant, has_room_for_grant, holds, is_steward, numbered_of,
-    registered, require, rows_with_access, shares_with_other,
+    auth_of_number, has_grant, has_room_for_grant, holds, is_steward, numbered_of, registered,
+    require, rows_with_access,
 };
+use crate::amendment::{Amendment, amend_found, is_found_shared};
 use crate::creation::{answers_of, create_answered};
 use crate::part::change_of;
 use crate::withdrawal::withdraw_found;
@@ -246,31 +246,6 @@ fn decide_create(basis: Basis<'_>, holder: Holder<'_>, terms: &AuthTerms) -> Res
     )
 }
 
-/// The authorization of the number, where all rules of an amendment of it hold.
-fn auth_to_amend<'a>(
-    day: Day,
-    caller: &Name,
-    holder: Holder<'a>,
-    number: u32,
-    maxes: &[u8],
-    until: Day,
-) -> Result<&'a Auth, Rule>
-    ensures { (charter : CharterValue) (history : History) (asked : Vec ℕ)
-        → asked.items ≡ maxes.now → IsLegal charter history
-        → RowsIfAny history holder.entry.name.now (rows_if_any (option_copied holder.entry.rows))
-        → IsAdmitted charter history day caller.now
-        (Command.Amend holder.entry.name.now number asked until)
-        (λ x. IsAmended history holder.entry.name.now day caller.now number asked until x.now)
-        result }
-{
-    let rows = rows_with_access(holder.rows, day, caller, Access::Alter)?;
-    let auth = auth_with_access(rows, day, caller, Access::Alter, number)?;
-    require(are_dates(day, auth.from, until), Rule::Dates)?;
-    require(auth.fits_maxes(maxes), Rule::Length)?;
-    require(!shares_with_other(&rows.auths, auth, maxes), Rule::Same)?;
-    Ok(auth)
-}
-
 /// Decides an amendment.
 fn decide_amend(
     basis: Basis<'_>,
@@ -286,9 +261,19 @@ fn decide_amend(
     ensures shape { (asked : Vec ℕ) → IfOk result (HasEditsOf
         (Command.Amend holder.entry.name.now number asked until)) }
 {
-    let auth = auth_to_amend(basis.day, basis.caller, holder, number, maxes, until)?;
-    let amended = auth.with_terms(maxes, until)?;
-    Ok(change_of(holder.name, Edit::Amend(amended)))
+    let rows = rows_with_access(holder.rows, basis.day, basis.caller, Access::Alter)?;
+    let found = auth_of_number(&rows.auths, number);
+    let is_shared = is_found_shared(&rows.auths, found, maxes);
+    let amendment = Amendment { maxes, until };
+    amend_found(
+        holder.name,
+        &rows.grants,
+        found,
+        is_shared,
+        basis.day,
+        basis.caller,
+        amendment,
+    )
 }
 
 /// Decides a withdrawal.

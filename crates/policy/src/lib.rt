@@ -3,6 +3,7 @@
 #![tactic(auto)]
 
 mod admission;
+mod amendment;
 mod creation;
 mod decision;
 mod part;
@@ -10,6 +11,7 @@ mod sight;
 mod what_if;
 mod withdrawal;
 
+pub use amendment::{Amendment, amend_found};
 pub use creation::create_answered;
 pub use decision::{decide, decide_two};
 pub use registry::{

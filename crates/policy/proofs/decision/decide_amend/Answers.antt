@@ -1,38 +1,16 @@
-use Rattle.std.proofs.Common.{◌∷◌, sym, ap, ◌∙◌, None, subst, refl}
-use Rattle.std.proofs.lemmas.Result.{err_from_is_err_and}
-use Rattle.registry.specs.declared.authorization.Auth.{Auth}
-use Rattle.registry.specs.declared.change.Change.TheVariants.{Holders}
-use Rattle.registry.specs.declared.change.Edit.TheVariants.{Amend as AmendEdit}
-use Rattle.registry.specs.declared.command.Command.TheVariants.{Amend}
-use Rattle.registry.specs.Answer.{IsAccepted}
-use Rattle.registry.specs.Rows.{Carries}
-use Rattle.registry.specs.Terms.{with_terms}
+use Rattle.std.proofs.Common.{◌∙◌, ap}
+use Rattle.registry.specs.Rows.{rows_of}
+use Rattle.registry.specs.Verdict.{auth_of_number}
+use Rattle.policy.proofs.AmendLemmas.{amend-rows}
 use Rattle.policy.proofs.decision.decide_amend.Goals as goal
-
-pub returns-in_err-auth-clause-answer : goal.returns-in_err-auth-clause-answer
-returns-in_err-auth-clause-answer c asked same history legal are =
-    let denied = err_from_is_err_and c.from_residual.result c.from_residual.ensures.1 in
-    rw (denied.1, denied.2) (c.in_err-auth.ensures c.args.basis.charter.now history asked same legal are, refl)
-
-pub returns-in_err-amended-clause-answer : goal.returns-in_err-amended-clause-answer
-returns-in_err-amended-clause-answer c asked same history legal are =
-    let refused = err_from_is_err_and c.from_residual-in_err-amended.result c.from_residual-in_err-amended.ensures.1 in
-    rw (refused.1, refused.2) (c.in_ok-auth.ensures c.args.basis.charter.now history asked same legal are).0
 
 pub returns-clause-answer : goal.returns-clause-answer
 returns-clause-answer c asked same history legal are =
     let a = c.args in
     let h = a.holder.name.now in
-    let command = Amend h a.number asked a.until in
-    let admitted = c.in_ok-auth.ensures a.basis.charter.now history asked same legal are in
-    let x = c.in_ok-auth.auth.now in
-    let amended = c.in_ok-amended.ensures ∙ ap (λ maxes. with_terms maxes a.until x) (sym same) in
-    subst (IsAccepted a.basis.charter.now history a.basis.day a.basis.caller.now command) (sym c.change_of.ensures) (record {
-      after = _;
-      leaves = (admitted.0, refl);
-      numbered = refl;
-      carries = subst (λ (y : Auth). Carries (Holders (record { holder = h; edit = AmendEdit y }) None) history
-          (record { day = a.basis.day; caller = a.basis.caller.now; command = command } ∷ history)) (sym amended) admitted.1;
-      sparing = (tt, tt);
-      of_command = (refl, tt);
-    })
+    let had = c.in_ok-rows.ensures a.basis.charter.now history h legal are in
+    let rows = rows_of c.in_ok-rows.rows.now in
+    let found = c.auth_of_number-found.ensures ∙ ap (auth_of_number a.number) c.deref.ensures.value in
+    let shared = rw (c.deref-2.ensures.value, ← same) at c.is_found_shared-is_shared.ensures in
+    c.amend_found.ensures.answer a.basis.charter.now history a.number asked same legal
+    (amend-rows history h a.number asked.items rows _ _ _ had.2 c.deref-3.ensures.value found shared)

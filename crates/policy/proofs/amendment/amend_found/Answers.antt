@@ -1,0 +1,39 @@
+use Rattle.std.proofs.Common.{◌∷◌, sym, ap, ◌∙◌, None, subst, refl}
+use Rattle.std.proofs.lemmas.Result.{err_from_is_err_and}
+use Rattle.registry.specs.declared.authorization.Auth.{Auth}
+use Rattle.registry.specs.declared.change.Change.TheVariants.{Holders}
+use Rattle.registry.specs.declared.change.Edit.TheVariants.{Amend as AmendEdit}
+use Rattle.registry.specs.declared.command.Command.TheVariants.{Amend}
+use Rattle.registry.specs.Answer.{IsAccepted}
+use Rattle.registry.specs.Rows.{Carries}
+use Rattle.registry.specs.Terms.{with_terms}
+use Rattle.policy.proofs.amendment.amend_found.Goals as goal
+
+pub returns-in_err-auth-clause-answer : goal.returns-in_err-auth-clause-answer
+returns-in_err-auth-clause-answer c charter history n asked same legal are =
+    let denied = err_from_is_err_and c.from_residual.result c.from_residual.ensures.1 in
+    rw (denied.1, denied.2) (c.in_err-auth.ensures charter history c.args.holder.now n asked same legal are, refl)
+
+pub returns-in_err-amended-clause-answer : goal.returns-in_err-amended-clause-answer
+returns-in_err-amended-clause-answer c charter history n asked same legal are =
+    let refused = err_from_is_err_and c.from_residual-in_err-amended.result c.from_residual-in_err-amended.ensures.1 in
+    rw (refused.1, refused.2) (c.in_ok-auth.ensures charter history c.args.holder.now n asked same legal are).0
+
+pub returns-clause-answer : goal.returns-clause-answer
+returns-clause-answer c charter history n asked same legal are =
+    let a = c.args in
+    let h = a.holder.now in
+    let until = a.amendment.until in
+    let command = Amend h n asked until in
+    let admitted = c.in_ok-auth.ensures charter history h n asked same legal are in
+    let x = c.in_ok-auth.auth.now in
+    let amended = c.in_ok-amended.ensures ∙ ap (λ maxes. with_terms maxes until x) (sym same) in
+    subst (IsAccepted charter history a.day a.caller.now command) (sym c.change_of.ensures) (record {
+      after = _;
+      leaves = (admitted.0, refl);
+      numbered = refl;
+      carries = subst (λ (y : Auth). Carries (Holders (record { holder = h; edit = AmendEdit y }) None) history
+          (record { day = a.day; caller = a.caller.now; command = command } ∷ history)) (sym amended) admitted.1;
+      sparing = (tt, tt);
+      of_command = (refl, tt);
+    })
