@@ -12,7 +12,7 @@ ghost use Rattle.registry.specs.RoaPrefixes.{with_maxes};
 ghost use Rattle.registry.specs.declared.authorization.ImportRow.{ImportRow as ImportRowValue};
 ghost use Rattle.registry.specs.Import.{has_terms, IsPresent};
 ghost use Rattle.registry.specs.Permission.{has_access, is_permitted_terms};
-ghost use Rattle.registry.specs.Answer.{AnswersNumber, OfRows};
+ghost use Rattle.registry.specs.Answer.{AnswersNumber, IsMadeIfAny, OfRows};
 ghost use Rattle.registry.specs.Verdict.{is_steward, auth_of_number, HasAccessTo};
 ghost use Rattle.registry.specs.Rows.{rows_of, rows_if_any, RowsOf, RowsIfAny, grants_if_any};
 
@@ -39,7 +39,7 @@ pub(crate) fn registered(rows: Option<&HolderRows>) -> Result<&HolderRows, Rule>
 }
 
 /// The grants of the rows; none where there are no rows.
-fn grants_of(rows: Option<&HolderRows>) -> &[Granted]
+pub(crate) fn grants_of(rows: Option<&HolderRows>) -> &[Granted]
     ensures { result.now ≡ grants_if_any (option_copied rows.entry) }
 {
     match rows {
@@ -48,17 +48,24 @@ fn grants_of(rows: Option<&HolderRows>) -> &[Granted]
     }
 }
 
-/// Whether the caller is an operator, or a manager at the holder.
-pub(crate) fn is_steward(
-    charter: &Charter,
-    rows: Option<&HolderRows>,
-    day: Day,
-    caller: &Name,
-) -> bool
-    ensures { OfRows charter.now (rows_if_any (option_copied rows.entry))
-        (λ history h. result ≡ is_steward charter.now history day caller.now h) }
+/// How many grants were made, of the rows; none where there are no rows.
+pub(crate) fn made_of(rows: Option<&HolderRows>) -> Option<u32>
+    ensures { (history : History) (h : List ℕ)
+        → RowsIfAny history h (rows_if_any (option_copied rows.entry))
+        → IsMadeIfAny history h result }
 {
-    charter.is_operator(caller) || has_access(grants_of(rows), day, caller, Access::Manage)
+    match rows {
+        Some(rows) => Some(rows.granted),
+        None => None,
+    }
+}
+
+/// Whether the caller is an operator, or a manager by these grants of the holder.
+pub(crate) fn is_steward(charter: &Charter, grants: &[Granted], day: Day, caller: &Name) -> bool
+    ensures { (history : History) (h : List ℕ) → grants.now ≡ grant_terms history h
+        → result ≡ is_steward charter.now history day caller.now h }
+{
+    charter.is_operator(caller) || has_access(grants, day, caller, Access::Manage)
 }
 
 /// The rule where none of the grants gives the caller the access, whatever the scope.
@@ -190,16 +197,8 @@ pub(crate) fn are_dates(today: Day, from: Day, until: Day) -> bool
     from.number() <= until.number() && today.number() <= until.number()
 }
 
-/// Whether some grant of the rows has the number.
-pub(crate) fn has_grant(rows: Option<&HolderRows>, number: u32) -> bool
-    ensures { (charter : CharterValue) → OfRows charter (rows_if_any (option_copied rows.entry))
-        (λ history h. result ≡ list_any (λ g. g.number == number) (grant_terms history h)) }
-{
-    is_among(grants_of(rows), number)
-}
-
 /// Whether some grant has the number.
-fn is_among(grants: &[Granted], number: u32) -> bool
+pub(crate) fn is_among(grants: &[Granted], number: u32) -> bool
     ensures { result ≡ list_any (λ g. g.number == number) grants.now }
 {
     grants.iter().any(|grant| grant.number == number)
@@ -243,11 +242,10 @@ pub(crate) fn is_present(rows: &HolderRows, day: Day, caller: &Name, terms: &Aut
 }
 
 /// Whether another grant may be made: neither too many are unrevoked, nor were too many made.
-pub(crate) fn has_room_for_grant(rows: &HolderRows) -> bool
-    ensures { IsTrue result
-        ↔ ((length rows.now.grants.items < MOST_GRANTS) × (rows.now.granted < LAST_NUMBER)) }
+pub(crate) fn has_room_for_grant(grants: &[Granted], made: u32) -> bool
+    ensures { IsTrue result ↔ ((length grants.now < MOST_GRANTS) × (made < LAST_NUMBER)) }
 {
-    rows.grants.len() < MOST_GRANTS && rows.granted < LAST_NUMBER
+    grants.len() < MOST_GRANTS && made < LAST_NUMBER
 }
 
 /// Whether as many authorizations are active as may be.

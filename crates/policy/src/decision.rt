@@ -16,14 +16,13 @@ ghost use Rattle.registry.specs.Answer.{AnswersRows, JudgesRows, RowsOfNamed, Is
 ghost use Rattle.registry.specs.Edits.{HasEditsOf};
 
 mod import;
-mod terms;
 
 use crate::admission::{
-    auth_of_number, has_grant, has_room_for_grant, holds, is_steward, numbered_of, registered,
-    require, rows_with_access,
+    auth_of_number, grants_of, holds, made_of, numbered_of, registered, require, rows_with_access,
 };
 use crate::amendment::{Amendment, amend_found, is_found_shared};
 use crate::creation::{answers_of, create_answered};
+use crate::granting::{GrantTerms, grant_counted, revoke_among};
 use crate::part::change_of;
 use crate::withdrawal::withdraw_found;
 use crate::{
@@ -34,7 +33,6 @@ use addr::{Day, Holdings, Name, Prefix};
 use import::decide_import;
 use slurm::SlurmSet;
 use std::alloc::{AllocError, Global};
-use terms::GrantTerms;
 
 /// What every command is judged by, besides its own members and the rows.
 #[derive(Clone, Copy)]
@@ -199,17 +197,17 @@ fn decide_grant(basis: Basis<'_>, holder: Holder<'_>, terms: &GrantTerms) -> Res
         (Command.Grant holder.entry.name.now terms.now.caller
         terms.now.role terms.now.scope terms.now.until)) }
 {
-    let Basis {
-        charter,
-        day,
-        caller,
-    } = basis;
-    require(is_steward(charter, holder.rows, day, caller), Rule::Steward)?;
-    let rows = registered(holder.rows)?;
-    require(day.number() <= terms.until.number(), Rule::Dates)?;
-    require(has_room_for_grant(rows), Rule::Room)?;
-    let grant = terms.numbered(rows.granted + 1);
-    Ok(change_of(holder.name, Edit::Grant(grant)))
+    let grants = grants_of(holder.rows);
+    let made = made_of(holder.rows);
+    grant_counted(
+        basis.charter,
+        holder.name,
+        grants,
+        made,
+        basis.day,
+        basis.caller,
+        terms,
+    )
 }
 
 /// Decides a revocation.
@@ -219,12 +217,14 @@ fn decide_revoke(basis: Basis<'_>, holder: Holder<'_>, number: u32) -> Result<Ch
         (Command.Revoke holder.entry.name.now number) result }
     ensures shape { IfOk result (HasEditsOf (Command.Revoke holder.entry.name.now number)) }
 {
-    require(
-        is_steward(basis.charter, holder.rows, basis.day, basis.caller),
-        Rule::Steward,
-    )?;
-    require(has_grant(holder.rows, number), Rule::Number)?;
-    Ok(change_of(holder.name, Edit::Revoke(number)))
+    revoke_among(
+        basis.charter,
+        holder.name,
+        grants_of(holder.rows),
+        basis.day,
+        basis.caller,
+        number,
+    )
 }
 
 /// Decides a create.

@@ -6,6 +6,7 @@ mod admission;
 mod amendment;
 mod creation;
 mod decision;
+mod granting;
 mod part;
 mod sight;
 mod what_if;
@@ -14,6 +15,7 @@ mod withdrawal;
 pub use amendment::{Amendment, amend_found};
 pub use creation::create_answered;
 pub use decision::{decide, decide_two};
+pub use granting::{GrantTerms, grant_counted, revoke_among};
 pub use registry::{
     Access, Auth, AuthTerms, Change, Charter, CharterFault, Command, CreateAnswers, Edit, Granted,
     HolderChange, HolderRows, ImportRow, LAST_NUMBER, Proposed, Query, Refusal, RoaPrefix,

@@ -21,7 +21,7 @@ use Rattle.registry.specs.declared.rows.View.{View}
 use Rattle.registry.specs.declared.rule.Refusal.{Refusal}
 use Rattle.registry.specs.declared.rule.Rule.{Rule}
 use Rattle.registry.specs.declared.rule.Refusal.TheVariants.{Denied, Memory}
-use Rattle.registry.specs.History.{History}
+use Rattle.registry.specs.History.{History, is_registered}
 use Rattle.registry.specs.HypotheticalHistory.{HypotheticalHistory, IsChangeDenied}
 use Rattle.registry.specs.Import.{ImportGrows, IsImportDenied}
 use Rattle.registry.specs.Resources.{IsFree}
@@ -196,6 +196,16 @@ IsShown history h day caller n x =
 pub record AnswersNumber (history : History) (h : List ℕ) (n : ℕ) (granted : List Granted) (found : Option Auth) : Type 0 where
   pub grants : granted ≡ grant_terms history h
   pub auth : OfActive history h (λ active. auth_of_number n active ≡ found)
+
+-- how many grants were made at the holder; none where it is not registered
+abbrev pub IsMadeIfAny : History → List ℕ → Option ℕ → Type 0
+IsMadeIfAny history h None = is_registered history h ≡ false
+IsMadeIfAny history h (Some made) = (is_registered history h ≡ true) × (made ≡ grants_made history h)
+
+-- what a grant is judged on: the grants and their counter are those of the history
+pub record AnswersGrant (history : History) (h : List ℕ) (granted : List Granted) (made : Option ℕ) : Type 0 where
+  pub grants : granted ≡ grant_terms history h
+  pub counter : IsMadeIfAny history h made
 
 -- What a create of the terms is judged on: the grants and the counter are those of the history. An answer has to be
 -- right only where those before it let its rule be reached, so that it need not be asked elsewhere.

@@ -2,12 +2,10 @@ use Rattle.std.proofs.Common.{◌||◌, sym, ◌∙◌, ap}
 use Rattle.registry.specs.declared.grant.Access.TheVariants.{Manage}
 use Rattle.registry.specs.Terms.{grant_terms}
 use Rattle.registry.specs.Permission.{has_access}
-use Rattle.policy.proofs.RowsLemmas.{grants-are}
 use Rattle.policy.proofs.admission.is_steward.Goals as goal
 
 pub returns-else-is_operator : goal.returns-else-is_operator
-returns-else-is_operator c history h legal are =
+returns-else-is_operator c history h granted =
     let a = c.args in
-    let same = c.grants_of.ensures ∙ grants-are a.charter.now history h a.rows legal are in
-    c.has_access.ensures ∙ ap (λ gs. has_access gs a.day a.caller.now Manage) same
+    c.has_access.ensures ∙ ap (λ gs. has_access gs a.day a.caller.now Manage) granted
     ∙ ap (λ b. b || has_access (grant_terms history h) a.day a.caller.now Manage) (sym c.if-is_operator.false ∙ c.is_operator.ensures)

@@ -1,34 +1,12 @@
-use Rattle.std.proofs.Common.{ℕ, ◌<◌, ◌≤◌, sym, ◌∙◌, ap, subst, length, Some, arith, ◌+◌, refl}
-use Rattle.std.proofs.lemmas.Bool.Decides.{nat_tests}
-use Rattle.registry.specs.declared.limits.TheConstants.{MOST_GRANTS, LAST_NUMBER}
-use Rattle.registry.specs.declared.command.Command.TheVariants.{Grant}
-use Rattle.registry.specs.declared.grant.Granted.{Granted}
-use Rattle.registry.specs.Answer.{IsAccepted}
-use Rattle.registry.specs.Terms.{grant_terms, grants_made}
-use Rattle.policy.proofs.CarryGrants.{carries-grant}
+use Rattle.std.proofs.Common.{◌∙◌}
+use Rattle.policy.proofs.RowsLemmas.{grants-are}
 use Rattle.policy.proofs.decision.decide_grant.Goals as goal
 
 pub returns-clause-answer : goal.returns-clause-answer
 returns-clause-answer c history legal are =
     let a = c.args in
     let h = a.holder.name.now in
-    let t = a.terms.now in
-    let had = c.in_ok-rows.ensures history h are in
-    let r = c.in_ok-rows.rows.now in
-    let room = c.has_room_for_grant.ensures.0 c.in_ok-require-3.ensures in
-    let few : length (grant_terms history h) < MOST_GRANTS = subst (λ (gs : _). length gs < MOST_GRANTS) had.1.grants room.0 in
-    let made : grants_made history h < LAST_NUMBER = subst (λ (k : ℕ). k < LAST_NUMBER) had.1.granted room.1 in
-    let test = c.in_ok-require-2.ensures in
-    let today = c.number.ensures.value in
-    let last = c.number-2.ensures.value in
-    let in_time : a.basis.day ≤ t.until = grind (arith, nat_tests) in
-    let new = λ (k : ℕ). let g : Granted = record { number = k + 1; caller = t.caller; role = t.role; scope = t.scope; until = t.until } in g in
-    subst (IsAccepted a.basis.charter.now history a.basis.day a.basis.caller.now (Grant h t.caller t.role t.scope t.until)) (sym c.change_of.ensures) (record {
-      after = _;
-      leaves = ((sym (c.is_steward.ensures history h legal are) ∙ c.in_ok-require.ensures, (had.0, (in_time, ((few, made), tt)))), refl);
-      numbered = ap (λ (g : Granted). Some g.number) c.numbered-grant.ensures
-          ∙ ap (λ n. Some (n + 1)) had.1.granted;
-      carries = carries-grant history a.basis.day a.basis.caller.now h t.caller t.role t.scope t.until _ had.0 (c.numbered-grant.ensures ∙ ap new had.1.granted);
-      sparing = (tt, tt);
-      of_command = (refl, tt);
+    c.grant_counted.ensures.answer history legal (record {
+      grants = c.grants_of-grants.ensures ∙ grants-are a.basis.charter.now history h a.holder.rows legal are;
+      counter = c.made_of-made.ensures history h are;
     })

@@ -1,0 +1,98 @@
+//! Making and revoking grants.
+
+ghost use Rattle.std.specs.Prelude.{◌≡◌, MatchResult, IfOk};
+ghost use Rattle.registry.specs.declared.command.Command.{Command};
+ghost use Rattle.registry.specs.History.{History};
+ghost use Rattle.registry.specs.Answer.{AnswersGrant, IsAccepted};
+ghost use Rattle.registry.specs.Edits.{HasEditsOf};
+ghost use Rattle.registry.specs.Terms.{grant_terms};
+ghost use Rattle.registry.specs.Verdict.{IsLegal, Verdict};
+
+use crate::admission::{has_room_for_grant, is_among, is_steward, require};
+use crate::part::change_of;
+use crate::{Change, Charter, Edit, Granted, Role, Rule, Scope};
+use addr::{Day, Name};
+
+/// What a grant is to say, before it has a number.
+#[derive(Clone, Copy)]
+pub struct GrantTerms {
+    pub caller: Name,
+    pub role: Role,
+    pub scope: Scope,
+    /// The last day on which it is current.
+    pub until: Day,
+}
+
+impl GrantTerms {
+    /// The grant of these terms and of this number.
+    fn numbered(&self, number: u32) -> Granted
+        ensures { result ≡ record {
+          number = number;
+          caller = self.now.caller;
+          role = self.now.role;
+          scope = self.now.scope;
+          until = self.now.until;
+        } }
+    {
+        Granted {
+            number,
+            caller: self.caller,
+            role: self.role,
+            scope: self.scope,
+            until: self.until,
+        }
+    }
+}
+
+/// What a grant of the terms does at a holder with these grants, where so many were made; or the
+/// first rule of its line that does not hold. At a holder that is not registered none is counted.
+/// It takes no memory.
+pub fn grant_counted(
+    charter: &Charter,
+    holder: &Name,
+    grants: &[Granted],
+    made: Option<u32>,
+    day: Day,
+    caller: &Name,
+    terms: &GrantTerms,
+) -> Result<Change, Rule>
+    ensures answer { (history : History) → IsLegal charter.now history
+        → AnswersGrant history holder.now grants.now made
+        → MatchResult result
+        (IsAccepted charter.now history day caller.now (Command.Grant holder.now
+        terms.now.caller terms.now.role terms.now.scope terms.now.until))
+        (λ rule. Verdict charter.now history day caller.now (Command.Grant holder.now
+        terms.now.caller terms.now.role terms.now.scope terms.now.until) (Some rule)) }
+    ensures shape { IfOk result (HasEditsOf (Command.Grant holder.now
+        terms.now.caller terms.now.role terms.now.scope terms.now.until)) }
+{
+    require(is_steward(charter, grants, day, caller), Rule::Steward)?;
+    let made = made.ok_or(Rule::Holder)?;
+    require(day.number() <= terms.until.number(), Rule::Dates)?;
+    require(has_room_for_grant(grants, made), Rule::Room)?;
+    let grant = terms.numbered(made + 1);
+    Ok(change_of(holder, Edit::Grant(grant)))
+}
+
+/// What the revocation of a number does at a holder with these grants; or the first rule of its
+/// line that does not hold. It takes no memory.
+pub fn revoke_among(
+    charter: &Charter,
+    holder: &Name,
+    grants: &[Granted],
+    day: Day,
+    caller: &Name,
+    number: u32,
+) -> Result<Change, Rule>
+    ensures answer { (history : History) → IsLegal charter.now history
+        → grants.now ≡ grant_terms history holder.now
+        → MatchResult result
+        (IsAccepted charter.now history day caller.now (Command.Revoke holder.now number))
+        (λ rule. Verdict charter.now history day caller.now
+        (Command.Revoke holder.now number) (Some rule)) }
+    ensures shape { IfOk result (HasEditsOf (Command.Revoke holder.now number)) }
+{
+    require(is_steward(charter, grants, day, caller), Rule::Steward)?;
+    require(is_among(grants, number), Rule::Number)?;
+    Ok(change_of(holder, Edit::Revoke(number)))
+}
