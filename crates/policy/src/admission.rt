@@ -248,7 +248,7 @@ pub(crate) fn has_room_for_grant(grants: &[Granted], made: u32) -> bool
     grants.len() < MOST_GRANTS && made < LAST_NUMBER
 }
 
-/// Whether as many authorizations are active as may be.
+/// Whether no more authorizations may be active.
 pub(crate) fn is_full(rows: &HolderRows) -> bool
     ensures { (history : History) (h : List ℕ) → RowsOf history h (rows_of rows.now)
         → ((result ≡ false)

@@ -54,8 +54,8 @@ fn auth_to_amend<'a>(
 }
 
 /// What an amendment of a number does at a holder with these grants, where this authorization of
-/// the number was found; or the first rule of its line that does not hold. The amended one may be
-/// shared: another active authorization then gives an AS, prefix and maxLength that it would give.
+/// the number was found; or the first rule of its line that does not hold. `is_shared` is whether
+/// another active one gives an AS, prefix and maxLength that the amended one would give.
 pub fn amend_found(
     holder: &Name,
     grants: &[Granted],

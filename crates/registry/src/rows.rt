@@ -49,8 +49,8 @@ pub struct View {
     pub taken: bool,
 }
 
-/// What a create of some terms is judged on at a holder, beside its grants, in the order of the
-/// rules. An answer is read only where those before it let its rule be reached.
+/// What a create of some terms is judged on at a holder, beside its grants. Each of the tests has to
+/// be right only where those before it let its rule be reached.
 #[derive(Clone, Copy)]
 pub struct CreateAnswers {
     /// How many authorizations were made at the holder.
@@ -59,6 +59,6 @@ pub struct CreateAnswers {
     pub holds: bool,
     /// Whether an active authorization gives the AS of the terms with some entry of theirs.
     pub gives: bool,
-    /// Whether as many authorizations are active as may be.
+    /// Whether no more authorizations may be active.
     pub is_full: bool,
 }
