@@ -20,8 +20,7 @@ use Rattle.desk.specs.Desk.{charter_of, HoldsRowsOf, IsOnCleanDisk, KeepsRows, O
 use Rattle.desk.specs.HolderAnswers.{may_change, may_except, KeepsOthers}
 use Rattle.desk.specs.steps.Accepting.{AnswersAccepted}
 use Rattle.sqlite.specs.Store.{Ghosts}
-use Rattle.store.specs.StoreRows.{StoreView, IsRead, IfClean, HoldsAfter}
-use Rattle.store.specs.Loads.{OfHeldRows}
+use Rattle.store.specs.StoreRows.{StoreView, IsRead, IfClean, HoldsAfter, OfHeldRows}
 use Rattle.registry.specs.declared.authorization.ImportRow.{ImportRow}
 use Rattle.registry.specs.declared.command.Command.{Command}
 use Rattle.registry.specs.declared.command.Command.TheVariants.{Import}

@@ -24,7 +24,7 @@ use Rattle.registry.specs.declared.rows.HolderRows.{HolderRows}
 use Rattle.slurm.specs.Exceptions.{Exceptions as ExceptionsOf}
 use Rattle.slurm.specs.SlurmSets.{union}
 use Rattle.store.specs.Given.{GivenOnce}
-use Rattle.store.specs.Loads.{AreLoaded}
+use Rattle.loads.specs.Loads.{AreLoaded}
 use Rattle.desk.proofs.GivenEdits.{edits_given_as_loaded, edits_nothing, ending_keeps_once, none_loaded, rows_stay}
 use Rattle.desk.specs.DeskView.{IsDayOfRows}
 use Rattle.desk.specs.DayAfter.{makes_auths, DayAfterCommand}

@@ -21,7 +21,7 @@ use Rattle.registry.specs.Terms.{IsVrpOf}
 use Rattle.tables.proofs.SomeRow.{has_permuted}
 use Rattle.registry.proofs.Names.{same_name-same, same_name-true}
 use Rattle.store.specs.Given.{GivenOnce}
-use Rattle.store.specs.Loads.{AreLoaded, IsLoaded}
+use Rattle.loads.specs.Loads.{AreLoaded, IsLoaded}
 use Rattle.registry.specs.Edits.{begun, ended, ends}
 use Rattle.desk.specs.steps.EditsGiven.{IsGivenAfter, EditsGiven, EditsGivenAsLoaded, EditsNothing, EndingKeepsOnce}
 use Rattle.kept.specs.Giving.{AreGivingOn}

@@ -26,11 +26,11 @@ use Rattle.sqlite.specs.State.{HasCleanDisk}
 use Rattle.sqlite_rules.specs.Lists.{Has}
 use Rattle.sqlite_trees.specs.Tree.{Trees}
 use Rattle.tables.specs.TablesHold.{TablesHold}
-use Rattle.store.proofs.HeldAlike.{held_alike}
+use Rattle.loads.proofs.HeldAlike.{held_alike}
 use Rattle.tables.proofs.Once.{AreNumberedOnce, given_alike, once_by_numbers}
 use Rattle.store.specs.Given.{GivenOnce}
-use Rattle.store.specs.Loads.{AreFilesOf, OfHeldRows}
-use Rattle.store.specs.StoreRows.{connection_state, Holds, HoldsAfter, IsRead, StoreView}
+use Rattle.loads.specs.Loads.{AreFilesOf}
+use Rattle.store.specs.StoreRows.{connection_state, Holds, HoldsAfter, IsRead, OfHeldRows, StoreView}
 use Rattle.desk.proofs.DailyLemmas.{given_on}
 use Rattle.desk.specs.Desk.{charter_of, HoldsHistory, IsDayOf, IsOnCleanDisk, KeepsRows, OfHistories, OfRows}
 use Rattle.desk.specs.DeskView.{HoldsKept, IsDayOfRows}

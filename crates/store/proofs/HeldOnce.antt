@@ -21,7 +21,7 @@ use Rattle.tables.proofs.SomeRow.{in_table, has_entry_row}
 use Rattle.database.specs.Laws.{payload_columns, number_columns, ClaimsDiffer, EntriesDiffer}
 use Rattle.edits.proofs.Numbers.{number_of, numbered_apart}
 use Rattle.store.specs.Given.{GivenOnce}
-use Rattle.store.proofs.Giving.{cells_of_vrp}
+use Rattle.loads.proofs.Giving.{cells_of_vrp}
 
 module _ (entries_differ : EntriesDiffer) (claims_differ : ClaimsDiffer) (charter : CharterSets) (rows : AllRows) (db : Database) (sound : IsDatabase db) (tables : db.schema.tables ≡ desk_tables) (holds : TablesHold charter rows db.trees) where
   abbrev row_of : List ℕ → Auth → RoaPrefix → Row

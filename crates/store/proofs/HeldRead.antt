@@ -39,8 +39,8 @@ use Rattle.database.specs.TablesRead.{AreFewOfEach, HasSomeCharter, ShowsHolder,
 use Rattle.slurm.specs.Exceptions.{Exceptions}
 use Rattle.slurm.specs.SlurmSets.{exceptions_of}
 use Rattle.slurm.specs.declared.set.NamedSlurm.{NamedSlurm}
-use Rattle.store.proofs.NamedFiles.{said_fits}
-use Rattle.store.proofs.NamesFound.{a_text, file_names, names_fit, of_row}
+use Rattle.loads.proofs.NamedFiles.{said_fits}
+use Rattle.loads.proofs.NamesFound.{a_text, file_names, names_fit, of_row}
 
 -- each row of a part shows what the rows of its holder are
 of_part : (part : Part) (rows : List ℕ → Option Rows) (table : List Row) (So : Row → Type 0) → HoldsPart part rows table

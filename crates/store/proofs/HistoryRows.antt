@@ -18,7 +18,7 @@ use Rattle.registry.specs.Unregistered.{UnregisteredHaveNothing}
 use Rattle.registry.proofs.Numbers.{Numbered}
 use Rattle.registry.proofs.Held.{active-numbered}
 use Rattle.store.specs.Laws.{LoadsNumberOfHistories, LoadsRowsOfHistories}
-use Rattle.store.specs.Loads.{AreInOrder}
+use Rattle.loads.specs.Loads.{AreInOrder}
 
 module _ {X : Type 0} (number : X → ℕ) where
   -- the numbers rise, from above one number up to another

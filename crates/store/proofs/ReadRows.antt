@@ -18,8 +18,8 @@ use Rattle.addr.specs.Name.{is_name}
 use Rattle.slurm.specs.Exceptions.{Exceptions}
 use Rattle.slurm.specs.SlurmSets.{exceptions_of}
 use Rattle.slurm.specs.declared.set.NamedSlurm.{NamedSlurm}
-use Rattle.store.proofs.NamedFiles.{said}
-use Rattle.store.proofs.NamesFound.{some_row}
+use Rattle.loads.proofs.NamedFiles.{said}
+use Rattle.loads.proofs.NamesFound.{some_row}
 use Rattle.slurm.specs.declared.exceptions.TheConstants.{MOST_ENTRIES}
 use Rattle.slurm.specs.declared.filter.Filter.TheVariants.{Under, By, Both}
 use Rattle.registry.specs.declared.authorization.Auth.{Auth}
@@ -45,8 +45,8 @@ use Rattle.tables.proofs.Once.{claim_row_once, entry_row_once}
 use Rattle.tables.proofs.HeldExceptions.{held_number}
 use Rattle.database.specs.TablesRead.{AreFewOfEach, HasSomeAuths, ShowsException, ShowsHolder, ShowsOfHolder, row_of_claim, rows_of_entries}
 use Rattle.store.specs.Laws.{RowsInRangeGive, RowsThatReadFit}
-use Rattle.store.proofs.Giving.{gives_each}
-use Rattle.store.proofs.Loading.{claim_fits, entries_of_fit}
+use Rattle.loads.proofs.Giving.{gives_each}
+use Rattle.loads.proofs.Loading.{claim_fits, entries_of_fit}
 
 -- what is so of each row of a table is so of each row of a holder in it
 part_shows : (part : Part) (rows : List ℕ → Option Rows) (table : List Row) (So : Row → Type 0)

@@ -15,7 +15,7 @@ use Rattle.making.specs.Statements.{IsAsBefore}
 use Rattle.database.specs.Laws.{ClaimsDiffer, EntriesDiffer}
 use Rattle.store.proofs.HeldOnce.{held_once}
 use Rattle.store.specs.Given.{GivenOnce}
-use Rattle.store.specs.steps.Queries.{IsOfAll}
+use Rattle.loads.specs.Loads.{IsOfAll}
 use Rattle.store.specs.StoreRows.{StoreView, Holds, IsRead, MayLeave, LeavesOnly, LeavesPlaced}
 use Rattle.edits.specs.Changes.{PlacesExceptions, MakesChange, RowsBecome}
 use Rattle.making.specs.Databases.{HasDeskTables, IsNew, IsDeskTrees, IsDeskWhileOpen, LeavesNew}

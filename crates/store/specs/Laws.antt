@@ -23,8 +23,8 @@ use Rattle.making.specs.Databases.{IsHonest}
 use Rattle.database.specs.Opening.{IsOfAnotherSchema}
 use Rattle.database.specs.OldTablesRead.{OldTablesRead}
 use Rattle.database.specs.TablesRead.{TablesRead}
-use Rattle.store.specs.declared.load.Numbered.{Numbered}
-use Rattle.store.specs.Loads.{AreLoaded, AreNumbered, AllGiveOn}
+use Rattle.loads.specs.declared.load.Numbered.{Numbered}
+use Rattle.loads.specs.Loads.{AreLoaded, AreNumbered, AllGiveOn}
 use Rattle.store.specs.StoreRows.{AreInRange, StoreView, connection_state, Holds}
 
 -- The rows of a holder after a history, as they are loaded, are its rows after the history.

@@ -38,6 +38,11 @@ Holds g store rows =
     HasCleanDisk (connection_state g store) → IsTrue (connection_state g store).is_open
     → TablesHold store.charter rows (connection_state g store).now.trees
 
+-- it is so of the rows that a store holds
+abbrev pub OfHeldRows :
+    {S : Type 0} → Ghosts S → StoreView S → (AllRows → Type 0) → Type 0
+OfHeldRows g store so = (rows : AllRows) → Holds g store rows → so rows
+
 -- it is so, unless the disk returned what was not written
 abbrev pub IfClean : {S : Type 0} → Ghosts S → StoreView S → Type 0 → Type 0
 IfClean g store so = HasCleanDisk (connection_state g store) → so

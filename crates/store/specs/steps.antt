@@ -1,4 +1,2 @@
 -- The steps of the code, which no public contract cites.
 pub mod Commits
-pub mod Queries
-pub mod InForce

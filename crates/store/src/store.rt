@@ -10,13 +10,10 @@ ghost use Rattle.database.specs.Opening.{IsOfAnotherSchema};
 ghost use Rattle.store.specs.steps.Commits.{CommitsChange, MayCommit};
 ghost use Rattle.making.specs.Statements.{IfCommitted, IfRolledBack, CommitsAtMost};
 
-use crate::StoreFault;
-use crate::across::some_overlap;
-use crate::exceptions::load_files;
-use crate::load::{Numbered, load_numbered, load_rows, load_vrps};
 use addr::{Day, Name, Prefix, Vrp};
-use database::{make_tables, open_tables};
+use database::{StoreFault, make_tables, open_tables};
 use edits::make_change;
+use loads::{Numbered, load_files, load_numbered, load_rows, load_vrps, some_overlap};
 use registry::{Change, Charter, HolderRows};
 use slurm::Slurm;
 use sqlite::{Alter, Connection, MemStore};
@@ -148,8 +145,8 @@ impl<S: Alter> Store<S> {
     ghost use Rattle.registry.specs.RowsOfAll.{IsTaken, IsGivenOn};
     ghost use Rattle.registry.specs.Values.{FitIfAny, FilesFit};
     ghost use Rattle.store.specs.Given.{GivenOnce};
-    ghost use Rattle.store.specs.Loads.{OfHeldRows, AreLoaded, AreNumbered, AllGiveOn, AreFilesOf};
-    ghost use Rattle.store.specs.StoreRows.{connection_state, Holds, IsRead};
+    ghost use Rattle.loads.specs.Loads.{AreLoaded, AreNumbered, AllGiveOn, AreFilesOf};
+    ghost use Rattle.store.specs.StoreRows.{connection_state, Holds, IsRead, OfHeldRows};
     ghost use Rattle.making.specs.Databases.{IsDeskWhileOpen};
     ghost use Rattle.store.specs.StoreRows.{IfClean, HoldsAfter, MayLeave, LeavesOnly};
     ghost use Rattle.store.specs.StoreRows.{KeepsSchema, LeavesPlaced};

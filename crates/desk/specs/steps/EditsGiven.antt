@@ -10,7 +10,7 @@ use Rattle.registry.specs.Edits.{begun, ended}
 use Rattle.registry.specs.Rows.{Rows}
 use Rattle.registry.specs.RowsOfAll.{AllRows, IsGivenOn, changed_rows}
 use Rattle.store.specs.Given.{GivenOnce}
-use Rattle.store.specs.Loads.{AreLoaded}
+use Rattle.loads.specs.Loads.{AreLoaded}
 use Rattle.kept.specs.Giving.{AreGivingOn}
 
 -- What is given on a day after an edit of a holder that has these authorizations: what was given before and by

@@ -13,7 +13,7 @@ use Rattle.registry.specs.declared.change.Edit.{Edit}
 use Rattle.registry.specs.declared.change.Edit.TheVariants.{Create, Import, Amend}
 use Rattle.registry.specs.declared.rows.HolderRows.{HolderRows}
 use Rattle.store.specs.Given.{GivenOnce}
-use Rattle.store.specs.Loads.{AreLoaded}
+use Rattle.loads.specs.Loads.{AreLoaded}
 use Rattle.desk.specs.DeskView.{IsDayOfRows}
 use Rattle.desk.specs.declared.reply.Reply.{Reply}
 use Rattle.desk.specs.declared.reply.Reply.TheVariants.{Unavailable}

@@ -3,8 +3,8 @@ ghost use Rattle.std.specs.Prelude.{◌≡◌, true, false, option_copied, IfOk,
 ghost use Rattle.registry.specs.Answer.{holder_of, IsAccepted, IsViewOf, RowsOfNamed, ReportsTaken};
 ghost use Rattle.registry.specs.Edits.{HasEditsOf};
 ghost use Rattle.registry.specs.Rows.{rows_if_any, RowsIfAny};
-ghost use Rattle.store.specs.Loads.{AreLoaded, OfHeldRows};
-ghost use Rattle.store.specs.StoreRows.{IfClean, IsRead};
+ghost use Rattle.loads.specs.Loads.{AreLoaded};
+ghost use Rattle.store.specs.StoreRows.{IfClean, IsRead, OfHeldRows};
 ghost use Rattle.desk.specs.Answer.{is_accepted, only_reads, AnswersCommand};
 ghost use Rattle.desk.specs.CrashOutcomes.{asked_on, IsKept, StaysOpen};
 ghost use Rattle.desk.specs.DayAfter.{DayAfter};

@@ -3,8 +3,8 @@ ghost use Rattle.std.specs.Prelude.{◌≡◌, ◌≢◌, ◌↔◌, Contains, t
 ghost use Rattle.std.specs.Borrow.{sem};
 ghost use Rattle.addr.specs.declared.vrp.Vrp.{Vrp};
 ghost use Rattle.registry.specs.RowsOfAll.{IsGivenOn};
-ghost use Rattle.store.specs.Loads.{AreFilesOf, OfHeldRows};
-ghost use Rattle.store.specs.StoreRows.{IfClean, IsRead};
+ghost use Rattle.loads.specs.Loads.{AreFilesOf};
+ghost use Rattle.store.specs.StoreRows.{IfClean, IsRead, OfHeldRows};
 ghost use Rattle.desk.specs.Desk.{IsDayOf, OfRows};
 ghost use Rattle.desk.specs.DeskView.{IsDayOfRows};
 ghost use Rattle.desk.specs.Lent.{Lends};

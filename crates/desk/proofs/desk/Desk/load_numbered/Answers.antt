@@ -1,7 +1,7 @@
 use Rattle.registry.specs.Answer.{AnswersNumber}
 use Rattle.registry.specs.RowsOfAll.{AllRows}
-use Rattle.store.specs.Loads.{AreNumbered}
-use Rattle.store.specs.declared.load.Numbered.{Numbered}
+use Rattle.loads.specs.Loads.{AreNumbered}
+use Rattle.loads.specs.declared.load.Numbered.{Numbered}
 use Rattle.desk.proofs.DeskLemmas.{of_held}
 use Rattle.desk.proofs.KeptLemmas.{kept_read}
 use Rattle.desk.proofs.desk.Desk.load_numbered.Goals as goal

@@ -2,7 +2,7 @@ use Rattle.std.proofs.Common.{Option}
 use Rattle.registry.specs.declared.rows.HolderRows.{HolderRows}
 use Rattle.registry.specs.Rows.{rows_if_any, RowsIfAny}
 use Rattle.registry.specs.RowsOfAll.{AllRows}
-use Rattle.store.specs.Loads.{AreLoaded}
+use Rattle.loads.specs.Loads.{AreLoaded}
 use Rattle.desk.proofs.DeskLemmas.{of_held}
 use Rattle.desk.proofs.KeptLemmas.{kept_read}
 use Rattle.desk.proofs.desk.Desk.load_two.Goals as goal

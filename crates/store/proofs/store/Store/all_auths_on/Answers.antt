@@ -4,7 +4,7 @@ use Rattle.sqlite.specs.Held.{state}
 use Rattle.sqlite.specs.State.{HasCleanDisk}
 use Rattle.addr.specs.declared.vrp.Vrp.{Vrp}
 use Rattle.registry.specs.RowsOfAll.{IsGivenOn, AllRows}
-use Rattle.store.specs.Loads.{AllGiveOn}
+use Rattle.loads.specs.Loads.{AllGiveOn}
 use Rattle.store.specs.StoreRows.{Holds}
 use Rattle.store.proofs.StoreLemmas.{over, of_store}
 use Rattle.store.proofs.store.Store.all_auths_on.Goals as goal

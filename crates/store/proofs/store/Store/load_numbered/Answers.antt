@@ -3,7 +3,7 @@ use Rattle.sqlite.specs.Held.{state}
 use Rattle.sqlite.specs.State.{HasCleanDisk}
 use Rattle.registry.specs.Values.{FitIfAny}
 use Rattle.registry.specs.RowsOfAll.{AllRows}
-use Rattle.store.specs.Loads.{AreNumbered}
+use Rattle.loads.specs.Loads.{AreNumbered}
 use Rattle.store.specs.StoreRows.{Holds}
 use Rattle.store.proofs.StoreLemmas.{over, of_store}
 use Rattle.store.proofs.store.Store.load_numbered.Goals as goal

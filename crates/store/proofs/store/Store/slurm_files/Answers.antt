@@ -3,7 +3,7 @@ use Rattle.sqlite.specs.Held.{state}
 use Rattle.sqlite.specs.State.{HasCleanDisk}
 use Rattle.registry.specs.RowsOfAll.{AllRows}
 use Rattle.registry.specs.Values.{FilesFit}
-use Rattle.store.specs.Loads.{AreFilesOf}
+use Rattle.loads.specs.Loads.{AreFilesOf}
 use Rattle.store.specs.StoreRows.{Holds}
 use Rattle.store.proofs.StoreLemmas.{over, of_store}
 use Rattle.store.proofs.store.Store.slurm_files.Goals as goal

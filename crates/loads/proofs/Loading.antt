@@ -1,0 +1,143 @@
+-- What is loaded from the rows that queries found.
+use Rattle.std.proofs.Common.{◌≡◌, ℕ, ◌+◌, ◌<◌, ◌||◌, true, List, [], ◌∷◌, map, flat_map, take, length, get_or, slice_get, All, Option, Some, None, IsTrue, refl, sym, ap, subst, ◌∙◌, arith, IsPermutation}
+use Rattle.std.specs.Prelude.{⊤}
+use Rattle.std.specs.List.{AllByRecursion}
+use Rattle.std.proofs.Math.Bool.{or-false}
+use Rattle.std.proofs.lemmas.Bool.Decides.{nat_tests}
+use Rattle.std.proofs.lemmas.List.Elements.{All-nil, All-cons, All-from_recursion, recursion_from_All}
+use Rattle.std.proofs.lemmas.List.Folds.{list_any-append}
+use Rattle.std.proofs.lemmas.List.Sorted.{list_any-IsPermutation, length_permutation}
+use Rattle.sqlite.specs.Effect.{Database}
+use Rattle.sqlite.specs.State.{State}
+use Rattle.sqlite.proofs.Callers.{one_permutation}
+use Rattle.sqlite_rules.proofs.ListLemmas.{all_from, test_has}
+use Rattle.sqlite_trees.proofs.ListLemmas.{all-flat_map, all-map, all_weaker}
+use Rattle.addr.specs.Address.{Address, FitsMaxLength, fits_max_length}
+use Rattle.addr.specs.Spans.{span_has, spans_have, AreMaximal}
+use Rattle.addr.specs.declared.span.Span.{Span}
+use Rattle.registry.specs.declared.authorization.Auth.{Auth}
+use Rattle.registry.specs.declared.authorization.RoaPrefix.{RoaPrefix}
+use Rattle.registry.specs.declared.grant.Granted.{Granted}
+use Rattle.charters.specs.CharterSets.{CharterSets}
+use Rattle.registry.specs.declared.rows.HolderRows.{HolderRows}
+use Rattle.registry.specs.Rows.{Rows}
+use Rattle.tables.specs.Authorizations.{claim_of, entry_rows_of}
+use Rattle.tables.specs.Decode.{ClaimFits, EntryRowFits}
+use Rattle.tables.specs.Groups.{claim_entry}
+use Rattle.tables.specs.TablesHold.{items_if_any, TablesHold}
+use Rattle.loads.specs.Loads.{IsOpenWith, AreInOrder, HaveSame, AreLoaded}
+use Rattle.tables.specs.declared.holder.Counters.{Counters}
+use Rattle.registry.specs.Values.{IsCount, GrantFits, AuthFits, FitIfAny}
+use Rattle.registry.specs.RowsOfAll.{AllRows}
+use Rattle.tables.proofs.CellsOnce.{counters_of_rows}
+use Rattle.making.proofs.StatementLemmas.{taken_more}
+
+-- one more run in a loop
+pub one_run_more : (spans : List Span) (i : ℕ) (s : Span) (before after : List Span) → i < length spans → s ≡ get_or spans i s → HaveSame (take i spans) before
+    → ((a : Address) → spans_have after a ≡ (spans_have before a || span_has s a)) → HaveSame (take (i + 1) spans) after
+one_run_more spans i s before after low is same added a =
+    added a ∙ ap (λ b. b || span_has s a) (same a)
+    ∙ sym (ap (λ l. spans_have l a) (taken_more spans i s low is) ∙ list_any-append (λ t. span_has t a) (take i spans) (s ∷ []) ∙ ap (λ b. spans_have (take i spans) a || b) (or-false (span_has s a)))
+
+-- ---- the runs in another order have the same addresses
+
+pub same-permuted : (xs ys : List Span) → IsPermutation xs ys → HaveSame xs ys
+same-permuted xs ys same a = sym (list_any-IsPermutation (λ s. span_has s a) xs ys same)
+
+-- ---- rows that fit
+
+pub grants_fit : (o : Option Rows) → FitIfAny o → All GrantFits (items_if_any (λ r. r.grants) o)
+grants_fit None fit = All-nil GrantFits
+grants_fit (Some r) fit = fit.grants
+
+pub claim_fits : (x : Auth) → AuthFits x → ClaimFits (claim_of x)
+claim_fits x fits = record { number = fits.number; asn = fits.asn; from = fits.from; until = fits.until }
+
+max_fits : (e : RoaPrefix) → fits_max_length e.prefix e.max ≡ true → FitsMaxLength e.prefix e.max
+max_fits e fits = (grind (arith, nat_tests), grind (arith, nat_tests))
+
+pub entries_of_fit : (x : Auth) → AuthFits x → AllByRecursion EntryRowFits (entry_rows_of x)
+entries_of_fit x fits =
+    all-map EntryRowFits (claim_entry (claim_of x)) x.entries
+    (all_from _ x.entries (λ e has. record {
+      number = fits.number;
+      asn = fits.asn;
+      max = max_fits e (test_has (λ (d : RoaPrefix). fits_max_length d.prefix d.max) x.entries e fits.lengths has);
+    }))
+
+pub claims_fit : (o : Option Rows) → FitIfAny o → All ClaimFits (items_if_any (λ r. map claim_of r.auths) o)
+claims_fit None fit = All-nil ClaimFits
+claims_fit (Some r) fit =
+    All-from_recursion ClaimFits (map claim_of r.auths)
+    (all-map ClaimFits claim_of r.auths (all_weaker AuthFits (λ x. ClaimFits (claim_of x)) claim_fits r.auths (recursion_from_All AuthFits r.auths fit.auths)))
+
+pub entries_fit : (o : Option Rows) → FitIfAny o → All EntryRowFits (items_if_any (λ r. flat_map entry_rows_of r.auths) o)
+entries_fit None fit = All-nil EntryRowFits
+entries_fit (Some r) fit =
+    All-from_recursion EntryRowFits (flat_map entry_rows_of r.auths)
+    (all-flat_map EntryRowFits entry_rows_of r.auths (all_weaker AuthFits (λ x. AllByRecursion EntryRowFits (entry_rows_of x)) entries_of_fit r.auths (recursion_from_All AuthFits r.auths fit.auths)))
+
+-- every span is one
+pub all_spans_fit : (spans : List Span) → All (λ _. ⊤) spans
+all_spans_fit spans k d low = tt
+
+-- ---- counters
+
+-- the counters of the rows, where there are rows
+abbrev pub AreCounters : Option Rows → Option Counters → Type 0
+AreCounters None None = ⊤
+AreCounters None (Some c) = ⊥
+AreCounters (Some r) None = ⊥
+AreCounters (Some r) (Some c) = (c.granted ≡ r.granted) × (c.created ≡ r.created)
+
+none_in : {X : Type 0} (xs : List X) → IsPermutation [] xs → xs ≡ []
+none_in [] same = refl
+none_in (x ∷ xs) same = absurd (let e = length_permutation _ _ same in cc)
+
+pub first_counters : (o : Option Rows) (xs : List Counters) → IsPermutation (items_if_any counters_of_rows o) xs → AreCounters o (slice_get xs 0)
+first_counters None xs same = rw (none_in xs same) tt
+first_counters (Some r) xs same = rw (one_permutation (record { granted = r.granted; created = r.created }) xs same) (refl, refl)
+
+abbrev pub CountersFit : Counters → Type 0
+CountersFit c = IsCount c.granted × IsCount c.created
+
+pub counters_fit : (o : Option Rows) → FitIfAny o → All CountersFit (items_if_any counters_of_rows o)
+counters_fit None fit = All-nil CountersFit
+counters_fit (Some r) fit = All-cons CountersFit (record { granted = r.granted; created = r.created }) [] (fit.granted, fit.created) (All-nil CountersFit)
+
+-- ---- the rows of a holder
+
+-- what the tables held before calls that changed nothing they hold after them
+pub held_before :
+    (old mid : State) → mid.now ≡ old.now → (charter : CharterSets) (rows : AllRows)
+    → TablesHold charter rows old.now.trees → TablesHold charter rows mid.now.trees
+held_before old mid same charter rows holds = subst (λ (d : Database). TablesHold charter rows d.trees) (sym same) holds
+
+-- what is refused after such calls was to be refused before
+pub refused_before :
+    (so : AllRows → Type 0) (old mid : State) → IsTrue old.is_open → mid.now ≡ old.now → IsOpenWith so mid → IsOpenWith so old
+refused_before so old mid opened same refusal = (opened, λ charter rows holds. refusal.1 charter rows (held_before old mid same charter rows holds))
+
+-- rows of which some do not fit after such calls did not fit before
+pub never_fit :
+    {X : Type 0} (fits : X → Type 0) (items : Rows → List X) → ((o : Option Rows) → FitIfAny o → All fits (items_if_any items o))
+    → (h : List ℕ) (old mid : State) → IsTrue old.is_open → mid.now ≡ old.now
+    → IsOpenWith (λ all. ¬ All fits (items_if_any items (all.of_holder h))) mid → IsOpenWith (λ all. ¬ FitIfAny (all.of_holder h)) old
+never_fit fits items each h old mid opened same refusal =
+    refused_before (λ all. ¬ FitIfAny (all.of_holder h)) old mid opened same (refusal.0, λ charter rows holds fit. refusal.1 charter rows holds (each (rows.of_holder h) fit))
+
+pub none_loaded : (o : Option Rows) → AreCounters o None → AreLoaded o None
+none_loaded None none = tt
+none_loaded (Some r) none = none
+
+pub all_loaded : (o : Option Rows) (c : Counters) (loaded : HolderRows) → AreCounters o (Some c) → loaded.granted ≡ c.granted → loaded.created ≡ c.created → AreMaximal loaded.holdings → HaveSame (items_if_any (λ r. r.holdings) o) loaded.holdings
+    → AreInOrder (λ (g : Granted). g.number) (items_if_any (λ r. r.grants) o) loaded.grants.items → AreInOrder (λ (x : Auth). x.number) (items_if_any (λ r. r.auths) o) loaded.auths.items → AreLoaded o (Some loaded)
+all_loaded None c loaded none granted created maximal holdings grants auths = absurd none
+all_loaded (Some r) c loaded counters granted created maximal holdings grants auths = record {
+  maximal = maximal;
+  holdings = holdings;
+  grants = grants;
+  auths = auths;
+  granted = granted ∙ counters.0;
+  created = created ∙ counters.1;
+}

@@ -1,0 +1,148 @@
+-- The authorization of a holder that has a number, out of the claims of that number and the rows of its entries.
+use Rattle.std.proofs.Common.{◌≡◌, ◌≢◌, ℕ, ◌+◌, ◌<◌, ◌&&◌, ◌↔◌, Bool, true, false, cond, List, [], ◌∷◌, ◌++◌, map, flat_map, filter, find, length, slice_get, option_to_list, Option, Some, None, IsSome, refl, sym, ap, subst, ◌∙◌, arith, IsPermutation, IsSorted}
+use Rattle.std.specs.Prelude.{All, AllPairs}
+use Rattle.std.specs.List.{AllByRecursion}
+use Rattle.std.proofs.lemmas.List.{length-append}
+use Rattle.std.proofs.lemmas.List.Elements.{All-from_recursion, recursion_from_All}
+use Rattle.std.proofs.lemmas.List.Sorted.{IsPermutation-map, IsPermutation-sym, length_permutation}
+use Rattle.sqlite.specs.Effect.{Database, IsDatabase}
+use Rattle.sqlite.proofs.Callers.{one_permutation}
+use Rattle.sqlite_value.specs.declared.value.Value.TheVariants.{Text}
+use Rattle.sqlite_trees.proofs.ListLemmas.{IsPermutation-filter, all-filter, all-flat_map, all-map, all_weaker, map-map}
+use Rattle.charters.specs.CharterSets.{CharterSets}
+use Rattle.registry.specs.Rows.{Rows}
+use Rattle.registry.specs.RowsOfAll.{AllRows}
+use Rattle.registry.specs.Values.{AuthFits, FitIfAny}
+use Rattle.registry.specs.Verdict.{auth_of_number}
+use Rattle.registry.specs.declared.authorization.Auth.{Auth}
+use Rattle.tables.specs.declared.claim.Claim.{Claim}
+use Rattle.tables.specs.declared.entry.EntryRow.{EntryRow}
+use Rattle.tables.specs.Authorizations.{AreAuths, NumbersRise, claim_of, entry_rows_of}
+use Rattle.tables.specs.Cells.{claim_cells, claim_row, entry_cells, number_cell}
+use Rattle.tables.specs.Decode.{ClaimFits, EntryRowFits}
+use Rattle.tables.specs.Tables.{claim, contents, desk_tables}
+use Rattle.tables.specs.TablesHold.{TablesHold, claim_part, items_if_any, part_rows}
+use Rattle.tables.proofs.GroupCells.{by_entry}
+use Rattle.tables.proofs.PartLemmas.{names}
+use Rattle.tables.proofs.TreeRows.{filter_twice}
+use Rattle.database.specs.Laws.{ClaimsDiffer, number_columns}
+use Rattle.loads.specs.steps.Queries.{by_column}
+use Rattle.database.proofs.AuthsFound.{HasEntries, are_some, held_entries, in_order, key_of}
+use Rattle.loads.proofs.Finding.{claims_kept, claims_numbered, entries_numbered, has_number, is_numbered}
+use Rattle.loads.proofs.Loading.{claim_fits, entries_of_fit}
+
+abbrev auths_if_any : Option Rows → List Auth
+auths_if_any = items_if_any (λ r. r.auths)
+
+-- ---- one of a number
+
+pub first_found : {X : Type 0} (p : X → Bool) (xs : List X) → find p xs ≡ slice_get (filter p xs) 0
+first_found p [] = refl
+first_found p (x ∷ xs) = elim (p x) as (λ b. cond b (Some x) (find p xs) ≡ slice_get (cond b (x ∷ filter p xs) (filter p xs)) 0) [ true ↦ refl | false ↦ first_found p xs ]
+
+all_of_number : (n : ℕ) (xs : List Auth) → AllByRecursion (λ x. has_number n x ≡ true) (filter (has_number n) xs)
+all_of_number n [] = tt
+all_of_number n (x ∷ xs) = go (has_number n x) refl (all_of_number n xs)
+  where
+    go : (b : Bool) → has_number n x ≡ b → AllByRecursion (λ y. has_number n y ≡ true) (filter (has_number n) xs)
+        → AllByRecursion (λ y. has_number n y ≡ true) (cond b (x ∷ filter (has_number n) xs) (filter (has_number n) xs))
+    go true is more = (is, more)
+    go false is more = more
+
+at_most_one : (h : List ℕ) (n : ℕ) (xs : List Auth) → AllByRecursion (λ x. has_number n x ≡ true) xs → AllPairs ◌≢◌ (map (key_of h) xs) → length xs < 2
+at_most_one h n [] all apart = omega arith
+at_most_one h n (x ∷ []) all apart = omega arith
+at_most_one h n (x ∷ y ∷ xs) all apart =
+    let same : x.number ≡ y.number = (let one = all.0 in let other = all.1.0 in grind (arith, one, other)) in
+    absurd (apart 0 1 (key_of h x) (omega arith) (omega arith) (ap (λ m. Text h ∷ number_cell m ∷ []) same))
+
+none_alike : {X : Type 0} (ys : List X) → IsPermutation [] ys → ys ≡ []
+none_alike [] same = refl
+none_alike (y ∷ ys) same = absurd (let e = length_permutation _ _ same in cc)
+
+-- what is taken from the end of at most one
+last_of_one : {X : Type 0} (ys rest : List X) (popped : Option X) → length ys < 2 → ys ≡ rest ++ option_to_list popped → (IsSome popped ↔ (0 < length ys)) → slice_get ys 0 ≡ popped
+last_of_one [] rest None few is some = refl
+last_of_one [] rest (Some x) few is some = absurd (let e = some.0 refl in omega (arith, e))
+last_of_one (y ∷ []) rest None few is some = absurd (let e = some.1 (omega arith) in cc)
+last_of_one (y ∷ []) [] (Some x) few is some = ap (λ l. slice_get l 0) is
+last_of_one (y ∷ []) (r ∷ rest) (Some x) few is some = absurd (let e = ap length is in let more = length-append rest (x ∷ []) in omega (arith, e, more))
+last_of_one (y ∷ z ∷ ys) rest popped few is some = absurd (omega (arith, few))
+
+few_alike : {X : Type 0} (xs ys : List X) → length xs < 2 → IsPermutation xs ys → ys ≡ xs
+few_alike [] ys few same = none_alike ys same
+few_alike (x ∷ []) ys few same = one_permutation x ys same
+few_alike (x ∷ y ∷ xs) ys few same = absurd (omega (arith, few))
+
+pub popped_number :
+    (n : ℕ) (xs : List Auth) (ys rest : List Auth) (popped : Option Auth) → length (filter (has_number n) xs) < 2 → IsPermutation (filter (has_number n) xs) ys
+    → ys ≡ rest ++ option_to_list popped → (IsSome popped ↔ (0 < length ys)) → auth_of_number n xs ≡ popped
+popped_number n xs ys rest popped few same is some =
+    let alike = few_alike (filter (has_number n) xs) ys few same in
+    first_found (has_number n) xs ∙ ap (λ l. slice_get l 0) (sym alike)
+    ∙ last_of_one ys rest popped (subst (λ l. length l < 2) (sym alike) few) is some
+
+-- ---- over the tables
+
+module _
+    (differ : ClaimsDiffer) (charter : CharterSets) (all : AllRows) (db : Database) (sound : IsDatabase db) (tables : db.schema.tables ≡ desk_tables)
+    (holds : TablesHold charter all db.trees) (h : List ℕ) (n : ℕ) where
+  abbrev numbered : List Auth
+  numbered = filter (has_number n) (auths_if_any (all.of_holder h))
+
+  numbers_differ : AllPairs ◌≢◌ (map (key_of h) numbered)
+  numbers_differ =
+      differ db sound tables (holds.whole claim.tree refl) (λ c. names claim_part.place h c && is_numbered n c) _
+      (subst (λ l. IsPermutation (map number_columns (filter (λ c. names claim_part.place h c && is_numbered n c) (contents (db.trees claim.tree)))) l) (go (all.of_holder h))
+      (subst (λ l. IsPermutation (map number_columns l) (map number_columns (filter (is_numbered n) (part_rows claim_part h (all.of_holder h))))) (filter_twice (is_numbered n) (names claim_part.place h) (contents (db.trees claim.tree)))
+      (IsPermutation-map number_columns _ _ (IsPermutation-filter (is_numbered n) _ _ (IsPermutation-sym _ _ (holds.claims.each h))))))
+    where
+      go : (o : Option Rows) → map number_columns (filter (is_numbered n) (part_rows claim_part h o)) ≡ map (key_of h) (filter (has_number n) (auths_if_any o))
+      go None = refl
+      go (Some r) = ap (map number_columns) (claims_kept h n r.auths) ∙ map-map number_columns (λ x. claim_row h (claim_of x)) (filter (has_number n) r.auths)
+
+  pub few_numbered : length numbered < 2
+  few_numbered = at_most_one h n numbered (all_of_number n (auths_if_any (all.of_holder h))) numbers_differ
+
+  module _ (claims : List Claim) (rows : List EntryRow)
+      (same_claims : IsPermutation (items_if_any (claims_numbered n) (all.of_holder h)) claims) (claims_sorted : IsSorted (by_column 0) (map claim_cells claims))
+      (same_rows : IsPermutation (items_if_any (entries_numbered n) (all.of_holder h)) rows) (sorted : IsSorted by_entry (map entry_cells rows)) where
+    its_claims : IsPermutation (map claim_of numbered) claims
+    its_claims = go (all.of_holder h) same_claims
+      where
+        go : (o : Option Rows) → IsPermutation (items_if_any (claims_numbered n) o) claims → IsPermutation (map claim_of (filter (has_number n) (auths_if_any o))) claims
+        go None same = same
+        go (Some r) same = same
+
+    its_rows : IsPermutation (flat_map entry_rows_of numbered) rows
+    its_rows = go (all.of_holder h) same_rows
+      where
+        go : (o : Option Rows) → IsPermutation (items_if_any (entries_numbered n) o) rows → IsPermutation (flat_map entry_rows_of (filter (has_number n) (auths_if_any o))) rows
+        go None same = same
+        go (Some r) same = same
+
+    have : AllByRecursion HasEntries numbered
+    have = all-filter HasEntries (has_number n) (auths_if_any (all.of_holder h)) (held_entries charter all db.trees holds h)
+
+    pub number_found : (auths : List Auth) → AreAuths claims rows auths → IsPermutation numbered auths
+    number_found auths are = (in_order h numbered claims rows have numbers_differ its_claims claims_sorted its_rows sorted auths are).0
+
+    pub never_no_number : (NumbersRise claims → (auths : List Auth) → ¬ AreAuths claims rows auths) → ⊥
+    never_no_number = are_some h numbered claims rows have numbers_differ its_claims claims_sorted its_rows sorted
+
+-- ---- rows that fit
+
+numbered_fit : (n : ℕ) (r : Rows) → All AuthFits r.auths → AllByRecursion AuthFits (filter (has_number n) r.auths)
+numbered_fit n r fits = all-filter AuthFits (has_number n) r.auths (recursion_from_All AuthFits r.auths fits)
+
+pub numbered_claims_fit : (n : ℕ) (o : Option Rows) → FitIfAny o → All ClaimFits (items_if_any (claims_numbered n) o)
+numbered_claims_fit n None fit = All-from_recursion ClaimFits [] tt
+numbered_claims_fit n (Some r) fit =
+    All-from_recursion ClaimFits (claims_numbered n r)
+    (all-map ClaimFits claim_of _ (all_weaker AuthFits (λ x. ClaimFits (claim_of x)) claim_fits _ (numbered_fit n r fit.auths)))
+
+pub numbered_entries_fit : (n : ℕ) (o : Option Rows) → FitIfAny o → All EntryRowFits (items_if_any (entries_numbered n) o)
+numbered_entries_fit n None fit = All-from_recursion EntryRowFits [] tt
+numbered_entries_fit n (Some r) fit =
+    All-from_recursion EntryRowFits (entries_numbered n r)
+    (all-flat_map EntryRowFits entry_rows_of _ (all_weaker AuthFits (λ x. AllByRecursion EntryRowFits (entry_rows_of x)) entries_of_fit _ (numbered_fit n r fit.auths)))

@@ -1,0 +1,91 @@
+-- Steps of reading: the authorizations of all holders that are in force on a day. Their claims and the payloads of all
+-- entries are asked for, and the payloads that are of no such claim are taken away.
+use Rattle.std.specs.Prelude.{◌≡◌, ℕ, ◌≤◌, Bool, true, ◌&&◌, List, [], ◌∷◌, ◌++◌, map, filter, Contains, Some, IsPermutation, IsSorted}
+use Rattle.std.specs.List.{list_any}
+use Rattle.std.specs.declared.cmp.Ordering.{Ordering}
+use Rattle.std.specs.Ordering.{is_eq, then_cmp}
+use Rattle.sqlite.specs.Effect.{Database}
+use Rattle.sqlite_value.specs.declared.keys.Collation.TheVariants.{Binary}
+use Rattle.sqlite_value.specs.Order.{Row, column}
+use Rattle.sqlite_sql.specs.declared.ops.CompareOp.TheVariants.{Le, Ge}
+use Rattle.sqlite_sql.specs.declared.ops.BinaryOp.TheVariants.{Compare}
+use Rattle.sqlite_sql.specs.Ops.{binary, is_true}
+use Rattle.registry.specs.declared.authorization.Auth.{Auth}
+use Rattle.registry.specs.declared.authorization.RoaPrefix.{RoaPrefix}
+use Rattle.registry.specs.Rows.{Rows}
+use Rattle.registry.specs.RowsOfAll.{AllRows}
+use Rattle.tables.specs.Cells.{number_cell, prefix_cells}
+use Rattle.tables.specs.Decode.{first_columns}
+use Rattle.tables.specs.Tables.{claim, entry, columns, contents}
+use Rattle.database.specs.Laws.{payload_columns}
+use Rattle.loads.specs.steps.Queries.{by_column}
+
+-- ---- what the two queries show
+
+-- of a claim its number, AS and days, and its holder
+abbrev pub claim_columns : Row → Row
+claim_columns = columns (1 ∷ 2 ∷ 3 ∷ 4 ∷ 0 ∷ [])
+
+-- of an entry its payload, its holder and the number of its claim
+abbrev pub entry_columns : Row → Row
+entry_columns = columns (2 ∷ 3 ∷ 4 ∷ 5 ∷ 6 ∷ 0 ∷ 1 ∷ [])
+
+-- the payload of what is shown of an entry
+abbrev pub payload_of : Row → Row
+payload_of = first_columns 5
+
+-- the holder and the number in what is shown of a claim, and of an entry
+abbrev pub claim_key : Row → Row
+claim_key = columns (4 ∷ 0 ∷ [])
+
+abbrev pub payload_key : Row → Row
+payload_key = columns (5 ∷ 6 ∷ [])
+
+-- by the holder, then by the number
+abbrev pub key_order : Row → Row → Ordering
+key_order = then_cmp (by_column 0) (by_column 1)
+
+abbrev pub ClaimsRise : List Row → Type 0
+ClaimsRise = IsSorted (λ c d. key_order (claim_key c) (claim_key d))
+
+-- one of the claims has the holder and the number of the payload
+abbrev pub is_claimed : List Row → Row → Bool
+is_claimed claims row = list_any (λ c. is_eq (key_order (claim_key c) (payload_key row))) claims
+
+-- ---- the rows of the tables
+
+-- the row of a claim that is in force on the day
+abbrev pub is_open_on : ℕ → Row → Bool
+is_open_on day c =
+    is_true (binary (Compare Le Binary) (column c 3) (number_cell day))
+    && (is_true (binary (Compare Ge Binary) (column c 4) (number_cell day)) && true)
+
+abbrev pub claims_on : ℕ → Database → List Row
+claims_on day db = map claim_columns (filter (is_open_on day) (contents (db.trees claim.tree)))
+
+abbrev pub FindsClaims : ℕ → Database → List Row → Type 0
+FindsClaims day db rows = IsPermutation (claims_on day db) rows
+
+abbrev pub FindsPayloads : Database → List Row → Type 0
+FindsPayloads db rows = IsPermutation (map entry_columns (contents (db.trees entry.tree))) rows
+
+-- the row of an entry whose claim is in force on the day
+abbrev pub is_claimed_on : ℕ → Database → Row → Bool
+is_claimed_on day db c = is_claimed (claims_on day db) (entry_columns c)
+
+abbrev pub FindsInForce : ℕ → Database → List Row → Type 0
+FindsInForce day db rows =
+    IsPermutation (map payload_columns (filter (is_claimed_on day db) (contents (db.trees entry.tree)))) rows
+
+-- ---- the authorizations
+
+-- the AS of an authorization, and the prefix of an entry of it with its maxLength
+abbrev pub payload_cells : Auth → RoaPrefix → Row
+payload_cells x e = number_cell x.asn.0 ∷ prefix_cells e.prefix ++ number_cell e.max ∷ []
+
+-- an authorization of some holder is in force on the day, and this is the payload of an entry of it
+abbrev pub IsPayloadOn : AllRows → ℕ → Row → Type 0
+IsPayloadOn rows day v =
+    (h : List ℕ) × (r : Rows) × (x : Auth) × (e : RoaPrefix)
+    × (rows.of_holder h ≡ Some r) × Contains r.auths x × Contains x.entries e
+    × (x.from ≤ day) × (day ≤ x.until) × (v ≡ payload_cells x e)

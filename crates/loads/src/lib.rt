@@ -1,0 +1,11 @@
+//! What is loaded from the tables of a desk, query by query on a connection.
+#![tactic(auto)]
+
+mod across;
+mod exceptions;
+mod load;
+mod select;
+
+pub use across::some_overlap;
+pub use exceptions::load_files;
+pub use load::{Numbered, load_numbered, load_rows, load_vrps};

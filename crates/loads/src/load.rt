@@ -1,0 +1,226 @@
+//! What is loaded from the tables.
+ghost use Rattle.std.specs.Prelude.{◌≡◌, ◌≢◌, ◌↔◌, ℕ, List, map, All, AllPairs, Contains, Err, IfOk, IsPermutation, IsSorted};
+ghost use Rattle.std.specs.declared.cmp.Ordering.{Ordering};
+ghost use Rattle.sqlite.specs.Given.{IsPlain};
+ghost use Rattle.sqlite.specs.Listing.{understood};
+ghost use Rattle.sqlite.specs.Values.{bound};
+ghost use Rattle.sqlite_value.specs.Order.{Row as Cells};
+ghost use Rattle.sqlite.specs.Held.{state};
+ghost use Rattle.addr.specs.Spans.{AreMaximal};
+ghost use Rattle.addr.specs.declared.vrp.Vrp.{Vrp};
+ghost use Rattle.registry.specs.declared.authorization.Auth.{Auth};
+ghost use Rattle.registry.specs.Rows.{Rows};
+ghost use Rattle.registry.specs.RowsOfAll.{IsGivenOn};
+ghost use Rattle.registry.specs.Values.{FitIfAny};
+ghost use Rattle.registry.specs.Verdict.{auth_of_number};
+ghost use Rattle.loads.specs.Loads.{HaveSame, AreInOrder, AreLoaded, AreNumbered, AllGiveOn, IsOf, IsOfAll, IsOpenWith};
+ghost use Rattle.tables.specs.Tables.{OverDesk};
+ghost use Rattle.tables.specs.TablesHold.{items_if_any};
+ghost use Rattle.database.specs.Queries.{IsAsked, IsClean, IsReadyToAsk};
+ghost use Rattle.loads.specs.steps.Queries.{SelectsWith};
+
+use crate::across::in_force_rows;
+use crate::select::OfHolder;
+use addr::{Day, Holdings, Name, Span, Vrp};
+use database::{StoreFault, ask, read_all};
+use registry::{Auth, Granted, HolderRows};
+use sqlite::types::ValueRef;
+use sqlite::{Alter, Connection};
+use std::alloc::{AllocError, Global};
+use tables::{
+    Claim, Counters, EntryRow, FromRow, SELECT_NUMBERED_CLAIM, SELECT_NUMBERED_ENTRIES, auths_of,
+    name_values, number_values,
+};
+
+/// The addresses of the runs, as maximal runs.
+fn holdings_of(alloc: Global, spans: &[Span]) -> Result<Holdings, AllocError>
+    ensures same { IfOk result (λ holdings. HaveSame spans.now holdings) }
+    ensures maximal { IfOk result AreMaximal }
+{
+    let mut holdings = Holdings::new(alloc);
+    for span in spans {
+        holdings.add_span(span)?;
+    }
+    // Its clause is for the proof: the runs are maximal.
+    let _ = holdings.spans();
+    Ok(holdings)
+}
+
+/// The values that the text selects with these parameters, in the order of their rows.
+fn load_selected<T: FromRow, S: Alter>(
+    conn: &mut Connection<S>,
+    alloc: Global,
+    sql: &str,
+    values: &[ValueRef<'_>],
+) -> Result<Vec<T>, StoreFault>
+    requires ready { IsReadyToAsk S.Store conn.old }
+    requires plain { OverDesk (λ s. IsPlain (understood s sql.now)) }
+    ensures asked { IsAsked S.Store conn.old conn.new result }
+    ensures found { (h : List ℕ) (params : Cells) (items : Rows → List T)
+        (cmp : Cells → Cells → Ordering) → bound values.now ≡ params
+        → SelectsWith T.cells T.width items cmp sql.now h params → IsClean S.Store conn.new
+        → IfOk result (λ values.
+        IsOf (λ rows. IsPermutation (items_if_any items rows) values.items)
+        h (state S.Store conn.old)) }
+    ensures rising { (h : List ℕ) (params : Cells) (items : Rows → List T)
+        (cmp : Cells → Cells → Ordering) → bound values.now ≡ params
+        → SelectsWith T.cells T.width items cmp sql.now h params → IsClean S.Store conn.new
+        → IfOk result (λ values. IsSorted cmp (map T.cells values.items)) }
+    ensures schema { (h : List ℕ) (params : Cells) (items : Rows → List T)
+        (cmp : Cells → Cells → Ordering) → bound values.now ≡ params
+        → SelectsWith T.cells T.width items cmp sql.now h params → IsClean S.Store conn.new
+        → result ≡ Err StoreFault.Schema
+        → IsOpenWith (λ all. ¬ All T.fits (items_if_any items (all.of_holder h)))
+        (state S.Store conn.old) }
+{
+    let rows = ask(conn, sql, values)?;
+    read_all(alloc, &rows)
+}
+
+/// The values of the holder of one type, in the order of their rows.
+fn load_values<T: OfHolder, S: Alter>(
+    conn: &mut Connection<S>,
+    alloc: Global,
+    holder: &Name,
+) -> Result<Vec<T>, StoreFault>
+    requires { IsReadyToAsk S.Store conn.old }
+    ensures asked { IsAsked S.Store conn.old conn.new result }
+    ensures found { IsClean S.Store conn.new → IfOk result (λ values.
+        IsOf (λ rows. IsPermutation (items_if_any T.items rows) values.items)
+        holder.now (state S.Store conn.old)) }
+    ensures rising { IsClean S.Store conn.new → IfOk result (λ values.
+        IsSorted T.order (map T.cells values.items)) }
+    ensures schema { IsClean S.Store conn.new → result ≡ Err StoreFault.Schema
+        → IsOpenWith (λ all. ¬ All T.fits (items_if_any T.items (all.of_holder holder.now)))
+        (state S.Store conn.old) }
+{
+    load_selected(conn, alloc, T::select(), &name_values(holder))
+}
+
+/// The authorizations of the holder, by rising number.
+fn load_auths<S: Alter>(
+    conn: &mut Connection<S>,
+    alloc: Global,
+    holder: &Name,
+) -> Result<Vec<Auth>, StoreFault>
+    requires { IsReadyToAsk S.Store conn.old }
+    ensures asked { IsAsked S.Store conn.old conn.new result }
+    ensures found { IsClean S.Store conn.new → IfOk result (λ auths.
+        IsOf (λ rows. AreInOrder (λ (x : Auth). x.number) (items_if_any (λ r. r.auths) rows)
+        auths.items) holder.now (state S.Store conn.old)) }
+    ensures schema { IsClean S.Store conn.new → result ≡ Err StoreFault.Schema
+        → IsOpenWith (λ all. ¬ FitIfAny (all.of_holder holder.now)) (state S.Store conn.old) }
+{
+    // Its clause `live` is for the proof: the rows obey the schema.
+    let _schema = conn.schema();
+    database::laws::claims_differ();
+    let claims: Vec<Claim> = load_values(conn, alloc, holder)?;
+    let rows: Vec<EntryRow> = load_values(conn, alloc, holder)?;
+    auths_of(alloc, &claims, &rows)?.ok_or(StoreFault::Schema)
+}
+
+/// The authorization of the holder that has the number, if there is one.
+fn load_auth<S: Alter>(
+    conn: &mut Connection<S>,
+    alloc: Global,
+    holder: &Name,
+    number: u32,
+) -> Result<Option<Auth>, StoreFault>
+    requires { IsReadyToAsk S.Store conn.old }
+    ensures asked { IsAsked S.Store conn.old conn.new result }
+    ensures found { IsClean S.Store conn.new → IfOk result (λ auth.
+        IsOf (λ rows. auth_of_number number (items_if_any (λ r. r.auths) rows) ≡ auth)
+        holder.now (state S.Store conn.old)) }
+    ensures schema { IsClean S.Store conn.new → result ≡ Err StoreFault.Schema
+        → IsOpenWith (λ all. ¬ FitIfAny (all.of_holder holder.now)) (state S.Store conn.old) }
+{
+    // Its clause `live` is for the proof: the rows obey the schema.
+    let _schema = conn.schema();
+    database::laws::claims_differ();
+    let values = number_values(holder, number);
+    let claims: Vec<Claim> = load_selected(conn, alloc, SELECT_NUMBERED_CLAIM, &values)?;
+    let rows: Vec<EntryRow> = load_selected(conn, alloc, SELECT_NUMBERED_ENTRIES, &values)?;
+    let mut auths = auths_of(alloc, &claims, &rows)?.ok_or(StoreFault::Schema)?;
+    // The number is that of one authorization at most.
+    Ok(auths.pop())
+}
+
+/// What is loaded of a holder for a request on one of its authorizations.
+#[derive(Drop)]
+pub struct Numbered {
+    /// The grants that are not revoked, by rising number.
+    pub grants: Vec<Granted>,
+    /// The authorization that has the number, if there is one.
+    pub auth: Option<Auth>,
+}
+
+/// The grants of the holder, and its authorization that has the number.
+pub fn load_numbered<S: Alter>(
+    conn: &mut Connection<S>,
+    alloc: Global,
+    holder: &Name,
+    number: u32,
+) -> Result<Numbered, StoreFault>
+    requires { IsReadyToAsk S.Store conn.old }
+    ensures asked { IsAsked S.Store conn.old conn.new result }
+    ensures found { IsClean S.Store conn.new → IfOk result (λ loaded.
+        IsOf (λ rows. AreNumbered number rows loaded) holder.now (state S.Store conn.old)) }
+    ensures schema { IsClean S.Store conn.new → result ≡ Err StoreFault.Schema
+        → IsOpenWith (λ all. ¬ FitIfAny (all.of_holder holder.now)) (state S.Store conn.old) }
+{
+    let grants = load_values(conn, alloc, holder)?;
+    let auth = load_auth(conn, alloc, holder, number)?;
+    Ok(Numbered { grants, auth })
+}
+
+/// The rows of the holder, if it is registered.
+pub fn load_rows<S: Alter>(
+    conn: &mut Connection<S>,
+    alloc: Global,
+    holder: &Name,
+) -> Result<Option<HolderRows>, StoreFault>
+    requires { IsReadyToAsk S.Store conn.old }
+    ensures asked { IsAsked S.Store conn.old conn.new result }
+    ensures found { IsClean S.Store conn.new → IfOk result (λ loaded.
+        IsOf (λ rows. AreLoaded rows loaded) holder.now (state S.Store conn.old)) }
+    ensures schema { IsClean S.Store conn.new → result ≡ Err StoreFault.Schema
+        → IsOpenWith (λ all. ¬ FitIfAny (all.of_holder holder.now)) (state S.Store conn.old) }
+{
+    let counters: Vec<Counters> = load_values(conn, alloc, holder)?;
+    let Some(Counters { granted, created }) = counters.first().copied() else {
+        return Ok(None);
+    };
+    let spans: Vec<Span> = load_values(conn, alloc, holder)?;
+    let grants = load_values(conn, alloc, holder)?;
+    let auths = load_auths(conn, alloc, holder)?;
+    Ok(Some(HolderRows {
+        holdings: holdings_of(alloc, &spans)?,
+        grants,
+        auths,
+        granted,
+        created,
+    }))
+}
+
+/// The VRPs of the authorizations of all holders that are in force on the day.
+pub fn load_vrps<S: Alter>(
+    conn: &mut Connection<S>,
+    alloc: Global,
+    day: Day,
+) -> Result<Vec<Vrp>, StoreFault>
+    requires { IsReadyToAsk S.Store conn.old }
+    ensures asked { IsAsked S.Store conn.old conn.new result }
+    ensures found { IsClean S.Store conn.new → IfOk result (λ vrps.
+        IsOfAll (λ rows. (v : Vrp) → Contains vrps.items v ↔ IsGivenOn rows day v)
+        (state S.Store conn.old)) }
+    ensures once { IsClean S.Store conn.new → IfOk result (λ vrps.
+        IsOfAll (λ _. AllPairs ◌≢◌ vrps.items) (state S.Store conn.old)) }
+    ensures schema { IsClean S.Store conn.new → result ≡ Err StoreFault.Schema
+        → IsOpenWith (λ rows. ¬ AllGiveOn rows day) (state S.Store conn.old) }
+{
+    // Its clause `live` is for the proof: the rows obey the schema.
+    let _schema = conn.schema();
+    database::laws::entries_differ();
+    let rows = in_force_rows(conn, day)?;
+    read_all(alloc, &rows)
+}

@@ -1,5 +1,0 @@
-use Rattle.store.proofs.Finding.{selects, claims_query}
-use Rattle.store.proofs.select.ClaimOfHolder.select.Goals as goal
-
-pub returns : goal.returns
-returns c = selects _ _ _ _ claims_query
