@@ -12,12 +12,12 @@ use Rattle.registry.specs.RoaPrefixes.{AreEntries, Rise}
 use Rattle.registry.specs.Verdict.{fit_lengths}
 use Rattle.registry.specs.declared.authorization.Auth.{Auth}
 use Rattle.registry.specs.declared.authorization.RoaPrefix.{RoaPrefix}
+use Rattle.roa.proofs.RisingEntries.{at_most_once, one_order}
 use Rattle.roa.specs.RoaContent.{RouteOriginAttestation, IsContent, IsLowestFault, Rises, is_in_range}
 use Rattle.roa.specs.declared.content.ContentFault.{ContentFault}
 use Rattle.roa.specs.declared.content.ContentFault.TheVariants.{Empty, TooMany, MaxLength, Repeated}
 use Rattle.roa.specs.declared.content.Entry.{Entry}
 use Rattle.desk.specs.ContentText.{content_entry, content_of}
-use Rattle.desk.proofs.RisingEntries.{at_most_once, one_order}
 
 -- entries that rise by prefix rise as those of a content
 entries_rise : (es : List RoaPrefix) → Rise es → Rises (map content_entry es)

@@ -1,4 +1,3 @@
-pub mod RisingEntries
 pub mod ContentLemmas
 pub mod HolderLemmas
 pub mod OneReply

@@ -7,6 +7,7 @@ pub mod Blocks
 pub mod Prefixes
 pub mod Contents
 pub mod Order
+pub mod RisingEntries
 pub mod Loop
 pub mod Written
 pub mod Shortest

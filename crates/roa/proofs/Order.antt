@@ -55,7 +55,7 @@ rises_from_answer (e ∷ es) false h = (
 
 -- ---- the laws of the order
 
-entry_order_total : IsTotalOrder entry_order
+pub entry_order_total : IsTotalOrder entry_order
 entry_order_total = then_total (on_total (λ (a : Entry). a.prefix) prefix_order.total) (on_total (λ (a : Entry). a.max) nat_cmp_total)
 
 entry_eq-itself : (a : Entry) → entry_eq a a ≡ true
