@@ -31,15 +31,8 @@ use Rattle.charters.specs.declared.charter.Charter.{Charter}
 use Rattle.registry.proofs.Names.{held_by_itself}
 use Rattle.registry.proofs.Unregistered.{has_nothing}
 use Rattle.registry.specs.RowsOfAll.{AllRows, changed_rows, IsTaken, HasRows}
+use Rattle.kept.proofs.DailyVrps.{rows_absent, rows_present}
 use Rattle.desk.proofs.HolderLemmas.{others_left, files_left}
-
--- the rows of a registered holder
-pub rows_present : (rows : AllRows) (history : History) → HasRows rows history → (h : List ℕ) (r : Rows) → rows.of_holder h ≡ Some r → (is_registered history h ≡ true) × RowsOf history h r
-rows_present rows history has h r there = subst (RowsIfAny history h) there (has.holders h)
-
--- a holder without rows is not registered
-pub rows_absent : (rows : AllRows) (history : History) → HasRows rows history → (h : List ℕ) → rows.of_holder h ≡ None → is_registered history h ≡ false
-rows_absent rows history has h there = subst (RowsIfAny history h) there (has.holders h)
 
 -- a holder of an address has rows
 pub holder_has_rows : (charter : Charter) (rows : AllRows) (history : History) → IsLegal charter history → HasRows rows history → (h : List ℕ) (a : Address) → resource_holder history a ≡ Some h → (r : Rows) × (rows.of_holder h ≡ Some r)

@@ -31,17 +31,17 @@ use Rattle.registry.specs.declared.rule.Refusal.{Refusal}
 use Rattle.registry.specs.declared.rule.Refusal.TheVariants.{Denied, Memory}
 use Rattle.slurm.specs.SlurmSets.{union}
 use Rattle.desk.specs.Answer.{refused_with, states_now, states_after, AnswersWhatIf}
-use Rattle.desk.specs.DeskView.{IsDayOfRows}
 use Rattle.desk.specs.steps.WhatIf.{auths_if_any, ExchangesVrps, WouldExchange}
 use Rattle.kept.specs.Changes.{AreExchanged, IsWithSame}
 use Rattle.kept.specs.Giving.{AreGivingOn}
+use Rattle.kept.specs.Days.{IsDayOfRows}
 use Rattle.kept.specs.KeptDay.{exceptions_of, HasExceptions, KeptDay}
 use Rattle.kept.proofs.ExceptionLemmas.{after_alike}
+use Rattle.kept.proofs.DailyVrps.{given_on, kept_is, kept_was}
+use Rattle.kept.proofs.DayLemmas.{has_same}
 use Rattle.kept.proofs.Follows.{exchange_keeps}
+use Rattle.kept.proofs.Keeps.{after_same}
 use Rattle.kept.proofs.Members.{any_among, head_or_tail, none_in_nil}
-use Rattle.desk.proofs.DailyLemmas.{given_on, kept_is, kept_was}
-use Rattle.desk.proofs.FollowLemmas.{has_same}
-use Rattle.desk.proofs.KeptLemmas.{after_same}
 
 -- ---- the VRP of an authorization
 
@@ -251,7 +251,7 @@ exchanged_day charter rows before after legal has day ended begun old new on is 
     rw on at kept in
     let has_these = subst (HasExceptions new) (ap union has.files ∙ sym exchanges.exceptions) (has_same old new (union rows.files) same is.exceptions) in
     let after_these = after_same new (exceptions_in_force after) has_these (IsVrpInForce after day v) v in
-    (λ there. after_these.0 (alike.0 (left.0 there)), λ on_day. left.1 (alike.1 (after_these.1 on_day)))
+    (λ there. after_these.1 (alike.0 (left.0 there)), λ on_day. left.1 (alike.1 (after_these.0 on_day)))
 
 -- ---- two states of each route
 

@@ -3,10 +3,12 @@ use Rattle.std.proofs.Common.{◌≡◌, ◌⊎◌, inl, inr, ◌↔◌, ℕ, Bo
 use Rattle.std.specs.Prelude.{IfSome, OnOk, is_ok, is_err}
 use Rattle.std.proofs.lemmas.Bool.{true≢false}
 use Rattle.addr.specs.declared.vrp.Vrp.{Vrp}
+use Rattle.kept.proofs.DayLemmas.{has_same}
 use Rattle.kept.proofs.ExceptionLemmas.{after_alike}
 use Rattle.kept.proofs.Follows.{follow_keeps}
 use Rattle.kept.specs.Changes.{AreJoined, IsSpared, IsWithSame}
-use Rattle.kept.specs.KeptDay.{exceptions_of, HasExceptions, KeptDay}
+use Rattle.kept.specs.Days.{IsDayOfRows}
+use Rattle.kept.specs.KeptDay.{exceptions_of, KeptDay}
 use Rattle.addr.specs.declared.prefix.Prefix.{Prefix}
 use Rattle.registry.specs.Answer.{holder_of, is_transfer}
 use Rattle.payload.specs.VrpSet as set
@@ -21,22 +23,14 @@ use Rattle.registry.specs.declared.command.Command.{Command}
 use Rattle.registry.specs.declared.command.Command.TheVariants.{Register, Delegate, Transfer, Reclaim, Grant, Revoke, Create, Amend, Withdraw, Import, Slurm as SlurmCommand}
 use Rattle.registry.specs.declared.change.HolderChange.{HolderChange}
 use Rattle.registry.specs.declared.rows.HolderRows.{HolderRows}
-use Rattle.slurm.specs.Exceptions.{Exceptions as ExceptionsOf}
 use Rattle.slurm.specs.SlurmSets.{union}
 use Rattle.store.specs.Given.{GivenOnce}
 use Rattle.loads.specs.Loads.{AreLoaded}
 use Rattle.desk.proofs.GivenEdits.{edits_given_as_loaded, edits_nothing, ending_keeps_once, none_loaded, rows_stay}
-use Rattle.desk.specs.DeskView.{IsDayOfRows}
 use Rattle.desk.specs.DayAfter.{makes_auths, DayAfterCommand}
 use Rattle.desk.specs.steps.Following.{begins_some, AreLoadedFor, EditsTwoApart, Follows, FollowsChange, FollowsDay, FollowsEdit}
 
 -- ---- an edit of one holder
-
-pub has_same : (old new : KeptDay) (exceptions : ExceptionsOf) → IsWithSame old new → HasExceptions old exceptions → HasExceptions new exceptions
-has_same old new exceptions same has = record {
-  filters = same.filters ∙ has.filters;
-  assertions = rw same.asserted has.assertions;
-}
 
 edit_followed : (rows : AllRows) (change : HolderChange) (loaded : Option HolderRows) (old new : KeptDay) → GivenOnce rows
     → AreLoaded (rows.of_holder change.holder) loaded → FollowsEdit change.edit loaded old new

@@ -5,10 +5,11 @@ use Rattle.addr.specs.declared.vrp.Vrp.{Vrp}
 use Rattle.charters.specs.declared.charter.Charter.{Charter}
 use Rattle.charters.specs.CharterSets.{CharterSets}
 use Rattle.kept.proofs.ExceptionLemmas.{after_alike}
-use Rattle.kept.specs.KeptDay.{exceptions_of, HasExceptions, IsKept, KeptDay}
-use Rattle.registry.specs.DailyVrps.{IsAfterExceptions, IsVrpInForce}
+use Rattle.kept.proofs.DayLemmas.{day_of_history}
+use Rattle.kept.specs.Days.{IsDayOf, IsDayOfRows}
+use Rattle.kept.specs.KeptDay.{exceptions_of, HasExceptions, KeptDay}
 use Rattle.registry.specs.History.{History}
-use Rattle.registry.specs.RowsOfAll.{AllRows, HasRows, IsGivenOn, changed_rows}
+use Rattle.registry.specs.RowsOfAll.{AllRows, HasRows, changed_rows}
 use Rattle.registry.specs.Rows.{Rows, RowsIfAny}
 use Rattle.registry.specs.Terms.{authorizations_made}
 use Rattle.registry.specs.declared.authorization.Auth.{Auth}
@@ -31,9 +32,8 @@ use Rattle.tables.proofs.Once.{AreNumberedOnce, given_alike, once_by_numbers}
 use Rattle.store.specs.Given.{GivenOnce}
 use Rattle.loads.specs.Loads.{AreFilesOf}
 use Rattle.store.specs.StoreRows.{connection_state, Holds, HoldsAfter, IsRead, OfHeldRows, StoreView}
-use Rattle.desk.proofs.DailyLemmas.{given_on}
-use Rattle.desk.specs.Desk.{charter_of, HoldsHistory, IsDayOf, IsOnCleanDisk, KeepsRows, OfHistories, OfRows}
-use Rattle.desk.specs.DeskView.{HoldsKept, IsDayOfRows}
+use Rattle.desk.specs.Desk.{charter_of, HoldsHistory, IsOnCleanDisk, KeepsRows, OfHistories, OfRows}
+use Rattle.desk.specs.DeskView.{HoldsKept}
 use Rattle.desk.specs.declared.desk.Desk.{Desk}
 use Rattle.desk.specs.steps.Following.{AreLoadedFor, Follows}
 
@@ -43,24 +43,6 @@ on_err (Ok x) is = tt
 on_err (Err e) is = is
 
 -- ---- rows, and histories of them
-
--- what is after the exceptions that are kept is after these
-pub after_same : (k : KeptDay) (exceptions : Exceptions) → HasExceptions k exceptions → (P : Type 0) (v : Vrp)
-    → IsAfterExceptions (exceptions_of k) P v ↔ IsAfterExceptions exceptions P v
-after_same k exceptions has P v = rw has.filters (
-  λ is. elim is [ inl given ↦ inl given | inr asserted ↦ inr ((has.assertions v).0 asserted) ],
-  λ is. elim is [ inl given ↦ inl given | inr asserted ↦ inr ((has.assertions v).1 asserted) ],
-)
-
--- what is kept of the rows of a legal history is of the history
-pub day_of_history : (charter : Charter) (rows : AllRows) (history : History) → IsLegal charter history → HasRows rows history
-    → (k : KeptDay) → IsDayOfRows rows k → IsDayOf history k
-day_of_history charter rows history legal has k is v =
-    let on = given_on charter rows history legal has k.day v in
-    let alike = after_alike (exceptions_of k) v on.0 on.1 in
-    let same = subst (λ (e : Exceptions). IsAfterExceptions (exceptions_of k) (IsVrpInForce history k.day v) v ↔ IsAfterExceptions e (IsVrpInForce history k.day v) v) (ap union has.files)
-    (after_same k (union rows.files) is.exceptions (IsVrpInForce history k.day v) v) in
-    (λ there. same.0 (alike.0 ((is.given v).0 there)), λ on_day. (is.given v).1 (alike.1 (same.1 on_day)))
 
 -- the entries of the files without their names are those of the files
 entries_of_each : {X : Type 0} (entries : Exceptions → List X) (held : List NamedSlurm)
@@ -74,19 +56,6 @@ pub together : (held : List NamedSlurm) (files : List Exceptions) (filters : Lis
     → record { filters = filters; assertions = assertions } ≡ union held
 together held files filters assertions are of_filters of_assertions =
     rw (of_filters, of_assertions, are, entries_of_each (λ (f : Exceptions). f.filters) held, entries_of_each (λ (f : Exceptions). f.assertions) held) refl
-
--- what is kept of the VRPs that the rows give, with their exceptions, is of the rows
-pub day_of_found : (rows : AllRows) (day : ℕ) (vrps : List Vrp) (k : KeptDay) (filters : List Filter) (assertions : List Vrp)
-    → k.day ≡ day → IsKept (λ v. Contains vrps v) k → HasExceptions k (record { filters = filters; assertions = assertions })
-    → ((v : Vrp) → Contains vrps v ↔ IsGivenOn rows day v) → record { filters = filters; assertions = assertions } ≡ union rows.files
-    → IsDayOfRows rows k
-day_of_found rows day vrps k filters assertions on kept has found are = record {
-  exceptions = subst (HasExceptions k) are has;
-  given = λ v.
-      let given = subst (λ (n : ℕ). Contains vrps v ↔ IsGivenOn rows n v) (sym on) (found v) in
-      let alike = after_alike (exceptions_of k) v given.0 given.1 in
-      (λ there. alike.0 ((kept v).0 there), λ after. (kept v).1 (alike.1 after));
-}
 
 -- ---- authorizations by their numbers
 

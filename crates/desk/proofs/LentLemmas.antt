@@ -3,6 +3,7 @@ use Rattle.std.proofs.Common.{◌≡◌, ◌≢◌, ℕ, Bool, true, false, ◌�
 use Rattle.std.specs.Prelude.{IfSome, is_ok, option_copied, option_map, OnErr, OnOk}
 use Rattle.std.proofs.lemmas.Bool.{true≢false}
 use Rattle.std.proofs.lemmas.Option.{none-some, same_Some}
+use Rattle.kept.specs.Days.{IsDayOf}
 use Rattle.kept.specs.KeptDay.{KeptDay}
 use Rattle.payload.proofs.Sets.{items_rise}
 use Rattle.payload.specs.VrpSet as set
@@ -13,7 +14,7 @@ use Rattle.desk.proofs.DayLemmas.{day_there}
 use Rattle.desk.proofs.FollowLemmas.{when_ok}
 use Rattle.desk.proofs.KeptLemmas.{kept_of}
 use Rattle.desk.specs.Answer.{AreVrpsOn}
-use Rattle.desk.specs.Desk.{IsDayOf, OfHistories, OfRows}
+use Rattle.desk.specs.Desk.{OfHistories, OfRows}
 use Rattle.desk.specs.DeskView.{HoldsKept}
 use Rattle.desk.specs.Lent.{HasLent}
 use Rattle.desk.specs.Prepared.{day_of, IsPrepared}

@@ -6,7 +6,6 @@ pub mod DeskLemmas
 pub mod RunLemmas
 pub mod CrashLemmas
 pub mod ResumedLemmas
-pub mod DailyLemmas
 pub mod KeptLemmas
 pub mod LentLemmas
 pub mod ExportLemmas

@@ -1,13 +1,10 @@
 -- What a desk keeps: its charter, in the tables of its store the rows of each holder and the SLURM files,
 -- and beside them the VRPs of a day.
-use Rattle.std.specs.Prelude.{◌≡◌, ◌↔◌, false, Contains, IfSome}
-use Rattle.addr.specs.declared.vrp.Vrp.{Vrp}
-use Rattle.kept.specs.KeptDay.{KeptDay}
-use Rattle.payload.specs.VrpSet as set
+use Rattle.std.specs.Prelude.{◌≡◌, false, IfSome}
+use Rattle.kept.specs.Days.{IsDayOf}
 use Rattle.sqlite.specs.State.{State, HasCleanDisk}
 use Rattle.sqlite.specs.Store.{Ghosts}
 use Rattle.charters.specs.CharterSets.{IsCharter}
-use Rattle.registry.specs.DailyVrps.{IsVrpOn}
 use Rattle.registry.specs.History.{History}
 use Rattle.registry.specs.RowsOfAll.{AllRows, HasRows}
 use Rattle.registry.specs.Verdict.{IsLegal}
@@ -31,10 +28,6 @@ IsOnCleanDisk g desk = HasCleanDisk (connection_state g (store_of desk))
 -- the tables of the desk hold the rows of the history
 abbrev pub HoldsRowsOf : {S : Type 0} → Ghosts S → Desk S → History → Type 0
 HoldsRowsOf g desk history = (rows : AllRows) × HasRows rows history × Holds g (store_of desk) rows
-
--- the VRPs that are kept of a day are those of the history
-abbrev pub IsDayOf : History → KeptDay → Type 0
-IsDayOf history kept = (v : Vrp) → Contains (set.items kept.vrps) v ↔ IsVrpOn history kept.day v
 
 -- Of a shut connection the tables say nothing any more. There what is kept of a day is that of the history.
 abbrev pub KeepsWhileShut : {S : Type 0} → Ghosts S → Desk S → History → Type 0

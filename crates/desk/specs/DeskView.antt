@@ -1,9 +1,9 @@
 -- What a desk shows: its store, and the VRPs of a day that it keeps beside the tables.
 use Rattle.std.specs.Prelude.{Option, IfSome, refl}
 use Rattle.std.specs.Coded.{Coded, code_by, coded×, coded_option}
-use Rattle.kept.specs.KeptDay.{day_code, HasExceptions, IsKept, KeptDay}
-use Rattle.registry.specs.RowsOfAll.{AllRows, IsGivenOn}
-use Rattle.slurm.specs.SlurmSets.{union}
+use Rattle.kept.specs.Days.{IsDayOfRows}
+use Rattle.kept.specs.KeptDay.{day_code, KeptDay}
+use Rattle.registry.specs.RowsOfAll.{AllRows}
 use Rattle.sqlite.specs.State.{HasCleanDisk}
 use Rattle.sqlite.specs.Store.{Ghosts}
 use Rattle.store.specs.StoreRows.{connection_state, Holds, StoreView, view_code}
@@ -16,11 +16,6 @@ abbrev pub desk_code : {S : Type 0} → Coded S → Coded (DeskView S)
 desk_code {S} store =
     code_by (StoreView S × Option KeptDay) (coded× (view_code store) (coded_option day_code))
     (λ desk. (desk.store, desk.kept)) (λ p. record { store = p.0; kept = p.1 }) (λ _. refl)
-
--- the VRPs are those that the rows give on the day, after the exceptions of all files of the rows
-pub record IsDayOfRows (rows : AllRows) (kept : KeptDay) : Type 0 where
-  pub exceptions : HasExceptions kept (union rows.files)
-  pub given : IsKept (IsGivenOn rows kept.day) kept
 
 -- the tables hold some rows, and what is kept of a day is theirs, unless the disk returned what was not
 -- written

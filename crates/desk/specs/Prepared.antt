@@ -1,9 +1,10 @@
 -- A day that a desk keeps on a question.
 use Rattle.std.specs.Prelude.{◌≡◌, ℕ, Bool, true, false, Option, Some, None, IfSome, option_map}
+use Rattle.kept.specs.Days.{IsDayOf}
 use Rattle.kept.specs.KeptDay.{KeptDay}
 use Rattle.sqlite.specs.Store.{Ghosts}
 use Rattle.store.specs.StoreRows.{IsRead}
-use Rattle.desk.specs.Desk.{store_of, HoldsHistory, IsDayOf, OfHistories}
+use Rattle.desk.specs.Desk.{store_of, HoldsHistory, OfHistories}
 use Rattle.desk.specs.declared.desk.Desk.{Desk}
 
 abbrev pub day_of : Option KeptDay → Option ℕ

@@ -2,5 +2,4 @@
 pub mod Accepting
 pub mod EditsGiven
 pub mod Following
-pub mod Gathering
 pub mod WhatIf

@@ -3,8 +3,6 @@
 
 mod content;
 mod desk;
-mod exceptions;
-mod gathering;
 pub mod laws;
 mod reply;
 mod vrps;

@@ -21,7 +21,7 @@ use Rattle.kept.proofs.VrpSets.{items_inserted, items_removed, one_or_two}
 -- ---- a day that is made
 
 -- with equal filters and the same assertions, what is after the one exceptions is after the others
-after_same : (kept : KeptDay) (exceptions : Exceptions) → HasExceptions kept exceptions → (P : Type 0) (v : Vrp)
+pub after_same : (kept : KeptDay) (exceptions : Exceptions) → HasExceptions kept exceptions → (P : Type 0) (v : Vrp)
     → IsAfterExceptions exceptions P v ↔ IsAfterExceptions (exceptions_of kept) P v
 after_same kept exceptions has P v = rw has.filters (
   λ is. elim is [ inl given ↦ inl given | inr asserted ↦ inr ((has.assertions v).1 asserted) ],

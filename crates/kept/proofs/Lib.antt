@@ -4,3 +4,6 @@ pub mod ExceptionLemmas
 pub mod Steps
 pub mod Keeps
 pub mod Follows
+pub mod DailyVrps
+pub mod DayLemmas
+pub mod RouteStates

@@ -1,5 +1,5 @@
 //! Local exceptions to VRPs (RFC 8416).
-ghost use Rattle.std.specs.Prelude.{◌↔◌, Any, Contains, IfOk};
+ghost use Rattle.std.specs.Prelude.{◌≡◌, ◌↔◌, flat_map, Any, Contains, IfOk};
 ghost use Rattle.addr.specs.declared.vrp.Vrp.{Vrp};
 ghost use Rattle.payload.specs.VrpSet as set;
 ghost use Rattle.registry.specs.DailyVrps.{IsAfterExceptions};
@@ -7,7 +7,7 @@ ghost use Rattle.slurm.specs.Filter.{FilterMatches};
 
 use addr::Vrp;
 use payload::Trie;
-use slurm::FilterIndex;
+use slurm::{Filter, FilterIndex, Slurm};
 use std::alloc::{AllocError, Global};
 
 /// Takes away the VRPs that some filter matches.
@@ -34,4 +34,27 @@ pub(crate) fn excepted(
     keep_unfiltered(filters, &mut vrps);
     vrps.extend_from_slice(assertions)?;
     Trie::of(alloc, &vrps)
+}
+
+/// The filters of all files, file by file.
+pub fn filters_of(alloc: Global, files: &[Slurm]) -> Result<Vec<Filter>, AllocError>
+    ensures { IfOk result (λ filters. filters.items ≡ flat_map (λ f. f.filters) files.now) }
+{
+    let mut filters = Vec::new(alloc);
+    for file in files {
+        filters.extend_from_slice(file.filters())?;
+    }
+    Ok(filters)
+}
+
+/// The assertions of all files, file by file.
+pub fn assertions_of(alloc: Global, files: &[Slurm]) -> Result<Vec<Vrp>, AllocError>
+    ensures { IfOk result (λ assertions. assertions.items
+        ≡ flat_map (λ f. f.assertions) files.now) }
+{
+    let mut assertions = Vec::new(alloc);
+    for file in files {
+        assertions.extend_from_slice(file.assertions())?;
+    }
+    Ok(assertions)
 }

@@ -2,7 +2,10 @@
 #![tactic(auto)]
 
 mod exceptions;
+mod gathering;
 mod giving;
 mod kept;
 
+pub use exceptions::{assertions_of, filters_of};
+pub use gathering::{gather, judge};
 pub use kept::Kept;

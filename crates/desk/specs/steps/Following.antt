@@ -2,6 +2,7 @@
 use Rattle.std.specs.Prelude.{◌≡◌, ◌↔◌, ◌⊎◌, ℕ, Bool, true, false, ◌||◌, Option, Some, None, Result, Ok, Err, Contains, IfSome, ⊤}
 use Rattle.addr.specs.declared.vrp.Vrp.{Vrp}
 use Rattle.kept.specs.Changes.{AreJoined, IsSpared, IsWithSame}
+use Rattle.kept.specs.Days.{IsDayOfRows}
 use Rattle.kept.specs.KeptDay.{KeptDay}
 use Rattle.payload.specs.VrpSet as set
 use Rattle.registry.specs.Edits.{begun, ended, IsHold}
@@ -14,7 +15,6 @@ use Rattle.registry.specs.declared.change.Edit.TheVariants.{Create, Import, Amen
 use Rattle.registry.specs.declared.rows.HolderRows.{HolderRows}
 use Rattle.store.specs.Given.{GivenOnce}
 use Rattle.loads.specs.Loads.{AreLoaded}
-use Rattle.desk.specs.DeskView.{IsDayOfRows}
 use Rattle.desk.specs.declared.reply.Reply.{Reply}
 use Rattle.desk.specs.declared.reply.Reply.TheVariants.{Unavailable}
 

@@ -2,18 +2,17 @@
 ghost use Rattle.std.specs.Prelude.{◌≡◌, ◌≢◌, ◌↔◌, Contains, true, false, None, Some, option_copied, option_map, IfOk, IfSome, OnOk, OnErr};
 ghost use Rattle.std.specs.Borrow.{sem};
 ghost use Rattle.addr.specs.declared.vrp.Vrp.{Vrp};
+ghost use Rattle.kept.specs.Days.{IsDayOf, IsDayOfRows};
 ghost use Rattle.registry.specs.RowsOfAll.{IsGivenOn};
 ghost use Rattle.loads.specs.Loads.{AreFilesOf};
 ghost use Rattle.store.specs.StoreRows.{IfClean, IsRead, OfHeldRows};
-ghost use Rattle.desk.specs.Desk.{IsDayOf, OfRows};
-ghost use Rattle.desk.specs.DeskView.{IsDayOfRows};
+ghost use Rattle.desk.specs.Desk.{OfRows};
 ghost use Rattle.desk.specs.Lent.{Lends};
 ghost use Rattle.desk.specs.Prepared.{day_of, IsPrepared};
 
 use super::Desk;
-use crate::exceptions::{assertions_of, filters_of};
 use addr::{Day, Vrp};
-use kept::Kept;
+use kept::{Kept, assertions_of, filters_of};
 use payload::Trie;
 use slurm::Slurm;
 use sqlite::Alter;

@@ -9,9 +9,9 @@ ghost use Rattle.desk.specs.Desk.{charter_of, HoldsHistory, OfHistories, OfRows}
 
 use super::Desk;
 use crate::content::content_text;
-use crate::gathering::{gather, judge};
 use crate::{Reply, Vrps};
 use addr::{Day, Name, Route};
+use kept::{gather, judge};
 use registry::{Auth, Query};
 use sqlite::Alter;
 use std::alloc::AllocError;

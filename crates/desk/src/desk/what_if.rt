@@ -1,5 +1,6 @@
 //! What-if requests.
 ghost use Rattle.std.specs.Prelude.{◌≡◌, ◌↔◌, false, map, option_copied, Contains, IfErr, IfOk, List, MatchResult, OnOk};
+ghost use Rattle.std.specs.List.{zip};
 ghost use Rattle.addr.specs.OriginValidation.{validation_state};
 ghost use Rattle.addr.specs.declared.route.Route.{Route};
 ghost use Rattle.addr.specs.declared.vrp.Vrp.{Vrp};
@@ -15,9 +16,8 @@ ghost use Rattle.desk.specs.steps.WhatIf.{auths_if_any, ExchangesVrps, WouldExch
 
 use super::Desk;
 use crate::Reply;
-use crate::gathering::{judge, pair};
 use addr::{Day, Name, Route};
-use kept::Kept;
+use kept::{Kept, judge};
 use payload::Validity;
 use registry::{Auth, HolderRows, Proposed, View};
 use sqlite::Alter;
@@ -32,6 +32,20 @@ fn auths_of(rows: Option<&HolderRows>) -> &[Auth]
         Some(rows) => &rows.auths,
         None => &[],
     }
+}
+
+/// The states, each with the other of its place, as far as both go.
+fn pair(
+    alloc: Global,
+    ones: &[Validity],
+    others: &[Validity],
+) -> Result<Vec<(Validity, Validity)>, AllocError>
+    ensures { IfOk result (λ pairs. pairs.items ≡ zip ones.now others.now) }
+{
+    ones.iter()
+        .copied()
+        .zip(others.iter().copied())
+        .collect(alloc)
 }
 
 /// The states of the routes over what is kept, and those after the exchange, which is made in it.

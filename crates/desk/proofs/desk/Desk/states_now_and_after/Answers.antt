@@ -1,9 +1,9 @@
+use Rattle.kept.proofs.DayLemmas.{day_of_history}
 use Rattle.payload.specs.VrpSet as set
 use Rattle.desk.specs.Answer.{states_now, states_after}
 use Rattle.desk.specs.Desk.{charter_of}
 use Rattle.desk.proofs.ExchangeLemmas.{exchanged_day}
 use Rattle.desk.proofs.ExportLemmas.{states_on}
-use Rattle.desk.proofs.KeptLemmas.{day_of_history}
 use Rattle.desk.proofs.desk.Desk.states_now_and_after.Goals as goal
 
 pub returns-clause-now : goal.returns-clause-now

@@ -1,4 +1,5 @@
-use Rattle.desk.proofs.KeptLemmas.{day_of_found, together}
+use Rattle.kept.proofs.DayLemmas.{day_of_found}
+use Rattle.desk.proofs.KeptLemmas.{together}
 use Rattle.desk.proofs.desk.daily.kept_on.Goals as goal
 
 pub returns-clause-kept : goal.returns-clause-kept

@@ -1,11 +1,10 @@
 //! What is read from an index: its VRPs, and the states of routes.
 ghost use Rattle.std.specs.Prelude.{◌≡◌, map, IfOk};
-ghost use Rattle.std.specs.List.{zip};
 ghost use Rattle.addr.specs.OriginValidation.{validation_state};
 ghost use Rattle.payload.specs.Rising.{AreRising};
 ghost use Rattle.payload.specs.ValidityState.{state_of};
 ghost use Rattle.payload.specs.VrpSet as set;
-ghost use Rattle.desk.specs.steps.Gathering.{gathered_none, gathered_then, HasGathered};
+ghost use Rattle.kept.specs.steps.Gathering.{gathered_none, gathered_then, HasGathered};
 
 use addr::{Route, Vrp};
 use payload::{PayloadIndex, Sink, Stop, Validity};
@@ -39,7 +38,7 @@ impl Sink for Gathering {
 }
 
 /// The VRPs of an index, rising, each once.
-pub(crate) fn gather<I: PayloadIndex>(alloc: Global, index: &I) -> Result<Vec<Vrp>, AllocError>
+pub fn gather<I: PayloadIndex>(alloc: Global, index: &I) -> Result<Vec<Vrp>, AllocError>
     ensures items { IfOk result (λ vrps. vrps.items ≡ set.items (I.vrps index.now)) }
     ensures rising { IfOk result (λ vrps. AreRising vrps.items) }
 {
@@ -54,7 +53,7 @@ pub(crate) fn gather<I: PayloadIndex>(alloc: Global, index: &I) -> Result<Vec<Vr
 }
 
 /// The validation state of each route over the VRPs of an index.
-pub(crate) fn judge<I: PayloadIndex>(
+pub fn judge<I: PayloadIndex>(
     alloc: Global,
     index: &I,
     routes: &[Route],
@@ -67,18 +66,4 @@ pub(crate) fn judge<I: PayloadIndex>(
         states.push(index.validity(route))?;
     }
     Ok(states)
-}
-
-/// The states, each with the other of its place, as far as both go.
-pub(crate) fn pair(
-    alloc: Global,
-    ones: &[Validity],
-    others: &[Validity],
-) -> Result<Vec<(Validity, Validity)>, AllocError>
-    ensures { IfOk result (λ pairs. pairs.items ≡ zip ones.now others.now) }
-{
-    ones.iter()
-        .copied()
-        .zip(others.iter().copied())
-        .collect(alloc)
 }

@@ -1,9 +1,9 @@
 -- The VRPs of a day: those that the rows of a legal history give are those of the history.
-use Rattle.std.proofs.Common.{◌≡◌, ℕ, ◌↔◌, inl, inr, List, [], ◌∷◌, Option, Some, None, refl, sym, ◌∙◌, subst, Contains}
+use Rattle.std.proofs.Common.{◌≡◌, ℕ, true, false, ◌↔◌, inl, inr, List, [], ◌∷◌, Option, Some, None, refl, sym, ◌∙◌, subst, Contains}
 use Rattle.addr.specs.declared.vrp.Vrp.{Vrp}
 use Rattle.registry.specs.DailyVrps.{IsVrpInForce}
-use Rattle.registry.specs.History.{History}
-use Rattle.registry.specs.Rows.{Rows}
+use Rattle.registry.specs.History.{History, is_registered}
+use Rattle.registry.specs.Rows.{Rows, RowsIfAny, RowsOf}
 use Rattle.registry.specs.Terms.{HeldSinceMade, authorization_terms, Keeps}
 use Rattle.registry.specs.Verdict.{IsLegal}
 use Rattle.registry.specs.declared.authorization.Auth.{Auth}
@@ -11,7 +11,6 @@ use Rattle.charters.specs.declared.charter.Charter.{Charter}
 use Rattle.registry.proofs.Unregistered.{has_nothing}
 use Rattle.registry.specs.RowsOfAll.{AllRows, HasRows, IsGivenOn}
 use Rattle.kept.proofs.Members.{at_head, head_or_tail, in_tail, none_in_nil}
-use Rattle.desk.proofs.DeskLemmas.{rows_present, rows_absent}
 
 -- what is kept was there and meets the fact, and what meets it is kept
 pub kept_was : (P : Auth → Type 0) (xs ys : List Auth) (x : Auth) → Keeps P xs ys → Contains ys x → Contains xs x × P x
@@ -44,6 +43,14 @@ kept_is P (z ∷ zs) (y ∷ ys) x keeps there holds =
         | inr later ↦ kept_is P zs (y ∷ ys) x lost.1 later holds
       ]
     ]
+
+-- the rows of a registered holder
+pub rows_present : (rows : AllRows) (history : History) → HasRows rows history → (h : List ℕ) (r : Rows) → rows.of_holder h ≡ Some r → (is_registered history h ≡ true) × RowsOf history h r
+rows_present rows history has h r there = subst (RowsIfAny history h) there (has.holders h)
+
+-- a holder without rows is not registered
+pub rows_absent : (rows : AllRows) (history : History) → HasRows rows history → (h : List ℕ) → rows.of_holder h ≡ None → is_registered history h ≡ false
+rows_absent rows history has h there = subst (RowsIfAny history h) there (has.holders h)
 
 given_in_force : (charter : Charter) (rows : AllRows) (history : History) → HasRows rows history → (day : ℕ) (v : Vrp) → IsGivenOn rows day v → IsVrpInForce history day v
 given_in_force charter rows history has day v given =

@@ -3,7 +3,7 @@ use Rattle.addr.specs.OriginValidation.{validation_state}
 use Rattle.addr.specs.declared.route.Route.{Route}
 use Rattle.payload.specs.ValidityState.{state_of}
 use Rattle.payload.specs.VrpSet as set
-use Rattle.desk.proofs.gathering.judge.Given as goal
+use Rattle.kept.proofs.gathering.judge.Given as goal
 
 -- the states so far, with those of the routes still to come, are those of all routes
 abbrev pub invariant-loop-route : goal.invariant-loop-route

@@ -1,7 +1,7 @@
 use Rattle.std.proofs.Common.{◌≡◌, ◌++◌, drop}
 use Rattle.std.specs.List.{flat_map}
 use Rattle.slurm.specs.Exceptions.{Exceptions}
-use Rattle.desk.proofs.exceptions.filters_of.Given as goal
+use Rattle.kept.proofs.exceptions.filters_of.Given as goal
 
 abbrev pub invariant-loop-file : goal.invariant-loop-file
 invariant-loop-file l =
