@@ -4,6 +4,7 @@ use Rattle.std.specs.Prelude.{IfSome, OnOk, is_ok, is_err}
 use Rattle.std.proofs.lemmas.Bool.{true≢false}
 use Rattle.addr.specs.declared.vrp.Vrp.{Vrp}
 use Rattle.kept.proofs.DayLemmas.{has_same}
+use Rattle.kept.proofs.Edits.{rows_stay}
 use Rattle.kept.proofs.ExceptionLemmas.{after_alike}
 use Rattle.kept.proofs.Follows.{follow_keeps}
 use Rattle.kept.specs.Changes.{AreJoined, IsSpared, IsWithSame}
@@ -26,7 +27,7 @@ use Rattle.registry.specs.declared.rows.HolderRows.{HolderRows}
 use Rattle.slurm.specs.SlurmSets.{union}
 use Rattle.store.specs.Given.{GivenOnce}
 use Rattle.loads.specs.Loads.{AreLoaded}
-use Rattle.desk.proofs.GivenEdits.{edits_given_as_loaded, edits_nothing, ending_keeps_once, none_loaded, rows_stay}
+use Rattle.desk.proofs.GivenEdits.{edits_given_as_loaded, edits_nothing, ending_keeps_once, none_loaded}
 use Rattle.desk.specs.DayAfter.{makes_auths, DayAfterCommand}
 use Rattle.desk.specs.steps.Following.{begins_some, AreLoadedFor, EditsTwoApart, Follows, FollowsChange, FollowsDay, FollowsEdit}
 

@@ -7,3 +7,4 @@ pub mod Follows
 pub mod DailyVrps
 pub mod DayLemmas
 pub mod RouteStates
+pub mod Edits

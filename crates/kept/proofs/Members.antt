@@ -1,5 +1,5 @@
 -- Members of lists.
-use Rattle.std.proofs.Common.{◌≡◌, zero, suc, ◌<◌, Bool, true, false, ◌↔◌, ◌⊎◌, inl, inr, List, [], ◌∷◌, ◌++◌, refl, sym, ap, ◌∙◌, subst, length, get_or, Contains, filter, cond, arith}
+use Rattle.std.proofs.Common.{◌≡◌, zero, suc, ◌<◌, Bool, true, false, ◌↔◌, ◌⊎◌, inl, inr, List, [], ◌∷◌, ◌++◌, refl, sym, ap, ◌∙◌, subst, length, get_or, Contains, filter, map, cond, arith}
 use Rattle.std.specs.List.{list_any}
 use Rattle.std.proofs.lemmas.Bool.{true≢false}
 use Rattle.std.proofs.lemmas.List.Elements.{Contains-append_left, Contains-append_right, Contains-append_cases}
@@ -66,6 +66,23 @@ in_both xs ys x = (
   Contains-append_cases xs ys x,
   λ is. elim is [ inl one ↦ Contains-append_left xs ys x one | inr other ↦ Contains-append_right xs ys x other ],
 )
+
+module _ {X Y : Type 0} (f : X → Y) where
+  -- what a map makes is of what was there
+  pub in_map : (xs : List X) (y : Y) → Contains (map f xs) y → (x : X) × Contains xs x × (y ≡ f x)
+  in_map [] y there = absurd (none_in_nil y there)
+  in_map (x ∷ xs) y there = elim (head_or_tail (f x) (map f xs) y there) [
+    | inl is ↦ (x, at_head x xs, sym is)
+    | inr later ↦ let it = in_map xs y later in (it.0, in_tail x xs it.0 it.1, it.2)
+  ]
+
+  -- and of what is there it is made
+  pub mapped_in : (xs : List X) (x : X) → Contains xs x → Contains (map f xs) (f x)
+  mapped_in [] x there = absurd (none_in_nil x there)
+  mapped_in (z ∷ zs) x there = elim (head_or_tail z zs x there) [
+    | inl is ↦ subst (λ (w : X). Contains (map f (z ∷ zs)) (f w)) is (at_head (f z) (map f zs))
+    | inr later ↦ in_tail (f z) (map f zs) (f x) (mapped_in zs x later)
+  ]
 
 -- ---- one such that a fact holds
 
