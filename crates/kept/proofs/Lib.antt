@@ -8,3 +8,4 @@ pub mod DailyVrps
 pub mod DayLemmas
 pub mod RouteStates
 pub mod Edits
+pub mod Turns

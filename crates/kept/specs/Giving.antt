@@ -1,6 +1,7 @@
 -- What an authorization gives on a day.
-use Rattle.std.specs.Prelude.{ℕ, ◌≤◌, List, Contains}
+use Rattle.std.specs.Prelude.{ℕ, ◌≤◌, List, [], Option, Some, None, Contains}
 use Rattle.addr.specs.declared.vrp.Vrp.{Vrp}
+use Rattle.registry.specs.Rows.{Rows}
 use Rattle.registry.specs.Terms.{IsVrpOf}
 use Rattle.registry.specs.declared.authorization.Auth.{Auth}
 
@@ -11,3 +12,8 @@ GivesOn x day v = (x.from ≤ day) × (day ≤ x.until) × IsVrpOf x v
 -- one of these authorizations gives the VRP on the day
 abbrev pub AreGivingOn : List Auth → ℕ → Vrp → Type 0
 AreGivingOn auths day v = (x : Auth) × Contains auths x × GivesOn x day v
+
+-- the authorizations of rows; none where there are no rows
+abbrev pub auths_if_any : Option Rows → List Auth
+auths_if_any None = []
+auths_if_any (Some rows) = rows.auths

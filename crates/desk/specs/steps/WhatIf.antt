@@ -1,20 +1,14 @@
 -- Steps of a what-if: which authorizations its changes would exchange.
-use Rattle.std.specs.Prelude.{◌≡◌, ℕ, List, [], Option, Some, None, ◌↔◌, ◌⊎◌}
+use Rattle.std.specs.Prelude.{◌≡◌, ℕ, List, ◌↔◌, ◌⊎◌}
 use Rattle.addr.specs.declared.vrp.Vrp.{Vrp}
 use Rattle.registry.specs.DailyVrps.{IsVrpInForce}
 use Rattle.registry.specs.ExceptionsInForce.{exceptions_in_force}
 use Rattle.registry.specs.History.{History}
 use Rattle.registry.specs.HypotheticalHistory.{HypotheticalHistory}
-use Rattle.registry.specs.Rows.{Rows}
 use Rattle.registry.specs.declared.authorization.Auth.{Auth}
 use Rattle.charters.specs.declared.charter.Charter.{Charter}
 use Rattle.registry.specs.declared.command.Proposed.{Proposed}
 use Rattle.kept.specs.Giving.{AreGivingOn}
-
--- the authorizations of rows; none where there are no rows
-abbrev pub auths_if_any : Option Rows → List Auth
-auths_if_any None = []
-auths_if_any (Some rows) = rows.auths
 
 -- with the ended authorizations out and the begun ones in, the VRPs in force on the day after the
 -- one history are those after the other; and the exceptions in force are the same

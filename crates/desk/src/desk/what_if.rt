@@ -5,6 +5,7 @@ ghost use Rattle.addr.specs.OriginValidation.{validation_state};
 ghost use Rattle.addr.specs.declared.route.Route.{Route};
 ghost use Rattle.addr.specs.declared.vrp.Vrp.{Vrp};
 ghost use Rattle.kept.specs.Changes.{AreExchanged, IsWithSame};
+ghost use Rattle.kept.specs.Giving.{auths_if_any};
 ghost use Rattle.payload.specs.ValidityState.{state_of};
 ghost use Rattle.payload.specs.VrpSet as set;
 ghost use Rattle.registry.specs.History.{History};
@@ -12,7 +13,7 @@ ghost use Rattle.registry.specs.Rows.{rows_if_any};
 ghost use Rattle.store.specs.StoreRows.{IsRead};
 ghost use Rattle.desk.specs.Answer.{is_accepted, states_now, states_after, AnswersWhatIf, AreStatesOn};
 ghost use Rattle.desk.specs.Desk.{charter_of, OfRows};
-ghost use Rattle.desk.specs.steps.WhatIf.{auths_if_any, ExchangesVrps, WouldExchange};
+ghost use Rattle.desk.specs.steps.WhatIf.{ExchangesVrps, WouldExchange};
 
 use super::Desk;
 use crate::Reply;
