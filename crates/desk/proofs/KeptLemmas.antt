@@ -1,6 +1,6 @@
 -- What a desk keeps of a day is what its tables give, and what a history gives that it holds.
-use Rattle.std.proofs.Common.{◌≡◌, ℕ, ◌<◌, List, [], ◌∷◌, ◌++◌, map, flat_map, Bool, true, false, ◌↔◌, inl, inr, Option, Some, None, Result, Ok, Err, refl, sym, ap, subst, ◌∙◌, arith, Contains}
-use Rattle.std.specs.Prelude.{IfSome, OnErr}
+use Rattle.std.proofs.Common.{◌≡◌, ℕ, ◌<◌, List, [], ◌∷◌, ◌++◌, map, flat_map, Bool, true, false, ◌↔◌, inl, inr, Option, Some, None, refl, sym, ap, subst, ◌∙◌, arith, Contains}
+use Rattle.std.specs.Prelude.{IfSome}
 use Rattle.addr.specs.declared.vrp.Vrp.{Vrp}
 use Rattle.charters.specs.declared.charter.Charter.{Charter}
 use Rattle.charters.specs.CharterSets.{CharterSets}
@@ -36,11 +36,6 @@ use Rattle.desk.specs.Desk.{charter_of, HoldsHistory, IsOnCleanDisk, KeepsRows, 
 use Rattle.desk.specs.DeskView.{HoldsKept}
 use Rattle.desk.specs.declared.desk.Desk.{Desk}
 use Rattle.desk.specs.steps.Following.{AreLoadedFor, Follows}
-
--- what is so is so where a result is an error
-pub on_err : {T E P : Type 0} (r : Result T E) → P → OnErr r P
-on_err (Ok x) is = tt
-on_err (Err e) is = is
 
 -- ---- rows, and histories of them
 

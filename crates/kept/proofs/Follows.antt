@@ -1,6 +1,6 @@
 -- A day that is kept follows an edit of a holder's rows.
 use Rattle.std.proofs.Common.{◌≡◌, ℕ, ◌≤◌, Bool, true, false, ◌↔◌, ◌⊎◌, inl, inr, List, [], ◌∷◌, ◌++◌, Result, Ok, Err, ap, ◌∙◌, Contains, cond}
-use Rattle.std.specs.Prelude.{Any, OnOk, OnErr}
+use Rattle.std.specs.Prelude.{Any, OnOk}
 use Rattle.std.proofs.lemmas.List.{append-nil}
 use Rattle.std.proofs.lemmas.List.Elements.{filter-append}
 use Rattle.addr.specs.declared.asn.Asn.{Asn}
@@ -73,10 +73,6 @@ pub auth_joined : (old new : KeptDay) (x : Auth) → (x.from ≤ old.day) × (ol
     → ((v : Vrp) → Contains (set.items new.vrps) v ↔ IsJoinedBy old (IsVrpOfSome x.entries x.asn) v)
     → (v : Vrp) → Contains (set.items new.vrps) v ↔ IsJoined old x v
 auth_joined old new x days joined v = joined_same (in_force_gives x old.day days v) (joined v)
-
-pub given_where_fails : {T E P : Type 0} (r : Result T E) → P → OnErr r P
-given_where_fails (Ok x) given = tt
-given_where_fails (Err e) given = given
 
 pub same_then : (old mid new : KeptDay) → IsWithSame old mid → IsWithSame mid new → IsWithSame old new
 same_then old mid new one other = record {

@@ -1,4 +1,5 @@
-use Rattle.kept.proofs.Follows.{auth_joined, given_where_fails, in_force_gives}
+use Rattle.kept.proofs.Follows.{auth_joined, in_force_gives}
+use Rattle.payload.proofs.Visits.{on-err}
 use Rattle.kept.proofs.kept.Kept.begin.Goals as goal
 
 pub returns-in_ok-begin_entries-clause-ok : goal.returns-in_ok-begin_entries-clause-ok
@@ -9,7 +10,7 @@ returns-in_ok-begin_entries-clause-ok c =
 pub returns-in_err-begin_entries-clause-err : goal.returns-in_err-begin_entries-clause-err
 returns-in_err-begin_entries-clause-err c =
     let some = rw c.as_slice.ensures.items at c.in_err-begin_entries.ensures.err in
-    given_where_fails c.from_residual.result (
+    on-err c.from_residual.result _ (
       some.0,
       (in_force_gives c.args.auth.now c.args.self.now.day (rw (← c.self.view_is) (c.is_in_force.ensures.0 c.if-is_in_force.true)) some.0).0 some.1,
     )

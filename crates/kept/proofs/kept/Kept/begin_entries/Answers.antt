@@ -1,6 +1,7 @@
 use Rattle.std.proofs.Common.{◌≡◌, ◌+◌, ◌∷◌, ◌++◌, [], take, take_all, sym, ap, ◌∙◌, arith, refl}
 use Rattle.std.proofs.lemmas.List.{take_more}
-use Rattle.kept.proofs.Follows.{entry_joined, given_where_fails, no_entry_joined, same_then}
+use Rattle.kept.proofs.Follows.{entry_joined, no_entry_joined, same_then}
+use Rattle.payload.proofs.Visits.{on-err}
 use Rattle.kept.proofs.kept.Kept.begin_entries.Goals as goal
 
 pub loop-entry-init : goal.loop-entry-init
@@ -24,7 +25,7 @@ loop-entry-preserved c =
 pub returns-in_err-begin_entry-clause-err : goal.returns-in_err-begin_entry-clause-err
 returns-in_err-begin_entry-clause-err c =
     let some = c.in_err-begin_entry.ensures.err in
-    given_where_fails c.from_residual.result
+    on-err c.from_residual.result _
     (some.0, (c.entry-item.result, (c.loop-entry.entry-index, c.loop-entry-test.true, sym c.entry-item.is), some.1))
 
 pub returns-clause-ok : goal.returns-clause-ok
