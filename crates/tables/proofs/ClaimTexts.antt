@@ -9,7 +9,7 @@ use Rattle.sqlite_sql.specs.Term.{Term, col, op2}
 use Rattle.sqlite.specs.Listing.{understood}
 use Rattle.sqlite_tied.specs.Compute.{everything}
 use Rattle.tables.specs.declared.claim.TheConstants.{INSERT_CLAIM, UPDATE_CLAIM, DELETE_CLAIM, SELECT_HOLDER_CLAIMS, SELECT_NUMBERED_CLAIM, SELECT_ALL_CLAIMS, SELECT_CLAIMS_IN_FORCE}
-use Rattle.tables.specs.declared.entry.TheConstants.{INSERT_ENTRY, DELETE_ENTRIES, SELECT_HOLDER_ENTRIES, SELECT_NUMBERED_ENTRIES, SELECT_ALL_ENTRIES, SELECT_PAYLOADS}
+use Rattle.tables.specs.declared.entry.TheConstants.{INSERT_ENTRY, DELETE_ENTRIES, SELECT_HOLDER_ENTRIES, SELECT_NUMBERED_ENTRIES, SELECT_GIVEN_ENTRIES, SELECT_ALL_ENTRIES, SELECT_PAYLOADS}
 use Rattle.tables.proofs.Selecting.{from_table, no_limit}
 use Rattle.tables.proofs.Texts.{Means, equals, upwards, put_terms}
 
@@ -56,6 +56,14 @@ numbered_claim_is = record { is = λ s. refl; plain = λ s. (refl, refl); unlist
 pub numbered_entries_is : Means SELECT_NUMBERED_ENTRIES.now (Select (record { lets = []; body = from_table 19 of_number_tests (col 1 2 ∷ col 1 3 ∷ col 1 4 ∷ col 1 5 ∷ col 1 6 ∷ col 1 7 ∷ []) (upwards 2 ∷ upwards 4 ∷ upwards 5 ∷ upwards 6 ∷ []) no_limit }) (codes "number" ∷ codes "asn" ∷ codes "family" ∷ codes "lo" ∷ codes "len" ∷ codes "max" ∷ []))
 unfolding understood everything
 numbered_entries_is = record { is = λ s. refl; plain = λ s. (refl, refl); unlisted = λ s. refl }
+
+-- an entry is of the holder ?1, and its AS, prefix and maxLength are ?2 to ?6
+abbrev pub given_tests : List Term
+given_tests = equals 1 0 ∷ equals 3 1 ∷ equals 4 2 ∷ equals 5 3 ∷ equals 6 4 ∷ equals 7 5 ∷ []
+
+pub given_entries_is : Means SELECT_GIVEN_ENTRIES.now (Select (record { lets = []; body = from_table 19 given_tests (col 1 2 ∷ col 1 3 ∷ col 1 4 ∷ col 1 5 ∷ col 1 6 ∷ col 1 7 ∷ []) (upwards 2 ∷ upwards 4 ∷ upwards 5 ∷ upwards 6 ∷ []) no_limit }) (codes "number" ∷ codes "asn" ∷ codes "family" ∷ codes "lo" ∷ codes "len" ∷ codes "max" ∷ []))
+unfolding understood everything
+given_entries_is = record { is = λ s. refl; plain = λ s. (refl, refl); unlisted = λ s. refl }
 
 pub all_claims_is : Means SELECT_ALL_CLAIMS.now (Select (record { lets = []; body = from_table 17 [] (col 1 2 ∷ col 1 3 ∷ col 1 4 ∷ col 1 5 ∷ col 1 1 ∷ col 1 0 ∷ []) (upwards 0 ∷ []) no_limit }) (codes "number" ∷ codes "asn" ∷ codes "opens" ∷ codes "ends" ∷ codes "holder" ∷ codes "rowid" ∷ []))
 unfolding understood everything

@@ -4,11 +4,13 @@ use Rattle.std.specs.Int.{w128, to_be_bytes}
 use Rattle.sqlite_value.specs.declared.value.Value.{Value}
 use Rattle.sqlite_value.specs.declared.value.Value.TheVariants.{Null, Int, Text, Blob}
 use Rattle.sqlite_value.specs.Order.{Row}
+use Rattle.addr.specs.declared.asn.Asn.{Asn}
 use Rattle.addr.specs.declared.family.Family.{Family}
 use Rattle.addr.specs.declared.family.Family.TheVariants.{V4, V6}
 use Rattle.addr.specs.declared.prefix.Prefix.{Prefix}
 use Rattle.addr.specs.declared.span.Span.{Span}
 use Rattle.addr.specs.declared.vrp.Vrp.{Vrp}
+use Rattle.registry.specs.declared.authorization.RoaPrefix.{RoaPrefix}
 use Rattle.registry.specs.declared.grant.Granted.{Granted}
 use Rattle.registry.specs.declared.grant.Role.{Role}
 use Rattle.registry.specs.declared.grant.Role.TheVariants.{Manager, Clerk, Auditor}
@@ -68,9 +70,12 @@ grant_cells g =
 abbrev pub claim_cells : Claim → Row
 claim_cells c = number_cell c.number ∷ number_cell c.asn.0 ∷ number_cell c.from ∷ number_cell c.until ∷ []
 
+-- what an entry gives the AS: its prefix and maxLength
+abbrev pub given_cells : Asn → RoaPrefix → Row
+given_cells asn e = number_cell asn.0 ∷ prefix_cells e.prefix ++ number_cell e.max ∷ []
+
 abbrev pub entry_cells : EntryRow → Row
-entry_cells e =
-    number_cell e.number ∷ number_cell e.asn.0 ∷ prefix_cells e.entry.prefix ++ number_cell e.entry.max ∷ []
+entry_cells e = number_cell e.number ∷ given_cells e.asn e.entry
 
 -- the one row of the table `meta`, which has the number of the schema, and a row of the table `operator`
 abbrev pub schema_row : Row

@@ -1,9 +1,10 @@
 //! The table `entry`, of which each row is the name of a holder and an entry of an authorization of
 //! it: a prefix with its maxLength (RFC 9582 section 4.3.2).
-ghost use Rattle.std.specs.Prelude.{◌≡◌};
+ghost use Rattle.std.specs.Prelude.{◌≡◌, ◌∷◌};
 ghost use Rattle.sqlite.specs.Values.{bound};
 ghost use Rattle.registry.specs.Values.{VrpFits};
-ghost use Rattle.tables.specs.Cells.{address_bytes, entry_cells, entry_row, vrp_cells};
+ghost use Rattle.sqlite_value.specs.declared.value.Value.TheVariants.{Text};
+ghost use Rattle.tables.specs.Cells.{address_bytes, entry_cells, entry_row, given_cells, vrp_cells};
 ghost use Rattle.tables.specs.Decode.{EntryRowFits};
 ghost use Rattle.tables.specs.Groups.{claim_entry};
 
@@ -43,6 +44,11 @@ pub const SELECT_HOLDER_ENTRIES: &str = "\
 pub const SELECT_NUMBERED_ENTRIES: &str = "\
     SELECT number, asn, family, lo, len, max FROM entry WHERE holder = ?1 AND number = ?2 \
     ORDER BY number, family, lo, len";
+
+/// The entries of a holder's authorizations that give a VRP.
+pub const SELECT_GIVEN_ENTRIES: &str = "\
+    SELECT number, asn, family, lo, len, max FROM entry WHERE holder = ?1 AND asn = ?2 \
+    AND family = ?3 AND lo = ?4 AND len = ?5 AND max = ?6 ORDER BY number, family, lo, len";
 
 /// All entries, the names of their holders, and their rowids.
 pub const SELECT_ALL_ENTRIES: &str = "\
@@ -85,6 +91,27 @@ pub fn entry_values<'a>(holder: &'a Name, row: &EntryRow, first: &'a [u8]) -> [V
         first.to_sql(),
         u32::from(row.entry.prefix.length).to_sql(),
         u32::from(row.entry.max).to_sql(),
+    ]
+}
+
+/// The name of a holder, and the AS, prefix and maxLength that an entry gives, with the bytes of the
+/// first address of the prefix.
+pub fn given_values<'a>(
+    holder: &'a Name,
+    asn: Asn,
+    entry: &RoaPrefix,
+    first: &'a [u8],
+) -> [ValueRef<'a>; 6]
+    requires { first.now ≡ address_bytes entry.now.prefix.first }
+    ensures { bound result ≡ Text holder.now ∷ given_cells asn entry.now }
+{
+    [
+        holder.as_str().to_sql(),
+        asn.0.to_sql(),
+        family_number(entry.prefix.family).to_sql(),
+        first.to_sql(),
+        u32::from(entry.prefix.length).to_sql(),
+        u32::from(entry.max).to_sql(),
     ]
 }
 
