@@ -1,26 +1,19 @@
 -- What each statement does to the rows of a holder.
-use Rattle.std.proofs.Common.{◌≡◌, inl, inr, ℕ, pos, Bool, true, not, ◌&&◌, ◌==◌, List, [], ◌∷◌, ◌++◌, map, filter, drop, length, ◌/◌, ◌^◌, ◌<◌, nat_cmp, is_eq, arith, Some, None, refl, sym, ap, ap₂, subst, ◌∙◌}
+use Rattle.std.proofs.Common.{◌≡◌, inl, inr, ℕ, pos, Bool, true, not, ◌&&◌, ◌==◌, List, [], ◌∷◌, ◌++◌, map, filter, drop, length, ◌/◌, arith, Some, None, refl, sym, ap, ap₂, subst, ◌∙◌}
 use Rattle.std.proofs.lemmas.Bool.{and_parts}
-use Rattle.std.proofs.lemmas.Bool.Decides.{nat_tests}
 use Rattle.std.proofs.Math.Bool.{and-true, or-false}
 use Rattle.std.proofs.lemmas.List.Sorted.{IsPermutation-refl}
 use Rattle.sqlite.specs.Effect.{value_rows}
 use Rattle.sqlite.specs.State.{State}
-use Rattle.sqlite_value.specs.declared.value.Value.TheVariants.{Null, Int, Text, Blob}
-use Rattle.sqlite_value.specs.declared.value.Value.{Value}
-use Rattle.sqlite_value.specs.Order.{Row, column, value_cmp}
-use Rattle.sqlite_value.proofs.OrderLemmas.{value_cmp-Blob}
+use Rattle.sqlite_value.specs.declared.value.Value.TheVariants.{Null, Int, Text}
+use Rattle.sqlite_value.specs.Order.{Row, column}
 use Rattle.sqlite_trees.proofs.ListLemmas.{filter-map}
 use Rattle.sqlite_sql.specs.Term.{Term, lit, col}
 use Rattle.sqlite_schema.specs.declared.schema.Kind.TheVariants.{Integer, Text as Words}
 use Rattle.sqlite_rules.specs.Cast.{cast}
 use Rattle.sqlite_typed.proofs.TestLemmas.{last_term}
-use Rattle.addr.specs.Family.{width, family_eq}
 use Rattle.addr.specs.Spans.{span_eq, is_one_of, without_runs}
-use Rattle.addr.specs.declared.family.Family.{Family}
-use Rattle.addr.specs.declared.family.Family.TheVariants.{V4, V6}
 use Rattle.addr.specs.declared.span.Span.{Span}
-use Rattle.addr.proofs.AddressLemmas.{below_widest}
 use Rattle.registry.specs.declared.change.Edit.TheVariants.{Revoke}
 use Rattle.registry.specs.declared.grant.Granted.{Granted}
 use Rattle.registry.specs.declared.grant.Scope.{Scope}
@@ -36,9 +29,8 @@ use Rattle.tables.specs.declared.holding.TheConstants.{DELETE_HOLDING, INSERT_HO
 use Rattle.edits.specs.steps.RowEdits.{with_holdings, without_holdings, with_grants, with_granted, with_created}
 use Rattle.making.specs.Statements.{IsReady, IsExecuted}
 use Rattle.edits.specs.steps.Statements.{EditsHolder, Registers}
-use Rattle.tables.proofs.Addresses.{addresses_in_order}
 use Rattle.tables.proofs.Selecting.{picks}
-use Rattle.tables.proofs.CellLemmas.{cast_number, cast_holder, cast_holding, cast_granted, is_number_cell, number_of_number, appended}
+use Rattle.tables.proofs.CellLemmas.{cast_number, cast_holder, cast_holding, cast_granted, is_bytes, is_number_cell, number_of_number, same_address, same_family_number, appended}
 use Rattle.tables.proofs.HaveEntries.{turned_have_entries}
 use Rattle.tables.proofs.PartLemmas.{names, name_of-true, name_of_itself, put_local}
 use Rattle.making.proofs.StatementLemmas.{puts_row}
@@ -72,9 +64,6 @@ of_tests h n more r =
     (last_term (equals_int (column r 2) (pos n) ∙ ap (is_number_cell n) (column_after r 1)))
 
 -- the one of a holder and a run of addresses
-abbrev is_bytes : List ℕ → Value → Bool
-is_bytes b v = is_eq (value_cmp v (Blob b))
-
 abbrev is_run : List ℕ → Span → Row → Bool
 is_run h s c = is_number_cell (family_number s.family) (column c 0) && (is_bytes (address_bytes s.lo) (column c 1) && (is_bytes (address_bytes s.hi) (column c 2) && is_name_of h (column c 3)))
 
@@ -95,19 +84,6 @@ tests_run h s r =
     (last_term (equals_text (column r 4) h ∙ ap (is_name_of h) (column_after r 3)))))
 
 -- a run of a holder's rows is this one where family and ends are the same
-same_family_number : (f g : Family) → is_number_cell (family_number g) (number_cell (family_number f)) ≡ family_eq f g
-same_family_number V4 V4 = number_of_number 4 4
-same_family_number V4 V6 = number_of_number 4 6
-same_family_number V6 V4 = number_of_number 6 4
-same_family_number V6 V6 = number_of_number 6 6
-
-same_address : (f g : Family) (m n : ℕ) → m < 2 ^ width f → n < 2 ^ width g → is_bytes (address_bytes n) (Blob (address_bytes m)) ≡ (m == n)
-same_address f g m n low below =
-    ap is_eq (value_cmp-Blob (address_bytes m) (address_bytes n) ∙ addresses_in_order m n (below_widest f m low) (below_widest g n below)) ∙ eq_is
-  where
-    eq_is : is_eq (nat_cmp m n) ≡ (m == n)
-    eq_is = grind (arith, nat_tests)
-
 own_run : (h : List ℕ) (s t : Span) → is_run h s (holding_row h t) ≡ is_one_of (s ∷ []) t
 own_run h s t =
     ap₂ ◌&&◌ (same_family_number t.family s.family)

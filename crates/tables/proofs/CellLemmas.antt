@@ -1,17 +1,22 @@
 -- The cells of typed rows: what their columns cast and how they compare.
-use Rattle.std.proofs.Common.{◌≡◌, ℕ, pos, Bool, ◌==◌, List, [], ◌∷◌, ◌++◌, codes, map, sym, ap, ◌∙◌, subst, IsPermutation, is_eq, int_cmp, arith}
+use Rattle.std.proofs.Common.{◌≡◌, ℕ, pos, ◌<◌, ◌^◌, Bool, ◌==◌, List, [], ◌∷◌, ◌++◌, codes, map, sym, ap, ◌∙◌, subst, IsPermutation, is_eq, int_cmp, nat_cmp, arith}
+use Rattle.std.proofs.lemmas.Bool.Decides.{nat_tests}
 use Rattle.std.proofs.lemmas.Int.{ints}
 use Rattle.std.proofs.lemmas.List.{map-append}
 use Rattle.std.proofs.lemmas.List.Sorted.{IsPermutation-to_front}
 use Rattle.sqlite_value.specs.declared.value.Value.{Value}
 use Rattle.sqlite_value.specs.declared.value.Value.TheVariants.{Null, Text, Blob}
 use Rattle.sqlite_value.specs.Order.{Row, value_cmp}
-use Rattle.sqlite_value.proofs.OrderLemmas.{value_cmp-Int}
+use Rattle.sqlite_value.proofs.OrderLemmas.{value_cmp-Blob, value_cmp-Int}
 use Rattle.sqlite_sql.specs.Ops.{unary}
 use Rattle.sqlite_schema.specs.declared.schema.Kind.TheVariants.{Integer}
 use Rattle.sqlite_rules.specs.Cast.{cast, cast_all}
+use Rattle.addr.specs.Family.{width, family_eq}
+use Rattle.addr.specs.declared.family.Family.{Family}
+use Rattle.addr.specs.declared.family.Family.TheVariants.{V4, V6}
 use Rattle.addr.specs.declared.prefix.Prefix.{Prefix}
 use Rattle.addr.specs.declared.span.Span.{Span}
+use Rattle.addr.proofs.AddressLemmas.{below_widest}
 use Rattle.registry.specs.declared.grant.Granted.{Granted}
 use Rattle.registry.specs.declared.grant.Scope.{Scope}
 use Rattle.registry.specs.declared.grant.Scope.TheVariants.{All, Only}
@@ -24,6 +29,7 @@ use Rattle.tables.specs.declared.exception.ExceptionRow.{ExceptionRow}
 use Rattle.tables.specs.declared.meta.TheConstants.{SCHEMA}
 use Rattle.tables.specs.Tables.{meta, pool, holder, holding, granted, claim, entry, slurm}
 use Rattle.tables.specs.Cells.{number_cell, family_number, role_number, address_bytes, schema_row, prefix_cells, scope_cells, holder_row, holding_row, granted_row, claim_row, entry_row, exception_row}
+use Rattle.tables.proofs.Addresses.{addresses_in_order}
 use Rattle.tables.proofs.Inserting.{either, cast_null}
 
 pub cast_number : (n : ℕ) → cast Integer (number_cell n) ≡ number_cell n
@@ -74,6 +80,23 @@ same_number m n = grind (arith, ints)
 
 pub number_of_number : (m n : ℕ) → is_number_cell n (number_cell m) ≡ (m == n)
 number_of_number m n = ap is_eq (value_cmp-Int (pos m) (pos n)) ∙ same_number m n
+
+pub same_family_number : (f g : Family) → is_number_cell (family_number g) (number_cell (family_number f)) ≡ family_eq f g
+same_family_number V4 V4 = number_of_number 4 4
+same_family_number V4 V6 = number_of_number 4 6
+same_family_number V6 V4 = number_of_number 6 4
+same_family_number V6 V6 = number_of_number 6 6
+
+-- a value is these bytes
+abbrev pub is_bytes : List ℕ → Value → Bool
+is_bytes b v = is_eq (value_cmp v (Blob b))
+
+pub same_address : (f g : Family) (m n : ℕ) → m < 2 ^ width f → n < 2 ^ width g → is_bytes (address_bytes n) (Blob (address_bytes m)) ≡ (m == n)
+same_address f g m n low below =
+    ap is_eq (value_cmp-Blob (address_bytes m) (address_bytes n) ∙ addresses_in_order m n (below_widest f m low) (below_widest g n below)) ∙ eq_is
+  where
+    eq_is : is_eq (nat_cmp m n) ≡ (m == n)
+    eq_is = grind (arith, nat_tests)
 
 -- one more at the end is one more at the front, in another order
 pub appended : {A : Type 0} (f : A → Row) (xs : List A) (x : A) → IsPermutation (map f (xs ++ x ∷ [])) (f x ∷ map f xs)
