@@ -17,12 +17,16 @@ use Rattle.sqlite_sql.specs.Query.{IsAnswer, key_cmp}
 use Rattle.sqlite_sql.specs.Program.{overlay}
 use Rattle.sqlite_schema.specs.declared.command.Command.{Command}
 use Rattle.sqlite_schema.specs.declared.command.Command.TheVariants.{Select}
+use Rattle.addr.specs.Family.{family_eq}
+use Rattle.addr.specs.declared.asn.Asn.{Asn}
+use Rattle.addr.proofs.AddressLemmas.{first_below}
 use Rattle.charters.specs.CharterSets.{CharterSets}
 use Rattle.registry.specs.declared.authorization.Auth.{Auth}
+use Rattle.registry.specs.declared.authorization.RoaPrefix.{RoaPrefix}
 use Rattle.registry.specs.Rows.{Rows}
 use Rattle.registry.specs.RowsOfAll.{AllRows}
 use Rattle.tables.specs.Authorizations.{claim_of, entry_rows_of}
-use Rattle.tables.specs.Cells.{span_cells, grant_cells, claim_cells, entry_cells, number_cell, holding_row, granted_row, claim_row, entry_row}
+use Rattle.tables.specs.Cells.{address_bytes, family_number, span_cells, grant_cells, claim_cells, given_cells, entry_cells, number_cell, holding_row, granted_row, claim_row, entry_row}
 use Rattle.tables.specs.Tables.{contents, columns}
 use Rattle.tables.specs.TablesHold.{Part, TablesHold, is_name_of, items_if_any, HoldsPart, part_rows, holder_part, holding_part, granted_part, claim_part, entry_part}
 use Rattle.tables.specs.Decode.{first_columns}
@@ -30,22 +34,22 @@ use Rattle.tables.specs.Groups.{claim_entry}
 use Rattle.tables.specs.declared.claim.Claim.{Claim}
 use Rattle.tables.specs.declared.entry.EntryRow.{EntryRow}
 use Rattle.tables.specs.declared.claim.TheConstants.{SELECT_HOLDER_CLAIMS, SELECT_NUMBERED_CLAIM}
-use Rattle.tables.specs.declared.entry.TheConstants.{SELECT_HOLDER_ENTRIES, SELECT_NUMBERED_ENTRIES}
+use Rattle.tables.specs.declared.entry.TheConstants.{SELECT_GIVEN_ENTRIES, SELECT_HOLDER_ENTRIES, SELECT_NUMBERED_ENTRIES}
 use Rattle.tables.specs.declared.granted.TheConstants.{SELECT_HOLDER_GRANTS}
 use Rattle.tables.specs.declared.holder.TheConstants.{SELECT_COUNTERS}
 use Rattle.tables.specs.declared.holding.TheConstants.{SELECT_HOLDER_SPANS}
-use Rattle.tables.proofs.CellLemmas.{is_number_cell, number_of_number}
+use Rattle.tables.proofs.CellLemmas.{is_bytes, is_number_cell, number_of_number, same_address, same_family_number}
 use Rattle.tables.proofs.ReadLemmas.{are_whole}
 use Rattle.tables.proofs.TreeRows.{filter_twice}
-use Rattle.loads.specs.steps.Queries.{by_column, AreAnswered, Selects, SelectsWith}
+use Rattle.loads.specs.steps.Queries.{by_column, AreAnswered, Selects, SelectsWith, entries_given, gives_entry}
 use Rattle.tables.proofs.Selecting.{from_table, no_limit, picks, permuted, sorted}
 use Rattle.database.proofs.Columns.{column_after, shown_at, shown_columns, grant_places, grant_shown}
-use Rattle.edits.proofs.StepLemmas.{equals_int, equals_text, holder_test}
+use Rattle.edits.proofs.StepLemmas.{equals_blob, equals_int, equals_text, holder_test}
 use Rattle.sqlite_typed.proofs.TestLemmas.{last_term}
 use Rattle.tables.proofs.GroupCells.{by_entry}
 use Rattle.tables.proofs.PartLemmas.{names}
 use Rattle.tables.proofs.CellsOnce.{cells_of_counters, counters_of_rows, one_counters, one_span, one_grant, one_claim, one_entry_row}
-use Rattle.tables.proofs.ClaimTexts.{of_number_tests, claims_is, entries_is, numbered_claim_is, numbered_entries_is}
+use Rattle.tables.proofs.ClaimTexts.{of_number_tests, given_tests, claims_is, entries_is, given_entries_is, numbered_claim_is, numbered_entries_is}
 use Rattle.tables.proofs.Texts.{Means, equals, upwards, counters_is, spans_is, grants_is}
 
 -- what is shown of the rows that pass, where both read the columns alone
@@ -231,6 +235,13 @@ entries_query = record {
   once = one_entry_row;
 }
 
+-- the columns of the rows of the holder that are kept
+rows_picked : (h : List ℕ) (params : Row) (tests : List Term) (keeps : Row → Bool) → ((r : Row) → picks params tests r ≡ (names 0 h (drop 1 r) && keeps (drop 1 r))) → (places : List ℕ) (rows : List Row)
+    → map (λ r. eval_all (shown_at places) (params ∷ r ∷ [])) (filter (picks params tests) rows) ≡ map (columns places) (filter keeps (filter (names 0 h) (contents rows)))
+rows_picked h params tests keeps passes places rows =
+    of_contents (λ r. eval_all (shown_at places) (params ∷ r ∷ [])) (columns places) (picks params tests) (λ c. names 0 h c && keeps c) (shown_columns places params) passes rows
+    ∙ ap (map (columns places)) (sym (filter_twice keeps (names 0 h) (contents rows)))
+
 -- ---- the two queries of one authorization
 
 abbrev pub has_number : ℕ → Auth → Bool
@@ -254,12 +265,6 @@ module _ (h : List ℕ) (n : ℕ) where
       ap₂ ◌&&◌ (equals_text (column r 1) h ∙ ap (is_name_of h) (column_after r 0))
       (last_term (equals_int (column r 2) (pos n) ∙ ap (is_number_cell n) (column_after r 1)))
 
-  number_picked : (places : List ℕ) (rows : List Row)
-      → map (λ r. eval_all (shown_at places) (params ∷ r ∷ [])) (filter (picks params of_number_tests) rows) ≡ map (columns places) (filter (is_numbered n) (filter (names 0 h) (contents rows)))
-  number_picked places rows =
-      of_contents (λ r. eval_all (shown_at places) (params ∷ r ∷ [])) (columns places) (picks params of_number_tests) (λ c. names 0 h c && is_numbered n c) (shown_columns places params) number_tests rows
-      ∙ ap (map (columns places)) (sym (filter_twice (is_numbered n) (names 0 h) (contents rows)))
-
   pub claims_kept : (xs : List Auth) → filter (is_numbered n) (map (λ x. claim_row h (claim_of x)) xs) ≡ map (λ x. claim_row h (claim_of x)) (filter (has_number n) xs)
   claims_kept xs = filter-map (is_numbered n) (λ x. claim_row h (claim_of x)) xs ∙ (λ i. map (λ x. claim_row h (claim_of x)) (filter (λ x. number_of_number x.number n i) xs))
 
@@ -275,7 +280,7 @@ module _ (h : List ℕ) (n : ℕ) where
     means = numbered_claim_is;
     keeps = filter (is_numbered n);
     permutes = IsPermutation-filter (is_numbered n);
-    picked = number_picked claim_places;
+    picked = rows_picked h params of_number_tests (is_numbered n) number_tests claim_places;
     shows = claims_shown;
   })
 
@@ -307,6 +312,60 @@ module _ (h : List ℕ) (n : ℕ) where
     means = numbered_entries_is;
     keeps = filter (is_numbered n);
     permutes = IsPermutation-filter (is_numbered n);
-    picked = number_picked entry_places;
+    picked = rows_picked h params of_number_tests (is_numbered n) number_tests entry_places;
     shows = entries_shown;
+  })
+
+-- ---- the query of the entries that give a VRP
+
+-- five tests one after the other, of which the second to the fourth are those of a prefix
+prefix_first : (f i l m : Bool) → (f && (i && (l && m))) ≡ ((f && (i && l)) && m)
+prefix_first true true l m = refl
+prefix_first true false l m = refl
+prefix_first false i l m = refl
+
+module _ (h : List ℕ) (asn : Asn) (e : RoaPrefix) where
+  abbrev pub given_params : Row
+  given_params = Text h ∷ given_cells asn e
+
+  abbrev is_given : Row → Bool
+  is_given c =
+      is_number_cell asn.0 (column c 2)
+      && (is_number_cell (family_number e.prefix.family) (column c 3)
+      && (is_bytes (address_bytes e.prefix.first) (column c 4) && (is_number_cell e.prefix.length (column c 5) && is_number_cell e.max (column c 6))))
+
+  given_passes : (r : Row) → picks given_params given_tests r ≡ (names 0 h (drop 1 r) && is_given (drop 1 r))
+  given_passes r =
+      ap₂ ◌&&◌ (equals_text (column r 1) h ∙ ap (is_name_of h) (column_after r 0))
+      (ap₂ ◌&&◌ (equals_int (column r 3) (pos asn.0) ∙ ap (is_number_cell asn.0) (column_after r 2))
+      (ap₂ ◌&&◌ (equals_int (column r 4) (pos (family_number e.prefix.family)) ∙ ap (is_number_cell (family_number e.prefix.family)) (column_after r 3))
+      (ap₂ ◌&&◌ (equals_blob (column r 5) (address_bytes e.prefix.first) ∙ ap (is_bytes (address_bytes e.prefix.first)) (column_after r 4))
+      (ap₂ ◌&&◌ (equals_int (column r 6) (pos e.prefix.length) ∙ ap (is_number_cell e.prefix.length) (column_after r 5))
+      (last_term (equals_int (column r 7) (pos e.max) ∙ ap (is_number_cell e.max) (column_after r 6)))))))
+
+  given_row : (r : EntryRow) → is_given (entry_row h r) ≡ gives_entry asn e r
+  given_row r =
+      let p = r.entry.prefix in
+      ap₂ ◌&&◌ (number_of_number r.asn.0 asn.0)
+      (ap₂ ◌&&◌ (same_family_number p.family e.prefix.family)
+      (ap₂ ◌&&◌ (same_address p.family e.prefix.family p.first e.prefix.first (first_below p) (first_below e.prefix))
+      (ap₂ ◌&&◌ (number_of_number p.length e.prefix.length) (number_of_number r.entry.max e.max)))
+      ∙ prefix_first (family_eq p.family e.prefix.family) (p.first == e.prefix.first) (p.length == e.prefix.length) (r.entry.max == e.max))
+
+  given_shown : (o : Option Rows) → map (columns entry_places) (filter is_given (part_rows entry_part h o)) ≡ map entry_cells (items_if_any (entries_given asn e) o)
+  given_shown None = refl
+  given_shown (Some r) =
+      let rows = flat_map entry_rows_of r.auths in
+      ap (λ l. map (columns entry_places) (filter is_given l)) (sym (map-flat_map (entry_row h) entry_rows_of r.auths))
+      ∙ ap (map (columns entry_places)) (filter-map is_given (entry_row h) rows ∙ (λ i. map (entry_row h) (filter (λ x. given_row x i) rows)))
+      ∙ map-map (columns entry_places) (entry_row h) (filter (gives_entry asn e) rows)
+
+  pub selects_given : SelectsWith entry_cells 6 (entries_given asn e) by_entry SELECT_GIVEN_ENTRIES.now h given_params
+  selects_given = selects_with _ _ _ _ entries_query (entries_given asn e) _ h given_params (record {
+    tests = given_tests;
+    means = given_entries_is;
+    keeps = filter is_given;
+    permutes = IsPermutation-filter is_given;
+    picked = rows_picked h given_params given_tests is_given given_passes entry_places;
+    shows = given_shown;
   })

@@ -1,6 +1,7 @@
 mod Finding
 pub mod Loading
 mod NumberFound
+mod GivenAuths
 mod Overlapping
 mod Claimed
 mod InForce

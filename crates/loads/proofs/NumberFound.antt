@@ -61,13 +61,17 @@ none_alike [] same = refl
 none_alike (y ∷ ys) same = absurd (let e = length_permutation _ _ same in cc)
 
 -- what is taken from the end of at most one
-last_of_one : {X : Type 0} (ys rest : List X) (popped : Option X) → length ys < 2 → ys ≡ rest ++ option_to_list popped → (IsSome popped ↔ (0 < length ys)) → slice_get ys 0 ≡ popped
+last_of_one : {X : Type 0} (ys rest : List X) (popped : Option X) → length ys < 2 → ys ≡ rest ++ option_to_list popped → (IsSome popped ↔ (0 < length ys)) → ys ≡ option_to_list popped
 last_of_one [] rest None few is some = refl
 last_of_one [] rest (Some x) few is some = absurd (let e = some.0 refl in omega (arith, e))
 last_of_one (y ∷ []) rest None few is some = absurd (let e = some.1 (omega arith) in cc)
-last_of_one (y ∷ []) [] (Some x) few is some = ap (λ l. slice_get l 0) is
+last_of_one (y ∷ []) [] (Some x) few is some = is
 last_of_one (y ∷ []) (r ∷ rest) (Some x) few is some = absurd (let e = ap length is in let more = length-append rest (x ∷ []) in omega (arith, e, more))
 last_of_one (y ∷ z ∷ ys) rest popped few is some = absurd (omega (arith, few))
+
+first_of_option : {X : Type 0} (o : Option X) → slice_get (option_to_list o) 0 ≡ o
+first_of_option None = refl
+first_of_option (Some x) = refl
 
 few_alike : {X : Type 0} (xs ys : List X) → length xs < 2 → IsPermutation xs ys → ys ≡ xs
 few_alike [] ys few same = none_alike ys same
@@ -76,11 +80,13 @@ few_alike (x ∷ y ∷ xs) ys few same = absurd (omega (arith, few))
 
 pub popped_number :
     (n : ℕ) (xs : List Auth) (ys rest : List Auth) (popped : Option Auth) → length (filter (has_number n) xs) < 2 → IsPermutation (filter (has_number n) xs) ys
-    → ys ≡ rest ++ option_to_list popped → (IsSome popped ↔ (0 < length ys)) → auth_of_number n xs ≡ popped
+    → ys ≡ rest ++ option_to_list popped → (IsSome popped ↔ (0 < length ys)) → filter (has_number n) xs ≡ option_to_list popped
 popped_number n xs ys rest popped few same is some =
     let alike = few_alike (filter (has_number n) xs) ys few same in
-    first_found (has_number n) xs ∙ ap (λ l. slice_get l 0) (sym alike)
-    ∙ last_of_one ys rest popped (subst (λ l. length l < 2) (sym alike) few) is some
+    sym alike ∙ last_of_one ys rest popped (subst (λ l. length l < 2) (sym alike) few) is some
+
+pub only_number : (n : ℕ) (xs : List Auth) (found : Option Auth) → filter (has_number n) xs ≡ option_to_list found → auth_of_number n xs ≡ found
+only_number n xs found only = first_found (has_number n) xs ∙ ap (λ l. slice_get l 0) only ∙ first_of_option found
 
 -- ---- over the tables
 

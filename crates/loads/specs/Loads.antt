@@ -1,26 +1,33 @@
 -- What is loaded of the rows that the tables hold.
-use Rattle.std.specs.Prelude.{◌≡◌, ◌≤◌, ℕ, true, List, map, Option, Some, None, Contains, IsPermutation, IsSortedByKey, IsTrue, ⊤}
+use Rattle.std.specs.Prelude.{◌≡◌, ◌≤◌, ◌==◌, ◌&&◌, ◌↔◌, ℕ, Bool, true, false, not, nat_le, List, map, filter, length, Option, Some, None, option_to_list, Contains, IfSome, IsPermutation, IsSortedByKey, IsTrue, ⊤}
 use Rattle.std.specs.List.{list_any}
 use Rattle.std.specs.Ordering.{nat_cmp}
 use Rattle.sqlite.specs.State.{State}
 use Rattle.addr.specs.Address.{Address}
 use Rattle.addr.specs.Spans.{span_meets, spans_have, AreMaximal}
+use Rattle.addr.specs.declared.asn.Asn.{Asn}
 use Rattle.addr.specs.declared.prefix.Prefix.{Prefix}
 use Rattle.addr.specs.declared.span.Span.{Span}
 use Rattle.addr.specs.declared.vrp.Vrp.{Vrp}
 use Rattle.charters.specs.CharterSets.{CharterSets}
 use Rattle.registry.specs.declared.authorization.Auth.{Auth}
+use Rattle.registry.specs.declared.authorization.AuthTerms.{AuthTerms}
 use Rattle.registry.specs.declared.authorization.RoaPrefix.{RoaPrefix}
 use Rattle.registry.specs.declared.grant.Granted.{Granted}
+use Rattle.registry.specs.declared.limits.TheConstants.{MOST_AUTHORIZATIONS}
+use Rattle.registry.specs.declared.rows.CreateAnswers.{CreateAnswers}
 use Rattle.registry.specs.declared.rows.HolderRows.{HolderRows}
+use Rattle.registry.specs.RoaPrefixes.{with_maxes}
 use Rattle.registry.specs.Rows.{Rows}
 use Rattle.registry.specs.RowsOfAll.{AllRows}
-use Rattle.registry.specs.Terms.{IsVrpOfEntry}
+use Rattle.registry.specs.Terms.{IsVrpOfEntry, entries_have, gives_some}
 use Rattle.registry.specs.Values.{VrpFits}
-use Rattle.registry.specs.Verdict.{auth_of_number}
+use Rattle.registry.specs.Verdict.{auth_of_number, maxes_fit}
 use Rattle.slurm.specs.Exceptions.{Exceptions}
 use Rattle.slurm.specs.declared.set.NamedSlurm.{NamedSlurm}
 use Rattle.tables.specs.TablesHold.{items_if_any, TablesHold}
+use Rattle.loads.specs.declared.answers.ForAmend.{ForAmend}
+use Rattle.loads.specs.declared.answers.ForCreate.{ForCreate}
 use Rattle.loads.specs.declared.load.Numbered.{Numbered}
 
 -- it is so of all rows, and of those of one holder, whatever charter and rows the tables hold
@@ -60,11 +67,59 @@ AreLoaded None (Some loaded) = ⊥
 AreLoaded (Some r) None = ⊥
 AreLoaded (Some r) (Some loaded) = IsLoaded r loaded
 
+-- the authorizations of a holder; none where it is not registered
+abbrev pub auths_held : Option Rows → List Auth
+auths_held rows = items_if_any (λ r. r.auths) rows
+
 -- what is loaded of a holder and a number: the grants, by rising number, and the authorization of that number, if
--- there is one
+-- there is one; no other has the number
 pub record AreNumbered (n : ℕ) (rows : Option Rows) (loaded : Numbered) : Type 0 where
   pub grants : AreInOrder (λ (g : Granted). g.number) (items_if_any (λ r. r.grants) rows) loaded.grants.items
-  pub auth : auth_of_number n (items_if_any (λ r. r.auths) rows) ≡ loaded.auth
+  pub auth : auth_of_number n (auths_held rows) ≡ loaded.auth
+  pub only : filter (λ x. x.number == n) (auths_held rows) ≡ option_to_list loaded.auth
+
+-- ---- what a create and an amendment are judged on
+
+-- the number is not the one that is left out, if there is one
+abbrev pub is_other : Option ℕ → ℕ → Bool
+is_other None m = true
+is_other (Some n) m = not (m == n)
+
+-- an authorization, but for one of the number, gives the AS with an entry of the list
+abbrev pub some_gives : Option ℕ → Asn → List RoaPrefix → List Auth → Bool
+some_gives but asn es auths = list_any (λ y. is_other but y.number && gives_some y asn es) auths
+
+-- every address of the entries lies in one of the runs
+abbrev pub AreHeld : List Span → List RoaPrefix → Type 0
+AreHeld spans es = (a : Address) → entries_have es a ≡ true → spans_have spans a ≡ true
+
+-- how many authorizations were made at a holder; 0 where it is not registered
+abbrev pub created_if_any : Option Rows → ℕ
+created_if_any None = 0
+created_if_any (Some r) = r.created
+
+-- What is answered of a holder for a create of the terms. Whether they are given is said only where they are held, and
+-- whether the holder has as many authorizations as it may only where they are not given.
+pub record AreAnswers (terms : AuthTerms) (rows : Option Rows) (answers : CreateAnswers) : Type 0 where
+  pub created : answers.created ≡ created_if_any rows
+  pub holds : IsTrue answers.holds ↔ AreHeld (items_if_any (λ r. r.holdings) rows) terms.entries
+  pub gives : IsTrue answers.holds → answers.gives ≡ some_gives None terms.asn terms.entries (auths_held rows)
+  pub is_full :
+      IsTrue answers.holds → answers.gives ≡ false
+      → answers.is_full ≡ (nat_le MOST_AUTHORIZATIONS (created_if_any rows) && nat_le MOST_AUTHORIZATIONS (length (auths_held rows)))
+
+-- what is loaded of a holder for a create of the terms: the grants, by rising number, and those answers
+pub record IsForCreate (terms : AuthTerms) (rows : Option Rows) (loaded : ForCreate) : Type 0 where
+  pub grants : AreInOrder (λ (g : Granted). g.number) (items_if_any (λ r. r.grants) rows) loaded.grants.items
+  pub answers : AreAnswers terms rows loaded.answers
+
+-- What is loaded of a holder for an amendment to these maxLengths: what is loaded of the number, and where they fit its
+-- authorization, whether another one gives the AS with an entry of it that has its new maxLength.
+pub record IsForAmend (n : ℕ) (maxes : List ℕ) (rows : Option Rows) (loaded : ForAmend) : Type 0 where
+  pub numbered : AreNumbered n rows loaded.numbered
+  pub shared :
+      IfSome loaded.numbered.auth (λ x. maxes_fit maxes x.entries ≡ true
+      → loaded.is_shared ≡ some_gives (Some n) x.asn (with_maxes maxes x.entries) (auths_held rows))
 
 -- the SLURM files that are loaded, each without its name, by rising name
 abbrev pub AreFilesOf : List NamedSlurm → List Exceptions → Type 0

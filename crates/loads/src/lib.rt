@@ -2,10 +2,12 @@
 #![tactic(auto)]
 
 mod across;
+mod answers;
 mod exceptions;
 mod load;
 mod select;
 
 pub use across::some_overlap;
+pub use answers::{ForAmend, ForCreate, load_for_amend, load_for_create};
 pub use exceptions::load_files;
 pub use load::{Numbered, load_numbered, load_rows, load_vrps};

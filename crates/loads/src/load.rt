@@ -1,5 +1,5 @@
 //! What is loaded from the tables.
-ghost use Rattle.std.specs.Prelude.{◌≡◌, ◌≢◌, ◌↔◌, ℕ, List, map, All, AllPairs, Contains, Err, IfOk, IsPermutation, IsSorted};
+ghost use Rattle.std.specs.Prelude.{◌≡◌, ◌≢◌, ◌↔◌, ◌==◌, ℕ, List, map, filter, option_to_list, All, AllPairs, Contains, Err, IfOk, IsPermutation, IsSorted};
 ghost use Rattle.std.specs.declared.cmp.Ordering.{Ordering};
 ghost use Rattle.sqlite.specs.Given.{IsPlain};
 ghost use Rattle.sqlite.specs.Listing.{understood};
@@ -13,7 +13,7 @@ ghost use Rattle.registry.specs.Rows.{Rows};
 ghost use Rattle.registry.specs.RowsOfAll.{IsGivenOn};
 ghost use Rattle.registry.specs.Values.{FitIfAny};
 ghost use Rattle.registry.specs.Verdict.{auth_of_number};
-ghost use Rattle.loads.specs.Loads.{HaveSame, AreInOrder, AreLoaded, AreNumbered, AllGiveOn, IsOf, IsOfAll, IsOpenWith};
+ghost use Rattle.loads.specs.Loads.{HaveSame, AreInOrder, AreLoaded, AreNumbered, AllGiveOn, IsOf, IsOfAll, IsOpenWith, auths_held};
 ghost use Rattle.tables.specs.Tables.{OverDesk};
 ghost use Rattle.tables.specs.TablesHold.{items_if_any};
 ghost use Rattle.database.specs.Queries.{IsAsked, IsClean, IsReadyToAsk};
@@ -33,7 +33,7 @@ use tables::{
 };
 
 /// The addresses of the runs, as maximal runs.
-fn holdings_of(alloc: Global, spans: &[Span]) -> Result<Holdings, AllocError>
+pub(crate) fn holdings_of(alloc: Global, spans: &[Span]) -> Result<Holdings, AllocError>
     ensures same { IfOk result (λ holdings. HaveSame spans.now holdings) }
     ensures maximal { IfOk result AreMaximal }
 {
@@ -47,7 +47,7 @@ fn holdings_of(alloc: Global, spans: &[Span]) -> Result<Holdings, AllocError>
 }
 
 /// The values that the text selects with these parameters, in the order of their rows.
-fn load_selected<T: FromRow, S: Alter>(
+pub(crate) fn load_selected<T: FromRow, S: Alter>(
     conn: &mut Connection<S>,
     alloc: Global,
     sql: &str,
@@ -78,7 +78,7 @@ fn load_selected<T: FromRow, S: Alter>(
 }
 
 /// The values of the holder of one type, in the order of their rows.
-fn load_values<T: OfHolder, S: Alter>(
+pub(crate) fn load_values<T: OfHolder, S: Alter>(
     conn: &mut Connection<S>,
     alloc: Global,
     holder: &Name,
@@ -129,7 +129,10 @@ fn load_auth<S: Alter>(
     requires { IsReadyToAsk S.Store conn.old }
     ensures asked { IsAsked S.Store conn.old conn.new result }
     ensures found { IsClean S.Store conn.new → IfOk result (λ auth.
-        IsOf (λ rows. auth_of_number number (items_if_any (λ r. r.auths) rows) ≡ auth)
+        IsOf (λ rows. auth_of_number number (auths_held rows) ≡ auth)
+        holder.now (state S.Store conn.old)) }
+    ensures only { IsClean S.Store conn.new → IfOk result (λ auth.
+        IsOf (λ rows. filter (λ x. x.number == number) (auths_held rows) ≡ option_to_list auth)
         holder.now (state S.Store conn.old)) }
     ensures schema { IsClean S.Store conn.new → result ≡ Err StoreFault.Schema
         → IsOpenWith (λ all. ¬ FitIfAny (all.of_holder holder.now)) (state S.Store conn.old) }

@@ -16,7 +16,7 @@ use Rattle.loads.specs.steps.Queries.{by_column}
 use Rattle.database.proofs.AuthsFound.{if_made, only_refused}
 use Rattle.loads.proofs.Finding.{claims_numbered, entries_numbered, has_number, selects_claim, selects_entries}
 use Rattle.loads.proofs.Loading.{held_before, never_fit}
-use Rattle.loads.proofs.NumberFound.{few_numbered, never_no_number, number_found, numbered_claims_fit, numbered_entries_fit, popped_number}
+use Rattle.loads.proofs.NumberFound.{few_numbered, never_no_number, number_found, numbered_claims_fit, numbered_entries_fit, only_number, popped_number}
 use Rattle.database.proofs.QueryLemmas.{refused_by}
 use Rattle.loads.proofs.load.load_auth.Goals as goal
 
@@ -69,8 +69,8 @@ returns-in_err-auths-clause-schema g c clean is =
           (c.in_ok-rows.ensures.rising h params (entries_numbered n) by_entry bound_as (selects_entries h n) clean) none,
     )
 
-pub returns-clause-found : goal.returns-clause-found
-returns-clause-found g c clean charter all holds =
+pub returns-clause-only : goal.returns-clause-only
+returns-clause-only g c clean charter all holds =
     let h = c.args.holder.now in
     let n = c.args.number in
     let old = state g.S.Store c.args.conn.now in
@@ -95,3 +95,6 @@ returns-clause-found g c clean charter all holds =
     (c.in_ok-rows.ensures.rising h params (entries_numbered n) by_entry bound_as (selects_entries h n) clean) made.items are)) in
     popped_number n xs c.in_ok-auths.auths.items c.pop.new.self.items c.pop.result (few_numbered c.claims_differ.ensures charter all old.now sound tables holds h n) same c.pop.ensures.items
     (λ some. omega (arith, c.pop.ensures.variant.0 some, c.in_ok-auths.auths.ok), λ below. c.pop.ensures.variant.1 (omega (arith, below, c.in_ok-auths.auths.ok)))
+
+pub returns-clause-found : goal.returns-clause-found
+returns-clause-found g c clean charter all holds = only_number c.args.number (items_if_any (λ r. r.auths) (all.of_holder c.args.holder.now)) c.pop.result (returns-clause-only g c clean charter all holds)

@@ -31,4 +31,5 @@ returns-clause-found g c clean charter all holds =
     record {
       grants = (c.in_ok-grants.ensures.found before charter all holds, by_number grant_cells (λ x. x.number) (λ x. refl) c.in_ok-grants.grants.items (c.in_ok-grants.ensures.rising before));
       auth = c.in_ok-auth.ensures.found clean charter all (held_before old mid after_grants charter all holds);
+      only = c.in_ok-auth.ensures.only clean charter all (held_before old mid after_grants charter all holds);
     }

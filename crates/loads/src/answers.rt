@@ -1,0 +1,306 @@
+//! What is loaded for what the rules of a create and of an amendment ask.
+ghost use Rattle.std.specs.Prelude.{◌≡◌, ◌∷◌, ◌↔◌, [], true, ℕ, Some, Err, IfOk, IfSome, IsPermutation, IsTrue, length, nat_le, option_copied};
+ghost use Rattle.std.specs.List.{list_any};
+ghost use Rattle.sqlite.specs.Held.{state};
+ghost use Rattle.registry.specs.declared.limits.TheConstants.{MOST_AUTHORIZATIONS};
+ghost use Rattle.registry.specs.RoaPrefixes.{with_maxes};
+ghost use Rattle.registry.specs.Values.{FitIfAny};
+ghost use Rattle.registry.specs.Verdict.{maxes_fit};
+ghost use Rattle.tables.specs.TablesHold.{items_if_any};
+ghost use Rattle.database.specs.Queries.{IsAsked, IsClean, IsReadyToAsk};
+ghost use Rattle.loads.specs.Loads.{AreAnswers, AreHeld, IsForAmend, IsForCreate, IsOf, IsOpenWith, auths_held, created_if_any, is_other, some_gives};
+ghost use Rattle.loads.specs.steps.Queries.{entries_given};
+
+use crate::load::{Numbered, holdings_of, load_numbered, load_selected, load_values};
+use addr::{Asn, Holdings, Name, Span};
+use database::StoreFault;
+use registry::{Auth, AuthTerms, CreateAnswers, Granted, MOST_AUTHORIZATIONS, RoaPrefix};
+use sqlite::{Alter, Connection};
+use std::alloc::Global;
+use tables::{Claim, Counters, EntryRow, SELECT_GIVEN_ENTRIES, address_bytes, given_values};
+
+// ---- whether a VRP is given
+
+/// The entries of the holder's authorizations that give the AS with this entry.
+fn load_given<S: Alter>(
+    conn: &mut Connection<S>,
+    alloc: Global,
+    holder: &Name,
+    asn: Asn,
+    entry: &RoaPrefix,
+) -> Result<Vec<EntryRow>, StoreFault>
+    requires { IsReadyToAsk S.Store conn.old }
+    ensures asked { IsAsked S.Store conn.old conn.new result }
+    ensures found { IsClean S.Store conn.new → IfOk result (λ given.
+        IsOf (λ rows. IsPermutation (items_if_any (entries_given asn entry.now) rows) given.items)
+        holder.now (state S.Store conn.old)) }
+    ensures schema { IsClean S.Store conn.new → result ≡ Err StoreFault.Schema
+        → IsOpenWith (λ all. ¬ FitIfAny (all.of_holder holder.now)) (state S.Store conn.old) }
+{
+    let first = address_bytes(entry.prefix.first);
+    let values = given_values(holder, asn, entry, &first);
+    load_selected(conn, alloc, SELECT_GIVEN_ENTRIES, &values)
+}
+
+/// Whether the number is not the one that is left out, if there is one.
+fn is_other(but: Option<u32>, number: u32) -> bool
+    ensures { result ≡ is_other but number }
+{
+    match but {
+        None => true,
+        Some(left_out) => number != left_out,
+    }
+}
+
+/// Whether some row has another number than the one that is left out.
+fn has_other(rows: &[EntryRow], but: Option<u32>) -> bool
+    ensures { result ≡ list_any (λ r. is_other but r.number) rows.now }
+{
+    rows.iter().any(|row| is_other(but, row.number))
+}
+
+/// Whether an authorization of the holder, but for one of the number, gives the AS with this entry.
+fn is_given<S: Alter>(
+    conn: &mut Connection<S>,
+    alloc: Global,
+    holder: &Name,
+    but: Option<u32>,
+    asn: Asn,
+    entry: &RoaPrefix,
+) -> Result<bool, StoreFault>
+    requires { IsReadyToAsk S.Store conn.old }
+    ensures asked { IsAsked S.Store conn.old conn.new result }
+    ensures found { IsClean S.Store conn.new → IfOk result (λ given.
+        IsOf (λ rows. given ≡ some_gives but asn (entry.now ∷ []) (auths_held rows))
+        holder.now (state S.Store conn.old)) }
+    ensures schema { IsClean S.Store conn.new → result ≡ Err StoreFault.Schema
+        → IsOpenWith (λ all. ¬ FitIfAny (all.of_holder holder.now)) (state S.Store conn.old) }
+{
+    let given = load_given(conn, alloc, holder, asn, entry)?;
+    Ok(has_other(&given, but))
+}
+
+/// Whether an authorization of the holder, but for one of the number, gives the AS with an entry of
+/// the list; the first entry that one gives ends the search.
+fn some_given<S: Alter>(
+    conn: &mut Connection<S>,
+    alloc: Global,
+    holder: &Name,
+    but: Option<u32>,
+    asn: Asn,
+    entries: &[RoaPrefix],
+) -> Result<bool, StoreFault>
+    requires ready { IsReadyToAsk S.Store conn.old }
+    requires is_open { IsClean S.Store conn.old → IsTrue (state S.Store conn.old).is_open }
+    ensures asked { IsAsked S.Store conn.old conn.new result }
+    ensures found { IsClean S.Store conn.new → IfOk result (λ given.
+        IsOf (λ rows. given ≡ some_gives but asn entries.now (auths_held rows))
+        holder.now (state S.Store conn.old)) }
+    ensures schema { IsClean S.Store conn.new → result ≡ Err StoreFault.Schema
+        → IsOpenWith (λ all. ¬ FitIfAny (all.of_holder holder.now)) (state S.Store conn.old) }
+{
+    for entry in entries {
+        if is_given(conn, alloc, holder, but, asn, entry)? {
+            return Ok(true);
+        }
+    }
+    Ok(false)
+}
+
+// ---- what a create asks
+
+/// How many authorizations were made at the holder; 0 where it is not registered.
+fn load_created<S: Alter>(
+    conn: &mut Connection<S>,
+    alloc: Global,
+    holder: &Name,
+) -> Result<u32, StoreFault>
+    requires { IsReadyToAsk S.Store conn.old }
+    ensures asked { IsAsked S.Store conn.old conn.new result }
+    ensures found { IsClean S.Store conn.new → IfOk result (λ created.
+        IsOf (λ rows. created ≡ created_if_any rows) holder.now (state S.Store conn.old)) }
+    ensures schema { IsClean S.Store conn.new → result ≡ Err StoreFault.Schema
+        → IsOpenWith (λ all. ¬ FitIfAny (all.of_holder holder.now)) (state S.Store conn.old) }
+{
+    let counters: Vec<Counters> = load_values(conn, alloc, holder)?;
+    match counters.first() {
+        Some(counters) => Ok(counters.created),
+        None => Ok(0),
+    }
+}
+
+/// Whether every address of the entries is in the set.
+fn are_held(holdings: &Holdings, entries: &[RoaPrefix]) -> bool
+    ensures { IsTrue result ↔ AreHeld holdings.now entries.now }
+{
+    match entries {
+        [] => true,
+        [entry, entries @ ..] => holdings.holds(&entry.prefix) && are_held(holdings, entries),
+    }
+}
+
+/// Whether the holder holds every address of the entries.
+fn load_held<S: Alter>(
+    conn: &mut Connection<S>,
+    alloc: Global,
+    holder: &Name,
+    entries: &[RoaPrefix],
+) -> Result<bool, StoreFault>
+    requires { IsReadyToAsk S.Store conn.old }
+    ensures asked { IsAsked S.Store conn.old conn.new result }
+    ensures found { IsClean S.Store conn.new → IfOk result (λ held.
+        IsOf (λ rows. IsTrue held ↔ AreHeld (items_if_any (λ r. r.holdings) rows) entries.now)
+        holder.now (state S.Store conn.old)) }
+    ensures schema { IsClean S.Store conn.new → result ≡ Err StoreFault.Schema
+        → IsOpenWith (λ all. ¬ FitIfAny (all.of_holder holder.now)) (state S.Store conn.old) }
+{
+    let spans: Vec<Span> = load_values(conn, alloc, holder)?;
+    let holdings = holdings_of(alloc, &spans)?;
+    Ok(are_held(&holdings, entries))
+}
+
+/// Whether the holder has as many authorizations as it may.
+fn load_full<S: Alter>(
+    conn: &mut Connection<S>,
+    alloc: Global,
+    holder: &Name,
+) -> Result<bool, StoreFault>
+    requires { IsReadyToAsk S.Store conn.old }
+    ensures asked { IsAsked S.Store conn.old conn.new result }
+    ensures found { IsClean S.Store conn.new → IfOk result (λ is_full.
+        IsOf (λ rows. is_full ≡ nat_le MOST_AUTHORIZATIONS (length (auths_held rows)))
+        holder.now (state S.Store conn.old)) }
+    ensures schema { IsClean S.Store conn.new → result ≡ Err StoreFault.Schema
+        → IsOpenWith (λ all. ¬ FitIfAny (all.of_holder holder.now)) (state S.Store conn.old) }
+{
+    let claims: Vec<Claim> = load_values(conn, alloc, holder)?;
+    Ok(claims.len() >= MOST_AUTHORIZATIONS)
+}
+
+/// What the rules of a create ask beside the grants. Nothing more is asked once an answer denies
+/// it, nor are authorizations counted where too few were made.
+fn load_answers<S: Alter>(
+    conn: &mut Connection<S>,
+    alloc: Global,
+    holder: &Name,
+    terms: &AuthTerms,
+) -> Result<CreateAnswers, StoreFault>
+    requires { IsReadyToAsk S.Store conn.old }
+    ensures asked { IsAsked S.Store conn.old conn.new result }
+    ensures found { IsClean S.Store conn.new → IfOk result (λ answers.
+        IsOf (λ rows. AreAnswers terms.now rows answers) holder.now (state S.Store conn.old)) }
+    ensures schema { IsClean S.Store conn.new → result ≡ Err StoreFault.Schema
+        → IsOpenWith (λ all. ¬ FitIfAny (all.of_holder holder.now)) (state S.Store conn.old) }
+{
+    let entries = terms.entries.as_slice();
+    let created = load_created(conn, alloc, holder)?;
+    let holds = load_held(conn, alloc, holder, entries)?;
+    let mut answers = CreateAnswers {
+        created,
+        holds,
+        gives: false,
+        is_full: false,
+    };
+    if !holds {
+        return Ok(answers);
+    }
+    answers.gives = some_given(conn, alloc, holder, None, terms.asn, entries)?;
+    if answers.gives || (created as usize) < MOST_AUTHORIZATIONS {
+        return Ok(answers);
+    }
+    answers.is_full = load_full(conn, alloc, holder)?;
+    Ok(answers)
+}
+
+/// What is loaded of a holder for a create.
+#[derive(Drop)]
+pub struct ForCreate {
+    /// The grants that are not revoked, by rising number.
+    pub grants: Vec<Granted>,
+    pub answers: CreateAnswers,
+}
+
+/// What a create of the terms at the holder is judged on.
+pub fn load_for_create<S: Alter>(
+    conn: &mut Connection<S>,
+    alloc: Global,
+    holder: &Name,
+    terms: &AuthTerms,
+) -> Result<ForCreate, StoreFault>
+    requires { IsReadyToAsk S.Store conn.old }
+    ensures asked { IsAsked S.Store conn.old conn.new result }
+    ensures found { IsClean S.Store conn.new → IfOk result (λ loaded.
+        IsOf (λ rows. IsForCreate terms.now rows loaded) holder.now (state S.Store conn.old)) }
+    ensures schema { IsClean S.Store conn.new → result ≡ Err StoreFault.Schema
+        → IsOpenWith (λ all. ¬ FitIfAny (all.of_holder holder.now)) (state S.Store conn.old) }
+{
+    let grants = load_values(conn, alloc, holder)?;
+    let answers = load_answers(conn, alloc, holder, terms)?;
+    Ok(ForCreate { grants, answers })
+}
+
+// ---- what an amendment asks
+
+/// What is loaded of a holder for an amendment of one of its authorizations.
+#[derive(Drop)]
+pub struct ForAmend {
+    pub numbered: Numbered,
+    /// Whether another authorization gives a VRP that the amended one would give; not asked, and
+    /// false, where none has the number or the maxLengths do not fit it.
+    pub is_shared: bool,
+}
+
+/// Whether another authorization of the holder than that of the number gives a VRP that this one
+/// would give with the maxLengths; not asked, and false, where there is none that they fit.
+fn load_shared<S: Alter>(
+    conn: &mut Connection<S>,
+    alloc: Global,
+    holder: &Name,
+    number: u32,
+    auth: Option<&Auth>,
+    maxes: &[u8],
+) -> Result<bool, StoreFault>
+    requires ready { IsReadyToAsk S.Store conn.old }
+    requires is_open { IsClean S.Store conn.old → IsTrue (state S.Store conn.old).is_open }
+    ensures asked { IsAsked S.Store conn.old conn.new result }
+    ensures found { IsClean S.Store conn.new → IfOk result (λ is_shared.
+        IfSome (option_copied auth.entry) (λ x. maxes_fit maxes.now x.entries ≡ true
+        → IsOf (λ rows. is_shared
+        ≡ some_gives (Some number) x.asn (with_maxes maxes.now x.entries) (auths_held rows))
+        holder.now (state S.Store conn.old))) }
+    ensures schema { IsClean S.Store conn.new → result ≡ Err StoreFault.Schema
+        → IsOpenWith (λ all. ¬ FitIfAny (all.of_holder holder.now)) (state S.Store conn.old) }
+{
+    match auth {
+        Some(auth) if auth.fits_maxes(maxes) => {
+            let amended = auth.with_terms(maxes, auth.until)?;
+            let entries = amended.entries.as_slice();
+            some_given(conn, alloc, holder, Some(number), amended.asn, entries)
+        }
+        _ => Ok(false),
+    }
+}
+
+/// What an amendment of the authorization that has the number, to these maxLengths, is judged on.
+pub fn load_for_amend<S: Alter>(
+    conn: &mut Connection<S>,
+    alloc: Global,
+    holder: &Name,
+    number: u32,
+    maxes: &[u8],
+) -> Result<ForAmend, StoreFault>
+    requires { IsReadyToAsk S.Store conn.old }
+    ensures asked { IsAsked S.Store conn.old conn.new result }
+    ensures found { IsClean S.Store conn.new → IfOk result (λ loaded.
+        IsOf (λ rows. IsForAmend number maxes.now rows loaded)
+        holder.now (state S.Store conn.old)) }
+    ensures schema { IsClean S.Store conn.new → result ≡ Err StoreFault.Schema
+        → IsOpenWith (λ all. ¬ FitIfAny (all.of_holder holder.now)) (state S.Store conn.old) }
+{
+    let numbered = load_numbered(conn, alloc, holder, number)?;
+    let is_shared = load_shared(conn, alloc, holder, number, numbered.auth.as_ref(), maxes)?;
+    Ok(ForAmend {
+        numbered,
+        is_shared,
+    })
+}
