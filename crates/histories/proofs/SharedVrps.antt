@@ -43,7 +43,7 @@ shared_address : (p q : Prefix) → prefix_eq p q ≡ true → Overlaps p q
 shared_address p q same =
     (overlaps_some p q).0 (overlap_of_equal p.family q.family p.first q.first p.length q.length (last_of p) (last_of q) same (first-last p) (first-last q))
 
-share_vrp-flips : (x y : Auth) → share_vrp x y ≡ share_vrp y x
+pub share_vrp-flips : (x y : Auth) → share_vrp x y ≡ share_vrp y x
 share_vrp-flips x y =
     ap (λ b. b && are_shared x.entries y.entries) (eqb-flips x.asn.0 y.asn.0)
     ∙ ap (λ b. eqb y.asn.0 x.asn.0 && b) (are_shared-flips x.entries y.entries)

@@ -1,24 +1,39 @@
--- The rows of a history rise by number, so they are loaded as they are.
-use Rattle.std.proofs.Common.{◌≡◌, ℕ, ◌+◌, ◌<◌, ◌≤◌, ◌==◌, Bool, true, false, cond, not, List, [], ◌∷◌, ◌++◌, filter, Some, None, Less, sym, subst, ◌∙◌, arith, nat_cmp}
+-- The rows of a history rise by number, so they are loaded as they are; and what is answered of them is of the history.
+use Rattle.std.proofs.Common.{◌≡◌, ◌↔◌, ℕ, ◌+◌, ◌<◌, ◌≤◌, ◌==◌, ◌&&◌, Bool, true, false, cond, not, nat_le, IsTrue, List, [], ◌∷◌, ◌++◌, filter, length, Option, Some, None, Less, sym, ap, subst, ◌∙◌, arith, nat_cmp, IfSome}
 use Rattle.std.specs.Cmp.{nat_cmp_is, nat_cmp_total}
-use Rattle.std.specs.List.{AllByRecursion}
+use Rattle.std.specs.List.{AllByRecursion, list_any}
 use Rattle.std.specs.Ordering.{on}
+use Rattle.std.proofs.lemmas.Bool.Decides.{nat_tests}
 use Rattle.std.proofs.lemmas.Cmp.{on_total}
 use Rattle.sqlite_trees.specs.Tree.{IsAscending}
 use Rattle.sqlite_trees.proofs.ListLemmas.{ascending_weaker}
 use Rattle.sqlite_keyed.proofs.SortLemmas.{sorted_unique}
+use Rattle.addr.specs.Address.{Address}
+use Rattle.addr.specs.Spans.{spans_have}
 use Rattle.addr.proofs.RunLemmas.{maximal_apart}
+use Rattle.charters.specs.declared.charter.Charter.{Charter}
+use Rattle.registry.specs.Answer.{SharesWithNone}
 use Rattle.registry.specs.declared.authorization.Auth.{Auth}
 use Rattle.registry.specs.declared.command.Command.{Command}
 use Rattle.registry.specs.declared.command.Command.TheVariants.{Grant, Revoke}
 use Rattle.registry.specs.declared.grant.Granted.{Granted}
+use Rattle.registry.specs.declared.limits.TheConstants.{MOST_AUTHORIZATIONS}
 use Rattle.registry.specs.History.{History, same_name}
-use Rattle.registry.specs.Terms.{granted_after, grants_made, grants_after, grant_terms, authorizations_made, AreActive, HeldSinceMade, Keeps}
+use Rattle.registry.specs.Resources.{resource_holder, is_held_by}
+use Rattle.registry.specs.RoaPrefixes.{with_maxes}
+use Rattle.registry.specs.Rows.{Rows, RowsIfAny}
+use Rattle.registry.specs.Terms.{granted_after, grants_made, grants_after, grant_terms, authorizations_made, authorization_terms, gives_some, AreActive, HeldSinceMade, Keeps, OfActive}
 use Rattle.registry.specs.Unregistered.{UnregisteredHaveNothing}
-use Rattle.registry.proofs.Numbers.{Numbered}
+use Rattle.registry.specs.Verdict.{IsLegal, maxes_fit}
+use Rattle.registry.proofs.Amended.{shares_with_other}
 use Rattle.registry.proofs.Held.{active-numbered}
-use Rattle.store.specs.Laws.{LoadsNumberOfHistories, LoadsRowsOfHistories}
-use Rattle.loads.specs.Loads.{AreInOrder}
+use Rattle.registry.proofs.Kept.{Keeps-unique}
+use Rattle.registry.proofs.Names.{held_by_itself, is_held_by-true}
+use Rattle.registry.proofs.Numbers.{Numbered}
+use Rattle.histories.proofs.SharedVrps.{share_vrp-flips}
+use Rattle.tables.specs.TablesHold.{items_if_any}
+use Rattle.loads.specs.Loads.{AreInOrder, auths_held, created_if_any, some_gives}
+use Rattle.store.specs.Laws.{LoadsAmendOfHistories, LoadsCreateOfHistories, LoadsNumberOfHistories, LoadsRowsOfHistories}
 
 module _ {X : Type 0} (number : X → ℕ) where
   -- the numbers rise, from above one number up to another
@@ -104,13 +119,95 @@ loads_rows history h (Some r) (Some s) are loaded =
       },
     )
 
-pub loads_number : UnregisteredHaveNothing → LoadsNumberOfHistories
-loads_number have_nothing charter history h n None loaded legal unregistered are =
+-- ---- what is judged on answers
+
+-- the rows of a holder after a legal history, those of nobody too
+record IsHeld (history : History) (h : List ℕ) (rows : Option Rows) : Type 0 where
+  pub holdings : (a : Address) → spans_have (items_if_any (λ r. r.holdings) rows) a ≡ is_held_by h (resource_holder history a)
+  pub grants : items_if_any (λ r. r.grants) rows ≡ grant_terms history h
+  pub auths : AreActive history h (auths_held rows)
+  pub created : created_if_any rows ≡ authorizations_made history h
+
+is_held : UnregisteredHaveNothing → (charter : Charter) (history : History) (h : List ℕ) (rows : Option Rows) → IsLegal charter history → RowsIfAny history h rows → IsHeld history h rows
+is_held have_nothing charter history h None legal unregistered =
     let nothing = have_nothing charter history h legal unregistered in record {
-      grants = grants_in_order history h [] loaded.grants.items (sym nothing.grants) are.grants;
-      auth = ([], subst (λ terms. Keeps (HeldSinceMade history h) terms []) (sym nothing.terms) tt, are.auth);
+      holdings = λ a. sym (nothing.holders a);
+      grants = sym nothing.grants;
+      auths = subst (λ terms. Keeps (HeldSinceMade history h) terms []) (sym nothing.terms) tt;
+      created = sym nothing.created;
     }
-loads_number have_nothing charter history h n (Some r) loaded legal registered are = record {
-  grants = grants_in_order history h r.grants loaded.grants.items registered.1.grants are.grants;
-  auth = (r.auths, registered.1.auths, are.auth);
+is_held have_nothing charter history h (Some r) legal registered = record {
+  holdings = registered.1.holdings;
+  grants = registered.1.grants;
+  auths = registered.1.auths;
+  created = registered.1.created;
+}
+
+-- a fact of the active authorizations is one of these
+of_these : (history : History) (h : List ℕ) (xs : List Auth) → AreActive history h xs → (P : List Auth → Type 0) → OfActive history h P → P xs
+of_these history h xs active P of = subst P (Keeps-unique (HeldSinceMade history h) (authorization_terms history h) of.0 xs of.1 active) of.2
+
+pub loads_number : UnregisteredHaveNothing → LoadsNumberOfHistories
+loads_number have_nothing charter history h n rows loaded legal of are =
+    let held = is_held have_nothing charter history h rows legal of in record {
+      grants = grants_in_order history h (items_if_any (λ r. r.grants) rows) loaded.grants.items held.grants are.grants;
+      auth = (auths_held rows, held.auths, are.auth);
+    }
+
+-- no more are active than were made
+no_more : (low : ℕ) (xs : List Auth) (high : ℕ) → Numbered low xs high → low + length xs ≤ high
+no_more low [] high n = omega (arith, n)
+no_more low (x ∷ xs) high n = let rest = no_more x.number xs high n.1 in let first : low < x.number = n.0 in omega (arith, rest, first)
+
+full_alike : (made many : ℕ) → many ≤ made → (nat_le MOST_AUTHORIZATIONS made && nat_le MOST_AUTHORIZATIONS many) ≡ nat_le MOST_AUTHORIZATIONS many
+full_alike made many no_more = grind (arith, nat_tests, no_more)
+
+room_to : (many : ℕ) → nat_le MOST_AUTHORIZATIONS many ≡ false → many < MOST_AUTHORIZATIONS
+room_to many few = grind (arith, nat_tests, few)
+
+room_from : (many : ℕ) → many < MOST_AUTHORIZATIONS → nat_le MOST_AUTHORIZATIONS many ≡ false
+room_from many few = grind (arith, nat_tests, few)
+
+pub loads_create : UnregisteredHaveNothing → LoadsCreateOfHistories
+loads_create have_nothing charter history h terms rows loaded legal of are =
+    let held = is_held have_nothing charter history h rows legal of in
+    let answers = are.answers in
+    let xs = auths_held rows in
+    let most : length xs ≤ created_if_any rows = omega (arith, held.created, no_more 0 xs (authorizations_made history h) (active-numbered history h xs held.auths)) in
+    let full : IsTrue loaded.answers.holds → loaded.answers.gives ≡ false → loaded.answers.is_full ≡ nat_le MOST_AUTHORIZATIONS (length xs) =
+    λ is none. answers.is_full is none ∙ full_alike (created_if_any rows) (length xs) most in
+    record {
+      grants = grants_in_order history h (items_if_any (λ r. r.grants) rows) loaded.grants.items held.grants are.grants;
+      created = answers.created ∙ held.created;
+      holds = (
+        λ is a has. is_held_by-true h (resource_holder history a) (sym (held.holdings a) ∙ answers.holds.0 is a has),
+        λ every. answers.holds.1 (λ a has. held.holdings a ∙ ap (is_held_by h) (every a has) ∙ held_by_itself h),
+      );
+      gives = λ is. (
+        λ none. (xs, held.auths, sym (answers.gives is) ∙ none),
+        λ none. answers.gives is ∙ of_these history h xs held.auths (λ active. list_any (λ y. gives_some y terms.asn terms.entries) active ≡ false) none,
+      );
+      is_full = λ is none. (
+        λ room. (xs, held.auths, room_to (length xs) (sym (full is none) ∙ room)),
+        λ room. full is none ∙ room_from (length xs) (of_these history h xs held.auths (λ active. length active < MOST_AUTHORIZATIONS) room),
+      );
+    }
+
+-- an authorization gives what the amended one gives where both share something
+gives_shared : (n : ℕ) (z : Auth) (xs : List Auth) → some_gives (Some n) z.asn z.entries xs ≡ shares_with_other n z xs
+gives_shared n z xs = λ i. list_any (λ y. not (y.number == n) && share_vrp-flips y z i) xs
+
+shared_by : (history : History) (h : List ℕ) (n : ℕ) (maxes : List ℕ) (xs : List Auth) (is_shared : Bool) (found : Option Auth) → AreActive history h xs
+    → IfSome found (λ x. maxes_fit maxes x.entries ≡ true → is_shared ≡ some_gives (Some n) x.asn (with_maxes maxes x.entries) xs)
+    → IfSome found (λ x. maxes_fit maxes x.entries ≡ true → ((is_shared ≡ false) ↔ SharesWithNone history h n maxes x))
+shared_by history h n maxes xs is_shared None active shared = tt
+shared_by history h n maxes xs is_shared (Some x) active shared = λ fit.
+    let z : Auth = record x { entries = with_maxes maxes x.entries } in
+    let same = shared fit ∙ gives_shared n z xs in
+    (λ none. (xs, active, sym same ∙ none), λ none. same ∙ of_these history h xs active (λ ys. shares_with_other n z ys ≡ false) none)
+
+pub loads_amend : UnregisteredHaveNothing → LoadsAmendOfHistories
+loads_amend have_nothing charter history h n maxes rows loaded legal of are = record {
+  number = loads_number have_nothing charter history h n rows loaded.numbered legal of are.numbered;
+  shared = shared_by history h n maxes (auths_held rows) loaded.is_shared loaded.numbered.auth (is_held have_nothing charter history h rows legal of).auths are.shared;
 }

@@ -12,10 +12,11 @@ use Rattle.charters.specs.CharterSets.{CharterSets}
 use Rattle.registry.specs.declared.change.Change.{Change}
 use Rattle.registry.specs.RowsOfAll.{AllRows, blank_rows, changed_rows}
 use Rattle.making.specs.Statements.{IsAsBefore}
+use Rattle.database.specs.Queries.{IsAsked}
 use Rattle.database.specs.Laws.{ClaimsDiffer, EntriesDiffer}
 use Rattle.store.proofs.HeldOnce.{held_once}
 use Rattle.store.specs.Given.{GivenOnce}
-use Rattle.loads.specs.Loads.{IsOfAll}
+use Rattle.loads.specs.Loads.{IsOfAll, IsOpenWith}
 use Rattle.store.specs.StoreRows.{StoreView, Holds, IsRead, MayLeave, LeavesOnly, LeavesPlaced}
 use Rattle.edits.specs.Changes.{PlacesExceptions, MakesChange, RowsBecome}
 use Rattle.making.specs.Databases.{HasDeskTables, IsNew, IsDeskTrees, IsDeskWhileOpen, LeavesNew}
@@ -109,11 +110,20 @@ read_then g a b c first second = record {
   crash = λ clean trees left. first.crash (second.clean clean) trees (second.crash clean trees left);
 }
 
--- what was found in the tables is found of the rows that the store holds
-pub of_store : {S X E : Type 0} (g : Ghosts S) (charter : CharterSets) (old new : Held S) (r : Result X E) (so : X → AllRows → Type 0) → HasCleanDisk (state g old) → OnOk r (IsUnchanged (state g old) (state g new))
-    → IfOk r (λ x. IsOfAll (so x) (state g old)) → IfOk r (λ x. (rows : AllRows) → Holds g (over charter old) rows → so x rows)
-of_store g charter old new (Ok x) so clean same found = λ rows holds. found charter rows (holds clean same.0.was_open)
-of_store g charter old new (Err e) so clean same found = tt
+-- a query of the tables is one of the rows that the store over them holds
+module _ {S : Type 0} (g : Ghosts S) (charter : CharterSets) (old : Held S) (store : StoreView S) (is : over charter old ≡ store) {X E : Type 0} (new : Held S) (r : Result X E) (asked : IsAsked g old new r) (clean : HasCleanDisk (state g new)) where
+  before : HasCleanDisk (state g old)
+  before = omega (arith, clean, asked.survives.clean)
+
+  pub found_held : (so : X → AllRows → Type 0) → IfOk r (λ x. IsOfAll (so x) (state g old)) → IfOk r (λ x. (rows : AllRows) → Holds g store rows → so x rows)
+  found_held so found = go r found (asked.same clean)
+    where
+      go : (r : Result X E) → IfOk r (λ x. IsOfAll (so x) (state g old)) → OnOk r (IsUnchanged (state g old) (state g new)) → IfOk r (λ x. (rows : AllRows) → Holds g store rows → so x rows)
+      go (Ok x) found same = subst (λ held. (rows : AllRows) → Holds g held rows → so x rows) is (λ rows holds. found charter rows (holds before same.0.was_open))
+      go (Err e) found same = tt
+
+  pub refused_held : (so : AllRows → Type 0) → IsOpenWith so (state g old) → (rows : AllRows) → Holds g store rows → so rows
+  refused_held so refusal = subst (λ held. (rows : AllRows) → Holds g held rows → so rows) is (λ rows holds. refusal.1 charter rows (holds before refusal.0))
 
 -- ---- a change within a transaction, and its commit
 

@@ -9,8 +9,9 @@ use Rattle.sqlite.specs.Effect.{Database}
 use Rattle.sqlite.specs.Held.{Held, state}
 use Rattle.sqlite.specs.Steps.{over_memory}
 use Rattle.charters.specs.declared.charter.Charter.{Charter}
+use Rattle.registry.specs.declared.authorization.AuthTerms.{AuthTerms}
 use Rattle.registry.specs.declared.rows.HolderRows.{HolderRows}
-use Rattle.registry.specs.Answer.{AnswersNumber}
+use Rattle.registry.specs.Answer.{AnswersAmend, AnswersCreate, AnswersNumber}
 use Rattle.registry.specs.History.{History}
 use Rattle.registry.specs.Rows.{Rows, rows_if_any, RowsIfAny}
 use Rattle.registry.specs.RowsOfAll.{AllRows, HasRows}
@@ -23,8 +24,10 @@ use Rattle.making.specs.Databases.{IsHonest}
 use Rattle.database.specs.Opening.{IsOfAnotherSchema}
 use Rattle.database.specs.OldTablesRead.{OldTablesRead}
 use Rattle.database.specs.TablesRead.{TablesRead}
+use Rattle.loads.specs.declared.answers.ForAmend.{ForAmend}
+use Rattle.loads.specs.declared.answers.ForCreate.{ForCreate}
 use Rattle.loads.specs.declared.load.Numbered.{Numbered}
-use Rattle.loads.specs.Loads.{AreLoaded, AreNumbered, AllGiveOn}
+use Rattle.loads.specs.Loads.{AreLoaded, AreNumbered, IsForAmend, IsForCreate, AllGiveOn}
 use Rattle.store.specs.StoreRows.{AreInRange, StoreView, connection_state, Holds}
 
 -- The rows of a holder after a history, as they are loaded, are its rows after the history.
@@ -40,6 +43,19 @@ LoadsNumberOfHistories =
     (charter : Charter) (history : History) (h : List ℕ) (n : ℕ) (rows : Option Rows) (loaded : Numbered)
     → IsLegal charter history → RowsIfAny history h rows → AreNumbered n rows loaded
     → AnswersNumber history h n loaded.grants.items loaded.auth
+
+-- So is what is loaded of a holder for a create of the terms, and for an amendment to the maxLengths.
+abbrev pub LoadsCreateOfHistories : Type 0
+LoadsCreateOfHistories =
+    (charter : Charter) (history : History) (h : List ℕ) (terms : AuthTerms) (rows : Option Rows) (loaded : ForCreate)
+    → IsLegal charter history → RowsIfAny history h rows → IsForCreate terms rows loaded
+    → AnswersCreate history h terms loaded.grants.items loaded.answers
+
+abbrev pub LoadsAmendOfHistories : Type 0
+LoadsAmendOfHistories =
+    (charter : Charter) (history : History) (h : List ℕ) (n : ℕ) (maxes : List ℕ) (rows : Option Rows) (loaded : ForAmend)
+    → IsLegal charter history → RowsIfAny history h rows → IsForAmend n maxes rows loaded
+    → AnswersAmend history h n maxes loaded.numbered.grants.items loaded.numbered.auth loaded.is_shared
 
 -- The rows of a legal history whose values are those of their types fit, so that no load of a holder
 -- finds a row that shows none.

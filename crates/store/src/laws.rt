@@ -1,6 +1,7 @@
 //! Laws over the definitions alone: each function's contract states one, and its body at most calls
 //! laws of `histories` and `tables`.
 ghost use Rattle.store.specs.Laws.{AuthsOfHistoriesGive, FilesOfHistoriesFit, HistoriesRead};
+ghost use Rattle.store.specs.Laws.{LoadsAmendOfHistories, LoadsCreateOfHistories};
 ghost use Rattle.store.specs.Laws.{LoadsNumberOfHistories, LoadsRowsOfHistories};
 ghost use Rattle.store.specs.Laws.{MemoryHoldsRows, MemoryIsHonest};
 ghost use Rattle.store.specs.Laws.{MemoryStaysOpen, OldHistoriesRead, OldTablesThatReadAreOurs};
@@ -18,6 +19,21 @@ pub fn rows_of_a_history()
 /// that are loaded of a holder are those of that history.
 pub fn number_of_a_history()
     ensures { LoadsNumberOfHistories }
+{
+    registry::laws::unregistered_have_nothing();
+}
+
+/// Where the tables hold the rows of a legal history, what is loaded of a holder for a create is
+/// what the rules ask of that history.
+pub fn create_of_a_history()
+    ensures { LoadsCreateOfHistories }
+{
+    registry::laws::unregistered_have_nothing();
+}
+
+/// And so is what is loaded of a holder for an amendment.
+pub fn amend_of_a_history()
+    ensures { LoadsAmendOfHistories }
 {
     registry::laws::unregistered_have_nothing();
 }

@@ -5,5 +5,5 @@ pub mod laws;
 mod store;
 
 pub use database::StoreFault;
-pub use loads::Numbered;
+pub use loads::{ForAmend, ForCreate, Numbered};
 pub use store::Store;

@@ -13,8 +13,11 @@ ghost use Rattle.making.specs.Statements.{IfCommitted, IfRolledBack, CommitsAtMo
 use addr::{Day, Name, Prefix, Vrp};
 use database::{StoreFault, make_tables, open_tables};
 use edits::make_change;
-use loads::{Numbered, load_files, load_numbered, load_rows, load_vrps, some_overlap};
-use registry::{Change, Charter, HolderRows};
+use loads::{
+    ForAmend, ForCreate, Numbered, load_files, load_for_amend, load_for_create, load_numbered,
+    load_rows, load_vrps, some_overlap,
+};
+use registry::{AuthTerms, Change, Charter, HolderRows};
 use slurm::Slurm;
 use sqlite::{Alter, Connection, MemStore};
 use std::alloc::Global;
@@ -145,7 +148,8 @@ impl<S: Alter> Store<S> {
     ghost use Rattle.registry.specs.RowsOfAll.{IsTaken, IsGivenOn};
     ghost use Rattle.registry.specs.Values.{FitIfAny, FilesFit};
     ghost use Rattle.store.specs.Given.{GivenOnce};
-    ghost use Rattle.loads.specs.Loads.{AreLoaded, AreNumbered, AllGiveOn, AreFilesOf};
+    ghost use Rattle.loads.specs.Loads.{AreLoaded, AreNumbered, IsForAmend, IsForCreate};
+    ghost use Rattle.loads.specs.Loads.{AllGiveOn, AreFilesOf};
     ghost use Rattle.store.specs.StoreRows.{connection_state, Holds, IsRead, OfHeldRows};
     ghost use Rattle.making.specs.Databases.{IsDeskWhileOpen};
     ghost use Rattle.store.specs.StoreRows.{IfClean, HoldsAfter, MayLeave, LeavesOnly};
@@ -189,6 +193,42 @@ impl<S: Alter> Store<S> {
             → OfHeldRows S.Store self.old (λ rows. ¬ FitIfAny (rows.of_holder holder.now))) }
     {
         load_numbered(&mut self.conn, alloc, holder, number)
+    }
+
+    /// What a create of the terms at the holder is judged on.
+    pub fn load_for_create(
+        &mut self,
+        alloc: Global,
+        holder: &Name,
+        terms: &AuthTerms,
+    ) -> Result<ForCreate, StoreFault>
+        ensures read { IsRead S.Store self.old self.new }
+        ensures found { IfClean S.Store self.new (IfOk result (λ loaded.
+            OfHeldRows S.Store self.old
+            (λ rows. IsForCreate terms.now (rows.of_holder holder.now) loaded))) }
+        ensures schema { IfClean S.Store self.new (result ≡ Err StoreFault.Schema
+            → OfHeldRows S.Store self.old (λ rows. ¬ FitIfAny (rows.of_holder holder.now))) }
+    {
+        load_for_create(&mut self.conn, alloc, holder, terms)
+    }
+
+    /// What an amendment of the holder's authorization that has the number, to these maxLengths, is
+    /// judged on.
+    pub fn load_for_amend(
+        &mut self,
+        alloc: Global,
+        holder: &Name,
+        number: u32,
+        maxes: &[u8],
+    ) -> Result<ForAmend, StoreFault>
+        ensures read { IsRead S.Store self.old self.new }
+        ensures found { IfClean S.Store self.new (IfOk result (λ loaded.
+            OfHeldRows S.Store self.old
+            (λ rows. IsForAmend number maxes.now (rows.of_holder holder.now) loaded))) }
+        ensures schema { IfClean S.Store self.new (result ≡ Err StoreFault.Schema
+            → OfHeldRows S.Store self.old (λ rows. ¬ FitIfAny (rows.of_holder holder.now))) }
+    {
+        load_for_amend(&mut self.conn, alloc, holder, number, maxes)
     }
 
     /// The rows of two holders; of equal names the same rows twice.
