@@ -1,5 +1,5 @@
 -- The authorization of a holder that has a number, out of the claims of that number and the rows of its entries.
-use Rattle.std.proofs.Common.{◌≡◌, ◌≢◌, ℕ, ◌+◌, ◌<◌, ◌&&◌, ◌↔◌, Bool, true, false, cond, List, [], ◌∷◌, ◌++◌, map, flat_map, filter, find, length, slice_get, option_to_list, Option, Some, None, IsSome, refl, sym, ap, subst, ◌∙◌, arith, IsPermutation, IsSorted}
+use Rattle.std.proofs.Common.{◌≡◌, ◌≢◌, ℕ, ◌<◌, ◌&&◌, ◌↔◌, Bool, true, false, cond, List, [], ◌∷◌, ◌++◌, map, flat_map, filter, find, length, slice_get, option_to_list, Option, Some, None, IsSome, refl, sym, ap, subst, ◌∙◌, arith, IsPermutation, IsSorted}
 use Rattle.std.specs.Prelude.{All, AllPairs}
 use Rattle.std.specs.List.{AllByRecursion}
 use Rattle.std.proofs.lemmas.List.{length-append}

@@ -1,8 +1,7 @@
-use Rattle.std.proofs.Common.{◌≡◌, ◌&&◌, false, arith, nat_le, length, sym, ap, subst, ◌∙◌}
+use Rattle.std.proofs.Common.{arith, length, sym, ◌∙◌}
 use Rattle.std.proofs.lemmas.Bool.{false≢true}
 use Rattle.sqlite.specs.Held.{state}
 use Rattle.sqlite.specs.State.{HasCleanDisk}
-use Rattle.registry.specs.declared.limits.TheConstants.{MOST_AUTHORIZATIONS}
 use Rattle.registry.specs.Values.{FitIfAny}
 use Rattle.database.proofs.QueryLemmas.{refused_by}
 use Rattle.loads.specs.Loads.{auths_held, created_if_any}

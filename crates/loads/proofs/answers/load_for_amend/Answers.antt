@@ -1,4 +1,4 @@
-use Rattle.std.proofs.Common.{◌≡◌, Some, Option, None, true, sym, subst, ap, ap₂, ◌∙◌, arith}
+use Rattle.std.proofs.Common.{Some, Option, None, arith}
 use Rattle.std.specs.Prelude.{IfSome}
 use Rattle.sqlite.specs.Held.{state}
 use Rattle.sqlite.specs.State.{HasCleanDisk}
