@@ -13,7 +13,7 @@ use addr::Day;
 use desk::Desk;
 use sqlite::Alter;
 use std::alloc::Global;
-use std::io::{self, ErrorKind};
+use std::io::{self, BufReader, ErrorKind, Read, Write};
 use std::net::{Shutdown, TcpListener, TcpStream};
 use std::time::{Clock, Instant};
 use web::{Device, Drain, Extent, Failed, Source, WebFault, serve_request};
@@ -192,7 +192,8 @@ fn discard<S: Source>(source: &mut S)
     }
 }
 
-/// Has the connection answered whose client sends from one peer, and takes at the other.
+/// Has the connection answered whose client sends from one peer, and takes at the other. More of
+/// the stream than the request may be taken into a buffer, which is never looked at.
 pub(crate) fn answer_in_time<P: Peer + Drop, Q: Peer + Drop, E: AnswerConnections>(
     alloc: Global,
     from: P,
@@ -203,7 +204,27 @@ pub(crate) fn answer_in_time<P: Peer + Drop, Q: Peer + Drop, E: AnswerConnection
     ensures { (passed : Transcript) × (passed.fault ≡ result_err result)
         × E.answers day engine.old passed engine.new }
 {
-    let mut source = Device::new(Timed::new(from));
-    let mut drain = Device::new(Timed::new(to));
+    let mut from = Timed::new(from);
+    let to = Timed::new(to);
+    // A head is read a few bytes at a time, which without a buffer are as many calls of the system.
+    if let Ok(buffered) = BufReader::new(alloc, &mut from) {
+        return answer_between(alloc, buffered, to, engine, day);
+    }
+    answer_between(alloc, from, to, engine, day)
+}
+
+/// Has the connection answered that is read from one stream and written to the other.
+fn answer_between<R: Read + Drop, W: Write + Drop, E: AnswerConnections>(
+    alloc: Global,
+    from: R,
+    to: W,
+    engine: &mut E,
+    day: Day,
+) -> Result<Extent, WebFault>
+    ensures { (passed : Transcript) × (passed.fault ≡ result_err result)
+        × E.answers day engine.old passed engine.new }
+{
+    let mut source = Device::new(from);
+    let mut drain = Device::new(to);
     engine.answer(alloc, &mut source, &mut drain, day)
 }
