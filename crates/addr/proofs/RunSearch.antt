@@ -1,23 +1,29 @@
--- Maximal runs rise, so a binary search finds a run among them exactly where it is one of them.
-use Rattle.std.proofs.Common.{◌≡◌, ℕ, ◌+◌, ◌≤◌, ◌<◌, true, false, List, [], ◌∷◌, length, get_or, refl, sym, ap, ◌∙◌, subst, arith, inl, inr, Ordering, Result, Ok, Err, is_ok}
+-- Maximal runs rise, so a search by halves finds a run among them, and those that end before a prefix.
+use Rattle.std.proofs.Common.{◌≡◌, ℕ, zero, suc, ◌+◌, ◌≤◌, ◌<◌, Bool, true, false, ◌&&◌, ◌||◌, nat_le, nat_lt, List, [], ◌∷◌, length, get_or, drop, refl, sym, ap, ◌∙◌, subst, arith, inl, inr, Ordering, Result, Ok, Err, is_ok}
 use Rattle.std.specs.Cmp.{IsTotalOrder, nat_cmp_total, on_total, then_total}
 use Rattle.std.specs.FinMap.{IsAntisymmetric, nat_cmp-IsAntisymmetric}
-use Rattle.std.specs.List.{AllByRecursion, list_all}
-use Rattle.std.specs.List.Sorted.{IsBinarySearchResult, IsNonDecreasingBy, IsSearchInRange, IsStrictlySortedBy}
+use Rattle.std.specs.List.{AllByRecursion, list_all, list_any, slice_get}
+use Rattle.std.specs.List.Sorted.{IsBinarySearchResult, IsNonDecreasingBy, IsPartitionedBy, IsPartitionPoint, IsSearchInRange, IsStrictlySortedBy}
+use Rattle.std.specs.Option.{option_map_or}
 use Rattle.std.specs.Ordering.{nat_cmp, is_lt, ordering_index, ordering_reverse, ordering_then}
 use Rattle.std.specs.declared.cmp.Ordering.TheVariants.{Less, Equal, Greater}
-use Rattle.std.proofs.lemmas.Bool.{cases_Bool, cases_lt, and_parts, false≢true}
+use Rattle.std.proofs.lemmas.Bool.{cases_Bool, cases_lt, and_parts, false≢true, true≢false}
 use Rattle.std.proofs.lemmas.Bool.Decides.{nat_tests}
 use Rattle.std.proofs.lemmas.Cmp.{tied_itself}
 use Rattle.std.proofs.lemmas.List.Folds.{list_any_none, list_any_at}
 use Rattle.std.proofs.lemmas.List.Sorted.{searchable_from_sorted}
+use Rattle.std.proofs.lemmas.List.Sums.{AllPass-from_list_all}
 use Rattle.std.proofs.lemmas.Map.Keys.{Less-from_sorted}
+use Rattle.addr.specs.Address.{last_of}
+use Rattle.addr.specs.Family.{family_eq}
 use Rattle.addr.specs.Order.{family_cmp}
-use Rattle.addr.specs.Spans.{is_apart_below, span_eq, is_one_of, same_span, AreMaximal}
+use Rattle.addr.specs.Spans.{family_lt, is_apart_below, is_before, span_eq, is_one_of, same_span, span_covers, span_meets, AreMaximal}
 use Rattle.addr.specs.contracts.span.SpanOrd.TheImpl as SpanOrd
 use Rattle.addr.specs.declared.family.Family.{Family}
 use Rattle.addr.specs.declared.family.Family.TheVariants.{V4, V6}
+use Rattle.addr.specs.declared.prefix.Prefix.{Prefix}
 use Rattle.addr.specs.declared.span.Span.{Span}
+use Rattle.addr.proofs.AddressLemmas.{first-last}
 use Rattle.addr.proofs.Equality.{equal_span, span_itself}
 use Rattle.addr.proofs.OrderLemmas.{family_total, exact_family, derived_family, both_equal}
 use Rattle.addr.proofs.SpanLemmas.{is_gap}
@@ -46,14 +52,11 @@ exact_span s t e =
 below_less : (s t : Span) → is_apart_below s t ≡ true → span_cmp s t ≡ Less
 below_less s t = go s.family t.family s.lo s.hi t.lo t.hi s.ordered
   where
-    lower : (lo hi start : ℕ) → lo ≤ hi → hi + 1 < start → nat_cmp lo start ≡ Less
-    lower lo hi start ordered gap = grind (arith, nat_tests)
-
     go : (f g : Family) (lo hi start end : ℕ) → lo ≤ hi → is_gap f hi g start ≡ true → ordering_then (family_cmp f g) (ordering_then (nat_cmp lo start) (nat_cmp hi end)) ≡ Less
-    go V4 V4 lo hi start end ordered gap = ap (λ o. ordering_then o (nat_cmp hi end)) (lower lo hi start ordered (grind (arith, nat_tests)))
+    go V4 V4 lo hi start end ordered gap = let lower : nat_cmp lo start ≡ Less = grind (arith, nat_tests) in ap (λ o. ordering_then o (nat_cmp hi end)) lower
     go V4 V6 lo hi start end ordered gap = refl
     go V6 V4 lo hi start end ordered gap = absurd (false≢true gap)
-    go V6 V6 lo hi start end ordered gap = ap (λ o. ordering_then o (nat_cmp hi end)) (lower lo hi start ordered (grind (arith, nat_tests)))
+    go V6 V6 lo hi start end ordered gap = let lower : nat_cmp lo start ≡ Less = grind (arith, nat_tests) in ap (λ o. ordering_then o (nat_cmp hi end)) lower
 
 rising : (runs : List Span) → AreMaximal runs → IsStrictlySortedBy span_cmp runs
 unfolding IsStrictlySortedBy
@@ -89,3 +92,72 @@ search-tells runs s r maximal range result = go r range (subst (λ (c : Span →
           | inl before ↦ unlike s (get_or runs k d) Less (place.0 k d (omega arith) before) (λ e. cc)
           | inr after ↦ unlike s (get_or runs k d) Greater (place.1 k d after below) (λ e. cc)
         ]))
+
+-- whether an end lies before a start
+abbrev is_below : Family → ℕ → Family → ℕ → Bool
+is_below f high g first = family_lt f g || (family_eq f g && nat_lt high first)
+
+-- a run that is apart below one before a prefix is before it too
+gap_below : (f g h : Family) (high low end first : ℕ) → low ≤ end → is_gap f high g low ≡ true → is_below g end h first ≡ true → is_below f high h first ≡ true
+gap_below V4 g V6 high low end first ordered gap below = refl
+gap_below V4 V4 V4 high low end first ordered gap below = grind (arith, nat_tests)
+gap_below V6 V6 V6 high low end first ordered gap below = grind (arith, nat_tests)
+gap_below f V6 V4 high low end first ordered gap below = absurd (false≢true below)
+gap_below V6 V4 h high low end first ordered gap below = absurd (false≢true gap)
+
+-- those before a prefix are at the front
+pub before-partitioned : (p : Prefix) (runs : List Span) → AreMaximal runs → IsPartitionedBy (λ s. is_before s p) runs
+before-partitioned p [] maximal i j d le within last = absurd (omega arith)
+before-partitioned p (s ∷ rest) maximal i zero d le within last = let first : i ≡ 0 = omega arith in rw first last
+before-partitioned p (s ∷ rest) maximal zero (suc j) d le within last =
+    let t = get_or rest j d in
+    gap_below s.family t.family p.family s.hi t.lo t.hi p.first t.ordered (AllPass-from_list_all (is_apart_below s) rest maximal.0 j d (omega arith)) last
+before-partitioned p (s ∷ rest) maximal (suc i) (suc j) d le within last = before-partitioned p rest maximal.1 i j d (omega arith) (omega arith) last
+
+-- the place behind those before a prefix
+abbrev pub IsPlace : Prefix → List Span → ℕ → Type 0
+IsPlace p runs n = IsPartitionPoint (λ s. is_before s p ≡ true) (λ s. is_before s p ≡ false) runs n
+
+-- where no run before the prefix passes, and none past one that is not before it and fails, the run at the place tells whether any does
+module _ (p : Prefix) (test : ℕ → ℕ → Bool) (before : (lo hi : ℕ) → hi < p.first → test lo hi ≡ false) (past : (lo hi start end : ℕ) → lo ≤ hi → p.first ≤ hi → hi < start → test lo hi ≡ false → test start end ≡ false) where
+  abbrev passes : Span → Bool
+  passes s = family_eq s.family p.family && test s.lo s.hi
+
+  below_fails : (f g : Family) (lo hi : ℕ) → is_below f hi g p.first ≡ true → (family_eq f g && test lo hi) ≡ false
+  below_fails V4 V4 lo hi below = before lo hi (grind (arith, nat_tests))
+  below_fails V6 V6 lo hi below = before lo hi (grind (arith, nat_tests))
+  below_fails V4 V6 lo hi below = refl
+  below_fails V6 V4 lo hi below = refl
+
+  past_fails : (f g h : Family) (lo hi start end : ℕ) → lo ≤ hi → is_below f hi h p.first ≡ false → is_gap f hi g start ≡ true → (family_eq f h && test lo hi) ≡ false → (family_eq g h && test start end) ≡ false
+  past_fails V4 V4 V4 lo hi start end ordered reaches gap fails = past lo hi start end ordered (grind (arith, nat_tests)) (grind (arith, nat_tests)) fails
+  past_fails V6 V6 V6 lo hi start end ordered reaches gap fails = past lo hi start end ordered (grind (arith, nat_tests)) (grind (arith, nat_tests)) fails
+  past_fails f V4 V6 lo hi start end ordered reaches gap fails = refl
+  past_fails f V6 V4 lo hi start end ordered reaches gap fails = refl
+  past_fails V4 V6 V6 lo hi start end ordered reaches gap fails = absurd (true≢false reaches)
+  past_fails V6 V4 V4 lo hi start end ordered reaches gap fails = absurd (false≢true gap)
+
+  place-tells : (runs : List Span) (n : ℕ) → AreMaximal runs → IsPlace p runs n → option_map_or passes (slice_get (drop n runs) 0) false ≡ list_any passes runs
+  place-tells [] zero maximal place = refl
+  place-tells [] (suc n) maximal place = refl
+  place-tells (s ∷ rest) zero maximal place = elim (cases_Bool (passes s)) [
+    | inl is ↦ rw is refl
+    | inr fails ↦ rw fails (sym (list_any_none passes rest (λ k d within.
+        let t = get_or rest k d in
+        past_fails s.family t.family p.family s.lo s.hi t.lo t.hi s.ordered (place.1 0 s (omega arith) (omega arith)) (AllPass-from_list_all (is_apart_below s) rest maximal.0 k d within) fails)))
+  ]
+  place-tells (s ∷ rest) (suc n) maximal place =
+      rw (below_fails s.family p.family s.lo s.hi (place.0 0 s (omega arith) (omega arith)))
+      (place-tells rest n maximal.1 (λ k d low high. place.0 (suc k) d (omega arith) (omega arith), λ k d low high. place.1 (suc k) d (omega arith) (omega arith)))
+
+-- a run that covers the prefix is the one at the place
+pub covered-at_place : (p : Prefix) (runs : List Span) (n : ℕ) → AreMaximal runs → IsPlace p runs n → option_map_or (λ s. span_covers s p) (slice_get (drop n runs) 0) false ≡ list_any (λ s. span_covers s p) runs
+covered-at_place p = place-tells p (λ lo hi. nat_le lo p.first && nat_le (last_of p) hi)
+    (λ lo hi below. let ends = first-last p in grind (arith, nat_tests))
+    (λ lo hi start end ordered reaches gap fails. grind (arith, nat_tests))
+
+-- where a run meets the prefix, so does the one at the place
+pub met-at_place : (p : Prefix) (runs : List Span) (n : ℕ) → AreMaximal runs → IsPlace p runs n → option_map_or (λ s. span_meets s p) (slice_get (drop n runs) 0) false ≡ list_any (λ s. span_meets s p) runs
+met-at_place p = place-tells p (λ lo hi. nat_le lo (last_of p) && nat_le p.first hi)
+    (λ lo hi below. grind (arith, nat_tests))
+    (λ lo hi start end ordered reaches gap fails. grind (arith, nat_tests))

@@ -3,7 +3,7 @@ use Rattle.std.proofs.Common.{◌≡◌, ℕ, ◌+◌, ◌≤◌, ◌<◌, Bool,
 use Rattle.std.specs.List.{list_any, list_all}
 use Rattle.std.proofs.lemmas.Bool.{cases_Bool, cases_lt, and_parts, and_from, or_cases, or_left, or_right, false≢true, true≢false}
 use Rattle.std.proofs.lemmas.Bool.Decides.{nat_tests}
-use Rattle.std.proofs.lemmas.List.Folds.{list_all-append}
+use Rattle.std.proofs.lemmas.List.Folds.{list_all-append, Any-from_list_any, list_any-from_Any}
 use Rattle.addr.specs.Family.{family_eq}
 use Rattle.addr.specs.Address.{Address, is_between, last_of, has_address}
 use Rattle.addr.specs.Spans.{span_has, spans_have, family_lt, is_apart_below, AreMaximal, span_covers, span_meets, HaveAll, HaveSome}
@@ -19,13 +19,11 @@ abbrev pub is_gap : Family → ℕ → Family → ℕ → Bool
 is_gap f high g low = family_lt f g || (family_eq f g && nat_lt (high + 1) low)
 
 pub gap_trans : (f g h : Family) (high low end start : ℕ) → low ≤ end → is_gap f high g low ≡ true → is_gap g end h start ≡ true → is_gap f high h start ≡ true
+gap_trans V4 g V6 high low end start le one two = refl
 gap_trans V4 V4 V4 high low end start le one two = grind (arith, nat_tests)
-gap_trans V4 V4 V6 high low end start le one two = refl
-gap_trans V4 V6 V6 high low end start le one two = refl
-gap_trans V4 V6 V4 high low end start le one two = grind (arith, nat_tests)
 gap_trans V6 V6 V6 high low end start le one two = grind (arith, nat_tests)
-gap_trans V6 V6 V4 high low end start le one two = grind (arith, nat_tests)
-gap_trans V6 V4 h high low end start le one two = grind (arith, nat_tests)
+gap_trans f V6 V4 high low end start le one two = absurd (false≢true two)
+gap_trans V6 V4 h high low end start le one two = absurd (false≢true one)
 
 pub gap_wider : (f g : Family) (high high' low low' : ℕ) → high' ≤ high → low ≤ low' → is_gap f high g low ≡ true → is_gap f high' g low' ≡ true
 gap_wider V4 V4 high high' low low' a b gap = grind (arith, nat_tests)
@@ -80,31 +78,24 @@ gap_to_had s (t ∷ rest) a above had =
     ]
   where
     gap_at : (f g h : Family) (high low end n : ℕ) → is_gap f high g low ≡ true → is_between g low end (record { family = h; number = n }) ≡ true → is_gap f high h n ≡ true
+    gap_at V4 g V6 high low end n gap here = refl
     gap_at V4 V4 V4 high low end n gap here = grind (arith, nat_tests)
-    gap_at V4 V6 V6 high low end n gap here = refl
     gap_at V6 V6 V6 high low end n gap here = grind (arith, nat_tests)
-    gap_at V6 V4 h high low end n gap here = grind (arith, nat_tests)
-    gap_at V4 V4 V6 high low end n gap here = refl
-    gap_at V4 V6 V4 high low end n gap here = grind (arith, nat_tests)
-    gap_at V6 V6 V4 high low end n gap here = grind (arith, nat_tests)
+    gap_at f V6 V4 high low end n gap here = absurd (false≢true here)
+    gap_at V6 V4 h high low end n gap here = absurd (false≢true gap)
 
 -- an address past the end is in no run that ends there
 pub past_not_had : (f g h : Family) (low high start end n : ℕ) → is_gap f high g start ≡ true → is_between g start end (record { family = h; number = n }) ≡ true → is_between f low high (record { family = h; number = n }) ≡ false
+past_not_had V4 g V6 low high start end n gap there = refl
 past_not_had V4 V4 V4 low high start end n gap there = grind (arith, nat_tests)
-past_not_had V4 V4 V6 low high start end n gap there = refl
-past_not_had V4 V6 V6 low high start end n gap there = refl
-past_not_had V4 V6 V4 low high start end n gap there = grind (arith, nat_tests)
-past_not_had V6 V6 V4 low high start end n gap there = refl
 past_not_had V6 V6 V6 low high start end n gap there = grind (arith, nat_tests)
-past_not_had V6 V4 h low high start end n gap there = grind (arith, nat_tests)
+past_not_had f V6 V4 low high start end n gap there = absurd (false≢true there)
+past_not_had V6 V4 h low high start end n gap there = absurd (false≢true gap)
 
 pub covered_has : (spans : List Span) (p : Prefix) → list_any (λ s. span_covers s p) spans ≡ true → HaveAll spans p
-covered_has [] p covered a there = absurd (false≢true covered)
-covered_has (s ∷ rest) p covered a there =
-    elim (or_cases (span_covers s p) (list_any (λ t. span_covers t p) rest) covered) [
-      | inl here ↦ or_left (span_has s a) (spans_have rest a) (between_within s.family p.family a.family s.lo s.hi p.first (last_of p) a.number here there)
-      | inr later ↦ or_right (span_has s a) (spans_have rest a) (covered_has rest p later a there)
-    ]
+covered_has spans p covered a there =
+    let one = Any-from_list_any (λ s. span_covers s p) spans covered in
+    list_any-from_Any (λ s. span_has s a) spans (one.0, one.1, one.2, one.3, between_within one.1.family p.family a.family one.1.lo one.1.hi p.first (last_of p) a.number one.4 there)
 
 -- a run that has a prefix's first address and not the whole of it ends within it
 pub cut_short : (f g : Family) (low high first end : ℕ) → is_between f low high (record { family = g; number = first }) ≡ true → family_eq f g && (nat_le low first && nat_le end high) ≡ false → (f ≡ g) × (first ≤ high) × (high < end)
@@ -180,22 +171,15 @@ met_shares s p meets =
         (record { family = s.family; number = n }, both.1, both.0)
 
 pub met_some : (spans : List Span) (p : Prefix) → list_any (λ s. span_meets s p) spans ≡ true → HaveSome spans p
-met_some [] p meets = absurd (false≢true meets)
-met_some (s ∷ rest) p meets =
-    elim (or_cases (span_meets s p) (list_any (λ t. span_meets t p) rest) meets) [
-      | inl here ↦ let shared = met_shares s p here in
-          (shared.0, shared.1, or_left (span_has s shared.0) (spans_have rest shared.0) shared.2)
-      | inr later ↦ let shared = met_some rest p later in
-          (shared.0, shared.1, or_right (span_has s shared.0) (spans_have rest shared.0) shared.2)
-    ]
+met_some spans p meets =
+    let one = Any-from_list_any (λ s. span_meets s p) spans meets in
+    let shared = met_shares one.1 p one.4 in
+    (shared.0, shared.1, list_any-from_Any (λ s. span_has s shared.0) spans (one.0, one.1, one.2, one.3, shared.2))
 
 pub some_met : (spans : List Span) (p : Prefix) (a : Address) → has_address p a ≡ true → spans_have spans a ≡ true → list_any (λ s. span_meets s p) spans ≡ true
-some_met [] p a there had = absurd (false≢true had)
-some_met (s ∷ rest) p a there had =
-    elim (or_cases (span_has s a) (spans_have rest a) had) [
-      | inl here ↦ or_left (span_meets s p) (list_any (λ t. span_meets t p) rest) (overlap_by_shared s.family p.family a.family s.lo s.hi p.first (last_of p) a.number here there)
-      | inr later ↦ or_right (span_meets s p) (list_any (λ t. span_meets t p) rest) (some_met rest p a there later)
-    ]
+some_met spans p a there had =
+    let one = Any-from_list_any (λ s. span_has s a) spans had in
+    list_any-from_Any (λ s. span_meets s p) spans (one.0, one.1, one.2, one.3, overlap_by_shared one.1.family p.family a.family one.1.lo one.1.hi p.first (last_of p) a.number one.4 there)
 
 -- some address of the prefix is in the set exactly where one run meets it
 pub met_iff : (spans : List Span) (p : Prefix) → IsTrue (list_any (λ s. span_meets s p) spans) ↔ HaveSome spans p

@@ -5,7 +5,7 @@ use Rattle.std.specs.Option.{option_to_list}
 use Rattle.std.proofs.lemmas.Bool.{and_parts, and_from, false≢true, true≢false}
 use Rattle.std.proofs.lemmas.Bool.Decides.{nat_tests}
 use Rattle.std.proofs.lemmas.List.{take_more}
-use Rattle.std.proofs.Math.Bool.{or-false, and-false, or_assoc}
+use Rattle.std.proofs.Math.Bool.{or-false, or-true, and-false, or_assoc}
 use Rattle.std.proofs.Math.Seq.{drop-cons}
 use Rattle.std.proofs.lemmas.List.Folds.{list_all-append, list_any-append}
 use Rattle.addr.specs.Family.{family_eq}
@@ -64,22 +64,15 @@ last_below xs last s maximal = go (is_apart_below last s) refl
     go false is = list_all-append (λ t. is_apart_below t s) xs (last ∷ []) ∙ (λ i. all_below xs s && (is i && true)) ∙ and-false (all_below xs s)
 
 swap_last : (w x y z n : Bool) → (x || y) ≡ (z || n) → ((x || w) || y) ≡ ((z || w) || n)
-swap_last true true y true n e = refl
-swap_last true false y true n e = refl
-swap_last true true y false n e = refl
-swap_last true false y false n e = refl
-swap_last false true y z n e = e ∙ ap (λ b. b || n) (sym (or-false z))
-swap_last false false y z n e = e ∙ ap (λ b. b || n) (sym (or-false z))
+swap_last true x y z n e = rw (or-true x, or-true z) refl
+swap_last false x y z n e = rw (or-false x, or-false z) e
 
 add_last : (w x y z n : Bool) → (x || y) ≡ (z || n) → ((x || y) || w) ≡ ((z || w) || n)
 add_last w x y z n e = ap (λ b. b || w) e ∙ turned z n w
   where
     turned : (z n w : Bool) → ((z || n) || w) ≡ ((z || w) || n)
-    turned true n w = refl
-    turned false true true = refl
-    turned false true false = refl
-    turned false false true = refl
-    turned false false false = refl
+    turned z true w = rw (or-true z, or-true (z || w)) refl
+    turned z false w = rw (or-false z, or-false (z || w)) refl
 
 join_last : (w x y z n j : Bool) → j ≡ (y || w) → (x || y) ≡ (z || n) → (x || j) ≡ ((z || w) || n)
 join_last w x y z n j is e = ap (λ b. x || b) is ∙ sym (or_assoc x y w) ∙ add_last w x y z n e

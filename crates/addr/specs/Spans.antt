@@ -36,6 +36,10 @@ family_lt f g = is_lt (family_cmp f g)
 abbrev pub is_apart_below : Span → Span → Bool
 is_apart_below s t = family_lt s.family t.family || (family_eq s.family t.family && nat_lt (s.hi + 1) t.lo)
 
+-- s ends before the prefix starts, or the family of s comes first
+abbrev pub is_before : Span → Prefix → Bool
+is_before s p = family_lt s.family p.family || (family_eq s.family p.family && nat_lt s.hi p.first)
+
 -- each run is apart below every later one
 abbrev pub AreMaximal : List Span → Type 0
 AreMaximal [] = Unit {0}

@@ -1,7 +1,7 @@
 //! Sets of addresses.
-ghost use Rattle.std.specs.Prelude.{◌≡◌, ◌↔◌, List, [], ◌++◌, IsTrue, OnOk, OnErr, IfOk};
+ghost use Rattle.std.specs.Prelude.{◌≡◌, ◌↔◌, false, List, [], ◌++◌, IsTrue, OnOk, OnErr, IfOk};
 ghost use Rattle.std.specs.List.{list_any, list_all};
-ghost use Rattle.std.specs.Option.{option_to_list};
+ghost use Rattle.std.specs.Option.{option_copied, option_map_or, option_to_list};
 ghost use Rattle.addr.specs.Address.{has_address};
 ghost use Rattle.addr.specs.Spans.{span_has, span_covers, span_meets, is_apart_below, AddsAddresses, TakesAddresses, AreMaximal, HaveAll, HaveSome};
 ghost use Rattle.addr.specs.Spans.{is_one_of, without_runs};
@@ -122,15 +122,30 @@ impl Holdings {
 }
 
 fn is_covered(spans: &[Span], prefix: &Prefix) -> bool
+    requires { AreMaximal spans.now }
     ensures { result ≡ list_any (λ s. span_covers s prefix.now) spans.now }
 {
-    spans.iter().any(|span| span.covers(prefix))
+    first_not_before(spans, prefix).is_some_and(|span| span.covers(prefix))
 }
 
 fn is_met(spans: &[Span], prefix: &Prefix) -> bool
+    requires { AreMaximal spans.now }
     ensures { result ≡ list_any (λ s. span_meets s prefix.now) spans.now }
 {
-    spans.iter().any(|span| span.meets(prefix))
+    first_not_before(spans, prefix).is_some_and(|span| span.meets(prefix))
+}
+
+/// The first run that does not end before the prefix. It covers the prefix, or meets it, exactly
+/// where one of the runs does.
+fn first_not_before<'a>(spans: &'a [Span], prefix: &Prefix) -> Option<&'a Span>
+    requires { AreMaximal spans.now }
+    ensures covers { option_map_or (λ s. span_covers s prefix.now) (option_copied result) false
+        ≡ list_any (λ s. span_covers s prefix.now) spans.now }
+    ensures meets { option_map_or (λ s. span_meets s prefix.now) (option_copied result) false
+        ≡ list_any (λ s. span_meets s prefix.now) spans.now }
+{
+    let start = spans.partition_point(|span| span.is_before(prefix));
+    spans[start..].first()
 }
 
 /// Whether every run lies before the span, with an address between them.

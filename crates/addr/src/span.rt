@@ -20,7 +20,7 @@ impl Span {
     ghost use Rattle.std.specs.Prelude.{true, false, ◌&&◌, ◌||◌, not};
     ghost use Rattle.addr.specs.Family.{family_eq};
     ghost use Rattle.addr.specs.Address.{Address};
-    ghost use Rattle.addr.specs.Spans.{span_has, span_covers, span_meets, is_apart_below};
+    ghost use Rattle.addr.specs.Spans.{span_has, span_covers, span_meets, is_apart_below, is_before};
     ghost use Rattle.addr.specs.steps.Parts.{part_has, is_after, EndsBefore, StartsAfter};
 
     /// None where the run ends before it starts, or after the family's last address.
@@ -47,6 +47,17 @@ impl Span {
         ensures { result ≡ span_meets self.now prefix.now }
     {
         self.family.is(prefix.family) && self.lo <= prefix.last() && prefix.first <= self.hi
+    }
+
+    /// Whether the run ends before the prefix starts.
+    pub(crate) fn is_before(&self, prefix: &Prefix) -> bool
+        ensures { result ≡ is_before self.now prefix.now }
+    {
+        match (self.family, prefix.family) {
+            (Family::V4, Family::V6) => true,
+            (Family::V6, Family::V4) => false,
+            _ => self.hi < prefix.first,
+        }
     }
 
     /// Whether the run ends before the other starts, with an address between them.
