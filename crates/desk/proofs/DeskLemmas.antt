@@ -4,9 +4,9 @@ use Rattle.std.specs.Global.{Vec}
 use Rattle.std.proofs.lemmas.Bool.{false≢true, true≢false}
 use Rattle.addr.specs.Address.{Address}
 use Rattle.addr.specs.declared.prefix.Prefix.{Prefix}
-use Rattle.registry.specs.History.{History, is_registered}
+use Rattle.registry.specs.History.{History}
 use Rattle.registry.specs.Resources.{resource_holder, is_held_by, IsFree}
-use Rattle.registry.specs.Rows.{Rows, RowsOf, RowsIfAny, changed_files}
+use Rattle.registry.specs.Rows.{Rows, changed_files}
 use Rattle.registry.specs.Answer.{IsAccepted, IsAnswer, IsListRefusal, IsOfCommand, imported, number_made}
 use Rattle.registry.specs.declared.rule.Refusal.{Refusal}
 use Rattle.registry.specs.declared.rule.Refusal.TheVariants.{Denied, Memory}

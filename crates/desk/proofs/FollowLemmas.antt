@@ -1,12 +1,13 @@
 -- What is kept of a day follows a change of the rows.
 use Rattle.std.proofs.Common.{◌≡◌, ◌⊎◌, inl, inr, ◌↔◌, ℕ, Bool, true, false, ◌||◌, List, [], Option, Some, None, Result, Ok, Err, refl, sym, ap, ◌∙◌, subst, Contains}
-use Rattle.std.specs.Prelude.{IfSome, OnOk, is_ok, is_err}
+use Rattle.std.specs.Global.{Vec}
+use Rattle.std.specs.Prelude.{IfSome, OnOk, is_ok, is_err, option_map}
 use Rattle.std.proofs.lemmas.Bool.{true≢false}
 use Rattle.addr.specs.declared.vrp.Vrp.{Vrp}
 use Rattle.kept.proofs.DayLemmas.{has_same}
 use Rattle.kept.proofs.Edits.{rows_stay}
 use Rattle.kept.proofs.ExceptionLemmas.{after_alike}
-use Rattle.kept.proofs.Follows.{follow_keeps}
+use Rattle.kept.proofs.Follows.{follow_keeps, none_given, none_joined}
 use Rattle.kept.specs.Changes.{AreJoined, IsSpared, IsWithSame}
 use Rattle.kept.specs.Days.{IsDayOfRows}
 use Rattle.kept.specs.KeptDay.{exceptions_of, KeptDay}
@@ -14,6 +15,7 @@ use Rattle.addr.specs.declared.prefix.Prefix.{Prefix}
 use Rattle.registry.specs.Answer.{holder_of, is_transfer}
 use Rattle.payload.specs.VrpSet as set
 use Rattle.registry.specs.Edits.{begun, ended, HasEditsOf, IsEditOf, IsHold, IsHoldEndingNone}
+use Rattle.registry.specs.Rows.{Rows}
 use Rattle.registry.specs.RowsOfAll.{AllRows, IsGivenOn, changed_rows}
 use Rattle.registry.specs.declared.authorization.Auth.{Auth}
 use Rattle.registry.specs.declared.change.Change.{Change}
@@ -27,39 +29,38 @@ use Rattle.registry.specs.declared.rows.HolderRows.{HolderRows}
 use Rattle.slurm.specs.SlurmSets.{union}
 use Rattle.store.specs.Given.{GivenOnce}
 use Rattle.loads.specs.Loads.{AreLoaded}
-use Rattle.desk.proofs.GivenEdits.{edits_given_as_loaded, edits_nothing, ending_keeps_once, none_loaded}
+use Rattle.desk.proofs.GivenEdits.{edits_given_by_enough, ending_keeps_once, enough_loaded}
 use Rattle.desk.specs.DayAfter.{makes_auths, DayAfterCommand}
-use Rattle.desk.specs.steps.Following.{begins_some, AreLoadedFor, EditsTwoApart, Follows, FollowsChange, FollowsDay, FollowsEdit}
+use Rattle.desk.specs.steps.EditsGiven.{auths_of, begun_if_any, ended_if_any, AreEnough}
+use Rattle.desk.specs.steps.Following.{begins_some, listed, AreEnoughFor, EditsTwoApart, Follows, FollowsChange, FollowsDay, FollowsEdit}
 
 -- ---- an edit of one holder
 
-edit_followed : (rows : AllRows) (change : HolderChange) (loaded : Option HolderRows) (old new : KeptDay) → GivenOnce rows
-    → AreLoaded (rows.of_holder change.holder) loaded → FollowsEdit change.edit loaded old new
+edit_followed : (rows : AllRows) (change : HolderChange) (some : Option (Vec Auth)) (old new : KeptDay) → GivenOnce rows
+    → AreEnough change.edit (auths_of rows change.holder) (listed some) → FollowsEdit change.edit some old new
     → IsDayOfRows rows old → IsDayOfRows (changed_rows (Holders change None) rows) new
-edit_followed rows change None old new once of same is =
-    subst (IsDayOfRows (changed_rows (Holders change None) rows)) (sym same) (record {
-      exceptions = is.exceptions;
-      given = λ v.
-          let edits = edits_nothing rows change old.day v (none_loaded (rows.of_holder change.holder) of) in
-          let alike = after_alike (exceptions_of old) v edits.1 edits.0 in
-          (λ there. alike.0 ((is.given v).0 there), λ after. (is.given v).1 (alike.1 after));
-    })
-edit_followed rows change (Some loaded) old new once of (same, are) is = record {
+edit_followed rows change some old new once enough (same, are) is = record {
   exceptions = has_same old new (union rows.files) same is.exceptions;
   given = λ v.
-      let auths = loaded.auths.items in
-      let kept = follow_keeps (λ (w : Vrp). IsGivenOn rows old.day w) (ended change.edit auths) (begun change.edit auths) old new same are is.given v in
-      let edits = edits_given_as_loaded rows change loaded old.day v once of in
+      let kept = follow_keeps (λ (w : Vrp). IsGivenOn rows old.day w) (ended_if_any change.edit (listed some)) (begun_if_any change.edit (listed some)) old new same are is.given v in
+      let edits = edits_given_by_enough rows change (listed some) old.day v once enough in
       let alike = after_alike (exceptions_of new) v edits.1 edits.0 in
       rw same.day (λ there. alike.0 (kept.0 there), λ after. kept.1 (alike.1 after));
 }
 
 -- where the holder has rows, what was done follows the edit of them
-pub follows_some : {T E : Type 0} (r : Result T E) (edit : Edit) (rows : HolderRows) (auths : List Auth) (old new : KeptDay) → auths ≡ rows.auths.items → IsWithSame old new
+pub follows_some : {T E : Type 0} (r : Result T E) (edit : Edit) (some : Vec Auth) (auths : List Auth) (old new : KeptDay) → auths ≡ some.items → IsWithSame old new
     → OnOk r ((v : Vrp) → Contains (set.items new.vrps) v ↔ (AreJoined old (begun edit auths) v × IsSpared old (ended edit auths) (begun edit auths) v))
-    → OnOk r (FollowsEdit edit (Some rows) old new)
-follows_some (Ok x) edit rows auths old new is same are = (same, rw is at are)
-follows_some (Err e) edit rows auths old new is same are = tt
+    → OnOk r (FollowsEdit edit (Some some) old new)
+follows_some (Ok x) edit some auths old new is same are = (same, rw is at are)
+follows_some (Err e) edit some auths old new is same are = tt
+
+-- where it has none, nothing has to be done
+pub follows_none : (edit : Edit) (day : KeptDay) → FollowsEdit edit None day day
+follows_none edit day = (
+  record { day = refl; filters = refl; asserted = refl },
+  λ v. let joined = none_joined day v in (λ there. (joined.0 there, inl (none_given day.day v)), λ both. joined.1 both.0),
+)
 
 pub when_ok : {T E P : Type 0} (r : Result T E) → is_ok r ≡ true → OnOk r P → P
 when_ok (Ok x) is so = so
@@ -75,20 +76,20 @@ holds_begin_none : (edit : Edit) → IsHold edit → (auths : List Auth) → beg
 holds_begin_none (Hold removed added gone) is auths = refl
 holds_begin_none other is auths = absurd is
 
-change_followed : (change : Change) (one other : Option HolderRows) (old new : KeptDay) → EditsTwoApart change → FollowsChange change one other old new
-    → (rows : AllRows) → GivenOnce rows → AreLoadedFor change one other rows → IsDayOfRows rows old → IsDayOfRows (changed_rows change rows) new
+change_followed : (change : Change) (one other : Option (Vec Auth)) (old new : KeptDay) → EditsTwoApart change → FollowsChange change one other old new
+    → (rows : AllRows) → GivenOnce rows → AreEnoughFor change one other rows → IsDayOfRows rows old → IsDayOfRows (changed_rows change rows) new
 change_followed (Holders first None) one other old new apart follows rows once of is = edit_followed rows first one old new once of follows is
 change_followed (Holders first (Some second)) one other old new apart (mid, early, late) rows once of is =
     let begins = holds_begin_none first.edit apart.1 in
     let middle = changed_rows (Holders first None) rows in
-    let still : AreLoaded (middle.of_holder second.holder) other =
-    subst (λ w. AreLoaded w other) (sym (rows_stay rows first second.holder apart.0)) of.1 in
+    let still : AreEnough second.edit (auths_of middle second.holder) (listed other) =
+    subst (λ (w : Option Rows). AreEnough second.edit (option_map (λ (r : Rows). r.auths) w) (listed other)) (sym (rows_stay rows first second.holder apart.0)) of.1 in
     edit_followed middle second other mid new (ending_keeps_once rows first begins once) still late
     (edit_followed rows first one old mid once of.0 early is)
 change_followed (Exceptions files) one other old new apart none rows once of is = absurd none
 
 -- what is kept follows
-pub followed : (change : Change) (one other : Option HolderRows) (old new : KeptDay) → EditsTwoApart change → FollowsChange change one other old new
+pub followed : (change : Change) (one other : Option (Vec Auth)) (old new : KeptDay) → EditsTwoApart change → FollowsChange change one other old new
     → Follows change one other (Some old) (Some new)
 followed change one other old new apart follows rows once of is = change_followed change one other old new apart follows rows once of is
 
@@ -107,14 +108,24 @@ pub no_transfer : (command : Command) → ((p : Prefix) (giver taker : List ℕ)
 no_transfer (Transfer p giver taker) not = absurd (not p giver taker refl)
 no_transfer other not = refl
 
--- the rows that are loaded for a command are those that its change edits
-pub loaded_for_one : (command : Command) (change : Change) (one : Option HolderRows) (rows : AllRows) → is_transfer command ≡ false → HasEditsOf command change
-    → IfSome (holder_of command) (λ h. AreLoaded (rows.of_holder h) one) → AreLoadedFor change one None rows
-loaded_for_one (Transfer p giver taker) change one rows not edits loaded = absurd (true≢false not)
-loaded_for_one command (Exceptions files) one rows not edits loaded = tt
-loaded_for_one command (Holders first None) one rows not edits loaded =
-    subst (λ (h : Option (List ℕ)). IfSome h (λ n. AreLoaded (rows.of_holder n) one)) edits.0 loaded
-loaded_for_one command (Holders first (Some second)) one rows not edits loaded = absurd edits
+-- of the rows that are loaded for a command, the authorizations are enough to follow its change
+pub enough_for_one : (command : Command) (change : Change) (one : Option HolderRows) (rows : AllRows) → is_transfer command ≡ false → HasEditsOf command change
+    → IfSome (holder_of command) (λ h. AreLoaded (rows.of_holder h) one) → AreEnoughFor change (option_map (λ (r : HolderRows). r.auths) one) None rows
+enough_for_one (Transfer p giver taker) change one rows not edits loaded = absurd (true≢false not)
+enough_for_one command (Exceptions files) one rows not edits loaded = tt
+enough_for_one command (Holders first None) one rows not edits loaded =
+    enough_loaded first.edit (rows.of_holder first.holder) one (subst (λ (h : Option (List ℕ)). IfSome h (λ n. AreLoaded (rows.of_holder n) one)) edits.0 loaded)
+enough_for_one command (Holders first (Some second)) one rows not edits loaded = absurd edits
+
+pub enough_for_two : (p : Prefix) (giver taker : List ℕ) (change : Change) (one other : Option HolderRows) (rows : AllRows) → HasEditsOf (Transfer p giver taker) change
+    → AreLoaded (rows.of_holder giver) one → AreLoaded (rows.of_holder taker) other
+    → AreEnoughFor change (option_map (λ (r : HolderRows). r.auths) one) (option_map (λ (r : HolderRows). r.auths) other) rows
+enough_for_two p giver taker (Holders first (Some second)) one other rows edits loaded also = (
+  enough_loaded first.edit (rows.of_holder first.holder) one (rw edits.0 loaded),
+  enough_loaded second.edit (rows.of_holder second.holder) other (rw edits.2 also),
+)
+enough_for_two p giver taker (Holders first None) one other rows edits loaded also = absurd edits.1
+enough_for_two p giver taker (Exceptions files) one other rows edits loaded also = absurd edits
 
 -- an edit of a command that makes no authorization begins none
 begins_no : (command : Command) (edit : Edit) → IsEditOf command edit → makes_auths command ≡ false → begins_some edit ≡ false

@@ -1,14 +1,13 @@
 -- What an edit of a holder's rows does to the VRPs that are given.
-use Rattle.std.proofs.Common.{◌≡◌, ◌⊎◌, ℕ, Bool, true, false, ◌==◌, List, [], ◌∷◌, Option, Some, None, Contains, inl, inr, refl, sym, ap, subst, ◌∙◌, IsPermutation}
-use Rattle.std.specs.List.{list_any}
-use Rattle.std.specs.Prelude.{if◌then◌else◌}
+use Rattle.std.proofs.Common.{◌≡◌, ℕ, Bool, true, false, ◌==◌, List, [], ◌∷◌, Option, Some, None, Contains, filter, ◌↔◌, inl, inr, refl, sym, ap, subst, ◌∙◌, IsPermutation}
+use Rattle.std.specs.Prelude.{option_map, if◌then◌else◌}
 use Rattle.std.proofs.lemmas.Bool.{true≢false}
 use Rattle.std.proofs.lemmas.List.Sorted.{Contains-permutation, IsPermutation-sym, list_any-IsPermutation}
 use Rattle.addr.specs.declared.vrp.Vrp.{Vrp}
 use Rattle.registry.specs.declared.authorization.Auth.{Auth}
 use Rattle.registry.specs.declared.change.Change.TheVariants.{Holders}
 use Rattle.registry.specs.declared.change.Edit.{Edit}
-use Rattle.registry.specs.declared.change.Edit.TheVariants.{Create, Import, Amend}
+use Rattle.registry.specs.declared.change.Edit.TheVariants.{Amend}
 use Rattle.registry.specs.declared.change.HolderChange.{HolderChange}
 use Rattle.registry.specs.declared.rows.HolderRows.{HolderRows}
 use Rattle.registry.specs.History.{same_name}
@@ -17,11 +16,13 @@ use Rattle.registry.specs.RowsOfAll.{AllRows, IsGivenOn, changed_rows}
 use Rattle.registry.specs.Terms.{IsVrpOf}
 use Rattle.registry.proofs.Names.{same_name-same, same_name-true}
 use Rattle.store.specs.Given.{GivenOnce}
-use Rattle.loads.specs.Loads.{AreLoaded, IsLoaded}
+use Rattle.loads.specs.Loads.{AreLoaded}
 use Rattle.registry.specs.Edits.{begun, ended, ends}
-use Rattle.desk.specs.steps.EditsGiven.{IsGivenAfter, EditsGiven, EditsGivenAsLoaded, EditsNothing, EndingKeepsOnce}
+use Rattle.desk.specs.steps.EditsGiven.{auths_of, ended_if_any, begun_if_any, AreEnough, HaveSameAuths, IsGivenAfter, EditsGiven, EditsGivenByEnough, EditsNothing, EndingKeepsOnce}
+use Rattle.desk.specs.steps.Following.{listed}
 use Rattle.kept.specs.Giving.{AreGivingOn}
 use Rattle.kept.proofs.Edits.{begins, rows_edited, rows_stay, stays, was_or_begun}
+use Rattle.kept.proofs.Follows.{none_given}
 use Rattle.kept.proofs.Members.{in_filter, none_in_nil}
 
 module _ (rows : AllRows) (change : HolderChange) (mine : Rows) (day : ℕ) (v : Vrp) (once : GivenOnce rows) (of : rows.of_holder change.holder ≡ Some mine) where
@@ -34,7 +35,7 @@ module _ (rows : AllRows) (change : HolderChange) (mine : Rows) (day : ℕ) (v :
       (ap (same_name change.holder) one.0 ∙ same_name-same change.holder, subst (λ (z : Auth). ends change.edit z.number ≡ true) (sym one.1) it.1)
 
   gives : IsGivenOn (changed_rows (Holders change None) rows) day v
-      → IsGivenAfter change.edit mine.auths day (IsGivenOn rows day v) v
+      → IsGivenAfter change.edit (Some mine.auths) day (IsGivenOn rows day v) v
   gives (h, r, x, now, there, from, until, is) = elim (was_or_begun rows change h r x now there) [
     | inl was ↦ inl (
       (h, was.0, x, was.1, was.2, from, until, is),
@@ -87,47 +88,7 @@ edits_given rows change mine day v once of = (
   ],
 )
 
--- ---- the rows as they are loaded, in another order
-
-ended_moved : (edit : Edit) (xs ys : List Auth) → IsPermutation xs ys → (x : Auth) → Contains (ended edit xs) x → Contains (ended edit ys) x
-ended_moved edit xs ys same x there =
-    let it = (in_filter (λ z. ends edit z.number) xs x).0 there in
-    (in_filter (λ z. ends edit z.number) ys x).1 (Contains-permutation xs ys x same it.0, it.1)
-
-begun_moved : (edit : Edit) (xs ys : List Auth) → IsPermutation xs ys → (x : Auth) → Contains (begun edit xs) x → Contains (begun edit ys) x
-begun_moved (Create y) xs ys same x there = there
-begun_moved (Import more created) xs ys same x there = there
-begun_moved (Amend y) xs ys same x there =
-    subst (λ b. Contains (if b then y ∷ [] else []) x) (list_any-IsPermutation (λ w. w.number == y.number) xs ys same) there
-begun_moved _ xs ys same x none = absurd (none_in_nil x none)
-
-giving_moved : (xs ys : List Auth) (day : ℕ) (v : Vrp) → ((x : Auth) → Contains xs x → Contains ys x) → AreGivingOn xs day v → AreGivingOn ys day v
-giving_moved xs ys day v moved (x, among, gives) = (x, moved x among, gives)
-
-after_moved : (edit : Edit) (xs ys : List Auth) (day : ℕ) (given : Type 0) (v : Vrp) → IsPermutation xs ys → IsGivenAfter edit xs day given v → IsGivenAfter edit ys day given v
-after_moved edit xs ys day given v same (inl still) =
-    inl (still.0, λ ending. still.1 (giving_moved (ended edit ys) (ended edit xs) day v (ended_moved edit ys xs (IsPermutation-sym _ _ same)) ending))
-after_moved edit xs ys day given v same (inr new) = inr (giving_moved (begun edit xs) (begun edit ys) day v (begun_moved edit xs ys same) new)
-
-loaded_rows : (was : Option Rows) (loaded : HolderRows) → AreLoaded was (Some loaded) → (r : Rows) × (was ≡ Some r) × IsLoaded r loaded
-loaded_rows None loaded none = absurd none
-loaded_rows (Some r) loaded of = (r, refl, of)
-
--- where none are loaded there are none
-pub none_loaded : (was : Option Rows) → AreLoaded was None → was ≡ None
-none_loaded None of = refl
-none_loaded (Some r) some = absurd some
-
-pub edits_given_as_loaded : EditsGivenAsLoaded
-edits_given_as_loaded rows change loaded day v once of =
-    let mine = loaded_rows (rows.of_holder change.holder) loaded of in
-    let edits = edits_given rows change mine.0 day v once mine.1 in
-    let same = mine.2.auths.0 in (
-      λ given. after_moved change.edit mine.0.auths loaded.auths.items day (IsGivenOn rows day v) v same (edits.0 given),
-      λ given. edits.1 (after_moved change.edit loaded.auths.items mine.0.auths day (IsGivenOn rows day v) v (IsPermutation-sym _ _ same) given),
-    )
-
--- ---- edits that begin nothing
+-- ---- by other authorizations that are enough
 
 pub edits_nothing : EditsNothing
 edits_nothing rows change day v none = (
@@ -151,6 +112,60 @@ edits_nothing rows change day v none = (
         go : (same : Bool) → same_name change.holder h ≡ same → same_name change.holder h ≡ false
         go true same = absurd (no_rows r (ap rows.of_holder (same_name-true change.holder h same) ∙ was))
         go false differ = differ
+
+giving_alike : (xs ys : List Auth) (day : ℕ) (v : Vrp) → HaveSameAuths xs ys → AreGivingOn xs day v ↔ AreGivingOn ys day v
+giving_alike xs ys day v same = (λ (x, among, gives). (x, (same x).0 among, gives), λ (x, among, gives). (x, (same x).1 among, gives))
+
+after_enough : (edit : Edit) (all some : Option (List Auth)) (day : ℕ) (given : Type 0) (v : Vrp) → AreEnough edit all some
+    → IsGivenAfter edit all day given v ↔ IsGivenAfter edit some day given v
+after_enough edit all some day given v enough =
+    let ended = giving_alike (ended_if_any edit all) (ended_if_any edit some) day v enough.0 in
+    let begun = giving_alike (begun_if_any edit all) (begun_if_any edit some) day v enough.1 in (
+      λ after. elim after [ inl still ↦ inl (still.0, λ ending. still.1 (ended.1 ending)) | inr new ↦ inr (begun.0 new) ],
+      λ after. elim after [ inl still ↦ inl (still.0, λ ending. still.1 (ended.0 ending)) | inr new ↦ inr (begun.1 new) ],
+    )
+
+pub edits_given_by_enough : EditsGivenByEnough
+edits_given_by_enough rows change some day v once enough =
+    let given = by_all (rows.of_holder change.holder) refl in
+    let alike = after_enough change.edit (auths_of rows change.holder) some day (IsGivenOn rows day v) v enough in
+    (λ after. alike.0 (given.0 after), λ after. given.1 (alike.1 after))
+  where
+    by_all : (was : Option Rows) → rows.of_holder change.holder ≡ was
+        → IsGivenOn (changed_rows (Holders change None) rows) day v ↔ IsGivenAfter change.edit (option_map (λ (r : Rows). r.auths) was) day (IsGivenOn rows day v) v
+    by_all (Some mine) is = edits_given rows change mine day v once is
+    by_all None none =
+        let same = edits_nothing rows change day v none in (
+          λ after. inl (same.0 after, none_given day v),
+          λ after. elim after [ inl still ↦ same.1 still.0 | inr new ↦ absurd (none_given day v new) ],
+        )
+
+-- ---- the rows as they are loaded, in another order
+
+moved : (p : Auth → Bool) (xs ys : List Auth) → IsPermutation xs ys → (x : Auth) → Contains (filter p xs) x → Contains (filter p ys) x
+moved p xs ys same x there =
+    let it = (in_filter p xs x).0 there in
+    (in_filter p ys x).1 (Contains-permutation xs ys x same it.0, it.1)
+
+begun_moved : (edit : Edit) (xs ys : List Auth) → IsPermutation xs ys → begun edit xs ≡ begun edit ys
+begun_moved (Amend y) xs ys same = ap (λ b. if b then y ∷ [] else []) (list_any-IsPermutation (λ w. w.number == y.number) xs ys same)
+begun_moved _ xs ys same = refl
+
+-- of what was loaded whole, the authorizations are enough
+pub enough_loaded : (edit : Edit) (was : Option Rows) (loaded : Option HolderRows) → AreLoaded was loaded
+    → AreEnough edit (option_map (λ (r : Rows). r.auths) was) (listed (option_map (λ (r : HolderRows). r.auths) loaded))
+enough_loaded edit None None are = (λ x. (λ is. is, λ is. is), λ x. (λ is. is, λ is. is))
+enough_loaded edit None (Some loaded) none = absurd none
+enough_loaded edit (Some r) None some = absurd some
+enough_loaded edit (Some r) (Some loaded) are =
+    let same = are.auths.0 in
+    let back = IsPermutation-sym r.auths loaded.auths.items same in
+    let p = λ (x : Auth). ends edit x.number in (
+      λ x. (moved p r.auths loaded.auths.items same x, moved p loaded.auths.items r.auths back x),
+      λ x. rw (begun_moved edit r.auths loaded.auths.items same) (λ is. is, λ is. is),
+    )
+
+-- ---- edits that begin nothing
 
 pub ending_keeps_once : EndingKeepsOnce
 ending_keeps_once rows change none once h k r s x y v now also in_r in_s is too =

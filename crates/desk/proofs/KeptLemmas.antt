@@ -1,8 +1,8 @@
 -- What a desk keeps of a day is what its tables give, and what a history gives that it holds.
-use Rattle.std.proofs.Common.{◌≡◌, ℕ, ◌<◌, List, [], ◌∷◌, ◌++◌, map, flat_map, Bool, true, false, ◌↔◌, inl, inr, Option, Some, None, refl, sym, ap, subst, ◌∙◌, arith, Contains}
+use Rattle.std.proofs.Common.{◌≡◌, ℕ, ◌<◌, List, [], ◌∷◌, ◌++◌, map, flat_map, Bool, true, false, inl, inr, Option, Some, None, refl, sym, ap, subst, ◌∙◌, arith}
+use Rattle.std.specs.Global.{Vec}
 use Rattle.std.specs.Prelude.{IfSome}
 use Rattle.addr.specs.declared.vrp.Vrp.{Vrp}
-use Rattle.charters.specs.declared.charter.Charter.{Charter}
 use Rattle.charters.specs.CharterSets.{CharterSets}
 use Rattle.kept.proofs.ExceptionLemmas.{after_alike}
 use Rattle.kept.proofs.DayLemmas.{day_of_history}
@@ -14,7 +14,6 @@ use Rattle.registry.specs.Rows.{Rows, RowsIfAny}
 use Rattle.registry.specs.Terms.{authorizations_made}
 use Rattle.registry.specs.declared.authorization.Auth.{Auth}
 use Rattle.registry.specs.declared.change.Change.{Change}
-use Rattle.registry.specs.declared.rows.HolderRows.{HolderRows}
 use Rattle.registry.specs.Verdict.{IsLegal}
 use Rattle.registry.proofs.Held.{active-numbered}
 use Rattle.registry.proofs.Numbers.{Numbered, later}
@@ -35,7 +34,7 @@ use Rattle.store.specs.StoreRows.{connection_state, Holds, HoldsAfter, IsRead, O
 use Rattle.desk.specs.Desk.{charter_of, HoldsHistory, IsOnCleanDisk, KeepsRows, OfHistories, OfRows}
 use Rattle.desk.specs.DeskView.{HoldsKept}
 use Rattle.desk.specs.declared.desk.Desk.{Desk}
-use Rattle.desk.specs.steps.Following.{AreLoadedFor, Follows}
+use Rattle.desk.specs.steps.Following.{AreEnoughFor, Follows}
 
 -- ---- rows, and histories of them
 
@@ -117,18 +116,18 @@ module _ {S : Type 0} (g : Ghosts S) where
       (was.0, read.rows clean was.0 was.1, found clean was.0 was.1)
 
   -- after a change that was made, what is kept follows it
-  pub kept_followed : (old mid new : StoreView S) (was kept : Option KeptDay) (change : Change) (one other : Option HolderRows) → HoldsKept g old was → IsRead g old mid
+  pub kept_followed : (old mid new : StoreView S) (was kept : Option KeptDay) (change : Change) (one other : Option (Vec Auth)) → HoldsKept g old was → IsRead g old mid
       → (HasCleanDisk (connection_state g new) → HasCleanDisk (connection_state g mid))
       → (HasCleanDisk (connection_state g new) → HoldsAfter g mid new (changed_rows change))
-      → (HasCleanDisk (connection_state g mid) → OfHeldRows g old (AreLoadedFor change one other))
+      → (HasCleanDisk (connection_state g mid) → OfHeldRows g old (AreEnoughFor change one other))
       → (HasCleanDisk (connection_state g new) → OfHeldRows g mid GivenOnce)
       → Follows change one other was kept → HoldsKept g new kept
-  kept_followed old mid new was kept change one other holds read before after loaded once follows clean =
+  kept_followed old mid new was kept change one other holds read before after enough once follows clean =
       let in_mid = before clean in
       let of = holds (read.clean in_mid) in
       let rows = of.0 in
       let held = read.rows in_mid rows of.1 in
-      (changed_rows change rows, after clean rows held, follows rows (once clean rows held) (loaded in_mid rows of.1) of.2)
+      (changed_rows change rows, after clean rows held, follows rows (once clean rows held) (enough in_mid rows of.1) of.2)
 
   -- ---- a desk that holds a history
 

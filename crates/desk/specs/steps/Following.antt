@@ -1,29 +1,34 @@
--- How what is kept of a day follows a change, by the rows that were loaded to judge it.
-use Rattle.std.specs.Prelude.{◌≡◌, ◌↔◌, ◌⊎◌, ℕ, Bool, true, false, ◌||◌, Option, Some, None, Result, Ok, Err, Contains, IfSome, ⊤}
+-- How what is kept of a day follows a change, by the authorizations that are enough to follow it.
+use Rattle.std.specs.Prelude.{◌≡◌, ◌↔◌, ◌⊎◌, ℕ, Bool, true, false, ◌||◌, List, Option, Some, None, option_map, Result, Ok, Err, Contains, IfSome, ⊤}
+use Rattle.std.specs.Global.{Vec}
 use Rattle.addr.specs.declared.vrp.Vrp.{Vrp}
 use Rattle.kept.specs.Changes.{AreJoined, IsSpared, IsWithSame}
 use Rattle.kept.specs.Days.{IsDayOfRows}
 use Rattle.kept.specs.KeptDay.{KeptDay}
 use Rattle.payload.specs.VrpSet as set
-use Rattle.registry.specs.Edits.{begun, ended, IsHold}
+use Rattle.registry.specs.Edits.{IsHold}
 use Rattle.registry.specs.History.{same_name}
 use Rattle.registry.specs.RowsOfAll.{AllRows, changed_rows}
+use Rattle.registry.specs.declared.authorization.Auth.{Auth}
 use Rattle.registry.specs.declared.change.Change.{Change}
 use Rattle.registry.specs.declared.change.Change.TheVariants.{Holders, Exceptions}
 use Rattle.registry.specs.declared.change.Edit.{Edit}
 use Rattle.registry.specs.declared.change.Edit.TheVariants.{Create, Import, Amend}
-use Rattle.registry.specs.declared.rows.HolderRows.{HolderRows}
 use Rattle.store.specs.Given.{GivenOnce}
-use Rattle.loads.specs.Loads.{AreLoaded}
 use Rattle.desk.specs.declared.reply.Reply.{Reply}
 use Rattle.desk.specs.declared.reply.Reply.TheVariants.{Unavailable}
+use Rattle.desk.specs.steps.EditsGiven.{ended_if_any, begun_if_any, auths_of, AreEnough}
 
--- these are the rows of the holders whose rows the change edits, as they were loaded
-abbrev pub AreLoadedFor : Change → Option HolderRows → Option HolderRows → AllRows → Type 0
-AreLoadedFor (Holders first None) one other rows = AreLoaded (rows.of_holder first.holder) one
-AreLoadedFor (Holders first (Some second)) one other rows =
-    AreLoaded (rows.of_holder first.holder) one × AreLoaded (rows.of_holder second.holder) other
-AreLoadedFor (Exceptions files) one other rows = ⊤
+abbrev pub listed : Option (Vec Auth) → Option (List Auth)
+listed auths = option_map (λ xs. xs.items) auths
+
+-- of the authorizations of each holder whose rows the change edits, these are enough to follow it
+abbrev pub AreEnoughFor : Change → Option (Vec Auth) → Option (Vec Auth) → AllRows → Type 0
+AreEnoughFor (Holders first None) one other rows = AreEnough first.edit (auths_of rows first.holder) (listed one)
+AreEnoughFor (Holders first (Some second)) one other rows =
+    AreEnough first.edit (auths_of rows first.holder) (listed one)
+    × AreEnough second.edit (auths_of rows second.holder) (listed other)
+AreEnoughFor (Exceptions files) one other rows = ⊤
 
 -- of two holders, the change edits another second, and begins no authorization of the first
 abbrev pub EditsTwoApart : Change → Type 0
@@ -31,17 +36,16 @@ EditsTwoApart (Holders first (Some second)) =
     (same_name first.holder second.holder ≡ false) × IsHold first.edit
 EditsTwoApart change = ⊤
 
--- what is kept follows an edit of the holder's rows, where it has some
-abbrev pub FollowsEdit : Edit → Option HolderRows → KeptDay → KeptDay → Type 0
-FollowsEdit edit None old new = new ≡ old
-FollowsEdit edit (Some rows) old new =
+-- what is kept follows an edit by these authorizations
+abbrev pub FollowsEdit : Edit → Option (Vec Auth) → KeptDay → KeptDay → Type 0
+FollowsEdit edit auths old new =
     IsWithSame old new
     × ((v : Vrp) → Contains (set.items new.vrps) v
-    ↔ (AreJoined old (begun edit rows.auths.items) v
-    × IsSpared old (ended edit rows.auths.items) (begun edit rows.auths.items) v))
+    ↔ (AreJoined old (begun_if_any edit (listed auths)) v
+    × IsSpared old (ended_if_any edit (listed auths)) (begun_if_any edit (listed auths)) v))
 
 -- and follows the edits of a change, one after the other; other exceptions it does not follow
-abbrev pub FollowsChange : Change → Option HolderRows → Option HolderRows → KeptDay → KeptDay → Type 0
+abbrev pub FollowsChange : Change → Option (Vec Auth) → Option (Vec Auth) → KeptDay → KeptDay → Type 0
 FollowsChange (Holders first None) one other old new = FollowsEdit first.edit one old new
 FollowsChange (Holders first (Some second)) one other old new =
     (mid : KeptDay) × FollowsEdit first.edit one old mid × FollowsEdit second.edit other mid new
@@ -62,9 +66,9 @@ may_drop (Exceptions files) = true
 
 -- what is kept is of the rows after the change, if it was of the rows before it
 abbrev pub Follows :
-    Change → Option HolderRows → Option HolderRows → Option KeptDay → Option KeptDay → Type 0
+    Change → Option (Vec Auth) → Option (Vec Auth) → Option KeptDay → Option KeptDay → Type 0
 Follows change one other old new =
-    (rows : AllRows) → GivenOnce rows → AreLoadedFor change one other rows
+    (rows : AllRows) → GivenOnce rows → AreEnoughFor change one other rows
     → IfSome old (IsDayOfRows rows) → IfSome new (IsDayOfRows (changed_rows change rows))
 
 -- the day that is kept stays, or is let go where it may be; with other exceptions it is let go

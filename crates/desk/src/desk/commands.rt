@@ -1,5 +1,5 @@
 //! Commands: judged on the rows, then made.
-ghost use Rattle.std.specs.Prelude.{◌≡◌, true, false, option_copied, IfOk, IfErr, IfSome, MatchResult};
+ghost use Rattle.std.specs.Prelude.{◌≡◌, true, false, option_copied, option_map, IfOk, IfErr, IfSome, MatchResult};
 ghost use Rattle.registry.specs.Answer.{holder_of, IsAccepted, IsViewOf, RowsOfNamed, ReportsTaken};
 ghost use Rattle.registry.specs.Edits.{HasEditsOf};
 ghost use Rattle.registry.specs.Rows.{rows_if_any, RowsIfAny};
@@ -12,13 +12,13 @@ ghost use Rattle.desk.specs.Prepared.{day_of};
 ghost use Rattle.desk.specs.Desk.{charter_of, IsOnCleanDisk, KeepsRows, OfHistories, OfRows};
 ghost use Rattle.desk.specs.HolderAnswers.{may_change, may_except, KeepsOthers};
 ghost use Rattle.desk.specs.steps.Accepting.{AnswersAccepted};
-ghost use Rattle.desk.specs.steps.Following.{AreLoadedFor};
+ghost use Rattle.desk.specs.steps.Following.{AreEnoughFor};
 
 use super::Desk;
 use super::following::{Decided, follow};
 use crate::{Reply, Request};
 use addr::{Day, Name};
-use registry::{Change, Command, HolderRows, View};
+use registry::{Auth, Change, Command, HolderRows, View};
 use sqlite::Alter;
 use store::StoreFault;
 
@@ -36,6 +36,16 @@ fn accepted(command: &Command, change: &Change) -> Reply
             }
         }
         _ => Reply::Done(change.number()),
+    }
+}
+
+/// The authorizations of the rows, where there are rows.
+fn auths_of(rows: Option<HolderRows>) -> Option<Vec<Auth>>
+    ensures { result ≡ option_map (λ r. r.auths) rows }
+{
+    match rows {
+        Some(HolderRows { auths, .. }) => Some(auths),
+        None => None,
     }
 }
 
@@ -84,9 +94,9 @@ impl<S: Alter> Desk<S> {
         ensures read { IsRead S.Store self.old.store self.new.store }
         ensures same { self.new.kept ≡ self.old.kept }
         ensures shape { IfOk result (λ decided. HasEditsOf command.now decided.change) }
-        ensures loaded { IfClean S.Store self.new.store (IfOk result (λ decided.
+        ensures enough { IfClean S.Store self.new.store (IfOk result (λ decided.
             OfHeldRows S.Store self.old.store
-            (AreLoadedFor decided.change decided.first decided.second))) }
+            (AreEnoughFor decided.change decided.first decided.second))) }
         ensures answer { OfRows S.Store self.old self.new (λ history. MatchResult result
             (λ decided. IsAccepted (charter_of self.old) history day caller.now command.now
             decided.change)
@@ -107,8 +117,8 @@ impl<S: Alter> Desk<S> {
             )?;
             Ok(Decided {
                 change,
-                first,
-                second,
+                first: auths_of(first),
+                second: auths_of(second),
             })
         } else {
             let view = self.view(command)?;
@@ -116,7 +126,7 @@ impl<S: Alter> Desk<S> {
             let change = policy::decide(self.alloc, charter, &view, day, caller, command)?;
             Ok(Decided {
                 change,
-                first: view.holder,
+                first: auths_of(view.holder),
                 second: None,
             })
         }

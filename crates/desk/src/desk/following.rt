@@ -5,24 +5,26 @@ ghost use Rattle.desk.specs.steps.Following.{begins_some, may_drop, EditsTwoApar
 ghost use Rattle.desk.specs.steps.Following.{Follows, FollowsChange, FollowsDay, FollowsEdit};
 
 use kept::Kept;
-use registry::{Change, Edit, HolderRows};
+use registry::{Auth, Change, Edit};
 use std::alloc::AllocError;
 
-/// What a command does, with the rows of the holders that it edits as they were loaded before.
+/// What a command does, with those authorizations of each holder whose rows it edits that are enough
+/// to follow the edit: of those that it ends, and whose number it puts, all. None where the holder
+/// has no rows.
 #[derive(Drop)]
 pub(super) struct Decided {
     pub(super) change: Change,
-    pub(super) first: Option<HolderRows>,
-    pub(super) second: Option<HolderRows>,
+    pub(super) first: Option<Vec<Auth>>,
+    pub(super) second: Option<Vec<Auth>>,
 }
 
-/// Follows an edit of the holder's rows. Where it has none, nothing ends and nothing begins.
-fn follow_edit(kept: &mut Kept, edit: &Edit, rows: Option<&HolderRows>) -> Result<(), AllocError>
-    ensures ok { OnOk result (FollowsEdit edit.now (option_copied rows.entry) kept.old kept.new) }
+/// Follows an edit of the rows of a holder. Where it has none, nothing ends and nothing begins.
+fn follow_edit(kept: &mut Kept, edit: &Edit, auths: Option<&Vec<Auth>>) -> Result<(), AllocError>
+    ensures ok { OnOk result (FollowsEdit edit.now (option_copied auths.entry) kept.old kept.new) }
     ensures err { OnErr result (begins_some edit.now ≡ true) }
 {
-    match rows {
-        Some(rows) => kept.follow(edit, &rows.auths),
+    match auths {
+        Some(auths) => kept.follow(edit, auths),
         None => Ok(()),
     }
 }

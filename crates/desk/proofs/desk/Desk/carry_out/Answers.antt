@@ -27,7 +27,7 @@ invariant_of-self g c =
     let same : c.self.inside.kept ≡ c.args.self.now.kept = ap (λ (d : Desk _). d.kept) c.self.view_is ∙ c.in-Ok.ensures.same in
     kept_followed g.S.Store c.args.self.now.store c.self.inside.store c.apply.new.self c.args.self.now.kept c.follow.new.kept decided.change decided.first decided.second
     c.keeps_its_rows.ensures (rw (← c.self.view_is) at c.in-Ok.ensures.read) c.in-Ok-apply.ensures.clean c.in-Ok-apply.ensures.ok
-    (rw (← c.self.view_is) at c.in-Ok.ensures.loaded) c.in-Ok-apply.ensures.once
+    (rw (← c.self.view_is) at c.in-Ok.ensures.enough) c.in-Ok-apply.ensures.once
     (rw same at (c.follow.ensures.follows (apart_by c.args.command.now decided.change c.in-Ok.ensures.shape)))
 
 pub returns-in-Ok-apply-clause-left : goal.returns-in-Ok-apply-clause-left

@@ -4,7 +4,7 @@ use Rattle.registry.specs.Answer.{IsAnswer}
 use Rattle.charters.specs.declared.charter.Charter.{Charter}
 use Rattle.desk.specs.Desk.{charter_of}
 use Rattle.desk.proofs.DeskLemmas.{refused_answers}
-use Rattle.desk.proofs.FollowLemmas.{loaded_for_one, no_transfer}
+use Rattle.desk.proofs.FollowLemmas.{enough_for_one, enough_for_two, no_transfer}
 use Rattle.desk.proofs.desk.Desk.decide.Goals as goal
 
 pub returns-in_err-change-clause-answer : goal.returns-in_err-change-clause-answer
@@ -17,7 +17,15 @@ returns-in_err-change-clause-answer g c clean history legal held =
     rw (refused.1, refused.2) (refused_answers charter history c.args.day c.args.caller.now c.args.command.now c.in_err-change.field-0.0
     (subst (λ (k : Charter). IsAnswer k history c.args.day c.args.caller.now c.args.command.now (Err c.in_err-change.field-0.0)) same answer))
 
-pub returns-in_ok-change-2-clause-loaded : goal.returns-in_ok-change-2-clause-loaded
-returns-in_ok-change-2-clause-loaded g c clean rows holds =
-    loaded_for_one c.args.command.now c.in_ok-change-2.change c.in_ok-view.view.holder rows (no_transfer c.args.command.now c.in_default.not-Transfer) c.in_ok-change-2.ensures.shape
-    (c.in_ok-view.ensures.loaded clean rows holds)
+pub returns-in_ok-change-clause-enough : goal.returns-in_ok-change-clause-enough
+returns-in_ok-change-clause-enough g c clean rows holds =
+    let both = c.in_ok-first.ensures.loaded clean rows holds in
+    rw (c.auths_of.ensures, c.auths_of-in-Transfer.ensures)
+    (enough_for_two c.in-Transfer.prefix c.in-Transfer.giver c.in-Transfer.taker c.in_ok-change.change c.in_ok-first.first c.in_ok-first.second rows
+    (rw c.in-Transfer.is at c.in_ok-change.ensures.shape) both.0 both.1)
+
+pub returns-in_ok-change-2-clause-enough : goal.returns-in_ok-change-2-clause-enough
+returns-in_ok-change-2-clause-enough g c clean rows holds =
+    rw c.auths_of-in_default.ensures
+    (enough_for_one c.args.command.now c.in_ok-change-2.change c.in_ok-view.view.holder rows (no_transfer c.args.command.now c.in_default.not-Transfer) c.in_ok-change-2.ensures.shape
+    (c.in_ok-view.ensures.loaded clean rows holds))
