@@ -1,6 +1,6 @@
 //! Parts of rules, each a test of the rows.
 
-ghost use Rattle.std.specs.Prelude.{◌≡◌, ℕ, ◌<◌, ◌==◌, ◌&&◌, not, length, List, true, false, ◌↔◌, IsTrue, Some, ◌≤◌, option_copied, MatchResult};
+ghost use Rattle.std.specs.Prelude.{◌≡◌, ℕ, ◌<◌, ◌==◌, ◌&&◌, not, length, List, true, false, ◌↔◌, IsTrue, Some, ◌≤◌, option_copied, IfOk, MatchResult};
 ghost use Rattle.std.specs.List.{list_all, list_any};
 ghost use Rattle.registry.specs.declared.limits.TheConstants.{MOST_GRANTS, MOST_AUTHORIZATIONS, LAST_NUMBER};
 ghost use Rattle.addr.specs.Spans.{span_covers};
@@ -170,13 +170,14 @@ pub(crate) fn found_with_access<'a>(
     caller: &Name,
     access: Access,
 ) -> Result<&'a Auth, Rule>
-    ensures { (history : History) (h : List ℕ) (number : ℕ)
+    ensures judged { (history : History) (h : List ℕ) (number : ℕ)
         → AnswersNumber history h number grants.now (option_copied found.entry)
         → MatchResult result
         (λ x. (option_copied found.entry ≡ Some x.now)
         × HasAccessTo history h day caller.now access number)
         (λ rule. (HasAccessTo history h day caller.now access number → ⊥)
         × (rule ≡ Rule.Number)) }
+    ensures found { IfOk result (λ x. option_copied found.entry ≡ Some x.now) }
 {
     match found {
         Some(auth) => {

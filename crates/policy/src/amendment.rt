@@ -1,15 +1,16 @@
 //! Amending an authorization.
 
-ghost use Rattle.std.specs.Prelude.{◌≡◌, ℕ, ◌==◌, ◌&&◌, not, List, option_copied, IfSome, IfOk};
+ghost use Rattle.std.specs.Prelude.{◌≡◌, ℕ, ◌==◌, ◌&&◌, not, List, Some, None, option_copied, IfSome, IfOk};
 ghost use Rattle.std.specs.Global.{Vec};
 ghost use Rattle.std.specs.List.{list_any};
 ghost use Rattle.charters.specs.declared.charter.Charter.{Charter as CharterValue};
+ghost use Rattle.registry.specs.declared.authorization.Auth.{Auth as AuthValue};
 ghost use Rattle.registry.specs.declared.command.Command.{Command};
 ghost use Rattle.registry.specs.History.{History};
 ghost use Rattle.registry.specs.RoaPrefixes.{with_maxes};
 ghost use Rattle.registry.specs.Answer.{AnswersAmend, IsAnswer};
 ghost use Rattle.registry.specs.Edits.{HasEditsOf};
-ghost use Rattle.registry.specs.Terms.{share_vrp};
+ghost use Rattle.registry.specs.Terms.{share_vrp, with_terms};
 ghost use Rattle.registry.specs.Verdict.{IsLegal};
 ghost use Rattle.policy.specs.steps.Admission.{IsAdmitted};
 ghost use Rattle.policy.specs.steps.Amendment.{IsAmended};
@@ -38,12 +39,13 @@ fn auth_to_amend<'a>(
     maxes: &[u8],
     until: Day,
 ) -> Result<&'a Auth, Rule>
-    ensures { (charter : CharterValue) (history : History) (h : List ℕ) (number : ℕ)
+    ensures judged { (charter : CharterValue) (history : History) (h : List ℕ) (number : ℕ)
         (asked : Vec ℕ) → asked.items ≡ maxes.now → IsLegal charter history
         → AnswersAmend history h number asked.items grants.now
         (option_copied found.entry) is_shared
         → IsAdmitted charter history day caller.now (Command.Amend h number asked until)
         (λ x. IsAmended history h day caller.now number asked until x.now) result }
+    ensures found { IfOk result (λ x. option_copied found.entry ≡ Some x.now) }
 {
     require_access(grants, day, caller, Access::Alter)?;
     let auth = found_with_access(grants, found, day, caller, Access::Alter)?;
@@ -73,6 +75,13 @@ pub fn amend_found(
         (Command.Amend holder.now number asked amendment.entry.until) result }
     ensures shape { (number : ℕ) (asked : Vec ℕ) → IfOk result (HasEditsOf
         (Command.Amend holder.now number asked amendment.entry.until)) }
+    ensures amended { IfOk result (λ change. (x : AuthValue)
+        × (option_copied found.entry ≡ Some x)
+        × (change ≡ Change.Holders (record {
+          holder = holder.now;
+          edit = Edit.Amend
+              (with_terms amendment.entry.maxes.now amendment.entry.until x);
+        }) None)) }
 {
     let Amendment { maxes, until } = amendment;
     let auth = auth_to_amend(grants, found, is_shared, day, caller, maxes, until)?;

@@ -1,6 +1,6 @@
 //! Creating an authorization.
 
-ghost use Rattle.std.specs.Prelude.{◌≡◌, ℕ, ◌<◌, ◌↔◌, false, IsTrue, List, Some, MatchResult, IfOk, OnOk};
+ghost use Rattle.std.specs.Prelude.{◌≡◌, ℕ, ◌<◌, ◌↔◌, true, false, IsTrue, List, Some, MatchResult, IfOk, OnOk};
 ghost use Rattle.charters.specs.declared.charter.Charter.{Charter as CharterValue};
 ghost use Rattle.registry.specs.declared.change.Edit.{Edit};
 ghost use Rattle.registry.specs.declared.command.Command.{Command};
@@ -40,11 +40,12 @@ fn new_number(
     caller: &Name,
     terms: &AuthTerms,
 ) -> Result<u32, Rule>
-    ensures { (charter : CharterValue) (history : History) (h : List ℕ) → IsLegal charter history
-        → AnswersCreate history h terms.now grants.now answers
+    ensures judged { (charter : CharterValue) (history : History) (h : List ℕ)
+        → IsLegal charter history → AnswersCreate history h terms.now grants.now answers
         → MatchResult result
         (λ n. IsCreated charter history h day caller.now terms.now (numbered_terms terms.now n))
         (λ rule. Verdict charter history day caller.now (Command.Create h terms.now) (Some rule)) }
+    ensures held { IfOk result (λ _. answers.holds ≡ true) }
 {
     require_access(grants, day, caller, Access::Alter)?;
     let entries = terms.entries.as_slice();
@@ -72,6 +73,7 @@ pub fn create_answered(
         → AnswersCreate history holder.now terms.now grants.now answers
         → IsAnswer charter history day caller.now (Command.Create holder.now terms.now) result }
     ensures shape { IfOk result (HasEditsOf (Command.Create holder.now terms.now)) }
+    ensures held { IfOk result (λ _. answers.holds ≡ true) }
 {
     let number = new_number(grants, answers, day, caller, terms)?;
     let auth = terms.numbered(number)?;

@@ -12,12 +12,12 @@ use Rattle.policy.proofs.amendment.amend_found.Goals as goal
 pub returns-in_err-auth-clause-answer : goal.returns-in_err-auth-clause-answer
 returns-in_err-auth-clause-answer c charter history n asked same legal are =
     let denied = err_from_is_err_and c.from_residual.result c.from_residual.ensures.1 in
-    rw (denied.1, denied.2) (c.in_err-auth.ensures charter history c.args.holder.now n asked same legal are, refl)
+    rw (denied.1, denied.2) (c.in_err-auth.ensures.judged charter history c.args.holder.now n asked same legal are, refl)
 
 pub returns-in_err-amended-clause-answer : goal.returns-in_err-amended-clause-answer
 returns-in_err-amended-clause-answer c charter history n asked same legal are =
     let refused = err_from_is_err_and c.from_residual-in_err-amended.result c.from_residual-in_err-amended.ensures.1 in
-    rw (refused.1, refused.2) (c.in_ok-auth.ensures charter history c.args.holder.now n asked same legal are).0
+    rw (refused.1, refused.2) (c.in_ok-auth.ensures.judged charter history c.args.holder.now n asked same legal are).0
 
 pub returns-clause-answer : goal.returns-clause-answer
 returns-clause-answer c charter history n asked same legal are =
@@ -25,7 +25,7 @@ returns-clause-answer c charter history n asked same legal are =
     let h = a.holder.now in
     let until = a.amendment.until in
     let command = Amend h n asked until in
-    let admitted = c.in_ok-auth.ensures charter history h n asked same legal are in
+    let admitted = c.in_ok-auth.ensures.judged charter history h n asked same legal are in
     let x = c.in_ok-auth.auth.now in
     let amended = c.in_ok-amended.ensures ∙ ap (λ maxes. with_terms maxes until x) (sym same) in
     subst (IsAccepted charter history a.day a.caller.now command) (sym c.change_of.ensures) (record {
@@ -37,3 +37,7 @@ returns-clause-answer c charter history n asked same legal are =
       sparing = (tt, tt);
       of_command = (refl, tt);
     })
+
+pub returns-clause-amended : goal.returns-clause-amended
+returns-clause-amended c =
+    (c.in_ok-auth.auth.now, c.in_ok-auth.ensures.found, c.change_of.ensures ∙ ap (λ (y : Auth). Holders (record { holder = c.args.holder.now; edit = AmendEdit y }) None) c.in_ok-amended.ensures)

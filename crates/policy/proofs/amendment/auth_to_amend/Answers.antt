@@ -11,31 +11,31 @@ use Rattle.policy.proofs.AmendLemmas.{SharesWithNoOther, only-to, only-from}
 use Rattle.policy.proofs.CarryTerms.{carries-amend}
 use Rattle.policy.proofs.amendment.auth_to_amend.Goals as goal
 
-pub returns-in_err-auth : goal.returns-in_err-auth
-returns-in_err-auth c charter history h n asked same legal are =
+pub returns-in_err-auth-clause-judged : goal.returns-in_err-auth-clause-judged
+returns-in_err-auth-clause-judged c charter history h n asked same legal are =
     let p = err_from_is_err_and c.from_residual-in_err-auth.result c.from_residual-in_err-auth.ensures.1 in
-    rw (p.1, p.2) (inr (c.in_ok-require_access.ensures history h are.number.grants, inl (c.in_err-auth.ensures history h n are.number)))
+    rw (p.1, p.2) (inr (c.in_ok-require_access.ensures history h are.number.grants, inl (c.in_err-auth.ensures.judged history h n are.number)))
 
-pub returns-in_err-require : goal.returns-in_err-require
-returns-in_err-require c charter history h n asked same legal are =
+pub returns-in_err-require-clause-judged : goal.returns-in_err-require-clause-judged
+returns-in_err-require-clause-judged c charter history h n asked same legal are =
     let a = c.args in
     let until = a.until in
     let p = err_from_is_err_and c.from_residual-in_err-require.result c.from_residual-in_err-require.ensures.1 in
     let has = c.in_ok-require_access.ensures history h are.number.grants in
-    let number = c.in_ok-auth.ensures history h n are.number in
+    let number = c.in_ok-auth.ensures.judged history h n are.number in
     let x = c.in_ok-auth.auth.now in
     let of_x = subst (λ (o : Option Auth). AnswersAmend history h n asked.items a.grants.now o a.is_shared) number.0 are in
     let no_dates : OfNumber history h n (λ y. (y.from ≤ until) × (a.day ≤ until)) → ⊥ = λ of.
     false≢true (sym c.in_err-require.ensures.0 ∙ c.are_dates.ensures.1 (found-from history h n a.grants.now _ (λ y. (y.from ≤ until) × (a.day ≤ until)) of_x.number of)) in
     rw (p.1, p.2) (inr (has, inr (number.1, inl (no_dates, c.in_err-require.ensures.1))))
 
-pub returns-in_err-require-2 : goal.returns-in_err-require-2
-returns-in_err-require-2 c charter history h n asked same legal are =
+pub returns-in_err-require-2-clause-judged : goal.returns-in_err-require-2-clause-judged
+returns-in_err-require-2-clause-judged c charter history h n asked same legal are =
     let a = c.args in
     let until = a.until in
     let p = err_from_is_err_and c.from_residual-in_err-require-2.result c.from_residual-in_err-require-2.ensures.1 in
     let has = c.in_ok-require_access.ensures history h are.number.grants in
-    let number = c.in_ok-auth.ensures history h n are.number in
+    let number = c.in_ok-auth.ensures.judged history h n are.number in
     let x = c.in_ok-auth.auth.now in
     let of_x = subst (λ (o : Option Auth). AnswersAmend history h n asked.items a.grants.now o a.is_shared) number.0 are in
     let dates = found-to history h n a.grants.now _ (λ y. (y.from ≤ until) × (a.day ≤ until)) of_x.number (c.are_dates.ensures.0 c.in_ok-require.ensures) in
@@ -45,13 +45,13 @@ returns-in_err-require-2 c charter history h n asked same legal are =
     false≢true (sym c.in_err-require-2.ensures.0 ∙ sym fits ∙ length) in
     rw (p.1, p.2) (inr (has, inr (number.1, inr (dates, inl (no_length, c.in_err-require-2.ensures.1)))))
 
-pub returns-in_err-require-3 : goal.returns-in_err-require-3
-returns-in_err-require-3 c charter history h n asked same legal are =
+pub returns-in_err-require-3-clause-judged : goal.returns-in_err-require-3-clause-judged
+returns-in_err-require-3-clause-judged c charter history h n asked same legal are =
     let a = c.args in
     let until = a.until in
     let p = err_from_is_err_and c.from_residual-in_err-require-3.result c.from_residual-in_err-require-3.ensures.1 in
     let has = c.in_ok-require_access.ensures history h are.number.grants in
-    let number = c.in_ok-auth.ensures history h n are.number in
+    let number = c.in_ok-auth.ensures.judged history h n are.number in
     let x = c.in_ok-auth.auth.now in
     let of_x = subst (λ (o : Option Auth). AnswersAmend history h n asked.items a.grants.now o a.is_shared) number.0 are in
     let dates = found-to history h n a.grants.now _ (λ y. (y.from ≤ until) × (a.day ≤ until)) of_x.number (c.are_dates.ensures.0 c.in_ok-require.ensures) in
@@ -62,12 +62,12 @@ returns-in_err-require-3 c charter history h n asked same legal are =
     false≢true (sym c.in_err-require-3.ensures.0 ∙ ap not none) in
     rw (p.1, p.2) (inr (has, inr (number.1, inr (dates, inr (length, inl (not_only, c.in_err-require-3.ensures.1))))))
 
-pub returns : goal.returns
-returns c charter history h n asked same legal are =
+pub returns-clause-judged : goal.returns-clause-judged
+returns-clause-judged c charter history h n asked same legal are =
     let a = c.args in
     let until = a.until in
     let has = c.in_ok-require_access.ensures history h are.number.grants in
-    let number = c.in_ok-auth.ensures history h n are.number in
+    let number = c.in_ok-auth.ensures.judged history h n are.number in
     let x = c.in_ok-auth.auth.now in
     let of_x = subst (λ (o : Option Auth). AnswersAmend history h n asked.items a.grants.now o a.is_shared) number.0 are in
     let dates = found-to history h n a.grants.now _ (λ y. (y.from ≤ until) × (a.day ≤ until)) of_x.number (c.are_dates.ensures.0 c.in_ok-require.ensures) in

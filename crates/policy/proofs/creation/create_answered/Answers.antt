@@ -10,7 +10,7 @@ returns-clause-answer c charter history legal are =
     let h = a.holder.now in
     let t = a.terms.now in
     let made = subst (IsCreated charter history h a.day a.caller.now t) (sym c.in_ok-auth.ensures)
-    (c.in_ok-number.ensures charter history h legal are) in
+    (c.in_ok-number.ensures.judged charter history h legal are) in
     subst (IsAccepted charter history a.day a.caller.now (Create h t)) (sym c.change_of.ensures) (record {
       after = _;
       leaves = (made.verdict, refl);

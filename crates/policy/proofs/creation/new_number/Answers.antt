@@ -9,8 +9,8 @@ use Rattle.policy.proofs.CarryTerms.{carries-create}
 use Rattle.policy.proofs.RowsLemmas.{registered-by_grant}
 use Rattle.policy.proofs.creation.new_number.Goals as goal
 
-pub returns : goal.returns
-returns c charter history h legal are =
+pub returns-clause-judged : goal.returns-clause-judged
+returns-clause-judged c charter history h legal are =
     let a = c.args in
     let t = a.terms.now in
     let asked = c.as_slice-entries.ensures.items in
