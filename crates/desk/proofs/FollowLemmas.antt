@@ -1,13 +1,16 @@
 -- What is kept of a day follows a change of the rows.
-use Rattle.std.proofs.Common.{◌≡◌, ◌⊎◌, inl, inr, ◌↔◌, ℕ, Bool, true, false, ◌||◌, List, [], Option, Some, None, Result, Ok, Err, refl, sym, ap, ◌∙◌, subst, Contains}
+use Rattle.std.proofs.Common.{◌≡◌, ◌⊎◌, inl, inr, ◌↔◌, ℕ, Bool, true, false, ◌||◌, List, [], ◌∷◌, Option, Some, None, Result, Ok, Err, refl, sym, ap, arith, ◌∙◌, ◌==◌, filter, subst, Contains}
 use Rattle.std.specs.Global.{Vec}
-use Rattle.std.specs.Prelude.{IfSome, OnOk, is_ok, is_err, option_map}
-use Rattle.std.proofs.lemmas.Bool.{true≢false}
+use Rattle.std.specs.Prelude.{IfSome, OnOk, is_ok, is_err, option_map, option_to_list}
+use Rattle.std.proofs.lemmas.Bool.{eqb-true, false≢true, true≢false}
+use Rattle.addr.specs.Address.{last_of, Address}
+use Rattle.addr.proofs.AddressLemmas.{between_at, first-last}
 use Rattle.addr.specs.declared.vrp.Vrp.{Vrp}
 use Rattle.kept.proofs.DayLemmas.{has_same}
 use Rattle.kept.proofs.Edits.{rows_stay}
 use Rattle.kept.proofs.ExceptionLemmas.{after_alike}
 use Rattle.kept.proofs.Follows.{follow_keeps, none_given, none_joined}
+use Rattle.kept.proofs.Members.{at_head, in_filter}
 use Rattle.kept.specs.Changes.{AreJoined, IsSpared, IsWithSame}
 use Rattle.kept.specs.Days.{IsDayOfRows}
 use Rattle.kept.specs.KeptDay.{exceptions_of, KeptDay}
@@ -18,18 +21,23 @@ use Rattle.registry.specs.Edits.{begun, ended, HasEditsOf, IsEditOf, IsHold, IsH
 use Rattle.registry.specs.Rows.{Rows}
 use Rattle.registry.specs.RowsOfAll.{AllRows, IsGivenOn, changed_rows}
 use Rattle.registry.specs.declared.authorization.Auth.{Auth}
+use Rattle.registry.specs.declared.authorization.AuthTerms.{AuthTerms}
+use Rattle.registry.specs.declared.authorization.RoaPrefix.{RoaPrefix}
+use Rattle.registry.specs.RoaPrefixes.{AreInNumber}
+use Rattle.registry.specs.Terms.{entries_have, with_terms}
+use Rattle.tables.specs.TablesHold.{items_if_any}
 use Rattle.registry.specs.declared.change.Change.{Change}
 use Rattle.registry.specs.declared.change.Change.TheVariants.{Holders, Exceptions}
 use Rattle.registry.specs.declared.change.Edit.{Edit}
-use Rattle.registry.specs.declared.change.Edit.TheVariants.{Hold, Grant as GrantEdit}
+use Rattle.registry.specs.declared.change.Edit.TheVariants.{Hold, Grant as GrantEdit, Create as CreateEdit, Amend as AmendEdit, Withdraw as WithdrawEdit}
 use Rattle.registry.specs.declared.command.Command.{Command}
 use Rattle.registry.specs.declared.command.Command.TheVariants.{Register, Delegate, Transfer, Reclaim, Grant, Revoke, Create, Amend, Withdraw, Import, Slurm as SlurmCommand}
 use Rattle.registry.specs.declared.change.HolderChange.{HolderChange}
 use Rattle.registry.specs.declared.rows.HolderRows.{HolderRows}
 use Rattle.slurm.specs.SlurmSets.{union}
 use Rattle.store.specs.Given.{GivenOnce}
-use Rattle.loads.specs.Loads.{AreLoaded}
-use Rattle.desk.proofs.GivenEdits.{edits_given_by_enough, ending_keeps_once, enough_loaded}
+use Rattle.loads.specs.Loads.{auths_held, AreHeld, AreLoaded}
+use Rattle.desk.proofs.GivenEdits.{edits_given_by_enough, ending_keeps_once, enough_amended, enough_created, enough_loaded, enough_withdrawn}
 use Rattle.desk.specs.DayAfter.{makes_auths, DayAfterCommand}
 use Rattle.desk.specs.steps.EditsGiven.{auths_of, begun_if_any, ended_if_any, AreEnough}
 use Rattle.desk.specs.steps.Following.{begins_some, listed, AreEnoughFor, EditsTwoApart, Follows, FollowsChange, FollowsDay, FollowsEdit}
@@ -126,6 +134,52 @@ enough_for_two p giver taker (Holders first (Some second)) one other rows edits 
 )
 enough_for_two p giver taker (Holders first None) one other rows edits loaded also = absurd edits.1
 enough_for_two p giver taker (Exceptions files) one other rows edits loaded also = absurd edits
+
+pub enough_to_withdraw : (h : List ℕ) (n : ℕ) (change : Change) (auths : Vec Auth) (rows : AllRows) → HasEditsOf (Withdraw h n) change
+    → filter (λ (x : Auth). x.number == n) (auths_held (rows.of_holder h)) ≡ auths.items → AreEnoughFor change (Some auths) None rows
+enough_to_withdraw h n (Holders first None) auths rows edits only =
+    let names : Some h ≡ Some first.holder = edits.0 in
+    let same : h ≡ first.holder = cc in
+    rw (edits.1, sym only) (subst (λ (k : List ℕ). AreEnough (WithdrawEdit n) (auths_of rows k) (Some (filter (λ (x : Auth). x.number == n) (auths_held (rows.of_holder h))))) same
+    (enough_withdrawn n (rows.of_holder h)))
+enough_to_withdraw h n (Holders first (Some second)) auths rows edits only = absurd edits
+enough_to_withdraw h n (Exceptions files) auths rows edits only = absurd edits
+
+same_number : (x : Auth) (xs : List Auth) (n : ℕ) → filter (λ (y : Auth). y.number == n) xs ≡ x ∷ [] → x.number ≡ n
+same_number x xs n only = eqb-true x.number n ((in_filter (λ (y : Auth). y.number == n) xs x).0 (subst (λ (l : List Auth). Contains l x) (sym only) (at_head x []))).1
+
+-- of an amendment of the one that was found of the number
+pub enough_to_amend : (h : List ℕ) (n : ℕ) (change : Change) (x : Auth) (maxes : List ℕ) (until : ℕ) (found : Option Auth) (auths : Vec Auth) (rows : AllRows)
+    → found ≡ Some x → change ≡ Holders (record { holder = h; edit = AmendEdit (with_terms maxes until x) }) None
+    → filter (λ (y : Auth). y.number == n) (auths_held (rows.of_holder h)) ≡ option_to_list found → auths.items ≡ option_to_list found → AreEnoughFor change (Some auths) None rows
+enough_to_amend h n change x maxes until found auths rows is makes only are =
+    let one : filter (λ (y : Auth). y.number == n) (auths_held (rows.of_holder h)) ≡ x ∷ [] = only ∙ ap option_to_list is in
+    let numbered = same_number x (auths_held (rows.of_holder h)) n one in
+    let same : filter (λ (y : Auth). y.number == x.number) (auths_held (rows.of_holder h)) ≡ auths.items =
+    ap (λ (m : ℕ). filter (λ (y : Auth). y.number == m) (auths_held (rows.of_holder h))) numbered ∙ only ∙ sym are in
+    rw makes (subst (λ (l : List Auth). AreEnough (AmendEdit (with_terms maxes until x)) (auths_of rows h) (Some l)) same
+    (enough_amended (with_terms maxes until x) (rows.of_holder h)))
+
+-- of a create where every address of some entries is held
+created_enough : (h : List ℕ) (terms : AuthTerms) (edit : Edit) (was : Option Rows) (es : List RoaPrefix) → IsEditOf (Create h terms) edit → AreInNumber es
+    → AreHeld (items_if_any (λ (r : Rows). r.holdings) was) es → AreEnough edit (option_map (λ (r : Rows). r.auths) was) (Some [])
+created_enough h terms (CreateEdit y) (Some r) es is number held = enough_created y r
+created_enough h terms (CreateEdit y) None [] is number held = absurd (omega (arith, number.0))
+created_enough h terms (CreateEdit y) None (e ∷ es) is number held =
+    let p = e.prefix in
+    let first : Address = record { family = p.family; number = p.first } in
+    absurd (false≢true (held first (ap (λ b. b || entries_have es first) (between_at p.family p.first (last_of p) p.first (omega arith) (first-last p)))))
+created_enough h terms edit was es is number held = absurd is
+
+pub enough_to_create : (h : List ℕ) (terms : AuthTerms) (change : Change) (none : Vec Auth) (rows : AllRows) → HasEditsOf (Create h terms) change → none.items ≡ []
+    → AreInNumber terms.entries → AreHeld (items_if_any (λ (r : Rows). r.holdings) (rows.of_holder h)) terms.entries → AreEnoughFor change (Some none) None rows
+enough_to_create h terms (Holders first None) none rows edits empty number held =
+    let names : Some h ≡ Some first.holder = edits.0 in
+    let same : h ≡ first.holder = cc in
+    rw empty (subst (λ (k : List ℕ). AreEnough first.edit (auths_of rows k) (Some [])) same
+    (created_enough h terms first.edit (rows.of_holder h) terms.entries edits.1 number held))
+enough_to_create h terms (Holders first (Some second)) none rows edits empty number held = absurd edits
+enough_to_create h terms (Exceptions files) none rows edits empty number held = absurd edits
 
 -- an edit of a command that makes no authorization begins none
 begins_no : (command : Command) (edit : Edit) → IsEditOf command edit → makes_auths command ≡ false → begins_some edit ≡ false

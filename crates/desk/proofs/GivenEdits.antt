@@ -2,12 +2,13 @@
 use Rattle.std.proofs.Common.{◌≡◌, ℕ, Bool, true, false, ◌==◌, List, [], ◌∷◌, Option, Some, None, Contains, filter, ◌↔◌, inl, inr, refl, sym, ap, subst, ◌∙◌, IsPermutation}
 use Rattle.std.specs.Prelude.{option_map, if◌then◌else◌}
 use Rattle.std.proofs.lemmas.Bool.{true≢false}
+use Rattle.std.proofs.lemmas.Map.Views.{any-filter_same}
 use Rattle.std.proofs.lemmas.List.Sorted.{Contains-permutation, IsPermutation-sym, list_any-IsPermutation}
 use Rattle.addr.specs.declared.vrp.Vrp.{Vrp}
 use Rattle.registry.specs.declared.authorization.Auth.{Auth}
 use Rattle.registry.specs.declared.change.Change.TheVariants.{Holders}
 use Rattle.registry.specs.declared.change.Edit.{Edit}
-use Rattle.registry.specs.declared.change.Edit.TheVariants.{Amend}
+use Rattle.registry.specs.declared.change.Edit.TheVariants.{Create, Amend, Withdraw}
 use Rattle.registry.specs.declared.change.HolderChange.{HolderChange}
 use Rattle.registry.specs.declared.rows.HolderRows.{HolderRows}
 use Rattle.registry.specs.History.{same_name}
@@ -16,7 +17,7 @@ use Rattle.registry.specs.RowsOfAll.{AllRows, IsGivenOn, changed_rows}
 use Rattle.registry.specs.Terms.{IsVrpOf}
 use Rattle.registry.proofs.Names.{same_name-same, same_name-true}
 use Rattle.store.specs.Given.{GivenOnce}
-use Rattle.loads.specs.Loads.{AreLoaded}
+use Rattle.loads.specs.Loads.{auths_held, AreLoaded}
 use Rattle.registry.specs.Edits.{begun, ended, ends}
 use Rattle.desk.specs.steps.EditsGiven.{auths_of, ended_if_any, begun_if_any, AreEnough, HaveSameAuths, IsGivenAfter, EditsGiven, EditsGivenByEnough, EditsNothing, EndingKeepsOnce}
 use Rattle.desk.specs.steps.Following.{listed}
@@ -164,6 +165,34 @@ enough_loaded edit (Some r) (Some loaded) are =
       λ x. (moved p r.auths loaded.auths.items same x, moved p loaded.auths.items r.auths back x),
       λ x. rw (begun_moved edit r.auths loaded.auths.items same) (λ is. is, λ is. is),
     )
+
+-- ---- those of one number
+
+kept_twice : (p : Auth → Bool) (xs : List Auth) → HaveSameAuths (filter p xs) (filter p (filter p xs))
+kept_twice p xs x = (
+  λ there. (in_filter p (filter p xs) x).1 (there, ((in_filter p xs x).0 there).1),
+  λ there. ((in_filter p (filter p xs) x).0 there).0,
+)
+
+-- those of the number that is withdrawn are enough
+pub enough_withdrawn : (n : ℕ) (was : Option Rows) → AreEnough (Withdraw n) (option_map (λ (r : Rows). r.auths) was) (Some (filter (λ (x : Auth). x.number == n) (auths_held was)))
+enough_withdrawn n None = (λ x. (λ is. is, λ is. is), λ x. (λ is. is, λ is. is))
+enough_withdrawn n (Some r) = (kept_twice (λ (x : Auth). x.number == n) r.auths, λ x. (λ is. is, λ is. is))
+
+-- and those of the number that is amended
+pub enough_amended : (y : Auth) (was : Option Rows) → AreEnough (Amend y) (option_map (λ (r : Rows). r.auths) was) (Some (filter (λ (x : Auth). x.number == y.number) (auths_held was)))
+enough_amended y None = (λ x. (λ is. is, λ is. is), λ x. (λ is. is, λ is. is))
+enough_amended y (Some r) = (
+  kept_twice (λ (x : Auth). x.number == y.number) r.auths,
+  λ x. rw (any-filter_same (λ (z : Auth). z.number == y.number) (λ (z : Auth). z.number == y.number) true (λ z is. is) r.auths) (λ is. is, λ is. is),
+)
+
+-- of those of a holder that has rows, none have to be known to follow a create
+pub enough_created : (y : Auth) (r : Rows) → AreEnough (Create y) (Some r.auths) (Some [])
+enough_created y r = (
+  λ x. (λ there. absurd (true≢false (sym ((in_filter (λ (z : Auth). ends (Create y) z.number) r.auths x).0 there).1)), λ none. absurd (none_in_nil x none)),
+  λ x. (λ is. is, λ is. is),
+)
 
 -- ---- edits that begin nothing
 

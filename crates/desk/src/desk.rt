@@ -7,7 +7,7 @@ ghost use Rattle.registry.specs.Rows.{rows_if_any, RowsIfAny};
 ghost use Rattle.sqlite.specs.Held.{state};
 ghost use Rattle.sqlite.specs.State.{HasCleanDisk};
 ghost use Rattle.sqlite.specs.Steps.{over_memory};
-ghost use Rattle.loads.specs.Loads.{AreLoaded};
+ghost use Rattle.loads.specs.Loads.{AreLoaded, AreNumbered};
 ghost use Rattle.store.specs.StoreRows.{connection_state, IfClean, OfHeldRows, IsRead, IsOpened};
 ghost use Rattle.store.specs.RefusedOpening.{IsGivenBack};
 ghost use Rattle.making.specs.Databases.{IsDeskWhileOpen, IsNew, IsUnused, LeavesNew, IsHonest};
@@ -25,6 +25,7 @@ ghost use Rattle.desk.specs.DeskView.{HoldsKept};
 ghost use Rattle.desk.specs.DayAfter.{DayAfter, DayAfterAll};
 ghost use Rattle.desk.specs.Prepared.{day_of};
 
+mod by_key;
 mod commands;
 mod daily;
 mod following;
@@ -248,6 +249,9 @@ impl<S: Alter> Desk<S> {
         ensures same { self.new.kept ≡ self.old.kept }
         ensures rows { IfOk result (λ loaded. OfRows S.Store self.old self.new (λ history.
             AnswersNumber history holder.now number loaded.grants.items loaded.auth)) }
+        ensures loaded { IfClean S.Store self.new.store (IfOk result (λ loaded.
+            OfHeldRows S.Store self.old.store
+            (λ rows. AreNumbered number (rows.of_holder holder.now) loaded))) }
     {
         store::laws::number_of_a_history();
         self.store.load_numbered(self.alloc, holder, number)

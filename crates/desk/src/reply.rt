@@ -46,6 +46,17 @@ impl From<Refusal> for Reply {
     }
 }
 
+impl From<Rule> for Reply {
+    ghost use Rattle.std.specs.Prelude.{◌≡◌, None};
+    ghost use Rattle.desk.specs.declared.reply.Reply.TheVariants.{Denied};
+
+    ghost from_gives = { λ rule reply. reply ≡ Denied rule None };
+
+    fn from(rule: Rule) -> Reply {
+        Reply::Denied(rule, None)
+    }
+}
+
 impl From<StoreFault> for Reply {
     ghost use Rattle.std.specs.Prelude.{◌≡◌};
     ghost use Rattle.desk.specs.declared.reply.Reply.TheVariants.{Unavailable};

@@ -104,31 +104,42 @@ impl<S: Alter> Desk<S> {
             reply history)) }
         ensures never_done { IfErr result (λ reply. is_accepted reply ≡ false) }
     {
-        if let Command::Transfer { giver, taker, .. } = command {
-            let (first, second) = self.load_two(giver, taker)?;
-            let charter = self.store.charter();
-            let change = policy::decide_two(
-                self.alloc,
-                charter,
-                first.as_ref(),
-                second.as_ref(),
-                caller,
-                command,
-            )?;
-            Ok(Decided {
-                change,
-                first: auths_of(first),
-                second: auths_of(second),
-            })
-        } else {
-            let view = self.view(command)?;
-            let charter = self.store.charter();
-            let change = policy::decide(self.alloc, charter, &view, day, caller, command)?;
-            Ok(Decided {
-                change,
-                first: auths_of(view.holder),
-                second: None,
-            })
+        match command {
+            Command::Transfer { giver, taker, .. } => {
+                let (first, second) = self.load_two(giver, taker)?;
+                let charter = self.store.charter();
+                let change = policy::decide_two(
+                    self.alloc,
+                    charter,
+                    first.as_ref(),
+                    second.as_ref(),
+                    caller,
+                    command,
+                )?;
+                Ok(Decided {
+                    change,
+                    first: auths_of(first),
+                    second: auths_of(second),
+                })
+            }
+            Command::Withdraw { holder, number } => self.withdraw(day, caller, holder, *number),
+            Command::Create { holder, terms } => self.create(day, caller, holder, terms),
+            Command::Amend {
+                holder,
+                number,
+                maxes,
+                until,
+            } => self.amend(day, caller, holder, *number, maxes, *until),
+            _ => {
+                let view = self.view(command)?;
+                let charter = self.store.charter();
+                let change = policy::decide(self.alloc, charter, &view, day, caller, command)?;
+                Ok(Decided {
+                    change,
+                    first: auths_of(view.holder),
+                    second: None,
+                })
+            }
         }
     }
 

@@ -18,3 +18,6 @@ returns-clause-rows g c =
     (record { store = c.self.inside.store; kept = c.self.inside.kept }) (record { store = c.load_numbered.new.self; kept = c.self.inside.kept })
     (λ loaded rows history legal has are. c.number_of_a_history.ensures c.self.inside.store.charter history h n (rows.of_holder h) loaded legal (has.holders h) are)
     c.load_numbered.result c.load_numbered.ensures.found)
+
+pub returns-clause-loaded : goal.returns-clause-loaded
+returns-clause-loaded g c = rw (← c.self.view_is) c.load_numbered.ensures.found

@@ -1,0 +1,181 @@
+//! Commands that are judged on what their rules ask of the holder, which is read by key.
+ghost use Rattle.std.specs.Prelude.{◌≡◌, ℕ, false, option_to_list, IfOk, IfErr, MatchResult};
+ghost use Rattle.std.specs.Global.{Vec};
+ghost use Rattle.registry.specs.Answer.{AnswersAmend, AnswersCreate, IsAccepted};
+ghost use Rattle.registry.specs.Edits.{HasEditsOf};
+ghost use Rattle.registry.specs.declared.command.Command.{Command};
+ghost use Rattle.loads.specs.Loads.{IsForAmend, IsForCreate};
+ghost use Rattle.store.specs.StoreRows.{IfClean, IsRead, OfHeldRows};
+ghost use Rattle.desk.specs.Answer.{is_accepted, AnswersCommand};
+ghost use Rattle.desk.specs.Desk.{charter_of, OfRows};
+ghost use Rattle.desk.specs.steps.Following.{AreEnoughFor};
+
+use super::Desk;
+use super::following::Decided;
+use crate::Reply;
+use addr::{Day, Name};
+use policy::Amendment;
+use registry::{Auth, AuthTerms};
+use sqlite::Alter;
+use std::alloc::{AllocError, Global};
+use store::{ForAmend, ForCreate, StoreFault};
+
+/// The authorization alone, where there is one.
+fn listed(alloc: Global, auth: Option<Auth>) -> Result<Vec<Auth>, AllocError>
+    ensures { IfOk result (λ auths. auths.items ≡ option_to_list auth) }
+{
+    match auth {
+        Some(auth) => Ok(vec![in alloc; auth]?),
+        None => Ok(Vec::new(alloc)),
+    }
+}
+
+impl<S: Alter> Desk<S> {
+    /// What a withdrawal does, judged on the grants and on the authorization of the number.
+    pub(super) fn withdraw(
+        &mut self,
+        day: Day,
+        caller: &Name,
+        holder: &Name,
+        number: u32,
+    ) -> Result<Decided, Reply>
+        ensures read { IsRead S.Store self.old.store self.new.store }
+        ensures same { self.new.kept ≡ self.old.kept }
+        ensures shape { IfOk result (λ decided.
+            HasEditsOf (Command.Withdraw holder.now number) decided.change) }
+        ensures enough { IfClean S.Store self.new.store (IfOk result (λ decided.
+            OfHeldRows S.Store self.old.store
+            (AreEnoughFor decided.change decided.first decided.second))) }
+        ensures answer { OfRows S.Store self.old self.new (λ history. MatchResult result
+            (λ decided. IsAccepted (charter_of self.old) history day caller.now
+            (Command.Withdraw holder.now number) decided.change)
+            (λ reply. AnswersCommand (charter_of self.old) history day caller.now
+            (Command.Withdraw holder.now number) reply history)) }
+        ensures never_done { IfErr result (λ reply. is_accepted reply ≡ false) }
+    {
+        let loaded = self.load_numbered(holder, number)?;
+        let auth = loaded.auth.as_ref();
+        let change = policy::withdraw_found(holder, &loaded.grants, auth, day, caller, number)?;
+        let auths = listed(self.alloc, loaded.auth)?;
+        Ok(Decided {
+            change,
+            first: Some(auths),
+            second: None,
+        })
+    }
+
+    /// What a create does, judged on the grants and on what its rules ask. It ends nothing.
+    pub(super) fn create(
+        &mut self,
+        day: Day,
+        caller: &Name,
+        holder: &Name,
+        terms: &AuthTerms,
+    ) -> Result<Decided, Reply>
+        ensures read { IsRead S.Store self.old.store self.new.store }
+        ensures same { self.new.kept ≡ self.old.kept }
+        ensures shape { IfOk result (λ decided.
+            HasEditsOf (Command.Create holder.now terms.now) decided.change) }
+        ensures enough { IfClean S.Store self.new.store (IfOk result (λ decided.
+            OfHeldRows S.Store self.old.store
+            (AreEnoughFor decided.change decided.first decided.second))) }
+        ensures answer { OfRows S.Store self.old self.new (λ history. MatchResult result
+            (λ decided. IsAccepted (charter_of self.old) history day caller.now
+            (Command.Create holder.now terms.now) decided.change)
+            (λ reply. AnswersCommand (charter_of self.old) history day caller.now
+            (Command.Create holder.now terms.now) reply history)) }
+        ensures never_done { IfErr result (λ reply. is_accepted reply ≡ false) }
+    {
+        // For the proof alone: there is an entry, so where the terms are held there are rows.
+        let _entries = terms.entries.as_slice();
+        let loaded = self.load_for_create(holder, terms)?;
+        let ForCreate { grants, answers } = &loaded;
+        let change = policy::create_answered(holder, grants, *answers, day, caller, terms)?;
+        Ok(Decided {
+            change,
+            first: Some(Vec::new(self.alloc)),
+            second: None,
+        })
+    }
+
+    /// What an amendment does, judged on the grants, on the authorization of the number, and on
+    /// whether another one would share a VRP with it.
+    pub(super) fn amend(
+        &mut self,
+        day: Day,
+        caller: &Name,
+        holder: &Name,
+        number: u32,
+        maxes: &[u8],
+        until: Day,
+    ) -> Result<Decided, Reply>
+        ensures read { IsRead S.Store self.old.store self.new.store }
+        ensures same { self.new.kept ≡ self.old.kept }
+        ensures shape { (asked : Vec ℕ) → IfOk result (λ decided. HasEditsOf
+            (Command.Amend holder.now number asked until) decided.change) }
+        ensures enough { IfClean S.Store self.new.store (IfOk result (λ decided.
+            OfHeldRows S.Store self.old.store
+            (AreEnoughFor decided.change decided.first decided.second))) }
+        ensures answer { (asked : Vec ℕ) → asked.items ≡ maxes.now
+            → OfRows S.Store self.old self.new (λ history. MatchResult result
+            (λ decided. IsAccepted (charter_of self.old) history day caller.now
+            (Command.Amend holder.now number asked until) decided.change)
+            (λ reply. AnswersCommand (charter_of self.old) history day caller.now
+            (Command.Amend holder.now number asked until) reply history)) }
+        ensures never_done { IfErr result (λ reply. is_accepted reply ≡ false) }
+    {
+        let loaded = self.load_for_amend(holder, number, maxes)?;
+        let is_shared = loaded.is_shared;
+        let numbered = loaded.numbered;
+        let auth = numbered.auth.as_ref();
+        let change = policy::amend_found(
+            holder,
+            &numbered.grants,
+            auth,
+            is_shared,
+            day,
+            caller,
+            Amendment { maxes, until },
+        )?;
+        let auths = listed(self.alloc, numbered.auth)?;
+        Ok(Decided {
+            change,
+            first: Some(auths),
+            second: None,
+        })
+    }
+
+    /// What a create of the terms at the holder is judged on.
+    fn load_for_create(&mut self, holder: &Name, terms: &AuthTerms) -> Result<ForCreate, StoreFault>
+        ensures read { IsRead S.Store self.old.store self.new.store }
+        ensures same { self.new.kept ≡ self.old.kept }
+        ensures rows { IfOk result (λ loaded. OfRows S.Store self.old self.new (λ history.
+            AnswersCreate history holder.now terms.now loaded.grants.items loaded.answers)) }
+        ensures loaded { IfClean S.Store self.new.store (IfOk result (λ loaded.
+            OfHeldRows S.Store self.old.store
+            (λ rows. IsForCreate terms.now (rows.of_holder holder.now) loaded))) }
+    {
+        store::laws::create_of_a_history();
+        self.store.load_for_create(self.alloc, holder, terms)
+    }
+
+    /// What an amendment of the authorization that has the number is judged on.
+    fn load_for_amend(
+        &mut self,
+        holder: &Name,
+        number: u32,
+        maxes: &[u8],
+    ) -> Result<ForAmend, StoreFault>
+        ensures read { IsRead S.Store self.old.store self.new.store }
+        ensures same { self.new.kept ≡ self.old.kept }
+        ensures rows { IfOk result (λ loaded. OfRows S.Store self.old self.new (λ history.
+            AnswersAmend history holder.now number maxes.now loaded.numbered.grants.items
+            loaded.numbered.auth loaded.is_shared)) }
+        ensures loaded { IfClean S.Store self.new.store (IfOk result (λ loaded.
+            OfHeldRows S.Store self.old.store
+            (λ rows. IsForAmend number maxes.now (rows.of_holder holder.now) loaded))) }
+    {
+        store::laws::amend_of_a_history();
+        self.store.load_for_amend(self.alloc, holder, number, maxes)
+    }
+}
