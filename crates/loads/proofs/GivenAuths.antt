@@ -1,5 +1,5 @@
--- What a create and an amendment ask: whether an authorization of a holder gives a VRP, out of the entries that give it,
--- and how many authorizations there are and were made.
+-- What a grant, a create and an amendment ask: whether an authorization of a holder gives a VRP, out of the entries that
+-- give it, how many authorizations there are, and how many grants and authorizations were made.
 use Rattle.std.proofs.Common.{◌≡◌, ℕ, ◌+◌, ◌<◌, ◌≤◌, nat_le, arith, ◌&&◌, ◌||◌, ◌==◌, Bool, true, false, cond, List, [], ◌∷◌, map, flat_map, filter, drop, length, get_or, Option, Some, None, refl, sym, ap, ap₂, ◌∙◌, IsPermutation}
 use Rattle.std.specs.Prelude.{All}
 use Rattle.std.specs.List.{list_any}
@@ -25,9 +25,9 @@ use Rattle.tables.specs.declared.claim.Claim.{Claim}
 use Rattle.tables.specs.declared.entry.EntryRow.{EntryRow}
 use Rattle.tables.specs.declared.holder.Counters.{Counters}
 use Rattle.tables.proofs.TreeRows.{list_any-map}
-use Rattle.loads.specs.Loads.{auths_held, created_if_any, is_other, some_gives}
-use Rattle.loads.specs.steps.Queries.{entries_given, gives_entry}
-use Rattle.loads.proofs.Loading.{AreCounters, entries_fit}
+use Rattle.loads.specs.Loads.{auths_held, created_if_any, is_other, made_if_any, some_gives}
+use Rattle.loads.specs.steps.Queries.{counters_if_any, entries_given, gives_entry}
+use Rattle.loads.proofs.Loading.{entries_fit}
 
 -- ---- tests of lists
 
@@ -117,13 +117,21 @@ pub claims_counted : (o : Option Rows) (claims : List Claim) → IsPermutation (
 claims_counted None claims same = length_permutation [] claims same
 claims_counted (Some r) claims same = length_permutation (map claim_of r.auths) claims same ∙ length-map r.auths claim_of
 
-pub created_shown : (o : Option Rows) (c : Counters) → AreCounters o (Some c) → c.created ≡ created_if_any o
-created_shown None c none = absurd none
-created_shown (Some r) c same = same.1
+pub made_shown : (o : Option Rows) (c : Counters) → Some c ≡ counters_if_any o → Some c.granted ≡ made_if_any o
+made_shown None c some = cc
+made_shown (Some r) c some = cc
 
-pub none_created : (o : Option Rows) → AreCounters o None → 0 ≡ created_if_any o
+pub none_made : (o : Option Rows) → None ≡ counters_if_any o → None ≡ made_if_any o
+none_made None none = refl
+none_made (Some r) none = cc
+
+pub created_shown : (o : Option Rows) (c : Counters) → Some c ≡ counters_if_any o → c.created ≡ created_if_any o
+created_shown None c some = cc
+created_shown (Some r) c some = cc
+
+pub none_created : (o : Option Rows) → None ≡ counters_if_any o → 0 ≡ created_if_any o
 none_created None none = refl
-none_created (Some r) none = absurd none
+none_created (Some r) none = cc
 
 not_as_many : (m n : ℕ) → n < m → nat_le m n ≡ false
 not_as_many m n less = grind (arith, nat_tests, less)

@@ -1,6 +1,7 @@
 -- What is loaded from the rows that queries found.
-use Rattle.std.proofs.Common.{◌≡◌, ℕ, ◌+◌, ◌<◌, ◌||◌, true, List, [], ◌∷◌, map, flat_map, take, length, get_or, slice_get, All, Option, Some, None, IsTrue, refl, sym, ap, subst, ◌∙◌, arith, IsPermutation}
-use Rattle.std.specs.Prelude.{⊤}
+use Rattle.std.proofs.Common.{◌≡◌, ℕ, ◌+◌, ◌<◌, ◌||◌, true, List, [], ◌∷◌, map, flat_map, take, length, get_or, slice_get, All, Option, Some, None, IsTrue, Result, Ok, Err, IfOk, refl, sym, ap, subst, ◌∙◌, arith, IsPermutation}
+use Rattle.std.specs.Prelude.{⊤, IsSorted}
+use Rattle.std.specs.Global.{Vec}
 use Rattle.std.specs.List.{AllByRecursion}
 use Rattle.std.proofs.Math.Bool.{or-false}
 use Rattle.std.proofs.lemmas.Bool.Decides.{nat_tests}
@@ -22,14 +23,17 @@ use Rattle.charters.specs.CharterSets.{CharterSets}
 use Rattle.registry.specs.declared.rows.HolderRows.{HolderRows}
 use Rattle.registry.specs.Rows.{Rows}
 use Rattle.tables.specs.Authorizations.{claim_of, entry_rows_of}
+use Rattle.tables.specs.Cells.{grant_cells}
 use Rattle.tables.specs.Decode.{ClaimFits, EntryRowFits}
 use Rattle.tables.specs.Groups.{claim_entry}
 use Rattle.tables.specs.TablesHold.{items_if_any, TablesHold}
-use Rattle.loads.specs.Loads.{IsOpenWith, AreInOrder, HaveSame, AreLoaded}
+use Rattle.loads.specs.Loads.{IsOf, IsOpenWith, AreGrants, AreInOrder, HaveSame, AreLoaded}
+use Rattle.loads.specs.steps.Queries.{by_column, counters_if_any}
 use Rattle.tables.specs.declared.holder.Counters.{Counters}
 use Rattle.registry.specs.Values.{IsCount, GrantFits, AuthFits, FitIfAny}
 use Rattle.registry.specs.RowsOfAll.{AllRows}
 use Rattle.tables.proofs.CellsOnce.{counters_of_rows}
+use Rattle.database.proofs.AuthsFound.{by_number}
 use Rattle.making.proofs.StatementLemmas.{taken_more}
 
 -- one more run in a loop
@@ -49,6 +53,15 @@ same-permuted xs ys same a = sym (list_any-IsPermutation (λ s. span_has s a) xs
 pub grants_fit : (o : Option Rows) → FitIfAny o → All GrantFits (items_if_any (λ r. r.grants) o)
 grants_fit None fit = All-nil GrantFits
 grants_fit (Some r) fit = fit.grants
+
+-- rows of grants in the order of their query are the grants by rising number
+pub grants_by_number :
+    {E : Type 0} (h : List ℕ) (s : State) (r : Result (Vec Granted) E)
+    → IfOk r (λ grants. IsOf (λ rows. IsPermutation (items_if_any (λ r. r.grants) rows) grants.items) h s)
+    → IfOk r (λ grants. IsSorted (by_column 0) (map grant_cells grants.items))
+    → IfOk r (λ grants. IsOf (λ rows. AreGrants rows grants.items) h s)
+grants_by_number h s (Ok grants) found rising = λ charter all holds. (found charter all holds, by_number grant_cells (λ g. g.number) (λ g. refl) grants.items rising)
+grants_by_number h s (Err e) found rising = tt
 
 pub claim_fits : (x : Auth) → AuthFits x → ClaimFits (claim_of x)
 claim_fits x fits = record { number = fits.number; asn = fits.asn; from = fits.from; until = fits.until }
@@ -83,20 +96,13 @@ all_spans_fit spans k d low = tt
 
 -- ---- counters
 
--- the counters of the rows, where there are rows
-abbrev pub AreCounters : Option Rows → Option Counters → Type 0
-AreCounters None None = ⊤
-AreCounters None (Some c) = ⊥
-AreCounters (Some r) None = ⊥
-AreCounters (Some r) (Some c) = (c.granted ≡ r.granted) × (c.created ≡ r.created)
-
 none_in : {X : Type 0} (xs : List X) → IsPermutation [] xs → xs ≡ []
 none_in [] same = refl
 none_in (x ∷ xs) same = absurd (let e = length_permutation _ _ same in cc)
 
-pub first_counters : (o : Option Rows) (xs : List Counters) → IsPermutation (items_if_any counters_of_rows o) xs → AreCounters o (slice_get xs 0)
-first_counters None xs same = rw (none_in xs same) tt
-first_counters (Some r) xs same = rw (one_permutation (record { granted = r.granted; created = r.created }) xs same) (refl, refl)
+pub first_counters : (o : Option Rows) (xs : List Counters) → IsPermutation (items_if_any counters_of_rows o) xs → slice_get xs 0 ≡ counters_if_any o
+first_counters None xs same = rw (none_in xs same) refl
+first_counters (Some r) xs same = rw (one_permutation (record { granted = r.granted; created = r.created }) xs same) refl
 
 abbrev pub CountersFit : Counters → Type 0
 CountersFit c = IsCount c.granted × IsCount c.created
@@ -126,18 +132,18 @@ pub never_fit :
 never_fit fits items each h old mid opened same refusal =
     refused_before (λ all. ¬ FitIfAny (all.of_holder h)) old mid opened same (refusal.0, λ charter rows holds fit. refusal.1 charter rows holds (each (rows.of_holder h) fit))
 
-pub none_loaded : (o : Option Rows) → AreCounters o None → AreLoaded o None
+pub none_loaded : (o : Option Rows) → None ≡ counters_if_any o → AreLoaded o None
 none_loaded None none = tt
-none_loaded (Some r) none = none
+none_loaded (Some r) none = cc
 
-pub all_loaded : (o : Option Rows) (c : Counters) (loaded : HolderRows) → AreCounters o (Some c) → loaded.granted ≡ c.granted → loaded.created ≡ c.created → AreMaximal loaded.holdings → HaveSame (items_if_any (λ r. r.holdings) o) loaded.holdings
-    → AreInOrder (λ (g : Granted). g.number) (items_if_any (λ r. r.grants) o) loaded.grants.items → AreInOrder (λ (x : Auth). x.number) (items_if_any (λ r. r.auths) o) loaded.auths.items → AreLoaded o (Some loaded)
-all_loaded None c loaded none granted created maximal holdings grants auths = absurd none
+pub all_loaded : (o : Option Rows) (c : Counters) (loaded : HolderRows) → Some c ≡ counters_if_any o → loaded.granted ≡ c.granted → loaded.created ≡ c.created → AreMaximal loaded.holdings → HaveSame (items_if_any (λ r. r.holdings) o) loaded.holdings
+    → AreGrants o loaded.grants.items → AreInOrder (λ (x : Auth). x.number) (items_if_any (λ r. r.auths) o) loaded.auths.items → AreLoaded o (Some loaded)
+all_loaded None c loaded none granted created maximal holdings grants auths = cc
 all_loaded (Some r) c loaded counters granted created maximal holdings grants auths = record {
   maximal = maximal;
   holdings = holdings;
   grants = grants;
   auths = auths;
-  granted = granted ∙ counters.0;
-  created = created ∙ counters.1;
+  granted = cc;
+  created = cc;
 }

@@ -28,6 +28,7 @@ use Rattle.slurm.specs.declared.set.NamedSlurm.{NamedSlurm}
 use Rattle.tables.specs.TablesHold.{items_if_any, TablesHold}
 use Rattle.loads.specs.declared.answers.ForAmend.{ForAmend}
 use Rattle.loads.specs.declared.answers.ForCreate.{ForCreate}
+use Rattle.loads.specs.declared.answers.ForGrant.{ForGrant}
 use Rattle.loads.specs.declared.load.Numbered.{Numbered}
 
 -- it is so of all rows, and of those of one holder, whatever charter and rows the tables hold
@@ -71,14 +72,28 @@ AreLoaded (Some r) (Some loaded) = IsLoaded r loaded
 abbrev pub auths_held : Option Rows → List Auth
 auths_held rows = items_if_any (λ r. r.auths) rows
 
+-- the grants of a holder that are not revoked, by rising number; none where it is not registered
+abbrev pub AreGrants : Option Rows → List Granted → Type 0
+AreGrants rows grants = AreInOrder (λ (g : Granted). g.number) (items_if_any (λ r. r.grants) rows) grants
+
 -- what is loaded of a holder and a number: the grants, by rising number, and the authorization of that number, if
 -- there is one; no other has the number
 pub record AreNumbered (n : ℕ) (rows : Option Rows) (loaded : Numbered) : Type 0 where
-  pub grants : AreInOrder (λ (g : Granted). g.number) (items_if_any (λ r. r.grants) rows) loaded.grants.items
+  pub grants : AreGrants rows loaded.grants.items
   pub auth : auth_of_number n (auths_held rows) ≡ loaded.auth
   pub only : filter (λ x. x.number == n) (auths_held rows) ≡ option_to_list loaded.auth
 
--- ---- what a create and an amendment are judged on
+-- ---- what a grant, a create and an amendment are judged on
+
+-- how many grants were made at a holder; none where it is not registered
+abbrev pub made_if_any : Option Rows → Option ℕ
+made_if_any None = None
+made_if_any (Some r) = Some r.granted
+
+-- what is loaded of a holder for a grant or a revocation: the grants, by rising number, and how many were made
+pub record IsForGrant (rows : Option Rows) (loaded : ForGrant) : Type 0 where
+  pub grants : AreGrants rows loaded.grants.items
+  pub made : loaded.made ≡ made_if_any rows
 
 -- the number is not the one that is left out, if there is one
 abbrev pub is_other : Option ℕ → ℕ → Bool
@@ -110,7 +125,7 @@ pub record AreAnswers (terms : AuthTerms) (rows : Option Rows) (answers : Create
 
 -- what is loaded of a holder for a create of the terms: the grants, by rising number, and those answers
 pub record IsForCreate (terms : AuthTerms) (rows : Option Rows) (loaded : ForCreate) : Type 0 where
-  pub grants : AreInOrder (λ (g : Granted). g.number) (items_if_any (λ r. r.grants) rows) loaded.grants.items
+  pub grants : AreGrants rows loaded.grants.items
   pub answers : AreAnswers terms rows loaded.answers
 
 -- What is loaded of a holder for an amendment to these maxLengths: what is loaded of the number, and where they fit its

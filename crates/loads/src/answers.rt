@@ -1,4 +1,4 @@
-//! What is loaded for what the rules of a create and of an amendment ask.
+//! What is loaded for what the rules of a grant, of a create and of an amendment ask.
 ghost use Rattle.std.specs.Prelude.{◌≡◌, ◌∷◌, ◌↔◌, [], true, ℕ, Some, Err, IfOk, IfSome, IsPermutation, IsTrue, length, nat_le, option_copied};
 ghost use Rattle.std.specs.List.{list_any};
 ghost use Rattle.sqlite.specs.Held.{state};
@@ -8,16 +8,66 @@ ghost use Rattle.registry.specs.Values.{FitIfAny};
 ghost use Rattle.registry.specs.Verdict.{maxes_fit};
 ghost use Rattle.tables.specs.TablesHold.{items_if_any};
 ghost use Rattle.database.specs.Queries.{IsAsked, IsClean, IsReadyToAsk};
-ghost use Rattle.loads.specs.Loads.{AreAnswers, AreHeld, IsForAmend, IsForCreate, IsOf, IsOpenWith, auths_held, created_if_any, is_other, some_gives};
+ghost use Rattle.loads.specs.Loads.{AreAnswers, AreHeld, IsForAmend, IsForCreate, IsForGrant, IsOf, IsOpenWith, auths_held, created_if_any, is_other, made_if_any, some_gives};
 ghost use Rattle.loads.specs.steps.Queries.{entries_given};
 
-use crate::load::{Numbered, holdings_of, load_numbered, load_selected, load_values};
+use crate::load::{
+    Numbered, holdings_of, load_counters, load_grants, load_numbered, load_selected, load_values,
+};
 use addr::{Asn, Holdings, Name, Span};
 use database::StoreFault;
 use registry::{Auth, AuthTerms, CreateAnswers, Granted, MOST_AUTHORIZATIONS, RoaPrefix};
 use sqlite::{Alter, Connection};
 use std::alloc::Global;
-use tables::{Claim, Counters, EntryRow, SELECT_GIVEN_ENTRIES, address_bytes, given_values};
+use tables::{Claim, EntryRow, SELECT_GIVEN_ENTRIES, address_bytes, given_values};
+
+// ---- what a grant asks
+
+/// What is loaded of a holder for a grant or a revocation.
+#[derive(Drop)]
+pub struct ForGrant {
+    /// The grants that are not revoked, by rising number.
+    pub grants: Vec<Granted>,
+    /// How many grants were made, the revoked ones too; none where the holder is not registered.
+    pub made: Option<u32>,
+}
+
+/// How many grants were made at the holder; none where it is not registered.
+fn load_made<S: Alter>(
+    conn: &mut Connection<S>,
+    alloc: Global,
+    holder: &Name,
+) -> Result<Option<u32>, StoreFault>
+    requires { IsReadyToAsk S.Store conn.old }
+    ensures asked { IsAsked S.Store conn.old conn.new result }
+    ensures found { IsClean S.Store conn.new → IfOk result (λ made.
+        IsOf (λ rows. made ≡ made_if_any rows) holder.now (state S.Store conn.old)) }
+    ensures schema { IsClean S.Store conn.new → result ≡ Err StoreFault.Schema
+        → IsOpenWith (λ all. ¬ FitIfAny (all.of_holder holder.now)) (state S.Store conn.old) }
+{
+    match load_counters(conn, alloc, holder)? {
+        Some(counters) => Ok(Some(counters.granted)),
+        None => Ok(None),
+    }
+}
+
+/// What a grant or a revocation at the holder is judged on.
+pub fn load_for_grant<S: Alter>(
+    conn: &mut Connection<S>,
+    alloc: Global,
+    holder: &Name,
+) -> Result<ForGrant, StoreFault>
+    requires { IsReadyToAsk S.Store conn.old }
+    ensures asked { IsAsked S.Store conn.old conn.new result }
+    ensures found { IsClean S.Store conn.new → IfOk result (λ loaded.
+        IsOf (λ rows. IsForGrant rows loaded) holder.now (state S.Store conn.old)) }
+    ensures schema { IsClean S.Store conn.new → result ≡ Err StoreFault.Schema
+        → IsOpenWith (λ all. ¬ FitIfAny (all.of_holder holder.now)) (state S.Store conn.old) }
+{
+    let grants = load_grants(conn, alloc, holder)?;
+    let made = load_made(conn, alloc, holder)?;
+    Ok(ForGrant { grants, made })
+}
 
 // ---- whether a VRP is given
 
@@ -122,8 +172,7 @@ fn load_created<S: Alter>(
     ensures schema { IsClean S.Store conn.new → result ≡ Err StoreFault.Schema
         → IsOpenWith (λ all. ¬ FitIfAny (all.of_holder holder.now)) (state S.Store conn.old) }
 {
-    let counters: Vec<Counters> = load_values(conn, alloc, holder)?;
-    match counters.first() {
+    match load_counters(conn, alloc, holder)? {
         Some(counters) => Ok(counters.created),
         None => Ok(0),
     }
@@ -234,7 +283,7 @@ pub fn load_for_create<S: Alter>(
     ensures schema { IsClean S.Store conn.new → result ≡ Err StoreFault.Schema
         → IsOpenWith (λ all. ¬ FitIfAny (all.of_holder holder.now)) (state S.Store conn.old) }
 {
-    let grants = load_values(conn, alloc, holder)?;
+    let grants = load_grants(conn, alloc, holder)?;
     let answers = load_answers(conn, alloc, holder, terms)?;
     Ok(ForCreate { grants, answers })
 }

@@ -8,6 +8,6 @@ mod load;
 mod select;
 
 pub use across::some_overlap;
-pub use answers::{ForAmend, ForCreate, load_for_amend, load_for_create};
+pub use answers::{ForAmend, ForCreate, ForGrant, load_for_amend, load_for_create, load_for_grant};
 pub use exceptions::load_files;
 pub use load::{Numbered, load_numbered, load_rows, load_vrps};

@@ -13,11 +13,11 @@ ghost use Rattle.registry.specs.Rows.{Rows};
 ghost use Rattle.registry.specs.RowsOfAll.{IsGivenOn};
 ghost use Rattle.registry.specs.Values.{FitIfAny};
 ghost use Rattle.registry.specs.Verdict.{auth_of_number};
-ghost use Rattle.loads.specs.Loads.{HaveSame, AreInOrder, AreLoaded, AreNumbered, AllGiveOn, IsOf, IsOfAll, IsOpenWith, auths_held};
+ghost use Rattle.loads.specs.Loads.{HaveSame, AreGrants, AreInOrder, AreLoaded, AreNumbered, AllGiveOn, IsOf, IsOfAll, IsOpenWith, auths_held};
 ghost use Rattle.tables.specs.Tables.{OverDesk};
 ghost use Rattle.tables.specs.TablesHold.{items_if_any};
 ghost use Rattle.database.specs.Queries.{IsAsked, IsClean, IsReadyToAsk};
-ghost use Rattle.loads.specs.steps.Queries.{SelectsWith};
+ghost use Rattle.loads.specs.steps.Queries.{SelectsWith, counters_if_any};
 
 use crate::across::in_force_rows;
 use crate::select::OfHolder;
@@ -97,6 +97,39 @@ pub(crate) fn load_values<T: OfHolder, S: Alter>(
     load_selected(conn, alloc, T::select(), &name_values(holder))
 }
 
+/// The counters of the holder; none where it is not registered.
+pub(crate) fn load_counters<S: Alter>(
+    conn: &mut Connection<S>,
+    alloc: Global,
+    holder: &Name,
+) -> Result<Option<Counters>, StoreFault>
+    requires { IsReadyToAsk S.Store conn.old }
+    ensures asked { IsAsked S.Store conn.old conn.new result }
+    ensures found { IsClean S.Store conn.new → IfOk result (λ counters.
+        IsOf (λ rows. counters ≡ counters_if_any rows) holder.now (state S.Store conn.old)) }
+    ensures schema { IsClean S.Store conn.new → result ≡ Err StoreFault.Schema
+        → IsOpenWith (λ all. ¬ FitIfAny (all.of_holder holder.now)) (state S.Store conn.old) }
+{
+    let counters: Vec<Counters> = load_values(conn, alloc, holder)?;
+    Ok(counters.first().copied())
+}
+
+/// The grants of the holder that are not revoked, by rising number.
+pub(crate) fn load_grants<S: Alter>(
+    conn: &mut Connection<S>,
+    alloc: Global,
+    holder: &Name,
+) -> Result<Vec<Granted>, StoreFault>
+    requires { IsReadyToAsk S.Store conn.old }
+    ensures asked { IsAsked S.Store conn.old conn.new result }
+    ensures found { IsClean S.Store conn.new → IfOk result (λ grants.
+        IsOf (λ rows. AreGrants rows grants.items) holder.now (state S.Store conn.old)) }
+    ensures schema { IsClean S.Store conn.new → result ≡ Err StoreFault.Schema
+        → IsOpenWith (λ all. ¬ FitIfAny (all.of_holder holder.now)) (state S.Store conn.old) }
+{
+    load_values(conn, alloc, holder)
+}
+
 /// The authorizations of the holder, by rising number.
 fn load_auths<S: Alter>(
     conn: &mut Connection<S>,
@@ -171,7 +204,7 @@ pub fn load_numbered<S: Alter>(
     ensures schema { IsClean S.Store conn.new → result ≡ Err StoreFault.Schema
         → IsOpenWith (λ all. ¬ FitIfAny (all.of_holder holder.now)) (state S.Store conn.old) }
 {
-    let grants = load_values(conn, alloc, holder)?;
+    let grants = load_grants(conn, alloc, holder)?;
     let auth = load_auth(conn, alloc, holder, number)?;
     Ok(Numbered { grants, auth })
 }
@@ -189,12 +222,11 @@ pub fn load_rows<S: Alter>(
     ensures schema { IsClean S.Store conn.new → result ≡ Err StoreFault.Schema
         → IsOpenWith (λ all. ¬ FitIfAny (all.of_holder holder.now)) (state S.Store conn.old) }
 {
-    let counters: Vec<Counters> = load_values(conn, alloc, holder)?;
-    let Some(Counters { granted, created }) = counters.first().copied() else {
+    let Some(Counters { granted, created }) = load_counters(conn, alloc, holder)? else {
         return Ok(None);
     };
     let spans: Vec<Span> = load_values(conn, alloc, holder)?;
-    let grants = load_values(conn, alloc, holder)?;
+    let grants = load_grants(conn, alloc, holder)?;
     let auths = load_auths(conn, alloc, holder)?;
     Ok(Some(HolderRows {
         holdings: holdings_of(alloc, &spans)?,

@@ -1,5 +1,5 @@
 -- Steps of reading: what a query answers as raw rows.
-use Rattle.std.specs.Prelude.{◌≡◌, ◌==◌, ◌&&◌, ℕ, Bool, false, List, [], ◌∷◌, map, filter, flat_map, IsPermutation, IsSorted}
+use Rattle.std.specs.Prelude.{◌≡◌, ◌==◌, ◌&&◌, ℕ, Bool, false, List, [], ◌∷◌, map, filter, flat_map, Option, Some, None, IsPermutation, IsSorted}
 use Rattle.std.specs.declared.cmp.Ordering.{Ordering}
 use Rattle.std.specs.Ordering.{on}
 use Rattle.sqlite.specs.Effect.{Database, Reads}
@@ -21,6 +21,7 @@ use Rattle.tables.specs.Decode.{first_columns}
 use Rattle.tables.specs.Tables.{desk_beside, OverDesk}
 use Rattle.tables.specs.TablesHold.{TablesHold, items_if_any}
 use Rattle.tables.specs.declared.entry.EntryRow.{EntryRow}
+use Rattle.tables.specs.declared.holder.Counters.{Counters}
 
 abbrev pub by_column : ℕ → Row → Row → Ordering
 by_column at = on (λ r. column r at) value_cmp
@@ -55,6 +56,11 @@ pub record SelectsWith
 abbrev pub Selects :
     {X : Type 0} → (X → Row) → ℕ → (Rows → List X) → (Row → Row → Ordering) → List ℕ → Type 0
 Selects cells width items cmp sql = (h : List ℕ) → SelectsWith cells width items cmp sql h (Text h ∷ [])
+
+-- the counters of a holder; none where it is not registered
+abbrev pub counters_if_any : Option Rows → Option Counters
+counters_if_any None = None
+counters_if_any (Some r) = Some (record { granted = r.granted; created = r.created })
 
 -- the entry of a row gives the AS with this prefix and maxLength
 abbrev pub gives_entry : Asn → RoaPrefix → EntryRow → Bool

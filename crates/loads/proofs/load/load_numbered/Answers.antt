@@ -1,23 +1,18 @@
-use Rattle.std.proofs.Common.{arith, refl}
+use Rattle.std.proofs.Common.{arith}
 use Rattle.sqlite.specs.Held.{state}
 use Rattle.sqlite.specs.State.{HasCleanDisk}
-use Rattle.registry.specs.Values.{GrantFits, FitIfAny}
-use Rattle.tables.specs.Cells.{grant_cells}
+use Rattle.registry.specs.Values.{FitIfAny}
 use Rattle.database.proofs.QueryLemmas.{refused_by}
-use Rattle.database.proofs.AuthsFound.{by_number}
-use Rattle.loads.proofs.Loading.{grants_fit, held_before, never_fit, refused_before}
+use Rattle.loads.proofs.Loading.{held_before, refused_before}
 use Rattle.loads.proofs.load.load_numbered.Goals as goal
 
 pub returns-in_err-grants-clause-schema : goal.returns-in_err-grants-clause-schema
-returns-in_err-grants-clause-schema g c clean is =
-    let old = state g.S.Store c.args.conn.now in
-    let refused = c.load_values.ensures.schema clean (refused_by c.load_values.result c.from_residual.result c.in_err-grants.field-0.0 c.in_err-grants.was c.from_residual.ensures.1 is) in
-    never_fit GrantFits (λ r. r.grants) grants_fit c.args.holder.now old old refused.0 refl refused
+returns-in_err-grants-clause-schema g c clean is = c.load_grants.ensures.schema clean (refused_by c.load_grants.result c.from_residual.result c.in_err-grants.field-0.0 c.in_err-grants.was c.from_residual.ensures.1 is)
 
 pub returns-in_err-auth-clause-schema : goal.returns-in_err-auth-clause-schema
 returns-in_err-auth-clause-schema g c clean is =
     let old = state g.S.Store c.args.conn.now in
-    let mid = state g.S.Store c.load_values.new.conn in
+    let mid = state g.S.Store c.load_grants.new.conn in
     let granted = c.in_ok-grants.ensures.asked.same (omega (arith, clean, c.load_auth.ensures.asked.survives.clean)) in
     refused_before (λ all. ¬ FitIfAny (all.of_holder c.args.holder.now)) old mid granted.0.was_open granted.0.now_is
     (c.load_auth.ensures.schema clean (refused_by c.load_auth.result c.from_residual-in_err-auth.result c.in_err-auth.field-0.0 c.in_err-auth.was c.from_residual-in_err-auth.ensures.1 is))
@@ -25,11 +20,11 @@ returns-in_err-auth-clause-schema g c clean is =
 pub returns-clause-found : goal.returns-clause-found
 returns-clause-found g c clean charter all holds =
     let old = state g.S.Store c.args.conn.now in
-    let mid = state g.S.Store c.load_values.new.conn in
+    let mid = state g.S.Store c.load_grants.new.conn in
     let before : HasCleanDisk mid = omega (arith, clean, c.load_auth.ensures.asked.survives.clean) in
     let after_grants = (c.in_ok-grants.ensures.asked.same before).0.now_is in
     record {
-      grants = (c.in_ok-grants.ensures.found before charter all holds, by_number grant_cells (λ x. x.number) (λ x. refl) c.in_ok-grants.grants.items (c.in_ok-grants.ensures.rising before));
+      grants = c.in_ok-grants.ensures.found before charter all holds;
       auth = c.in_ok-auth.ensures.found clean charter all (held_before old mid after_grants charter all holds);
       only = c.in_ok-auth.ensures.only clean charter all (held_before old mid after_grants charter all holds);
     }

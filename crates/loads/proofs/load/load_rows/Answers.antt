@@ -1,51 +1,44 @@
-use Rattle.std.proofs.Common.{◌≡◌, slice_get, arith, refl, sym, subst, ◌∙◌}
+use Rattle.std.proofs.Common.{arith, refl, sym, ◌∙◌}
 use Rattle.std.specs.Prelude.{⊤}
 use Rattle.sqlite.specs.Held.{state}
 use Rattle.sqlite.specs.State.{HasCleanDisk}
-use Rattle.tables.specs.Cells.{grant_cells}
-use Rattle.registry.specs.Values.{GrantFits, FitIfAny}
+use Rattle.registry.specs.Values.{FitIfAny}
 use Rattle.tables.specs.TablesHold.{items_if_any}
-use Rattle.tables.proofs.CellsOnce.{counters_of_rows}
-use Rattle.database.proofs.AuthsFound.{by_number}
-use Rattle.loads.proofs.Loading.{AreCounters, CountersFit, counters_fit, all_spans_fit, grants_fit, first_counters, same-permuted, held_before, never_fit, refused_before, none_loaded, all_loaded}
+use Rattle.loads.proofs.Loading.{all_spans_fit, same-permuted, held_before, never_fit, refused_before, none_loaded, all_loaded}
 use Rattle.database.proofs.QueryLemmas.{refused_by}
 use Rattle.loads.proofs.load.load_rows.Goals as goal
 
-pub returns-in_err-counters-clause-schema : goal.returns-in_err-counters-clause-schema
-returns-in_err-counters-clause-schema g c clean is =
-    let old = state g.S.Store c.args.conn.now in
-    let refused = c.load_values.ensures.schema clean (refused_by c.load_values.result c.from_residual.result c.in_err-counters.field-0.0 c.in_err-counters.was c.from_residual.ensures.1 is) in
-    never_fit CountersFit counters_of_rows counters_fit c.args.holder.now old old refused.0 refl refused
+pub returns-in_err-granted-clause-schema : goal.returns-in_err-granted-clause-schema
+returns-in_err-granted-clause-schema g c clean is = c.load_counters.ensures.schema clean (refused_by c.load_counters.result c.from_residual.result c.in_err-granted.field-0.0 c.in_err-granted.was c.from_residual.ensures.1 is)
 
 pub returns-in_default-clause-found : goal.returns-in_default-clause-found
 returns-in_default-clause-found g c clean charter all holds =
     let o = all.of_holder c.args.holder.now in
-    let first : c.copied.result ≡ slice_get c.in_ok-counters.counters.items 0 = rw c.deref.ensures.value at (c.copied.ensures ∙ c.first.ensures.value) in
-    none_loaded o (subst (AreCounters o) (sym first ∙ c.in_default.is) (first_counters o c.in_ok-counters.counters.items (c.in_ok-counters.ensures.found clean charter all holds)))
+    none_loaded o (sym c.in_default.is ∙ c.in_ok-granted.ensures.found clean charter all holds)
 
 pub returns-in_err-spans-clause-schema : goal.returns-in_err-spans-clause-schema
 returns-in_err-spans-clause-schema g c clean is =
     let old = state g.S.Store c.args.conn.now in
-    let mid = state g.S.Store c.load_values.new.conn in
-    let counted = c.in_ok-counters.ensures.asked.same (omega (arith, clean, c.load_values-2.ensures.asked.survives.clean)) in
+    let mid = state g.S.Store c.load_counters.new.conn in
+    let counted = c.in_ok-granted.ensures.asked.same (omega (arith, clean, c.load_values.ensures.asked.survives.clean)) in
     never_fit (λ _. ⊤) (λ r. r.holdings) (λ o _. all_spans_fit (items_if_any (λ r. r.holdings) o)) c.args.holder.now old mid counted.0.was_open counted.0.now_is
-    (c.load_values-2.ensures.schema clean (refused_by c.load_values-2.result c.from_residual-in_err-spans.result c.in_err-spans.field-0.0 c.in_err-spans.was c.from_residual-in_err-spans.ensures.1 is))
+    (c.load_values.ensures.schema clean (refused_by c.load_values.result c.from_residual-in_err-spans.result c.in_err-spans.field-0.0 c.in_err-spans.was c.from_residual-in_err-spans.ensures.1 is))
 
 pub returns-in_err-grants-clause-schema : goal.returns-in_err-grants-clause-schema
 returns-in_err-grants-clause-schema g c clean is =
     let old = state g.S.Store c.args.conn.now in
-    let mid = state g.S.Store c.load_values-2.new.conn in
-    let counted = c.in_ok-counters.ensures.asked.same (omega (arith, clean, c.load_values-2.ensures.asked.survives.clean, c.load_values-3.ensures.asked.survives.clean)) in
-    let held = c.in_ok-spans.ensures.asked.same (omega (arith, clean, c.load_values-3.ensures.asked.survives.clean)) in
-    never_fit GrantFits (λ r. r.grants) grants_fit c.args.holder.now old mid counted.0.was_open (held.0.now_is ∙ counted.0.now_is)
-    (c.load_values-3.ensures.schema clean (refused_by c.load_values-3.result c.from_residual-in_err-grants.result c.in_err-grants.field-0.0 c.in_err-grants.was c.from_residual-in_err-grants.ensures.1 is))
+    let mid = state g.S.Store c.load_values.new.conn in
+    let counted = c.in_ok-granted.ensures.asked.same (omega (arith, clean, c.load_values.ensures.asked.survives.clean, c.load_grants.ensures.asked.survives.clean)) in
+    let held = c.in_ok-spans.ensures.asked.same (omega (arith, clean, c.load_grants.ensures.asked.survives.clean)) in
+    refused_before (λ all. ¬ FitIfAny (all.of_holder c.args.holder.now)) old mid counted.0.was_open (held.0.now_is ∙ counted.0.now_is)
+    (c.load_grants.ensures.schema clean (refused_by c.load_grants.result c.from_residual-in_err-grants.result c.in_err-grants.field-0.0 c.in_err-grants.was c.from_residual-in_err-grants.ensures.1 is))
 
 pub returns-in_err-auths-clause-schema : goal.returns-in_err-auths-clause-schema
 returns-in_err-auths-clause-schema g c clean is =
     let old = state g.S.Store c.args.conn.now in
-    let mid = state g.S.Store c.load_values-3.new.conn in
-    let counted = c.in_ok-counters.ensures.asked.same (omega (arith, clean, c.load_values-2.ensures.asked.survives.clean, c.load_values-3.ensures.asked.survives.clean, c.load_auths.ensures.asked.survives.clean)) in
-    let held = c.in_ok-spans.ensures.asked.same (omega (arith, clean, c.load_values-3.ensures.asked.survives.clean, c.load_auths.ensures.asked.survives.clean)) in
+    let mid = state g.S.Store c.load_grants.new.conn in
+    let counted = c.in_ok-granted.ensures.asked.same (omega (arith, clean, c.load_values.ensures.asked.survives.clean, c.load_grants.ensures.asked.survives.clean, c.load_auths.ensures.asked.survives.clean)) in
+    let held = c.in_ok-spans.ensures.asked.same (omega (arith, clean, c.load_grants.ensures.asked.survives.clean, c.load_auths.ensures.asked.survives.clean)) in
     let granted = c.in_ok-grants.ensures.asked.same (omega (arith, clean, c.load_auths.ensures.asked.survives.clean)) in
     refused_before (λ all. ¬ FitIfAny (all.of_holder c.args.holder.now)) old mid counted.0.was_open (granted.0.now_is ∙ held.0.now_is ∙ counted.0.now_is)
     (c.load_auths.ensures.schema clean (refused_by c.load_auths.result c.from_residual-in_err-auths.result c.in_err-auths.field-0.0 c.in_err-auths.was c.from_residual-in_err-auths.ensures.1 is))
@@ -54,18 +47,17 @@ pub returns-clause-found : goal.returns-clause-found
 returns-clause-found g c clean charter all holds =
     let o = all.of_holder c.args.holder.now in
     let old = state g.S.Store c.args.conn.now in
-    let clean_3 : HasCleanDisk (state g.S.Store c.load_values-3.new.conn) = omega (arith, clean, c.load_auths.ensures.asked.survives.clean) in
-    let clean_2 : HasCleanDisk (state g.S.Store c.load_values-2.new.conn) = omega (arith, clean_3, c.load_values-3.ensures.asked.survives.clean) in
-    let clean_1 : HasCleanDisk (state g.S.Store c.load_values.new.conn) = omega (arith, clean_2, c.load_values-2.ensures.asked.survives.clean) in
-    let after_counters = (c.in_ok-counters.ensures.asked.same clean_1).0.now_is in
+    let clean_3 : HasCleanDisk (state g.S.Store c.load_grants.new.conn) = omega (arith, clean, c.load_auths.ensures.asked.survives.clean) in
+    let clean_2 : HasCleanDisk (state g.S.Store c.load_values.new.conn) = omega (arith, clean_3, c.load_grants.ensures.asked.survives.clean) in
+    let clean_1 : HasCleanDisk (state g.S.Store c.load_counters.new.conn) = omega (arith, clean_2, c.load_values.ensures.asked.survives.clean) in
+    let after_counters = (c.in_ok-granted.ensures.asked.same clean_1).0.now_is in
     let after_spans = (c.in_ok-spans.ensures.asked.same clean_2).0.now_is ∙ after_counters in
     let after_grants = (c.in_ok-grants.ensures.asked.same clean_3).0.now_is ∙ after_spans in
-    let first : c.copied.result ≡ slice_get c.in_ok-counters.counters.items 0 = rw c.deref.ensures.value at (c.copied.ensures ∙ c.first.ensures.value) in
-    let counters = subst (AreCounters o) (sym first ∙ c.in-Some.is) (first_counters o c.in_ok-counters.counters.items (c.in_ok-counters.ensures.found clean_1 charter all holds)) in
-    let spans = c.in_ok-spans.ensures.found clean_2 charter all (held_before old (state g.S.Store c.load_values.new.conn) after_counters charter all holds) in
-    let grants = c.in_ok-grants.ensures.found clean_3 charter all (held_before old (state g.S.Store c.load_values-2.new.conn) after_spans charter all holds) in
-    let auths = c.in_ok-auths.ensures.found clean charter all (held_before old (state g.S.Store c.load_values-3.new.conn) after_grants charter all holds) in
+    let counters = sym c.in-Some.is ∙ c.in_ok-granted.ensures.found clean_1 charter all holds in
+    let spans = c.in_ok-spans.ensures.found clean_2 charter all (held_before old (state g.S.Store c.load_counters.new.conn) after_counters charter all holds) in
+    let grants = c.in_ok-grants.ensures.found clean_3 charter all (held_before old (state g.S.Store c.load_values.new.conn) after_spans charter all holds) in
+    let auths = c.in_ok-auths.ensures.found clean charter all (held_before old (state g.S.Store c.load_grants.new.conn) after_grants charter all holds) in
     all_loaded o c.in-Some.field-0 _ counters refl refl c.in_ok-holdings_of.ensures.maximal
-    (λ a. rw c.deref-2.ensures.value at (c.in_ok-holdings_of.ensures.same a) ∙ same-permuted _ c.in_ok-spans.spans.items spans a)
-    (grants, by_number grant_cells (λ x. x.number) (λ x. refl) c.in_ok-grants.grants.items (c.in_ok-grants.ensures.rising clean_3))
+    (λ a. rw c.deref.ensures.value at (c.in_ok-holdings_of.ensures.same a) ∙ same-permuted _ c.in_ok-spans.spans.items spans a)
+    grants
     auths
